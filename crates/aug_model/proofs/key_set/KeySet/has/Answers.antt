@@ -1,0 +1,5 @@
+use Rattle.aug_model.proofs.Cuts.{contains-found}
+use Rattle.aug_model.proofs.key_set.KeySet.has.Goals as goal
+
+pub returns : goal.returns
+returns c = rw (← c.self.view_is, ← c.deref.ensures.value, c.is_ok.ensures.value) (contains-found _ _ _ c.find_key.ensures.there c.find_key.ensures.absent)

@@ -1,0 +1,10 @@
+use Rattle.std.proofs.Common.{sym, arith}
+use Rattle.aug_model.proofs.Cuts.{rank-at_cut}
+use Rattle.aug_model.proofs.StoredLemmas.{length-fits}
+use Rattle.aug_model.proofs.key_set.KeySet.rank.Goals as goal
+
+pub overflow_cast-result : goal.overflow_cast-result
+overflow_cast-result c = omega (arith, length-fits _ _ _ c.self.invariant, c.place_of.ensures.within, c.deref.ensures.len)
+
+pub returns : goal.returns
+returns c = rw (← c.self.view_is, ← c.deref.ensures.value) (sym (rank-at_cut _ _ _ c.place_of.ensures))

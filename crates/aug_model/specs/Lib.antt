@@ -1,0 +1,5 @@
+pub mod Cut
+pub mod Folds
+pub mod Keys
+pub mod Queries
+pub mod Stored

@@ -1,0 +1,11 @@
+use Rattle.std.proofs.Common.{◌≡◌, ◌≤◌, length, take}
+use Rattle.aug_monoid.specs.Fold.{fold_of}
+use Rattle.aug_monoid.proofs.fold.fold_slice.Given as goal
+
+abbrev pub invariant-loop-key : goal.invariant-loop-key
+invariant-loop-key g l =
+    let m = g.M.Monoid in
+    record {
+      in_range : l.key-index ≤ length l.keys;
+      folded : l.total ≡ fold_of m.unit_value m.key_value m.joined (take l.key-index l.keys);
+    }

@@ -1,0 +1,12 @@
+pub mod Extent
+pub mod ExtentLaws
+pub mod Fold
+pub mod Greatest
+pub mod GreatestLaws
+pub mod KeyWord
+pub mod KeyWordLaws
+pub mod Laws
+pub mod Least
+pub mod LeastLaws
+pub mod Wrapping
+pub mod WrappingLaws

@@ -1,0 +1,102 @@
+//! The greatest of the keys.
+ghost use Rattle.std.specs.Prelude.{◌≡◌, ◌↔◌, ◌^◌, ◌<◌, IsTrue, None, Some, refl};
+ghost use Rattle.aug_monoid.specs.KeyWord.{IsKeyOrNone, word_of_key, key_of_word};
+ghost use Rattle.aug_monoid.specs.Greatest.{greater_of};
+ghost use Rattle.aug_monoid.specs.KeyWordLaws.{key_of_word-is_key, word_of_key-fits, key_of_word-word_of_key};
+ghost use Rattle.aug_monoid.specs.GreatestLaws.{greater_of-is_key, greater_of-none_right, greater_of-assoc};
+
+use crate::Monoid;
+use crate::key_word::{key_of, word_of};
+use std::marker::Model;
+
+/// The greatest of the keys, or none where there are no keys.
+#[derive(Clone, Copy, PartialEq, Eq, Debug)]
+pub struct Greatest {
+    key: Option<u32>,
+}
+
+impl Model for Greatest {
+    ghost use Rattle.std.specs.Prelude.{ℕ, Option};
+
+    ghost Value = { Option ℕ };
+
+    ghost view = { λ g. g.key };
+
+    ghost inverse = { λ k. record { key = k } };
+}
+
+impl Greatest {
+    /// The greatest key, or none where there are no keys.
+    pub fn value(self) -> Option<u32>
+        ensures { result ≡ self }
+    {
+        self.key
+    }
+}
+
+impl Monoid for Greatest {
+    ghost IsProper = { IsKeyOrNone };
+
+    ghost unit_value = { None };
+
+    ghost key_value = { λ k. Some k };
+
+    ghost joined = { greater_of };
+
+    ghost word_of = { word_of_key };
+
+    ghost of_word = { key_of_word };
+
+    fn unit() -> Greatest {
+        Greatest { key: None }
+    }
+
+    fn of_key(k: u32) -> Greatest {
+        Greatest { key: Some(k) }
+    }
+
+    fn join(self, other: Greatest) -> Greatest {
+        match (self.key, other.key) {
+            (Some(mine), Some(theirs)) => Greatest {
+                key: Some(mine.max(theirs)),
+            },
+            (None, _) => other,
+            (_, None) => self,
+        }
+    }
+
+    fn to_word(self) -> u64 {
+        word_of(self.key)
+    }
+
+    fn from_word(word: u64) -> Greatest {
+        Greatest { key: key_of(word) }
+    }
+
+    fn proper(self) -> bool
+        ensures always { IsTrue result }
+        ensures proper { IsTrue result ↔ IsKeyOrNone self }
+    {
+        // Every key that fits the field is a value, and so is none.
+        let _key = self.key;
+        true
+    }
+
+    ghost unit_is_proper = { tt };
+
+    ghost key_is_proper = { λ _ is_key. is_key };
+
+    ghost join_is_proper = { greater_of-is_key };
+
+    ghost of_word_is_proper = { λ w _. key_of_word-is_key w };
+
+    ghost associates = { λ x y z _ _ _. greater_of-assoc x y z };
+
+    ghost unit_left = { λ _ _. refl };
+
+    ghost unit_right = { λ x _. greater_of-none_right x };
+
+    ghost word_fits = { word_of_key-fits };
+
+    ghost round_trip = { key_of_word-word_of_key };
+}

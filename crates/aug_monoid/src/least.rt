@@ -1,0 +1,102 @@
+//! The least of the keys.
+ghost use Rattle.std.specs.Prelude.{◌≡◌, ◌↔◌, ◌^◌, ◌<◌, IsTrue, None, Some, refl};
+ghost use Rattle.aug_monoid.specs.KeyWord.{IsKeyOrNone, word_of_key, key_of_word};
+ghost use Rattle.aug_monoid.specs.Least.{smaller_of};
+ghost use Rattle.aug_monoid.specs.KeyWordLaws.{key_of_word-is_key, word_of_key-fits, key_of_word-word_of_key};
+ghost use Rattle.aug_monoid.specs.LeastLaws.{smaller_of-is_key, smaller_of-none_right, smaller_of-assoc};
+
+use crate::Monoid;
+use crate::key_word::{key_of, word_of};
+use std::marker::Model;
+
+/// The least of the keys, or none where there are no keys.
+#[derive(Clone, Copy, PartialEq, Eq, Debug)]
+pub struct Least {
+    key: Option<u32>,
+}
+
+impl Model for Least {
+    ghost use Rattle.std.specs.Prelude.{ℕ, Option};
+
+    ghost Value = { Option ℕ };
+
+    ghost view = { λ l. l.key };
+
+    ghost inverse = { λ k. record { key = k } };
+}
+
+impl Least {
+    /// The least key, or none where there are no keys.
+    pub fn value(self) -> Option<u32>
+        ensures { result ≡ self }
+    {
+        self.key
+    }
+}
+
+impl Monoid for Least {
+    ghost IsProper = { IsKeyOrNone };
+
+    ghost unit_value = { None };
+
+    ghost key_value = { λ k. Some k };
+
+    ghost joined = { smaller_of };
+
+    ghost word_of = { word_of_key };
+
+    ghost of_word = { key_of_word };
+
+    fn unit() -> Least {
+        Least { key: None }
+    }
+
+    fn of_key(k: u32) -> Least {
+        Least { key: Some(k) }
+    }
+
+    fn join(self, other: Least) -> Least {
+        match (self.key, other.key) {
+            (Some(mine), Some(theirs)) => Least {
+                key: Some(mine.min(theirs)),
+            },
+            (None, _) => other,
+            (_, None) => self,
+        }
+    }
+
+    fn to_word(self) -> u64 {
+        word_of(self.key)
+    }
+
+    fn from_word(word: u64) -> Least {
+        Least { key: key_of(word) }
+    }
+
+    fn proper(self) -> bool
+        ensures always { IsTrue result }
+        ensures proper { IsTrue result ↔ IsKeyOrNone self }
+    {
+        // Every key that fits the field is a value, and so is none.
+        let _key = self.key;
+        true
+    }
+
+    ghost unit_is_proper = { tt };
+
+    ghost key_is_proper = { λ _ is_key. is_key };
+
+    ghost join_is_proper = { smaller_of-is_key };
+
+    ghost of_word_is_proper = { λ w _. key_of_word-is_key w };
+
+    ghost associates = { λ x y z _ _ _. smaller_of-assoc x y z };
+
+    ghost unit_left = { λ _ _. refl };
+
+    ghost unit_right = { λ x _. smaller_of-none_right x };
+
+    ghost word_fits = { word_of_key-fits };
+
+    ghost round_trip = { key_of_word-word_of_key };
+}

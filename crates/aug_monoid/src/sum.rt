@@ -1,0 +1,96 @@
+//! The sum of the keys.
+ghost use Rattle.std.specs.Prelude.{◌≡◌, ◌^◌, ◌<◌, ◌↔◌, IsTrue, refl};
+ghost use Rattle.std.proofs.Common.{lit<};
+ghost use Rattle.aug_monoid.specs.Wrapping.{wrapped_sum};
+ghost use Rattle.aug_monoid.specs.WrappingLaws.{wrapped_sum-fits, wrapped_sum-assoc, wrapped_sum-zero_left, wrapped_sum-zero_right, key_fits};
+
+use crate::Monoid;
+use std::marker::Model;
+
+/// The sum of the keys, modulo 2^64.
+#[derive(Clone, Copy, PartialEq, Eq, Debug)]
+pub struct Sum {
+    sum: u64,
+}
+
+impl Model for Sum {
+    ghost use Rattle.std.specs.Prelude.{ℕ};
+
+    ghost Value = { ℕ };
+
+    ghost view = { λ s. s.sum };
+
+    ghost inverse = { λ n. record { sum = n } };
+}
+
+impl Sum {
+    /// The sum itself.
+    pub fn value(self) -> u64
+        ensures { result ≡ self }
+    {
+        self.sum
+    }
+}
+
+impl Monoid for Sum {
+    ghost IsProper = { λ s. s < 2 ^ 64 };
+
+    ghost unit_value = { 0 };
+
+    ghost key_value = { λ k. k };
+
+    ghost joined = { wrapped_sum };
+
+    ghost word_of = { λ s. s };
+
+    ghost of_word = { λ w. w };
+
+    fn unit() -> Sum {
+        Sum { sum: 0 }
+    }
+
+    fn of_key(k: u32) -> Sum {
+        Sum { sum: u64::from(k) }
+    }
+
+    fn join(self, other: Sum) -> Sum {
+        Sum {
+            sum: self.sum.wrapping_add(other.sum),
+        }
+    }
+
+    fn to_word(self) -> u64 {
+        self.value()
+    }
+
+    fn from_word(word: u64) -> Sum {
+        Sum { sum: word }
+    }
+
+    fn proper(self) -> bool
+        ensures always { IsTrue result }
+        ensures proper { IsTrue result ↔ (self < 2 ^ 64) }
+    {
+        // Every number that fits the field is a value.
+        let _number = self.sum;
+        true
+    }
+
+    ghost unit_is_proper = { lit< tt };
+
+    ghost key_is_proper = { key_fits };
+
+    ghost join_is_proper = { λ x y _ _. wrapped_sum-fits x y };
+
+    ghost of_word_is_proper = { λ _ fits. fits };
+
+    ghost associates = { λ x y z _ _ _. wrapped_sum-assoc x y z };
+
+    ghost unit_left = { wrapped_sum-zero_left };
+
+    ghost unit_right = { wrapped_sum-zero_right };
+
+    ghost word_fits = { λ _ fits. fits };
+
+    ghost round_trip = { λ _ _. refl };
+}

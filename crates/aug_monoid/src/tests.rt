@@ -1,0 +1,116 @@
+use super::{Count, Extent, Greatest, Least, Monoid, Nothing, Sum, fold_slice};
+use last::Last;
+
+mod last;
+
+const UPPER: u64 = 4_294_967_296;
+
+fn word_of_fold<M: Monoid>(keys: &[u32]) -> u64 {
+    fold_slice::<M>(keys).to_word()
+}
+
+fn folds_nothing_to_the_unit<M: Monoid>() -> bool {
+    fold_slice::<M>(&[]) == M::unit()
+}
+
+fn word_gives_a_proper_value<M: Monoid>(word: u64) -> bool {
+    M::from_word(word).proper()
+}
+
+fn word_after_round_trip<M: Monoid>(keys: &[u32]) -> u64 {
+    M::from_word(word_of_fold::<M>(keys)).to_word()
+}
+
+#[test]
+fn the_extent_of_5_and_9_has_the_word_with_5_above_9(rt: HostRuntime) {
+    assert_eq!(rt; fold_slice::<Extent>(&[5, 9]).to_word(), 21_474_836_489);
+    assert_eq!(rt; Extent::from_word(21_474_836_489).bounds(), Some((5, 9)));
+}
+
+#[test]
+fn an_extent_word_with_a_greater_upper_half_gives_none(rt: HostRuntime) {
+    for word in [UPPER, 9 * UPPER + 5, u64::MAX - 1] {
+        assert_eq!(rt; Extent::from_word(word).bounds(), None, "at {word}");
+    }
+}
+
+#[test]
+fn a_word_above_the_keys_gives_no_least_or_greatest(rt: HostRuntime) {
+    assert_eq!(rt; Least::from_word(UPPER - 1).value(), Some(4_294_967_295));
+    assert_eq!(rt; Greatest::from_word(UPPER - 1).value(), Some(4_294_967_295));
+    for word in [UPPER, UPPER + 5, u64::MAX] {
+        assert_eq!(rt; Least::from_word(word).value(), None, "at {word}");
+        assert_eq!(rt; Greatest::from_word(word).value(), None, "at {word}");
+    }
+}
+
+#[test]
+fn each_fold_of_5_and_9_has_its_value(rt: HostRuntime) {
+    assert_eq!(rt; fold_slice::<Count>(&[5, 9]).value(), 2);
+    assert_eq!(rt; fold_slice::<Sum>(&[5, 9]).value(), 14);
+    assert_eq!(rt; fold_slice::<Least>(&[5, 9]).value(), Some(5));
+    assert_eq!(rt; fold_slice::<Greatest>(&[5, 9]).value(), Some(9));
+    assert_eq!(rt; fold_slice::<Extent>(&[5, 9]).bounds(), Some((5, 9)));
+    assert_eq!(rt; fold_slice::<Nothing>(&[5, 9]), Nothing);
+}
+
+#[test]
+fn the_fold_of_no_keys_is_the_unit(rt: HostRuntime) {
+    assert!(rt; folds_nothing_to_the_unit::<Count>());
+    assert!(rt; folds_nothing_to_the_unit::<Sum>());
+    assert!(rt; folds_nothing_to_the_unit::<Least>());
+    assert!(rt; folds_nothing_to_the_unit::<Greatest>());
+    assert!(rt; folds_nothing_to_the_unit::<Extent>());
+    assert!(rt; folds_nothing_to_the_unit::<Nothing>());
+    assert!(rt; folds_nothing_to_the_unit::<Last>());
+}
+
+#[test]
+fn the_units_have_the_words_of_the_table(rt: HostRuntime) {
+    assert_eq!(rt; Count::unit().to_word(), 0);
+    assert_eq!(rt; Sum::unit().to_word(), 0);
+    assert_eq!(rt; Least::unit().to_word(), UPPER);
+    assert_eq!(rt; Greatest::unit().to_word(), UPPER);
+    assert_eq!(rt; Extent::unit().to_word(), UPPER);
+    assert_eq!(rt; Nothing::unit().to_word(), 0);
+}
+
+#[test]
+fn counts_and_sums_wrap_at_the_end_of_a_word(rt: HostRuntime) {
+    assert_eq!(rt; Sum::from_word(u64::MAX).join(Sum::of_key(3)).value(), 2);
+    assert_eq!(rt;
+        Count::from_word(u64::MAX).join(Count::of_key(3)).value(),
+        0
+    );
+}
+
+#[test]
+fn the_order_of_keys_counts_where_the_join_is_not_commutative(rt: HostRuntime) {
+    assert_eq!(rt; word_of_fold::<Last>(&[5, 9]), 9);
+    assert_eq!(rt; word_of_fold::<Last>(&[9, 5]), 5);
+    assert_eq!(rt; word_of_fold::<Extent>(&[9, 5]), 21_474_836_489);
+}
+
+#[test]
+fn every_word_gives_a_proper_value(rt: HostRuntime) {
+    for word in [0, UPPER, 9 * UPPER + 5, u64::MAX] {
+        assert!(rt; word_gives_a_proper_value::<Count>(word));
+        assert!(rt; word_gives_a_proper_value::<Sum>(word));
+        assert!(rt; word_gives_a_proper_value::<Least>(word));
+        assert!(rt; word_gives_a_proper_value::<Greatest>(word));
+        assert!(rt; word_gives_a_proper_value::<Extent>(word));
+        assert!(rt; word_gives_a_proper_value::<Nothing>(word));
+        assert!(rt; word_gives_a_proper_value::<Last>(word));
+    }
+}
+
+#[test]
+fn the_word_of_a_fold_stands_for_it(rt: HostRuntime) {
+    assert_eq!(rt; word_after_round_trip::<Count>(&[5, 9]), 2);
+    assert_eq!(rt; word_after_round_trip::<Sum>(&[5, 9]), 14);
+    assert_eq!(rt; word_after_round_trip::<Least>(&[5, 9]), 5);
+    assert_eq!(rt; word_after_round_trip::<Greatest>(&[5, 9]), 9);
+    assert_eq!(rt; word_after_round_trip::<Extent>(&[5, 9]), 21_474_836_489);
+    assert_eq!(rt; word_after_round_trip::<Nothing>(&[5, 9]), 0);
+    assert_eq!(rt; word_after_round_trip::<Last>(&[5, 9]), 9);
+}

@@ -1,0 +1,86 @@
+-- What the rows of a round are answered, by the definitions of the queries.
+use Rattle.std.specs.Prelude.{ℕ, ◌+◌, ◌==◌, if◌then◌else◌, Bool, true, false, List, [], ◌∷◌, length, filter}
+use Rattle.std.specs.List.{list_any, zip}
+use Rattle.aug_model.specs.Keys.{with_key, without_key}
+use Rattle.aug_model.specs.Queries.{rank_of}
+use Rattle.augtrie.specs.declared.script.reply.Reply.{Reply}
+use Rattle.augtrie.specs.declared.script.reply.Reply.TheVariants as reply
+use Rattle.augtrie.specs.declared.script.report.Report.{Report}
+use Rattle.augtrie.specs.declared.script.row.Row.{Row}
+use Rattle.augtrie.specs.declared.script.verb.Verb.{Verb}
+use Rattle.augtrie.specs.declared.script.verb.Verb.TheVariants as verb
+
+-- a lane's sets, each as the rising list of its members: the live one, and the snapshot that its queries are answered from
+pub record Sets : Type 0 where
+  pub live : List ℕ
+  pub held : List ℕ
+
+-- the key is a member
+abbrev pub is_member : List ℕ → ℕ → Bool
+is_member keys k = list_any (λ x. x == k) keys
+
+-- what a verb is answered
+abbrev pub reply_to : Sets → Verb → Reply
+reply_to sets (verb.Insert k) = if is_member sets.live k then reply.Old else reply.New
+reply_to sets (verb.Remove k) = if is_member sets.live k then reply.Gone else reply.Absent
+reply_to sets verb.Look = reply.Looked
+reply_to sets verb.Size = reply.Number (length sets.held)
+reply_to sets (verb.Rank k) = reply.Number (rank_of sets.held k)
+
+-- the sets after a verb
+abbrev pub sets_after : Sets → Verb → Sets
+sets_after sets (verb.Insert k) = record { live = with_key sets.live k; held = sets.held }
+sets_after sets (verb.Remove k) = record { live = without_key sets.live k; held = sets.held }
+sets_after sets verb.Look = record { live = sets.live; held = sets.live }
+sets_after sets verb.Size = sets
+sets_after sets (verb.Rank k) = sets
+
+-- the replies to the rows, in order
+unfoldable pub replies_of : Sets → List Row → List Reply
+replies_of sets [] = []
+replies_of sets (row ∷ rows) = reply_to sets row.verb ∷ replies_of (sets_after sets row.verb) rows
+
+-- the sets after the rows
+unfoldable pub sets_of : Sets → List Row → Sets
+sets_of sets [] = sets
+sets_of sets (row ∷ rows) = sets_of (sets_after sets row.verb) rows
+
+-- the reply says that an insertion, or a removal, was accepted
+abbrev pub is_insertion : Reply → Bool
+is_insertion reply.New = true
+is_insertion reply.Old = false
+is_insertion reply.Gone = false
+is_insertion reply.Absent = false
+is_insertion reply.Looked = false
+is_insertion (reply.Number n) = false
+
+abbrev pub is_removal : Reply → Bool
+is_removal reply.New = false
+is_removal reply.Old = false
+is_removal reply.Gone = true
+is_removal reply.Absent = false
+is_removal reply.Looked = false
+is_removal (reply.Number n) = false
+
+-- how many of the replies pass a test
+abbrev pub count_of : (Reply → Bool) → List Reply → ℕ
+count_of test replies = length (filter test replies)
+
+-- nothing was put in yet
+abbrev pub opening_sets : Sets
+opening_sets = record { live = []; held = [] }
+
+-- the report of the one round with these rows, over a set that is empty at first
+abbrev pub report_of : List Row → Report
+report_of rows = record {
+  number = 1;
+  rows = zip rows (replies_of opening_sets rows);
+  size = length (sets_of opening_sets rows).live;
+  inserts = count_of is_insertion (replies_of opening_sets rows);
+  removals = count_of is_removal (replies_of opening_sets rows);
+}
+
+-- an engine of one lane as contracts see it: how many bits its keys have, and its sets
+pub record Lane : Type 0 where
+  pub bits : ℕ
+  pub sets : Sets

@@ -1,0 +1,41 @@
+-- The text of a report.
+use Rattle.std.specs.Prelude.{ℕ, List, [], ◌∷◌, ◌++◌, map, codes}
+use Rattle.std.specs.Fmt.{decimal}
+use Rattle.std.specs.List.{concat}
+use Rattle.augtrie.specs.declared.script.reply.Reply.{Reply}
+use Rattle.augtrie.specs.declared.script.reply.Reply.TheVariants as reply
+use Rattle.augtrie.specs.declared.script.report.Report.{Report}
+use Rattle.augtrie.specs.declared.script.row.Row.{Row}
+use Rattle.augtrie.specs.declared.script.verb.Verb.{Verb}
+use Rattle.augtrie.specs.declared.script.verb.Verb.TheVariants as verb
+
+-- a verb with its arguments, parted by blanks
+abbrev pub verb_text : Verb → List ℕ
+verb_text (verb.Insert k) = codes "insert " ++ decimal k
+verb_text (verb.Remove k) = codes "remove " ++ decimal k
+verb_text verb.Look = codes "look"
+verb_text verb.Size = codes "size"
+verb_text (verb.Rank k) = codes "rank " ++ decimal k
+
+-- a reply
+abbrev pub reply_text : Reply → List ℕ
+reply_text reply.New = codes "new"
+reply_text reply.Old = codes "old"
+reply_text reply.Gone = codes "gone"
+reply_text reply.Absent = codes "none"
+reply_text reply.Looked = codes "ok"
+reply_text (reply.Number n) = decimal n
+
+-- the line of a row and its reply, in the round with this number: `<round> <lane> <verb args> = <reply>`
+abbrev pub line_text : ℕ → Row × Reply → List ℕ
+line_text number line =
+    decimal number ++ codes " " ++ decimal line.0.lane ++ codes " " ++ verb_text line.0.verb ++ codes " = " ++ reply_text line.1 ++ codes "\n"
+
+-- the last line: `<round> end size=<s> in=<i> out=<o>`
+abbrev pub end_text : Report → List ℕ
+end_text report =
+    decimal report.number ++ codes " end size=" ++ decimal report.size ++ codes " in=" ++ decimal report.inserts ++ codes " out=" ++ decimal report.removals ++ codes "\n"
+
+-- a line for each row, in order, and then the last line
+abbrev pub report_text : Report → List ℕ
+report_text report = concat (map (line_text report.number) report.rows) ++ end_text report

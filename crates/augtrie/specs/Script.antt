@@ -1,0 +1,125 @@
+-- How a script reads: its records are those of `csv`, and each is a row, or has the first fault of a table.
+use Rattle.std.specs.Prelude.{ℕ, ◌+◌, ◌^◌, ◌==◌, ◌&&◌, ◌||◌, not, nat_lt, nat_le, true, false, Bool, if◌then◌else◌, List, [], ◌∷◌, ◌++◌, length, drop, filter, slice_index, slice_index_or, codes, is_some, Option, Some, None, Result, Ok, Err}
+use Rattle.std.specs.Char.{is_ascii_digit}
+use Rattle.std.specs.List.{list_all}
+use Rattle.std.specs.Str.{bytes_eq}
+use Rattle.std.specs.Str.Parse.{digits_value}
+use Rattle.csv.specs.Reading.{default_config, strip_bom, records}
+use Rattle.augtrie.specs.Limits.{Bounds}
+use Rattle.augtrie.specs.declared.script.row.Row.{Row}
+use Rattle.augtrie.specs.declared.script.script_error.ScriptError.{ScriptError}
+use Rattle.augtrie.specs.declared.script.script_error.ScriptError.TheVariants.{BadCsv, BadLane, BadVerb, BadArity, BadNumber, OutOfRange, TooManyUpdates}
+use Rattle.augtrie.specs.declared.script.verb.Verb.{Verb}
+use Rattle.augtrie.specs.declared.script.verb.Verb.TheVariants as verb
+use Rattle.augtrie.specs.declared.script.verb.Word.{Word}
+use Rattle.augtrie.specs.declared.script.verb.Word.TheVariants as word
+
+-- the records of a script's bytes, each a list of fields: a comma parts fields, and blank lines are no records
+abbrev pub records_of : List ℕ → List (List (List ℕ))
+records_of bytes = records default_config (strip_bom bytes)
+
+-- every byte of every field is from 32 to 126
+abbrev pub are_printable : List (List ℕ) → Bool
+are_printable fields = list_all (λ field. list_all (λ b. nat_le 32 b && nat_le b 126) field) fields
+
+-- 1 to 9 decimal digits
+abbrev pub is_number : List ℕ → Bool
+is_number field = nat_le 1 (length field) && nat_le (length field) 9 && list_all is_ascii_digit field
+
+-- the number that a field's digits write
+abbrev pub number_of : List ℕ → ℕ
+number_of field = digits_value 10 field
+
+-- the field is `*`
+abbrev pub is_star : List ℕ → Bool
+is_star field = bytes_eq field (codes "*")
+
+-- the verb's word that a field is, if it is one
+abbrev pub word_of : List ℕ → Option Word
+word_of field =
+    if bytes_eq field (codes "insert") then Some word.Insert
+    else if bytes_eq field (codes "remove") then Some word.Remove
+    else if bytes_eq field (codes "look") then Some word.Look
+    else if bytes_eq field (codes "size") then Some word.Size
+    else if bytes_eq field (codes "rank") then Some word.Rank
+    else None
+
+-- how many arguments a verb has
+abbrev pub arity_of : Word → ℕ
+arity_of word.Insert = 1
+arity_of word.Remove = 1
+arity_of word.Look = 0
+arity_of word.Size = 0
+arity_of word.Rank = 1
+
+-- the verb of a word with these arguments
+abbrev pub verb_of : Word → List (List ℕ) → Verb
+verb_of word.Insert arguments = verb.Insert (number_of (slice_index_or arguments 0 []))
+verb_of word.Remove arguments = verb.Remove (number_of (slice_index_or arguments 0 []))
+verb_of word.Look arguments = verb.Look
+verb_of word.Size arguments = verb.Size
+verb_of word.Rank arguments = verb.Rank (number_of (slice_index_or arguments 0 []))
+
+-- the verb's arguments are within its bounds: keys of updates below 2 ^ bits, arguments of queries at most 2 ^ bits
+abbrev pub is_in_bounds : ℕ → Verb → Bool
+is_in_bounds bits (verb.Insert k) = nat_lt k (2 ^ bits)
+is_in_bounds bits (verb.Remove k) = nat_lt k (2 ^ bits)
+is_in_bounds bits verb.Look = true
+is_in_bounds bits verb.Size = true
+is_in_bounds bits (verb.Rank k) = nat_le k (2 ^ bits)
+
+-- the verb is `insert` or `remove`
+abbrev pub is_update : Verb → Bool
+is_update (verb.Insert k) = true
+is_update (verb.Remove k) = true
+is_update verb.Look = false
+is_update verb.Size = false
+is_update (verb.Rank k) = false
+
+-- how many of the rows are updates of the lane
+abbrev pub updates_of : ℕ → List Row → ℕ
+updates_of lane rows = length (filter (λ row. (row.lane == lane) && is_update row.verb) rows)
+
+-- the row, or its first fault, once its lane and verb are known: the rows before it in its round are `before`
+abbrev pub bounded_row : Bounds → List Row → Row → Result Row ScriptError
+bounded_row limits before row =
+    if not (nat_lt row.lane limits.workers && is_in_bounds limits.bits row.verb) then Err (OutOfRange row.row)
+    else if is_update row.verb && nat_le limits.updates (updates_of row.lane before) then Err (TooManyUpdates row.row)
+    else Ok row
+
+-- the same once its lane and its verb's word are known
+abbrev pub worded_row : Bounds → List Row → ℕ → ℕ → List (List ℕ) → Option Word → Result Row ScriptError
+worded_row limits before number lane arguments None = Err (BadVerb number)
+worded_row limits before number lane arguments (Some word) =
+    if not (length arguments == arity_of word) then Err (BadArity number)
+    else if not (list_all is_number arguments) then Err (BadNumber number)
+    else bounded_row limits before (record { row = number; lane = lane; verb = verb_of word arguments })
+
+-- the row of a record with this number, or the first fault of the record; no verb that there is goes with `*`
+abbrev pub row_of : Bounds → List Row → ℕ → List (List ℕ) → Result Row ScriptError
+row_of limits before number fields =
+    let first = slice_index_or fields 0 [] in
+    if not (are_printable fields) then Err (BadCsv number)
+    else if not (is_number first || is_star first) then Err (BadLane number)
+    else if is_star first then Err (BadVerb number)
+    else worded_row limits before number (number_of first) (drop 2 fields) (word_of (slice_index_or fields 1 []))
+
+-- a fault, or what the row leads on to
+abbrev pub then_rows : Result Row ScriptError → (Row → Result (List Row) ScriptError) → Result (List Row) ScriptError
+then_rows (Ok row) more = more row
+then_rows (Err fault) more = Err fault
+
+-- the rows of these records behind those that were read already, or the first faulty row's fault
+unfoldable pub rows_from : Bounds → List Row → List (List (List ℕ)) → Result (List Row) ScriptError
+rows_from limits before [] = Ok before
+rows_from limits before (fields ∷ rest) =
+    then_rows (row_of limits before (length before + 1) fields) (λ row. rows_from limits (before ++ row ∷ []) rest)
+
+-- the rows of a script's bytes, or the first faulty row's fault
+abbrev pub rows_of : Bounds → List ℕ → Result (List Row) ScriptError
+rows_of limits bytes = rows_from limits [] (records_of bytes)
+
+-- the rounds of a script's rows: one, or none where there are no rows
+abbrev pub rounds_of : List Row → List (List Row)
+rounds_of [] = []
+rounds_of (row ∷ rows) = (row ∷ rows) ∷ []

@@ -1,0 +1,112 @@
+//! The plain engine of one lane: a live set, and the snapshot that its queries are answered from.
+ghost use Rattle.std.specs.Prelude.{◌≡◌, ◌+◌, ◌^◌, ◌<◌, ◌≤◌, List, length, true, All, IfOk, IsTrue, []};
+ghost use Rattle.augtrie.specs.Replies.{opening_sets, reply_to, report_of, sets_after};
+ghost use Rattle.augtrie.specs.Script.{is_in_bounds};
+
+use crate::script::{Limits, Listed, Reply, Report, Row, Verb};
+use aug_model::{KeySet, ModelError};
+use std::alloc::{AllocError, Global};
+use std::marker::Model;
+
+#[derive(Drop)]
+struct Engine {
+    live: KeySet,
+    held: KeySet,
+}
+
+impl Model for Engine {
+    ghost use Rattle.std.specs.Prelude.{◌≡◌};
+    ghost use Rattle.augtrie.specs.Replies.{Lane};
+
+    ghost Value = { Lane };
+
+    ghost view = { λ e. record { bits = e.live.bits; sets = record { live = e.live.list; held = e.held.list } } };
+
+    ghost invariant = { λ e. e.held.bits ≡ e.live.bits };
+}
+
+impl Engine {
+    /// An engine with nothing in its sets, for keys of 1 to 16 bits.
+    fn new(alloc: Global, bits: u32) -> Result<Engine, AllocError>
+        requires { (1 ≤ bits) × (bits ≤ 16) }
+        ensures { IfOk result (λ engine. engine ≡ record { bits = bits; sets = opening_sets }) }
+    {
+        Ok(Engine {
+            live: empty_set(alloc, bits)?,
+            held: empty_set(alloc, bits)?,
+        })
+    }
+
+    /// Runs a verb, and answers it.
+    fn run(&mut self, verb: Verb) -> Reply
+        requires { IsTrue (is_in_bounds self.old.bits verb) }
+        ensures reply { result ≡ reply_to self.old.sets verb }
+        ensures sets { self.new ≡ record { bits = self.old.bits; sets = sets_after self.old.sets verb } }
+    {
+        match verb {
+            Verb::Insert(key) => {
+                if self.live.insert(key) {
+                    Reply::New
+                } else {
+                    Reply::Old
+                }
+            }
+            Verb::Remove(key) => {
+                if self.live.remove(key) {
+                    Reply::Gone
+                } else {
+                    Reply::Absent
+                }
+            }
+            Verb::Look => {
+                self.held.copy_from(&self.live);
+                Reply::Looked
+            }
+            Verb::Size => Reply::Number(self.held.size()),
+            Verb::Rank(key) => Reply::Number(self.held.rank(key)),
+        }
+    }
+
+    /// How many members the live set has.
+    fn size(&self) -> u32
+        ensures { result ≡ length self.now.sets.live }
+    {
+        self.live.size()
+    }
+}
+
+fn empty_set(alloc: Global, bits: u32) -> Result<KeySet, AllocError>
+    requires { (1 ≤ bits) × (bits ≤ 16) }
+    ensures { IfOk result (λ set. set ≡ record { bits = bits; list = [] }) }
+{
+    match KeySet::try_new(alloc, bits) {
+        Ok(set) => Ok(set),
+        Err(ModelError::OutOfMemory) => Err(AllocError),
+        Err(ModelError::BadBits) => unreachable!(),
+    }
+}
+
+/// Runs the rows of a round one after the other, over a set that is empty at first.
+pub(crate) fn run_rows(alloc: Global, limits: &Limits, rows: &[Row]) -> Result<Report, AllocError>
+    requires in_bounds { All (λ row. is_in_bounds limits.now.bits row.verb ≡ true) rows.now }
+    requires few { length rows.now < 2 ^ 32 }
+    ensures { IfOk result (λ report. report ≡ report_of rows.now) }
+{
+    let mut engine = Engine::new(alloc, limits.bits())?;
+    let mut lines = Vec::with_capacity(alloc, rows.len())?;
+    let mut inserts = 0;
+    let mut removals = 0;
+    for row in rows {
+        let reply = engine.run(row.verb);
+        inserts += u32::from(reply.is_insertion());
+        removals += u32::from(reply.is_removal());
+        lines.push((*row, reply))?;
+    }
+    Ok(Report {
+        number: 1,
+        rows: Listed::from_vec(lines),
+        size: engine.size(),
+        inserts,
+        removals,
+    })
+}

@@ -1,0 +1,128 @@
+//! Why a script was not run to its end.
+ghost use Rattle.std.specs.Prelude.{◌≡◌, ◌+◌, ◌-◌, ◌^◌, ◌<◌, ◌≤◌, ◌↔◌, IsErr, OnOk, OnErr, is_ok, length, if◌then◌else◌};
+ghost use Rattle.std.specs.Io.KnownBytes.{Appends};
+
+use crate::fault_line::{fault_line, script_line};
+use crate::script::{Fault, ScriptError, Sink, send};
+
+/// Why a script was not run to its end.
+#[derive(Clone, Copy, Debug, PartialEq, Eq)]
+pub enum RunError {
+    /// 1: the script has a fault. `run` never answers it with `ScriptError::OutOfMemory`.
+    Script(ScriptError),
+    /// 2: the script could not be read.
+    Input,
+    /// 3: the reports could not be written.
+    Output,
+    /// 4: memory was refused.
+    OutOfMemory,
+    /// 5: the script has more than 16,777,216 bytes.
+    TooLong,
+}
+
+impl RunError {
+    ghost use Rattle.augtrie.specs.Devices.{AppendsBeginning};
+    ghost use Rattle.augtrie.specs.Faults.{run_error_line, run_error_status};
+
+    /// The status that the program ends with: 1, 3 or 4.
+    pub fn status(&self) -> u8
+        ensures { result ≡ run_error_status self.now }
+    {
+        match self {
+            RunError::OutOfMemory | RunError::Script(ScriptError::OutOfMemory) => 4,
+            RunError::Input | RunError::Output => 3,
+            RunError::Script(_) | RunError::TooLong => 1,
+        }
+    }
+
+    /// Writes the fault's line, and then calls `finish` once. The first fault of the sink ends it. It takes no
+    /// memory.
+    pub fn write_line<S: Sink>(&self, sink: &mut S) -> Result<(), Fault>
+        requires { S.fault_count sink.old < 2 ^ 64 - 1 }
+        ensures ok { OnOk result (Appends (S.contents sink.old) (S.contents sink.new) (run_error_line self.now)) }
+        ensures err { OnErr result (AppendsBeginning (S.contents sink.old) (S.contents sink.new) (run_error_line self.now)) }
+        ensures rose { IsErr result ↔ (S.fault_count sink.old < S.fault_count sink.new) }
+        ensures counted { S.fault_count sink.new ≡ S.fault_count sink.old + (if is_ok result then 0 else 1) }
+    {
+        let line = match self {
+            RunError::Script(error) => script_line(*error),
+            RunError::Input => fault_line("input"),
+            RunError::Output => fault_line("output"),
+            RunError::OutOfMemory => fault_line("memory"),
+            RunError::TooLong => fault_line("script too long"),
+        };
+        send(line.as_str().as_bytes(), sink)
+    }
+}
+
+#[cfg(test)]
+mod tests {
+    use super::{RunError, ScriptError};
+    use crate::script::Fault;
+    use crate::script::fakes::MemorySink;
+
+    const LINES: [(RunError, u8, &str); 12] = [
+        (
+            RunError::Script(ScriptError::BadCsv(1)),
+            1,
+            "augtrie: row 1: BadCsv\n",
+        ),
+        (
+            RunError::Script(ScriptError::BadLane(2)),
+            1,
+            "augtrie: row 2: BadLane\n",
+        ),
+        (
+            RunError::Script(ScriptError::BadVerb(10)),
+            1,
+            "augtrie: row 10: BadVerb\n",
+        ),
+        (
+            RunError::Script(ScriptError::BadArity(3)),
+            1,
+            "augtrie: row 3: BadArity\n",
+        ),
+        (
+            RunError::Script(ScriptError::BadNumber(4)),
+            1,
+            "augtrie: row 4: BadNumber\n",
+        ),
+        (
+            RunError::Script(ScriptError::OutOfRange(5)),
+            1,
+            "augtrie: row 5: OutOfRange\n",
+        ),
+        (
+            RunError::Script(ScriptError::TooManyUpdates(18_446_744_073_709_551_615)),
+            1,
+            "augtrie: row 18446744073709551615: TooManyUpdates\n",
+        ),
+        (
+            RunError::Script(ScriptError::OutOfMemory),
+            4,
+            "augtrie: memory\n",
+        ),
+        (RunError::Input, 3, "augtrie: input\n"),
+        (RunError::Output, 3, "augtrie: output\n"),
+        (RunError::OutOfMemory, 4, "augtrie: memory\n"),
+        (RunError::TooLong, 1, "augtrie: script too long\n"),
+    ];
+
+    #[test]
+    fn each_has_its_status_and_line(rt: HostRuntime) {
+        for (error, status, line) in LINES {
+            assert_eq!(rt; error.status(), status);
+            let mut sink = MemorySink::new(rt.alloc(), 7, None);
+            assert_eq!(rt; error.write_line(&mut sink), Ok(()));
+            assert_eq!(rt; sink.out.as_slice(), line.as_bytes());
+            assert_eq!(rt; sink.finished, 1);
+        }
+    }
+
+    #[test]
+    fn a_fault_of_the_sink_is_told(rt: HostRuntime) {
+        let mut sink = MemorySink::new(rt.alloc(), 7, Some(2));
+        assert_eq!(rt; RunError::Input.write_line(&mut sink), Err(Fault));
+        assert_eq!(rt; sink.out.as_slice(), b"augtrie: input".as_slice());
+    }
+}

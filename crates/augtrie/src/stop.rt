@@ -1,0 +1,104 @@
+//! Why the command line ends the program before a script is read.
+ghost use Rattle.std.specs.Prelude.{◌≡◌, ◌+◌, ◌-◌, ◌^◌, ◌<◌, ◌↔◌, IsErr, OnOk, OnErr, is_ok, if◌then◌else◌};
+ghost use Rattle.std.specs.Io.KnownBytes.{Appends};
+
+use crate::fault_line::fault_line;
+use crate::script::{Fault, Sink, send};
+use std::alloc::AllocError;
+
+/// Why the command line ends the program.
+#[derive(Debug, Drop)]
+pub enum Stop {
+    /// 1: help was asked for. It has the parser's text.
+    Help(String),
+    /// 2: the words are wrong. It has the parser's text.
+    Usage(String),
+    /// 3: the limits ask for more words than a table may have.
+    TooLarge,
+    /// 4: memory was refused.
+    OutOfMemory,
+}
+
+impl From<AllocError> for Stop {
+    fn from(_: AllocError) -> Stop {
+        Stop::OutOfMemory
+    }
+}
+
+impl Stop {
+    ghost use Rattle.augtrie.specs.Devices.{AppendsBeginning};
+    ghost use Rattle.augtrie.specs.Faults.{stop_line, stop_status};
+
+    /// The status that the program ends with: 0, 2 or 4.
+    pub fn status(&self) -> u8
+        ensures { result ≡ stop_status self.now }
+    {
+        match self {
+            Stop::Help(_) => 0,
+            Stop::Usage(_) | Stop::TooLarge => 2,
+            Stop::OutOfMemory => 4,
+        }
+    }
+
+    /// Writes the parser's text as it is, or the fault's line, and then calls `finish` once. The first fault of
+    /// the sink ends it. It takes no memory.
+    pub fn write_line<S: Sink>(&self, sink: &mut S) -> Result<(), Fault>
+        requires { S.fault_count sink.old < 2 ^ 64 - 1 }
+        ensures ok { OnOk result (Appends (S.contents sink.old) (S.contents sink.new) (stop_line self.now)) }
+        ensures err { OnErr result (AppendsBeginning (S.contents sink.old) (S.contents sink.new) (stop_line self.now)) }
+        ensures rose { IsErr result ↔ (S.fault_count sink.old < S.fault_count sink.new) }
+        ensures counted { S.fault_count sink.new ≡ S.fault_count sink.old + (if is_ok result then 0 else 1) }
+    {
+        let line = match self {
+            Stop::Help(text) | Stop::Usage(text) => return send(text.as_bytes(), sink),
+            Stop::TooLarge => fault_line("TooLarge"),
+            Stop::OutOfMemory => fault_line("memory"),
+        };
+        send(line.as_str().as_bytes(), sink)
+    }
+}
+
+#[cfg(test)]
+mod tests {
+    use super::Stop;
+    use crate::script::Fault;
+    use crate::script::fakes::MemorySink;
+    use std::alloc::{AllocError, Global};
+    use std::test::Fail;
+
+    fn stops(alloc: Global) -> Result<[(Stop, u8, &'static str); 4], AllocError> {
+        Ok([
+            (
+                Stop::Help(String::from_str(alloc, "how to call it")?),
+                0,
+                "how to call it",
+            ),
+            (
+                Stop::Usage(String::from_str(alloc, "no such flag\n")?),
+                2,
+                "no such flag\n",
+            ),
+            (Stop::TooLarge, 2, "augtrie: TooLarge\n"),
+            (Stop::OutOfMemory, 4, "augtrie: memory\n"),
+        ])
+    }
+
+    #[test]
+    fn each_has_its_status_and_text(rt: HostRuntime) -> Result<(), Fail> {
+        for (stop, status, text) in stops(rt.alloc())? {
+            assert_eq!(rt; stop.status(), status);
+            let mut sink = MemorySink::new(rt.alloc(), 5, None);
+            assert_eq!(rt; stop.write_line(&mut sink), Ok(()));
+            assert_eq!(rt; sink.out.as_slice(), text.as_bytes());
+            assert_eq!(rt; sink.finished, 1);
+        }
+        Ok(())
+    }
+
+    #[test]
+    fn a_fault_of_the_sink_is_told(rt: HostRuntime) {
+        let mut sink = MemorySink::new(rt.alloc(), 5, Some(1));
+        assert_eq!(rt; Stop::TooLarge.write_line(&mut sink), Err(Fault));
+        assert_eq!(rt; sink.out.as_slice(), b"augtr".as_slice());
+    }
+}

@@ -1,0 +1,250 @@
+//! Whole scripts, with what they print.
+use crate::run::run;
+use crate::run_error::RunError;
+use crate::script::fakes::{MemorySink, MemorySource};
+use crate::script::{Limits, ScriptError};
+use std::alloc::Global;
+use std::process::Abort;
+use std::test::Fail;
+
+// Runs a script of 4 bits from one device of small pieces to another.
+fn outcome(
+    rt: &impl Abort,
+    alloc: Global,
+    script: &[u8],
+    updates: u32,
+) -> (Result<(), RunError>, MemorySink) {
+    let limits = Limits::try_new(4, 1, updates).expect(rt, "limits");
+    let mut source = MemorySource::new(script, 5, None);
+    let mut sink = MemorySink::new(alloc, 7, None);
+    let result = run(alloc, &mut source, &mut sink, &limits);
+    (result, sink)
+}
+
+fn assert_prints(rt: &impl Abort, alloc: Global, script: &str, text: &str) {
+    let (result, sink) = outcome(rt, alloc, script.as_bytes(), 64);
+    assert_eq!(rt; result, Ok(()), "{script}");
+    assert_eq!(rt; sink.out.as_slice(), text.as_bytes(), "{script}");
+    assert_eq!(rt; sink.finished, 1);
+}
+
+fn assert_refused(rt: &impl Abort, alloc: Global, script: &[u8], fault: ScriptError, line: &str) {
+    let (result, sink) = outcome(rt, alloc, script, 2);
+    assert_eq!(rt; result, Err(RunError::Script(fault)), "{line}");
+    assert_eq!(rt; sink.calls, 0, "{line}");
+    let mut standard_error = MemorySink::new(alloc, 7, None);
+    let error = RunError::Script(fault);
+    assert_eq!(rt; error.status(), 1);
+    assert_eq!(rt; error.write_line(&mut standard_error), Ok(()));
+    assert_eq!(rt; standard_error.out.as_slice(), line.as_bytes());
+}
+
+#[test]
+fn first_script(rt: HostRuntime) {
+    assert_prints(
+        &rt,
+        rt.alloc(),
+        "0,insert,5\n0,insert,9\n0,insert,5\n0,look\n0,size\n0,rank,9\n",
+        "1 0 insert 5 = new\n1 0 insert 9 = new\n1 0 insert 5 = old\n1 0 look = ok\n1 0 size = 2\n1 0 rank 9 = 1\n1 end size=2 in=2 out=0\n",
+    );
+}
+
+#[test]
+fn empty_script_prints_nothing(rt: HostRuntime) {
+    let (result, sink) = outcome(&rt, rt.alloc(), b"", 64);
+    assert_eq!(rt; result, Ok(()));
+    assert_eq!(rt; sink.calls, 0);
+}
+
+#[test]
+fn queries_are_answered_from_the_last_look(rt: HostRuntime) {
+    assert_prints(
+        &rt,
+        rt.alloc(),
+        "0,insert,3\n0,size\n0,look\n0,size\n",
+        "1 0 insert 3 = new\n1 0 size = 0\n1 0 look = ok\n1 0 size = 1\n1 end size=1 in=1 out=0\n",
+    );
+}
+
+#[test]
+fn removals_of_a_key_that_comes_and_goes(rt: HostRuntime) {
+    assert_prints(
+        &rt,
+        rt.alloc(),
+        "0,remove,3\n0,insert,3\n0,remove,3\n0,remove,3\n",
+        "1 0 remove 3 = none\n1 0 insert 3 = new\n1 0 remove 3 = gone\n1 0 remove 3 = none\n1 end size=0 in=1 out=1\n",
+    );
+}
+
+#[test]
+fn updates_of_a_lane_are_limited(rt: HostRuntime) {
+    assert_refused(
+        &rt,
+        rt.alloc(),
+        b"0,insert,1\n0,remove,1\n0,insert,1\n",
+        ScriptError::TooManyUpdates(3),
+        "augtrie: row 3: TooManyUpdates\n",
+    );
+    let (result, sink) = outcome(&rt, rt.alloc(), b"0,insert,1\n0,remove,1\n", 2);
+    assert_eq!(rt; result, Ok(()));
+    let text = "1 0 insert 1 = new\n1 0 remove 1 = gone\n1 end size=0 in=1 out=1\n";
+    assert_eq!(rt; sink.out.as_slice(), text.as_bytes());
+}
+
+#[test]
+fn faulty_rows_are_refused(rt: HostRuntime) {
+    let bad_csv: &[u8] = &[48, 44, 105, 110, 115, 101, 114, 116, 44, 0xC3, 0xA9];
+    let rows: [(&[u8], ScriptError, &str); 17] = [
+        (bad_csv, ScriptError::BadCsv(1), "augtrie: row 1: BadCsv\n"),
+        (
+            b"x,fly",
+            ScriptError::BadLane(1),
+            "augtrie: row 1: BadLane\n",
+        ),
+        (
+            b"1,fly",
+            ScriptError::BadVerb(1),
+            "augtrie: row 1: BadVerb\n",
+        ),
+        (b"0", ScriptError::BadVerb(1), "augtrie: row 1: BadVerb\n"),
+        (
+            b"*,look",
+            ScriptError::BadVerb(1),
+            "augtrie: row 1: BadVerb\n",
+        ),
+        (
+            b"0,end",
+            ScriptError::BadVerb(1),
+            "augtrie: row 1: BadVerb\n",
+        ),
+        (
+            b"*,end",
+            ScriptError::BadVerb(1),
+            "augtrie: row 1: BadVerb\n",
+        ),
+        (
+            b"0,has,1",
+            ScriptError::BadVerb(1),
+            "augtrie: row 1: BadVerb\n",
+        ),
+        (
+            b"0,insert",
+            ScriptError::BadArity(1),
+            "augtrie: row 1: BadArity\n",
+        ),
+        (
+            b"0,look,1",
+            ScriptError::BadArity(1),
+            "augtrie: row 1: BadArity\n",
+        ),
+        (
+            b"0,insert,x",
+            ScriptError::BadNumber(1),
+            "augtrie: row 1: BadNumber\n",
+        ),
+        (
+            b"0,insert,1000000000",
+            ScriptError::BadNumber(1),
+            "augtrie: row 1: BadNumber\n",
+        ),
+        (
+            b"0,insert,16",
+            ScriptError::OutOfRange(1),
+            "augtrie: row 1: OutOfRange\n",
+        ),
+        (
+            b"1,look",
+            ScriptError::OutOfRange(1),
+            "augtrie: row 1: OutOfRange\n",
+        ),
+        (
+            b"0,rank,17",
+            ScriptError::OutOfRange(1),
+            "augtrie: row 1: OutOfRange\n",
+        ),
+        (
+            b"0,look\n\n\n0,size\n0,fly\n",
+            ScriptError::BadVerb(3),
+            "augtrie: row 3: BadVerb\n",
+        ),
+        (
+            b"0,fly\n0,insert,16\n",
+            ScriptError::BadVerb(1),
+            "augtrie: row 1: BadVerb\n",
+        ),
+    ];
+    for (script, fault, line) in rows {
+        assert_refused(&rt, rt.alloc(), script, fault, line);
+    }
+}
+
+#[test]
+fn rank_takes_the_size_of_the_universe(rt: HostRuntime) {
+    assert_prints(
+        &rt,
+        rt.alloc(),
+        "0,rank,16",
+        "1 0 rank 16 = 0\n1 end size=0 in=0 out=0\n",
+    );
+}
+
+#[test]
+fn quotes_blank_lines_line_ends_and_leading_zeros(rt: HostRuntime) {
+    assert_prints(
+        &rt,
+        rt.alloc(),
+        "\"0\",\"insert\",\"005\"\r\n\r\n0,look",
+        "1 0 insert 5 = new\n1 0 look = ok\n1 end size=1 in=1 out=0\n",
+    );
+}
+
+#[test]
+fn script_past_its_limit_is_too_long(rt: HostRuntime) -> Result<(), Fail> {
+    let alloc = rt.alloc();
+    let mut bytes = vec![in alloc; b'\n'; 16_777_216]?;
+    let limits = Limits::try_new(4, 1, 64).ok().ok_or("limits")?;
+    let mut sink = MemorySink::new(alloc, 7, None);
+    let mut source = MemorySource::new(bytes.as_slice(), usize::MAX, None);
+    assert_eq!(rt; run(alloc, &mut source, &mut sink, &limits), Ok(()));
+    bytes.push(b'\n')?;
+    let mut source = MemorySource::new(bytes.as_slice(), usize::MAX, None);
+    assert_eq!(rt;
+        run(alloc, &mut source, &mut sink, &limits),
+        Err(RunError::TooLong)
+    );
+    assert_eq!(rt; sink.calls, 0);
+    Ok(())
+}
+
+#[test]
+fn a_source_that_fails_prints_nothing(rt: HostRuntime) -> Result<(), Fail> {
+    let alloc = rt.alloc();
+    let limits = Limits::try_new(4, 1, 64).ok().ok_or("limits")?;
+    let script = b"0,look\n0,size\n";
+    for fault_at in 0..15 {
+        let mut source = MemorySource::new(script, 1, Some(fault_at));
+        let mut sink = MemorySink::new(alloc, 7, None);
+        let result = run(alloc, &mut source, &mut sink, &limits);
+        assert_eq!(rt; result, Err(RunError::Input), "at {fault_at}");
+        assert_eq!(rt; sink.calls, 0, "at {fault_at}");
+    }
+    Ok(())
+}
+
+#[test]
+fn a_sink_that_fails_has_a_beginning(rt: HostRuntime) -> Result<(), Fail> {
+    let alloc = rt.alloc();
+    let limits = Limits::try_new(4, 1, 64).ok().ok_or("limits")?;
+    let text = "1 0 look = ok\n1 end size=0 in=0 out=0\n";
+    for fault_at in 0..39u64 {
+        let mut source = MemorySource::new(b"0,look", 1, None);
+        let mut sink = MemorySink::new(alloc, 1, Some(fault_at));
+        let result = run(alloc, &mut source, &mut sink, &limits);
+        assert_eq!(rt; result, Err(RunError::Output), "at {fault_at}");
+        assert_eq!(rt;
+            Some(sink.out.as_slice()),
+            text.as_bytes().get(..fault_at as usize)
+        );
+    }
+    Ok(())
+}

@@ -1,8 +1,14 @@
 -- What the rows of a round are answered, by the definitions of the queries.
-use Rattle.std.specs.Prelude.{ℕ, ◌+◌, ◌==◌, if◌then◌else◌, Bool, true, false, List, [], ◌∷◌, length, filter}
+use Rattle.std.specs.Prelude.{ℕ, ◌+◌, ◌==◌, if◌then◌else◌, Bool, true, false, List, [], ◌∷◌, length, filter, Option, Some, None}
 use Rattle.std.specs.List.{list_any, zip}
+use Rattle.aug_monoid.specs.Extent.{spanned_by}
+use Rattle.aug_monoid.specs.Wrapping.{wrapped_sum}
+use Rattle.aug_monoid.specs.declared.extent.Extent.{Extent}
+use Rattle.aug_monoid.specs.declared.sum.Sum.{Sum}
+use Rattle.aug_model.specs.Folds.{summary_of}
+use Rattle.aug_model.specs.declared.summary.Summary.{Summary}
 use Rattle.aug_model.specs.Keys.{with_key, without_key}
-use Rattle.aug_model.specs.Queries.{rank_of}
+use Rattle.aug_model.specs.Queries.{rank_of, range_of}
 use Rattle.augtrie.specs.declared.script.reply.Reply.{Reply}
 use Rattle.augtrie.specs.declared.script.reply.Reply.TheVariants as reply
 use Rattle.augtrie.specs.declared.script.report.Report.{Report}
@@ -19,6 +25,10 @@ pub record Sets : Type 0 where
 abbrev pub is_member : List ℕ → ℕ → Bool
 is_member keys k = list_any (λ x. x == k) keys
 
+-- the number of the keys, their sum in a word of 64 bits, and the least and the greatest of them
+abbrev pub span_of : List ℕ → Summary Sum Extent
+span_of keys = summary_of 0 (λ k. k) wrapped_sum None (λ k. Some (k, k)) spanned_by keys
+
 -- what a verb is answered
 abbrev pub reply_to : Sets → Verb → Reply
 reply_to sets (verb.Insert k) = if is_member sets.live k then reply.Old else reply.New
@@ -26,6 +36,7 @@ reply_to sets (verb.Remove k) = if is_member sets.live k then reply.Gone else re
 reply_to sets verb.Look = reply.Looked
 reply_to sets verb.Size = reply.Number (length sets.held)
 reply_to sets (verb.Rank k) = reply.Number (rank_of sets.held k)
+reply_to sets (verb.Range a b) = reply.Span (span_of (range_of sets.held a b))
 
 -- the sets after a verb
 abbrev pub sets_after : Sets → Verb → Sets
@@ -34,6 +45,7 @@ sets_after sets (verb.Remove k) = record { live = without_key sets.live k; held 
 sets_after sets verb.Look = record { live = sets.live; held = sets.live }
 sets_after sets verb.Size = sets
 sets_after sets (verb.Rank k) = sets
+sets_after sets (verb.Range a b) = sets
 
 -- the replies to the rows, in order
 unfoldable pub replies_of : Sets → List Row → List Reply
@@ -53,6 +65,7 @@ is_insertion reply.Gone = false
 is_insertion reply.Absent = false
 is_insertion reply.Looked = false
 is_insertion (reply.Number n) = false
+is_insertion (reply.Span s) = false
 
 abbrev pub is_removal : Reply → Bool
 is_removal reply.New = false
@@ -61,6 +74,7 @@ is_removal reply.Gone = true
 is_removal reply.Absent = false
 is_removal reply.Looked = false
 is_removal (reply.Number n) = false
+is_removal (reply.Span s) = false
 
 -- how many of the replies pass a test
 abbrev pub count_of : (Reply → Bool) → List Reply → ℕ

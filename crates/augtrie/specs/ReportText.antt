@@ -1,7 +1,8 @@
 -- The text of a report.
-use Rattle.std.specs.Prelude.{ℕ, List, [], ◌∷◌, ◌++◌, map, codes}
+use Rattle.std.specs.Prelude.{ℕ, List, [], ◌∷◌, ◌++◌, map, codes, Some, None}
 use Rattle.std.specs.Fmt.{decimal}
 use Rattle.std.specs.List.{concat}
+use Rattle.aug_monoid.specs.declared.extent.Extent.{Extent}
 use Rattle.augtrie.specs.declared.script.reply.Reply.{Reply}
 use Rattle.augtrie.specs.declared.script.reply.Reply.TheVariants as reply
 use Rattle.augtrie.specs.declared.script.report.Report.{Report}
@@ -16,6 +17,12 @@ verb_text (verb.Remove k) = codes "remove " ++ decimal k
 verb_text verb.Look = codes "look"
 verb_text verb.Size = codes "size"
 verb_text (verb.Rank k) = codes "rank " ++ decimal k
+verb_text (verb.Range a b) = codes "range " ++ decimal a ++ codes " " ++ decimal b
+
+-- the least and the greatest of some keys, or `- -` where there are none
+abbrev pub extent_text : Extent → List ℕ
+extent_text None = codes "- -"
+extent_text (Some bounds) = decimal bounds.0 ++ codes " " ++ decimal bounds.1
 
 -- a reply
 abbrev pub reply_text : Reply → List ℕ
@@ -25,6 +32,7 @@ reply_text reply.Gone = codes "gone"
 reply_text reply.Absent = codes "none"
 reply_text reply.Looked = codes "ok"
 reply_text (reply.Number n) = decimal n
+reply_text (reply.Span s) = decimal s.count ++ codes " " ++ decimal s.a ++ codes " " ++ extent_text s.b
 
 -- the line of a row and its reply, in the round with this number: `<round> <lane> <verb args> = <reply>`
 abbrev pub line_text : ℕ → Row × Reply → List ℕ

@@ -42,6 +42,7 @@ word_of field =
     else if bytes_eq field (codes "look") then Some word.Look
     else if bytes_eq field (codes "size") then Some word.Size
     else if bytes_eq field (codes "rank") then Some word.Rank
+    else if bytes_eq field (codes "range") then Some word.Range
     else None
 
 -- how many arguments a verb has
@@ -51,6 +52,7 @@ arity_of word.Remove = 1
 arity_of word.Look = 0
 arity_of word.Size = 0
 arity_of word.Rank = 1
+arity_of word.Range = 2
 
 -- the verb of a word with these arguments
 abbrev pub verb_of : Word → List (List ℕ) → Verb
@@ -59,6 +61,7 @@ verb_of word.Remove arguments = verb.Remove (number_of (slice_index_or arguments
 verb_of word.Look arguments = verb.Look
 verb_of word.Size arguments = verb.Size
 verb_of word.Rank arguments = verb.Rank (number_of (slice_index_or arguments 0 []))
+verb_of word.Range arguments = verb.Range (number_of (slice_index_or arguments 0 [])) (number_of (slice_index_or arguments 1 []))
 
 -- the verb's arguments are within its bounds: keys of updates below 2 ^ bits, arguments of queries at most 2 ^ bits
 abbrev pub is_in_bounds : ℕ → Verb → Bool
@@ -67,6 +70,7 @@ is_in_bounds bits (verb.Remove k) = nat_lt k (2 ^ bits)
 is_in_bounds bits verb.Look = true
 is_in_bounds bits verb.Size = true
 is_in_bounds bits (verb.Rank k) = nat_le k (2 ^ bits)
+is_in_bounds bits (verb.Range a b) = nat_le a (2 ^ bits) && nat_le b (2 ^ bits)
 
 -- the verb is `insert` or `remove`
 abbrev pub is_update : Verb → Bool
@@ -75,6 +79,7 @@ is_update (verb.Remove k) = true
 is_update verb.Look = false
 is_update verb.Size = false
 is_update (verb.Rank k) = false
+is_update (verb.Range a b) = false
 
 -- how many of the rows are updates of the lane
 abbrev pub updates_of : ℕ → List Row → ℕ

@@ -64,6 +64,7 @@ impl Engine {
             }
             Verb::Size => Reply::Number(self.held.size()),
             Verb::Rank(key) => Reply::Number(self.held.rank(key)),
+            Verb::Range(from, to) => Reply::Span(self.held.range(from, to)),
         }
     }
 

@@ -248,3 +248,23 @@ fn a_sink_that_fails_has_a_beginning(rt: HostRuntime) -> Result<(), Fail> {
     }
     Ok(())
 }
+
+#[test]
+fn a_range_takes_its_first_key_and_not_its_second(rt: HostRuntime) {
+    assert_prints(
+        &rt,
+        rt.alloc(),
+        "0,insert,6\n0,insert,7\n0,look\n0,range,6,7\n0,range,0,16\n",
+        "1 0 insert 6 = new\n1 0 insert 7 = new\n1 0 look = ok\n1 0 range 6 7 = 1 6 6 6\n1 0 range 0 16 = 2 13 6 7\n1 end size=2 in=2 out=0\n",
+    );
+}
+
+#[test]
+fn a_range_that_ends_before_it_begins_is_empty(rt: HostRuntime) {
+    assert_prints(
+        &rt,
+        rt.alloc(),
+        "0,insert,6\n0,insert,7\n0,look\n0,range,9,5\n",
+        "1 0 insert 6 = new\n1 0 insert 7 = new\n1 0 look = ok\n1 0 range 9 5 = 0 0 - -\n1 end size=2 in=2 out=0\n",
+    );
+}

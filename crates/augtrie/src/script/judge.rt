@@ -52,6 +52,7 @@ fn verb(word: Word, fields: &ByteRecord) -> Verb
         Word::Look => Verb::Look,
         Word::Size => Verb::Size,
         Word::Rank => Verb::Rank(number(field(fields, 2))),
+        Word::Range => Verb::Range(number(field(fields, 2)), number(field(fields, 3))),
     }
 }
 

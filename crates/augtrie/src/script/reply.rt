@@ -1,5 +1,7 @@
 ghost use Rattle.std.specs.Prelude.{◌≡◌};
 
+use aug_model::Summary;
+use aug_monoid::{Extent, Sum};
 use std::fmt;
 
 /// What a row is answered.
@@ -17,21 +19,23 @@ pub enum Reply {
     Looked,
     /// The number that was asked for.
     Number(u32),
+    /// What was asked of the members in a range.
+    Span(Summary<Sum, Extent>),
 }
 
 impl Reply {
     ghost use Rattle.augtrie.specs.Replies.{is_insertion as is_insertion_reply, is_removal as is_removal_reply};
 
     /// Whether an insertion was accepted.
-    pub(crate) fn is_insertion(self) -> bool
-        ensures { result ≡ is_insertion_reply self }
+    pub(crate) fn is_insertion(&self) -> bool
+        ensures { result ≡ is_insertion_reply self.now }
     {
         matches!(self, Reply::New)
     }
 
     /// Whether a removal was accepted.
-    pub(crate) fn is_removal(self) -> bool
-        ensures { result ≡ is_removal_reply self }
+    pub(crate) fn is_removal(&self) -> bool
+        ensures { result ≡ is_removal_reply self.now }
     {
         matches!(self, Reply::Gone)
     }
@@ -51,6 +55,14 @@ impl fmt::Display for Reply {
             Reply::Absent => write!(f, "none"),
             Reply::Looked => write!(f, "ok"),
             Reply::Number(number) => write!(f, "{number}"),
+            Reply::Span(summary) => {
+                let count = summary.count;
+                let sum = summary.a.value();
+                match summary.b.bounds() {
+                    Some((least, greatest)) => write!(f, "{count} {sum} {least} {greatest}"),
+                    None => write!(f, "{count} {sum} - -"),
+                }
+            }
         }
     }
 }

@@ -15,6 +15,9 @@ pub enum Verb {
     Size,
     /// How many members of the snapshot are below a key.
     Rank(u32),
+    /// The number, the sum, the least and the greatest of the members from the first key on that are below the
+    /// second.
+    Range(u32, u32),
 }
 
 /// The word that names a verb in a script.
@@ -25,6 +28,7 @@ pub(crate) enum Word {
     Look,
     Size,
     Rank,
+    Range,
 }
 
 impl Word {
@@ -44,6 +48,8 @@ impl Word {
             Some(Word::Size)
         } else if field == b"rank".as_slice() {
             Some(Word::Rank)
+        } else if field == b"range".as_slice() {
+            Some(Word::Range)
         } else {
             None
         }
@@ -56,6 +62,7 @@ impl Word {
         match self {
             Word::Insert | Word::Remove | Word::Rank => 1,
             Word::Look | Word::Size => 0,
+            Word::Range => 2,
         }
     }
 }
@@ -72,6 +79,7 @@ impl Verb {
         match self {
             Verb::Insert(key) | Verb::Remove(key) => key < universe,
             Verb::Rank(key) => key <= universe,
+            Verb::Range(from, to) => from <= universe && to <= universe,
             Verb::Look | Verb::Size => true,
         }
     }
@@ -98,6 +106,7 @@ impl fmt::Display for Verb {
             Verb::Look => write!(f, "look"),
             Verb::Size => write!(f, "size"),
             Verb::Rank(key) => write!(f, "rank {key}"),
+            Verb::Range(from, to) => write!(f, "range {from} {to}"),
         }
     }
 }

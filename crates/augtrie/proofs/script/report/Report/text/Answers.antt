@@ -1,16 +1,18 @@
-use Rattle.std.proofs.Common.{◌++◌, List, ℕ, get_or, map, sym, ap, ◌∙◌}
+use Rattle.std.proofs.Common.{◌++◌, List, ℕ, map, take, sym, ap, ◌∙◌}
 use Rattle.std.proofs.lemmas.List.{take_all}
 use Rattle.std.specs.List.{concat}
 use Rattle.augtrie.specs.ReportText.{line_text, end_text}
 use Rattle.augtrie.specs.declared.script.reply.Reply.{Reply}
 use Rattle.augtrie.specs.declared.script.row.Row.{Row}
-use Rattle.augtrie.proofs.Lines.{concat-take_more, no_line}
+use Rattle.augtrie.proofs.Lines.{concat-take_more}
 use Rattle.augtrie.proofs.script.report.Report.text.Goals as goal
 
 pub loop-line-preserved : goal.loop-line-preserved
 loop-line-preserved c =
-    let more = concat-take_more (line_text c.args.self.now.number) c.as_slice-line-items.result.now c.loop-line.line-index no_line c.loop-line-test.true in
-    c.in_ok-write_line.ensures ∙ ap (λ (text : List ℕ). text ++ line_text c.args.self.now.number (get_or c.as_slice-line-items.result.now c.loop-line.line-index no_line)) c.loop-line.invariant ∙ sym more
+    let more = concat-take_more (line_text c.args.self.now.number) c.as_slice-line-items.result.now c.loop-line.line-index c.line-item.result c.loop-line-test.true in
+    let lines = concat (map (line_text c.args.self.now.number) (take c.loop-line.line-index c.as_slice-line-items.result.now)) in
+    c.in_ok-write_line.ensures ∙ ap (λ (text : List ℕ). text ++ line_text c.args.self.now.number c.line-item.result) c.loop-line.invariant
+    ∙ ap (λ (line : Row × Reply). lines ++ line_text c.args.self.now.number line) c.line-item.is ∙ sym more
 
 pub returns : goal.returns
 returns c =

@@ -241,10 +241,8 @@ fn a_sink_that_fails_has_a_beginning(rt: HostRuntime) -> Result<(), Fail> {
         let mut sink = MemorySink::new(alloc, 1, Some(fault_at));
         let result = run(alloc, &mut source, &mut sink, &limits);
         assert_eq!(rt; result, Err(RunError::Output), "at {fault_at}");
-        assert_eq!(rt;
-            Some(sink.out.as_slice()),
-            text.as_bytes().get(..fault_at as usize)
-        );
+        assert_eq!(rt; sink.out.len() as u64, fault_at);
+        assert!(rt; text.as_bytes().starts_with(sink.out.as_slice()));
     }
     Ok(())
 }

@@ -1,0 +1,12 @@
+pub mod PlaceLemmas
+pub mod NameLemmas
+pub mod Sizes
+pub mod Views
+pub mod Carries
+pub mod Loads
+pub mod Stores
+pub mod States
+pub mod Splits
+pub mod Joins
+pub mod Openings
+pub mod Clients

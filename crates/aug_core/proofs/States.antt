@@ -1,0 +1,107 @@
+-- A seat's own lane is taken, and is ended.
+use Rattle.std.proofs.Common.{true, ◌≡◌, ℕ, ◌+◌, ◌<◌, ◌≤◌, ◌≢◌, List, [], ◌∷◌, ◌++◌, get_or, set, eqb, sym, refl, ap, ◌∙◌, subst, arith, get_or-set_other, get_or-set_same}
+use mathlib.Core.Option.{none, some}
+use lib.ListN.{get_elem?}
+use prog.Atomic.{either}
+use Rattle.atomic_table.specs.Table.{Act, Valid, carried_after, step, keeps, stepped, Allows}
+use Rattle.atomic_table.proofs.Lists.{exchanged}
+use Rattle.aug_core.specs.Places.{Shape, lane_place}
+use Rattle.aug_core.specs.Lanes.{block_start}
+use Rattle.aug_core.specs.Opening.{Opening}
+use Rattle.aug_core.specs.Rule.{HoldsLane, Kept}
+use Rattle.aug_core.specs.Kinds.{take_lane, finish_lane}
+use Rattle.aug_core.specs.Told.{on_first, in_state, MayTake, MayFinish, own_lane, own_lane_place, taking, took_lane, finishing, finished_lane}
+use Rattle.aug_core.specs.declared.step.StepTaken.{StepTaken}
+use Rattle.aug_core.specs.declared.view.Held.{Held}
+use Rattle.aug_core.specs.declared.view.View.{View}
+use Rattle.aug_core.proofs.Carries.{Sat, St, IsOwnWord, carries}
+use Rattle.aug_core.proofs.Stores.{alone, one_lane}
+
+module _ (face : ℕ → ℕ → List ℕ → List ℕ) (o : Opening) where
+  module _ (s : St) (r : Kept face o s) (id : ℕ) (v : View) (at : get_elem? s.views id ≡ some v) (h : Held) (only : v.held ≡ h ∷ []) (state : ℕ) (some_state : 0 < state) (last_state : state ≤ 2) (steps : List StepTaken) where
+    abbrev place : ℕ
+    place = lane_place o.shape h.lane
+
+    abbrev after : List ℕ
+    after = set s.words place state
+
+    abbrev lane' : Held
+    lane' = in_state state h
+
+    held : get_elem? v.held 0 ≡ some h
+    held = subst (λ (z : List Held). get_elem? z 0 ≡ some h) (sym only) refl
+
+    mine : HoldsLane o.shape s.words r.book h
+    mine = (r.each_view id v at).holds 0 h held
+
+    pub found_state : get_or s.words place 0 ≡ h.state
+    found_state = mine.state
+
+    own : IsOwnWord o.shape r.book h.lane place
+    own = let low = mine.exists in record {
+      past_nodes = λ q low is. omega arith;
+      past_lanes = λ m low other is. other (omega arith);
+      past_blocks = λ m k low' other small is. omega arith;
+      unpublished = λ q j k e inner p small is. omega arith;
+    }
+
+    stays : (j : ℕ) → j ≢ place → get_or after j 0 ≡ get_or s.words j 0
+    stays j ne = get_or-set_other s.words place j state 0 ne
+
+    now : get_or after place 0 ≡ state
+    now = let low = mine.exists in let wide = r.wide in get_or-set_same s.words place state 0 (omega arith)
+
+    pub restates : Kept face o record { words = after; homes = s.homes; views = set s.views id record v { held = lane' ∷ []; steps = steps } }
+    restates = let kn = r.each_view id v at in let low = mine.exists in let w : View = record v { held = lane' ∷ []; steps = steps } in
+        carries face o s r id v at 0 h held place state own w (one_lane v h lane' steps only refl) record {
+          shaped = kn.shaped;
+          saw = kn.saw;
+          holds = λ a g p. subst (HoldsLane o.shape after r.book) (alone lane' g a p).1 record {
+            exists = mine.exists;
+            state = now;
+            long = mine.long;
+            exact = λ k small. stays (block_start o.shape h.lane + k) (λ is. omega arith) ∙ mine.exact k small;
+            published = mine.published;
+          };
+          spares = λ n lane e le low'. let below : h.lane < n = r.handed_out id id 0 n v v h at at e held in stays (lane_place o.shape lane) (λ is. omega arith) ∙ kn.spares n lane e le low';
+        } state now some_state last_state
+
+  -- what a seat does where it found a word i, which becomes x
+  abbrev Did : St → ℕ → ℕ → Sat → (ℕ → Sat → Type 0) → ℕ → Type 0
+  Did s i id me then x = (w : View) × (a : Act (Unit {0})) × Valid s.homes me.1 a × Kept face o (stepped s i x id me.1 w a) × then (get_or s.words i 0) (w, carried_after me.1 a)
+
+  pub takes_lane : (n id place : ℕ) (me : Sat) → me.0.live ≡ true → me.1 ≡ [] → MayTake me.0 → place ≡ own_lane_place me.0
+      → Allows (Kept face o) n id me place (λ x. either (eqb x 0) 1 x) (took_lane (step n place 0 1 none) me)
+  takes_lane n id place me live empty may is s r _ at _ =
+      let v : View = me.0 in let h : Held = may.lane in let kn = r.each_view id v at in let shaped : v.shape ≡ o.shape = kn.shaped live in
+      let is' : place ≡ lane_place o.shape h.lane = is ∙ ap (λ (z : Shape). lane_place z (own_lane v.held)) shaped ∙ ap (λ (z : List Held). lane_place o.shape (own_lane z)) may.only in
+      let steps : List StepTaken = v.steps ++ take_lane place 0 ∷ [] in
+      let found : get_or s.words place 0 ≡ 0 = ap (λ (z : ℕ). get_or s.words z 0) is' ∙ found_state s r id v at h may.only 1 (omega arith) (omega arith) steps ∙ may.free in
+      let held : on_first (in_state 1) v.held ≡ in_state 1 h ∷ [] = ap (on_first (in_state 1)) may.only in
+      exchanged (get_or s.words place 0) 0 1 (Did s place id me (took_lane (step n place 0 1 none) me))
+      (λ _. (
+        taking v place,
+        keeps,
+        tt,
+        subst (λ (z : List Held). Kept face o record { words = set s.words place 1; homes = s.homes; views = set s.views id record v { held = z; steps = steps } }) (sym held)
+            (subst (λ (z : ℕ). Kept face o record { words = set s.words z 1; homes = s.homes; views = set s.views id record v { held = in_state 1 h ∷ []; steps = steps } }) (sym is')
+            (restates s r id v at h may.only 1 (omega arith) (omega arith) steps)),
+        (empty, found, refl),
+      ))
+      (λ miss. absurd (miss found))
+
+  pub finishes_lane : (n id place : ℕ) (me : Sat) → me.0.live ≡ true → me.1 ≡ [] → MayFinish me.0 → place ≡ own_lane_place me.0
+      → Allows (Kept face o) n id me place (λ _. 2) (λ _ m. finished_lane (step n place 2 0 none) me 2 m)
+  finishes_lane n id place me live empty may is s r _ at _ =
+      let v : View = me.0 in let h : Held = may.lane in let kn = r.each_view id v at in let shaped : v.shape ≡ o.shape = kn.shaped live in
+      let is' : place ≡ lane_place o.shape h.lane = is ∙ ap (λ (z : Shape). lane_place z (own_lane v.held)) shaped ∙ ap (λ (z : List Held). lane_place o.shape (own_lane z)) may.only in
+      let steps : List StepTaken = v.steps ++ finish_lane place ∷ [] in
+      let held : on_first (in_state 2) v.held ≡ in_state 2 h ∷ [] = ap (on_first (in_state 2)) may.only in (
+        finishing v place,
+        keeps,
+        tt,
+        subst (λ (z : List Held). Kept face o record { words = set s.words place 2; homes = s.homes; views = set s.views id record v { held = z; steps = steps } }) (sym held)
+            (subst (λ (z : ℕ). Kept face o record { words = set s.words z 2; homes = s.homes; views = set s.views id record v { held = in_state 2 h ∷ []; steps = steps } }) (sym is')
+            (restates s r id v at h may.only 2 (omega arith) (omega arith) steps)),
+        (empty, refl),
+      )

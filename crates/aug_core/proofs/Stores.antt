@@ -1,0 +1,107 @@
+-- A store of a word of an unpublished record of the seat's own lane keeps the rule.
+use Rattle.std.proofs.Common.{true, ◌≡◌, ℕ, zero, suc, ◌+◌, ◌-◌, ◌*◌, ◌<◌, ◌≢◌, List, [], ◌∷◌, ◌++◌, get_or, set, sym, refl, ap, ◌∙◌, subst, ⊎_elim, arith, length-set, get_or-set_other, get_or-set_same}
+use Rattle.std.proofs.lemmas.Bool.{cases_eq}
+use mathlib.Core.Option.{none, some, some-injective, some-ne-none}
+use lib.ListN.{get_elem?}
+use Rattle.atomic_table.specs.Table.{step, keeps, Allows}
+use Rattle.aug_core.specs.Places.{Shape, lane_place, record_start}
+use Rattle.aug_core.specs.Lanes.{first_record, IsOfLane, block_start}
+use Rattle.aug_core.specs.Opening.{Opening}
+use Rattle.aug_core.specs.Rule.{Lists, HoldsLane, Kept}
+use Rattle.aug_core.specs.Kinds.{store_record_word}
+use Rattle.aug_core.specs.Told.{on_first, with_word, MayStore, storing, stored_record}
+use Rattle.aug_core.specs.declared.step.StepTaken.{StepTaken}
+use Rattle.aug_core.specs.declared.view.Held.{Held}
+use Rattle.aug_core.specs.declared.view.View.{View}
+use Rattle.aug_core.proofs.Sizes.{in_block, block_inside, blocks_apart}
+use Rattle.aug_core.proofs.Views.{Likens}
+use Rattle.aug_core.proofs.Carries.{Sat, St, IsOwnWord, carries}
+
+module _ {A : Type 0} where
+  -- a list of one
+  pub alone : (x y : A) (a : ℕ) → get_elem? (x ∷ []) a ≡ some y → (a ≡ 0) × (x ≡ y)
+  alone x y zero e = (refl, some-injective x y e)
+  alone x y (suc a) e = absurd (some-ne-none y (sym e))
+
+-- a view whose one lane changed, but not which lane it is
+pub one_lane : (v : View) (h h' : Held) (steps : List StepTaken) → v.held ≡ h ∷ [] → h.lane ≡ h'.lane → Likens v record v { held = h' ∷ []; steps = steps }
+one_lane v h h' steps only same = record {
+  lanes = λ a g p. let t = alone h' g a p in (h, subst (λ (z : List Held). get_elem? z a ≡ some h) (sym only) (subst (λ (z : ℕ). get_elem? (h ∷ []) z ≡ some h) (sym t.0) refl), same ∙ ap (λ (z : Held). z.lane) t.1);
+  spare = refl;
+}
+
+module _ (face : ℕ → ℕ → List ℕ → List ℕ) (o : Opening) where
+  module _ (s : St) (r : Kept face o s) (id : ℕ) (v : View) (at : get_elem? s.views id ≡ some v) (h : Held) (only : v.held ≡ h ∷ []) (taken : h.state ≡ 1) (number field x : ℕ)
+      (of_lane : IsOfLane o.shape h.lane number) (unpublished : Lists h.published number → ⊥) (small : field < 5) (steps : List StepTaken) where
+    abbrev offset : ℕ
+    offset = 5 * (number - first_record o.shape h.lane) + field
+
+    abbrev place : ℕ
+    place = record_start o.shape number + field
+
+    abbrev after : List ℕ
+    after = set s.words place x
+
+    abbrev lane' : Held
+    lane' = record h { words = set h.words offset x }
+
+    held : get_elem? v.held 0 ≡ some h
+    held = subst (λ (z : List Held). get_elem? z 0 ≡ some h) (sym only) refl
+
+    mine : HoldsLane o.shape s.words r.book h
+    mine = (r.each_view id v at).holds 0 h held
+
+    own : IsOwnWord o.shape r.book h.lane place
+    own = let b = in_block o.shape h.lane number field of_lane small in record {
+      past_nodes = λ q low is. omega arith;
+      past_lanes = λ m low other is. omega arith;
+      past_blocks = λ m k low other small' is. blocks_apart o.shape m h.lane k offset other small' b.1 (is ∙ b.0);
+      unpublished = λ q j k e inner p small' is. let same : e.number ≡ number = omega arith in
+          unpublished (subst (Lists h.published) same (mine.published q j e inner p (subst (IsOfLane o.shape h.lane) (sym same) of_lane)));
+    }
+
+    stays : (j : ℕ) → j ≢ place → get_or after j 0 ≡ get_or s.words j 0
+    stays j ne = get_or-set_other s.words place j x 0 ne
+
+    state_stays : get_or after (lane_place o.shape h.lane) 0 ≡ 1
+    state_stays = let low = mine.exists in stays (lane_place o.shape h.lane) (λ is. omega arith) ∙ mine.state ∙ taken
+
+    holds_it : HoldsLane o.shape after r.book lane'
+    holds_it = let b = in_block o.shape h.lane number field of_lane small in record {
+      exists = mine.exists;
+      state = state_stays ∙ sym taken;
+      long = length-set h.words offset x ∙ mine.long;
+      exact = λ k small'. let long = mine.long in let inside = block_inside o.shape h.lane offset mine.exists b.1 in let wide = r.wide in ⊎_elim
+          (λ (same : k ≡ offset). subst (λ (z : ℕ). get_or after z 0 ≡ get_or (set h.words offset x) k 0) (let e = b.0 in let is : place ≡ block_start o.shape h.lane + k = omega arith in is)
+          (get_or-set_same s.words place x 0 (let e = b.0 in omega arith) ∙ subst (λ (z : ℕ). x ≡ get_or (set h.words offset x) z 0) (sym same) (sym (get_or-set_same h.words offset x 0 (omega arith)))))
+          (λ other. stays (block_start o.shape h.lane + k) (λ is. other (let e = b.0 in omega arith)) ∙ mine.exact k small' ∙ sym (get_or-set_other h.words offset k x 0 other)) (cases_eq k offset);
+      published = mine.published;
+    }
+
+    pub writes : Kept face o record { words = after; homes = s.homes; views = set s.views id record v { held = lane' ∷ []; steps = steps } }
+    writes = let kn = r.each_view id v at in let w : View = record v { held = lane' ∷ []; steps = steps } in
+        carries face o s r id v at 0 h held place x own w (one_lane v h lane' steps only refl) record {
+          shaped = kn.shaped;
+          saw = kn.saw;
+          holds = λ a g p. subst (HoldsLane o.shape after r.book) (alone lane' g a p).1 holds_it;
+          spares = λ n lane e le low. let below : h.lane < n = r.handed_out id id 0 n v v h at at e held in stays (lane_place o.shape lane) (λ is. omega arith) ∙ kn.spares n lane e le low;
+        } 1 state_stays (omega arith) (omega arith)
+
+  pub stores_record_word : (n id place number field x : ℕ) (me : Sat) → me.0.live ≡ true → me.1 ≡ [] → MayStore me.0 number → field < 5 → place ≡ record_start me.0.shape number + field
+      → Allows (Kept face o) n id me place (λ _. x) (λ _ m. stored_record (step n place x 0 none) me x m)
+  stores_record_word n id place number field x me live empty may small is s r _ at _ =
+      let v : View = me.0 in let h : Held = may.lane in let kn = r.each_view id v at in let shaped : v.shape ≡ o.shape = kn.shaped live in
+      let of_lane : IsOfLane o.shape h.lane number = subst (λ (z : Shape). IsOfLane z h.lane number) shaped may.of_lane in
+      let is' : place ≡ record_start o.shape number + field = is ∙ ap (λ (z : Shape). record_start z number + field) shaped in
+      let b = (in_block o.shape h.lane number field of_lane small).0 in let steps : List StepTaken = v.steps ++ store_record_word place x ∷ [] in
+      let off : place - block_start o.shape h.lane ≡ 5 * (number - first_record o.shape h.lane) + field = omega arith in
+      let held : on_first (with_word v.shape place x) v.held ≡ record h { words = set h.words (5 * (number - first_record o.shape h.lane) + field) x } ∷ [] =
+      ap (on_first (with_word v.shape place x)) may.only ∙ ap (λ (z : Shape). record h { words = set h.words (place - block_start z h.lane) x } ∷ []) shaped ∙ ap (λ (z : ℕ). record h { words = set h.words z x } ∷ []) off in (
+        storing v place x,
+        keeps,
+        tt,
+        subst (λ (z : List Held). Kept face o record { words = set s.words place x; homes = s.homes; views = set s.views id record v { held = z; steps = steps } }) (sym held)
+            (subst (λ (z : ℕ). Kept face o record { words = set s.words z x; homes = s.homes; views = set s.views id record v { held = record h { words = set h.words (5 * (number - first_record o.shape h.lane) + field) x } ∷ []; steps = steps } }) (sym is')
+            (writes s r id v at h may.only may.taken number field x of_lane may.unpublished small steps)),
+        (empty, refl),
+      )

@@ -1,0 +1,12 @@
+pub mod Places
+pub mod Layout
+pub mod Names
+pub mod Tree
+pub mod Lanes
+pub mod Members
+pub mod Faces
+pub mod Book
+pub mod Opening
+pub mod Kinds
+pub mod Rule
+pub mod Told

@@ -1,0 +1,49 @@
+-- A table at rest: its words, which meet the rule.
+use Rattle.std.specs.Prelude.{◌≡◌, ℕ, ◌+◌, ◌-◌, ◌^◌, ◌<◌, List, slice_index}
+use mathlib.Core.Option.{some}
+use lib.ListN.{get_elem?}
+use Rattle.atomic_table.specs.Table.{State}
+use Rattle.aug_core.specs.Layout.{IsLayout}
+use Rattle.aug_core.specs.Places.{Shape, leaf_place, lane_place, record_start, word_count}
+use Rattle.aug_core.specs.Tree.{IsInner}
+use Rattle.aug_core.specs.Lanes.{IsOfLane}
+use Rattle.aug_core.specs.Members.{opening_serial}
+use Rattle.aug_core.specs.Opening.{Opening, opening_words}
+use Rattle.aug_core.specs.Rule.{Kept}
+use Rattle.aug_core.specs.Told.{held_word}
+use Rattle.aug_core.specs.declared.view.Held.{Held}
+use Rattle.aug_core.specs.declared.view.View.{View}
+
+-- the words of a table that no seat steps on any more
+pub record AtRest : Type 0 where
+  pub shape : Shape
+  pub words : List ℕ
+
+-- a table at rest has all words of its layout and no slot, and its records begin at this word
+pub record IsRest (words slots : ℕ) (layout : Shape) (records : ℕ) : Type 0 where
+  pub laid_out : IsLayout layout
+  pub wide : words ≡ word_count layout
+  pub no_slots : slots ≡ 0
+  pub records_are : records ≡ record_start layout 0
+
+module _ (face : ℕ → ℕ → List ℕ → List ℕ) (o : Opening) (v : View) (words : List ℕ) where
+  -- the words meet the rule, and one of the views is this one
+  pub record EndWith : Type 0 where
+    pub state : State (Unit {0}) View
+    pub kept : Kept face o state
+    pub words_are : state.words ≡ words
+    pub seat : ℕ
+    pub view_is : get_elem? state.views seat ≡ some v
+
+  -- what a reader of the words is told
+  pub record ShowAll : Type 0 where
+    -- no leaf changed since the opening
+    pub leaves : (key : ℕ) → key < 2 ^ o.shape.bits → slice_index words (leaf_place key) ≡ opening_serial o.members key
+    -- nor did a node: it names its opening record
+    pub nodes : (q : ℕ) → IsInner o.shape q → slice_index words q ≡ q - 2 ^ o.shape.bits
+    -- whose words say what is there below it
+    pub opening_records : (q field : ℕ) → IsInner o.shape q → field < 5 → slice_index words (record_start o.shape (q - 2 ^ o.shape.bits) + field) ≡ slice_index (opening_words face o q) field
+    -- a lane of the view is as the view has it
+    pub lanes : (a : ℕ) (h : Held) → get_elem? v.held a ≡ some h → slice_index words (lane_place o.shape h.lane) ≡ h.state
+    -- and so is each word of its records
+    pub records : (a number field : ℕ) (h : Held) → get_elem? v.held a ≡ some h → IsOfLane o.shape h.lane number → field < 5 → slice_index words (record_start o.shape number + field) ≡ held_word o.shape h number field

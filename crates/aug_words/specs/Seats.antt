@@ -1,0 +1,88 @@
+-- What contracts see of a table, of a lead and of a pass, and what their fields keep.
+use Rattle.std.specs.Prelude.{◌≡◌, ℕ, ◌+◌, ◌^◌, ◌<◌, ◌≤◌, ◌⊎◌, [], slice_index, Some, true}
+use mathlib.Core.Option.{some}
+use lib.ListN.{get_elem?}
+use Rattle.atomic_table.specs.Table.{Me}
+use Rattle.atomic_table.specs.Seated.{TableId}
+use Rattle.aug_core.specs.Places.{Shape, lane_place, record_start, record_count, word_count}
+use Rattle.aug_core.specs.Layout.{IsLayout}
+use Rattle.aug_core.specs.Tree.{IsInner}
+use Rattle.aug_core.specs.Lanes.{IsOfLane}
+use Rattle.aug_core.specs.Book.{Book, At}
+use Rattle.aug_core.specs.Opening.{Opening}
+use Rattle.aug_core.specs.Kinds.{load_record_word}
+use Rattle.aug_core.specs.Told.{stepping, held_word, HoldsOnly, HasSeen, Owns}
+use Rattle.aug_core.specs.declared.view.Entry.{Entry}
+use Rattle.aug_core.specs.declared.view.Held.{Held}
+use Rattle.aug_core.specs.declared.view.View.{View}
+
+abbrev pub Sat : Type 0
+Sat = Me (Unit {0}) View
+
+-- a table, and how it was opened
+pub record Store : Type 0 where
+  pub table : TableId
+  pub opening : Opening
+
+-- a seat: its table, and what it knows of it
+pub record Known : Type 0 where
+  pub table : TableId
+  pub view : View
+
+-- the seat was made with the table, or comes from one that was
+pub record AreTogether (store : Store) (known : Known) : Type 0 where
+  pub one_table : known.table ≡ store.table
+  pub one_shape : known.view.shape ≡ store.opening.shape
+
+-- the view hands lanes out, and this is the next one
+pub record HandsOut (v : View) (lane : ℕ) : Type 0 where
+  pub next : v.spare ≡ Some lane
+  pub exists : lane < v.shape.workers
+
+-- the record is one that the view has seen, or of a lane that it holds
+abbrev pub MayLoad : View → ℕ → Type 0
+MayLoad v number = HasSeen v number ⊎ Owns v number
+
+-- a loaded word is what the record's entry says, and what the lane's holder has
+pub record LoadsRecordWord (v : View) (number field r : ℕ) (w : View) : Type 0 where
+  pub stepped : w ≡ stepping v (load_record_word (record_start v.shape number + field) r)
+  pub known : (q i : ℕ) (e : Entry) → IsInner v.shape q → At v.seen q i e → e.number ≡ number → r ≡ slice_index e.words field
+  pub own : (a : ℕ) (h : Held) → get_elem? v.held a ≡ some h → IsOfLane v.shape h.lane number → r ≡ held_word v.shape h number field
+
+-- the entries of inner nodes that were seen are records of the table
+abbrev pub NumbersExist : Shape → Book → Type 0
+NumbersExist s seen = (q i : ℕ) (e : Entry) → IsInner s q → At seen q i e → e.number < record_count s
+
+-- what a table's fields keep
+pub record IsStore (table : TableId) (opening : Opening) (layout : Shape) (lanes records : ℕ) : Type 0 where
+  pub laid_out : IsLayout opening.shape
+  pub one_layout : layout ≡ opening.shape
+  pub wide : table.words ≡ word_count opening.shape
+  pub no_slots : table.slots ≡ 0
+  pub lanes_are : lanes ≡ lane_place opening.shape 0
+  pub records_are : records ≡ record_start opening.shape 0
+
+-- a seat sits at its table, whose lanes and records begin at these words
+pub record SitsAt (seat_table table : TableId) (lanes records : ℕ) (s : Shape) : Type 0 where
+  pub seated : seat_table ≡ table
+  pub wide : table.words ≡ word_count s
+  pub small : word_count s ≤ 2 ^ 26
+  pub lanes_are : lanes ≡ lane_place s 0
+  pub records_are : records ≡ record_start s 0
+
+-- what is so of the seat of a pass: it has one lane
+pub record IsPassSeat (lane : ℕ) (me : Sat) : Type 0 where
+  pub live : me.0.live ≡ true
+  pub no_slot : me.1 ≡ []
+  pub held : Held
+  pub only : HoldsOnly me.0 held
+  pub named : held.lane ≡ lane
+  pub exists : lane < me.0.shape.workers
+  pub numbers : NumbersExist me.0.shape me.0.seen
+
+-- what is so of the seat of a lead: it hands out the lanes from the next one on
+pub record IsLeadSeat (next : ℕ) (me : Sat) : Type 0 where
+  pub live : me.0.live ≡ true
+  pub no_slot : me.1 ≡ []
+  pub hands_out : me.0.spare ≡ Some next
+  pub numbers : NumbersExist me.0.shape me.0.seen

@@ -1,4 +1,6 @@
+pub mod CommandLineLemmas
 pub mod DeviceLemmas
+pub mod OptionReads
 pub mod Lines
 pub mod Members
 pub mod Numbers

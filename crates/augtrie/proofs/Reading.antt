@@ -1,7 +1,7 @@
 -- What a read of the next record does to the records that a reader has left.
-use Rattle.std.proofs.Common.{◌≡◌, ℕ, ◌+◌, List, [], ◌∷◌, ◌++◌, length, Option, Some, None, IsSome, true, false, Bool, Bor, refl, sym, ap, ◌∙◌, subst, inl}
-use Rattle.csv.specs.Machine.{next_record, ends_at_end}
-use Rattle.csv.specs.Reading.{Reached, ReadRecord, default_config, is_flexible, records_from, source_of, took_first, reader_state}
+use Rattle.std.proofs.Common.{◌≡◌, ℕ, ◌+◌, List, [], ◌∷◌, length, Option, Some, None, IsSome, true, false, Bor, refl, sym, ap, ◌∙◌, subst, inl}
+use Rattle.csv.specs.Machine.{ends_at_end}
+use Rattle.csv.specs.Reading.{Reached, ReadRecord, default_config, is_flexible, records_from, took_first, reader_state}
 use Rattle.csv.specs.declared.parser.State.{State}
 use Rattle.csv.specs.declared.reader.Reader.{Reader}
 use Rattle.csv.proofs.ReadFacts.{rows-more, rows-end}

@@ -1,6 +1,6 @@
 -- Each record takes at least a byte, so a text has no more records than bytes.
-use Rattle.std.proofs.Common.{◌≡◌, ℕ, zero, suc, ◌+◌, ◌<◌, ◌≤◌, ◌⊎◌, inl, inr, List, [], ◌∷◌, length, Option, Some, None, true, false, Bool, refl, sym, ap, ◌∙◌, arith, subst, if◌then◌else◌, add-one, ◌++◌}
-use Rattle.csv.specs.Machine.{Read, next_record, ends_at_end, step, is_end, fields_after, field_after, after_end, in_field, start_field, start_record, ends_with, is_byte}
+use Rattle.std.proofs.Common.{◌≡◌, ℕ, zero, suc, ◌+◌, ◌<◌, ◌≤◌, ◌⊎◌, inl, inr, List, [], ◌∷◌, length, Option, Some, None, true, false, Bool, refl, ap, arith, subst, if◌then◌else◌, add-one, ◌++◌}
+use Rattle.csv.specs.Machine.{Read, next_record, ends_at_end, step, is_end, fields_after, field_after, after_end, in_field, start_field, start_record}
 use Rattle.csv.specs.Reading.{records_from, records_next}
 use Rattle.csv.specs.declared.parser.Config.{Config}
 use Rattle.csv.specs.declared.parser.State.{State}

@@ -1,5 +1,5 @@
 -- What the rows of a round are answered, by the definitions of the queries.
-use Rattle.std.specs.Prelude.{ℕ, ◌+◌, ◌==◌, if◌then◌else◌, Bool, true, false, List, [], ◌∷◌, length, filter, Option, Some, None}
+use Rattle.std.specs.Prelude.{ℕ, ◌==◌, if◌then◌else◌, Bool, true, false, List, [], ◌∷◌, length, filter, Some, None}
 use Rattle.std.specs.List.{list_any, zip}
 use Rattle.aug_monoid.specs.Extent.{spanned_by}
 use Rattle.aug_monoid.specs.Wrapping.{wrapped_sum}

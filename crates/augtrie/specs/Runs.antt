@@ -1,5 +1,5 @@
 -- What a run of a whole script comes to.
-use Rattle.std.specs.Prelude.{◌≡◌, ◌≢◌, ℕ, ◌<◌, ◌≤◌, List, [], ◌∷◌, length, Option, Ok, Err}
+use Rattle.std.specs.Prelude.{◌≡◌, ℕ, ◌≤◌, List, [], ◌∷◌, length, Option, Ok, Err}
 use Rattle.std.specs.Io.KnownBytes.{Appends}
 use Rattle.augtrie.specs.Devices.{AppendsBeginning, script_limit}
 use Rattle.augtrie.specs.Limits.{Bounds}

@@ -1,5 +1,5 @@
 -- How a script reads: its records are those of `csv`, and each is a row, or has the first fault of a table.
-use Rattle.std.specs.Prelude.{ℕ, ◌+◌, ◌^◌, ◌==◌, ◌&&◌, ◌||◌, not, nat_lt, nat_le, true, false, Bool, if◌then◌else◌, List, [], ◌∷◌, ◌++◌, length, drop, filter, slice_index, slice_index_or, codes, is_some, Option, Some, None, Result, Ok, Err}
+use Rattle.std.specs.Prelude.{ℕ, ◌+◌, ◌^◌, ◌==◌, ◌&&◌, ◌||◌, not, nat_lt, nat_le, true, false, Bool, if◌then◌else◌, List, [], ◌∷◌, ◌++◌, length, drop, filter, slice_index_or, codes, Option, Some, None, Result, Ok, Err}
 use Rattle.std.specs.Char.{is_ascii_digit}
 use Rattle.std.specs.List.{list_all}
 use Rattle.std.specs.Str.{bytes_eq}

@@ -1,6 +1,10 @@
 //! `augtrie` runs a script of CSV rows over a set of keys and prints a reply for each row and a total.
 #![tactic(auto)]
 
+ghost use Rattle.std.specs.Prelude.{◌≡◌};
+ghost use Rattle.std.specs.Process.{exit_status};
+ghost use Rattle.augtrie.specs.Faults.{run_error_status, stop_status};
+
 mod command_line;
 mod engine;
 mod fault_line;
@@ -32,10 +36,7 @@ fn main(rt: HostRuntime) -> ExitCode {
     };
     match run_script(&rt, &options) {
         Ok(()) => ExitCode::SUCCESS,
-        Err(error) => {
-            let _ = error.write_line(&mut ToWrite::new(rt.stderr()));
-            ExitCode::from(error.status())
-        }
+        Err(error) => show_error(&rt, &error),
     }
 }
 
@@ -72,10 +73,20 @@ fn run_script(rt: &HostRuntime, options: &Options) -> Result<(), RunError> {
 }
 
 // Shows why the command line ends the program: help goes to standard output.
-fn show_stop(rt: &HostRuntime, stop: &Stop) -> ExitCode {
+fn show_stop(rt: &HostRuntime, stop: &Stop) -> ExitCode
+    ensures { exit_status result ≡ stop_status stop.now }
+{
     let _ = match stop {
         Stop::Help(_) => stop.write_line(&mut ToWrite::new(rt.stdout())),
         _ => stop.write_line(&mut ToWrite::new(rt.stderr())),
     };
     ExitCode::from(stop.status())
+}
+
+// Shows why the script was not run to its end.
+fn show_error(rt: &HostRuntime, error: &RunError) -> ExitCode
+    ensures { exit_status result ≡ run_error_status error.now }
+{
+    let _ = error.write_line(&mut ToWrite::new(rt.stderr()));
+    ExitCode::from(error.status())
 }

@@ -1,4 +1,4 @@
-ghost use Rattle.std.specs.Prelude.{◌≡◌, ◌≤◌, ◌<◌, ◌↔◌, ◌⊎◌, IfOk, IsErrOf};
+ghost use Rattle.std.specs.Prelude.{◌≡◌, ◌≤◌, ◌<◌, ◌↔◌, ◌⊎◌, IfOk, IsErrOf, IsOkAnd};
 ghost use Rattle.augtrie.specs.Limits.{Bounds, IsBounds};
 
 use std::error::Error;
@@ -56,7 +56,7 @@ impl Limits {
         ensures bits { IsErrOf result LayoutError.BadBits ↔ ((bits < 1) ⊎ (16 < bits)) }
         ensures workers { IsErrOf result LayoutError.BadWorkers ↔ ((1 ≤ bits) × (bits ≤ 16) × ((workers < 1) ⊎ (1 < workers))) }
         ensures updates { IsErrOf result LayoutError.BadUpdates ↔ ((1 ≤ bits) × (bits ≤ 16) × (workers ≡ 1) × ((updates < 1) ⊎ (65536 < updates))) }
-        ensures fits { IsBounds (record { bits = bits; workers = workers; updates = updates }) → IfOk result (λ l. l ≡ record { bits = bits; workers = workers; updates = updates }) }
+        ensures fits { IsBounds (record { bits = bits; workers = workers; updates = updates }) → IsOkAnd result (λ l. l ≡ record { bits = bits; workers = workers; updates = updates }) }
     {
         if !(1..=16).contains(&bits) {
             return Err(LayoutError::BadBits);

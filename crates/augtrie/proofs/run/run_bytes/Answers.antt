@@ -1,4 +1,4 @@
-use Rattle.std.proofs.Common.{◌∙◌, ap, List, ◌≡◌, Some}
+use Rattle.std.proofs.Common.{◌∙◌, ap, List}
 use Rattle.std.specs.List.{slice_get}
 use Rattle.augtrie.specs.declared.script.row.Row.{Row}
 use Rattle.augtrie.proofs.Runnable.{round_is_runnable}

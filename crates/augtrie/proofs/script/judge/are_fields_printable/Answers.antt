@@ -1,4 +1,4 @@
-use Rattle.std.proofs.Common.{arith, sym, rules}
+use Rattle.std.proofs.Common.{arith}
 use Rattle.std.proofs.lemmas.Grind.{common_steps}
 use Rattle.augtrie.proofs.script.judge.are_fields_printable.Goals as goal
 

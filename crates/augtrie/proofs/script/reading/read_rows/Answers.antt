@@ -1,4 +1,4 @@
-use Rattle.std.proofs.Common.{◌≡◌, sym, ap, ◌∙◌, Ok, rules}
+use Rattle.std.proofs.Common.{sym, ap, ◌∙◌, Ok, rules}
 use Rattle.csv.specs.Records.{fields_of}
 use Rattle.augtrie.specs.Script.{rows_of}
 use Rattle.augtrie.proofs.Rows.{rows_from-row, rows_from-fault, rows_from-none}

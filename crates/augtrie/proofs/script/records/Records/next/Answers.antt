@@ -1,4 +1,4 @@
-use Rattle.std.proofs.Common.{◌≡◌, ℕ, Bool, false, List, [], ◌∷◌, sym, ap, ◌∙◌}
+use Rattle.std.proofs.Common.{◌≡◌, ℕ, Bool, false, List, ◌∷◌, sym, ap, ◌∙◌}
 use Rattle.csv.specs.Records.{fields_of}
 use Rattle.augtrie.specs.RecordsLeft.{records_left}
 use Rattle.augtrie.proofs.Reading.{found_more, found_none}

@@ -2,7 +2,7 @@
 use crate::run::run;
 use crate::run_error::RunError;
 use crate::script::fakes::{MemorySink, MemorySource};
-use crate::script::{Limits, ScriptError};
+use crate::script::{LayoutError, Limits, PrintError, ScriptError};
 use std::alloc::Global;
 use std::process::Abort;
 use std::test::Fail;
@@ -265,4 +265,25 @@ fn a_range_that_ends_before_it_begins_is_empty(rt: HostRuntime) {
         "0,insert,6\n0,insert,7\n0,look\n0,range,9,5\n",
         "1 0 insert 6 = new\n1 0 insert 7 = new\n1 0 look = ok\n1 0 range 9 5 = 0 0 - -\n1 end size=2 in=2 out=0\n",
     );
+}
+
+#[test]
+fn errors_say_what_is_wrong(rt: HostRuntime) -> Result<(), Fail> {
+    let alloc = rt.alloc();
+    let fault = ScriptError::BadArity(12);
+    assert_eq!(rt;
+        format!(in alloc; "{fault}")?.as_str(),
+        "row 12: more or fewer arguments"
+    );
+    let refusal = LayoutError::BadWorkers;
+    assert_eq!(rt;
+        format!(in alloc; "{refusal}")?.as_str(),
+        "workers are not 1"
+    );
+    let unwritten = PrintError::Output;
+    assert_eq!(rt;
+        format!(in alloc; "{unwritten}")?.as_str(),
+        "the report was not written"
+    );
+    Ok(())
 }

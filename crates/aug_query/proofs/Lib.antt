@@ -1,0 +1,9 @@
+pub mod Ranges
+pub mod Orders
+pub mod Nodes
+pub mod Steps
+pub mod Members
+pub mod Ends
+pub mod Passing
+pub mod Placed
+pub mod Cover

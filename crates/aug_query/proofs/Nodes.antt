@@ -1,0 +1,201 @@
+-- What the nodes of a tree tell of its set.
+use Rattle.std.proofs.Common.{add-one, zero-mul, one-mul, mul-one, ◌≡◌, ℕ, ◌+◌, ◌-◌, ◌*◌, ◌%◌, ◌^◌, ◌<◌, ◌≤◌, List, ◌++◌, length, sym, ap, ◌∙◌, subst, arith}
+use Rattle.std.proofs.Math.Nat.{pow-suc, mod-eq_of_lt, mul-le-mul_right, le_trans, le_of_lt}
+use Rattle.std.proofs.Math.Pow.{pow_mono}
+use Rattle.std.proofs.lemmas.Nat.{pow_pos}
+use Rattle.aug_model.specs.Keys.{Members}
+use Rattle.aug_model.specs.Queries.{range_of, rank_of}
+use Rattle.aug_model.specs.declared.summary.Summary.{Summary}
+use Rattle.aug_query.specs.Tree.{IsNodeOf, middle_key, first_key, end_key, below_node}
+use Rattle.aug_query.proofs.Ranges.{Rises, AllBelow, rises_from, all_below_from, range_whole, count_cut, range_cut}
+use Rattle.aug_query.proofs.Orders.{rank_cut, rank_few}
+
+double : (l : ℕ) → 2 ^ (l + 1) ≡ 2 ^ l + 2 ^ l
+double l = rw add-one (rw pow-suc (omega arith))
+
+-- a width halved: the same facts over plain numbers
+twice : (place w v : ℕ) → v ≡ w + w → 2 * place * w ≡ place * v
+twice place w v e = rw e (omega arith)
+
+-- where the children of a node begin and end
+pub left_low : (level place l p : ℕ) → l + 1 ≡ level → p ≡ 2 * place → p * 2 ^ l ≡ place * 2 ^ level
+left_low level place l p e f = ap (λ n. n * 2 ^ l) f ∙ twice place (2 ^ l) (2 ^ level) (ap (λ n. 2 ^ n) (sym e) ∙ double l)
+
+half : (level l : ℕ) → l + 1 ≡ level → 2 ^ l ≡ 2 ^ (level - 1)
+half level l e = let same : l ≡ level - 1 = omega arith in ap (λ n. 2 ^ n) same
+
+pub left_high : (level place l p : ℕ) → l + 1 ≡ level → p ≡ 2 * place → (p + 1) * 2 ^ l ≡ middle_key level place
+left_high level place l p e f = ap (λ n. (n + 1) * 2 ^ l) f ∙ ap (λ w. (2 * place + 1) * w) (half level l e)
+
+pub right_low : (level place l p : ℕ) → l + 1 ≡ level → p ≡ 2 * place + 1 → p * 2 ^ l ≡ middle_key level place
+right_low level place l p e f = ap (λ n. n * 2 ^ l) f ∙ ap (λ w. (2 * place + 1) * w) (half level l e)
+
+pub right_high : (level place l p : ℕ) → l + 1 ≡ level → p ≡ 2 * place + 1 → (p + 1) * 2 ^ l ≡ (place + 1) * 2 ^ level
+right_high level place l p e f =
+    let next : p + 1 ≡ 2 * (place + 1) = omega arith in
+    ap (λ n. n * 2 ^ l) next ∙ twice (place + 1) (2 ^ l) (2 ^ level) (ap (λ n. 2 ^ n) (sym e) ∙ double l)
+
+-- the cut is strictly within the node
+between : (place w v : ℕ) → v ≡ w + w → 0 < w → (place * v < (2 * place + 1) * w) × ((2 * place + 1) * w < (place + 1) * v)
+between place w v e h = rw e (omega arith, omega arith)
+
+width : (level : ℕ) → 1 ≤ level → 2 ^ level ≡ 2 ^ (level - 1) + 2 ^ (level - 1)
+width level h = let same : level ≡ level - 1 + 1 = omega arith in ap (λ n. 2 ^ n) same ∙ double (level - 1)
+
+pub low_middle : (level place : ℕ) → 1 ≤ level → place * 2 ^ level < middle_key level place
+low_middle level place h = (between place (2 ^ (level - 1)) (2 ^ level) (width level h) (pow_pos (level - 1))).0
+
+pub middle_high : (level place : ℕ) → 1 ≤ level → middle_key level place < (place + 1) * 2 ^ level
+middle_high level place h = (between place (2 ^ (level - 1)) (2 ^ level) (width level h) (pow_pos (level - 1))).1
+
+-- a node of a tree, where its set is written in another way
+pub of_set : {A B : Type 0} {sum : List ℕ → Summary A B} {set other : Members} {level place : ℕ} {told : Summary A B} → other ≡ set → IsNodeOf sum other level place told → IsNodeOf sum set level place told
+of_set {sum = sum} {level = level} {place = place} {told = told} e node = subst (λ (s : Members). IsNodeOf sum s level place told) e node
+
+-- how wide a node is
+pub node_width : (level place : ℕ) → end_key level place ≡ first_key level place + 2 ^ level
+node_width level place = let w = 2 ^ level in omega arith
+
+pub wrapped_width : (n level place : ℕ) → n ≡ level → end_key level place ≤ 2 ^ 16 → 1 * 2 ^ n % 4294967296 ≡ 2 ^ level
+wrapped_width n level place e h =
+    let small : 1 * 2 ^ level < 4294967296 = omega (arith, node_width level place, h) in
+    ap (λ m. 1 * 2 ^ m % 4294967296) e ∙ mod-eq_of_lt small ∙ one-mul (2 ^ level)
+
+-- a cut that fits is computed without a wrap
+pub wrapped : (l p level place : ℕ) → l ≡ level → p ≡ place → middle_key level place < 2 ^ 16 → (2 * p + 1) * 2 ^ (l - 1) % 4294967296 ≡ middle_key level place
+wrapped l p level place e f h =
+    let small : middle_key level place < 4294967296 = omega arith in
+    ap (λ n. (2 * p + 1) * 2 ^ (n - 1) % 4294967296) e ∙ ap (λ n. (2 * n + 1) * 2 ^ (level - 1) % 4294967296) f ∙ mod-eq_of_lt small
+
+pub wrapped_first : (l p level place : ℕ) → l ≡ level → p ≡ place → end_key level place ≤ 2 ^ 16 → p * 2 ^ l % 4294967296 ≡ first_key level place
+wrapped_first l p level place e f h =
+    let less : first_key level place ≤ end_key level place = mul-le-mul_right (2 ^ level) (omega arith) in
+    let small : first_key level place < 4294967296 = omega (arith, h, less) in
+    ap (λ n. p * 2 ^ n % 4294967296) e ∙ ap (λ n. n * 2 ^ level % 4294967296) f ∙ mod-eq_of_lt small
+
+pub wrapped_end : (l p level place : ℕ) → l ≡ level → p ≡ place → end_key level place ≤ 2 ^ 16 → (p + 1) * 2 ^ l % 4294967296 ≡ end_key level place
+wrapped_end l p level place e f h =
+    let small : end_key level place < 4294967296 = omega (arith, h) in
+    ap (λ n. (p + 1) * 2 ^ n % 4294967296) e ∙ ap (λ n. (n + 1) * 2 ^ level % 4294967296) f ∙ mod-eq_of_lt small
+
+-- the number of keys is computed without a wrap
+pub wrapped_universe : (n bits : ℕ) → n ≡ bits → bits ≤ 16 → 1 * 2 ^ n % 4294967296 ≡ 2 ^ bits
+wrapped_universe n bits e h =
+    let small : 1 * 2 ^ bits < 4294967296 = omega (arith, pow_mono h) in
+    ap (λ m. 1 * 2 ^ m % 4294967296) e ∙ mod-eq_of_lt small ∙ one-mul (2 ^ bits)
+
+-- the top ends past every key
+pub top_end : (level place bits : ℕ) → level ≡ bits → place ≡ 0 → end_key level place ≡ 2 ^ bits
+top_end level place bits e f = ap (λ n. (n + 1) * 2 ^ level) f ∙ one-mul (2 ^ level) ∙ ap (λ n. 2 ^ n) e
+
+-- the top begins at key 0
+pub top_first : (level place : ℕ) → place ≡ 0 → first_key level place ≡ 0
+top_first level place e = ap (λ n. n * 2 ^ level) e ∙ zero-mul (2 ^ level)
+
+-- a leaf that covers a key covers it alone
+pub leaf_low : (level place k : ℕ) → level ≡ 0 → place * 2 ^ level ≤ k → k < (place + 1) * 2 ^ level → place ≡ k
+leaf_low level place k e l h =
+    let one : 2 ^ level ≡ 1 = ap (λ n. 2 ^ n) e in
+    let low = ap (λ w. place * w) one in
+    let high = ap (λ w. (place + 1) * w) one in
+    omega (arith, low, high)
+
+pub leaf_first : (level place : ℕ) → level ≡ 0 → first_key level place ≡ place
+leaf_first level place e = ap (λ n. place * 2 ^ n) e ∙ mul-one place
+
+pub leaf_end : (level place : ℕ) → level ≡ 0 → end_key level place ≡ place + 1
+leaf_end level place e = ap (λ n. (place + 1) * 2 ^ n) e ∙ mul-one (place + 1)
+
+pub leaf_is : (keys : List ℕ) (level place : ℕ) → level ≡ 0 → below_node keys level place ≡ range_of keys place (place + 1)
+leaf_is keys level place e =
+    ap (λ a. range_of keys a (end_key level place)) (leaf_first level place e) ∙ ap (λ b. range_of keys place b) (leaf_end level place e)
+
+module _ {A B : Type 0} {sum : List ℕ → Summary A B} {set : Members} {level place : ℕ} {told : Summary A B} (node : IsNodeOf sum set level place told) where
+  -- the members of the tree's set rise, and are below the end of its keys
+  pub members_rise : Rises set.list
+  members_rise = rises_from set.list node.is_tree_set.is_key_set.rising
+
+  pub members_below : AllBelow (2 ^ set.bits) set.list
+  members_below = all_below_from (2 ^ set.bits) set.list node.is_tree_set.is_key_set.below
+
+  -- the keys of a tree are few
+  pub few_keys : (place + 1) * 2 ^ level ≤ 2 ^ 16
+  few_keys = le_trans node.place_fits (pow_mono node.is_tree_set.few_bits)
+
+  pub middle_fits : 1 ≤ level → middle_key level place < 2 ^ 16
+  middle_fits h = omega (arith, middle_high level place h, few_keys)
+
+  -- a rank fits a u32
+  pub ranks_fit : (k : ℕ) → rank_of set.list k < 2 ^ 32
+  ranks_fit k = omega (arith, rank_few set.list k (2 ^ set.bits) members_rise members_below, pow_mono node.is_tree_set.few_bits)
+
+  -- a node counts the members below it
+  pub counts : ((keys : List ℕ) → (sum keys).count ≡ length keys) → told.count ≡ length (below_node set.list level place)
+  counts h = ap (λ s. s.count) node.tells ∙ h (below_node set.list level place)
+
+  -- the top of a tree covers every key
+  pub top_covers : level ≡ set.bits → place ≡ 0 → below_node set.list level place ≡ set.list
+  top_covers e f =
+      ap (λ a. range_of set.list a (end_key level place)) (top_first level place f) ∙ ap (λ b. range_of set.list 0 b) (top_end level place set.bits e f) ∙ range_whole set.list (2 ^ set.bits) members_below
+
+-- the top counts every member
+pub top_counts : {A B : Type 0} {sum : List ℕ → Summary A B} {set : Members} {level place : ℕ} {told : Summary A B} → ((keys : List ℕ) → (sum keys).count ≡ length keys) → IsNodeOf sum set level place told → level ≡ set.bits → place ≡ 0 → told.count ≡ length set.list
+top_counts totals node e f = counts node totals ∙ ap length (top_covers node e f)
+
+module _ {A B : Type 0} {sum : List ℕ → Summary A B} {set : Members} {level place l p : ℕ} {told child : Summary A B} (totals : (keys : List ℕ) → (sum keys).count ≡ length keys) (node : IsNodeOf sum set level place told) (below : IsNodeOf sum set l p child) where
+  -- what a left child leaves of its parent's count is in the right half
+  pub left_leaves : l + 1 ≡ level → p ≡ 2 * place → told.count ≡ child.count + length (range_of set.list (middle_key level place) (end_key level place))
+  left_leaves e f =
+      let inner : 1 ≤ level = omega arith in
+      let cut = count_cut set.list (first_key level place) (middle_key level place) (end_key level place) (members_rise node) (le_of_lt (low_middle level place inner)) (le_of_lt (middle_high level place inner)) in
+      let half = ap (λ a. length (range_of set.list a (end_key l p))) (left_low level place l p e f) ∙ ap (λ b. length (range_of set.list (first_key level place) b)) (left_high level place l p e f) in
+      omega (arith, counts node totals, counts below totals, cut, half)
+
+  -- what a right child leaves is in the left half
+  pub right_leaves : l + 1 ≡ level → p ≡ 2 * place + 1 → told.count ≡ length (range_of set.list (first_key level place) (middle_key level place)) + child.count
+  right_leaves e f =
+      let inner : 1 ≤ level = omega arith in
+      let cut = count_cut set.list (first_key level place) (middle_key level place) (end_key level place) (members_rise node) (le_of_lt (low_middle level place inner)) (le_of_lt (middle_high level place inner)) in
+      let half = ap (λ a. length (range_of set.list a (end_key l p))) (right_low level place l p e f) ∙ ap (λ b. length (range_of set.list (middle_key level place) b)) (right_high level place l p e f) in
+      omega (arith, counts node totals, counts below totals, cut, half)
+
+  -- how many members are before a right child
+  pub right_rank : l + 1 ≡ level → p ≡ 2 * place + 1 → rank_of set.list (first_key l p) + child.count ≡ rank_of set.list (first_key level place) + told.count
+  right_rank e f =
+      let inner : 1 ≤ level = omega arith in
+      let cut = rank_cut set.list (first_key level place) (middle_key level place) (members_rise node) (le_of_lt (low_middle level place inner)) in
+      omega (arith, right_leaves e f, cut, ap (rank_of set.list) (right_low level place l p e f))
+
+  -- as many as are before its parent are before a left child
+  pub left_rank : l + 1 ≡ level → p ≡ 2 * place → rank_of set.list (first_key l p) ≡ rank_of set.list (first_key level place)
+  left_rank e f = ap (rank_of set.list) (left_low level place l p e f)
+
+-- a node counts what its two children count
+pub children_count : {A B : Type 0} {sum : List ℕ → Summary A B} {set : Members} {level place l p m q : ℕ} {told left right : Summary A B} → ((keys : List ℕ) → (sum keys).count ≡ length keys)
+    → IsNodeOf sum set level place told → IsNodeOf sum set l p left → IsNodeOf sum set m q right → l + 1 ≡ level → p ≡ 2 * place → m + 1 ≡ level → q ≡ 2 * place + 1 → told.count ≡ left.count + right.count
+children_count {set = set} {level = level} {place = place} {m = m} {q = q} totals node left right e f g h =
+    let half = ap (λ a. length (range_of set.list a (end_key m q))) (right_low level place m q g h) ∙ ap (λ b. length (range_of set.list (middle_key level place) b)) (right_high level place m q g h) in
+    omega (arith, left_leaves totals node left e f, counts right totals, half)
+
+module _ {A B : Type 0} {sum : List ℕ → Summary A B} {set : Members} {level place l p : ℕ} {told child : Summary A B} (totals : (keys : List ℕ) → (sum keys).count ≡ length keys) (node : IsNodeOf sum set level place told) (below : IsNodeOf sum set l p child) where
+  -- how many members are before the end of a left child
+  pub left_end_rank : l + 1 ≡ level → p ≡ 2 * place → rank_of set.list (end_key l p) + told.count ≡ rank_of set.list (end_key level place) + child.count
+  left_end_rank e f =
+      let inner : 1 ≤ level = omega arith in
+      let cut = rank_cut set.list (middle_key level place) (end_key level place) (members_rise node) (le_of_lt (middle_high level place inner)) in
+      omega (arith, left_leaves totals node below e f, cut, ap (rank_of set.list) (left_high level place l p e f))
+
+  -- as many as are before the end of its parent are before the end of a right child
+  pub right_end_rank : l + 1 ≡ level → p ≡ 2 * place + 1 → rank_of set.list (end_key l p) ≡ rank_of set.list (end_key level place)
+  right_end_rank e f = ap (rank_of set.list) (right_high level place l p e f)
+
+-- what the children of a node cover
+pub left_covers : (keys : List ℕ) (level place l p : ℕ) → l + 1 ≡ level → p ≡ 2 * place → below_node keys l p ≡ range_of keys (first_key level place) (middle_key level place)
+left_covers keys level place l p e f = ap (λ a. range_of keys a (end_key l p)) (left_low level place l p e f) ∙ ap (λ b. range_of keys (first_key level place) b) (left_high level place l p e f)
+
+pub right_covers : (keys : List ℕ) (level place l p : ℕ) → l + 1 ≡ level → p ≡ 2 * place + 1 → below_node keys l p ≡ range_of keys (middle_key level place) (end_key level place)
+right_covers keys level place l p e f = ap (λ a. range_of keys a (end_key l p)) (right_low level place l p e f) ∙ ap (λ b. range_of keys (middle_key level place) b) (right_high level place l p e f)
+
+-- what a node covers, cut in the middle
+pub node_cut : (keys : List ℕ) (level place : ℕ) → Rises keys → 1 ≤ level → below_node keys level place ≡ range_of keys (first_key level place) (middle_key level place) ++ range_of keys (middle_key level place) (end_key level place)
+node_cut keys level place h inner = range_cut keys (first_key level place) (middle_key level place) (end_key level place) h (le_of_lt (low_middle level place inner)) (le_of_lt (middle_high level place inner))

@@ -1,0 +1,115 @@
+-- The rows of a tree in memory.
+use Rattle.std.proofs.Common.{◌≡◌, ℕ, ◌+◌, ◌-◌, ◌*◌, ◌^◌, ◌<◌, ◌≤◌, List, [], ◌∷◌, ◌++◌, length, get_or, suc, inl, inr, refl, sym, ap, ◌∙◌, subst, arith, le_of_eq}
+use Rattle.std.proofs.Math.Nat.{pow-suc, mul_comm, le_trans, le_of_mul-le-mul_right, mul-le-mul_right}
+use Rattle.std.proofs.Math.Pow.{pow_mono}
+use Rattle.std.proofs.lemmas.Nat.{pow_pos, pow-add}
+use Rattle.std.proofs.lemmas.Bool.{cases_lt, cases_eq}
+use Rattle.std.proofs.lemmas.List.{get_or_push, get_or_append_left, get_or-set_same, get_or-set_other}
+use Rattle.std.proofs.Math.ListN.{set, length-set}
+use Rattle.std.proofs.lemmas.List.Elements.{All-filter, All-weaker}
+use Rattle.std.specs.List.{All}
+use Rattle.aug_model.specs.Queries.{range_of}
+use Rattle.aug_model.specs.declared.summary.Summary.{Summary}
+use Rattle.aug_query.specs.Tree.{IsTreeSet, IsNodeOf, below_node, first_key, middle_key, end_key}
+use Rattle.std.specs.Prelude.{◌==◌, if◌then◌else◌}
+use Rattle.aug_query.specs.FakeTree.{IsRow, HoldsTree, counted_from, counted_keys}
+use Rattle.aug_query.proofs.Ranges.{Rises, AllBelow, range_none, range_cut, range_of_one, range_whole, added_same, added_other, rises_from, all_below_from, range_le, count_few}
+use Rattle.aug_query.proofs.Nodes.{leaf_is, left_covers, right_covers, node_cut}
+
+-- how many nodes a level has, each so wide
+widths : (bits level : ℕ) → level ≤ bits → 2 ^ bits ≡ 2 ^ (bits - level) * 2 ^ level
+widths bits level h = let same : bits ≡ bits - level + level = omega arith in ap (λ n. 2 ^ n) same ∙ pow-add 2 (bits - level) level
+
+-- a node that ends within the keys is one of its level
+pub place_in_row : (bits level place : ℕ) → level ≤ bits → end_key level place ≤ 2 ^ bits → place < 2 ^ (bits - level)
+place_in_row bits level place h e =
+    let fits : place + 1 ≤ 2 ^ (bits - level) = le_of_mul-le-mul_right (le_trans e (le_of_eq (widths bits level h))) (pow_pos level) in omega arith
+
+-- and the other way round
+pub row_in_keys : (bits level place : ℕ) → level ≤ bits → place < 2 ^ (bits - level) → end_key level place ≤ 2 ^ bits
+row_in_keys bits level place h e =
+    let fits : place + 1 ≤ 2 ^ (bits - level) = omega arith in le_trans (mul-le-mul_right (2 ^ level) fits) (le_of_eq (sym (widths bits level h)))
+
+module _ {A B : Type 0} {sum : List ℕ → Summary A B} {bits : ℕ} {keys : List ℕ} {rows : List (List (Summary A B))} (tree : HoldsTree sum bits keys rows) where
+  -- the row of a level reaches to every node of it
+  pub row_reaches : (level place : ℕ) (row : List (Summary A B)) → row ≡ get_or rows level row → level ≤ bits → end_key level place ≤ 2 ^ bits → place < length row
+  row_reaches level place row e h l = omega (arith, place_in_row bits level place h l, (tree.each level row h).all, ap length e)
+
+  -- what stands there is a node of the tree
+  pub is_node : (level place : ℕ) (row : List (Summary A B)) (told : Summary A B) → row ≡ get_or rows level row → told ≡ get_or row place told → level ≤ bits → end_key level place ≤ 2 ^ bits → IsNodeOf sum (record { bits = bits; list = keys }) level place told
+  is_node level place row told e f h l = record {
+    is_tree_set = tree.is_tree_set;
+    level_fits = h;
+    place_fits = l;
+    tells = f ∙ ap (λ r. get_or r place told) e ∙ (tree.each level row h).tells place told (omega (arith, place_in_row bits level place h l, (tree.each level row h).all));
+  }
+
+-- a list of elements, each of which meets a fact of its place, with one more
+pub pushed_each : {X : Type 0} (Fact : ℕ → X → Type 0) (xs ys : List X) (y : X) (n : ℕ) → ys ≡ xs ++ y ∷ [] → length xs ≡ n → ((j : ℕ) (d : X) → j < n → Fact j (get_or xs j d)) → Fact n y → (j : ℕ) (d : X) → j < n + 1 → Fact j (get_or ys j d)
+pushed_each Fact xs ys y n e l each last j d h =
+    elim (cases_lt j n) [
+      | inl old ↦ subst (Fact j) (sym (ap (λ zs. get_or zs j d) e ∙ get_or_append_left xs (y ∷ []) d j (omega arith))) (each j d old)
+      | inr new ↦ let same : j ≡ n = omega arith in subst (λ k. Fact k (get_or ys j d)) (sym same) (subst (Fact n) (sym (ap (λ zs. get_or zs j d) e ∙ get_or_push xs y d j (omega arith))) last)
+    ]
+
+-- a level has half as many nodes as the one below it
+pub half_width : (bits level : ℕ) → level < bits → 2 ^ (bits - level) ≡ 2 * 2 ^ (bits - (level + 1))
+half_width bits level h = let same : bits - level ≡ suc (bits - (level + 1)) = omega arith in ap (λ n. 2 ^ n) same ∙ pow-suc 2 (bits - (level + 1)) ∙ mul_comm (2 ^ (bits - (level + 1))) 2
+
+-- the members below a node, by its children
+pub children_cover : (keys : List ℕ) (level place : ℕ) → Rises keys → below_node keys level (2 * place) ++ below_node keys level (2 * place + 1) ≡ below_node keys (level + 1) place
+children_cover keys level place h =
+    ap (λ xs. xs ++ below_node keys level (2 * place + 1)) (left_covers keys (level + 1) place level (2 * place) refl refl) ∙ ap (λ ys. range_of keys (first_key (level + 1) place) (middle_key (level + 1) place) ++ ys) (right_covers keys (level + 1) place level (2 * place + 1) refl refl)
+    ∙ sym (node_cut keys (level + 1) place h (omega arith))
+
+-- the members below a node are keys
+pub covered_are_keys : (bits : ℕ) (keys : List ℕ) (level place : ℕ) → IsTreeSet (record { bits = bits; list = keys }) → All (λ k. k < 2 ^ 32) (below_node keys level place)
+covered_are_keys bits keys level place set =
+    All-filter _ (λ k. k < 2 ^ 32) keys (All-weaker (λ k. k < 2 ^ bits) (λ k. k < 2 ^ 32) (λ x h. omega (arith, h, pow_mono set.few_bits)) keys set.is_key_set.below)
+
+-- and few
+pub covered_are_few : (bits : ℕ) (keys : List ℕ) (level place : ℕ) → IsTreeSet (record { bits = bits; list = keys }) → length (below_node keys level place) ≤ 2 ^ 16
+covered_are_few bits keys level place set =
+    omega (arith, range_le keys (first_key level place) (end_key level place), count_few (2 ^ bits) keys (rises_from keys set.is_key_set.rising) (all_below_from (2 ^ bits) keys set.is_key_set.below), pow_mono set.few_bits)
+
+module _ {A B : Type 0} (sum : List ℕ → Summary A B) where
+  -- one more key put into a row of leaves
+  pub leaf_put : (row : List (Summary A B)) (keys more : List ℕ) (k : ℕ) (one : Summary A B) → more ≡ keys ++ k ∷ [] → AllBelow k keys → one ≡ sum (k ∷ []) → ((p : ℕ) (d : Summary A B) → p < length row → get_or row p d ≡ sum (range_of keys p (p + 1)))
+      → (p : ℕ) (d : Summary A B) → p < length (set row k one) → get_or (set row k one) p d ≡ sum (range_of more p (p + 1))
+  leaf_put row keys more k one e below one_is each p d h =
+      let within : p < length row = omega (arith, h, length-set row k one) in
+      let range = λ (xs : List ℕ). range_of xs p (p + 1) in
+      elim (cases_eq p k) [
+        | inl same ↦ ap (λ q. get_or (set row k one) q d) same ∙ get_or-set_same row k one d (omega (arith, within, same)) ∙ one_is ∙ ap sum (sym (ap range e ∙ ap (λ q. range_of (keys ++ k ∷ []) q (q + 1)) same ∙ added_same keys k below))
+        | inr other ↦ get_or-set_other row k p one d other ∙ each p d within ∙ ap sum (sym (ap range e ∙ added_other keys k p other))
+      ]
+
+-- a leaf covers its key
+pub leaf_below : (keys : List ℕ) (k : ℕ) → range_of keys k (k + 1) ≡ below_node keys 0 k
+leaf_below keys k = sym (leaf_is keys 0 k refl)
+
+module _ {A B : Type 0} where
+  -- leaves that count the members of a set give these back
+  counted_range : (keys : List ℕ) (k : ℕ) (leaves : List (Summary A B)) → Rises keys → ((p : ℕ) (d : Summary A B) → p < length leaves → (get_or leaves p d).count ≡ length (range_of keys (k + p) (k + p + 1))) → counted_from k leaves ≡ range_of keys k (k + length leaves)
+  counted_range keys k [] rises h = sym (range_none keys k (k + 0) (omega arith))
+  counted_range keys k (leaf ∷ leaves) rises h =
+      let rest : counted_from (k + 1) leaves ≡ range_of keys (k + 1) (k + 1 + length leaves) =
+      counted_range keys (k + 1) leaves rises (λ p d l. let shift : k + suc p ≡ k + 1 + p = omega arith in h (suc p) d (omega arith) ∙ ap (λ n. length (range_of keys n (n + 1))) shift) in
+      let here : leaf.count ≡ length (range_of keys k (k + 1)) = let start : k + 0 ≡ k = omega arith in h 0 leaf (omega arith) ∙ ap (λ n. length (range_of keys n (n + 1))) start in
+      let over : k + 1 + length leaves ≡ k + suc (length leaves) = omega arith in
+      let cut = range_cut keys k (k + 1) (k + suc (length leaves)) rises (omega arith) (omega arith) in
+      let after = rest ∙ ap (λ n. range_of keys (k + 1) n) over in
+      elim (range_of_one keys k rises) [
+        | inl none ↦ ap (λ n. if n == 0 then counted_from (k + 1) leaves else k ∷ counted_from (k + 1) leaves) (here ∙ ap length none) ∙ after ∙ sym (cut ∙ ap (λ xs. xs ++ range_of keys (k + 1) (k + suc (length leaves))) none)
+        | inr one ↦ ap (λ n. if n == 0 then counted_from (k + 1) leaves else k ∷ counted_from (k + 1) leaves) (here ∙ ap length one) ∙ ap (λ xs. k ∷ xs) after ∙ sym (cut ∙ ap (λ xs. xs ++ range_of keys (k + 1) (k + suc (length leaves))) one)
+      ]
+
+-- the set of a tree in memory is that whose leaves it has
+pub counted_is : {A B : Type 0} {sum : List ℕ → Summary A B} {bits : ℕ} {keys : List ℕ} (rows : List (List (Summary A B))) → ((xs : List ℕ) → (sum xs).count ≡ length xs) → Rises keys → AllBelow (2 ^ bits) keys → 0 < length rows → ((d : List (Summary A B)) → IsRow sum bits keys 0 (get_or rows 0 d)) → counted_keys rows ≡ keys
+counted_is [] totals rises below some leaves = absurd (omega arith)
+counted_is {bits = bits} {keys = keys} (row ∷ rows) totals rises below some leaves =
+    let is_row = leaves row in
+    let same : bits - 0 ≡ bits = omega arith in
+    let end : 0 + length row ≡ 2 ^ bits = omega (arith, is_row.all, ap (λ n. 2 ^ n) same) in
+    counted_range keys 0 row rises (λ p d l. let start : 0 + p ≡ p = omega arith in ap (λ s. s.count) (is_row.tells p d l) ∙ totals (below_node keys 0 p) ∙ ap length (leaf_is keys 0 p refl) ∙ ap (λ n. length (range_of keys n (n + 1))) (sym start))
+    ∙ ap (λ n. range_of keys 0 n) end ∙ range_whole keys (2 ^ bits) below

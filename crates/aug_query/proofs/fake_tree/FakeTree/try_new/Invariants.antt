@@ -1,0 +1,10 @@
+use Rattle.std.proofs.Common.{ℕ, ◌≡◌, ◌+◌, ◌<◌, List, length, get_or, map}
+use Rattle.aug_model.specs.Folds.{summary_of}
+use Rattle.aug_query.specs.FakeTree.{IsRow}
+use Rattle.aug_query.proofs.fake_tree.FakeTree.try_new.Given as goal
+
+abbrev pub invariant-loop-level : goal.invariant-loop-level
+invariant-loop-level g l = record {
+  all : length l.rows.items ≡ l.level + 1;
+  each : (level : ℕ) (default : List _) → level < l.level + 1 → IsRow (summary_of g.A.Monoid.unit_value g.A.Monoid.key_value g.A.Monoid.joined g.B.Monoid.unit_value g.B.Monoid.key_value g.B.Monoid.joined) l.bits l.keys level (get_or (map (λ row. row.items) l.rows.items) level default);
+}

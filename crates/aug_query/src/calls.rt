@@ -1,0 +1,31 @@
+ghost use Rattle.std.specs.Prelude.{◌≡◌, ℕ, ◌+◌};
+ghost use Rattle.std.specs.Borrow.{ftrue};
+
+use std::marker::Model;
+
+/// How many calls of `top`, `left` and `right` a tree has had. Contracts alone read it: it takes no bytes,
+/// and its methods do nothing when they run.
+#[derive(Drop)]
+pub struct Calls {
+    pub ghost made: { ℕ },
+}
+
+impl Model for Calls {
+    ghost also_owns = { λ _. ftrue };
+}
+
+impl Calls {
+    /// No calls so far.
+    pub fn new() -> Calls
+        ensures { result.made ≡ 0 }
+    {
+        Calls {}
+    }
+
+    /// These calls and one more.
+    pub fn one_more(&self) -> Calls
+        ensures { result.made ≡ self.now.made + 1 }
+    {
+        Self {}
+    }
+}

@@ -1,0 +1,66 @@
+//! The rows of a tree in memory: the summaries of the nodes of a level, places rising.
+ghost use Rattle.std.specs.Prelude.{◌≡◌, ℕ, ◌+◌, ◌^◌, ◌<◌, ◌≤◌, [], length, IfOk};
+ghost use Rattle.std.specs.List.{All};
+ghost use Rattle.aug_model.specs.Folds.{summary_of};
+ghost use Rattle.aug_query.specs.FakeTree.{IsRow};
+ghost use Rattle.aug_query.specs.Tree.{IsTreeSet};
+
+use crate::summaries::{joined, of_none, of_one};
+use aug_model::Summary;
+use aug_monoid::Monoid;
+use std::alloc::{AllocError, Global};
+
+// The row of the leaves of a set of keys.
+pub(crate) fn leaf_row<A: Monoid, B: Monoid>(
+    alloc: Global,
+    bits: u32,
+    keys: &[u32],
+) -> Result<Vec<Summary<A, B>>, AllocError>
+    requires { IsTreeSet (record { bits = bits; list = keys.now }) }
+    ensures { let sum = summary_of A.unit_value A.key_value A.joined B.unit_value B.key_value B.joined in
+        IfOk result (λ row. IsRow sum bits keys.now 0 row.items) }
+{
+    let mut row = empty_row(alloc, 1 << bits)?;
+    for key in keys {
+        row[*key as usize] = of_one(*key);
+    }
+    Ok(row)
+}
+
+// A row of so many leaves that cover no member.
+fn empty_row<A: Monoid, B: Monoid>(
+    alloc: Global,
+    width: usize,
+) -> Result<Vec<Summary<A, B>>, AllocError>
+    ensures all { IfOk result (λ row. length row.items ≡ width) }
+    ensures each { let sum = summary_of A.unit_value A.key_value A.joined B.unit_value B.key_value B.joined in
+        IfOk result (λ row. All (λ leaf. leaf ≡ sum []) row.items) }
+{
+    let mut row = Vec::with_capacity(alloc, width)?;
+    for _ in 0..width {
+        row.push(of_none())?;
+    }
+    Ok(row)
+}
+
+// The row above that of a level, of the tree of a set of keys.
+pub(crate) fn parent_row<A: Monoid, B: Monoid>(
+    alloc: Global,
+    bits: u32,
+    _keys: &[u32],
+    level: u32,
+    row: &[Summary<A, B>],
+) -> Result<Vec<Summary<A, B>>, AllocError>
+    requires set { IsTreeSet (record { bits = bits; list = _keys.now }) }
+    requires level { level < bits }
+    requires row { IsRow (summary_of A.unit_value A.key_value A.joined B.unit_value B.key_value B.joined) bits _keys.now level row.now }
+    ensures { let sum = summary_of A.unit_value A.key_value A.joined B.unit_value B.key_value B.joined in
+        IfOk result (λ above. IsRow sum bits _keys.now (level + 1) above.items) }
+{
+    let width = row.len() / 2;
+    let mut above = Vec::with_capacity(alloc, width)?;
+    for place in 0..width {
+        above.push(joined(row[2 * place], row[2 * place + 1]))?;
+    }
+    Ok(above)
+}

@@ -1,0 +1,41 @@
+//! Summaries of lists of keys, made of those of shorter lists.
+ghost use Rattle.std.specs.Prelude.{◌≡◌, ℕ, ◌+◌, ◌^◌, ◌<◌, List, [], ◌∷◌, ◌++◌, All};
+ghost use Rattle.aug_model.specs.Folds.{summary_of};
+
+use aug_model::Summary;
+use aug_monoid::Monoid;
+
+// The summary of no keys.
+pub(crate) fn of_none<A: Monoid, B: Monoid>() -> Summary<A, B>
+    ensures { result ≡ summary_of A.unit_value A.key_value A.joined B.unit_value B.key_value B.joined [] }
+{
+    Summary {
+        count: 0,
+        a: A::unit(),
+        b: B::unit(),
+    }
+}
+
+// The summary of the one key `k`.
+pub(crate) fn of_one<A: Monoid, B: Monoid>(k: u32) -> Summary<A, B>
+    ensures { result ≡ summary_of A.unit_value A.key_value A.joined B.unit_value B.key_value B.joined (k ∷ []) }
+{
+    Summary {
+        count: 1,
+        a: A::of_key(k),
+        b: B::of_key(k),
+    }
+}
+
+// The summary of the keys that `low` summarizes and then those that `high` does.
+pub(crate) fn joined<A: Monoid, B: Monoid>(low: Summary<A, B>, high: Summary<A, B>) -> Summary<A, B>
+    requires { low.count + high.count < 2 ^ 32 }
+    ensures { let sum = summary_of A.unit_value A.key_value A.joined B.unit_value B.key_value B.joined in
+        (xs ys : List ℕ) → All (λ k. k < 2 ^ 32) xs → All (λ k. k < 2 ^ 32) ys → low ≡ sum xs → high ≡ sum ys → result ≡ sum (xs ++ ys) }
+{
+    Summary {
+        count: low.count + high.count,
+        a: low.a.join(high.a),
+        b: low.b.join(high.b),
+    }
+}

@@ -1,0 +1,83 @@
+ghost use Rattle.std.specs.Prelude.{◌≡◌, ℕ, ◌+◌, ◌*◌, ◌≤◌};
+ghost use Rattle.aug_model.specs.Keys.{Members};
+ghost use Rattle.aug_model.specs.Folds.{summary_of};
+ghost use Rattle.aug_model.specs.declared.summary.Summary.{Summary as Told};
+ghost use Rattle.aug_query.specs.Tree.{IsTreeSet, IsNodeOf, Walks};
+
+use aug_model::Summary;
+use aug_monoid::Monoid;
+
+/// A complete binary tree of a set of keys below `2^bits`. The node at level `j` and place `p` covers the
+/// keys `p * 2^j` to `(p + 1) * 2^j - 1`; a leaf is at level 0, and its summary counts 1 where its key is
+/// a member and else 0; the top is at level `bits`, place 0. Every node carries the summary of the members
+/// that it covers.
+///
+/// A walk may load each node anew, so it takes `&mut self`, but nothing that it does changes what the
+/// tree is: its set and bits stay, and a node once handed out is one of its nodes for good.
+pub trait Tree<A: Monoid, B: Monoid> {
+    /// A node as a walk holds it: where it stands, and its summary.
+    type Node: Drop;
+
+    // How many bits the keys have, and the members, rising.
+    ghost set_of: { Self → Members };
+
+    // How often `top`, `left` and `right` have been called. It takes no bytes.
+    ghost calls_of: { Self → ℕ };
+
+    // The node is one of this tree.
+    ghost HasNode: { Self → Self.Node → Type 0 };
+
+    // How far above the leaves a node stands.
+    ghost level_of: { Self.Node → ℕ };
+
+    // How many nodes of its level stand before a node.
+    ghost place_of: { Self.Node → ℕ };
+
+    // The summary that a node carries.
+    ghost told_by: { Self.Node → Told A B };
+
+    /// How many bits the keys have, from 1 to 16.
+    fn bits(&self) -> u32
+        ensures value { result ≡ (set_of self.now).bits }
+        ensures set { IsTreeSet (set_of self.now) };
+
+    /// The node that covers every key.
+    fn top(&mut self) -> Self::Node
+        ensures walks { Walks set_of calls_of HasNode 1 self.old self.new }
+        ensures node { HasNode self.new result }
+        ensures level { level_of result ≡ (set_of self.old).bits }
+        ensures place { place_of result ≡ 0 };
+
+    /// The child of `node` that covers the lesser half of its keys.
+    fn left(&mut self, node: &Self::Node) -> Self::Node
+        requires node { HasNode self.old node.now }
+        requires inner { 1 ≤ level_of node.now }
+        ensures walks { Walks set_of calls_of HasNode 1 self.old self.new }
+        ensures node { HasNode self.new result }
+        ensures level { level_of result + 1 ≡ level_of node.now }
+        ensures place { place_of result ≡ 2 * place_of node.now };
+
+    /// The child of `node` that covers the greater half of its keys.
+    fn right(&mut self, node: &Self::Node) -> Self::Node
+        requires node { HasNode self.old node.now }
+        requires inner { 1 ≤ level_of node.now }
+        ensures walks { Walks set_of calls_of HasNode 1 self.old self.new }
+        ensures node { HasNode self.new result }
+        ensures level { level_of result + 1 ≡ level_of node.now }
+        ensures place { place_of result ≡ 2 * place_of node.now + 1 };
+
+    /// How far above the leaves `node` stands.
+    fn level(node: &Self::Node) -> u32
+        ensures { result ≡ level_of node.now };
+
+    /// How many nodes of its level stand before `node`.
+    fn place(node: &Self::Node) -> u32
+        ensures { result ≡ place_of node.now };
+
+    /// What `node` knows of the members that it covers.
+    fn summary(node: &Self::Node) -> Summary<A, B>
+        ensures { result ≡ told_by node.now };
+
+    // A node of the tree stands within it, and its summary is that of the members that it covers.
+    ghost node_tells: { (tree : Self) (node : Self.Node) → HasNode tree node → IsNodeOf (summary_of A.unit_value A.key_value A.joined B.unit_value B.key_value B.joined) (set_of tree) (level_of node) (place_of node) (told_by node) };
+}

@@ -1,5 +1,5 @@
 //! The plain engine of one lane: a live set, and the snapshot that its queries are answered from.
-ghost use Rattle.std.specs.Prelude.{◌≡◌, ◌+◌, ◌^◌, ◌<◌, ◌≤◌, List, length, true, All, IfOk, IsTrue, []};
+ghost use Rattle.std.specs.Prelude.{◌≡◌, ◌+◌, ◌^◌, ◌<◌, ◌≤◌, length, true, All, IfOk, IsTrue, []};
 ghost use Rattle.augtrie.specs.Replies.{opening_sets, reply_to, report_of, sets_after};
 ghost use Rattle.augtrie.specs.Script.{is_in_bounds};
 

@@ -1,5 +1,5 @@
 //! A whole script, from its bytes to its printed report.
-ghost use Rattle.std.specs.Prelude.{◌≡◌, ◌≢◌, ◌-◌, ◌^◌, ◌<◌, ◌≤◌, ◌↔◌, Err, IfErr, IfSome, IsErrOf, OnOk, length};
+ghost use Rattle.std.specs.Prelude.{◌≡◌, ◌≢◌, ◌-◌, ◌^◌, ◌<◌, ◌≤◌, ◌↔◌, Err, IfErr, IfSome, OnOk, length};
 ghost use Rattle.augtrie.specs.Devices.{script_limit};
 ghost use Rattle.augtrie.specs.Runs.{HasFault, RunsInPart, RunsWhole};
 ghost use Rattle.augtrie.specs.declared.script.script_error.ScriptError.{ScriptError};

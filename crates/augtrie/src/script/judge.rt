@@ -1,8 +1,8 @@
 //! A record's row, or its first fault.
-ghost use Rattle.std.specs.Prelude.{◌≡◌, ◌+◌, ◌==◌, ℕ, IsTrue, List, [], drop, length, slice_index_or, IfOk};
+ghost use Rattle.std.specs.Prelude.{◌≡◌, ◌+◌, IsTrue, List, [], drop, length, slice_index_or, IfOk};
 ghost use Rattle.std.specs.List.{list_all};
 ghost use Rattle.csv.specs.Records.{fields_of};
-ghost use Rattle.augtrie.specs.Script.{are_printable, arity_of, bounded_row, is_number as is_number_field, number_of, row_of, verb_of, word_of, worded_row};
+ghost use Rattle.augtrie.specs.Script.{are_printable, arity_of, bounded_row, is_number as is_number_field, row_of, verb_of, word_of, worded_row};
 
 use super::field::{is_number, is_printable, is_star, number};
 use super::round_rows::RoundRows;

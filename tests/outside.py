@@ -1,0 +1,379 @@
+#!/usr/bin/env python3
+"""Runs the built program as its user does, and compares what it writes and its exit status with what the README says.
+
+usage: tests/outside.py PROGRAM..
+
+Every test runs once for each PROGRAM. The last line is 'N passed, M failed', and the exit status is 0 where none failed.
+It needs Python 3.8 or later and the toolchain, whose C compiler makes the library that refuses memory.
+"""
+
+import os
+import subprocess
+import sys
+import tempfile
+import unittest
+
+TOP = os.path.dirname(os.path.dirname(os.path.abspath(__file__)))
+EXAMPLES = os.path.join(TOP, "examples")
+
+# The most seconds that one run of the program gets.
+SECONDS = 60
+
+# The most bytes that a script may have.
+SCRIPT_LIMIT = 16777216
+
+INPUT_FAULT = (b"", b"augtrie: input\n", 3)
+OUTPUT_FAULT = (b"", b"augtrie: output\n", 3)
+TOO_LONG = (b"", b"augtrie: script too long\n", 1)
+
+FIRST = b"""\
+0,insert,5
+0,insert,9
+0,insert,5
+0,look
+0,size
+0,rank,9
+0,range,0,16
+"""
+
+FIRST_REPORT = b"""\
+1 0 insert 5 = new
+1 0 insert 9 = new
+1 0 insert 5 = old
+1 0 look = ok
+1 0 size = 2
+1 0 rank 9 = 1
+1 0 range 0 16 = 2 14 5 9
+1 end size=2 in=2 out=0
+"""
+
+OTHER = b"0,size\n"
+
+OTHER_REPORT = b"1 0 size = 0\n1 end size=0 in=0 out=0\n"
+
+HELP = b"""\
+Runs a script over a set of keys, and prints a reply for each row
+
+Usage: augtrie [OPTIONS] [FILE]
+
+Arguments:
+  [FILE]  The script; without it standard input is read
+
+Options:
+      --bits <H>     Keys are below 2^H [default: 4]
+      --workers <W>  Lanes are below W [default: 1]
+      --updates <U>  How many rows of a lane may insert or remove in a round [default: 64]
+  -h, --help         Print help
+"""
+
+# Scripts that run: a name, the options, the script and the report.
+GOOD_SCRIPTS = [
+    ("first_script", "", FIRST, FIRST_REPORT),
+    ("script_of_no_bytes", "", b"", b""),
+    ("script_of_blank_lines", "", b"\n\r\n\n", b""),
+    (
+        "one_bit",
+        "--bits 1",
+        b"0,insert,0\n0,insert,1\n0,remove,0\n0,look\n0,range,0,2\n",
+        b"1 0 insert 0 = new\n1 0 insert 1 = new\n1 0 remove 0 = gone\n1 0 look = ok\n"
+        b"1 0 range 0 2 = 1 1 1 1\n1 end size=1 in=2 out=1\n",
+    ),
+    (
+        "sixteen_bits",
+        "--bits=16",
+        b"0,insert,65535\n0,insert,0\n0,look\n0,rank,65536\n0,range,0,65536\n",
+        b"1 0 insert 65535 = new\n1 0 insert 0 = new\n1 0 look = ok\n1 0 rank 65536 = 2\n"
+        b"1 0 range 0 65536 = 2 65535 0 65535\n1 end size=2 in=2 out=0\n",
+    ),
+    (
+        "empty_set",
+        "",
+        b"0,size\n0,rank,16\n0,range,0,16\n",
+        b"1 0 size = 0\n1 0 rank 16 = 0\n1 0 range 0 16 = 0 0 - -\n1 end size=0 in=0 out=0\n",
+    ),
+    (
+        "snapshot_is_of_the_last_look",
+        "",
+        b"0,insert,7\n0,size\n0,look\n0,size\n",
+        b"1 0 insert 7 = new\n1 0 size = 0\n1 0 look = ok\n1 0 size = 1\n1 end size=1 in=1 out=0\n",
+    ),
+    (
+        "removals",
+        "",
+        b"0,remove,3\n0,insert,3\n0,remove,3\n0,remove,3\n",
+        b"1 0 remove 3 = none\n1 0 insert 3 = new\n1 0 remove 3 = gone\n1 0 remove 3 = none\n1 end size=0 in=1 out=1\n",
+    ),
+    (
+        "range_that_ends_before_it_begins",
+        "",
+        b"0,insert,6\n0,insert,7\n0,look\n0,range,9,5\n",
+        b"1 0 insert 6 = new\n1 0 insert 7 = new\n1 0 look = ok\n1 0 range 9 5 = 0 0 - -\n1 end size=2 in=2 out=0\n",
+    ),
+    (
+        "as_many_updates_as_allowed",
+        "--updates 2",
+        b"0,insert,1\n0,remove,1\n",
+        b"1 0 insert 1 = new\n1 0 remove 1 = gone\n1 end size=0 in=1 out=1\n",
+    ),
+    (
+        "quotes_blank_lines_and_no_last_line_end",
+        "",
+        b'"0","insert","005"\r\n\r\n0,look',
+        b"1 0 insert 5 = new\n1 0 look = ok\n1 end size=1 in=1 out=0\n",
+    ),
+    ("byte_order_mark", "", b"\xef\xbb\xbf0,look\n", b"1 0 look = ok\n1 end size=0 in=0 out=0\n"),
+]
+
+# Scripts with a fault: a name, the options, the script and the line of the fault after `augtrie: `.
+FAULTY_SCRIPTS = [
+    ("key_past_the_universe", "", b"0,insert,16", b"row 1: OutOfRange"),
+    ("key_past_one_bit", "--bits 1", b"0,insert,1\n0,insert,2", b"row 2: OutOfRange"),
+    ("rank_past_the_universe", "", b"0,rank,17", b"row 1: OutOfRange"),
+    ("lane_that_is_not_there", "", b"1,look", b"row 1: OutOfRange"),
+    ("too_few_arguments", "", b"0,insert", b"row 1: BadArity"),
+    ("too_many_arguments", "", b"0,look,1", b"row 1: BadArity"),
+    ("letter_for_a_number", "", b"0,insert,x", b"row 1: BadNumber"),
+    ("ten_digits", "", b"0,insert,1000000000", b"row 1: BadNumber"),
+    ("bad_lane_before_bad_verb", "", b"x,fly", b"row 1: BadLane"),
+    ("bad_verb_before_lane_range", "", b"1,fly", b"row 1: BadVerb"),
+    ("no_verb", "", b"0", b"row 1: BadVerb"),
+    ("star_with_a_verb_of_a_lane", "", b"*,look", b"row 1: BadVerb"),
+    ("end_with_a_lane", "", b"0,end", b"row 1: BadVerb"),
+    ("byte_past_126", "", "0,insert,é".encode(), b"row 1: BadCsv"),
+    ("too_many_updates", "--updates 2", b"0,insert,1\n0,remove,1\n0,insert,1\n", b"row 3: TooManyUpdates"),
+    ("fault_behind_good_rows", "", FIRST + b"\n0,insert,16\n0,fly\n", b"row 8: OutOfRange"),
+]
+
+# Words that the command line does not take: a name, the words and how the parser's text begins.
+BAD_WORDS = [
+    ("unknown_option", ["--lanes", "3"], b"error: unexpected argument '--lanes' found\n"),
+    ("second_file", ["first.csv", "other.csv"], b"error: unexpected argument 'other.csv' found\n"),
+    ("option_without_its_value", ["--bits"], b"error: a value is required for '--bits <H>' but none was supplied\n"),
+    ("option_twice", ["--bits", "3", "--bits", "3"], b"error: the argument '--bits <H>' cannot be used multiple times\n"),
+    ("bits_of_0", ["--bits", "0"], b"error: invalid value '0' for '--bits <H>': 0 is not in 1..=16\n"),
+    ("bits_of_17", ["--bits=17"], b"error: invalid value '17' for '--bits <H>': 17 is not in 1..=16\n"),
+    ("bits_of_a_letter", ["--bits", "x"], b"error: invalid value 'x' for '--bits <H>': invalid digit found in string\n"),
+    ("workers_of_0", ["--workers", "0"], b"error: invalid value '0' for '--workers <W>': 0 is not in 1..="),
+    ("workers_of_65", ["--workers", "65"], b"error: invalid value '65' for '--workers <W>': 65 is not in 1..="),
+    ("updates_of_0", ["--updates", "0"], b"error: invalid value '0' for '--updates <U>': 0 is not in 1..=65536\n"),
+    ("updates_of_65537", ["--updates", "65537"], b"error: invalid value '65537' for '--updates <U>': 65537 is not in 1..=65536\n"),
+    ("words_before_the_file", ["--bits", "17", "missing.csv"], b"error: invalid value '17' for '--bits <H>'"),
+    ("word_that_is_no_utf_8", [b"\xff"], b"error: "),
+]
+
+
+class Outside:
+    """The tests of one built program, in a folder with some scripts, which is made anew for each test."""
+
+    program = None
+    maxDiff = None
+
+    def setUp(self):
+        held = tempfile.TemporaryDirectory(prefix="augtrie-")
+        self.addCleanup(held.cleanup)
+        self.folder = held.name
+        self.write("first.csv", FIRST)
+        self.write("other.csv", OTHER)
+        self.write("empty.csv", b"")
+        self.write("--bits", OTHER)
+
+    def write(self, name, text):
+        with open(os.path.join(self.folder, name), "wb") as file:
+            file.write(text)
+
+    def run_on(self, words, script=b"", stdin=None, stdout=subprocess.PIPE, stderr=subprocess.PIPE, **given):
+        """Runs the program, and returns what it wrote to standard output and to standard error, and its status."""
+        given = {"env": {}, **given, **({"input": script} if stdin is None else {"stdin": stdin})}
+        words = [self.program, *words]
+        ran = subprocess.run(words, cwd=self.folder, stdout=stdout, stderr=stderr, timeout=SECONDS, **given)
+        return ran.stdout, ran.stderr, ran.returncode
+
+    def assert_is_usage_fault(self, ended, beginning):
+        out, err, status = ended
+        self.assertEqual((out, status), (b"", 2), err)
+        self.assertTrue(err.startswith(beginning), err)
+
+    # Where the script comes from.
+
+    def test_file_is_read_and_standard_input_is_not(self):
+        self.assertEqual(self.run_on(["first.csv"], OTHER), (FIRST_REPORT, b"", 0))
+
+    def test_file_named_as_an_option(self):
+        self.assertEqual(self.run_on(["--", "--bits"], FIRST), (OTHER_REPORT, b"", 0))
+
+    def test_file_behind_options(self):
+        self.assertEqual(self.run_on(["--workers", "1", "first.csv", "--bits", "5"]), (FIRST_REPORT, b"", 0))
+
+    def test_options_hold_for_the_file(self):
+        self.assertEqual(self.run_on(["--bits", "1", "first.csv"]), (b"", b"augtrie: row 1: OutOfRange\n", 1))
+
+    def test_file_of_no_bytes(self):
+        self.assertEqual(self.run_on(["empty.csv"], FIRST), (b"", b"", 0))
+
+    def test_file_that_is_not_there(self):
+        self.assertEqual(self.run_on(["missing.csv"], FIRST), INPUT_FAULT)
+
+    def test_file_that_cannot_be_read(self):
+        self.assertEqual(self.run_on(["."], FIRST), INPUT_FAULT)
+
+    def test_standard_input_that_cannot_be_read(self):
+        folder = os.open(self.folder, os.O_RDONLY)
+        self.addCleanup(os.close, folder)
+        self.assertEqual(self.run_on([], stdin=folder), INPUT_FAULT)
+
+    def test_script_at_its_limit(self):
+        self.write("long.csv", b"\n" * SCRIPT_LIMIT)
+        self.assertEqual(self.run_on(["long.csv"]), (b"", b"", 0))
+
+    def test_script_past_its_limit(self):
+        self.write("long.csv", b"\n" * (SCRIPT_LIMIT + 1))
+        self.assertEqual(self.run_on(["long.csv"]), TOO_LONG)
+
+    def test_script_past_its_limit_from_standard_input(self):
+        self.write("long.csv", FIRST + b"\n" * SCRIPT_LIMIT)
+        with open(os.path.join(self.folder, "long.csv"), "rb") as file:
+            self.assertEqual(self.run_on([], stdin=file), TOO_LONG)
+
+    # Help.
+
+    def test_help(self):
+        self.assertEqual(self.run_on(["--help"], FIRST), (HELP, b"", 0))
+
+    def test_short_help(self):
+        self.assertEqual(self.run_on(["-h"], FIRST), (HELP, b"", 0))
+
+    def test_help_before_a_file_that_is_not_there(self):
+        self.assertEqual(self.run_on(["missing.csv", "--help"]), (HELP, b"", 0))
+
+    # Where it writes to.
+
+    def test_report_longer_than_a_pipe_holds(self):
+        rows = 20000
+        report = b"1 0 size = 0\n" * rows + b"1 end size=0 in=0 out=0\n"
+        self.assertEqual(self.run_on([], b"0,size\n" * rows), (report, b"", 0))
+
+    def test_report_to_a_full_device(self):
+        self.assertEqual(self.to_full_device([], "stdout"), OUTPUT_FAULT)
+
+    def test_report_to_a_closed_pipe(self):
+        reader, writer = os.pipe()
+        os.close(reader)
+        self.addCleanup(os.close, writer)
+        _, err, status = self.run_on(["first.csv"], stdout=writer)
+        self.assertEqual((b"", err, status), OUTPUT_FAULT)
+
+    def test_help_to_a_full_device(self):
+        self.assertEqual(self.to_full_device(["--help"], "stdout"), (b"", b"", 0))
+
+    def test_fault_of_a_script_to_a_full_device(self):
+        self.assertEqual(self.to_full_device(["--bits", "1"], "stderr"), (b"", b"", 1))
+
+    def test_fault_of_the_words_to_a_full_device(self):
+        self.assertEqual(self.to_full_device(["--lanes"], "stderr"), (b"", b"", 2))
+
+    def test_fault_of_the_input_to_a_full_device(self):
+        self.assertEqual(self.to_full_device(["missing.csv"], "stderr"), (b"", b"", 3))
+
+    def test_fault_of_the_output_to_a_full_device(self):
+        with open("/dev/full", "wb") as full:
+            self.assertEqual(self.run_on([], FIRST, stdout=full, stderr=full)[2], 3)
+
+    def to_full_device(self, words, stream):
+        """Runs the first script with a device that takes no byte as one of the streams."""
+        with open("/dev/full", "wb") as full:
+            out, err, status = self.run_on(words, FIRST, **{stream: full})
+        return out or b"", err or b"", status
+
+    # Want of memory.
+
+    def test_each_request_for_memory_refused(self):
+        wanted = {4: (b"", b"augtrie: memory\n", 4)}
+        self.refuse_each([], FIRST, FIRST_REPORT, wanted)
+
+    def test_each_request_for_memory_refused_with_a_file(self):
+        # room that is asked for ahead can be done without
+        wanted = {4: (b"", b"augtrie: memory\n", 4), 3: INPUT_FAULT, 0: (FIRST_REPORT, b"", 0)}
+        self.refuse_each(["--updates", "9", "first.csv"], b"", FIRST_REPORT, wanted)
+
+    def refuse_each(self, words, script, report, wanted):
+        """Counts the program's requests for memory, and then refuses each in turn: the run ends as is wanted of its status."""
+        library = os.path.join(self.folder, "refuse_memory.so")
+        compile_shared(os.path.join(TOP, "tests", "refuse_memory.c"), library)
+        reader, writer = os.pipe()
+        self.addCleanup(os.close, reader)
+        env = {"LD_PRELOAD": library, "REQUESTS_TO": str(writer)}
+        ended = self.run_on(words, script, env=env, pass_fds=[writer])
+        os.close(writer)
+        self.assertEqual(ended, (report, b"", 0))
+        requests = int(os.read(reader, 20))
+        refused = 0
+        for number in range(1, requests + 1):
+            ended = self.run_on(words, script, env={"LD_PRELOAD": library, "REFUSED_REQUEST": str(number)})
+            status = ended[2]
+            self.assertEqual(ended, wanted.get(status), f"with request {number} of {requests} refused")
+            refused += status != 0
+        self.assertGreater(refused, 10)
+        self.assertGreaterEqual(refused, requests - 1)
+
+
+def compile_shared(source, library):
+    """Compiles a shared library by the toolchain's own compiler, which needs no header and no other linker."""
+    page = subprocess.run(["rt", "doc"], stdout=subprocess.PIPE, check=True).stdout.decode().strip()
+    clang = os.path.join(os.path.dirname(page), "toolchain", "bin", "clang")
+    words = ["-O1", "-fPIC", "-shared", "-nostdlib", "-fno-builtin", "-fuse-ld=lld", "-o", library, source]
+    subprocess.run([clang, *words], check=True)
+
+
+def make_tests():
+    """Gives `Outside` a test for each row of the tables, and one for each script of examples/."""
+    for name, options, script, report in GOOD_SCRIPTS:
+        add(f"good_{name}", options.split(), script, (report, b"", 0))
+    for name, options, script, line in FAULTY_SCRIPTS:
+        add(f"faulty_{name}", options.split(), script, (b"", b"augtrie: " + line + b"\n", 1))
+    for name, words, beginning in BAD_WORDS:
+        test = lambda self, words=words, beginning=beginning: self.assert_is_usage_fault(self.run_on(words, FIRST), beginning)
+        setattr(Outside, f"test_words_{name}", test)
+    for file in sorted(os.listdir(EXAMPLES)):
+        name, kind = os.path.splitext(file)
+        if kind == ".csv":
+            setattr(Outside, f"test_example_{name}", lambda self, name=name: run_example(self, name))
+
+
+def add(name, words, script, wanted):
+    setattr(Outside, f"test_{name}", lambda self: self.assertEqual(self.run_on(words, script), wanted))
+
+
+def run_example(test, name):
+    """Runs a script of examples/ as a file and as standard input, with the words of its file .args where it has one."""
+    path = os.path.join(EXAMPLES, name)
+    words = read(f"{path}.args").decode().split() if os.path.exists(f"{path}.args") else []
+    wanted = (read(f"{path}.out"), b"", 0)
+    test.assertEqual(test.run_on([*words, f"{path}.csv"], FIRST), wanted)
+    test.assertEqual(test.run_on(words, read(f"{path}.csv")), wanted)
+
+
+def read(path):
+    with open(path, "rb") as file:
+        return file.read()
+
+
+def main(programs):
+    make_tests()
+    suite = unittest.TestSuite()
+    missing = [path for path in programs if not os.access(path, os.X_OK)]
+    for path in programs:
+        if path not in missing:
+            name = f"Outside({os.path.basename(path)})"
+            tests = type(name, (Outside, unittest.TestCase), {"program": os.path.abspath(path)})
+            suite.addTests(unittest.defaultTestLoader.loadTestsFromTestCase(tests))
+    result = unittest.TextTestRunner(sys.stdout, verbosity=2).run(suite)
+    for path in missing or ([] if programs else ["PROGRAM"]):
+        print(f"outside.py: {path} is not there to be tested")
+    failing = len({test.id() for test, _ in [*result.failures, *result.errors]})
+    failed = failing + (len(missing) or not programs)
+    print(f"{result.testsRun - failing} passed, {failed} failed")
+    return 1 if failed else 0
+
+
+if __name__ == "__main__":
+    sys.exit(main(sys.argv[1:]))

@@ -1,9 +1,9 @@
 #!/usr/bin/env python3
-"""Runs the built program as its user does, and compares what it writes and its exit status with what the README says.
+"""Runs the built program as its user does, and compares what it writes and its exit status with texts written by hand.
 
 usage: tests/outside.py PROGRAM..
 
-Every test runs once for each PROGRAM. The last line is 'N passed, M failed', and the exit status is 0 where none failed.
+Every test of a program runs once for each PROGRAM. The last line is 'N passed, M failed', and the exit status is 0 where none failed.
 It needs Python 3.8 or later and the toolchain, whose C compiler makes the library that refuses memory.
 """
 
@@ -121,6 +121,12 @@ GOOD_SCRIPTS = [
         b'"0","insert","005"\r\n\r\n0,look',
         b"1 0 insert 5 = new\n1 0 look = ok\n1 end size=1 in=1 out=0\n",
     ),
+    (
+        "carriage_returns_alone",
+        "",
+        b"0,look\r0,size\r",
+        b"1 0 look = ok\n1 0 size = 0\n1 end size=0 in=0 out=0\n",
+    ),
     ("byte_order_mark", "", b"\xef\xbb\xbf0,look\n", b"1 0 look = ok\n1 end size=0 in=0 out=0\n"),
 ]
 
@@ -139,6 +145,12 @@ FAULTY_SCRIPTS = [
     ("no_verb", "", b"0", b"row 1: BadVerb"),
     ("star_with_a_verb_of_a_lane", "", b"*,look", b"row 1: BadVerb"),
     ("end_with_a_lane", "", b"0,end", b"row 1: BadVerb"),
+    ("blank_before_a_lane", "", b" 0,look", b"row 1: BadLane"),
+    ("blank_before_a_verb", "", b"0, look", b"row 1: BadVerb"),
+    ("comma_at_the_end", "", b"0,look,", b"row 1: BadArity"),
+    ("doubled_quote", "", b'0,"lo""ok"', b"row 1: BadVerb"),
+    ("line_end_in_quotes", "", b'0,"look\n"', b"row 1: BadCsv"),
+    ("tab", "", b"0,look\t", b"row 1: BadCsv"),
     ("byte_past_126", "", "0,insert,é".encode(), b"row 1: BadCsv"),
     ("too_many_updates", "--updates 2", b"0,insert,1\n0,remove,1\n0,insert,1\n", b"row 3: TooManyUpdates"),
     ("fault_behind_good_rows", "", FIRST + b"\n0,insert,16\n0,fly\n", b"row 8: OutOfRange"),
@@ -316,6 +328,23 @@ class Outside:
         self.assertGreaterEqual(refused, requests - 1)
 
 
+class Shown(unittest.TestCase):
+    """The README shows what stands in the repository."""
+
+    def setUp(self):
+        self.readme = read(os.path.join(TOP, "README.md"))
+
+    def test_program_in_the_readme(self):
+        crate = os.path.join(TOP, "crates", "timers_example")
+        self.assertIn(b"```rust\n" + read(os.path.join(crate, "src", "main.rt")) + b"```\n", self.readme)
+        self.assertIn(b"```text\n" + read(os.path.join(crate, "stdout")) + b"```\n", self.readme)
+
+    def test_script_in_the_readme(self):
+        script, report = (read(os.path.join(EXAMPLES, f"first.{kind}")).decode().splitlines() for kind in ("csv", "out"))
+        lines = [f"{row:22}{line}" for row, line in zip([*script, ""], report)]
+        self.assertIn("\n".join(["```text", *lines, "```"]).encode(), self.readme)
+
+
 def compile_shared(source, library):
     """Compiles a shared library by the toolchain's own compiler, which needs no header and no other linker."""
     page = subprocess.run(["rt", "doc"], stdout=subprocess.PIPE, check=True).stdout.decode().strip()
@@ -359,7 +388,7 @@ def read(path):
 
 def main(programs):
     make_tests()
-    suite = unittest.TestSuite()
+    suite = unittest.defaultTestLoader.loadTestsFromTestCase(Shown)
     missing = [path for path in programs if not os.access(path, os.X_OK)]
     for path in programs:
         if path not in missing:
@@ -369,7 +398,7 @@ def main(programs):
     result = unittest.TextTestRunner(sys.stdout, verbosity=2).run(suite)
     for path in missing or ([] if programs else ["PROGRAM"]):
         print(f"outside.py: {path} is not there to be tested")
-    failing = len({test.id() for test, _ in [*result.failures, *result.errors]})
+    failing = len({test for test, _ in [*result.failures, *result.errors]})
     failed = failing + (len(missing) or not programs)
     print(f"{result.testsRun - failing} passed, {failed} failed")
     return 1 if failed else 0

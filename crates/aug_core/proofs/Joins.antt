@@ -11,7 +11,14 @@ use Rattle.aug_core.specs.Told.{taking_back, spent}
 use Rattle.aug_core.specs.declared.view.Entry.{Entry}
 use Rattle.aug_core.specs.declared.view.Held.{Held}
 use Rattle.aug_core.specs.declared.view.View.{View}
-use Rattle.aug_core.proofs.Carries.{St}
+use Rattle.aug_core.proofs.Views.{apart_on}
+use Rattle.aug_core.proofs.Moves.{St}
+use Rattle.aug_core.specs.Counts.{StandsAt, Stands, AreCounted, AreTallied}
+use Rattle.aug_core.specs.declared.view.Change.{Change}
+use Rattle.std.proofs.lemmas.Bool.{cases_eq}
+use Rattle.std.proofs.Common.{refl}
+use Rattle.aug_core.proofs.Books.{at_below, fresh_now}
+use Rattle.atomic_table.proofs.Lists.{at_longer, set_here, set_else}
 
 module _ {A : Type 0} where
   -- an element of two lists, one after the other
@@ -20,11 +27,18 @@ module _ {A : Type 0} where
   append_at (x ∷ xs) m a zero e = inl e
   append_at (x ∷ xs) m a (suc j) e = ⊎_elim (λ t. inl t) (λ t. inr (t.0, let is = t.1 in omega arith, t.2)) (append_at xs m a j e)
 
+  at_right : (l m : List A) (a : A) (j : ℕ) → get_elem? m j ≡ some a → get_elem? (l ++ m) (length l + j) ≡ some a
+  at_right [] m a j e = let is : j ≡ 0 + j = omega arith in subst (λ (z : ℕ). get_elem? m z ≡ some a) is e
+  at_right (x ∷ xs) m a j e = let is : suc (length xs + j) ≡ length (x ∷ xs) + j = omega arith in subst (λ (z : ℕ). get_elem? (x ∷ (xs ++ m)) z ≡ some a) is (at_right xs m a j e)
+
 -- the view of a seat that was joined knows nothing
-spent_knows : (s : Shape) (words : List ℕ) (book : List (List Entry)) → Knows s words book spent
-spent_knows s words book = record {
+spent_knows : (o : Opening) (words : List ℕ) (book : List (List Entry)) → Knows o words book spent
+spent_knows o words book = record {
   shaped = λ l. let clash : false ≡ true = l in cc;
+  same_members = λ l. let clash : false ≡ true = l in cc;
   saw = λ q i e p. absurd (some-ne-none e (sym p));
+  also_saw = λ q i e p. absurd (some-ne-none e (sym p));
+  fresh = record { covers = λ q i e inner past p. record { left = omega arith; right = omega arith } };
   holds = λ a h p. absurd (some-ne-none h (sym p));
   spares = λ n lane e le low. let clash : None ≡ Some n = e in cc;
 }
@@ -59,37 +73,94 @@ module _ (face : ℕ → ℕ → List ℕ → List ℕ) (o : Opening) (s : St) (
       (λ t. let clash : None ≡ Some m = ap (λ (z : View). z.spare) t ∙ e in cc)
       (λ t. ⊎_elim (λ t'. (v, subst (λ (z : ℕ). get_elem? s.views z ≡ some v) (sym t'.0) at, ap (λ (z : View). z.spare) t'.1 ∙ e)) (λ t'. (x, t'.1, e)) t) (came i x p)
 
+  -- where a lane may come from: the same place, or the joined view's
+  abbrev From : ℕ → ℕ → ℕ → ℕ → Type 0
+  From i a k c = ((i ≡ k) × (a ≡ c) × (k ≢ other)) ⊎ ((k ≡ other) × (i ≡ id) × (a ≡ length v.held + c))
+
+  -- the joined view's changes stand behind the joining one's
+  abbrev Before : ℕ → ℕ → ℕ → Change → Type 0
+  Before i a k c = ((i ≢ other) × StandsAt s.views i a k c) ⊎ ((b : ℕ) × (i ≡ id) × (a ≡ length v.held + b) × StandsAt s.views other b k c)
+
+  before : (i a k : ℕ) (c : Change) → StandsAt views i a k c → Before i a k c
+  before i a k c t = ⊎_elim
+      (λ old. inl (old.1, record { view = old.0; lane = t.lane; sits = old.2; held = old.3; listed = t.listed }))
+      (λ new. inr (new.0, new.1, new.2, record { view = w; lane = t.lane; sits = at'; held = new.3; listed = t.listed })) (stood i a t.view t.lane t.sits t.held)
+
+  lead_there : get_elem? views id ≡ some lead
+  lead_there = set_else (set s.views id lead) other id spent (λ same. ne (sym same)) ∙ set_here s.views id lead (at_below s.views id v at)
+
+  still : (i a k : ℕ) (c : Change) → StandsAt s.views i a k c → Stands views c
+  still i a k c t = ⊎_elim
+      (λ (is : i ≡ other). let e : some t.view ≡ some w = sym t.sits ∙ subst (λ (z : ℕ). get_elem? s.views z ≡ some w) (sym is) at' in let this : t.view ≡ w = cc e in record {
+        seat = id;
+        index = length v.held + a;
+        place = k;
+        at = record { view = lead; lane = t.lane; sits = lead_there; held = at_right v.held w.held t.lane a (subst (λ (z : View). get_elem? z.held a ≡ some t.lane) this t.held); listed = t.listed };
+      })
+      (λ away. ⊎_elim
+      (λ (is : i ≡ id). let e : some t.view ≡ some v = sym t.sits ∙ subst (λ (z : ℕ). get_elem? s.views z ≡ some v) (sym is) at in let this : t.view ≡ v = cc e in record {
+        seat = id;
+        index = a;
+        place = k;
+        at = record { view = lead; lane = t.lane; sits = lead_there; held = at_longer v.held w.held a t.lane (subst (λ (z : View). get_elem? z.held a ≡ some t.lane) this t.held); listed = t.listed };
+      })
+      (λ out. record {
+        seat = i;
+        index = a;
+        place = k;
+        at = record { view = t.view; lane = t.lane; sits = set_else (set s.views id lead) other i spent away ∙ set_else s.views id i lead out ∙ t.sits; held = t.held; listed = t.listed };
+      }) (cases_eq i id)) (cases_eq i other)
+
   pub takes_back : Kept face o record { words = s.words; homes = s.homes; views = views }
   takes_back = let kn = r.each_view id v at in let kw = r.each_view other w at' in record {
     book = r.book;
-    wide = r.wide;
-    is_book = r.is_book;
-    opened = r.opened;
-    unchanged = r.unchanged;
-    newest = r.newest;
-    written = r.written;
-    lane_states = r.lane_states;
-    blank = r.blank;
-    unused = r.unused;
+    tree = r.tree;
+    lanes = r.lanes;
     each_view = λ j u p. ⊎_elim
-        (λ t. subst (Knows o.shape s.words r.book) t (spent_knows o.shape s.words r.book))
+        (λ t. subst (Knows o s.words r.book) t (spent_knows o s.words r.book))
         (λ t. ⊎_elim
-        (λ t'. subst (Knows o.shape s.words r.book) t'.1 record {
+        (λ t'. subst (Knows o s.words r.book) t'.1 record {
           shaped = kn.shaped;
+          same_members = kn.same_members;
           saw = kn.saw;
+          also_saw = kw.saw;
+          fresh = kn.fresh;
           holds = λ a h q. ⊎_elim (λ old. kn.holds a h old) (λ new. kw.holds new.0 h new.2) (append_at v.held w.held h a q);
           spares = kn.spares;
         }) (λ t'. r.each_view j u t'.1) t) (came j u p);
-    one_holder = λ i j a b x y h g px py ph pg same. ⊎_elim
-        (λ t. ⊎_elim
-        (λ t'. r.one_holder i j a b t.0 t'.0 h g t.2 t'.2 t.3 t'.3 same)
-        (λ t'. absurd (t.1 (r.one_holder i other a t'.0 t.0 w h g t.2 at' t.3 t'.3 same).0)) (stood j b y g py pg))
-        (λ t. ⊎_elim
-        (λ t'. absurd (t'.1 (sym (r.one_holder other j t.0 b w t'.0 h g at' t'.2 t.3 t'.3 same).0)))
-        (λ t'. (t.1 ∙ sym t'.1, let one = (r.one_holder other other t.0 t'.0 w w h g at' at' t.3 t'.3 same).1 in t.2 ∙ ap (λ (z : ℕ). length v.held + z) one ∙ sym t'.2)) (stood j b y g py pg)) (stood i a x h px ph);
-    one_lead = λ i j n m x y px py ex ey. let p = leads i n x px ex in let q = leads j m y py ey in r.one_lead i j n m p.0 q.0 p.1 q.1 p.2 q.2;
-    handed_out = λ i j a n x y h px py ex ph. let p = leads i n x px ex in ⊎_elim
-        (λ t. r.handed_out i j a n p.0 t.0 h p.1 t.2 p.2 t.3) (λ t. r.handed_out i other t.0 n p.0 w h p.1 at' p.2 t.3) (stood j a y h py ph);
+    apart = apart_on s.views views From (λ i a h. ⊥) r.apart record {
+      came = λ i a x h p q. ⊎_elim
+          (λ t. inl record { seat = i; index = a; view = t.0; lane = h; sits = t.2; held = t.3; same = refl; from = inl (refl, refl, t.1) })
+          (λ t. inl record { seat = other; index = t.0; view = w; lane = h; sits = at'; held = t.3; same = refl; from = inr (refl, t.1, t.2) }) (stood i a x h p q);
+      once = λ i a j b k c p q. ⊎_elim
+          (λ x. ⊎_elim (λ y. (x.0 ∙ sym y.0, x.1 ∙ sym y.1)) (λ y. absurd (x.2 y.0)) q)
+          (λ x. ⊎_elim (λ y. absurd (y.2 x.0)) (λ y. (x.1 ∙ sym y.1, x.2 ∙ sym y.2)) q) p;
+      led = λ i m x p e. let t = leads i m x p e in (t.0, m, t.1, t.2, omega arith);
+      new_once = λ i j a b h g none. absurd none;
+      new_apart = λ i j a b y h g none. absurd none;
+      new_below = λ i j a m x h none. absurd none;
+    };
+    changes = record {
+      counted = record {
+        all = λ c m. let t = r.changes.counted.all c m in still t.seat t.index t.place c t.at;
+        once = λ i j a b k l c p q. ⊎_elim
+            (λ x. ⊎_elim
+            (λ y. r.changes.counted.once i j a b k l c x.1 y.1)
+            (λ y. absurd (x.0 (r.changes.counted.once i other a y.0 k l c x.1 y.3).0)) (before j b l c q))
+            (λ x. ⊎_elim
+            (λ y. absurd (y.0 (sym (r.changes.counted.once other j x.0 b k l c x.3 y.1).0)))
+            (λ y. let one = r.changes.counted.once other other x.0 y.0 k l c x.3 y.3 in (x.1 ∙ sym y.1, x.2 ∙ ap (λ (z : ℕ). length v.held + z) one.1 ∙ sym y.2, one.2)) (before j b l c q)) (before i a k c p);
+        none_else = λ i a k c p. ⊎_elim (λ x. r.changes.counted.none_else i a k c x.1) (λ x. r.changes.counted.none_else other x.0 k c x.3) (before i a k c p);
+      };
+      tally = r.changes.tally;
+      tallied = let t = r.changes.tallied in record {
+        long = t.long;
+        each = λ i a x h p ph. ⊎_elim (λ y. t.each i a y.0 h y.2 y.3) (λ y. t.each other y.0 w h at' y.3) (stood i a x h p ph);
+        few = t.few;
+        free = t.free;
+        enough = t.enough;
+      };
+    };
   }
 
 module _ (face : ℕ → ℕ → List ℕ → List ℕ) (o : Opening) where

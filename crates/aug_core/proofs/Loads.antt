@@ -1,31 +1,29 @@
--- A load of a word of a record keeps the rule, and tells what the book or the seat's own lanes say of the word.
-use Rattle.std.proofs.Common.{true, ◌≡◌, ℕ, ◌+◌, ◌-◌, ◌*◌, ◌<◌, List, [], get_or, sym, refl, ap, ◌∙◌, subst}
+-- Loads keep the rule. One of a word of a record tells what the book or the seat's own lanes say of it, and one of a leaf or a node shows the whole book.
+use Rattle.std.proofs.Common.{true, ◌≡◌, ℕ, ◌+◌, ◌-◌, ◌*◌, ◌<◌, List, [], ◌∷◌, ◌++◌, ◌^◌, get_or, arith, sym, refl, ap, ◌∙◌, subst}
 use mathlib.Core.Option.{none, some}
 use lib.ListN.{get_elem?}
 use Rattle.atomic_table.specs.Table.{step, keeps, Allows}
 use Rattle.aug_core.specs.Places.{Shape, record_start}
 use Rattle.aug_core.specs.Tree.{IsInner}
 use Rattle.aug_core.specs.Lanes.{first_record, IsOfLane}
-use Rattle.aug_core.specs.Book.{At}
+use Rattle.aug_core.specs.Book.{At, IsNewest, IsFresh, SerialsFit, IsBook}
 use Rattle.aug_core.specs.Opening.{Opening}
 use Rattle.aug_core.specs.Rule.{Knows, Kept}
-use Rattle.aug_core.specs.Kinds.{load_record_word}
-use Rattle.aug_core.specs.Told.{stepping, held_word, read_record}
+use Rattle.aug_core.specs.Kinds.{load_leaf, load_node, load_record_word}
+use Rattle.aug_core.specs.Told.{stepping, held_word, read_record, seeing, beginning, Sees, loaded_leaf, began_at_leaf, loaded_node}
 use Rattle.aug_core.specs.declared.step.StepTaken.{StepTaken}
 use Rattle.aug_core.specs.declared.view.Entry.{Entry}
 use Rattle.aug_core.specs.declared.view.Held.{Held}
 use Rattle.aug_core.specs.declared.view.View.{View}
 use Rattle.aug_core.proofs.Sizes.{in_block}
-use Rattle.aug_core.proofs.Carries.{Sat, St, stands}
-
--- what a view knows does not depend on its steps
-pub knows_stepped : (s : Shape) (words : List ℕ) (book : List (List Entry)) (v : View) (taken : StepTaken) → Knows s words book v → Knows s words book (stepping v taken)
-knows_stepped s words book v taken k = record { shaped = k.shaped; saw = k.saw; holds = k.holds; spares = k.spares }
+use Rattle.aug_core.proofs.Moves.{Sat, St, knows_keeping, rests, stands, watches}
+use Rattle.aug_core.proofs.Fits.{fits_book, sees_after}
+use Rattle.aug_core.proofs.Sizes.{twice}
 
 module _ (face : ℕ → ℕ → List ℕ → List ℕ) (o : Opening) where
-  module _ (s : St) (r : Kept face o s) (v : View) (kn : Knows o.shape s.words r.book v) (place : ℕ) where
+  module _ (s : St) (r : Kept face o s) (v : View) (kn : Knows o s.words r.book v) (place : ℕ) where
     of_entry : (q i field : ℕ) (e : Entry) → IsInner o.shape q → At v.seen q i e → field < 5 → place ≡ record_start o.shape e.number + field → get_or s.words place 0 ≡ get_or e.words field 0
-    of_entry q i field e inner p small is = ap (λ (z : ℕ). get_or s.words z 0) is ∙ r.written q i field e inner (kn.saw q i e p) small
+    of_entry q i field e inner p small is = ap (λ (z : ℕ). get_or s.words z 0) is ∙ r.tree.written q i field e inner (kn.saw q i e p) small
 
     of_own : (a number field : ℕ) (h : Held) → get_elem? v.held a ≡ some h → IsOfLane o.shape h.lane number → field < 5 → place ≡ record_start o.shape number + field → get_or s.words place 0 ≡ held_word o.shape h number field
     of_own a number field h p of_lane small is = let b = in_block o.shape h.lane number field of_lane small in
@@ -38,13 +36,83 @@ module _ (face : ℕ → ℕ → List ℕ → List ℕ) (o : Opening) where
         w,
         keeps,
         tt,
-        stands face o s r id v at w record { lanes = λ a h p. (h, p, refl); spare = refl } (knows_stepped o.shape s.words r.book v (load_record_word place found) kn) place,
+        stands face o s r id v at w record { back = λ a h p. (h, p, refl, refl); forth = λ a h p. (h, p, refl, refl); spare = refl } (knows_keeping face o s r id v s.words r.book (rests face o s r id v at) at v.held (v.steps ++ load_record_word place found ∷ []) kn.holds) place,
         (
           empty,
           record {
             stepped = refl;
             known = subst (λ (z : Shape). (q i field : ℕ) (e : Entry) → IsInner z q → At v.seen q i e → field < 5 → place ≡ record_start z e.number + field → found ≡ get_or e.words field 0) shaped (of_entry s r v kn place);
             own = subst (λ (z : Shape). (a number field : ℕ) (h : Held) → get_elem? v.held a ≡ some h → IsOfLane z h.lane number → field < 5 → place ≡ record_start z number + field → found ≡ held_word z h number field) shaped (of_own s r v kn place);
+          },
+        ),
+      )
+
+  module _ (s : St) (r : Kept face o s) (id : ℕ) (v : View) (at : get_elem? s.views id ≡ some v) (live : v.live ≡ true) where
+    -- what a view is told that is shown the book as it is
+    pub sees_it : (w : View) → w.seen ≡ r.book → Sees face v w
+    sees_it w is = let kn = r.each_view id v at in sees_after face v w o.shape (kn.shaped live)
+        (subst (λ z. (q i : ℕ) (e : Entry) → At v.seen q i e → At z q i e) (sym is) kn.saw) (subst (λ z. (q i : ℕ) (e : Entry) → At v.also q i e → At z q i e) (sym is) kn.also_saw)
+        (subst (λ z. IsFresh o.shape z v.seen) (sym is) kn.fresh) (subst (λ z. IsBook face o.shape z) (sym is) r.tree.is_book)
+        (subst (λ z. SerialsFit o.shape z) (sym is) (fits_book o s.words r.book s.views r.changes.tally r.changes.tallied))
+
+    -- a leaf's word is the serial of its newest entry
+    finds_leaf : (place : ℕ) → place < 2 ^ v.shape.bits → (e : Entry) × IsNewest r.book place (get_or s.words place 0) e
+    finds_leaf place low = let low' : place < 2 ^ o.shape.bits = subst (λ (z : Shape). place < 2 ^ z.bits) ((r.each_view id v at).shaped live) low in let t2 = twice o.shape.bits in let t = r.tree.newest place (omega arith) in
+        let is : t.index ≡ get_or s.words place 0 = sym (r.tree.is_book.serials place t.index t.entry low' t.newest.at).named ∙ sym t.word in (t.entry, subst (λ (z : ℕ). IsNewest r.book place z t.entry) is t.newest)
+
+  pub loads_leaf : (n id place : ℕ) (me : Sat) → me.0.live ≡ true → me.1 ≡ [] → Allows (Kept face o) n id me place (λ x. x) (loaded_leaf face (step n place 0 0 none) me)
+  loads_leaf n id place me live empty s r _ at _ =
+      let v : View = me.0 in let found : ℕ = get_or s.words place 0 in let w : View = seeing v r.book (load_leaf place found) in (
+        w,
+        keeps,
+        tt,
+        watches face o s r id v at v.began (load_leaf place found) place,
+        (
+          empty,
+          λ low. let t = finds_leaf s r id v at live place low in record {
+            stepped = refl;
+            sees = sees_it s r id v at live w refl;
+            entry = t.0;
+            newest = t.1;
+          },
+        ),
+      )
+
+  -- the same, where an update begins with it
+  pub begins_at_leaf : (n id place : ℕ) (me : Sat) → me.0.live ≡ true → me.1 ≡ [] → Allows (Kept face o) n id me place (λ x. x) (began_at_leaf face (step n place 0 0 none) me)
+  begins_at_leaf n id place me live empty s r _ at _ =
+      let v : View = me.0 in let found : ℕ = get_or s.words place 0 in let w : View = beginning v r.book (load_leaf place found) in (
+        w,
+        keeps,
+        tt,
+        watches face o s r id v at w.began (load_leaf place found) place,
+        (
+          empty,
+          λ low. let t = finds_leaf s r id v at live place low in record {
+            stepped = refl;
+            sees = sees_it s r id v at live w refl;
+            entry = t.0;
+            newest = t.1;
+          },
+        ),
+      )
+
+  pub loads_node : (n id place : ℕ) (me : Sat) → me.0.live ≡ true → me.1 ≡ [] → Allows (Kept face o) n id me place (λ x. x) (loaded_node face (step n place 0 0 none) me)
+  loads_node n id place me live empty s r _ at _ =
+      let v : View = me.0 in let kn = r.each_view id v at in let found : ℕ = get_or s.words place 0 in let w : View = seeing v r.book (load_node place found) in (
+        w,
+        keeps,
+        tt,
+        watches face o s r id v at v.began (load_node place found) place,
+        (
+          empty,
+          λ inner. let inner' = subst (λ (z : Shape). IsInner z place) (kn.shaped live) inner in let t = r.tree.newest place inner'.inside in record {
+            stepped = refl;
+            sees = sees_it s r id v at live w refl;
+            index = t.index;
+            entry = t.entry;
+            newest = t.newest;
+            found = t.word ∙ r.tree.is_book.named place t.index t.entry inner' t.newest.at;
           },
         ),
       )

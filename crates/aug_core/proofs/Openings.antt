@@ -5,55 +5,32 @@ use Rattle.std.proofs.lemmas.List.FromFn.{length-map-range_with_len, get_or-map-
 use mathlib.Core.Option.{some, some-injective, some-ne-none}
 use lib.ListN.{get_elem?}
 use Rattle.atomic_table.specs.Table.{opening}
-use Rattle.aug_core.specs.Places.{Shape, lane_place, record_start, word_count}
+use Rattle.aug_core.specs.Places.{Shape, opening_count, lane_place, record_start, word_count}
 use Rattle.aug_core.specs.Tree.{place_count, IsInner, left_of, right_of}
 use Rattle.aug_core.specs.Lanes.{block_size}
-use Rattle.aug_core.specs.Members.{among, opening_serial}
-use Rattle.aug_core.specs.Book.{Book, history_of, At, IsNewest, StandsOver, IsSerial, IsBook}
-use Rattle.aug_core.specs.Opening.{Opening, keys_at_leaf, members_below, opening_keys, opening_number, opening_index, serial_entry, opening_words, opening_entry, opening_history, opening_book}
+use Rattle.aug_core.specs.Book.{Book, history_of, At, IsNewest, StandsOver, IsSerial, SerialsFit, IsBook}
+use Rattle.aug_model.specs.Keys.{is_member, IsKeySet}
+use Rattle.aug_core.specs.Opening.{opening_serial, Opening, IsIdle, opening_keys, opening_number, opening_index, serial_entry, opening_words, opening_entry, opening_history, opening_book}
+use Rattle.aug_core.specs.Layout.{IsLayout}
+use Rattle.aug_core.specs.Told.{KnowsTable}
 use Rattle.aug_core.specs.Rule.{BlockIs, Knows, Kept, newcomer}
 use Rattle.aug_core.specs.declared.view.Entry.{Entry}
 use Rattle.aug_core.specs.declared.view.View.{View}
+use Rattle.aug_model.proofs.Ranges.{Rises, rises_from}
 use Rattle.aug_core.proofs.Sizes.{twice}
+use Rattle.aug_core.proofs.Below.{keys_over, keys_of_leaf, number_of_leaf, number_below}
 use Rattle.aug_core.proofs.Stores.{alone}
-
--- as many steps as there are places suffice to collect the members below one
-pub same_below : (s : Shape) (members : List ℕ) (f g q : ℕ) → q < place_count s → q < f → q < g → members_below s members f q ≡ members_below s members g q
-same_below s members zero g q inside h k = absurd (omega arith)
-same_below s members (suc f) zero q inside h k = absurd (omega arith)
-same_below s members (suc f) (suc g) q inside h k = ⊎_elim
-    (λ (leaf : q < 2 ^ s.bits). let is : ltb q (2 ^ s.bits) ≡ true = lt-ltb q (2 ^ s.bits) leaf in
-    ap (λ (z : Bool). if z then keys_at_leaf members q else members_below s members f (left_of s q) ++ members_below s members f (right_of s q)) is
-    ∙ sym (ap (λ (z : Bool). if z then keys_at_leaf members q else members_below s members g (left_of s q) ++ members_below s members g (right_of s q)) is))
-    (λ (inner : 2 ^ s.bits ≤ q). let t = twice s.bits in let l = same_below s members f g (left_of s q) (omega arith) (omega arith) (omega arith) in let r = same_below s members f g (right_of s q) (omega arith) (omega arith) (omega arith) in
-    let is : ltb q (2 ^ s.bits) ≡ false = le-ltb q (2 ^ s.bits) inner in
-    ap (λ (z : Bool). if z then keys_at_leaf members q else members_below s members f (left_of s q) ++ members_below s members f (right_of s q)) is
-    ∙ (λ i. l i ++ r i)
-    ∙ sym (ap (λ (z : Bool). if z then keys_at_leaf members q else members_below s members g (left_of s q) ++ members_below s members g (right_of s q)) is))
-    (cases_lt q (2 ^ s.bits))
+use Rattle.aug_core.proofs.Books.{fresh_now}
+use Rattle.aug_core.proofs.Fits.{at_most_one}
+use Rattle.aug_core.specs.Counts.{StandsAt}
+use Rattle.aug_core.specs.declared.view.Change.{Change}
+use Rattle.std.proofs.lemmas.List.{length-replicate, get_or-replicate}
 
 module _ (o : Opening) where
   abbrev leaves : ℕ
   leaves = 2 ^ o.shape.bits
 
-  -- the members below an inner node are those below its children
-  pub keys_over : (q : ℕ) → IsInner o.shape q → opening_keys o q ≡ opening_keys o (left_of o.shape q) ++ opening_keys o (right_of o.shape q)
-  keys_over q inner = let past = inner.past_leaves in let inside = inner.inside in let t = twice o.shape.bits in let n : ℕ = place_count o.shape in
-      same_below o.shape o.members n (suc n) q inside inside (omega arith)
-      ∙ ap (λ (z : Bool). if z then keys_at_leaf o.members q else members_below o.shape o.members n (left_of o.shape q) ++ members_below o.shape o.members n (right_of o.shape q)) (le-ltb q leaves past)
-
-  pub keys_of_leaf : (q : ℕ) → q < leaves → opening_keys o q ≡ keys_at_leaf o.members q
-  keys_of_leaf q low = let t = twice o.shape.bits in let n : ℕ = place_count o.shape in
-      same_below o.shape o.members n (suc n) q (omega arith) (omega arith) (omega arith)
-      ∙ ap (λ (z : Bool). if z then keys_at_leaf o.members q else members_below o.shape o.members n (left_of o.shape q) ++ members_below o.shape o.members n (right_of o.shape q)) (lt-ltb q leaves low)
-
-  pub number_of_leaf : (q : ℕ) → q < leaves → opening_number o q ≡ opening_serial o.members q
-  number_of_leaf q low = ap (λ (z : Bool). if z then opening_serial o.members q else q - leaves) (lt-ltb q leaves low)
-
-  pub number_of_inner : (q : ℕ) → leaves ≤ q → opening_number o q ≡ q - leaves
-  number_of_inner q past = ap (λ (z : Bool). if z then opening_serial o.members q else q - leaves) (le-ltb q leaves past)
-
-  index_of_leaf : (q : ℕ) → q < leaves → opening_index o q ≡ opening_serial o.members q
+  pub index_of_leaf : (q : ℕ) → q < leaves → opening_index o q ≡ opening_serial o.members q
   index_of_leaf q low = ap (λ (z : Bool). if z then opening_serial o.members q else 0) (lt-ltb q leaves low)
 
   index_of_inner : (q : ℕ) → leaves ≤ q → opening_index o q ≡ 0
@@ -73,21 +50,21 @@ module _ (face : ℕ → ℕ → List ℕ → List ℕ) (o : Opening) where
   long = length-map-range_with_len (opening_history face o) 0 (place_count o.shape)
 
   pub inner_history : (q : ℕ) → IsInner o.shape q → history_of book q ≡ opening_entry face o q ∷ []
-  inner_history q inner = history_is q inner.inside ∙ ap (λ (z : Bool). if z then leaf_history (among q o.members) q else opening_entry face o q ∷ []) (le-ltb q (leaves o) inner.past_leaves)
+  inner_history q inner = history_is q inner.inside ∙ ap (λ (z : Bool). if z then leaf_history (is_member o.members q) q else opening_entry face o q ∷ []) (le-ltb q (leaves o) inner.past_leaves)
 
-  leaf_history_is : (q : ℕ) → q < leaves o → history_of book q ≡ leaf_history (among q o.members) q
+  leaf_history_is : (q : ℕ) → q < leaves o → history_of book q ≡ leaf_history (is_member o.members q) q
   leaf_history_is q low = let t = twice o.shape.bits in
-      history_is q (omega arith) ∙ ap (λ (z : Bool). if z then leaf_history (among q o.members) q else opening_entry face o q ∷ []) (lt-ltb q (leaves o) low)
+      history_is q (omega arith) ∙ ap (λ (z : Bool). if z then leaf_history (is_member o.members q) q else opening_entry face o q ∷ []) (lt-ltb q (leaves o) low)
 
   -- an inner node has one entry
   pub inner_at : (q i : ℕ) (e : Entry) → IsInner o.shape q → At book q i e → (i ≡ 0) × (opening_entry face o q ≡ e)
   inner_at q i e inner p = alone (opening_entry face o q) e i (subst (λ (z : List Entry). get_elem? z i ≡ some e) (inner_history q inner) p)
 
   serial_at : (b : Bool) (q i : ℕ) (e : Entry) → get_elem? (leaf_history b q) i ≡ some e → IsSerial q i e
-  serial_at true q zero e p = subst (IsSerial q 0) (some-injective (serial_entry q 0) e p) record { counted = refl; there_if_odd = refl }
-  serial_at true q (suc zero) e p = subst (IsSerial q 1) (some-injective (serial_entry q 1) e p) record { counted = refl; there_if_odd = refl }
+  serial_at true q zero e p = subst (IsSerial q 0) (some-injective (serial_entry q 0) e p) record { counted = refl; named = refl; there_if_odd = refl }
+  serial_at true q (suc zero) e p = subst (IsSerial q 1) (some-injective (serial_entry q 1) e p) record { counted = refl; named = refl; there_if_odd = refl }
   serial_at true q (suc (suc i)) e p = absurd (some-ne-none e (sym p))
-  serial_at false q zero e p = subst (IsSerial q 0) (some-injective (serial_entry q 0) e p) record { counted = refl; there_if_odd = refl }
+  serial_at false q zero e p = subst (IsSerial q 0) (some-injective (serial_entry q 0) e p) record { counted = refl; named = refl; there_if_odd = refl }
   serial_at false q (suc i) e p = absurd (some-ne-none e (sym p))
 
   -- the newest entry of a leaf has its serial, and that serial's keys
@@ -103,19 +80,19 @@ module _ (face : ℕ → ℕ → List ℕ → List ℕ) (o : Opening) where
   pub record Newly (q : ℕ) : Type 0 where
     pub entry : Entry
     pub newest : IsNewest book q (opening_index o q) entry
-    pub numbered : entry.number ≡ opening_number o q
-    pub keys : entry.keys ≡ opening_keys o q
+    pub named : entry.word ≡ opening_number o q
+    pub keys : Rises o.members → entry.keys ≡ opening_keys o q
 
   pub newly : (q : ℕ) → q < place_count o.shape → Newly q
   newly q inside = ⊎_elim
-      (λ (low : q < leaves o). let serial : ℕ = opening_serial o.members q in let b : Bool = among q o.members in let t = newest_leaf b q in record {
+      (λ (low : q < leaves o). let serial : ℕ = opening_serial o.members q in let b : Bool = is_member o.members q in let t = newest_leaf b q in record {
         entry = serial_entry q serial;
         newest = record {
           at = subst (λ (z : ℕ). At book q z (serial_entry q serial)) (sym (index_of_leaf o q low)) (subst (λ (z : List Entry). get_elem? z serial ≡ some (serial_entry q serial)) (sym (leaf_history_is q low)) t.0);
           last = ap length (leaf_history_is q low) ∙ t.1 ∙ ap (λ (z : ℕ). z + 1) (sym (index_of_leaf o q low));
         };
-        numbered = sym (number_of_leaf o q low);
-        keys = keys_of_serial b q ∙ sym (keys_of_leaf o q low);
+        named = sym (number_of_leaf o q low);
+        keys = λ rises. keys_of_serial b q ∙ sym (keys_of_leaf o rises q low);
       })
       (λ (past : leaves o ≤ q). let inner : IsInner o.shape q = record { past_leaves = past; inside = inside } in record {
         entry = opening_entry face o q;
@@ -123,63 +100,107 @@ module _ (face : ℕ → ℕ → List ℕ → List ℕ) (o : Opening) where
           at = subst (λ (z : ℕ). At book q z (opening_entry face o q)) (sym (index_of_inner o q past)) (subst (λ (z : List Entry). get_elem? z 0 ≡ some (opening_entry face o q)) (sym (inner_history q inner)) refl);
           last = ap length (inner_history q inner) ∙ ap (λ (z : ℕ). z + 1) (sym (index_of_inner o q past));
         };
-        numbered = sym (number_of_inner o q past);
-        keys = refl;
+        named = refl;
+        keys = λ _. refl;
       }) (cases_lt q (leaves o))
 
-  over : (q : ℕ) → IsInner o.shape q → StandsOver face o.shape book q (opening_entry face o q)
-  over q inner = let past = inner.past_leaves in let inside = inner.inside in let t = twice o.shape.bits in
+  over : Rises o.members → (q : ℕ) → IsInner o.shape q → StandsOver face o.shape book q (opening_entry face o q)
+  over rises q inner = let past = inner.past_leaves in let inside = inner.inside in let t = twice o.shape.bits in
       let l = newly (left_of o.shape q) (omega arith) in let r = newly (right_of o.shape q) (omega arith) in record {
         left_child = l.entry;
         right_child = r.entry;
         left_at = l.newest.at;
         right_at = r.newest.at;
-        keys_of_both = ◌∙◌ {c = l.entry.keys ++ r.entry.keys} (keys_over o q inner) (λ i. sym l.keys i ++ sym r.keys i);
-        words_say = λ i. face (sym l.numbered i) (sym r.numbered i) (opening_keys o q);
+        keys_of_both = ◌∙◌ {c = l.entry.keys ++ r.entry.keys} (keys_over o rises q inner) (λ i. sym (l.keys rises) i ++ sym (r.keys rises) i);
+        words_say = λ i. face (sym l.named i) (sym r.named i) (opening_keys o q);
       }
 
-  pub is_book : IsBook face o.shape book
-  is_book = record {
+  -- its nodes name opening records alone
+  low : Rises o.members → length o.members ≤ o.shape.members → (q i : ℕ) (e : Entry) → IsInner o.shape q → At book q i e → e.number < opening_count o.shape
+  low rises few q i e inner p = subst (λ (z : Entry). z.number < opening_count o.shape) (inner_at q i e inner p).1 (number_below o rises few q inner)
+
+  pub is_book : Rises o.members → length o.members ≤ o.shape.members → IsBook face o.shape book
+  is_book rises fit = record {
     long = long;
-    below = λ q i e inner p. let is = ap (λ (z : Entry). z.number) (inner_at q i e inner p).1 in let past = inner.past_leaves in let inside = inner.inside in let t = twice o.shape.bits in
-        let few : e.number < 2 ^ o.shape.bits - 1 = omega arith in omega arith;
-    distinct = λ q p i j e f inner inner' at at' same. let a = inner_at q i e inner at in let b = inner_at p j f inner' at' in
-        let x = ap (λ (z : Entry). z.number) a.1 in let y = ap (λ (z : Entry). z.number) b.1 in let past = inner.past_leaves in let past' = inner'.past_leaves in (omega arith, a.0 ∙ sym b.0);
-    over = λ q i e inner p. subst (StandsOver face o.shape book q) (inner_at q i e inner p).1 (over q inner);
+    named = λ q i e inner p. subst (λ (z : Entry). z.word ≡ z.number) (inner_at q i e inner p).1 refl;
+    below = λ q i e inner p. let few = low rises fit q i e inner p in omega arith;
+    opens = λ q i e inner p _. (inner_at q i e inner p).0;
+    distinct = λ q p i j e f inner inner' at at' own same. let few = low rises fit q i e inner at in absurd (omega arith);
+    over = λ q i e inner p. subst (StandsOver face o.shape book q) (inner_at q i e inner p).1 (over rises q inner);
     rises = λ q i j e f inner at at' le. let same : e ≡ f = sym (inner_at q i e inner at).1 ∙ (inner_at q j f inner at').1 in
         let l = ap (λ (z : Entry). z.left) same in let r = ap (λ (z : Entry). z.right) same in (omega arith, omega arith);
     floors = λ q i e inner p. subst (λ (z : Entry). ((f : Entry) × At book (left_of o.shape q) z.left_floor f) × ((g : Entry) × At book (right_of o.shape q) z.right_floor g)) (inner_at q i e inner p).1
-        (let stands = over q inner in ((stands.left_child, stands.left_at), (stands.right_child, stands.right_at)));
+        (let stands = over rises q inner in ((stands.left_child, stands.left_at), (stands.right_child, stands.right_at)));
     floored = λ q i e f inner at at'. let a = (inner_at q i e inner at).0 in let b = (inner_at q (i + 1) f inner at').0 in absurd (omega arith);
-    serials = λ key i e low p. serial_at (among key o.members) key i e (subst (λ (z : List Entry). get_elem? z i ≡ some e) (leaf_history_is key low) p);
+    serials = λ key i e low p. serial_at (is_member o.members key) key i e (subst (λ (z : List Entry). get_elem? z i ≡ some e) (leaf_history_is key low) p);
   }
 
+  -- a leaf's history at the opening
+  pub leaf_long : (key : ℕ) → key < 2 ^ o.shape.bits → length (history_of book key) ≡ opening_serial o.members key + 1
+  leaf_long key low = let t = twice o.shape.bits in let n = newly key (omega arith) in n.newest.last ∙ ap (λ (z : ℕ). z + 1) (index_of_leaf o key low)
+
+  -- and no serial is great
+  pub opening_fits : SerialsFit o.shape book
+  opening_fits = record { few = λ key low. let long = leaf_long key low in let one = at_most_one (is_member o.members key) in omega arith }
+
+  -- no change was made
+  stands_nowhere : (i a k : ℕ) (c : Change) → StandsAt (newcomer face o ∷ []) i a k c → ⊥
+  stands_nowhere i a k c t = let out : get_elem? ((newcomer face o).held) a ≡ some t.lane = subst (λ (z : View). get_elem? z.held a ≡ some t.lane) (sym (alone (newcomer face o) t.view i t.sits).1) t.held in some-ne-none t.lane (sym out)
+
   -- the rule holds of these words
-  pub opens : (words : List ℕ) → length words ≡ word_count o.shape
+  pub opens : (words : List ℕ) → Rises o.members → length o.members ≤ o.shape.members → length words ≡ word_count o.shape
       → ((q : ℕ) → q < place_count o.shape → get_or words q 0 ≡ opening_number o q)
-      → ((q k : ℕ) → IsInner o.shape q → k < 5 → get_or words (record_start o.shape (q - 2 ^ o.shape.bits) + k) 0 ≡ get_or (opening_words face o q) k 0)
+      → ((q k : ℕ) → IsInner o.shape q → k < 5 → get_or words (record_start o.shape (opening_number o q) + k) 0 ≡ get_or (opening_words face o q) k 0)
+      → ((number k : ℕ) → IsIdle o number → k < 5 → get_or words (record_start o.shape number + k) 0 ≡ 0)
       → ((lane : ℕ) → lane < o.shape.workers → get_or words (lane_place o.shape lane) 0 ≡ 0)
       → ((lane : ℕ) → lane < o.shape.workers → BlockIs o.shape words lane (replicate (block_size o.shape) 0))
       → Kept face o (opening words [] (newcomer face o))
-  opens words wide nodes records lanes blocks = record {
+  opens words rises fit wide nodes records idle lanes blocks = record {
     book = book;
-    wide = wide;
-    is_book = is_book;
-    opened = λ q i e p. p;
-    unchanged = refl;
-    newest = λ q low. let t = newly q low in (opening_index o q, t.entry, t.newest, nodes q low ∙ sym t.numbered);
-    written = λ q i k e inner p small. subst (λ (z : Entry). get_or words (record_start o.shape z.number + k) 0 ≡ get_or z.words k 0) (inner_at q i e inner p).1 (records q k inner small);
-    lane_states = λ lane low. let z = lanes lane low in omega arith;
-    blank = λ lane low free. blocks lane low;
-    unused = λ lane q i e low free inner p of_lane. let is = ap (λ (z : Entry). z.number) (inner_at q i e inner p).1 in let past = inner.past_leaves in let inside = inner.inside in let t = twice o.shape.bits in
-        let from = of_lane.from_first in let few : e.number < 2 ^ o.shape.bits - 1 = omega arith in omega arith;
-    each_view = λ j v p. subst (Knows o.shape words book) (alone (newcomer face o) v j p).1 record {
+    tree = record {
+      wide = wide;
+      is_book = is_book rises fit;
+      opened = λ q i e p. p;
+      newest = λ q low. let t = newly q low in record { index = opening_index o q; entry = t.entry; newest = t.newest; word = nodes q low ∙ sym t.named };
+      written = λ q i k e inner p small. subst (λ (z : Entry). get_or words (record_start o.shape z.number + k) 0 ≡ get_or z.words k 0) (inner_at q i e inner p).1 (records q k inner small);
+      idle = idle;
+    };
+    lanes = record {
+      states = λ lane low. let z = lanes lane low in omega arith;
+      blank = λ lane low free. blocks lane low;
+      unused = λ lane q i e _ free inner p of_lane. let from = of_lane.from_first in let few = low rises fit q i e inner p in omega arith;
+    };
+    each_view = λ j v p. subst (Knows o words book) (alone (newcomer face o) v j p).1 record {
       shaped = λ _. refl;
+      same_members = λ _. refl;
       saw = λ q i e at. at;
+      also_saw = λ q i e at. absurd (some-ne-none e (sym at));
+      fresh = fresh_now o.shape book;
       holds = λ a h at. absurd (some-ne-none h (sym at));
       spares = λ n lane e le low. lanes lane low;
     };
-    one_holder = λ i j a b x y h g px py ph pg same. let out : get_elem? ((newcomer face o).held) a ≡ some h = subst (λ (z : View). get_elem? z.held a ≡ some h) (sym (alone (newcomer face o) x i px).1) ph in absurd (some-ne-none h (sym out));
-    one_lead = λ i j n m x y px py ex ey. (alone (newcomer face o) x i px).0 ∙ sym (alone (newcomer face o) y j py).0;
-    handed_out = λ i j a n x y h px py ex ph. let out : get_elem? ((newcomer face o).held) a ≡ some h = subst (λ (z : View). get_elem? z.held a ≡ some h) (sym (alone (newcomer face o) y j py).1) ph in absurd (some-ne-none h (sym out));
+    apart = record {
+      one_holder = λ i j a b x y h g px py ph pg same. let out : get_elem? ((newcomer face o).held) a ≡ some h = subst (λ (z : View). get_elem? z.held a ≡ some h) (sym (alone (newcomer face o) x i px).1) ph in absurd (some-ne-none h (sym out));
+      one_lead = λ i j n m x y px py ex ey. (alone (newcomer face o) x i px).0 ∙ sym (alone (newcomer face o) y j py).0;
+      handed_out = λ i j a n x y h px py ex ph. let out : get_elem? ((newcomer face o).held) a ≡ some h = subst (λ (z : View). get_elem? z.held a ≡ some h) (sym (alone (newcomer face o) y j py).1) ph in absurd (some-ne-none h (sym out));
+    };
+    changes = record {
+      counted = record {
+        all = λ c m. let long = leaf_long c.key m.exists in let past = m.past_opening in let reached = m.reached in absurd (omega arith);
+        once = λ i j a b k l c p q. absurd (stands_nowhere i a k c p);
+        none_else = λ i a k c p. absurd (stands_nowhere i a k c p);
+      };
+      tally = replicate o.shape.workers 0;
+      tallied = record {
+        long = length-replicate o.shape.workers 0;
+        each = λ i a v h p held. let out : get_elem? ((newcomer face o).held) a ≡ some h = subst (λ (z : View). get_elem? z.held a ≡ some h) (sym (alone (newcomer face o) v i p).1) held in absurd (some-ne-none h (sym out));
+        few = λ lane low. subst (λ (z : ℕ). z ≤ o.shape.updates) (sym (get_or-replicate o.shape.workers lane 0 0 low)) (omega arith);
+        free = λ lane low free. get_or-replicate o.shape.workers lane 0 0 low;
+        enough = λ key low. let long = leaf_long key low in omega arith;
+      };
+    };
   }
+
+  -- the first seat knows its table
+  pub newcomer_knows : IsLayout o.shape → IsKeySet o.shape.bits o.members → length o.members ≤ o.shape.members → KnowsTable face (newcomer face o)
+  newcomer_knows laid_out key_set few = record { laid_out = laid_out; key_set = key_set; few_members = few; book = is_book (rises_from o.members key_set.rising) few; opened = λ q i e p. p; fits = opening_fits }

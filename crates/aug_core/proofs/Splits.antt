@@ -9,27 +9,25 @@ use Rattle.atomic_table.proofs.Lists.{at_set}
 use Rattle.aug_core.specs.Places.{Shape, lane_place}
 use Rattle.aug_core.specs.Lanes.{block_size}
 use Rattle.aug_core.specs.Opening.{Opening}
-use Rattle.aug_core.specs.Rule.{HoldsLane, Knows, Kept}
+use Rattle.aug_core.specs.Rule.{HoldsLane, Knows, Kept, no_beginning}
 use Rattle.aug_core.specs.Told.{new_lane, handing_out, handed_out}
 use Rattle.aug_core.specs.declared.view.Held.{Held}
 use Rattle.aug_core.specs.declared.view.View.{View}
-use Rattle.aug_core.proofs.Carries.{St}
+use Rattle.aug_core.proofs.Moves.{St}
+use Rattle.aug_core.proofs.Books.{snoc_at}
+use Rattle.aug_core.proofs.Views.{now_there, stays_there, apart_on}
+use Rattle.aug_core.specs.Counts.{StandsAt, Stands, AreCounted, AreTallied}
+use Rattle.aug_core.specs.declared.view.Change.{Change}
+use Rattle.std.proofs.lemmas.Bool.{cases_eq}
+use Rattle.atomic_table.proofs.Lists.{at_longer}
 use Rattle.aug_core.proofs.Stores.{alone}
-
-module _ {A : Type 0} where
-  -- an element of a list with one more at its end
-  pub snoc_at : (l : List A) (a b : A) (j : ℕ) → get_elem? (l ++ a ∷ []) j ≡ some b → (get_elem? l j ≡ some b) ⊎ ((j ≡ length l) × (a ≡ b))
-  snoc_at [] a b zero e = inr (refl, some-injective a b e)
-  snoc_at [] a b (suc j) e = absurd (some-ne-none b (sym e))
-  snoc_at (x ∷ xs) a b zero e = inl e
-  snoc_at (x ∷ xs) a b (suc j) e = ⊎_elim (λ t. inl t) (λ t. inr (ap suc t.0, t.1)) (snoc_at xs a b j e)
 
 module _ (face : ℕ → ℕ → List ℕ → List ℕ) (o : Opening) (s : St) (r : Kept face o s) (id : ℕ) (v : View) (at : get_elem? s.views id ≡ some v) (live : v.live ≡ true) (n : ℕ) (spare : v.spare ≡ Some n) (room : n < o.shape.workers) where
   abbrev fresh : Held
   fresh = new_lane o.shape n
 
   abbrev newer : View
-  newer = record { live = v.live; shape = v.shape; seen = v.seen; held = fresh ∷ []; spare = None; steps = [] }
+  newer = record { live = v.live; shape = v.shape; members = v.members; seen = v.seen; also = []; held = fresh ∷ []; spare = None; began = no_beginning; steps = [] }
 
   abbrev views : List View
   views = set s.views id (handing_out v) ++ newer ∷ []
@@ -50,14 +48,14 @@ module _ (face : ℕ → ℕ → List ℕ → List ℕ) (o : Opening) (s : St) (
   leads i m x p e = ⊎_elim
       (λ q. ⊎_elim
       (λ t. (t.0, let same : Some (n + 1) ≡ Some m = ap (option_map (λ k. k + 1)) (sym spare) ∙ ap (λ (z : View). z.spare) t.1 ∙ e in let is : n + 1 ≡ m = cc same in sym is))
-      (λ t. absurd (t.0 (r.one_lead i id m n x v t.1 at e spare))) (at_set s.views id i (handing_out v) x q))
+      (λ t. absurd (t.0 (r.apart.one_lead i id m n x v t.1 at e spare))) (at_set s.views id i (handing_out v) x q))
       (λ t. let clash : None ≡ Some m = ap (λ (z : View). z.spare) t.1 ∙ e in cc) (snoc_at (set s.views id (handing_out v)) newer x i p)
 
   free : get_or s.words (lane_place o.shape n) 0 ≡ 0
   free = (r.each_view id v at).spares n n spare (omega arith) room
 
   old_below : (i a : ℕ) (x : View) (h : Held) → get_elem? s.views i ≡ some x → get_elem? x.held a ≡ some h → h.lane < n
-  old_below i a x h p q = r.handed_out id i a n v x h at p spare q
+  old_below i a x h p q = r.apart.handed_out id i a n v x h at p spare q
 
   in_held : (x y : View) (a : ℕ) (h : Held) → x.held ≡ y.held → get_elem? x.held a ≡ some h → get_elem? y.held a ≡ some h
   in_held x y a h same p = subst (λ (z : List Held). get_elem? z a ≡ some h) same p
@@ -70,54 +68,85 @@ module _ (face : ℕ → ℕ → List ℕ → List ℕ) (o : Opening) (s : St) (
     exists = room;
     state = free;
     long = length-replicate (block_size o.shape) 0;
-    exact = r.blank n room free;
-    published = λ q i e inner p of_lane. absurd (r.unused n q i e room free inner p of_lane);
+    exact = r.lanes.blank n room free;
+    published = λ q i e inner p of_lane. absurd (r.lanes.unused n q i e room free inner p of_lane);
   }
+
+  -- the changes stand where they stood
+  stood : (i a k : ℕ) (c : Change) → StandsAt views i a k c → StandsAt s.views i a k c
+  stood i a k c t = ⊎_elim
+      (λ old. record { view = old.0; lane = t.lane; sits = old.1; held = in_held t.view old.0 a t.lane old.2 t.held; listed = t.listed })
+      (λ new. let none : get_elem? fresh.changes k ≡ some c = subst (λ (z : Held). get_elem? z.changes k ≡ some c) (sym (in_new t.view a t.lane new.1 t.held).1) t.listed in absurd (some-ne-none c (sym none))) (came i t.view t.sits)
+
+  stands_on : (i a k : ℕ) (c : Change) → StandsAt s.views i a k c → StandsAt views i a k c
+  stands_on i a k c t = ⊎_elim
+      (λ (is : i ≡ id). let e : some t.view ≡ some v = sym t.sits ∙ subst (λ (z : ℕ). get_elem? s.views z ≡ some v) (sym is) at in let this : t.view ≡ v = cc e in record {
+        view = handing_out v;
+        lane = t.lane;
+        sits = subst (λ (z : ℕ). get_elem? views z ≡ some (handing_out v)) (sym is) (at_longer (set s.views id (handing_out v)) (newer ∷ []) id (handing_out v) (now_there s.views id v (handing_out v) at));
+        held = subst (λ (z : View). get_elem? z.held a ≡ some t.lane) this t.held;
+        listed = t.listed;
+      })
+      (λ other. record { view = t.view; lane = t.lane; sits = at_longer (set s.views id (handing_out v)) (newer ∷ []) i t.view (stays_there s.views id v (handing_out v) at i t.view other t.sits); held = t.held; listed = t.listed }) (cases_eq i id)
 
   pub hands_out : Kept face o record { words = s.words; homes = s.homes; views = views }
   hands_out = let kn = r.each_view id v at in record {
     book = r.book;
-    wide = r.wide;
-    is_book = r.is_book;
-    opened = r.opened;
-    unchanged = r.unchanged;
-    newest = r.newest;
-    written = r.written;
-    lane_states = r.lane_states;
-    blank = r.blank;
-    unused = r.unused;
+    tree = r.tree;
+    lanes = r.lanes;
     each_view = λ j u p. ⊎_elim
         (λ q. ⊎_elim
-        (λ t. subst (Knows o.shape s.words r.book) t.1 record {
+        (λ t. subst (Knows o s.words r.book) t.1 record {
           shaped = kn.shaped;
+          same_members = kn.same_members;
           saw = kn.saw;
+          also_saw = kn.also_saw;
+          fresh = kn.fresh;
           holds = kn.holds;
           spares = λ m lane e le low. let same : Some (n + 1) ≡ Some m = ap (option_map (λ k. k + 1)) (sym spare) ∙ e in let is : n + 1 ≡ m = cc same in kn.spares n lane spare (omega arith) low;
         })
         (λ t. r.each_view j u t.1) (at_set s.views id j (handing_out v) u q))
-        (λ t. subst (Knows o.shape s.words r.book) t.1 record {
+        (λ t. subst (Knows o s.words r.book) t.1 record {
           shaped = kn.shaped;
+          same_members = kn.same_members;
           saw = kn.saw;
+          also_saw = λ q i e p. absurd (some-ne-none e (sym p));
+          fresh = kn.fresh;
           holds = λ a h q. subst (HoldsLane o.shape s.words r.book) (alone fresh h a q).1 holds_new;
           spares = λ m lane e le low. let clash : None ≡ Some m = e in cc;
         }) (snoc_at (set s.views id (handing_out v)) newer u j p);
-    one_holder = λ i j a b x y h g px py ph pg same. ⊎_elim
-        (λ t. ⊎_elim
-        (λ t'. r.one_holder i j a b t.0 t'.0 h g t.1 t'.1 (in_held x t.0 a h t.2 ph) (in_held y t'.0 b g t'.2 pg) same)
-        (λ t'. let below = old_below i a t.0 h t.1 (in_held x t.0 a h t.2 ph) in let is : n ≡ g.lane = ap (λ (z : Held). z.lane) (in_new y b g t'.1 pg).1 in absurd (omega arith)) (came j y py))
-        (λ t. ⊎_elim
-        (λ t'. let below = old_below j b t'.0 g t'.1 (in_held y t'.0 b g t'.2 pg) in let is : n ≡ h.lane = ap (λ (z : Held). z.lane) (in_new x a h t.1 ph).1 in absurd (omega arith))
-        (λ t'. (t.0 ∙ sym t'.0, (in_new x a h t.1 ph).0 ∙ sym (in_new y b g t'.1 pg).0)) (came j y py)) (came i x px);
-    one_lead = λ i j m k x y px py ex ey. (leads i m x px ex).0 ∙ sym (leads j k y py ey).0;
-    handed_out = λ i j a m x y h px py ex ph. let is = (leads i m x px ex).1 in ⊎_elim
-        (λ t. let below = old_below j a t.0 h t.1 (in_held y t.0 a h t.2 ph) in omega arith)
-        (λ t. let same : n ≡ h.lane = ap (λ (z : Held). z.lane) (in_new y a h t.1 ph).1 in omega arith) (came j y py);
+    apart = apart_on s.views views (λ i a j b. (i ≡ j) × (a ≡ b)) (λ i a h. (i ≡ last) × (a ≡ 0) × (n ≡ h.lane)) r.apart record {
+      came = λ i a x h p q. ⊎_elim
+          (λ t. inl record { seat = i; index = a; view = t.0; lane = h; sits = t.1; held = in_held x t.0 a h t.2 q; same = refl; from = (refl, refl) })
+          (λ t. let new = in_new x a h t.1 q in inr (t.0, new.0, ap (λ (z : Held). z.lane) new.1)) (came i x p);
+      once = λ i a j b k c p q. (p.0 ∙ sym q.0, p.1 ∙ sym q.1);
+      led = λ i m x p e. let t = leads i m x p e in let is = t.1 in (v, n, subst (λ (z : ℕ). get_elem? s.views z ≡ some v) (sym t.0) at, spare, omega arith);
+      new_once = λ i j a b h g p q. (p.0 ∙ sym q.0, p.1 ∙ sym q.1);
+      new_apart = λ i j a b y h g new p q same. let below = old_below j b y g p q in let is = new.2 in absurd (omega arith);
+      new_below = λ i j a m x h new p e. let is = (leads j m x p e).1 in let own = new.2 in omega arith;
+    };
+    changes = record {
+      counted = record {
+        all = λ c m. let t = r.changes.counted.all c m in record { seat = t.seat; index = t.index; place = t.place; at = stands_on t.seat t.index t.place c t.at };
+        once = λ i j a b k l c p q. r.changes.counted.once i j a b k l c (stood i a k c p) (stood j b l c q);
+        none_else = λ i a k c p. r.changes.counted.none_else i a k c (stood i a k c p);
+      };
+      tally = r.changes.tally;
+      tallied = let t = r.changes.tallied in record {
+        long = t.long;
+        each = λ i a x h p ph. ⊎_elim (λ old. t.each i a old.0 h old.1 (in_held x old.0 a h old.2 ph))
+            (λ new. subst (λ (z : Held). length z.changes ≡ get_or r.changes.tally z.lane 0) (in_new x a h new.1 ph).1 (sym (t.free n room free))) (came i x p);
+        few = t.few;
+        free = t.free;
+        enough = t.enough;
+      };
+    };
   }
 
 module _ (face : ℕ → ℕ → List ℕ → List ℕ) (o : Opening) where
   pub splits_seat : (id n : ℕ) (v : View) → v.live ≡ true → v.spare ≡ Some n → n < v.shape.workers → Splits (Kept face o) id v (handing_out v) (handed_out v)
   splits_seat id n v live spare room s r at =
       let shaped : v.shape ≡ o.shape = (r.each_view id v at).shaped live in
-      subst (λ (z : Held). Kept face o record { words = s.words; homes = s.homes; views = set s.views id (handing_out v) ++ record { live = v.live; shape = v.shape; seen = v.seen; held = z ∷ []; spare = None; steps = [] } ∷ [] })
+      subst (λ (z : Held). Kept face o record { words = s.words; homes = s.homes; views = set s.views id (handing_out v) ++ record { live = v.live; shape = v.shape; members = v.members; seen = v.seen; also = []; held = z ∷ []; spare = None; began = no_beginning; steps = [] } ∷ [] })
       (λ i. new_lane (sym shaped i) (unwrap_or (sym spare i) 0))
       (hands_out face o s r id v at live n spare (subst (λ (z : Shape). n < z.workers) shaped room))

@@ -10,11 +10,11 @@ use Rattle.aug_core.specs.Lanes.{block_start}
 use Rattle.aug_core.specs.Opening.{Opening}
 use Rattle.aug_core.specs.Rule.{HoldsLane, Kept}
 use Rattle.aug_core.specs.Kinds.{take_lane, finish_lane}
-use Rattle.aug_core.specs.Told.{on_first, in_state, MayTake, MayFinish, own_lane, own_lane_place, taking, took_lane, finishing, finished_lane}
+use Rattle.aug_core.specs.Told.{on_first, in_state, MayTake, HasTakenLane, own_lane, own_lane_place, taking, took_lane, finishing, finished_lane}
 use Rattle.aug_core.specs.declared.step.StepTaken.{StepTaken}
 use Rattle.aug_core.specs.declared.view.Held.{Held}
 use Rattle.aug_core.specs.declared.view.View.{View}
-use Rattle.aug_core.proofs.Carries.{Sat, St, IsOwnWord, carries}
+use Rattle.aug_core.proofs.Moves.{Sat, St, IsOwnWord, own_moves, moves_on, knows_keeping}
 use Rattle.aug_core.proofs.Stores.{alone, one_lane}
 
 module _ (face : ℕ → ℕ → List ℕ → List ℕ) (o : Opening) where
@@ -37,37 +37,34 @@ module _ (face : ℕ → ℕ → List ℕ → List ℕ) (o : Opening) where
     pub found_state : get_or s.words place 0 ≡ h.state
     found_state = mine.state
 
-    own : IsOwnWord o.shape r.book h.lane place
+    own : IsOwnWord face o s r id v at 0 h held mine.exists place state
     own = let low = mine.exists in record {
       past_nodes = λ q low is. omega arith;
       past_lanes = λ m low other is. other (omega arith);
       past_blocks = λ m k low' other small is. omega arith;
       unpublished = λ q j k e inner p small is. omega arith;
+      past_idle = λ m k few small is. omega arith;
     }
 
     stays : (j : ℕ) → j ≢ place → get_or after j 0 ≡ get_or s.words j 0
     stays j ne = get_or-set_other s.words place j state 0 ne
 
     now : get_or after place 0 ≡ state
-    now = let low = mine.exists in let wide = r.wide in get_or-set_same s.words place state 0 (omega arith)
+    now = let low = mine.exists in let wide = r.tree.wide in get_or-set_same s.words place state 0 (omega arith)
 
     pub restates : Kept face o record { words = after; homes = s.homes; views = set s.views id record v { held = lane' ∷ []; steps = steps } }
-    restates = let kn = r.each_view id v at in let low = mine.exists in let w : View = record v { held = lane' ∷ []; steps = steps } in
-        carries face o s r id v at 0 h held place state own w (one_lane v h lane' steps only refl) record {
-          shaped = kn.shaped;
-          saw = kn.saw;
-          holds = λ a g p. subst (HoldsLane o.shape after r.book) (alone lane' g a p).1 record {
-            exists = mine.exists;
-            state = now;
-            long = mine.long;
-            exact = λ k small. stays (block_start o.shape h.lane + k) (λ is. omega arith) ∙ mine.exact k small;
-            published = mine.published;
-          };
-          spares = λ n lane e le low'. let below : h.lane < n = r.handed_out id id 0 n v v h at at e held in stays (lane_place o.shape lane) (λ is. omega arith) ∙ kn.spares n lane e le low';
-        } state now some_state last_state
+    restates = let low = mine.exists in let moved = own_moves face o s r id v at 0 h held mine.exists place state own state now some_state last_state in
+        moves_on face o s r id v after r.book moved at record v { held = lane' ∷ []; steps = steps } (one_lane v h lane' v.seen steps only refl refl)
+        (knows_keeping face o s r id v after r.book moved at (lane' ∷ []) steps (λ a g p. subst (HoldsLane o.shape after r.book) (alone lane' g a p).1 record {
+          exists = mine.exists;
+          state = now;
+          long = mine.long;
+          exact = λ k small. stays (block_start o.shape h.lane + k) (λ is. omega arith) ∙ mine.exact k small;
+          published = mine.published;
+        })) (λ key low'. refl)
 
   -- what a seat does where it found a word i, which becomes x
-  abbrev Did : St → ℕ → ℕ → Sat → (ℕ → Sat → Type 0) → ℕ → Type 0
+  abbrev pub Did : St → ℕ → ℕ → Sat → (ℕ → Sat → Type 0) → ℕ → Type 0
   Did s i id me then x = (w : View) × (a : Act (Unit {0})) × Valid s.homes me.1 a × Kept face o (stepped s i x id me.1 w a) × then (get_or s.words i 0) (w, carried_after me.1 a)
 
   pub takes_lane : (n id place : ℕ) (me : Sat) → me.0.live ≡ true → me.1 ≡ [] → MayTake me.0 → place ≡ own_lane_place me.0
@@ -90,7 +87,7 @@ module _ (face : ℕ → ℕ → List ℕ → List ℕ) (o : Opening) where
       ))
       (λ miss. absurd (miss found))
 
-  pub finishes_lane : (n id place : ℕ) (me : Sat) → me.0.live ≡ true → me.1 ≡ [] → MayFinish me.0 → place ≡ own_lane_place me.0
+  pub finishes_lane : (n id place : ℕ) (me : Sat) → me.0.live ≡ true → me.1 ≡ [] → HasTakenLane me.0 → place ≡ own_lane_place me.0
       → Allows (Kept face o) n id me place (λ _. 2) (λ _ m. finished_lane (step n place 2 0 none) me 2 m)
   finishes_lane n id place me live empty may is s r _ at _ =
       let v : View = me.0 in let h : Held = may.lane in let kn = r.each_view id v at in let shaped : v.shape ≡ o.shape = kn.shaped live in

@@ -9,13 +9,14 @@ use Rattle.aug_core.specs.Lanes.{first_record, IsOfLane, block_start}
 use Rattle.aug_core.specs.Opening.{Opening}
 use Rattle.aug_core.specs.Rule.{Lists, HoldsLane, Kept}
 use Rattle.aug_core.specs.Kinds.{store_record_word}
-use Rattle.aug_core.specs.Told.{on_first, with_word, MayStore, storing, stored_record}
+use Rattle.aug_core.specs.Told.{on_first, with_word, HoldsOnly, HasTakenLane, MayStore, storing, stored_record}
 use Rattle.aug_core.specs.declared.step.StepTaken.{StepTaken}
 use Rattle.aug_core.specs.declared.view.Held.{Held}
 use Rattle.aug_core.specs.declared.view.View.{View}
 use Rattle.aug_core.proofs.Sizes.{in_block, block_inside, blocks_apart}
-use Rattle.aug_core.proofs.Views.{Likens}
-use Rattle.aug_core.proofs.Carries.{Sat, St, IsOwnWord, carries}
+use Rattle.aug_core.proofs.Views.{Repeats}
+use Rattle.aug_core.proofs.Moves.{Sat, St, IsOwnWord, own_moves, moves_on, knows_keeping}
+use Rattle.aug_core.specs.Book.{Book}
 
 module _ {A : Type 0} where
   -- a list of one
@@ -24,11 +25,19 @@ module _ {A : Type 0} where
   alone x y (suc a) e = absurd (some-ne-none y (sym e))
 
 -- a view whose one lane changed, but not which lane it is
-pub one_lane : (v : View) (h h' : Held) (steps : List StepTaken) → v.held ≡ h ∷ [] → h.lane ≡ h'.lane → Likens v record v { held = h' ∷ []; steps = steps }
-one_lane v h h' steps only same = record {
-  lanes = λ a g p. let t = alone h' g a p in (h, subst (λ (z : List Held). get_elem? z a ≡ some h) (sym only) (subst (λ (z : ℕ). get_elem? (h ∷ []) z ≡ some h) (sym t.0) refl), same ∙ ap (λ (z : Held). z.lane) t.1);
+pub one_lane : (v : View) (h h' : Held) (seen : Book) (steps : List StepTaken) → v.held ≡ h ∷ [] → h.lane ≡ h'.lane → h.changes ≡ h'.changes → Repeats v record v { seen = seen; held = h' ∷ []; steps = steps }
+one_lane v h h' seen steps only same equal = record {
+  back = λ a g p. let t = alone h' g a p in (h, subst (λ (z : List Held). get_elem? z a ≡ some h) (sym only) (subst (λ (z : ℕ). get_elem? (h ∷ []) z ≡ some h) (sym t.0) refl), same ∙ ap (λ (z : Held). z.lane) t.1, equal ∙ ap (λ (z : Held). z.changes) t.1);
+  forth = λ a g p. let t = alone h g a (subst (λ (z : List Held). get_elem? z a ≡ some g) only p) in (h', subst (λ (z : ℕ). get_elem? (h' ∷ []) z ≡ some h') (sym t.0) refl, ap (λ (z : Held). z.lane) (sym t.1) ∙ same, ap (λ (z : Held). z.changes) (sym t.1) ∙ equal);
   spare = refl;
 }
+
+-- the one lane that a view holds
+pub one_held : (v : View) (h g : Held) → HoldsOnly v h → HoldsOnly v g → h ≡ g
+one_held v h g a b = some-injective h g (ap (λ (z : List Held). get_elem? z 0) (sym a ∙ b))
+
+pub is_taken : (v : View) (h : Held) → HoldsOnly v h → HasTakenLane v → h.state ≡ 1
+is_taken v h only has = ap (λ (z : Held). z.state) (one_held v h has.lane only has.only) ∙ has.taken
 
 module _ (face : ℕ → ℕ → List ℕ → List ℕ) (o : Opening) where
   module _ (s : St) (r : Kept face o s) (id : ℕ) (v : View) (at : get_elem? s.views id ≡ some v) (h : Held) (only : v.held ≡ h ∷ []) (taken : h.state ≡ 1) (number field x : ℕ)
@@ -51,11 +60,12 @@ module _ (face : ℕ → ℕ → List ℕ → List ℕ) (o : Opening) where
     mine : HoldsLane o.shape s.words r.book h
     mine = (r.each_view id v at).holds 0 h held
 
-    own : IsOwnWord o.shape r.book h.lane place
+    own : IsOwnWord face o s r id v at 0 h held mine.exists place x
     own = let b = in_block o.shape h.lane number field of_lane small in record {
       past_nodes = λ q low is. omega arith;
       past_lanes = λ m low other is. omega arith;
       past_blocks = λ m k low other small' is. blocks_apart o.shape m h.lane k offset other small' b.1 (is ∙ b.0);
+      past_idle = λ m k low small' is. let from = of_lane.from_first in omega arith;
       unpublished = λ q j k e inner p small' is. let same : e.number ≡ number = omega arith in
           unpublished (subst (Lists h.published) same (mine.published q j e inner p (subst (IsOfLane o.shape h.lane) (sym same) of_lane)));
     }
@@ -71,7 +81,7 @@ module _ (face : ℕ → ℕ → List ℕ → List ℕ) (o : Opening) where
       exists = mine.exists;
       state = state_stays ∙ sym taken;
       long = length-set h.words offset x ∙ mine.long;
-      exact = λ k small'. let long = mine.long in let inside = block_inside o.shape h.lane offset mine.exists b.1 in let wide = r.wide in ⊎_elim
+      exact = λ k small'. let long = mine.long in let inside = block_inside o.shape h.lane offset mine.exists b.1 in let wide = r.tree.wide in ⊎_elim
           (λ (same : k ≡ offset). subst (λ (z : ℕ). get_or after z 0 ≡ get_or (set h.words offset x) k 0) (let e = b.0 in let is : place ≡ block_start o.shape h.lane + k = omega arith in is)
           (get_or-set_same s.words place x 0 (let e = b.0 in omega arith) ∙ subst (λ (z : ℕ). x ≡ get_or (set h.words offset x) z 0) (sym same) (sym (get_or-set_same h.words offset x 0 (omega arith)))))
           (λ other. stays (block_start o.shape h.lane + k) (λ is. other (let e = b.0 in omega arith)) ∙ mine.exact k small' ∙ sym (get_or-set_other h.words offset k x 0 other)) (cases_eq k offset);
@@ -79,17 +89,13 @@ module _ (face : ℕ → ℕ → List ℕ → List ℕ) (o : Opening) where
     }
 
     pub writes : Kept face o record { words = after; homes = s.homes; views = set s.views id record v { held = lane' ∷ []; steps = steps } }
-    writes = let kn = r.each_view id v at in let w : View = record v { held = lane' ∷ []; steps = steps } in
-        carries face o s r id v at 0 h held place x own w (one_lane v h lane' steps only refl) record {
-          shaped = kn.shaped;
-          saw = kn.saw;
-          holds = λ a g p. subst (HoldsLane o.shape after r.book) (alone lane' g a p).1 holds_it;
-          spares = λ n lane e le low. let below : h.lane < n = r.handed_out id id 0 n v v h at at e held in stays (lane_place o.shape lane) (λ is. omega arith) ∙ kn.spares n lane e le low;
-        } 1 state_stays (omega arith) (omega arith)
+    writes = let moved = own_moves face o s r id v at 0 h held mine.exists place x own 1 state_stays (omega arith) (omega arith) in
+        moves_on face o s r id v after r.book moved at record v { held = lane' ∷ []; steps = steps } (one_lane v h lane' v.seen steps only refl refl)
+        (knows_keeping face o s r id v after r.book moved at (lane' ∷ []) steps (λ a g p. subst (HoldsLane o.shape after r.book) (alone lane' g a p).1 holds_it)) (λ key low. refl)
 
-  pub stores_record_word : (n id place number field x : ℕ) (me : Sat) → me.0.live ≡ true → me.1 ≡ [] → MayStore me.0 number → field < 5 → place ≡ record_start me.0.shape number + field
+  pub stores_record_word : (n id place number field x : ℕ) (me : Sat) → me.0.live ≡ true → me.1 ≡ [] → HasTakenLane me.0 → MayStore me.0 number → field < 5 → place ≡ record_start me.0.shape number + field
       → Allows (Kept face o) n id me place (λ _. x) (λ _ m. stored_record (step n place x 0 none) me x m)
-  stores_record_word n id place number field x me live empty may small is s r _ at _ =
+  stores_record_word n id place number field x me live empty has may small is s r _ at _ =
       let v : View = me.0 in let h : Held = may.lane in let kn = r.each_view id v at in let shaped : v.shape ≡ o.shape = kn.shaped live in
       let of_lane : IsOfLane o.shape h.lane number = subst (λ (z : Shape). IsOfLane z h.lane number) shaped may.of_lane in
       let is' : place ≡ record_start o.shape number + field = is ∙ ap (λ (z : Shape). record_start z number + field) shaped in
@@ -102,6 +108,6 @@ module _ (face : ℕ → ℕ → List ℕ → List ℕ) (o : Opening) where
         tt,
         subst (λ (z : List Held). Kept face o record { words = set s.words place x; homes = s.homes; views = set s.views id record v { held = z; steps = steps } }) (sym held)
             (subst (λ (z : ℕ). Kept face o record { words = set s.words z x; homes = s.homes; views = set s.views id record v { held = record h { words = set h.words (5 * (number - first_record o.shape h.lane) + field) x } ∷ []; steps = steps } }) (sym is')
-            (writes s r id v at h may.only may.taken number field x of_lane may.unpublished small steps)),
+            (writes s r id v at h may.only (is_taken v h may.only has) number field x of_lane may.unpublished small steps)),
         (empty, refl),
       )

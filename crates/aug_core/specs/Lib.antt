@@ -3,10 +3,15 @@ pub mod Layout
 pub mod Names
 pub mod Tree
 pub mod Lanes
-pub mod Members
 pub mod Faces
+pub mod Fields
 pub mod Book
 pub mod Opening
 pub mod Kinds
+pub mod Counts
 pub mod Rule
 pub mod Told
+pub mod Cuts
+pub mod EntryCuts
+pub mod Shows
+pub mod Refreshes

@@ -6,8 +6,10 @@ use Rattle.atomic_table.specs.Table.{State}
 use Rattle.aug_core.specs.Places.{Shape, lane_place, record_start, word_count}
 use Rattle.aug_core.specs.Tree.{place_count, IsInner}
 use Rattle.aug_core.specs.Lanes.{IsOfLane, block_start, block_size}
-use Rattle.aug_core.specs.Book.{Book, At, IsNewest, Continues, IsBook}
-use Rattle.aug_core.specs.Opening.{Opening, opening_book}
+use Rattle.aug_core.specs.Book.{Book, At, IsNewest, Continues, IsFresh, IsBook}
+use Rattle.aug_core.specs.Opening.{Opening, IsIdle, opening_book}
+use Rattle.aug_core.specs.Counts.{AreCounted, AreTallied}
+use Rattle.aug_core.specs.declared.view.Beginning.{Beginning}
 use Rattle.aug_core.specs.declared.view.Entry.{Entry}
 use Rattle.aug_core.specs.declared.view.Held.{Held}
 use Rattle.aug_core.specs.declared.view.View.{View}
@@ -15,6 +17,13 @@ use Rattle.aug_core.specs.declared.view.View.{View}
 -- the number stands in the list
 abbrev pub Lists : List ℕ → ℕ → Type 0
 Lists numbers number = (i : ℕ) × (get_elem? numbers i ≡ some number)
+
+-- the word of a leaf or a node is the one that names its newest entry
+pub record NamesNewest (words : List ℕ) (book : Book) (q : ℕ) : Type 0 where
+  pub index : ℕ
+  pub entry : Entry
+  pub newest : IsNewest book q index entry
+  pub word : slice_index words q ≡ entry.word
 
 -- the words of a lane's records
 abbrev pub BlockIs : Shape → List ℕ → ℕ → List ℕ → Type 0
@@ -33,45 +42,80 @@ pub record HoldsLane (s : Shape) (words : List ℕ) (book : Book) (h : Held) : T
   pub published : (q i : ℕ) (e : Entry) → IsInner s q → At book q i e → IsOfLane s h.lane e.number → Lists h.published e.number
 
 -- what is so of each view
-pub record Knows (s : Shape) (words : List ℕ) (book : Book) (v : View) : Type 0 where
+pub record Knows (o : Opening) (words : List ℕ) (book : Book) (v : View) : Type 0 where
   -- a view of a seat that was not joined knows how the table is laid out
-  pub shaped : v.live ≡ true → v.shape ≡ s
+  pub shaped : v.live ≡ true → v.shape ≡ o.shape
+  -- and which keys it opened with
+  pub same_members : v.live ≡ true → v.members ≡ o.members
   -- what it has seen is a beginning of the book
   pub saw : Continues book v.seen
+  -- and so is what the seat that it took in had seen
+  pub also_saw : Continues book v.also
+  -- what came after it was published when the children showed at least what it shows of them
+  pub fresh : IsFresh o.shape book v.seen
   -- each lane that it holds is as it has it
-  pub holds : (a : ℕ) (h : Held) → get_elem? v.held a ≡ some h → HoldsLane s words book h
+  pub holds : (a : ℕ) (h : Held) → get_elem? v.held a ≡ some h → HoldsLane o.shape words book h
   -- the lanes that it may still hand out are free
-  pub spares : (n lane : ℕ) → v.spare ≡ Some n → n ≤ lane → lane < s.workers → slice_index words (lane_place s lane) ≡ 0
+  pub spares : (n lane : ℕ) → v.spare ≡ Some n → n ≤ lane → lane < o.shape.workers → slice_index words (lane_place o.shape lane) ≡ 0
+
+-- the words of the leaves, of the nodes and of the published records are as the book says
+pub record KeepsTree (face : ℕ → ℕ → List ℕ → List ℕ) (o : Opening) (words : List ℕ) (book : Book) : Type 0 where
+  -- the table has its words
+  pub wide : length words ≡ word_count o.shape
+  -- the book is one, and it begins as the table was opened
+  pub is_book : IsBook face o.shape book
+  pub opened : Continues book (opening_book face o)
+  -- the word of a leaf or a node is the one that names its newest entry
+  pub newest : (q : ℕ) → q < place_count o.shape → NamesNewest words book q
+  -- the words of a published record are those of its entry, and never change
+  pub written : (q i k : ℕ) (e : Entry) → IsInner o.shape q → At book q i e → k < 5 → slice_index words (record_start o.shape e.number + k) ≡ slice_index e.words k
+  -- the words of an opening record that no node opens with are zeros
+  pub idle : (number k : ℕ) → IsIdle o number → k < 5 → slice_index words (record_start o.shape number + k) ≡ 0
+
+-- the lanes' words, and the records of the lanes that are free
+pub record KeepsLanes (o : Opening) (words : List ℕ) (book : Book) : Type 0 where
+  -- a lane is free, 0, taken, 1, or ended, 2
+  pub states : (lane : ℕ) → lane < o.shape.workers → slice_index words (lane_place o.shape lane) ≤ 2
+  -- the records of a free lane are blank
+  pub blank : (lane : ℕ) → lane < o.shape.workers → slice_index words (lane_place o.shape lane) ≡ 0 → BlockIs o.shape words lane (replicate (block_size o.shape) 0)
+  -- and none of them was published
+  pub unused : (lane q i : ℕ) (e : Entry) → lane < o.shape.workers → slice_index words (lane_place o.shape lane) ≡ 0 → IsInner o.shape q → At book q i e → IsOfLane o.shape lane e.number → ⊥
+
+-- which view holds which lane
+pub record AreApart (views : List View) : Type 0 where
+  -- a lane is held once in all views
+  pub one_holder : (i j a b : ℕ) (v w : View) (h g : Held) → get_elem? views i ≡ some v → get_elem? views j ≡ some w → get_elem? v.held a ≡ some h → get_elem? w.held b ≡ some g → h.lane ≡ g.lane → (i ≡ j) × (a ≡ b)
+  -- one view at most hands lanes out
+  pub one_lead : (i j n m : ℕ) (v w : View) → get_elem? views i ≡ some v → get_elem? views j ≡ some w → v.spare ≡ Some n → w.spare ≡ Some m → i ≡ j
+  -- a lane that is held was handed out
+  pub handed_out : (i j a n : ℕ) (v w : View) (h : Held) → get_elem? views i ≡ some v → get_elem? views j ≡ some w → v.spare ≡ Some n → get_elem? w.held a ≡ some h → h.lane < n
+
+-- the accepted changes
+pub record KeepsChanges (o : Opening) (words : List ℕ) (book : Book) (views : List View) : Type 0 where
+  -- each change is counted once
+  pub counted : AreCounted o book views
+  -- and so many were made
+  pub tally : List ℕ
+  pub tallied : AreTallied o words book views tally
 
 -- the rule
 pub record Kept (face : ℕ → ℕ → List ℕ → List ℕ) (o : Opening) (s : State (Unit {0}) View) : Type 0 where
   pub book : Book
-  -- the table has its words
-  pub wide : length s.words ≡ word_count o.shape
-  -- the book is one, and it begins as the table was opened
-  pub is_book : IsBook face o.shape book
-  pub opened : Continues book (opening_book face o)
-  -- no entry came to a leaf or a node since
-  pub unchanged : book ≡ opening_book face o
-  -- the word of a leaf or a node is the number of its newest entry
-  pub newest : (q : ℕ) → q < place_count o.shape → (i : ℕ) × (e : Entry) × IsNewest book q i e × (slice_index s.words q ≡ e.number)
-  -- the words of a published record are those of its entry, and never change
-  pub written : (q i k : ℕ) (e : Entry) → IsInner o.shape q → At book q i e → k < 5 → slice_index s.words (record_start o.shape e.number + k) ≡ slice_index e.words k
-  -- a lane is free, 0, taken, 1, or ended, 2
-  pub lane_states : (lane : ℕ) → lane < o.shape.workers → slice_index s.words (lane_place o.shape lane) ≤ 2
-  -- the records of a free lane are blank
-  pub blank : (lane : ℕ) → lane < o.shape.workers → slice_index s.words (lane_place o.shape lane) ≡ 0 → BlockIs o.shape s.words lane (replicate (block_size o.shape) 0)
-  -- and none of them was published
-  pub unused : (lane q i : ℕ) (e : Entry) → lane < o.shape.workers → slice_index s.words (lane_place o.shape lane) ≡ 0 → IsInner o.shape q → At book q i e → IsOfLane o.shape lane e.number → ⊥
+  -- the words of the tree are as the book says
+  pub tree : KeepsTree face o s.words book
+  -- the lanes' words and the records of free lanes
+  pub lanes : KeepsLanes o s.words book
   -- each view is right
-  pub each_view : (j : ℕ) (v : View) → get_elem? s.views j ≡ some v → Knows o.shape s.words book v
-  -- a lane is held once in all views
-  pub one_holder : (i j a b : ℕ) (v w : View) (h g : Held) → get_elem? s.views i ≡ some v → get_elem? s.views j ≡ some w → get_elem? v.held a ≡ some h → get_elem? w.held b ≡ some g → h.lane ≡ g.lane → (i ≡ j) × (a ≡ b)
-  -- one view at most hands lanes out
-  pub one_lead : (i j n m : ℕ) (v w : View) → get_elem? s.views i ≡ some v → get_elem? s.views j ≡ some w → v.spare ≡ Some n → w.spare ≡ Some m → i ≡ j
-  -- a lane that is held was handed out
-  pub handed_out : (i j a n : ℕ) (v w : View) (h : Held) → get_elem? s.views i ≡ some v → get_elem? s.views j ≡ some w → v.spare ≡ Some n → get_elem? w.held a ≡ some h → h.lane < n
+  pub each_view : (j : ℕ) (v : View) → get_elem? s.views j ≡ some v → Knows o s.words book v
+  -- no two of them hold one lane
+  pub apart : AreApart s.views
+  -- all changes are counted
+  pub changes : KeepsChanges o s.words book s.views
+
+-- no update began yet
+abbrev pub no_beginning : Beginning
+no_beginning = record { seen = []; steps = []; changes = [] }
 
 -- the view of the first seat, which hands all lanes out
 abbrev pub newcomer : (ℕ → ℕ → List ℕ → List ℕ) → Opening → View
-newcomer face o = record { live = true; shape = o.shape; seen = opening_book face o; held = []; spare = Some 0; steps = [] }
+newcomer face o = record { live = true; shape = o.shape; members = o.members; seen = opening_book face o; also = []; held = []; spare = Some 0; began = no_beginning; steps = [] }

@@ -1,8 +1,11 @@
 //! What each step tells. These types are for the proofs alone.
-ghost use Rattle.aug_core.specs.Told.{read_record, stored_record, took_lane, finished_lane, handing_out, handed_out, taking_back, spent};
+ghost use Rattle.aug_core.specs.Told.{read_record, stored_record, took_lane, finished_lane, handing_out, handed_out, taking_back, spent, loaded_leaf, began_at_leaf, tried_leaf, loaded_node, tried_node};
+ghost use Rattle.aug_core.specs.Faces.{face};
 
 use crate::view::View;
 use atomic_table::{Join, Play, Split};
+use aug_monoid::Monoid;
+use std::marker::PhantomData;
 
 /// A load of a word of any record.
 pub struct LoadAnyRecord;
@@ -48,4 +51,49 @@ impl Join<View> for TakeBack {
     ghost both = { taking_back };
 
     ghost spent = { spent };
+}
+
+/// A load of a leaf's word.
+pub struct LoadAnyLeaf<A, B> {
+    sums: PhantomData<(A, B)>,
+}
+
+impl<A: Monoid, B: Monoid> Play<(), View> for LoadAnyLeaf<A, B> {
+    ghost then = { loaded_leaf (face A.parts B.parts) };
+}
+
+/// A load of a leaf's word, with which an update begins.
+pub struct BeginAtLeaf<A, B> {
+    sums: PhantomData<(A, B)>,
+}
+
+impl<A: Monoid, B: Monoid> Play<(), View> for BeginAtLeaf<A, B> {
+    ghost then = { began_at_leaf (face A.parts B.parts) };
+}
+
+/// A compare-exchange of a leaf's word, from a serial to the next.
+pub struct TryAnyLeaf<A, B> {
+    sums: PhantomData<(A, B)>,
+}
+
+impl<A: Monoid, B: Monoid> Play<(), View> for TryAnyLeaf<A, B> {
+    ghost then = { tried_leaf (face A.parts B.parts) };
+}
+
+/// A load of a node's word.
+pub struct LoadAnyNode<A, B> {
+    sums: PhantomData<(A, B)>,
+}
+
+impl<A: Monoid, B: Monoid> Play<(), View> for LoadAnyNode<A, B> {
+    ghost then = { loaded_node (face A.parts B.parts) };
+}
+
+/// A compare-exchange of a node's word, to a record of the seat's own lane.
+pub struct TryAnyNode<A, B> {
+    sums: PhantomData<(A, B)>,
+}
+
+impl<A: Monoid, B: Monoid> Play<(), View> for TryAnyNode<A, B> {
+    ghost then = { tried_node (face A.parts B.parts) };
 }

@@ -7,6 +7,8 @@ use std::collections::LinkedList;
 pub struct Entry {
     /// The record's number, or the leaf's serial.
     pub number: u64,
+    /// The word that names the entry: today the number itself.
+    pub word: u64,
     /// Where the left child's entry stands in its history.
     pub left: u64,
     /// Where the right child's entry stands in its history.
@@ -21,6 +23,12 @@ pub struct Entry {
     pub words: LinkedList<u64>,
 }
 
+/// An accepted change: the key's serial went up to this one.
+pub struct Change {
+    pub key: u64,
+    pub serial: u64,
+}
+
 /// A lane that a view holds.
 pub struct Held {
     pub lane: u64,
@@ -30,6 +38,18 @@ pub struct Held {
     pub words: LinkedList<u64>,
     /// The numbers of the lane's records that were published.
     pub published: LinkedList<u64>,
+    /// The changes that were accepted from the lane's holder, the newest last.
+    pub changes: LinkedList<Change>,
+}
+
+/// Where an update began: what the seat knew as it made the first step of it.
+pub struct Beginning {
+    /// The book as far as it had been seen.
+    pub seen: LinkedList<LinkedList<Entry>>,
+    /// The steps that had been made.
+    pub steps: LinkedList<StepTaken>,
+    /// The changes that had been accepted.
+    pub changes: LinkedList<Change>,
 }
 
 /// What a seat knows of a table.
@@ -38,12 +58,18 @@ pub struct View {
     pub live: bool,
     /// How the table is laid out.
     pub shape: Layout,
+    /// The keys that were there when it was opened, rising.
+    pub members: LinkedList<u64>,
     /// The book as far as it was seen: for each leaf and inner node its entries.
     pub seen: LinkedList<LinkedList<Entry>>,
+    /// What the seat that was joined last had seen.
+    pub also: LinkedList<LinkedList<Entry>>,
     /// The lanes that the seat holds: that of a pass, and those of the passes that were joined into a lead.
     pub held: LinkedList<Held>,
     /// The first lane that was not handed out, where the seat is the one that hands lanes out.
     pub spare: Option<u64>,
+    /// Where the update began that the seat is in, or was in last.
+    pub began: Beginning,
     /// The seat's steps, the last one last.
     pub steps: LinkedList<StepTaken>,
 }

@@ -1,3 +1,5 @@
-pub mod Cuts
+pub mod Boundaries
 pub mod Filters
+pub mod Membership
+pub mod Ranges
 pub mod StoredLemmas

@@ -2,11 +2,11 @@
 use Rattle.std.proofs.Common.{ℕ, ◌^◌, ◌≤◌, List, length, arith}
 use Rattle.std.proofs.Math.Pow.{pow_mono}
 use Rattle.aug_model.specs.Stored.{IsStored}
-use Rattle.aug_model.proofs.Cuts.{length-le-bound}
+use Rattle.aug_model.proofs.Boundaries.{IsKeySet-few}
 
 -- a set has no more members than there are keys
 pub length-le-universe : (bits : ℕ) (xs : List ℕ) (capacity : ℕ) → IsStored bits xs capacity → length xs ≤ 2 ^ bits
-length-le-universe bits xs capacity h = length-le-bound xs (2 ^ bits) h.set.rising h.set.below
+length-le-universe bits xs capacity h = IsKeySet-few bits xs h.set
 
 -- so their number fits a `u32`
 pub length-fits : (bits : ℕ) (xs : List ℕ) (capacity : ℕ) → IsStored bits xs capacity → length xs ≤ 65536

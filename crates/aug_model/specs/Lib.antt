@@ -1,4 +1,4 @@
-pub mod Cut
+pub mod Boundary
 pub mod Folds
 pub mod Keys
 pub mod Queries

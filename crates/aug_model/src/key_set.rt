@@ -1,6 +1,5 @@
-ghost use Rattle.std.specs.Prelude.{◌≡◌, ℕ, ◌+◌, ◌^◌, ◌<◌, ◌≤◌, ◌⊎◌, ◌↔◌, List, [], length, Contains, IsTrue, IfOk, IsErrOf};
-ghost use Rattle.std.specs.Bool.{OnFalse};
-ghost use Rattle.aug_model.specs.Keys.{IsKeySet, with_key, without_key};
+ghost use Rattle.std.specs.Prelude.{◌≡◌, ℕ, ◌+◌, ◌^◌, ◌<◌, ◌≤◌, ◌⊎◌, ◌↔◌, List, [], length, not, IfOk, IsErrOf};
+ghost use Rattle.aug_model.specs.Keys.{IsKeySet, is_member, with_key, without_key};
 ghost use Rattle.aug_model.specs.Queries.{rank_of, select_of, before_of, after_of, range_of};
 ghost use Rattle.aug_model.specs.Folds.{summary_of};
 
@@ -23,10 +22,10 @@ pub struct KeySet {
 
 impl Model for KeySet {
     ghost use Rattle.std.specs.Prelude.{vec_capacity};
-    ghost use Rattle.aug_model.specs.Keys.{Members};
+    ghost use Rattle.aug_model.specs.Keys.{SetFacts};
     ghost use Rattle.aug_model.specs.Stored.{IsStored};
 
-    ghost Value = { Members };
+    ghost Value = { SetFacts };
 
     ghost view = { λ s. record { bits = s.bits; list = s.members.items } };
 
@@ -72,8 +71,7 @@ impl KeySet {
         requires { k < 2 ^ self.old.bits }
         ensures bits { self.new.bits ≡ self.old.bits }
         ensures list { self.new.list ≡ with_key self.old.list k }
-        ensures changed { IsTrue result ↔ ¬ Contains self.old.list k }
-        ensures was_there { OnFalse result (Contains self.old.list k) }
+        ensures changed { result ≡ not (is_member self.old.list k) }
     {
         match find_key(&self.members, k) {
             Ok(_) => false,
@@ -90,7 +88,7 @@ impl KeySet {
     pub fn remove(&mut self, k: u32) -> bool
         ensures bits { self.new.bits ≡ self.old.bits }
         ensures list { self.new.list ≡ without_key self.old.list k }
-        ensures changed { IsTrue result ↔ Contains self.old.list k }
+        ensures changed { result ≡ is_member self.old.list k }
     {
         match find_key(&self.members, k) {
             Ok(place) => {
@@ -114,7 +112,7 @@ impl KeySet {
 
     /// Whether `k` is a member.
     pub fn has(&self, k: u32) -> bool
-        ensures { IsTrue result ↔ Contains self.now.list k }
+        ensures { result ≡ is_member self.now.list k }
     {
         find_key(&self.members, k).is_ok()
     }
@@ -152,8 +150,7 @@ impl KeySet {
     /// The number and the two folds of the members from `a` on that are below `b`. Where `a >= b`
     /// there are none.
     pub fn range<A: Monoid, B: Monoid>(&self, a: u32, b: u32) -> Summary<A, B>
-        ensures { result ≡ summary_of A.unit_value A.key_value A.joined
-            B.unit_value B.key_value B.joined (range_of self.now.list a b) }
+        ensures { result ≡ summary_of A.parts B.parts (range_of self.now.list a b) }
     {
         let start = place_of(&self.members, a as u64);
         let end = place_of(&self.members, b as u64).max(start);

@@ -16,7 +16,7 @@ use Rattle.aug_monoid.specs.contracts.monoid.Monoid.TheBound.{Met}
 pub laws_of : {M : Type 1} {𝓤 : Ura M} {𝓛 : Logic 𝓤} {𝓜 : Model 𝓤 𝓛.H} {𝓡 : Running 𝓤 𝓛.H 𝓜} {T : RattleType} {m : Ghosts T.Denot} {methods : Dict}
     {c : clone.Ghosts T.Denot} {clone_methods : Dict} {e : eq.Ghosts T.Denot} {eq_methods : Dict} {p : partial_eq.Ghosts T.Denot} {partial_eq_methods : Dict}
     → Met 𝓛 𝓜 𝓡 𝓡.env T m methods c clone_methods e eq_methods p partial_eq_methods
-    → IsMonoid m.IsProper m.unit_value m.key_value m.joined m.word_of m.of_word
+    → IsMonoid m.parts
 laws_of met = record {
   unit_is_proper = met.unit_is_proper;
   key_is_proper = met.key_is_proper;

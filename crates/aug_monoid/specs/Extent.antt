@@ -1,5 +1,6 @@
 -- The least and the greatest key of two folds, together, and the word that stands for them.
 use Rattle.std.specs.Prelude.{ℕ, ◌+◌, ◌*◌, ◌/◌, ◌%◌, ◌^◌, ◌<◌, ◌≤◌, min, max, Option, Some, None, nat_le, if◌then◌else◌}
+use Rattle.aug_monoid.specs.Parts.{Parts}
 
 -- there are no bounds, or they are two keys of 32 bits and the least is no greater than the greatest
 abbrev pub IsBoundsOrNone : Option (ℕ × ℕ) → Type 0
@@ -20,3 +21,14 @@ word_of_bounds (Some b) = b.0 * 2 ^ 32 + b.1
 -- the two halves of a word, and none where the upper half is greater than the lower
 abbrev pub bounds_of_word : ℕ → Option (ℕ × ℕ)
 bounds_of_word w = if nat_le (w / 2 ^ 32) (w % 2 ^ 32) then Some (w / 2 ^ 32, w % 2 ^ 32) else None
+
+-- the least and the greatest of the keys, or none
+abbrev pub extent_parts : Parts (Option (ℕ × ℕ))
+extent_parts = record {
+  IsProper = IsBoundsOrNone;
+  unit = None;
+  of_key = λ k. Some (k, k);
+  join = spanned_by;
+  to_word = word_of_bounds;
+  from_word = bounds_of_word;
+}

@@ -1,3 +1,4 @@
+pub mod Count
 pub mod Extent
 pub mod ExtentLaws
 pub mod Fold
@@ -8,5 +9,8 @@ pub mod KeyWordLaws
 pub mod Laws
 pub mod Least
 pub mod LeastLaws
+pub mod Nothing
+pub mod Parts
+pub mod Sum
 pub mod Wrapping
 pub mod WrappingLaws

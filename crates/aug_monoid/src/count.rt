@@ -1,7 +1,7 @@
 //! How many keys there are.
 ghost use Rattle.std.specs.Prelude.{◌≡◌, ◌^◌, ◌<◌, ◌↔◌, IsTrue, refl};
 ghost use Rattle.std.proofs.Common.{lit<};
-ghost use Rattle.aug_monoid.specs.Wrapping.{wrapped_sum};
+ghost use Rattle.aug_monoid.specs.Count.{count_parts};
 ghost use Rattle.aug_monoid.specs.WrappingLaws.{wrapped_sum-fits, wrapped_sum-assoc, wrapped_sum-zero_left, wrapped_sum-zero_right};
 
 use crate::Monoid;
@@ -33,17 +33,7 @@ impl Count {
 }
 
 impl Monoid for Count {
-    ghost IsProper = { λ c. c < 2 ^ 64 };
-
-    ghost unit_value = { 0 };
-
-    ghost key_value = { λ _. 1 };
-
-    ghost joined = { wrapped_sum };
-
-    ghost word_of = { λ c. c };
-
-    ghost of_word = { λ w. w };
+    ghost parts = { count_parts };
 
     fn unit() -> Count {
         Count { keys: 0 }

@@ -1,6 +1,6 @@
 //! The least and the greatest of the keys, together.
 ghost use Rattle.std.specs.Prelude.{◌≡◌, ◌↔◌, ◌≤◌, IsTrue, IfSome, None, Some, refl};
-ghost use Rattle.aug_monoid.specs.Extent.{IsBoundsOrNone, spanned_by, word_of_bounds, bounds_of_word};
+ghost use Rattle.aug_monoid.specs.Extent.{IsBoundsOrNone, extent_parts};
 ghost use Rattle.aug_monoid.specs.ExtentLaws.{one_key-is_bounds, spanned_by-is_bounds, spanned_by-none_right, spanned_by-assoc, bounds_of_word-is_bounds, word_of_bounds-fits, bounds_of_word-word_of_bounds};
 
 use crate::Monoid;
@@ -40,17 +40,7 @@ impl Extent {
 }
 
 impl Monoid for Extent {
-    ghost IsProper = { IsBoundsOrNone };
-
-    ghost unit_value = { None };
-
-    ghost key_value = { λ k. Some (k, k) };
-
-    ghost joined = { spanned_by };
-
-    ghost word_of = { word_of_bounds };
-
-    ghost of_word = { bounds_of_word };
+    ghost parts = { extent_parts };
 
     fn unit() -> Extent {
         Extent { bounds: None }

@@ -6,17 +6,17 @@ use crate::Monoid;
 
 /// The fold of `keys` in the order of the slice; of no keys, the unit.
 pub fn fold_slice<M: Monoid>(keys: &[u32]) -> M
-    ensures fold { result ≡ fold_of M.unit_value M.key_value M.joined keys.now }
-    ensures proper { M.IsProper result }
+    ensures fold { result ≡ fold_of M.parts keys.now }
+    ensures proper { M.parts.IsProper result }
 
     // Cut anywhere in two, the list has the join of its parts' folds.
-    ensures cut { let fold = fold_of M.unit_value M.key_value M.joined in
-        (xs ys : List ℕ) → keys.now ≡ xs ++ ys → result ≡ M.joined (fold xs) (fold ys) }
+    ensures cut { let fold = fold_of M.parts in
+        (xs ys : List ℕ) → keys.now ≡ xs ++ ys → result ≡ M.parts.join (fold xs) (fold ys) }
 
     // So it has where those two folds are read from their words.
-    ensures cut_words { let fold = fold_of M.unit_value M.key_value M.joined in
-        let read_back = λ (ks : List ℕ). M.of_word (M.word_of (fold ks)) in
-        (xs ys : List ℕ) → keys.now ≡ xs ++ ys → result ≡ M.joined (read_back xs) (read_back ys) }
+    ensures cut_words { let fold = fold_of M.parts in
+        let read_back = λ (ks : List ℕ). M.parts.from_word (M.parts.to_word (fold ks)) in
+        (xs ys : List ℕ) → keys.now ≡ xs ++ ys → result ≡ M.parts.join (read_back xs) (read_back ys) }
 {
     let mut total = M::unit();
     for key in keys {

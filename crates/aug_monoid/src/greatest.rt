@@ -1,7 +1,7 @@
 //! The greatest of the keys.
-ghost use Rattle.std.specs.Prelude.{◌≡◌, ◌↔◌, ◌^◌, ◌<◌, IsTrue, None, Some, refl};
-ghost use Rattle.aug_monoid.specs.KeyWord.{IsKeyOrNone, word_of_key, key_of_word};
-ghost use Rattle.aug_monoid.specs.Greatest.{greater_of};
+ghost use Rattle.std.specs.Prelude.{◌≡◌, ◌↔◌, ◌^◌, ◌<◌, IsTrue, refl};
+ghost use Rattle.aug_monoid.specs.KeyWord.{IsKeyOrNone};
+ghost use Rattle.aug_monoid.specs.Greatest.{greatest_parts};
 ghost use Rattle.aug_monoid.specs.KeyWordLaws.{key_of_word-is_key, word_of_key-fits, key_of_word-word_of_key};
 ghost use Rattle.aug_monoid.specs.GreatestLaws.{greater_of-is_key, greater_of-none_right, greater_of-assoc};
 
@@ -35,17 +35,7 @@ impl Greatest {
 }
 
 impl Monoid for Greatest {
-    ghost IsProper = { IsKeyOrNone };
-
-    ghost unit_value = { None };
-
-    ghost key_value = { λ k. Some k };
-
-    ghost joined = { greater_of };
-
-    ghost word_of = { word_of_key };
-
-    ghost of_word = { key_of_word };
+    ghost parts = { greatest_parts };
 
     fn unit() -> Greatest {
         Greatest { key: None }

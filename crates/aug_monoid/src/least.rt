@@ -1,7 +1,7 @@
 //! The least of the keys.
-ghost use Rattle.std.specs.Prelude.{◌≡◌, ◌↔◌, ◌^◌, ◌<◌, IsTrue, None, Some, refl};
-ghost use Rattle.aug_monoid.specs.KeyWord.{IsKeyOrNone, word_of_key, key_of_word};
-ghost use Rattle.aug_monoid.specs.Least.{smaller_of};
+ghost use Rattle.std.specs.Prelude.{◌≡◌, ◌↔◌, ◌^◌, ◌<◌, IsTrue, refl};
+ghost use Rattle.aug_monoid.specs.KeyWord.{IsKeyOrNone};
+ghost use Rattle.aug_monoid.specs.Least.{least_parts};
 ghost use Rattle.aug_monoid.specs.KeyWordLaws.{key_of_word-is_key, word_of_key-fits, key_of_word-word_of_key};
 ghost use Rattle.aug_monoid.specs.LeastLaws.{smaller_of-is_key, smaller_of-none_right, smaller_of-assoc};
 
@@ -35,17 +35,7 @@ impl Least {
 }
 
 impl Monoid for Least {
-    ghost IsProper = { IsKeyOrNone };
-
-    ghost unit_value = { None };
-
-    ghost key_value = { λ k. Some k };
-
-    ghost joined = { smaller_of };
-
-    ghost word_of = { word_of_key };
-
-    ghost of_word = { key_of_word };
+    ghost parts = { least_parts };
 
     fn unit() -> Least {
         Least { key: None }

@@ -1,6 +1,7 @@
 //! No fold at all.
 ghost use Rattle.std.specs.Prelude.{◌≡◌, ◌↔◌, IsTrue, refl};
 ghost use Rattle.std.proofs.Common.{lit<};
+ghost use Rattle.aug_monoid.specs.Nothing.{nothing_parts};
 
 use crate::Monoid;
 
@@ -9,17 +10,7 @@ use crate::Monoid;
 pub struct Nothing;
 
 impl Monoid for Nothing {
-    ghost IsProper = { λ _. Unit {0} };
-
-    ghost unit_value = { record {} };
-
-    ghost key_value = { λ _. record {} };
-
-    ghost joined = { λ _ _. record {} };
-
-    ghost word_of = { λ _. 0 };
-
-    ghost of_word = { λ _. record {} };
+    ghost parts = { nothing_parts };
 
     fn unit() -> Nothing {
         Nothing

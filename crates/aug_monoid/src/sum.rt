@@ -1,7 +1,7 @@
 //! The sum of the keys.
 ghost use Rattle.std.specs.Prelude.{◌≡◌, ◌^◌, ◌<◌, ◌↔◌, IsTrue, refl};
 ghost use Rattle.std.proofs.Common.{lit<};
-ghost use Rattle.aug_monoid.specs.Wrapping.{wrapped_sum};
+ghost use Rattle.aug_monoid.specs.Sum.{sum_parts};
 ghost use Rattle.aug_monoid.specs.WrappingLaws.{wrapped_sum-fits, wrapped_sum-assoc, wrapped_sum-zero_left, wrapped_sum-zero_right, key_fits};
 
 use crate::Monoid;
@@ -33,17 +33,7 @@ impl Sum {
 }
 
 impl Monoid for Sum {
-    ghost IsProper = { λ s. s < 2 ^ 64 };
-
-    ghost unit_value = { 0 };
-
-    ghost key_value = { λ k. k };
-
-    ghost joined = { wrapped_sum };
-
-    ghost word_of = { λ s. s };
-
-    ghost of_word = { λ w. w };
+    ghost parts = { sum_parts };
 
     fn unit() -> Sum {
         Sum { sum: 0 }

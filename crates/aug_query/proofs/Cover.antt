@@ -6,19 +6,19 @@ use Rattle.std.proofs.Math.Pow.{pow_mono}
 use Rattle.std.proofs.lemmas.List.{append-nil}
 use Rattle.std.proofs.lemmas.List.Elements.{All-filter, All-weaker}
 use Rattle.std.specs.List.{All}
-use Rattle.aug_model.specs.Keys.{Members}
+use Rattle.aug_model.specs.Keys.{SetFacts}
 use Rattle.aug_model.specs.Queries.{range_of, rank_of}
 use Rattle.aug_query.specs.Tree.{IsTreeSet}
-use Rattle.aug_query.proofs.Ranges.{Rises, AllBelow, rises_from, all_below_from, range_cut, range_none, range_clipped, range_within, range_le, count_few, no_members}
+use Rattle.aug_model.proofs.Ranges.{Rises, AllBelow, rises_from, all_below_from, range_cut, range_none, range_clipped, range_within, range_le, count_few, no_members}
 use Rattle.aug_query.proofs.Orders.{rank_cut}
 
 -- the members of an interval are keys
-pub range_are_keys : {set : Members} → IsTreeSet set → (a b : ℕ) → All (λ k. k < 2 ^ 32) (range_of set.list a b)
+pub range_are_keys : {set : SetFacts} → IsTreeSet set → (a b : ℕ) → All (λ k. k < 2 ^ 32) (range_of set.list a b)
 range_are_keys {set = set} is a b =
     All-filter _ (λ k. k < 2 ^ 32) set.list (All-weaker (λ k. k < 2 ^ set.bits) (λ k. k < 2 ^ 32) (λ x h. omega (arith, h, pow_mono is.few_bits)) set.list is.is_key_set.below)
 
 -- and few
-pub range_is_few : {set : Members} → IsTreeSet set → (a b : ℕ) → length (range_of set.list a b) ≤ 2 ^ 16
+pub range_is_few : {set : SetFacts} → IsTreeSet set → (a b : ℕ) → length (range_of set.list a b) ≤ 2 ^ 16
 range_is_few {set = set} is a b =
     omega (arith, range_le set.list a b, count_few (2 ^ set.bits) set.list (rises_from set.list is.is_key_set.rising) (all_below_from (2 ^ set.bits) set.list is.is_key_set.below), pow_mono is.few_bits)
 

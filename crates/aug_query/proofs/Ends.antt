@@ -1,15 +1,15 @@
 -- The first and the last member that a node covers, told by its children.
 use Rattle.std.proofs.Common.{◌≡◌, ℕ, ◌+◌, ◌*◌, ◌<◌, inl, inr, List, [], ◌∷◌, ◌++◌, length, sym, ap, ◌∙◌, arith}
 use Rattle.std.proofs.lemmas.List.{append-nil}
-use Rattle.aug_model.specs.Keys.{Members}
+use Rattle.aug_model.specs.Keys.{SetFacts}
 use Rattle.aug_model.specs.Queries.{range_of, first_of, last_of}
 use Rattle.aug_model.specs.declared.summary.Summary.{Summary}
 use Rattle.aug_query.specs.Tree.{IsNodeOf, below_node, first_key, middle_key, end_key}
-use Rattle.aug_query.proofs.Ranges.{no_members, range_of_one}
+use Rattle.aug_model.proofs.Ranges.{no_members, range_of_one}
 use Rattle.aug_query.proofs.Orders.{last_append, first_append}
 use Rattle.aug_query.proofs.Nodes.{members_rise, counts, leaf_is, left_covers, right_covers, node_cut}
 
-module _ {A B : Type 0} {sum : List ℕ → Summary A B} {set : Members} {level place : ℕ} {told : Summary A B} (totals : (keys : List ℕ) → (sum keys).count ≡ length keys) (node : IsNodeOf sum set level place told) where
+module _ {A B : Type 0} {sum : List ℕ → Summary A B} {set : SetFacts} {level place : ℕ} {told : Summary A B} (totals : (keys : List ℕ) → (sum keys).count ≡ length keys) (node : IsNodeOf sum set level place told) where
   -- the last member is the right child's, where that covers members
   pub last_of_right : (l p : ℕ) {child : Summary A B} → IsNodeOf sum set l p child → l + 1 ≡ level → p ≡ 2 * place + 1 → 0 < child.count → last_of (below_node set.list l p) ≡ last_of (below_node set.list level place)
   last_of_right l p right e f some =

@@ -1,8 +1,7 @@
-pub mod Ranges
 pub mod Orders
 pub mod Nodes
 pub mod Steps
-pub mod Members
+pub mod Descents
 pub mod Ends
 pub mod Passing
 pub mod Placed

@@ -3,11 +3,11 @@ use Rattle.std.proofs.Common.{add-one, zero-mul, one-mul, mul-one, ◌≡◌, �
 use Rattle.std.proofs.Math.Nat.{pow-suc, mod-eq_of_lt, mul-le-mul_right, le_trans, le_of_lt}
 use Rattle.std.proofs.Math.Pow.{pow_mono}
 use Rattle.std.proofs.lemmas.Nat.{pow_pos}
-use Rattle.aug_model.specs.Keys.{Members}
+use Rattle.aug_model.specs.Keys.{SetFacts}
 use Rattle.aug_model.specs.Queries.{range_of, rank_of}
 use Rattle.aug_model.specs.declared.summary.Summary.{Summary}
-use Rattle.aug_query.specs.Tree.{IsNodeOf, middle_key, first_key, end_key, below_node}
-use Rattle.aug_query.proofs.Ranges.{Rises, AllBelow, rises_from, all_below_from, range_whole, count_cut, range_cut}
+use Rattle.aug_query.specs.Tree.{IsNodeOf, Stands, middle_key, first_key, end_key, below_node}
+use Rattle.aug_model.proofs.Ranges.{Rises, AllBelow, rises_from, all_below_from, range_whole, count_cut, range_cut}
 use Rattle.aug_query.proofs.Orders.{rank_cut, rank_few}
 
 double : (l : ℕ) → 2 ^ (l + 1) ≡ 2 ^ l + 2 ^ l
@@ -49,8 +49,8 @@ pub middle_high : (level place : ℕ) → 1 ≤ level → middle_key level place
 middle_high level place h = (between place (2 ^ (level - 1)) (2 ^ level) (width level h) (pow_pos (level - 1))).1
 
 -- a node of a tree, where its set is written in another way
-pub of_set : {A B : Type 0} {sum : List ℕ → Summary A B} {set other : Members} {level place : ℕ} {told : Summary A B} → other ≡ set → IsNodeOf sum other level place told → IsNodeOf sum set level place told
-of_set {sum = sum} {level = level} {place = place} {told = told} e node = subst (λ (s : Members). IsNodeOf sum s level place told) e node
+pub of_set : {A B : Type 0} {sum : List ℕ → Summary A B} {set other : SetFacts} {level place : ℕ} {told : Summary A B} → other ≡ set → IsNodeOf sum other level place told → IsNodeOf sum set level place told
+of_set {sum = sum} {level = level} {place = place} {told = told} e node = subst (λ (s : SetFacts). IsNodeOf sum s level place told) e node
 
 -- how wide a node is
 pub node_width : (level place : ℕ) → end_key level place ≡ first_key level place + 2 ^ level
@@ -110,7 +110,7 @@ pub leaf_is : (keys : List ℕ) (level place : ℕ) → level ≡ 0 → below_no
 leaf_is keys level place e =
     ap (λ a. range_of keys a (end_key level place)) (leaf_first level place e) ∙ ap (λ b. range_of keys place b) (leaf_end level place e)
 
-module _ {A B : Type 0} {sum : List ℕ → Summary A B} {set : Members} {level place : ℕ} {told : Summary A B} (node : IsNodeOf sum set level place told) where
+module _ {A B : Type 0} {sum : List ℕ → Summary A B} {set : SetFacts} {level place : ℕ} {told : Summary A B} (node : IsNodeOf sum set level place told) where
   -- the members of the tree's set rise, and are below the end of its keys
   pub members_rise : Rises set.list
   members_rise = rises_from set.list node.is_tree_set.is_key_set.rising
@@ -122,8 +122,9 @@ module _ {A B : Type 0} {sum : List ℕ → Summary A B} {set : Members} {level 
   pub few_keys : (place + 1) * 2 ^ level ≤ 2 ^ 16
   few_keys = le_trans node.place_fits (pow_mono node.is_tree_set.few_bits)
 
-  pub middle_fits : 1 ≤ level → middle_key level place < 2 ^ 16
-  middle_fits h = omega (arith, middle_high level place h, few_keys)
+  -- a node stands in a tree of at most 16 bits
+  pub stands : Stands level place
+  stands = record { few_levels = le_trans node.level_fits node.is_tree_set.few_bits; few_keys = few_keys }
 
   -- a rank fits a u32
   pub ranks_fit : (k : ℕ) → rank_of set.list k < 2 ^ 32
@@ -139,10 +140,10 @@ module _ {A B : Type 0} {sum : List ℕ → Summary A B} {set : Members} {level 
       ap (λ a. range_of set.list a (end_key level place)) (top_first level place f) ∙ ap (λ b. range_of set.list 0 b) (top_end level place set.bits e f) ∙ range_whole set.list (2 ^ set.bits) members_below
 
 -- the top counts every member
-pub top_counts : {A B : Type 0} {sum : List ℕ → Summary A B} {set : Members} {level place : ℕ} {told : Summary A B} → ((keys : List ℕ) → (sum keys).count ≡ length keys) → IsNodeOf sum set level place told → level ≡ set.bits → place ≡ 0 → told.count ≡ length set.list
+pub top_counts : {A B : Type 0} {sum : List ℕ → Summary A B} {set : SetFacts} {level place : ℕ} {told : Summary A B} → ((keys : List ℕ) → (sum keys).count ≡ length keys) → IsNodeOf sum set level place told → level ≡ set.bits → place ≡ 0 → told.count ≡ length set.list
 top_counts totals node e f = counts node totals ∙ ap length (top_covers node e f)
 
-module _ {A B : Type 0} {sum : List ℕ → Summary A B} {set : Members} {level place l p : ℕ} {told child : Summary A B} (totals : (keys : List ℕ) → (sum keys).count ≡ length keys) (node : IsNodeOf sum set level place told) (below : IsNodeOf sum set l p child) where
+module _ {A B : Type 0} {sum : List ℕ → Summary A B} {set : SetFacts} {level place l p : ℕ} {told child : Summary A B} (totals : (keys : List ℕ) → (sum keys).count ≡ length keys) (node : IsNodeOf sum set level place told) (below : IsNodeOf sum set l p child) where
   -- what a left child leaves of its parent's count is in the right half
   pub left_leaves : l + 1 ≡ level → p ≡ 2 * place → told.count ≡ child.count + length (range_of set.list (middle_key level place) (end_key level place))
   left_leaves e f =
@@ -171,13 +172,13 @@ module _ {A B : Type 0} {sum : List ℕ → Summary A B} {set : Members} {level 
   left_rank e f = ap (rank_of set.list) (left_low level place l p e f)
 
 -- a node counts what its two children count
-pub children_count : {A B : Type 0} {sum : List ℕ → Summary A B} {set : Members} {level place l p m q : ℕ} {told left right : Summary A B} → ((keys : List ℕ) → (sum keys).count ≡ length keys)
+pub children_count : {A B : Type 0} {sum : List ℕ → Summary A B} {set : SetFacts} {level place l p m q : ℕ} {told left right : Summary A B} → ((keys : List ℕ) → (sum keys).count ≡ length keys)
     → IsNodeOf sum set level place told → IsNodeOf sum set l p left → IsNodeOf sum set m q right → l + 1 ≡ level → p ≡ 2 * place → m + 1 ≡ level → q ≡ 2 * place + 1 → told.count ≡ left.count + right.count
 children_count {set = set} {level = level} {place = place} {m = m} {q = q} totals node left right e f g h =
     let half = ap (λ a. length (range_of set.list a (end_key m q))) (right_low level place m q g h) ∙ ap (λ b. length (range_of set.list (middle_key level place) b)) (right_high level place m q g h) in
     omega (arith, left_leaves totals node left e f, counts right totals, half)
 
-module _ {A B : Type 0} {sum : List ℕ → Summary A B} {set : Members} {level place l p : ℕ} {told child : Summary A B} (totals : (keys : List ℕ) → (sum keys).count ≡ length keys) (node : IsNodeOf sum set level place told) (below : IsNodeOf sum set l p child) where
+module _ {A B : Type 0} {sum : List ℕ → Summary A B} {set : SetFacts} {level place l p : ℕ} {told child : Summary A B} (totals : (keys : List ℕ) → (sum keys).count ≡ length keys) (node : IsNodeOf sum set level place told) (below : IsNodeOf sum set l p child) where
   -- how many members are before the end of a left child
   pub left_end_rank : l + 1 ≡ level → p ≡ 2 * place → rank_of set.list (end_key l p) + told.count ≡ rank_of set.list (end_key level place) + child.count
   left_end_rank e f =

@@ -4,7 +4,7 @@ use Rattle.std.proofs.lemmas.Bool.{cases_order, cases_Bool}
 use Rattle.std.proofs.lemmas.Bool.Decides.{Decides-eqb}
 use Rattle.std.specs.Prelude.{find, slice_get}
 use Rattle.aug_model.specs.Queries.{rank_of, select_of, range_of, first_of, last_of}
-use Rattle.aug_query.proofs.Ranges.{Rises, AllBelow, count_cut, range_within, below_is, member_counts, counted_member, range_whole, range_clipped, range_none, count_few}
+use Rattle.aug_model.proofs.Ranges.{Rises, AllBelow, count_cut, range_within, below_is, member_counts, counted_member, range_whole, range_clipped, range_none, count_few}
 
 -- how many members are below k
 pub rank_is : (keys : List ℕ) (k : ℕ) → rank_of keys k ≡ length (range_of keys 0 k)

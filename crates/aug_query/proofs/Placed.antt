@@ -11,9 +11,8 @@ use Rattle.std.specs.List.{All}
 use Rattle.aug_model.specs.Queries.{range_of}
 use Rattle.aug_model.specs.declared.summary.Summary.{Summary}
 use Rattle.aug_query.specs.Tree.{IsTreeSet, IsNodeOf, below_node, first_key, middle_key, end_key}
-use Rattle.std.specs.Prelude.{◌==◌, if◌then◌else◌}
-use Rattle.aug_query.specs.FakeTree.{IsRow, HoldsTree, counted_from, counted_keys}
-use Rattle.aug_query.proofs.Ranges.{Rises, AllBelow, range_none, range_cut, range_of_one, range_whole, added_same, added_other, rises_from, all_below_from, range_le, count_few}
+use Rattle.aug_query.specs.FakeTree.{IsRow, HoldsTree, JoinsPairs}
+use Rattle.aug_model.proofs.Ranges.{Rises, AllBelow, added_same, added_other, rises_from, all_below_from, range_le, count_few}
 use Rattle.aug_query.proofs.Nodes.{leaf_is, left_covers, right_covers, node_cut}
 
 -- how many nodes a level has, each so wide
@@ -88,28 +87,24 @@ module _ {A B : Type 0} (sum : List ℕ → Summary A B) where
 pub leaf_below : (keys : List ℕ) (k : ℕ) → range_of keys k (k + 1) ≡ below_node keys 0 k
 leaf_below keys k = sym (leaf_is keys 0 k refl)
 
-module _ {A B : Type 0} where
-  -- leaves that count the members of a set give these back
-  counted_range : (keys : List ℕ) (k : ℕ) (leaves : List (Summary A B)) → Rises keys → ((p : ℕ) (d : Summary A B) → p < length leaves → (get_or leaves p d).count ≡ length (range_of keys (k + p) (k + p + 1))) → counted_from k leaves ≡ range_of keys k (k + length leaves)
-  counted_range keys k [] rises h = sym (range_none keys k (k + 0) (omega arith))
-  counted_range keys k (leaf ∷ leaves) rises h =
-      let rest : counted_from (k + 1) leaves ≡ range_of keys (k + 1) (k + 1 + length leaves) =
-      counted_range keys (k + 1) leaves rises (λ p d l. let shift : k + suc p ≡ k + 1 + p = omega arith in h (suc p) d (omega arith) ∙ ap (λ n. length (range_of keys n (n + 1))) shift) in
-      let here : leaf.count ≡ length (range_of keys k (k + 1)) = let start : k + 0 ≡ k = omega arith in h 0 leaf (omega arith) ∙ ap (λ n. length (range_of keys n (n + 1))) start in
-      let over : k + 1 + length leaves ≡ k + suc (length leaves) = omega arith in
-      let cut = range_cut keys k (k + 1) (k + suc (length leaves)) rises (omega arith) (omega arith) in
-      let after = rest ∙ ap (λ n. range_of keys (k + 1) n) over in
-      elim (range_of_one keys k rises) [
-        | inl none ↦ ap (λ n. if n == 0 then counted_from (k + 1) leaves else k ∷ counted_from (k + 1) leaves) (here ∙ ap length none) ∙ after ∙ sym (cut ∙ ap (λ xs. xs ++ range_of keys (k + 1) (k + suc (length leaves))) none)
-        | inr one ↦ ap (λ n. if n == 0 then counted_from (k + 1) leaves else k ∷ counted_from (k + 1) leaves) (here ∙ ap length one) ∙ ap (λ xs. k ∷ xs) after ∙ sym (cut ∙ ap (λ xs. xs ++ range_of keys (k + 1) (k + suc (length leaves))) one)
-      ]
+module _ {A B : Type 0} (sum : List ℕ → Summary A B) where
+  -- a node has the two nodes at twice its place in a row as its children
+  abbrev pub Joins : List (Summary A B) → ℕ → Summary A B → Type 0
+  Joins row place told = (default : Summary A B) (xs ys : List ℕ) → All (λ k. k < 2 ^ 32) xs → All (λ k. k < 2 ^ 32) ys → get_or row (2 * place) default ≡ sum xs → get_or row (2 * place + 1) default ≡ sum ys → told ≡ sum (xs ++ ys)
 
--- the set of a tree in memory is that whose leaves it has
-pub counted_is : {A B : Type 0} {sum : List ℕ → Summary A B} {bits : ℕ} {keys : List ℕ} (rows : List (List (Summary A B))) → ((xs : List ℕ) → (sum xs).count ≡ length xs) → Rises keys → AllBelow (2 ^ bits) keys → 0 < length rows → ((d : List (Summary A B)) → IsRow sum bits keys 0 (get_or rows 0 d)) → counted_keys rows ≡ keys
-counted_is [] totals rises below some leaves = absurd (omega arith)
-counted_is {bits = bits} {keys = keys} (row ∷ rows) totals rises below some leaves =
-    let is_row = leaves row in
-    let same : bits - 0 ≡ bits = omega arith in
-    let end : 0 + length row ≡ 2 ^ bits = omega (arith, is_row.all, ap (λ n. 2 ^ n) same) in
-    counted_range keys 0 row rises (λ p d l. let start : 0 + p ≡ p = omega arith in ap (λ s. s.count) (is_row.tells p d l) ∙ totals (below_node keys 0 p) ∙ ap length (leaf_is keys 0 p refl) ∙ ap (λ n. length (range_of keys n (n + 1))) (sym start))
-    ∙ ap (λ n. range_of keys 0 n) end ∙ range_whole keys (2 ^ bits) below
+-- the nodes of a row count few members
+pub row_counts_few : {A B : Type 0} {sum : List ℕ → Summary A B} {bits level : ℕ} {keys : List ℕ} {row : List (Summary A B)} → ((xs : List ℕ) → (sum xs).count ≡ length xs) → IsTreeSet (record { bits = bits; list = keys }) → IsRow sum bits keys level row → All (λ node. node.count < 2 ^ 31) row
+row_counts_few {bits = bits} {level = level} {keys = keys} totals set is_row place default within =
+    omega (arith, ap (λ s. s.count) (is_row.tells place default within), totals (below_node keys level place), covered_are_few bits keys level place set)
+
+-- what stands above a row of a tree is its next row
+pub row_above : {A B : Type 0} {sum : List ℕ → Summary A B} {bits level : ℕ} {keys : List ℕ} {row above : List (Summary A B)} → IsTreeSet (record { bits = bits; list = keys }) → level < bits → IsRow sum bits keys level row → JoinsPairs sum row above → IsRow sum bits keys (level + 1) above
+row_above {sum = sum} {bits = bits} {level = level} {keys = keys} set h is_row pairs =
+    let width = half_width bits level h in
+    record {
+      all = omega (arith, width, is_row.all, pairs.all, pairs.no_more);
+      tells = λ place default within.
+          pairs.joins place default (below_node keys level (2 * place)) (below_node keys level (2 * place + 1)) within (covered_are_keys bits keys level (2 * place) set) (covered_are_keys bits keys level (2 * place + 1) set)
+          (is_row.tells (2 * place) default (omega (arith, within, pairs.all))) (is_row.tells (2 * place + 1) default (omega (arith, within, pairs.all)))
+          ∙ ap sum (children_cover keys level place (rises_from keys set.is_key_set.rising));
+    }

@@ -1,26 +1,24 @@
 -- What a tree in memory is: a list of rows, one a level from the leaves up, with a summary for each node.
-use Rattle.std.specs.Prelude.{◌≡◌, ℕ, ◌+◌, ◌-◌, ◌^◌, ◌<◌, ◌≤◌, ◌==◌, if◌then◌else◌, List, [], ◌∷◌, length, slice_index_or}
-use Rattle.aug_model.specs.Keys.{Members}
+use Rattle.std.specs.Prelude.{◌≡◌, ℕ, ◌+◌, ◌-◌, ◌*◌, ◌^◌, ◌<◌, ◌≤◌, List, ◌++◌, length, slice_index_or}
+use Rattle.std.specs.List.{All}
+use Rattle.aug_model.specs.Keys.{SetFacts}
 use Rattle.aug_model.specs.declared.summary.Summary.{Summary}
 use Rattle.aug_query.specs.Tree.{IsTreeSet, below_node}
 
 -- a tree in memory as contracts see it: the set that it is of, and how often its nodes were asked for
 pub record Asked : Type 0 where
-  pub set : Members
+  pub set : SetFacts
   pub calls : ℕ
 
-module _ {A B : Type 0} where
-  -- the keys from k on whose leaves count a member, where the leaves of these keys are given
-  abbrev pub counted_from : ℕ → List (Summary A B) → List ℕ
-  counted_from k [] = []
-  counted_from k (leaf ∷ leaves) = if leaf.count == 0 then counted_from (k + 1) leaves else k ∷ counted_from (k + 1) leaves
+module _ {A B : Type 0} (summary_of : List ℕ → Summary A B) where
+  -- a row of nodes, each with two neighbours of the row below it as its children
+  pub record JoinsPairs (row above : List (Summary A B)) : Type 0 where
+    pub all : 2 * length above ≤ length row
+    pub no_more : length row ≤ 2 * length above + 1
+    pub joins : (place : ℕ) (default : Summary A B) (xs ys : List ℕ) → place < length above → All (λ k. k < 2 ^ 32) xs → All (λ k. k < 2 ^ 32) ys
+        → slice_index_or row (2 * place) default ≡ summary_of xs → slice_index_or row (2 * place + 1) default ≡ summary_of ys → slice_index_or above place default ≡ summary_of (xs ++ ys)
 
-  -- the members of a tree: the keys whose leaves, its first row, count a member
-  abbrev pub counted_keys : List (List (Summary A B)) → List ℕ
-  counted_keys [] = []
-  counted_keys (leaves ∷ rows) = counted_from 0 leaves
-
-  module _ (summary_of : List ℕ → Summary A B) (bits : ℕ) (keys : List ℕ) where
+  module _ (bits : ℕ) (keys : List ℕ) where
     -- a row has the summary of each node of its level
     pub record IsRow (level : ℕ) (row : List (Summary A B)) : Type 0 where
       pub all : length row ≡ 2 ^ (bits - level)

@@ -1,6 +1,6 @@
 -- What a tree of a set of keys is: its nodes, each with the summary of the members that it covers, and the calls that walk it.
 use Rattle.std.specs.Prelude.{◌≡◌, ℕ, ◌+◌, ◌-◌, ◌*◌, ◌^◌, ◌≤◌, List}
-use Rattle.aug_model.specs.Keys.{IsKeySet, Members}
+use Rattle.aug_model.specs.Keys.{IsKeySet, SetFacts}
 use Rattle.aug_model.specs.Queries.{range_of}
 use Rattle.aug_model.specs.declared.summary.Summary.{Summary}
 
@@ -20,26 +20,32 @@ middle_key level place = (2 * place + 1) * 2 ^ (level - 1)
 abbrev pub below_node : List ℕ → ℕ → ℕ → List ℕ
 below_node keys level place = range_of keys (first_key level place) (end_key level place)
 
+-- a level and a place of a tree of at most 16 bits
+pub record Stands (level place : ℕ) : Type 0 where
+  pub few_levels : level ≤ 16
+  pub few_keys : end_key level place ≤ 2 ^ 16
+
 -- a tree is of a set of keys of 1 to 16 bits
-pub record IsTreeSet (set : Members) : Type 0 where
+pub record IsTreeSet (set : SetFacts) : Type 0 where
   pub some_bits : 1 ≤ set.bits
   pub few_bits : set.bits ≤ 16
   pub is_key_set : IsKeySet set.bits set.list
 
 module _ {A B : Type 0} (summary_of : List ℕ → Summary A B) where
   -- a node of the tree of a set stands at a level and a place of the tree, and tells the summary of the members that it covers
-  pub record IsNodeOf (set : Members) (level place : ℕ) (told : Summary A B) : Type 0 where
+  pub record IsNodeOf (set : SetFacts) (level place : ℕ) (told : Summary A B) : Type 0 where
     pub is_tree_set : IsTreeSet set
     pub level_fits : level ≤ set.bits
     pub place_fits : end_key level place ≤ 2 ^ set.bits
     pub tells : told ≡ summary_of (below_node set.list level place)
 
-module _ {Tree Node : Type 0} (set_of : Tree → Members) (calls_of : Tree → ℕ) (HasNode : Tree → Node → Type 0) where
-  -- after some calls of top, left and right a tree is of the set that it was of, and its nodes are its nodes still
+module _ {Tree Node : Type 0} (set_of : Tree → SetFacts) (calls_of : Tree → ℕ) (HasNode : Tree → Node → Type 0) (KeepsRest : Tree → Tree → Type 0) where
+  -- after some calls of top, left and right a tree is of the set that it was of, its nodes are its nodes still, and the rest is kept that a walk keeps
   pub record Walks (calls : ℕ) (old new : Tree) : Type 0 where
     pub same_set : set_of new ≡ set_of old
     pub counts : calls_of new ≡ calls_of old + calls
     pub keeps_nodes : (node : Node) → HasNode old node → HasNode new node
+    pub keeps_rest : KeepsRest old new
 
   -- the same after at most so many calls
   pub record WalksAtMost (calls : ℕ) (old new : Tree) : Type 0 where
@@ -47,9 +53,4 @@ module _ {Tree Node : Type 0} (set_of : Tree → Members) (calls_of : Tree → �
     pub counts : calls_of old ≤ calls_of new
     pub few_calls : calls_of new ≤ calls_of old + calls
     pub keeps_nodes : (node : Node) → HasNode old node → HasNode new node
-
-  -- the same after any number of calls
-  pub record Stays (old new : Tree) : Type 0 where
-    pub same_set : set_of new ≡ set_of old
-    pub counts : calls_of old ≤ calls_of new
-    pub keeps_nodes : (node : Node) → HasNode old node → HasNode new node
+    pub keeps_rest : KeepsRest old new

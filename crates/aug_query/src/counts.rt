@@ -9,7 +9,7 @@ use aug_monoid::Monoid;
 /// How many members the set of `tree` has.
 pub fn size<A: Monoid, B: Monoid, T: Tree<A, B>>(tree: &mut T) -> u32
     ensures answer { result ≡ length (T.set_of tree.old).list }
-    ensures walks { WalksAtMost T.set_of T.calls_of T.HasNode 1 tree.old tree.new }
+    ensures walks { WalksAtMost T.set_of T.calls_of T.HasNode T.KeepsRest 1 tree.old tree.new }
 {
     let top = tree.top();
     T::summary(&top).count
@@ -18,7 +18,7 @@ pub fn size<A: Monoid, B: Monoid, T: Tree<A, B>>(tree: &mut T) -> u32
 /// How many members of the set of `tree` are below `k`.
 pub fn rank<A: Monoid, B: Monoid, T: Tree<A, B>>(tree: &mut T, k: u32) -> u32
     ensures answer { result ≡ rank_of (T.set_of tree.old).list k }
-    ensures walks { WalksAtMost T.set_of T.calls_of T.HasNode ((T.set_of tree.old).bits + 1) tree.old tree.new }
+    ensures walks { WalksAtMost T.set_of T.calls_of T.HasNode T.KeepsRest ((T.set_of tree.old).bits + 1) tree.old tree.new }
 {
     if universe(tree) <= k {
         return size(tree);

@@ -6,6 +6,7 @@ ghost use Rattle.aug_query.specs.Tree.{IsNodeOf};
 
 use crate::Tree;
 use crate::calls::Calls;
+use crate::noted::NotedKeys;
 use crate::rows::{leaf_row, parent_row};
 use aug_model::Summary;
 use aug_monoid::Monoid;
@@ -25,19 +26,20 @@ pub struct FakeNode<A, B> {
 pub struct FakeTree<A: Monoid, B: Monoid> {
     bits: u32,
     rows: Vec<Vec<Summary<A, B>>>,
+    keys: NotedKeys,
     calls: Calls,
 }
 
 impl<A: Monoid, B: Monoid> Model for FakeTree<A, B> {
     ghost use Rattle.std.specs.Prelude.{map};
     ghost use Rattle.aug_model.specs.Folds.{summary_of};
-    ghost use Rattle.aug_query.specs.FakeTree.{Asked, HoldsTree, counted_keys};
+    ghost use Rattle.aug_query.specs.FakeTree.{Asked, HoldsTree};
 
     ghost Value = { Asked };
 
-    ghost view = { λ t. record { set = record { bits = t.bits; list = counted_keys (map (λ row. row.items) t.rows.items) }; calls = t.calls.made } };
+    ghost view = { λ t. record { set = record { bits = t.bits; list = t.keys.list }; calls = t.calls.made } };
 
-    ghost invariant = { λ t. HoldsTree (summary_of A.unit_value A.key_value A.joined B.unit_value B.key_value B.joined) t.bits (counted_keys (map (λ row. row.items) t.rows.items)) (map (λ row. row.items) t.rows.items) };
+    ghost invariant = { λ t. HoldsTree (summary_of A.parts B.parts) t.bits t.keys.list (map (λ row. row.items) t.rows.items) };
 }
 
 impl<A: Monoid, B: Monoid> FakeTree<A, B> {
@@ -52,12 +54,13 @@ impl<A: Monoid, B: Monoid> FakeTree<A, B> {
         let mut rows = Vec::with_capacity(alloc, bits as usize + 1)?;
         rows.push(leaf_row(alloc, bits, keys)?)?;
         for level in 0..bits {
-            let above = parent_row(alloc, bits, keys, level, &rows[level as usize])?;
+            let above = parent_row(alloc, &rows[level as usize])?;
             rows.push(above)?;
         }
         Ok(FakeTree {
             bits,
             rows,
+            keys: NotedKeys::of(keys),
             calls: Calls::new(),
         })
     }
@@ -73,7 +76,7 @@ impl<A: Monoid, B: Monoid> FakeTree<A, B> {
     fn node(&self, level: u32, place: u32) -> FakeNode<A, B>
         requires level { level ≤ self.now.set.bits }
         requires place { (place + 1) * 2 ^ level ≤ 2 ^ self.now.set.bits }
-        ensures node { IsNodeOf (summary_of A.unit_value A.key_value A.joined B.unit_value B.key_value B.joined) self.now.set level place result.summary }
+        ensures node { IsNodeOf (summary_of A.parts B.parts) self.now.set level place result.summary }
         ensures level { result.level ≡ level }
         ensures place { result.place ≡ place }
     {
@@ -89,7 +92,7 @@ impl<A: Monoid, B: Monoid> FakeTree<A, B> {
 impl<A: Monoid, B: Monoid> Tree<A, B> for FakeTree<A, B> {
     type Node = FakeNode<A, B>;
 
-    ghost use Rattle.std.specs.Prelude.{ℕ};
+    ghost use Rattle.std.specs.Prelude.{ℕ, ⊤};
     ghost use Rattle.aug_model.specs.Folds.{summary_of};
     ghost use Rattle.aug_query.specs.Tree.{IsNodeOf};
 
@@ -97,7 +100,9 @@ impl<A: Monoid, B: Monoid> Tree<A, B> for FakeTree<A, B> {
 
     ghost calls_of = { λ t. t.calls };
 
-    ghost HasNode = { λ t n. IsNodeOf (summary_of A.unit_value A.key_value A.joined B.unit_value B.key_value B.joined) t.set n.level n.place n.summary };
+    ghost HasNode = { λ t n. IsNodeOf (summary_of A.parts B.parts) t.set n.level n.place n.summary };
+
+    ghost KeepsRest = { λ old new. ⊤ };
 
     ghost level_of = { λ n. n.level };
 
@@ -105,10 +110,13 @@ impl<A: Monoid, B: Monoid> Tree<A, B> for FakeTree<A, B> {
 
     ghost told_by = { λ n. n.summary };
 
+    ghost keeps_so = { λ t. tt };
+
+    ghost keeps_on = { λ first t last a b. tt };
+
     ghost node_tells = { λ t n has. has };
 
     fn bits(&self) -> u32 {
-        let _rows = &self.rows;
         self.bits
     }
 

@@ -12,8 +12,8 @@ use aug_monoid::Monoid;
 /// The number and the folds of the members of the set of `tree` from `a` on that are below `b`. Where
 /// `a >= b` there are none.
 pub fn range<A: Monoid, B: Monoid, T: Tree<A, B>>(tree: &mut T, a: u32, b: u32) -> Summary<A, B>
-    ensures answer { result ≡ summary_of A.unit_value A.key_value A.joined B.unit_value B.key_value B.joined (range_of (T.set_of tree.old).list a b) }
-    ensures walks { WalksAtMost T.set_of T.calls_of T.HasNode (4 * (T.set_of tree.old).bits - 1) tree.old tree.new }
+    ensures answer { result ≡ summary_of A.parts B.parts (range_of (T.set_of tree.old).list a b) }
+    ensures walks { WalksAtMost T.set_of T.calls_of T.HasNode T.KeepsRest (4 * (T.set_of tree.old).bits - 1) tree.old tree.new }
 {
     let b = b.min(universe(tree));
     if b <= a {
@@ -34,7 +34,7 @@ pub fn range<A: Monoid, B: Monoid, T: Tree<A, B>>(tree: &mut T, a: u32, b: u32) 
 fn spanning<A: Monoid, B: Monoid, T: Tree<A, B>>(tree: &mut T, a: u32, b: u32) -> T::Node
     requires some { a < b }
     requires keys { b ≤ 2 ^ (T.set_of tree.old).bits }
-    ensures walks { WalksAtMost T.set_of T.calls_of T.HasNode ((T.set_of tree.old).bits + 1 - T.level_of result) tree.old tree.new }
+    ensures walks { WalksAtMost T.set_of T.calls_of T.HasNode T.KeepsRest ((T.set_of tree.old).bits + 1 - T.level_of result) tree.old tree.new }
     ensures node { T.HasNode tree.new result }
     ensures first { first_key (T.level_of result) (T.place_of result) ≤ a }
     ensures end { b ≤ end_key (T.level_of result) (T.place_of result) }
@@ -42,7 +42,7 @@ fn spanning<A: Monoid, B: Monoid, T: Tree<A, B>>(tree: &mut T, a: u32, b: u32) -
 {
     let mut node = tree.top();
     while T::level(&node) > 0 && T::summary(&node).count > 0 {
-        let cut = middle(tree, &node);
+        let cut = middle::<A, B, T>(&node);
         if b <= cut {
             node = tree.left(&node);
         } else if cut <= a {
@@ -63,11 +63,11 @@ fn from<A: Monoid, B: Monoid, T: Tree<A, B>>(
     requires node { T.HasNode tree.old node }
     requires first { first_key (T.level_of node) (T.place_of node) ≤ a }
     requires end { a < end_key (T.level_of node) (T.place_of node) }
-    ensures answer { result ≡ summary_of A.unit_value A.key_value A.joined B.unit_value B.key_value B.joined (range_of (T.set_of tree.old).list a (end_key (T.level_of node) (T.place_of node))) }
-    ensures walks { WalksAtMost T.set_of T.calls_of T.HasNode (2 * T.level_of node) tree.old tree.new }
+    ensures answer { result ≡ summary_of A.parts B.parts (range_of (T.set_of tree.old).list a (end_key (T.level_of node) (T.place_of node))) }
+    ensures walks { WalksAtMost T.set_of T.calls_of T.HasNode T.KeepsRest (2 * T.level_of node) tree.old tree.new }
 {
     let mut total = of_none();
-    while first(tree, &node) < a && T::summary(&node).count > 0 {
+    while first::<A, B, T>(&node) < a && T::summary(&node).count > 0 {
         let step = toward(tree, &node, a);
         if step.after > 0 {
             let right = tree.right(&node);
@@ -87,14 +87,14 @@ fn until<A: Monoid, B: Monoid, T: Tree<A, B>>(
     requires node { T.HasNode tree.old node }
     requires first { first_key (T.level_of node) (T.place_of node) ≤ b }
     requires end { b ≤ end_key (T.level_of node) (T.place_of node) }
-    ensures answer { result ≡ summary_of A.unit_value A.key_value A.joined B.unit_value B.key_value B.joined (range_of (T.set_of tree.old).list (first_key (T.level_of node) (T.place_of node)) b) }
-    ensures walks { WalksAtMost T.set_of T.calls_of T.HasNode (2 * T.level_of node) tree.old tree.new }
+    ensures answer { result ≡ summary_of A.parts B.parts (range_of (T.set_of tree.old).list (first_key (T.level_of node) (T.place_of node)) b) }
+    ensures walks { WalksAtMost T.set_of T.calls_of T.HasNode T.KeepsRest (2 * T.level_of node) tree.old tree.new }
 {
-    if end(tree, &node) == b {
+    if end::<A, B, T>(&node) == b {
         return T::summary(&node);
     }
     let mut total = of_none();
-    while first(tree, &node) < b && T::summary(&node).count > 0 {
+    while first::<A, B, T>(&node) < b && T::summary(&node).count > 0 {
         let step = toward(tree, &node, b);
         if step.before > 0 {
             let left = tree.left(&node);

@@ -1,9 +1,9 @@
 //! Order queries on a tree of a set of keys, by descent from its top (after Fatourou and Ruppert 2024).
 //!
-//! A query goes down by the counts that the nodes carry, and no node is loaded twice. None takes memory but
-//! `keys`. With `bits` the bits of the keys, the calls of `top`, `left` and `right` are at most: `size` 1, `has`
-//! and `rank` `bits + 1`, `select` `2 * bits + 1`, `before` and `after` `3 * bits`, `range` `4 * bits - 1`. So each
-//! is within `4 * bits + 2`. `keys` goes to every member.
+//! A query goes down by the counts that the nodes carry. None takes memory but `keys`. With `bits` the bits of
+//! the keys, the calls of `top`, `left` and `right` are at most: `size` 1, `has` and `rank` `bits + 1`, `select`
+//! `2 * bits + 1`, `before` and `after` `3 * bits`, `range` `4 * bits - 1`, and `keys`, which goes to every one of
+//! `n` members, `2 * bits * n + 1`.
 #![tactic(auto)]
 
 mod calls;
@@ -13,6 +13,7 @@ mod intervals;
 mod listing;
 mod membership;
 mod neighbours;
+mod noted;
 mod positions;
 mod rows;
 mod summaries;

@@ -9,7 +9,7 @@ use aug_monoid::Monoid;
 /// The greatest member of the set of `tree` below `k`, if there is one.
 pub fn before<A: Monoid, B: Monoid, T: Tree<A, B>>(tree: &mut T, k: u32) -> Option<u32>
     ensures answer { result ≡ before_of (T.set_of tree.old).list k }
-    ensures walks { WalksAtMost T.set_of T.calls_of T.HasNode (3 * (T.set_of tree.old).bits) tree.old tree.new }
+    ensures walks { WalksAtMost T.set_of T.calls_of T.HasNode T.KeepsRest (3 * (T.set_of tree.old).bits) tree.old tree.new }
 {
     let mut node = tree.top();
     if universe(tree) <= k {
@@ -30,7 +30,7 @@ pub fn before<A: Monoid, B: Monoid, T: Tree<A, B>>(tree: &mut T, k: u32) -> Opti
 /// The least member of the set of `tree` above `k`, if there is one.
 pub fn after<A: Monoid, B: Monoid, T: Tree<A, B>>(tree: &mut T, k: u32) -> Option<u32>
     ensures answer { result ≡ after_of (T.set_of tree.old).list k }
-    ensures walks { WalksAtMost T.set_of T.calls_of T.HasNode (3 * (T.set_of tree.old).bits) tree.old tree.new }
+    ensures walks { WalksAtMost T.set_of T.calls_of T.HasNode T.KeepsRest (3 * (T.set_of tree.old).bits) tree.old tree.new }
 {
     if universe(tree) <= k {
         return None;
@@ -52,7 +52,7 @@ pub fn after<A: Monoid, B: Monoid, T: Tree<A, B>>(tree: &mut T, k: u32) -> Optio
 fn greatest<A: Monoid, B: Monoid, T: Tree<A, B>>(tree: &mut T, mut node: T::Node) -> Option<u32>
     requires { T.HasNode tree.old node }
     ensures answer { result ≡ last_of (below_node (T.set_of tree.old).list (T.level_of node) (T.place_of node)) }
-    ensures walks { WalksAtMost T.set_of T.calls_of T.HasNode (2 * T.level_of node) tree.old tree.new }
+    ensures walks { WalksAtMost T.set_of T.calls_of T.HasNode T.KeepsRest (2 * T.level_of node) tree.old tree.new }
 {
     if T::summary(&node).count == 0 {
         return None;
@@ -68,7 +68,7 @@ fn last_child<A: Monoid, B: Monoid, T: Tree<A, B>>(tree: &mut T, node: &T::Node)
     requires node { T.HasNode tree.old node.now }
     requires inner { 1 ≤ T.level_of node.now }
     requires some { 0 < (T.told_by node.now).count }
-    ensures walks { WalksAtMost T.set_of T.calls_of T.HasNode 2 tree.old tree.new }
+    ensures walks { WalksAtMost T.set_of T.calls_of T.HasNode T.KeepsRest 2 tree.old tree.new }
     ensures node { T.HasNode tree.new result }
     ensures level { T.level_of result + 1 ≡ T.level_of node.now }
     ensures some { 0 < (T.told_by result).count }
@@ -85,7 +85,7 @@ fn last_child<A: Monoid, B: Monoid, T: Tree<A, B>>(tree: &mut T, node: &T::Node)
 fn least<A: Monoid, B: Monoid, T: Tree<A, B>>(tree: &mut T, mut node: T::Node) -> Option<u32>
     requires { T.HasNode tree.old node }
     ensures answer { result ≡ first_of (below_node (T.set_of tree.old).list (T.level_of node) (T.place_of node)) }
-    ensures walks { WalksAtMost T.set_of T.calls_of T.HasNode (2 * T.level_of node) tree.old tree.new }
+    ensures walks { WalksAtMost T.set_of T.calls_of T.HasNode T.KeepsRest (2 * T.level_of node) tree.old tree.new }
 {
     if T::summary(&node).count == 0 {
         return None;
@@ -101,7 +101,7 @@ fn first_child<A: Monoid, B: Monoid, T: Tree<A, B>>(tree: &mut T, node: &T::Node
     requires node { T.HasNode tree.old node.now }
     requires inner { 1 ≤ T.level_of node.now }
     requires some { 0 < (T.told_by node.now).count }
-    ensures walks { WalksAtMost T.set_of T.calls_of T.HasNode 2 tree.old tree.new }
+    ensures walks { WalksAtMost T.set_of T.calls_of T.HasNode T.KeepsRest 2 tree.old tree.new }
     ensures node { T.HasNode tree.new result }
     ensures level { T.level_of result + 1 ≡ T.level_of node.now }
     ensures some { 0 < (T.told_by result).count }

@@ -8,7 +8,7 @@ use aug_monoid::Monoid;
 /// The member of the set of `tree` with exactly `i` members below it, if there is one.
 pub fn select<A: Monoid, B: Monoid, T: Tree<A, B>>(tree: &mut T, i: u32) -> Option<u32>
     ensures answer { result ≡ select_of (T.set_of tree.old).list i }
-    ensures walks { WalksAtMost T.set_of T.calls_of T.HasNode (2 * (T.set_of tree.old).bits + 1) tree.old tree.new }
+    ensures walks { WalksAtMost T.set_of T.calls_of T.HasNode T.KeepsRest (2 * (T.set_of tree.old).bits + 1) tree.old tree.new }
 {
     let mut node = tree.top();
     if T::summary(&node).count <= i {
@@ -33,7 +33,7 @@ fn child_at<A: Monoid, B: Monoid, T: Tree<A, B>>(
     requires node { T.HasNode tree.old node.now }
     requires inner { 1 ≤ T.level_of node.now }
     requires within { i < (T.told_by node.now).count }
-    ensures walks { WalksAtMost T.set_of T.calls_of T.HasNode 2 tree.old tree.new }
+    ensures walks { WalksAtMost T.set_of T.calls_of T.HasNode T.KeepsRest 2 tree.old tree.new }
     ensures node { T.HasNode tree.new result.0 }
     ensures level { T.level_of result.0 + 1 ≡ T.level_of node.now }
     ensures within { result.1 < (T.told_by result.0).count }

@@ -1,8 +1,8 @@
 //! The rows of a tree in memory: the summaries of the nodes of a level, places rising.
-ghost use Rattle.std.specs.Prelude.{◌≡◌, ℕ, ◌+◌, ◌^◌, ◌<◌, ◌≤◌, [], length, IfOk};
+ghost use Rattle.std.specs.Prelude.{◌≡◌, ◌^◌, ◌<◌, [], length, IfOk};
 ghost use Rattle.std.specs.List.{All};
 ghost use Rattle.aug_model.specs.Folds.{summary_of};
-ghost use Rattle.aug_query.specs.FakeTree.{IsRow};
+ghost use Rattle.aug_query.specs.FakeTree.{IsRow, JoinsPairs};
 ghost use Rattle.aug_query.specs.Tree.{IsTreeSet};
 
 use crate::summaries::{joined, of_none, of_one};
@@ -17,7 +17,7 @@ pub(crate) fn leaf_row<A: Monoid, B: Monoid>(
     keys: &[u32],
 ) -> Result<Vec<Summary<A, B>>, AllocError>
     requires { IsTreeSet (record { bits = bits; list = keys.now }) }
-    ensures { let sum = summary_of A.unit_value A.key_value A.joined B.unit_value B.key_value B.joined in
+    ensures { let sum = summary_of A.parts B.parts in
         IfOk result (λ row. IsRow sum bits keys.now 0 row.items) }
 {
     let mut row = empty_row(alloc, 1 << bits)?;
@@ -33,7 +33,7 @@ fn empty_row<A: Monoid, B: Monoid>(
     width: usize,
 ) -> Result<Vec<Summary<A, B>>, AllocError>
     ensures all { IfOk result (λ row. length row.items ≡ width) }
-    ensures each { let sum = summary_of A.unit_value A.key_value A.joined B.unit_value B.key_value B.joined in
+    ensures each { let sum = summary_of A.parts B.parts in
         IfOk result (λ row. All (λ leaf. leaf ≡ sum []) row.items) }
 {
     let mut row = Vec::with_capacity(alloc, width)?;
@@ -43,19 +43,14 @@ fn empty_row<A: Monoid, B: Monoid>(
     Ok(row)
 }
 
-// The row above that of a level, of the tree of a set of keys.
+// The row above `row`: each of its nodes has two neighbours of `row` as its children.
 pub(crate) fn parent_row<A: Monoid, B: Monoid>(
     alloc: Global,
-    bits: u32,
-    _keys: &[u32],
-    level: u32,
     row: &[Summary<A, B>],
 ) -> Result<Vec<Summary<A, B>>, AllocError>
-    requires set { IsTreeSet (record { bits = bits; list = _keys.now }) }
-    requires level { level < bits }
-    requires row { IsRow (summary_of A.unit_value A.key_value A.joined B.unit_value B.key_value B.joined) bits _keys.now level row.now }
-    ensures { let sum = summary_of A.unit_value A.key_value A.joined B.unit_value B.key_value B.joined in
-        IfOk result (λ above. IsRow sum bits _keys.now (level + 1) above.items) }
+    requires { All (λ node. node.count < 2 ^ 31) row.now }
+    ensures { let sum = summary_of A.parts B.parts in
+        IfOk result (λ above. JoinsPairs sum row.now above.items) }
 {
     let width = row.len() / 2;
     let mut above = Vec::with_capacity(alloc, width)?;

@@ -7,7 +7,7 @@ use aug_monoid::Monoid;
 
 // The summary of no keys.
 pub(crate) fn of_none<A: Monoid, B: Monoid>() -> Summary<A, B>
-    ensures { result ≡ summary_of A.unit_value A.key_value A.joined B.unit_value B.key_value B.joined [] }
+    ensures { result ≡ summary_of A.parts B.parts [] }
 {
     Summary {
         count: 0,
@@ -18,7 +18,7 @@ pub(crate) fn of_none<A: Monoid, B: Monoid>() -> Summary<A, B>
 
 // The summary of the one key `k`.
 pub(crate) fn of_one<A: Monoid, B: Monoid>(k: u32) -> Summary<A, B>
-    ensures { result ≡ summary_of A.unit_value A.key_value A.joined B.unit_value B.key_value B.joined (k ∷ []) }
+    ensures { result ≡ summary_of A.parts B.parts (k ∷ []) }
 {
     Summary {
         count: 1,
@@ -30,7 +30,7 @@ pub(crate) fn of_one<A: Monoid, B: Monoid>(k: u32) -> Summary<A, B>
 // The summary of the keys that `low` summarizes and then those that `high` does.
 pub(crate) fn joined<A: Monoid, B: Monoid>(low: Summary<A, B>, high: Summary<A, B>) -> Summary<A, B>
     requires { low.count + high.count < 2 ^ 32 }
-    ensures { let sum = summary_of A.unit_value A.key_value A.joined B.unit_value B.key_value B.joined in
+    ensures { let sum = summary_of A.parts B.parts in
         (xs ys : List ℕ) → All (λ k. k < 2 ^ 32) xs → All (λ k. k < 2 ^ 32) ys → low ≡ sum xs → high ≡ sum ys → result ≡ sum (xs ++ ys) }
 {
     Summary {

@@ -3,6 +3,7 @@ use aug_model::{KeySet, ModelError};
 use aug_monoid::Extent;
 use last::Last;
 use std::alloc::{AllocError, Global};
+use std::process::Abort;
 use std::test::Fail;
 
 mod last;
@@ -56,6 +57,26 @@ fn keys_lists_the_members(rt: HostRuntime) -> Result<(), Fail> {
     Ok(())
 }
 
+// A request that is refused is made again, and what was asked for before it is still so. Under
+// `rt try --test --fail-alloc N` the Nth request is refused.
+#[test]
+fn refused_memory_changes_no_answer(rt: HostRuntime) -> Result<(), Fail> {
+    let mut tree = match five_and_nine(rt.alloc()) {
+        Ok(tree) => tree,
+        Err(_) => five_and_nine(rt.alloc())?,
+    };
+    let list = match keys(rt.alloc(), &mut tree) {
+        Ok(list) => list,
+        Err(_) => {
+            assert_eq!(rt; (size(&mut tree), rank(&mut tree, 9)), (2, 1));
+            assert_eq!(rt; (has(&mut tree, 9), has(&mut tree, 6)), (true, false));
+            keys(rt.alloc(), &mut tree)?
+        }
+    };
+    assert_eq!(rt; list.as_slice(), [5, 9].as_slice());
+    Ok(())
+}
+
 // Compares the queries of one key or number.
 fn agrees_at(tree: &mut FakeTree<Last, Extent>, set: &KeySet, k: u32) -> bool {
     has(tree, k) == set.has(k)
@@ -76,15 +97,98 @@ fn set_of(alloc: Global, code: u32) -> Result<KeySet, ModelError> {
     Ok(set)
 }
 
-// The tree of the members of `set` among the keys 0 to 3.
+// The set of the keys of so many bits that leave `rest` when `divisor` divides them.
+fn set_of_rests(alloc: Global, wanted: u32, divisor: u32, rest: u32) -> Result<KeySet, ModelError> {
+    let mut set = KeySet::try_new(alloc, wanted)?;
+    let bits = set.bits();
+    for k in 0..1u32 << bits {
+        if k.checked_rem(divisor) == Some(rest) {
+            set.insert(k);
+        }
+    }
+    Ok(set)
+}
+
+// The tree of the members of `set`.
 fn tree_of(alloc: Global, set: &KeySet) -> Result<FakeTree<Last, Extent>, AllocError> {
+    let bits = set.bits();
     let mut list = Vec::new(alloc);
-    for k in 0..4 {
+    for k in 0..1u32 << bits {
         if set.has(k) {
             list.push(k)?;
         }
     }
-    FakeTree::try_new(alloc, 2, &list)
+    FakeTree::try_new(alloc, bits, &list)
+}
+
+// Whether the list of `tree` has the members of `set`, and no others.
+fn lists(
+    alloc: Global,
+    tree: &mut FakeTree<Last, Extent>,
+    set: &KeySet,
+) -> Result<bool, AllocError> {
+    let list = keys(alloc, tree)?;
+    let mut same = list.len() == set.size() as usize;
+    let mut i = 0u32;
+    for k in &list {
+        same = same && set.select(i) == Some(*k);
+        i = i.wrapping_add(1);
+    }
+    Ok(same)
+}
+
+// Checks that the tree of the keys that leave `rest` when `divisor` divides them answers as the plain set does.
+fn assert_agrees(
+    rt: &impl Abort,
+    alloc: Global,
+    bits: u32,
+    divisor: u32,
+    rest: u32,
+) -> Result<(), Fail> {
+    let set = set_of_rests(alloc, bits, divisor, rest)?;
+    let mut tree = tree_of(alloc, &set)?;
+    assert!(rt;
+        lists(alloc, &mut tree, &set)?,
+        "{rest} by {divisor}, {bits} bits"
+    );
+    assert_eq!(rt; size(&mut tree), set.size());
+    assert_eq!(rt; range(&mut tree, 0, 65536), set.range(0, 65536));
+    for k in [0, 1, 2, 32_767, 65_535, 65_536] {
+        assert!(rt;
+            agrees_at(&mut tree, &set, k),
+            "{k} in {rest} by {divisor}, {bits} bits"
+        );
+    }
+    Ok(())
+}
+
+#[test]
+fn trees_of_one_bit_answer(rt: HostRuntime) -> Result<(), Fail> {
+    assert_agrees(&rt, rt.alloc(), 1, 1, 1)?;
+    assert_agrees(&rt, rt.alloc(), 1, 1, 0)?;
+    assert_agrees(&rt, rt.alloc(), 1, 2, 0)?;
+    assert_agrees(&rt, rt.alloc(), 1, 2, 1)
+}
+
+#[test]
+fn an_empty_tree_of_sixteen_bits_answers(rt: HostRuntime) -> Result<(), Fail> {
+    assert_agrees(&rt, rt.alloc(), 16, 1, 1)
+}
+
+#[test]
+fn a_full_tree_of_sixteen_bits_answers(rt: HostRuntime) -> Result<(), Fail> {
+    assert_agrees(&rt, rt.alloc(), 16, 1, 0)
+}
+
+#[test]
+fn a_tree_of_the_last_key_of_sixteen_bits_answers(rt: HostRuntime) -> Result<(), Fail> {
+    assert_agrees(&rt, rt.alloc(), 16, 65536, 65535)
+}
+
+#[test]
+fn trees_of_some_keys_of_sixteen_bits_answer(rt: HostRuntime) -> Result<(), Fail> {
+    assert_agrees(&rt, rt.alloc(), 16, 2, 1)?;
+    assert_agrees(&rt, rt.alloc(), 16, 257, 3)
 }
 
 #[test]

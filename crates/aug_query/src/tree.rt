@@ -1,5 +1,5 @@
 ghost use Rattle.std.specs.Prelude.{◌≡◌, ℕ, ◌+◌, ◌*◌, ◌≤◌};
-ghost use Rattle.aug_model.specs.Keys.{Members};
+ghost use Rattle.aug_model.specs.Keys.{SetFacts};
 ghost use Rattle.aug_model.specs.Folds.{summary_of};
 ghost use Rattle.aug_model.specs.declared.summary.Summary.{Summary as Told};
 ghost use Rattle.aug_query.specs.Tree.{IsTreeSet, IsNodeOf, Walks};
@@ -19,13 +19,16 @@ pub trait Tree<A: Monoid, B: Monoid> {
     type Node: Drop;
 
     // How many bits the keys have, and the members, rising.
-    ghost set_of: { Self → Members };
+    ghost set_of: { Self → SetFacts };
 
     // How often `top`, `left` and `right` have been called. It takes no bytes.
     ghost calls_of: { Self → ℕ };
 
     // The node is one of this tree.
     ghost HasNode: { Self → Self.Node → Type 0 };
+
+    // What a walk keeps of the tree besides its set, from what the tree was to what it has become.
+    ghost KeepsRest: { Self → Self → Type 0 };
 
     // How far above the leaves a node stands.
     ghost level_of: { Self.Node → ℕ };
@@ -43,7 +46,7 @@ pub trait Tree<A: Monoid, B: Monoid> {
 
     /// The node that covers every key.
     fn top(&mut self) -> Self::Node
-        ensures walks { Walks set_of calls_of HasNode 1 self.old self.new }
+        ensures walks { Walks set_of calls_of HasNode KeepsRest 1 self.old self.new }
         ensures node { HasNode self.new result }
         ensures level { level_of result ≡ (set_of self.old).bits }
         ensures place { place_of result ≡ 0 };
@@ -52,7 +55,7 @@ pub trait Tree<A: Monoid, B: Monoid> {
     fn left(&mut self, node: &Self::Node) -> Self::Node
         requires node { HasNode self.old node.now }
         requires inner { 1 ≤ level_of node.now }
-        ensures walks { Walks set_of calls_of HasNode 1 self.old self.new }
+        ensures walks { Walks set_of calls_of HasNode KeepsRest 1 self.old self.new }
         ensures node { HasNode self.new result }
         ensures level { level_of result + 1 ≡ level_of node.now }
         ensures place { place_of result ≡ 2 * place_of node.now };
@@ -61,7 +64,7 @@ pub trait Tree<A: Monoid, B: Monoid> {
     fn right(&mut self, node: &Self::Node) -> Self::Node
         requires node { HasNode self.old node.now }
         requires inner { 1 ≤ level_of node.now }
-        ensures walks { Walks set_of calls_of HasNode 1 self.old self.new }
+        ensures walks { Walks set_of calls_of HasNode KeepsRest 1 self.old self.new }
         ensures node { HasNode self.new result }
         ensures level { level_of result + 1 ≡ level_of node.now }
         ensures place { place_of result ≡ 2 * place_of node.now + 1 };
@@ -78,6 +81,12 @@ pub trait Tree<A: Monoid, B: Monoid> {
     fn summary(node: &Self::Node) -> Summary<A, B>
         ensures { result ≡ told_by node.now };
 
+    // A tree that no call has changed keeps it.
+    ghost keeps_so: { (tree : Self) → KeepsRest tree tree };
+
+    // What two walks keep, the one after the other, the walk of both keeps.
+    ghost keeps_on: { (first tree last : Self) → KeepsRest first tree → KeepsRest tree last → KeepsRest first last };
+
     // A node of the tree stands within it, and its summary is that of the members that it covers.
-    ghost node_tells: { (tree : Self) (node : Self.Node) → HasNode tree node → IsNodeOf (summary_of A.unit_value A.key_value A.joined B.unit_value B.key_value B.joined) (set_of tree) (level_of node) (place_of node) (told_by node) };
+    ghost node_tells: { (tree : Self) (node : Self.Node) → HasNode tree node → IsNodeOf (summary_of A.parts B.parts) (set_of tree) (level_of node) (place_of node) (told_by node) };
 }

@@ -1,7 +1,7 @@
 //! Single steps of a descent.
 ghost use Rattle.std.specs.Prelude.{◌≡◌, ℕ, ◌+◌, ◌-◌, ◌*◌, ◌^◌, ◌<◌, ◌≤◌};
 ghost use Rattle.aug_model.specs.Queries.{rank_of};
-ghost use Rattle.aug_query.specs.Tree.{IsTreeSet, Walks, first_key, middle_key, end_key};
+ghost use Rattle.aug_query.specs.Tree.{IsTreeSet, Stands, Walks, first_key, middle_key, end_key};
 
 use crate::Tree;
 use aug_monoid::Monoid;
@@ -15,24 +15,24 @@ pub(crate) fn universe<A: Monoid, B: Monoid, T: Tree<A, B>>(tree: &T) -> u32
 }
 
 // The least key that `node` covers.
-pub(crate) fn first<A: Monoid, B: Monoid, T: Tree<A, B>>(_tree: &T, node: &T::Node) -> u32
-    requires { T.HasNode _tree.now node.now }
+pub(crate) fn first<A: Monoid, B: Monoid, T: Tree<A, B>>(node: &T::Node) -> u32
+    requires { Stands (T.level_of node.now) (T.place_of node.now) }
     ensures { result ≡ first_key (T.level_of node.now) (T.place_of node.now) }
 {
     T::place(node) << T::level(node)
 }
 
 // One more than the greatest key that `node` covers.
-pub(crate) fn end<A: Monoid, B: Monoid, T: Tree<A, B>>(_tree: &T, node: &T::Node) -> u32
-    requires { T.HasNode _tree.now node.now }
+pub(crate) fn end<A: Monoid, B: Monoid, T: Tree<A, B>>(node: &T::Node) -> u32
+    requires { Stands (T.level_of node.now) (T.place_of node.now) }
     ensures { result ≡ end_key (T.level_of node.now) (T.place_of node.now) }
 {
     (T::place(node) + 1) << T::level(node)
 }
 
 // The least key that the right child of `node` covers.
-pub(crate) fn middle<A: Monoid, B: Monoid, T: Tree<A, B>>(_tree: &T, node: &T::Node) -> u32
-    requires node { T.HasNode _tree.now node.now }
+pub(crate) fn middle<A: Monoid, B: Monoid, T: Tree<A, B>>(node: &T::Node) -> u32
+    requires stands { Stands (T.level_of node.now) (T.place_of node.now) }
     requires inner { 1 ≤ T.level_of node.now }
     ensures value { result ≡ middle_key (T.level_of node.now) (T.place_of node.now) }
     ensures past_first { first_key (T.level_of node.now) (T.place_of node.now) < result }
@@ -60,7 +60,7 @@ pub(crate) fn toward<A: Monoid, B: Monoid, T: Tree<A, B>>(
     requires inner { 1 ≤ T.level_of node.now }
     requires first { first_key (T.level_of node.now) (T.place_of node.now) ≤ k }
     requires end { k < end_key (T.level_of node.now) (T.place_of node.now) }
-    ensures walks { Walks T.set_of T.calls_of T.HasNode 1 tree.old tree.new }
+    ensures walks { Walks T.set_of T.calls_of T.HasNode T.KeepsRest 1 tree.old tree.new }
     ensures node { T.HasNode tree.new result.child }
     ensures level { T.level_of result.child + 1 ≡ T.level_of node.now }
     ensures first { first_key (T.level_of result.child) (T.place_of result.child) ≤ k }
@@ -73,7 +73,7 @@ pub(crate) fn toward<A: Monoid, B: Monoid, T: Tree<A, B>>(
     ensures left { 0 < result.after → end_key (T.level_of result.child) (T.place_of result.child) ≡ middle_key (T.level_of node.now) (T.place_of node.now) }
 {
     let count = T::summary(node).count;
-    if k < middle(tree, node) {
+    if k < middle::<A, B, T>(node) {
         let left = tree.left(node);
         let after = count - T::summary(&left).count;
         return Step {

@@ -1,167 +1,229 @@
 -- The words of a table are filled node by node.
-use Rattle.std.proofs.Common.{true, false, ◌≡◌, ℕ, zero, suc, ◌+◌, ◌-◌, ◌*◌, ◌^◌, ◌<◌, ◌≤◌, ◌≢◌, Bool, ◌||◌, eqb, eq-eqb, ne_eqb, le-ltb, lt-ltb, if◌then◌else◌, List, [], ◌∷◌, ◌++◌, length, get_or, set, take, All, refl, sym, ap, ◌∙◌, subst, ⊎_elim, arith, length-set, length-append, get_or-set_other, get_or-set_same, mul-le-mul_right}
-use Rattle.std.proofs.Math.Nat.{two-pow-succ, add-mul, mul-add}
-use Rattle.std.proofs.lemmas.Bool.{cases_eq, cases_lt}
+use Rattle.std.proofs.Common.{true, false, ◌≡◌, ℕ, zero, suc, ◌+◌, ◌-◌, ◌*◌, ◌^◌, ◌<◌, ◌≤◌, ◌≢◌, ◌⊎◌, inl, inr, max, Bool, ◌||◌, eqb, eq-eqb, ne_eqb, leb, le-leb, le-ltb, lt-ltb, if◌then◌else◌, List, [], ◌∷◌, ◌++◌, length, get_or, set, take, All, refl, sym, ap, ◌∙◌, subst, ⊎_elim, arith, length-set, length-append, get_or-set_other, get_or-set_same}
+use Rattle.std.proofs.lemmas.Bool.{cases_eq, cases_lt, lt-leb}
 use Rattle.std.proofs.lemmas.List.{take_more, get_or_read, get_or-replicate}
-use Rattle.std.proofs.lemmas.List.Elements.{All-nil, All-cons, All-append, All-same}
+use Rattle.std.proofs.lemmas.List.Elements.{All-filter, All-contains}
+use Rattle.std.proofs.lemmas.List.Folds.{list_any-append}
 use Rattle.aug_monoid.specs.Fold.{fold_of}
 use Rattle.aug_monoid.specs.Laws.{IsMonoid}
+use Rattle.aug_monoid.specs.Parts.{Parts}
 use Rattle.aug_monoid.proofs.FoldLemmas.{fold_of-append, fold_of-is_proper}
-use Rattle.aug_core.specs.Places.{Shape, lane_place, record_start, word_count}
-use Rattle.aug_core.specs.Tree.{place_count, IsInner, left_of, right_of}
-use Rattle.aug_core.specs.Lanes.{block_start, block_size}
-use mathlib.Core.Option.{some}
-use lib.ListN.{get_elem?}
-use Rattle.aug_core.specs.Members.{among, AreMembers}
-use Rattle.aug_core.specs.Opening.{Opening, keys_at_leaf, members_below, opening_keys, opening_number, opening_words}
+use Rattle.aug_model.specs.Keys.{is_member, IsKeySet}
+use Rattle.aug_model.specs.Queries.{range_of}
+use Rattle.aug_model.proofs.Membership.{is_member-iff_Contains}
+use Rattle.aug_model.proofs.Ranges.{Rises, rises_from, all_below_from, count_few, range_le, range_of_key, no_members}
+use Rattle.aug_core.specs.Places.{Shape, shape_of, own_records, lane_place, record_start, word_count}
+use Rattle.aug_core.specs.Layout.{IsLayout}
+use Rattle.aug_core.specs.Tree.{place_count, IsInner, left_of, right_of, level_start, level_of, place_on}
+use Rattle.aug_core.specs.Lanes.{IsOfLane, block_start, block_size}
+use Rattle.aug_core.specs.Opening.{Opening, members_below, has_members, own_before, number_at, opening_keys, opening_number, opening_words}
 use Rattle.aug_core.specs.Faces.{face}
-use Rattle.aug_core.proofs.Sizes.{twice, some_leaf}
+use Rattle.aug_core.proofs.FaceLemmas.{face_is}
+use Rattle.aug_core.proofs.Sizes.{twice, own_more}
+use Rattle.aug_core.proofs.Levels.{OnLevel, halves, no_wider, level_rises, over_children, above, inner_level}
+use Rattle.aug_core.proofs.Below.{own_room, own_rises, number_own, number_shared, number_low, number_below, number_is, keys_are, below_both, true_or_false, keys_over, keys_of_leaf, number_of_leaf}
 use Rattle.aug_core.specs.Rule.{Kept, newcomer}
 use Rattle.atomic_table.specs.Table.{opening}
-use Rattle.aug_core.proofs.Openings.{keys_over, opens, is_book, number_of_leaf, number_of_inner}
+use Rattle.aug_core.proofs.Openings.{opens, newcomer_knows}
 use Rattle.aug_words.specs.Seats.{IsLeadSeat}
-use Rattle.aug_words.specs.Builds.{AreWords, WritesFive, MarksMembers, IsMarked, IsReady, IsBuilt}
+use Rattle.aug_words.specs.declared.building.Plan.{Plan}
+use Rattle.aug_words.specs.Builds.{WritesFive, MarksMembers, IsMarked, nodes_from, next_own, shared_words, IsOwn, HasRecord, IsReady, IsBuilt, IsNextNode}
 
 -- ---- the members below a place
 
--- they are keys of 32 bits
-small_below : (s : Shape) (members : List ℕ) (f q : ℕ) → 2 ^ s.bits ≤ 65536 → q < place_count s → q < f → All (λ k. k < 2 ^ 32) (members_below s members f q)
-small_below s members zero q few inside h = absurd (omega arith)
-small_below s members (suc f) q few inside h = ⊎_elim
-    (λ (leaf : q < 2 ^ s.bits). All-same (λ k. k < 2 ^ 32) _ _ (ap (λ (z : Bool). if z then keys_at_leaf members q else members_below s members f (left_of s q) ++ members_below s members f (right_of s q)) (lt-ltb q (2 ^ s.bits) leaf))
-    (small_leaf (among q members) q (omega arith)))
-    (λ (inner : 2 ^ s.bits ≤ q). let t = twice s.bits in All-same (λ k. k < 2 ^ 32) _ _ (ap (λ (z : Bool). if z then keys_at_leaf members q else members_below s members f (left_of s q) ++ members_below s members f (right_of s q)) (le-ltb q (2 ^ s.bits) inner))
-    (All-append (λ k. k < 2 ^ 32) _ _ (small_below s members f (left_of s q) few (omega arith) (omega arith)) (small_below s members f (right_of s q) few (omega arith) (omega arith))))
-    (cases_lt q (2 ^ s.bits))
-  where
-    small_leaf : (b : Bool) (q : ℕ) → q < 2 ^ 32 → All (λ k. k < 2 ^ 32) (if b then q ∷ [] else [])
-    small_leaf true q h = All-cons (λ k. k < 2 ^ 32) q [] h (All-nil (λ k. k < 2 ^ 32))
-    small_leaf false q h = All-nil (λ k. k < 2 ^ 32)
+module _ (o : Opening) (set : IsKeySet o.shape.bits o.members) where
+  pub rises : Rises o.members
+  rises = rises_from o.members set.rising
 
-pub keys_small : (o : Opening) (q : ℕ) → 2 ^ o.shape.bits ≤ 65536 → q < place_count o.shape → All (λ k. k < 2 ^ 32) (opening_keys o q)
-keys_small o q few inside = small_below o.shape o.members (place_count o.shape) q few inside inside
+  -- they are keys of 32 bits
+  pub keys_small : 2 ^ o.shape.bits ≤ 65536 → (q : ℕ) → All (λ k. k < 2 ^ 32) (opening_keys o q)
+  keys_small few q = All-filter _ (λ k. k < 2 ^ 32) o.members (λ i d low. let below : get_or o.members i d < 2 ^ o.shape.bits = set.below i d low in omega arith)
 
--- ---- how many there are
-
-length_leaf : (b : Bool) (q : ℕ) → length (if b then q ∷ [] else []) ≤ 1
-length_leaf true q = omega arith
-length_leaf false q = omega arith
-
-twice_of : (e p : ℕ) → (e + e) * p ≡ e * (p + p)
-twice_of e p = add-mul e e p ∙ sym (mul-add e p p)
-
--- the members below a leaf, and below an inner node
-below_leaf : (s : Shape) (members : List ℕ) (steps q : ℕ) → q < 2 ^ s.bits → members_below s members (suc steps) q ≡ keys_at_leaf members q
-below_leaf s members steps q leaf = ap (λ (z : Bool). if z then keys_at_leaf members q else members_below s members steps (left_of s q) ++ members_below s members steps (right_of s q)) (lt-ltb q (2 ^ s.bits) leaf)
-
-below_inner : (s : Shape) (members : List ℕ) (steps q : ℕ) → 2 ^ s.bits ≤ q → members_below s members (suc steps) q ≡ members_below s members steps (left_of s q) ++ members_below s members steps (right_of s q)
-below_inner s members steps q inner = ap (λ (z : Bool). if z then keys_at_leaf members q else members_below s members steps (left_of s q) ++ members_below s members steps (right_of s q)) (le-ltb q (2 ^ s.bits) inner)
-
-few_leaf : (s : Shape) (members : List ℕ) (steps f q : ℕ) → q < 2 ^ s.bits → length (members_below s members (suc steps) q) ≤ 2 ^ f
-few_leaf s members steps f q leaf = let l = length_leaf (among q members) q in let p = some_leaf f in let is = ap length (below_leaf s members steps q leaf) in omega arith
-
--- a place at a height f above the leaves, or lower, has no more than 2 ^ f members below it
-few_below : (s : Shape) (members : List ℕ) (steps f q : ℕ) → q < place_count s → 2 ^ s.bits ≤ (place_count s - q) * 2 ^ f → length (members_below s members steps q) ≤ 2 ^ f
-few_below s members zero f q inside high = let l = length_leaf (among q members) q in let p = some_leaf f in omega arith
-few_below s members (suc steps) zero q inside high = ⊎_elim (λ (leaf : q < 2 ^ s.bits). few_leaf s members steps 0 q leaf)
-    (λ (inner : 2 ^ s.bits ≤ q). let t = twice s.bits in absurd (omega arith)) (cases_lt q (2 ^ s.bits))
-few_below s members (suc steps) (suc f) q inside high = ⊎_elim (λ (leaf : q < 2 ^ s.bits). few_leaf s members steps (suc f) q leaf)
-    (λ (inner : 2 ^ s.bits ≤ q).
-    let t = twice s.bits in let e : ℕ = place_count s - q in let p : ℕ = 2 ^ f in let double : 2 ^ suc f ≡ p + p = two-pow-succ f in
-    let higher : 2 ^ s.bits ≤ (e + e) * p = subst (λ (z : ℕ). 2 ^ s.bits ≤ z) (ap (λ (z : ℕ). e * z) double ∙ sym (twice_of e p)) high in
-    let up : (r : ℕ) → r ≤ right_of s q → (e + e) * p ≤ (place_count s - r) * p = λ r low. mul-le-mul_right p (omega arith) in
-    let left_high = up (left_of s q) (omega arith) in let right_high = up (right_of s q) (omega arith) in
-    let l = few_below s members steps f (left_of s q) (omega arith) (omega arith) in let r = few_below s members steps f (right_of s q) (omega arith) (omega arith) in
-    let long = ap length (below_inner s members steps q inner) ∙ length-append (members_below s members steps (left_of s q)) (members_below s members steps (right_of s q)) in omega arith)
-    (cases_lt q (2 ^ s.bits))
-
-pub few_keys : (o : Opening) (q : ℕ) → q < place_count o.shape → length (opening_keys o q) ≤ 2 ^ o.shape.bits
-few_keys o q inside = let p : ℕ = 2 ^ o.shape.bits in few_below o.shape o.members (place_count o.shape) o.shape.bits q inside (let t : 1 * p ≤ (place_count o.shape - q) * p = mul-le-mul_right p (omega arith) in omega arith)
+  -- no more than there are keys
+  pub few_keys : (q : ℕ) → length (opening_keys o q) ≤ 2 ^ o.shape.bits
+  few_keys q = let all = count_few (2 ^ o.shape.bits) o.members rises (all_below_from (2 ^ o.shape.bits) o.members set.below) in let w : ℕ = 2 ^ level_of o.shape q in
+      let some = range_le o.members (place_on o.shape q * w) ((place_on o.shape q + 1) * w) in omega arith
 
 -- ---- the words of a record
 
-module _ {A B : Type 0} (unit_a : A) (key_a : ℕ → A) (join_a : A → A → A) (word_a : A → ℕ) (unit_b : B) (key_b : ℕ → B) (join_b : B → B → B) (word_b : B → ℕ) where
-  abbrev pub both : ℕ → ℕ → List ℕ → List ℕ
-  both = face unit_a key_a join_a word_a unit_b key_b join_b word_b
-
-  pub count_in : (l r : ℕ) (keys : List ℕ) → get_or (both l r keys) 2 0 ≡ length keys
-  unfolding face
-  count_in l r keys = refl
-
-  pub a_in : (l r : ℕ) (keys : List ℕ) → get_or (both l r keys) 3 0 ≡ word_a (fold_of unit_a key_a join_a keys)
-  unfolding face
-  a_in l r keys = refl
-
-  pub b_in : (l r : ℕ) (keys : List ℕ) → get_or (both l r keys) 4 0 ≡ word_b (fold_of unit_b key_b join_b keys)
-  unfolding face
-  b_in l r keys = refl
-
-  face_is : (l r n x y : ℕ) (keys : List ℕ) → n ≡ length keys → x ≡ word_a (fold_of unit_a key_a join_a keys) → y ≡ word_b (fold_of unit_b key_b join_b keys) → l ∷ r ∷ n ∷ x ∷ y ∷ [] ≡ both l r keys
-  unfolding face
-  face_is l r n x y keys a b c i = l ∷ r ∷ a i ∷ b i ∷ c i ∷ []
-
-  module _ {OkA : A → Type 0} {of_a : ℕ → A} {OkB : B → Type 0} {of_b : ℕ → B} (laws_a : IsMonoid OkA unit_a key_a join_a word_a of_a) (laws_b : IsMonoid OkB unit_b key_b join_b word_b of_b) (o : Opening) (few : 2 ^ o.shape.bits ≤ 65536) where
+module _ {A B : Type 0} (parts_a : Parts A) (parts_b : Parts B) where
+  module _ (laws_a : IsMonoid parts_a) (laws_b : IsMonoid parts_b) (o : Opening) (set : IsKeySet o.shape.bits o.members) (few : 2 ^ o.shape.bits ≤ 65536) where
     -- what is read of a record that is ready
-    pub a_read : (q : ℕ) → q < place_count o.shape → of_a (word_a (fold_of unit_a key_a join_a (opening_keys o q))) ≡ fold_of unit_a key_a join_a (opening_keys o q)
-    a_read q inside = laws_a.round_trip _ (fold_of-is_proper laws_a (opening_keys o q) (keys_small o q few inside))
+    pub a_read : (q : ℕ) → parts_a.from_word (parts_a.to_word (fold_of parts_a (opening_keys o q))) ≡ fold_of parts_a (opening_keys o q)
+    a_read q = laws_a.round_trip _ (fold_of-is_proper laws_a (opening_keys o q) (keys_small o set few q))
 
-    pub b_read : (q : ℕ) → q < place_count o.shape → of_b (word_b (fold_of unit_b key_b join_b (opening_keys o q))) ≡ fold_of unit_b key_b join_b (opening_keys o q)
-    b_read q inside = laws_b.round_trip _ (fold_of-is_proper laws_b (opening_keys o q) (keys_small o q few inside))
+    pub b_read : (q : ℕ) → parts_b.from_word (parts_b.to_word (fold_of parts_b (opening_keys o q))) ≡ fold_of parts_b (opening_keys o q)
+    b_read q = laws_b.round_trip _ (fold_of-is_proper laws_b (opening_keys o q) (keys_small o set few q))
 
     -- what the children tell is what the record says
     pub five_are : (q n x y : ℕ) → IsInner o.shape q → n ≡ length (opening_keys o (left_of o.shape q)) + length (opening_keys o (right_of o.shape q))
-        → x ≡ word_a (join_a (fold_of unit_a key_a join_a (opening_keys o (left_of o.shape q))) (fold_of unit_a key_a join_a (opening_keys o (right_of o.shape q))))
-        → y ≡ word_b (join_b (fold_of unit_b key_b join_b (opening_keys o (left_of o.shape q))) (fold_of unit_b key_b join_b (opening_keys o (right_of o.shape q))))
-        → opening_number o (left_of o.shape q) ∷ opening_number o (right_of o.shape q) ∷ n ∷ x ∷ y ∷ [] ≡ opening_words both o q
+        → x ≡ parts_a.to_word (parts_a.join (fold_of parts_a (opening_keys o (left_of o.shape q))) (fold_of parts_a (opening_keys o (right_of o.shape q))))
+        → y ≡ parts_b.to_word (parts_b.join (fold_of parts_b (opening_keys o (left_of o.shape q))) (fold_of parts_b (opening_keys o (right_of o.shape q))))
+        → opening_number o (left_of o.shape q) ∷ opening_number o (right_of o.shape q) ∷ n ∷ x ∷ y ∷ [] ≡ opening_words (face parts_a parts_b) o q
     five_are q n x y inner en ex ey =
-        let t = twice o.shape.bits in let past = inner.past_leaves in let inside = inner.inside in
         let ls : List ℕ = opening_keys o (left_of o.shape q) in let rs : List ℕ = opening_keys o (right_of o.shape q) in
-        let small_l = keys_small o (left_of o.shape q) few (omega arith) in let small_r = keys_small o (right_of o.shape q) few (omega arith) in
-        let is : opening_keys o q ≡ ls ++ rs = keys_over o q inner in
-        face_is (opening_number o (left_of o.shape q)) (opening_number o (right_of o.shape q)) n x y (opening_keys o q)
+        let small_l = keys_small o set few (left_of o.shape q) in let small_r = keys_small o set few (right_of o.shape q) in
+        let is : opening_keys o q ≡ ls ++ rs = keys_over o (rises o set) q inner in
+        face_is parts_a parts_b (opening_number o (left_of o.shape q)) (opening_number o (right_of o.shape q)) n x y (opening_keys o q)
         (en ∙ sym (length-append ls rs) ∙ ap length (sym is))
-        (ex ∙ ap word_a (sym (fold_of-append laws_a ls rs small_l small_r)) ∙ ap (λ (z : List ℕ). word_a (fold_of unit_a key_a join_a z)) (sym is))
-        (ey ∙ ap word_b (sym (fold_of-append laws_b ls rs small_l small_r)) ∙ ap (λ (z : List ℕ). word_b (fold_of unit_b key_b join_b z)) (sym is))
+        (ex ∙ ap parts_a.to_word (sym (fold_of-append laws_a ls rs small_l small_r)) ∙ ap (λ (z : List ℕ). parts_a.to_word (fold_of parts_a z)) (sym is))
+        (ey ∙ ap parts_b.to_word (sym (fold_of-append laws_b ls rs small_l small_r)) ∙ ap (λ (z : List ℕ). parts_b.to_word (fold_of parts_b z)) (sym is))
 
 -- ---- one node more
 
-module _ (face : ℕ → ℕ → List ℕ → List ℕ) (o : Opening) where
-  -- a place below the nodes that are built is ready
-  pub built_ready : (done q : ℕ) (words : List ℕ) → IsBuilt face o done words → q < 2 ^ o.shape.bits + done → q < place_count o.shape → IsReady face o words q
-  built_ready done q words built low inside = record {
-    inside = inside;
-    long = built.long;
-    leaf = λ leaf. built.leaves q leaf;
-    node = λ past. subst (λ (z : ℕ). AreWords words (record_start o.shape (q - 2 ^ o.shape.bits)) (opening_words face o z)) (let is : 2 ^ o.shape.bits + (q - 2 ^ o.shape.bits) ≡ q = omega arith in is) (built.records (q - 2 ^ o.shape.bits) (omega arith));
-  }
+-- the own records of a level lie behind one another
+own_step : (o : Opening) (l p : ℕ) → own_before o l p ≤ own_before o l (p + 1)
+own_step o l p = let e : p + 1 ≡ suc p = omega arith in let f = ap (own_before o l) e in omega arith
 
-  pub built_more : (done : ℕ) (old mid five : List ℕ) → done + 1 < 2 ^ o.shape.bits → IsBuilt face o done old → WritesFive old mid (record_start o.shape done) five → five ≡ opening_words face o (2 ^ o.shape.bits + done)
-      → IsBuilt face o (done + 1) (set mid (2 ^ o.shape.bits + done) done)
-  built_more done old mid five room built writes is =
-      let t = twice o.shape.bits in let at : ℕ = 2 ^ o.shape.bits + done in
-      let stays : (i : ℕ) → i ≢ at → get_or (set mid at done) i 0 ≡ get_or mid i 0 = λ i ne. get_or-set_other mid at i done 0 ne in record {
-        long = length-set mid at done ∙ writes.long ∙ built.long;
-        leaves = λ key low. stays key (λ e. omega arith) ∙ writes.before key (omega arith) ∙ built.leaves key low;
-        nodes = λ i low. ⊎_elim
-            (λ same. subst (λ (z : ℕ). get_or (set mid at done) (2 ^ o.shape.bits + z) 0 ≡ z) (sym same) (get_or-set_same mid at done 0 (let l = writes.long in let w = built.long in omega arith)))
-            (λ other. stays (2 ^ o.shape.bits + i) (λ e. other (omega arith)) ∙ writes.before (2 ^ o.shape.bits + i) (omega arith) ∙ built.nodes i (omega arith)) (cases_eq i done);
-        records = λ i low k small. ⊎_elim
-            (λ same. subst (λ (z : ℕ). get_or (set mid at done) (record_start o.shape z + k) 0 ≡ get_or (opening_words face o (2 ^ o.shape.bits + z)) k 0) (sym same)
-            (stays (record_start o.shape done + k) (λ e. omega arith) ∙ writes.written k small ∙ ap (λ (z : List ℕ). get_or z k 0) is))
-            (λ other. stays (record_start o.shape i + k) (λ e. omega arith) ∙ writes.before (record_start o.shape i + k) (omega arith) ∙ built.records i (omega arith) k small) (cases_eq i done);
-        lanes = λ lane low. stays (lane_place o.shape lane) (λ e. omega arith) ∙ writes.before (lane_place o.shape lane) (omega arith) ∙ built.lanes lane low;
-        blocks = λ lane k low small. stays (block_start o.shape lane + k) (λ e. omega arith) ∙ writes.behind (block_start o.shape lane + k) (omega arith) ∙ built.blocks lane k low small;
+own_later : (o : Opening) (l p n : ℕ) → p ≤ n → own_before o l p ≤ own_before o l n
+own_later o l p zero le = let e : p ≡ 0 = omega arith in let f = ap (own_before o l) e in omega arith
+own_later o l p (suc n) le = ⊎_elim (λ (lt : p < suc n). let h = own_later o l p n (omega arith) in omega arith) (λ (ge : suc n ≤ p). let e : p ≡ suc n = omega arith in let f = ap (own_before o l) e in omega arith) (cases_lt p (suc n))
+
+own_after : (o : Opening) (l p : ℕ) → has_members o l p ≡ true → own_before o l (suc p) ≡ own_before o l p + 1
+own_after o l p has = ap (λ (z : Bool). own_before o l p + (if z then 1 else 0)) has
+
+pub own_same : (o : Opening) (l p : ℕ) → has_members o l p ≡ false → own_before o l (suc p) ≡ own_before o l p
+own_same o l p none = ap (λ (z : Bool). own_before o l p + (if z then 1 else 0)) none ∙ (let e : own_before o l p + 0 ≡ own_before o l p = omega arith in e)
+
+-- a node's own record has a greater number than those of all nodes before it
+pub number_rises : (o : Opening) → Rises o.members → length o.members ≤ o.shape.members → (q r l p k n : ℕ) → OnLevel o.shape q (suc l) p → OnLevel o.shape r (suc k) n → q < r → has_members o (suc k) n ≡ true → number_at o (suc l) p < number_at o (suc k) n
+number_rises o up fit q r l p k n a b lt has = let e = number_own o k n has in let low_a = a.few in let low_b = b.few in ⊎_elim
+    (λ own. let f = number_own o l p own in let room = own_room o up fit (suc l) p a.room own in ⊎_elim
+    (λ (below : l < k). let u = own_rises o.shape.bits o.shape.members (suc l) k (omega arith) in let m = own_more o.shape.bits o.shape.members l in omega arith)
+    (λ (level : k ≤ l). ⊎_elim
+    (λ (higher : k < l). let w = level_rises o.shape (suc k) (suc l) (omega arith) low_a in let x = a.is in let y = b.is in let z = b.room in absurd (omega arith))
+    (λ (lower : l ≤ k). let same : l ≡ k = omega arith in let x = a.is in let y = b.is in let g : level_start o.shape (suc l) ≡ level_start o.shape (suc k) = ap (λ (z : ℕ). level_start o.shape (suc z)) same in
+    let before = own_later o (suc l) (suc p) n (omega arith) in let step = own_after o (suc l) p own in let h : own_before o (suc l) n ≡ own_before o (suc k) n = ap (λ (z : ℕ). own_before o (suc z) n) same in
+    let i : own_records o.shape.bits o.shape.members l ≡ own_records o.shape.bits o.shape.members k = ap (own_records o.shape.bits o.shape.members) same in omega arith) (cases_lt k l)) (cases_lt l k))
+    (λ none. let f = number_shared o l p none in omega arith) (true_or_false (has_members o (suc l) p))
+
+-- where no member is below a node, none is below its children
+no_keys : (o : Opening) (l p : ℕ) → has_members o l p ≡ false → length (members_below o l p) ≡ 0
+no_keys o l p none = ⊎_elim (λ (lt : 0 < length (members_below o l p)). let clash : false ≡ true = sym none ∙ lt-ltb 0 (length (members_below o l p)) lt in cc) (λ (z : length (members_below o l p) ≤ 0). omega arith) (cases_lt 0 (length (members_below o l p)))
+
+pub none_there : (o : Opening) (l p : ℕ) → length (members_below o l p) ≡ 0 → has_members o l p ≡ false
+none_there o l p none = le-ltb 0 (length (members_below o l p)) (omega arith)
+
+pub has_there : (o : Opening) (l p : ℕ) → 0 < length (members_below o l p) → has_members o l p ≡ true
+has_there o l p lt = lt-ltb 0 (length (members_below o l p)) lt
+
+some_keys : (o : Opening) (l p : ℕ) → has_members o l p ≡ true → 0 < length (members_below o l p)
+some_keys o l p some = ⊎_elim (λ (lt : 0 < length (members_below o l p)). lt) (λ (z : length (members_below o l p) ≤ 0). let clash : true ≡ false = sym some ∙ le-ltb 0 (length (members_below o l p)) z in cc)
+    (cases_lt 0 (length (members_below o l p)))
+
+-- the members at a leaf
+below_leaf : (o : Opening) → Rises o.members → (p : ℕ) → members_below o 0 p ≡ (if is_member o.members p then p ∷ [] else [])
+below_leaf o up p = (let e : p * 1 ≡ p = omega arith in let f : (p + 1) * 1 ≡ p + 1 = omega arith in λ i. range_of o.members (e i) (f i)) ∙ range_of_key o.members p up
+
+-- the word of a place with no members below
+number_none : (o : Opening) → Rises o.members → (l p : ℕ) → length (members_below o l p) ≡ 0 → number_at o l p ≡ l - 1
+number_none o up zero p none = leaf_none (is_member o.members p) (let e = ap length (below_leaf o up p) in omega arith)
+  where
+    leaf_none : (b : Bool) → length (if b then p ∷ [] else []) ≡ 0 → (if b then 1 else 0) ≡ 0 - 1
+    leaf_none true e = absurd (omega arith)
+    leaf_none false e = refl
+number_none o up (suc l) p none = number_shared o l p (none_there o (suc l) p none) ∙ (let e : l ≡ suc l - 1 = omega arith in e)
+
+-- a word tells whether there are members below: a leaf's by its serial, and a node's by being no number of a shared record
+pub number_tells : (o : Opening) → Rises o.members → (l p least : ℕ) → l ≤ o.shape.bits → (l ≡ 0 → least ≡ 1) → (l ≢ 0 → least ≡ o.shape.bits)
+    → ((0 < length (members_below o l p)) × (least ≤ number_at o l p)) ⊎ ((length (members_below o l p) ≡ 0) × (number_at o l p < least))
+number_tells o up zero p least few leaf node = of_leaf (is_member o.members p) (below_leaf o up p) refl
+  where
+    of_leaf : (b : Bool) → members_below o 0 p ≡ (if b then p ∷ [] else []) → number_at o 0 p ≡ (if b then 1 else 0)
+        → ((0 < length (members_below o 0 p)) × (least ≤ number_at o 0 p)) ⊎ ((length (members_below o 0 p) ≡ 0) × (number_at o 0 p < least))
+    of_leaf true is e = let one = leaf refl in let n = ap length is in inl (omega arith, omega arith)
+    of_leaf false is e = let one = leaf refl in let n = ap length is in inr (omega arith, omega arith)
+number_tells o up (suc l) p least few leaf node = let is : least ≡ o.shape.bits = node (λ e. omega arith) in ⊎_elim
+    (λ some. let e = number_own o l p some in inl (some_keys o (suc l) p some, omega arith))
+    (λ none. let e = number_shared o l p none in inr (no_keys o (suc l) p none, omega arith)) (true_or_false (has_members o (suc l) p))
+
+-- a node has members below where the greater of its children's words tells so
+pub has_by_children : (o : Opening) → Rises o.members → (l p least x y : ℕ) → suc l ≤ o.shape.bits → (l ≡ 0 → least ≡ 1) → (l ≢ 0 → least ≡ o.shape.bits)
+    → x ≡ number_at o l (2 * p) → y ≡ number_at o l (2 * p + 1) → leb least (max x y) ≡ has_members o (suc l) p
+has_by_children o up l p least x y few leaf node ex ey =
+    let both = ap length (below_both o up l p) in let sum = length-append (members_below o l (2 * p)) (members_below o l (2 * p + 1)) in ⊎_elim
+    (λ left. le-leb least (max x y) (omega (arith, left.1, ex)) ∙ sym (has_there o (suc l) p (omega (arith, left.0, both, sum))))
+    (λ left. ⊎_elim
+    (λ right. le-leb least (max x y) (omega (arith, right.1, ey)) ∙ sym (has_there o (suc l) p (omega (arith, right.0, both, sum))))
+    (λ right. lt-leb least (max x y) (omega (arith, left.1, right.1, ex, ey)) ∙ sym (none_there o (suc l) p (omega (arith, left.0, right.0, both, sum))))
+    (number_tells o up l (2 * p + 1) least (omega arith) leaf node)) (number_tells o up l (2 * p) least (omega arith) leaf node)
+
+module _ (face : ℕ → ℕ → List ℕ → List ℕ) (o : Opening) (up : Rises o.members) where
+  -- the record that a level's nodes share is that of each with no members below
+  pub shared_is : (q l p : ℕ) → OnLevel o.shape q (suc l) p → has_members o (suc l) p ≡ false → shared_words face o l ≡ opening_words face o q
+  shared_is q l p a none = let c = over_children o.shape q l p a in let zero_all = no_keys o (suc l) p none in
+      let split = ap length (below_both o up l p) in let sum = length-append (members_below o l (2 * p)) (members_below o l (2 * p + 1)) in
+      let left = number_is o (left_of o.shape q) l (2 * p) c.0 ∙ number_none o up l (2 * p) (omega arith) in
+      let right = number_is o (right_of o.shape q) l (2 * p + 1) c.1 ∙ number_none o up l (2 * p + 1) (omega arith) in
+      let keys = keys_are o q (suc l) p a ∙ no_members (members_below o (suc l) p) zero_all in
+      λ i. face (sym left i) (sym right i) (sym keys i)
+
+  -- one node more, whose record is there
+  pub node_more : (q n : ℕ) (words : List ℕ) → IsInner o.shape q → n ≡ opening_number o q → IsBuilt face o o.shape.bits q words → HasRecord face o words q → IsBuilt face o o.shape.bits (q + 1) (set words q n)
+  node_more q n words inner is built has =
+      let t = twice o.shape.bits in let inside = inner.inside in let past = inner.past_leaves in
+      let stays : (i : ℕ) → i ≢ q → get_or (set words q n) i 0 ≡ get_or words i 0 = λ i ne. get_or-set_other words q i n 0 ne in record {
+        long = length-set words q n ∙ built.long;
+        named = λ r low. ⊎_elim
+            (λ same. subst (λ (z : ℕ). get_or (set words q n) z 0 ≡ opening_number o z) (sym same) (get_or-set_same words q n 0 (let w = built.long in omega arith) ∙ is))
+            (λ other. stays r other ∙ built.named r (omega arith)) (cases_eq r q);
+        shared = λ level low k small. stays (record_start o.shape level + k) (λ e. omega arith) ∙ built.shared level low k small;
+        records = λ r past' low k small. stays (record_start o.shape (opening_number o r) + k) (λ e. omega arith) ∙ ⊎_elim
+            (λ same. subst (HasRecord face o words) (sym same) has k small)
+            (λ other. built.records r past' (omega arith) k small) (cases_eq r q);
+        idle = λ number k unused small. stays (record_start o.shape number + k) (λ e. omega arith) ∙ built.idle number k unused small;
+        lanes = λ lane low. stays (lane_place o.shape lane) (λ e. omega arith) ∙ built.lanes lane low;
+        blocks = λ lane k low small. stays (block_start o.shape lane + k) (λ e. omega arith) ∙ built.blocks lane k low small;
       }
 
+  -- a node with no members below has the record that its level shares
+  pub node_shared : (q l p : ℕ) (words : List ℕ) → OnLevel o.shape q (suc l) p → has_members o (suc l) p ≡ false → IsBuilt face o o.shape.bits q words → IsBuilt face o o.shape.bits (q + 1) (set words q l)
+  node_shared q l p words a none built = let e : opening_number o q ≡ l = number_is o q (suc l) p a ∙ number_shared o l p none in node_more q l words (inner_level o.shape q l p a) (sym e) built
+      (λ k small. ap (λ (z : ℕ). get_or words (record_start o.shape z + k) 0) e ∙ built.shared l (let up = a.few in omega arith) k small ∙ ap (λ (z : List ℕ). get_or z k 0) (shared_is q l p a none))
+
+  -- a node with members below has one of its own
+  pub node_own : length o.members ≤ o.shape.members → (q l p n : ℕ) (old mid five : List ℕ) → OnLevel o.shape q (suc l) p → has_members o (suc l) p ≡ true → IsBuilt face o o.shape.bits q old → n ≡ number_at o (suc l) p
+      → WritesFive old mid (record_start o.shape n) five → five ≡ opening_words face o q → IsBuilt face o o.shape.bits (q + 1) (set mid q n)
+  node_own fit q l p n old mid five a has built is writes words = let inner = inner_level o.shape q l p a in let inside = inner.inside in let t = twice o.shape.bits in let past = inner.past_leaves in
+      let e : opening_number o q ≡ n = number_is o q (suc l) p a ∙ sym is in let low = number_low o up fit l p a.few a.room in let own = number_own o l p has in
+      node_more q n mid inner (sym e) record {
+        long = writes.long ∙ built.long;
+        named = λ r before. writes.before r (omega arith) ∙ built.named r before;
+        shared = λ level small k few. writes.before (record_start o.shape level + k) (omega arith) ∙ built.shared level small k few;
+        records = λ r past' before k small. let b = above o.shape r record { past_leaves = past'; inside = omega arith } in let g = number_is o r (suc b.level) b.place b.here in
+            let later = number_rises o up fit r q b.level b.place l p b.here a before has in writes.before (record_start o.shape (opening_number o r) + k) (omega arith) ∙ built.records r past' before k small;
+        idle = λ number k unused small. ⊎_elim
+            (λ (lt : number < n). writes.before (record_start o.shape number + k) (omega arith) ∙ built.idle number k unused small)
+            (λ (ge : n ≤ number). writes.behind (record_start o.shape number + k) (let other : n ≢ number = λ same. unused.unnamed q inner (e ∙ same) in omega (arith, other, ge)) ∙ built.idle number k unused small)
+            (cases_lt number n);
+        lanes = λ lane small. writes.before (lane_place o.shape lane) (omega arith) ∙ built.lanes lane small;
+        blocks = λ lane k small few. writes.behind (block_start o.shape lane + k) (omega arith) ∙ built.blocks lane k small few;
+      } (λ k small. ap (λ (z : ℕ). get_or mid (record_start o.shape z + k) 0) e ∙ writes.written k small ∙ ap (λ (z : List ℕ). get_or z k 0) words)
+
+  -- one shared record more
+  pub shared_more : (l : ℕ) (old new five : List ℕ) → l < o.shape.bits → IsBuilt face o l (2 ^ o.shape.bits) old → WritesFive old new (record_start o.shape l) five → five ≡ shared_words face o l → IsBuilt face o (l + 1) (2 ^ o.shape.bits) new
+  shared_more l old new five few built writes is = let t = twice o.shape.bits in record {
+    long = writes.long ∙ built.long;
+    named = λ q low. writes.before q (omega arith) ∙ built.named q low;
+    shared = λ i low k small. ⊎_elim
+        (λ same. subst (λ (z : ℕ). get_or new (record_start o.shape z + k) 0 ≡ get_or (shared_words face o z) k 0) (sym same) (writes.written k small ∙ ap (λ (z : List ℕ). get_or z k 0) is))
+        (λ other. writes.before (record_start o.shape i + k) (omega arith) ∙ built.shared i (omega arith) k small) (cases_eq i l);
+    records = λ q past low. absurd (omega arith);
+    idle = λ number k unused small. let own = unused.own in writes.behind (record_start o.shape number + k) (omega arith) ∙ built.idle number k unused small;
+    lanes = λ lane low. writes.before (lane_place o.shape lane) (omega arith) ∙ built.lanes lane low;
+    blocks = λ lane k low small. writes.behind (block_start o.shape lane + k) (omega arith) ∙ built.blocks lane k low small;
+  }
+
   -- the members' leaves are set
-  pub built_none : (words : List ℕ) → ((key : ℕ) → among key o.members ≡ true → key < 2 ^ o.shape.bits) → IsMarked o.shape o.members words → IsBuilt face o 0 words
+  pub built_none : (words : List ℕ) → ((key : ℕ) → is_member o.members key ≡ true → key < 2 ^ o.shape.bits) → IsMarked o.shape o.members words → IsBuilt face o 0 (2 ^ o.shape.bits) words
   built_none words below marks =
       let t = twice o.shape.bits in
-      let free : (i : ℕ) → 2 ^ o.shape.bits ≤ i → get_or words i 0 ≡ 0 = λ i past. marks.marked i ∙ unmarked (among i o.members) 0 (λ e. let low = below i e in absurd (omega arith)) in record {
+      let free : (i : ℕ) → 2 ^ o.shape.bits ≤ i → get_or words i 0 ≡ 0 = λ i past. marks.marked i ∙ unmarked (is_member o.members i) 0 (λ e. let low = below i e in absurd (omega arith)) in record {
         long = marks.long;
-        leaves = λ key low. marks.marked key;
-        nodes = λ i none. absurd (omega arith);
-        records = λ i none. absurd (omega arith);
+        named = λ q low. marks.marked q ∙ sym (number_of_leaf o q low);
+        shared = λ i none. absurd (omega arith);
+        records = λ q past low. absurd (omega arith);
+        idle = λ number k unused small. free (record_start o.shape number + k) (omega arith);
         lanes = λ lane low. free (lane_place o.shape lane) (omega arith);
         blocks = λ lane k low small. free (block_start o.shape lane + k) (omega arith);
       }
@@ -172,26 +234,17 @@ module _ (face : ℕ → ℕ → List ℕ → List ℕ) (o : Opening) where
 
 -- ---- the members
 
-among-push : (j k : ℕ) (xs : List ℕ) → among j (xs ++ k ∷ []) ≡ (among j xs || eqb j k)
-among-push j k [] = or_false (eqb j k)
-  where
-    or_false : (b : Bool) → (b || false) ≡ b
-    or_false true = refl
-    or_false false = refl
-among-push j k (x ∷ xs) = ap (λ (z : Bool). eqb j x || z) (among-push j k xs) ∙ sym (or_assoc (eqb j x) (among j xs) (eqb j k))
-  where
-    or_assoc : (a b c : Bool) → ((a || b) || c) ≡ (a || (b || c))
-    or_assoc true b c = refl
-    or_assoc false b c = refl
-
 -- one member more is marked
 pub marks_more : (old words members : List ℕ) (i : ℕ) → i < length members → get_or members i 0 < length old → MarksMembers old words (take i members) → MarksMembers old (set words (get_or members i 0) 1) (take (i + 1) members)
 marks_more old words members i low inside marks =
     let k : ℕ = get_or members i 0 in let l = marks.long in
-    let more : (j : ℕ) → among j (take (i + 1) members) ≡ (among j (take i members) || eqb j k) = λ j. ap (among j) (take_more members i 0 low) ∙ among-push j k (take i members) in record {
+    let more : (j : ℕ) → is_member (take (i + 1) members) j ≡ (is_member (take i members) j || (eqb k j || false)) = λ j.
+    ap (λ (z : List ℕ). is_member z j) (take_more members i 0 low) ∙ list_any-append (λ x. eqb x j) (take i members) (k ∷ []) in record {
       marked = λ j. ⊎_elim
-          (λ same. subst (λ (z : ℕ). get_or (set words k 1) z 0 ≡ 1) (sym same) (get_or-set_same words k 1 0 (omega arith)) ∙ sym (ap (λ (z : Bool). if z then 1 else get_or old j 0) (more j ∙ ap (λ (z : Bool). among j (take i members) || z) (eq-eqb j k same) ∙ or_true (among j (take i members)))))
-          (λ other. get_or-set_other words k j 1 0 other ∙ marks.marked j ∙ sym (ap (λ (z : Bool). if z then 1 else get_or old j 0) (more j ∙ ap (λ (z : Bool). among j (take i members) || z) (ne_eqb j k other) ∙ or_no (among j (take i members))))) (cases_eq j k);
+          (λ (same : k ≡ j). subst (λ (z : ℕ). get_or (set words k 1) z 0 ≡ 1) same (get_or-set_same words k 1 0 (omega arith))
+          ∙ sym (ap (λ (z : Bool). if z then 1 else get_or old j 0) (more j ∙ ap (λ (z : Bool). is_member (take i members) j || (z || false)) (eq-eqb k j same) ∙ or_true (is_member (take i members) j))))
+          (λ (other : k ≢ j). get_or-set_other words k j 1 0 (λ e. other (sym e)) ∙ marks.marked j
+          ∙ sym (ap (λ (z : Bool). if z then 1 else get_or old j 0) (more j ∙ ap (λ (z : Bool). is_member (take i members) j || (z || false)) (ne_eqb k j other) ∙ or_no (is_member (take i members) j)))) (cases_eq k j);
       long = length-set words k 1 ∙ marks.long;
     }
   where
@@ -203,56 +256,128 @@ marks_more old words members i low inside marks =
     or_no true = refl
     or_no false = refl
 
--- a member stands at some index
-among_at : (k : ℕ) (xs : List ℕ) → among k xs ≡ true → (i : ℕ) × (get_elem? xs i ≡ some k)
-among_at k [] e = let clash : false ≡ true = e in cc
-among_at k (x ∷ xs) e = ⊎_elim (λ (same : k ≡ x). (0, ap some (sym same)))
-    (λ (other : k ≢ x). let t = among_at k xs (ap (λ (z : Bool). z || among k xs) (sym (ne_eqb k x other)) ∙ e) in (suc t.0, t.1)) (cases_eq k x)
-
-pub members_below_keys : (s : Shape) (members : List ℕ) → AreMembers s members → (key : ℕ) → among key members ≡ true → key < 2 ^ s.bits
-members_below_keys s members are key e = let t = among_at key members e in are.below t.0 key t.1
-
-at_or : (xs : List ℕ) (i : ℕ) → i < length xs → get_elem? xs i ≡ some (get_or xs i 0)
-at_or [] i low = absurd (omega arith)
-at_or (x ∷ xs) zero low = refl
-at_or (x ∷ xs) (suc i) low = at_or xs i (omega arith)
+-- a member is a key
+pub members_below_keys : (s : Shape) (members : List ℕ) → IsKeySet s.bits members → (key : ℕ) → is_member members key ≡ true → key < 2 ^ s.bits
+members_below_keys s members set key e = All-contains (λ k. k < 2 ^ s.bits) members key set.below ((is_member-iff_Contains members key).0 e)
 
 -- the leaves of the members are words of the table
-pub members_inside : (s : Shape) (members : List ℕ) → AreMembers s members → (i : ℕ) → i < length members → get_or members i 0 < word_count s
-members_inside s members are i low = let key = are.below i (get_or members i 0) (at_or members i low) in let t = twice s.bits in omega arith
+pub members_inside : (s : Shape) (members : List ℕ) → IsKeySet s.bits members → (i : ℕ) → i < length members → get_or members i 0 < word_count s
+members_inside s members set i low = let key : get_or members i 0 < 2 ^ s.bits = set.below i 0 low in let t = twice s.bits in omega arith
 
 -- ---- for the answers
 
+-- a place below the nodes that are built is ready
+pub built_ready : (face : ℕ → ℕ → List ℕ → List ℕ) (o : Opening) (levels done q : ℕ) (words : List ℕ) → IsBuilt face o levels done words → q < done → q < place_count o.shape → IsReady face o words q
+built_ready face o levels done q words built low inside = record { inside = inside; long = built.long; word = built.named q low; node = λ past. built.records q past low }
+
 -- a word that is read of a node that is ready
-pub ready_word : (face : ℕ → ℕ → List ℕ → List ℕ) (o : Opening) (words : List ℕ) (q k x leaves records : ℕ) → IsReady face o words q → leaves ≤ q → k < 5 → leaves ≡ 2 ^ o.shape.bits → records ≡ record_start o.shape 0
-    → x ≡ get_or words (records + 5 * (q - leaves) + k) x → x ≡ get_or (opening_words face o q) k 0
-ready_word face o words q k x leaves records ready past small begin first is =
-    let t = twice o.shape.bits in let inside = ready.inside in let long = ready.long in
-    let past' : 2 ^ o.shape.bits ≤ q = omega arith in
-    let at : records + 5 * (q - leaves) + k ≡ record_start o.shape (q - 2 ^ o.shape.bits) + k = omega arith in
-    get_or_read words (records + 5 * (q - leaves) + k) x (omega arith) is 0 ∙ ap (λ (i : ℕ). get_or words i 0) at ∙ ready.node past' k small
+pub ready_word : (face : ℕ → ℕ → List ℕ → List ℕ) (o : Opening) (words : List ℕ) (q k x start leaves : ℕ) → IsReady face o words q → leaves ≤ q → k < 5 → leaves ≡ 2 ^ o.shape.bits
+    → start ≡ record_start o.shape (opening_number o q) → start + 5 ≤ length words → x ≡ get_or words (start + k) x → x ≡ get_or (opening_words face o q) k 0
+ready_word face o words q k x start leaves ready past small begin first inside is =
+    let at : start + k ≡ record_start o.shape (opening_number o q) + k = omega arith in
+    get_or_read words (start + k) x (omega arith) is 0 ∙ ap (λ (i : ℕ). get_or words i 0) at ∙ ready.node (omega arith) k small
 
--- the child of the node with a number
-pub left_is : (o : Opening) (number : ℕ) → left_of o.shape (2 ^ o.shape.bits + number) ≡ 2 * number
-left_is o number = omega arith
+-- the word of a place that is ready
+pub ready_number : (face : ℕ → ℕ → List ℕ → List ℕ) (o : Opening) (words : List ℕ) (q x : ℕ) → IsReady face o words q → x ≡ get_or words q x → x ≡ opening_number o q
+ready_number face o words q x ready is = let t = twice o.shape.bits in let long = ready.long in let inside = ready.inside in get_or_read words q x (omega arith) is 0 ∙ ready.word
 
-pub right_is : (o : Opening) (number : ℕ) → right_of o.shape (2 ^ o.shape.bits + number) ≡ 2 * number + 1
-right_is o number = omega arith
+-- the record of a node that is ready lies in the table
+pub record_inside_words : (face : ℕ → ℕ → List ℕ → List ℕ) (o : Opening) (words : List ℕ) (q : ℕ) → Rises o.members → length o.members ≤ o.shape.members → IsReady face o words q → 2 ^ o.shape.bits ≤ q → record_start o.shape (opening_number o q) + 5 ≤ length words
+record_inside_words face o words q up fit ready past = let long = ready.long in let low = number_below o up fit q record { past_leaves = past; inside = ready.inside } in omega arith
 
-pub node_is : (o : Opening) (number : ℕ) → number + 1 < 2 ^ o.shape.bits → IsInner o.shape (2 ^ o.shape.bits + number)
-node_is o number room = let t = twice o.shape.bits in record { past_leaves = omega arith; inside = omega arith }
+-- the keys below a leaf, by its word
+pub leaf_there : (o : Opening) → Rises o.members → (q x : ℕ) → q < 2 ^ o.shape.bits → x ≡ opening_number o q → x ≡ 1 → opening_keys o q ≡ q ∷ []
+leaf_there o up q x low is one = keys_of_leaf o up q low ∙ there (is_member o.members q) (sym (number_of_leaf o q low) ∙ sym is ∙ one)
+  where
+    there : (b : Bool) → ◌≡◌ {A = ℕ} (if b then 1 else 0) 1 → (if b then q ∷ [] else []) ≡ q ∷ []
+    there true e = refl
+    there false e = absurd (omega arith)
+
+pub leaf_not : (o : Opening) → Rises o.members → (q x : ℕ) → q < 2 ^ o.shape.bits → x ≡ opening_number o q → x ≢ 1 → opening_keys o q ≡ []
+leaf_not o up q x low is ne = keys_of_leaf o up q low ∙ not_there (is_member o.members q) (λ e. ne (is ∙ number_of_leaf o q low ∙ e))
+  where
+    not_there : (b : Bool) → (◌≡◌ {A = ℕ} (if b then 1 else 0) 1 → ⊥) → (if b then q ∷ [] else []) ≡ []
+    not_there true e = absurd (e refl)
+    not_there false e = refl
+
+-- the node at a place on a level, the lowest level of nodes counted as 0
+pub node_here : (s : Shape) (level place : ℕ) → level < s.bits → place < 2 ^ (s.bits - 1 - level) → OnLevel s (nodes_from s level + place) (suc level) place
+node_here s level place few room = let h = halves s level (omega arith) in let w = no_wider s level in let e : s.bits - 1 - level ≡ s.bits - suc level = omega arith in let f = ap (λ (z : ℕ). 2 ^ z) e in
+    record { few = omega arith; room = omega arith; is = omega arith }
+
+-- the next node, in the numbers of the code: where it lies, and its children, which are ready
+pub record NextNode (face : ℕ → ℕ → List ℕ → List ℕ) (p : Plan) (level place node : ℕ) (words : List ℕ) : Type 0 where
+  pub is : node ≡ nodes_from p.key.shape level + place
+  pub on : OnLevel p.key.shape node (suc level) place
+  pub inner : IsInner p.key.shape node
+  pub past : p.leaves ≤ node
+  pub inside : node < length words
+  pub left_at : 2 * (node - p.leaves) ≡ left_of p.key.shape node
+  pub right_at : 2 * (node - p.leaves) + 1 ≡ right_of p.key.shape node
+  pub left_ready : IsReady face p.key words (2 * (node - p.leaves))
+  pub right_ready : IsReady face p.key words (2 * (node - p.leaves) + 1)
+  pub left_number : opening_number p.key (2 * (node - p.leaves)) ≡ number_at p.key level (2 * place)
+  pub right_number : opening_number p.key (2 * (node - p.leaves) + 1) ≡ number_at p.key level (2 * place + 1)
+
+pub next_node : (face : ℕ → ℕ → List ℕ → List ℕ) (p : Plan) (level first place : ℕ) (words : List ℕ) → IsNextNode face p.key level first place words → NextNode face p level place (first + place) words
+next_node face p level first place words n =
+    let o : Opening = p.key in let s : Shape = o.shape in let node : ℕ = first + place in let done : ℕ = nodes_from s level + place in
+    let begins = n.begins in let is : node ≡ done = omega arith in let on = subst (λ (z : ℕ). OnLevel s z (suc level) place) (sym is) (node_here s level place n.up n.room) in
+    let inner = inner_level s node level place on in let past = inner.past_leaves in let inside = inner.inside in let t = twice s.bits in let long = n.built.long in let leaves = p.leaves_are in
+    let left_at : 2 * (node - p.leaves) ≡ left_of s node = omega arith in let right_at : 2 * (node - p.leaves) + 1 ≡ right_of s node = omega arith in let children = over_children s node level place on in record {
+      is = is;
+      on = on;
+      inner = inner;
+      past = omega arith;
+      inside = omega arith;
+      left_at = left_at;
+      right_at = right_at;
+      left_ready = built_ready face o s.bits done (2 * (node - p.leaves)) words n.built (omega arith) (omega arith);
+      right_ready = built_ready face o s.bits done (2 * (node - p.leaves) + 1) words n.built (omega arith) (omega arith);
+      left_number = ap (opening_number o) left_at ∙ number_is o (left_of s node) level (2 * place) children.0;
+      right_number = ap (opening_number o) right_at ∙ number_is o (right_of s node) level (2 * place + 1) children.1;
+    }
+
+-- a node's own record is one of the table's
+pub own_inside : (p : Plan) (level place node next : ℕ) (words : List ℕ) → OnLevel p.key.shape node (suc level) place → IsOwn p.key level place → next ≡ next_own p.key level place → length words ≡ word_count p.key.shape
+    → (p.records + 5 * next + 5 ≤ length words) × (length words ≤ 2 ^ 26)
+own_inside p level place node next words on own is long =
+    let low = number_low p.key (rises p.key p.key_set) p.fit level place on.few on.room in let number = number_own p.key level place own in let begin = p.records_are in let most = p.laid_out.words in (omega arith, omega arith)
+
+-- the next level begins behind
+pub next_level : (s : Shape) (level : ℕ) → level < s.bits → nodes_from s level + 2 ^ (s.bits - 1 - level) ≡ nodes_from s (level + 1)
+next_level s level few = let h = halves s level (omega arith) in let w = no_wider s level in let e : s.bits - 1 - level ≡ s.bits - suc level = omega arith in let f = ap (λ (z : ℕ). 2 ^ z) e in
+    let g : s.bits - (level + 1) ≡ s.bits - suc level = omega arith in let k = ap (λ (z : ℕ). 2 ^ z) g in omega arith
+
+pub first_nodes : (s : Shape) → nodes_from s 0 ≡ 2 ^ s.bits
+first_nodes s = let g : s.bits - 0 ≡ s.bits = omega arith in let k = ap (λ (z : ℕ). 2 ^ z) g in omega arith
+
+pub last_nodes : (s : Shape) → nodes_from s s.bits ≡ place_count s
+last_nodes s = let g : s.bits - s.bits ≡ 0 = omega arith in let k : 2 ^ (s.bits - s.bits) ≡ 1 = ap (λ (z : ℕ). 2 ^ z) g in let t = twice s.bits in omega arith
+
+-- the next own record, behind a node without members below and behind one with some
+pub next_same : (o : Opening) (l p : ℕ) → has_members o (suc l) p ≡ false → next_own o l p ≡ next_own o l (p + 1)
+next_same o l p none = let e : p + 1 ≡ suc p = omega arith in let f = ap (own_before o (suc l)) e in let g = own_same o (suc l) p none in omega arith
+
+pub next_more : (o : Opening) (l p : ℕ) → has_members o (suc l) p ≡ true → next_own o l p + 1 ≡ next_own o l (p + 1)
+next_more o l p has = let e : p + 1 ≡ suc p = omega arith in let f = ap (own_before o (suc l)) e in let g = own_after o (suc l) p has in omega arith
 
 -- the rule holds of the words when all nodes are built
-pub built_opens : (face : ℕ → ℕ → List ℕ → List ℕ) (o : Opening) (words : List ℕ) → IsBuilt face o (2 ^ o.shape.bits - 1) words → Kept face o (opening words [] (newcomer face o))
-built_opens face o words built = let t = twice o.shape.bits in
-    opens face o words built.long
-    (λ q inside. ⊎_elim (λ (low : q < 2 ^ o.shape.bits). built.leaves q low ∙ sym (number_of_leaf o q low))
-    (λ (past : 2 ^ o.shape.bits ≤ q). let i : ℕ = q - 2 ^ o.shape.bits in subst (λ (z : ℕ). get_or words z 0 ≡ i) (let is : 2 ^ o.shape.bits + i ≡ q = omega arith in is) (built.nodes i (omega arith)) ∙ sym (number_of_inner o q past)) (cases_lt q (2 ^ o.shape.bits)))
-    (λ q k inner small. let past = inner.past_leaves in let inside = inner.inside in let i : ℕ = q - 2 ^ o.shape.bits in
-    subst (λ (z : ℕ). get_or words (record_start o.shape i + k) 0 ≡ get_or (opening_words face o z) k 0) (let is : 2 ^ o.shape.bits + i ≡ q = omega arith in is) (built.records i (omega arith) k small))
-    built.lanes
+pub built_opens : (face : ℕ → ℕ → List ℕ → List ℕ) (o : Opening) (words : List ℕ) → IsKeySet o.shape.bits o.members → length o.members ≤ o.shape.members
+    → IsBuilt face o o.shape.bits (place_count o.shape) words → Kept face o (opening words [] (newcomer face o))
+built_opens face o words set fit built =
+    opens face o words (rises o set) fit built.long built.named (λ q k inner small. built.records q inner.past_leaves inner.inside k small) built.idle built.lanes
     (λ lane low k small. built.blocks lane k low small ∙ sym (get_or-replicate (block_size o.shape) k 0 0 small))
 
 -- the first seat
-pub first_seat : (face : ℕ → ℕ → List ℕ → List ℕ) (o : Opening) → IsLeadSeat 0 (newcomer face o, [])
-first_seat face o = record { live = refl; no_slot = refl; hands_out = refl; numbers = (is_book face o).below }
+pub first_seat : (face : ℕ → ℕ → List ℕ → List ℕ) (o : Opening) → IsLayout o.shape → IsKeySet o.shape.bits o.members → length o.members ≤ o.shape.members → IsLeadSeat face 0 (newcomer face o, [])
+first_seat face o laid_out set fit = record { live = refl; no_slot = refl; hands_out = refl; knows = newcomer_knows face o laid_out set fit }
+
+-- ---- the tests' table: 2 bits, 3 workers, 2 updates and 2 members have 5 opening records
+
+own_of_small : own_records 2 2 2 ≡ 3
+unfolding own_records
+own_of_small = refl
+
+pub small_lane : (s : Shape) → s ≡ shape_of 2 3 2 2 → (lane n : ℕ) → 5 + lane * 4 ≤ n → n < 9 + lane * 4 → IsOfLane s lane n
+small_lane s e lane n low high = subst (λ (z : Shape). IsOfLane z lane n) (sym e) (let own = own_of_small in record { from_first = omega arith; below_next = omega arith })

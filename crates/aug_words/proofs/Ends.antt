@@ -1,40 +1,30 @@
 -- What the words of a table at rest are.
-use Rattle.std.proofs.Common.{◌≡◌, ℕ, zero, suc, ◌+◌, ◌-◌, ◌*◌, ◌<◌, List, [], ◌∷◌, get_or, refl, sym, ap, ◌∙◌, subst, arith}
+use Rattle.std.proofs.Common.{◌≡◌, ℕ, zero, suc, ◌+◌, ◌-◌, ◌*◌, List, [], ◌∷◌, get_or, refl, sym, ap, ◌∙◌, subst}
 use mathlib.Core.Option.{some, some-injective, some-ne-none}
 use lib.ListN.{get_elem?}
 use Rattle.atomic_table.specs.Table.{Final, Seen}
-use Rattle.aug_core.specs.Tree.{place_count, IsInner}
+use Rattle.aug_core.specs.Tree.{IsInner}
 use Rattle.aug_core.specs.Lanes.{first_record}
-use Rattle.aug_core.specs.Book.{Book, At, IsNewest}
-use Rattle.aug_core.specs.Opening.{Opening, opening_number, opening_entry, opening_book}
+use Rattle.aug_core.specs.Book.{At}
+use Rattle.aug_core.specs.Opening.{Opening, opening_entry}
 use Rattle.aug_core.specs.Rule.{Kept}
 use Rattle.aug_core.specs.declared.view.Entry.{Entry}
 use Rattle.aug_core.specs.declared.view.View.{View}
-use Rattle.aug_core.proofs.Sizes.{twice, in_block}
-use Rattle.aug_core.proofs.Carries.{St}
-use Rattle.aug_core.proofs.Openings.{newly, inner_history, number_of_leaf, number_of_inner}
+use Rattle.aug_core.proofs.Sizes.{in_block}
+use Rattle.aug_core.proofs.Moves.{St}
+use Rattle.aug_core.proofs.Openings.{inner_history}
 use Rattle.aug_words.specs.Rests.{EndWith, ShowAll}
-
--- a history has one newest entry
-one_newest : (book : Book) (q i j : ℕ) (e f : Entry) → IsNewest book q i e → IsNewest book q j f → e ≡ f
-one_newest book q i j e f a b = let x = a.last in let y = b.last in let same : i ≡ j = omega arith in
-    some-injective e f (sym (subst (λ (z : ℕ). At book q z e) same a.at) ∙ b.at)
 
 module _ (face : ℕ → ℕ → List ℕ → List ℕ) (o : Opening) where
   module _ (s : St) (r : Kept face o s) where
-    number_is : (q : ℕ) → q < place_count o.shape → get_or s.words q 0 ≡ opening_number o q
-    number_is q low = let t = r.newest q low in let n = newly face o q low in
-        t.3 ∙ ap (λ (z : Entry). z.number) (one_newest (opening_book face o) q _ _ t.1 n.entry (subst (λ (z : Book). IsNewest z q t.0 t.1) r.unchanged t.2) n.newest) ∙ n.numbered
-
     opening_at : (q : ℕ) → IsInner o.shape q → At r.book q 0 (opening_entry face o q)
-    opening_at q inner = subst (λ (z : Book). At z q 0 (opening_entry face o q)) (sym r.unchanged)
+    opening_at q inner = r.tree.opened q 0 (opening_entry face o q)
         (subst (λ (z : List Entry). get_elem? z 0 ≡ some (opening_entry face o q)) (sym (inner_history face o q inner)) refl)
 
     pub shows_all : (id : ℕ) (v : View) → get_elem? s.views id ≡ some v → ShowAll face o v s.words
     shows_all id v at = let kn = r.each_view id v at in record {
-      leaves = λ key low. let t = twice o.shape.bits in number_is key (omega arith) ∙ number_of_leaf o key low;
-      nodes = λ q inner. number_is q inner.inside ∙ number_of_inner o q inner.past_leaves;
-      opening_records = λ q field inner small. r.written q 0 field (opening_entry face o q) inner (opening_at q inner) small;
+      opening_records = λ q field inner small. r.tree.written q 0 field (opening_entry face o q) inner (opening_at q inner) small;
+      idle_records = λ number field is small. r.tree.idle number field is small;
       lanes = λ a h p. (kn.holds a h p).state;
       records = λ a number field h p of_lane small. let b = in_block o.shape h.lane number field of_lane small in
           ap (λ (z : ℕ). get_or s.words z 0) b.0 ∙ (kn.holds a h p).exact (5 * (number - first_record o.shape h.lane) + field) b.1;

@@ -1,13 +1,113 @@
 -- The seat of a lead, and the table that it sits at.
-use Rattle.std.proofs.Common.{ℕ, ◌<◌, arith}
+use Rattle.std.proofs.Common.{◌≡◌, ℕ, ◌+◌, ◌<◌, ◌≤◌, List, [], ◌∷◌, ◌++◌, Option, None, Some, option_map, sym, refl, ap, ◌∙◌, subst, arith}
+use Rattle.std.specs.Prelude.{unwrap_or}
+use Rattle.std.proofs.lemmas.List.{length-replicate}
+use Rattle.aug_core.specs.Lanes.{IsOfLane, block_size}
+use Rattle.aug_core.specs.Tree.{IsInner, root_place}
+use Rattle.aug_core.specs.Places.{word_count}
+use Rattle.aug_core.specs.Book.{Continues, GoesOnFromBoth}
+use Rattle.aug_core.specs.Kinds.{take_lane}
+use Rattle.aug_core.specs.Rule.{no_beginning}
+use Rattle.aug_core.specs.Told.{LoadsNode, handing_out, handed_out, taking, taking_back, in_state, new_lane, own_lane_place, MayStore, MayChange}
+use Rattle.aug_core.specs.declared.view.View.{View}
+use Rattle.aug_core.proofs.PlaceLemmas.{keys-within}
+use Rattle.aug_core.proofs.Sizes.{twice}
+use Rattle.aug_core.proofs.Books.{goes_on_from_both}
+use Rattle.aug_core.proofs.Clients.{new_pass_may_store, new_pass_may_change}
+use Rattle.aug_core.proofs.Fits.{knows_shown, knows_same}
 use Rattle.atomic_table.specs.Seated.{TableId}
 use Rattle.aug_core.specs.Places.{Shape}
 use Rattle.aug_core.specs.Opening.{Opening}
-use Rattle.aug_words.specs.Seats.{Sat, SitsAt, IsPassSeat, IsStore}
+use Rattle.aug_words.specs.Leads.{HandsLaneOut}
+use Rattle.aug_words.specs.Seats.{Sat, HandsOut, SitsAt, IsPassSeat, IsLeadSeat, IsStore}
 
 -- a table has a word
 pub some_words : (table : TableId) (opening : Opening) (layout : Shape) (lanes records : ℕ) → IsStore table opening layout lanes records → 0 < table.words
 some_words table opening layout lanes records store = let wide = store.wide in let workers = store.laid_out.workers.0 in omega arith
 
-pub pass_has_words : (seat_table table : TableId) (lanes records lane : ℕ) (me : Sat) → SitsAt seat_table table lanes records me.0.shape → IsPassSeat lane me → 0 < table.words
-pass_has_words seat_table table lanes records lane me sits seat = let wide = sits.wide in let low = seat.exists in omega arith
+pub pass_has_words : (face : ℕ → ℕ → List ℕ → List ℕ) (seat_table table : TableId) (lanes records lane : ℕ) (me : Sat) → SitsAt seat_table table lanes records me.0.shape → IsPassSeat face lane me → 0 < table.words
+pass_has_words face seat_table table lanes records lane me sits seat = let wide = sits.wide in let low = seat.exists in omega arith
+
+-- the first lane's word comes after the root's
+pub lanes_at : (table : TableId) (opening : Opening) (layout : Shape) (lanes records : ℕ) → IsStore table opening layout lanes records → (lanes ≡ root_place opening.shape + 1) × (2 ≤ lanes) × (lanes < word_count opening.shape)
+lanes_at table opening layout lanes records store = let begins = store.lanes_are in let workers = store.laid_out.workers.0 in let bits = keys-within opening.shape.bits store.laid_out.bits.0 store.laid_out.bits.1 in let b = bits.0 in let t = twice opening.shape.bits in (omega arith, omega arith, omega arith)
+
+-- the root is an inner node
+pub root_inner : (s : Shape) → 1 ≤ s.bits → s.bits ≤ 16 → IsInner s (root_place s)
+root_inner s some_bits few = let b = (keys-within s.bits some_bits few).0 in let t = twice s.bits in record { past_leaves = omega arith; inside = omega arith }
+
+module _ (face : ℕ → ℕ → List ℕ → List ℕ) (next : ℕ) (me me' : Sat) (seat : IsLeadSeat face next me) where
+  -- a lead that loaded a node's word
+  pub lead_loaded : (q found : ℕ) → me'.1 ≡ [] → LoadsNode face me.0 q found me'.0 → IsLeadSeat face next me'
+  lead_loaded q found empty did = let is = did.stepped in record {
+    live = ap (λ (z : View). z.live) is ∙ seat.live;
+    no_slot = empty;
+    hands_out = ap (λ (z : View). z.spare) is ∙ seat.hands_out;
+    knows = knows_shown face me.0 me'.0 seat.knows did.sees (ap (λ (z : View). z.shape) is) (ap (λ (z : View). z.members) is);
+  }
+
+  -- one that handed a lane out
+  pub lead_handed : me'.0 ≡ handing_out me.0 → me'.1 ≡ me.1 → IsLeadSeat face (next + 1) me'
+  lead_handed is same = subst (IsLeadSeat face (next + 1)) (λ i. (sym is i, sym same i)) record {
+    live = seat.live;
+    no_slot = seat.no_slot;
+    hands_out = ap (option_map (λ n. n + 1)) seat.hands_out;
+    knows = knows_same face me.0 me.0.live me.0.also me.0.held (option_map (λ n. n + 1) me.0.spare) me.0.began me.0.steps seat.knows;
+  }
+
+  -- one that took a pass in
+  pub lead_joined : (w : View) → me'.0 ≡ taking_back me.0 w → me'.1 ≡ me.1 → IsLeadSeat face next me'
+  lead_joined w is same = subst (IsLeadSeat face next) (λ i. (sym is i, sym same i)) record {
+    live = seat.live;
+    no_slot = seat.no_slot;
+    hands_out = seat.hands_out;
+    knows = knows_same face me.0 me.0.live w.seen (me.0.held ++ w.held) me.0.spare me.0.began me.0.steps seat.knows;
+  }
+
+-- a lead that may hand a lane out may do so after it loaded a node
+pub may_hand_out : (face : ℕ → ℕ → List ℕ → List ℕ) (old new : View) (q found lane next : ℕ) → LoadsNode face old q found new → HandsOut old lane → new.spare ≡ Some next → next < new.shape.workers
+may_hand_out face old new q found lane next did room spare =
+    let same : Some next ≡ Some lane = sym spare ∙ ap (λ (z : View). z.spare) did.stepped ∙ room.next in let one : next ≡ lane = cc same in
+    let shaped = ap (λ (z : View). z.shape) did.stepped in subst (λ (z : Shape). next < z.workers) (sym shaped) (let low = room.exists in omega arith)
+
+-- the seat that was split off a lead's, once it took its lane
+pub new_pass : (face : ℕ → ℕ → List ℕ → List ℕ) (next place : ℕ) (lead me : Sat) → IsLeadSeat face next lead → next < lead.0.shape.workers → me.1 ≡ [] → me.0 ≡ taking (handed_out lead.0) place → IsPassSeat face next me
+new_pass face next place lead me seat low empty is =
+    let which : unwrap_or lead.0.spare 0 ≡ next = ap (λ (z : Option ℕ). unwrap_or z 0) seat.hands_out in
+    subst (IsPassSeat face next) (λ i. (sym is i, sym empty i)) record {
+      live = seat.live;
+      no_slot = refl;
+      held = in_state 1 (new_lane lead.0.shape (unwrap_or lead.0.spare 0));
+      only = refl;
+      named = which;
+      taken = refl;
+      long = length-replicate (block_size lead.0.shape) 0;
+      exists = low;
+      knows = knows_same face lead.0 lead.0.live [] (in_state 1 (new_lane lead.0.shape (unwrap_or lead.0.spare 0)) ∷ []) None no_beginning (take_lane place 0 ∷ []) seat.knows;
+    }
+
+-- what the lead knows once it took a pass back and loaded the root
+pub took_back : (face : ℕ → ℕ → List ℕ → List ℕ) (v w u x : View) (q found : ℕ) → LoadsNode face (taking_back v w) q found u → w.seen ≡ x.seen → GoesOnFromBoth u.seen v.seen x.seen
+took_back face v w u x q found did same = goes_on_from_both u.seen v.seen x.seen did.sees.later (subst (Continues u.seen) same did.sees.also_later)
+
+-- a lane that is handed out leaves how the table is laid out and opened, and the next one is the next
+module _ (face : ℕ → ℕ → List ℕ → List ℕ) (lead after pass : View) (h : HandsLaneOut face lead after pass) where
+  pub lead_shape : after.shape ≡ lead.shape
+  lead_shape = ap (λ (z : View). z.shape) h.lead_is ∙ ap (λ (z : View). z.shape) h.loaded.stepped
+
+  pub lead_members : after.members ≡ lead.members
+  lead_members = ap (λ (z : View). z.members) h.lead_is ∙ ap (λ (z : View). z.members) h.loaded.stepped
+
+  pub pass_shape : pass.shape ≡ lead.shape
+  pass_shape = ap (λ (z : View). z.shape) h.pass_is ∙ ap (λ (z : View). z.shape) h.loaded.stepped
+
+  pub next_spare : (lane : ℕ) → lead.spare ≡ Some lane → after.spare ≡ Some (lane + 1)
+  next_spare lane spare = ap (λ (z : View). z.spare) h.lead_is ∙ ap (λ (z : View). option_map (λ n. n + 1) z.spare) h.loaded.stepped ∙ ap (option_map (λ n. n + 1)) spare
+
+  -- and the new pass may store the records of its lane, and make a change
+  pub pass_may_store : (lane number : ℕ) → lead.spare ≡ Some lane → IsOfLane lead.shape lane number → MayStore pass number
+  pass_may_store lane number spare of_lane = new_pass_may_store h.between pass (own_lane_place (handed_out h.between)) lane number (ap (λ (z : View). z.spare) h.loaded.stepped ∙ spare)
+      (subst (λ (z : Shape). IsOfLane z lane number) (sym (ap (λ (z : View). z.shape) h.loaded.stepped)) of_lane) h.pass_is
+
+  pub pass_may_change : 0 < lead.shape.updates → MayChange pass
+  pass_may_change room = new_pass_may_change h.between pass (own_lane_place (handed_out h.between)) (subst (λ (z : Shape). 0 < z.updates) (sym (ap (λ (z : View). z.shape) h.loaded.stepped)) room) h.pass_is

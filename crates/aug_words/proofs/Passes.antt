@@ -1,77 +1,130 @@
 -- The seat of a pass after a step.
-use Rattle.std.proofs.Common.{◌≡◌, ℕ, ◌+◌, ◌<◌, List, [], ◌∷◌, ◌++◌, refl, sym, ap, ◌∙◌, subst, ⊎_elim}
-use mathlib.Core.Option.{some, some-injective}
+use Rattle.std.proofs.Common.{◌≡◌, ℕ, ◌+◌, ◌-◌, ◌*◌, ◌^◌, ◌<◌, ◌≤◌, length, length-set, arith, mul-le-mul_right, List, [], ◌∷◌, ◌++◌, refl, sym, ap, ◌∙◌, subst, ⊎_elim}
+use mathlib.Core.Option.{some}
 use lib.ListN.{get_elem?}
 use Rattle.atomic_table.specs.Seated.{TableId}
 use Rattle.aug_core.specs.Places.{Shape, record_start, record_count}
-use Rattle.aug_core.specs.Lanes.{IsOfLane}
-use Rattle.aug_core.specs.Told.{HoldsOnly, HasSeen, Owns, MayStore, ReadsRecord, on_first, with_word, in_state, storing, taking, finishing, own_lane}
-use Rattle.aug_core.specs.Kinds.{store_record_word, take_lane, finish_lane}
+use Rattle.aug_core.specs.Lanes.{IsOfLane, block_start, block_size}
+use Rattle.aug_core.specs.Book.{Book, history_of}
+use Rattle.aug_core.proofs.Books.{at_below}
+use Rattle.std.proofs.Math.Nat.{mul_comm}
+use Rattle.std.proofs.lemmas.Bool.{cases_eq}
+use Rattle.aug_core.specs.Told.{with_change, with_published, Sees, LoadsLeaf, BeginsAtLeaf, LoadsNode, TriesLeaf, TriesNode, HoldsOnly, HasSeen, Owns, MayStore, HasTakenLane, ReadsRecord, on_first, with_word, storing, beginning, own_lane}
+use Rattle.aug_core.specs.Kinds.{load_leaf, try_leaf, load_node, try_node, load_record_word, store_record_word}
 use Rattle.aug_core.specs.declared.step.StepTaken.{StepTaken}
+use Rattle.aug_core.specs.declared.view.Beginning.{Beginning}
 use Rattle.aug_core.specs.declared.view.Held.{Held}
 use Rattle.aug_core.specs.declared.view.View.{View}
 use Rattle.aug_core.proofs.Sizes.{record_inside}
-use Rattle.aug_core.proofs.Stores.{alone}
-use Rattle.aug_words.specs.Seats.{Sat, SitsAt, IsPassSeat, MayLoad, LoadsRecordWord}
+use Rattle.aug_core.proofs.Fits.{knows_shown, knows_same}
+use Rattle.aug_core.proofs.Stores.{alone, one_held}
+use Rattle.aug_words.specs.Seats.{Sat, SitsAt, IsPassSeat, HasReached, MayLoad, LoadsRecordWord}
 
 -- a seat whose shape and table stayed
 pub sits_on : (a a' t : TableId) (l r : ℕ) (s s' : Shape) → SitsAt a t l r s → a' ≡ a → s' ≡ s → SitsAt a' t l r s'
 sits_on a a' t l r s s' sits one same = subst (λ (z : TableId). SitsAt z t l r s') (sym one) (subst (SitsAt a t l r) (sym same) sits)
 
-module _ (a a' t : TableId) (l r lane : ℕ) (me me' : Sat) (is_pass : SitsAt a t l r me.0.shape × IsPassSeat lane me) (one : a' ≡ a) where
-  -- a pass whose own lane changed, but not which lane it is
-  changed : (f : Held → Held) (steps : List StepTaken) → ((h : Held) → (f h).lane ≡ h.lane) → me'.1 ≡ [] → me'.0 ≡ record me.0 { held = on_first f me.0.held; steps = steps } → SitsAt a' t l r me'.0.shape × IsPassSeat lane me'
-  changed f steps keeps empty is = let seat = is_pass.1 in (
-    sits_on a a' t l r me.0.shape me'.0.shape is_pass.0 one (ap (λ (z : View). z.shape) is),
-    subst (IsPassSeat lane) (λ i. (sym is i, sym empty i)) record {
-      live = seat.live;
-      no_slot = refl;
-      held = f seat.held;
-      only = ap (on_first f) seat.only;
-      named = keeps seat.held ∙ seat.named;
-      exists = seat.exists;
-      numbers = seat.numbers;
+module _ (face : ℕ → ℕ → List ℕ → List ℕ) (a a' t : TableId) (l r lane : ℕ) (me me' : Sat) (is_pass : SitsAt a t l r me.0.shape × IsPassSeat face lane me) (one : a' ≡ a) where
+  abbrev IsPass : Type 0
+  IsPass = SitsAt a' t l r me'.0.shape × IsPassSeat face lane me'
+
+  -- a pass that was shown the whole book, and whose lane is the one that it was
+  shown : (h : Held) (held : List Held) (book : Book) (began : Beginning) (steps : List StepTaken) → held ≡ h ∷ [] → h.lane ≡ lane → h.state ≡ 1 → length h.words ≡ block_size me.0.shape → me'.1 ≡ []
+      → me'.0 ≡ record me.0 { seen = book; held = held; began = began; steps = steps } → Sees face me.0 me'.0 → IsPass
+  shown h held book began steps only named taken long empty is sees = let seat = is_pass.1 in let same : me'.0.shape ≡ me.0.shape = ap (λ (z : View). z.shape) is in (
+    sits_on a a' t l r me.0.shape me'.0.shape is_pass.0 one same,
+    record {
+      live = ap (λ (z : View). z.live) is ∙ seat.live;
+      no_slot = empty;
+      held = h;
+      only = ap (λ (z : View). z.held) is ∙ only;
+      named = named;
+      taken = taken;
+      long = subst (λ (z : Shape). length h.words ≡ block_size z) (sym same) long;
+      exists = subst (λ (z : Shape). lane < z.workers) (sym same) seat.exists;
+      knows = knows_shown face me.0 me'.0 seat.knows sees same (ap (λ (z : View). z.members) is);
     },
   )
 
-  -- a pass after each of its steps
-  pub pass_loaded : (place word : ℕ) → (me'.1 ≡ []) × ReadsRecord me.0 place word me'.0 → SitsAt a' t l r me'.0.shape × IsPassSeat lane me'
-  pass_loaded place word did = let is = did.1.stepped in let seat = is_pass.1 in (
+  -- the lane is as it was
+  watched : (began : Beginning) (steps : List StepTaken) → me'.1 ≡ [] → me'.0 ≡ record me.0 { seen = me'.0.seen; began = began; steps = steps } → Sees face me.0 me'.0 → IsPass
+  watched began steps empty is sees = let seat = is_pass.1 in shown seat.held me.0.held me'.0.seen began steps seat.only seat.named seat.taken seat.long empty is sees
+
+  pub pass_loaded_leaf : (key word : ℕ) → me'.1 ≡ [] → LoadsLeaf face me.0 key word me'.0 → IsPass
+  pass_loaded_leaf key word empty did = watched me.0.began (me.0.steps ++ load_leaf key word ∷ []) empty did.stepped did.sees
+
+  pub pass_began_at_leaf : (key word : ℕ) → me'.1 ≡ [] → BeginsAtLeaf face me.0 key word me'.0 → IsPass
+  pass_began_at_leaf key word empty did = watched (beginning me.0 me'.0.seen (load_leaf key word)).began (me.0.steps ++ load_leaf key word ∷ []) empty did.stepped did.sees
+
+  pub pass_loaded_node : (q word : ℕ) → me'.1 ≡ [] → LoadsNode face me.0 q word me'.0 → IsPass
+  pass_loaded_node q word empty did = watched me.0.began (me.0.steps ++ load_node q word ∷ []) empty did.stepped did.sees
+
+  pub pass_tried_leaf : (key serial found : ℕ) → me'.1 ≡ [] → TriesLeaf face me.0 key serial found me'.0 → IsPass
+  pass_tried_leaf key serial found empty did = let seat = is_pass.1 in let taken : StepTaken = try_leaf key serial found in ⊎_elim
+      (λ (hit : found ≡ serial). shown (with_change key (serial + 1) seat.held) (on_first (with_change key (serial + 1)) me.0.held) me'.0.seen me.0.began (me.0.steps ++ taken ∷ [])
+      (ap (on_first (with_change key (serial + 1))) seat.only) seat.named seat.taken seat.long empty (did.hit hit).0 did.sees)
+      (λ miss. watched me.0.began (me.0.steps ++ taken ∷ []) empty (did.miss miss).0 did.sees) (cases_eq found serial)
+
+  pub pass_tried_node : (q old number found : ℕ) → me'.1 ≡ [] → TriesNode face me.0 q old number found me'.0 → IsPass
+  pass_tried_node q old number found empty did = let seat = is_pass.1 in let taken : StepTaken = try_node q old number found in ⊎_elim
+      (λ (hit : found ≡ old). shown (with_published number seat.held) (on_first (with_published number) me.0.held) me'.0.seen me.0.began (me.0.steps ++ taken ∷ [])
+      (ap (on_first (with_published number)) seat.only) seat.named seat.taken seat.long empty (did.hit hit).0 did.sees)
+      (λ miss. watched me.0.began (me.0.steps ++ taken ∷ []) empty (did.miss miss).0 did.sees) (cases_eq found old)
+
+  -- a pass that was shown nothing of the book
+  kept : (h : Held) (held : List Held) (steps : List StepTaken) → held ≡ h ∷ [] → h.lane ≡ lane → h.state ≡ 1 → length h.words ≡ block_size me.0.shape → me'.1 ≡ [] → me'.0 ≡ record me.0 { held = held; steps = steps } → IsPass
+  kept h held steps only named taken long empty is = let seat = is_pass.1 in (
     sits_on a a' t l r me.0.shape me'.0.shape is_pass.0 one (ap (λ (z : View). z.shape) is),
-    subst (IsPassSeat lane) (λ i. (sym is i, sym did.0 i)) record {
+    subst (IsPassSeat face lane) (λ i. (sym is i, sym empty i)) record {
       live = seat.live;
       no_slot = refl;
-      held = seat.held;
-      only = seat.only;
-      named = seat.named;
+      held = h;
+      only = only;
+      named = named;
+      taken = taken;
+      long = long;
       exists = seat.exists;
-      numbers = seat.numbers;
+      knows = knows_same face me.0 me.0.live me.0.also held me.0.spare me.0.began steps seat.knows;
     },
   )
 
-  pub pass_stored : (place value : ℕ) → (me'.1 ≡ []) × (me'.0 ≡ storing me.0 place value) → SitsAt a' t l r me'.0.shape × IsPassSeat lane me'
-  pass_stored place value did = changed (with_word me.0.shape place value) (me.0.steps ++ store_record_word place value ∷ []) (λ h. refl) did.0 did.1
+  pub pass_loaded : (place word : ℕ) → (me'.1 ≡ []) × ReadsRecord me.0 place word me'.0 → IsPass
+  pass_loaded place word did = let seat = is_pass.1 in kept seat.held me.0.held (me.0.steps ++ load_record_word place word ∷ []) seat.only seat.named seat.taken seat.long did.0 did.1.stepped
 
-  pub pass_taken : (place found : ℕ) → (me'.1 ≡ []) × (found ≡ 0) × (me'.0 ≡ taking me.0 place) → SitsAt a' t l r me'.0.shape × IsPassSeat lane me'
-  pass_taken place found did = changed (in_state 1) (me.0.steps ++ take_lane place 0 ∷ []) (λ h. refl) did.0 did.2
+  pub pass_stored : (place value : ℕ) → (me'.1 ≡ []) × (me'.0 ≡ storing me.0 place value) → IsPass
+  pass_stored place value did = let seat = is_pass.1 in
+      kept (with_word me.0.shape place value seat.held) (on_first (with_word me.0.shape place value) me.0.held) (me.0.steps ++ store_record_word place value ∷ []) (ap (on_first (with_word me.0.shape place value)) seat.only) seat.named seat.taken
+      (length-set seat.held.words (place - block_start me.0.shape seat.held.lane) value ∙ seat.long) did.0 did.1
 
-  pub pass_finished : (place : ℕ) → (me'.1 ≡ []) × (me'.0 ≡ finishing me.0 place) → SitsAt a' t l r me'.0.shape × IsPassSeat lane me'
-  pass_finished place did = changed (in_state 2) (me.0.steps ++ finish_lane place ∷ []) (λ h. refl) did.0 did.1
+module _ (face : ℕ → ℕ → List ℕ → List ℕ) (lane : ℕ) (me : Sat) (seat : IsPassSeat face lane me) where
+  -- a pass's lane is taken
+  pub has_taken : HasTakenLane me.0
+  has_taken = record { lane = seat.held; only = seat.only; taken = seat.taken }
 
--- the lane that a pass's seat holds
-pub one_held : (v : View) (h g : Held) → HoldsOnly v h → HoldsOnly v g → h ≡ g
-one_held v h g a b = some-injective h g (ap (λ (z : List Held). get_elem? z 0) (sym a ∙ b))
+  pub own_lane_is : own_lane me.0.held ≡ lane
+  own_lane_is = ap own_lane seat.only ∙ seat.named
 
-pub own_lane_is : (lane : ℕ) (me : Sat) → IsPassSeat lane me → own_lane me.0.held ≡ lane
-own_lane_is lane me seat = ap own_lane seat.only ∙ seat.named
+  -- and what is said of the lane that it holds is said of that one
+  pub lane_named : (h : Held) → HoldsOnly me.0 h → (h.lane ≡ lane) × (h.state ≡ 1) × (length h.words ≡ block_size me.0.shape)
+  lane_named h only = let same = one_held me.0 h seat.held only seat.only in (ap (λ (z : Held). z.lane) same ∙ seat.named, ap (λ (z : Held). z.state) same ∙ seat.taken, ap (λ (z : Held). length z.words) same ∙ seat.long)
 
--- a record that a pass owns or has seen is one of the table
-pub loads_inside : (lane : ℕ) (me : Sat) (number : ℕ) → IsPassSeat lane me → MayLoad me.0 number → number < record_count me.0.shape
-loads_inside lane me number seat may = ⊎_elim
-    (λ (seen : HasSeen me.0 number). subst (λ (z : ℕ). z < record_count me.0.shape) seen.numbered (seat.numbers seen.place seen.index seen.entry seen.inner seen.at))
-    (λ (owns : Owns me.0 number). let t = alone seat.held owns.lane owns.index (subst (λ (z : List Held). get_elem? z owns.index ≡ some owns.lane) seat.only owns.at) in
-    let is : owns.lane.lane ≡ lane = ap (λ (z : Held). z.lane) (sym t.1) ∙ seat.named in
-    record_inside me.0.shape lane number seat.exists (subst (λ (z : ℕ). IsOfLane me.0.shape z number) is owns.of_lane)) may
+  -- a record that a pass owns or has seen is one of the table
+  pub loads_inside : (number : ℕ) → MayLoad me.0 number → number < record_count me.0.shape
+  loads_inside number may = ⊎_elim
+      (λ (seen : HasSeen me.0 number). subst (λ (z : ℕ). z < record_count me.0.shape) seen.numbered (seat.knows.book.below seen.place seen.index seen.entry seen.inner seen.at))
+      (λ (owns : Owns me.0 number). let t = alone seat.held owns.lane owns.index (subst (λ (z : List Held). get_elem? z owns.index ≡ some owns.lane) seat.only owns.at) in
+      let is : owns.lane.lane ≡ lane = ap (λ (z : Held). z.lane) (sym t.1) ∙ seat.named in
+      record_inside me.0.shape lane number seat.exists (subst (λ (z : ℕ). IsOfLane me.0.shape z number) is owns.of_lane)) may
+
+  -- and so is one that it may store
+  pub stores_inside : (number : ℕ) → MayStore me.0 number → number < record_count me.0.shape
+  stores_inside number may = record_inside me.0.shape lane number seat.exists (subst (λ (z : ℕ). IsOfLane me.0.shape z number) (lane_named may.lane may.only).0 may.of_lane)
+
+  -- a serial that a leaf has reached, and the next one, are small
+  pub serial_small : (key serial : ℕ) → key < 2 ^ me.0.shape.bits → HasReached me.0 key serial → serial ≤ 2 ^ 26
+  serial_small key serial low reached = let below = at_below (history_of me.0.seen key) serial reached.entry reached.at in let few = seat.knows.fits.few key low in
+      let w : ℕ = me.0.shape.workers in let u : ℕ = me.0.shape.updates in let b : ℕ = me.0.shape.bits in
+      let words = seat.knows.laid_out.words in let some_bits = seat.knows.laid_out.bits.0 in let more : 1 * (w * u) ≤ b * (w * u) = mul-le-mul_right (w * u) some_bits in let turned : b * (w * u) ≡ w * u * b = mul_comm b (w * u) in omega arith
 
 -- what a load at a record's word tells of the record
 pub tells : (v w : View) (place number field r : ℕ) → field < 5 → place ≡ record_start v.shape number + field → ReadsRecord v place r w → LoadsRecordWord v number field r w
@@ -80,8 +133,3 @@ tells v w place number field r small is reads = let at : ReadsRecord v (record_s
   known = λ q i e inner p numbered. at.known q i field e inner p small (ap (λ (z : ℕ). record_start v.shape z + field) (sym numbered));
   own = λ a h p of_lane. at.own a number field h p of_lane small refl;
 }
-
--- a record that a pass may store is one of the table
-pub stores_inside : (lane : ℕ) (me : Sat) (number : ℕ) → IsPassSeat lane me → MayStore me.0 number → number < record_count me.0.shape
-stores_inside lane me number seat may = let is : may.lane.lane ≡ lane = ap (λ (z : Held). z.lane) (one_held me.0 may.lane seat.held may.only seat.only) ∙ seat.named in
-    record_inside me.0.shape lane number seat.exists (subst (λ (z : ℕ). IsOfLane me.0.shape z number) is may.of_lane)

@@ -1,14 +1,13 @@
 -- A table at rest: its words, which meet the rule.
-use Rattle.std.specs.Prelude.{◌≡◌, ℕ, ◌+◌, ◌-◌, ◌^◌, ◌<◌, List, slice_index}
+use Rattle.std.specs.Prelude.{◌≡◌, ℕ, ◌+◌, ◌<◌, List, slice_index}
 use mathlib.Core.Option.{some}
 use lib.ListN.{get_elem?}
 use Rattle.atomic_table.specs.Table.{State}
 use Rattle.aug_core.specs.Layout.{IsLayout}
-use Rattle.aug_core.specs.Places.{Shape, leaf_place, lane_place, record_start, word_count}
+use Rattle.aug_core.specs.Places.{Shape, lane_place, record_start, word_count}
 use Rattle.aug_core.specs.Tree.{IsInner}
 use Rattle.aug_core.specs.Lanes.{IsOfLane}
-use Rattle.aug_core.specs.Members.{opening_serial}
-use Rattle.aug_core.specs.Opening.{Opening, opening_words}
+use Rattle.aug_core.specs.Opening.{Opening, IsIdle, opening_number, opening_words}
 use Rattle.aug_core.specs.Rule.{Kept}
 use Rattle.aug_core.specs.Told.{held_word}
 use Rattle.aug_core.specs.declared.view.Held.{Held}
@@ -37,12 +36,10 @@ module _ (face : ℕ → ℕ → List ℕ → List ℕ) (o : Opening) (v : View)
 
   -- what a reader of the words is told
   pub record ShowAll : Type 0 where
-    -- no leaf changed since the opening
-    pub leaves : (key : ℕ) → key < 2 ^ o.shape.bits → slice_index words (leaf_place key) ≡ opening_serial o.members key
-    -- nor did a node: it names its opening record
-    pub nodes : (q : ℕ) → IsInner o.shape q → slice_index words q ≡ q - 2 ^ o.shape.bits
-    -- whose words say what is there below it
-    pub opening_records : (q field : ℕ) → IsInner o.shape q → field < 5 → slice_index words (record_start o.shape (q - 2 ^ o.shape.bits) + field) ≡ slice_index (opening_words face o q) field
+    -- the words of a node's opening record, its own one or the empty one of its level, say what was there below it at the opening
+    pub opening_records : (q field : ℕ) → IsInner o.shape q → field < 5 → slice_index words (record_start o.shape (opening_number o q) + field) ≡ slice_index (opening_words face o q) field
+    -- and those of an opening record that no node opened with are zeros
+    pub idle_records : (number field : ℕ) → IsIdle o number → field < 5 → slice_index words (record_start o.shape number + field) ≡ 0
     -- a lane of the view is as the view has it
     pub lanes : (a : ℕ) (h : Held) → get_elem? v.held a ≡ some h → slice_index words (lane_place o.shape h.lane) ≡ h.state
     -- and so is each word of its records

@@ -1,17 +1,17 @@
 -- What contracts see of a table, of a lead and of a pass, and what their fields keep.
-use Rattle.std.specs.Prelude.{◌≡◌, ℕ, ◌+◌, ◌^◌, ◌<◌, ◌≤◌, ◌⊎◌, [], slice_index, Some, true}
+use Rattle.std.specs.Prelude.{◌≡◌, ℕ, ◌+◌, ◌<◌, ◌⊎◌, ◌↔◌, Bool, IsTrue, List, [], length, slice_index, Some, true}
 use mathlib.Core.Option.{some}
 use lib.ListN.{get_elem?}
 use Rattle.atomic_table.specs.Table.{Me}
 use Rattle.atomic_table.specs.Seated.{TableId}
-use Rattle.aug_core.specs.Places.{Shape, lane_place, record_start, record_count, word_count}
+use Rattle.aug_core.specs.Places.{Shape, lane_place, record_start, word_count}
 use Rattle.aug_core.specs.Layout.{IsLayout}
 use Rattle.aug_core.specs.Tree.{IsInner}
-use Rattle.aug_core.specs.Lanes.{IsOfLane}
-use Rattle.aug_core.specs.Book.{Book, At}
+use Rattle.aug_core.specs.Lanes.{IsOfLane, block_size}
+use Rattle.aug_core.specs.Book.{At}
 use Rattle.aug_core.specs.Opening.{Opening}
 use Rattle.aug_core.specs.Kinds.{load_record_word}
-use Rattle.aug_core.specs.Told.{stepping, held_word, HoldsOnly, HasSeen, Owns}
+use Rattle.aug_core.specs.Told.{stepping, held_word, HoldsOnly, HasSeen, Owns, KnowsTable, TriesLeaf, TriesNode}
 use Rattle.aug_core.specs.declared.view.Entry.{Entry}
 use Rattle.aug_core.specs.declared.view.Held.{Held}
 use Rattle.aug_core.specs.declared.view.View.{View}
@@ -33,6 +33,12 @@ pub record Known : Type 0 where
 pub record AreTogether (store : Store) (known : Known) : Type 0 where
   pub one_table : known.table ≡ store.table
   pub one_shape : known.view.shape ≡ store.opening.shape
+  pub same_members : known.view.members ≡ store.opening.members
+
+-- the pass is one of the lead's: it sits at the same table
+pub record IsOfLead (lead pass : Known) : Type 0 where
+  pub one_table : pass.table ≡ lead.table
+  pub one_shape : pass.view.shape ≡ lead.view.shape
 
 -- the view hands lanes out, and this is the next one
 pub record HandsOut (v : View) (lane : ℕ) : Type 0 where
@@ -49,10 +55,6 @@ pub record LoadsRecordWord (v : View) (number field r : ℕ) (w : View) : Type 0
   pub known : (q i : ℕ) (e : Entry) → IsInner v.shape q → At v.seen q i e → e.number ≡ number → r ≡ slice_index e.words field
   pub own : (a : ℕ) (h : Held) → get_elem? v.held a ≡ some h → IsOfLane v.shape h.lane number → r ≡ held_word v.shape h number field
 
--- the entries of inner nodes that were seen are records of the table
-abbrev pub NumbersExist : Shape → Book → Type 0
-NumbersExist s seen = (q i : ℕ) (e : Entry) → IsInner s q → At seen q i e → e.number < record_count s
-
 -- what a table's fields keep
 pub record IsStore (table : TableId) (opening : Opening) (layout : Shape) (lanes records : ℕ) : Type 0 where
   pub laid_out : IsLayout opening.shape
@@ -66,23 +68,42 @@ pub record IsStore (table : TableId) (opening : Opening) (layout : Shape) (lanes
 pub record SitsAt (seat_table table : TableId) (lanes records : ℕ) (s : Shape) : Type 0 where
   pub seated : seat_table ≡ table
   pub wide : table.words ≡ word_count s
-  pub small : word_count s ≤ 2 ^ 26
   pub lanes_are : lanes ≡ lane_place s 0
   pub records_are : records ≡ record_start s 0
 
--- what is so of the seat of a pass: it has one lane
-pub record IsPassSeat (lane : ℕ) (me : Sat) : Type 0 where
-  pub live : me.0.live ≡ true
-  pub no_slot : me.1 ≡ []
-  pub held : Held
-  pub only : HoldsOnly me.0 held
-  pub named : held.lane ≡ lane
-  pub exists : lane < me.0.shape.workers
-  pub numbers : NumbersExist me.0.shape me.0.seen
+-- the leaf has reached the serial
+pub record HasReached (v : View) (key serial : ℕ) : Type 0 where
+  pub entry : Entry
+  pub at : At v.seen key serial entry
 
--- what is so of the seat of a lead: it hands out the lanes from the next one on
-pub record IsLeadSeat (next : ℕ) (me : Sat) : Type 0 where
-  pub live : me.0.live ≡ true
-  pub no_slot : me.1 ≡ []
-  pub hands_out : me.0.spare ≡ Some next
-  pub numbers : NumbersExist me.0.shape me.0.seen
+module _ (face : ℕ → ℕ → List ℕ → List ℕ) where
+  -- what is so of the seat of a pass: it has one lane, which is taken, and all words of its records, and knows its table
+  pub record IsPassSeat (lane : ℕ) (me : Sat) : Type 0 where
+    pub live : me.0.live ≡ true
+    pub no_slot : me.1 ≡ []
+    pub held : Held
+    pub only : HoldsOnly me.0 held
+    pub named : held.lane ≡ lane
+    pub taken : held.state ≡ 1
+    pub long : length held.words ≡ block_size me.0.shape
+    pub exists : lane < me.0.shape.workers
+    pub knows : KnowsTable face me.0
+
+  -- what is so of the seat of a lead: it hands out the lanes from the next one on, and knows its table
+  pub record IsLeadSeat (next : ℕ) (me : Sat) : Type 0 where
+    pub live : me.0.live ≡ true
+    pub no_slot : me.1 ≡ []
+    pub hands_out : me.0.spare ≡ Some next
+    pub knows : KnowsTable face me.0
+
+  -- the answer says whether the leaf's word was the serial
+  pub record TriedLeaf (v : View) (key serial : ℕ) (done : Bool) (w : View) : Type 0 where
+    pub found : ℕ
+    pub decided : IsTrue done ↔ (found ≡ serial)
+    pub told : TriesLeaf face v key serial found w
+
+  -- the answer says whether the node's word was the old number
+  pub record TriedNode (v : View) (q old number : ℕ) (done : Bool) (w : View) : Type 0 where
+    pub found : ℕ
+    pub decided : IsTrue done ↔ (found ≡ old)
+    pub told : TriesNode face v q old number found w

@@ -1,67 +1,134 @@
 //! The seat that hands lanes out and takes passes back.
-ghost use Rattle.std.specs.Prelude.{◌≡◌, ℕ};
-ghost use Rattle.aug_core.specs.Told.{MayFinish, handing_out, handed_out, taking, finishing, taking_back, own_lane_place};
-ghost use Rattle.aug_words.specs.Seats.{AreTogether, HandsOut};
+ghost use Rattle.std.specs.Prelude.{◌≡◌, ◌<◌, ℕ, [], true};
+ghost use Rattle.aug_core.specs.Faces.{face};
+ghost use Rattle.aug_core.specs.Tree.{root_place};
+ghost use Rattle.aug_core.specs.Told.{LoadsNode, MayTake, HasTakenLane, KnowsTable, taking, finishing, own_lane_place};
+ghost use Rattle.aug_words.specs.Leads.{HandsLaneOut, TakesLaneBack};
+ghost use Rattle.aug_words.specs.Seats.{AreTogether, IsOfLead, HandsOut};
 
 use crate::half::WordHalf;
 use crate::pass::WordPass;
 use crate::words::Words;
 use atomic_table::Seat;
-use aug_core::{HandOut, TakeBack, View};
+use aug_core::{FinishOwnLane, HandOut, LoadAnyNode, SharedWords, TakeBack, TakeOwnLane, View};
 use aug_monoid::Monoid;
-use std::marker::Model;
+use std::marker::{Model, PhantomData};
 
 /// The seat that hands out the lanes of a table, 0 first, and takes passes back.
 #[derive(Drop)]
-pub struct Lead {
+pub struct Lead<A: Monoid, B: Monoid> {
     pub(crate) seat: Seat<(), View>,
     // The lane that is handed out next.
     pub(crate) next: u32,
+    pub(crate) sums: PhantomData<(A, B)>,
 }
 
-impl Model for Lead {
+impl<A: Monoid, B: Monoid> Model for Lead<A, B> {
+    ghost use Rattle.aug_core.specs.Faces.{face};
     ghost use Rattle.aug_words.specs.Seats.{Known, IsLeadSeat};
 
     ghost Value = { Known };
 
     ghost view = { λ p. record { table = p.seat.table_id; view = p.seat.me.0 } };
 
-    ghost invariant = { λ p. IsLeadSeat p.next p.seat.me };
+    ghost invariant = { λ p. IsLeadSeat (face A.parts B.parts) p.next p.seat.me };
 }
 
-impl Lead {
-    /// Makes a pass with the next lane, which it takes. It knows what the lead knows, and has made no step but that one.
-    pub fn split<'r, A: Monoid, B: Monoid>(&mut self, words: &'r Words<A, B>) -> WordPass<'r, A, B>
+// Takes the lane of a seat that was just split off: a compare-exchange of its word from free to taken.
+fn take_lane<A: Monoid, B: Monoid>(
+    words: &SharedWords<A, B>,
+    seat: &mut Seat<(), View>,
+    place: usize,
+)
+    requires table { seat.old.table_id ≡ words.now.table_id }
+    requires inside { place < words.now.table_id.words }
+    requires live { seat.old.me.0.live ≡ true }
+    requires no_slot { seat.old.me.1 ≡ [] }
+    requires free { MayTake seat.old.me.0 }
+    requires own { place ≡ own_lane_place seat.old.me.0 }
+    ensures table { seat.new.table_id ≡ seat.old.table_id }
+    ensures no_slot { seat.new.me.1 ≡ [] }
+    ensures view { seat.new.me.0 ≡ taking seat.old.me.0 place }
+{
+    words.compare_exchange::<TakeOwnLane>(seat, place, 0, 1);
+}
+
+// Ends the lane of a seat: a store of its word as ended.
+fn finish_lane<A: Monoid, B: Monoid>(
+    words: &SharedWords<A, B>,
+    seat: &mut Seat<(), View>,
+    place: usize,
+)
+    requires table { seat.old.table_id ≡ words.now.table_id }
+    requires inside { place < words.now.table_id.words }
+    requires live { seat.old.me.0.live ≡ true }
+    requires no_slot { seat.old.me.1 ≡ [] }
+    requires taken { HasTakenLane seat.old.me.0 }
+    requires own { place ≡ own_lane_place seat.old.me.0 }
+    ensures table { seat.new.table_id ≡ seat.old.table_id }
+    ensures no_slot { seat.new.me.1 ≡ [] }
+    ensures view { seat.new.me.0 ≡ finishing seat.old.me.0 place }
+{
+    words.store::<FinishOwnLane>(seat, place, 2);
+}
+
+impl<A: Monoid, B: Monoid> Lead<A, B> {
+    /// How many lanes were handed out.
+    pub fn handed(&self) -> u32
+        ensures value { self.now.view.spare ≡ Some result }
+        ensures knows { KnowsTable (face A.parts B.parts) self.now.view }
+    {
+        self.next
+    }
+
+    // Loads the root's word: the lead then knows all that was published, and all that a pass that it took back knew.
+    fn load_root(&mut self, words: &SharedWords<A, B>, root: usize) -> u64
+        requires table { self.old.table ≡ words.now.table_id }
+        requires inside { root < words.now.table_id.words }
+        requires root { root ≡ root_place self.old.view.shape }
+        ensures table { self.new.table ≡ self.old.table }
+        ensures view { LoadsNode (face A.parts B.parts) self.old.view (root_place self.old.view.shape) result self.new.view }
+    {
+        words.load::<LoadAnyNode<A, B>>(&mut self.seat, root)
+    }
+
+    /// Makes a pass with the next lane: loads the root, splits a seat off, which knows what the lead then knows, and
+    /// takes the lane. There is no refusal.
+    pub fn split<'r>(&mut self, words: &'r Words<A, B>) -> WordPass<'r, A, B>
         requires together { AreTogether words.now self.old }
         requires room { (lane : ℕ) × HandsOut self.old.view lane }
         ensures table { self.new.table ≡ self.old.table }
-        ensures view { self.new.view ≡ handing_out self.old.view }
         ensures pass_table { result.table ≡ self.old.table }
-        ensures pass_view { result.view ≡ taking (handed_out self.old.view) (own_lane_place (handed_out self.old.view)) }
+        ensures hands_out { HandsLaneOut (face A.parts B.parts) self.old.view self.new.view result.view }
     {
-        let seat = words.table.shared.split_seat::<HandOut>(&mut self.seat);
+        self.load_root(&words.table.shared, words.lanes - 1);
+        let mut seat = words.table.shared.split_seat::<HandOut>(&mut self.seat);
         let lane = self.next;
         self.next += 1;
-        let mut pass = words.pass(WordHalf { seat, lane });
-        pass.take_lane();
-        pass
+        take_lane(&words.table.shared, &mut seat, words.lanes + lane as usize);
+        words.pass(WordHalf {
+            seat,
+            lane,
+            sums: PhantomData,
+        })
     }
 
-    /// Takes a pass back: its lane is ended, and the lead then knows what the pass knew of its lane.
-    pub fn join<'r, A: Monoid, B: Monoid>(&mut self, mut pass: WordPass<'r, A, B>)
-        requires one_table { pass.table ≡ self.old.table }
-        requires taken { MayFinish pass.view }
+    /// Takes a pass of this lead back: ends its lane, takes in all that it knew, and loads the root. The lead then knows
+    /// a history that goes on from its own and from the pass's, of which one was a beginning of the other.
+    pub fn join<'r>(&mut self, pass: WordPass<'r, A, B>)
+        requires { IsOfLead self.old pass }
         ensures table { self.new.table ≡ self.old.table }
-        ensures view { self.new.view ≡ taking_back self.old.view (finishing pass.entry.view (own_lane_place pass.entry.view)) }
+        ensures takes_back { TakesLaneBack (face A.parts B.parts) self.old.view pass.entry.view self.new.view }
     {
-        pass.finish_lane();
         let WordPass {
-            seat,
+            mut seat,
             words,
-            lane: _,
-            lanes: _,
+            lane,
+            lanes,
             records: _,
         } = pass;
+        finish_lane(words, &mut seat, lanes + lane as usize);
         words.join_seat::<TakeBack>(&mut self.seat, seat);
+        self.load_root(words, lanes - 1);
     }
 }

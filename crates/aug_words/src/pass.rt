@@ -1,11 +1,19 @@
 //! What one thread knows of a table, and its steps.
-ghost use Rattle.std.specs.Prelude.{◌≡◌, ◌^◌, ◌<◌, ◌≤◌, ◌+◌, ◌*◌, ℕ};
+ghost use Rattle.std.specs.Prelude.{◌≡◌, ◌^◌, ◌<◌, ◌≤◌, ◌+◌, ◌*◌, ℕ, length};
+ghost use Rattle.aug_core.specs.Lanes.{block_size};
 ghost use Rattle.aug_core.specs.Places.{record_start};
-ghost use Rattle.aug_core.specs.Told.{MayStore, MayTake, MayFinish, storing, taking, finishing, own_lane_place};
-ghost use Rattle.aug_words.specs.Seats.{Known, MayLoad, LoadsRecordWord};
+ghost use Rattle.aug_core.specs.Faces.{face};
+ghost use Rattle.aug_core.specs.Tree.{IsInner};
+ghost use Rattle.aug_core.specs.Fields.{field_offset};
+ghost use Rattle.aug_core.specs.Told.{HoldsOnly, MayStore, MayChange, KnowsTable, LoadsLeaf, BeginsAtLeaf, LoadsNode, IsFilled, storing};
+ghost use Rattle.aug_core.specs.declared.view.Held.{Held};
+ghost use Rattle.aug_words.specs.Seats.{Known, MayLoad, LoadsRecordWord, HasReached, TriedLeaf, TriedNode};
 
 use atomic_table::Seat;
-use aug_core::{FinishOwnLane, LoadAnyRecord, SharedWords, StoreOwnRecord, TakeOwnLane, View};
+use aug_core::{
+    BeginAtLeaf, LoadAnyLeaf, LoadAnyNode, LoadAnyRecord, RecordField, SharedWords, StoreOwnRecord,
+    TryAnyLeaf, TryAnyNode, View,
+};
 use aug_monoid::Monoid;
 use std::marker::Model;
 
@@ -22,16 +30,18 @@ pub struct WordPass<'r, A: Monoid, B: Monoid> {
 }
 
 impl<'r, A: Monoid, B: Monoid> Model for WordPass<'r, A, B> {
+    ghost use Rattle.aug_core.specs.Faces.{face};
     ghost use Rattle.aug_words.specs.Seats.{Known, SitsAt, IsPassSeat};
 
     ghost Value = { Known };
 
     ghost view = { λ p. record { table = p.seat.table_id; view = p.seat.me.0 } };
 
-    ghost invariant = { λ p. SitsAt p.seat.table_id p.words.now.table_id p.lanes p.records p.seat.me.0.shape × IsPassSeat p.lane p.seat.me };
+    ghost invariant = { λ p. SitsAt p.seat.table_id p.words.now.table_id p.lanes p.records p.seat.me.0.shape × IsPassSeat (face A.parts B.parts) p.lane p.seat.me };
 }
 
 // The place of a word of a record.
+#[inline(always)]
 fn record_word(records: usize, number: u64, field: usize) -> usize
     requires { records + 5 * number + field < 2 ^ 60 }
     ensures { result ≡ records + 5 * number + field }
@@ -40,49 +50,91 @@ fn record_word(records: usize, number: u64, field: usize) -> usize
 }
 
 impl<'r, A: Monoid, B: Monoid> WordPass<'r, A, B> {
-    /// Loads one of the five words of a record: left, right, count and the words of two folds.
+    /// The lane of the pass.
+    pub fn lane(&self) -> u32
+        ensures value { (held : Held) → HoldsOnly self.now.view held → held.lane ≡ result }
+        ensures taken { (held : Held) → HoldsOnly self.now.view held → held.state ≡ 1 }
+        ensures words { (held : Held) → HoldsOnly self.now.view held → length held.words ≡ block_size self.now.view.shape }
+        ensures knows { KnowsTable (face A.parts B.parts) self.now.view }
+    {
+        self.lane
+    }
+
+    /// Loads a leaf's word, its serial. `leaf` is the word's place, which is the key.
+    pub fn load_leaf(&mut self, leaf: usize) -> u64
+        requires { leaf < 2 ^ self.old.view.shape.bits }
+        ensures table { self.new.table ≡ self.old.table }
+        ensures view { LoadsLeaf (face A.parts B.parts) self.old.view leaf result self.new.view }
+    {
+        self.words.load::<LoadAnyLeaf<A, B>>(&mut self.seat, leaf)
+    }
+
+    /// Loads a leaf's word as the first step of an update. From then on the view says where that update began.
+    pub fn begin_at_leaf(&mut self, leaf: usize) -> u64
+        requires { leaf < 2 ^ self.old.view.shape.bits }
+        ensures table { self.new.table ≡ self.old.table }
+        ensures view { BeginsAtLeaf (face A.parts B.parts) self.old.view leaf result self.new.view }
+    {
+        self.words.load::<BeginAtLeaf<A, B>>(&mut self.seat, leaf)
+    }
+
+    /// Adds one to a leaf's serial if it is still this one. True if it did: then the change is accepted.
+    pub fn try_leaf(&mut self, leaf: usize, serial: u64) -> bool
+        requires leaf { leaf < 2 ^ self.old.view.shape.bits }
+        requires reached { HasReached self.old.view leaf serial }
+        requires change { MayChange self.old.view }
+        ensures table { self.new.table ≡ self.old.table }
+        ensures view { TriedLeaf (face A.parts B.parts) self.old.view leaf serial result self.new.view }
+    {
+        let found = self
+            .words
+            .compare_exchange::<TryAnyLeaf<A, B>>(&mut self.seat, leaf, serial, serial + 1);
+        found == serial
+    }
+
+    /// Loads a node's word, the number of its newest record. `node` is the word's place, as `Layout::node` gives it.
+    pub fn load_node(&mut self, node: usize) -> u64
+        requires { IsInner self.old.view.shape node }
+        ensures table { self.new.table ≡ self.old.table }
+        ensures view { LoadsNode (face A.parts B.parts) self.old.view node result self.new.view }
+    {
+        self.words.load::<LoadAnyNode<A, B>>(&mut self.seat, node)
+    }
+
+    /// Puts an own record in the place of a node's, if that is still this one. True if it did: then the record is published.
+    pub fn try_node(&mut self, node: usize, from: u64, number: u64) -> bool
+        requires inner { IsInner self.old.view.shape node }
+        requires own { MayStore self.old.view number }
+        requires filled { IsFilled (face A.parts B.parts) self.old.view node from number }
+        ensures table { self.new.table ≡ self.old.table }
+        ensures view { TriedNode (face A.parts B.parts) self.old.view node from number result self.new.view }
+    {
+        let found = self
+            .words
+            .compare_exchange::<TryAnyNode<A, B>>(&mut self.seat, node, from, number);
+        found == from
+    }
+
+    /// Loads one of the five words of a record.
     ///
     /// `number` is the record's, opening records first. A record that was published never changes.
-    pub fn load_record_word(&mut self, number: u64, field: usize) -> u64
-        requires known { MayLoad self.old.view number }
-        requires field { field < 5 }
+    pub fn load_record_word(&mut self, number: u64, field: RecordField) -> u64
+        requires { MayLoad self.old.view number }
         ensures table { self.new.table ≡ self.old.table }
-        ensures view { LoadsRecordWord self.old.view number field result self.new.view }
+        ensures view { LoadsRecordWord self.old.view number (field_offset field) result self.new.view }
     {
-        let place = record_word(self.records, number, field);
+        let place = record_word(self.records, number, field.offset());
         self.words.load::<LoadAnyRecord>(&mut self.seat, place)
     }
 
     /// Stores one of the five words of a record of the own lane, which was not published.
-    pub fn store_record_word(&mut self, number: u64, field: usize, value: u64)
-        requires own { MayStore self.old.view number }
-        requires field { field < 5 }
+    pub fn store_record_word(&mut self, number: u64, field: RecordField, value: u64)
+        requires { MayStore self.old.view number }
         ensures table { self.new.table ≡ self.old.table }
-        ensures view { self.new.view ≡ storing self.old.view (record_start self.old.view.shape number + field) value }
+        ensures view { self.new.view ≡ storing self.old.view (record_start self.old.view.shape number + field_offset field) value }
     {
-        let place = record_word(self.records, number, field);
+        let place = record_word(self.records, number, field.offset());
         self.words
             .store::<StoreOwnRecord>(&mut self.seat, place, value);
-    }
-
-    /// Takes the own lane, which is free: a compare-exchange of its word from 0 to 1. `Lead::split` alone calls it.
-    pub(crate) fn take_lane(&mut self)
-        requires { MayTake self.old.view }
-        ensures table { self.new.table ≡ self.old.table }
-        ensures view { self.new.view ≡ taking self.old.view (own_lane_place self.old.view) }
-    {
-        let place = self.lanes + self.lane as usize;
-        self.words
-            .compare_exchange::<TakeOwnLane>(&mut self.seat, place, 0, 1);
-    }
-
-    /// Ends the own lane, which is taken: a store of 2 in its word. `Lead::join` alone calls it.
-    pub(crate) fn finish_lane(&mut self)
-        requires { MayFinish self.old.view }
-        ensures table { self.new.table ≡ self.old.table }
-        ensures view { self.new.view ≡ finishing self.old.view (own_lane_place self.old.view) }
-    {
-        let place = self.lanes + self.lane as usize;
-        self.words.store::<FinishOwnLane>(&mut self.seat, place, 2);
     }
 }

@@ -4,17 +4,17 @@ use Rattle.std.proofs.lemmas.List.{append-nil}
 use Rattle.std.proofs.Math.Seq.{drop-cons}
 use Rattle.std.specs.List.{zip}
 use mir.Val.{bool_byte}
-use Rattle.augtrie.specs.Replies.{Sets, count_of, is_insertion, is_removal, opening_sets, replies_of, reply_to, report_of, sets_after, sets_of}
-use Rattle.augtrie.specs.declared.script.reply.Reply.{Reply}
-use Rattle.augtrie.specs.declared.script.row.Row.{Row}
-use Rattle.augtrie.specs.declared.script.verb.Verb.TheVariants as verb
+use Rattle.aug_script.specs.Replies.{Sets, count_of, is_insertion, is_removal, opening_sets, replies_of, reply_to, report_of, sets_after, sets_of}
+use Rattle.aug_script.specs.declared.reply.Reply.{Reply}
+use Rattle.aug_script.specs.declared.row.Row.{Row}
+use Rattle.aug_script.specs.declared.verb.Verb.TheVariants as verb
 
 -- the rows ran but for the rest of them: what they gave, with what the rest gives over the sets of now, is what all give
-pub record RanUpTo (rows rest : List Row) (sets : Sets) (lines : List (Row × Reply)) (inserts removals : ℕ) : Type 0 where
-  pub lines_are : lines ++ zip rest (replies_of sets rest) ≡ zip rows (replies_of opening_sets rows)
-  pub sets_are : sets_of sets rest ≡ sets_of opening_sets rows
-  pub inserts_are : inserts + count_of is_insertion (replies_of sets rest) ≡ count_of is_insertion (replies_of opening_sets rows)
-  pub removals_are : removals + count_of is_removal (replies_of sets rest) ≡ count_of is_removal (replies_of opening_sets rows)
+pub record RanUpTo (members : List ℕ) (rows rest : List Row) (sets : Sets) (lines : List (Row × Reply)) (inserts removals : ℕ) : Type 0 where
+  pub lines_are : lines ++ zip rest (replies_of sets rest) ≡ zip rows (replies_of (opening_sets members) rows)
+  pub sets_are : sets_of sets rest ≡ sets_of (opening_sets members) rows
+  pub inserts_are : inserts + count_of is_insertion (replies_of sets rest) ≡ count_of is_insertion (replies_of (opening_sets members) rows)
+  pub removals_are : removals + count_of is_removal (replies_of sets rest) ≡ count_of is_removal (replies_of (opening_sets members) rows)
 
 abbrev pub one_if : Bool → ℕ
 one_if b = if b then 1 else 0
@@ -26,14 +26,14 @@ count_of-cons test reply replies = by_test (test reply)
     by_test true = omega arith
     by_test false = omega arith
 
-pub ran_first : (rows : List Row) → RanUpTo rows rows opening_sets [] 0 0
-ran_first rows = record { lines_are = refl; sets_are = refl; inserts_are = omega arith; removals_are = omega arith }
+pub ran_first : (members : List ℕ) (rows : List Row) → RanUpTo members rows rows (opening_sets members) [] 0 0
+ran_first members rows = record { lines_are = refl; sets_are = refl; inserts_are = omega arith; removals_are = omega arith }
 
-pub ran_more : (rows rest : List Row) (row : Row) (sets : Sets) (lines : List (Row × Reply)) (inserts removals : ℕ)
-    → RanUpTo rows (row ∷ rest) sets lines inserts removals
-    → RanUpTo rows rest (sets_after sets row.verb) (lines ++ (row, reply_to sets row.verb) ∷ []) (inserts + one_if (is_insertion (reply_to sets row.verb))) (removals + one_if (is_removal (reply_to sets row.verb)))
+pub ran_more : (members : List ℕ) (rows rest : List Row) (row : Row) (sets : Sets) (lines : List (Row × Reply)) (inserts removals : ℕ)
+    → RanUpTo members rows (row ∷ rest) sets lines inserts removals
+    → RanUpTo members rows rest (sets_after sets row.verb) (lines ++ (row, reply_to sets row.verb) ∷ []) (inserts + one_if (is_insertion (reply_to sets row.verb))) (removals + one_if (is_removal (reply_to sets row.verb)))
 unfolding replies_of sets_of
-ran_more rows rest row sets lines inserts removals ran =
+ran_more members rows rest row sets lines inserts removals ran =
     let reply = reply_to sets row.verb in
     let replies = replies_of (sets_after sets row.verb) rest in
     record {
@@ -48,30 +48,30 @@ abbrev pub no_row : Row
 no_row = record { row = 0; lane = 0; verb = verb.Insert 0 }
 
 -- one more row, as the code counts it
-pub ran_step : (rows : List Row) (i : ℕ) (sets sets' : Sets) (lines lines' : List (Row × Reply)) (inserts inserts' removals removals' : ℕ) (reply : Reply)
-    → i < length rows → RanUpTo rows (drop i rows) sets lines inserts removals
+pub ran_step : (members : List ℕ) (rows : List Row) (i : ℕ) (sets sets' : Sets) (lines lines' : List (Row × Reply)) (inserts inserts' removals removals' : ℕ) (reply : Reply)
+    → i < length rows → RanUpTo members rows (drop i rows) sets lines inserts removals
     → reply ≡ reply_to sets (get_or rows i no_row).verb
     → sets' ≡ sets_after sets (get_or rows i no_row).verb
     → lines' ≡ lines ++ (get_or rows i no_row, reply) ∷ []
     → inserts' ≡ inserts + one_if (is_insertion reply)
     → removals' ≡ removals + one_if (is_removal reply)
-    → RanUpTo rows (drop (i + 1) rows) sets' lines' inserts' removals'
-ran_step rows i sets sets' lines lines' inserts inserts' removals removals' reply below ran reply_is sets_is lines_is inserts_is removals_is =
+    → RanUpTo members rows (drop (i + 1) rows) sets' lines' inserts' removals'
+ran_step members rows i sets sets' lines lines' inserts inserts' removals removals' reply below ran reply_is sets_is lines_is inserts_is removals_is =
     let rest = drop-cons rows i no_row below in
-    let more = ran_more rows (drop (suc i) rows) (get_or rows i no_row) sets lines inserts removals (rw rest at ran) in
+    let more = ran_more members rows (drop (suc i) rows) (get_or rows i no_row) sets lines inserts removals (rw rest at ran) in
     rw (sets_is, lines_is, inserts_is, removals_is, reply_is, add-one i) more
 
 -- when no row is left, the report is that of the rows
-pub ran_all : (rows : List Row) (sets : Sets) (lines : List (Row × Reply)) (inserts removals size : ℕ)
-    → RanUpTo rows [] sets lines inserts removals → size ≡ length sets.live
-    → report_of rows ≡ record { number = 1; rows = lines; size = size; inserts = inserts; removals = removals }
+pub ran_all : (number : ℕ) (members : List ℕ) (rows : List Row) (sets : Sets) (lines : List (Row × Reply)) (inserts removals size : ℕ)
+    → RanUpTo members rows [] sets lines inserts removals → size ≡ length sets.live
+    → report_of number members rows ≡ record { number = number; rows = lines; size = size; inserts = inserts; removals = removals }
 unfolding replies_of sets_of
-ran_all rows sets lines inserts removals size ran sized =
-    let all_lines : zip rows (replies_of opening_sets rows) ≡ lines = sym ran.lines_are ∙ append-nil lines in
-    let all_sets : length (sets_of opening_sets rows).live ≡ size = ap (λ (s : Sets). length s.live) (sym ran.sets_are) ∙ sym sized in
-    let all_inserts : count_of is_insertion (replies_of opening_sets rows) ≡ inserts = omega (arith, ran.inserts_are) in
-    let all_removals : count_of is_removal (replies_of opening_sets rows) ≡ removals = omega (arith, ran.removals_are) in
-    λ i. record { number = 1; rows = all_lines i; size = all_sets i; inserts = all_inserts i; removals = all_removals i }
+ran_all number members rows sets lines inserts removals size ran sized =
+    let all_lines : zip rows (replies_of (opening_sets members) rows) ≡ lines = sym ran.lines_are ∙ append-nil lines in
+    let all_sets : length (sets_of (opening_sets members) rows).live ≡ size = ap (λ (s : Sets). length s.live) (sym ran.sets_are) ∙ sym sized in
+    let all_inserts : count_of is_insertion (replies_of (opening_sets members) rows) ≡ inserts = omega (arith, ran.inserts_are) in
+    let all_removals : count_of is_removal (replies_of (opening_sets members) rows) ≡ removals = omega (arith, ran.removals_are) in
+    λ i. record { number = number; rows = all_lines i; size = all_sets i; inserts = all_inserts i; removals = all_removals i }
 
 -- what a `bool` adds to a count
 pub one_if-bool_byte : (b : Bool) → bool_byte b ≡ one_if b

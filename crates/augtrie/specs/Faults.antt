@@ -1,7 +1,8 @@
 -- What a fault of the program is called, and the status that the program then ends with.
-use Rattle.std.specs.Prelude.{ℕ, List, ◌++◌, codes, decimal, string_bytes}
-use Rattle.augtrie.specs.declared.script.script_error.ScriptError.{ScriptError}
-use Rattle.augtrie.specs.declared.script.script_error.ScriptError.TheVariants as script
+use Rattle.std.specs.Prelude.{ℕ, List, ◌++◌, codes, string_bytes}
+use Rattle.aug_script.specs.FaultText.{script_text}
+use Rattle.aug_script.specs.declared.script_error.ScriptError.{ScriptError}
+use Rattle.aug_script.specs.declared.script_error.ScriptError.TheVariants as script
 use Rattle.augtrie.specs.declared.run_error.RunError.{RunError}
 use Rattle.augtrie.specs.declared.run_error.RunError.TheVariants as run
 use Rattle.augtrie.specs.declared.stop.Stop.{Stop}
@@ -10,21 +11,6 @@ use Rattle.augtrie.specs.declared.stop.Stop.TheVariants as stop
 -- the line of a fault: the program's name, a colon, a blank, and what is wrong
 abbrev pub fault_line : List ℕ → List ℕ
 fault_line text = codes "augtrie: " ++ text ++ codes "\n"
-
--- the number of the faulty row, and the fault's name
-abbrev pub row_text : ℕ → List ℕ → List ℕ
-row_text row name = codes "row " ++ decimal row ++ codes ": " ++ name
-
--- what is wrong with a script
-abbrev pub script_text : ScriptError → List ℕ
-script_text (script.BadCsv row) = row_text row (codes "BadCsv")
-script_text (script.BadLane row) = row_text row (codes "BadLane")
-script_text (script.BadVerb row) = row_text row (codes "BadVerb")
-script_text (script.BadArity row) = row_text row (codes "BadArity")
-script_text (script.BadNumber row) = row_text row (codes "BadNumber")
-script_text (script.OutOfRange row) = row_text row (codes "OutOfRange")
-script_text (script.TooManyUpdates row) = row_text row (codes "TooManyUpdates")
-script_text script.OutOfMemory = codes "memory"
 
 -- 1 for a script's fault, but 4 for memory
 abbrev pub script_status : ScriptError → ℕ
@@ -57,12 +43,19 @@ run_error_status run.Output = 3
 run_error_status run.OutOfMemory = 4
 run_error_status run.TooLong = 1
 
--- what is written where the command line stops the program: the parser's own text, or a fault's line
+-- why the command line stops the program: the parser's own text, or a fault
+abbrev pub stop_text : Stop → List ℕ
+stop_text (stop.Help text) = string_bytes text
+stop_text (stop.Usage text) = string_bytes text
+stop_text stop.TooLarge = codes "TooLarge"
+stop_text stop.OutOfMemory = codes "memory"
+
+-- what is written then: the parser's text as it is, or the fault's line
 abbrev pub stop_line : Stop → List ℕ
 stop_line (stop.Help text) = string_bytes text
 stop_line (stop.Usage text) = string_bytes text
-stop_line stop.TooLarge = fault_line (codes "TooLarge")
-stop_line stop.OutOfMemory = fault_line (codes "memory")
+stop_line stop.TooLarge = fault_line (stop_text stop.TooLarge)
+stop_line stop.OutOfMemory = fault_line (stop_text stop.OutOfMemory)
 
 -- 0 for help that was asked for, 2 for words that are wrong, 4 for memory
 abbrev pub stop_status : Stop → ℕ

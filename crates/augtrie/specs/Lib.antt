@@ -1,9 +1,4 @@
 pub mod CommandLine
-pub mod Devices
 pub mod Faults
-pub mod Limits
-pub mod RecordsLeft
-pub mod Replies
-pub mod ReportText
+pub mod Program
 pub mod Runs
-pub mod Script

@@ -4,8 +4,8 @@ ghost use Rattle.clap.specs.Words.{FailsBy, app_of, first_of, found_of, kind_of,
 ghost use Rattle.augtrie.specs.CommandLine.{AsksFor, FindsNumbers, IsReadFrom, IsStopFor, IsUsual, bits_rule, faults_of, file_rule, program, updates_rule, workers_rule};
 
 use crate::options::Options;
-use crate::script::Limits;
 use crate::stop::Stop;
+use aug_script::Limits;
 use clap::error::ErrorKind;
 use clap::{Arg, ArgAction, ArgMatches, Command, Error, value_parser};
 use std::alloc::{AllocError, Global};

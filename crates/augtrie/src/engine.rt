@@ -1,10 +1,10 @@
 //! The plain engine of one lane: a live set, and the snapshot that its queries are answered from.
-ghost use Rattle.std.specs.Prelude.{◌≡◌, ◌+◌, ◌^◌, ◌<◌, ◌≤◌, length, true, All, IfOk, IsTrue, []};
-ghost use Rattle.augtrie.specs.Replies.{opening_sets, reply_to, report_of, sets_after};
-ghost use Rattle.augtrie.specs.Script.{is_in_bounds};
+ghost use Rattle.std.specs.Prelude.{◌≡◌, ◌+◌, ◌^◌, ◌<◌, ◌≤◌, length, IfOk, IsTrue, []};
+ghost use Rattle.aug_script.specs.Replies.{opening_sets, reply_to, report_of, sets_after};
+ghost use Rattle.aug_script.specs.Script.{KeepsLimits, is_in_bounds};
 
-use crate::script::{Limits, Listed, Reply, Report, Row, Verb};
 use aug_model::{KeySet, ModelError};
+use aug_script::{Limits, Listed, Reply, Report, Row, Verb};
 use std::alloc::{AllocError, Global};
 use std::marker::Model;
 
@@ -16,7 +16,7 @@ struct Engine {
 
 impl Model for Engine {
     ghost use Rattle.std.specs.Prelude.{◌≡◌};
-    ghost use Rattle.augtrie.specs.Replies.{Lane};
+    ghost use Rattle.aug_script.specs.Replies.{Lane};
 
     ghost Value = { Lane };
 
@@ -29,7 +29,7 @@ impl Engine {
     /// An engine with nothing in its sets, for keys of 1 to 16 bits.
     fn new(alloc: Global, bits: u32) -> Result<Engine, AllocError>
         requires { (1 ≤ bits) × (bits ≤ 16) }
-        ensures { IfOk result (λ engine. engine ≡ record { bits = bits; sets = opening_sets }) }
+        ensures { IfOk result (λ engine. engine ≡ record { bits = bits; sets = opening_sets [] }) }
     {
         Ok(Engine {
             live: empty_set(alloc, bits)?,
@@ -87,11 +87,11 @@ fn empty_set(alloc: Global, bits: u32) -> Result<KeySet, AllocError>
     }
 }
 
-/// Runs the rows of a round one after the other, over a set that is empty at first.
+/// Runs the rows of the first round one after the other, over a set that is empty at first.
 pub(crate) fn run_rows(alloc: Global, limits: &Limits, rows: &[Row]) -> Result<Report, AllocError>
-    requires in_bounds { All (λ row. is_in_bounds limits.now.bits row.verb ≡ true) rows.now }
+    requires kept { KeepsLimits limits.now rows.now }
     requires few { length rows.now < 2 ^ 32 }
-    ensures { IfOk result (λ report. report ≡ report_of rows.now) }
+    ensures { IfOk result (λ report. report ≡ report_of 1 [] rows.now) }
 {
     let mut engine = Engine::new(alloc, limits.bits())?;
     let mut lines = Vec::with_capacity(alloc, rows.len())?;

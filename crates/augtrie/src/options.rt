@@ -1,4 +1,4 @@
-use crate::script::Limits;
+use aug_script::Limits;
 
 /// What the command line asks for.
 #[derive(Debug, Drop)]

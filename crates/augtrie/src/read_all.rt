@@ -1,8 +1,8 @@
 //! Reading a whole script into memory.
 ghost use Rattle.std.specs.Prelude.{◌≡◌, ◌+◌, ◌-◌, ◌^◌, ◌<◌, ◌≤◌, ◌↔◌, length, vec_len, IfOk, IfSome, IsErrOf};
-ghost use Rattle.augtrie.specs.Devices.{script_limit};
+ghost use Rattle.augtrie.specs.Runs.{script_limit};
 
-use crate::script::Source;
+use aug_script::Source;
 use std::alloc::{AllocError, Global};
 
 /// How many bytes a script may have.
@@ -57,7 +57,7 @@ pub(crate) fn read_all<S: Source>(alloc: Global, source: &mut S) -> Result<Vec<u
 #[cfg(test)]
 mod tests {
     use super::{ReadError, read_all};
-    use crate::script::fakes::MemorySource;
+    use aug_script::MemorySource;
     use std::test::Fail;
 
     #[test]

@@ -1,13 +1,12 @@
 //! A whole script, from its bytes to its printed report.
 ghost use Rattle.std.specs.Prelude.{◌≡◌, ◌≢◌, ◌-◌, ◌^◌, ◌<◌, ◌≤◌, ◌↔◌, Err, IfErr, IfSome, OnOk, length};
-ghost use Rattle.augtrie.specs.Devices.{script_limit};
-ghost use Rattle.augtrie.specs.Runs.{HasFault, RunsInPart, RunsWhole};
-ghost use Rattle.augtrie.specs.declared.script.script_error.ScriptError.{ScriptError};
+ghost use Rattle.augtrie.specs.Runs.{HasFault, RunsInPart, RunsWhole, script_limit};
+ghost use Rattle.aug_script.specs.declared.script_error.ScriptError.{ScriptError};
 
 use crate::engine::run_rows;
 use crate::read_all::{ReadError, read_all};
 use crate::run_error::RunError;
-use crate::script::{Limits, PrintError, Script, ScriptError, Sink, Source, print};
+use aug_script::{Limits, PrintError, Script, ScriptError, Sink, Source, print};
 use std::alloc::{AllocError, Global};
 
 /// Reads the whole script, judges every row, runs the rows and writes the report. Nothing is written unless the
@@ -20,13 +19,13 @@ pub fn run<S: Source, W: Sink>(
 ) -> Result<(), RunError>
     requires source { S.fault_count source.old < 2 ^ 64 - 1 }
     requires sink { W.fault_count sink.old < 2 ^ 64 - 1 }
-    ensures ok { OnOk result (IfSome (S.remaining source.old) (RunsWhole limits.now (W.contents sink.old) (W.contents sink.new))) }
+    ensures ok { OnOk result (IfSome (S.remaining source.old) (RunsWhole limits.now (W.contents sink.old) (W.contents sink.new) (W.finish_count sink.old) (W.finish_count sink.new))) }
     ensures script { (fault : ScriptError) → result ≡ Err (RunError.Script fault) → IfSome (S.remaining source.old) (HasFault limits.now fault) }
     ensures named { result ≢ Err (RunError.Script ScriptError.OutOfMemory) }
     ensures long { result ≡ Err RunError.TooLong → IfSome (S.remaining source.old) (λ bytes. script_limit < length bytes) }
     ensures input { result ≡ Err RunError.Input ↔ (S.fault_count source.old < S.fault_count source.new) }
     ensures output { result ≡ Err RunError.Output ↔ (W.fault_count sink.old < W.fault_count sink.new) }
-    ensures part { result ≡ Err RunError.Output → IfSome (S.remaining source.old) (RunsInPart limits.now (W.contents sink.old) (W.contents sink.new)) }
+    ensures part { result ≡ Err RunError.Output → IfSome (S.remaining source.old) (RunsInPart limits.now (W.contents sink.old) (W.contents sink.new) (W.finish_count sink.old) (W.finish_count sink.new)) }
     ensures nothing { IfErr result (λ error. error ≢ RunError.Output → sink.new ≡ sink.old) }
 {
     let bytes = match read_all(alloc, source) {
@@ -47,12 +46,12 @@ fn run_bytes<W: Sink>(
 ) -> Result<(), RunError>
     requires fits { length bytes.now ≤ script_limit }
     requires sink { W.fault_count sink.old < 2 ^ 64 - 1 }
-    ensures ok { OnOk result (RunsWhole limits.now (W.contents sink.old) (W.contents sink.new) bytes.now) }
+    ensures ok { OnOk result (RunsWhole limits.now (W.contents sink.old) (W.contents sink.new) (W.finish_count sink.old) (W.finish_count sink.new) bytes.now) }
     ensures script { (fault : ScriptError) → result ≡ Err (RunError.Script fault) → HasFault limits.now fault bytes.now }
     ensures named { result ≢ Err (RunError.Script ScriptError.OutOfMemory) }
     ensures fits { (result ≢ Err RunError.TooLong) × (result ≢ Err RunError.Input) }
     ensures output { result ≡ Err RunError.Output ↔ (W.fault_count sink.old < W.fault_count sink.new) }
-    ensures part { result ≡ Err RunError.Output → RunsInPart limits.now (W.contents sink.old) (W.contents sink.new) bytes.now }
+    ensures part { result ≡ Err RunError.Output → RunsInPart limits.now (W.contents sink.old) (W.contents sink.new) (W.finish_count sink.old) (W.finish_count sink.new) bytes.now }
     ensures nothing { IfErr result (λ error. error ≢ RunError.Output → sink.new ≡ sink.old) }
 {
     let script = match Script::read(alloc, bytes, limits) {

@@ -2,8 +2,10 @@
 ghost use Rattle.std.specs.Prelude.{◌≡◌, ◌+◌, ◌-◌, ◌^◌, ◌<◌, ◌≤◌, ◌↔◌, IsErr, OnOk, OnErr, is_ok, length, if◌then◌else◌};
 ghost use Rattle.std.specs.Io.KnownBytes.{Appends};
 
-use crate::fault_line::{fault_line, script_line};
-use crate::script::{Fault, ScriptError, Sink, send};
+use crate::fault_line::fault_line;
+use aug_script::{Fault, FaultText, ScriptError, Sink, send};
+use std::error::Error;
+use std::fmt;
 
 /// Why a script was not run to its end.
 #[derive(Clone, Copy, Debug, PartialEq, Eq)]
@@ -21,8 +23,8 @@ pub enum RunError {
 }
 
 impl RunError {
-    ghost use Rattle.augtrie.specs.Devices.{AppendsBeginning};
-    ghost use Rattle.augtrie.specs.Faults.{run_error_line, run_error_status};
+    ghost use Rattle.aug_script.specs.Devices.{AppendsBeginning, FinishesLast};
+    ghost use Rattle.augtrie.specs.Faults.{run_error_line, run_error_status, run_error_text};
 
     /// The status that the program ends with: 1, 3 or 4.
     pub fn status(&self) -> u8
@@ -35,31 +37,52 @@ impl RunError {
         }
     }
 
+    /// What went wrong, as a word or a few. It takes no memory.
+    pub fn text(&self) -> FaultText
+        ensures { result.bytes ≡ run_error_text self.now }
+    {
+        match self {
+            RunError::Script(error) => error.text(),
+            RunError::Input => FaultText::from("input").unwrap(),
+            RunError::Output => FaultText::from("output").unwrap(),
+            RunError::OutOfMemory => FaultText::from("memory").unwrap(),
+            RunError::TooLong => FaultText::from("script too long").unwrap(),
+        }
+    }
+
     /// Writes the fault's line, and then calls `finish` once. The first fault of the sink ends it. It takes no
     /// memory.
     pub fn write_line<S: Sink>(&self, sink: &mut S) -> Result<(), Fault>
         requires { S.fault_count sink.old < 2 ^ 64 - 1 }
         ensures ok { OnOk result (Appends (S.contents sink.old) (S.contents sink.new) (run_error_line self.now)) }
         ensures err { OnErr result (AppendsBeginning (S.contents sink.old) (S.contents sink.new) (run_error_line self.now)) }
+        ensures finished { OnOk result (S.finish_count sink.new ≡ S.finish_count sink.old + 1) }
+        ensures last { FinishesLast (S.contents sink.old) (S.contents sink.new) (S.finish_count sink.old) (S.finish_count sink.new) (run_error_line self.now) }
         ensures rose { IsErr result ↔ (S.fault_count sink.old < S.fault_count sink.new) }
         ensures counted { S.fault_count sink.new ≡ S.fault_count sink.old + (if is_ok result then 0 else 1) }
     {
-        let line = match self {
-            RunError::Script(error) => script_line(*error),
-            RunError::Input => fault_line("input"),
-            RunError::Output => fault_line("output"),
-            RunError::OutOfMemory => fault_line("memory"),
-            RunError::TooLong => fault_line("script too long"),
-        };
+        let line = fault_line(self.text().as_str());
         send(line.as_str().as_bytes(), sink)
     }
 }
 
+impl fmt::Display for RunError {
+    ghost use Rattle.std.specs.Prelude.{Some};
+    ghost use Rattle.augtrie.specs.Faults.{run_error_text};
+
+    ghost output = { λ error. Some (run_error_text error) };
+
+    fn fmt<W: fmt::Write>(&self, f: &mut fmt::Formatter<W>) -> fmt::Result {
+        f.write_str(self.text().as_str())
+    }
+}
+
+impl Error for RunError {}
+
 #[cfg(test)]
 mod tests {
-    use super::{RunError, ScriptError};
-    use crate::script::Fault;
-    use crate::script::fakes::MemorySink;
+    use super::RunError;
+    use aug_script::{Fault, MemorySink, ScriptError};
 
     const LINES: [(RunError, u8, &str); 12] = [
         (

@@ -3,8 +3,10 @@ ghost use Rattle.std.specs.Prelude.{◌≡◌, ◌+◌, ◌-◌, ◌^◌, ◌<�
 ghost use Rattle.std.specs.Io.KnownBytes.{Appends};
 
 use crate::fault_line::fault_line;
-use crate::script::{Fault, Sink, send};
+use aug_script::{Fault, Sink, send};
 use std::alloc::AllocError;
+use std::error::Error;
+use std::fmt;
 
 /// Why the command line ends the program.
 #[derive(Debug, Drop)]
@@ -30,8 +32,8 @@ impl From<AllocError> for Stop {
 }
 
 impl Stop {
-    ghost use Rattle.augtrie.specs.Devices.{AppendsBeginning};
-    ghost use Rattle.augtrie.specs.Faults.{stop_line, stop_status};
+    ghost use Rattle.aug_script.specs.Devices.{AppendsBeginning, FinishesLast};
+    ghost use Rattle.augtrie.specs.Faults.{stop_line, stop_status, stop_text};
 
     /// The status that the program ends with: 0, 2 or 4.
     pub fn status(&self) -> u8
@@ -44,29 +46,54 @@ impl Stop {
         }
     }
 
+    /// The parser's text, or the fault's name.
+    pub fn text(&self) -> &str
+        ensures { result.now ≡ stop_text self.now }
+    {
+        match self {
+            Stop::Help(text) | Stop::Usage(text) => text.as_str(),
+            Stop::TooLarge => "TooLarge",
+            Stop::OutOfMemory => "memory",
+        }
+    }
+
     /// Writes the parser's text as it is, or the fault's line, and then calls `finish` once. The first fault of
     /// the sink ends it. It takes no memory.
     pub fn write_line<S: Sink>(&self, sink: &mut S) -> Result<(), Fault>
         requires { S.fault_count sink.old < 2 ^ 64 - 1 }
         ensures ok { OnOk result (Appends (S.contents sink.old) (S.contents sink.new) (stop_line self.now)) }
         ensures err { OnErr result (AppendsBeginning (S.contents sink.old) (S.contents sink.new) (stop_line self.now)) }
+        ensures finished { OnOk result (S.finish_count sink.new ≡ S.finish_count sink.old + 1) }
+        ensures last { FinishesLast (S.contents sink.old) (S.contents sink.new) (S.finish_count sink.old) (S.finish_count sink.new) (stop_line self.now) }
         ensures rose { IsErr result ↔ (S.fault_count sink.old < S.fault_count sink.new) }
         ensures counted { S.fault_count sink.new ≡ S.fault_count sink.old + (if is_ok result then 0 else 1) }
     {
-        let line = match self {
-            Stop::Help(text) | Stop::Usage(text) => return send(text.as_bytes(), sink),
-            Stop::TooLarge => fault_line("TooLarge"),
-            Stop::OutOfMemory => fault_line("memory"),
-        };
-        send(line.as_str().as_bytes(), sink)
+        match self {
+            Stop::Help(text) | Stop::Usage(text) => send(text.as_bytes(), sink),
+            Stop::TooLarge | Stop::OutOfMemory => {
+                send(fault_line(self.text()).as_str().as_bytes(), sink)
+            }
+        }
     }
 }
+
+impl fmt::Display for Stop {
+    ghost use Rattle.std.specs.Prelude.{Some};
+    ghost use Rattle.augtrie.specs.Faults.{stop_text};
+
+    ghost output = { λ stop. Some (stop_text stop) };
+
+    fn fmt<W: fmt::Write>(&self, f: &mut fmt::Formatter<W>) -> fmt::Result {
+        f.write_str(self.text())
+    }
+}
+
+impl Error for Stop {}
 
 #[cfg(test)]
 mod tests {
     use super::Stop;
-    use crate::script::Fault;
-    use crate::script::fakes::MemorySink;
+    use aug_script::{Fault, MemorySink};
     use std::alloc::{AllocError, Global};
     use std::test::Fail;
 

@@ -1,9 +1,8 @@
 //! Whole scripts, with what they print.
 use crate::run::run;
 use crate::run_error::RunError;
-use crate::script::fakes::{MemorySink, MemorySource};
-use crate::script::{LayoutError, Limits, PrintError, ScriptError};
-use std::alloc::Global;
+use aug_script::{Limits, MemorySink, MemorySource, ScriptError};
+use std::alloc::{AllocError, Global};
 use std::process::Abort;
 use std::test::Fail;
 
@@ -198,21 +197,25 @@ fn quotes_blank_lines_line_ends_and_leading_zeros(rt: HostRuntime) {
     );
 }
 
+// How a run over these bytes ended, and how often its sink was called.
+fn run_over(alloc: Global, bytes: &[u8]) -> Result<(Result<(), RunError>, u64), Fail> {
+    let limits = Limits::try_new(4, 1, 64).ok().ok_or("limits")?;
+    let mut source = MemorySource::new(bytes, usize::MAX, None);
+    let mut sink = MemorySink::new(alloc, 7, None);
+    let result = run(alloc, &mut source, &mut sink, &limits);
+    Ok((result, sink.calls))
+}
+
 #[test]
 fn script_past_its_limit_is_too_long(rt: HostRuntime) -> Result<(), Fail> {
     let alloc = rt.alloc();
     let mut bytes = vec![in alloc; b'\n'; 16_777_216]?;
-    let limits = Limits::try_new(4, 1, 64).ok().ok_or("limits")?;
-    let mut sink = MemorySink::new(alloc, 7, None);
-    let mut source = MemorySource::new(bytes.as_slice(), usize::MAX, None);
-    assert_eq!(rt; run(alloc, &mut source, &mut sink, &limits), Ok(()));
+    let (result, _calls) = run_over(alloc, bytes.as_slice())?;
+    assert_eq!(rt; result, Ok(()));
     bytes.push(b'\n')?;
-    let mut source = MemorySource::new(bytes.as_slice(), usize::MAX, None);
-    assert_eq!(rt;
-        run(alloc, &mut source, &mut sink, &limits),
-        Err(RunError::TooLong)
-    );
-    assert_eq!(rt; sink.calls, 0);
+    let (result, calls) = run_over(alloc, bytes.as_slice())?;
+    assert_eq!(rt; result, Err(RunError::TooLong));
+    assert_eq!(rt; calls, 0);
     Ok(())
 }
 
@@ -267,23 +270,53 @@ fn a_range_that_ends_before_it_begins_is_empty(rt: HostRuntime) {
     );
 }
 
+// Inserts all 65,536 keys of 16 bits.
+fn all_inserts(alloc: Global) -> Result<(String, String), AllocError> {
+    let mut script = String::new(alloc);
+    let mut text = String::new(alloc);
+    for key in 0..65_536u32 {
+        writeln!(script, "0,insert,{key}")?;
+        writeln!(text, "1 0 insert {key} = new")?;
+    }
+    Ok((script, text))
+}
+
 #[test]
-fn errors_say_what_is_wrong(rt: HostRuntime) -> Result<(), Fail> {
+fn a_script_may_use_every_update_and_no_more(rt: HostRuntime) -> Result<(), Fail> {
     let alloc = rt.alloc();
-    let fault = ScriptError::BadArity(12);
+    let limits = Limits::try_new(16, 1, 65_536).ok().ok_or("limits")?;
+    let (mut script, mut text) = all_inserts(alloc)?;
+    script.push_str("0,look\n0,rank,65536\n0,range,0,65536\n")?;
+    text.push_str("1 0 look = ok\n1 0 rank 65536 = 65536\n")?;
+    text.push_str("1 0 range 0 65536 = 65536 2147450880 0 65535\n")?;
+    text.push_str("1 end size=65536 in=65536 out=0\n")?;
+    let mut source = MemorySource::new(script.as_bytes(), usize::MAX, None);
+    let mut sink = MemorySink::new(alloc, usize::MAX, None);
+    assert_eq!(rt; run(alloc, &mut source, &mut sink, &limits), Ok(()));
+    assert_eq!(rt; sink.out.as_slice(), text.as_bytes());
+    script.push_str("0,remove,0\n")?;
+    let mut source = MemorySource::new(script.as_bytes(), usize::MAX, None);
+    let mut sink = MemorySink::new(alloc, 7, None);
     assert_eq!(rt;
-        format!(in alloc; "{fault}")?.as_str(),
-        "row 12: more or fewer arguments"
+        run(alloc, &mut source, &mut sink, &limits),
+        Err(RunError::Script(ScriptError::TooManyUpdates(65_540)))
     );
-    let refusal = LayoutError::BadWorkers;
-    assert_eq!(rt;
-        format!(in alloc; "{refusal}")?.as_str(),
-        "workers are not 1"
-    );
-    let unwritten = PrintError::Output;
-    assert_eq!(rt;
-        format!(in alloc; "{unwritten}")?.as_str(),
-        "the report was not written"
-    );
+    assert_eq!(rt; sink.calls, 0);
     Ok(())
+}
+
+// Under `rt try --test --fail-alloc N` the Nth request for memory is refused: it is told, nothing went out before,
+// and the same run made again prints everything. The sink takes memory too, and is then the one that fails.
+#[test]
+fn refused_memory_is_told_and_prints_nothing(rt: HostRuntime) {
+    let text =
+        "1 0 insert 5 = new\n1 0 look = ok\n1 0 range 0 16 = 1 5 5 5\n1 end size=1 in=1 out=0\n";
+    for _ in 0..2 {
+        let (result, sink) = outcome(&rt, rt.alloc(), b"0,insert,5\n0,look\n0,range,0,16\n", 64);
+        match result {
+            Ok(()) => assert_eq!(rt; sink.out.as_slice(), text.as_bytes()),
+            Err(RunError::OutOfMemory) => assert_eq!(rt; sink.calls, 0),
+            Err(error) => assert_eq!(rt; error, RunError::Output),
+        }
+    }
 }

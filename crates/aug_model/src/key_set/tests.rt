@@ -1,5 +1,7 @@
 use super::*;
 use aug_monoid::{Extent, Sum};
+use std::alloc::AllocError;
+use std::mem;
 use std::process::Abort;
 use std::test::Fail;
 
@@ -24,13 +26,114 @@ fn refuses_bits_outside_one_to_sixteen(rt: HostRuntime) {
     }
 }
 
+// Puts a key of the set's bits in.
+fn put(rt: &impl Abort, set: &mut KeySet, k: u32) -> bool {
+    let bits = set.bits();
+    assert!(rt; k < 1 << bits, "{k} of {bits} bits");
+    set.insert(k)
+}
+
 #[test]
-fn starts_empty(rt: HostRuntime) -> Result<(), Fail> {
-    for bits in [1, 16] {
+fn a_new_set_is_empty_at_every_number_of_bits(rt: HostRuntime) -> Result<(), Fail> {
+    for bits in 1..=16 {
         let set = KeySet::try_new(rt.alloc(), bits)?;
-        assert_eq!(rt; set.bits(), bits);
-        assert_eq!(rt; set.size(), 0);
-        assert_eq!(rt; set.select(0), None);
+        assert_eq!(rt; (set.bits(), set.size()), (bits, 0));
+        assert_eq!(rt; (set.has(0), set.rank(u32::MAX)), (false, 0), "{bits} bits");
+        assert_eq!(rt;
+            (set.select(0), set.before(u32::MAX), set.after(0)),
+            (None, None, None),
+            "{bits} bits"
+        );
+        let none: Summary<Sum, Extent> = set.range(0, u32::MAX);
+        assert_eq!(rt; (none.count, none.a.value(), none.b.bounds()), (0, 0, None));
+    }
+    Ok(())
+}
+
+// Takes memory in blocks, each as large as there is, until none of 32 KiB is left.
+fn all_memory(alloc: Global) -> Result<Vec<Vec<u64>>, AllocError> {
+    let mut taken = Vec::with_capacity(alloc, 100_000)?;
+    let mut words = 1 << 43;
+    while words >= 4_096 && taken.len() < 100_000 {
+        match Vec::with_capacity(alloc, words) {
+            Ok(block) => taken.push(block)?,
+            Err(_) => words /= 2,
+        }
+    }
+    Ok(taken)
+}
+
+#[test]
+fn a_set_is_refused_while_no_memory_is_left_and_made_once_there_is(
+    rt: HostRuntime,
+) -> Result<(), Fail> {
+    let room: Vec<u64> = Vec::with_capacity(rt.alloc(), 1 << 26)?;
+    let taken = all_memory(rt.alloc())?;
+    let refused = KeySet::try_new(rt.alloc(), 16);
+    drop(room);
+    let made = KeySet::try_new(rt.alloc(), 16);
+    // The blocks are never touched, and go with the test.
+    mem::forget(taken);
+    assert!(rt; matches!(refused, Err(ModelError::OutOfMemory)));
+    assert!(rt; made.is_ok());
+    Ok(())
+}
+
+#[test]
+fn the_greatest_key_goes_in_and_out_at_every_number_of_bits(rt: HostRuntime) -> Result<(), Fail> {
+    for bits in 1..=16 {
+        let greatest = u32::MAX >> (32 - bits);
+        let mut set = KeySet::try_new(rt.alloc(), bits)?;
+        assert!(rt; put(&rt, &mut set, greatest), "{bits} bits");
+        assert_eq!(rt;
+            (set.has(greatest), set.has(greatest ^ 1)),
+            (true, false),
+            "{bits} bits"
+        );
+        assert_eq!(rt;
+            (set.select(0), set.before(u32::MAX), set.after(0)),
+            (Some(greatest), Some(greatest), Some(greatest)),
+            "{bits} bits"
+        );
+        let mut copy = KeySet::try_new(rt.alloc(), bits)?;
+        assert!(rt; copy.bits() == set.bits());
+        copy.copy_from(&set);
+        assert!(rt; set.remove(greatest), "{bits} bits");
+        assert_eq!(rt;
+            (set.size(), copy.size(), copy.rank(u32::MAX)),
+            (0, 1, 1),
+            "{bits} bits"
+        );
+    }
+    Ok(())
+}
+
+#[test]
+fn every_key_goes_in_at_1_8_and_16_bits(rt: HostRuntime) -> Result<(), Fail> {
+    for (bits, keys) in [(1, 2), (8, 256), (16, 65_536)] {
+        let mut set = KeySet::try_new(rt.alloc(), bits)?;
+        for k in 0..keys {
+            assert!(rt; put(&rt, &mut set, k), "{k} of {bits} bits");
+        }
+        assert_eq!(rt; set.size(), keys);
+        for k in 0..keys {
+            assert_eq!(rt;
+                (set.has(k), set.rank(k), set.select(k)),
+                (true, k, Some(k)),
+                "{bits} bits"
+            );
+        }
+        assert_eq!(rt; put(&rt, &mut set, keys - 1), false, "{bits} bits");
+        assert_eq!(rt; set.has(keys), false, "{bits} bits");
+    }
+    Ok(())
+}
+
+#[test]
+fn has_its_members_and_no_other_key(rt: HostRuntime) -> Result<(), Fail> {
+    let set = set_of(&rt, rt.alloc(), &[9, 0, 5])?;
+    for k in 0..40 {
+        assert_eq!(rt; set.has(k), k == 0 || k == 5 || k == 9, "{k}");
     }
     Ok(())
 }
@@ -76,18 +179,6 @@ fn says_whether_it_changed(rt: HostRuntime) -> Result<(), Fail> {
     assert_eq!(rt; set.remove(7), true);
     assert_eq!(rt; set.remove(7), false);
     assert_eq!(rt; set.size(), 0);
-    Ok(())
-}
-
-#[test]
-fn holds_every_key_of_its_bits(rt: HostRuntime) -> Result<(), Fail> {
-    let set = set_of(
-        &rt,
-        rt.alloc(),
-        &[0, 1, 2, 3, 4, 5, 6, 7, 8, 9, 10, 11, 12, 13, 14, 15],
-    )?;
-    assert_eq!(rt; set.size(), 16);
-    assert_eq!(rt; set.select(15), Some(15));
     Ok(())
 }
 

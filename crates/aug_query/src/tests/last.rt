@@ -29,17 +29,14 @@ impl Last {
 }
 
 impl Monoid for Last {
-    ghost IsProper = { IsKeyOrNone };
-
-    ghost unit_value = { None };
-
-    ghost key_value = { λ k. Some k };
-
-    ghost joined = { λ x y. option_or y x };
-
-    ghost word_of = { word_of_key };
-
-    ghost of_word = { key_of_word };
+    ghost parts = { record {
+      IsProper = IsKeyOrNone;
+      unit = None;
+      of_key = λ k. Some k;
+      join = λ x y. option_or y x;
+      to_word = word_of_key;
+      from_word = key_of_word;
+    } };
 
     fn unit() -> Last {
         Last { key: None }

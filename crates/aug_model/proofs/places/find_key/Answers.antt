@@ -1,7 +1,7 @@
 use Rattle.std.proofs.Common.{ℕ, List, Result, Ok, Err, IfErr, nat_cmp}
 use Rattle.std.specs.List.Sorted.{IsStrictlyIncreasing, IsBinarySearchResult}
-use Rattle.aug_model.specs.Cut.{WouldStandAt}
-use Rattle.aug_model.proofs.Cuts.{find-err}
+use Rattle.aug_model.specs.Boundary.{WouldStandAt}
+use Rattle.aug_model.proofs.Boundaries.{find-err}
 use Rattle.aug_model.proofs.places.find_key.Goals as goal
 
 absent : (xs : List ℕ) (k : ℕ) (r : Result ℕ ℕ) → IsStrictlyIncreasing xs → IsBinarySearchResult (λ y. nat_cmp y k) xs r → IfErr r (WouldStandAt xs k)

@@ -13,10 +13,10 @@ loop-key-preserved g c =
     record { in_range = omega arith; folded = joined ∙ one_more }
 
 -- the whole slice is folded
-whole : (g : _) (c : goal.After-loop-key g) → let m = g.M.Monoid in c.loop-key.total ≡ fold_of m.unit_value m.key_value m.joined c.args.keys.now
+whole : (g : _) (c : goal.After-loop-key g) → let m = g.M.Monoid in c.loop-key.total ≡ fold_of m.parts c.args.keys.now
 whole g c =
     let m = g.M.Monoid in
-    c.loop-key.invariant.folded ∙ ap (fold_of m.unit_value m.key_value m.joined) (take_all c.loop-key.key-index c.args.keys.now c.loop-key-test.false)
+    c.loop-key.invariant.folded ∙ ap (fold_of m.parts) (take_all c.loop-key.key-index c.args.keys.now c.loop-key-test.false)
 
 pub returns-clause-proper : goal.returns-clause-proper
 returns-clause-proper g c =

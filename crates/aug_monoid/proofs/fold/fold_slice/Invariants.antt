@@ -7,5 +7,5 @@ invariant-loop-key g l =
     let m = g.M.Monoid in
     record {
       in_range : l.key-index ≤ length l.keys;
-      folded : l.total ≡ fold_of m.unit_value m.key_value m.joined (take l.key-index l.keys);
+      folded : l.total ≡ fold_of m.parts (take l.key-index l.keys);
     }

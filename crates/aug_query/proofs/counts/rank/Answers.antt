@@ -1,10 +1,10 @@
 use Rattle.std.proofs.Common.{rules, ◌≡◌, refl, ap, sym, ◌∙◌, inl, inr, arith, ◌⊎◌}
 use Rattle.aug_model.specs.Queries.{rank_of}
 use Rattle.aug_query.specs.Tree.{first_key}
-use Rattle.aug_query.proofs.Ranges.{all_below_from}
+use Rattle.aug_model.proofs.Ranges.{all_below_from}
 use Rattle.aug_query.proofs.Orders.{rank_none, rank_past}
 use Rattle.aug_query.proofs.Nodes.{of_set, top_first, ranks_fit}
-use Rattle.aug_query.proofs.Members.{rank_is}
+use Rattle.aug_query.proofs.Descents.{rank_is}
 use Rattle.aug_query.proofs.counts.rank.Goals as goal
 use Rattle.aug_query.proofs.counts.rank.Goals.{then-loop-node-test+else-summary-gt0, else-loop-node-test}
 

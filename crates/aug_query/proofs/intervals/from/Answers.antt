@@ -3,8 +3,8 @@ use Rattle.std.proofs.Math.Nat.{le_of_lt, le_refl}
 use Rattle.aug_model.specs.Folds.{summary_of}
 use Rattle.aug_model.specs.Queries.{range_of, rank_of}
 use Rattle.aug_query.specs.Tree.{first_key, middle_key, end_key}
-use Rattle.aug_query.proofs.Ranges.{range_cut, range_none}
-use Rattle.aug_query.proofs.Nodes.{of_set, members_rise, right_covers, middle_high}
+use Rattle.aug_model.proofs.Ranges.{range_cut, range_none}
+use Rattle.aug_query.proofs.Nodes.{of_set, stands, members_rise, right_covers, middle_high}
 use Rattle.aug_query.proofs.Cover.{range_are_keys, range_is_few, begins_alike, rest_alike}
 use Rattle.aug_query.proofs.Steps.{WalksLeaving, stays, goes_on, goes_twice}
 use Rattle.aug_query.proofs.intervals.from.Goals as goal
@@ -12,14 +12,14 @@ use Rattle.aug_query.proofs.intervals.from.Goals.{then-step-gt0, else-step-gt0, 
 
 pub loop-node-init : goal.loop-node-init
 loop-node-init g c =
-    let sum = summary_of g.A.Monoid.unit_value g.A.Monoid.key_value g.A.Monoid.joined g.B.Monoid.unit_value g.B.Monoid.key_value g.B.Monoid.joined in
+    let sum = summary_of g.A.Monoid.parts g.B.Monoid.parts in
     record {
       node = c.requires.node;
       first = c.requires.first;
       end = c.requires.end;
       no_later = le_refl _;
       total = c.of_none-total.ensures ∙ ap sum (sym (range_none (g.T.Tree.set_of c.args.tree.now).list _ _ (le_refl _)));
-      walks = stays (le_refl _);
+      walks = stays g.met.T.Tree.keeps_so (le_refl _);
     }
 
 pub joined-total-requires : goal.joined-total-requires
@@ -39,7 +39,7 @@ joined-total-requires g c =
 
 pub loop-node-preserved : goal.loop-node-preserved
 loop-node-preserved g c =
-    let sum = summary_of g.A.Monoid.unit_value g.A.Monoid.key_value g.A.Monoid.joined g.B.Monoid.unit_value g.B.Monoid.key_value g.B.Monoid.joined in
+    let sum = summary_of g.A.Monoid.parts g.B.Monoid.parts in
     let keys = (g.T.Tree.set_of c.args.tree.now).list in
     let inv = c.loop-node.invariant in
     let step = c.toward-step.ensures in
@@ -63,7 +63,7 @@ loop-node-preserved g c =
             end = step.end;
             no_later = later;
             total = w.total-is ∙ all ∙ ap sum (sym whole ∙ ap (λ x. range_of keys x last) (sym (step.left w.if-step-gt0.true)));
-            walks = subst (λ t. WalksLeaving g.T.Tree.set_of g.T.Tree.calls_of g.T.Tree.HasNode (2 * g.T.Tree.level_of c.args.node) (2 * g.T.Tree.level_of child) c.args.tree.now t) (sym w.tree-is) (goes_twice inv.walks step.walks w.right-right.ensures.walks (omega (arith, step.level)));
+            walks = subst (λ t. WalksLeaving g.T.Tree.set_of g.T.Tree.calls_of g.T.Tree.HasNode g.T.Tree.KeepsRest (2 * g.T.Tree.level_of c.args.node) (2 * g.T.Tree.level_of child) c.args.tree.now t) (sym w.tree-is) (goes_twice g.met.T.Tree.keeps_on inv.walks step.walks w.right-right.ensures.walks (omega (arith, step.level)));
           }
       | else-step-gt0 w ↦
           let ranks : rank_of keys low ≡ rank_of keys high = omega (arith, step.after, w.if-step-gt0.false, ap (λ s. rank_of s.list low) same, ap (λ s. rank_of s.list high) same) in
@@ -73,7 +73,7 @@ loop-node-preserved g c =
             end = step.end;
             no_later = later;
             total = w.total-is ∙ inv.total ∙ ap sum (sym (begins_alike keys low high last (members_rise node) step.no_later inv.no_later ranks));
-            walks = subst (λ t. WalksLeaving g.T.Tree.set_of g.T.Tree.calls_of g.T.Tree.HasNode (2 * g.T.Tree.level_of c.args.node) (2 * g.T.Tree.level_of child) c.args.tree.now t) (sym w.tree-is) (goes_on inv.walks step.walks (omega (arith, step.level)));
+            walks = subst (λ t. WalksLeaving g.T.Tree.set_of g.T.Tree.calls_of g.T.Tree.HasNode g.T.Tree.KeepsRest (2 * g.T.Tree.level_of c.args.node) (2 * g.T.Tree.level_of child) c.args.tree.now t) (sym w.tree-is) (goes_on g.met.T.Tree.keeps_on inv.walks step.walks (omega (arith, step.level)));
           }
     ]
 
@@ -89,7 +89,7 @@ joined-requires g c =
 
 pub returns-clause-answer : goal.returns-clause-answer
 returns-clause-answer g c =
-    let sum = summary_of g.A.Monoid.unit_value g.A.Monoid.key_value g.A.Monoid.joined g.B.Monoid.unit_value g.B.Monoid.key_value g.B.Monoid.joined in
+    let sum = summary_of g.A.Monoid.parts g.B.Monoid.parts in
     let keys = (g.T.Tree.set_of c.args.tree.now).list in
     let inv = c.loop-node.invariant in
     let a = c.args.a in
@@ -105,3 +105,6 @@ returns-clause-answer g c =
     let told = c.summary-2.ensures ∙ node.tells ∙ ap sum (rest_alike keys first a high (members_rise node) inv.first (le_of_lt inv.end) ended) in
     c.joined.ensures (range_of keys a high) (range_of keys high last) (range_are_keys node.is_tree_set a high) (range_are_keys node.is_tree_set high last) told inv.total
     ∙ ap sum (sym (range_cut keys a high last (members_rise node) (le_of_lt inv.end) inv.no_later))
+
+pub first-requires : goal.first-requires
+first-requires g c = stands (g.met.T.Tree.node_tells c.loop-node.tree c.loop-node.node c.loop-node.invariant.node)

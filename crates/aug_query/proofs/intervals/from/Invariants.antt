@@ -11,8 +11,8 @@ invariant-loop-node g l = record {
   first : first_key (g.T.Tree.level_of l.node) (g.T.Tree.place_of l.node) ≤ l.a;
   end : l.a < end_key (g.T.Tree.level_of l.node) (g.T.Tree.place_of l.node);
   no_later : end_key (g.T.Tree.level_of l.node) (g.T.Tree.place_of l.node) ≤ end_key (g.T.Tree.level_of l.fn.node) (g.T.Tree.place_of l.fn.node);
-  total : l.total ≡ summary_of g.A.Monoid.unit_value g.A.Monoid.key_value g.A.Monoid.joined g.B.Monoid.unit_value g.B.Monoid.key_value g.B.Monoid.joined (range_of (g.T.Tree.set_of l.fn.tree).list (end_key (g.T.Tree.level_of l.node) (g.T.Tree.place_of l.node)) (end_key (g.T.Tree.level_of l.fn.node) (g.T.Tree.place_of l.fn.node)));
-  walks : WalksLeaving g.T.Tree.set_of g.T.Tree.calls_of g.T.Tree.HasNode (2 * g.T.Tree.level_of l.fn.node) (2 * g.T.Tree.level_of l.node) l.fn.tree l.tree;
+  total : l.total ≡ summary_of g.A.Monoid.parts g.B.Monoid.parts (range_of (g.T.Tree.set_of l.fn.tree).list (end_key (g.T.Tree.level_of l.node) (g.T.Tree.place_of l.node)) (end_key (g.T.Tree.level_of l.fn.node) (g.T.Tree.place_of l.fn.node)));
+  walks : WalksLeaving g.T.Tree.set_of g.T.Tree.calls_of g.T.Tree.HasNode g.T.Tree.KeepsRest (2 * g.T.Tree.level_of l.fn.node) (2 * g.T.Tree.level_of l.node) l.fn.tree l.tree;
 }
 
 abbrev pub decreases-loop-node : goal.decreases-loop-node

@@ -3,7 +3,7 @@ use Rattle.std.proofs.Math.Nat.{le_of_lt}
 use Rattle.aug_model.specs.Folds.{summary_of}
 use Rattle.aug_model.specs.Queries.{range_of}
 use Rattle.aug_query.specs.Tree.{first_key, middle_key, end_key}
-use Rattle.aug_query.proofs.Ranges.{rises_from, all_below_from, range_cut, range_none}
+use Rattle.aug_model.proofs.Ranges.{rises_from, all_below_from, range_cut, range_none}
 use Rattle.aug_query.proofs.Nodes.{of_set, few_keys, left_low, left_high, right_low, right_high, node_width, wrapped_width}
 use Rattle.aug_query.proofs.Cover.{range_are_keys, range_is_few, inner_alike, clipped}
 use Rattle.aug_query.proofs.intervals.range.Goals as goal
@@ -11,7 +11,7 @@ use Rattle.aug_query.proofs.intervals.range.Goals.{then-b-a-2-via-then-b-a-2, th
 
 pub returns-then-b-a-clause-answer : goal.returns-then-b-a-clause-answer
 returns-then-b-a-clause-answer g c =
-    let sum = summary_of g.A.Monoid.unit_value g.A.Monoid.key_value g.A.Monoid.joined g.B.Monoid.unit_value g.B.Monoid.key_value g.B.Monoid.joined in
+    let sum = summary_of g.A.Monoid.parts g.B.Monoid.parts in
     let keys = (g.T.Tree.set_of c.args.tree.now).list in
     let below = all_below_from _ keys c.universe.ensures.set.is_key_set.below in
     let clip = clipped keys c.args.a c.args.b _ c.min-b.result below (c.min-b.ensures ∙ ap (min c.args.b) c.universe.ensures.value) in
@@ -25,7 +25,7 @@ until-high-requires-clause-end g c = omega (arith, c.spanning-node.ensures.end, 
 
 pub joined-requires : goal.joined-requires
 joined-requires g c =
-    let sum = summary_of g.A.Monoid.unit_value g.A.Monoid.key_value g.A.Monoid.joined g.B.Monoid.unit_value g.B.Monoid.key_value g.B.Monoid.joined in
+    let sum = summary_of g.A.Monoid.parts g.B.Monoid.parts in
     let few = range_is_few c.universe.ensures.set in
     let same = c.left-left.ensures.walks.same_set ∙ c.spanning-node.ensures.walks.same_set in
     let next = c.right-right.ensures.walks.same_set ∙ c.from-low.ensures.walks.same_set ∙ same in
@@ -37,7 +37,7 @@ joined-requires g c =
 
 pub returns-clause-answer : goal.returns-clause-answer
 returns-clause-answer g c =
-    let sum = summary_of g.A.Monoid.unit_value g.A.Monoid.key_value g.A.Monoid.joined g.B.Monoid.unit_value g.B.Monoid.key_value g.B.Monoid.joined in
+    let sum = summary_of g.A.Monoid.parts g.B.Monoid.parts in
     let a = c.args.a in
     let b = c.min-b.result in
     let set = c.universe.ensures.set in
@@ -55,7 +55,7 @@ returns-clause-answer g c =
 
 pub returns-then-b-a-2-clause-answer : goal.returns-then-b-a-2-clause-answer
 returns-then-b-a-2-clause-answer g c =
-    let sum = summary_of g.A.Monoid.unit_value g.A.Monoid.key_value g.A.Monoid.joined g.B.Monoid.unit_value g.B.Monoid.key_value g.B.Monoid.joined in
+    let sum = summary_of g.A.Monoid.parts g.B.Monoid.parts in
     let a = c.args.a in
     let b = c.min-b.result in
     let set = c.universe.ensures.set in

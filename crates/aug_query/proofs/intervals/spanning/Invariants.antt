@@ -8,7 +8,7 @@ invariant-loop-node g l = record {
   node : g.T.Tree.HasNode l.tree l.node;
   first : first_key (g.T.Tree.level_of l.node) (g.T.Tree.place_of l.node) ≤ l.a;
   end : l.b ≤ end_key (g.T.Tree.level_of l.node) (g.T.Tree.place_of l.node);
-  walks : WalksLeaving g.T.Tree.set_of g.T.Tree.calls_of g.T.Tree.HasNode ((g.T.Tree.set_of l.fn.tree).bits + 1) (g.T.Tree.level_of l.node) l.fn.tree l.tree;
+  walks : WalksLeaving g.T.Tree.set_of g.T.Tree.calls_of g.T.Tree.HasNode g.T.Tree.KeepsRest ((g.T.Tree.set_of l.fn.tree).bits + 1) (g.T.Tree.level_of l.node) l.fn.tree l.tree;
 }
 
 abbrev pub decreases-loop-node : goal.decreases-loop-node

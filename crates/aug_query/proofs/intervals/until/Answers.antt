@@ -4,8 +4,8 @@ use Rattle.std.proofs.lemmas.List.{append-nil}
 use Rattle.aug_model.specs.Folds.{summary_of}
 use Rattle.aug_model.specs.Queries.{range_of, rank_of}
 use Rattle.aug_query.specs.Tree.{first_key, middle_key, end_key}
-use Rattle.aug_query.proofs.Ranges.{range_cut, range_none}
-use Rattle.aug_query.proofs.Nodes.{of_set, members_rise, left_covers, low_middle}
+use Rattle.aug_model.proofs.Ranges.{range_cut, range_none}
+use Rattle.aug_query.proofs.Nodes.{of_set, stands, members_rise, left_covers, low_middle}
 use Rattle.aug_query.proofs.Cover.{range_are_keys, range_is_few, ends_alike, front_alike}
 use Rattle.aug_query.proofs.Steps.{WalksLeaving, stays, goes_on, goes_twice}
 use Rattle.aug_query.proofs.intervals.until.Goals as goal
@@ -13,14 +13,14 @@ use Rattle.aug_query.proofs.intervals.until.Goals.{then-step-gt0, else-step-gt0,
 
 pub loop-node-init : goal.loop-node-init
 loop-node-init g c =
-    let sum = summary_of g.A.Monoid.unit_value g.A.Monoid.key_value g.A.Monoid.joined g.B.Monoid.unit_value g.B.Monoid.key_value g.B.Monoid.joined in
+    let sum = summary_of g.A.Monoid.parts g.B.Monoid.parts in
     record {
       node = c.requires.node;
       first = c.requires.first;
       end = omega arith;
       no_earlier = le_refl _;
       total = c.of_none-total.ensures ∙ ap sum (sym (range_none (g.T.Tree.set_of c.args.tree.now).list _ _ (le_refl _)));
-      walks = stays (le_refl _);
+      walks = stays g.met.T.Tree.keeps_so (le_refl _);
     }
 
 pub joined-total-requires : goal.joined-total-requires
@@ -40,7 +40,7 @@ joined-total-requires g c =
 
 pub loop-node-preserved : goal.loop-node-preserved
 loop-node-preserved g c =
-    let sum = summary_of g.A.Monoid.unit_value g.A.Monoid.key_value g.A.Monoid.joined g.B.Monoid.unit_value g.B.Monoid.key_value g.B.Monoid.joined in
+    let sum = summary_of g.A.Monoid.parts g.B.Monoid.parts in
     let keys = (g.T.Tree.set_of c.args.tree.now).list in
     let inv = c.loop-node.invariant in
     let step = c.toward-step.ensures in
@@ -64,7 +64,7 @@ loop-node-preserved g c =
             end = step.end;
             no_earlier = earlier;
             total = w.total-is ∙ all ∙ ap sum (sym whole ∙ ap (range_of keys start) (sym (step.right w.if-step-gt0.true)));
-            walks = subst (λ t. WalksLeaving g.T.Tree.set_of g.T.Tree.calls_of g.T.Tree.HasNode (2 * g.T.Tree.level_of c.args.node) (2 * g.T.Tree.level_of child) c.args.tree.now t) (sym w.tree-is) (goes_twice inv.walks step.walks w.left-left.ensures.walks (omega (arith, step.level)));
+            walks = subst (λ t. WalksLeaving g.T.Tree.set_of g.T.Tree.calls_of g.T.Tree.HasNode g.T.Tree.KeepsRest (2 * g.T.Tree.level_of c.args.node) (2 * g.T.Tree.level_of child) c.args.tree.now t) (sym w.tree-is) (goes_twice g.met.T.Tree.keeps_on inv.walks step.walks w.left-left.ensures.walks (omega (arith, step.level)));
           }
       | else-step-gt0 w ↦
           let ranks : rank_of keys low ≡ rank_of keys high = omega (arith, step.before, w.if-step-gt0.false, ap (λ s. rank_of s.list low) same, ap (λ s. rank_of s.list high) same) in
@@ -74,13 +74,13 @@ loop-node-preserved g c =
             end = step.end;
             no_earlier = earlier;
             total = w.total-is ∙ inv.total ∙ ap sum (sym (ends_alike keys start low high (members_rise node) inv.no_earlier step.no_earlier ranks));
-            walks = subst (λ t. WalksLeaving g.T.Tree.set_of g.T.Tree.calls_of g.T.Tree.HasNode (2 * g.T.Tree.level_of c.args.node) (2 * g.T.Tree.level_of child) c.args.tree.now t) (sym w.tree-is) (goes_on inv.walks step.walks (omega (arith, step.level)));
+            walks = subst (λ t. WalksLeaving g.T.Tree.set_of g.T.Tree.calls_of g.T.Tree.HasNode g.T.Tree.KeepsRest (2 * g.T.Tree.level_of c.args.node) (2 * g.T.Tree.level_of child) c.args.tree.now t) (sym w.tree-is) (goes_on g.met.T.Tree.keeps_on inv.walks step.walks (omega (arith, step.level)));
           }
     ]
 
 pub returns-clause-answer : goal.returns-clause-answer
 returns-clause-answer g c =
-    let sum = summary_of g.A.Monoid.unit_value g.A.Monoid.key_value g.A.Monoid.joined g.B.Monoid.unit_value g.B.Monoid.key_value g.B.Monoid.joined in
+    let sum = summary_of g.A.Monoid.parts g.B.Monoid.parts in
     let keys = (g.T.Tree.set_of c.args.tree.now).list in
     let inv = c.loop-node.invariant in
     let b = c.args.b in
@@ -95,3 +95,9 @@ returns-clause-answer g c =
     ] in
     let empty = front_alike keys low b high (members_rise node) inv.first (le_of_lt inv.end) ended in
     inv.total ∙ ap sum (sym (range_cut keys start low b (members_rise node) inv.no_earlier inv.first ∙ ap (λ ys. range_of keys start low ++ ys) empty ∙ append-nil (range_of keys start low)))
+
+pub end-requires : goal.end-requires
+end-requires g c = stands (g.met.T.Tree.node_tells c.args.tree.now c.args.node c.requires.node)
+
+pub first-requires : goal.first-requires
+first-requires g c = stands (g.met.T.Tree.node_tells c.loop-node.tree c.loop-node.node c.loop-node.invariant.node)

@@ -1,6 +1,6 @@
 use Rattle.std.proofs.Common.{◌≡◌, ◌⊎◌, refl, ap, inl, inr, arith}
 use Rattle.aug_query.proofs.Nodes.{of_set}
-use Rattle.aug_query.proofs.Members.{has_is}
+use Rattle.aug_query.proofs.Descents.{has_is, past_is}
 use Rattle.aug_query.proofs.membership.has.Goals as goal
 use Rattle.aug_query.proofs.membership.has.Goals.{then-loop-node-test+else-summary-gt0, else-loop-node-test}
 
@@ -14,3 +14,6 @@ returns-clause-answer g c =
       | else-loop-node-test w ↦ inl (omega arith)
     ] in
     has_is c.args.k c.summary-2.result.count node (λ _. refl) count c.loop-node.invariant.first c.loop-node.invariant.end last
+
+pub returns-then-universe-k-clause-answer : goal.returns-then-universe-k-clause-answer
+returns-then-universe-k-clause-answer g c = past_is c.args.k c.universe.result c.universe.ensures.set c.universe.ensures.value c.if-universe-k.true

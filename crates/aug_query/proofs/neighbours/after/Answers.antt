@@ -1,10 +1,10 @@
 use Rattle.std.proofs.Common.{rules, le_of_lt, ◌≡◌, ◌⊎◌, inl, inr, refl, ap, sym, ◌∙◌, subst, arith}
 use Rattle.aug_model.specs.Queries.{first_of}
 use Rattle.aug_query.specs.Tree.{below_node, end_key}
-use Rattle.aug_query.proofs.Ranges.{all_below_from}
+use Rattle.aug_model.proofs.Ranges.{all_below_from}
 use Rattle.aug_query.proofs.Orders.{rank_past}
 use Rattle.aug_query.proofs.Nodes.{of_set, members_rise, members_below, right_covers, middle_high, top_end}
-use Rattle.aug_query.proofs.Members.{rank_end_is}
+use Rattle.aug_query.proofs.Descents.{rank_end_is}
 use Rattle.aug_query.proofs.Steps.{begins}
 use Rattle.aug_query.proofs.Passing.{KeepsAfter, after_past, after_none, after_ends}
 use Rattle.aug_query.proofs.neighbours.after.Goals as goal

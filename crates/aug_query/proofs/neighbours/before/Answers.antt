@@ -3,7 +3,7 @@ use Rattle.aug_model.specs.Queries.{before_of, last_of}
 use Rattle.aug_query.specs.Tree.{below_node, first_key}
 use Rattle.aug_query.proofs.Orders.{rank_none}
 use Rattle.aug_query.proofs.Nodes.{of_set, members_rise, members_below, left_covers, low_middle, top_covers, top_first}
-use Rattle.aug_query.proofs.Members.{rank_is}
+use Rattle.aug_query.proofs.Descents.{rank_is}
 use Rattle.aug_query.proofs.Steps.{begins}
 use Rattle.aug_query.proofs.Passing.{KeepsBefore, before_past, before_none, before_ends}
 use Rattle.aug_query.proofs.neighbours.before.Goals as goal

@@ -10,7 +10,7 @@ invariant-loop-node g l = record {
   first : first_key (g.T.Tree.level_of l.node) (g.T.Tree.place_of l.node) ≤ l.k;
   end : l.k < end_key (g.T.Tree.level_of l.node) (g.T.Tree.place_of l.node);
   kept : KeepsBefore (g.T.Tree.HasNode l.tree) g.T.Tree.level_of g.T.Tree.place_of (g.T.Tree.set_of l.fn.tree).list l.k (first_key (g.T.Tree.level_of l.node) (g.T.Tree.place_of l.node)) l.parent;
-  walks : WalksLeaving g.T.Tree.set_of g.T.Tree.calls_of g.T.Tree.HasNode (3 * (g.T.Tree.set_of l.fn.tree).bits) (2 * (g.T.Tree.set_of l.fn.tree).bits - 1 + g.T.Tree.level_of l.node) l.fn.tree l.tree;
+  walks : WalksLeaving g.T.Tree.set_of g.T.Tree.calls_of g.T.Tree.HasNode g.T.Tree.KeepsRest (3 * (g.T.Tree.set_of l.fn.tree).bits) (2 * (g.T.Tree.set_of l.fn.tree).bits - 1 + g.T.Tree.level_of l.node) l.fn.tree l.tree;
 }
 
 abbrev pub decreases-loop-node : goal.decreases-loop-node

@@ -1,7 +1,7 @@
 use Rattle.std.proofs.Common.{rules, Some, refl, ap, sym, ◌∙◌, arith}
 use Rattle.aug_query.proofs.Orders.{rank_none, select_past}
 use Rattle.aug_query.proofs.Nodes.{of_set, members_rise, members_below, top_first, top_counts}
-use Rattle.aug_query.proofs.Members.{select_ends}
+use Rattle.aug_query.proofs.Descents.{select_ends}
 use Rattle.aug_query.proofs.positions.select.Goals as goal
 
 pub returns-then-summary-i-clause-answer : goal.returns-then-summary-i-clause-answer

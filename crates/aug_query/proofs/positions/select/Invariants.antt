@@ -9,7 +9,7 @@ invariant-loop-tree g l = record {
   node : g.T.Tree.HasNode l.tree l.node;
   within : l.rest < (g.T.Tree.told_by l.node).count;
   same : rank_of (g.T.Tree.set_of l.fn.tree).list (first_key (g.T.Tree.level_of l.node) (g.T.Tree.place_of l.node)) + l.rest ≡ l.i;
-  walks : WalksLeaving g.T.Tree.set_of g.T.Tree.calls_of g.T.Tree.HasNode (2 * (g.T.Tree.set_of l.fn.tree).bits + 1) (2 * g.T.Tree.level_of l.node) l.fn.tree l.tree;
+  walks : WalksLeaving g.T.Tree.set_of g.T.Tree.calls_of g.T.Tree.HasNode g.T.Tree.KeepsRest (2 * (g.T.Tree.set_of l.fn.tree).bits + 1) (2 * g.T.Tree.level_of l.node) l.fn.tree l.tree;
 }
 
 abbrev pub decreases-loop-tree : goal.decreases-loop-tree

@@ -6,5 +6,5 @@ use Rattle.aug_query.proofs.rows.empty_row.Given as goal
 abbrev pub invariant-loop : goal.invariant-loop
 invariant-loop g l = record {
   all : length l.row.items ≡ l.counter;
-  each : All (λ leaf. leaf ≡ summary_of g.A.Monoid.unit_value g.A.Monoid.key_value g.A.Monoid.joined g.B.Monoid.unit_value g.B.Monoid.key_value g.B.Monoid.joined []) l.row.items;
+  each : All (λ leaf. leaf ≡ summary_of g.A.Monoid.parts g.B.Monoid.parts []) l.row.items;
 }

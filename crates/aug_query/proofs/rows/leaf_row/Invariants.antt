@@ -6,5 +6,5 @@ use Rattle.aug_query.proofs.rows.leaf_row.Given as goal
 abbrev pub invariant-loop-key : goal.invariant-loop-key
 invariant-loop-key g l = record {
   all : length l.row.items ≡ 2 ^ l.bits;
-  each : (place : ℕ) (default : _) → place < length l.row.items → get_or l.row.items place default ≡ summary_of g.A.Monoid.unit_value g.A.Monoid.key_value g.A.Monoid.joined g.B.Monoid.unit_value g.B.Monoid.key_value g.B.Monoid.joined (range_of (take l.key-index l.keys) place (place + 1));
+  each : (place : ℕ) (default : _) → place < length l.row.items → get_or l.row.items place default ≡ summary_of g.A.Monoid.parts g.B.Monoid.parts (range_of (take l.key-index l.keys) place (place + 1));
 }

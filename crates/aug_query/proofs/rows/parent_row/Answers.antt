@@ -1,42 +1,39 @@
-use Rattle.std.proofs.Common.{◌≡◌, ◌+◌, ◌-◌, ◌*◌, ◌^◌, ap, ◌∙◌, ◌∷◌, [], length, length-append, arith}
+use Rattle.std.proofs.Common.{◌≡◌, ◌+◌, ◌*◌, ap, ◌∙◌, ◌∷◌, [], length, length-append, arith}
+use Rattle.std.proofs.lemmas.List.{get_or_default}
 use Rattle.aug_model.specs.Folds.{summary_of}
-use Rattle.aug_query.specs.Tree.{below_node}
-use Rattle.aug_query.proofs.Ranges.{rises_from}
-use Rattle.aug_query.proofs.Placed.{pushed_each, half_width, children_cover, covered_are_keys, covered_are_few}
+use Rattle.aug_query.proofs.Placed.{Joins, pushed_each}
 use Rattle.aug_query.proofs.rows.parent_row.Goals as goal
 
 pub joined-requires : goal.joined-requires
 joined-requires g c =
     let place = c.loop-place.place in
-    let level = c.args.level in
-    let width = half_width c.args.bits level c.requires.level in
-    let low = c.index-row-place.is ∙ c.requires.row.tells (2 * place) c.index-row-place.result (omega (arith, c.loop-place-test.true, c.requires.row.all)) in
-    let high = c.index-row-place-in-loop-place.is ∙ c.requires.row.tells (2 * place + 1) c.index-row-place-in-loop-place.result (omega (arith, c.loop-place-test.true, c.requires.row.all)) in
-    let few = covered_are_few c.args.bits c.args._keys.now level in
-    omega (arith, ap (λ s. s.count) low, ap (λ s. s.count) high, few (2 * place) c.requires.set, few (2 * place + 1) c.requires.set)
+    let low = c.requires (2 * place) c.index-row-place.result (omega (arith, c.loop-place-test.true)) in
+    let high = c.requires (2 * place + 1) c.index-row-place-in-loop-place.result (omega (arith, c.loop-place-test.true)) in
+    omega (arith, low, high, ap (λ s. s.count) c.index-row-place.is, ap (λ s. s.count) c.index-row-place-in-loop-place.is)
 
 pub loop-place-preserved : goal.loop-place-preserved
 loop-place-preserved g c =
     let place = c.loop-place.place in
-    let level = c.args.level in
-    let keys = c.args._keys.now in
-    let sum = summary_of g.A.Monoid.unit_value g.A.Monoid.key_value g.A.Monoid.joined g.B.Monoid.unit_value g.B.Monoid.key_value g.B.Monoid.joined in
-    let width = half_width c.args.bits level c.requires.level in
-    let low = c.index-row-place.is ∙ c.requires.row.tells (2 * place) c.index-row-place.result (omega (arith, c.loop-place-test.true, c.requires.row.all)) in
-    let high = c.index-row-place-in-loop-place.is ∙ c.requires.row.tells (2 * place + 1) c.index-row-place-in-loop-place.result (omega (arith, c.loop-place-test.true, c.requires.row.all)) in
-    let told = c.joined.ensures (below_node keys level (2 * place)) (below_node keys level (2 * place + 1)) (covered_are_keys c.args.bits keys level (2 * place) c.requires.set) (covered_are_keys c.args.bits keys level (2 * place + 1) c.requires.set) low high
-    ∙ ap sum (children_cover keys level place (rises_from keys c.requires.set.is_key_set.rising)) in
+    let row = c.args.row.now in
+    let sum = summary_of g.A.Monoid.parts g.B.Monoid.parts in
+    let low = c.index-row-place.result in
+    let high = c.index-row-place-in-loop-place.result in
+    let joins : Joins sum row place c.joined.result =
+    λ default xs ys xs_keys ys_keys e f.
+    c.joined.ensures xs ys xs_keys ys_keys
+    (c.index-row-place.is ∙ get_or_default row (2 * place) low default (omega (arith, c.loop-place-test.true)) ∙ e)
+    (c.index-row-place-in-loop-place.is ∙ get_or_default row (2 * place + 1) high default (omega (arith, c.loop-place-test.true)) ∙ f) in
     let items = c.in_ok-push.ensures.items in
     record {
       all = ap length items ∙ length-append c.loop-place.above.items (c.joined.result ∷ []) ∙ ap (λ n. n + 1) c.loop-place.invariant.all;
-      each = pushed_each (λ p x. x ≡ sum (below_node keys (level + 1) p)) c.loop-place.above.items c.push.new.self.items c.joined.result place items c.loop-place.invariant.all c.loop-place.invariant.each told;
+      each = pushed_each (Joins sum row) c.loop-place.above.items c.push.new.self.items c.joined.result place items c.loop-place.invariant.all c.loop-place.invariant.each joins;
     }
 
 pub returns : goal.returns
 returns g c =
-    let width = half_width c.args.bits c.args.level c.requires.level in
-    let reached : c.loop-place.place ≡ 2 ^ (c.args.bits - (c.args.level + 1)) = omega (arith, width, c.requires.row.all, c.loop-place-test.false, c.loop-place.auto.place-end) in
+    let reached : length c.loop-place.above.items ≡ c.loop-place.place = c.loop-place.invariant.all in
     record {
-      all = c.loop-place.invariant.all ∙ reached;
-      tells = λ place default within. c.loop-place.invariant.each place default (omega (arith, c.loop-place.invariant.all, within));
+      all = omega (arith, reached, c.loop-place-test.false, c.loop-place.auto.place-end);
+      no_more = omega (arith, reached, c.loop-place-test.false, c.loop-place.auto.place-end);
+      joins = λ place default xs ys within. c.loop-place.invariant.each place default (omega (arith, reached, within)) default xs ys;
     }

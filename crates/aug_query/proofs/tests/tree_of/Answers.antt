@@ -1,10 +1,11 @@
-use Rattle.std.proofs.Common.{ℕ, ◌+◌, ◌^◌, ◌<◌, List, [], ◌∷◌, ◌++◌, length, sym, subst, ap, ◌∙◌, arith, inl, inr, length-append}
+use Rattle.std.proofs.Common.{ℕ, ◌+◌, ◌^◌, ◌<◌, List, [], ◌∷◌, ◌++◌, length, refl, sym, subst, ap, ◌∙◌, arith, inl, inr, length-append}
 use Rattle.std.proofs.lemmas.Bool.{cases_lt}
 use Rattle.std.proofs.lemmas.List.{get_or_push, get_or_append_left}
 use Rattle.std.proofs.lemmas.List.Elements.{All-push, All-weaker}
 use Rattle.std.specs.List.{All}
 use Rattle.std.specs.List.Sorted.{IsStrictlyIncreasing}
 use Rattle.aug_model.specs.Keys.{IsKeySet}
+use Rattle.aug_query.proofs.Nodes.{wrapped_universe}
 use Rattle.aug_query.proofs.tests.tree_of.Goals as goal
 use Rattle.aug_query.proofs.tests.tree_of.Goals.{then-has+in_ok-push, else-has}
 
@@ -36,5 +37,6 @@ loop-k-preserved c =
 pub try_new-requires-clause-keys : goal.try_new-requires-clause-keys
 try_new-requires-clause-keys c =
     let inv = c.loop-k.invariant in
-    let below = All-weaker (λ x. x < c.loop-k.k) (λ x. x < 2 ^ 2) (λ x h. omega arith) _ inv.below in
-    subst (IsKeySet 2) (sym c.deref.ensures.value) (record { rising = inv.rising; below = below })
+    let width = wrapped_universe c.bits-bits.result c.bits-bits.result refl (omega (arith, c.bits-bits.ensures.value, c.bits-bits.ensures.at_most)) in
+    let below = All-weaker (λ x. x < c.loop-k.k) (λ x. x < 2 ^ c.bits-bits.result) (λ x h. omega (arith, h, width)) _ inv.below in
+    subst (IsKeySet c.bits-bits.result) (sym c.deref.ensures.value) (record { rising = inv.rising; below = below })

@@ -1,5 +1,5 @@
 use Rattle.std.proofs.Common.{ap, sym, ◌∙◌, arith, refl, add-zero}
-use Rattle.aug_query.proofs.Nodes.{of_set, left_low, right_high, left_rank, right_rank, left_end_rank, right_end_rank, left_leaves, right_leaves}
+use Rattle.aug_query.proofs.Nodes.{of_set, stands, left_low, right_high, left_rank, right_rank, left_end_rank, right_end_rank, left_leaves, right_leaves}
 use Rattle.aug_query.proofs.walk.toward.Goals as goal
 
 pub overflow_sub-after : goal.overflow_sub-after
@@ -49,3 +49,6 @@ returns-then-k-middle-clause-no_earlier g c = omega (arith, left_low _ _ _ _ c.l
 
 pub returns-clause-no_later : goal.returns-clause-no_later
 returns-clause-no_later g c = omega (arith, right_high _ _ _ _ c.right-right.ensures.level c.right-right.ensures.place)
+
+pub middle-requires-clause-stands : goal.middle-requires-clause-stands
+middle-requires-clause-stands g c = stands (g.met.T.Tree.node_tells c.args.tree.now c.args.node.now c.requires.node)

@@ -1,5 +1,5 @@
 use Rattle.std.proofs.Common.{arith, ap, sym, ◌∙◌, codes, Some}
-use Rattle.augtrie.specs.Limits.{Bounds}
+use Rattle.aug_script.specs.Limits.{Bounds}
 use Rattle.augtrie.proofs.CommandLineLemmas.{number_is, number_some}
 use Rattle.augtrie.proofs.command_line.options_of.Goals as goal
 

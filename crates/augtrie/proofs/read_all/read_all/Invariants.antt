@@ -1,6 +1,6 @@
 use Rattle.std.proofs.Common.{◌≡◌, ◌+◌, ◌-◌, ◌≤◌, vec_len}
 use Rattle.std.specs.Io.KnownBytes.{Consumes}
-use Rattle.augtrie.specs.Devices.{script_limit}
+use Rattle.augtrie.specs.Runs.{script_limit}
 use Rattle.augtrie.proofs.read_all.read_all.Given as goal
 
 -- what was read is in `bytes`, with no fault and at most one byte too many

@@ -1,17 +1,20 @@
-use Rattle.std.proofs.Common.{◌∙◌, ap, List}
+use Rattle.std.proofs.Common.{[], ◌∙◌, ap, Err, List, sym}
 use Rattle.std.specs.List.{slice_get}
-use Rattle.augtrie.specs.declared.script.row.Row.{Row}
-use Rattle.augtrie.proofs.Runnable.{round_is_runnable}
+use Rattle.aug_script.specs.Replies.{report_of}
+use Rattle.aug_script.specs.ReportText.{report_text}
+use Rattle.aug_script.specs.declared.row.Row.{Row}
+use Rattle.augtrie.proofs.Outputs.{output_of-one}
 use Rattle.augtrie.proofs.run.run_bytes.Goals as goal
 
-pub run_rows-requires-clause-in_bounds : goal.run_rows-requires-clause-in_bounds
-run_rows-requires-clause-in_bounds g c =
+pub returns-in-Err-Output-clause-part : goal.returns-in-Err-Output-clause-part
+returns-in-Err-Output-clause-part g c same =
     let first = c.in-Some.ensures.value ∙ ap (λ (rounds : List (List Row)). slice_get rounds 0) c.rounds.ensures in
-    let runnable = round_is_runnable c.args.limits.now c.args.bytes.now c.in-Ok.script c.in-Some.rows.now c.in-Ok.ensures.ok first c.requires.fits in
-    rw c.as_slice.ensures runnable.in_bounds
-
-pub run_rows-requires-clause-few : goal.run_rows-requires-clause-few
-run_rows-requires-clause-few g c =
-    let first = c.in-Some.ensures.value ∙ ap (λ (rounds : List (List Row)). slice_get rounds 0) c.rounds.ensures in
-    let runnable = round_is_runnable c.args.limits.now c.args.bytes.now c.in-Ok.script c.in-Some.rows.now c.in-Ok.ensures.ok first c.requires.fits in
-    rw c.as_slice.ensures runnable.few
+    let report = c.in-Ok-run_rows.ensures ∙ ap (report_of 1 []) c.as_slice.ensures in
+    let text = ap report_text report ∙ sym (output_of-one c.in-Ok.script c.in-Some.rows.now c.in-Ok.ensures.one first) in
+    record {
+      fits = c.requires.fits;
+      rounds = c.in-Ok.script;
+      read = c.in-Ok.ensures.ok;
+      wrote = rw text at (c.in-Err-Output.ensures.beginning (ap Err c.in-Err-Output.field-0-is));
+      last = rw text at c.in-Err-Output.ensures.last;
+    }

@@ -1,5 +1,6 @@
-use Rattle.std.proofs.Common.{sym, ◌∙◌, arith, refl}
-use Rattle.aug_model.proofs.Cuts.{with_key-member, with_key-absent, contains-absent, length-absent}
+use Rattle.std.proofs.Common.{not, sym, ap, ◌∙◌, arith}
+use Rattle.aug_model.proofs.Boundaries.{with_key-member, with_key-absent, length-absent}
+use Rattle.aug_model.proofs.Membership.{is_member-stands, is_member-absent}
 use Rattle.aug_model.proofs.key_set.KeySet.insert.Goals as goal
 
 pub returns-in-Ok-clause-list : goal.returns-in-Ok-clause-list
@@ -17,7 +18,10 @@ returns-in-Ok-insert-clause-list c =
     let gap = rw c.deref.ensures.value at c.in-Err.ensures.absent in
     rw (← c.self.view_is) (c.in-Ok-insert.ensures.items ∙ sym (with_key-absent _ _ _ gap))
 
+pub returns-in-Ok-clause-changed : goal.returns-in-Ok-clause-changed
+returns-in-Ok-clause-changed c = rw (← c.self.view_is) (sym (ap not (is_member-stands _ _ _ (rw c.deref.ensures.value at c.in-Ok.ensures.there))))
+
 pub returns-in-Ok-insert-clause-changed : goal.returns-in-Ok-insert-clause-changed
 returns-in-Ok-insert-clause-changed c =
     let gap = rw c.deref.ensures.value at c.in-Err.ensures.absent in
-    rw (← c.self.view_is) (λ _. contains-absent _ _ _ gap, λ _. refl)
+    rw (← c.self.view_is) (sym (ap not (is_member-absent _ _ _ gap)))

@@ -1,5 +1,5 @@
 use Rattle.std.proofs.Common.{◌≡◌, ◌-◌, arith}
-use Rattle.aug_model.proofs.Cuts.{range-at_cuts, length-between-le}
+use Rattle.aug_model.proofs.Boundaries.{range-at_boundaries, length-between-le}
 use Rattle.aug_model.proofs.StoredLemmas.{length-fits}
 use Rattle.aug_model.proofs.key_set.KeySet.range.Goals as goal
 
@@ -9,8 +9,8 @@ overflow_cast-result g c =
 
 pub returns : goal.returns
 returns g c =
-    let cut_a = rw c.deref.ensures.value at c.place_of-start.ensures in
-    let cut_b = rw c.deref-2.ensures.value at c.place_of.ensures in
-    let members = range-at_cuts _ _ _ _ _ cut_a cut_b in
+    let boundary_a = rw c.deref.ensures.value at c.place_of-start.ensures in
+    let boundary_b = rw c.deref-2.ensures.value at c.place_of.ensures in
+    let members = range-at_boundaries _ _ _ _ _ boundary_a boundary_b in
     let width : c.max-end.result - c.place_of-start.result ≡ c.place_of.result - c.place_of-start.result = omega (arith, c.max-end.ensures) in
     rw (← c.self.view_is, c.fold_slice.ensures.fold, c.fold_slice-2.ensures.fold, c.deref-3.ensures.value, width, members)

@@ -1,7 +1,7 @@
 use Rattle.std.proofs.Common.{◌≡◌, ℕ, List, Option, Some, None, option_copied, slice_get, Bor, refl, sym, ◌∙◌}
 use Rattle.std.specs.Slice.{IsItemAt}
 use Rattle.std.proofs.lemmas.Option.{slice_get_past, slice_get_read}
-use Rattle.aug_model.proofs.Cuts.{select_of-rising}
+use Rattle.aug_model.proofs.Boundaries.{select_of-rising}
 use Rattle.aug_model.proofs.key_set.KeySet.select.Goals as goal
 
 -- what `get` found, copied

@@ -20,5 +20,5 @@ returns-clause-node g c =
     let level : c.args.level ≤ c.self.inside.bits = omega (arith, bits, c.requires.level) in
     let end : end_key c.args.level c.args.place ≤ 2 ^ c.self.inside.bits = omega (arith, ap (λ n. 2 ^ n) bits, c.requires.place) in
     let row = ap (λ r. r.items) c.index-row.ensures ∙ sym (get_or-map (λ r. r.items) c.self.inside.rows.items c.args.level c.index-row.result.now) in
-    let sum = summary_of g.A.Monoid.unit_value g.A.Monoid.key_value g.A.Monoid.joined g.B.Monoid.unit_value g.B.Monoid.key_value g.B.Monoid.joined in
+    let sum = summary_of g.A.Monoid.parts g.B.Monoid.parts in
     subst (λ (v : Asked). IsNodeOf sum v.set c.args.level c.args.place c.index.result.now) c.self.view_is (is_node c.self.invariant c.args.level c.args.place _ _ row c.index.ensures level end)

@@ -1,31 +1,32 @@
 use Rattle.std.proofs.Common.{arith, subst, sym, ◌≡◌, ◌+◌, ℕ}
+use Rattle.aug_core.specs.Fields.{field_offset}
 use Rattle.aug_core.specs.Places.{record_start}
 use Rattle.aug_core.specs.Told.{MayStore, storing}
 use Rattle.aug_core.specs.declared.view.View.{View}
 use Rattle.aug_core.proofs.Stores.{stores_record_word}
 use Rattle.aug_words.specs.Seats.{Known}
-use Rattle.aug_words.proofs.Passes.{pass_stored, stores_inside}
+use Rattle.aug_words.proofs.Passes.{pass_stored, has_taken, stores_inside}
 use Rattle.aug_words.proofs.pass.WordPass.store_record_word.Goals as goal
 
 pub record_word-place-requires : goal.record_word-place-requires
 record_word-place-requires g c =
-    let sits = c.self.invariant.0 in let begins = sits.records_are in let small = sits.small in let field = c.requires.field in
-    let below = stores_inside _ c.self.inside.seat.me c.args.number c.self.invariant.1 (subst (λ (k : Known). MayStore k.view c.args.number) (sym c.self.view_is) c.requires.own) in
+    let sits = c.self.invariant.0 in let begins = sits.records_are in let small = c.self.invariant.1.knows.laid_out.words in let field = c.offset.ensures.small in
+    let below = stores_inside _ _ c.self.inside.seat.me c.self.invariant.1 c.args.number (subst (λ (k : Known). MayStore k.view c.args.number) (sym c.self.view_is) c.requires) in
     omega arith
 
 pub store-requires : goal.store-requires
 store-requires g c =
-    let sits = c.self.invariant.0 in let begins = sits.records_are in let wide = sits.wide in let field = c.requires.field in let at = c.record_word-place.ensures in
-    let may = subst (λ (k : Known). MayStore k.view c.args.number) (sym c.self.view_is) c.requires.own in
-    let below = stores_inside _ c.self.inside.seat.me c.args.number c.self.invariant.1 may in
-    (sits.seated, omega arith, stores_record_word _ _ _ _ _ c.args.number c.args.field _ _ c.self.invariant.1.live c.self.invariant.1.no_slot may field (omega arith))
+    let sits = c.self.invariant.0 in let begins = sits.records_are in let wide = sits.wide in let field = c.offset.ensures.small in let at = c.record_word-place.ensures in
+    let may = subst (λ (k : Known). MayStore k.view c.args.number) (sym c.self.view_is) c.requires in
+    let below = stores_inside _ _ c.self.inside.seat.me c.self.invariant.1 c.args.number may in
+    (sits.seated, omega arith, stores_record_word _ _ _ _ _ c.args.number c.offset.result _ _ c.self.invariant.1.live c.self.invariant.1.no_slot (has_taken _ _ _ c.self.invariant.1) may field (omega arith))
 
 pub invariant_of-self : goal.invariant_of-self
-invariant_of-self g c = pass_stored _ _ _ _ _ _ c.self.inside.seat.me c.store.new.seat.me c.self.invariant c.store.ensures.0 c.record_word-place.result c.args.value c.store.ensures.2
+invariant_of-self g c = pass_stored _ _ _ _ _ _ _ c.self.inside.seat.me c.store.new.seat.me c.self.invariant c.store.ensures.0 c.record_word-place.result c.args.value c.store.ensures.2
 
 pub returns-clause-view : goal.returns-clause-view
 returns-clause-view g c =
     let begins = c.self.invariant.0.records_are in let at = c.record_word-place.ensures in let v : View = c.self.inside.seat.me.0 in
-    let is : c.record_word-place.result ≡ record_start v.shape c.args.number + c.args.field = omega arith in
-    subst (λ (k : Known). c.store.new.seat.me.0 ≡ storing k.view (record_start k.view.shape c.args.number + c.args.field) c.args.value) c.self.view_is
+    let offset = c.offset.ensures.value in let is : c.record_word-place.result ≡ record_start v.shape c.args.number + field_offset c.args.field = omega arith in
+    subst (λ (k : Known). c.store.new.seat.me.0 ≡ storing k.view (record_start k.view.shape c.args.number + field_offset c.args.field) c.args.value) c.self.view_is
     (subst (λ (z : ℕ). c.store.new.seat.me.0 ≡ storing v z c.args.value) is c.store.ensures.2.1)

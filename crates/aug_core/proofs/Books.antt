@@ -1,0 +1,201 @@
+-- One history of a book grows at its end.
+use Rattle.std.proofs.Common.{◌≡◌, ℕ, zero, suc, ◌+◌, ◌-◌, ◌*◌, ◌^◌, ◌%◌, ◌<◌, ◌≤◌, ◌≢◌, ◌⊎◌, inl, inr, eqb, if◌then◌else◌, List, [], ◌∷◌, ◌++◌, length, get_or, set, sym, refl, ap, ◌∙◌, subst, ⊎_elim, arith, length-set, length-append, get_or-set_other, get_or-set_same}
+use Rattle.std.proofs.lemmas.Bool.{cases_eq, cases_lt}
+use mathlib.Core.Option.{none, some, some-injective, some-ne-none}
+use lib.ListN.{get_elem?}
+use Rattle.atomic_table.proofs.Lists.{at_longer, at_last}
+use Rattle.aug_core.specs.Places.{Shape, opening_count, record_count}
+use Rattle.aug_core.specs.Tree.{place_count, IsInner, left_of, right_of}
+use Rattle.aug_core.specs.Book.{Book, history_of, At, IsNewest, ContinuesAt, Continues, GoesOnFromBoth, StandsOver, IsSerial, IsBook, FloorsCover, IsFresh}
+use Rattle.aug_core.specs.declared.view.Entry.{Entry}
+
+module _ {A : Type 0} where
+  pub snoc_at : (l : List A) (a b : A) (j : ℕ) → get_elem? (l ++ a ∷ []) j ≡ some b → (get_elem? l j ≡ some b) ⊎ ((j ≡ length l) × (a ≡ b))
+  snoc_at [] a b zero e = inr (refl, some-injective a b e)
+  snoc_at [] a b (suc j) e = absurd (some-ne-none b (sym e))
+  snoc_at (x ∷ xs) a b zero e = inl e
+  snoc_at (x ∷ xs) a b (suc j) e = ⊎_elim (λ t. inl t) (λ t. inr (ap suc t.0, t.1)) (snoc_at xs a b j e)
+
+  pub at_below : (l : List A) (j : ℕ) (b : A) → get_elem? l j ≡ some b → j < length l
+  at_below [] j b e = absurd (some-ne-none b (sym e))
+  at_below (x ∷ xs) zero b e = omega arith
+  at_below (x ∷ xs) (suc j) b e = let h = at_below xs j b e in omega arith
+
+  pub there_is : (l : List A) (i : ℕ) → i < length l → (a : A) × (get_elem? l i ≡ some a)
+  there_is [] i h = absurd (omega arith)
+  there_is (x ∷ xs) zero h = (x, refl)
+  there_is (x ∷ xs) (suc i) h = there_is xs i (omega arith)
+
+  last_at : (l : List A) → 0 < length l → (i : ℕ) × (a : A) × (get_elem? l i ≡ some a) × (length l ≡ i + 1)
+  last_at [] h = absurd (omega arith)
+  last_at (x ∷ []) h = (0, x, refl, refl)
+  last_at (x ∷ y ∷ ys) h = let t = last_at (y ∷ ys) (omega arith) in (suc t.0, t.1, t.2, let e = t.3 in omega arith)
+
+  pub shorter : (l m : List A) → ((i : ℕ) (a : A) → get_elem? l i ≡ some a → get_elem? m i ≡ some a) → length l ≤ length m
+  shorter [] m h = omega arith
+  shorter (x ∷ xs) m h = let t = last_at (x ∷ xs) (omega arith) in let b = at_below m t.0 t.1 (h t.0 t.1 t.2) in let e = t.3 in omega arith
+
+-- a later book is no shorter
+pub no_shorter : (book seen : Book) → Continues book seen → (q : ℕ) → length (history_of seen q) ≤ length (history_of book q)
+no_shorter book seen h q = shorter (history_of seen q) (history_of book q) (h q)
+
+-- of two beginnings of one book the one is a beginning of the other, at each place
+either_way : (book a b : Book) (q : ℕ) → Continues book a → Continues book b → length (history_of a q) ≤ length (history_of b q) → ContinuesAt b a q
+either_way book a b q ca cb le i e p = let below = at_below (history_of a q) i e p in let x = there_is (history_of b q) i (omega arith) in
+    subst (At b q i) (some-injective x.0 e (sym (cb q i x.0 x.1) ∙ ca q i e p)) x.1
+
+pub goes_on_from_both : (book a b : Book) → Continues book a → Continues book b → GoesOnFromBoth book a b
+goes_on_from_both book a b ca cb = record {
+  from_first = ca;
+  from_second = cb;
+  one_piece = λ q. ⊎_elim (λ (lt : length (history_of a q) < length (history_of b q)). inl (either_way book a b q ca cb (omega arith)))
+      (λ (ge : length (history_of b q) ≤ length (history_of a q)). inr (either_way book b a q cb ca ge)) (cases_lt (length (history_of a q)) (length (history_of b q)));
+}
+
+-- nothing came after the whole book
+pub fresh_now : (s : Shape) (book : Book) → IsFresh s book book
+fresh_now s book = record { covers = λ q i e inner past p. let below = at_below (history_of book q) i e p in absurd (omega arith) }
+
+-- one snapshot after another
+pub fresh_on : (s : Shape) (a b c : Book) → Continues b a → Continues c b → IsFresh s b a → IsFresh s c b → IsFresh s c a
+fresh_on s a b c ab bc f g = record {
+  covers = λ q i e inner past p. ⊎_elim
+      (λ (lt : i < length (history_of b q)). let x = there_is (history_of b q) i lt in let same : x.0 ≡ e = some-injective x.0 e (sym (bc q i x.0 x.1) ∙ p) in f.covers q i e inner past (subst (λ (z : Entry). At b q i z) same x.1))
+      (λ (ge : length (history_of b q) ≤ i). let k = g.covers q i e inner ge p in let k0 = k.left in let k1 = k.right in let l = no_shorter b a ab (left_of s q) in let r = no_shorter b a ab (right_of s q) in
+      record { left = omega arith; right = omega arith }) (cases_lt i (length (history_of b q)));
+}
+
+-- of two entries that came to a node after a snapshot, the second stands over children no older than the snapshot's
+pub record Covers (s : Shape) (seen : Book) (q : ℕ) (e : Entry) : Type 0 where
+  pub left : length (history_of seen (left_of s q)) ≤ e.left + 1
+  pub right : length (history_of seen (right_of s q)) ≤ e.right + 1
+
+pub second_covers : (face : ℕ → ℕ → List ℕ → List ℕ) (s : Shape) (book seen : Book) → IsBook face s book → IsFresh s book seen → (q i : ℕ) (e f : Entry) → IsInner s q → length (history_of seen q) ≤ i
+    → At book q i e → At book q (i + 1) f → Covers s seen q f
+second_covers face s book seen b h q i e f inner past p p' = let a = h.covers q i e inner past p in let c = b.floored q i e f inner p p' in let a0 = a.left in let a1 = a.right in let c0 = c.0 in let c1 = c.1 in
+    record { left = omega arith; right = omega arith }
+
+-- an entry of a book has one number, and a number one place
+pub one_entry : (book : Book) (q i : ℕ) (e f : Entry) → At book q i e → At book q i f → e ≡ f
+one_entry book q i e f p p' = some-injective e f (sym p ∙ p')
+
+pub one_newest : (book : Book) (q i j : ℕ) (e f : Entry) → IsNewest book q i e → IsNewest book q j f → (i ≡ j) × (e ≡ f)
+one_newest book q i j e f a b = let x = a.last in let y = b.last in let same : i ≡ j = omega arith in
+    (same, one_entry book q j e f (subst (λ (z : ℕ). At book q z e) same a.at) b.at)
+
+-- within one history a record's number stands once: an opening record's at the first entry, a lane's once in the whole book
+pub one_index : (face : ℕ → ℕ → List ℕ → List ℕ) (s : Shape) (book : Book) → IsBook face s book → (q i j : ℕ) (e f : Entry) → IsInner s q → At book q i e → At book q j f → e.number ≡ f.number → i ≡ j
+one_index face s book b q i j e f inner p p' same = ⊎_elim
+    (λ (low : e.number < opening_count s). b.opens q i e inner p low ∙ sym (b.opens q j f inner p' (subst (λ (z : ℕ). z < opening_count s) same low)))
+    (λ (own : opening_count s ≤ e.number). (b.distinct q q i j e f inner inner p p' own same).1) (cases_lt e.number (opening_count s))
+
+pub same_index : (face : ℕ → ℕ → List ℕ → List ℕ) (s : Shape) (book : Book) → IsBook face s book → (q i j : ℕ) (e f : Entry) → q < place_count s → At book q i e → At book q j f → e.number ≡ f.number → i ≡ j
+same_index face s book b q i j e f inside p p' same = ⊎_elim
+    (λ (leaf : q < 2 ^ s.bits). let x = (b.serials q i e leaf p).counted in let y = (b.serials q j f leaf p').counted in omega arith)
+    (λ (past : 2 ^ s.bits ≤ q). one_index face s book b q i j e f record { past_leaves = past; inside = inside } p p' same) (cases_lt q (2 ^ s.bits))
+
+-- no older than the newest
+pub newest_is_last : (book : Book) (q i j : ℕ) (e f : Entry) → IsNewest book q i e → At book q j f → j ≤ i
+newest_is_last book q i j e f new p = let below = at_below (history_of book q) j f p in let long = new.last in omega arith
+
+module _ (book : Book) (q : ℕ) (in_book : q < length book) (e : Entry) where
+  abbrev pub grow : Book
+  grow = set book q (history_of book q ++ e ∷ [])
+
+  here : history_of grow q ≡ history_of book q ++ e ∷ []
+  here = get_or-set_same book q (history_of book q ++ e ∷ []) [] in_book
+
+  pub there : (p : ℕ) → p ≢ q → history_of grow p ≡ history_of book p
+  there p ne = get_or-set_other book q p (history_of book q ++ e ∷ []) [] ne
+
+  pub longer : length (history_of grow q) ≡ length (history_of book q) + 1
+  longer = ap length here ∙ length-append (history_of book q) (e ∷ [])
+
+  pub grown_at : Continues grow book
+  grown_at p i x at = ⊎_elim
+      (λ is. subst (λ (z : ℕ). At grow z i x) (sym is) (subst (λ (z : List Entry). get_elem? z i ≡ some x) (sym here) (at_longer (history_of book q) (e ∷ []) i x (subst (λ (z : ℕ). At book z i x) is at))))
+      (λ ne. subst (λ (z : List Entry). get_elem? z i ≡ some x) (sym (there p ne)) at) (cases_eq p q)
+
+  -- what stands in the longer book: it stood there before, or it is the new one
+  pub at_grown : (p i : ℕ) (x : Entry) → At grow p i x → (At book p i x) ⊎ ((p ≡ q) × (i ≡ length (history_of book q)) × (e ≡ x))
+  at_grown p i x at = ⊎_elim
+      (λ is. ⊎_elim (λ t. inl (subst (λ (z : ℕ). At book z i x) (sym is) t)) (λ t. inr (is, t.0, t.1))
+      (snoc_at (history_of book q) e x i (subst (λ (z : List Entry). get_elem? z i ≡ some x) here (subst (λ (z : ℕ). At grow z i x) is at))))
+      (λ ne. inl (subst (λ (z : List Entry). get_elem? z i ≡ some x) (there p ne) at)) (cases_eq p q)
+
+  pub newest_here : IsNewest grow q (length (history_of book q)) e
+  newest_here = record { at = subst (λ (z : List Entry). get_elem? z (length (history_of book q)) ≡ some e) (sym here) (at_last (history_of book q) e (length (history_of book q)) refl); last = longer }
+
+  pub newest_there : (p i : ℕ) (x : Entry) → p ≢ q → IsNewest book p i x → IsNewest grow p i x
+  newest_there p i x ne new = record { at = grown_at p i x new.at; last = ap length (there p ne) ∙ new.last }
+
+  module _ (face : ℕ → ℕ → List ℕ → List ℕ) (s : Shape) (b : IsBook face s book) where
+    stands_over : (p : ℕ) (x : Entry) → StandsOver face s book p x → StandsOver face s grow p x
+    stands_over p x o = record {
+      left_child = o.left_child;
+      right_child = o.right_child;
+      left_at = grown_at (left_of s p) x.left o.left_child o.left_at;
+      right_at = grown_at (right_of s p) x.right o.right_child o.right_at;
+      keys_of_both = o.keys_of_both;
+      words_say = o.words_say;
+    }
+
+    abbrev Floors : Book → ℕ → Entry → Type 0
+    Floors z p x = ((f : Entry) × At z (left_of s p) x.left_floor f) × ((g : Entry) × At z (right_of s p) x.right_floor g)
+
+    floors_on : (p : ℕ) (x : Entry) → Floors book p x → Floors grow p x
+    floors_on p x o = ((o.0.0, grown_at (left_of s p) x.left_floor o.0.0 o.0.1), (o.1.0, grown_at (right_of s p) x.right_floor o.1.0 o.1.1))
+
+    -- an inner node has a new entry
+    module _ (inner : IsInner s q) (i0 : ℕ) (top : Entry) (newest : IsNewest book q i0 top) where
+      pub grows : e.word ≡ e.number → e.number < record_count s → opening_count s ≤ e.number → ((p i : ℕ) (f : Entry) → IsInner s p → At book p i f → f.number ≢ e.number) → StandsOver face s book q e → top.left ≤ e.left → top.right ≤ e.right
+          → top.left_floor ≤ e.left → top.right_floor ≤ e.right → Floors book q e → IsBook face s grow
+      grows named under past_opening fresh over up up' kn kn' fl = record {
+        long = length-set book q (history_of book q ++ e ∷ []) ∙ b.long;
+        named = λ p i x low at. ⊎_elim (λ t. b.named p i x low t) (λ t. subst (λ (z : Entry). z.word ≡ z.number) t.2 named) (at_grown p i x at);
+        below = λ p i x low at. ⊎_elim (λ t. b.below p i x low t) (λ t. subst (λ (z : Entry). z.number < record_count s) t.2 under) (at_grown p i x at);
+        opens = λ p i x low at few. ⊎_elim (λ t. b.opens p i x low t few) (λ t. let is : e.number ≡ x.number = ap (λ (z : Entry). z.number) t.2 in absurd (omega arith)) (at_grown p i x at);
+        distinct = λ p o i j x y low low' at at' own same. ⊎_elim
+            (λ t. ⊎_elim (λ t'. b.distinct p o i j x y low low' t t' own same) (λ t'. absurd (fresh p i x low t (same ∙ ap (λ (z : Entry). z.number) (sym t'.2)))) (at_grown o j y at'))
+            (λ t. ⊎_elim (λ t'. absurd (fresh o j y low' t' (sym same ∙ ap (λ (z : Entry). z.number) (sym t.2)))) (λ t'. (t.0 ∙ sym t'.0, t.1 ∙ sym t'.1)) (at_grown o j y at')) (at_grown p i x at);
+        over = λ p i x low at. stands_over p x (⊎_elim (λ t. b.over p i x low t) (λ t. subst (λ (z : ℕ × Entry). StandsOver face s book z.0 z.1) (λ k. (sym t.0 k, t.2 k)) over) (at_grown p i x at));
+        rises = λ p i j x y low at at' le. ⊎_elim
+            (λ t. ⊎_elim (λ t'. b.rises p i j x y low t t' le)
+            (λ t'. let mine : At book q i x = subst (λ (z : ℕ). At book z i x) t'.0 t in let below = at_below (history_of book q) i x mine in let long = newest.last in
+            let before = b.rises q i i0 x top inner mine newest.at (omega arith) in let l : e.left ≡ y.left = ap (λ (z : Entry). z.left) t'.2 in let r : e.right ≡ y.right = ap (λ (z : Entry). z.right) t'.2 in
+            let b0 = before.0 in let b1 = before.1 in (omega arith, omega arith)) (at_grown p j y at'))
+            (λ t. ⊎_elim
+            (λ t'. let below = at_below (history_of book q) j y (subst (λ (z : ℕ). At book z j y) t.0 t') in let is = t.1 in absurd (omega arith))
+            (λ t'. let same : x ≡ y = sym t.2 ∙ t'.2 in let l : x.left ≡ y.left = ap (λ (z : Entry). z.left) same in let r : x.right ≡ y.right = ap (λ (z : Entry). z.right) same in (omega arith, omega arith)) (at_grown p j y at'))
+            (at_grown p i x at);
+        floors = λ p i x low at. floors_on p x (⊎_elim (λ t. b.floors p i x low t) (λ t. subst (λ (z : ℕ × Entry). Floors book z.0 z.1) (λ k. (sym t.0 k, t.2 k)) fl) (at_grown p i x at));
+        floored = λ p i x y low at at'. ⊎_elim
+            (λ t. ⊎_elim (λ t'. b.floored p i x y low t t')
+            (λ t'. let mine : At book q i x = subst (λ (z : ℕ). At book z i x) t'.0 t in let long = newest.last in let is = t'.1 in let at0 : i ≡ i0 = omega arith in
+            let same : x ≡ top = one_entry book q i0 x top (subst (λ (z : ℕ). At book q z x) at0 mine) newest.at in let a : x.left_floor ≡ top.left_floor = ap (λ (z : Entry). z.left_floor) same in
+            let c : x.right_floor ≡ top.right_floor = ap (λ (z : Entry). z.right_floor) same in let l : e.left ≡ y.left = ap (λ (z : Entry). z.left) t'.2 in let r : e.right ≡ y.right = ap (λ (z : Entry). z.right) t'.2 in
+            (omega arith, omega arith)) (at_grown p (i + 1) y at'))
+            (λ t. ⊎_elim (λ t'. let below = at_below (history_of book q) (i + 1) y (subst (λ (z : ℕ). At book z (i + 1) y) t.0 t') in let is = t.1 in absurd (omega arith)) (λ t'. let is = t.1 in let is' = t'.1 in absurd (omega arith)) (at_grown p (i + 1) y at'))
+            (at_grown p i x at);
+        serials = λ key i x low at. ⊎_elim (λ t. b.serials key i x low t) (λ t. let is = t.0 in let past = inner.past_leaves in absurd (omega arith)) (at_grown key i x at);
+      }
+
+    -- a leaf has a new serial
+    module _ (leaf : q < 2 ^ s.bits) where
+      pub old_inner : (p i : ℕ) (x : Entry) → IsInner s p → At grow p i x → At book p i x
+      old_inner p i x low at = ⊎_elim (λ t. t) (λ t. let is = t.0 in let past = low.past_leaves in absurd (omega arith)) (at_grown p i x at)
+
+      pub counts : IsSerial q (length (history_of book q)) e → IsBook face s grow
+      counts serial = record {
+        long = length-set book q (history_of book q ++ e ∷ []) ∙ b.long;
+        named = λ p i x low at. b.named p i x low (old_inner p i x low at);
+        below = λ p i x low at. b.below p i x low (old_inner p i x low at);
+        opens = λ p i x low at few. b.opens p i x low (old_inner p i x low at) few;
+        distinct = λ p o i j x y low low' at at' own same. b.distinct p o i j x y low low' (old_inner p i x low at) (old_inner o j y low' at') own same;
+        over = λ p i x low at. stands_over p x (b.over p i x low (old_inner p i x low at));
+        rises = λ p i j x y low at at' le. b.rises p i j x y low (old_inner p i x low at) (old_inner p j y low at') le;
+        floors = λ p i x low at. floors_on p x (b.floors p i x low (old_inner p i x low at));
+        floored = λ p i x y low at at'. b.floored p i x y low (old_inner p i x low at) (old_inner p (i + 1) y low at');
+        serials = λ key i x low at. ⊎_elim (λ t. b.serials key i x low t)
+            (λ t. subst (λ (z : ℕ × ℕ × Entry). IsSerial z.0 z.1 z.2) (λ k. (sym t.0 k, sym t.1 k, t.2 k)) serial) (at_grown key i x at);
+      }

@@ -1,0 +1,288 @@
+-- What a step of one seat carries over: the words of its own lanes change, or one word of a leaf or a node, and the book stays or grows.
+use Rattle.std.proofs.Common.{◌≡◌, ℕ, ◌+◌, ◌^◌, ◌<◌, ◌≤◌, ◌≢◌, ◌⊎◌, inl, inr, List, [], ◌∷◌, ◌++◌, length, get_or, set, refl, sym, ap, ◌∙◌, subst, ⊎_elim, arith, length-set, get_or-set_other, get_or-set_same, Some}
+use Rattle.std.proofs.lemmas.Bool.{cases_eq}
+use Rattle.std.proofs.lemmas.List.{set-get_or}
+use mathlib.Core.Option.{some}
+use lib.ListN.{get_elem?}
+use Rattle.atomic_table.specs.Table.{State, Me, Act, Valid, carried_after, stepped}
+use Rattle.atomic_table.proofs.Lists.{at_set}
+use Rattle.aug_core.specs.Places.{Shape, lane_place, record_start, opening_count, word_count}
+use Rattle.aug_core.specs.Tree.{place_count, IsInner}
+use Rattle.aug_core.specs.Lanes.{IsOfLane, block_start, block_size}
+use Rattle.aug_core.specs.Book.{Book, history_of, At, IsNewest, Continues, FloorsCover, IsFresh, IsBook}
+use Rattle.aug_core.specs.Opening.{Opening, opening_book}
+use Rattle.aug_core.specs.Counts.{WasMade, AreCounted, AreTallied}
+use Rattle.aug_core.specs.declared.view.Change.{Change}
+use Rattle.aug_core.specs.declared.step.StepTaken.{StepTaken}
+use Rattle.aug_core.specs.Rule.{Lists, NamesNewest, BlockIs, HoldsLane, Knows, KeepsTree, Kept}
+use Rattle.aug_core.specs.declared.view.Beginning.{Beginning}
+use Rattle.aug_core.specs.declared.view.Entry.{Entry}
+use Rattle.aug_core.specs.declared.view.Held.{Held}
+use Rattle.aug_core.specs.declared.view.View.{View}
+use Rattle.aug_core.proofs.Sizes.{lanes_apart}
+use Rattle.aug_core.proofs.Books.{fresh_now, no_shorter, grow, grown_at, at_grown, newest_here, newest_there, there, longer}
+use Rattle.aug_core.proofs.Views.{Likens, Repeats, was_there, repeats_like, counted_on, apart_on}
+
+abbrev pub Sat : Type 0
+Sat = Me (Unit {0}) View
+
+abbrev pub St : Type 0
+St = State (Unit {0}) View
+
+-- a lane's word and the words of its records stayed
+pub record Stays (s : Shape) (words after : List ℕ) (lane : ℕ) : Type 0 where
+  pub state : get_or after (lane_place s lane) 0 ≡ get_or words (lane_place s lane) 0
+  pub block : (k : ℕ) → k < block_size s → get_or after (block_start s lane + k) 0 ≡ get_or words (block_start s lane + k) 0
+
+-- the lane is one that the view holds, and it is not free
+pub record IsMine (s : Shape) (after : List ℕ) (v : View) (lane : ℕ) : Type 0 where
+  pub index : ℕ
+  pub held : Held
+  pub at : get_elem? v.held index ≡ some held
+  pub is : held.lane ≡ lane
+  pub some_state : 0 < get_or after (lane_place s lane) 0
+  pub last_state : get_or after (lane_place s lane) 0 ≤ 2
+
+-- the record is of a lane that the view holds
+pub record IsOwn (s : Shape) (words : List ℕ) (v : View) (number : ℕ) : Type 0 where
+  pub index : ℕ
+  pub held : Held
+  pub at : get_elem? v.held index ≡ some held
+  pub of_lane : IsOfLane s held.lane number
+  pub some_state : 0 < get_or words (lane_place s held.lane) 0
+
+module _ (face : ℕ → ℕ → List ℕ → List ℕ) (o : Opening) (s : St) (r : Kept face o s) (id : ℕ) (v : View) (after : List ℕ) (book' : Book) where
+  -- what a step may do to the words and to the book
+  pub record MayMove : Type 0 where
+    pub tree : KeepsTree face o after book'
+    pub grows : Continues book' r.book
+    pub lanes : (lane : ℕ) → lane < o.shape.workers → Stays o.shape s.words after lane ⊎ IsMine o.shape after v lane
+    pub came : (q i : ℕ) (e : Entry) → IsInner o.shape q → At book' q i e → At r.book q i e ⊎ IsOwn o.shape after v e.number
+    pub fresh : (seen : Book) → Continues r.book seen → IsFresh o.shape r.book seen → IsFresh o.shape book' seen
+
+  module _ (m : MayMove) (at : get_elem? s.views id ≡ some v) where
+    -- what another view knows stays so
+    pub others_know : (j : ℕ) (u : View) → j ≢ id → get_elem? s.views j ≡ some u → Knows o after book' u
+    others_know j u ne p = let kn = r.each_view j u p in record {
+      shaped = kn.shaped;
+      same_members = kn.same_members;
+      saw = λ q i e t. m.grows q i e (kn.saw q i e t);
+      also_saw = λ q i e t. m.grows q i e (kn.also_saw q i e t);
+      fresh = m.fresh u.seen kn.saw kn.fresh;
+      holds = λ b g t. let l = kn.holds b g t in ⊎_elim
+          (λ (stays : Stays o.shape s.words after g.lane). record {
+            exists = l.exists;
+            state = stays.state ∙ l.state;
+            long = l.long;
+            exact = λ k small. stays.block k small ∙ l.exact k small;
+            published = λ q i e inner e' of_lane. ⊎_elim (λ old. l.published q i e inner old of_lane)
+                (λ (mine : IsOwn o.shape after v e.number). absurd (ne (r.apart.one_holder j id b mine.index u v g mine.held p at t mine.at (lanes_apart o.shape g.lane mine.held.lane e.number of_lane mine.of_lane)).0)) (m.came q i e inner e');
+          })
+          (λ (mine : IsMine o.shape after v g.lane). absurd (ne (r.apart.one_holder j id b mine.index u v g mine.held p at t mine.at (sym mine.is)).0)) (m.lanes g.lane l.exists);
+      spares = λ n lane e le low. ⊎_elim
+          (λ (stays : Stays o.shape s.words after lane). stays.state ∙ kn.spares n lane e le low)
+          (λ (mine : IsMine o.shape after v lane). let below : mine.held.lane < n = r.apart.handed_out j id mine.index n u v mine.held p at e mine.at in let is = mine.is in absurd (omega arith)) (m.lanes lane low);
+    }
+
+    -- the lanes that the view may still hand out are free
+    pub still_spare : (w : View) → v.spare ≡ w.spare → (n lane : ℕ) → w.spare ≡ Some n → n ≤ lane → lane < o.shape.workers → get_or after (lane_place o.shape lane) 0 ≡ 0
+    still_spare w same n lane e le low = let kn = r.each_view id v at in ⊎_elim
+        (λ (stays : Stays o.shape s.words after lane). stays.state ∙ kn.spares n lane (same ∙ e) le low)
+        (λ (mine : IsMine o.shape after v lane). let below : mine.held.lane < n = r.apart.handed_out id id mine.index n v v mine.held at at (same ∙ e) mine.at in let is = mine.is in absurd (omega arith)) (m.lanes lane low)
+
+    -- no lane that was not free is free now
+    pub was_free : (lane : ℕ) → lane < o.shape.workers → get_or after (lane_place o.shape lane) 0 ≡ 0 → get_or s.words (lane_place o.shape lane) 0 ≡ 0
+    was_free lane low free = ⊎_elim (λ (stays : Stays o.shape s.words after lane). sym stays.state ∙ free)
+        (λ (mine : IsMine o.shape after v lane). let pos = mine.some_state in absurd (omega arith)) (m.lanes lane low)
+
+    -- the rule holds after the step, where the changes are counted
+    pub moves : (w : View) → Likens v w → Knows o after book' w → AreCounted o book' (set s.views id w) → (tally : List ℕ) → AreTallied o after book' (set s.views id w) tally
+        → Kept face o record { words = after; homes = s.homes; views = set s.views id w }
+    moves w like knows counted tally tallied = record {
+      book = book';
+      tree = m.tree;
+      lanes = record {
+        states = λ lane low. ⊎_elim
+            (λ (stays : Stays o.shape s.words after lane). let t = r.lanes.states lane low in subst (λ (z : ℕ). z ≤ 2) (sym stays.state) t)
+            (λ (mine : IsMine o.shape after v lane). mine.last_state) (m.lanes lane low);
+        blank = λ lane low free k small. ⊎_elim
+            (λ (stays : Stays o.shape s.words after lane). stays.block k small ∙ r.lanes.blank lane low (sym stays.state ∙ free) k small)
+            (λ (mine : IsMine o.shape after v lane). let pos = mine.some_state in absurd (omega arith)) (m.lanes lane low);
+        unused = λ lane q i e low free inner p of_lane. ⊎_elim
+            (λ old. r.lanes.unused lane q i e low (was_free lane low free) inner old of_lane)
+            (λ (mine : IsOwn o.shape after v e.number). let same : mine.held.lane ≡ lane = lanes_apart o.shape mine.held.lane lane e.number mine.of_lane of_lane in
+            let pos = subst (λ (z : ℕ). 0 < get_or after (lane_place o.shape z) 0) same mine.some_state in absurd (omega arith)) (m.came q i e inner p);
+      };
+      each_view = λ j u p. ⊎_elim (λ t. subst (Knows o after book') t.1 knows) (λ t. others_know j u t.0 t.1) (at_set s.views id j w u p);
+      apart = apart_on s.views (set s.views id w) (λ i a j b. (i ≡ j) × (a ≡ b)) (λ i a h. ⊥) r.apart record {
+        came = λ i a x h p q. let t = was_there s.views id v w at like i x p in let l = t.2.lanes a h q in
+            inl record { seat = i; index = a; view = t.0; lane = l.0; sits = t.1; held = l.1; same = l.2; from = (refl, refl) };
+        once = λ i a j b k c p q. (p.0 ∙ sym q.0, p.1 ∙ sym q.1);
+        led = λ i m x p e. let t = was_there s.views id v w at like i x p in (t.0, m, t.1, t.2.spare ∙ e, omega arith);
+        new_once = λ i j a b h g none. absurd none;
+        new_apart = λ i j a b y h g none. absurd none;
+        new_below = λ i j a m x h none. absurd none;
+      };
+      changes = record { counted = counted; tally = tally; tallied = tallied };
+    }
+
+    abbrev pub SameLeaves : Type 0
+    SameLeaves = (key : ℕ) → key < 2 ^ o.shape.bits → length (history_of book' key) ≡ length (history_of r.book key)
+
+    -- the tally stays
+    tallied_on : (w : View) → Repeats v w → SameLeaves → AreTallied o after book' (set s.views id w) r.changes.tally
+    tallied_on w rep same = let t = r.changes.tallied in record {
+      long = t.long;
+      each = λ i a u h p held. ⊎_elim
+          (λ is. let g = rep.back a h (subst (λ (z : View). get_elem? z.held a ≡ some h) (sym is.1) held) in
+          ap length (sym g.3) ∙ t.each id a v g.0 at g.1 ∙ ap (λ (z : ℕ). get_or r.changes.tally z 0) g.2)
+          (λ old. t.each i a u h old.1 held) (at_set s.views id i w u p);
+      few = t.few;
+      free = λ lane low free. t.free lane low (was_free lane low free);
+      enough = λ key low. let e = same key low in let l = t.enough key low in omega arith;
+    }
+
+    made_on : (book1 book2 : Book) → ((key : ℕ) → key < 2 ^ o.shape.bits → length (history_of book1 key) ≡ length (history_of book2 key)) → (c : Change) → WasMade o book1 c → WasMade o book2 c
+    made_on book1 book2 same c w = record { exists = w.exists; past_opening = w.past_opening; reached = subst (λ (z : ℕ). c.serial < z) (same c.key w.exists) w.reached }
+
+    -- the rule holds after a step that makes no change
+    pub moves_on : (w : View) → Repeats v w → Knows o after book' w → SameLeaves → Kept face o record { words = after; homes = s.homes; views = set s.views id w }
+    moves_on w rep knows same = moves w (repeats_like v w rep) knows
+        (counted_on s.views id v w at rep o r.book book' (made_on book' r.book same) (made_on r.book book' (λ key low. sym (same key low))) r.changes.counted) r.changes.tally (tallied_on w rep same)
+
+    -- what is known of a lane whose words stayed
+    pub holds_on : (h : Held) (published : List ℕ) (changes : List Change) → HoldsLane o.shape s.words r.book h → Stays o.shape s.words after h.lane → ((n : ℕ) → Lists h.published n → Lists published n)
+        → ((q i : ℕ) (e : Entry) → IsInner o.shape q → At book' q i e → IsOfLane o.shape h.lane e.number → At r.book q i e ⊎ Lists published e.number)
+        → HoldsLane o.shape after book' record h { published = published; changes = changes }
+    holds_on h published changes l stays more news = record {
+      exists = l.exists;
+      state = stays.state ∙ l.state;
+      long = l.long;
+      exact = λ k small. stays.block k small ∙ l.exact k small;
+      published = λ q i e inner p of_lane. ⊎_elim (λ old. more e.number (l.published q i e inner old of_lane)) (λ new. new) (news q i e inner p of_lane);
+    }
+
+    -- a view that was shown the whole book
+    pub knows_seeing : (held : List Held) (began : Beginning) (steps : List StepTaken) → ((a : ℕ) (h : Held) → get_elem? held a ≡ some h → HoldsLane o.shape after book' h) → Knows o after book' record v { seen = book'; held = held; began = began; steps = steps }
+    knows_seeing held began steps holds = let kn = r.each_view id v at in record {
+      shaped = kn.shaped;
+      same_members = kn.same_members;
+      saw = λ q i e p. p;
+      also_saw = λ q i e p. m.grows q i e (kn.also_saw q i e p);
+      fresh = fresh_now o.shape book';
+      holds = holds;
+      spares = still_spare record v { seen = book'; held = held; began = began; steps = steps } refl;
+    }
+
+    -- a view that was shown nothing of it
+    pub knows_keeping : (held : List Held) (steps : List StepTaken) → ((a : ℕ) (h : Held) → get_elem? held a ≡ some h → HoldsLane o.shape after book' h) → Knows o after book' record v { held = held; steps = steps }
+    knows_keeping held steps holds = let kn = r.each_view id v at in record {
+      shaped = kn.shaped;
+      same_members = kn.same_members;
+      saw = λ q i e p. m.grows q i e (kn.saw q i e p);
+      also_saw = λ q i e p. m.grows q i e (kn.also_saw q i e p);
+      fresh = m.fresh v.seen kn.saw kn.fresh;
+      holds = holds;
+      spares = still_spare record v { held = held; steps = steps } refl;
+    }
+
+module _ (face : ℕ → ℕ → List ℕ → List ℕ) (o : Opening) (s : St) (r : Kept face o s) (id : ℕ) (v : View) (at : get_elem? s.views id ≡ some v) where
+  -- a step that changes no word
+  pub rests : MayMove face o s r id v s.words r.book
+  rests = record {
+    tree = r.tree;
+    grows = λ q i e p. p;
+    lanes = λ lane low. inl record { state = refl; block = λ k small. refl };
+    came = λ q i e inner p. inl p;
+    fresh = λ seen saw f. f;
+  }
+
+  pub stands : (w : View) → Repeats v w → Knows o s.words r.book w → (i : ℕ) → Kept face o record { words = set s.words i (get_or s.words i 0); homes = s.homes; views = set s.views id w }
+  stands w rep knows i = subst (λ (z : List ℕ). Kept face o record { words = z; homes = s.homes; views = set s.views id w }) (sym (set-get_or s.words i 0))
+      (moves_on face o s r id v s.words r.book rests at w rep knows (λ key low. refl))
+
+  -- the view after a step that shows it the whole book, and changes no word
+  pub watches : (began : Beginning) (taken : StepTaken) (i : ℕ) → Kept face o record { words = set s.words i (get_or s.words i 0); homes = s.homes; views = set s.views id record v { seen = r.book; began = began; steps = v.steps ++ taken ∷ [] } }
+  watches began taken i = let steps : List StepTaken = v.steps ++ taken ∷ [] in let kn = r.each_view id v at in
+      stands record v { seen = r.book; began = began; steps = steps } record { back = λ a h p. (h, p, refl, refl); forth = λ a h p. (h, p, refl, refl); spare = refl }
+      (knows_seeing face o s r id v s.words r.book rests at v.held began steps kn.holds) i
+
+  -- a step that changes a word of the seat's own lane, which is not free after it
+  module _ (a : ℕ) (h : Held) (held : get_elem? v.held a ≡ some h) (exists : h.lane < o.shape.workers) (i x : ℕ) where
+    -- the word i is of this lane's estate: no leaf's or node's, of no other lane, and of no published record
+    pub record IsOwnWord : Type 0 where
+      pub past_nodes : (q : ℕ) → q < place_count o.shape → q ≢ i
+      pub past_lanes : (m : ℕ) → m < o.shape.workers → m ≢ h.lane → lane_place o.shape m ≢ i
+      pub past_blocks : (m k : ℕ) → m < o.shape.workers → m ≢ h.lane → k < block_size o.shape → block_start o.shape m + k ≢ i
+      pub unpublished : (q j k : ℕ) (e : Entry) → IsInner o.shape q → At r.book q j e → k < 5 → record_start o.shape e.number + k ≢ i
+      pub past_idle : (number k : ℕ) → number < opening_count o.shape → k < 5 → record_start o.shape number + k ≢ i
+
+    pub own_moves : IsOwnWord → (n : ℕ) → get_or (set s.words i x) (lane_place o.shape h.lane) 0 ≡ n → 0 < n → n ≤ 2 → MayMove face o s r id v (set s.words i x) r.book
+    own_moves own n state some_state last_state =
+        let stays : (j : ℕ) → j ≢ i → get_or (set s.words i x) j 0 ≡ get_or s.words j 0 = λ j ne. get_or-set_other s.words i j x 0 ne in record {
+          tree = record {
+            wide = length-set s.words i x ∙ r.tree.wide;
+            is_book = r.tree.is_book;
+            opened = r.tree.opened;
+            newest = λ q low. let t = r.tree.newest q low in record { index = t.index; entry = t.entry; newest = t.newest; word = stays q (own.past_nodes q low) ∙ t.word };
+            written = λ q j k e inner p small. stays (record_start o.shape e.number + k) (own.unpublished q j k e inner p small) ∙ r.tree.written q j k e inner p small;
+            idle = λ number k is small. stays (record_start o.shape number + k) (own.past_idle number k is.opening small) ∙ r.tree.idle number k is small;
+          };
+          grows = λ q j e p. p;
+          lanes = λ lane low. ⊎_elim
+              (λ (same : lane ≡ h.lane). inr record { index = a; held = h; at = held; is = sym same; some_state = subst (λ (z : ℕ). 0 < get_or (set s.words i x) (lane_place o.shape z) 0) (sym same) (omega (arith, state)); last_state = subst (λ (z : ℕ). get_or (set s.words i x) (lane_place o.shape z) 0 ≤ 2) (sym same) (omega (arith, state)) })
+              (λ other. inl record { state = stays (lane_place o.shape lane) (own.past_lanes lane low other); block = λ k small. stays (block_start o.shape lane + k) (own.past_blocks lane k low other small) }) (cases_eq lane h.lane);
+          came = λ q j e inner p. inl p;
+          fresh = λ seen saw f. f;
+        }
+
+  -- a step that changes the word of a leaf or a node, which gains an entry
+  module _ (q : ℕ) (inside : q < place_count o.shape) (e : Entry) where
+    pub in_book : q < length r.book
+    in_book = let long = r.tree.is_book.long in omega arith
+
+    abbrev pub book' : Book
+    book' = grow r.book q in_book e
+
+    abbrev pub after : List ℕ
+    after = set s.words q e.word
+
+    stay : (j : ℕ) → j ≢ q → get_or after j 0 ≡ get_or s.words j 0
+    stay j ne = get_or-set_other s.words q j e.word 0 ne
+
+    record_stays : (n k : ℕ) → get_or after (record_start o.shape n + k) 0 ≡ get_or s.words (record_start o.shape n + k) 0
+    record_stays n k = stay (record_start o.shape n + k) (λ is. omega arith)
+
+    pub all_stay : (lane : ℕ) → Stays o.shape s.words after lane
+    all_stay lane = record { state = stay (lane_place o.shape lane) (λ is. omega arith); block = λ k small. stay (block_start o.shape lane + k) (λ is. omega arith) }
+
+    pub tree_moves : IsBook face o.shape book' → (IsInner o.shape q → IsOwn o.shape s.words v e.number) → (IsInner o.shape q → (k : ℕ) → k < 5 → get_or s.words (record_start o.shape e.number + k) 0 ≡ get_or e.words k 0)
+        → ((seen : Book) → Continues r.book seen → IsInner o.shape q → FloorsCover o.shape seen q e) → MayMove face o s r id v after book'
+    tree_moves is_book own full floors = record {
+      grows = grown_at r.book q in_book e;
+      tree = record {
+        wide = length-set s.words q e.word ∙ r.tree.wide;
+        is_book = is_book;
+        opened = λ p j f t. grown_at r.book q in_book e p j f (r.tree.opened p j f t);
+        newest = λ p low. ⊎_elim
+            (λ is. subst (λ (z : ℕ). NamesNewest after book' z) (sym is) record {
+              index = length (history_of r.book q);
+              entry = e;
+              newest = newest_here r.book q in_book e;
+              word = let wide = r.tree.wide in get_or-set_same s.words q e.word 0 (omega arith);
+            })
+            (λ ne. let t = r.tree.newest p low in record { index = t.index; entry = t.entry; newest = newest_there r.book q in_book e p t.index t.entry ne t.newest; word = stay p ne ∙ t.word }) (cases_eq p q);
+        written = λ p j k f inner t small. record_stays f.number k ∙ ⊎_elim
+            (λ old. r.tree.written p j k f inner old small)
+            (λ new. subst (λ (z : Entry). get_or s.words (record_start o.shape z.number + k) 0 ≡ get_or z.words k 0) new.2 (full (subst (IsInner o.shape) new.0 inner) k small)) (at_grown r.book q in_book e p j f t);
+        idle = λ number k is small. record_stays number k ∙ r.tree.idle number k is small;
+      };
+      lanes = λ lane low. inl (all_stay lane);
+      came = λ p j f inner t. ⊎_elim (λ old. inl old)
+          (λ new. let mine = subst (λ (z : Entry). IsOwn o.shape s.words v z.number) new.2 (own (subst (IsInner o.shape) new.0 inner)) in
+          inr record { index = mine.index; held = mine.held; at = mine.at; of_lane = mine.of_lane; some_state = subst (λ (z : ℕ). 0 < z) (sym (all_stay mine.held.lane).state) mine.some_state }) (at_grown r.book q in_book e p j f t);
+      fresh = λ seen saw f. record {
+        covers = λ p j x inner past t. ⊎_elim (λ old. f.covers p j x inner past old)
+            (λ new. subst (λ (z : ℕ × Entry). FloorsCover o.shape seen z.0 z.1) (λ k. (sym new.0 k, new.2 k)) (floors seen saw (subst (IsInner o.shape) new.0 inner))) (at_grown r.book q in_book e p j x t);
+      };
+    }

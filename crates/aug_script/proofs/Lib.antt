@@ -1,0 +1,9 @@
+pub mod DeviceLemmas
+pub mod Fields
+pub mod Lines
+pub mod Numbers
+mod ReaderLemmas
+pub mod RecordLemmas
+pub mod Rows
+pub mod Runnable
+pub mod Updates

@@ -1,0 +1,13 @@
+use Rattle.std.proofs.Common.{rules}
+use Rattle.aug_script.proofs.DeviceLemmas.{Appends-piece, length-piece}
+use Rattle.aug_script.proofs.sending.write_pieces.Goals as goal
+
+pub loop-taken-preserved : goal.loop-taken-preserved
+loop-taken-preserved g c =
+    let before = c.loop-taken.invariant in
+    record {
+      within = length-piece _ _ _ before.within c.in_ok-taken.ensures.bound;
+      bytes = Appends-piece _ _ _ c.args.bytes.now _ _ before.bytes c.in_ok-taken.ensures.bytes;
+      unfinished = search rules;
+      no_fault = search rules;
+    }

@@ -1,0 +1,49 @@
+-- The text of a report.
+use Rattle.std.specs.Prelude.{ℕ, List, ◌++◌, map, codes, Some, None}
+use Rattle.std.specs.Fmt.{decimal}
+use Rattle.std.specs.List.{concat}
+use Rattle.aug_monoid.specs.declared.extent.Extent.{Extent}
+use Rattle.aug_script.specs.declared.reply.Reply.{Reply}
+use Rattle.aug_script.specs.declared.reply.Reply.TheVariants as reply
+use Rattle.aug_script.specs.declared.report.Report.{Report}
+use Rattle.aug_script.specs.declared.row.Row.{Row}
+use Rattle.aug_script.specs.declared.verb.Verb.{Verb}
+use Rattle.aug_script.specs.declared.verb.Verb.TheVariants as verb
+
+-- a verb with its arguments, parted by blanks
+abbrev pub verb_text : Verb → List ℕ
+verb_text (verb.Insert k) = codes "insert " ++ decimal k
+verb_text (verb.Remove k) = codes "remove " ++ decimal k
+verb_text verb.Look = codes "look"
+verb_text verb.Size = codes "size"
+verb_text (verb.Rank k) = codes "rank " ++ decimal k
+verb_text (verb.Range a b) = codes "range " ++ decimal a ++ codes " " ++ decimal b
+
+-- the least and the greatest of some keys, or `- -` where there are none
+abbrev pub extent_text : Extent → List ℕ
+extent_text None = codes "- -"
+extent_text (Some bounds) = decimal bounds.0 ++ codes " " ++ decimal bounds.1
+
+-- a reply
+abbrev pub reply_text : Reply → List ℕ
+reply_text reply.New = codes "new"
+reply_text reply.Old = codes "old"
+reply_text reply.Gone = codes "gone"
+reply_text reply.Absent = codes "none"
+reply_text reply.Looked = codes "ok"
+reply_text (reply.Number n) = decimal n
+reply_text (reply.Span s) = decimal s.count ++ codes " " ++ decimal s.a ++ codes " " ++ extent_text s.b
+
+-- the line of a row and its reply, in the round with this number: `<round> <lane> <verb args> = <reply>`
+abbrev pub line_text : ℕ → Row × Reply → List ℕ
+line_text number line =
+    decimal number ++ codes " " ++ decimal line.0.lane ++ codes " " ++ verb_text line.0.verb ++ codes " = " ++ reply_text line.1 ++ codes "\n"
+
+-- the last line: `<round> end size=<s> in=<i> out=<o>`
+abbrev pub end_text : Report → List ℕ
+end_text report =
+    decimal report.number ++ codes " end size=" ++ decimal report.size ++ codes " in=" ++ decimal report.inserts ++ codes " out=" ++ decimal report.removals ++ codes "\n"
+
+-- a line for each row, in order, and then the last line
+abbrev pub report_text : Report → List ℕ
+report_text report = concat (map (line_text report.number) report.rows) ++ end_text report

@@ -1,0 +1,62 @@
+//! Where a script comes from and where reports go.
+ghost use Rattle.std.specs.Prelude.{◌≡◌, ℕ, ◌+◌, ◌-◌, ◌^◌, ◌<◌, ◌≤◌, Option, None, List, length, IfOk, is_ok, if◌then◌else◌};
+ghost use Rattle.std.specs.Io.KnownBytes.{Keeps, ReadConsumes, WriteAppends};
+
+use thiserror::Error;
+
+/// A device failed. What failed and why is the device's own matter.
+#[derive(Clone, Copy, Debug, PartialEq, Eq, Error)]
+#[error("a device failed")]
+pub struct Fault;
+
+/// Where bytes come from.
+pub trait Source {
+    // The bytes that are still to come, where they are known.
+    ghost remaining: { Self → Option (List ℕ) } = { λ _. None };
+
+    // How often a call answered `Fault` so far.
+    ghost fault_count: { Self → ℕ };
+
+    /// Reads some bytes to the front of `piece`, and answers how many. None for a piece that is not empty is the end.
+    fn read_some(&mut self, piece: &mut [u8]) -> Result<usize, Fault>
+        requires { fault_count self.old < 2 ^ 64 - 1 }
+        ensures bound { IfOk result (λ n. n ≤ length piece.new) }
+        ensures bytes { ReadConsumes (remaining self.old) (remaining self.new) result piece.new }
+        ensures counted { fault_count self.new ≡ fault_count self.old + (if is_ok result then 0 else 1) };
+
+    /// How often a call answered `Fault` so far.
+    fn faults(&self) -> u64
+        ensures { result ≡ fault_count self.now };
+}
+
+/// Where bytes go.
+pub trait Sink {
+    // The bytes that went out, where they are known.
+    ghost contents: { Self → Option (List ℕ) } = { λ _. None };
+
+    // How often a call answered `Fault` so far.
+    ghost fault_count: { Self → ℕ };
+
+    // How often `finish` was called so far.
+    ghost finish_count: { Self → ℕ };
+
+    /// Writes some bytes from the front of `piece`, and answers how many: at least one, where it has any.
+    fn write_some(&mut self, piece: &[u8]) -> Result<usize, Fault>
+        requires { fault_count self.old < 2 ^ 64 - 1 }
+        ensures bound { IfOk result (λ n. n ≤ length piece.now) }
+        ensures some { IfOk result (λ n. 0 < length piece.now → 0 < n) }
+        ensures bytes { WriteAppends (contents self.old) (contents self.new) result piece.now }
+        ensures counted { fault_count self.new ≡ fault_count self.old + (if is_ok result then 0 else 1) }
+        ensures unfinished { finish_count self.new ≡ finish_count self.old };
+
+    /// Hands on what was written, as a flush does.
+    fn finish(&mut self) -> Result<(), Fault>
+        requires { fault_count self.old < 2 ^ 64 - 1 }
+        ensures bytes { Keeps (contents self.old) (contents self.new) }
+        ensures counted { fault_count self.new ≡ fault_count self.old + (if is_ok result then 0 else 1) }
+        ensures finished { finish_count self.new ≡ finish_count self.old + 1 };
+
+    /// How often a call answered `Fault` so far.
+    fn faults(&self) -> u64
+        ensures { result ≡ fault_count self.now };
+}

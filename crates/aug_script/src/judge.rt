@@ -1,0 +1,123 @@
+//! A record's row, or its first fault.
+ghost use Rattle.std.specs.Prelude.{◌≡◌, IsTrue, List, [], drop, length, slice_index_or, IfOk};
+ghost use Rattle.std.specs.List.{list_all};
+ghost use Rattle.csv.specs.Records.{fields_of};
+ghost use Rattle.aug_script.specs.Script.{are_printable, arity_of, bounded_row, is_number as is_number_field, row_of, verb_of, word_of, worded_row};
+
+use crate::field::{is_number, is_printable, is_star, number};
+use crate::round_rows::RoundRows;
+use crate::{Limits, Row, ScriptError, Verb, Word};
+use csv::ByteRecord;
+
+/// The field at a place, or an empty one past the last.
+fn field(fields: &ByteRecord, place: usize) -> &[u8]
+    ensures { result.now ≡ slice_index_or (fields_of fields.now) place [] }
+{
+    fields.get(place).unwrap_or(&[])
+}
+
+/// Whether every byte is printable.
+fn are_fields_printable(fields: &ByteRecord) -> bool
+    ensures { result ≡ are_printable (fields_of fields.now) }
+{
+    for place in 0..fields.len() {
+        if !is_printable(field(fields, place)) {
+            return false;
+        }
+    }
+    true
+}
+
+/// Whether every field behind the lane and the verb is a number.
+fn are_arguments_numbers(fields: &ByteRecord) -> bool
+    ensures { result ≡ list_all is_number_field (drop 2 (fields_of fields.now)) }
+{
+    for place in 2..fields.len() {
+        if !is_number(field(fields, place)) {
+            return false;
+        }
+    }
+    true
+}
+
+/// The verb with its arguments, which are as many as it has, and numbers.
+fn verb(word: Word, fields: &ByteRecord) -> Verb
+    requires arity { length (drop 2 (fields_of fields.now)) ≡ arity_of word }
+    requires numbers { IsTrue (list_all is_number_field (drop 2 (fields_of fields.now))) }
+    ensures { result ≡ verb_of word (drop 2 (fields_of fields.now)) }
+{
+    match word {
+        Word::Insert => Verb::Insert(number(field(fields, 2))),
+        Word::Remove => Verb::Remove(number(field(fields, 2))),
+        Word::Look => Verb::Look,
+        Word::Size => Verb::Size,
+        Word::Rank => Verb::Rank(number(field(fields, 2))),
+        Word::Range => Verb::Range(number(field(fields, 2)), number(field(fields, 3))),
+    }
+}
+
+/// The row, or its fault where its lane or its arguments are out of range or its lane has no update left.
+fn bounded(limits: &Limits, read: &RoundRows, row: Row) -> Result<Row, ScriptError>
+    ensures row { result ≡ bounded_row limits.now read.now row }
+    ensures lane { IfOk result (λ row. row.lane ≡ 0) }
+{
+    if row.lane >= limits.workers() || !row.verb.is_in_bounds(limits.bits()) {
+        return Err(ScriptError::OutOfRange(row.row));
+    }
+    if row.verb.is_update() && read.updates() >= limits.updates() as usize {
+        return Err(ScriptError::TooManyUpdates(row.row));
+    }
+    Ok(row)
+}
+
+/// The row of a record whose lane is known, or the first fault of its verb and its arguments.
+fn worded(
+    limits: &Limits,
+    read: &RoundRows,
+    lane: u32,
+    fields: &ByteRecord,
+) -> Result<Row, ScriptError>
+    ensures row { result ≡ worded_row limits.now read.now lane (drop 2 (fields_of fields.now)) (word_of (slice_index_or (fields_of fields.now) 1 [])) }
+    ensures lane { IfOk result (λ row. row.lane ≡ 0) }
+{
+    let number = read.next_number();
+    let Some(word) = Word::from_field(field(fields, 1)) else {
+        return Err(ScriptError::BadVerb(number));
+    };
+    if fields.len() != word.arity() + 2 {
+        return Err(ScriptError::BadArity(number));
+    }
+    if !are_arguments_numbers(fields) {
+        return Err(ScriptError::BadNumber(number));
+    }
+    let verb = verb(word, fields);
+    let row = Row {
+        row: number,
+        lane,
+        verb,
+    };
+    bounded(limits, read, row)
+}
+
+/// The row of the record behind those of its round that were read so far, or its first fault.
+pub(crate) fn judge(
+    limits: &Limits,
+    read: &RoundRows,
+    fields: &ByteRecord,
+) -> Result<Row, ScriptError>
+    ensures row { result ≡ row_of limits.now read.now (fields_of fields.now) }
+    ensures lane { IfOk result (λ row. row.lane ≡ 0) }
+{
+    let row_number = read.next_number();
+    if !are_fields_printable(fields) {
+        return Err(ScriptError::BadCsv(row_number));
+    }
+    let lane = field(fields, 0);
+    if is_star(lane) {
+        return Err(ScriptError::BadVerb(row_number));
+    }
+    if !is_number(lane) {
+        return Err(ScriptError::BadLane(row_number));
+    }
+    worded(limits, read, number(lane), fields)
+}

@@ -1,0 +1,42 @@
+//! Scripts, their replies and reports: bytes to rows, and reports to bytes.
+#![tactic(auto)]
+
+mod devices;
+mod fault_text;
+mod field;
+mod finishes;
+mod from_read;
+mod judge;
+mod limits;
+mod listed;
+mod memory;
+mod printing;
+mod reading;
+mod records;
+mod reply;
+mod report;
+mod round_rows;
+mod row;
+mod script_error;
+mod sending;
+mod to_write;
+mod verb;
+
+pub use aug_core::LayoutError;
+pub use devices::{Fault, Sink, Source};
+pub use fault_text::FaultText;
+pub use finishes::Finishes;
+pub use from_read::FromRead;
+pub use limits::Limits;
+pub use listed::Listed;
+pub use memory::{MemorySink, MemorySource};
+pub use printing::{PrintError, print};
+pub use reading::Script;
+pub use reply::Reply;
+pub use report::Report;
+pub use row::Row;
+pub use script_error::ScriptError;
+pub use sending::send;
+pub use to_write::ToWrite;
+pub use verb::Verb;
+pub(crate) use verb::Word;

@@ -1,0 +1,68 @@
+ghost use Rattle.std.specs.Prelude.{◌≡◌};
+
+use aug_model::Summary;
+use aug_monoid::{Extent, Sum};
+use std::fmt;
+
+/// What a row is answered.
+#[derive(Clone, Copy, Debug, PartialEq, Eq)]
+pub enum Reply {
+    /// An insertion was accepted.
+    New,
+    /// An insertion was refused: the key was in.
+    Old,
+    /// A removal was accepted.
+    Gone,
+    /// A removal was refused: the key was not in.
+    Absent,
+    /// A new snapshot was taken.
+    Looked,
+    /// The number that was asked for.
+    Number(u32),
+    /// What was asked of the members in a range.
+    Span(Summary<Sum, Extent>),
+}
+
+impl Reply {
+    ghost use Rattle.aug_script.specs.Replies.{is_insertion as is_insertion_reply, is_removal as is_removal_reply};
+
+    /// Whether an insertion was accepted.
+    pub fn is_insertion(&self) -> bool
+        ensures { result ≡ is_insertion_reply self.now }
+    {
+        matches!(self, Reply::New)
+    }
+
+    /// Whether a removal was accepted.
+    pub fn is_removal(&self) -> bool
+        ensures { result ≡ is_removal_reply self.now }
+    {
+        matches!(self, Reply::Gone)
+    }
+}
+
+impl fmt::Display for Reply {
+    ghost use Rattle.std.specs.Prelude.{Some};
+    ghost use Rattle.aug_script.specs.ReportText.{reply_text};
+
+    ghost output = { λ reply. Some (reply_text reply) };
+
+    fn fmt<W: fmt::Write>(&self, f: &mut fmt::Formatter<W>) -> fmt::Result {
+        match self {
+            Reply::New => write!(f, "new"),
+            Reply::Old => write!(f, "old"),
+            Reply::Gone => write!(f, "gone"),
+            Reply::Absent => write!(f, "none"),
+            Reply::Looked => write!(f, "ok"),
+            Reply::Number(number) => write!(f, "{number}"),
+            Reply::Span(summary) => {
+                let count = summary.count;
+                let sum = summary.a.value();
+                match summary.b.bounds() {
+                    Some((least, greatest)) => write!(f, "{count} {sum} {least} {greatest}"),
+                    None => write!(f, "{count} {sum} - -"),
+                }
+            }
+        }
+    }
+}

@@ -1,0 +1,118 @@
+//! A writer as a sink for bytes.
+ghost use Rattle.std.specs.Prelude.{◌≡◌, ◌+◌, ◌-◌, ◌^◌, ◌<◌, ◌≤◌, length, IfOk, is_ok, if◌then◌else◌};
+ghost use Rattle.std.specs.Io.KnownBytes.{Keeps, WriteAppends};
+
+use crate::{Fault, Finishes, Sink};
+use std::io::Write;
+
+/// A sink that hands its bytes to a writer. Each call of the writer that fails is a fault, also one that was
+/// interrupted, and so is a write that takes no byte of a piece that has some.
+#[derive(Debug, Drop)]
+pub struct ToWrite<W> {
+    writer: W,
+    faults: u64,
+    finishes: Finishes,
+}
+
+impl<W: Write> ToWrite<W> {
+    /// A sink over `writer` that has had no fault.
+    pub fn new(writer: W) -> ToWrite<W>
+        ensures bytes { ⟦<ToWrite<W> as Sink>⟧.contents result ≡ W.contents writer }
+        ensures none { ⟦<ToWrite<W> as Sink>⟧.fault_count result ≡ 0 }
+        ensures unfinished { ⟦<ToWrite<W> as Sink>⟧.finish_count result ≡ 0 }
+    {
+        ToWrite {
+            writer,
+            faults: 0,
+            finishes: Finishes::new(),
+        }
+    }
+
+    /// The writer, with all that it took.
+    pub fn into_inner(self) -> W
+        ensures { W.contents result ≡ ⟦<ToWrite<W> as Sink>⟧.contents self }
+    {
+        self.writer
+    }
+
+    // Counts a fault.
+    fn fault(&mut self) -> Fault
+        requires { self.old.faults < 2 ^ 64 - 1 }
+        ensures { self.new ≡ record self.old { faults = self.old.faults + 1 } }
+    {
+        self.faults += 1;
+        Fault
+    }
+}
+
+impl<W: Write> Sink for ToWrite<W> {
+    ghost contents = { λ s. W.contents s.writer };
+
+    ghost fault_count = { λ s. s.faults };
+
+    ghost finish_count = { λ s. s.finishes.calls };
+
+    fn write_some(&mut self, piece: &[u8]) -> Result<usize, Fault> {
+        match self.writer.write(piece) {
+            Ok(0) if !piece.is_empty() => Err(self.fault()),
+            Ok(count) => Ok(count),
+            Err(_) => Err(self.fault()),
+        }
+    }
+
+    fn finish(&mut self) -> Result<(), Fault> {
+        self.finishes = self.finishes.one_more();
+        match self.writer.flush() {
+            Ok(()) => Ok(()),
+            Err(_) => Err(self.fault()),
+        }
+    }
+
+    fn faults(&self) -> u64 {
+        self.faults
+    }
+}
+
+#[cfg(test)]
+mod tests {
+    use crate::{Fault, Sink, ToWrite};
+    use std::io;
+    use std::io::{ErrorKind, Write};
+    use std::test::Fail;
+
+    // A writer that takes no byte, and that is interrupted at each flush.
+    struct Full;
+
+    impl Write for Full {
+        fn write(&mut self, _: &[u8]) -> io::Result<usize> {
+            Ok(0)
+        }
+
+        fn flush(&mut self) -> io::Result<()> {
+            Err(io::Error::from(ErrorKind::Interrupted))
+        }
+    }
+
+    #[test]
+    fn hands_on_to_the_writer(rt: HostRuntime) -> Result<(), Fail> {
+        let mut sink = ToWrite::new(Vec::new(rt.alloc()));
+        assert_eq!(rt; sink.write_some(b"ab"), Ok(2));
+        assert_eq!(rt; sink.write_some(b"c"), Ok(1));
+        assert_eq!(rt; sink.finish(), Ok(()));
+        assert_eq!(rt; sink.faults(), 0);
+        assert_eq!(rt; sink.into_inner().as_slice(), b"abc".as_slice());
+        Ok(())
+    }
+
+    #[test]
+    fn a_write_that_takes_no_byte_is_a_fault(rt: HostRuntime) {
+        let mut sink = ToWrite::new(Full);
+        assert_eq!(rt; sink.write_some(b"ab"), Err(Fault));
+        assert_eq!(rt; sink.faults(), 1);
+        assert_eq!(rt; sink.write_some(b""), Ok(0));
+        assert_eq!(rt; sink.faults(), 1);
+        assert_eq!(rt; sink.finish(), Err(Fault));
+        assert_eq!(rt; sink.faults(), 2);
+        let Full = sink.into_inner();
+    }
+}

@@ -1,0 +1,112 @@
+ghost use Rattle.std.specs.Prelude.{◌≡◌, ◌≤◌};
+
+use std::fmt;
+
+/// What a row asks for. Keys are below `2^bits` in updates, and at most `2^bits` in queries.
+#[derive(Clone, Copy, Debug, PartialEq, Eq)]
+pub enum Verb {
+    /// Put a key in.
+    Insert(u32),
+    /// Take a key out.
+    Remove(u32),
+    /// Take a new snapshot, from which the lane's queries are answered from now on.
+    Look,
+    /// How many members the snapshot has.
+    Size,
+    /// How many members of the snapshot are below a key.
+    Rank(u32),
+    /// The number, the sum, the least and the greatest of the members from the first key on that are below the
+    /// second.
+    Range(u32, u32),
+}
+
+/// The word that names a verb in a script.
+#[derive(Clone, Copy, Debug, PartialEq, Eq)]
+pub(crate) enum Word {
+    Insert,
+    Remove,
+    Look,
+    Size,
+    Rank,
+    Range,
+}
+
+impl Word {
+    ghost use Rattle.aug_script.specs.Script.{word_of, arity_of};
+
+    /// The verb's word that a field is, if it is one.
+    pub(crate) fn from_field(field: &[u8]) -> Option<Word>
+        ensures { result ≡ word_of field.now }
+    {
+        if field == b"insert".as_slice() {
+            Some(Word::Insert)
+        } else if field == b"remove".as_slice() {
+            Some(Word::Remove)
+        } else if field == b"look".as_slice() {
+            Some(Word::Look)
+        } else if field == b"size".as_slice() {
+            Some(Word::Size)
+        } else if field == b"rank".as_slice() {
+            Some(Word::Rank)
+        } else if field == b"range".as_slice() {
+            Some(Word::Range)
+        } else {
+            None
+        }
+    }
+
+    /// How many arguments the verb has.
+    pub(crate) fn arity(self) -> usize
+        ensures { result ≡ arity_of self }
+    {
+        match self {
+            Word::Insert | Word::Remove | Word::Rank => 1,
+            Word::Look | Word::Size => 0,
+            Word::Range => 2,
+        }
+    }
+}
+
+impl Verb {
+    ghost use Rattle.aug_script.specs.Script.{is_in_bounds as is_in_bounds_of, is_update as is_update_of};
+
+    /// Whether the arguments are within their bounds, for keys of so many bits.
+    pub(crate) fn is_in_bounds(self, bits: u32) -> bool
+        requires { bits ≤ 16 }
+        ensures { result ≡ is_in_bounds_of bits self }
+    {
+        let universe = 1u32 << bits;
+        match self {
+            Verb::Insert(key) | Verb::Remove(key) => key < universe,
+            Verb::Rank(key) => key <= universe,
+            Verb::Range(from, to) => from <= universe && to <= universe,
+            Verb::Look | Verb::Size => true,
+        }
+    }
+
+    /// Whether this is `insert` or `remove`.
+    pub(crate) fn is_update(self) -> bool
+        ensures { result ≡ is_update_of self }
+    {
+        matches!(self, Verb::Insert(_) | Verb::Remove(_))
+    }
+}
+
+/// The word and the arguments, parted by blanks.
+impl fmt::Display for Verb {
+    ghost use Rattle.std.specs.Prelude.{Some};
+    ghost use Rattle.aug_script.specs.ReportText.{verb_text};
+
+    ghost output = { λ verb. Some (verb_text verb) };
+
+    fn fmt<W: fmt::Write>(&self, f: &mut fmt::Formatter<W>) -> fmt::Result {
+        match self {
+            Verb::Insert(key) => write!(f, "insert {key}"),
+            Verb::Remove(key) => write!(f, "remove {key}"),
+            Verb::Look => write!(f, "look"),
+            Verb::Size => write!(f, "size"),
+            Verb::Rank(key) => write!(f, "rank {key}"),
+            Verb::Range(from, to) => write!(f, "range {from} {to}"),
+        }
+    }
+}

@@ -1,0 +1,146 @@
+-- A crew as its round begins, and as it hands passes out.
+use Rattle.std.proofs.Common.{◌≡◌, ℕ, ◌+◌, ◌*◌, ◌%◌, ◌^◌, ◌<◌, ◌≤◌, List, [], ◌∷◌, length, sym, refl, ap, ◌∙◌, subst, arith}
+use Rattle.std.specs.Prelude.{unwrap_or, Some, map, Option, option_map}
+use Rattle.std.specs.List.{range_with_len}
+use Rattle.aug_model.specs.Keys.{IsKeySet}
+use Rattle.aug_core.specs.Places.{Shape, record_count}
+use Rattle.aug_core.specs.Counts.{changes_of}
+use Rattle.aug_core.specs.declared.view.Held.{Held}
+use Rattle.aug_core.proofs.PlaceLemmas.{keys-within}
+use Rattle.aug_core.specs.Layout.{IsLayout}
+use Rattle.aug_core.specs.Lanes.{first_record, lane_records}
+use Rattle.aug_core.specs.Tree.{root_place}
+use Rattle.aug_core.specs.Book.{history_of}
+use Rattle.aug_core.specs.Cuts.{Cut, opening_cut}
+use Rattle.aug_core.specs.EntryCuts.{root_cut}
+use Rattle.aug_core.specs.Opening.{Opening, opening_book}
+use Rattle.aug_core.specs.Rule.{newcomer}
+use Rattle.aug_core.specs.Told.{HoldsOnly, KnowsTable, LoadsNode, finishing, taking_back, handed_out, handing_out, taking, own_lane, own_lane_place}
+use Rattle.aug_core.specs.declared.view.Entry.{Entry}
+use Rattle.aug_core.specs.declared.view.View.{View}
+use Rattle.aug_core.proofs.Openings.{newcomer_knows, inner_history}
+use Rattle.aug_core.proofs.OpeningCuts.{root_inner, opening_first}
+use Rattle.atomic_table.specs.Seated.{TableId}
+use Rattle.aug_words.specs.Leads.{HandsLaneOut}
+use Rattle.aug_words.specs.Seats.{Known, AreTogether}
+use Rattle.aug_trie.specs.Counted.{HasCounts}
+use Rattle.aug_trie.specs.Goes.{HasLeaves}
+use Rattle.aug_trie.specs.Knows.{knows, root_history, KnowsRound}
+use Rattle.aug_trie.specs.Facts.{RoundFacts, PassFacts, IsPass, IsCrew, round_of, pass_facts}
+use Rattle.aug_trie.specs.Passes.{HandedBack}
+use Rattle.aug_trie.specs.Knowledge.{inserts_of, removals_of}
+use Rattle.aug_trie.specs.Crews.{CrewFacts, crew_facts, HoldsCrew, HandsOut, TakesBack}
+use Rattle.aug_trie.proofs.Counters.{counted_none, is_insertion, is_removal}
+use Rattle.aug_trie.proofs.Counting.{hits-append}
+use Rattle.aug_trie.proofs.Handing.{crew_begins, handed_out_is, handed_back_is, crew_after, pass_table, pass_begins, crew_out, loaded_table}
+
+module _ (face : ℕ → ℕ → List ℕ → List ℕ) where
+  -- the lead of a table that was just opened
+  module _ (o : Opening) (laid_out : IsLayout o.shape) (set : IsKeySet o.shape.bits o.members) (few : length o.members ≤ o.shape.members) where
+    pub begins_crew : HoldsCrew face (newcomer face o) 0 0 0
+    begins_crew = record {
+      handed = 0;
+      is_crew = crew_begins face (newcomer face o) (newcomer_knows face o laid_out set few) refl refl;
+      few = omega arith;
+      back_is = refl;
+      inserts_are = refl;
+      removals_are = refl;
+    }
+
+    -- knows the opening cut alone
+    pub begins_history : root_history o.shape (opening_book face o) ≡ opening_cut o.shape.bits o.members ∷ []
+    begins_history = let some = laid_out.bits.0 in
+        ap (λ (z : List Entry). map (root_cut o.shape (opening_book face o)) (range_with_len 0 (length z))) (inner_history face o (root_place o.shape) (root_inner face o some))
+        ∙ ap (λ (z : Cut). z ∷ []) (opening_first face o some)
+
+  -- a lead that loads the root and hands a lane out
+  module _ (old b : View) (r back inserts removals place : ℕ) (c : HoldsCrew face old back inserts removals) (l : LoadsNode face old (root_place old.shape) r b) where
+    abbrev new : View
+    new = handing_out b
+
+    abbrev pass : View
+    pass = taking (handed_out b) place
+
+    same_shape : b.shape ≡ old.shape
+    same_shape = ap (λ (z : View). z.shape) l.stepped
+
+    same_members : b.members ≡ old.members
+    same_members = ap (λ (z : View). z.members) l.stepped
+
+    same_spare : b.spare ≡ old.spare
+    same_spare = ap (λ (z : View). z.spare) l.stepped
+
+    same_held : b.held ≡ old.held
+    same_held = ap (λ (z : View). z.held) l.stepped
+
+    -- is a crew still
+    pub hands_crew : c.handed < old.shape.workers → HoldsCrew face new back inserts removals
+    hands_crew low = record {
+      handed = c.handed + 1;
+      is_crew = subst (IsCrew face new (c.handed + 1)) (sym (ap (λ (z : List Held). length z) same_held)) (crew_out face old b r c.is_crew.knows_table l c.handed (length old.held) c.is_crew);
+      few = let e : b.shape.workers ≡ old.shape.workers = ap (λ (z : Shape). z.workers) same_shape in omega arith;
+      back_is = c.back_is ∙ ap (λ (z : List Held). length z % 2 ^ 32) (sym same_held);
+      inserts_are = c.inserts_are ∙ ap (λ (z : List Held). inserts_of (changes_of z) % 2 ^ 32) (sym same_held);
+      removals_are = c.removals_are ∙ ap (λ (z : List Held). removals_of (changes_of z) % 2 ^ 32) (sym same_held);
+    }
+
+    -- the pass has its lane's records, and no change
+    pub hands_pass : (s : Shape) (lane leaves next : ℕ) → old.shape ≡ s → old.spare ≡ Some lane → leaves ≡ 2 ^ s.bits → next ≡ first_record s lane → next + lane_records s ≤ record_count s → IsPass face pass leaves s.bits next s.updates
+    hands_pass s lane leaves next shaped spare full first within = let kn = c.is_crew.knows_table.laid_out in let to_s : b.shape ≡ s = same_shape ∙ shaped in
+        let laid : IsLayout s = subst IsLayout shaped kn in let words = laid.words in let few = keys-within s.bits laid.bits.0 laid.bits.1 in
+        let small : first_record s lane + s.updates * s.bits < 2 ^ 60 = omega arith in
+        subst (λ (z : ℕ). IsPass face pass leaves s.bits z s.updates) (sym first) (subst (λ (z : Shape × Option ℕ). IsPass face pass leaves z.0.bits (first_record z.0 (unwrap_or z.1 0)) z.0.updates) (λ i. (to_s i, (same_spare ∙ spare) i))
+        (pass_begins face b place leaves (pass_table face old b r c.is_crew.knows_table l place) (subst (λ (z : Shape). HasLeaves z leaves) (sym to_s) (record { are = full; few = omega arith }))
+        (subst (λ (z : Shape × Option ℕ). first_record z.0 (unwrap_or z.1 0) + z.0.updates * z.0.bits < 2 ^ 60) (λ i. (sym to_s i, sym (same_spare ∙ spare) i)) small)))
+
+    pub hands_counts : HasCounts (changes_of pass.held) 0 0
+    hands_counts = counted_none
+
+    -- what contracts see of it
+    pub hands_out_is : (table : TableId) (left : ℕ) → c.handed < old.shape.workers → left ≡ old.shape.updates → KnowsRound pass → HandsOut (crew_facts (record { table = table; view = old })) (crew_facts (record { table = table; view = new })) (pass_facts (record { table = table; view = pass }) left)
+    hands_out_is table left low full known = let out = c.is_crew.hands_out in let at : unwrap_or old.spare 0 ≡ c.handed = ap (λ (z : Option ℕ). unwrap_or z 0) out in record {
+      knows = handed_out_is face old b r c.is_crew.knows_table l place;
+      round = λ i. round_of table (record old { shape = same_shape i; members = same_members i });
+      pass_round = λ i. round_of table (record old { shape = same_shape i; members = same_members i });
+      next_lane = ap (λ (z : Option ℕ). unwrap_or z 0) same_spare;
+      exists = omega arith;
+      one_more = ap (λ (z : Option ℕ). unwrap_or (option_map (λ n. n + 1) z) 0) (same_spare ∙ out) ∙ ap (λ n. n + 1) (sym at);
+      same_back = ap (λ (z : List Held). length z) same_held;
+      fresh = let e : b.shape.updates ≡ old.shape.updates = ap (λ (z : Shape). z.updates) same_shape in omega arith;
+      knowledge = record { is_history = known.is_history; stands = known.stands };
+    }
+
+  -- a lead that took a pass in and loaded the root
+  module _ (old p w : View) (place r back inserts removals more less : ℕ) (c : HoldsCrew face old back inserts removals) (lane : Held) (only : HoldsOnly p lane) (one_shape : p.shape ≡ old.shape) (kp : KnowsTable face p) (known : KnowsRound p)
+      (counts : HasCounts (changes_of p.held) more less) (l : LoadsNode face (taking_back old (finishing p place)) (root_place old.shape) r w) where
+    back_knows : HandedBack (knows old) (knows p) (knows w)
+    back_knows = handed_back_is face old p w place r lane c.is_crew.knows_table kp one_shape only l
+
+    one_back : length w.held ≡ length old.held + 1
+    one_back = (crew_after face old p w place r lane c.is_crew.knows_table kp one_shape only l c.handed (length old.held) c.is_crew known).took_back
+
+    back_inserts : inserts_of (changes_of w.held) ≡ inserts_of (changes_of old.held) + more
+    back_inserts = ap inserts_of back_knows.changes_of_both ∙ hits-append is_insertion (changes_of old.held) (changes_of p.held) ∙ (let e = counts.inserts_are in omega arith)
+
+    back_removals : removals_of (changes_of w.held) ≡ removals_of (changes_of old.held) + less
+    back_removals = ap removals_of back_knows.changes_of_both ∙ hits-append is_removal (changes_of old.held) (changes_of p.held) ∙ (let e = counts.removals_are in omega arith)
+
+    -- is a crew still
+    pub back_crew : (b i d : ℕ) → b ≡ (back + 1) % 2 ^ 32 → i ≡ (inserts + more) % 2 ^ 32 → d ≡ (removals + less) % 2 ^ 32 → HoldsCrew face w b i d
+    back_crew b i d is_b is_i is_d = let after = crew_after face old p w place r lane c.is_crew.knows_table kp one_shape only l c.handed (length old.held) c.is_crew known in record {
+      handed = c.handed;
+      is_crew = subst (IsCrew face w c.handed) (sym one_back) after;
+      few = let e : w.shape.workers ≡ old.shape.workers = ap (λ (z : View). z.shape.workers) l.stepped in let f = c.few in omega arith;
+      back_is = let e = one_back in let o = c.back_is in omega arith;
+      inserts_are = let e = back_inserts in let o = c.inserts_are in omega arith;
+      removals_are = let e = back_removals in let o = c.removals_are in omega arith;
+    }
+
+    -- what contracts see of it
+    pub takes_back_is : (table other : TableId) (left : ℕ) → TakesBack (crew_facts (record { table = table; view = old })) (crew_facts (record { table = table; view = w })) (pass_facts (record { table = other; view = p }) left)
+    takes_back_is table other left = record {
+      knows = back_knows;
+      round = ap (λ (z : View). round_of table z) l.stepped;
+      one_more = one_back;
+      same_handed = ap (λ (z : View). unwrap_or z.spare 0) l.stepped;
+    }

@@ -1,0 +1,230 @@
+-- How the steps of a pass go together.
+use Rattle.std.proofs.Common.{◌≡◌, ℕ, zero, suc, ◌+◌, ◌-◌, ◌<◌, ◌≤◌, false, List, [], ◌∷◌, ◌++◌, length, append_assoc, length-append, length-set, sym, refl, ap, ◌∙◌, subst, arith}
+use Rattle.std.proofs.lemmas.List.{append-nil}
+use Rattle.std.proofs.lemmas.List.Elements.{All-nil, All-cons, All-append}
+use mathlib.Core.Option.{some, some-injective}
+use lib.ListN.{get_elem?}
+use Rattle.aug_core.specs.Places.{Shape}
+use Rattle.aug_core.specs.Lanes.{first_record, lane_records, block_start, block_size}
+use Rattle.aug_core.specs.Book.{IsFresh}
+use Rattle.aug_core.specs.Rule.{Lists}
+use Rattle.aug_core.specs.Counts.{change, changes_of}
+use Rattle.aug_core.specs.Told.{HoldsOnly, own_lane, on_first, with_word, with_published, with_change, stepping, storing, seeing, beginning, publishing, changing, KnowsTable, MayStore, MayChange, Sees}
+use Rattle.aug_core.specs.declared.step.StepTaken.{StepTaken}
+use Rattle.aug_core.specs.declared.view.Change.{Change}
+use Rattle.aug_core.specs.declared.view.Held.{Held}
+use Rattle.aug_core.specs.declared.view.View.{View}
+use Rattle.aug_core.proofs.Books.{fresh_now, fresh_on}
+use Rattle.aug_core.proofs.Fits.{knows_shown, knows_same}
+use Rattle.aug_trie.specs.Goes.{tries_leaf, IsFree, HasRoom, Took, TookBetween, Goes}
+
+-- ---- steps, one after another
+
+abbrev quiet : StepTaken → Type 0
+quiet taken = tries_leaf taken.kind ≡ false
+
+pub took_none : (v w : View) → w.steps ≡ v.steps → Took v w 0
+took_none v w is = record { more = []; steps = is ∙ sym (append-nil v.steps); count = refl; no_try = All-nil quiet }
+
+pub took_one : (v w : View) (taken : StepTaken) → tries_leaf taken.kind ≡ false → w.steps ≡ v.steps ++ taken ∷ [] → Took v w 1
+took_one v w taken other is = record { more = taken ∷ []; steps = is; count = refl; no_try = All-cons quiet taken [] other (All-nil quiet) }
+
+pub took_on : (u v w : View) (m n k : ℕ) → m + n ≡ k → Took u v m → Took v w n → Took u w k
+took_on u v w m n k total a b = let x = a.count in let y = b.count in record {
+  more = a.more ++ b.more;
+  steps = b.steps ∙ ap (λ (z : List StepTaken). z ++ b.more) a.steps ∙ append_assoc u.steps a.more b.more;
+  count = length-append a.more b.more ∙ (let e : length a.more + length b.more ≡ k = omega arith in e);
+  no_try = All-append quiet a.more b.more a.no_try b.no_try;
+}
+
+pub between_on : (u v w : View) (a b c d m n : ℕ) → m ≤ a + c → b + d ≤ n → TookBetween u v a b → TookBetween v w c d → TookBetween u w m n
+between_on u v w a b c d m n le ge x y = let xl = x.least_steps in let xm = x.most_steps in let yl = y.least_steps in let ym = y.most_steps in
+    record { steps = x.steps + y.steps; least_steps = omega arith; most_steps = omega arith; took = took_on u v w x.steps y.steps (x.steps + y.steps) refl x.took y.took }
+
+-- ---- the first lane, and the changes of all
+
+own_lane_on : (f : Held → Held) (held : List Held) → ((h : Held) → (f h).lane ≡ h.lane) → own_lane (on_first f held) ≡ own_lane held
+own_lane_on f [] keeps = refl
+own_lane_on f (h ∷ hs) keeps = keeps h
+
+changes_on : (f : Held → Held) (held : List Held) → ((h : Held) → (f h).changes ≡ h.changes) → changes_of (on_first f held) ≡ changes_of held
+changes_on f [] keeps = refl
+changes_on f (h ∷ hs) keeps = ap (λ (z : List Change). z ++ changes_of hs) (keeps h)
+
+pub only_changes : (v : View) (h : Held) → HoldsOnly v h → changes_of v.held ≡ h.changes
+only_changes v h only = ap changes_of only ∙ append-nil h.changes
+
+-- a free record may be stored
+pub may_store : (v : View) (next n : ℕ) → IsFree v next → next ≤ n → n < first_record v.shape (own_lane v.held) + lane_records v.shape → MayStore v n
+may_store v next n is_free past below = let lane : own_lane v.held ≡ is_free.lane.lane = ap own_lane is_free.only in record {
+  lane = is_free.lane;
+  only = is_free.only;
+  of_lane = let first = is_free.from_first in let b = subst (λ (z : ℕ). n < first_record v.shape z + lane_records v.shape) lane below in record { from_first = omega arith; below_next = b };
+  unpublished = is_free.unpublished n past;
+}
+
+pub may_store_room : (v : View) (number : ℕ) → HasRoom v number 1 → MayStore v number
+may_store_room v number r = let room = r.room in may_store v number number r.is_free (omega arith) (omega arith)
+
+-- the pass may try a leaf, while it has updates left
+pub may_change : (v : View) (next records : ℕ) → HasRoom v next records → length (changes_of v.held) < v.shape.updates → MayChange v
+may_change v next records r few = let f = r.is_free in record { lane = f.lane; only = f.only; room = subst (λ (z : List Change). length z < v.shape.updates) (only_changes v f.lane f.only) few }
+
+module _ (face : ℕ → ℕ → List ℕ → List ℕ) where
+  pub goes_self : (v : View) → KnowsTable face v → Goes face 0 [] v v
+  goes_self v kn = record {
+    later = λ q i e p. p;
+    fresh = fresh_now v.shape v.seen;
+    knows_table = kn;
+    shaped = refl;
+    same_members = refl;
+    lane = refl;
+    changes = sym (append-nil (changes_of v.held));
+    still_free = λ n _ is_free. is_free;
+  }
+
+  -- steps after steps
+  pub goes_after : (a b c : ℕ) (gained more all : List Change) (u v w : View) → a ≤ c → b ≤ c → gained ++ more ≡ all → Goes face a gained u v → Goes face b more v w → Goes face c all u w
+  goes_after a b c gained more all u v w ac bc total x y = record {
+    later = λ q i e p. y.later q i e (x.later q i e p);
+    fresh = fresh_on u.shape u.seen v.seen w.seen x.later y.later x.fresh (subst (λ (z : Shape). IsFresh z w.seen v.seen) x.shaped y.fresh);
+    knows_table = y.knows_table;
+    shaped = y.shaped ∙ x.shaped;
+    same_members = y.same_members ∙ x.same_members;
+    lane = y.lane ∙ x.lane;
+    changes = y.changes ∙ ap (λ (z : List Change). z ++ more) x.changes ∙ append_assoc (changes_of u.held) gained more ∙ ap (λ (z : List Change). changes_of u.held ++ z) total;
+    still_free = λ n past is_free. y.still_free n (omega arith) (x.still_free n (omega arith) is_free);
+  }
+
+  -- steps that gain no change, after others
+  pub goes_on : (a b c : ℕ) (gained : List Change) (u v w : View) → a ≤ c → b ≤ c → Goes face a gained u v → Goes face b [] v w → Goes face c gained u w
+  goes_on a b c gained u v w ac bc x y = goes_after a b c gained [] gained u v w ac bc (append-nil gained) x y
+
+  pub goes_more : (a c : ℕ) (gained : List Change) (v w : View) → a ≤ c → Goes face a gained v w → Goes face c gained v w
+  goes_more a c gained v w le g = record { later = g.later; fresh = g.fresh; knows_table = g.knows_table; shaped = g.shaped; same_members = g.same_members; lane = g.lane; changes = g.changes; still_free = λ n past f. g.still_free n (omega arith) f }
+
+  -- a view that only made a step
+  pub goes_stepping : (v w : View) (taken : StepTaken) → w ≡ stepping v taken → KnowsTable face v → Goes face 0 [] v w
+  goes_stepping v w taken is kn = subst (Goes face 0 [] v) (sym is) record {
+    later = λ q i e p. p;
+    fresh = fresh_now v.shape v.seen;
+    knows_table = knows_same face v v.live v.also v.held v.spare v.began (v.steps ++ taken ∷ []) kn;
+    shaped = refl;
+    same_members = refl;
+    lane = refl;
+    changes = sym (append-nil (changes_of v.held));
+    still_free = λ n _ f. record { lane = f.lane; only = f.only; from_first = f.from_first; unpublished = f.unpublished; long = f.long };
+  }
+
+  -- one that stored a word of its lane
+  pub goes_storing : (v w : View) (place value : ℕ) → w ≡ storing v place value → KnowsTable face v → Goes face 0 [] v w
+  goes_storing v w place value is kn = let f' : Held → Held = with_word v.shape place value in subst (Goes face 0 [] v) (sym is) record {
+    later = λ q i e p. p;
+    fresh = fresh_now v.shape v.seen;
+    knows_table = knows_same face v v.live v.also (storing v place value).held v.spare v.began (storing v place value).steps kn;
+    shaped = refl;
+    same_members = refl;
+    lane = own_lane_on (with_word v.shape place value) v.held (λ h. refl);
+    changes = changes_on (with_word v.shape place value) v.held (λ h. refl) ∙ sym (append-nil (changes_of v.held));
+    still_free = λ n _ f. record { lane = with_word v.shape place value f.lane; only = ap (on_first (with_word v.shape place value)) f.only; from_first = f.from_first; unpublished = f.unpublished; long = length-set f.lane.words (place - block_start v.shape f.lane.lane) value ∙ f.long };
+  }
+
+  -- what is free stays so for another that holds the same lanes
+  free_same : (v w : View) (n : ℕ) → w.shape ≡ v.shape → w.held ≡ v.held → IsFree v n → IsFree w n
+  free_same v w n shaped held f = record {
+    lane = f.lane;
+    only = held ∙ f.only;
+    from_first = subst (λ (z : Shape). first_record z f.lane.lane ≤ n) (sym shaped) f.from_first;
+    unpublished = f.unpublished;
+    long = subst (λ (z : Shape). length f.lane.words ≡ block_size z) (sym shaped) f.long;
+  }
+
+  goes_shown : (v w : View) → w.shape ≡ v.shape → w.members ≡ v.members → w.held ≡ v.held → KnowsTable face v → Sees face v w → Goes face 0 [] v w
+  goes_shown v w shaped same held kn sees = record {
+    later = sees.later;
+    fresh = sees.fresh;
+    knows_table = knows_shown face v w kn sees shaped same;
+    shaped = shaped;
+    same_members = same;
+    lane = ap own_lane held;
+    changes = ap changes_of held ∙ sym (append-nil (changes_of v.held));
+    still_free = λ n _ f. free_same v w n shaped held f;
+  }
+
+  -- a view that was shown the whole book
+  pub goes_seeing : (v w : View) (taken : StepTaken) → w ≡ seeing v w.seen taken → KnowsTable face v → Sees face v w → Goes face 0 [] v w
+  goes_seeing v w taken is kn sees = goes_shown v w (ap (λ (z : View). z.shape) is) (ap (λ (z : View). z.members) is) (ap (λ (z : View). z.held) is) kn sees
+
+  -- and one that began an update with it
+  pub goes_beginning : (v w : View) (taken : StepTaken) → w ≡ beginning v w.seen taken → KnowsTable face v → Sees face v w → Goes face 0 [] v w
+  goes_beginning v w taken is kn sees = goes_shown v w (ap (λ (z : View). z.shape) is) (ap (λ (z : View). z.members) is) (ap (λ (z : View). z.held) is) kn sees
+
+  -- a view that published a record
+  pub goes_publishing : (v w : View) (number : ℕ) (taken : StepTaken) → w ≡ publishing v w.seen number taken → KnowsTable face v → Sees face v w → Goes face (number + 1) [] v w
+  goes_publishing v w number taken is kn sees = let shaped : w.shape ≡ v.shape = ap (λ (z : View). z.shape) is in let same : w.members ≡ v.members = ap (λ (z : View). z.members) is in
+      let held : w.held ≡ on_first (with_published number) v.held = ap (λ (z : View). z.held) is in record {
+        later = sees.later;
+        fresh = sees.fresh;
+        knows_table = knows_shown face v w kn sees shaped same;
+        shaped = shaped;
+        same_members = same;
+        lane = ap own_lane held ∙ own_lane_on (with_published number) v.held (λ h. refl);
+        changes = ap changes_of held ∙ changes_on (with_published number) v.held (λ h. refl) ∙ sym (append-nil (changes_of v.held));
+        still_free = λ n past f. record {
+          lane = with_published number f.lane;
+          only = held ∙ ap (on_first (with_published number)) f.only;
+          from_first = subst (λ (z : Shape). first_record z f.lane.lane ≤ n) (sym shaped) f.from_first;
+          unpublished = λ m above listed. one_more f.lane.published number n m past above (f.unpublished m above) listed.0 listed.1;
+          long = subst (λ (z : Shape). length f.lane.words ≡ block_size z) (sym shaped) f.long;
+        };
+      }
+    where
+      one_more : (l : List ℕ) (number n m : ℕ) → number + 1 ≤ n → n ≤ m → (Lists l m → ⊥) → (i : ℕ) → get_elem? (number ∷ l) i ≡ some m → ⊥
+      one_more l number n m past above not zero e = let same : number ≡ m = some-injective number m e in omega arith
+      one_more l number n m past above not (suc i) e = not (i, e)
+
+  -- a view whose change was accepted
+  pub goes_changing : (v w : View) (key serial : ℕ) (taken : StepTaken) (h : Held) → HoldsOnly v h → w ≡ changing v w.seen key serial taken → KnowsTable face v → Sees face v w → Goes face 0 (change key serial ∷ []) v w
+  goes_changing v w key serial taken h only is kn sees = let shaped : w.shape ≡ v.shape = ap (λ (z : View). z.shape) is in let same : w.members ≡ v.members = ap (λ (z : View). z.members) is in
+      let held : w.held ≡ on_first (with_change key serial) v.held = ap (λ (z : View). z.held) is in
+      let new : HoldsOnly w (with_change key serial h) = held ∙ ap (on_first (with_change key serial)) only in record {
+        later = sees.later;
+        fresh = sees.fresh;
+        knows_table = knows_shown face v w kn sees shaped same;
+        shaped = shaped;
+        same_members = same;
+        lane = ap own_lane held ∙ own_lane_on (with_change key serial) v.held (λ h. refl);
+        changes = only_changes w (with_change key serial h) new ∙ ap (λ (z : List Change). z ++ change key serial ∷ []) (sym (only_changes v h only));
+        still_free = λ n past f. record {
+          lane = with_change key serial f.lane;
+          only = held ∙ ap (on_first (with_change key serial)) f.only;
+          from_first = subst (λ (z : Shape). first_record z f.lane.lane ≤ n) (sym shaped) f.from_first;
+          unpublished = f.unpublished;
+          long = subst (λ (z : Shape). length f.lane.words ≡ block_size z) (sym shaped) f.long;
+        };
+      }
+
+  -- ---- records that are left
+
+  -- the room that is left after some records were used
+  pub room_left : (v w : View) (number done all more : ℕ) (gained : List Change) → done + more ≤ all → Goes face (number + done) gained v w → HasRoom v number all → HasRoom w (number + done) more
+  room_left v w number done all more gained enough g r = record {
+    is_free = let f = r.is_free in let first = f.from_first in
+        g.still_free (number + done) (omega arith) record { lane = f.lane; only = f.only; from_first = omega arith; unpublished = λ n past. f.unpublished n (omega arith); long = f.long };
+    room = subst (λ (z : Shape × ℕ). number + done + more ≤ first_record z.0 z.1 + lane_records z.0) (λ i. (sym g.shaped i, sym g.lane i)) (let room = r.room in omega arith);
+  }
+
+  -- the room of a record that was not published
+  pub room_again : (v w : View) (number used : ℕ) → Goes face used [] v w → IsFree w number → HasRoom v number 1 → HasRoom w number 1
+  room_again v w number used g is_free r = record { is_free = is_free; room = subst (λ (z : Shape × ℕ). number + 1 ≤ first_record z.0 z.1 + lane_records z.0) (λ i. (sym g.shaped i, sym g.lane i)) r.room }
+
+  -- steps that published nothing leave all the room
+  pub room_on : (gained : List Change) (v w : View) (next records : ℕ) → Goes face 0 gained v w → HasRoom v next records → HasRoom w next records
+  room_on gained v w next records g r = record {
+    is_free = g.still_free next (omega arith) r.is_free;
+    room = subst (λ (z : Shape × ℕ). next + records ≤ first_record z.0 z.1 + lane_records z.0) (λ i. (sym g.shaped i, sym g.lane i)) r.room;
+  }
+
+-- the records from a later one on are free too
+pub free_from : (v : View) (next later : ℕ) → next ≤ later → IsFree v next → IsFree v later
+free_from v next later le f = let first = f.from_first in record { lane = f.lane; only = f.only; from_first = omega arith; unpublished = λ n up listed. f.unpublished n (omega arith) listed; long = f.long }

@@ -1,0 +1,133 @@
+-- What a lead knows as it hands a lane out and takes a pass back.
+use Rattle.std.proofs.Common.{◌≡◌, ℕ, ◌+◌, ◌*◌, ◌^◌, ◌<◌, List, [], ◌++◌, length, length-append, All, sym, refl, ap, ◌∙◌, subst, arith}
+use Rattle.std.specs.Prelude.{unwrap_or, Some}
+use Rattle.std.proofs.lemmas.List.{length-replicate}
+use Rattle.std.proofs.lemmas.List.Elements.{All-nil, All-append}
+use mathlib.Core.Option.{some-ne-none}
+use Rattle.aug_core.specs.Tree.{root_place}
+use Rattle.aug_core.specs.Lanes.{first_record, block_size, lane_records}
+use Rattle.aug_core.specs.Counts.{changes_of}
+use Rattle.aug_core.specs.Told.{HoldsOnly, KnowsTable, LoadsNode, in_state, on_first, new_lane, handing_out, handed_out, taking, finishing, taking_back}
+use Rattle.aug_core.specs.declared.view.Change.{Change}
+use Rattle.aug_core.specs.declared.view.Held.{Held}
+use Rattle.aug_core.specs.declared.view.View.{View}
+use Rattle.aug_core.proofs.Fits.{knows_shown, knows_same}
+use Rattle.aug_trie.specs.Goes.{HasRoom, HasLeaves}
+use Rattle.aug_trie.specs.History.{last_cut}
+use Rattle.aug_trie.specs.Knowledge.{StandsIn}
+use Rattle.aug_trie.specs.Passes.{HandedOut, HandedBack}
+use Rattle.aug_trie.specs.Knows.{knows, KnowsRound}
+use Rattle.aug_trie.specs.Facts.{IsPass, IsCrew}
+use Rattle.aug_trie.proofs.Histories.{is_history}
+use Rattle.aug_trie.proofs.Accepting.{knows_on, stands_on}
+use Rattle.aug_trie.proofs.Pieces.{either_begins, changes-append}
+
+module _ (face : ℕ → ℕ → List ℕ → List ℕ) where
+  -- the lead of a new table is a crew
+  pub crew_begins : (v : View) → KnowsTable face v → v.held ≡ [] → v.spare ≡ Some 0 → IsCrew face v 0 0
+  crew_begins v kn none first = record {
+    knows_table = kn;
+    hands_out = first;
+    took_back = ap length none;
+    knowledge = record { is_history = is_history face v kn; stands = subst (All (StandsIn (last_cut (knows v).history))) (ap changes_of (sym none)) (All-nil (StandsIn (last_cut (knows v).history))) };
+  }
+
+  -- a lead that loads the root knows what it shows
+  module _ (v w : View) (r : ℕ) (kn : KnowsTable face v) (t : LoadsNode face v (root_place v.shape) r w) where
+    same_shape : w.shape ≡ v.shape
+    same_shape = ap (λ (z : View). z.shape) t.stepped
+
+    pub loaded_table : KnowsTable face w
+    loaded_table = knows_shown face v w kn t.sees same_shape (ap (λ (z : View). z.members) t.stepped)
+
+    loaded_changes : changes_of w.held ≡ changes_of v.held
+    loaded_changes = ap (λ (z : View). changes_of z.held) t.stepped
+
+    pub loaded_knowledge : KnowsRound v → KnowsRound w
+    loaded_knowledge k = record {
+      is_history = is_history face w loaded_table;
+      stands = subst (All (StandsIn (last_cut (knows w).history))) (sym loaded_changes) (stands_on face v w (changes_of v.held) kn loaded_table same_shape t.sees.later k.stands);
+    }
+
+    -- then it hands a lane out: the new pass knows what its lead then knows, and no change
+    pub handed_out_is : (place : ℕ) → HandedOut (knows v) (knows (handing_out w)) (knows (taking (handed_out w) place))
+    handed_out_is place = record { goes_on = knows_on face v w kn same_shape t.sees.later; same_changes = loaded_changes; same_history = refl; no_change = refl }
+
+    pub pass_table : (place : ℕ) → KnowsTable face (taking (handed_out w) place)
+    pass_table place = let p : View = taking (handed_out w) place in knows_same face w p.live p.also p.held p.spare p.began p.steps loaded_table
+
+    pub crew_out : (handed back : ℕ) → IsCrew face v handed back → IsCrew face (handing_out w) (handed + 1) back
+    crew_out handed back c = let p : View = handing_out w in record {
+      knows_table = knows_same face w p.live p.also p.held p.spare p.began p.steps loaded_table;
+      hands_out = ap (λ (z : View). (handing_out z).spare) t.stepped ∙ ap (λ z. (handing_out record v { spare = z }).spare) c.hands_out;
+      took_back = ap (λ (z : View). length z.held) t.stepped ∙ c.took_back;
+      knowledge = let k = loaded_knowledge c.knowledge in record { is_history = k.is_history; stands = k.stands };
+    }
+
+  -- all records of the new pass's lane are free
+  pub pass_room : (v : View) (place : ℕ) → HasRoom (taking (handed_out v) place) (first_record v.shape (unwrap_or v.spare 0)) (lane_records v.shape)
+  pass_room v place = record {
+    is_free = record {
+      lane = in_state 1 (new_lane v.shape (unwrap_or v.spare 0));
+      only = refl;
+      from_first = omega arith;
+      unpublished = λ n up listed. some-ne-none n (sym listed.1);
+      long = length-replicate (block_size v.shape) 0;
+    };
+    room = omega arith;
+  }
+
+  -- so it is a pass, with all its updates
+  pub pass_begins : (v : View) (place leaves : ℕ) → KnowsTable face (taking (handed_out v) place) → HasLeaves v.shape leaves → first_record v.shape (unwrap_or v.spare 0) + v.shape.updates * v.shape.bits < 2 ^ 60 → IsPass face (taking (handed_out v) place) leaves v.shape.bits (first_record v.shape (unwrap_or v.spare 0)) v.shape.updates
+  pass_begins v place leaves kn l small = let p : View = taking (handed_out v) place in record {
+    leaves_are = record { are = l.are; few = l.few };
+    bits_are = refl;
+    knows_table = kn;
+    room = pass_room v place;
+    budget = omega arith;
+    small = small;
+    knowledge = record { is_history = is_history face p kn; stands = All-nil (StandsIn (last_cut (knows p).history)) };
+  }
+
+  finished_changes : (p : View) (h : Held) → HoldsOnly p h → changes_of (on_first (in_state 2) p.held) ≡ changes_of p.held
+  finished_changes p h only = ap (λ (z : List Held). changes_of (on_first (in_state 2) z)) only ∙ sym (ap changes_of only)
+
+  -- a pass that was taken back, and the load of the root after it
+  module _ (v p w : View) (place r : ℕ) (lane : Held) (kv : KnowsTable face v) (kp : KnowsTable face p) (one_shape : p.shape ≡ v.shape) (only : HoldsOnly p lane)
+      (t : LoadsNode face (taking_back v (finishing p place)) (root_place v.shape) r w) where
+    back_shape : w.shape ≡ v.shape
+    back_shape = ap (λ (z : View). z.shape) t.stepped
+
+    pass_shape : w.shape ≡ p.shape
+    pass_shape = back_shape ∙ sym one_shape
+
+    pub back_table : KnowsTable face w
+    back_table = let u : View = taking_back v (finishing p place) in
+        knows_shown face u w (knows_same face v u.live u.also u.held u.spare u.began u.steps kv) t.sees back_shape (ap (λ (z : View). z.members) t.stepped)
+
+    all_changes : changes_of w.held ≡ changes_of v.held ++ changes_of p.held
+    all_changes = ap (λ (z : View). changes_of z.held) t.stepped ∙ changes-append v.held (on_first (in_state 2) p.held) ∙ ap (λ (z : List Change). changes_of v.held ++ z) (finished_changes p lane only)
+
+    -- the lead knows what both knew
+    pub handed_back_is : HandedBack (knows v) (knows p) (knows w)
+    handed_back_is = let a = knows_on face v w kv back_shape t.sees.later in let b = knows_on face p w kp pass_shape t.sees.also_later in
+        record { one_piece = either_begins (knows v).history (knows p).history (knows w).history a b; goes_on = a; takes_up = b; changes_of_both = all_changes }
+
+    -- and it is knowledge
+    pub back_knowledge : KnowsRound v → KnowsRound p → KnowsRound w
+    back_knowledge k k' = record {
+      is_history = is_history face w back_table;
+      stands = subst (All (StandsIn (last_cut (knows w).history))) (sym all_changes) (All-append (StandsIn (last_cut (knows w).history)) (changes_of v.held) (changes_of p.held)
+          (stands_on face v w (changes_of v.held) kv back_table back_shape t.sees.later k.stands)
+          (stands_on face p w (changes_of p.held) kp back_table pass_shape t.sees.also_later k'.stands));
+    }
+
+    -- it took one more back
+    pub crew_after : (handed back : ℕ) → IsCrew face v handed back → KnowsRound p → IsCrew face w handed (back + 1)
+    crew_after handed back c k = record {
+      knows_table = back_table;
+      hands_out = ap (λ (z : View). z.spare) t.stepped ∙ c.hands_out;
+      took_back = let e : length w.held ≡ length v.held + length (on_first (in_state 2) p.held) = ap (λ (z : View). length z.held) t.stepped ∙ length-append v.held (on_first (in_state 2) p.held) in
+          let one : length (on_first (in_state 2) p.held) ≡ 1 = ap (λ (z : List Held). length (on_first (in_state 2) z)) only in let b = c.took_back in omega arith;
+      knowledge = back_knowledge c.knowledge k;
+    }

@@ -1,0 +1,40 @@
+-- Snapshots and nodes stay what they are as the book grows.
+use Rattle.std.proofs.Common.{ℕ, List, ◌++◌, sym, ap, ◌∙◌, arith}
+use Rattle.aug_core.specs.Places.{Shape}
+use Rattle.aug_core.specs.Tree.{root_place}
+use Rattle.aug_core.specs.Book.{Book, history_of, Continues, IsBook}
+use Rattle.aug_core.specs.Cuts.{Cut}
+use Rattle.aug_core.specs.EntryCuts.{IsPartOfCut}
+use Rattle.aug_core.specs.declared.view.Entry.{Entry}
+use Rattle.aug_core.proofs.Books.{at_below, no_shorter}
+use Rattle.aug_core.proofs.CutsUnder.{root_word}
+use Rattle.aug_core.proofs.EntryCuts.{entry_later, cut_later}
+use Rattle.aug_trie.specs.Facts.{IsSnapshotOf, IsNodeOf}
+
+module _ (face : ℕ → ℕ → List ℕ → List ℕ) (s : Shape) (book later : Book) (b : IsBook face s book) (grows : Continues later book) where
+  pub part_later : (cut : Cut) (level place q i : ℕ) → IsPartOfCut s book cut level place q i → IsPartOfCut s later cut level place q i
+  part_later cut level place q i p = record {
+    word = p.word;
+    there = let le = no_shorter later book grows q in let lt = p.there in omega arith;
+    before = p.before;
+    after = p.after;
+    parts = p.parts ∙ ap (λ (z : Cut). p.before ++ (z ++ p.after)) (sym (cut_later face s book b later level place q i grows p.word p.there));
+    from = p.from;
+  }
+
+  pub node_later : (cut : Cut) (level place word : ℕ) → IsNodeOf s book cut level place word → IsNodeOf s later cut level place word
+  node_later cut level place word t = record {
+    q = t.q;
+    index = t.index;
+    part = part_later cut level place t.q t.index t.part;
+    named = ap (λ (z : Entry). z.word) (entry_later later book t.q t.index grows t.part.there) ∙ t.named;
+  }
+
+  pub snapshot_later : (number : ℕ) (cut : Cut) → IsSnapshotOf s book number cut → IsSnapshotOf s later number cut
+  snapshot_later number cut t = record {
+    index = t.index;
+    entry = t.entry;
+    at = grows (root_place s) t.index t.entry t.at;
+    numbered = t.numbered;
+    cut_is = t.cut_is ∙ sym (cut_later face s book b later s.bits 0 (root_place s) t.index grows (root_word s) (at_below (history_of book (root_place s)) t.index t.entry t.at));
+  }

@@ -1,0 +1,34 @@
+-- One level of a propagation.
+use Rattle.std.proofs.Common.{◌≡◌, ℕ, zero, suc, ◌+◌, ◌-◌, ◌*◌, ◌/◌, ◌^◌, ◌<◌, ◌≤◌, Bool, if◌then◌else◌, List, lt-ltb, le-ltb, ap, arith}
+use Rattle.aug_core.specs.Places.{Shape}
+use Rattle.aug_core.specs.Tree.{left_of}
+use Rattle.aug_core.specs.Book.{Book, Continues, IsBook}
+use Rattle.aug_core.specs.Shows.{above, Lifts}
+use Rattle.aug_core.specs.Refreshes.{NewestCovers}
+use Rattle.aug_core.specs.declared.view.View.{View}
+use Rattle.aug_core.proofs.Showing.{first_children, later_children, shows_up}
+use Rattle.aug_trie.specs.Goes.{TookBetween, part_steps}
+use Rattle.aug_trie.proofs.Going.{between_on}
+
+pub lifts_none : (s : Shape) (seen : Book) (key : ℕ) → Lifts s seen seen key 0
+lifts_none s seen key = record { lifted = λ n h. h }
+
+pub place_is : (s : Shape) (key level leaves node : ℕ) → leaves ≡ 2 ^ s.bits → node ≡ above s key level → leaves + node / 2 ≡ above s key (suc level)
+place_is s key level leaves node a b = omega arith
+
+-- the parts of the children of the first node above a leaf take no load, and those of the others three
+cost_first : (s : Shape) (key : ℕ) → key < 2 ^ s.bits → 1 ≤ s.bits → part_steps s (left_of s (above s key 1)) ≡ 0
+cost_first s key low some = let below = first_children s key low some in ap (λ (z : Bool). if z then 0 else 3) (lt-ltb (left_of s (above s key 1)) (2 ^ s.bits) (omega arith))
+
+cost_later : (s : Shape) (key j : ℕ) → key < 2 ^ s.bits → suc (suc j) ≤ s.bits → part_steps s (left_of s (above s key (suc (suc j)))) ≡ 3
+cost_later s key j low up = ap (λ (z : Bool). if z then 0 else 3) (le-ltb (left_of s (above s key (suc (suc j)))) (2 ^ s.bits) (later_children s key j low up))
+
+-- the steps of one level more
+pub took_level : (s : Shape) (u v w : View) (key level : ℕ) → key < 2 ^ s.bits → suc level ≤ s.bits → TookBetween u v (15 * level - 6) (30 * level - 12)
+    → TookBetween v w (9 + 2 * part_steps s (left_of s (above s key (suc level)))) (18 + 4 * part_steps s (left_of s (above s key (suc level)))) → TookBetween u w (15 * suc level - 6) (30 * suc level - 12)
+took_level s u v w key zero low up x y = let c = cost_first s key low up in between_on u v w 0 0 _ _ 9 18 (omega arith) (omega arith) x y
+took_level s u v w key (suc j) low up x y = let c = cost_later s key j low up in between_on u v w _ _ _ _ _ _ (omega arith) (omega arith) x y
+
+module _ (f : ℕ → ℕ → List ℕ → List ℕ) where
+  pub lifts_level : (s : Shape) (seen : Book) (v w : View) (key level : ℕ) → key < 2 ^ s.bits → suc level ≤ s.bits → IsBook f s w.seen → Continues w.seen v.seen → NewestCovers s v.seen w.seen (above s key (suc level)) → Lifts s seen v.seen key level → Lifts s seen w.seen key (suc level)
+  lifts_level s seen v w key level low up b later c h = record { lifted = λ n x. shows_up f s w.seen b key low v.seen level n up later c (h.lifted n x) }

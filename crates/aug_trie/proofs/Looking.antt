@@ -1,0 +1,64 @@
+-- What the words of a node's record show of its tree, and what loads of them leave as it was.
+use Rattle.std.proofs.Common.{◌≡◌, ℕ, suc, ◌+◌, ◌-◌, ◌*◌, ◌%◌, ◌^◌, ◌≤◌, eqb, if◌then◌else◌, List, [], ◌∷◌, ◌++◌, sym, refl, subst, arith}
+use Rattle.std.proofs.lemmas.List.{append-nil}
+use Rattle.aug_monoid.specs.Parts.{Parts}
+use Rattle.aug_monoid.specs.Laws.{IsMonoid}
+use Rattle.aug_model.specs.Folds.{summary_of}
+use Rattle.aug_model.specs.declared.summary.Summary.{Summary}
+use Rattle.aug_core.specs.Faces.{face}
+use Rattle.aug_core.specs.Cuts.{Cut}
+use Rattle.aug_core.specs.Counts.{changes_of}
+use Rattle.aug_core.specs.Told.{HasSeen, KnowsTable}
+use Rattle.aug_core.specs.declared.view.View.{View}
+use Rattle.aug_core.proofs.Books.{fresh_now}
+use Rattle.aug_core.proofs.Fits.{knows_same}
+use Rattle.aug_trie.specs.Facts.{IsNodeOf}
+use Rattle.aug_trie.specs.Goes.{Goes}
+use Rattle.aug_trie.specs.Nodes.{Looks}
+use Rattle.aug_trie.specs.TreeOf.{IsTreeOf}
+use Rattle.aug_trie.proofs.Telling.{Says}
+use Rattle.aug_trie.proofs.Walking.{node_seen, left_node, right_node, node_told, count_few, leaf_told}
+
+-- a view that made steps and learnt nothing
+pub goes_looking : (f : ℕ → ℕ → List ℕ → List ℕ) (most : ℕ) (v w : View) → Looks most v w → KnowsTable f v → Goes f 0 [] v w
+goes_looking f most v w l kn = subst (Goes f 0 [] v) (sym l.is) record {
+  later = λ q i e p. p;
+  fresh = fresh_now v.shape v.seen;
+  knows_table = knows_same f v v.live v.also v.held v.spare v.began (v.steps ++ l.more) kn;
+  shaped = refl;
+  same_members = refl;
+  lane = refl;
+  changes = sym (append-nil (changes_of v.held));
+  still_free = λ n _ f. record { lane = f.lane; only = f.only; from_first = f.from_first; unpublished = f.unpublished; long = f.long };
+}
+
+module _ {A B : Type 0} (parts_a : Parts A) (parts_b : Parts B) (v : View) (kn : KnowsTable (face parts_a parts_b) v) (cut : Cut) (level place word : ℕ) (t : IsNodeOf v.shape v.seen cut level place word) where
+  -- what a leaf's serial tells
+  pub leaf_tells : (told : Summary A B) → level ≡ 0 → told ≡ summary_of parts_a parts_b (if eqb (word % 2) 1 then place ∷ [] else []) → IsTreeOf (summary_of parts_a parts_b) v.shape.bits cut level place told
+  leaf_tells told low is = subst (λ (z : ℕ). IsTreeOf (summary_of parts_a parts_b) v.shape.bits cut z place told) (sym low)
+      (leaf_told parts_a parts_b v kn.book cut place word (subst (λ (z : ℕ). IsNodeOf v.shape v.seen cut z place word) low t) told is)
+
+  module _ (inner : 1 ≤ level) where
+    one_up : level ≡ suc (level - 1)
+    one_up = omega arith
+
+    below : IsNodeOf v.shape v.seen cut (suc (level - 1)) place word
+    below = subst (λ (z : ℕ). IsNodeOf v.shape v.seen cut z place word) one_up t
+
+    -- the record of an inner node may be read
+    pub record_seen : HasSeen v word
+    record_seen = node_seen parts_a parts_b v kn.book cut (level - 1) place word below
+
+    pub left_is : (r : ℕ) → Says v word 0 r → IsNodeOf v.shape v.seen cut (level - 1) (2 * place) r
+    left_is = left_node parts_a parts_b v kn.book cut (level - 1) place word below
+
+    pub right_is : (r : ℕ) → Says v word 1 r → IsNodeOf v.shape v.seen cut (level - 1) (2 * place + 1) r
+    right_is = right_node parts_a parts_b v kn.book cut (level - 1) place word below
+
+    pub count_fits : (n : ℕ) → 2 ^ v.shape.bits ≤ 65536 → Says v word 2 n → n ≤ 65536
+    count_fits = count_few parts_a parts_b v kn.book cut (level - 1) place word below
+
+    pub record_tells : (n x y : ℕ) → 2 ^ v.shape.bits ≤ 65536 → IsMonoid parts_a → IsMonoid parts_b → Says v word 2 n → Says v word 3 x → Says v word 4 y
+        → IsTreeOf (summary_of parts_a parts_b) v.shape.bits cut level place (record { count = n; a = parts_a.from_word x; b = parts_b.from_word y })
+    record_tells n x y few laws_a laws_b says_n says_x says_y = subst (λ (z : ℕ). IsTreeOf (summary_of parts_a parts_b) v.shape.bits cut z place (record { count = n; a = parts_a.from_word x; b = parts_b.from_word y })) (sym one_up)
+        (node_told parts_a parts_b v kn.book cut (level - 1) place word below n x y few laws_a laws_b says_n says_x says_y)

@@ -1,0 +1,91 @@
+-- One try as a whole: what was loaded is what the five words say.
+use Rattle.std.proofs.Common.{◌≡◌, ℕ, zero, suc, ◌+◌, ◌-◌, ◌*◌, ◌^◌, ◌<◌, ◌≤◌, Bool, false, ltb, lt-ltb, le-ltb, if◌then◌else◌, List, [], ◌∷◌, sym, ap, ◌∙◌, subst, ⊎_elim, arith}
+use Rattle.std.proofs.lemmas.Bool.{cases_lt}
+use Rattle.std.proofs.Math.Nat.{two-pow-succ}
+use Rattle.aug_monoid.specs.Parts.{Parts}
+use Rattle.aug_monoid.specs.Laws.{IsMonoid}
+use Rattle.aug_core.specs.Places.{Shape}
+use Rattle.aug_core.specs.Tree.{place_count, IsInner, left_of, right_of}
+use Rattle.aug_core.specs.Faces.{face}
+use Rattle.aug_core.specs.Book.{At, Continues, IsBook}
+use Rattle.aug_core.specs.Refreshes.{HasEntry, HasNewest, SaysLoaded, Published}
+use Rattle.aug_core.specs.Told.{KnowsTable, LoadsLeaf, LoadsNode}
+use Rattle.aug_core.specs.declared.view.View.{View}
+use Rattle.aug_core.proofs.Sizes.{twice}
+use Rattle.aug_core.proofs.EntryKeys.{are_small}
+use Rattle.aug_core.proofs.Refreshing.{is_loaded, refreshed}
+use Rattle.aug_trie.specs.Goes.{IsFree, Goes, Took, Tries, IsPartOf, part_steps}
+use Rattle.aug_trie.proofs.Going.{took_on}
+use Rattle.aug_trie.proofs.Telling.{words_are}
+
+book_at : (f : ℕ → ℕ → List ℕ → List ℕ) (s : Shape) (w : View) → w.shape ≡ s → KnowsTable f w → IsBook f s w.seen
+book_at f s w shaped kn = subst (λ (z : Shape). IsBook f z w.seen) shaped kn.book
+
+-- what a load of a leaf shows
+pub leaf_loaded : (f : ℕ → ℕ → List ℕ → List ℕ) (v w : View) (key r : ℕ) → key < 2 ^ v.shape.bits → LoadsLeaf f v key r w → HasNewest w.seen key r
+leaf_loaded f v w key r low l = record { index = r; entry = l.entry; newest = l.newest; named = (l.sees.book.serials key r l.entry low l.newest.at).named }
+
+-- and one of a node
+pub node_loaded : (f : ℕ → ℕ → List ℕ → List ℕ) (v w : View) (q r : ℕ) → IsInner v.shape q → LoadsNode f v q r w → HasNewest w.seen q r
+node_loaded f v w q r inner l = record { index = l.index; entry = l.entry; newest = l.newest; named = l.sees.book.named q l.index l.entry inner l.newest.at ∙ sym l.found }
+
+module _ {A B : Type 0} (parts_a : Parts A) (parts_b : Parts B) where
+  abbrev both : ℕ → ℕ → List ℕ → List ℕ
+  both = face parts_a parts_b
+
+  -- a part counts few keys
+  pub part_few : (s : Shape) (w : View) (place word m : ℕ) (x : A) (y : B) → w.shape ≡ s → 2 ^ s.bits ≤ 65536 → place < place_count s → KnowsTable both w → HasEntry w.seen place word → IsPartOf parts_a parts_b w place word m x y → m ≤ 65536
+  part_few s w place word m x y shaped few inside kn there part = let e = (part.of there.index there.entry there.at there.named).count_is in
+      let t = (are_small both s w.seen (book_at both s w shaped kn) few place there.index there.entry inside there.at).few in omega arith
+
+  module _ (laws_a : IsMonoid parts_a) (laws_b : IsMonoid parts_b) where
+    -- the views after the loads of a node, of its left and of its right child, and after the loads of their parts
+    pub says : (v w0 w1 w2 w3 w4 : View) (q old ln rn m k : ℕ) (x x' : A) (y y' : B) (xa xb : ℕ) → IsInner v.shape q → 2 ^ v.shape.bits ≤ 65536
+        → Goes both 0 [] v w0 → Goes both 0 [] w0 w1 → Goes both 0 [] w1 w2 → Goes both 0 [] w2 w3 → Goes both 0 [] w3 w4
+        → HasNewest w0.seen q old → HasNewest w1.seen (left_of v.shape q) ln → HasNewest w2.seen (right_of v.shape q) rn
+        → IsPartOf parts_a parts_b w2 (left_of v.shape q) ln m x y → IsPartOf parts_a parts_b w3 (right_of v.shape q) rn k x' y'
+        → xa ≡ parts_a.to_word (parts_a.join x x') → xb ≡ parts_b.to_word (parts_b.join y y') → SaysLoaded both w4.shape w4.seen q old (ln ∷ rn ∷ (m + k) ∷ xa ∷ xb ∷ [])
+    says v w0 w1 w2 w3 w4 q old ln rn m k x x' y y' xa xb inner few g0 g1 g2 g3 g4 at_node at_left at_right part_l part_r ea eb =
+        let s : Shape = v.shape in let past = inner.past_leaves in let inside = inner.inside in let t = twice s.bits in
+        let s0 = g0.shaped in let s1 = g1.shaped ∙ s0 in let s2 = g2.shaped ∙ s1 in let s4 = g4.shaped ∙ g3.shaped ∙ s2 in
+        let l_at : At w2.seen (left_of s q) at_left.index at_left.entry = g2.later (left_of s q) at_left.index at_left.entry at_left.newest.at in
+        let r_at : At w3.seen (right_of s q) at_right.index at_right.entry = g3.later (right_of s q) at_right.index at_right.entry at_right.newest.at in
+        let b2 = book_at both s w2 s2 g2.knows_table in
+        let small_l = (are_small both s w2.seen b2 few (left_of s q) at_left.index at_left.entry (omega arith) l_at).small in
+        let small_r = (are_small both s w2.seen b2 few (right_of s q) at_right.index at_right.entry (omega arith) at_right.newest.at).small in
+        let p = part_l.of at_left.index at_left.entry l_at at_left.named in let p' = part_r.of at_right.index at_right.entry r_at at_right.named in
+        subst (λ (z : Shape). SaysLoaded both z w4.seen q old (ln ∷ rn ∷ (m + k) ∷ xa ∷ xb ∷ [])) (sym s4) record {
+          is_loaded = is_loaded both s w0.seen w1.seen w2.seen w4.seen q old ln rn inner g1.later g2.later (λ p i e z. g4.later p i e (g3.later p i e z)) at_node at_left at_right (book_at both s w0 s0 g0.knows_table);
+          five_are = (λ i. ln ∷ rn ∷ (m + k) ∷ ea i ∷ eb i ∷ [])
+              ∙ words_are parts_a parts_b laws_a laws_b ln rn m k x x' y y' at_left.entry.keys at_right.entry.keys small_l small_r p p';
+        }
+
+-- what the try left
+pub tries : (f : ℕ → ℕ → List ℕ → List ℕ) (v w0 w1 w2 w4 w : View) (q old ln rn number : ℕ) (done : Bool) → IsInner v.shape q → KnowsTable f w → w.shape ≡ v.shape → w4.shape ≡ v.shape → Continues w0.seen v.seen → Continues w1.seen w0.seen → Continues w2.seen w1.seen → Continues w.seen w2.seen
+    → HasNewest w0.seen q old → HasNewest w1.seen (left_of v.shape q) ln → HasNewest w2.seen (right_of v.shape q) rn → Published w4.shape q old ln rn done w.seen → (done ≡ false → IsFree w number) → Tries v q number done w
+tries f v w0 w1 w2 w4 w q old ln rn number done inner kn shaped shaped4 c0 c01 c12 c23 at_node at_left at_right p again = record {
+  refreshed = refreshed f v.shape w0.seen w1.seen w2.seen w.seen q old ln rn inner c01 c12 c23 at_node at_left at_right v.seen done (book_at f v.shape w shaped kn) c0 (subst (λ (z : Shape). Published z q old ln rn done w.seen) shaped4 p);
+  again = λ bad _. again bad;
+}
+
+-- the number of leaves is even, where there is a node
+even : (b n : ℕ) → 2 * n < 2 ^ b → n + 1 < 2 ^ b → 2 * n + 1 < 2 ^ b
+even zero n low few = omega arith
+even (suc b) n low few = let t = two-pow-succ b in omega arith
+
+-- the children of a node are both leaves or both nodes
+pub same_steps : (s : Shape) (q : ℕ) → IsInner s q → (if ltb (right_of s q) (2 ^ s.bits) then 0 else 3) ≡ part_steps s (left_of s q)
+same_steps s q inner = let past = inner.past_leaves in ⊎_elim
+    (λ (low : left_of s q < 2 ^ s.bits). ap (λ (z : Bool). if z then 0 else 3) (lt-ltb (right_of s q) (2 ^ s.bits) (right_low low) ∙ sym (lt-ltb (left_of s q) (2 ^ s.bits) low)))
+    (λ (high : 2 ^ s.bits ≤ left_of s q). ap (λ (z : Bool). if z then 0 else 3) (le-ltb (right_of s q) (2 ^ s.bits) (omega arith) ∙ sym (le-ltb (left_of s q) (2 ^ s.bits) high))) (cases_lt (left_of s q) (2 ^ s.bits))
+  where
+    right_low : left_of s q < 2 ^ s.bits → right_of s q < 2 ^ s.bits
+    right_low low = even s.bits (q - 2 ^ s.bits) low (let i = inner.inside in let t = twice s.bits in omega arith)
+
+pub took_refresh : (s : Shape) (q : ℕ) (v w0 w1 w2 w3 w4 w : View) → IsInner s q → w2.shape ≡ s → w3.shape ≡ s → Took v w0 1 → Took w0 w1 1 → Took w1 w2 1 → Took w2 w3 (part_steps w2.shape (left_of s q)) → Took w3 w4 (part_steps w3.shape (right_of s q)) → Took w4 w 6
+    → Took v w (9 + 2 * part_steps s (left_of s q))
+took_refresh s q v w0 w1 w2 w3 w4 w inner s2 s3 t0 t1 t2 t3 t4 t5 = let n : ℕ = part_steps s (left_of s q) in
+    let t3' : Took w2 w3 n = subst (λ (z : Shape). Took w2 w3 (part_steps z (left_of s q))) s2 t3 in
+    let t4' : Took w3 w4 n = subst (Took w3 w4) (same_steps s q inner) (subst (λ (z : Shape). Took w3 w4 (part_steps z (right_of s q))) s3 t4) in
+    let a = took_on v w0 w1 1 1 2 (omega arith) t0 t1 in let b = took_on v w1 w2 2 1 3 (omega arith) a t2 in let c = took_on v w2 w3 3 n (3 + n) (omega arith) b t3' in
+    let d = took_on v w3 w4 (3 + n) n (3 + 2 * n) (omega arith) c t4' in took_on v w4 w (3 + 2 * n) 6 (9 + 2 * n) (omega arith) d t5

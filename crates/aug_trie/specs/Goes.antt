@@ -1,0 +1,97 @@
+-- What the steps of a pass leave of what it knew, and what they add.
+use Rattle.std.specs.Prelude.{◌≡◌, ℕ, ◌+◌, ◌^◌, ◌≤◌, Bool, false, true, nat_lt, if◌then◌else◌, List, ◌++◌, length, All}
+use Rattle.aug_monoid.specs.Parts.{Parts}
+use Rattle.aug_monoid.specs.Fold.{fold_of}
+use Rattle.aug_core.specs.Places.{Shape}
+use Rattle.aug_core.specs.Lanes.{first_record, lane_records, block_size}
+use Rattle.aug_core.specs.Book.{At, Continues, IsFresh}
+use Rattle.aug_core.specs.Rule.{Lists}
+use Rattle.aug_core.specs.Counts.{changes_of}
+use Rattle.aug_core.specs.Told.{HoldsOnly, own_lane, KnowsTable}
+use Rattle.aug_core.specs.Refreshes.{Refreshed}
+use Rattle.aug_core.specs.declared.step.StepKind.{StepKind}
+use Rattle.aug_core.specs.declared.step.StepKind.TheVariants.{LoadLeaf, TryLeaf, LoadNode, TryNode, LoadRecordWord, StoreRecordWord, TakeLane, FinishLane}
+use Rattle.aug_core.specs.declared.step.StepTaken.{StepTaken}
+use Rattle.aug_core.specs.declared.view.Change.{Change}
+use Rattle.aug_core.specs.declared.view.Entry.{Entry}
+use Rattle.aug_core.specs.declared.view.Held.{Held}
+use Rattle.aug_core.specs.declared.view.View.{View}
+
+-- the records of the view's lane from this one on were not published
+pub record IsFree (v : View) (next : ℕ) : Type 0 where
+  pub lane : Held
+  pub only : HoldsOnly v lane
+  pub from_first : first_record v.shape lane.lane ≤ next
+  pub unpublished : (n : ℕ) → next ≤ n → Lists lane.published n → ⊥
+  pub long : length lane.words ≡ block_size v.shape
+
+-- so many records of the lane are left from this one on
+pub record HasRoom (v : View) (next records : ℕ) : Type 0 where
+  pub is_free : IsFree v next
+  pub room : next + records ≤ first_record v.shape (own_lane v.held) + lane_records v.shape
+
+-- the kind is that of an exchange of a leaf
+abbrev pub tries_leaf : StepKind → Bool
+tries_leaf TryLeaf = true
+tries_leaf LoadLeaf = false
+tries_leaf LoadNode = false
+tries_leaf TryNode = false
+tries_leaf LoadRecordWord = false
+tries_leaf StoreRecordWord = false
+tries_leaf TakeLane = false
+tries_leaf FinishLane = false
+
+-- none of the steps is one
+abbrev pub TryNoLeaf : List StepTaken → Type 0
+TryNoLeaf steps = All (λ taken. tries_leaf taken.kind ≡ false) steps
+
+-- the view made so many steps more, and no exchange of a leaf
+pub record Took (v w : View) (n : ℕ) : Type 0 where
+  pub more : List StepTaken
+  pub steps : w.steps ≡ v.steps ++ more
+  pub count : length more ≡ n
+  pub no_try : TryNoLeaf more
+
+-- and so many at least, and so many at most
+pub record TookBetween (v w : View) (least most : ℕ) : Type 0 where
+  pub steps : ℕ
+  pub least_steps : least ≤ steps
+  pub most_steps : steps ≤ most
+  pub took : Took v w steps
+
+module _ (face : ℕ → ℕ → List ℕ → List ℕ) where
+  -- what was known grows, the changes gain these, and the records from `used` on that were free are so
+  pub record Goes (used : ℕ) (gained : List Change) (v w : View) : Type 0 where
+    pub later : Continues w.seen v.seen
+    pub fresh : IsFresh v.shape w.seen v.seen
+    pub knows_table : KnowsTable face w
+    pub shaped : w.shape ≡ v.shape
+    pub same_members : w.members ≡ v.members
+    pub lane : own_lane w.held ≡ own_lane v.held
+    pub changes : changes_of w.held ≡ changes_of v.held ++ gained
+    pub still_free : (n : ℕ) → used ≤ n → IsFree v n → IsFree w n
+
+-- one try at a node, which leaves its record free where it failed
+pub record Tries (v : View) (q number : ℕ) (done : Bool) (w : View) : Type 0 where
+  pub refreshed : Refreshed v.shape v.seen q done w.seen
+  pub again : done ≡ false → IsFree v number → IsFree w number
+
+-- so many leaves there are
+pub record HasLeaves (s : Shape) (leaves : ℕ) : Type 0 where
+  pub are : leaves ≡ 2 ^ s.bits
+  pub few : leaves ≤ 65536
+
+-- how many loads a child's part takes
+abbrev pub part_steps : Shape → ℕ → ℕ
+part_steps s place = if nat_lt place (2 ^ s.bits) then 0 else 3
+
+module _ {A B : Type 0} (parts_a : Parts A) (parts_b : Parts B) where
+  -- a count and two folds of the keys
+  pub record IsPart (count : ℕ) (a : A) (b : B) (keys : List ℕ) : Type 0 where
+    pub count_is : count ≡ length keys
+    pub a_is : a ≡ fold_of parts_a keys
+    pub b_is : b ≡ fold_of parts_b keys
+
+  -- what the entries of a place with this word have
+  pub record IsPartOf (v : View) (place word count : ℕ) (a : A) (b : B) : Type 0 where
+    pub of : (i : ℕ) (e : Entry) → At v.seen place i e → e.word ≡ word → IsPart count a b e.keys

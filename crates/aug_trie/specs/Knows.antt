@@ -1,0 +1,23 @@
+-- What a view knows of a round: the cuts that the root's entries show, and the changes of the view's lanes.
+use Rattle.std.specs.Prelude.{List, length, map}
+use Rattle.std.specs.List.{range_with_len}
+use Rattle.aug_core.specs.Places.{Shape}
+use Rattle.aug_core.specs.Tree.{root_place}
+use Rattle.aug_core.specs.Book.{Book, history_of}
+use Rattle.aug_core.specs.Counts.{changes_of}
+use Rattle.aug_core.specs.Cuts.{Cut}
+use Rattle.aug_core.specs.EntryCuts.{root_cut}
+use Rattle.aug_core.specs.declared.view.View.{View}
+use Rattle.aug_trie.specs.Knowledge.{Knowledge, IsKnowledge}
+
+-- the cuts of all entries of the root
+abbrev pub root_history : Shape → Book → List Cut
+root_history s book = map (root_cut s book) (range_with_len 0 (length (history_of book (root_place s))))
+
+-- what a view knows
+abbrev pub knows : View → Knowledge
+knows v = record { history = root_history v.shape v.seen; accepted = changes_of v.held }
+
+-- it is knowledge of the round that the view's table was opened for
+abbrev pub KnowsRound : View → Type 0
+KnowsRound v = IsKnowledge v.shape.bits v.members (knows v)

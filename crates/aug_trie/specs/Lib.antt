@@ -1,0 +1,16 @@
+pub mod History
+pub mod Knowledge
+pub mod Counted
+pub mod Updates
+pub mod Passes
+pub mod Tallies
+pub mod TreeOf
+pub mod Knows
+pub mod Goes
+pub mod Climbing
+pub mod Facts
+pub mod Nodes
+pub mod Views
+pub mod ViewLaws
+pub mod Crews
+pub mod Errors

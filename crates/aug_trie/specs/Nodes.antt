@@ -1,0 +1,60 @@
+-- What contracts see of the nodes of a snapshot's tree, and what a walk leaves as it was.
+use Rattle.std.specs.Prelude.{◌≡◌, ℕ, ◌+◌, ◌≤◌, List, ◌++◌, length}
+use Rattle.aug_model.specs.declared.summary.Summary.{Summary}
+use Rattle.aug_model.specs.Keys.{SetFacts}
+use Rattle.aug_query.specs.Tree.{IsTreeSet}
+use Rattle.aug_core.specs.Places.{Shape}
+use Rattle.aug_core.specs.Tree.{root_place}
+use Rattle.aug_core.specs.Book.{Book, history_of}
+use Rattle.aug_core.specs.Cuts.{Cut}
+use Rattle.aug_core.specs.EntryCuts.{root_cut}
+use Rattle.aug_core.specs.declared.step.StepTaken.{StepTaken}
+use Rattle.aug_core.specs.declared.view.View.{View}
+use Rattle.aug_trie.specs.History.{Begins}
+use Rattle.aug_trie.specs.TreeOf.{members_of, IsTreeOf}
+use Rattle.aug_trie.specs.Facts.{PassFacts, index_named, HasSnapshot, snapshot_cut, IsNodeOf}
+use Rattle.aug_trie.specs.declared.node.Node.{Node}
+use Rattle.aug_trie.specs.declared.snapshot.Snapshot.{Snapshot}
+
+-- the cut of the root's first entry with the number
+abbrev pub cut_named : Shape → Book → ℕ → Cut
+cut_named s book number = root_cut s book (index_named (history_of book (root_place s)) number)
+
+-- the set that a snapshot of the pass shows, with its bits
+abbrev pub set_at : PassFacts → Snapshot → SetFacts
+set_at pass s = members_of pass.round.bits (snapshot_cut pass s.number)
+
+-- the view made at most so many steps more, and nothing else of it changed
+pub record Looks (most : ℕ) (v w : View) : Type 0 where
+  pub more : List StepTaken
+  pub is : w ≡ record v { steps = v.steps ++ more }
+  pub few : length more ≤ most
+
+module _ {A B : Type 0} (summary_of : List ℕ → Summary A B) where
+  -- the node is one of the tree of a snapshot of the pass, and tells the summary of the members that it covers
+  pub record HasNode (pass : PassFacts) (node : Node A B) : Type 0 where
+    pub of_pass : HasSnapshot pass node.snapshot.number
+    pub is_tree_set : IsTreeSet (set_at pass node.snapshot)
+    pub named : IsNodeOf pass.view.shape pass.view.seen (snapshot_cut pass node.snapshot.number) node.level node.place node.word
+    pub tells : IsTreeOf summary_of pass.round.bits (snapshot_cut pass node.snapshot.number) node.level node.place node.summary
+
+  -- what was a snapshot of the pass is one still, of the same cut and set, and what was a node of one is so still
+  pub record Keeps (old new : PassFacts) : Type 0 where
+    pub snapshots : (s : Snapshot) → HasSnapshot old s.number → HasSnapshot new s.number
+    pub same_cuts : (s : Snapshot) → HasSnapshot old s.number → snapshot_cut new s.number ≡ snapshot_cut old s.number
+    pub same_sets : (s : Snapshot) → HasSnapshot old s.number → set_at new s ≡ set_at old s
+    pub nodes : (node : Node A B) → HasNode old node → HasNode new node
+
+  -- the pass made steps that told it nothing new
+  pub record Stays (old new : PassFacts) : Type 0 where
+    pub round : new.round ≡ old.round
+    pub lane : new.lane ≡ old.lane
+    pub knows : new.knows ≡ old.knows
+    pub spent : new.spent ≡ old.spent
+    pub steps_stay : Begins old.steps new.steps
+    pub keeps : Keeps old new
+
+  -- and it made at most so many
+  pub record Reads (most : ℕ) (old new : PassFacts) : Type 0 where
+    pub stays : Stays old new
+    pub few_steps : length new.steps ≤ length old.steps + most

@@ -1,0 +1,54 @@
+-- What a walk keeps of a pass, where nothing happened, and by walks one after the other.
+use Rattle.std.proofs.Common.{◌≡◌, ℕ, List, [], ◌++◌, append_assoc, sym, refl, ap, subst, ◌∙◌, arith}
+use Rattle.std.proofs.lemmas.List.{append-nil}
+use Rattle.std.specs.Borrow.{MutBor}
+use Rattle.aug_core.specs.declared.step.StepTaken.{StepTaken}
+use Rattle.aug_model.specs.declared.summary.Summary.{Summary}
+use Rattle.aug_trie.specs.Facts.{PassFacts}
+use Rattle.aug_trie.specs.Nodes.{HasNode, Stays, set_at}
+use Rattle.aug_trie.specs.declared.node.Node.{Node}
+use Rattle.aug_query.specs.Tree.{IsNodeOf}
+use Rattle.aug_trie.specs.Views.{KeepsPass}
+use Rattle.aug_trie.specs.declared.snapshot.Snapshot.{Snapshot}
+
+module _ {A B : Type 0} (summary_of : List ℕ → Summary A B) where
+  stays_so : (p : PassFacts) → Stays summary_of p p
+  stays_so p = record {
+    round = refl;
+    lane = refl;
+    knows = refl;
+    spent = refl;
+    steps_stay = ([], sym (append-nil p.steps));
+    keeps = record { snapshots = λ s has. has; same_cuts = λ s has. refl; same_sets = λ s has. refl; nodes = λ node has. has };
+  }
+
+  stays_on : (p q r : PassFacts) → Stays summary_of p q → Stays summary_of q r → Stays summary_of p r
+  stays_on p q r a b = record {
+    round = b.round ∙ a.round;
+    lane = b.lane ∙ a.lane;
+    knows = b.knows ∙ a.knows;
+    spent = b.spent ∙ a.spent;
+    steps_stay = (a.steps_stay.0 ++ b.steps_stay.0, b.steps_stay.1 ∙ ap (λ (z : List StepTaken). z ++ b.steps_stay.0) a.steps_stay.1 ∙ append_assoc p.steps a.steps_stay.0 b.steps_stay.0);
+    keeps = record {
+      snapshots = λ s has. b.keeps.snapshots s (a.keeps.snapshots s has);
+      same_cuts = λ s has. b.keeps.same_cuts s (a.keeps.snapshots s has) ∙ a.keeps.same_cuts s has;
+      same_sets = λ s has. b.keeps.same_sets s (a.keeps.snapshots s has) ∙ a.keeps.same_sets s has;
+      nodes = λ node has. b.keeps.nodes node (a.keeps.nodes node has);
+    };
+  }
+
+  pub kept_so : (p : MutBor PassFacts) (s : Snapshot) (calls : ℕ) → KeepsPass summary_of p p s s calls calls
+  kept_so p s calls = record { same_reference = refl; same_snapshot = refl; stays = stays_so p.now; few_steps = omega arith }
+
+  pub kept_on : (p q r : MutBor PassFacts) (s t u : Snapshot) (k l m : ℕ) → KeepsPass summary_of p q s t k l → KeepsPass summary_of q r t u l m → KeepsPass summary_of p r s u k m
+  kept_on p q r s t u k l m a b = record {
+    same_reference = b.same_reference ∙ a.same_reference;
+    same_snapshot = b.same_snapshot ∙ a.same_snapshot;
+    stays = stays_on p.now q.now r.now a.stays b.stays;
+    few_steps = let x = a.few_steps in let y = b.few_steps in omega arith;
+  }
+
+  -- a node of a view's pass is one of the tree of its snapshot's set
+  pub node_of : (p : PassFacts) (s : Snapshot) (node : Node A B) → node.snapshot ≡ s → HasNode summary_of p node → IsNodeOf summary_of (set_at p s) node.level node.place node.summary
+  node_of p s node same has = subst (λ (z : Snapshot). IsNodeOf summary_of (set_at p z) node.level node.place node.summary) same
+      record { is_tree_set = has.is_tree_set; level_fits = has.tells.level_fits; place_fits = has.tells.place_fits; tells = has.tells.tells }

@@ -1,0 +1,31 @@
+//! A set of keys that many passes insert into, remove from and look at, by double refresh.
+#![tactic(auto)]
+
+mod climbing;
+mod crew;
+mod ended;
+mod error;
+mod half;
+mod node;
+mod nodes;
+mod parts;
+mod pass;
+mod queries;
+mod refreshing;
+mod round;
+mod snapshot;
+#[cfg(test)]
+mod tests;
+mod updates;
+mod view;
+mod walks;
+
+pub use crew::Crew;
+pub use ended::Ended;
+pub use error::{BeginError, CrewError};
+pub use half::PassHalf;
+pub use node::Node;
+pub use pass::Pass;
+pub use round::Round;
+pub use snapshot::Snapshot;
+pub use view::View;

@@ -1,0 +1,134 @@
+//! A pass of a round: it updates the set and looks at it.
+ghost use Rattle.std.specs.Prelude.{◌≡◌, ℕ, ◌+◌, ◌*◌, ◌^◌, ◌<◌, ◌≤◌};
+ghost use Rattle.std.specs.Bool.{OnTrue, OnFalse};
+ghost use Rattle.aug_trie.specs.Knowledge.{IsKnowledge, insertion, removal, inserts_of, removals_of};
+ghost use Rattle.aug_trie.specs.Updates.{AcceptedUpdate, RefusedUpdate, TakesSnapshot};
+ghost use Rattle.aug_model.specs.Folds.{summary_of};
+ghost use Rattle.aug_trie.specs.Nodes.{Keeps};
+ghost use Rattle.aug_trie.specs.Facts.{GoesOn, StepsOf, HasSnapshot, snapshot_cut};
+
+use crate::snapshot::Snapshot;
+use crate::updates::{insert_key, remove_key};
+use aug_monoid::Monoid;
+use aug_words::WordPass;
+use std::marker::Model;
+
+/// A pass of a round, with a lane of its own. It may go to another thread. None of its calls takes memory or waits.
+#[derive(Drop)]
+pub struct Pass<'r, A: Monoid, B: Monoid> {
+    // What it knows of the words. An update takes it out and puts it back, so that its steps can keep it in registers.
+    pub(crate) words: Option<WordPass<'r, A, B>>,
+    pub(crate) leaves: usize,
+    pub(crate) bits: u32,
+    // The first record of its lane that no update has used.
+    pub(crate) next: u64,
+    // How many updates are left.
+    pub(crate) left: u32,
+    // How many keys it put in, and how many it took out.
+    pub(crate) inserts: u32,
+    pub(crate) removals: u32,
+}
+
+impl<'r, A: Monoid, B: Monoid> Model for Pass<'r, A, B> {
+    ghost use Rattle.aug_core.specs.Faces.{face};
+    ghost use Rattle.aug_core.specs.Counts.{changes_of};
+    ghost use Rattle.aug_trie.specs.Counted.{HasCounts};
+    ghost use Rattle.aug_trie.specs.Facts.{PassFacts, pass_facts, known_in, HoldsPass};
+
+    ghost Value = { PassFacts };
+
+    ghost view = { λ p. pass_facts (known_in p.words) p.left };
+
+    ghost invariant = { λ p. HoldsPass (face A.parts B.parts) p.words p.leaves p.bits p.next p.left × HasCounts (changes_of (known_in p.words).view.held) p.inserts p.removals };
+}
+
+impl<'r, A: Monoid, B: Monoid> Pass<'r, A, B> {
+    /// Puts a key in. True where it was not there, and this call put it in; false where it was already there, or came in meanwhile.
+    pub fn insert(&mut self, k: u32) -> bool
+        requires key { k < 2 ^ self.old.round.bits }
+        requires budget { self.old.spent < self.old.round.updates }
+        ensures accepted { OnTrue result (AcceptedUpdate insertion k self.old.knows self.new.knows) }
+        ensures refused { OnFalse result (RefusedUpdate insertion k self.old.knows self.new.knows) }
+        ensures goes_on { (steps : ℕ) × GoesOn 1 steps self.old self.new }
+        ensures keeps { Keeps (summary_of A.parts B.parts) self.old self.new }
+        ensures steps { StepsOf insertion k result self.old self.new }
+    {
+        let Some(words) = self.words.take() else {
+            unreachable!()
+        };
+        let (words, done) = insert_key(words, self.leaves, self.bits, k, self.next);
+        self.words = Some(words);
+        self.next += u64::from(self.bits);
+        self.left -= 1;
+        self.inserts += u32::from(done);
+        done
+    }
+
+    /// Takes a key out. True where it was there, and this call took it out; false where it was not there, or went out meanwhile.
+    pub fn remove(&mut self, k: u32) -> bool
+        requires key { k < 2 ^ self.old.round.bits }
+        requires budget { self.old.spent < self.old.round.updates }
+        ensures accepted { OnTrue result (AcceptedUpdate removal k self.old.knows self.new.knows) }
+        ensures refused { OnFalse result (RefusedUpdate removal k self.old.knows self.new.knows) }
+        ensures goes_on { (steps : ℕ) × GoesOn 1 steps self.old self.new }
+        ensures keeps { Keeps (summary_of A.parts B.parts) self.old self.new }
+        ensures steps { StepsOf removal k result self.old self.new }
+    {
+        let Some(words) = self.words.take() else {
+            unreachable!()
+        };
+        let (words, done) = remove_key(words, self.leaves, self.bits, k, self.next);
+        self.words = Some(words);
+        self.next += u64::from(self.bits);
+        self.left -= 1;
+        self.removals += u32::from(done);
+        done
+    }
+
+    /// Takes a snapshot: one load of the root's word. It shows every change that the pass knows.
+    pub fn snapshot(&mut self) -> Snapshot
+        ensures takes { TakesSnapshot self.old.knows self.new.knows (snapshot_cut self.new result.number) }
+        ensures known { HasSnapshot self.new result.number }
+        ensures goes_on { GoesOn 0 1 self.old self.new }
+        ensures keeps { Keeps (summary_of A.parts B.parts) self.old self.new }
+    {
+        let Some(mut words) = self.words.take() else {
+            unreachable!()
+        };
+        let number = words.load_node(2 * self.leaves - 2);
+        self.words = Some(words);
+        Snapshot { number }
+    }
+
+    /// How many updates are left.
+    pub fn budget(&self) -> u32
+        ensures { result + self.now.spent ≡ self.now.round.updates }
+    {
+        self.left
+    }
+
+    /// The lane of the pass, counted from 0.
+    pub fn lane(&self) -> u32
+        ensures lane { result ≡ self.now.lane }
+        ensures knowledge { IsKnowledge self.now.round.bits self.now.round.members self.now.knows }
+    {
+        match &self.words {
+            Some(words) => words.lane(),
+            None => unreachable!(),
+        }
+    }
+
+    /// How many keys this pass put in.
+    pub fn inserts(&self) -> u32
+        ensures { result ≡ inserts_of self.now.knows.accepted }
+    {
+        self.inserts
+    }
+
+    /// How many keys this pass took out.
+    pub fn removals(&self) -> u32
+        ensures { result ≡ removals_of self.now.knows.accepted }
+    {
+        self.removals
+    }
+}

@@ -1,0 +1,147 @@
+//! The order queries on a snapshot of a pass. None but `keys` takes memory.
+ghost use Rattle.std.specs.Prelude.{◌≡◌, ℕ, ◌+◌, ◌-◌, ◌*◌, ◌<◌, ◌≤◌, length, IfOk, vec_capacity};
+ghost use Rattle.aug_model.specs.Folds.{summary_of};
+ghost use Rattle.aug_model.specs.Keys.{is_member};
+ghost use Rattle.aug_model.specs.Queries.{rank_of, select_of, before_of, after_of, range_of};
+ghost use Rattle.aug_trie.specs.Facts.{HasSnapshot};
+ghost use Rattle.aug_trie.specs.Nodes.{Reads, set_at};
+
+use crate::pass::Pass;
+use crate::snapshot::Snapshot;
+use crate::view::View;
+use aug_model::Summary;
+use aug_monoid::Monoid;
+use aug_query::Calls;
+use std::alloc::{AllocError, Global};
+
+impl<'r, A: Monoid, B: Monoid> Pass<'r, A, B> {
+    /// The tree of a snapshot, for a query of one's own. Contracts know nothing of the pass once the view is gone, so
+    /// where it is used again call the queries below.
+    pub fn view<'p>(&'p mut self, s: Snapshot) -> View<'p, 'r, A, B>
+        requires { HasSnapshot self.old s.number }
+        ensures same_reference { result.pass.ghost_name ≡ self.entry.ghost_name }
+        ensures pass { result.pass.now ≡ self.old }
+        ensures snapshot { result.snapshot ≡ s }
+        ensures calls { result.calls.made ≡ 0 }
+    {
+        let calls = Calls::new();
+        View {
+            pass: self,
+            snapshot: s,
+            calls,
+        }
+    }
+
+    /// Whether `k` is a member.
+    pub fn has(&mut self, s: Snapshot, k: u32) -> bool
+        requires { HasSnapshot self.old s.number }
+        ensures answer { result ≡ is_member (set_at self.old s).list k }
+        ensures reads { Reads (summary_of A.parts B.parts) (4 * ((set_at self.old s).bits + 1)) self.old self.new }
+    {
+        let mut view = View {
+            pass: self,
+            snapshot: s,
+            calls: Calls::new(),
+        };
+        view.has(k)
+    }
+
+    /// How many members there are.
+    pub fn size(&mut self, s: Snapshot) -> u32
+        requires { HasSnapshot self.old s.number }
+        ensures answer { result ≡ length (set_at self.old s).list }
+        ensures reads { Reads (summary_of A.parts B.parts) (4 * (1)) self.old self.new }
+    {
+        let mut view = View {
+            pass: self,
+            snapshot: s,
+            calls: Calls::new(),
+        };
+        view.size()
+    }
+
+    /// How many members are below `k`.
+    pub fn rank(&mut self, s: Snapshot, k: u32) -> u32
+        requires { HasSnapshot self.old s.number }
+        ensures answer { result ≡ rank_of (set_at self.old s).list k }
+        ensures reads { Reads (summary_of A.parts B.parts) (4 * ((set_at self.old s).bits + 1)) self.old self.new }
+    {
+        let mut view = View {
+            pass: self,
+            snapshot: s,
+            calls: Calls::new(),
+        };
+        view.rank(k)
+    }
+
+    /// The member with exactly `i` members below it, if there is one.
+    pub fn select(&mut self, s: Snapshot, i: u32) -> Option<u32>
+        requires { HasSnapshot self.old s.number }
+        ensures answer { result ≡ select_of (set_at self.old s).list i }
+        ensures reads { Reads (summary_of A.parts B.parts) (4 * (2 * (set_at self.old s).bits + 1)) self.old self.new }
+    {
+        let mut view = View {
+            pass: self,
+            snapshot: s,
+            calls: Calls::new(),
+        };
+        view.select(i)
+    }
+
+    /// The greatest member below `k`, if there is one.
+    pub fn before(&mut self, s: Snapshot, k: u32) -> Option<u32>
+        requires { HasSnapshot self.old s.number }
+        ensures answer { result ≡ before_of (set_at self.old s).list k }
+        ensures reads { Reads (summary_of A.parts B.parts) (4 * (3 * (set_at self.old s).bits)) self.old self.new }
+    {
+        let mut view = View {
+            pass: self,
+            snapshot: s,
+            calls: Calls::new(),
+        };
+        view.before(k)
+    }
+
+    /// The least member above `k`, if there is one.
+    pub fn after(&mut self, s: Snapshot, k: u32) -> Option<u32>
+        requires { HasSnapshot self.old s.number }
+        ensures answer { result ≡ after_of (set_at self.old s).list k }
+        ensures reads { Reads (summary_of A.parts B.parts) (4 * (3 * (set_at self.old s).bits)) self.old self.new }
+    {
+        let mut view = View {
+            pass: self,
+            snapshot: s,
+            calls: Calls::new(),
+        };
+        view.after(k)
+    }
+
+    /// The number and the folds of the members from `a` on that are below `b`.
+    pub fn range(&mut self, s: Snapshot, a: u32, b: u32) -> Summary<A, B>
+        requires { HasSnapshot self.old s.number }
+        ensures answer { result ≡ summary_of A.parts B.parts (range_of (set_at self.old s).list a b) }
+        ensures reads { Reads (summary_of A.parts B.parts) (4 * (4 * (set_at self.old s).bits - 1)) self.old self.new }
+    {
+        let mut view = View {
+            pass: self,
+            snapshot: s,
+            calls: Calls::new(),
+        };
+        view.range(a, b)
+    }
+
+    /// The members, rising. Room for all of them is made before the first is put in, and only that can be refused.
+    pub fn keys(&mut self, alloc: Global, s: Snapshot) -> Result<Vec<u32>, AllocError>
+        requires { HasSnapshot self.old s.number }
+        ensures answer { IfOk result (λ list. list.items ≡ (set_at self.old s).list) }
+        ensures room { IfOk result (λ list. vec_capacity list ≡ length (set_at self.old s).list) }
+        ensures reads { Reads (summary_of A.parts B.parts) (4 * (2 * (set_at self.old s).bits * length (set_at self.old s).list + 1)) self.old self.new }
+    {
+        let mut view = View {
+            pass: self,
+            snapshot: s,
+            calls: Calls::new(),
+        };
+        view.keys(alloc)
+    }
+}

@@ -1,0 +1,109 @@
+//! One try to bring a node up to its children.
+ghost use Rattle.std.specs.Prelude.{◌≡◌, ℕ, ◌+◌, ◌*◌, ◌<◌, [], slice_index, false, Bool};
+ghost use Rattle.aug_core.specs.Faces.{face};
+ghost use Rattle.aug_core.specs.Tree.{place_count, IsInner, left_of};
+ghost use Rattle.aug_core.specs.Told.{KnowsTable};
+ghost use Rattle.aug_core.specs.Refreshes.{HasNewest, SaysLoaded, Published};
+ghost use Rattle.aug_trie.specs.Goes.{Goes, Took, HasLeaves, HasRoom, IsFree, Tries, part_steps};
+
+use crate::parts::any_part;
+use aug_core::RecordField;
+use aug_monoid::Monoid;
+use aug_words::WordPass;
+
+// Loads the word of a leaf or a node: one step.
+#[inline(always)]
+fn look<A: Monoid, B: Monoid>(pass: &mut WordPass<A, B>, leaves: usize, place: usize) -> u64
+    requires leaves { HasLeaves pass.old.view.shape leaves }
+    requires knows { KnowsTable (face A.parts B.parts) pass.old.view }
+    requires place { place < place_count pass.old.view.shape }
+    ensures table { pass.new.table ≡ pass.old.table }
+    ensures goes { Goes (face A.parts B.parts) 0 [] pass.old.view pass.new.view }
+    ensures took { Took pass.old.view pass.new.view 1 }
+    ensures newest { HasNewest pass.new.view.seen place result }
+{
+    if place < leaves {
+        pass.load_leaf(place)
+    } else {
+        pass.load_node(place)
+    }
+}
+
+// Fills an own record and tries to publish it: six steps.
+#[inline(always)]
+fn publish<A: Monoid, B: Monoid>(
+    pass: &mut WordPass<A, B>,
+    node: usize,
+    from: u64,
+    number: u64,
+    five: [u64; 5],
+) -> bool
+    requires inner { IsInner pass.old.view.shape node }
+    requires knows { KnowsTable (face A.parts B.parts) pass.old.view }
+    requires room { HasRoom pass.old.view number 1 }
+    requires loaded { SaysLoaded (face A.parts B.parts) pass.old.view.shape pass.old.view.seen node from five }
+    ensures table { pass.new.table ≡ pass.old.table }
+    ensures goes { Goes (face A.parts B.parts) (number + 1) [] pass.old.view pass.new.view }
+    ensures took { Took pass.old.view pass.new.view 6 }
+    ensures published { Published pass.old.view.shape node from (slice_index five 0) (slice_index five 1) result pass.new.view.seen }
+    ensures again { result ≡ false → IsFree pass.new.view number }
+{
+    pass.store_record_word(number, RecordField::Left, five[0]);
+    pass.store_record_word(number, RecordField::Right, five[1]);
+    pass.store_record_word(number, RecordField::Count, five[2]);
+    pass.store_record_word(number, RecordField::A, five[3]);
+    pass.store_record_word(number, RecordField::B, five[4]);
+    pass.try_node(node, from, number)
+}
+
+// One try at a node: 9 steps where its children are leaves, else 15. True if the record was published.
+#[inline(always)]
+pub(crate) fn refresh<A: Monoid, B: Monoid>(
+    pass: &mut WordPass<A, B>,
+    leaves: usize,
+    node: usize,
+    number: u64,
+) -> bool
+    requires leaves { HasLeaves pass.old.view.shape leaves }
+    requires inner { IsInner pass.old.view.shape node }
+    requires knows { KnowsTable (face A.parts B.parts) pass.old.view }
+    requires room { HasRoom pass.old.view number 1 }
+    ensures table { pass.new.table ≡ pass.old.table }
+    ensures goes { Goes (face A.parts B.parts) (number + 1) [] pass.old.view pass.new.view }
+    ensures took { Took pass.old.view pass.new.view (9 + 2 * part_steps pass.old.view.shape (left_of pass.old.view.shape node)) }
+    ensures tries { Tries pass.old.view node number result pass.new.view }
+{
+    let from = look(pass, leaves, node);
+    let child = 2 * (node - leaves);
+    let left = look(pass, leaves, child);
+    let right = look(pass, leaves, child + 1);
+    let l = any_part(pass, leaves, child, left);
+    let r = any_part(pass, leaves, child + 1, right);
+    let count = l.count + r.count;
+    let a = l.a.join(r.a).to_word();
+    let b = l.b.join(r.b).to_word();
+    publish(pass, node, from, number, [left, right, count, a, b])
+}
+
+// The same out of line, since it is seldom needed: the pass goes by value, so that its caller can keep it in registers.
+#[cold]
+#[inline(never)]
+pub(crate) fn refresh_again<'r, A: Monoid, B: Monoid>(
+    pass: WordPass<'r, A, B>,
+    leaves: usize,
+    node: usize,
+    number: u64,
+) -> WordPass<'r, A, B>
+    requires leaves { HasLeaves pass.view.shape leaves }
+    requires inner { IsInner pass.view.shape node }
+    requires knows { KnowsTable (face A.parts B.parts) pass.view }
+    requires room { HasRoom pass.view number 1 }
+    ensures table { result.table ≡ pass.entry.table }
+    ensures goes { Goes (face A.parts B.parts) (number + 1) [] pass.entry.view result.view }
+    ensures took { Took pass.entry.view result.view (9 + 2 * part_steps pass.entry.view.shape (left_of pass.entry.view.shape node)) }
+    ensures tries { (done : Bool) × Tries pass.entry.view node number done result.view }
+{
+    let mut pass = pass;
+    refresh(&mut pass, leaves, node, number);
+    pass
+}

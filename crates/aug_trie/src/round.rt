@@ -1,0 +1,99 @@
+//! A round: the table that its passes work on.
+ghost use Rattle.std.specs.Prelude.{◌≡◌, ◌≢◌, ◌↔◌, length, IsErrOf, IfOk, IfErr};
+ghost use Rattle.aug_core.specs.Layout.{IsRefused};
+ghost use Rattle.aug_core.specs.Places.{shape_of};
+ghost use Rattle.aug_trie.specs.Crews.{BeginsRound};
+
+use crate::crew::Crew;
+use crate::ended::Ended;
+use crate::error::BeginError;
+use crate::half::PassHalf;
+use crate::pass::Pass;
+use aug_core::{Layout, LayoutError};
+use aug_monoid::Monoid;
+use aug_words::{Words, WordsError};
+use std::alloc::Global;
+use std::marker::Model;
+
+/// A round: the table that the passes of its crew work on, until it is ended.
+#[derive(Drop)]
+pub struct Round<A: Monoid, B: Monoid> {
+    pub(crate) words: Words<A, B>,
+    pub(crate) layout: Layout,
+}
+
+impl<A: Monoid, B: Monoid> Model for Round<A, B> {
+    ghost use Rattle.std.specs.Prelude.{◌≡◌};
+    ghost use Rattle.aug_trie.specs.Facts.{RoundFacts, store_round};
+
+    ghost Value = { RoundFacts };
+
+    ghost view = { λ r. store_round r.words };
+
+    ghost invariant = { λ r. r.layout ≡ r.words.opening.shape };
+}
+
+impl<A: Monoid, B: Monoid> Round<A, B> {
+    /// Begins a round over the set of a trie at rest, for so many passes, each with so many updates. All memory of the round is
+    /// taken here, and that of the round before is given back. The refusals are tested in the order of `BeginError`, as
+    /// `Layout::new` tests them for the size of the set; after one the same trie comes back.
+    pub fn begin(
+        alloc: Global,
+        ended: Ended<A, B>,
+        workers: u32,
+        updates: u32,
+    ) -> Result<(Round<A, B>, Crew<A, B>), (Ended<A, B>, BeginError)>
+        ensures begun { IfOk result (λ t. BeginsRound ended workers updates t.0 t.1) }
+        ensures same { IfErr result (λ e. e.0 ≡ ended) }
+        ensures bad_workers { IsErrOf result (ended, BeginError.BadWorkers)
+            ↔ IsRefused LayoutError.BadWorkers (shape_of ended.bits workers updates (length ended.members)) }
+        ensures bad_updates { IsErrOf result (ended, BeginError.BadUpdates)
+            ↔ IsRefused LayoutError.BadUpdates (shape_of ended.bits workers updates (length ended.members)) }
+        ensures too_large { IsErrOf result (ended, BeginError.TooLarge)
+            ↔ IsRefused LayoutError.TooLarge (shape_of ended.bits workers updates (length ended.members)) }
+        ensures good_bits { IfErr result (λ e. e.1 ≢ BeginError.BadBits) }
+    {
+        let size = ended.members.len() as u32;
+        let layout = match Layout::new(ended.bits, workers, updates, size) {
+            Ok(layout) => layout,
+            Err(cause) => return Err((ended, BeginError::from(cause))),
+        };
+        match Words::open(alloc, &layout, ended.members.as_slice()) {
+            Ok((words, lead)) => {
+                let crew = Crew {
+                    lead,
+                    back: 0,
+                    inserts: 0,
+                    removals: 0,
+                };
+                Ok((Round { words, layout }, crew))
+            }
+            Err(WordsError::OutOfMemory) => Err((ended, BeginError::OutOfMemory)),
+        }
+    }
+
+    /// The pass of a half that was taken from a pass of this round.
+    pub fn pass<'r>(&'r self, half: PassHalf<A, B>) -> Pass<'r, A, B>
+        requires { half.round ≡ self.now }
+        ensures { result ≡ half }
+    {
+        let PassHalf {
+            words,
+            leaves,
+            bits,
+            next,
+            left,
+            inserts,
+            removals,
+        } = half;
+        Pass {
+            words: Some(self.words.pass(words)),
+            leaves,
+            bits,
+            next,
+            left,
+            inserts,
+            removals,
+        }
+    }
+}

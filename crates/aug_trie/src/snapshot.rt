@@ -1,0 +1,8 @@
+//! What a pass saw at one moment.
+
+/// A snapshot of a pass: the set as the root showed it at one moment. It stays what it is whatever the pass does later.
+#[derive(Clone, Copy)]
+pub struct Snapshot {
+    // The record that the root's word named.
+    pub(crate) number: u64,
+}

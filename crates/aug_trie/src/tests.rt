@@ -1,0 +1,254 @@
+//! What no clause says: that rounds begin and passes get on with their updates, also in threads of their own.
+ghost use Rattle.std.specs.Prelude.{◌≡◌, ◌^◌, ◌<◌, IfOk};
+
+mod looking;
+
+use crate::{BeginError, Crew, CrewError, Ended, Pass, PassHalf, Round};
+use aug_monoid::{Extent, Sum};
+use std::alloc::Global;
+use std::sync::Wait;
+use std::thread;
+use std::thread::Threads;
+
+type Trie = Ended<Sum, Extent>;
+
+type Table = Round<Sum, Extent>;
+
+type Hands = Crew<Sum, Extent>;
+
+type Half = PassHalf<Sum, Extent>;
+
+// A round over the empty set, and its crew.
+fn opened(
+    alloc: Global,
+    bits: u32,
+    workers: u32,
+    updates: u32,
+) -> Result<(Table, Hands), BeginError>
+    ensures bits { IfOk result (λ t. t.0.bits ≡ bits) }
+    ensures together { IfOk result (λ t. t.1.round ≡ t.0) }
+{
+    let ended: Trie = Ended::empty(alloc, bits)?;
+    match Round::begin(alloc, ended, workers, updates) {
+        Ok(begun) => Ok(begun),
+        Err((_, cause)) => Err(cause),
+    }
+}
+
+// The pass of the next lane.
+fn next_pass<'r>(crew: &mut Hands, round: &'r Table) -> Result<Pass<'r, Sum, Extent>, CrewError>
+    requires together { crew.old.round ≡ round.now }
+    ensures together { crew.new.round ≡ round.now }
+    ensures round { IfOk result (λ pass. pass.round ≡ round.now) }
+    ensures bits { IfOk result (λ pass. pass.round.bits ≡ round.now.bits) }
+{
+    crew.pass(round)
+}
+
+// Puts a key in, where an update is left.
+fn put(pass: &mut Pass<Sum, Extent>, bits: u32, key: u32) -> bool
+    requires bits { pass.old.round.bits ≡ bits }
+    requires key { key < 2 ^ bits }
+    ensures bits { pass.new.round.bits ≡ bits }
+    ensures round { pass.new.round ≡ pass.old.round }
+{
+    pass.budget() > 0 && pass.insert(key)
+}
+
+// Takes a key out, where an update is left.
+fn take(pass: &mut Pass<Sum, Extent>, bits: u32, key: u32) -> bool
+    requires bits { pass.old.round.bits ≡ bits }
+    requires key { key < 2 ^ bits }
+    ensures bits { pass.new.round.bits ≡ bits }
+    ensures round { pass.new.round ≡ pass.old.round }
+{
+    pass.budget() > 0 && pass.remove(key)
+}
+
+#[test]
+fn a_pass_counts_its_changes(rt: HostRuntime) -> Result<(), BeginError> {
+    let (round, mut crew) = opened(rt.alloc(), 2, 1, 3)?;
+    let mut pass = next_pass(&mut crew, &round).expect(&rt, "a lane");
+    assert_eq!(rt; pass.lane(), 0);
+    assert_eq!(rt; pass.budget(), 3);
+    assert!(rt; put(&mut pass, 2, 1));
+    pass.snapshot();
+    assert!(rt; put(&mut pass, 2, 2));
+    assert!(rt; take(&mut pass, 2, 1));
+    assert_eq!(rt; pass.budget(), 0);
+    assert_eq!(rt; pass.inserts(), 2);
+    assert_eq!(rt; pass.removals(), 1);
+    Ok(())
+}
+
+#[test]
+fn each_lane_is_handed_out_once(rt: HostRuntime) -> Result<(), BeginError> {
+    let (round, mut crew) = opened(rt.alloc(), 1, 2, 1)?;
+    let first = next_pass(&mut crew, &round).expect(&rt, "lane 0");
+    assert_eq!(rt; first.lane(), 0);
+    let second = next_pass(&mut crew, &round).expect(&rt, "lane 1");
+    assert_eq!(rt; second.lane(), 1);
+    assert!(rt; next_pass(&mut crew, &round).is_err());
+    crew.back(first);
+    assert!(rt; next_pass(&mut crew, &round).is_err());
+    assert_eq!(rt; crew.handed(), 2);
+    Ok(())
+}
+
+// What `begin` refuses these numbers for, for the empty set of 16 bits, which comes back.
+fn refusal(alloc: Global, workers: u32, updates: u32) -> Option<(Trie, BeginError)> {
+    let Ok(ended) = Ended::empty(alloc, 16) else {
+        return None;
+    };
+    match Round::begin(alloc, ended, workers, updates) {
+        Ok(_) => None,
+        Err(refused) => Some(refused),
+    }
+}
+
+#[test]
+fn begin_refuses_in_its_order(rt: HostRuntime) {
+    for (workers, updates, cause) in [
+        (0, 0, BeginError::BadWorkers),
+        (65, 1, BeginError::BadWorkers),
+        (1, 0, BeginError::BadUpdates),
+        (64, 65_537, BeginError::BadUpdates),
+        (64, 13_108, BeginError::TooLarge),
+    ] {
+        let Some((ended, refused)) = refusal(rt.alloc(), workers, updates) else {
+            panic!(rt; "not refused: {workers} workers, {updates} updates")
+        };
+        assert_eq!(rt; refused, cause);
+        assert_eq!(rt; ended.bits(), 16);
+        assert_eq!(rt; ended.universe(), 65_536);
+        assert_eq!(rt; ended.size(), 0);
+        assert!(rt; Round::begin(rt.alloc(), ended, 1, 1).is_ok());
+    }
+}
+
+#[test]
+fn an_empty_trie_has_1_to_16_bits(rt: HostRuntime) {
+    for bits in [0, 17] {
+        let made: Result<Trie, BeginError> = Ended::empty(rt.alloc(), bits);
+        assert_eq!(rt; made.err(), Some(BeginError::BadBits));
+    }
+    for bits in [1, 16] {
+        let made: Result<Trie, BeginError> = Ended::empty(rt.alloc(), bits);
+        let ended = made.expect(&rt, "an empty trie");
+        assert_eq!(rt;
+            (ended.inserts(), ended.removals(), ended.missing()),
+            (0, 0, 0)
+        );
+    }
+}
+
+#[test]
+fn refusals_are_printed_by_their_names(rt: HostRuntime) -> Result<(), std::alloc::AllocError> {
+    for (cause, text) in [
+        (BeginError::BadWorkers, "BadWorkers"),
+        (BeginError::BadUpdates, "BadUpdates"),
+        (BeginError::TooLarge, "TooLarge"),
+        (BeginError::OutOfMemory, "OutOfMemory"),
+        (BeginError::BadBits, "BadBits"),
+    ] {
+        let printed = format!(in rt.alloc(); "{cause}")?;
+        assert_eq!(rt; printed.as_str(), text);
+    }
+    let printed = format!(in rt.alloc(); "{}", CrewError::NoLane)?;
+    assert_eq!(rt; printed.as_str(), "NoLane");
+    Ok(())
+}
+
+// The keys 0 to 15, put in by the pass of a half.
+fn put_all(round: &Table, half: Half) -> Half
+    requires round { half.round ≡ round.now }
+    requires bits { half.round.bits ≡ 4 }
+    ensures { result.round ≡ half.round }
+{
+    let mut pass = round.pass(half);
+    for key in 0..16 {
+        put(&mut pass, 4, key);
+    }
+    pass.into_half()
+}
+
+// Four halves at work, each in a thread of its own.
+fn work<R: Threads + Wait + Sync>(
+    rt: &R,
+    round: &Table,
+    halves: (Half, Half, Half, Half),
+) -> (Half, Half, Half, Half)
+    requires first { (halves.0.round ≡ round.now) × (halves.0.round.bits ≡ 4) }
+    requires second { (halves.1.round ≡ round.now) × (halves.1.round.bits ≡ 4) }
+    requires third { (halves.2.round ≡ round.now) × (halves.2.round.bits ≡ 4) }
+    requires fourth { (halves.3.round ≡ round.now) × (halves.3.round.bits ≡ 4) }
+    ensures { (result.0.round ≡ round.now) × (result.1.round ≡ round.now) × (result.2.round ≡ round.now) × (result.3.round ≡ round.now) }
+{
+    let (one, two, three, four) = halves;
+    let ((one, two), (three, four)) = thread::join(
+        rt,
+        move ||
+            requires { (one.round ≡ round.now) × (one.round.bits ≡ 4) × (two.round ≡ round.now) × (two.round.bits ≡ 4) }
+            ensures { (result.0.round ≡ one.round) × (result.1.round ≡ two.round) }
+        { pair(rt, round, one, two) },
+        move ||
+            requires { (three.round ≡ round.now) × (three.round.bits ≡ 4) × (four.round ≡ round.now) × (four.round.bits ≡ 4) }
+            ensures { (result.0.round ≡ three.round) × (result.1.round ≡ four.round) }
+        { pair(rt, round, three, four) },
+    );
+    (one, two, three, four)
+}
+
+// Two of them.
+fn pair<R: Threads + Wait + Sync>(rt: &R, round: &Table, one: Half, two: Half) -> (Half, Half)
+    requires one { (one.round ≡ round.now) × (one.round.bits ≡ 4) }
+    requires two { (two.round ≡ round.now) × (two.round.bits ≡ 4) }
+    ensures { (result.0.round ≡ one.round) × (result.1.round ≡ two.round) }
+{
+    thread::join(
+        rt,
+        move ||
+            requires { (one.round ≡ round.now) × (one.round.bits ≡ 4) }
+            ensures { result.round ≡ one.round }
+        { put_all(round, one) },
+        move ||
+            requires { (two.round ≡ round.now) × (two.round.bits ≡ 4) }
+            ensures { result.round ≡ two.round }
+        { put_all(round, two) },
+    )
+}
+
+#[test]
+fn four_threads_put_each_key_in_once(rt: HostRuntime) -> Result<(), BeginError> {
+    let (round, mut crew) = opened(rt.alloc(), 4, 4, 16)?;
+    let one = next_pass(&mut crew, &round)
+        .expect(&rt, "lane 0")
+        .into_half();
+    let two = next_pass(&mut crew, &round)
+        .expect(&rt, "lane 1")
+        .into_half();
+    let three = next_pass(&mut crew, &round)
+        .expect(&rt, "lane 2")
+        .into_half();
+    let four = next_pass(&mut crew, &round)
+        .expect(&rt, "lane 3")
+        .into_half();
+    let (one, two, three, four) = work(&rt, &round, (one, two, three, four));
+    let one = round.pass(one);
+    let two = round.pass(two);
+    let three = round.pass(three);
+    let four = round.pass(four);
+    let inserts = u64::from(one.inserts())
+        + u64::from(two.inserts())
+        + u64::from(three.inserts())
+        + u64::from(four.inserts());
+    assert_eq!(rt; inserts, 16);
+    for pass in [&one, &two, &three, &four] {
+        assert_eq!(rt; pass.budget(), 0);
+    }
+    crew.back(one);
+    crew.back(two);
+    crew.back(three);
+    crew.back(four);
+    Ok(())
+}

@@ -10,29 +10,26 @@ use Rattle.aug_core.proofs.PlaceLemmas.{keys-within}
 use Rattle.aug_core.specs.Layout.{IsLayout}
 use Rattle.aug_core.specs.Lanes.{first_record, lane_records}
 use Rattle.aug_core.specs.Tree.{root_place}
-use Rattle.aug_core.specs.Book.{history_of}
 use Rattle.aug_core.specs.Cuts.{Cut, opening_cut}
 use Rattle.aug_core.specs.EntryCuts.{root_cut}
 use Rattle.aug_core.specs.Opening.{Opening, opening_book}
 use Rattle.aug_core.specs.Rule.{newcomer}
-use Rattle.aug_core.specs.Told.{HoldsOnly, KnowsTable, LoadsNode, finishing, taking_back, handed_out, handing_out, taking, own_lane, own_lane_place}
+use Rattle.aug_core.specs.Told.{HoldsOnly, KnowsTable, LoadsNode, finishing, taking_back, handed_out, handing_out, taking}
 use Rattle.aug_core.specs.declared.view.Entry.{Entry}
 use Rattle.aug_core.specs.declared.view.View.{View}
 use Rattle.aug_core.proofs.Openings.{newcomer_knows, inner_history}
 use Rattle.aug_core.proofs.OpeningCuts.{root_inner, opening_first}
 use Rattle.atomic_table.specs.Seated.{TableId}
-use Rattle.aug_words.specs.Leads.{HandsLaneOut}
-use Rattle.aug_words.specs.Seats.{Known, AreTogether}
 use Rattle.aug_trie.specs.Counted.{HasCounts}
 use Rattle.aug_trie.specs.Goes.{HasLeaves}
 use Rattle.aug_trie.specs.Knows.{knows, root_history, KnowsRound}
-use Rattle.aug_trie.specs.Facts.{RoundFacts, PassFacts, IsPass, IsCrew, round_of, pass_facts}
+use Rattle.aug_trie.specs.Facts.{IsPass, IsCrew, round_of, pass_facts}
 use Rattle.aug_trie.specs.Passes.{HandedBack}
 use Rattle.aug_trie.specs.Knowledge.{inserts_of, removals_of}
-use Rattle.aug_trie.specs.Crews.{CrewFacts, crew_facts, HoldsCrew, HandsOut, TakesBack}
+use Rattle.aug_trie.specs.Crews.{crew_facts, HoldsCrew, HandsOut, TakesBack}
 use Rattle.aug_trie.proofs.Counters.{counted_none, is_insertion, is_removal}
 use Rattle.aug_trie.proofs.Counting.{hits-append}
-use Rattle.aug_trie.proofs.Handing.{crew_begins, handed_out_is, handed_back_is, crew_after, pass_table, pass_begins, crew_out, loaded_table}
+use Rattle.aug_trie.proofs.Handing.{crew_begins, handed_out_is, handed_back_is, crew_after, pass_table, pass_begins, crew_out}
 
 module _ (face : ℕ → ℕ → List ℕ → List ℕ) where
   -- the lead of a table that was just opened

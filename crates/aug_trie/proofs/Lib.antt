@@ -20,3 +20,8 @@ pub mod Passing
 pub mod Snapshots
 pub mod Rounds
 pub mod Crews
+pub mod Rising
+pub mod CutLemmas
+pub mod TallyLemmas
+pub mod Versions
+pub mod Endings

@@ -1,5 +1,5 @@
 -- What was begun together.
-use Rattle.std.proofs.Common.{◌≡◌, List, ap}
+use Rattle.std.proofs.Common.{◌≡◌, ap}
 use Rattle.aug_core.specs.Places.{shape_of}
 use Rattle.aug_words.specs.Seats.{Store, Known, AreTogether}
 use Rattle.aug_trie.specs.Facts.{RoundFacts, round_of, store_round}

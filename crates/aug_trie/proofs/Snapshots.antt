@@ -1,5 +1,5 @@
 -- A pass that only looked is one still, and a load of the root is a snapshot.
-use Rattle.std.proofs.Common.{◌≡◌, ◌≢◌, ℕ, zero, suc, ◌+◌, ◌-◌, ◌*◌, ◌^◌, ◌<◌, ◌≤◌, Bool, eqb, eq-eqb, ne_eqb, if◌then◌else◌, List, [], ◌∷◌, ◌++◌, length, length-append, sym, refl, ap, ◌∙◌, subst, ⊎_elim, arith}
+use Rattle.std.proofs.Common.{◌≡◌, ℕ, zero, suc, ◌+◌, ◌-◌, ◌*◌, ◌<◌, ◌≤◌, Bool, eq-eqb, ne_eqb, if◌then◌else◌, List, [], ◌∷◌, ◌++◌, length, length-append, sym, ap, ◌∙◌, subst, ⊎_elim, arith}
 use Rattle.std.proofs.lemmas.Bool.{cases_eq}
 use Rattle.std.proofs.lemmas.List.{append-nil}
 use Rattle.std.proofs.lemmas.List.Elements.{All-nil}
@@ -10,13 +10,12 @@ use Rattle.aug_core.specs.Tree.{IsInner, root_place}
 use Rattle.aug_core.specs.Lanes.{first_record, lane_records}
 use Rattle.aug_core.specs.Book.{Book, history_of, At, IsBook}
 use Rattle.aug_core.specs.Counts.{changes_of}
-use Rattle.aug_core.specs.Cuts.{Cut}
 use Rattle.aug_core.specs.EntryCuts.{root_cut}
 use Rattle.aug_core.specs.Told.{LoadsNode, opening_of}
 use Rattle.aug_core.specs.declared.view.Change.{Change}
 use Rattle.aug_core.specs.declared.view.Entry.{Entry}
 use Rattle.aug_core.specs.declared.view.View.{View}
-use Rattle.aug_core.proofs.Books.{at_below, one_index}
+use Rattle.aug_core.proofs.Books.{one_index}
 use Rattle.aug_core.proofs.OpeningCuts.{root_inner}
 use Rattle.aug_core.proofs.Sizes.{twice}
 use Rattle.aug_trie.specs.Goes.{HasLeaves, Goes}
@@ -27,7 +26,6 @@ use Rattle.aug_trie.specs.Knows.{knows}
 use Rattle.aug_trie.specs.Facts.{index_named, pass_facts, round_of, GoesOn, IsPass}
 use Rattle.atomic_table.specs.Seated.{TableId}
 use Rattle.aug_core.specs.Kinds.{load_node}
-use Rattle.aug_core.specs.Told.{own_lane}
 use Rattle.aug_core.specs.declared.step.StepTaken.{StepTaken}
 use Rattle.aug_trie.proofs.Accepting.{knowledge_on, snapshot_is}
 use Rattle.aug_trie.proofs.Going.{goes_more}

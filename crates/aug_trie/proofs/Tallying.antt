@@ -202,7 +202,7 @@ module _ (face : ℕ → ℕ → List ℕ → List ℕ) (s : St) (id n : ℕ) (v
       together = tallies;
     }
 
-    held_few : length v.held ≤ n
+    pub held_few : length v.held ≤ n
     held_few = let all = hits_all (λ (z : Held). ltb z.lane n) v.held (λ a g pa. lt-ltb g.lane n (r.apart.handed_out id id a n v v g at at spare pa)) in let c = away.counted in omega arith
 
     pub tallies_at_end : (back : ℕ) → length v.held ≡ back → TalliesWithLost v.shape.updates (n - back) first last (changes_of v.held)

@@ -82,7 +82,7 @@ module _ {A B : Type 0} (parts_a : Parts A) (parts_b : Parts B) where
   abbrev both : ℕ → ℕ → List ℕ → List ℕ
   both = face parts_a parts_b
 
-  inner_root : (v : View) → KnowsTable both v → IsInner v.shape (root_place v.shape)
+  pub inner_root : (v : View) → KnowsTable both v → IsInner v.shape (root_place v.shape)
   inner_root v kn = root_inner both (opening_of v) (some_bits both v kn)
 
   -- the top of a snapshot's tree

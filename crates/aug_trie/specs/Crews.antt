@@ -1,13 +1,17 @@
 -- What contracts see of a crew and of a trie at rest; how a round begins, and how its passes come and go.
 use Rattle.std.specs.Prelude.{◌≡◌, ℕ, ◌+◌, ◌%◌, ◌^◌, ◌<◌, ◌≤◌, List, [], ◌∷◌, length, unwrap_or}
 use Rattle.aug_core.specs.Counts.{changes_of}
-use Rattle.aug_core.specs.Cuts.{opening_cut}
+use Rattle.aug_core.specs.Cuts.{opening_cut, set_of_cut}
+use Rattle.aug_model.specs.Keys.{SetFacts}
 use Rattle.aug_core.specs.declared.view.View.{View}
 use Rattle.aug_words.specs.Seats.{Known}
+use Rattle.aug_words.specs.Rests.{AtRest}
+use Rattle.aug_trie.specs.History.{IsHistory, last_cut}
 use Rattle.aug_trie.specs.Knowledge.{Knowledge, IsKnowledge, inserts_of, removals_of}
 use Rattle.aug_trie.specs.Knows.{knows}
 use Rattle.aug_trie.specs.Passes.{HandedOut, HandedBack}
 use Rattle.aug_trie.specs.Facts.{RoundFacts, PassFacts, round_of, IsCrew}
+use Rattle.aug_trie.specs.Tallies.{TalliesWithLost}
 
 -- a crew: its round, what it knows, and how many passes it handed out and took back
 pub record CrewFacts : Type 0 where
@@ -16,13 +20,29 @@ pub record CrewFacts : Type 0 where
   pub handed : ℕ
   pub back : ℕ
 
--- a trie at rest: its bits and members, and what the round that ended it came to
+-- a trie at rest: its bits and members, what the round that ended it came to, how often queries called it, and the words and the root's record that its members are read from
 pub record EndedFacts : Type 0 where
   pub bits : ℕ
   pub members : List ℕ
   pub inserts : ℕ
   pub removals : ℕ
   pub missing : ℕ
+  pub calls : ℕ
+  pub rest : AtRest
+  pub root : ℕ
+
+-- its set, with its bits
+abbrev pub set_of_ended : EndedFacts → SetFacts
+set_of_ended ended = record { bits = ended.bits; list = ended.members }
+
+-- the trie of the empty set, which no round ended
+pub record IsEmptyTrie (bits : ℕ) (ended : EndedFacts) : Type 0 where
+  pub bits_are : ended.bits ≡ bits
+  pub no_members : ended.members ≡ []
+  pub no_inserts : ended.inserts ≡ 0
+  pub no_removals : ended.removals ≡ 0
+  pub none_missing : ended.missing ≡ 0
+  pub no_calls : ended.calls ≡ 0
 
 -- the crew whose seat knows this
 abbrev pub crew_facts : Known → CrewFacts
@@ -67,3 +87,15 @@ pub record TakesBack (old new : CrewFacts) (pass : PassFacts) : Type 0 where
   pub round : new.round ≡ old.round
   pub one_more : new.back ≡ old.back + 1
   pub same_handed : new.handed ≡ old.handed
+
+-- a round ends: its set is that of the last cut that the crew knows; the changes that the crew knows, with lists of those of the passes that did not come back,
+-- are all that happened from the opening cut to that one; and the counts are the crew's
+pub record Ends (crew : CrewFacts) (ended : EndedFacts) : Type 0 where
+  pub bits : ended.bits ≡ crew.round.bits
+  pub members : ended.members ≡ set_of_cut (last_cut crew.knows.history)
+  pub inserts : ended.inserts ≡ inserts_of crew.knows.accepted
+  pub removals : ended.removals ≡ removals_of crew.knows.accepted
+  pub missing : ended.missing + crew.back ≡ crew.handed
+  pub no_calls : ended.calls ≡ 0
+  pub is_history : IsHistory crew.round.bits crew.round.members crew.knows.history
+  pub tallies : TalliesWithLost crew.round.updates ended.missing (opening_cut crew.round.bits crew.round.members) (last_cut crew.knows.history) crew.knows.accepted

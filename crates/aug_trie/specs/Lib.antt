@@ -12,5 +12,8 @@ pub mod Facts
 pub mod Nodes
 pub mod Views
 pub mod ViewLaws
+pub mod Versions
 pub mod Crews
+pub mod EndedTrees
+pub mod EndedLaws
 pub mod Errors

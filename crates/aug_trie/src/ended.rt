@@ -1,34 +1,47 @@
 //! A trie at rest.
-ghost use Rattle.std.specs.Prelude.{◌≡◌, ◌⊎◌, ◌↔◌, ◌^◌, [], length, IsErrOf, IfOk, IfErr};
+ghost use Rattle.std.specs.Prelude.{◌≡◌, ◌⊎◌, ◌↔◌, ◌^◌, length, IsErrOf, IfOk, IfErr};
+ghost use Rattle.aug_core.specs.Faces.{face};
 ghost use Rattle.aug_core.specs.Layout.{IsOutside};
+ghost use Rattle.aug_core.specs.Cuts.{set_of_cut};
+ghost use Rattle.aug_words.specs.Seats.{AreTogether};
+ghost use Rattle.aug_words.specs.Rests.{EndWith};
+ghost use Rattle.aug_trie.specs.History.{last_cut};
+ghost use Rattle.aug_trie.specs.Knows.{knows};
+ghost use Rattle.aug_trie.specs.Crews.{IsEmptyTrie};
 
 use crate::error::BeginError;
+use aug_core::{Layout, RecordField};
 use aug_monoid::Monoid;
+use aug_query::Calls;
+use aug_words::{Lead, Rest, Words, WordsError};
 use std::alloc::Global;
 use std::marker::{Model, PhantomData};
 
-/// A trie at rest: a set of keys that no round works on.
+/// A trie at rest: a set of keys that no round works on. It is a tree, which the queries of `aug_query` walk.
 #[derive(Drop)]
 pub struct Ended<A: Monoid, B: Monoid> {
+    // The words of the round that ended, and the record of the root that its crew knew last: the set is that of this version.
+    pub(crate) rest: Rest,
+    pub(crate) root: u64,
     pub(crate) bits: u32,
-    pub(crate) members: Vec<u32>,
-    // What the round that ended it came to.
+    // What that round came to.
     pub(crate) inserts: u32,
     pub(crate) removals: u32,
     pub(crate) missing: u32,
+    pub(crate) calls: Calls,
     pub(crate) sums: PhantomData<(A, B)>,
 }
 
 impl<A: Monoid, B: Monoid> Model for Ended<A, B> {
-    ghost use Rattle.aug_model.specs.Keys.{IsKeySet};
-    ghost use Rattle.aug_core.specs.Layout.{IsWithin};
+    ghost use Rattle.aug_core.specs.Faces.{face};
     ghost use Rattle.aug_trie.specs.Crews.{EndedFacts};
+    ghost use Rattle.aug_trie.specs.Versions.{keys_below, HoldsVersion};
 
     ghost Value = { EndedFacts };
 
-    ghost view = { λ e. record { bits = e.bits; members = e.members.items; inserts = e.inserts; removals = e.removals; missing = e.missing } };
+    ghost view = { λ e. record { bits = e.bits; members = keys_below e.rest e.bits 0 e.root; inserts = e.inserts; removals = e.removals; missing = e.missing; calls = e.calls.made; rest = e.rest; root = e.root } };
 
-    ghost invariant = { λ e. IsWithin 1 16 e.bits × IsKeySet e.bits e.members.items };
+    ghost invariant = { λ e. HoldsVersion (face A.parts B.parts) e.rest e.root e.bits };
 }
 
 impl<A: Monoid, B: Monoid> Ended<A, B> {
@@ -36,19 +49,41 @@ impl<A: Monoid, B: Monoid> Ended<A, B> {
     pub fn empty(alloc: Global, bits: u32) -> Result<Self, BeginError>
         ensures bad_bits { IsErrOf result BeginError.BadBits ↔ IsOutside 1 16 bits }
         ensures others { IfErr result (λ e. (e ≡ BeginError.BadBits) ⊎ (e ≡ BeginError.OutOfMemory)) }
-        ensures empty { IfOk result (λ t. t ≡ record { bits = bits; members = []; inserts = 0; removals = 0; missing = 0 }) }
+        ensures empty { IfOk result (λ t. IsEmptyTrie bits t) }
     {
-        if !(1..=16).contains(&bits) {
+        let Ok(layout) = Layout::new(bits, 1, 1, 0) else {
             return Err(BeginError::BadBits);
+        };
+        match Words::open(alloc, &layout, &[]) {
+            Ok((words, lead)) => Ok(Ended::at_rest(words, lead, bits)),
+            Err(WordsError::OutOfMemory) => Err(BeginError::OutOfMemory),
         }
-        Ok(Ended {
+    }
+
+    // The trie at rest of the last version of the root that a lead knows, whose table is closed.
+    pub(crate) fn at_rest(words: Words<A, B>, lead: Lead<A, B>, bits: u32) -> Self
+        requires together { AreTogether words lead }
+        requires bits { bits ≡ lead.view.shape.bits }
+        ensures bits { result.bits ≡ bits }
+        ensures members { result.members ≡ set_of_cut (last_cut (knows lead.view).history) }
+        ensures no_inserts { result.inserts ≡ 0 }
+        ensures no_removals { result.removals ≡ 0 }
+        ensures none_missing { result.missing ≡ 0 }
+        ensures no_calls { result.calls ≡ 0 }
+        ensures rule { EndWith (face A.parts B.parts) words.opening lead.view result.rest.words }
+    {
+        let root = lead.root();
+        let rest = words.close(lead);
+        Ended {
+            rest,
+            root,
             bits,
-            members: Vec::new(alloc),
             inserts: 0,
             removals: 0,
             missing: 0,
+            calls: Calls::new(),
             sums: PhantomData,
-        })
+        }
     }
 
     /// How many bits a key has.
@@ -69,7 +104,8 @@ impl<A: Monoid, B: Monoid> Ended<A, B> {
     pub fn size(&self) -> u32
         ensures { result ≡ length self.now.members }
     {
-        self.members.len() as u32
+        let count = self.rest.record_word(self.root, RecordField::Count);
+        count as u32
     }
 
     /// How many keys were put in by the passes that came back in the round that ended it.

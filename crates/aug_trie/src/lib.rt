@@ -4,6 +4,7 @@
 mod climbing;
 mod crew;
 mod ended;
+mod ended_tree;
 mod error;
 mod half;
 mod node;
@@ -22,6 +23,7 @@ mod walks;
 
 pub use crew::Crew;
 pub use ended::Ended;
+pub use ended_tree::EndedNode;
 pub use error::{BeginError, CrewError};
 pub use half::PassHalf;
 pub use node::Node;

@@ -17,7 +17,7 @@ use aug_words::WordPass;
 
 // The summary of what a leaf with this serial covers.
 #[inline(always)]
-fn leaf_summary<A: Monoid, B: Monoid>(key: u32, serial: u64) -> Summary<A, B>
+pub(crate) fn leaf_summary<A: Monoid, B: Monoid>(key: u32, serial: u64) -> Summary<A, B>
     ensures { result ≡ summary_of A.parts B.parts (if serial % 2 == 1 then key ∷ [] else []) }
 {
     let part = leaf_part::<A, B>(key as usize, serial);

@@ -1,8 +1,8 @@
 //! A round: the table that its passes work on.
-ghost use Rattle.std.specs.Prelude.{◌≡◌, ◌≢◌, ◌↔◌, length, IsErrOf, IfOk, IfErr};
+ghost use Rattle.std.specs.Prelude.{◌≡◌, ◌≢◌, ◌↔◌, ◌+◌, length, IsErrOf, IfOk, IfErr};
 ghost use Rattle.aug_core.specs.Layout.{IsRefused};
 ghost use Rattle.aug_core.specs.Places.{shape_of};
-ghost use Rattle.aug_trie.specs.Crews.{BeginsRound};
+ghost use Rattle.aug_trie.specs.Crews.{BeginsRound, Ends};
 
 use crate::crew::Crew;
 use crate::ended::Ended;
@@ -11,6 +11,7 @@ use crate::half::PassHalf;
 use crate::pass::Pass;
 use aug_core::{Layout, LayoutError};
 use aug_monoid::Monoid;
+use aug_query::keys;
 use aug_words::{Words, WordsError};
 use std::alloc::Global;
 use std::marker::Model;
@@ -44,7 +45,7 @@ impl<A: Monoid, B: Monoid> Round<A, B> {
         updates: u32,
     ) -> Result<(Round<A, B>, Crew<A, B>), (Ended<A, B>, BeginError)>
         ensures begun { IfOk result (λ t. BeginsRound ended workers updates t.0 t.1) }
-        ensures same { IfErr result (λ e. e.0 ≡ ended) }
+        ensures same { IfErr result (λ e. e.0 ≡ record ended { calls = e.0.calls }) }
         ensures bad_workers { IsErrOf result (ended, BeginError.BadWorkers)
             ↔ IsRefused LayoutError.BadWorkers (shape_of ended.bits workers updates (length ended.members)) }
         ensures bad_updates { IsErrOf result (ended, BeginError.BadUpdates)
@@ -53,12 +54,15 @@ impl<A: Monoid, B: Monoid> Round<A, B> {
             ↔ IsRefused LayoutError.TooLarge (shape_of ended.bits workers updates (length ended.members)) }
         ensures good_bits { IfErr result (λ e. e.1 ≢ BeginError.BadBits) }
     {
-        let size = ended.members.len() as u32;
-        let layout = match Layout::new(ended.bits, workers, updates, size) {
+        let mut ended = ended;
+        let layout = match Layout::new(ended.bits, workers, updates, ended.size()) {
             Ok(layout) => layout,
             Err(cause) => return Err((ended, BeginError::from(cause))),
         };
-        match Words::open(alloc, &layout, ended.members.as_slice()) {
+        let Ok(members) = keys(alloc, &mut ended) else {
+            return Err((ended, BeginError::OutOfMemory));
+        };
+        match Words::open(alloc, &layout, members.as_slice()) {
             Ok((words, lead)) => {
                 let crew = Crew {
                     lead,
@@ -70,6 +74,28 @@ impl<A: Monoid, B: Monoid> Round<A, B> {
             }
             Err(WordsError::OutOfMemory) => Err((ended, BeginError::OutOfMemory)),
         }
+    }
+
+    /// Ends the round, also where passes did not come back: the set is then that of the last version of the root that the
+    /// crew knows. It makes no step, takes no memory and has no refusal.
+    pub fn end(self, crew: Crew<A, B>) -> Ended<A, B>
+        requires together { crew.round ≡ self }
+        ensures ends { Ends crew result }
+        ensures sizes { result.missing ≡ 0 → length result.members + result.removals ≡ length self.members + result.inserts }
+    {
+        let Round { words, layout } = self;
+        let Crew {
+            lead,
+            back,
+            inserts,
+            removals,
+        } = crew;
+        let handed = lead.handed();
+        let mut ended = Ended::at_rest(words, lead, layout.bits());
+        ended.inserts = inserts;
+        ended.removals = removals;
+        ended.missing = handed - back;
+        ended
     }
 
     /// The pass of a half that was taken from a pass of this round.

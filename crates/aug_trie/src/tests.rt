@@ -1,6 +1,7 @@
 //! What no clause says: that rounds begin and passes get on with their updates, also in threads of their own.
-ghost use Rattle.std.specs.Prelude.{◌≡◌, ◌^◌, ◌<◌, IfOk};
+ghost use Rattle.std.specs.Prelude.{◌≡◌, ◌^◌, ◌<◌, ◌≤◌, IfOk};
 
+mod ending;
 mod looking;
 
 use crate::{BeginError, Crew, CrewError, Ended, Pass, PassHalf, Round};
@@ -26,6 +27,7 @@ fn opened(
     updates: u32,
 ) -> Result<(Table, Hands), BeginError>
     ensures bits { IfOk result (λ t. t.0.bits ≡ bits) }
+    ensures updates { IfOk result (λ t. t.0.updates ≡ updates) }
     ensures together { IfOk result (λ t. t.1.round ≡ t.0) }
 {
     let ended: Trie = Ended::empty(alloc, bits)?;
@@ -41,6 +43,7 @@ fn next_pass<'r>(crew: &mut Hands, round: &'r Table) -> Result<Pass<'r, Sum, Ext
     ensures together { crew.new.round ≡ round.now }
     ensures round { IfOk result (λ pass. pass.round ≡ round.now) }
     ensures bits { IfOk result (λ pass. pass.round.bits ≡ round.now.bits) }
+    ensures fresh { IfOk result (λ pass. pass.spent ≡ 0) }
 {
     crew.pass(round)
 }
@@ -159,15 +162,39 @@ fn refusals_are_printed_by_their_names(rt: HostRuntime) -> Result<(), std::alloc
     Ok(())
 }
 
-// The keys 0 to 15, put in by the pass of a half.
-fn put_all(round: &Table, half: Half) -> Half
+// What a lane does: puts the keys below `keys` in, and so often, and where `out` takes each out again.
+#[derive(Clone, Copy)]
+struct Task {
+    bits: u32,
+    keys: u32,
+    times: u32,
+    out: bool,
+}
+
+// All keys of a task once.
+fn turn(pass: &mut Pass<Sum, Extent>, task: Task)
+    requires bits { pass.old.round.bits ≡ task.bits }
+    requires keys { task.keys ≤ 2 ^ task.bits }
+    ensures round { pass.new.round ≡ pass.old.round }
+{
+    for key in 0..task.keys {
+        put(pass, task.bits, key);
+        if task.out {
+            take(pass, task.bits, key);
+        }
+    }
+}
+
+// A task, done by the pass of a half.
+fn done(round: &Table, half: Half, task: Task) -> Half
     requires round { half.round ≡ round.now }
-    requires bits { half.round.bits ≡ 4 }
+    requires bits { half.round.bits ≡ task.bits }
+    requires keys { task.keys ≤ 2 ^ task.bits }
     ensures { result.round ≡ half.round }
 {
     let mut pass = round.pass(half);
-    for key in 0..16 {
-        put(&mut pass, 4, key);
+    for _ in 0..task.times {
+        turn(&mut pass, task);
     }
     pass.into_half()
 }
@@ -177,78 +204,50 @@ fn work<R: Threads + Wait + Sync>(
     rt: &R,
     round: &Table,
     halves: (Half, Half, Half, Half),
+    task: Task,
 ) -> (Half, Half, Half, Half)
-    requires first { (halves.0.round ≡ round.now) × (halves.0.round.bits ≡ 4) }
-    requires second { (halves.1.round ≡ round.now) × (halves.1.round.bits ≡ 4) }
-    requires third { (halves.2.round ≡ round.now) × (halves.2.round.bits ≡ 4) }
-    requires fourth { (halves.3.round ≡ round.now) × (halves.3.round.bits ≡ 4) }
+    requires rounds { (halves.0.round ≡ round.now) × (halves.1.round ≡ round.now) × (halves.2.round ≡ round.now) × (halves.3.round ≡ round.now) }
+    requires bits { round.now.bits ≡ task.bits }
+    requires keys { task.keys ≤ 2 ^ task.bits }
     ensures { (result.0.round ≡ round.now) × (result.1.round ≡ round.now) × (result.2.round ≡ round.now) × (result.3.round ≡ round.now) }
 {
     let (one, two, three, four) = halves;
     let ((one, two), (three, four)) = thread::join(
         rt,
         move ||
-            requires { (one.round ≡ round.now) × (one.round.bits ≡ 4) × (two.round ≡ round.now) × (two.round.bits ≡ 4) }
+            requires { (one.round ≡ round.now) × (two.round ≡ round.now) × (round.now.bits ≡ task.bits) × (task.keys ≤ 2 ^ task.bits) }
             ensures { (result.0.round ≡ one.round) × (result.1.round ≡ two.round) }
-        { pair(rt, round, one, two) },
+        { pair(rt, round, one, two, task) },
         move ||
-            requires { (three.round ≡ round.now) × (three.round.bits ≡ 4) × (four.round ≡ round.now) × (four.round.bits ≡ 4) }
+            requires { (three.round ≡ round.now) × (four.round ≡ round.now) × (round.now.bits ≡ task.bits) × (task.keys ≤ 2 ^ task.bits) }
             ensures { (result.0.round ≡ three.round) × (result.1.round ≡ four.round) }
-        { pair(rt, round, three, four) },
+        { pair(rt, round, three, four, task) },
     );
     (one, two, three, four)
 }
 
 // Two of them.
-fn pair<R: Threads + Wait + Sync>(rt: &R, round: &Table, one: Half, two: Half) -> (Half, Half)
-    requires one { (one.round ≡ round.now) × (one.round.bits ≡ 4) }
-    requires two { (two.round ≡ round.now) × (two.round.bits ≡ 4) }
+fn pair<R: Threads + Wait + Sync>(
+    rt: &R,
+    round: &Table,
+    one: Half,
+    two: Half,
+    task: Task,
+) -> (Half, Half)
+    requires rounds { (one.round ≡ round.now) × (two.round ≡ round.now) }
+    requires bits { round.now.bits ≡ task.bits }
+    requires keys { task.keys ≤ 2 ^ task.bits }
     ensures { (result.0.round ≡ one.round) × (result.1.round ≡ two.round) }
 {
     thread::join(
         rt,
         move ||
-            requires { (one.round ≡ round.now) × (one.round.bits ≡ 4) }
+            requires { (one.round ≡ round.now) × (round.now.bits ≡ task.bits) × (task.keys ≤ 2 ^ task.bits) }
             ensures { result.round ≡ one.round }
-        { put_all(round, one) },
+        { done(round, one, task) },
         move ||
-            requires { (two.round ≡ round.now) × (two.round.bits ≡ 4) }
+            requires { (two.round ≡ round.now) × (round.now.bits ≡ task.bits) × (task.keys ≤ 2 ^ task.bits) }
             ensures { result.round ≡ two.round }
-        { put_all(round, two) },
+        { done(round, two, task) },
     )
-}
-
-#[test]
-fn four_threads_put_each_key_in_once(rt: HostRuntime) -> Result<(), BeginError> {
-    let (round, mut crew) = opened(rt.alloc(), 4, 4, 16)?;
-    let one = next_pass(&mut crew, &round)
-        .expect(&rt, "lane 0")
-        .into_half();
-    let two = next_pass(&mut crew, &round)
-        .expect(&rt, "lane 1")
-        .into_half();
-    let three = next_pass(&mut crew, &round)
-        .expect(&rt, "lane 2")
-        .into_half();
-    let four = next_pass(&mut crew, &round)
-        .expect(&rt, "lane 3")
-        .into_half();
-    let (one, two, three, four) = work(&rt, &round, (one, two, three, four));
-    let one = round.pass(one);
-    let two = round.pass(two);
-    let three = round.pass(three);
-    let four = round.pass(four);
-    let inserts = u64::from(one.inserts())
-        + u64::from(two.inserts())
-        + u64::from(three.inserts())
-        + u64::from(four.inserts());
-    assert_eq!(rt; inserts, 16);
-    for pass in [&one, &two, &three, &four] {
-        assert_eq!(rt; pass.budget(), 0);
-    }
-    crew.back(one);
-    crew.back(two);
-    crew.back(three);
-    crew.back(four);
-    Ok(())
 }

@@ -13,7 +13,6 @@ use Rattle.aug_model.specs.Queries.{range_of}
 use Rattle.aug_model.proofs.Membership.{is_member-iff_Contains}
 use Rattle.aug_model.proofs.Ranges.{Rises, rises_from, all_below_from, count_few, range_le, range_of_key, no_members}
 use Rattle.aug_core.specs.Places.{Shape, shape_of, own_records, lane_place, record_start, word_count}
-use Rattle.aug_core.specs.Layout.{IsLayout}
 use Rattle.aug_core.specs.Tree.{place_count, IsInner, left_of, right_of, level_start, level_of, place_on}
 use Rattle.aug_core.specs.Lanes.{IsOfLane, block_start, block_size}
 use Rattle.aug_core.specs.Opening.{Opening, members_below, has_members, own_before, number_at, opening_keys, opening_number, opening_words}
@@ -24,8 +23,7 @@ use Rattle.aug_core.proofs.Levels.{OnLevel, halves, no_wider, level_rises, over_
 use Rattle.aug_core.proofs.Below.{own_room, own_rises, number_own, number_shared, number_low, number_below, number_is, keys_are, below_both, true_or_false, keys_over, keys_of_leaf, number_of_leaf}
 use Rattle.aug_core.specs.Rule.{Kept, newcomer}
 use Rattle.atomic_table.specs.Table.{opening}
-use Rattle.aug_core.proofs.Openings.{opens, newcomer_knows}
-use Rattle.aug_words.specs.Seats.{IsLeadSeat}
+use Rattle.aug_core.proofs.Openings.{opens}
 use Rattle.aug_words.specs.declared.building.Plan.{Plan}
 use Rattle.aug_words.specs.Builds.{WritesFive, MarksMembers, IsMarked, nodes_from, next_own, shared_words, IsOwn, HasRecord, IsReady, IsBuilt, IsNextNode}
 
@@ -368,10 +366,6 @@ pub built_opens : (face : ℕ → ℕ → List ℕ → List ℕ) (o : Opening) (
 built_opens face o words set fit built =
     opens face o words (rises o set) fit built.long built.named (λ q k inner small. built.records q inner.past_leaves inner.inside k small) built.idle built.lanes
     (λ lane low k small. built.blocks lane k low small ∙ sym (get_or-replicate (block_size o.shape) k 0 0 small))
-
--- the first seat
-pub first_seat : (face : ℕ → ℕ → List ℕ → List ℕ) (o : Opening) → IsLayout o.shape → IsKeySet o.shape.bits o.members → length o.members ≤ o.shape.members → IsLeadSeat face 0 (newcomer face o, [])
-first_seat face o laid_out set fit = record { live = refl; no_slot = refl; hands_out = refl; knows = newcomer_knows face o laid_out set fit }
 
 -- ---- the tests' table: 2 bits, 3 workers, 2 updates and 2 members have 5 opening records
 

@@ -25,6 +25,7 @@ module _ (face : ℕ → ℕ → List ℕ → List ℕ) (o : Opening) where
     shows_all id v at = let kn = r.each_view id v at in record {
       opening_records = λ q field inner small. r.tree.written q 0 field (opening_entry face o q) inner (opening_at q inner) small;
       idle_records = λ number field is small. r.tree.idle number field is small;
+      seen_records = λ q i field e inner p small. r.tree.written q i field e inner (kn.saw q i e p) small;
       lanes = λ a h p. (kn.holds a h p).state;
       records = λ a number field h p of_lane small. let b = in_block o.shape h.lane number field of_lane small in
           ap (λ (z : ℕ). get_or s.words z 0) b.0 ∙ (kn.holds a h p).exact (5 * (number - first_record o.shape h.lane) + field) b.1;

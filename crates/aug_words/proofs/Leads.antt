@@ -1,13 +1,13 @@
 -- The seat of a lead, and the table that it sits at.
-use Rattle.std.proofs.Common.{◌≡◌, ℕ, ◌+◌, ◌<◌, ◌≤◌, List, [], ◌∷◌, ◌++◌, Option, None, Some, option_map, sym, refl, ap, ◌∙◌, subst, arith}
+use Rattle.std.proofs.Common.{◌≡◌, ℕ, ◌+◌, ◌<◌, ◌≤◌, List, [], ◌∷◌, ◌++◌, length, Option, None, Some, option_map, sym, refl, ap, ◌∙◌, subst, arith}
 use Rattle.std.specs.Prelude.{unwrap_or}
 use Rattle.std.proofs.lemmas.List.{length-replicate}
 use Rattle.aug_core.specs.Lanes.{IsOfLane, block_size}
 use Rattle.aug_core.specs.Tree.{IsInner, root_place}
 use Rattle.aug_core.specs.Places.{word_count}
-use Rattle.aug_core.specs.Book.{Continues, GoesOnFromBoth}
+use Rattle.aug_core.specs.Book.{Continues, IsNewest, GoesOnFromBoth}
 use Rattle.aug_core.specs.Kinds.{take_lane}
-use Rattle.aug_core.specs.Rule.{no_beginning}
+use Rattle.aug_core.specs.Rule.{newcomer, no_beginning}
 use Rattle.aug_core.specs.Told.{LoadsNode, handing_out, handed_out, taking, taking_back, in_state, new_lane, own_lane_place, MayStore, MayChange}
 use Rattle.aug_core.specs.declared.view.View.{View}
 use Rattle.aug_core.proofs.PlaceLemmas.{keys-within}
@@ -17,7 +17,13 @@ use Rattle.aug_core.proofs.Clients.{new_pass_may_store, new_pass_may_change}
 use Rattle.aug_core.proofs.Fits.{knows_shown, knows_same}
 use Rattle.atomic_table.specs.Seated.{TableId}
 use Rattle.aug_core.specs.Places.{Shape}
-use Rattle.aug_core.specs.Opening.{Opening}
+use Rattle.aug_core.specs.Opening.{Opening, opening_number, opening_entry}
+use Rattle.aug_core.specs.declared.view.Entry.{Entry}
+use Rattle.aug_core.specs.Layout.{IsLayout}
+use Rattle.aug_core.proofs.Openings.{newcomer_knows, inner_history}
+use Rattle.aug_model.specs.Keys.{IsKeySet}
+use mathlib.Core.Option.{some}
+use lib.ListN.{get_elem?}
 use Rattle.aug_words.specs.Leads.{HandsLaneOut}
 use Rattle.aug_words.specs.Seats.{Sat, HandsOut, SitsAt, IsPassSeat, IsLeadSeat, IsStore}
 
@@ -36,32 +42,55 @@ lanes_at table opening layout lanes records store = let begins = store.lanes_are
 pub root_inner : (s : Shape) → 1 ≤ s.bits → s.bits ≤ 16 → IsInner s (root_place s)
 root_inner s some_bits few = let b = (keys-within s.bits some_bits few).0 in let t = twice s.bits in record { past_leaves = omega arith; inside = omega arith }
 
-module _ (face : ℕ → ℕ → List ℕ → List ℕ) (next : ℕ) (me me' : Sat) (seat : IsLeadSeat face next me) where
-  -- a lead that loaded a node's word
-  pub lead_loaded : (q found : ℕ) → me'.1 ≡ [] → LoadsNode face me.0 q found me'.0 → IsLeadSeat face next me'
-  lead_loaded q found empty did = let is = did.stepped in record {
+-- the first seat, which has the number of the root's opening record
+pub first_seat : (face : ℕ → ℕ → List ℕ → List ℕ) (o : Opening) (number : ℕ) → IsLayout o.shape → IsKeySet o.shape.bits o.members → length o.members ≤ o.shape.members → number ≡ opening_number o (root_place o.shape) → IsLeadSeat face 0 number (newcomer face o, [])
+first_seat face o number laid_out set fit named = let inner = root_inner o.shape laid_out.bits.0 laid_out.bits.1 in let only = inner_history face o (root_place o.shape) inner in record {
+  live = refl;
+  no_slot = refl;
+  hands_out = refl;
+  knows = newcomer_knows face o laid_out set fit;
+  names_root = record {
+    index = 0;
+    entry = opening_entry face o (root_place o.shape);
+    newest = record { at = subst (λ (z : List Entry). get_elem? z 0 ≡ some (opening_entry face o (root_place o.shape))) (sym only) refl; last = ap (λ (z : List Entry). length z) only };
+    named = named;
+  };
+}
+
+module _ (face : ℕ → ℕ → List ℕ → List ℕ) (next root : ℕ) (me me' : Sat) (seat : IsLeadSeat face next root me) where
+  -- a lead that loaded the root's word
+  pub lead_loaded : (found : ℕ) → me'.1 ≡ [] → LoadsNode face me.0 (root_place me.0.shape) found me'.0 → IsLeadSeat face next found me'
+  lead_loaded found empty did = let is = did.stepped in record {
     live = ap (λ (z : View). z.live) is ∙ seat.live;
     no_slot = empty;
     hands_out = ap (λ (z : View). z.spare) is ∙ seat.hands_out;
     knows = knows_shown face me.0 me'.0 seat.knows did.sees (ap (λ (z : View). z.shape) is) (ap (λ (z : View). z.members) is);
+    names_root = record {
+      index = did.index;
+      entry = did.entry;
+      newest = subst (λ (z : Shape). IsNewest me'.0.seen (root_place z) did.index did.entry) (sym (ap (λ (z : View). z.shape) is)) did.newest;
+      named = did.found;
+    };
   }
 
   -- one that handed a lane out
-  pub lead_handed : me'.0 ≡ handing_out me.0 → me'.1 ≡ me.1 → IsLeadSeat face (next + 1) me'
-  lead_handed is same = subst (IsLeadSeat face (next + 1)) (λ i. (sym is i, sym same i)) record {
+  pub lead_handed : me'.0 ≡ handing_out me.0 → me'.1 ≡ me.1 → IsLeadSeat face (next + 1) root me'
+  lead_handed is same = subst (IsLeadSeat face (next + 1) root) (λ i. (sym is i, sym same i)) record {
     live = seat.live;
     no_slot = seat.no_slot;
     hands_out = ap (option_map (λ n. n + 1)) seat.hands_out;
     knows = knows_same face me.0 me.0.live me.0.also me.0.held (option_map (λ n. n + 1) me.0.spare) me.0.began me.0.steps seat.knows;
+    names_root = let at = seat.names_root in record { index = at.index; entry = at.entry; newest = at.newest; named = at.named };
   }
 
   -- one that took a pass in
-  pub lead_joined : (w : View) → me'.0 ≡ taking_back me.0 w → me'.1 ≡ me.1 → IsLeadSeat face next me'
-  lead_joined w is same = subst (IsLeadSeat face next) (λ i. (sym is i, sym same i)) record {
+  pub lead_joined : (w : View) → me'.0 ≡ taking_back me.0 w → me'.1 ≡ me.1 → IsLeadSeat face next root me'
+  lead_joined w is same = subst (IsLeadSeat face next root) (λ i. (sym is i, sym same i)) record {
     live = seat.live;
     no_slot = seat.no_slot;
     hands_out = seat.hands_out;
     knows = knows_same face me.0 me.0.live w.seen (me.0.held ++ w.held) me.0.spare me.0.began me.0.steps seat.knows;
+    names_root = let at = seat.names_root in record { index = at.index; entry = at.entry; newest = at.newest; named = at.named };
   }
 
 -- a lead that may hand a lane out may do so after it loaded a node
@@ -71,8 +100,8 @@ may_hand_out face old new q found lane next did room spare =
     let shaped = ap (λ (z : View). z.shape) did.stepped in subst (λ (z : Shape). next < z.workers) (sym shaped) (let low = room.exists in omega arith)
 
 -- the seat that was split off a lead's, once it took its lane
-pub new_pass : (face : ℕ → ℕ → List ℕ → List ℕ) (next place : ℕ) (lead me : Sat) → IsLeadSeat face next lead → next < lead.0.shape.workers → me.1 ≡ [] → me.0 ≡ taking (handed_out lead.0) place → IsPassSeat face next me
-new_pass face next place lead me seat low empty is =
+pub new_pass : (face : ℕ → ℕ → List ℕ → List ℕ) (next root place : ℕ) (lead me : Sat) → IsLeadSeat face next root lead → next < lead.0.shape.workers → me.1 ≡ [] → me.0 ≡ taking (handed_out lead.0) place → IsPassSeat face next me
+new_pass face next root place lead me seat low empty is =
     let which : unwrap_or lead.0.spare 0 ≡ next = ap (λ (z : Option ℕ). unwrap_or z 0) seat.hands_out in
     subst (IsPassSeat face next) (λ i. (sym is i, sym empty i)) record {
       live = seat.live;

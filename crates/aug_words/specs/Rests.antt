@@ -7,9 +7,11 @@ use Rattle.aug_core.specs.Layout.{IsLayout}
 use Rattle.aug_core.specs.Places.{Shape, lane_place, record_start, word_count}
 use Rattle.aug_core.specs.Tree.{IsInner}
 use Rattle.aug_core.specs.Lanes.{IsOfLane}
+use Rattle.aug_core.specs.Book.{At}
 use Rattle.aug_core.specs.Opening.{Opening, IsIdle, opening_number, opening_words}
 use Rattle.aug_core.specs.Rule.{Kept}
 use Rattle.aug_core.specs.Told.{held_word}
+use Rattle.aug_core.specs.declared.view.Entry.{Entry}
 use Rattle.aug_core.specs.declared.view.Held.{Held}
 use Rattle.aug_core.specs.declared.view.View.{View}
 
@@ -40,6 +42,8 @@ module _ (face : ℕ → ℕ → List ℕ → List ℕ) (o : Opening) (v : View)
     pub opening_records : (q field : ℕ) → IsInner o.shape q → field < 5 → slice_index words (record_start o.shape (opening_number o q) + field) ≡ slice_index (opening_words face o q) field
     -- and those of an opening record that no node opened with are zeros
     pub idle_records : (number field : ℕ) → IsIdle o number → field < 5 → slice_index words (record_start o.shape number + field) ≡ 0
+    -- the words of every record that the view has seen are its entry's
+    pub seen_records : (q i field : ℕ) (e : Entry) → IsInner o.shape q → At v.seen q i e → field < 5 → slice_index words (record_start o.shape e.number + field) ≡ slice_index e.words field
     -- a lane of the view is as the view has it
     pub lanes : (a : ℕ) (h : Held) → get_elem? v.held a ≡ some h → slice_index words (lane_place o.shape h.lane) ≡ h.state
     -- and so is each word of its records

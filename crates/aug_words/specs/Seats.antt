@@ -6,9 +6,9 @@ use Rattle.atomic_table.specs.Table.{Me}
 use Rattle.atomic_table.specs.Seated.{TableId}
 use Rattle.aug_core.specs.Places.{Shape, lane_place, record_start, word_count}
 use Rattle.aug_core.specs.Layout.{IsLayout}
-use Rattle.aug_core.specs.Tree.{IsInner}
+use Rattle.aug_core.specs.Tree.{root_place, IsInner}
 use Rattle.aug_core.specs.Lanes.{IsOfLane, block_size}
-use Rattle.aug_core.specs.Book.{At}
+use Rattle.aug_core.specs.Book.{At, IsNewest}
 use Rattle.aug_core.specs.Opening.{Opening}
 use Rattle.aug_core.specs.Kinds.{load_record_word}
 use Rattle.aug_core.specs.Told.{stepping, held_word, HoldsOnly, HasSeen, Owns, KnowsTable, TriesLeaf, TriesNode}
@@ -76,6 +76,13 @@ pub record HasReached (v : View) (key serial : ℕ) : Type 0 where
   pub entry : Entry
   pub at : At v.seen key serial entry
 
+-- the number is that of the newest record of the root that the view has seen
+pub record NamesRoot (v : View) (number : ℕ) : Type 0 where
+  pub index : ℕ
+  pub entry : Entry
+  pub newest : IsNewest v.seen (root_place v.shape) index entry
+  pub named : number ≡ entry.number
+
 module _ (face : ℕ → ℕ → List ℕ → List ℕ) where
   -- what is so of the seat of a pass: it has one lane, which is taken, and all words of its records, and knows its table
   pub record IsPassSeat (lane : ℕ) (me : Sat) : Type 0 where
@@ -89,12 +96,13 @@ module _ (face : ℕ → ℕ → List ℕ → List ℕ) where
     pub exists : lane < me.0.shape.workers
     pub knows : KnowsTable face me.0
 
-  -- what is so of the seat of a lead: it hands out the lanes from the next one on, and knows its table
-  pub record IsLeadSeat (next : ℕ) (me : Sat) : Type 0 where
+  -- what is so of the seat of a lead: it hands out the lanes from the next one on, knows its table, and has the number of the root's newest record
+  pub record IsLeadSeat (next root : ℕ) (me : Sat) : Type 0 where
     pub live : me.0.live ≡ true
     pub no_slot : me.1 ≡ []
     pub hands_out : me.0.spare ≡ Some next
     pub knows : KnowsTable face me.0
+    pub names_root : NamesRoot me.0 root
 
   -- the answer says whether the leaf's word was the serial
   pub record TriedLeaf (v : View) (key serial : ℕ) (done : Bool) (w : View) : Type 0 where

@@ -4,7 +4,7 @@ ghost use Rattle.aug_core.specs.Faces.{face};
 ghost use Rattle.aug_core.specs.Tree.{root_place};
 ghost use Rattle.aug_core.specs.Told.{LoadsNode, MayTake, HasTakenLane, KnowsTable, taking, finishing, own_lane_place};
 ghost use Rattle.aug_words.specs.Leads.{HandsLaneOut, TakesLaneBack};
-ghost use Rattle.aug_words.specs.Seats.{AreTogether, IsOfLead, HandsOut};
+ghost use Rattle.aug_words.specs.Seats.{AreTogether, IsOfLead, HandsOut, NamesRoot};
 
 use crate::half::WordHalf;
 use crate::pass::WordPass;
@@ -20,6 +20,8 @@ pub struct Lead<A: Monoid, B: Monoid> {
     pub(crate) seat: Seat<(), View>,
     // The lane that is handed out next.
     pub(crate) next: u32,
+    // The number of the newest record of the root that the lead has seen.
+    pub(crate) root: u64,
     pub(crate) sums: PhantomData<(A, B)>,
 }
 
@@ -31,7 +33,7 @@ impl<A: Monoid, B: Monoid> Model for Lead<A, B> {
 
     ghost view = { λ p. record { table = p.seat.table_id; view = p.seat.me.0 } };
 
-    ghost invariant = { λ p. IsLeadSeat (face A.parts B.parts) p.next p.seat.me };
+    ghost invariant = { λ p. IsLeadSeat (face A.parts B.parts) p.next p.root p.seat.me };
 }
 
 // Takes the lane of a seat that was just split off: a compare-exchange of its word from free to taken.
@@ -81,15 +83,25 @@ impl<A: Monoid, B: Monoid> Lead<A, B> {
         self.next
     }
 
+    /// The number of the root's record that its last load of the root found, or with which the table opened: the newest
+    /// that it knows.
+    pub fn root(&self) -> u64
+        ensures value { NamesRoot self.now.view result }
+        ensures knows { KnowsTable (face A.parts B.parts) self.now.view }
+    {
+        self.root
+    }
+
     // Loads the root's word: the lead then knows all that was published, and all that a pass that it took back knew.
-    fn load_root(&mut self, words: &SharedWords<A, B>, root: usize) -> u64
+    fn load_root(&mut self, words: &SharedWords<A, B>, root: usize)
         requires table { self.old.table ≡ words.now.table_id }
         requires inside { root < words.now.table_id.words }
         requires root { root ≡ root_place self.old.view.shape }
         ensures table { self.new.table ≡ self.old.table }
-        ensures view { LoadsNode (face A.parts B.parts) self.old.view (root_place self.old.view.shape) result self.new.view }
+        ensures view { (found : ℕ) × LoadsNode (face A.parts B.parts) self.old.view (root_place self.old.view.shape) found self.new.view }
     {
-        words.load::<LoadAnyNode<A, B>>(&mut self.seat, root)
+        let number = words.load::<LoadAnyNode<A, B>>(&mut self.seat, root);
+        self.root = number;
     }
 
     /// Makes a pass with the next lane: loads the root, splits a seat off, which knows what the lead then knows, and

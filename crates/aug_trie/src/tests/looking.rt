@@ -6,6 +6,8 @@ ghost use Rattle.aug_trie.specs.Facts.{HasSnapshot, snapshot_cut};
 ghost use Rattle.aug_trie.specs.Nodes.{HasNode, Reads, set_at};
 ghost use Rattle.aug_trie.specs.TreeOf.{IsTreeOf};
 
+use super::{next_pass, opened};
+use crate::error::BeginError;
 use crate::node::Node;
 use crate::pass::Pass;
 use crate::snapshot::Snapshot;
@@ -41,4 +43,48 @@ fn left_later<A: Monoid, B: Monoid>(
 {
     pass.remove(k);
     pass.left(node)
+}
+
+// How many members a snapshot shows, and whether 1 and 2 are among them.
+type Seen = (u32, bool, bool);
+
+// What the snapshot shows.
+fn seen<A: Monoid, B: Monoid>(pass: &mut Pass<'_, A, B>, s: Snapshot) -> Seen
+    requires snapshot { HasSnapshot pass.old s.number }
+    ensures snapshot { HasSnapshot pass.new s.number }
+    ensures round { pass.new.round ≡ pass.old.round }
+    ensures spent { pass.new.spent ≡ pass.old.spent }
+{
+    (pass.size(s), pass.has(s, 1), pass.has(s, 2))
+}
+
+// Puts 1 in, takes a snapshot, puts 2 in and takes 1 out: the answers, what the snapshot shows before and after, and what a new
+// one shows.
+fn changed<A: Monoid, B: Monoid>(
+    pass: &mut Pass<'_, A, B>,
+) -> ((bool, bool, bool), Seen, Seen, Seen)
+    requires bits { pass.old.round.bits ≡ 2 }
+    requires budget { pass.old.spent + 3 ≤ pass.old.round.updates }
+{
+    let one = pass.insert(1);
+    let early = pass.snapshot();
+    let before = seen(pass, early);
+    let two = pass.insert(2);
+    let out = pass.remove(1);
+    let after = seen(pass, early);
+    let late = pass.snapshot();
+    ((one, two, out), before, after, seen(pass, late))
+}
+
+#[test]
+fn a_snapshot_stays_what_it_was(rt: HostRuntime) -> Result<(), BeginError> {
+    let (round, mut crew) = opened(rt.alloc(), 2, 1, 3)?;
+    let mut pass = next_pass(&mut crew, &round).expect(&rt, "a lane");
+    let (done, before, after, now) = changed(&mut pass);
+    assert_eq!(rt; done, (true, true, true));
+    assert_eq!(rt; before, (1, true, false));
+    assert_eq!(rt; after, (1, true, false));
+    assert_eq!(rt; now, (1, false, true));
+    assert_eq!(rt; (pass.budget(), pass.inserts(), pass.removals()), (0, 2, 1));
+    Ok(())
 }

@@ -1,4 +1,4 @@
-use Rattle.std.proofs.Common.{Some, Option, arith, rules, ap, subst, sym, refl, ◌∙◌, ◌≡◌, ◌+◌, ◌%◌, ◌^◌, ℕ}
+use Rattle.std.proofs.Common.{Option, ap, subst, sym, refl, ◌∙◌, ◌≡◌, ◌+◌, ◌%◌, ℕ}
 use Rattle.atomic_table.specs.Seated.{TableId}
 use Rattle.aug_core.specs.Faces.{face}
 use Rattle.aug_core.specs.Places.{shape_of}
@@ -8,7 +8,7 @@ use Rattle.aug_core.specs.declared.view.View.{View}
 use Rattle.aug_words.specs.Seats.{Known}
 use Rattle.aug_trie.specs.Counted.{HasCounts}
 use Rattle.aug_trie.specs.Facts.{RoundFacts, PassFacts, round_of, pass_facts, known_in}
-use Rattle.aug_trie.specs.Crews.{CrewFacts, crew_facts, HoldsCrew, TakesBack}
+use Rattle.aug_trie.specs.Crews.{CrewFacts, crew_facts, TakesBack}
 use Rattle.aug_trie.proofs.Passing.{pass_told}
 use Rattle.aug_trie.proofs.Crews.{back_crew, takes_back_is}
 use Rattle.aug_trie.proofs.crew.Crew.back.Goals as goal

@@ -1,4 +1,4 @@
-use Rattle.std.proofs.Common.{Some, Option, arith, rules, ap, subst, sym, refl, ◌∙◌, ◌≡◌, ◌+◌, ◌*◌, ◌%◌, ◌^◌, ◌<◌, ◌≤◌, ℕ}
+use Rattle.std.proofs.Common.{Option, arith, ap, subst, sym, refl, ◌∙◌, ◌≡◌, ◌*◌, ◌%◌, ◌^◌, ◌<◌, ℕ}
 use Rattle.std.specs.Prelude.{unwrap_or}
 use Rattle.std.proofs.lemmas.Nat.{one_shl}
 use Rattle.atomic_table.specs.Seated.{TableId}
@@ -6,7 +6,7 @@ use Rattle.aug_core.specs.Faces.{face}
 use Rattle.aug_core.specs.Places.{Shape}
 use Rattle.aug_core.specs.Layout.{IsLayout}
 use Rattle.aug_core.specs.Counts.{changes_of}
-use Rattle.aug_core.specs.Told.{handed_out, handing_out, taking, own_lane_place}
+use Rattle.aug_core.specs.Told.{handed_out, taking, own_lane_place}
 use Rattle.aug_core.specs.declared.view.View.{View}
 use Rattle.aug_words.specs.Seats.{Known}
 use Rattle.aug_trie.specs.Counted.{HasCounts}

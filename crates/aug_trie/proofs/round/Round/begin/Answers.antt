@@ -1,13 +1,12 @@
 use Rattle.std.proofs.Common.{arith, rules, ap, subst, sym, ◌∙◌, ◌≡◌, ℕ, List, [], ◌∷◌, length}
 use Rattle.std.specs.Prelude.{unwrap_or}
 use Rattle.aug_model.specs.Keys.{IsKeySet}
-use Rattle.aug_model.proofs.Boundaries.{IsKeySet-few}
 use Rattle.aug_core.specs.Cuts.{opening_cut}
 use Rattle.aug_core.specs.Faces.{face}
 use Rattle.aug_core.specs.Places.{Shape, shape_of}
 use Rattle.aug_core.specs.Layout.{IsLayout}
 use Rattle.aug_core.specs.Opening.{Opening}
-use Rattle.aug_core.proofs.PlaceLemmas.{keys-within}
+use Rattle.aug_trie.specs.Versions.{keys_below}
 use Rattle.aug_core.specs.declared.view.View.{View}
 use Rattle.aug_words.specs.Seats.{Known}
 use Rattle.aug_trie.specs.Knows.{knows}
@@ -16,30 +15,26 @@ use Rattle.aug_trie.specs.Crews.{EndedFacts, HoldsCrew, BeginsRound, crew_facts}
 use Rattle.aug_trie.proofs.Crews.{begins_crew, begins_history}
 use Rattle.aug_trie.proofs.round.Round.begin.Goals as goal
 
-pub overflow_cast-size : goal.overflow_cast-size
-overflow_cast-size g c = let e = c.ended.inside in let inv = c.ended.invariant in let few = IsKeySet-few e.bits e.members.items inv.1 in let keys = keys-within e.bits inv.0.0 inv.0.1 in
-    let size : c.len-size.result ≡ length e.members.items = (let told = c.len-size.ensures in omega arith) in omega arith
-
 pub invariant_of-crew : goal.invariant_of-crew
 invariant_of-crew g c = let f = face g.A.Monoid.parts g.B.Monoid.parts in let e = c.ended.inside in let o : Opening = c.in-Ok-open.words.opening in let opened = c.in-Ok-open.ensures.opening in
-    let shape : o.shape ≡ shape_of e.bits c.args.workers c.args.updates c.len-size.result = opened.0 ∙ c.in-Ok.ensures.layout in
-    let members : o.members ≡ e.members.items = opened.1 ∙ c.as_slice.ensures.value in
-    let laid : IsLayout (shape_of e.bits c.args.workers c.args.updates c.len-size.result) = search rules in
-    let size : c.len-size.result ≡ length e.members.items = (let told = c.len-size.ensures in omega arith) in
-    let room : o.shape.members ≡ c.len-size.result = ap (λ (z : Shape). z.members) shape in
-    let long : length o.members ≡ length e.members.items = ap (λ (z : List ℕ). length z) members in
+    let shape : o.shape ≡ shape_of e.bits c.args.workers c.args.updates c.size.result = opened.0 ∙ c.in-Ok.ensures.layout in
+    let list : List ℕ = keys_below e.rest e.bits 0 e.root in let members : o.members ≡ list = opened.1 ∙ c.as_slice.ensures.value ∙ c.in-Ok-keys.ensures.answer ∙ sym (ap (λ (z : EndedFacts). z.members) c.ended.view_is) in
+    let laid : IsLayout (shape_of e.bits c.args.workers c.args.updates c.size.result) = search rules in
+    let size : c.size.result ≡ length list = c.size.ensures ∙ sym (ap (λ (z : EndedFacts). length z.members) c.ended.view_is) in
+    let room : o.shape.members ≡ c.size.result = ap (λ (z : Shape). z.members) shape in
+    let long : length o.members ≡ length list = ap (λ (z : List ℕ). length z) members in
     subst (λ (z : View). HoldsCrew f z 0 0 0) (sym c.in-Ok-open.ensures.lead)
-    (begins_crew f o (subst IsLayout (sym shape) laid) (subst (λ (z : Shape × List ℕ). IsKeySet z.0.bits z.1) (λ j. (sym shape j, sym members j)) c.ended.invariant.1) (omega arith))
+    (begins_crew f o (subst IsLayout (sym shape) laid) (subst (λ (z : Shape × List ℕ). IsKeySet z.0.bits z.1) (λ j. (sym shape j, sym members j)) c.ended.invariant.is_key_set) (omega arith))
 
 pub returns-in-Ok-open-clause-begun : goal.returns-in-Ok-open-clause-begun
 returns-in-Ok-open-clause-begun g c = let f = face g.A.Monoid.parts g.B.Monoid.parts in let e = c.ended.inside in let o : Opening = c.in-Ok-open.words.opening in let opened = c.in-Ok-open.ensures.opening in
-    let shape : o.shape ≡ shape_of e.bits c.args.workers c.args.updates c.len-size.result = opened.0 ∙ c.in-Ok.ensures.layout in
-    let members : o.members ≡ e.members.items = opened.1 ∙ c.as_slice.ensures.value in
-    let laid : IsLayout (shape_of e.bits c.args.workers c.args.updates c.len-size.result) = search rules in
-    let size : c.len-size.result ≡ length e.members.items = (let told = c.len-size.ensures in omega arith) in
-    let room : o.shape.members ≡ c.len-size.result = ap (λ (z : Shape). z.members) shape in
-    let long : length o.members ≡ length e.members.items = ap (λ (z : List ℕ). length z) members in
-    let first = begins_history f o (subst IsLayout (sym shape) laid) (subst (λ (z : Shape × List ℕ). IsKeySet z.0.bits z.1) (λ j. (sym shape j, sym members j)) c.ended.invariant.1) (omega arith) in
+    let shape : o.shape ≡ shape_of e.bits c.args.workers c.args.updates c.size.result = opened.0 ∙ c.in-Ok.ensures.layout in
+    let list : List ℕ = keys_below e.rest e.bits 0 e.root in let members : o.members ≡ list = opened.1 ∙ c.as_slice.ensures.value ∙ c.in-Ok-keys.ensures.answer ∙ sym (ap (λ (z : EndedFacts). z.members) c.ended.view_is) in
+    let laid : IsLayout (shape_of e.bits c.args.workers c.args.updates c.size.result) = search rules in
+    let size : c.size.result ≡ length list = c.size.ensures ∙ sym (ap (λ (z : EndedFacts). length z.members) c.ended.view_is) in
+    let room : o.shape.members ≡ c.size.result = ap (λ (z : Shape). z.members) shape in
+    let long : length o.members ≡ length list = ap (λ (z : List ℕ). length z) members in
+    let first = begins_history f o (subst IsLayout (sym shape) laid) (subst (λ (z : Shape × List ℕ). IsKeySet z.0.bits z.1) (λ j. (sym shape j, sym members j)) c.ended.invariant.is_key_set) (omega arith) in
     let lead : Known = c.in-Ok-open.lead in let is = c.in-Ok-open.ensures.lead in let tog = c.in-Ok-open.ensures.together in
     subst (λ (z : EndedFacts). BeginsRound z c.args.workers c.args.updates (store_round c.in-Ok-open.words) (crew_facts lead)) c.ended.view_is record {
       bits = ap (λ (z : Shape). z.bits) shape;

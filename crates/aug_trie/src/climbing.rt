@@ -7,32 +7,32 @@ ghost use Rattle.aug_core.specs.Refreshes.{NewestCovers};
 ghost use Rattle.aug_core.specs.Shows.{Lifts};
 ghost use Rattle.aug_trie.specs.Goes.{Goes, TookBetween, HasLeaves, HasRoom, part_steps};
 
-use crate::refreshing::{refresh, refresh_again};
+use crate::refreshing::refresh;
 use aug_monoid::Monoid;
 use aug_words::WordPass;
 
-// One try at a node, and a second one if the first one's exchange failed. There is no third.
+// One try at a node, and a second one if the first one's exchange failed. There is no third. The pass is lent: one that came and went
+// by value here would cost its caller instructions at each turn, though the second try is seldom made.
 #[inline(always)]
-fn refresh_twice<'r, A: Monoid, B: Monoid>(
-    pass: WordPass<'r, A, B>,
+fn refresh_twice<A: Monoid, B: Monoid>(
+    pass: &mut WordPass<A, B>,
     leaves: usize,
     node: usize,
     number: u64,
-) -> WordPass<'r, A, B>
-    requires leaves { HasLeaves pass.view.shape leaves }
-    requires inner { IsInner pass.view.shape node }
-    requires knows { KnowsTable (face A.parts B.parts) pass.view }
-    requires room { HasRoom pass.view number 1 }
-    ensures table { result.table ≡ pass.entry.table }
-    ensures goes { Goes (face A.parts B.parts) (number + 1) [] pass.entry.view result.view }
-    ensures took { TookBetween pass.entry.view result.view (9 + 2 * part_steps pass.entry.view.shape (left_of pass.entry.view.shape node)) (18 + 4 * part_steps pass.entry.view.shape (left_of pass.entry.view.shape node)) }
-    ensures covers { NewestCovers pass.entry.view.shape pass.entry.view.seen result.view.seen node }
+)
+    requires leaves { HasLeaves pass.old.view.shape leaves }
+    requires inner { IsInner pass.old.view.shape node }
+    requires knows { KnowsTable (face A.parts B.parts) pass.old.view }
+    requires room { HasRoom pass.old.view number 1 }
+    ensures table { pass.new.table ≡ pass.old.table }
+    ensures goes { Goes (face A.parts B.parts) (number + 1) [] pass.old.view pass.new.view }
+    ensures took { TookBetween pass.old.view pass.new.view (9 + 2 * part_steps pass.old.view.shape (left_of pass.old.view.shape node)) (18 + 4 * part_steps pass.old.view.shape (left_of pass.old.view.shape node)) }
+    ensures covers { NewestCovers pass.old.view.shape pass.old.view.seen pass.new.view.seen node }
 {
-    let mut pass = pass;
-    if refresh(&mut pass, leaves, node, number) {
-        return pass;
+    if refresh(pass, leaves, node, number) {
+        return;
     }
-    refresh_again(pass, leaves, node, number)
+    refresh(pass, leaves, node, number);
 }
 
 // Brings each ancestor of a leaf up to its children, from the leaf's parent to the root.
@@ -59,7 +59,7 @@ pub(crate) fn propagate<'r, A: Monoid, B: Monoid>(
     let mut node = leaf;
     for level in 0..bits {
         node = leaves + node / 2;
-        pass = refresh_twice(pass, leaves, node, number + u64::from(level));
+        refresh_twice(&mut pass, leaves, node, number + u64::from(level));
     }
     pass
 }

@@ -1,5 +1,5 @@
 //! One try to bring a node up to its children.
-ghost use Rattle.std.specs.Prelude.{◌≡◌, ℕ, ◌+◌, ◌*◌, ◌<◌, [], slice_index, false, Bool};
+ghost use Rattle.std.specs.Prelude.{◌≡◌, ℕ, ◌+◌, ◌*◌, ◌<◌, [], slice_index, false};
 ghost use Rattle.aug_core.specs.Faces.{face};
 ghost use Rattle.aug_core.specs.Tree.{place_count, IsInner, left_of};
 ghost use Rattle.aug_core.specs.Told.{KnowsTable};
@@ -83,27 +83,4 @@ pub(crate) fn refresh<A: Monoid, B: Monoid>(
     let a = l.a.join(r.a).to_word();
     let b = l.b.join(r.b).to_word();
     publish(pass, node, from, number, [left, right, count, a, b])
-}
-
-// The same out of line, since it is seldom needed: the pass goes by value, so that its caller can keep it in registers.
-#[cold]
-#[inline(never)]
-pub(crate) fn refresh_again<'r, A: Monoid, B: Monoid>(
-    pass: WordPass<'r, A, B>,
-    leaves: usize,
-    node: usize,
-    number: u64,
-) -> WordPass<'r, A, B>
-    requires leaves { HasLeaves pass.view.shape leaves }
-    requires inner { IsInner pass.view.shape node }
-    requires knows { KnowsTable (face A.parts B.parts) pass.view }
-    requires room { HasRoom pass.view number 1 }
-    ensures table { result.table ≡ pass.entry.table }
-    ensures goes { Goes (face A.parts B.parts) (number + 1) [] pass.entry.view result.view }
-    ensures took { Took pass.entry.view result.view (9 + 2 * part_steps pass.entry.view.shape (left_of pass.entry.view.shape node)) }
-    ensures tries { (done : Bool) × Tries pass.entry.view node number done result.view }
-{
-    let mut pass = pass;
-    refresh(&mut pass, leaves, node, number);
-    pass
 }

@@ -21,21 +21,21 @@ loop-level-init g c = let f = face g.A.Monoid.parts g.B.Monoid.parts in let v : 
   lifts = lifts_none v.shape v.seen c.args.leaf;
 }
 
-pub refresh_twice-pass-requires-clause-leaves : goal.refresh_twice-pass-requires-clause-leaves
-refresh_twice-pass-requires-clause-leaves g c = subst (λ (z : Shape). HasLeaves z c.args.leaves) (sym c.loop-level.invariant.goes.shaped) c.requires.leaves
+pub refresh_twice-requires-clause-leaves : goal.refresh_twice-requires-clause-leaves
+refresh_twice-requires-clause-leaves g c = subst (λ (z : Shape). HasLeaves z c.args.leaves) (sym c.loop-level.invariant.goes.shaped) c.requires.leaves
 
-pub refresh_twice-pass-requires-clause-inner : goal.refresh_twice-pass-requires-clause-inner
-refresh_twice-pass-requires-clause-inner g c = let f = face g.A.Monoid.parts g.B.Monoid.parts in let v : View = c.args.pass.view in let s : Shape = v.shape in let inv = c.loop-level.invariant in let level : ℕ = c.loop-level.level in let below = c.loop-level-test.true in let bits = c.requires.bits in
+pub refresh_twice-requires-clause-inner : goal.refresh_twice-requires-clause-inner
+refresh_twice-requires-clause-inner g c = let f = face g.A.Monoid.parts g.B.Monoid.parts in let v : View = c.args.pass.view in let s : Shape = v.shape in let inv = c.loop-level.invariant in let level : ℕ = c.loop-level.level in let below = c.loop-level-test.true in let bits = c.requires.bits in
     let up : suc level ≤ s.bits = omega arith in let shaped = inv.goes.shaped in let u : View = c.loop-level.pass.view in
     let place : c.args.leaves + c.loop-level.node / 2 ≡ above s c.args.leaf (suc level) = place_is s c.args.leaf level c.args.leaves c.loop-level.node c.requires.leaves.are inv.node in
     let inner : IsInner s (above s c.args.leaf (suc level)) = above_inner s c.args.leaf level c.requires.leaf up in
     subst (λ (z : Shape). IsInner z (c.args.leaves + c.loop-level.node / 2)) (sym shaped) (subst (IsInner s) (sym place) inner)
 
-pub refresh_twice-pass-requires-clause-knows : goal.refresh_twice-pass-requires-clause-knows
-refresh_twice-pass-requires-clause-knows g c = c.loop-level.invariant.goes.knows_table
+pub refresh_twice-requires-clause-knows : goal.refresh_twice-requires-clause-knows
+refresh_twice-requires-clause-knows g c = c.loop-level.invariant.goes.knows_table
 
-pub refresh_twice-pass-requires-clause-room : goal.refresh_twice-pass-requires-clause-room
-refresh_twice-pass-requires-clause-room g c = let f = face g.A.Monoid.parts g.B.Monoid.parts in let v : View = c.args.pass.view in let s : Shape = v.shape in let inv = c.loop-level.invariant in let level : ℕ = c.loop-level.level in let below = c.loop-level-test.true in let bits = c.requires.bits in
+pub refresh_twice-requires-clause-room : goal.refresh_twice-requires-clause-room
+refresh_twice-requires-clause-room g c = let f = face g.A.Monoid.parts g.B.Monoid.parts in let v : View = c.args.pass.view in let s : Shape = v.shape in let inv = c.loop-level.invariant in let level : ℕ = c.loop-level.level in let below = c.loop-level-test.true in let bits = c.requires.bits in
     let up : suc level ≤ s.bits = omega arith in let shaped = inv.goes.shaped in let u : View = c.loop-level.pass.view in
     let place : c.args.leaves + c.loop-level.node / 2 ≡ above s c.args.leaf (suc level) = place_is s c.args.leaf level c.args.leaves c.loop-level.node c.requires.leaves.are inv.node in
     let inner : IsInner s (above s c.args.leaf (suc level)) = above_inner s c.args.leaf level c.requires.leaf up in
@@ -47,14 +47,14 @@ loop-level-preserved g c = let f = face g.A.Monoid.parts g.B.Monoid.parts in let
     let up : suc level ≤ s.bits = omega arith in let shaped = inv.goes.shaped in let u : View = c.loop-level.pass.view in
     let place : c.args.leaves + c.loop-level.node / 2 ≡ above s c.args.leaf (suc level) = place_is s c.args.leaf level c.args.leaves c.loop-level.node c.requires.leaves.are inv.node in
     let inner : IsInner s (above s c.args.leaf (suc level)) = above_inner s c.args.leaf level c.requires.leaf up in
-    let w : View = c.refresh_twice-pass.result.view in let one : suc level ≡ level + 1 = sym (add-one level) in let from = c.from.ensures in let g2 = c.refresh_twice-pass.ensures.goes in
+    let w : View = c.refresh_twice.new.pass.view in let one : suc level ≡ level + 1 = sym (add-one level) in let from = c.from.ensures in let g2 = c.refresh_twice.ensures.goes in
     let goes : Goes f (c.args.number + (level + 1)) [] v w = goes_on f (c.args.number + level) (c.args.number + c.from.result + 1) (c.args.number + (level + 1)) [] v u w (omega arith) (omega arith) inv.goes g2 in
     let took : TookBetween u w (9 + 2 * part_steps s (left_of s (above s c.args.leaf (suc level)))) (18 + 4 * part_steps s (left_of s (above s c.args.leaf (suc level)))) =
     subst (λ (z : ℕ). TookBetween u w (9 + 2 * part_steps s (left_of s z)) (18 + 4 * part_steps s (left_of s z))) place
-    (subst (λ (z : Shape). TookBetween u w (9 + 2 * part_steps z (left_of z (c.args.leaves + c.loop-level.node / 2))) (18 + 4 * part_steps z (left_of z (c.args.leaves + c.loop-level.node / 2)))) shaped c.refresh_twice-pass.ensures.took) in
-    let covers : NewestCovers s u.seen w.seen (above s c.args.leaf (suc level)) = subst (NewestCovers s u.seen w.seen) place (subst (λ (z : Shape). NewestCovers z u.seen w.seen (c.args.leaves + c.loop-level.node / 2)) shaped c.refresh_twice-pass.ensures.covers) in
+    (subst (λ (z : Shape). TookBetween u w (9 + 2 * part_steps z (left_of z (c.args.leaves + c.loop-level.node / 2))) (18 + 4 * part_steps z (left_of z (c.args.leaves + c.loop-level.node / 2)))) shaped c.refresh_twice.ensures.took) in
+    let covers : NewestCovers s u.seen w.seen (above s c.args.leaf (suc level)) = subst (NewestCovers s u.seen w.seen) place (subst (λ (z : Shape). NewestCovers z u.seen w.seen (c.args.leaves + c.loop-level.node / 2)) shaped c.refresh_twice.ensures.covers) in
     let book : IsBook f s w.seen = subst (λ (z : Shape). IsBook f z w.seen) goes.shaped goes.knows_table.book in record {
-      table = c.refresh_twice-pass.ensures.table ∙ inv.table;
+      table = c.refresh_twice.ensures.table ∙ inv.table;
       node = place ∙ ap (above s c.args.leaf) one;
       goes = goes;
       took = subst (λ (z : ℕ). TookBetween v w (15 * z - 6) (30 * z - 12)) one (took_level s v u w c.args.leaf level c.requires.leaf up inv.took took);

@@ -1,8 +1,8 @@
 -- `spanned_by` keeps the laws of a monoid, and its words give back the bounds that they were made of.
 use Rattle.std.specs.Prelude.{◌≡◌, ℕ, ◌+◌, ◌*◌, ◌/◌, ◌%◌, ◌^◌, ◌<◌, ◌≤◌, min, max, Bool, true, false, Option, Some, None, nat_le, if◌then◌else◌, refl}
-use Rattle.std.proofs.Common.{arith}
+use Rattle.std.proofs.Common.{arith, inl, inr}
 use Rattle.std.proofs.lemmas.Bool.{le-leb, leb-true}
-use Rattle.aug_monoid.specs.Extent.{IsBoundsOrNone, spanned_by, word_of_bounds, bounds_of_word}
+use Rattle.aug_monoid.specs.Extent.{IsBoundsOrNone, spanned_by, word_of_bounds, bounds_of, bounds_of_word, held_bounds, AreHeld}
 
 -- one key is its own least and greatest
 pub one_key-is_bounds : (k : ℕ) → k < 2 ^ 32 → IsBoundsOrNone (Some (k, k))
@@ -44,3 +44,8 @@ bounds_of_word-word_of_bounds (Some b) is_bounds =
     let upper : (b.0 * 2 ^ 32 + b.1) / 2 ^ 32 ≡ b.0 = omega arith in
     let lower : (b.0 * 2 ^ 32 + b.1) % 2 ^ 32 ≡ b.1 = omega arith in
     rw (upper, lower, le-leb b.0 b.1 is_bounds.0)
+
+-- what is held for bounds is what they give back
+pub held_bounds-bounds_of : (least greatest : ℕ) → AreHeld least greatest → held_bounds (bounds_of least greatest) ≡ (least, greatest)
+held_bounds-bounds_of least greatest (inl ordered) = rw (le-leb least greatest ordered)
+held_bounds-bounds_of least greatest (inr none) = rw (none.0, none.1)

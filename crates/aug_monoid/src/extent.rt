@@ -13,20 +13,25 @@ const HALF: u64 = 1 << 32;
 /// The least and the greatest of the keys, or none where there are no keys.
 #[derive(Clone, Copy, PartialEq, Eq, Debug)]
 pub struct Extent {
-    bounds: Option<(u32, u32)>,
+    // Of no keys the greatest number and the least, which `join` passes over with no test.
+    least: u32,
+    greatest: u32,
 }
 
 impl Model for Extent {
     ghost use Rattle.std.specs.Prelude.{ℕ, Option};
-    ghost use Rattle.aug_monoid.specs.Extent.{IsBoundsOrNone};
+    ghost use Rattle.aug_monoid.specs.Extent.{bounds_of, held_bounds, AreHeld};
+    ghost use Rattle.aug_monoid.specs.ExtentLaws.{held_bounds-bounds_of};
 
     ghost Value = { Option (ℕ × ℕ) };
 
-    ghost view = { λ e. e.bounds };
+    ghost view = { λ e. bounds_of e.least e.greatest };
 
-    ghost invariant = { λ e. IsBoundsOrNone e.bounds };
+    ghost invariant = { λ e. AreHeld e.least e.greatest };
 
-    ghost inverse = { λ b. record { bounds = b } };
+    ghost inverse = { λ b. record { least = (held_bounds b).0; greatest = (held_bounds b).1 } };
+
+    ghost inverse_ok = { λ e held. λ i. record { least = (held_bounds-bounds_of e.least e.greatest held i).0; greatest = (held_bounds-bounds_of e.least e.greatest held i).1 } };
 }
 
 impl Extent {
@@ -35,7 +40,7 @@ impl Extent {
         ensures same { result ≡ self }
         ensures ordered { IfSome result (λ b. b.0 ≤ b.1) }
     {
-        self.bounds
+        (self.least <= self.greatest).then_some((self.least, self.greatest))
     }
 }
 
@@ -43,37 +48,41 @@ impl Monoid for Extent {
     ghost parts = { extent_parts };
 
     fn unit() -> Extent {
-        Extent { bounds: None }
+        Extent {
+            least: u32::MAX,
+            greatest: 0,
+        }
     }
 
     fn of_key(k: u32) -> Extent {
         Extent {
-            bounds: Some((k, k)),
+            least: k,
+            greatest: k,
         }
     }
 
     fn join(self, other: Extent) -> Extent {
-        match (self.bounds, other.bounds) {
-            (Some((least, greatest)), Some((other_least, other_greatest))) => Extent {
-                bounds: Some((least.min(other_least), greatest.max(other_greatest))),
-            },
-            (None, _) => other,
-            (_, None) => self,
+        Extent {
+            least: self.least.min(other.least),
+            greatest: self.greatest.max(other.greatest),
         }
     }
 
     fn to_word(self) -> u64 {
-        match self.bounds {
-            Some((least, greatest)) => u64::from(least) * HALF + u64::from(greatest),
-            None => NO_KEY,
+        if self.least <= self.greatest {
+            u64::from(self.least) * HALF + u64::from(self.greatest)
+        } else {
+            NO_KEY
         }
     }
 
     fn from_word(word: u64) -> Extent {
         let least = (word / HALF) as u32;
         let greatest = (word % HALF) as u32;
-        Extent {
-            bounds: (least <= greatest).then_some((least, greatest)),
+        if least <= greatest {
+            Extent { least, greatest }
+        } else {
+            Extent::unit()
         }
     }
 
@@ -81,10 +90,7 @@ impl Monoid for Extent {
         ensures always { IsTrue result }
         ensures proper { IsTrue result ↔ IsBoundsOrNone self }
     {
-        match self.bounds {
-            Some((least, greatest)) => least <= greatest,
-            None => true,
-        }
+        self.least <= self.greatest || (self.least == u32::MAX && self.greatest == 0)
     }
 
     ghost unit_is_proper = { tt };

@@ -25,3 +25,4 @@ pub mod CutLemmas
 pub mod TallyLemmas
 pub mod Versions
 pub mod Endings
+pub mod Ranking

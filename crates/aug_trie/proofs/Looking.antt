@@ -1,12 +1,13 @@
 -- What the words of a node's record show of its tree, and what loads of them leave as it was.
-use Rattle.std.proofs.Common.{◌≡◌, ℕ, suc, ◌+◌, ◌-◌, ◌*◌, ◌%◌, ◌^◌, ◌≤◌, eqb, if◌then◌else◌, List, [], ◌∷◌, ◌++◌, sym, refl, subst, arith}
+use Rattle.std.proofs.Common.{◌≡◌, ℕ, suc, ◌+◌, ◌-◌, ◌*◌, ◌%◌, ◌^◌, ◌≤◌, eqb, if◌then◌else◌, List, [], ◌∷◌, ◌++◌, length, sym, refl, ap, ◌∙◌, subst, arith}
 use Rattle.std.proofs.lemmas.List.{append-nil}
 use Rattle.aug_monoid.specs.Parts.{Parts}
 use Rattle.aug_monoid.specs.Laws.{IsMonoid}
 use Rattle.aug_model.specs.Folds.{summary_of}
+use Rattle.aug_model.specs.Queries.{range_of}
 use Rattle.aug_model.specs.declared.summary.Summary.{Summary}
 use Rattle.aug_core.specs.Faces.{face}
-use Rattle.aug_core.specs.Cuts.{Cut}
+use Rattle.aug_core.specs.Cuts.{Cut, set_of_cut}
 use Rattle.aug_core.specs.Counts.{changes_of}
 use Rattle.aug_core.specs.Told.{HasSeen, KnowsTable}
 use Rattle.aug_core.specs.declared.view.View.{View}
@@ -17,7 +18,7 @@ use Rattle.aug_trie.specs.Goes.{Goes}
 use Rattle.aug_trie.specs.Nodes.{Looks}
 use Rattle.aug_trie.specs.TreeOf.{IsTreeOf}
 use Rattle.aug_trie.proofs.Telling.{Says}
-use Rattle.aug_trie.proofs.Walking.{node_seen, left_node, right_node, node_told, count_few, leaf_told}
+use Rattle.aug_trie.proofs.Walking.{node_seen, left_node, right_node, node_told, count_few, count_told, leaf_told}
 
 -- a view that made steps and learnt nothing
 pub goes_looking : (f : ℕ → ℕ → List ℕ → List ℕ) (most : ℕ) (v w : View) → Looks most v w → KnowsTable f v → Goes f 0 [] v w
@@ -57,6 +58,10 @@ module _ {A B : Type 0} (parts_a : Parts A) (parts_b : Parts B) (v : View) (kn :
 
     pub count_fits : (n : ℕ) → 2 ^ v.shape.bits ≤ 65536 → Says v word 2 n → n ≤ 65536
     count_fits = count_few parts_a parts_b v kn.book cut (level - 1) place word below
+
+    -- and it is that of the cut's keys that it covers
+    pub count_is : (n : ℕ) → Says v word 2 n → n ≡ length (range_of (set_of_cut cut) (place * 2 ^ level) ((place + 1) * 2 ^ level))
+    count_is n says = count_told parts_a parts_b v kn.book cut (level - 1) place word below n says ∙ ap (λ (z : ℕ). length (range_of (set_of_cut cut) (place * 2 ^ z) ((place + 1) * 2 ^ z))) (sym one_up)
 
     pub record_tells : (n x y : ℕ) → 2 ^ v.shape.bits ≤ 65536 → IsMonoid parts_a → IsMonoid parts_b → Says v word 2 n → Says v word 3 x → Says v word 4 y
         → IsTreeOf (summary_of parts_a parts_b) v.shape.bits cut level place (record { count = n; a = parts_a.from_word x; b = parts_b.from_word y })

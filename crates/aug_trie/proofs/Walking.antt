@@ -1,5 +1,5 @@
 -- From the root of a cut's tree down.
-use Rattle.std.proofs.Common.{◌≡◌, ℕ, suc, ◌+◌, ◌*◌, ◌%◌, ◌^◌, ◌≤◌, eqb, if◌then◌else◌, List, [], ◌∷◌, get_or, sym, ap, ◌∙◌, subst, arith}
+use Rattle.std.proofs.Common.{◌≡◌, ℕ, suc, ◌+◌, ◌*◌, ◌%◌, ◌^◌, ◌≤◌, eqb, if◌then◌else◌, List, [], ◌∷◌, length, get_or, sym, ap, ◌∙◌, subst, arith}
 use Rattle.aug_monoid.specs.Parts.{Parts}
 use Rattle.aug_monoid.specs.Laws.{IsMonoid}
 use Rattle.aug_monoid.proofs.FoldLemmas.{of_word-fold_of}
@@ -92,6 +92,10 @@ module _ {A B : Type 0} (parts_a : Parts A) (parts_b : Parts B) where
       -- its third says how many keys are below it, which are not many
       pub count_few : (n : ℕ) → 2 ^ v.shape.bits ≤ 65536 → Says v word 2 n → n ≤ 65536
       count_few n few says = let f = (are_small both v.shape v.seen b few t.q t.index entry inner.inside at).few in let count = read 2 n says ∙ over 2 ∙ count_in parts_a parts_b _ _ entry.keys in omega arith
+
+      -- they are the keys of the cut that it covers
+      pub count_told : (n : ℕ) → Says v word 2 n → n ≡ length (range_of (set_of_cut cut) (place * 2 ^ suc level) ((place + 1) * 2 ^ suc level))
+      count_told n says = read 2 n says ∙ ap (λ (z : List ℕ). get_or z 2 0) words ∙ count_in parts_a parts_b _ _ (range_of (set_of_cut cut) (place * 2 ^ suc level) ((place + 1) * 2 ^ suc level))
 
       -- and the others say what is below it
       pub node_told : (n x y : ℕ) → 2 ^ v.shape.bits ≤ 65536 → IsMonoid parts_a → IsMonoid parts_b → Says v word 2 n → Says v word 3 x → Says v word 4 y

@@ -12,6 +12,7 @@ mod nodes;
 mod parts;
 mod pass;
 mod queries;
+mod ranks;
 mod refreshing;
 mod round;
 mod snapshot;

@@ -7,6 +7,7 @@ ghost use Rattle.aug_trie.specs.Facts.{HasSnapshot};
 ghost use Rattle.aug_trie.specs.Nodes.{Reads, set_at};
 
 use crate::pass::Pass;
+use crate::ranks::rank_at;
 use crate::snapshot::Snapshot;
 use crate::view::View;
 use aug_model::Summary;
@@ -66,12 +67,12 @@ impl<'r, A: Monoid, B: Monoid> Pass<'r, A, B> {
         ensures answer { result ≡ rank_of (set_at self.old s).list k }
         ensures reads { Reads (summary_of A.parts B.parts) (4 * ((set_at self.old s).bits + 1)) self.old self.new }
     {
-        let mut view = View {
-            pass: self,
-            snapshot: s,
-            calls: Calls::new(),
+        let Some(mut words) = self.words.take() else {
+            unreachable!()
         };
-        view.rank(k)
+        let below = rank_at(&mut words, s, self.leaves, self.bits, k);
+        self.words = Some(words);
+        below
     }
 
     /// The member with exactly `i` members below it, if there is one.

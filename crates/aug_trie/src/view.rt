@@ -2,7 +2,7 @@
 ghost use Rattle.std.specs.Prelude.{◌≡◌, ℕ, ◌+◌, ◌-◌, ◌*◌, ◌<◌, ◌≤◌, length, IfOk, vec_capacity};
 ghost use Rattle.aug_model.specs.Folds.{summary_of};
 ghost use Rattle.aug_model.specs.Keys.{is_member};
-ghost use Rattle.aug_model.specs.Queries.{rank_of, select_of, before_of, after_of, range_of};
+ghost use Rattle.aug_model.specs.Queries.{select_of, before_of, after_of, range_of};
 ghost use Rattle.aug_trie.specs.Facts.{HasSnapshot};
 ghost use Rattle.aug_trie.specs.Nodes.{set_at};
 ghost use Rattle.aug_trie.specs.Views.{Walked};
@@ -111,14 +111,6 @@ impl<'p, 'r, A: Monoid, B: Monoid> View<'p, 'r, A, B> {
         ensures walked { Walked (summary_of A.parts B.parts) (1) self.old.pass self.new.pass self.old.snapshot self.new.snapshot }
     {
         aug_query::size(self)
-    }
-
-    // How many members are below `k`.
-    pub(crate) fn rank(&mut self, k: u32) -> u32
-        ensures answer { result ≡ rank_of (set_at self.old.pass.now self.old.snapshot).list k }
-        ensures walked { Walked (summary_of A.parts B.parts) ((set_at self.old.pass.now self.old.snapshot).bits + 1) self.old.pass self.new.pass self.old.snapshot self.new.snapshot }
-    {
-        aug_query::rank(self, k)
     }
 
     // The member with exactly `i` members below it, if there is one.

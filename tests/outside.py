@@ -33,6 +33,7 @@ FIRST = b"""\
 0,look
 0,size
 0,rank,9
+0,select,1
 0,range,0,16
 """
 
@@ -43,6 +44,7 @@ FIRST_REPORT = b"""\
 1 0 look = ok
 1 0 size = 2
 1 0 rank 9 = 1
+1 0 select 1 = 9
 1 0 range 0 16 = 2 14 5 9
 1 end size=2 in=2 out=0
 """
@@ -74,22 +76,31 @@ GOOD_SCRIPTS = [
     (
         "one_bit",
         "--bits 1",
-        b"0,insert,0\n0,insert,1\n0,remove,0\n0,look\n0,range,0,2\n",
+        b"0,insert,0\n0,insert,1\n0,remove,0\n0,look\n0,select,0\n",
         b"1 0 insert 0 = new\n1 0 insert 1 = new\n1 0 remove 0 = gone\n1 0 look = ok\n"
-        b"1 0 range 0 2 = 1 1 1 1\n1 end size=1 in=2 out=1\n",
+        b"1 0 select 0 = 1\n1 end size=1 in=2 out=1\n",
     ),
     (
         "sixteen_bits",
         "--bits=16",
-        b"0,insert,65535\n0,insert,0\n0,look\n0,rank,65536\n0,range,0,65536\n",
+        b"0,insert,65535\n0,insert,0\n0,look\n0,rank,65536\n0,after,0\n0,before,65535\n0,range,0,65536\n",
         b"1 0 insert 65535 = new\n1 0 insert 0 = new\n1 0 look = ok\n1 0 rank 65536 = 2\n"
-        b"1 0 range 0 65536 = 2 65535 0 65535\n1 end size=2 in=2 out=0\n",
+        b"1 0 after 0 = 65535\n1 0 before 65535 = 0\n1 0 range 0 65536 = 2 65535 0 65535\n1 end size=2 in=2 out=0\n",
     ),
     (
         "empty_set",
         "",
-        b"0,size\n0,rank,16\n0,range,0,16\n",
-        b"1 0 size = 0\n1 0 rank 16 = 0\n1 0 range 0 16 = 0 0 - -\n1 end size=0 in=0 out=0\n",
+        b"0,size\n0,has,3\n0,rank,16\n0,select,0\n0,before,16\n0,after,0\n0,range,0,16\n",
+        b"1 0 size = 0\n1 0 has 3 = no\n1 0 rank 16 = 0\n1 0 select 0 = -\n1 0 before 16 = -\n"
+        b"1 0 after 0 = -\n1 0 range 0 16 = 0 0 - -\n1 end size=0 in=0 out=0\n",
+    ),
+    ("round_of_no_rows", "", b"*,end", b"1 end size=0 in=0 out=0\n"),
+    ("round_that_is_ended", "", FIRST + b"*,end\n", FIRST_REPORT),
+    (
+        "updates_of_two_rounds",
+        "--updates 2",
+        b"0,insert,1\n0,remove,1\n*,end\n0,insert,1\n",
+        b"1 0 insert 1 = new\n1 0 remove 1 = gone\n1 end size=0 in=1 out=1\n2 0 insert 1 = new\n2 end size=1 in=1 out=0\n",
     ),
     (
         "snapshot_is_of_the_last_look",
@@ -145,6 +156,9 @@ FAULTY_SCRIPTS = [
     ("no_verb", "", b"0", b"row 1: BadVerb"),
     ("star_with_a_verb_of_a_lane", "", b"*,look", b"row 1: BadVerb"),
     ("end_with_a_lane", "", b"0,end", b"row 1: BadVerb"),
+    ("end_with_an_argument", "", b"*,end,1", b"row 1: BadArity"),
+    ("star_alone", "", b"*", b"row 1: BadVerb"),
+    ("fault_in_a_later_round", "", b"0,insert,1\n*,end\n0,fly\n", b"row 3: BadVerb"),
     ("blank_before_a_lane", "", b" 0,look", b"row 1: BadLane"),
     ("blank_before_a_verb", "", b"0, look", b"row 1: BadVerb"),
     ("comma_at_the_end", "", b"0,look,", b"row 1: BadArity"),
@@ -153,7 +167,7 @@ FAULTY_SCRIPTS = [
     ("tab", "", b"0,look\t", b"row 1: BadCsv"),
     ("byte_past_126", "", "0,insert,é".encode(), b"row 1: BadCsv"),
     ("too_many_updates", "--updates 2", b"0,insert,1\n0,remove,1\n0,insert,1\n", b"row 3: TooManyUpdates"),
-    ("fault_behind_good_rows", "", FIRST + b"\n0,insert,16\n0,fly\n", b"row 8: OutOfRange"),
+    ("fault_behind_good_rows", "", FIRST + b"\n0,insert,16\n0,fly\n", b"row 9: OutOfRange"),
 ]
 
 # Words that the command line does not take: a name, the words and how the parser's text begins.

@@ -8,7 +8,7 @@ use Rattle.aug_monoid.specs.declared.sum.Sum.{Sum}
 use Rattle.aug_model.specs.Folds.{summary_of}
 use Rattle.aug_model.specs.declared.summary.Summary.{Summary}
 use Rattle.aug_model.specs.Keys.{is_member, with_key, without_key}
-use Rattle.aug_model.specs.Queries.{rank_of, range_of}
+use Rattle.aug_model.specs.Queries.{after_of, before_of, range_of, rank_of, select_of}
 use Rattle.aug_script.specs.declared.reply.Reply.{Reply}
 use Rattle.aug_script.specs.declared.reply.Reply.TheVariants as reply
 use Rattle.aug_script.specs.declared.report.Report.{Report}
@@ -30,18 +30,20 @@ abbrev pub reply_to : Sets → Verb → Reply
 reply_to sets (verb.Insert k) = if is_member sets.live k then reply.Old else reply.New
 reply_to sets (verb.Remove k) = if is_member sets.live k then reply.Gone else reply.Absent
 reply_to sets verb.Look = reply.Looked
+reply_to sets (verb.Has k) = if is_member sets.held k then reply.Yes else reply.No
 reply_to sets verb.Size = reply.Number (length sets.held)
 reply_to sets (verb.Rank k) = reply.Number (rank_of sets.held k)
+reply_to sets (verb.Select i) = reply.Found (select_of sets.held i)
+reply_to sets (verb.Before k) = reply.Found (before_of sets.held k)
+reply_to sets (verb.After k) = reply.Found (after_of sets.held k)
 reply_to sets (verb.Range a b) = reply.Span (span_of (range_of sets.held a b))
 
--- the sets after a verb
+-- the sets after a verb; a query leaves them
 abbrev pub sets_after : Sets → Verb → Sets
 sets_after sets (verb.Insert k) = record { live = with_key sets.live k; held = sets.held }
 sets_after sets (verb.Remove k) = record { live = without_key sets.live k; held = sets.held }
 sets_after sets verb.Look = record { live = sets.live; held = sets.live }
-sets_after sets verb.Size = sets
-sets_after sets (verb.Rank k) = sets
-sets_after sets (verb.Range a b) = sets
+sets_after sets query = sets
 
 -- the replies to the rows, in order
 unfoldable pub replies_of : Sets → List Row → List Reply
@@ -53,34 +55,26 @@ unfoldable pub sets_of : Sets → List Row → Sets
 sets_of sets [] = sets
 sets_of sets (row ∷ rows) = sets_of (sets_after sets row.verb) rows
 
--- the reply says that an insertion, or a removal, was accepted
+-- the reply says that an insertion was accepted
 abbrev pub is_insertion : Reply → Bool
 is_insertion reply.New = true
-is_insertion reply.Old = false
-is_insertion reply.Gone = false
-is_insertion reply.Absent = false
-is_insertion reply.Looked = false
-is_insertion (reply.Number n) = false
-is_insertion (reply.Span s) = false
+is_insertion answer = false
 
+-- the reply says that a removal was accepted
 abbrev pub is_removal : Reply → Bool
-is_removal reply.New = false
-is_removal reply.Old = false
 is_removal reply.Gone = true
-is_removal reply.Absent = false
-is_removal reply.Looked = false
-is_removal (reply.Number n) = false
-is_removal (reply.Span s) = false
+is_removal answer = false
 
 -- how many of the replies pass a test
 abbrev pub count_of : (Reply → Bool) → List Reply → ℕ
 count_of test replies = length (filter test replies)
 
--- a lane's sets as a round begins, over a set with these members: the snapshot is of the whole set
+-- a lane's sets as a round begins, over a set with these members: its first snapshot is of the whole set
 abbrev pub opening_sets : List ℕ → Sets
 opening_sets members = record { live = members; held = members }
 
--- the report of the round with this number and these rows, over a set with these members at first
+-- the report of the round with this number, where these rows run one after another over one such lane, whose set has these members
+-- at first
 abbrev pub report_of : ℕ → List ℕ → List Row → Report
 report_of number members rows = record {
   number = number;

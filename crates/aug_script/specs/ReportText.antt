@@ -1,5 +1,5 @@
 -- The text of a report.
-use Rattle.std.specs.Prelude.{ℕ, List, ◌++◌, map, codes, Some, None}
+use Rattle.std.specs.Prelude.{ℕ, List, ◌++◌, map, codes, Option, Some, None}
 use Rattle.std.specs.Fmt.{decimal}
 use Rattle.std.specs.List.{concat}
 use Rattle.aug_monoid.specs.declared.extent.Extent.{Extent}
@@ -15,14 +15,23 @@ abbrev pub verb_text : Verb → List ℕ
 verb_text (verb.Insert k) = codes "insert " ++ decimal k
 verb_text (verb.Remove k) = codes "remove " ++ decimal k
 verb_text verb.Look = codes "look"
+verb_text (verb.Has k) = codes "has " ++ decimal k
 verb_text verb.Size = codes "size"
 verb_text (verb.Rank k) = codes "rank " ++ decimal k
+verb_text (verb.Select i) = codes "select " ++ decimal i
+verb_text (verb.Before k) = codes "before " ++ decimal k
+verb_text (verb.After k) = codes "after " ++ decimal k
 verb_text (verb.Range a b) = codes "range " ++ decimal a ++ codes " " ++ decimal b
 
 -- the least and the greatest of some keys, or `- -` where there are none
 abbrev pub extent_text : Extent → List ℕ
 extent_text None = codes "- -"
 extent_text (Some bounds) = decimal bounds.0 ++ codes " " ++ decimal bounds.1
+
+-- a member that was found, or `-` where there is none
+abbrev pub found_text : Option ℕ → List ℕ
+found_text None = codes "-"
+found_text (Some key) = decimal key
 
 -- a reply
 abbrev pub reply_text : Reply → List ℕ
@@ -31,7 +40,10 @@ reply_text reply.Old = codes "old"
 reply_text reply.Gone = codes "gone"
 reply_text reply.Absent = codes "none"
 reply_text reply.Looked = codes "ok"
+reply_text reply.Yes = codes "yes"
+reply_text reply.No = codes "no"
 reply_text (reply.Number n) = decimal n
+reply_text (reply.Found key) = found_text key
 reply_text (reply.Span s) = decimal s.count ++ codes " " ++ decimal s.a ++ codes " " ++ extent_text s.b
 
 -- the line of a row and its reply, in the round with this number: `<round> <lane> <verb args> = <reply>`

@@ -1,11 +1,13 @@
--- How a script reads: its records are those of `csv`, and each is a row, or has the first fault of a table.
-use Rattle.std.specs.Prelude.{◌≡◌, ℕ, ◌+◌, ◌^◌, ◌<◌, ◌≤◌, ◌==◌, ◌&&◌, ◌||◌, not, nat_lt, nat_le, true, false, Bool, if◌then◌else◌, List, [], ◌∷◌, ◌++◌, length, drop, filter, slice_index_or, All, codes, Option, Some, None, Result, Ok, Err}
+-- How a script reads: its records are those of `csv`, and each is a row or the end of a round, or has the first fault of a table.
+use Rattle.std.specs.Prelude.{◌≡◌, ℕ, ◌+◌, ◌^◌, ◌<◌, ◌≤◌, ◌==◌, ◌&&◌, ◌||◌, not, nat_lt, nat_le, true, false, Bool, if◌then◌else◌, List, [], ◌∷◌, ◌++◌, length, drop, filter, slice_index_or, All, ⊤, codes, Option, Some, None, Result, Ok, Err}
 use Rattle.std.specs.Char.{is_ascii_digit}
 use Rattle.std.specs.List.{list_all}
 use Rattle.std.specs.Str.{bytes_eq}
 use Rattle.std.specs.Str.Parse.{digits_value}
 use Rattle.csv.specs.Reading.{default_config, strip_bom, records}
 use Rattle.aug_script.specs.Limits.{Bounds}
+use Rattle.aug_script.specs.declared.item.Item.{Item}
+use Rattle.aug_script.specs.declared.item.Item.TheVariants as item
 use Rattle.aug_script.specs.declared.row.Row.{Row}
 use Rattle.aug_script.specs.declared.script_error.ScriptError.{ScriptError}
 use Rattle.aug_script.specs.declared.script_error.ScriptError.TheVariants.{BadCsv, BadLane, BadVerb, BadArity, BadNumber, OutOfRange, TooManyUpdates}
@@ -34,14 +36,22 @@ number_of field = digits_value 10 field
 abbrev pub is_star : List ℕ → Bool
 is_star field = bytes_eq field (codes "*")
 
+-- the field is `end`
+abbrev pub is_end : List ℕ → Bool
+is_end field = bytes_eq field (codes "end")
+
 -- the verb's word that a field is, if it is one
 abbrev pub word_of : List ℕ → Option Word
 word_of field =
     if bytes_eq field (codes "insert") then Some word.Insert
     else if bytes_eq field (codes "remove") then Some word.Remove
     else if bytes_eq field (codes "look") then Some word.Look
+    else if bytes_eq field (codes "has") then Some word.Has
     else if bytes_eq field (codes "size") then Some word.Size
     else if bytes_eq field (codes "rank") then Some word.Rank
+    else if bytes_eq field (codes "select") then Some word.Select
+    else if bytes_eq field (codes "before") then Some word.Before
+    else if bytes_eq field (codes "after") then Some word.After
     else if bytes_eq field (codes "range") then Some word.Range
     else None
 
@@ -50,8 +60,12 @@ abbrev pub arity_of : Word → ℕ
 arity_of word.Insert = 1
 arity_of word.Remove = 1
 arity_of word.Look = 0
+arity_of word.Has = 1
 arity_of word.Size = 0
 arity_of word.Rank = 1
+arity_of word.Select = 1
+arity_of word.Before = 1
+arity_of word.After = 1
 arity_of word.Range = 2
 
 -- the verb of a word with these arguments
@@ -59,27 +73,32 @@ abbrev pub verb_of : Word → List (List ℕ) → Verb
 verb_of word.Insert arguments = verb.Insert (number_of (slice_index_or arguments 0 []))
 verb_of word.Remove arguments = verb.Remove (number_of (slice_index_or arguments 0 []))
 verb_of word.Look arguments = verb.Look
+verb_of word.Has arguments = verb.Has (number_of (slice_index_or arguments 0 []))
 verb_of word.Size arguments = verb.Size
 verb_of word.Rank arguments = verb.Rank (number_of (slice_index_or arguments 0 []))
+verb_of word.Select arguments = verb.Select (number_of (slice_index_or arguments 0 []))
+verb_of word.Before arguments = verb.Before (number_of (slice_index_or arguments 0 []))
+verb_of word.After arguments = verb.After (number_of (slice_index_or arguments 0 []))
 verb_of word.Range arguments = verb.Range (number_of (slice_index_or arguments 0 [])) (number_of (slice_index_or arguments 1 []))
 
--- the verb's arguments are within its bounds: keys of updates below 2 ^ bits, arguments of queries at most 2 ^ bits
+-- the verb's arguments are within its bounds: keys of updates and of `has` below 2 ^ bits, arguments of other queries at most 2 ^ bits
 abbrev pub is_in_bounds : ℕ → Verb → Bool
 is_in_bounds bits (verb.Insert k) = nat_lt k (2 ^ bits)
 is_in_bounds bits (verb.Remove k) = nat_lt k (2 ^ bits)
 is_in_bounds bits verb.Look = true
+is_in_bounds bits (verb.Has k) = nat_lt k (2 ^ bits)
 is_in_bounds bits verb.Size = true
 is_in_bounds bits (verb.Rank k) = nat_le k (2 ^ bits)
+is_in_bounds bits (verb.Select i) = nat_le i (2 ^ bits)
+is_in_bounds bits (verb.Before k) = nat_le k (2 ^ bits)
+is_in_bounds bits (verb.After k) = nat_le k (2 ^ bits)
 is_in_bounds bits (verb.Range a b) = nat_le a (2 ^ bits) && nat_le b (2 ^ bits)
 
 -- the verb is `insert` or `remove`
 abbrev pub is_update : Verb → Bool
 is_update (verb.Insert k) = true
 is_update (verb.Remove k) = true
-is_update verb.Look = false
-is_update verb.Size = false
-is_update (verb.Rank k) = false
-is_update (verb.Range a b) = false
+is_update other = false
 
 -- how many of the rows are updates of the lane
 abbrev pub updates_of : ℕ → List Row → ℕ
@@ -96,48 +115,57 @@ pub record Progress : Type 0 where
 abbrev pub nothing_read : Progress
 nothing_read = record { next = 1; rows = []; closed = [] }
 
--- one more row of the open round was read
-abbrev pub with_row : Progress → Row → Progress
-with_row read row = record { next = read.next + 1; rows = read.rows ++ row ∷ []; closed = read.closed }
+-- one more item was read: a row of the open round, or the end of that round, which takes a row's number too
+abbrev pub with_item : Progress → Item → Progress
+with_item read (item.Row row) = record { next = read.next + 1; rows = read.rows ++ row ∷ []; closed = read.closed }
+with_item read item.End = record { next = read.next + 1; rows = []; closed = read.closed ++ read.rows ∷ [] }
 
 -- the rounds of what was read; an open round without rows is none
 abbrev pub rounds_read : Progress → List (List Row)
 rounds_read read = read.closed ++ (if length read.rows == 0 then [] else read.rows ∷ [])
 
 -- the row, or its first fault, once its lane and verb are known
-abbrev pub bounded_row : Bounds → Progress → Row → Result Row ScriptError
+abbrev pub bounded_row : Bounds → Progress → Row → Result Item ScriptError
 bounded_row limits read row =
     if not (nat_lt row.lane limits.workers && is_in_bounds limits.bits row.verb) then Err (OutOfRange row.row)
     else if is_update row.verb && nat_le limits.updates (updates_of row.lane read.rows) then Err (TooManyUpdates row.row)
-    else Ok row
+    else Ok (item.Row row)
 
 -- the same once its lane and its verb's word are known
-abbrev pub worded_row : Bounds → Progress → ℕ → List (List ℕ) → Option Word → Result Row ScriptError
+abbrev pub worded_row : Bounds → Progress → ℕ → List (List ℕ) → Option Word → Result Item ScriptError
 worded_row limits read lane arguments None = Err (BadVerb read.next)
 worded_row limits read lane arguments (Some word) =
     if not (length arguments == arity_of word) then Err (BadArity read.next)
     else if not (list_all is_number arguments) then Err (BadNumber read.next)
     else bounded_row limits read (record { row = read.next; lane = lane; verb = verb_of word arguments })
 
--- the row of the record that comes next, or the first fault of the record; no verb that there is goes with `*`
-abbrev pub row_of : Bounds → Progress → List (List ℕ) → Result Row ScriptError
-row_of limits read fields =
+-- the end of a round, or the first fault of a row with this number whose lane is `*`, once it is known whether its verb is `end`
+abbrev pub end_of_round : ℕ → List (List ℕ) → Bool → Result Item ScriptError
+end_of_round number arguments ends =
+    if not ends then Err (BadVerb number)
+    else if not (length arguments == 0) then Err (BadArity number)
+    else Ok item.End
+
+-- what the record that comes next is read as, or its first fault
+abbrev pub item_of : Bounds → Progress → List (List ℕ) → Result Item ScriptError
+item_of limits read fields =
     let first = slice_index_or fields 0 [] in
+    let second = slice_index_or fields 1 [] in
     if not (are_printable fields) then Err (BadCsv read.next)
     else if not (is_number first || is_star first) then Err (BadLane read.next)
-    else if is_star first then Err (BadVerb read.next)
-    else worded_row limits read (number_of first) (drop 2 fields) (word_of (slice_index_or fields 1 []))
+    else if is_star first then end_of_round read.next (drop 2 fields) (is_end second)
+    else worded_row limits read (number_of first) (drop 2 fields) (word_of second)
 
--- a fault, or what the row leads on to
-abbrev pub then_read : Result Row ScriptError → (Row → Result Progress ScriptError) → Result Progress ScriptError
-then_read (Ok row) more = more row
+-- a fault, or what the item leads on to
+abbrev pub then_read : Result Item ScriptError → (Item → Result Progress ScriptError) → Result Progress ScriptError
+then_read (Ok next) more = more next
 then_read (Err fault) more = Err fault
 
 -- what was read once these records were too, or the first faulty row's fault
 unfoldable pub read_from : Bounds → Progress → List (List (List ℕ)) → Result Progress ScriptError
 read_from limits read [] = Ok read
 read_from limits read (fields ∷ rest) =
-    then_read (row_of limits read fields) (λ row. read_from limits (with_row read row) rest)
+    then_read (item_of limits read fields) (λ next. read_from limits (with_item read next) rest)
 
 -- the rounds of what was read, or its fault
 abbrev pub rounds_or_fault : Result Progress ScriptError → Result (List (List Row)) ScriptError
@@ -153,3 +181,8 @@ pub record KeepsLimits (limits : Bounds) (rows : List Row) : Type 0 where
   pub lanes : All (λ row. row.lane < limits.workers) rows
   pub in_bounds : All (λ row. is_in_bounds limits.bits row.verb ≡ true) rows
   pub updates : (lane : ℕ) → updates_of lane rows ≤ limits.updates
+
+-- a row's lane is below this number; the end of a round has no lane
+abbrev pub HasLaneBelow : ℕ → Item → Type 0
+HasLaneBelow most (item.Row row) = row.lane < most
+HasLaneBelow most item.End = ⊤

@@ -1,12 +1,12 @@
-//! A record's row, or its first fault.
+//! What a record is read as, or its first fault.
 ghost use Rattle.std.specs.Prelude.{◌≡◌, IsTrue, List, [], drop, length, slice_index_or, IfOk};
 ghost use Rattle.std.specs.List.{list_all};
 ghost use Rattle.csv.specs.Records.{fields_of};
-ghost use Rattle.aug_script.specs.Script.{are_printable, arity_of, bounded_row, is_number as is_number_field, row_of, verb_of, word_of, worded_row};
+ghost use Rattle.aug_script.specs.Script.{HasLaneBelow, are_printable, arity_of, bounded_row, end_of_round, is_end as is_end_field, is_number as is_number_field, item_of, verb_of, word_of, worded_row};
 
-use crate::field::{is_number, is_printable, is_star, number};
-use crate::round_rows::RoundRows;
-use crate::{Limits, Row, ScriptError, Verb, Word};
+use crate::field::{is_end, is_number, is_printable, is_star, number};
+use crate::open_rounds::OpenRounds;
+use crate::{Item, Limits, Row, ScriptError, Verb, Word};
 use csv::ByteRecord;
 
 /// The field at a place, or an empty one past the last.
@@ -50,35 +50,39 @@ fn verb(word: Word, fields: &ByteRecord) -> Verb
         Word::Insert => Verb::Insert(number(field(fields, 2))),
         Word::Remove => Verb::Remove(number(field(fields, 2))),
         Word::Look => Verb::Look,
+        Word::Has => Verb::Has(number(field(fields, 2))),
         Word::Size => Verb::Size,
         Word::Rank => Verb::Rank(number(field(fields, 2))),
+        Word::Select => Verb::Select(number(field(fields, 2))),
+        Word::Before => Verb::Before(number(field(fields, 2))),
+        Word::After => Verb::After(number(field(fields, 2))),
         Word::Range => Verb::Range(number(field(fields, 2)), number(field(fields, 3))),
     }
 }
 
 /// The row, or its fault where its lane or its arguments are out of range or its lane has no update left.
-fn bounded(limits: &Limits, read: &RoundRows, row: Row) -> Result<Row, ScriptError>
-    ensures row { result ≡ bounded_row limits.now read.now row }
-    ensures lane { IfOk result (λ row. row.lane ≡ 0) }
+fn bounded(limits: &Limits, read: &OpenRounds, row: Row) -> Result<Item, ScriptError>
+    ensures item { result ≡ bounded_row limits.now read.now row }
+    ensures lane { IfOk result (HasLaneBelow 64) }
 {
     if row.lane >= limits.workers() || !row.verb.is_in_bounds(limits.bits()) {
         return Err(ScriptError::OutOfRange(row.row));
     }
-    if row.verb.is_update() && read.updates() >= limits.updates() as usize {
+    if row.verb.is_update() && read.updates(row.lane) >= limits.updates() as usize {
         return Err(ScriptError::TooManyUpdates(row.row));
     }
-    Ok(row)
+    Ok(Item::Row(row))
 }
 
 /// The row of a record whose lane is known, or the first fault of its verb and its arguments.
 fn worded(
     limits: &Limits,
-    read: &RoundRows,
+    read: &OpenRounds,
     lane: u32,
     fields: &ByteRecord,
-) -> Result<Row, ScriptError>
-    ensures row { result ≡ worded_row limits.now read.now lane (drop 2 (fields_of fields.now)) (word_of (slice_index_or (fields_of fields.now) 1 [])) }
-    ensures lane { IfOk result (λ row. row.lane ≡ 0) }
+) -> Result<Item, ScriptError>
+    ensures item { result ≡ worded_row limits.now read.now lane (drop 2 (fields_of fields.now)) (word_of (slice_index_or (fields_of fields.now) 1 [])) }
+    ensures lane { IfOk result (HasLaneBelow 64) }
 {
     let number = read.next_number();
     let Some(word) = Word::from_field(field(fields, 1)) else {
@@ -99,14 +103,27 @@ fn worded(
     bounded(limits, read, row)
 }
 
-/// The row of the record behind those of its round that were read so far, or its first fault.
+/// The end of the round, or the first fault of a record with this number whose lane is `*`.
+fn ending(number: u64, fields: &ByteRecord) -> Result<Item, ScriptError>
+    ensures { result ≡ end_of_round number (drop 2 (fields_of fields.now)) (is_end_field (slice_index_or (fields_of fields.now) 1 [])) }
+{
+    if !is_end(field(fields, 1)) {
+        return Err(ScriptError::BadVerb(number));
+    }
+    if fields.len() > 2 {
+        return Err(ScriptError::BadArity(number));
+    }
+    Ok(Item::End)
+}
+
+/// What the record behind those that were read so far is read as, or its first fault.
 pub(crate) fn judge(
     limits: &Limits,
-    read: &RoundRows,
+    read: &OpenRounds,
     fields: &ByteRecord,
-) -> Result<Row, ScriptError>
-    ensures row { result ≡ row_of limits.now read.now (fields_of fields.now) }
-    ensures lane { IfOk result (λ row. row.lane ≡ 0) }
+) -> Result<Item, ScriptError>
+    ensures item { result ≡ item_of limits.now read.now (fields_of fields.now) }
+    ensures lane { IfOk result (HasLaneBelow 64) }
 {
     let row_number = read.next_number();
     if !are_fields_printable(fields) {
@@ -114,7 +131,7 @@ pub(crate) fn judge(
     }
     let lane = field(fields, 0);
     if is_star(lane) {
-        return Err(ScriptError::BadVerb(row_number));
+        return ending(row_number, fields);
     }
     if !is_number(lane) {
         return Err(ScriptError::BadLane(row_number));

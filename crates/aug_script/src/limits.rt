@@ -1,7 +1,9 @@
-ghost use Rattle.std.specs.Prelude.{◌≡◌, ◌≤◌, ◌<◌, ◌↔◌, ◌⊎◌, IfOk, IsErrOf, IsOkAnd};
+ghost use Rattle.std.specs.Prelude.{◌≡◌, ◌^◌, ◌↔◌, IfOk, IsErrOf, IsOk};
+ghost use Rattle.aug_core.specs.Layout.{IsRefused};
+ghost use Rattle.aug_core.specs.Places.{shape_of};
 ghost use Rattle.aug_script.specs.Limits.{Bounds, IsBounds};
 
-use aug_core::LayoutError;
+use aug_core::{Layout, LayoutError};
 use std::marker::Model;
 
 /// What a script may ask for: keys below `2^bits`, lanes below `workers`, and so many updates a lane and round.
@@ -23,23 +25,20 @@ impl Model for Limits {
 }
 
 impl Limits {
-    /// The limits of these numbers, or the first refusal of `LayoutError` that fits.
+    /// The limits of these numbers, or the refusal of the table of a round that opens with every key. No round of a
+    /// script that keeps the limits is then too large.
     pub fn try_new(bits: u32, workers: u32, updates: u32) -> Result<Limits, LayoutError>
-        ensures ok { IfOk result (λ l. l ≡ record { bits = bits; workers = workers; updates = updates }) }
-        ensures bits { IsErrOf result LayoutError.BadBits ↔ ((bits < 1) ⊎ (16 < bits)) }
-        ensures workers { IsErrOf result LayoutError.BadWorkers ↔ ((1 ≤ bits) × (bits ≤ 16) × ((workers < 1) ⊎ (1 < workers))) }
-        ensures updates { IsErrOf result LayoutError.BadUpdates ↔ ((1 ≤ bits) × (bits ≤ 16) × (workers ≡ 1) × ((updates < 1) ⊎ (65536 < updates))) }
-        ensures fits { IsBounds (record { bits = bits; workers = workers; updates = updates }) → IsOkAnd result (λ l. l ≡ record { bits = bits; workers = workers; updates = updates }) }
+        ensures ok { IsOk result ↔ IsBounds (record { bits = bits; workers = workers; updates = updates }) }
+        ensures limits { IfOk result (λ l. l ≡ record { bits = bits; workers = workers; updates = updates }) }
+
+        // One cause each, and the first that is met.
+        ensures bad_bits { IsErrOf result LayoutError.BadBits ↔ IsRefused LayoutError.BadBits (shape_of bits workers updates (2 ^ bits)) }
+        ensures bad_workers { IsErrOf result LayoutError.BadWorkers ↔ IsRefused LayoutError.BadWorkers (shape_of bits workers updates (2 ^ bits)) }
+        ensures bad_updates { IsErrOf result LayoutError.BadUpdates ↔ IsRefused LayoutError.BadUpdates (shape_of bits workers updates (2 ^ bits)) }
+        ensures too_large { IsErrOf result LayoutError.TooLarge ↔ IsRefused LayoutError.TooLarge (shape_of bits workers updates (2 ^ bits)) }
     {
-        if !(1..=16).contains(&bits) {
-            return Err(LayoutError::BadBits);
-        }
-        if workers != 1 {
-            return Err(LayoutError::BadWorkers);
-        }
-        if !(1..=65_536).contains(&updates) {
-            return Err(LayoutError::BadUpdates);
-        }
+        let members = if bits <= 16 { 1 << bits } else { 0 };
+        Layout::new(bits, workers, updates, members)?;
         Ok(Limits {
             bits,
             workers,

@@ -1,4 +1,4 @@
-ghost use Rattle.std.specs.Prelude.{◌≡◌, ◌+◌, ◌-◌, ◌^◌, ◌<◌, ◌≤◌, ◌↔◌, IsErrOf, OnOk};
+ghost use Rattle.std.specs.Prelude.{◌≡◌, ◌+◌, ◌-◌, ◌^◌, ◌<◌, ◌↔◌, ◌⊎◌, IsErrOf, OnOk};
 ghost use Rattle.std.specs.Io.KnownBytes.{Appends};
 ghost use Rattle.aug_script.specs.Devices.{AppendsBeginning, FinishesLast};
 ghost use Rattle.aug_script.specs.ReportText.{report_text};
@@ -38,7 +38,7 @@ pub fn print<S: Sink>(alloc: Global, report: &Report, sink: &mut S) -> Result<()
     ensures finished { OnOk result (S.finish_count sink.new ≡ S.finish_count sink.old + 1) }
     ensures last { FinishesLast (S.contents sink.old) (S.contents sink.new) (S.finish_count sink.old) (S.finish_count sink.new) (report_text report.now) }
     ensures memory { IsErrOf result PrintError.OutOfMemory → sink.new ≡ sink.old }
-    ensures one { S.fault_count sink.new ≤ S.fault_count sink.old + 1 }
+    ensures counted { (S.fault_count sink.new ≡ S.fault_count sink.old) ⊎ (S.fault_count sink.new ≡ S.fault_count sink.old + 1) }
 {
     let text = report.text(alloc)?;
     match send(text.as_str().as_bytes(), sink) {

@@ -1,13 +1,13 @@
 //! Scripts read from their bytes.
-ghost use Rattle.std.specs.Prelude.{◌≡◌, ◌≢◌, ◌+◌, ◌≤◌, ◌==◌, ◌∷◌, if◌then◌else◌, All, Ok, Err, [], IfOk, IfErr, length};
+ghost use Rattle.std.specs.Prelude.{◌≡◌, ◌≢◌, ◌+◌, ◌≤◌, All, Ok, Err, IfOk, IfErr, length};
 ghost use Rattle.aug_script.specs.Script.{KeepsLimits, nothing_read, read_from, records_of, rounds_of};
 
 use crate::judge::judge;
+use crate::open_rounds::OpenRounds;
 use crate::records::Records;
-use crate::round_rows::RoundRows;
 use crate::{Limits, Listed, Row, ScriptError};
 use csv::ByteRecord;
-use std::alloc::{AllocError, Global};
+use std::alloc::Global;
 use std::marker::Model;
 
 /// A script that was read: the rows of each of its rounds.
@@ -33,16 +33,15 @@ impl Script {
         ensures fault { IfErr result (λ fault. fault ≢ ScriptError.OutOfMemory → rounds_of limits.now bytes.now ≡ Err fault) }
 
         // What `ok` comes to, for a caller that runs the rounds.
-        ensures one { IfOk result (λ script. length script ≤ 1) }
         ensures kept { IfOk result (λ script. All (KeepsLimits limits.now) script) }
         ensures few { IfOk result (λ script. All (λ rows. length rows ≤ length bytes.now + 1) script) }
     {
-        let rows = read_rows(alloc, bytes, limits)?;
-        let rounds = one_round(alloc, rows)?;
+        let read = read_rounds(alloc, bytes, limits)?;
+        let rounds = read.into_rounds()?;
         Ok(Script { rounds })
     }
 
-    /// The rows of each round, in order. A script without rows has no round.
+    /// The rows of each round, in order, without those that end a round. An empty script has no round.
     pub fn rounds(&self) -> &[Listed<Row>]
         ensures { result.now ≡ self.now }
     {
@@ -50,28 +49,17 @@ impl Script {
     }
 }
 
-// The rows of a script, which are those of its one round.
-fn read_rows(alloc: Global, bytes: &[u8], limits: &Limits) -> Result<Listed<Row>, ScriptError>
-    ensures ok { IfOk result (λ rows. read_from limits.now nothing_read (records_of bytes.now) ≡ Ok (record { next = length rows + 1; rows = rows; closed = [] })) }
+// What the records of a script are read as.
+fn read_rounds(alloc: Global, bytes: &[u8], limits: &Limits) -> Result<OpenRounds, ScriptError>
+    ensures ok { IfOk result (λ read. read_from limits.now nothing_read (records_of bytes.now) ≡ Ok read) }
     ensures fault { IfErr result (λ fault. fault ≢ ScriptError.OutOfMemory → read_from limits.now nothing_read (records_of bytes.now) ≡ Err fault) }
 {
     let mut records = Records::new(alloc, bytes);
     let mut fields = ByteRecord::new(alloc);
-    let mut rows = RoundRows::new(alloc);
+    let mut rounds = OpenRounds::new(alloc);
     while records.next(&mut fields)? {
-        let row = judge(limits, &rows, &fields)?;
-        rows.push(row)?;
-    }
-    Ok(rows.into_rows())
-}
-
-// The rows as the one round, or no round where there are none.
-fn one_round(alloc: Global, rows: Listed<Row>) -> Result<Vec<Listed<Row>>, AllocError>
-    ensures { IfOk result (λ rounds. rounds.items ≡ (if length rows == 0 then [] else rows ∷ [])) }
-{
-    let mut rounds = Vec::new(alloc);
-    if !rows.as_slice().is_empty() {
-        rounds.push(rows)?;
+        let item = judge(limits, &rounds, &fields)?;
+        rounds.take(alloc, item)?;
     }
     Ok(rounds)
 }

@@ -17,8 +17,14 @@ pub enum Reply {
     Absent,
     /// A new snapshot was taken.
     Looked,
+    /// The key is a member.
+    Yes,
+    /// The key is no member.
+    No,
     /// The number that was asked for.
     Number(u32),
+    /// The member that was asked for, if there is one.
+    Found(Option<u32>),
     /// What was asked of the members in a range.
     Span(Summary<Sum, Extent>),
 }
@@ -54,7 +60,11 @@ impl fmt::Display for Reply {
             Reply::Gone => write!(f, "gone"),
             Reply::Absent => write!(f, "none"),
             Reply::Looked => write!(f, "ok"),
+            Reply::Yes => write!(f, "yes"),
+            Reply::No => write!(f, "no"),
             Reply::Number(number) => write!(f, "{number}"),
+            Reply::Found(Some(key)) => write!(f, "{key}"),
+            Reply::Found(None) => write!(f, "-"),
             Reply::Span(summary) => {
                 let count = summary.count;
                 let sum = summary.a.value();

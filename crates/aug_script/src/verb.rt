@@ -2,7 +2,8 @@ ghost use Rattle.std.specs.Prelude.{◌≡◌, ◌≤◌};
 
 use std::fmt;
 
-/// What a row asks for. Keys are below `2^bits` in updates, and at most `2^bits` in queries.
+/// What a row asks for. Keys are below `2^bits` in updates and in `has`; what the other queries are given is at most
+/// `2^bits`. Queries are answered from the snapshot that the lane took last.
 #[derive(Clone, Copy, Debug, PartialEq, Eq)]
 pub enum Verb {
     /// Put a key in.
@@ -11,10 +12,18 @@ pub enum Verb {
     Remove(u32),
     /// Take a new snapshot, from which the lane's queries are answered from now on.
     Look,
-    /// How many members the snapshot has.
+    /// Whether a key is a member.
+    Has(u32),
+    /// How many members there are.
     Size,
-    /// How many members of the snapshot are below a key.
+    /// How many members are below a key.
     Rank(u32),
+    /// The member that has so many members below it, if there is one.
+    Select(u32),
+    /// The greatest member below a key, if there is one.
+    Before(u32),
+    /// The least member above a key, if there is one.
+    After(u32),
     /// The number, the sum, the least and the greatest of the members from the first key on that are below the
     /// second.
     Range(u32, u32),
@@ -26,8 +35,12 @@ pub(crate) enum Word {
     Insert,
     Remove,
     Look,
+    Has,
     Size,
     Rank,
+    Select,
+    Before,
+    After,
     Range,
 }
 
@@ -44,10 +57,18 @@ impl Word {
             Some(Word::Remove)
         } else if field == b"look".as_slice() {
             Some(Word::Look)
+        } else if field == b"has".as_slice() {
+            Some(Word::Has)
         } else if field == b"size".as_slice() {
             Some(Word::Size)
         } else if field == b"rank".as_slice() {
             Some(Word::Rank)
+        } else if field == b"select".as_slice() {
+            Some(Word::Select)
+        } else if field == b"before".as_slice() {
+            Some(Word::Before)
+        } else if field == b"after".as_slice() {
+            Some(Word::After)
         } else if field == b"range".as_slice() {
             Some(Word::Range)
         } else {
@@ -60,8 +81,9 @@ impl Word {
         ensures { result ≡ arity_of self }
     {
         match self {
-            Word::Insert | Word::Remove | Word::Rank => 1,
             Word::Look | Word::Size => 0,
+            Word::Insert | Word::Remove | Word::Has => 1,
+            Word::Rank | Word::Select | Word::Before | Word::After => 1,
             Word::Range => 2,
         }
     }
@@ -77,8 +99,9 @@ impl Verb {
     {
         let universe = 1u32 << bits;
         match self {
-            Verb::Insert(key) | Verb::Remove(key) => key < universe,
-            Verb::Rank(key) => key <= universe,
+            Verb::Insert(key) | Verb::Remove(key) | Verb::Has(key) => key < universe,
+            Verb::Rank(key) | Verb::Before(key) | Verb::After(key) => key <= universe,
+            Verb::Select(index) => index <= universe,
             Verb::Range(from, to) => from <= universe && to <= universe,
             Verb::Look | Verb::Size => true,
         }
@@ -104,8 +127,12 @@ impl fmt::Display for Verb {
             Verb::Insert(key) => write!(f, "insert {key}"),
             Verb::Remove(key) => write!(f, "remove {key}"),
             Verb::Look => write!(f, "look"),
+            Verb::Has(key) => write!(f, "has {key}"),
             Verb::Size => write!(f, "size"),
             Verb::Rank(key) => write!(f, "rank {key}"),
+            Verb::Select(index) => write!(f, "select {index}"),
+            Verb::Before(key) => write!(f, "before {key}"),
+            Verb::After(key) => write!(f, "after {key}"),
             Verb::Range(from, to) => write!(f, "range {from} {to}"),
         }
     }

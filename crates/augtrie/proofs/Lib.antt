@@ -1,4 +1,5 @@
 pub mod CommandLineLemmas
+pub mod OneWorker
 pub mod OptionReads
-pub mod Outputs
+pub mod Printing
 pub mod Runs

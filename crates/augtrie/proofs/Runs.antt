@@ -73,6 +73,12 @@ ran_all number members rows sets lines inserts removals size ran sized =
     let all_removals : count_of is_removal (replies_of (opening_sets members) rows) ≡ removals = omega (arith, ran.removals_are) in
     λ i. record { number = number; rows = all_lines i; size = all_sets i; inserts = all_inserts i; removals = all_removals i }
 
+-- and the sets are those after the rows
+pub ran_sets : (members : List ℕ) (rows : List Row) (sets : Sets) (lines : List (Row × Reply)) (inserts removals : ℕ)
+    → RanUpTo members rows [] sets lines inserts removals → sets ≡ sets_of (opening_sets members) rows
+unfolding sets_of
+ran_sets members rows sets lines inserts removals ran = ran.sets_are
+
 -- what a `bool` adds to a count
 pub one_if-bool_byte : (b : Bool) → bool_byte b ≡ one_if b
 one_if-bool_byte true = refl

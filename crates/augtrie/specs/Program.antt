@@ -3,7 +3,7 @@ use Rattle.std.specs.Prelude.{◌≡◌, ℕ, ◌+◌, ◌<◌, ⊤, Bool, true,
 use Rattle.std.specs.Io.KnownBytes.{Appends}
 use Rattle.aug_script.specs.Devices.{AppendsBeginning, FinishesLast}
 use Rattle.aug_script.specs.Limits.{Bounds}
-use Rattle.augtrie.specs.Runs.{HasFault, RunsInPart, script_limit}
+use Rattle.augtrie.specs.Runs.{HasFault, RunsInPart, RunsOutOfMemory, script_limit}
 use Rattle.augtrie.specs.declared.run_error.RunError.{RunError}
 use Rattle.augtrie.specs.declared.run_error.RunError.TheVariants as run
 use Rattle.augtrie.specs.declared.stop.Stop.{Stop}
@@ -32,5 +32,5 @@ abbrev pub FailsBy : Bounds → Option (List ℕ) → Option (List ℕ) → ℕ 
 FailsBy limits before after calls calls' bytes (run.Script fault) = IfSome bytes (HasFault limits fault)
 FailsBy limits before after calls calls' bytes run.Input = ⊤
 FailsBy limits before after calls calls' bytes run.Output = IfSome bytes (RunsInPart limits before after calls calls')
-FailsBy limits before after calls calls' bytes run.OutOfMemory = ⊤
+FailsBy limits before after calls calls' bytes run.OutOfMemory = RunsOutOfMemory limits before after calls calls' bytes
 FailsBy limits before after calls calls' bytes run.TooLong = IfSome bytes (λ bs. script_limit < length bs)

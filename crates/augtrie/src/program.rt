@@ -43,7 +43,7 @@ pub(crate) fn carry_out<I: Input, O: Sink, E: Sink>(
     ensures failed { IfOk asked (λ options. result ≢ 0 → (error : RunError) × (result ≡ run_error_status error)
         × Shows (E.contents errors.old) (E.contents errors.new) (E.finish_count errors.old) (E.finish_count errors.new) (E.fault_count errors.old) (E.fault_count errors.new) (run_error_line error)
         × FailsBy options.limits (O.contents output.old) (O.contents output.new) (O.finish_count output.old) (O.finish_count output.new) (script_bytes (I.Source.remaining input.old) (I.file_bytes input.old) (option_map string_bytes options.file)) error
-        × (error ≢ RunError.Output → output.new ≡ output.old)
+        × (error ≢ RunError.Output → error ≢ RunError.OutOfMemory → output.new ≡ output.old)
         × (error ≡ RunError.Input ↔ (I.Source.fault_count input.old < I.Source.fault_count input.new))
         × (error ≡ RunError.Output ↔ (O.fault_count output.old < O.fault_count output.new))) }
 {
@@ -70,7 +70,7 @@ fn run_script<I: Input, O: Sink>(
     ensures err { IfErr result (FailsBy options.now.limits (O.contents output.old) (O.contents output.new) (O.finish_count output.old) (O.finish_count output.new) (script_bytes (I.Source.remaining input.old) (I.file_bytes input.old) (option_map string_bytes options.now.file))) }
     ensures input { result ≡ Err RunError.Input ↔ (I.Source.fault_count input.old < I.Source.fault_count input.new) }
     ensures output { result ≡ Err RunError.Output ↔ (O.fault_count output.old < O.fault_count output.new) }
-    ensures nothing { IfErr result (λ error. error ≢ RunError.Output → output.new ≡ output.old) }
+    ensures nothing { IfErr result (λ error. error ≢ RunError.Output → error ≢ RunError.OutOfMemory → output.new ≡ output.old) }
 {
     if let Some(path) = &options.file {
         if input.open(path.as_str()).is_err() {

@@ -6,6 +6,18 @@ use std::alloc::{AllocError, Global};
 use std::process::Abort;
 use std::test::Fail;
 
+const FIRST_REPORT: &str = "\
+1 0 insert 5 = new
+1 0 insert 9 = new
+1 0 insert 5 = old
+1 0 look = ok
+1 0 size = 2
+1 0 rank 9 = 1
+1 0 select 1 = 9
+1 0 range 0 16 = 2 14 5 9
+1 end size=2 in=2 out=0
+";
+
 // Runs a script of 4 bits from one device of small pieces to another.
 fn outcome(
     rt: &impl Abort,
@@ -43,9 +55,52 @@ fn first_script(rt: HostRuntime) {
     assert_prints(
         &rt,
         rt.alloc(),
-        "0,insert,5\n0,insert,9\n0,insert,5\n0,look\n0,size\n0,rank,9\n",
-        "1 0 insert 5 = new\n1 0 insert 9 = new\n1 0 insert 5 = old\n1 0 look = ok\n1 0 size = 2\n1 0 rank 9 = 1\n1 end size=2 in=2 out=0\n",
+        "0,insert,5\n0,insert,9\n0,insert,5\n0,look\n0,size\n0,rank,9\n0,select,1\n0,range,0,16\n",
+        FIRST_REPORT,
     );
+    assert_prints(
+        &rt,
+        rt.alloc(),
+        "0,insert,5\n0,insert,9\n0,insert,5\n0,look\n0,size\n0,rank,9\n0,select,1\n0,range,0,16\n*,end\n",
+        FIRST_REPORT,
+    );
+}
+
+#[test]
+fn queries_of_an_empty_set(rt: HostRuntime) {
+    assert_prints(
+        &rt,
+        rt.alloc(),
+        "0,size\n0,has,3\n0,rank,16\n0,select,0\n0,before,16\n0,after,0\n0,range,0,16\n",
+        "1 0 size = 0\n1 0 has 3 = no\n1 0 rank 16 = 0\n1 0 select 0 = -\n1 0 before 16 = -\n1 0 after 0 = -\n1 0 range 0 16 = 0 0 - -\n1 end size=0 in=0 out=0\n",
+    );
+}
+
+#[test]
+fn neighbours_are_those_of_the_last_look(rt: HostRuntime) {
+    assert_prints(
+        &rt,
+        rt.alloc(),
+        "0,insert,7\n0,has,7\n0,after,0\n0,look\n0,has,7\n0,after,0\n0,before,16\n0,before,7\n",
+        "1 0 insert 7 = new\n1 0 has 7 = no\n1 0 after 0 = -\n1 0 look = ok\n1 0 has 7 = yes\n1 0 after 0 = 7\n1 0 before 16 = 7\n1 0 before 7 = -\n1 end size=1 in=1 out=0\n",
+    );
+}
+
+#[test]
+fn a_round_of_no_rows_prints_its_totals(rt: HostRuntime) {
+    assert_prints(&rt, rt.alloc(), "*,end", "1 end size=0 in=0 out=0\n");
+}
+
+#[test]
+fn rounds_go_on_from_the_set_of_the_one_before(rt: HostRuntime) {
+    let script =
+        b"0,insert,1\n0,insert,2\n0,insert,3\n*,end\n0,remove,2\n0,look\n0,select,1\n*,end\n0,size\n";
+    let (result, sink) = outcome(&rt, rt.alloc(), script, 64);
+    assert_eq!(rt; result, Ok(()));
+    let text =
+        "1 0 insert 1 = new\n1 0 insert 2 = new\n1 0 insert 3 = new\n1 end size=3 in=3 out=0\n2 0 remove 2 = gone\n2 0 look = ok\n2 0 select 1 = 3\n2 end size=2 in=0 out=1\n3 0 size = 2\n3 end size=2 in=0 out=0\n";
+    assert_eq!(rt; sink.out.as_slice(), text.as_bytes());
+    assert_eq!(rt; sink.finished, 3);
 }
 
 #[test]
@@ -88,6 +143,12 @@ fn updates_of_a_lane_are_limited(rt: HostRuntime) {
     assert_eq!(rt; result, Ok(()));
     let text = "1 0 insert 1 = new\n1 0 remove 1 = gone\n1 end size=0 in=1 out=1\n";
     assert_eq!(rt; sink.out.as_slice(), text.as_bytes());
+    let ended = b"0,insert,1\n0,remove,1\n*,end\n0,insert,1\n";
+    let (result, sink) = outcome(&rt, rt.alloc(), ended, 2);
+    assert_eq!(rt; result, Ok(()));
+    let text =
+        "1 0 insert 1 = new\n1 0 remove 1 = gone\n1 end size=0 in=1 out=1\n2 0 insert 1 = new\n2 end size=1 in=1 out=0\n";
+    assert_eq!(rt; sink.out.as_slice(), text.as_bytes());
 }
 
 #[test]
@@ -116,15 +177,11 @@ fn faulty_rows_are_refused(rt: HostRuntime) {
             ScriptError::BadVerb(1),
             "augtrie: row 1: BadVerb\n",
         ),
+        (b"*", ScriptError::BadVerb(1), "augtrie: row 1: BadVerb\n"),
         (
-            b"*,end",
-            ScriptError::BadVerb(1),
-            "augtrie: row 1: BadVerb\n",
-        ),
-        (
-            b"0,has,1",
-            ScriptError::BadVerb(1),
-            "augtrie: row 1: BadVerb\n",
+            b"*,end,1",
+            ScriptError::BadArity(1),
+            "augtrie: row 1: BadArity\n",
         ),
         (
             b"0,insert",
@@ -305,17 +362,20 @@ fn a_script_may_use_every_update_and_no_more(rt: HostRuntime) -> Result<(), Fail
     Ok(())
 }
 
-// Under `rt try --test --fail-alloc N` the Nth request for memory is refused: it is told, nothing went out before,
+// Under `rt try --test --fail-alloc N` the Nth request for memory is refused: it is told, whole reports went out before,
 // and the same run made again prints everything. The sink takes memory too, and is then the one that fails.
 #[test]
-fn refused_memory_is_told_and_prints_nothing(rt: HostRuntime) {
-    let text =
-        "1 0 insert 5 = new\n1 0 look = ok\n1 0 range 0 16 = 1 5 5 5\n1 end size=1 in=1 out=0\n";
+fn refused_memory_is_told_behind_whole_reports(rt: HostRuntime) {
+    let script = b"0,insert,5\n*,end\n0,range,0,16\n";
+    let first = "1 0 insert 5 = new\n1 end size=1 in=1 out=0\n";
+    let both =
+        "1 0 insert 5 = new\n1 end size=1 in=1 out=0\n2 0 range 0 16 = 1 5 5 5\n2 end size=1 in=0 out=0\n";
     for _ in 0..2 {
-        let (result, sink) = outcome(&rt, rt.alloc(), b"0,insert,5\n0,look\n0,range,0,16\n", 64);
+        let (result, sink) = outcome(&rt, rt.alloc(), script, 64);
         match result {
-            Ok(()) => assert_eq!(rt; sink.out.as_slice(), text.as_bytes()),
-            Err(RunError::OutOfMemory) => assert_eq!(rt; sink.calls, 0),
+            Ok(()) => assert_eq!(rt; sink.out.as_slice(), both.as_bytes()),
+            Err(RunError::OutOfMemory) if sink.finished == 0 => assert_eq!(rt; sink.calls, 0),
+            Err(RunError::OutOfMemory) => assert_eq!(rt; sink.out.as_slice(), first.as_bytes()),
             Err(error) => assert_eq!(rt; error, RunError::Output),
         }
     }

@@ -1,9 +1,0 @@
-use Rattle.std.proofs.Common.{arith, ◌==◌, ◌&&◌}
-use Rattle.aug_script.specs.Script.{is_update}
-use Rattle.aug_script.proofs.Updates.{length-filter-le}
-use Rattle.aug_script.proofs.round_rows.RoundRows.push.Goals as goal
-
-pub overflow_add-self : goal.overflow_add-self
-overflow_add-self c =
-    let few = length-filter-le (λ row. (row.lane == 0) && is_update row.verb) c.self.inside.rows.items in
-    omega (arith, c.self.invariant, c.push.ensures.upper_bound, c.in_ok-push.ensures.len)

@@ -1,0 +1,111 @@
+//! The rounds of a script while it is read.
+ghost use Rattle.std.specs.Prelude.{◌≡◌, ◌+◌, ◌-◌, ◌^◌, ◌<◌, IfOk, OnOk};
+ghost use Rattle.aug_script.specs.Script.{HasLaneBelow, nothing_read, rounds_read, updates_of, with_item};
+ghost use Rattle.aug_script.specs.declared.item.Item.TheVariants as item;
+
+use crate::{Item, Listed, Row};
+use std::alloc::{AllocError, Global};
+use std::marker::Model;
+use std::mem;
+
+/// The most lanes that a round has.
+const LANES: usize = 64;
+
+/// The rounds that were closed, and the rows of the one that is open.
+#[derive(Drop)]
+pub(crate) struct OpenRounds {
+    closed: Vec<Listed<Row>>,
+    rows: Vec<Row>,
+    /// How many of these rows are updates of each lane.
+    updates: [usize; LANES],
+    /// The number of the row that comes next.
+    next: u64,
+}
+
+impl Model for OpenRounds {
+    ghost use Rattle.std.specs.Prelude.{◌≡◌, ℕ, ◌<◌, slice_index_or};
+    ghost use Rattle.aug_script.specs.Script.{Progress, updates_of};
+
+    ghost Value = { Progress };
+
+    ghost view = { λ r. record { next = r.next; rows = r.rows.items; closed = r.closed.items } };
+
+    ghost invariant = { λ r. (lane : ℕ) → lane < 64 → slice_index_or r.updates lane 0 ≡ updates_of lane r.rows.items };
+}
+
+impl OpenRounds {
+    pub(crate) fn new(alloc: Global) -> OpenRounds
+        ensures { result ≡ nothing_read }
+    {
+        OpenRounds {
+            closed: Vec::new(alloc),
+            rows: Vec::new(alloc),
+            updates: [0; LANES],
+            next: 1,
+        }
+    }
+
+    /// The number of the row that comes next.
+    pub(crate) fn next_number(&self) -> u64
+        ensures { result ≡ self.now.next }
+    {
+        self.next
+    }
+
+    /// How many of the open round's rows are updates of a lane.
+    pub(crate) fn updates(&self, lane: u32) -> usize
+        requires { lane < 64 }
+        ensures { result ≡ updates_of lane self.now.rows }
+    {
+        self.updates[lane as usize]
+    }
+
+    /// Puts a row behind those of the open round, or closes that round and opens the next.
+    pub(crate) fn take(&mut self, alloc: Global, item: Item) -> Result<(), AllocError>
+        requires lane { HasLaneBelow 64 item }
+        requires number { self.old.next < 2 ^ 64 - 1 }
+        ensures { OnOk result (self.new ≡ with_item self.old item) }
+    {
+        match item {
+            Item::Row(row) => self.push(row),
+            Item::End => self.close(alloc),
+        }
+    }
+
+    // One more row of the open round.
+    fn push(&mut self, row: Row) -> Result<(), AllocError>
+        requires lane { row.lane < 64 }
+        requires number { self.old.next < 2 ^ 64 - 1 }
+        ensures { OnOk result (self.new ≡ with_item self.old (item.Row row)) }
+    {
+        self.rows.push(row)?;
+        if row.verb.is_update() {
+            self.updates[row.lane as usize] += 1;
+        }
+        self.next += 1;
+        Ok(())
+    }
+
+    // The open round is closed, and the next one has no rows yet.
+    fn close(&mut self, alloc: Global) -> Result<(), AllocError>
+        requires { self.old.next < 2 ^ 64 - 1 }
+        ensures { OnOk result (self.new ≡ with_item self.old item.End) }
+    {
+        let rows = mem::replace(&mut self.rows, Vec::new(alloc));
+        self.updates = [0; LANES];
+        self.closed.push(Listed::from_vec(rows))?;
+        self.next += 1;
+        Ok(())
+    }
+
+    /// All rounds, the open one as the last where it has rows.
+    pub(crate) fn into_rounds(self) -> Result<Vec<Listed<Row>>, AllocError>
+        ensures { IfOk result (λ rounds. rounds.items ≡ rounds_read self) }
+    {
+        let mut rounds = self.closed;
+        if !self.rows.is_empty() {
+            rounds.push(Listed::from_vec(self.rows))?;
+        }
+        Ok(rounds)
+    }
+}

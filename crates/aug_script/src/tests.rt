@@ -1,0 +1,360 @@
+//! Scripts as they are read, and reports as they are printed.
+use crate::{
+    Limits, Listed, MemorySink, PrintError, Reply, Report, Row, Script, ScriptError, Verb, print,
+};
+use aug_core::LayoutError;
+use aug_model::Summary;
+use aug_monoid::{Extent, Sum, fold_slice};
+use std::alloc::{AllocError, Global};
+use std::test::Fail;
+
+// The rows of each round of a script under limits of 4 bits.
+fn rounds_of(
+    alloc: Global,
+    script: &str,
+    workers: u32,
+    updates: u32,
+) -> Result<Vec<Listed<Row>>, Fail> {
+    let limits = Limits::try_new(4, workers, updates)?;
+    let script = Script::read(alloc, script.as_bytes(), &limits)?;
+    let mut rounds = Vec::new(alloc);
+    for round in script.rounds() {
+        let rows = Vec::from_slice(alloc, round.as_slice())?;
+        rounds.push(Listed::from_vec(rows))?;
+    }
+    Ok(rounds)
+}
+
+// The fault of a script of one worker, if it has one.
+fn fault_of(alloc: Global, script: &[u8], updates: u32) -> Result<Option<ScriptError>, Fail> {
+    let limits = Limits::try_new(4, 1, updates)?;
+    Ok(Script::read(alloc, script, &limits).err())
+}
+
+fn row(row: u64, lane: u32, verb: Verb) -> Row {
+    Row { row, lane, verb }
+}
+
+#[test]
+fn a_script_may_ask_for_as_much_as_a_full_table_holds(rt: HostRuntime) {
+    for (bits, workers, updates, error) in [
+        (0, 1, 1, Some(LayoutError::BadBits)),
+        (17, 0, 0, Some(LayoutError::BadBits)),
+        (u32::MAX, 1, 1, Some(LayoutError::BadBits)),
+        (4, 0, 1, Some(LayoutError::BadWorkers)),
+        (4, 65, 0, Some(LayoutError::BadWorkers)),
+        (4, 1, 0, Some(LayoutError::BadUpdates)),
+        (4, 1, 65_537, Some(LayoutError::BadUpdates)),
+        (16, 64, 13_108, Some(LayoutError::TooLarge)),
+        (16, 64, 13_018, Some(LayoutError::TooLarge)),
+        (16, 64, 13_017, None),
+        (1, 64, 65_536, None),
+        (16, 1, 65_536, None),
+        (1, 1, 1, None),
+    ] {
+        match Limits::try_new(bits, workers, updates) {
+            Ok(limits) => {
+                assert_eq!(rt; None, error, "at {bits}, {workers}, {updates}");
+                assert_eq!(rt; limits.bits(), bits);
+                assert_eq!(rt; limits.workers(), workers);
+                assert_eq!(rt; limits.updates(), updates);
+            }
+            Err(cause) => assert_eq!(rt; Some(cause), error, "at {bits}, {workers}, {updates}"),
+        }
+    }
+}
+
+#[test]
+fn every_verb_is_read(rt: HostRuntime) -> Result<(), Fail> {
+    let script =
+        "0,insert,1\n1,remove,2\n0,look\n1,has,3\n0,size\n1,rank,4\n0,select,5\n1,before,6\n0,after,7\n1,range,8,9\n";
+    let rounds = rounds_of(rt.alloc(), script, 2, 64)?;
+    assert_eq!(rt; rounds.len(), 1);
+    let rows = [
+        row(1, 0, Verb::Insert(1)),
+        row(2, 1, Verb::Remove(2)),
+        row(3, 0, Verb::Look),
+        row(4, 1, Verb::Has(3)),
+        row(5, 0, Verb::Size),
+        row(6, 1, Verb::Rank(4)),
+        row(7, 0, Verb::Select(5)),
+        row(8, 1, Verb::Before(6)),
+        row(9, 0, Verb::After(7)),
+        row(10, 1, Verb::Range(8, 9)),
+    ];
+    assert_eq!(rt; rounds[0].as_slice(), rows.as_slice());
+    Ok(())
+}
+
+#[test]
+fn quotes_blank_lines_line_ends_and_leading_zeros(rt: HostRuntime) -> Result<(), Fail> {
+    let rounds = rounds_of(rt.alloc(), "\"0\",\"insert\",\"005\"\r\n\r\n0,look", 1, 64)?;
+    assert_eq!(rt; rounds.len(), 1);
+    let rows = [row(1, 0, Verb::Insert(5)), row(2, 0, Verb::Look)];
+    assert_eq!(rt; rounds[0].as_slice(), rows.as_slice());
+    Ok(())
+}
+
+#[test]
+fn faulty_scripts_of_one_row(rt: HostRuntime) -> Result<(), Fail> {
+    let not_printable: &[u8] = &[48, 44, 105, 110, 115, 101, 114, 116, 44, 0xC3, 0xA9];
+    let ends_not_printable: &[u8] = &[42, 44, 101, 110, 100, 44, 0xC3, 0xA9];
+    let scripts: [(&[u8], ScriptError); 33] = [
+        (b"0,insert,16", ScriptError::OutOfRange(1)),
+        (b"1,look", ScriptError::OutOfRange(1)),
+        (b"0,insert", ScriptError::BadArity(1)),
+        (b"0,look,1", ScriptError::BadArity(1)),
+        (b"0,insert,x", ScriptError::BadNumber(1)),
+        (b"0,insert,1000000000", ScriptError::BadNumber(1)),
+        (b"x,fly", ScriptError::BadLane(1)),
+        (b"1,fly", ScriptError::BadVerb(1)),
+        (b"0", ScriptError::BadVerb(1)),
+        (b"*,look", ScriptError::BadVerb(1)),
+        (b"0,end", ScriptError::BadVerb(1)),
+        (not_printable, ScriptError::BadCsv(1)),
+
+        // The first fault of a row that has several.
+        (ends_not_printable, ScriptError::BadCsv(1)),
+        (b"**,end", ScriptError::BadLane(1)),
+        (b"*", ScriptError::BadVerb(1)),
+        (b"*,", ScriptError::BadVerb(1)),
+        (b"*,look,1", ScriptError::BadVerb(1)),
+        (b"0,end,1", ScriptError::BadVerb(1)),
+        (b"*,end,1", ScriptError::BadArity(1)),
+        (b"*,end,x", ScriptError::BadArity(1)),
+        (b"1,insert,x", ScriptError::BadNumber(1)),
+
+        // The bounds of the arguments, and how many there are.
+        (b"0,has,16", ScriptError::OutOfRange(1)),
+        (b"0,remove,16", ScriptError::OutOfRange(1)),
+        (b"0,rank,17", ScriptError::OutOfRange(1)),
+        (b"0,select,17", ScriptError::OutOfRange(1)),
+        (b"0,before,17", ScriptError::OutOfRange(1)),
+        (b"0,after,17", ScriptError::OutOfRange(1)),
+        (b"0,range,0,17", ScriptError::OutOfRange(1)),
+        (b"0,has", ScriptError::BadArity(1)),
+        (b"0,select", ScriptError::BadArity(1)),
+        (b"0,before,1,2", ScriptError::BadArity(1)),
+        (b"0,after", ScriptError::BadArity(1)),
+        (b"0,range,1", ScriptError::BadArity(1)),
+    ];
+    for (place, (script, fault)) in scripts.into_iter().enumerate() {
+        assert_eq!(rt;
+            fault_of(rt.alloc(), script, 64)?,
+            Some(fault),
+            "at {place}"
+        );
+    }
+    Ok(())
+}
+
+#[test]
+fn arguments_up_to_their_bounds_are_taken(rt: HostRuntime) -> Result<(), Fail> {
+    let script =
+        "0,insert,15\n0,remove,15\n0,has,15\n0,rank,16\n0,select,16\n0,before,16\n0,after,16\n0,range,16,16\n";
+    assert_eq!(rt; fault_of(rt.alloc(), script.as_bytes(), 64)?, None);
+    Ok(())
+}
+
+#[test]
+fn lanes_are_below_the_workers(rt: HostRuntime) -> Result<(), Fail> {
+    let rounds = rounds_of(rt.alloc(), "63,look\n0,look\n", 64, 64)?;
+    assert_eq!(rt; rounds.len(), 1);
+    let rows = [row(1, 63, Verb::Look), row(2, 0, Verb::Look)];
+    assert_eq!(rt; rounds[0].as_slice(), rows.as_slice());
+    let limits = Limits::try_new(4, 64, 64)?;
+    let fault = Script::read(rt.alloc(), b"63,look\n64,look\n", &limits).err();
+    assert_eq!(rt; fault, Some(ScriptError::OutOfRange(2)));
+    Ok(())
+}
+
+#[test]
+fn updates_are_limited_in_each_round(rt: HostRuntime) -> Result<(), Fail> {
+    let alloc = rt.alloc();
+    let three = b"0,insert,1\n0,remove,1\n0,insert,1\n";
+    assert_eq!(rt;
+        fault_of(alloc, three, 2)?,
+        Some(ScriptError::TooManyUpdates(3))
+    );
+    let two = rounds_of(alloc, "0,insert,1\n0,remove,1\n", 1, 2)?;
+    assert_eq!(rt; two.len(), 1);
+    let ended = rounds_of(alloc, "0,insert,1\n0,remove,1\n*,end\n0,insert,1\n", 1, 2)?;
+    assert_eq!(rt; ended.len(), 2);
+    let first = [row(1, 0, Verb::Insert(1)), row(2, 0, Verb::Remove(1))];
+    assert_eq!(rt; ended[0].as_slice(), first.as_slice());
+    assert_eq!(rt;
+        ended[1].as_slice(),
+        [row(4, 0, Verb::Insert(1))].as_slice()
+    );
+    Ok(())
+}
+
+#[test]
+fn updates_are_limited_in_each_lane(rt: HostRuntime) -> Result<(), Fail> {
+    let limits = Limits::try_new(4, 3, 1)?;
+    let each = b"2,insert,1\n0,insert,1\n1,remove,1\n*,end\n1,remove,1\n2,insert,1\n";
+    assert_eq!(rt; Script::read(rt.alloc(), each, &limits).err(), None);
+    let more = b"2,insert,1\n0,insert,1\n*,end\n1,remove,1\n2,insert,1\n1,insert,1\n";
+    let fault = Script::read(rt.alloc(), more, &limits).err();
+    assert_eq!(rt; fault, Some(ScriptError::TooManyUpdates(6)));
+    Ok(())
+}
+
+#[test]
+fn a_round_may_have_no_rows(rt: HostRuntime) -> Result<(), Fail> {
+    for (script, rows) in [
+        ("", [].as_slice()),
+        ("\n\n", [].as_slice()),
+        ("*,end", [0].as_slice()),
+        ("*,end\n*,end\n", [0, 0].as_slice()),
+        ("0,look", [1].as_slice()),
+        ("0,look\n*,end", [1].as_slice()),
+        ("0,look\n*,end\n*,end\n0,size", [1, 0, 1].as_slice()),
+    ] {
+        let rounds = rounds_of(rt.alloc(), script, 1, 64)?;
+        assert_eq!(rt; rounds.len(), rows.len(), "in {script}");
+        for (round, count) in rounds.iter().zip(rows) {
+            assert_eq!(rt; round.as_slice().len(), *count, "in {script}");
+        }
+    }
+    Ok(())
+}
+
+#[test]
+fn rows_keep_their_numbers_past_the_end_of_a_round(rt: HostRuntime) -> Result<(), Fail> {
+    let script =
+        "0,insert,1\n0,insert,2\n0,insert,3\n*,end\n0,remove,2\n0,look\n0,select,1\n*,end\n";
+    let rounds = rounds_of(rt.alloc(), script, 1, 64)?;
+    assert_eq!(rt; rounds.len(), 2);
+    let first = [
+        row(1, 0, Verb::Insert(1)),
+        row(2, 0, Verb::Insert(2)),
+        row(3, 0, Verb::Insert(3)),
+    ];
+    assert_eq!(rt; rounds[0].as_slice(), first.as_slice());
+    let second = [
+        row(5, 0, Verb::Remove(2)),
+        row(6, 0, Verb::Look),
+        row(7, 0, Verb::Select(1)),
+    ];
+    assert_eq!(rt; rounds[1].as_slice(), second.as_slice());
+    let late = b"0,look\n*,end\n\n0,look\n0,fly\n";
+    assert_eq!(rt;
+        fault_of(rt.alloc(), late, 64)?,
+        Some(ScriptError::BadVerb(4))
+    );
+    Ok(())
+}
+
+// What is known of these keys, which are so many.
+fn span(count: u32, keys: &[u32]) -> Reply {
+    Reply::Span(Summary {
+        count,
+        a: fold_slice::<Sum>(keys),
+        b: fold_slice::<Extent>(keys),
+    })
+}
+
+// A report with each verb and each reply.
+fn report(alloc: Global) -> Result<Report, AllocError> {
+    let lines = [
+        (row(1, 0, Verb::Insert(5)), Reply::New),
+        (row(2, 0, Verb::Insert(5)), Reply::Old),
+        (row(3, 1, Verb::Remove(5)), Reply::Gone),
+        (row(4, 1, Verb::Remove(5)), Reply::Absent),
+        (row(5, 63, Verb::Look), Reply::Looked),
+        (row(6, 0, Verb::Has(15)), Reply::Yes),
+        (row(7, 0, Verb::Has(0)), Reply::No),
+        (row(8, 0, Verb::Size), Reply::Number(2)),
+        (row(9, 0, Verb::Rank(16)), Reply::Number(65_536)),
+        (row(10, 0, Verb::Select(1)), Reply::Found(Some(9))),
+        (row(11, 0, Verb::Before(16)), Reply::Found(None)),
+        (row(12, 0, Verb::After(0)), Reply::Found(Some(65_535))),
+        (row(13, 0, Verb::Range(0, 16)), span(2, &[5, 9])),
+        (row(14, 0, Verb::Range(9, 5)), span(0, &[])),
+    ];
+    Ok(Report {
+        number: 12,
+        rows: Listed::from_vec(Vec::from_slice(alloc, lines.as_slice())?),
+        size: 2,
+        inserts: 3,
+        removals: 1,
+    })
+}
+
+const TEXT: &str = "\
+12 0 insert 5 = new
+12 0 insert 5 = old
+12 1 remove 5 = gone
+12 1 remove 5 = none
+12 63 look = ok
+12 0 has 15 = yes
+12 0 has 0 = no
+12 0 size = 2
+12 0 rank 16 = 65536
+12 0 select 1 = 9
+12 0 before 16 = -
+12 0 after 0 = 65535
+12 0 range 0 16 = 2 14 5 9
+12 0 range 9 5 = 0 0 - -
+12 end size=2 in=3 out=1
+";
+
+#[test]
+fn every_verb_and_every_reply_is_printed(rt: HostRuntime) -> Result<(), Fail> {
+    let mut sink = MemorySink::new(rt.alloc(), 7, None);
+    assert_eq!(rt; print(rt.alloc(), &report(rt.alloc())?, &mut sink), Ok(()));
+    assert_eq!(rt; sink.out.as_slice(), TEXT.as_bytes());
+    assert_eq!(rt; sink.finished, 1);
+    Ok(())
+}
+
+#[test]
+fn a_report_without_rows_is_its_last_line(rt: HostRuntime) -> Result<(), Fail> {
+    let report = Report {
+        number: 1,
+        rows: Listed::from_vec(Vec::new(rt.alloc())),
+        size: 0,
+        inserts: 0,
+        removals: 0,
+    };
+    let mut sink = MemorySink::new(rt.alloc(), 7, None);
+    assert_eq!(rt; print(rt.alloc(), &report, &mut sink), Ok(()));
+    assert_eq!(rt;
+        sink.out.as_slice(),
+        b"1 end size=0 in=0 out=0\n".as_slice()
+    );
+    Ok(())
+}
+
+#[test]
+fn a_sink_that_fails_has_a_beginning(rt: HostRuntime) -> Result<(), Fail> {
+    for fault_at in 0..TEXT.len() as u64 + 1 {
+        let mut sink = MemorySink::new(rt.alloc(), 1, Some(fault_at));
+        let result = print(rt.alloc(), &report(rt.alloc())?, &mut sink);
+        assert_eq!(rt; result, Err(PrintError::Output), "at {fault_at}");
+        assert_eq!(rt; sink.out.len() as u64, fault_at);
+        assert!(rt; TEXT.as_bytes().starts_with(sink.out.as_slice()));
+    }
+    Ok(())
+}
+
+// Under `rt try --test --fail-alloc N` the Nth request for memory is refused: reading then answers `OutOfMemory`, and
+// what is read after that is whole.
+#[test]
+fn refused_memory_is_told_by_reading(rt: HostRuntime) -> Result<(), Fail> {
+    let limits = Limits::try_new(4, 2, 64)?;
+    for _ in 0..2 {
+        match Script::read(rt.alloc(), b"0,insert,5\n*,end\n1,look\n", &limits) {
+            Ok(script) => {
+                assert_eq!(rt; script.rounds().len(), 2);
+                let first = [row(1, 0, Verb::Insert(5))];
+                assert_eq!(rt; script.rounds()[0].as_slice(), first.as_slice());
+                let second = [row(3, 1, Verb::Look)];
+                assert_eq!(rt; script.rounds()[1].as_slice(), second.as_slice());
+            }
+            Err(fault) => assert_eq!(rt; fault, ScriptError::OutOfMemory),
+        }
+    }
+    Ok(())
+}

@@ -44,6 +44,7 @@ impl<'r, A: Monoid, B: Monoid> Model for Pass<'r, A, B> {
 
 impl<'r, A: Monoid, B: Monoid> Pass<'r, A, B> {
     /// Puts a key in. True where it was not there, and this call put it in; false where it was already there, or came in meanwhile.
+    #[inline(never)]
     pub fn insert(&mut self, k: u32) -> bool
         requires key { k < 2 ^ self.old.round.bits }
         requires budget { self.old.spent < self.old.round.updates }
@@ -65,6 +66,7 @@ impl<'r, A: Monoid, B: Monoid> Pass<'r, A, B> {
     }
 
     /// Takes a key out. True where it was there, and this call took it out; false where it was not there, or went out meanwhile.
+    #[inline(never)]
     pub fn remove(&mut self, k: u32) -> bool
         requires key { k < 2 ^ self.old.round.bits }
         requires budget { self.old.spent < self.old.round.updates }

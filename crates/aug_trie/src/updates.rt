@@ -43,7 +43,7 @@ pub(crate) fn update<'r, A: Monoid, B: Monoid>(
 }
 
 // Puts a key in: true where it was not there.
-#[inline(never)]
+#[inline(always)]
 pub(crate) fn insert_key<'r, A: Monoid, B: Monoid>(
     pass: WordPass<'r, A, B>,
     leaves: usize,
@@ -65,7 +65,7 @@ pub(crate) fn insert_key<'r, A: Monoid, B: Monoid>(
 }
 
 // Takes a key out: true where it was there.
-#[inline(never)]
+#[inline(always)]
 pub(crate) fn remove_key<'r, A: Monoid, B: Monoid>(
     pass: WordPass<'r, A, B>,
     leaves: usize,

@@ -1,0 +1,10 @@
+pub mod Rising
+pub mod CutLemmas
+pub mod TallyLemmas
+pub mod Histories
+pub mod Advances
+pub mod SetChanges
+pub mod Lanes
+pub mod OneLane
+pub mod ReportSizes
+pub mod Rounds

@@ -8,3 +8,11 @@ pub mod Lanes
 pub mod OneLane
 pub mod ReportSizes
 pub mod Rounds
+pub mod Answering
+pub mod Taking
+pub mod Answered
+pub mod Working
+pub mod Passing
+pub mod Backs
+pub mod Merging
+pub mod Counting

@@ -31,13 +31,15 @@ backs_know (lane ∷ lanes) old new backs zero d below = begins_on lane.knows.hi
 backs_know (lane ∷ lanes) old new backs (suc i) d below = backs_know lanes backs.0 new backs.2 i d (omega arith)
 
 opens_of : (opening : Cut) (start : Lane) → Started opening start → Opens opening start
-opens_of opening start s = record {
-  sees_opening = begins_on (opening ∷ []) s.crew_old.history start.knows.history s.knew_opening
-      (begins_on s.crew_old.history s.crew_new.history start.knows.history s.out.goes_on
-      (begins_on s.crew_new.history s.pass.history start.knows.history (begins-same s.crew_new.history s.pass.history s.out.same_history) s.takes.goes_on));
-  no_change = s.takes.same_changes ∙ s.out.no_change;
-  holds_last = s.takes.is_last;
-}
+opens_of opening start s =
+    let h = s.handed_out in
+    record {
+      sees_opening = begins_on (opening ∷ []) h.crew_old.history start.knows.history h.knew_opening
+          (begins_on h.crew_old.history h.crew_new.history start.knows.history h.out.goes_on
+          (begins_on h.crew_new.history s.pass.history start.knows.history (begins-same h.crew_new.history s.pass.history h.out.same_history) s.takes.goes_on));
+      no_change = s.takes.same_changes ∙ h.out.no_change;
+      holds_last = s.takes.is_last;
+    }
 
 -- all passes were handed back: what the crew then knows makes the report allowed
 pub round_allowed : (bits workers updates : ℕ) (members : List ℕ) (report : Report) (crew final : Knowledge) (lanes : List Lane)

@@ -1,0 +1,72 @@
+ghost use Rattle.std.specs.Prelude.{◌≡◌, ◌^◌, ◌↔◌, IfOk, IsErrOf, IsOk};
+ghost use Rattle.aug_core.specs.Layout.{IsRefused};
+ghost use Rattle.aug_core.specs.Places.{shape_of};
+ghost use Rattle.lanes.specs.Limits.{Bounds, IsBounds};
+
+use aug_core::{Layout, LayoutError};
+use std::marker::Model;
+
+/// What a script may ask for: keys below `2^bits`, lanes below `workers`, and so many updates a lane and round.
+#[derive(Clone, Copy, Debug, PartialEq, Eq)]
+pub struct Limits {
+    bits: u32,
+    workers: u32,
+    updates: u32,
+}
+
+impl Model for Limits {
+    ghost Value = { Bounds };
+
+    ghost view = { λ l. record { bits = l.bits; workers = l.workers; updates = l.updates } };
+
+    ghost invariant = { λ l. IsBounds (record { bits = l.bits; workers = l.workers; updates = l.updates }) };
+
+    ghost inverse = { λ b. record { bits = b.bits; workers = b.workers; updates = b.updates } };
+}
+
+impl Limits {
+    /// The limits of these numbers, or the refusal of the table of a round that opens with every key. No round of a
+    /// script that keeps the limits is then too large.
+    pub fn try_new(bits: u32, workers: u32, updates: u32) -> Result<Limits, LayoutError>
+        ensures ok { IsOk result ↔ IsBounds (record { bits = bits; workers = workers; updates = updates }) }
+        ensures limits { IfOk result (λ l. l ≡ record { bits = bits; workers = workers; updates = updates }) }
+
+        // One cause each, and the first that is met.
+        ensures bad_bits { IsErrOf result LayoutError.BadBits ↔ IsRefused LayoutError.BadBits (shape_of bits workers updates (2 ^ bits)) }
+        ensures bad_workers { IsErrOf result LayoutError.BadWorkers ↔ IsRefused LayoutError.BadWorkers (shape_of bits workers updates (2 ^ bits)) }
+        ensures bad_updates { IsErrOf result LayoutError.BadUpdates ↔ IsRefused LayoutError.BadUpdates (shape_of bits workers updates (2 ^ bits)) }
+        ensures too_large { IsErrOf result LayoutError.TooLarge ↔ IsRefused LayoutError.TooLarge (shape_of bits workers updates (2 ^ bits)) }
+    {
+        let members = if bits <= 16 { 1 << bits } else { 0 };
+        Layout::new(bits, workers, updates, members)?;
+        Ok(Limits {
+            bits,
+            workers,
+            updates,
+        })
+    }
+
+    /// Keys are below `2^bits`.
+    pub fn bits(&self) -> u32
+        ensures value { result ≡ self.now.bits }
+        ensures known { IsBounds self.now }
+    {
+        self.bits
+    }
+
+    /// Lanes are below `workers`.
+    pub fn workers(&self) -> u32
+        ensures value { result ≡ self.now.workers }
+        ensures known { IsBounds self.now }
+    {
+        self.workers
+    }
+
+    /// How many rows of a lane in a round may insert or remove.
+    pub fn updates(&self) -> u32
+        ensures value { result ≡ self.now.updates }
+        ensures known { IsBounds self.now }
+    {
+        self.updates
+    }
+}

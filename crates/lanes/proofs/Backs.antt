@@ -63,7 +63,7 @@ are_answered round rows all old new workers went long lanes = record {
   of_lanes = rw long lanes;
   as_many = λ lane low.
       let r = (went.runs lane (record { knows = old; held = [] }) (omega (arith, low, went.one_each))).answered in
-      sym (ap (λ (l : List Reply). length l) (sym r.replies_are) ∙ length-map r.lines (λ (l : Row × Reply). l.1) ∙ sym (length-map r.lines (λ (l : Row × Reply). l.0)) ∙ ap (λ (l : List Row). length l) r.rows_are) ∙ refl;
+      ap (λ (l : List Reply). length l) (sym r.replies_are) ∙ length-map r.lines (λ (l : Row × Reply). l.1) ∙ sym (length-map r.lines (λ (l : Row × Reply). l.0)) ∙ ap (λ (l : List Row). length l) r.rows_are;
 }
 
 -- lines with the same rows and replies are the same

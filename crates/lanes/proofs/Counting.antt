@@ -51,5 +51,5 @@ counted_all rows workers i counts past counted = rw (take_all i rows past) at co
 pub zeros : (n lane : ℕ) → get_or (replicate {A = ℕ} n 0) lane 0 ≡ 0
 zeros n lane = elim (cases_lt lane n) [
   | inl low ↦ get_or-replicate n lane 0 0 low
-  | inr past ↦ get_or_past (replicate n 0) lane 0 (omega (arith, past, length-replicate n 0))
+  | inr past ↦ get_or_past (replicate n 0) lane 0 (omega (arith, past, length-replicate {A = ℕ} n 0))
 ]

@@ -16,3 +16,4 @@ pub mod Passing
 pub mod Backs
 pub mod Merging
 pub mod Counting
+pub mod Beginning

@@ -67,7 +67,9 @@ fn begin(alloc: Global, ended: Trie, limits: &Limits) -> Result<(Table, Hands), 
 {
     match Round::begin(alloc, ended, limits.workers(), limits.updates()) {
         Ok(begun) => Ok(begun),
-        Err((_, BeginError::OutOfMemory)) => Err(AllocError),
-        Err(_) => unreachable!(),
+        Err((_, cause)) => match cause {
+            BeginError::OutOfMemory => Err(AllocError),
+            _ => unreachable!(),
+        },
     }
 }

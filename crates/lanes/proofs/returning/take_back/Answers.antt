@@ -13,7 +13,7 @@ back-requires c =
     let was = c.loop-one.invariant in let step = c.in-Some.ensures.steps in
     let some : 0 < into_iter_len c.loop-one.one-iterator = omega (arith, step.1) in
     let mine = head_of (IsDone c.args.round.now c.args.rows.now) _ _ c.in-Some.one _ _ step.0 some was.1 in
-    mine.here ∙ sym was.4
+    record { of_crew = mine.here ∙ sym was.4 }
 
 -- The pass that comes back is of the next lane.
 pub loop-one-preserved : goal.loop-one-preserved

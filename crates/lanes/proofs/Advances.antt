@@ -6,7 +6,7 @@ use Rattle.aug_core.specs.Cuts.{Cut, serial_of}
 use Rattle.aug_core.specs.declared.view.Change.{Change}
 use Rattle.aug_trie.specs.Tallies.{times, Tallies}
 use Rattle.lanes.proofs.Histories.{Below}
-use Rattle.lanes.proofs.TallyLemmas.{counted-append, counted-cons, exactly, times_first, none_low, none_high, once_between}
+use Rattle.aug_trie.proofs.TallyLemmas.{counted-append, counted-cons, exactly, times_first, none_low, none_high, once_between}
 
 -- the changes show in a cut
 abbrev pub AllShow : Cut → List Change → Type 0

@@ -19,11 +19,11 @@ use Rattle.lanes.specs.declared.reply.Reply.TheVariants as reply
 use Rattle.lanes.specs.declared.row.Row.{Row}
 use Rattle.lanes.specs.declared.verb.Verb.{Verb}
 use Rattle.lanes.specs.declared.verb.Verb.TheVariants as verb
-use Rattle.lanes.proofs.CutLemmas.{is_member-set_of_cut, same_cut, odd}
+use Rattle.aug_trie.proofs.CutLemmas.{is_member-set_of_cut, same_cut, odd}
 use Rattle.lanes.proofs.Histories.{begins-same, begins-length, last-rises, last-at_most_final}
 use Rattle.aug_trie.proofs.Pieces.{begins_on}
 use Rattle.lanes.proofs.Advances.{AllShow, AllPast, tally_one, tally_nothing, tallies-front, tallies-rest}
-use Rattle.lanes.proofs.TallyLemmas.{counted, counted-append}
+use Rattle.aug_trie.proofs.TallyLemmas.{counted, counted-append}
 use Rattle.lanes.proofs.SetChanges.{set-with_key, set-without_key}
 
 abbrev one_if : Bool → ℕ

@@ -1,6 +1,3 @@
-pub mod Rising
-pub mod CutLemmas
-pub mod TallyLemmas
 pub mod Histories
 pub mod Advances
 pub mod SetChanges
@@ -17,3 +14,4 @@ pub mod Backs
 pub mod Merging
 pub mod Counting
 pub mod Beginning
+pub mod Reports

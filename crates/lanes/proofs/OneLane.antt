@@ -15,7 +15,7 @@ use Rattle.lanes.specs.Replies.{Sets, replies_of, sets_of, opening_sets, report_
 use Rattle.lanes.specs.declared.reply.Reply.{Reply}
 use Rattle.lanes.specs.declared.report.Report.{Report}
 use Rattle.lanes.specs.declared.row.Row.{Row}
-use Rattle.lanes.proofs.CutLemmas.{same_cut, set_of_cut-opening}
+use Rattle.aug_trie.proofs.CutLemmas.{same_cut, set_of_cut-opening}
 use Rattle.lanes.proofs.Histories.{opening-at_most, opens-some, last-at_most_final}
 use Rattle.aug_trie.proofs.Pieces.{begins_on}
 use Rattle.lanes.proofs.Advances.{tally_nothing, tallies-front, tallies-rest}

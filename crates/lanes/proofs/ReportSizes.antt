@@ -5,10 +5,10 @@ use Rattle.aug_core.specs.Cuts.{opening_cut}
 use Rattle.aug_trie.specs.History.{last_cut}
 use Rattle.lanes.specs.AllowedReport.{AllowedReport, changes_of}
 use Rattle.lanes.specs.declared.report.Report.{Report}
-use Rattle.lanes.proofs.CutLemmas.{set_of_cut-opening}
+use Rattle.aug_trie.proofs.CutLemmas.{set_of_cut-opening}
 use Rattle.lanes.proofs.Histories.{opening-at_most}
 use Rattle.aug_trie.proofs.Pieces.{begins_refl}
-use Rattle.lanes.proofs.TallyLemmas.{sizes}
+use Rattle.aug_trie.proofs.TallyLemmas.{sizes}
 
 -- the set grew by the insertions and shrank by the removals
 pub report_sizes : (bits workers : ℕ) (members : List ℕ) (report : Report) (closing : List ℕ) → IsKeySet bits members → AllowedReport bits workers members report closing

@@ -4,8 +4,8 @@ use Rattle.std.proofs.lemmas.Bool.{eq-eqb, ne_eqb, cases_lt, cases_eq, cases_ord
 use Rattle.aug_model.specs.Keys.{with_key, without_key}
 use Rattle.aug_model.specs.Keys.{is_member}
 use Rattle.aug_core.specs.Cuts.{Cut, serial_of, set_of_cut}
-use Rattle.lanes.proofs.Rising.{Rises, same_list, is_member-filter, rises-filter}
-use Rattle.lanes.proofs.CutLemmas.{odd, rises-set_of_cut, is_member-set_of_cut}
+use Rattle.aug_trie.proofs.Rising.{Rises, same_list, is_member-filter, rises-filter}
+use Rattle.aug_trie.proofs.CutLemmas.{odd, rises-set_of_cut, is_member-set_of_cut}
 
 is_member-append : (xs ys : List ℕ) (k : ℕ) → is_member (xs ++ ys) k ≡ (is_member xs k || is_member ys k)
 is_member-append [] ys k = refl

@@ -1,4 +1,5 @@
 pub mod AllowedReport
+pub mod InTurn
 pub mod Limits
 pub mod Replies
 pub mod Returns

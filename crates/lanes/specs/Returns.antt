@@ -1,10 +1,9 @@
 -- What a round comes to once all passes are back at the crew.
 use Rattle.std.specs.Prelude.{◌≡◌, ℕ, ◌<◌, List, [], ◌∷◌, length, map, slice_index_or, All}
-use Rattle.aug_trie.specs.Crews.{CrewFacts, EndedFacts}
+use Rattle.aug_trie.specs.Crews.{CrewFacts}
 use Rattle.aug_trie.specs.Facts.{RoundFacts}
 use Rattle.aug_trie.specs.Knowledge.{Knowledge}
 use Rattle.lanes.specs.AllowedReport.{Lane, AnswersAll, lines_of}
-use Rattle.lanes.specs.Limits.{Bounds}
 use Rattle.lanes.specs.Rounds.{BacksAll, Started}
 use Rattle.lanes.specs.Workers.{RunsTo, opening_of, rows_of}
 use Rattle.lanes.specs.declared.reply.Reply.{Reply}
@@ -45,11 +44,3 @@ pub record RanLanes (round : RoundFacts) (rows : List Row) (lines : List (Row ×
   pub backs : BacksAll ends before crew.knows
   pub together : crew.round ≡ round
   pub all_back : crew.back ≡ crew.handed
-
--- a round that was begun over this trie with these limits ran its lanes
-pub record RanRound (limits : Bounds) (ended : EndedFacts) (rows : List Row) (lines : List (Row × Reply)) (round : RoundFacts) (crew : CrewFacts) : Type 0 where
-  pub bits : round.bits ≡ ended.bits
-  pub members : round.members ≡ ended.members
-  pub workers : round.workers ≡ limits.workers
-  pub updates : round.updates ≡ limits.updates
-  pub ran : RanLanes round rows lines crew

@@ -24,7 +24,7 @@ pub use limits::Limits;
 pub use listed::Listed;
 pub use reply::Reply;
 pub use report::Report;
-pub use round::run_to_end;
+pub use round::run_round;
 pub use row::Row;
 pub use trie::Trie;
 pub use verb::Verb;

@@ -2,7 +2,7 @@
 use crate::gate::Open;
 use crate::limits::Limits;
 use crate::reply::Reply;
-use crate::round::run_to_end;
+use crate::round::run_round;
 use crate::row::Row;
 use crate::verb::Verb;
 use aug_trie::Ended;
@@ -34,7 +34,10 @@ fn three_lanes_keep_to_the_script(rt: HostRuntime) -> Result<(), Fail> {
         }
     }
     let ended = Ended::empty(rt.alloc(), 4).expect(&rt, "a trie");
-    let (_, _, lines) = run_to_end(&rt, rt.alloc(), ended, &limits, rows.as_slice(), &Open)?;
+    let (ended, report) = run_round(&rt, rt.alloc(), ended, &limits, 1, rows.as_slice(), &Open)?;
+    assert_eq!(rt; ended.size(), 12);
+    assert_eq!(rt; (report.size, report.inserts, report.removals), (12, 12, 0));
+    let lines = report.rows.into_vec();
     assert_eq!(rt; lines.len(), 27);
     let mut new = 0;
     let mut yes = 0;

@@ -3,8 +3,8 @@ use Rattle.std.proofs.Common.{◌≡◌, ℕ, List, [], ◌∷◌, ◌++◌, map
 use Rattle.std.proofs.lemmas.List.{map-append}
 use Rattle.lanes.specs.AllowedReport.{Lane, Answers, AnswersAll}
 use Rattle.lanes.specs.Workers.{AnswersRows}
-use Rattle.lanes.specs.declared.reply.Reply.{Reply}
-use Rattle.lanes.specs.declared.row.Row.{Row}
+use Rattle.aug_script.specs.declared.reply.Reply.{Reply}
+use Rattle.aug_script.specs.declared.row.Row.{Row}
 
 answers_snoc : (lines : List (Row × Reply)) (line : Row × Reply) (old mid new : Lane) → AnswersAll lines old mid → Answers line.0.verb line.1 mid new → AnswersAll (lines ++ line ∷ []) old new
 unfolding AnswersAll

@@ -7,7 +7,7 @@ use Rattle.aug_trie.specs.Updates.{AcceptedUpdate, RefusedUpdate}
 use Rattle.aug_trie.specs.declared.snapshot.Snapshot.{Snapshot}
 use Rattle.lanes.specs.AllowedReport.{AnswersUpdate, Asks}
 use Rattle.lanes.specs.Workers.{lane_of}
-use Rattle.lanes.specs.declared.reply.Reply.{Reply}
+use Rattle.aug_script.specs.declared.reply.Reply.{Reply}
 
 module _ {A B : Type 0} (summary_of : List ℕ → Summary A B) (old new : PassFacts) (s : Snapshot) (has : HasSnapshot old s.number) where
   pub accepted : (parity key : ℕ) (good bad : Reply) → Keeps summary_of old new → AcceptedUpdate parity key old.knows new.knows → AnswersUpdate parity key good bad good (lane_of old s) (lane_of new s)

@@ -12,8 +12,8 @@ use Rattle.lanes.specs.AllowedReport.{Lane, AnswersAll, lines_of}
 use Rattle.lanes.specs.Returns.{AreAnswered, AreInOrder, RanLanes, WentBack}
 use Rattle.lanes.specs.Rounds.{BacksAll}
 use Rattle.lanes.specs.Workers.{RunsTo, opening_of, rows_of}
-use Rattle.lanes.specs.declared.reply.Reply.{Reply}
-use Rattle.lanes.specs.declared.row.Row.{Row}
+use Rattle.aug_script.specs.declared.reply.Reply.{Reply}
+use Rattle.aug_script.specs.declared.row.Row.{Row}
 
 backs_snoc : (lanes : List Lane) (lane : Lane) (old mid new : Knowledge) → BacksAll lanes old mid → HandedBack mid lane.knows new → BacksAll (lanes ++ lane ∷ []) old new
 unfolding BacksAll

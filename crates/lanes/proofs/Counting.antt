@@ -6,7 +6,7 @@ use Rattle.std.proofs.lemmas.List.Elements.{All-get_or}
 use Rattle.std.proofs.lemmas.List.Filters.{length-filter_more}
 use Rattle.aug_trie.proofs.Counting.{filter_shorter}
 use Rattle.lanes.specs.Workers.{AreCounted, rows_of}
-use Rattle.lanes.specs.declared.row.Row.{Row}
+use Rattle.aug_script.specs.declared.row.Row.{Row}
 use Rattle.lanes.proofs.Working.{no_row}
 
 pub counted_none : (counts : List ℕ) → ((lane : ℕ) → get_or counts lane 0 ≡ 0) → AreCounted (length counts) [] counts

@@ -13,12 +13,12 @@ use Rattle.aug_trie.specs.Updates.{AcceptedUpdate, RefusedUpdate}
 use Rattle.aug_trie.specs.Tallies.{Tallies}
 use Rattle.lanes.specs.AllowedReport.{Lane, Looks, Asks, Answers, AnswersAll}
 use Rattle.aug_model.specs.Keys.{is_member}
-use Rattle.lanes.specs.Replies.{Sets, span_of, reply_to, sets_after, replies_of, sets_of, is_insertion, is_removal, count_of}
-use Rattle.lanes.specs.declared.reply.Reply.{Reply}
-use Rattle.lanes.specs.declared.reply.Reply.TheVariants as reply
-use Rattle.lanes.specs.declared.row.Row.{Row}
-use Rattle.lanes.specs.declared.verb.Verb.{Verb}
-use Rattle.lanes.specs.declared.verb.Verb.TheVariants as verb
+use Rattle.aug_script.specs.Replies.{Sets, span_of, reply_to, sets_after, replies_of, sets_of, is_insertion, is_removal, count_of}
+use Rattle.aug_script.specs.declared.reply.Reply.{Reply}
+use Rattle.aug_script.specs.declared.reply.Reply.TheVariants as reply
+use Rattle.aug_script.specs.declared.row.Row.{Row}
+use Rattle.aug_script.specs.declared.verb.Verb.{Verb}
+use Rattle.aug_script.specs.declared.verb.Verb.TheVariants as verb
 use Rattle.aug_trie.proofs.CutLemmas.{is_member-set_of_cut, same_cut, odd}
 use Rattle.lanes.proofs.Histories.{begins-same, begins-length, last-rises, last-at_most_final}
 use Rattle.aug_trie.proofs.Pieces.{begins_on}

@@ -7,8 +7,8 @@ use Rattle.std.proofs.lemmas.List.Elements.{All-get_or, filter-append}
 use Rattle.lanes.specs.AllowedReport.{lines_of}
 use Rattle.lanes.specs.Returns.{AreAnswered, AreInOrder}
 use Rattle.lanes.specs.Workers.{rows_of}
-use Rattle.lanes.specs.declared.reply.Reply.{Reply}
-use Rattle.lanes.specs.declared.row.Row.{Row}
+use Rattle.aug_script.specs.declared.reply.Reply.{Reply}
+use Rattle.aug_script.specs.declared.row.Row.{Row}
 use Rattle.lanes.proofs.Backs.{lines_rows}
 use Rattle.lanes.proofs.Taking.{filter_has_room}
 use Rattle.lanes.proofs.Working.{no_row}

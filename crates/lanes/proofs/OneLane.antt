@@ -11,10 +11,10 @@ use Rattle.aug_core.specs.declared.view.Change.{Change}
 use Rattle.aug_trie.specs.Knowledge.{inserts_of, removals_of}
 use Rattle.aug_trie.specs.Tallies.{Tallies}
 use Rattle.lanes.specs.AllowedReport.{Lane, AnswersAll, RunsLane, AllowedReport, lines_of, changes_of}
-use Rattle.lanes.specs.Replies.{Sets, replies_of, sets_of, opening_sets, report_of, count_of, is_insertion, is_removal}
-use Rattle.lanes.specs.declared.reply.Reply.{Reply}
-use Rattle.lanes.specs.declared.report.Report.{Report}
-use Rattle.lanes.specs.declared.row.Row.{Row}
+use Rattle.aug_script.specs.Replies.{Sets, replies_of, sets_of, opening_sets, report_of, count_of, is_insertion, is_removal}
+use Rattle.aug_script.specs.declared.reply.Reply.{Reply}
+use Rattle.aug_script.specs.declared.report.Report.{Report}
+use Rattle.aug_script.specs.declared.row.Row.{Row}
 use Rattle.aug_trie.proofs.CutLemmas.{same_cut, set_of_cut-opening}
 use Rattle.lanes.proofs.Histories.{opening-at_most, opens-some, last-at_most_final}
 use Rattle.aug_trie.proofs.Pieces.{begins_on}

@@ -7,7 +7,7 @@ use Rattle.std.specs.declared.thread.PromisedHandle.{PromisedHandle}
 use Rattle.aug_trie.specs.Facts.{RoundFacts}
 use Rattle.lanes.specs.Threads.{Owes}
 use Rattle.lanes.specs.Workers.{IsDone}
-use Rattle.lanes.specs.declared.row.Row.{Row}
+use Rattle.aug_script.specs.declared.row.Row.{Row}
 use Rattle.lanes.specs.declared.start.LaneOf.{LaneOf}
 use Rattle.lanes.specs.declared.work.Done.{Done}
 

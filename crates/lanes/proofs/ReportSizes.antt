@@ -4,7 +4,7 @@ use Rattle.aug_model.specs.Keys.{IsKeySet}
 use Rattle.aug_core.specs.Cuts.{opening_cut}
 use Rattle.aug_trie.specs.History.{last_cut}
 use Rattle.lanes.specs.AllowedReport.{AllowedReport, changes_of}
-use Rattle.lanes.specs.declared.report.Report.{Report}
+use Rattle.aug_script.specs.declared.report.Report.{Report}
 use Rattle.aug_trie.proofs.CutLemmas.{set_of_cut-opening}
 use Rattle.lanes.proofs.Histories.{opening-at_most}
 use Rattle.aug_trie.proofs.Pieces.{begins_refl}

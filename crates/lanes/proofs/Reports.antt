@@ -8,11 +8,11 @@ use Rattle.aug_trie.specs.Crews.{CrewFacts, EndedFacts, Ends}
 use Rattle.aug_trie.specs.Facts.{RoundFacts}
 use Rattle.lanes.specs.AllowedReport.{AllowedReport, IsReportOf}
 use Rattle.lanes.specs.InTurn.{IsInTurn}
-use Rattle.lanes.specs.Replies.{report_of, sets_of, opening_sets}
+use Rattle.aug_script.specs.Replies.{report_of, sets_of, opening_sets}
 use Rattle.lanes.specs.Returns.{RanLanes}
-use Rattle.lanes.specs.declared.reply.Reply.{Reply}
-use Rattle.lanes.specs.declared.report.Report.{Report}
-use Rattle.lanes.specs.declared.row.Row.{Row}
+use Rattle.aug_script.specs.declared.reply.Reply.{Reply}
+use Rattle.aug_script.specs.declared.report.Report.{Report}
+use Rattle.aug_script.specs.declared.row.Row.{Row}
 use Rattle.lanes.proofs.OneLane.{one_report}
 use Rattle.lanes.proofs.ReportSizes.{report_sizes}
 use Rattle.lanes.proofs.Rounds.{round_allowed}

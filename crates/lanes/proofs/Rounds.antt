@@ -8,7 +8,7 @@ use Rattle.aug_trie.specs.Knowledge.{Knowledge, inserts_of, removals_of}
 use Rattle.aug_trie.specs.Tallies.{Tallies, TalliesWithLost}
 use Rattle.lanes.specs.AllowedReport.{AllowedReport, Lane, Opens, AnswersAll, changes_of, lines_of}
 use Rattle.lanes.specs.Rounds.{BacksAll, Started}
-use Rattle.lanes.specs.declared.report.Report.{Report}
+use Rattle.aug_script.specs.declared.report.Report.{Report}
 use Rattle.lanes.proofs.Histories.{begins-same}
 use Rattle.aug_trie.proofs.Pieces.{begins_on}
 use Rattle.aug_trie.proofs.Tallying.{none_lost_tallies}

@@ -5,11 +5,11 @@ use Rattle.std.proofs.lemmas.List.Filters.{length-filter_more}
 use Rattle.aug_trie.specs.Facts.{RoundFacts, PassFacts, HasSnapshot}
 use Rattle.aug_trie.specs.declared.snapshot.Snapshot.{Snapshot}
 use Rattle.lanes.specs.AllowedReport.{Lane, Answers}
-use Rattle.lanes.specs.Script.{is_update, updates_of}
+use Rattle.aug_script.specs.Script.{is_update, updates_of}
 use Rattle.lanes.specs.Workers.{AnswersRows, lane_of, rows_of}
-use Rattle.lanes.specs.declared.reply.Reply.{Reply}
-use Rattle.lanes.specs.declared.row.Row.{Row}
-use Rattle.lanes.specs.declared.verb.Verb.TheVariants as verb
+use Rattle.aug_script.specs.declared.reply.Reply.{Reply}
+use Rattle.aug_script.specs.declared.row.Row.{Row}
+use Rattle.aug_script.specs.declared.verb.Verb.TheVariants as verb
 use Rattle.lanes.proofs.Answered.{answers_none, answers_more}
 use Rattle.lanes.proofs.Taking.{filter_keeps, filter_skips, filter_has_room}
 

@@ -6,15 +6,15 @@ use Rattle.aug_trie.specs.History.{Begins, IsHistory, last_cut}
 use Rattle.aug_core.specs.declared.view.Change.{Change}
 use Rattle.aug_trie.specs.Knowledge.{removal, insertion, Knowledge, inserts_of, removals_of}
 use Rattle.aug_model.specs.Keys.{is_member}
-use Rattle.lanes.specs.Replies.{span_of}
+use Rattle.aug_script.specs.Replies.{span_of}
 use Rattle.aug_trie.specs.Tallies.{Tallies}
 use Rattle.aug_trie.specs.Updates.{AcceptedUpdate, RefusedUpdate, TakesSnapshot}
-use Rattle.lanes.specs.declared.reply.Reply.{Reply}
-use Rattle.lanes.specs.declared.reply.Reply.TheVariants as reply
-use Rattle.lanes.specs.declared.report.Report.{Report}
-use Rattle.lanes.specs.declared.row.Row.{Row}
-use Rattle.lanes.specs.declared.verb.Verb.{Verb}
-use Rattle.lanes.specs.declared.verb.Verb.TheVariants as verb
+use Rattle.aug_script.specs.declared.reply.Reply.{Reply}
+use Rattle.aug_script.specs.declared.reply.Reply.TheVariants as reply
+use Rattle.aug_script.specs.declared.report.Report.{Report}
+use Rattle.aug_script.specs.declared.row.Row.{Row}
+use Rattle.aug_script.specs.declared.verb.Verb.{Verb}
+use Rattle.aug_script.specs.declared.verb.Verb.TheVariants as verb
 
 -- a lane: what its pass knows, and the cut of its last snapshot
 pub record Lane : Type 0 where

@@ -6,8 +6,8 @@ use Rattle.aug_trie.specs.Knowledge.{Knowledge}
 use Rattle.lanes.specs.AllowedReport.{Lane, AnswersAll, lines_of}
 use Rattle.lanes.specs.Rounds.{BacksAll, Started}
 use Rattle.lanes.specs.Workers.{RunsTo, opening_of, rows_of}
-use Rattle.lanes.specs.declared.reply.Reply.{Reply}
-use Rattle.lanes.specs.declared.row.Row.{Row}
+use Rattle.aug_script.specs.declared.reply.Reply.{Reply}
+use Rattle.aug_script.specs.declared.row.Row.{Row}
 
 -- a crew that knows the opening cut alone, and has handed nothing out
 pub record HasBegun (round : RoundFacts) (crew : CrewFacts) : Type 0 where

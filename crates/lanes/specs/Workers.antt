@@ -5,10 +5,10 @@ use Rattle.aug_trie.specs.Facts.{RoundFacts, PassFacts, snapshot_cut}
 use Rattle.aug_trie.specs.Knowledge.{Knowledge}
 use Rattle.aug_trie.specs.declared.snapshot.Snapshot.{Snapshot}
 use Rattle.lanes.specs.AllowedReport.{Lane, AnswersAll}
-use Rattle.lanes.specs.Limits.{Bounds}
+use Rattle.aug_script.specs.Limits.{Bounds}
 use Rattle.lanes.specs.Rounds.{WasHandedOut, Started}
-use Rattle.lanes.specs.declared.reply.Reply.{Reply}
-use Rattle.lanes.specs.declared.row.Row.{Row}
+use Rattle.aug_script.specs.declared.reply.Reply.{Reply}
+use Rattle.aug_script.specs.declared.row.Row.{Row}
 use Rattle.lanes.specs.declared.work.Done.{Done}
 use Rattle.lanes.specs.declared.work.Job.{Job}
 

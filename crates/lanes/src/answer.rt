@@ -2,12 +2,11 @@
 ghost use Rattle.std.specs.Prelude.{◌≡◌, ◌+◌, ◌<◌, IsTrue, if◌then◌else◌};
 ghost use Rattle.aug_trie.specs.Facts.{HasSnapshot};
 ghost use Rattle.lanes.specs.AllowedReport.{Answers};
-ghost use Rattle.lanes.specs.Script.{is_in_bounds, is_update};
+ghost use Rattle.aug_script.specs.Script.{is_in_bounds, is_update};
 ghost use Rattle.lanes.specs.Workers.{lane_of};
 
-use crate::reply::Reply;
 use crate::trie::Hand;
-use crate::verb::Verb;
+use aug_script::{Reply, Verb};
 use aug_trie::Snapshot;
 
 /// Runs a verb and answers it: updates on the pass, `look` by a new snapshot, and queries from the snapshot that is held.

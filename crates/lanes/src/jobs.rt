@@ -3,9 +3,9 @@ ghost use Rattle.std.specs.Prelude.{◌≡◌, ℕ, ◌<◌, [], ◌∷◌, leng
 ghost use Rattle.aug_trie.specs.History.{Begins};
 ghost use Rattle.lanes.specs.Workers.{opening_of, AllReady, AreCounted};
 
-use crate::row::Row;
 use crate::trie::{Hands, Table};
 use crate::work::Job;
+use aug_script::Row;
 use std::alloc::{AllocError, Global};
 
 // Counts the rows of each lane.

@@ -4,10 +4,9 @@ ghost use Rattle.std.specs.Vec.Iter.{into_iter_items};
 ghost use Rattle.lanes.specs.Returns.{AreAnswered, AreInOrder, WentBack};
 ghost use Rattle.lanes.specs.Workers.{AllDone};
 
-use crate::reply::Reply;
-use crate::row::Row;
 use crate::trie::{Hands, Table};
 use crate::work::Done;
+use aug_script::{Reply, Row};
 use std::vec::IntoIter;
 
 /// Takes each pass back, in the order of the lanes. What is left are the replies of each lane.

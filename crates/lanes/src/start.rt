@@ -1,13 +1,13 @@
 //! Starts the thread of one lane.
 ghost use Rattle.std.specs.Prelude.{◌≡◌, ◌≤◌, [], length, vec_capacity, IfOk};
-ghost use Rattle.lanes.specs.Script.{KeepsLimits};
+ghost use Rattle.aug_script.specs.Script.{KeepsLimits};
 ghost use Rattle.lanes.specs.Rounds.{WasHandedOut};
 ghost use Rattle.lanes.specs.Workers.{bounds_of, opening_of, rows_of, IsDone};
 
 use crate::gate::Gate;
-use crate::row::Row;
 use crate::trie::Table;
 use crate::work::{Done, Job, work};
+use aug_script::Row;
 use std::alloc::AllocError;
 use std::thread::{Promise, PromisedHandle, Scope};
 

@@ -1,16 +1,8 @@
 //! What no clause says: that rounds run with ample memory, that the lanes run at the same time, and what the gate is told.
-ghost use Rattle.std.specs.Prelude.{◌≡◌, ◌≤◌};
-ghost use Rattle.std.specs.Bool.{OnTrue};
-ghost use Rattle.lanes.specs.Script.{KeepsLimits, is_in_bounds};
-
 use crate::gate::{Gate, Open};
-use crate::limits::Limits;
-use crate::reply::Reply;
-use crate::report::Report;
 use crate::round::run_round;
-use crate::row::Row;
 use crate::trie::Trie;
-use crate::verb::Verb;
+use aug_script::{Limits, Reply, Report, Script, Verb};
 use aug_trie::Ended;
 use std::alloc::{AllocError, Global};
 use std::sync::Wait;
@@ -20,99 +12,61 @@ use std::test::Fail;
 use std::thread;
 use std::thread::Threads;
 
-// Whether a verb's arguments are within its bounds.
-fn in_bounds(bits: u32, verb: Verb) -> bool
-    requires { bits ≤ 16 }
-    ensures { result ≡ is_in_bounds bits verb }
-{
-    let universe = 1u32 << bits;
-    match verb {
-        Verb::Insert(key) | Verb::Remove(key) | Verb::Has(key) => key < universe,
-        Verb::Rank(key) | Verb::Select(key) | Verb::Before(key) | Verb::After(key) => {
-            key <= universe
-        }
-        Verb::Range(from, to) => from <= universe && to <= universe,
-        Verb::Look | Verb::Size => true,
-    }
-}
-
-// Whether a round can run these rows.
-fn keeps(limits: &Limits, rows: &[Row]) -> bool
-    ensures { OnTrue result (KeepsLimits limits.now rows.now) }
-{
-    for row in rows {
-        if row.lane >= limits.workers() || !in_bounds(limits.bits(), row.verb) {
-            return false;
-        }
-    }
-    rows.len() <= limits.updates() as usize
-}
-
-// A round over this trie, where it can be run.
-fn ran<R: Threads + Wait, G: Gate>(
-    rt: &R,
-    alloc: Global,
-    ended: Trie,
-    limits: &Limits,
-    number: u64,
-    rows: &[Row],
-    gate: &G,
-) -> Result<Option<(Trie, Report)>, AllocError> {
-    if ended.bits() != limits.bits() || !keeps(limits, rows) {
-        return Ok(None);
-    }
-    let ended = run_round(rt, alloc, ended, limits, number, rows, gate)?;
-    Ok(Some(ended))
-}
-
-// A first round over the empty set of 4 bits, with 64 updates a lane.
-fn first<R: Threads + Wait, G: Gate>(
+// The trie at the end of a script's rounds, and their reports. None where the script or a limit has a fault.
+fn run_text<R: Threads + Wait, G: Gate>(
     rt: &R,
     alloc: Global,
     workers: u32,
-    rows: &[Row],
+    text: &str,
     gate: &G,
-) -> Result<Option<(Trie, Report)>, AllocError> {
+) -> Result<Option<(Trie, Vec<Report>)>, AllocError> {
     let Ok(limits) = Limits::try_new(4, workers, 64) else {
         return Ok(None);
     };
-    let Ok(ended) = Ended::empty(alloc, 4) else {
+    let Ok(script) = Script::read(alloc, text.as_bytes(), &limits) else {
+        return Ok(None);
+    };
+    let Ok(mut ended) = Ended::empty(alloc, limits.bits()) else {
         return Err(AllocError);
     };
-    ran(rt, alloc, ended, &limits, 1, rows, gate)
+    let mut reports = Vec::new(alloc);
+    let mut number = 0u64;
+    for rows in script.rounds() {
+        number = number.wrapping_add(1);
+        let (next, report) = run_round(rt, alloc, ended, &limits, number, rows.as_slice(), gate)?;
+        ended = next;
+        reports.push(report)?;
+    }
+    Ok(Some((ended, reports)))
 }
 
-fn row(row: u64, lane: u32, verb: Verb) -> Row {
-    Row { row, lane, verb }
+// The one report of a script of one round.
+fn report_of<R: Threads + Wait, G: Gate>(
+    rt: &R,
+    alloc: Global,
+    workers: u32,
+    text: &str,
+    gate: &G,
+) -> Result<Option<Report>, AllocError> {
+    match run_text(rt, alloc, workers, text, gate)? {
+        Some((_, mut reports)) => Ok(reports.pop()),
+        None => Ok(None),
+    }
 }
+
+const THREE_LANES: &str =
+    "0,insert,0\n0,insert,1\n0,insert,2\n0,insert,3\n0,look\n0,has,0\n0,has,1\n0,has,2\n0,has,3\n1,insert,4\n1,insert,5\n1,insert,6\n1,insert,7\n1,look\n1,has,4\n1,has,5\n1,has,6\n1,has,7\n2,insert,8\n2,insert,9\n2,insert,10\n2,insert,11\n2,look\n2,has,8\n2,has,9\n2,has,10\n2,has,11\n";
 
 #[test]
 fn three_lanes_keep_to_the_script(rt: HostRuntime) -> Result<(), Fail> {
-    let mut rows = Vec::new(rt.alloc());
-    let mut number = 0;
-    for lane in 0..3u32 {
-        for key in 4 * lane..4 * lane + 4 {
-            number += 1;
-            rows.push(row(number, lane, Verb::Insert(key)))?;
-        }
-        number += 1;
-        rows.push(row(number, lane, Verb::Look))?;
-        for key in 4 * lane..4 * lane + 4 {
-            number += 1;
-            rows.push(row(number, lane, Verb::Has(key)))?;
-        }
-    }
-    let run = first(&rt, rt.alloc(), 3, rows.as_slice(), &Open)?;
-    let (ended, report) = run.expect(&rt, "rows that can run");
-    assert_eq!(rt; (ended.size(), ended.missing()), (12, 0));
-    assert_eq!(rt;
-        (report.number, report.size, report.inserts, report.removals),
-        (1, 12, 12, 0)
-    );
+    let run = report_of(&rt, rt.alloc(), 3, THREE_LANES, &Open)?;
+    let report = run.expect(&rt, "a report");
+    assert_eq!(rt; report.number, 1);
+    assert_eq!(rt; (report.size, report.inserts, report.removals), (12, 12, 0));
     assert_eq!(rt; report.rows.as_slice().len(), 27);
-    let mut next = 0;
+    let mut next = 0u64;
     for (row, reply) in report.rows.as_slice() {
-        next += 1;
+        next = next.wrapping_add(1);
         assert_eq!(rt; row.row, next);
         match row.verb {
             Verb::Insert(_) => assert_eq!(rt; *reply, Reply::New),
@@ -125,56 +79,45 @@ fn three_lanes_keep_to_the_script(rt: HostRuntime) -> Result<(), Fail> {
 
 #[test]
 fn two_lanes_put_one_key_in_once(rt: HostRuntime) -> Result<(), Fail> {
-    let rows = [row(1, 0, Verb::Insert(6)), row(2, 1, Verb::Insert(6))];
-    let run = first(&rt, rt.alloc(), 2, &rows, &Open)?;
-    let (_, report) = run.expect(&rt, "rows that can run");
+    let run = report_of(&rt, rt.alloc(), 2, "0,insert,6\n1,insert,6\n", &Open)?;
+    let report = run.expect(&rt, "a report");
     assert_eq!(rt; (report.size, report.inserts, report.removals), (1, 1, 0));
-    let lines = report.rows.as_slice();
-    assert_eq!(rt; lines.len(), 2);
-    let replies = (lines[0].1, lines[1].1);
-    assert!(rt; replies == (Reply::New, Reply::Old) || replies == (Reply::Old, Reply::New));
+    let mut new = 0u32;
+    let mut old = 0u32;
+    for (_, reply) in report.rows.as_slice() {
+        match reply {
+            Reply::New => new = new.wrapping_add(1),
+            Reply::Old => old = old.wrapping_add(1),
+            _ => {}
+        }
+    }
+    assert_eq!(rt; (new, old), (1, 1));
     Ok(())
 }
 
 #[test]
 fn a_round_goes_on_from_the_one_before(rt: HostRuntime) -> Result<(), Fail> {
-    let Ok(limits) = Limits::try_new(4, 1, 8) else {
-        panic!(rt; "limits")
-    };
-    let rows = [
-        row(1, 0, Verb::Insert(1)),
-        row(2, 0, Verb::Insert(2)),
-        row(3, 0, Verb::Insert(3)),
-    ];
-    let run = first(&rt, rt.alloc(), 1, &rows, &Open)?;
-    let (ended, _) = run.expect(&rt, "rows that can run");
-    let rows = [
-        row(5, 0, Verb::Remove(2)),
-        row(6, 0, Verb::Look),
-        row(7, 0, Verb::Select(1)),
-    ];
-    let run = ran(&rt, rt.alloc(), ended, &limits, 2, &rows, &Open)?;
-    let (_, report) = run.expect(&rt, "rows that can run");
-    assert_eq!(rt;
-        (report.number, report.size, report.inserts, report.removals),
-        (2, 2, 0, 1)
-    );
-    let lines = report.rows.as_slice();
-    assert_eq!(rt; lines.len(), 3);
-    assert_eq!(rt;
-        (lines[0].1, lines[1].1, lines[2].1),
-        (Reply::Gone, Reply::Looked, Reply::Found(Some(3)))
-    );
+    let text = "0,insert,1\n0,insert,2\n0,insert,3\n*,end\n0,remove,2\n0,look\n0,select,1\n*,end\n";
+    let run = run_text(&rt, rt.alloc(), 1, text, &Open)?;
+    let (ended, mut reports) = run.expect(&rt, "reports");
+    assert_eq!(rt; (ended.size(), ended.missing()), (2, 0));
+    assert_eq!(rt; reports.len(), 2);
+    let second = reports.pop().expect(&rt, "the second report");
+    assert_eq!(rt; second.number, 2);
+    assert_eq!(rt; (second.size, second.inserts, second.removals), (2, 0, 1));
+    let found = second.rows.as_slice().last().map(|line| line.1);
+    assert_eq!(rt; found, Some(Reply::Found(Some(3))));
+    let first = reports.pop().expect(&rt, "the first report");
+    assert_eq!(rt; (first.size, first.inserts, first.removals), (3, 3, 0));
     Ok(())
 }
 
 #[test]
 fn lanes_without_rows_come_back(rt: HostRuntime) -> Result<(), Fail> {
-    let run = first(&rt, rt.alloc(), 64, &[], &Open)?;
-    let (ended, report) = run.expect(&rt, "no rows");
-    assert_eq!(rt; (report.size, report.inserts, report.removals), (0, 0, 0));
-    assert_eq!(rt; report.rows.as_slice().len(), 0);
-    assert_eq!(rt; ended.missing(), 0);
+    let run = run_text(&rt, rt.alloc(), 64, "*,end\n", &Open)?;
+    let (ended, reports) = run.expect(&rt, "a report");
+    assert_eq!(rt; (ended.size(), ended.missing()), (0, 0));
+    assert_eq!(rt; reports.len(), 1);
     Ok(())
 }
 
@@ -206,8 +149,7 @@ fn the_lanes_run_at_the_same_time(rt: HostRuntime) -> Result<(), Fail> {
         here: AtomicU64::new(0),
         met: AtomicU64::new(0),
     };
-    let rows = [row(1, 0, Verb::Insert(1)), row(2, 1, Verb::Insert(2))];
-    let run = first(&rt, rt.alloc(), 2, &rows, &gate)?;
+    let run = report_of(&rt, rt.alloc(), 2, "0,insert,1\n1,insert,2\n", &gate)?;
     assert!(rt; run.is_some());
     assert_eq!(rt; gate.met.load(SeqCst), 2);
     Ok(())
@@ -243,23 +185,16 @@ fn the_gate_is_told_of_each_row(rt: HostRuntime) -> Result<(), Fail> {
     let gate = Told {
         calls: AtomicU64::new(0),
     };
-    let rows = [
-        row(1, 3, Verb::Insert(1)),
-        row(2, 3, Verb::Look),
-        row(4, 3, Verb::Size),
-    ];
-    let run = first(&rt, rt.alloc(), 4, &rows, &gate)?;
+    let run = report_of(&rt, rt.alloc(), 4, "3,insert,1\n3,look\n3,size\n", &gate)?;
     assert!(rt; run.is_some());
-    assert_eq!(rt; gate.calls.load(SeqCst), 234_589);
+    assert_eq!(rt; gate.calls.load(SeqCst), 234_567);
     Ok(())
 }
 
-// Passes at every refusal of memory.
+// Passes at every refusal of memory. A script that could not be read for want of memory has no report.
 #[test]
 fn refused_memory_is_told(rt: HostRuntime) {
-    let rows = [row(1, 0, Verb::Insert(1)), row(2, 1, Verb::Look)];
-    match first(&rt, rt.alloc(), 2, &rows, &Open) {
-        Ok(run) => assert!(rt; run.is_some()),
-        Err(AllocError) => {}
+    if let Ok(Some(report)) = report_of(&rt, rt.alloc(), 2, "0,insert,1\n1,look\n", &Open) {
+        assert_eq!(rt; report.inserts, 1);
     }
 }

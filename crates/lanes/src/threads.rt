@@ -1,14 +1,14 @@
 //! All lanes at the same time, each in a thread of its own.
 ghost use Rattle.std.specs.Prelude.{◌≡◌, ◌≤◌, vec_len, vec_capacity, IfOk};
-ghost use Rattle.lanes.specs.Script.{KeepsLimits};
+ghost use Rattle.aug_script.specs.Script.{KeepsLimits};
 ghost use Rattle.lanes.specs.Threads.{AllPromised};
 ghost use Rattle.lanes.specs.Workers.{bounds_of, AllReady, AllDone};
 
 use crate::gate::Gate;
-use crate::row::Row;
 use crate::start::{LaneOf, start};
 use crate::trie::Table;
 use crate::work::{Done, Job};
+use aug_script::Row;
 use std::alloc::{AllocError, Global};
 use std::sync::Wait;
 use std::thread;

@@ -1,14 +1,13 @@
 //! What one worker does.
 ghost use Rattle.std.specs.Prelude.{◌≡◌, ◌≤◌, [], length, vec_capacity};
-ghost use Rattle.lanes.specs.Script.{KeepsLimits};
+ghost use Rattle.aug_script.specs.Script.{KeepsLimits};
 ghost use Rattle.lanes.specs.Rounds.{WasHandedOut};
 ghost use Rattle.lanes.specs.Workers.{bounds_of, opening_of, rows_of, IsDone};
 
 use crate::answer::answer;
 use crate::gate::Gate;
-use crate::reply::Reply;
-use crate::row::Row;
 use crate::trie::{Half, Hand, Table};
+use aug_script::{Reply, Row};
 
 /// What a worker begins with. The room for its replies is there. It names no lifetime, so a closure may own it.
 #[derive(Drop)]

@@ -2,8 +2,8 @@ use Rattle.std.proofs.Common.{refl, ap, if◌then◌else◌, length}
 use Rattle.aug_model.specs.Keys.{is_member}
 use Rattle.aug_model.specs.Queries.{rank_of, select_of, before_of, after_of, range_of}
 use Rattle.aug_trie.specs.Knowledge.{insertion, removal}
-use Rattle.lanes.specs.Replies.{span_of}
-use Rattle.lanes.specs.declared.reply.Reply.TheVariants as reply
+use Rattle.aug_script.specs.Replies.{span_of}
+use Rattle.aug_script.specs.declared.reply.Reply.TheVariants as reply
 use Rattle.lanes.proofs.Answering.{accepted, refused, asked}
 use Rattle.lanes.proofs.answer.answer.Goals as goal
 

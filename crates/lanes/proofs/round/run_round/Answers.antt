@@ -1,6 +1,6 @@
 use Rattle.std.proofs.Common.{◌≡◌, ◌∙◌}
 use Rattle.aug_model.specs.Keys.{IsKeySet}
-use Rattle.lanes.specs.declared.report.Report.{Report}
+use Rattle.aug_script.specs.declared.report.Report.{Report}
 use Rattle.lanes.proofs.Reports.{allowed, in_turn}
 use Rattle.lanes.proofs.round.run_round.Goals as goal
 

@@ -1,5 +1,5 @@
 -- The rows of a lane that were answered, and one more.
-use Rattle.std.proofs.Common.{◌≡◌, ℕ, List, [], ◌∷◌, ◌++◌, map, refl, ap, sym, ◌∙◌}
+use Rattle.std.proofs.Common.{List, [], ◌∷◌, ◌++◌, refl, ap, ◌∙◌}
 use Rattle.std.proofs.lemmas.List.{map-append}
 use Rattle.lanes.specs.AllowedReport.{Lane, Answers, AnswersAll}
 use Rattle.lanes.specs.Workers.{AnswersRows}

@@ -1,5 +1,5 @@
 -- What a pass's call says, as what its lane goes through.
-use Rattle.std.proofs.Common.{◌≡◌, ◌≢◌, ℕ, List, refl, inl, inr}
+use Rattle.std.proofs.Common.{◌≡◌, ℕ, List, refl, inl, inr}
 use Rattle.aug_model.specs.declared.summary.Summary.{Summary}
 use Rattle.aug_trie.specs.Facts.{PassFacts, HasSnapshot}
 use Rattle.aug_trie.specs.Nodes.{Keeps, Stays, set_at}

@@ -1,8 +1,7 @@
 -- The passes that came back, and the replies in the order of the script.
-use Rattle.std.proofs.Common.{◌≡◌, ℕ, suc, ◌+◌, ◌<◌, ◌==◌, Bool, true, false, cond, List, [], ◌∷◌, ◌++◌, length, map, filter, get_or, refl, sym, ap, ◌∙◌, subst, drop, inl, inr, arith, All}
-use Rattle.std.proofs.lemmas.Bool.{cases_lt, cases_Bool}
+use Rattle.std.proofs.Common.{◌≡◌, ℕ, ◌<◌, ◌==◌, Bool, true, false, cond, List, [], ◌∷◌, ◌++◌, length, map, get_or, refl, sym, ap, ◌∙◌, subst, drop, inl, inr, arith, All}
+use Rattle.std.proofs.lemmas.Bool.{cases_lt}
 use Rattle.std.proofs.lemmas.List.{map-append, length-map, length-append, get_or_append_left}
-use Rattle.std.proofs.lemmas.List.Elements.{All-weaker}
 use Rattle.std.proofs.Math.Seq.{get_or-append_seam}
 use Rattle.aug_trie.specs.Crews.{CrewFacts}
 use Rattle.aug_trie.specs.Facts.{RoundFacts}

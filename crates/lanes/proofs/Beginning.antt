@@ -1,7 +1,7 @@
 -- A round under limits that a script can have is never refused for its numbers.
-use Rattle.std.proofs.Common.{◌≡◌, ℕ, zero, suc, ◌+◌, ◌-◌, ◌*◌, ◌^◌, ◌<◌, ◌≤◌, ◌⊎◌, length, List, min, refl, sym, ap, ◌∙◌, inl, inr, arith, Result, Ok, Err, ⊎_elim}
+use Rattle.std.proofs.Common.{◌≡◌, ℕ, zero, suc, ◌^◌, ◌≤◌, refl, inl, inr, arith}
 use Rattle.aug_core.specs.Layout.{IsLayout, IsOutside, IsWithin, IsRefused}
-use Rattle.aug_core.specs.Places.{Shape, shape_of, own_records, word_count}
+use Rattle.aug_core.specs.Places.{shape_of, own_records, word_count}
 use Rattle.aug_core.specs.declared.layout.LayoutError.TheVariants as layout
 use Rattle.aug_trie.specs.declared.error.BeginError.{BeginError}
 use Rattle.aug_trie.specs.declared.error.BeginError.TheVariants as begin

@@ -1,11 +1,11 @@
 -- How many rows each lane has among the first ones.
-use Rattle.std.proofs.Common.{◌≡◌, ℕ, ◌+◌, ◌<◌, ◌≤◌, ◌==◌, Bool, cond, List, [], ◌∷◌, length, filter, take, get_or, set, replicate, refl, sym, ap, ◌∙◌, inl, inr, arith, All, take_all}
+use Rattle.std.proofs.Common.{◌≡◌, ℕ, ◌+◌, ◌<◌, ◌≤◌, ◌==◌, Bool, cond, List, [], length, take, get_or, set, replicate, refl, sym, ap, ◌∙◌, inl, inr, arith, All, take_all}
 use Rattle.std.proofs.lemmas.Bool.{cases_eq, cases_lt, eq-eqb, ne_eqb}
 use Rattle.std.proofs.lemmas.List.{length-set, length-replicate, length-take-le, get_or-set_same, get_or-set_other, get_or-replicate, get_or_past}
 use Rattle.std.proofs.lemmas.List.Elements.{All-get_or}
 use Rattle.std.proofs.lemmas.List.Filters.{length-filter_more}
 use Rattle.aug_trie.proofs.Counting.{filter_shorter}
-use Rattle.lanes.specs.Workers.{AreCounted, rows_of}
+use Rattle.lanes.specs.Workers.{AreCounted}
 use Rattle.aug_script.specs.declared.row.Row.{Row}
 use Rattle.lanes.proofs.Working.{no_row}
 

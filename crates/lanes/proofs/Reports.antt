@@ -1,14 +1,11 @@
 -- A round that ran and ended has an allowed report.
-use Rattle.std.proofs.Common.{◌≡◌, ℕ, ◌+◌, ◌<◌, List, [], ◌∷◌, length, map, refl, sym, ap, ◌∙◌, subst, arith, All}
+use Rattle.std.proofs.Common.{◌≡◌, ℕ, ◌+◌, ◌<◌, List, [], ◌∷◌, length, map, sym, ap, ◌∙◌, subst, arith, All}
 use Rattle.std.proofs.lemmas.List.Elements.{All-nil, All-cons, All-head, All-tail}
 use Rattle.aug_model.specs.Keys.{IsKeySet}
-use Rattle.aug_core.specs.Cuts.{set_of_cut}
-use Rattle.aug_trie.specs.History.{last_cut}
 use Rattle.aug_trie.specs.Crews.{CrewFacts, EndedFacts, Ends}
 use Rattle.aug_trie.specs.Facts.{RoundFacts}
-use Rattle.lanes.specs.AllowedReport.{AllowedReport, IsReportOf}
+use Rattle.lanes.specs.AllowedReport.{AllowedReport}
 use Rattle.lanes.specs.InTurn.{IsInTurn}
-use Rattle.aug_script.specs.Replies.{report_of, sets_of, opening_sets}
 use Rattle.lanes.specs.Returns.{RanLanes}
 use Rattle.aug_script.specs.declared.reply.Reply.{Reply}
 use Rattle.aug_script.specs.declared.report.Report.{Report}

@@ -2,7 +2,6 @@
 use Rattle.std.specs.Prelude.{◌≡◌, ℕ, ◌<◌, ◌≤◌, ◌==◌, List, [], length, map, filter, slice_index, slice_index_or, vec_capacity}
 use Rattle.aug_core.specs.Cuts.{Cut, opening_cut}
 use Rattle.aug_trie.specs.Facts.{RoundFacts, PassFacts, snapshot_cut}
-use Rattle.aug_trie.specs.Knowledge.{Knowledge}
 use Rattle.aug_trie.specs.declared.snapshot.Snapshot.{Snapshot}
 use Rattle.lanes.specs.AllowedReport.{Lane, AnswersAll}
 use Rattle.aug_script.specs.Limits.{Bounds}

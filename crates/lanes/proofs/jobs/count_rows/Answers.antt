@@ -1,4 +1,4 @@
-use Rattle.std.proofs.Common.{rules, arith, refl}
+use Rattle.std.proofs.Common.{rules, refl}
 use Rattle.lanes.proofs.Counting.{counted_none, counted_more, counted_all, few}
 use Rattle.lanes.proofs.jobs.count_rows.Goals as goal
 

@@ -1,8 +1,8 @@
-use Rattle.std.proofs.Common.{◌≡◌, ◌+◌, ◌≤◌, ◌∙◌, refl, ap, sym, vec_len, vec_capacity, length, slice_index, ◌∷◌, [], arith, rules}
+use Rattle.std.proofs.Common.{◌≡◌, ◌+◌, ◌∙◌, refl, ap, vec_len, slice_index, ◌∷◌, [], arith}
 use Rattle.std.proofs.lemmas.List.{get_or_read}
 use Rattle.aug_trie.specs.Facts.{PassFacts}
 use Rattle.aug_trie.proofs.Pieces.{begins_on}
-use Rattle.lanes.specs.Workers.{IsReady, opening_of, rows_of}
+use Rattle.lanes.specs.Workers.{IsReady, opening_of}
 use Rattle.lanes.specs.declared.work.Job.{Job}
 use Rattle.lanes.proofs.Passing.{push_one}
 use Rattle.lanes.proofs.jobs.jobs.Goals as goal

@@ -1,5 +1,5 @@
-use Rattle.std.proofs.Common.{◌≡◌, ◌∷◌, ◌<◌, [], ◌∙◌, sym, ap, map, set, get_or, length, rules, arith, List}
-use Rattle.std.specs.Vec.Iter.{into_iter_items, into_iter_len, into_iter_deque}
+use Rattle.std.proofs.Common.{◌<◌, [], ◌∙◌, ap, get_or, length, rules, arith, List}
+use Rattle.std.specs.Vec.Iter.{into_iter_items, into_iter_deque}
 use Rattle.std.proofs.lemmas.List.{map-set, get_or-map, length-map}
 use Rattle.aug_script.specs.declared.reply.Reply.{Reply}
 use Rattle.lanes.proofs.Merging.{merged_none, merged_more, merged_all, lane_low, some_left, has_room}

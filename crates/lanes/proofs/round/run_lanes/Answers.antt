@@ -1,4 +1,4 @@
-use Rattle.std.proofs.Common.{◌≡◌, ◌∙◌, ap, sym, arith, rules, map, length, refl}
+use Rattle.std.proofs.Common.{◌≡◌, ◌∙◌, ap, arith, map, length}
 use Rattle.std.specs.Vec.Iter.{into_iter_items}
 use Rattle.std.proofs.lemmas.List.{length-map}
 use Rattle.aug_trie.specs.Knowledge.{Knowledge}

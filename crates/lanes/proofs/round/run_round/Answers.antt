@@ -1,4 +1,4 @@
-use Rattle.std.proofs.Common.{◌≡◌, ◌∙◌}
+use Rattle.std.proofs.Common.{◌∙◌}
 use Rattle.aug_model.specs.Keys.{IsKeySet}
 use Rattle.aug_script.specs.declared.report.Report.{Report}
 use Rattle.lanes.proofs.Reports.{allowed, in_turn}

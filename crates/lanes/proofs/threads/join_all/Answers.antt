@@ -1,5 +1,4 @@
 use Rattle.std.proofs.Common.{◌≡◌, ◌+◌, vec_len, rules, arith}
-use Rattle.std.specs.Vec.Iter.{into_iter_items}
 use Rattle.lanes.specs.Threads.{Owes}
 use Rattle.lanes.specs.Workers.{IsDone}
 use Rattle.lanes.proofs.Passing.{head_of, tail_of, push_one, owed}

@@ -1,5 +1,6 @@
 //! A round: the table that its passes work on.
 ghost use Rattle.std.specs.Prelude.{◌≡◌, ◌≢◌, ◌↔◌, ◌+◌, length, IsErrOf, IfOk, IfErr};
+ghost use Rattle.aug_model.specs.Keys.{IsKeySet};
 ghost use Rattle.aug_core.specs.Layout.{IsRefused};
 ghost use Rattle.aug_core.specs.Places.{shape_of};
 ghost use Rattle.aug_trie.specs.Crews.{BeginsRound, Ends};
@@ -46,6 +47,7 @@ impl<A: Monoid, B: Monoid> Round<A, B> {
     ) -> Result<(Round<A, B>, Crew<A, B>), (Ended<A, B>, BeginError)>
         ensures begun { IfOk result (λ t. BeginsRound ended workers updates t.0 t.1) }
         ensures same { IfErr result (λ e. e.0 ≡ record ended { calls = e.0.calls }) }
+        ensures not_walked { IfErr result (λ e. e.1 ≢ BeginError.OutOfMemory → e.0 ≡ ended) }
         ensures bad_workers { IsErrOf result (ended, BeginError.BadWorkers)
             ↔ IsRefused LayoutError.BadWorkers (shape_of ended.bits workers updates (length ended.members)) }
         ensures bad_updates { IsErrOf result (ended, BeginError.BadUpdates)
@@ -53,6 +55,7 @@ impl<A: Monoid, B: Monoid> Round<A, B> {
         ensures too_large { IsErrOf result (ended, BeginError.TooLarge)
             ↔ IsRefused LayoutError.TooLarge (shape_of ended.bits workers updates (length ended.members)) }
         ensures good_bits { IfErr result (λ e. e.1 ≢ BeginError.BadBits) }
+        ensures keys { IsKeySet ended.bits ended.members }
     {
         let mut ended = ended;
         let layout = match Layout::new(ended.bits, workers, updates, ended.size()) {

@@ -1,0 +1,17 @@
+pub mod Histories
+pub mod Advances
+pub mod SetChanges
+pub mod Lanes
+pub mod OneLane
+pub mod ReportSizes
+pub mod Rounds
+pub mod Answering
+pub mod Taking
+pub mod Answered
+pub mod Working
+pub mod Passing
+pub mod Backs
+pub mod Merging
+pub mod Counting
+pub mod Beginning
+pub mod Reports

@@ -1,0 +1,105 @@
+-- Which reports a round may have, whatever the order in which its lanes ran.
+use Rattle.std.specs.Prelude.{◌≡◌, ℕ, ◌+◌, ◌<◌, ◌⊎◌, ⊤, List, [], ◌∷◌, length, map, filter, flat_map, All, slice_index_or, ◌==◌, if◌then◌else◌}
+use Rattle.aug_model.specs.Queries.{rank_of, select_of, before_of, after_of, range_of}
+use Rattle.aug_core.specs.Cuts.{Cut, opening_cut, set_of_cut}
+use Rattle.aug_trie.specs.History.{Begins, IsHistory, last_cut}
+use Rattle.aug_core.specs.declared.view.Change.{Change}
+use Rattle.aug_trie.specs.Knowledge.{removal, insertion, Knowledge, inserts_of, removals_of}
+use Rattle.aug_model.specs.Keys.{is_member}
+use Rattle.aug_script.specs.Replies.{span_of}
+use Rattle.aug_trie.specs.Tallies.{Tallies}
+use Rattle.aug_trie.specs.Updates.{AcceptedUpdate, RefusedUpdate, TakesSnapshot}
+use Rattle.aug_script.specs.declared.reply.Reply.{Reply}
+use Rattle.aug_script.specs.declared.reply.Reply.TheVariants as reply
+use Rattle.aug_script.specs.declared.report.Report.{Report}
+use Rattle.aug_script.specs.declared.row.Row.{Row}
+use Rattle.aug_script.specs.declared.verb.Verb.{Verb}
+use Rattle.aug_script.specs.declared.verb.Verb.TheVariants as verb
+
+-- a lane: what its pass knows, and the cut of its last snapshot
+pub record Lane : Type 0 where
+  pub knows : Knowledge
+  pub held : Cut
+
+-- an update is answered with one reply where it was accepted, and with another where it was refused
+pub record AnswersUpdate (parity key : ℕ) (yes no answer : Reply) (old new : Lane) : Type 0 where
+  pub outcome : ((answer ≡ yes) × AcceptedUpdate parity key old.knows new.knows) ⊎ ((answer ≡ no) × RefusedUpdate parity key old.knows new.knows)
+  pub holds_still : new.held ≡ old.held
+
+-- the lane takes a new snapshot, which it holds from then on
+pub record Looks (answer : Reply) (old new : Lane) : Type 0 where
+  pub looked : answer ≡ reply.Looked
+  pub takes : TakesSnapshot old.knows new.knows new.held
+
+-- a query is answered from the set of the snapshot that the lane holds, and changes nothing
+pub record Asks (about : List ℕ → Reply) (answer : Reply) (old new : Lane) : Type 0 where
+  pub answers : answer ≡ about (set_of_cut old.held)
+  pub stays : new ≡ old
+
+-- what a lane goes through as it answers a verb
+abbrev pub Answers : Verb → Reply → Lane → Lane → Type 0
+Answers (verb.Insert k) = AnswersUpdate insertion k reply.New reply.Old
+Answers (verb.Remove k) = AnswersUpdate removal k reply.Gone reply.Absent
+Answers verb.Look = Looks
+Answers (verb.Has k) = Asks (λ keys. if is_member keys k then reply.Yes else reply.No)
+Answers verb.Size = Asks (λ keys. reply.Number (length keys))
+Answers (verb.Rank k) = Asks (λ keys. reply.Number (rank_of keys k))
+Answers (verb.Select i) = Asks (λ keys. reply.Found (select_of keys i))
+Answers (verb.Before k) = Asks (λ keys. reply.Found (before_of keys k))
+Answers (verb.After k) = Asks (λ keys. reply.Found (after_of keys k))
+Answers (verb.Range a b) = Asks (λ keys. reply.Span (span_of (range_of keys a b)))
+
+-- what a lane goes through as it answers its rows, one after another
+unfoldable pub AnswersAll : List (Row × Reply) → Lane → Lane → Type 0
+AnswersAll [] old new = new ≡ old
+AnswersAll (line ∷ lines) old new = (next : Lane) × Answers line.0.verb line.1 old next × AnswersAll lines next new
+
+-- a lane that has taken its opening snapshot, and done nothing else
+pub record Opens (opening : Cut) (lane : Lane) : Type 0 where
+  pub sees_opening : Begins (opening ∷ []) lane.knows.history
+  pub no_change : lane.knows.accepted ≡ []
+  pub holds_last : lane.held ≡ last_cut lane.knows.history
+
+-- a lane ran its lines in a round with this history, and ended so
+pub record RunsLane (opening : Cut) (history : List Cut) (lines : List (Row × Reply)) (end : Lane) : Type 0 where
+  pub start : Lane
+  pub opens : Opens opening start
+  pub runs : AnswersAll lines start end
+  pub of_history : Begins end.knows.history history
+
+-- the lines of a lane, in order
+abbrev pub lines_of : ℕ → List (Row × Reply) → List (Row × Reply)
+lines_of lane lines = filter (λ line. line.0.lane == lane) lines
+
+-- all that the lanes had accepted
+abbrev pub changes_of : List Lane → List Change
+changes_of lanes = flat_map (λ lane. lane.knows.accepted) lanes
+
+-- a round that opened with one set and closed with another may have this report: there are one history and an end for each
+-- lane that tell how each row came to its reply, and the changes of all lanes are all that happened
+pub record AllowedReport (bits workers : ℕ) (members : List ℕ) (report : Report) (closing : List ℕ) : Type 0 where
+  pub history : List Cut
+  pub is_history : IsHistory bits members history
+  pub lanes : List Lane
+  pub one_each : length lanes ≡ workers
+  pub of_lanes : All (λ line. line.0.lane < workers) report.rows
+  pub runs : (lane : ℕ) (default : Lane) → lane < workers → RunsLane (opening_cut bits members) history (lines_of lane report.rows) (slice_index_or lanes lane default)
+  pub tallies : Tallies (opening_cut bits members) (last_cut history) (changes_of lanes)
+  pub closes : closing ≡ set_of_cut (last_cut history)
+  pub size : report.size ≡ length closing
+  pub inserts : report.inserts ≡ inserts_of (changes_of lanes)
+  pub removals : report.removals ≡ removals_of (changes_of lanes)
+
+-- the report is of the round with this number and these rows, in their order
+pub record IsReportOf (number : ℕ) (rows : List Row) (report : Report) : Type 0 where
+  pub number_is : report.number ≡ number
+  pub rows_are : map (λ line. line.0) report.rows ≡ rows
+
+-- rounds, the first with this number, may have these reports: each opens with the set that the one before closed with
+unfoldable pub AllowedReports : ℕ → ℕ → ℕ → List ℕ → List (List Row) → List Report → Type 0
+AllowedReports bits workers number members [] [] = ⊤
+AllowedReports bits workers number members [] (report ∷ reports) = ⊥
+AllowedReports bits workers number members (rows ∷ rounds) [] = ⊥
+AllowedReports bits workers number members (rows ∷ rounds) (report ∷ reports) =
+    (closing : List ℕ) × IsReportOf number rows report × AllowedReport bits workers members report closing
+    × AllowedReports bits workers (number + 1) closing rounds reports

@@ -1,0 +1,200 @@
+//! What no clause says: that rounds run with ample memory, that the lanes run at the same time, and what the gate is told.
+use crate::gate::{Gate, Open};
+use crate::round::run_round;
+use crate::trie::Trie;
+use aug_script::{Limits, Reply, Report, Script, Verb};
+use aug_trie::Ended;
+use std::alloc::{AllocError, Global};
+use std::sync::Wait;
+use std::sync::atomic::AtomicU64;
+use std::sync::atomic::Ordering::SeqCst;
+use std::test::Fail;
+use std::thread;
+use std::thread::Threads;
+
+// The trie at the end of a script's rounds, and their reports. None where the script or a limit has a fault.
+fn run_text<R: Threads + Wait, G: Gate>(
+    rt: &R,
+    alloc: Global,
+    workers: u32,
+    text: &str,
+    gate: &G,
+) -> Result<Option<(Trie, Vec<Report>)>, AllocError> {
+    let Ok(limits) = Limits::try_new(4, workers, 64) else {
+        return Ok(None);
+    };
+    let Ok(script) = Script::read(alloc, text.as_bytes(), &limits) else {
+        return Ok(None);
+    };
+    let Ok(mut ended) = Ended::empty(alloc, limits.bits()) else {
+        return Err(AllocError);
+    };
+    let mut reports = Vec::new(alloc);
+    let mut number = 0u64;
+    for rows in script.rounds() {
+        number = number.wrapping_add(1);
+        let (next, report) = run_round(rt, alloc, ended, &limits, number, rows.as_slice(), gate)?;
+        ended = next;
+        reports.push(report)?;
+    }
+    Ok(Some((ended, reports)))
+}
+
+// The one report of a script of one round.
+fn report_of<R: Threads + Wait, G: Gate>(
+    rt: &R,
+    alloc: Global,
+    workers: u32,
+    text: &str,
+    gate: &G,
+) -> Result<Option<Report>, AllocError> {
+    match run_text(rt, alloc, workers, text, gate)? {
+        Some((_, mut reports)) => Ok(reports.pop()),
+        None => Ok(None),
+    }
+}
+
+const THREE_LANES: &str =
+    "0,insert,0\n0,insert,1\n0,insert,2\n0,insert,3\n0,look\n0,has,0\n0,has,1\n0,has,2\n0,has,3\n1,insert,4\n1,insert,5\n1,insert,6\n1,insert,7\n1,look\n1,has,4\n1,has,5\n1,has,6\n1,has,7\n2,insert,8\n2,insert,9\n2,insert,10\n2,insert,11\n2,look\n2,has,8\n2,has,9\n2,has,10\n2,has,11\n";
+
+#[test]
+fn three_lanes_keep_to_the_script(rt: HostRuntime) -> Result<(), Fail> {
+    let run = report_of(&rt, rt.alloc(), 3, THREE_LANES, &Open)?;
+    let report = run.expect(&rt, "a report");
+    assert_eq!(rt; report.number, 1);
+    assert_eq!(rt; (report.size, report.inserts, report.removals), (12, 12, 0));
+    assert_eq!(rt; report.rows.as_slice().len(), 27);
+    let mut next = 0u64;
+    for (row, reply) in report.rows.as_slice() {
+        next = next.wrapping_add(1);
+        assert_eq!(rt; row.row, next);
+        match row.verb {
+            Verb::Insert(_) => assert_eq!(rt; *reply, Reply::New),
+            Verb::Has(_) => assert_eq!(rt; *reply, Reply::Yes),
+            _ => assert_eq!(rt; *reply, Reply::Looked),
+        }
+    }
+    Ok(())
+}
+
+#[test]
+fn two_lanes_put_one_key_in_once(rt: HostRuntime) -> Result<(), Fail> {
+    let run = report_of(&rt, rt.alloc(), 2, "0,insert,6\n1,insert,6\n", &Open)?;
+    let report = run.expect(&rt, "a report");
+    assert_eq!(rt; (report.size, report.inserts, report.removals), (1, 1, 0));
+    let mut new = 0u32;
+    let mut old = 0u32;
+    for (_, reply) in report.rows.as_slice() {
+        match reply {
+            Reply::New => new = new.wrapping_add(1),
+            Reply::Old => old = old.wrapping_add(1),
+            _ => {}
+        }
+    }
+    assert_eq!(rt; (new, old), (1, 1));
+    Ok(())
+}
+
+#[test]
+fn a_round_goes_on_from_the_one_before(rt: HostRuntime) -> Result<(), Fail> {
+    let text = "0,insert,1\n0,insert,2\n0,insert,3\n*,end\n0,remove,2\n0,look\n0,select,1\n*,end\n";
+    let run = run_text(&rt, rt.alloc(), 1, text, &Open)?;
+    let (ended, mut reports) = run.expect(&rt, "reports");
+    assert_eq!(rt; (ended.size(), ended.missing()), (2, 0));
+    assert_eq!(rt; reports.len(), 2);
+    let second = reports.pop().expect(&rt, "the second report");
+    assert_eq!(rt; second.number, 2);
+    assert_eq!(rt; (second.size, second.inserts, second.removals), (2, 0, 1));
+    let found = second.rows.as_slice().last().map(|line| line.1);
+    assert_eq!(rt; found, Some(Reply::Found(Some(3))));
+    let first = reports.pop().expect(&rt, "the first report");
+    assert_eq!(rt; (first.size, first.inserts, first.removals), (3, 3, 0));
+    Ok(())
+}
+
+#[test]
+fn lanes_without_rows_come_back(rt: HostRuntime) -> Result<(), Fail> {
+    let run = run_text(&rt, rt.alloc(), 64, "*,end\n", &Open)?;
+    let (ended, reports) = run.expect(&rt, "a report");
+    assert_eq!(rt; (ended.size(), ended.missing()), (0, 0));
+    assert_eq!(rt; reports.len(), 1);
+    Ok(())
+}
+
+// Each lane waits before its row for the other, for so many looks at most.
+#[derive(Drop)]
+struct Meet {
+    here: AtomicU64,
+    met: AtomicU64,
+}
+
+impl Gate for Meet {
+    fn before(&self, _lane: u32, _row: u64) {
+        self.here.fetch_add(1, SeqCst);
+        for _ in 0..200_000_000u64 {
+            if self.here.load(SeqCst) == 2 {
+                self.met.fetch_add(1, SeqCst);
+                return;
+            }
+            thread::yield_now();
+        }
+    }
+
+    fn after(&self, _lane: u32, _row: u64) {}
+}
+
+#[test]
+fn the_lanes_run_at_the_same_time(rt: HostRuntime) -> Result<(), Fail> {
+    let gate = Meet {
+        here: AtomicU64::new(0),
+        met: AtomicU64::new(0),
+    };
+    let run = report_of(&rt, rt.alloc(), 2, "0,insert,1\n1,insert,2\n", &gate)?;
+    assert!(rt; run.is_some());
+    assert_eq!(rt; gate.met.load(SeqCst), 2);
+    Ok(())
+}
+
+// What it is told, one digit for each call: twice the row's number before it, one more after it, and 0 for another lane.
+#[derive(Drop)]
+struct Told {
+    calls: AtomicU64,
+}
+
+impl Told {
+    fn note(&self, lane: u32, digit: u64) {
+        let calls = self.calls.load(SeqCst);
+        let digit = if lane == 3 { digit } else { 0 };
+        self.calls
+            .store(calls.wrapping_mul(10).wrapping_add(digit), SeqCst);
+    }
+}
+
+impl Gate for Told {
+    fn before(&self, lane: u32, row: u64) {
+        self.note(lane, row.wrapping_mul(2));
+    }
+
+    fn after(&self, lane: u32, row: u64) {
+        self.note(lane, row.wrapping_mul(2).wrapping_add(1));
+    }
+}
+
+#[test]
+fn the_gate_is_told_of_each_row(rt: HostRuntime) -> Result<(), Fail> {
+    let gate = Told {
+        calls: AtomicU64::new(0),
+    };
+    let run = report_of(&rt, rt.alloc(), 4, "3,insert,1\n3,look\n3,size\n", &gate)?;
+    assert!(rt; run.is_some());
+    assert_eq!(rt; gate.calls.load(SeqCst), 234_567);
+    Ok(())
+}
+
+// Passes at every refusal of memory. A script that could not be read for want of memory has no report.
+#[test]
+fn refused_memory_is_told(rt: HostRuntime) {
+    if let Ok(Some(report)) = report_of(&rt, rt.alloc(), 2, "0,insert,1\n1,look\n", &Open) {
+        assert_eq!(rt; report.inserts, 1);
+    }
+}

@@ -148,7 +148,7 @@ numbers_found c m p is = record {
       (others _ _ (λ e. let bad : 98 ≡ 0 = e in absurd (omega arith)))
       (others _ _ (λ e. let bad : 98 ≡ 104 = e in absurd (omega arith)))
       (others _ _ (λ e. let bad : 98 ≡ 118 = e in absurd (omega arith)));
-  workers = number_found c m p is 1 (codes "workers") 1 (codes "1") (omega arith) refl only_workers
+  workers = number_found c m p is 1 (codes "workers") 64 (codes "1") (omega arith) refl only_workers
       (others _ _ (λ e. let bad : 119 ≡ 0 = e in absurd (omega arith)))
       (others _ _ (λ e. let bad : 119 ≡ 104 = e in absurd (omega arith)))
       (others _ _ (λ e. let bad : 119 ≡ 118 = e in absurd (omega arith)));
@@ -211,5 +211,5 @@ stop_among kinds k (stop.Usage text) (inr among) told out = (told.0, subst (λ (
     only : (told.0 ≡ k) ⊎ ⊥ → told.0 ≡ k
     only (inl e) = e
     only (inr none) = absurd none
-stop_among kinds k stop.TooLarge of told out = absurd told
+stop_among kinds k stop.TooLarge of told out = cc
 stop_among kinds k stop.OutOfMemory of told out = tt

@@ -1,55 +1,129 @@
 -- The reports of a script's rounds, and how many of them were printed.
-use Rattle.std.proofs.Common.{◌≡◌, ℕ, suc, ◌+◌, ◌<◌, List, [], ◌∷◌, ◌++◌, length, map, drop, get_or, refl, sym, ap, ◌∙◌, arith, append_assoc, subst, add-one}
+use Rattle.std.proofs.Common.{◌≡◌, ℕ, suc, ◌+◌, ◌<◌, List, [], ◌∷◌, ◌++◌, length, map, take, get_or, refl, sym, ap, ◌∙◌, arith, subst, All, length-append}
 use Rattle.std.specs.Prelude.{Option}
 use Rattle.std.specs.Io.KnownBytes.{Appends}
 use Rattle.std.specs.List.{concat}
 use Rattle.std.proofs.KnownBytes.{Appends-nil, Appends-trans}
-use Rattle.std.proofs.Math.ListN.{length-append}
-use Rattle.std.proofs.Math.Seq.{drop-cons}
-use Rattle.std.proofs.lemmas.List.{append-nil, map-append}
+use Rattle.std.proofs.lemmas.List.{append-nil, map-append, take_more, length-take-le}
+use Rattle.std.proofs.lemmas.List.Elements.{All-head, All-tail}
 use Rattle.std.proofs.lemmas.List.Folds.{concat-append}
+use Rattle.aug_script.specs.Devices.{AppendsBeginning, FinishesLast}
+use Rattle.aug_script.specs.Limits.{Bounds}
 use Rattle.aug_script.specs.Replies.{opening_sets, report_of, sets_of}
 use Rattle.aug_script.specs.ReportText.{report_text}
 use Rattle.aug_script.specs.declared.report.Report.{Report}
 use Rattle.aug_script.specs.declared.row.Row.{Row}
-use Rattle.augtrie.specs.Runs.{PrintsAllBut, output_of, reports_of, texts_of}
+use Rattle.augtrie.specs.AllowedReport.{AllowedReport, AllowedReports, IsReportOf}
+use Rattle.augtrie.specs.InTurn.{IsInTurn}
+use Rattle.augtrie.specs.Runs.{MayHave, OfOneLane, Prints, PrintsInPart, reports_of, texts_of}
 
--- nothing was printed yet
-pub printed_none : (reports : List Report) (known : Option (List ℕ)) (calls : ℕ) → PrintsAllBut reports reports known known calls calls
-printed_none reports known calls = record { printed = []; all = refl; wrote = Appends-nil known; finished = omega arith }
+module _ (bits workers : ℕ) where
+  -- rounds had these reports, each on from the set that the one before closed with, and the last closed with this one
+  unfoldable pub Chain : ℕ → List ℕ → List (List Row) → List Report → List ℕ → Type 0
+  Chain number members [] [] closing = closing ≡ members
+  Chain number members [] (report ∷ reports) closing = ⊥
+  Chain number members (rows ∷ rounds) [] closing = ⊥
+  Chain number members (rows ∷ rounds) (report ∷ reports) closing =
+      (next : List ℕ) × IsReportOf number rows report × AllowedReport bits workers members report next × IsInTurn workers number members rows report next
+      × Chain (number + 1) next rounds reports closing
+
+  -- one round more
+  chain_more : (number at : ℕ) (members mid closing : List ℕ) (rounds : List (List Row)) (rows : List Row) (reports : List Report) (report : Report)
+      → Chain number members rounds reports mid → number + length rounds ≡ at → IsReportOf at rows report → AllowedReport bits workers mid report closing → IsInTurn workers at mid rows report closing
+      → Chain number members (rounds ++ rows ∷ []) (reports ++ report ∷ []) closing
+  unfolding Chain
+  chain_more number at members mid closing [] rows [] report chain is of_rows allowed turn =
+      let n : number ≡ at = omega arith in (
+        closing,
+        subst (λ (z : ℕ). IsReportOf z rows report) (sym n) of_rows,
+        subst (λ (z : List ℕ). AllowedReport bits workers z report closing) chain allowed,
+        subst (λ (z : List ℕ). IsInTurn workers number z rows report closing) chain (subst (λ (z : ℕ). IsInTurn workers z mid rows report closing) (sym n) turn),
+        refl,
+      )
+  chain_more number at members mid closing [] rows (r ∷ reports) report chain is of_rows allowed turn = absurd chain
+  chain_more number at members mid closing (r ∷ rounds) rows [] report chain is of_rows allowed turn = absurd chain
+  chain_more number at members mid closing (first ∷ rounds) rows (r ∷ reports) report chain is of_rows allowed turn =
+      (chain.0, chain.1, chain.2, chain.3, chain_more (number + 1) at chain.0 mid closing rounds rows reports report chain.4 (omega arith) of_rows allowed turn)
+
+  chain_allowed : (number : ℕ) (members closing : List ℕ) (rounds : List (List Row)) (reports : List Report) → Chain number members rounds reports closing → AllowedReports bits workers number members rounds reports
+  unfolding Chain AllowedReports
+  chain_allowed number members closing [] [] chain = tt
+  chain_allowed number members closing [] (r ∷ reports) chain = absurd chain
+  chain_allowed number members closing (rows ∷ rounds) [] chain = absurd chain
+  chain_allowed number members closing (rows ∷ rounds) (r ∷ reports) chain = (chain.0, chain.1, chain.2, chain_allowed (number + 1) chain.0 closing rounds reports chain.4)
+
+  chain_in_turn : (number : ℕ) (members closing : List ℕ) (rounds : List (List Row)) (reports : List Report) → Chain number members rounds reports closing → All (OfOneLane workers) rounds → reports ≡ reports_of number members rounds
+  unfolding Chain
+  chain_in_turn number members closing [] [] chain one = refl
+  chain_in_turn number members closing [] (r ∷ reports) chain one = absurd chain
+  chain_in_turn number members closing (rows ∷ rounds) [] chain one = absurd chain
+  chain_in_turn number members closing (rows ∷ rounds) (r ∷ reports) chain one = let lane = All-head (OfOneLane workers) rows rounds one in
+      let is = chain.3 lane.0 lane.1 lane.2 in let rest = chain_in_turn (number + 1) chain.0 closing rounds reports chain.4 (All-tail (OfOneLane workers) rows rounds one) in
+      (λ i. is.0 i ∷ rest i) ∙ ap (λ (z : List ℕ). report_of number members rows ∷ reports_of (number + 1) z rounds) is.1
+
+  chain_long : (number : ℕ) (members closing : List ℕ) (rounds : List (List Row)) (reports : List Report) → Chain number members rounds reports closing → length reports ≡ length rounds
+  unfolding Chain
+  chain_long number members closing [] [] chain = refl
+  chain_long number members closing [] (r ∷ reports) chain = absurd chain
+  chain_long number members closing (rows ∷ rounds) [] chain = absurd chain
+  chain_long number members closing (rows ∷ rounds) (r ∷ reports) chain = ap suc (chain_long (number + 1) chain.0 closing rounds reports chain.4)
+
+may_have : (limits : Bounds) (closing : List ℕ) (rounds : List (List Row)) (reports : List Report) → Chain limits.bits limits.workers 1 [] rounds reports closing → MayHave limits rounds reports
+may_have limits closing rounds reports chain = record {
+  allowed = chain_allowed limits.bits limits.workers 1 [] closing rounds reports chain;
+  in_turn = chain_in_turn limits.bits limits.workers 1 [] closing rounds reports chain;
+}
 
 texts_of-push : (reports : List Report) (report : Report) → texts_of (reports ++ report ∷ []) ≡ texts_of reports ++ report_text report
 texts_of-push reports report =
     ap concat (map-append report_text reports (report ∷ [])) ∙ concat-append (map report_text reports) (report_text report ∷ [])
     ∙ ap (λ (last : List ℕ). texts_of reports ++ last) (append-nil (report_text report))
 
--- one more report was printed
-pub printed_more : (reports rest : List Report) (report : Report) (before between after : Option (List ℕ)) (calls calls' calls'' : ℕ)
-    → PrintsAllBut reports (report ∷ rest) before between calls calls' → Appends between after (report_text report) → calls'' ≡ calls' + 1
-    → PrintsAllBut reports rest before after calls calls''
-printed_more reports rest report before between after calls calls' calls'' done wrote once = record {
-  printed = done.printed ++ report ∷ [];
-  all = done.all ∙ sym (append_assoc done.printed (report ∷ []) rest);
-  wrote = subst (Appends before after) (sym (texts_of-push done.printed report)) (Appends-trans before between after _ _ done.wrote wrote);
-  finished = omega (arith, done.finished, once, length-append done.printed (report ∷ []));
-}
+-- the first rounds were printed, and closed with this set
+pub record Printed (limits : Bounds) (rounds : List (List Row)) (count : ℕ) (closing : List ℕ) (before after : Option (List ℕ)) (calls calls' : ℕ) : Type 0 where
+  pub reports : List Report
+  pub chain : Chain limits.bits limits.workers 1 [] (take count rounds) reports closing
+  pub wrote : Appends before after (texts_of reports)
+  pub finished : calls' ≡ calls + length reports
 
--- there is a report for each round
-reports_of-length : (number : ℕ) (members : List ℕ) (rounds : List (List Row)) → length (reports_of number members rounds) ≡ length rounds
-reports_of-length number members [] = refl
-reports_of-length number members (rows ∷ rest) = ap suc (reports_of-length (number + 1) (sets_of (opening_sets members) rows).live rest)
+module _ (limits : Bounds) (rounds : List (List Row)) where
+  -- no round was printed yet
+  pub printed_none : (known : Option (List ℕ)) (calls : ℕ) → Printed limits rounds 0 [] known known calls calls
+  unfolding Chain
+  printed_none known calls = record { reports = []; chain = refl; wrote = Appends-nil known; finished = omega arith }
 
--- the report of the round at a place is the first of the rest
-pub reports_of-at : (number : ℕ) (members : List ℕ) (rounds : List (List Row)) (i : ℕ) (d : List Row) → i < length rounds
-    → reports_of number members (drop i rounds)
-    ≡ report_of number members (get_or rounds i d) ∷ reports_of (number + 1) (sets_of (opening_sets members) (get_or rounds i d)).live (drop (i + 1) rounds)
-reports_of-at number members rounds i d below =
-    ap (reports_of number members) (drop-cons rounds i d below)
-    ∙ ap (λ (n : ℕ). report_of number members (get_or rounds i d) ∷ reports_of (number + 1) (sets_of (opening_sets members) (get_or rounds i d)).live (drop n rounds)) (sym (add-one i))
+  module _ (count : ℕ) (closing : List ℕ) (before between : Option (List ℕ)) (calls calls' : ℕ) (done : Printed limits rounds count closing before between calls calls') where
+    pub prints_first : Prints limits (take count rounds) before between calls calls'
+    prints_first = let long = chain_long limits.bits limits.workers 1 [] closing (take count rounds) done.reports done.chain in let f = done.finished in
+        record { reports = done.reports; may_have = may_have limits closing (take count rounds) done.reports done.chain; wrote = done.wrote; finished = omega arith }
 
--- all reports were printed
-pub printed_all : (rounds : List (List Row)) (before after : Option (List ℕ)) (calls calls' : ℕ) → PrintsAllBut (reports_of 1 [] rounds) [] before after calls calls'
-    → Appends before after (output_of rounds) × (calls' ≡ calls + length rounds)
-printed_all rounds before after calls calls' done =
-    let all = done.all ∙ append-nil done.printed in
-    (subst (λ (reports : List Report). Appends before after (texts_of reports)) (sym all) done.wrote, omega (arith, done.finished, ap length all, reports_of-length 1 [] rounds))
+    module _ (rows d : List Row) (report : Report) (next : List ℕ) (below : count < length rounds) (rows_are : rows ≡ get_or rounds count d) (of_rows : IsReportOf (count + 1) rows report)
+        (allowed : AllowedReport limits.bits limits.workers closing report next) (turn : IsInTurn limits.workers (count + 1) closing rows report next) where
+      more : Chain limits.bits limits.workers 1 [] (take (count + 1) rounds) (done.reports ++ report ∷ []) next
+      more = let long = length-take-le count rounds (omega arith) in
+          subst (λ (z : List (List Row)). Chain limits.bits limits.workers 1 [] z (done.reports ++ report ∷ []) next)
+          (ap (λ (z : List Row). take count rounds ++ z ∷ []) rows_are ∙ sym (take_more rounds count d below))
+          (chain_more limits.bits limits.workers 1 (count + 1) [] closing next (take count rounds) rows done.reports report done.chain (omega arith) of_rows allowed turn)
+
+      -- one more was printed
+      pub printed_more : (after : Option (List ℕ)) (calls'' : ℕ) → Appends between after (report_text report) → calls'' ≡ calls' + 1 → Printed limits rounds (count + 1) next before after calls calls''
+      printed_more after calls'' wrote once = record {
+        reports = done.reports ++ report ∷ [];
+        chain = more;
+        wrote = subst (Appends before after) (sym (texts_of-push done.reports report)) (Appends-trans before between after _ _ done.wrote wrote);
+        finished = let f = done.finished in let long = length-append done.reports (report ∷ []) in omega arith;
+      }
+
+      -- of one more a beginning was
+      pub prints_in_part : (after : Option (List ℕ)) (calls'' : ℕ) → AppendsBeginning between after (report_text report) → FinishesLast between after calls' calls'' (report_text report) → PrintsInPart limits (take (count + 1) rounds) before after calls calls''
+      prints_in_part after calls'' wrote last = record {
+        reports = done.reports;
+        broken = report;
+        may_have = may_have limits next (take (count + 1) rounds) (done.reports ++ report ∷ []) more;
+        between = between;
+        calls_between = calls';
+        wrote = done.wrote;
+        finished = done.finished;
+        in_part = wrote;
+        last = last;
+      }

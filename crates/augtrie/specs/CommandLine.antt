@@ -1,5 +1,5 @@
 -- The command line, as the crate `clap` reads it.
-use Rattle.std.specs.Prelude.{◌≡◌, ◌≢◌, ℕ, pos, true, List, [], ◌∷◌, ⊤, Option, Some, None, option_map, string_bytes, codes}
+use Rattle.std.specs.Prelude.{◌≡◌, ◌≢◌, ◌^◌, ℕ, pos, true, List, [], ◌∷◌, ⊤, Option, Some, None, option_map, string_bytes, codes}
 use Rattle.std.specs.Str.Parse.{digits_value, without_leading_plus}
 use Rattle.clap.specs.Words.{App, IsAmong, IsSignedIn, Kinds, Row, Rule, Text, fault_of, first_of, matches_of, new_app, new_rule, one_of, one_text, with_rule, without_minus}
 use Rattle.clap.specs.declared.builder.action.ArgAction.TheVariants.{Set}
@@ -7,6 +7,9 @@ use Rattle.clap.specs.declared.builder.value_parser.ValueParser.TheVariants.{Sig
 use Rattle.clap.specs.declared.error.kind.ErrorKind.{ErrorKind}
 use Rattle.clap.specs.declared.error.kind.ErrorKind.TheVariants.{DisplayHelp}
 use Rattle.clap.specs.declared.parser.matches.Found.{Found}
+use Rattle.aug_core.specs.Layout.{IsRefused}
+use Rattle.aug_core.specs.Places.{shape_of}
+use Rattle.aug_core.specs.declared.layout.LayoutError.TheVariants.{TooLarge}
 use Rattle.augtrie.specs.declared.options.Options.{Options}
 use Rattle.augtrie.specs.declared.stop.Stop.{Stop}
 use Rattle.augtrie.specs.declared.stop.Stop.TheVariants as stop
@@ -25,7 +28,7 @@ abbrev pub bits_rule : Rule
 bits_rule = number_rule (codes "bits") 16 (codes "4")
 
 abbrev pub workers_rule : Rule
-workers_rule = number_rule (codes "workers") 1 (codes "1")
+workers_rule = number_rule (codes "workers") 64 (codes "1")
 
 abbrev pub updates_rule : Rule
 updates_rule = number_rule (codes "updates") 65536 (codes "64")
@@ -65,8 +68,18 @@ faults_of words = fault_of program words
 abbrev pub IsStopFor : Kinds → Stop → Type 0
 IsStopFor faults (stop.Help text) = IsAmong DisplayHelp faults
 IsStopFor faults (stop.Usage text) = (fault : ErrorKind) × IsAmong fault faults × (fault ≢ DisplayHelp)
-IsStopFor faults stop.TooLarge = ⊥
+IsStopFor faults stop.TooLarge = faults ≡ []
 IsStopFor faults stop.OutOfMemory = ⊤
+
+-- what was found asks for rounds whose table would have too many words
+pub record AsksTooMuch (rows : List Row) : Type 0 where
+  pub bits : ℕ
+  pub workers : ℕ
+  pub updates : ℕ
+  pub found_bits : number_of (codes "bits") rows ≡ Some bits
+  pub found_workers : number_of (codes "workers") rows ≡ Some workers
+  pub found_updates : number_of (codes "updates") rows ≡ Some updates
+  pub too_large : IsRefused TooLarge (shape_of bits workers updates (2 ^ bits))
 
 -- keys below 2 ^ 4, one lane with 64 updates, and no file
 pub record IsUsual (options : Options) : Type 0 where
@@ -84,5 +97,5 @@ pub record FindsNumber (found : Found) (name : Text) (most : ℕ) : Type 0 where
 -- a number was found for each option that takes one
 pub record FindsNumbers (found : Found) : Type 0 where
   pub bits : FindsNumber found (codes "bits") 16
-  pub workers : FindsNumber found (codes "workers") 1
+  pub workers : FindsNumber found (codes "workers") 64
   pub updates : FindsNumber found (codes "updates") 65536

@@ -1,7 +1,7 @@
 //! The command line, `[--bits H] [--workers W] [--updates U] [FILE]`.
-ghost use Rattle.std.specs.Prelude.{◌≡◌, ◌≢◌, false, IfOk, IfErr, OnErr, OnOk, [], ◌∷◌, codes, map, option_map, string_bytes};
+ghost use Rattle.std.specs.Prelude.{◌≡◌, ◌≢◌, ◌⊎◌, false, IfOk, IfErr, OnErr, OnOk, [], ◌∷◌, codes, map, option_map, string_bytes};
 ghost use Rattle.clap.specs.Words.{FailsBy, app_of, first_of, found_of, kind_of, matches_of, rows_of, rule_of};
-ghost use Rattle.augtrie.specs.CommandLine.{AsksFor, FindsNumbers, IsReadFrom, IsStopFor, IsUsual, bits_rule, faults_of, file_rule, program, updates_rule, workers_rule};
+ghost use Rattle.augtrie.specs.CommandLine.{AsksFor, AsksTooMuch, FindsNumbers, IsReadFrom, IsStopFor, IsUsual, bits_rule, faults_of, file_rule, program, updates_rule, workers_rule};
 
 use crate::options::Options;
 use crate::stop::Stop;
@@ -11,12 +11,13 @@ use clap::{Arg, ArgAction, ArgMatches, Command, Error, value_parser};
 use std::alloc::{AllocError, Global};
 
 /// What the words of the command line ask for, which come without the program's own name. `Help` is the answer
-/// to `--help`, and `Usage` to words that are wrong, each with the parser's text. `TooLarge` does not come while
-/// one worker alone is allowed.
+/// to `--help`, and `Usage` to words that are wrong, each with the parser's text. `TooLarge` is the answer where a
+/// round that opens with every key would have more than 2^26 words.
 pub fn options(alloc: Global, words: &[String]) -> Result<Options, Stop>
     ensures asked { IfOk result (AsksFor (map string_bytes words.now)) }
     ensures right { OnOk result (faults_of (map string_bytes words.now) ≡ []) }
     ensures stopped { IfErr result (IsStopFor (faults_of (map string_bytes words.now))) }
+    ensures too_large { IfErr result (λ stop. stop ≡ Stop.TooLarge → AsksTooMuch (matches_of program (map string_bytes words.now))) }
 
     // With no words.
     ensures usual { words.now ≡ [] → IfOk result IsUsual }
@@ -70,7 +71,7 @@ fn workers<'a>(alloc: Global) -> Arg<'a>
         .long("workers")
         .action(ArgAction::Set)
         .value_name("W")
-        .value_parser(value_parser!(u32).range(1..=1))
+        .value_parser(value_parser!(u32).range(1..=64))
         .default_value("1")
         .help("Lanes are below W")
 }
@@ -99,7 +100,8 @@ fn file<'a>(alloc: Global) -> Arg<'a>
 fn options_of(alloc: Global, matches: &ArgMatches<'_>) -> Result<Options, Stop>
     requires { FindsNumbers (found_of matches.now) }
     ensures ok { IfOk result (IsReadFrom (rows_of (found_of matches.now))) }
-    ensures err { IfErr result (λ stop. stop ≡ Stop.OutOfMemory) }
+    ensures err { IfErr result (λ stop. (stop ≡ Stop.OutOfMemory) ⊎ (stop ≡ Stop.TooLarge)) }
+    ensures too_large { IfErr result (λ stop. stop ≡ Stop.TooLarge → AsksTooMuch (rows_of (found_of matches.now))) }
 {
     let bits = matches.get_one("bits").unwrap();
     let workers = matches.get_one("workers").unwrap();
@@ -197,7 +199,7 @@ mod tests {
     }
 
     #[test]
-    fn refuses_wrong_words_with_the_parser_s_text(rt: HostRuntime) -> Result<(), Fail> {
+    fn refuses_wrong_words(rt: HostRuntime) -> Result<(), Fail> {
         for (line, text) in [
             (
                 "--bits 0",
@@ -213,11 +215,11 @@ mod tests {
             ),
             (
                 "--workers 0",
-                "error: invalid value '0' for '--workers <W>': 0 is not in 1..=1\n",
+                "error: invalid value '0' for '--workers <W>': 0 is not in 1..=64\n",
             ),
             (
-                "--workers 2",
-                "error: invalid value '2' for '--workers <W>': 2 is not in 1..=1\n",
+                "--workers 65",
+                "error: invalid value '65' for '--workers <W>': 65 is not in 1..=64\n",
             ),
             (
                 "--updates 0",
@@ -244,6 +246,18 @@ mod tests {
                 said.as_bytes().starts_with(text.as_bytes()),
                 "{said} in {line}"
             );
+        }
+        Ok(())
+    }
+
+    #[test]
+    fn refuses_a_table_of_too_many_words(rt: HostRuntime) -> Result<(), Fail> {
+        for (line, stop) in [
+            ("--bits 16 --workers 64 --updates 13017", None),
+            ("--bits 16 --workers 64 --updates 13108 a.csv", Some(2)),
+        ] {
+            let found = asked(rt.alloc(), line)?.err();
+            assert_eq!(rt; found.map(|stop| stop.status()), stop, "in {line}");
         }
         Ok(())
     }

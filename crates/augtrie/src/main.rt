@@ -1,20 +1,30 @@
 //! `augtrie` runs a script of CSV rows over a set of keys and prints a reply for each row and a total.
 #![tactic(auto)]
 
+mod answer;
 mod command_line;
-mod engine;
 mod fault_line;
+mod gate;
 mod input;
+mod jobs;
 mod options;
 mod program;
 mod read_all;
+mod returning;
+mod round;
+#[cfg(test)]
+mod round_tests;
 mod run;
 mod run_error;
+mod start;
 mod stop;
 #[cfg(test)]
 mod test_input;
 #[cfg(test)]
 mod tests;
+mod threads;
+mod trie;
+mod work;
 
 use aug_script::ToWrite;
 use input::HostInput;
@@ -32,7 +42,7 @@ fn main(rt: HostRuntime) -> ExitCode {
     let mut input = HostInput::new(rt);
     let mut output = ToWrite::new(rt.stdout());
     let mut errors = ToWrite::new(rt.stderr());
-    let status = carry_out(rt.alloc(), asked, &mut input, &mut output, &mut errors);
+    let status = carry_out(&rt, rt.alloc(), asked, &mut input, &mut output, &mut errors);
     ExitCode::from(status)
 }
 

@@ -12,11 +12,14 @@ use crate::run_error::RunError;
 use crate::stop::Stop;
 use aug_script::Sink;
 use std::alloc::Global;
+use std::sync::Wait;
+use std::thread::Threads;
 
 /// Does what the command line asks for, and answers the status that the program ends with. What the command line
 /// stops at is shown before the input is touched. Reports and the text of help go to `output`, the line of a fault
 /// to `errors`; a failure to write such a line, or the text of help, changes no status.
-pub(crate) fn carry_out<I: Input, O: Sink, E: Sink>(
+pub(crate) fn carry_out<R: Threads + Wait, I: Input, O: Sink, E: Sink>(
+    rt: &R,
     alloc: Global,
     asked: Result<Options, Stop>,
     input: &mut I,
@@ -48,7 +51,7 @@ pub(crate) fn carry_out<I: Input, O: Sink, E: Sink>(
         × (error ≡ RunError.Output ↔ (O.fault_count output.old < O.fault_count output.new))) }
 {
     match asked {
-        Ok(options) => match run_script(alloc, &options, input, output) {
+        Ok(options) => match run_script(rt, alloc, &options, input, output) {
             Ok(()) => 0,
             Err(error) => show_error(&error, errors),
         },
@@ -57,7 +60,8 @@ pub(crate) fn carry_out<I: Input, O: Sink, E: Sink>(
 }
 
 // Runs the script of the file, or without one that of standard input.
-fn run_script<I: Input, O: Sink>(
+fn run_script<R: Threads + Wait, I: Input, O: Sink>(
+    rt: &R,
     alloc: Global,
     options: &Options,
     input: &mut I,
@@ -77,7 +81,7 @@ fn run_script<I: Input, O: Sink>(
             return Err(RunError::Input);
         }
     }
-    run(alloc, input, output, &options.limits)
+    run(rt, alloc, input, output, &options.limits)
 }
 
 // Shows why the command line ends the program: help goes to the output, all else to the errors.
@@ -117,7 +121,9 @@ mod tests {
     use crate::test_input::TestInput;
     use aug_script::MemorySink;
     use std::alloc::{AllocError, Global};
+    use std::sync::Wait;
     use std::test::Fail;
+    use std::thread::Threads;
 
     // What the program left: its status, its output and its errors, and how often a file was asked for.
     #[derive(Drop)]
@@ -129,7 +135,8 @@ mod tests {
     }
 
     // Standard input looks, and the file `a.csv` asks for the size. Each sink fails at the call with its number.
-    fn run_line(
+    fn run_line<R: Threads + Wait>(
+        rt: &R,
         alloc: Global,
         line: &str,
         output_fault: Option<u64>,
@@ -143,7 +150,7 @@ mod tests {
         let mut input = TestInput::new(b"0,look\n", "a.csv", b"0,size\n");
         let mut output = MemorySink::new(alloc, 7, output_fault);
         let mut errors = MemorySink::new(alloc, 7, errors_fault);
-        let status = carry_out(alloc, asked, &mut input, &mut output, &mut errors);
+        let status = carry_out(rt, alloc, asked, &mut input, &mut output, &mut errors);
         let opened = input.opened;
         Ok(Left {
             status,
@@ -155,7 +162,7 @@ mod tests {
 
     #[test]
     fn help_goes_to_the_output(rt: HostRuntime) -> Result<(), Fail> {
-        let left = run_line(rt.alloc(), "--help a.csv", None, None)?;
+        let left = run_line(&rt, rt.alloc(), "--help a.csv", None, None)?;
         assert_eq!(rt; left.status, 0);
         assert!(rt; left.output.out.starts_with(b"Runs a script"));
         assert_eq!(rt; (left.output.finished, left.errors.calls), (1, 0));
@@ -165,7 +172,7 @@ mod tests {
 
     #[test]
     fn wrong_words_are_told_before_the_file_is_opened(rt: HostRuntime) -> Result<(), Fail> {
-        let left = run_line(rt.alloc(), "--bits 17 a.csv", None, None)?;
+        let left = run_line(&rt, rt.alloc(), "--bits 17 a.csv", None, None)?;
         assert_eq!(rt; left.status, 2);
         assert!(rt; left.errors.out.starts_with(b"error: invalid value '17'"));
         assert_eq!(rt; (left.output.calls, left.errors.finished), (0, 1));
@@ -179,7 +186,7 @@ mod tests {
             ("", "1 0 look = ok\n1 end size=0 in=0 out=0\n", 0),
             ("a.csv", "1 0 size = 0\n1 end size=0 in=0 out=0\n", 1),
         ] {
-            let left = run_line(rt.alloc(), line, None, None)?;
+            let left = run_line(&rt, rt.alloc(), line, None, None)?;
             assert_eq!(rt; left.status, 0);
             assert_eq!(rt; left.output.out.as_slice(), text.as_bytes());
             assert_eq!(rt; (left.output.finished, left.errors.calls), (1, 0));
@@ -190,7 +197,7 @@ mod tests {
 
     #[test]
     fn a_file_that_is_not_there_is_a_fault_of_the_input(rt: HostRuntime) -> Result<(), Fail> {
-        let left = run_line(rt.alloc(), "b.csv", None, None)?;
+        let left = run_line(&rt, rt.alloc(), "b.csv", None, None)?;
         assert_eq!(rt; left.status, 3);
         assert_eq!(rt; left.errors.out.as_slice(), b"augtrie: input\n".as_slice());
         assert_eq!(rt; left.output.calls, 0);
@@ -199,7 +206,7 @@ mod tests {
 
     #[test]
     fn a_report_that_cannot_be_written_is_told(rt: HostRuntime) -> Result<(), Fail> {
-        let left = run_line(rt.alloc(), "", Some(1), None)?;
+        let left = run_line(&rt, rt.alloc(), "", Some(1), None)?;
         assert_eq!(rt; left.status, 3);
         assert_eq!(rt; left.output.out.as_slice(), b"1 0 loo".as_slice());
         assert_eq!(rt; left.errors.out.as_slice(), b"augtrie: output\n".as_slice());
@@ -209,7 +216,7 @@ mod tests {
     #[test]
     fn a_text_that_cannot_be_written_changes_no_status(rt: HostRuntime) -> Result<(), Fail> {
         for (line, status) in [("--help", 0), ("--bits 17", 2), ("b.csv", 3)] {
-            let left = run_line(rt.alloc(), line, Some(0), Some(0))?;
+            let left = run_line(&rt, rt.alloc(), line, Some(0), Some(0))?;
             assert_eq!(rt; left.status, status);
             assert!(rt; left.output.out.is_empty() && left.errors.out.is_empty());
         }
@@ -225,7 +232,14 @@ mod tests {
             let mut input = TestInput::new(b"0,look", "a.csv", b"");
             let mut output = MemorySink::new(rt.alloc(), 7, None);
             let mut errors = MemorySink::new(rt.alloc(), 7, None);
-            let found = carry_out(rt.alloc(), Err(stop), &mut input, &mut output, &mut errors);
+            let found = carry_out(
+                &rt,
+                rt.alloc(),
+                Err(stop),
+                &mut input,
+                &mut output,
+                &mut errors,
+            );
             assert_eq!(rt; found, status);
             assert_eq!(rt; errors.out.as_slice(), line.as_bytes());
             assert_eq!(rt; output.calls, 0);

@@ -1,21 +1,25 @@
 //! A whole script, from its bytes to its printed reports.
-ghost use Rattle.std.specs.Prelude.{◌≡◌, ◌≢◌, ◌-◌, ◌^◌, ◌<◌, ◌≤◌, ◌↔◌, ◌⊎◌, All, Err, IfErr, IfSome, List, OnErr, OnOk, Some, [], length};
+ghost use Rattle.std.specs.Prelude.{◌≡◌, ◌≢◌, ℕ, ◌-◌, ◌^◌, ◌<◌, ◌≤◌, ◌↔◌, ◌⊎◌, All, Err, IfErr, IfOk, IfSome, OnErr, OnOk, Some, [], length, take};
 ghost use Rattle.aug_script.specs.Script.{KeepsLimits};
-ghost use Rattle.augtrie.specs.Runs.{HasFault, PrintsAllBut, PrintsInPart, RunsInPart, RunsOutOfMemory, RunsWhole, reports_of, script_limit};
-ghost use Rattle.aug_script.specs.declared.report.Report.{Report};
+ghost use Rattle.augtrie.specs.Runs.{HasFault, Prints, PrintsInPart, RunsInPart, RunsOutOfMemory, RunsWhole, script_limit};
 ghost use Rattle.aug_script.specs.declared.script_error.ScriptError.{ScriptError};
 
-use crate::engine::Engine;
+use crate::gate::Open;
 use crate::read_all::{ReadError, read_all};
+use crate::round::run_round;
 use crate::run_error::RunError;
+use crate::trie::Trie;
 use aug_script::{Limits, Listed, PrintError, Row, Script, ScriptError, Sink, Source, print};
-use std::alloc::Global;
+use aug_trie::{BeginError, Ended};
+use std::alloc::{AllocError, Global};
+use std::sync::Wait;
+use std::thread::Threads;
 
-/// Reads the whole script, judges every row, and then runs round after round, whose report is written before the next
-/// round begins. Nothing is written unless the whole script was read and has no fault. Rows run one after the other over
-/// one set and one snapshot, whatever lane they name, so the limits should have one worker. What the bytes come to is told
-/// of a source and a sink that tell theirs.
-pub fn run<S: Source, W: Sink>(
+/// Reads the whole script, judges every row, and then runs round after round, each with a worker thread for every lane;
+/// its report is written before the next round begins. Nothing is written unless the whole script was read and has no
+/// fault. What the bytes come to is told of a source and a sink that tell theirs.
+pub fn run<R: Threads + Wait, S: Source, W: Sink>(
+    rt: &R,
     alloc: Global,
     source: &mut S,
     sink: &mut W,
@@ -39,11 +43,12 @@ pub fn run<S: Source, W: Sink>(
         Err(ReadError::OutOfMemory) => return Err(RunError::OutOfMemory),
         Err(ReadError::TooLong) => return Err(RunError::TooLong),
     };
-    run_bytes(alloc, bytes.as_slice(), sink, limits)
+    run_bytes(rt, alloc, bytes.as_slice(), sink, limits)
 }
 
 /// The same for the bytes of a script.
-fn run_bytes<W: Sink>(
+fn run_bytes<R: Threads + Wait, W: Sink>(
+    rt: &R,
     alloc: Global,
     bytes: &[u8],
     sink: &mut W,
@@ -65,33 +70,36 @@ fn run_bytes<W: Sink>(
         Err(ScriptError::OutOfMemory) => return Err(RunError::OutOfMemory),
         Err(fault) => return Err(RunError::Script(fault)),
     };
-    run_rounds(alloc, script.rounds(), sink, limits)
+    run_rounds(rt, alloc, script.rounds(), sink, limits)
 }
 
 /// Runs rounds one after the other, over a set that is empty at first, and writes each report before the next round.
-fn run_rounds<W: Sink>(
+fn run_rounds<R: Threads + Wait, W: Sink>(
+    rt: &R,
     alloc: Global,
     rounds: &[Listed<Row>],
     sink: &mut W,
     limits: &Limits,
 ) -> Result<(), RunError>
     requires kept { All (KeepsLimits limits.now) rounds.now }
-    requires few { All (λ rows. length rows < 2 ^ 32) rounds.now }
     requires sink { W.fault_count sink.old < 2 ^ 64 - 1 }
-    ensures ok { OnOk result (PrintsAllBut (reports_of 1 [] rounds.now) [] (W.contents sink.old) (W.contents sink.new) (W.finish_count sink.old) (W.finish_count sink.new)) }
+    ensures ok { OnOk result (Prints limits.now rounds.now (W.contents sink.old) (W.contents sink.new) (W.finish_count sink.old) (W.finish_count sink.new)) }
     ensures named { OnErr result ((result ≡ Err RunError.Output) ⊎ (result ≡ Err RunError.OutOfMemory)) }
-    ensures memory { result ≡ Err RunError.OutOfMemory → (rest : List Report) × PrintsAllBut (reports_of 1 [] rounds.now) rest (W.contents sink.old) (W.contents sink.new) (W.finish_count sink.old) (W.finish_count sink.new) }
+    ensures memory { result ≡ Err RunError.OutOfMemory → (count : ℕ) × Prints limits.now (take count rounds.now) (W.contents sink.old) (W.contents sink.new) (W.finish_count sink.old) (W.finish_count sink.new) }
     ensures output { result ≡ Err RunError.Output ↔ (W.fault_count sink.old < W.fault_count sink.new) }
-    ensures part { result ≡ Err RunError.Output → PrintsInPart (reports_of 1 [] rounds.now) (W.contents sink.old) (W.contents sink.new) (W.finish_count sink.old) (W.finish_count sink.new) }
+    ensures part { result ≡ Err RunError.Output → (count : ℕ) × PrintsInPart limits.now (take count rounds.now) (W.contents sink.old) (W.contents sink.new) (W.finish_count sink.old) (W.finish_count sink.new) }
 {
-    let Ok(mut engine) = Engine::new(alloc, limits.bits()) else {
+    let Ok(empty) = empty_trie(alloc, limits) else {
         return Err(RunError::OutOfMemory);
     };
+    let mut ended = empty;
     let mut number = 1;
     for rows in rounds {
-        let Ok(report) = engine.run_round(alloc, number, rows.as_slice()) else {
+        let Ok((next, report)) = run_round(rt, alloc, ended, limits, number, rows.as_slice(), &Open)
+        else {
             return Err(RunError::OutOfMemory);
         };
+        ended = next;
         match print(alloc, &report, sink) {
             Ok(()) => number += 1,
             Err(PrintError::Output) => return Err(RunError::Output),
@@ -99,4 +107,16 @@ fn run_rounds<W: Sink>(
         }
     }
     Ok(())
+}
+
+// The trie that the first round begins with. It is refused for want of memory alone.
+fn empty_trie(alloc: Global, limits: &Limits) -> Result<Trie, AllocError>
+    ensures bits { IfOk result (λ t. t.bits ≡ limits.now.bits) }
+    ensures empty { IfOk result (λ t. t.members ≡ []) }
+{
+    match Ended::empty(alloc, limits.bits()) {
+        Ok(ended) => Ok(ended),
+        Err(BeginError::OutOfMemory) => Err(AllocError),
+        Err(_) => unreachable!(),
+    }
 }

@@ -4,7 +4,9 @@ use crate::run_error::RunError;
 use aug_script::{Limits, MemorySink, MemorySource, ScriptError};
 use std::alloc::{AllocError, Global};
 use std::process::Abort;
+use std::sync::Wait;
 use std::test::Fail;
+use std::thread::Threads;
 
 const FIRST_REPORT: &str = "\
 1 0 insert 5 = new
@@ -20,7 +22,7 @@ const FIRST_REPORT: &str = "\
 
 // Runs a script of 4 bits from one device of small pieces to another.
 fn outcome(
-    rt: &impl Abort,
+    rt: &(impl Abort + Threads + Wait),
     alloc: Global,
     script: &[u8],
     updates: u32,
@@ -28,18 +30,24 @@ fn outcome(
     let limits = Limits::try_new(4, 1, updates).expect(rt, "limits");
     let mut source = MemorySource::new(script, 5, None);
     let mut sink = MemorySink::new(alloc, 7, None);
-    let result = run(alloc, &mut source, &mut sink, &limits);
+    let result = run(rt, alloc, &mut source, &mut sink, &limits);
     (result, sink)
 }
 
-fn assert_prints(rt: &impl Abort, alloc: Global, script: &str, text: &str) {
+fn assert_prints(rt: &(impl Abort + Threads + Wait), alloc: Global, script: &str, text: &str) {
     let (result, sink) = outcome(rt, alloc, script.as_bytes(), 64);
     assert_eq!(rt; result, Ok(()), "{script}");
     assert_eq!(rt; sink.out.as_slice(), text.as_bytes(), "{script}");
     assert_eq!(rt; sink.finished, 1);
 }
 
-fn assert_refused(rt: &impl Abort, alloc: Global, script: &[u8], fault: ScriptError, line: &str) {
+fn assert_refused(
+    rt: &(impl Abort + Threads + Wait),
+    alloc: Global,
+    script: &[u8],
+    fault: ScriptError,
+    line: &str,
+) {
     let (result, sink) = outcome(rt, alloc, script, 2);
     assert_eq!(rt; result, Err(RunError::Script(fault)), "{line}");
     assert_eq!(rt; sink.calls, 0, "{line}");
@@ -255,11 +263,15 @@ fn quotes_blank_lines_line_ends_and_leading_zeros(rt: HostRuntime) {
 }
 
 // How a run over these bytes ended, and how often its sink was called.
-fn run_over(alloc: Global, bytes: &[u8]) -> Result<(Result<(), RunError>, u64), Fail> {
+fn run_over<R: Threads + Wait>(
+    rt: &R,
+    alloc: Global,
+    bytes: &[u8],
+) -> Result<(Result<(), RunError>, u64), Fail> {
     let limits = Limits::try_new(4, 1, 64).ok().ok_or("limits")?;
     let mut source = MemorySource::new(bytes, usize::MAX, None);
     let mut sink = MemorySink::new(alloc, 7, None);
-    let result = run(alloc, &mut source, &mut sink, &limits);
+    let result = run(rt, alloc, &mut source, &mut sink, &limits);
     Ok((result, sink.calls))
 }
 
@@ -267,10 +279,10 @@ fn run_over(alloc: Global, bytes: &[u8]) -> Result<(Result<(), RunError>, u64), 
 fn script_past_its_limit_is_too_long(rt: HostRuntime) -> Result<(), Fail> {
     let alloc = rt.alloc();
     let mut bytes = vec![in alloc; b'\n'; 16_777_216]?;
-    let (result, _calls) = run_over(alloc, bytes.as_slice())?;
+    let (result, _calls) = run_over(&rt, alloc, bytes.as_slice())?;
     assert_eq!(rt; result, Ok(()));
     bytes.push(b'\n')?;
-    let (result, calls) = run_over(alloc, bytes.as_slice())?;
+    let (result, calls) = run_over(&rt, alloc, bytes.as_slice())?;
     assert_eq!(rt; result, Err(RunError::TooLong));
     assert_eq!(rt; calls, 0);
     Ok(())
@@ -284,7 +296,7 @@ fn a_source_that_fails_prints_nothing(rt: HostRuntime) -> Result<(), Fail> {
     for fault_at in 0..15 {
         let mut source = MemorySource::new(script, 1, Some(fault_at));
         let mut sink = MemorySink::new(alloc, 7, None);
-        let result = run(alloc, &mut source, &mut sink, &limits);
+        let result = run(&rt, alloc, &mut source, &mut sink, &limits);
         assert_eq!(rt; result, Err(RunError::Input), "at {fault_at}");
         assert_eq!(rt; sink.calls, 0, "at {fault_at}");
     }
@@ -299,7 +311,7 @@ fn a_sink_that_fails_has_a_beginning(rt: HostRuntime) -> Result<(), Fail> {
     for fault_at in 0..39u64 {
         let mut source = MemorySource::new(b"0,look", 1, None);
         let mut sink = MemorySink::new(alloc, 1, Some(fault_at));
-        let result = run(alloc, &mut source, &mut sink, &limits);
+        let result = run(&rt, alloc, &mut source, &mut sink, &limits);
         assert_eq!(rt; result, Err(RunError::Output), "at {fault_at}");
         assert_eq!(rt; sink.out.len() as u64, fault_at);
         assert!(rt; text.as_bytes().starts_with(sink.out.as_slice()));
@@ -349,13 +361,13 @@ fn a_script_may_use_every_update_and_no_more(rt: HostRuntime) -> Result<(), Fail
     text.push_str("1 end size=65536 in=65536 out=0\n")?;
     let mut source = MemorySource::new(script.as_bytes(), usize::MAX, None);
     let mut sink = MemorySink::new(alloc, usize::MAX, None);
-    assert_eq!(rt; run(alloc, &mut source, &mut sink, &limits), Ok(()));
+    assert_eq!(rt; run(&rt, alloc, &mut source, &mut sink, &limits), Ok(()));
     assert_eq!(rt; sink.out.as_slice(), text.as_bytes());
     script.push_str("0,remove,0\n")?;
     let mut source = MemorySource::new(script.as_bytes(), usize::MAX, None);
     let mut sink = MemorySink::new(alloc, 7, None);
     assert_eq!(rt;
-        run(alloc, &mut source, &mut sink, &limits),
+        run(&rt, alloc, &mut source, &mut sink, &limits),
         Err(RunError::Script(ScriptError::TooManyUpdates(65_540)))
     );
     assert_eq!(rt; sink.calls, 0);

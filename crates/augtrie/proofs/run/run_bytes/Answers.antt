@@ -1,10 +1,7 @@
 use Rattle.std.proofs.lemmas.Result.{on_ok_weaker}
-use Rattle.augtrie.proofs.Printing.{printed_all}
 use Rattle.augtrie.proofs.run.run_bytes.Goals as goal
 
 pub returns-clause-ok : goal.returns-clause-ok
 returns-clause-ok g c =
     let read = rw c.rounds.ensures at c.run_rounds.ensures.ok in
-    on_ok_weaker c.run_rounds.result (λ done.
-    let all = printed_all c.in-Ok.script _ _ _ _ done in
-    record { fits = c.requires.fits; rounds = c.in-Ok.script; read = c.in-Ok.ensures.ok; wrote = all.0; finished = all.1 }) read
+    on_ok_weaker c.run_rounds.result (λ done. record { fits = c.requires.fits; rounds = c.in-Ok.script; read = c.in-Ok.ensures.ok; prints = done }) read

@@ -1,0 +1,50 @@
+-- A round that ran and ended has an allowed report.
+use Rattle.std.proofs.Common.{◌≡◌, ℕ, ◌+◌, ◌<◌, List, [], ◌∷◌, length, map, sym, ap, ◌∙◌, subst, arith, All}
+use Rattle.std.proofs.lemmas.List.Elements.{All-nil, All-cons, All-head, All-tail}
+use Rattle.aug_model.specs.Keys.{IsKeySet}
+use Rattle.aug_trie.specs.Crews.{CrewFacts, EndedFacts, Ends}
+use Rattle.aug_trie.specs.Facts.{RoundFacts}
+use Rattle.augtrie.specs.AllowedReport.{AllowedReport}
+use Rattle.augtrie.specs.InTurn.{IsInTurn}
+use Rattle.augtrie.specs.Returns.{RanLanes}
+use Rattle.aug_script.specs.declared.reply.Reply.{Reply}
+use Rattle.aug_script.specs.declared.report.Report.{Report}
+use Rattle.aug_script.specs.declared.row.Row.{Row}
+use Rattle.augtrie.proofs.OneLane.{one_report}
+use Rattle.augtrie.proofs.ReportSizes.{report_sizes}
+use Rattle.augtrie.proofs.Rounds.{round_allowed}
+
+-- what holds of each row holds of each line's
+of_lines : (P : Row → Type 0) (lines : List (Row × Reply)) → All P (map (λ line. line.0) lines) → All (λ line. P line.0) lines
+of_lines P [] all = All-nil (λ (line : Row × Reply). P line.0)
+of_lines P (line ∷ lines) all = All-cons (λ (l : Row × Reply). P l.0) line lines (All-head P line.0 (map (λ (l : Row × Reply). l.0) lines) all) (of_lines P lines (All-tail P line.0 (map (λ (l : Row × Reply). l.0) lines) all))
+
+module _ (bits workers : ℕ) (members : List ℕ) (round : RoundFacts) (crew : CrewFacts) (closed : EndedFacts) (rows : List Row) (report : Report)
+    (bits_are : round.bits ≡ bits) (members_are : round.members ≡ members) (workers_are : round.workers ≡ workers)
+    (ran : RanLanes round rows report.rows crew) (ends : Ends crew closed) (lanes : All (λ row. row.lane < workers) rows)
+    (size : report.size ≡ length closed.members) (inserts : report.inserts ≡ closed.inserts) (removals : report.removals ≡ closed.removals) where
+  pub none_missing : closed.missing ≡ 0
+  none_missing = omega (arith, ends.missing, ran.all_back)
+
+  pub bits_stay : closed.bits ≡ bits
+  bits_stay = ends.bits ∙ ap (λ (r : RoundFacts). r.bits) ran.together ∙ bits_are
+
+  pub allowed : AllowedReport bits workers members report closed.members
+  allowed =
+      let bits_known : crew.round.bits ≡ bits = ap (λ (r : RoundFacts). r.bits) ran.together ∙ bits_are in
+      let members_known : crew.round.members ≡ members = ap (λ (r : RoundFacts). r.members) ran.together ∙ members_are in
+      let history = rw (bits_known, members_known) at ends.is_history in
+      let tallies = rw (bits_known, members_known, none_missing) at ends.tallies in
+      let runs = rw (bits_are, members_are, workers_are) at ran.runs in
+      subst (λ (c : List ℕ). AllowedReport bits workers members report c) (sym ends.members)
+      (round_allowed bits workers crew.round.updates members report ran.before crew.knows ran.ends (ran.one_each ∙ workers_are)
+      (of_lines (λ row. row.lane < workers) report.rows (rw ran.rows_are lanes)) runs ran.no_change ran.backs history tallies
+      (size ∙ ap (λ (l : List ℕ). length l) ends.members) (inserts ∙ ends.inserts) (removals ∙ ends.removals))
+
+  pub adds_up : IsKeySet bits members → report.size + report.removals ≡ length members + report.inserts
+  adds_up keys = report_sizes bits workers members report closed.members keys allowed
+
+  pub in_turn : IsKeySet bits members → IsInTurn workers report.number members rows report closed.members
+  in_turn keys lane exists all =
+      let one = one_report bits workers members report closed.members keys allowed lane exists (of_lines (λ row. row.lane ≡ lane) report.rows (rw ran.rows_are all)) in
+      rw ran.rows_are at one

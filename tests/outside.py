@@ -349,7 +349,7 @@ class Shown(unittest.TestCase):
         self.readme = read(os.path.join(TOP, "README.md"))
 
     def test_program_in_the_readme(self):
-        crate = os.path.join(TOP, "crates", "timers_example")
+        crate = os.path.join(TOP, "crates", "index_example")
         self.assertIn(b"```rust\n" + read(os.path.join(crate, "src", "main.rt")) + b"```\n", self.readme)
         self.assertIn(b"```text\n" + read(os.path.join(crate, "stdout")) + b"```\n", self.readme)
 

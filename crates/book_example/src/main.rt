@@ -1,0 +1,126 @@
+//! An order book by price: one thread bids, one offers, and a third reads best prices and totals meanwhile.
+#![tactic(auto)]
+
+ghost use Rattle.std.specs.Prelude.{◌≡◌, ◌+◌, ◌≤◌};
+
+use aug_monoid::{Extent, Sum};
+use aug_query::{after, before, range};
+use aug_trie::{Ended, Pass, PassHalf, Round};
+use std::alloc::Global;
+use std::thread;
+use std::thread::Threads;
+
+// An order is a key, its price. The book keeps the sum of the prices, and the least and the greatest of them.
+type Book = Round<Sum, Extent>;
+
+// A pass borrows its round, so what goes into a thread and comes out of it is its half.
+type Half = PassHalf<Sum, Extent>;
+
+// Bids lie below this price, and offers above it.
+const MIDDLE: u32 = 2_000;
+
+// Puts an order in at each of 100 prices from the lowest on, and takes every fifth of them out again.
+fn trade(book: &Book, half: Half, lowest: u32) -> Half
+    requires book { half.round ≡ book.now }
+    requires bits { half.round.bits ≡ 12 }
+    requires budget { half.spent + 200 ≤ half.round.updates }
+    requires prices { lowest + 100 ≤ 4096 }
+    ensures { result.round ≡ half.round }
+{
+    let mut pass = book.pass(half);
+    for i in 0..100 {
+        pass.insert(lowest + i);
+        if i % 5 == 0 {
+            pass.remove(lowest + i);
+        }
+    }
+    pass.into_half()
+}
+
+// Whether a snapshot agrees with itself: the best bid is the greatest of the bids, and all of them add up to no more than
+// so many times the best. A snapshot stays what it is, so this holds whatever the other threads do meanwhile.
+fn agrees(pass: &mut Pass<Sum, Extent>) -> bool
+    ensures { pass.new.round ≡ pass.old.round }
+{
+    let now = pass.snapshot();
+    let bids = pass.range(now, 0, MIDDLE);
+    match (pass.before(now, MIDDLE), bids.b.bounds()) {
+        (Some(best), Some((_, greatest))) => {
+            best == greatest && bids.a.value() <= u64::from(bids.count) * u64::from(best)
+        }
+        (None, None) => bids.count == 0,
+        _ => false,
+    }
+}
+
+// Reads the book 500 times, each time from a new snapshot: whether each of them agreed with itself.
+fn watch(book: &Book, half: Half) -> (Half, bool)
+    requires { half.round ≡ book.now }
+    ensures { result.0.round ≡ half.round }
+{
+    let mut pass = book.pass(half);
+    let mut all = true;
+    for _ in 0..500 {
+        all &= agrees(&mut pass);
+    }
+    (pass.into_half(), all)
+}
+
+// Two threads trade, and a third watches. A closure that joins two of them has to say itself what it asks and gives.
+fn at_work<R: Threads + Sync>(
+    rt: &R,
+    book: &Book,
+    halves: (Half, Half, Half),
+) -> (Half, (Half, (Half, bool)))
+    requires book { (halves.0.round ≡ book.now) × (halves.1.round ≡ book.now) × (halves.2.round ≡ book.now) }
+    requires bits { book.now.bits ≡ 12 }
+    requires budget { (halves.0.spent + 200 ≤ book.now.updates) × (halves.1.spent + 200 ≤ book.now.updates) }
+    ensures one { result.0.round ≡ book.now }
+    ensures two { result.1.0.round ≡ book.now }
+    ensures three { result.1.1.0.round ≡ book.now }
+{
+    let (one, two, three) = halves;
+    thread::join(
+        rt,
+        || trade(book, one, 1_900),
+        move ||
+            requires { (two.round ≡ book.now) × (three.round ≡ book.now) × (book.now.bits ≡ 12)
+                × (two.spent + 200 ≤ book.now.updates) }
+            ensures { (result.0.round ≡ two.round) × (result.1.0.round ≡ three.round) }
+        { thread::join(rt, || trade(book, two, MIDDLE + 1), || watch(book, three)) },
+    )
+}
+
+// A round over an empty book: what it ends with, and whether each snapshot agreed with itself.
+fn day<R: Threads + Sync>(rt: &R, alloc: Global) -> anyhow::Result<(Ended<Sum, Extent>, bool)> {
+    let empty = Ended::empty(alloc, 12)?;
+    // For three passes with 200 updates each. All memory is taken here, and where it is refused the book comes back.
+    let (book, mut crew) = match Round::begin(alloc, empty, 3, 200) {
+        Ok(begun) => begun,
+        Err((_, cause)) => return Err(cause.into()),
+    };
+    let one = crew.pass(&book)?.into_half();
+    let two = crew.pass(&book)?.into_half();
+    let three = crew.pass(&book)?.into_half();
+    let (one, (two, (three, agreed))) = at_work(rt, &book, (one, two, three));
+    // Once a pass is back the crew knows what it did, and the round ends with all of that.
+    crew.back(book.pass(one));
+    crew.back(book.pass(two));
+    crew.back(book.pass(three));
+    Ok((book.end(crew), agreed))
+}
+
+fn main(rt: HostRuntime) -> anyhow::Result<()> {
+    let (mut ended, agreed) = day(&rt, rt.alloc())?;
+    let (came, went, left) = (ended.inserts(), ended.removals(), ended.size());
+    println!(rt; "{came} orders came, {went} went, {left} are left")?;
+    let answer = if agreed { "yes" } else { "no" };
+    println!(rt; "each snapshot agreed with itself: {answer}")?;
+    let near = range(&mut ended, 1_950, 2_050);
+    let (count, sum) = (near.count, near.a.value());
+    println!(rt; "{count} from 1950 to 2049, which add up to {sum}")?;
+    if let (Some(bid), Some(offer)) = (before(&mut ended, MIDDLE), after(&mut ended, MIDDLE)) {
+        println!(rt; "best bid {bid}, best offer {offer}")?;
+    }
+    Ok(())
+}

@@ -6,7 +6,6 @@ pub mod Advances
 pub mod SetChanges
 pub mod Lanes
 pub mod OneLane
-pub mod ReportSizes
 pub mod Rounds
 pub mod Answering
 pub mod Taking

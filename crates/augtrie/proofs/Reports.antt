@@ -11,7 +11,6 @@ use Rattle.aug_script.specs.declared.reply.Reply.{Reply}
 use Rattle.aug_script.specs.declared.report.Report.{Report}
 use Rattle.aug_script.specs.declared.row.Row.{Row}
 use Rattle.augtrie.proofs.OneLane.{one_report}
-use Rattle.augtrie.proofs.ReportSizes.{report_sizes}
 use Rattle.augtrie.proofs.Rounds.{round_allowed}
 
 -- what holds of each row holds of each line's
@@ -40,9 +39,6 @@ module _ (bits workers : ℕ) (members : List ℕ) (round : RoundFacts) (crew : 
       (round_allowed bits workers crew.round.updates members report ran.before crew.knows ran.ends (ran.one_each ∙ workers_are)
       (of_lines (λ row. row.lane < workers) report.rows (rw ran.rows_are lanes)) runs ran.no_change ran.backs history tallies
       (size ∙ ap (λ (l : List ℕ). length l) ends.members) (inserts ∙ ends.inserts) (removals ∙ ends.removals))
-
-  pub adds_up : IsKeySet bits members → report.size + report.removals ≡ length members + report.inserts
-  adds_up keys = report_sizes bits workers members report closed.members keys allowed
 
   pub in_turn : IsKeySet bits members → IsInTurn workers report.number members rows report closed.members
   in_turn keys lane exists all =

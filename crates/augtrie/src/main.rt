@@ -8,6 +8,8 @@ mod gate;
 mod input;
 mod jobs;
 mod options;
+#[cfg(test)]
+mod plain;
 mod program;
 mod read_all;
 mod returning;

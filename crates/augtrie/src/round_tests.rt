@@ -1,10 +1,12 @@
 //! What no clause says: that rounds run with ample memory, that the lanes run at the same time, and what the gate is told.
 use crate::gate::{Gate, Open};
+use crate::plain::plain_replies;
 use crate::round::run_round;
 use crate::trie::Trie;
 use aug_script::{Limits, Reply, Report, Script, Verb};
 use aug_trie::Ended;
 use std::alloc::{AllocError, Global};
+use std::process::Abort;
 use std::sync::Wait;
 use std::sync::atomic::AtomicU64;
 use std::sync::atomic::Ordering::SeqCst;
@@ -57,10 +59,10 @@ fn report_of<R: Threads + Wait, G: Gate>(
 const THREE_LANES: &str =
     "0,insert,0\n0,insert,1\n0,insert,2\n0,insert,3\n0,look\n0,has,0\n0,has,1\n0,has,2\n0,has,3\n1,insert,4\n1,insert,5\n1,insert,6\n1,insert,7\n1,look\n1,has,4\n1,has,5\n1,has,6\n1,has,7\n2,insert,8\n2,insert,9\n2,insert,10\n2,insert,11\n2,look\n2,has,8\n2,has,9\n2,has,10\n2,has,11\n";
 
-#[test]
-fn three_lanes_keep_to_the_script(rt: HostRuntime) -> Result<(), Fail> {
-    let run = report_of(&rt, rt.alloc(), 3, THREE_LANES, &Open)?;
-    let report = run.expect(&rt, "a report");
+// The round of the three lanes: all keys are new, and each lane sees its own.
+fn three_lanes<R: Threads + Wait + Abort>(rt: &R, alloc: Global) -> Result<(), AllocError> {
+    let run = report_of(rt, alloc, 3, THREE_LANES, &Open)?;
+    let report = run.expect(rt, "a report");
     assert_eq!(rt; report.number, 1);
     assert_eq!(rt; (report.size, report.inserts, report.removals), (12, 12, 0));
     assert_eq!(rt; report.rows.as_slice().len(), 27);
@@ -78,9 +80,17 @@ fn three_lanes_keep_to_the_script(rt: HostRuntime) -> Result<(), Fail> {
 }
 
 #[test]
-fn two_lanes_put_one_key_in_once(rt: HostRuntime) -> Result<(), Fail> {
-    let run = report_of(&rt, rt.alloc(), 2, "0,insert,6\n1,insert,6\n", &Open)?;
-    let report = run.expect(&rt, "a report");
+fn three_lanes_keep_to_the_script_each_time(rt: HostRuntime) -> Result<(), Fail> {
+    for _ in 0..200 {
+        three_lanes(&rt, rt.alloc())?;
+    }
+    Ok(())
+}
+
+// Two lanes put one key in: one of them does.
+fn one_key<R: Threads + Wait + Abort>(rt: &R, alloc: Global) -> Result<(), AllocError> {
+    let run = report_of(rt, alloc, 2, "0,insert,6\n1,insert,6\n", &Open)?;
+    let report = run.expect(rt, "a report");
     assert_eq!(rt; (report.size, report.inserts, report.removals), (1, 1, 0));
     let mut new = 0u32;
     let mut old = 0u32;
@@ -92,6 +102,81 @@ fn two_lanes_put_one_key_in_once(rt: HostRuntime) -> Result<(), Fail> {
         }
     }
     assert_eq!(rt; (new, old), (1, 1));
+    Ok(())
+}
+
+#[test]
+fn two_lanes_put_one_key_in_once_each_time(rt: HostRuntime) -> Result<(), Fail> {
+    for _ in 0..200 {
+        one_key(&rt, rt.alloc())?;
+    }
+    Ok(())
+}
+
+// The next number after a seed.
+fn next(seed: u64) -> u64 {
+    seed.wrapping_mul(6_364_136_223_846_793_005)
+        .wrapping_add(1_442_695_040_888_963_407)
+}
+
+// A script of one lane and three rounds, from a seed.
+fn random_script(alloc: Global, seed: u64) -> Result<String, AllocError> {
+    let mut text = String::new(alloc);
+    let mut seed = seed;
+    for row in 0..150u32 {
+        seed = next(seed);
+        let key = (seed >> 40) % 16;
+        match (seed >> 33) % 12 {
+            0..=2 => writeln!(text, "0,insert,{key}")?,
+            3..=4 => writeln!(text, "0,remove,{key}")?,
+            5 => writeln!(text, "0,look")?,
+            6 => writeln!(text, "0,has,{key}")?,
+            7 => writeln!(text, "0,size\n0,rank,{key}")?,
+            8 => writeln!(text, "0,select,{key}")?,
+            9 => writeln!(text, "0,before,{key}")?,
+            10 => writeln!(text, "0,after,{key}")?,
+            _ => writeln!(text, "0,range,{},{key}", (seed >> 50) % 17)?,
+        }
+        if row % 50 == 49 {
+            writeln!(text, "*,end")?;
+        }
+    }
+    Ok(text)
+}
+
+// Whether the trie answers a script of one lane as a plain set does.
+fn answers_as_a_plain_set<R: Threads + Wait>(
+    rt: &R,
+    alloc: Global,
+    text: &str,
+) -> Result<bool, AllocError> {
+    let Ok(limits) = Limits::try_new(4, 1, 64) else {
+        return Ok(false);
+    };
+    let Some((plain, size)) = plain_replies(alloc, &limits, text)? else {
+        return Ok(false);
+    };
+    let Some((ended, reports)) = run_text(rt, alloc, 1, text, &Open)? else {
+        return Ok(false);
+    };
+    let mut replies = Vec::new(alloc);
+    for report in reports.as_slice() {
+        for (_, reply) in report.rows.as_slice() {
+            replies.push(*reply)?;
+        }
+    }
+    Ok(replies.as_slice() == plain.as_slice() && ended.size() == size && reports.len() == 3)
+}
+
+#[test]
+fn one_lane_is_answered_as_by_a_plain_set(rt: HostRuntime) -> Result<(), Fail> {
+    for seed in 0..40u64 {
+        let text = random_script(rt.alloc(), seed)?;
+        assert!(rt;
+            answers_as_a_plain_set(&rt, rt.alloc(), text.as_str())?,
+            "{seed}"
+        );
+    }
     Ok(())
 }
 

@@ -230,6 +230,18 @@ class Outside:
     def test_file_behind_options(self):
         self.assertEqual(self.run_on(["--workers", "1", "first.csv", "--bits", "5"]), (FIRST_REPORT, b"", 0))
 
+    def test_table_of_too_many_words(self):
+        words = ["--bits", "16", "--workers", "64", "--updates", "13108", "missing.csv"]
+        self.assertEqual(self.run_on(words, FIRST), (b"", b"augtrie: TooLarge\n", 2))
+
+    def test_two_lanes_that_race_for_one_key(self):
+        for _ in range(50):
+            out, err, status = self.run_on(["--workers", "2"], b"0,insert,6\n1,insert,6\n")
+            self.assertEqual((err, status), (b"", 0))
+            first, second, end = out.splitlines()
+            replies = {first.removeprefix(b"1 0 insert 6 = "), second.removeprefix(b"1 1 insert 6 = ")}
+            self.assertEqual((replies, end), ({b"new", b"old"}, b"1 end size=1 in=1 out=0"))
+
     def test_options_hold_for_the_file(self):
         self.assertEqual(self.run_on(["--bits", "1", "first.csv"]), (b"", b"augtrie: row 1: OutOfRange\n", 1))
 
@@ -331,7 +343,7 @@ class Outside:
         ended = self.run_on(words, script, env=env, pass_fds=[writer])
         os.close(writer)
         self.assertEqual(ended, (report, b"", 0))
-        requests = int(os.read(reader, 20))
+        requests = len(os.read(reader, 65536))
         refused = 0
         for number in range(1, requests + 1):
             ended = self.run_on(words, script, env={"LD_PRELOAD": library, "REFUSED_REQUEST": str(number)})

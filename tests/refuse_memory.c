@@ -1,5 +1,5 @@
-// Loaded before the C library, it counts the program's requests for memory and refuses the one whose number, counted from 1,
-// REFUSED_REQUEST gives. At the end it writes how many there were to the descriptor that REQUESTS_TO gives, where it gives one.
+// Loaded before the C library, it counts the program's requests for memory, in whatever thread, and refuses the one whose number,
+// counted from 1, REFUSED_REQUEST gives. It writes a byte for each to the descriptor that REQUESTS_TO gives, where it gives one.
 
 extern void *__libc_malloc(unsigned long size);
 extern void *__libc_realloc(void *old, unsigned long size);
@@ -7,7 +7,7 @@ extern char *getenv(const char *name);
 extern int *__errno_location(void);
 extern long write(int file, const void *bytes, unsigned long length);
 
-enum { OUT_OF_MEMORY = 12, DIGITS = 20 };
+enum { OUT_OF_MEMORY = 12 };
 
 static long requests;
 
@@ -20,7 +20,9 @@ static long number_in(const char *name) {
 }
 
 static int is_refused(void) {
-    if (++requests != number_in("REFUSED_REQUEST")) return 0;
+    long file = number_in("REQUESTS_TO");
+    if (file) write((int)file, ".", 1);
+    if (__atomic_add_fetch(&requests, 1, __ATOMIC_SEQ_CST) != number_in("REFUSED_REQUEST")) return 0;
     *__errno_location() = OUT_OF_MEMORY;
     return 1;
 }
@@ -31,12 +33,4 @@ void *malloc(unsigned long size) {
 
 void *realloc(void *old, unsigned long size) {
     return is_refused() ? 0 : __libc_realloc(old, size);
-}
-
-__attribute__((destructor)) static void tell_requests(void) {
-    char text[DIGITS];
-    long file = number_in("REQUESTS_TO"), left = requests;
-    int start = DIGITS;
-    for (; left; left /= 10) text[--start] = '0' + left % 10;
-    if (file) write((int)file, text + start, DIGITS - start);
 }

@@ -6,12 +6,15 @@ ghost use Rattle.aug_trie.specs.Facts.{HasSnapshot, snapshot_cut};
 ghost use Rattle.aug_trie.specs.Nodes.{HasNode, Reads, set_at};
 ghost use Rattle.aug_trie.specs.TreeOf.{IsTreeOf};
 
-use super::{next_pass, opened};
+use super::{next_pass, opened, put};
 use crate::error::BeginError;
 use crate::node::Node;
 use crate::pass::Pass;
 use crate::snapshot::Snapshot;
-use aug_monoid::Monoid;
+use aug_model::Summary;
+use aug_monoid::{Extent, Monoid, Sum};
+use aug_query::rank;
+use std::alloc::{AllocError, Global};
 
 // The rank of a key in one snapshot, before and after the key is put in.
 fn rank_twice<A: Monoid, B: Monoid>(pass: &mut Pass<'_, A, B>, s: Snapshot, k: u32) -> (u32, u32)
@@ -86,5 +89,64 @@ fn a_snapshot_stays_what_it_was(rt: HostRuntime) -> Result<(), BeginError> {
     assert_eq!(rt; after, (1, true, false));
     assert_eq!(rt; now, (1, false, true));
     assert_eq!(rt; (pass.budget(), pass.inserts(), pass.removals()), (0, 2, 1));
+    Ok(())
+}
+
+// What each query answers of 5 and 9 on a snapshot, and the keys that the root's children cover.
+fn asked<A: Monoid, B: Monoid>(
+    pass: &mut Pass<'_, A, B>,
+    s: Snapshot,
+) -> ([u32; 4], [Option<u32>; 4], [bool; 2])
+    requires snapshot { HasSnapshot pass.old s.number }
+{
+    let top = pass.top(&s);
+    let counts = if top.level() == 0 {
+        (0, 0)
+    } else {
+        (
+            pass.left(&top).summary().count,
+            pass.right(&top).summary().count,
+        )
+    };
+    (
+        [pass.size(s), pass.rank(s, 9), counts.0, counts.1],
+        [
+            pass.select(s, 1),
+            pass.before(s, 9),
+            pass.after(s, 9),
+            pass.select(s, 2),
+        ],
+        [pass.has(s, 5), pass.has(s, 6)],
+    )
+}
+
+// The same of all keys, their range, and a query over a view.
+fn listed(
+    alloc: Global,
+    pass: &mut Pass<'_, Sum, Extent>,
+) -> Result<(Vec<u32>, Summary<Sum, Extent>, u32), AllocError> {
+    let s = pass.snapshot();
+    let keys = pass.keys(alloc, s)?;
+    let range = pass.range(s, 5, 9);
+    Ok((keys, range, rank(&mut pass.view(s), 16)))
+}
+
+#[test]
+fn each_query_answers(rt: HostRuntime) -> Result<(), BeginError> {
+    let (round, mut crew) = opened(rt.alloc(), 4, 1, 2)?;
+    let mut pass = next_pass(&mut crew, &round).expect(&rt, "a lane");
+    assert!(rt; put(&mut pass, 4, 9) && put(&mut pass, 4, 5));
+    let s = pass.snapshot();
+    let (counts, keys, there) = asked(&mut pass, s);
+    assert_eq!(rt; counts, [2, 1, 1, 1]);
+    assert_eq!(rt; keys, [Some(9), Some(5), None, None]);
+    assert_eq!(rt; there, [true, false]);
+    let (keys, range, rank) = listed(rt.alloc(), &mut pass).expect(&rt, "memory");
+    assert_eq!(rt; keys.as_slice(), [5, 9].as_slice());
+    assert_eq!(rt;
+        (range.count, range.a.value(), range.b.bounds()),
+        (1, 5, Some((5, 5)))
+    );
+    assert_eq!(rt; rank, 2);
     Ok(())
 }

@@ -83,8 +83,3 @@ report_of number members rows = record {
   inserts = count_of is_insertion (replies_of (opening_sets members) rows);
   removals = count_of is_removal (replies_of (opening_sets members) rows);
 }
-
--- an engine of one lane as contracts see it: how many bits its keys have, and its sets
-pub record Lane : Type 0 where
-  pub bits : ℕ
-  pub sets : Sets

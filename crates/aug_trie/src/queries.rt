@@ -51,7 +51,7 @@ impl<'r, A: Monoid, B: Monoid> Pass<'r, A, B> {
     pub fn size(&mut self, s: Snapshot) -> u32
         requires { HasSnapshot self.old s.number }
         ensures answer { result ≡ length (set_at self.old s).list }
-        ensures reads { Reads (summary_of A.parts B.parts) (4 * (1)) self.old self.new }
+        ensures reads { Reads (summary_of A.parts B.parts) 4 self.old self.new }
     {
         let mut view = View {
             pass: self,

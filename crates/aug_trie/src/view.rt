@@ -108,7 +108,7 @@ impl<'p, 'r, A: Monoid, B: Monoid> View<'p, 'r, A, B> {
     // How many members there are.
     pub(crate) fn size(&mut self) -> u32
         ensures answer { result ≡ length (set_at self.old.pass.now self.old.snapshot).list }
-        ensures walked { Walked (summary_of A.parts B.parts) (1) self.old.pass self.new.pass self.old.snapshot self.new.snapshot }
+        ensures walked { Walked (summary_of A.parts B.parts) 1 self.old.pass self.new.pass self.old.snapshot self.new.snapshot }
     {
         aug_query::size(self)
     }

@@ -9,7 +9,7 @@ use Rattle.std.proofs.lemmas.List.Elements.{All-head, All-tail}
 use Rattle.std.proofs.lemmas.List.Folds.{concat-append}
 use Rattle.aug_script.specs.Devices.{AppendsBeginning, FinishesLast}
 use Rattle.aug_script.specs.Limits.{Bounds}
-use Rattle.aug_script.specs.Replies.{opening_sets, report_of, sets_of}
+use Rattle.aug_script.specs.Replies.{report_of}
 use Rattle.aug_script.specs.ReportText.{report_text}
 use Rattle.aug_script.specs.declared.report.Report.{Report}
 use Rattle.aug_script.specs.declared.row.Row.{Row}

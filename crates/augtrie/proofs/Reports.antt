@@ -1,5 +1,5 @@
 -- A round that ran and ended has an allowed report.
-use Rattle.std.proofs.Common.{◌≡◌, ℕ, ◌+◌, ◌<◌, List, [], ◌∷◌, length, map, sym, ap, ◌∙◌, subst, arith, All}
+use Rattle.std.proofs.Common.{◌≡◌, ℕ, ◌<◌, List, [], ◌∷◌, length, map, sym, ap, ◌∙◌, subst, arith, All}
 use Rattle.std.proofs.lemmas.List.Elements.{All-nil, All-cons, All-head, All-tail}
 use Rattle.aug_model.specs.Keys.{IsKeySet}
 use Rattle.aug_trie.specs.Crews.{CrewFacts, EndedFacts, Ends}

@@ -1,4 +1,4 @@
-use Rattle.std.proofs.Common.{◌≡◌, ◌^◌, ◌<◌, ◌≤◌, ⊎_elim, arith, ap, sym, ◌∙◌, codes, Some}
+use Rattle.std.proofs.Common.{◌^◌, ◌<◌, ◌≤◌, ⊎_elim, arith, ap, sym, ◌∙◌, codes, Some}
 use Rattle.aug_script.specs.Limits.{Bounds}
 use Rattle.std.proofs.lemmas.Bool.{cases_lt, false≢true}
 use Rattle.aug_core.specs.Places.{Shape, shape_of, word_count}

@@ -1,4 +1,4 @@
-use Rattle.std.proofs.Common.{◌≡◌, ◌≢◌, ◌∙◌, ◌+◌, ◌≤◌, ◌<◌, ℕ, List, [], take, get_or, arith, ap, sym, subst, refl, inl, inr, Err}
+use Rattle.std.proofs.Common.{◌≡◌, ◌∙◌, ◌+◌, ℕ, List, [], take, get_or, arith, sym, subst, refl, inl, inr, Err}
 use Rattle.std.proofs.lemmas.List.{take_all}
 use Rattle.aug_script.specs.Script.{KeepsLimits}
 use Rattle.aug_script.specs.declared.row.Row.{Row}

@@ -162,6 +162,19 @@ fn refusals_are_printed_by_their_names(rt: HostRuntime) -> Result<(), std::alloc
     Ok(())
 }
 
+// Halves of the passes of the next four lanes.
+fn four_halves(crew: &mut Hands, round: &Table) -> Result<(Half, Half, Half, Half), CrewError>
+    requires together { crew.old.round ≡ round.now }
+    ensures together { crew.new.round ≡ round.now }
+    ensures rounds { IfOk result (λ t. (t.0.round ≡ round.now) × (t.1.round ≡ round.now) × (t.2.round ≡ round.now) × (t.3.round ≡ round.now)) }
+{
+    let one = next_pass(crew, round)?.into_half();
+    let two = next_pass(crew, round)?.into_half();
+    let three = next_pass(crew, round)?.into_half();
+    let four = next_pass(crew, round)?.into_half();
+    Ok((one, two, three, four))
+}
+
 // What a lane does: puts the keys below `keys` in, and so often, and where `out` takes each out again.
 #[derive(Clone, Copy)]
 struct Task {

@@ -1,7 +1,7 @@
 //! Rounds that end, with passes back and with passes that were dropped, and the rounds after them.
 ghost use Rattle.std.specs.Prelude.{◌≡◌, IfOk};
 
-use super::{Half, Hands, Table, Task, Trie, next_pass, opened, put, take, work};
+use super::{Half, Hands, Table, Task, Trie, four_halves, next_pass, opened, put, take, work};
 use crate::{BeginError, Pass, Round};
 use aug_monoid::{Extent, Sum};
 use aug_query::{has, keys, select, size};
@@ -59,25 +59,14 @@ fn four_threads_put_each_key_in_once_and_the_next_round_goes_on(
     rt: HostRuntime,
 ) -> Result<(), BeginError> {
     let (round, mut crew) = opened(rt.alloc(), 4, 4, 16)?;
-    let one = next_pass(&mut crew, &round)
-        .expect(&rt, "lane 0")
-        .into_half();
-    let two = next_pass(&mut crew, &round)
-        .expect(&rt, "lane 1")
-        .into_half();
-    let three = next_pass(&mut crew, &round)
-        .expect(&rt, "lane 2")
-        .into_half();
-    let four = next_pass(&mut crew, &round)
-        .expect(&rt, "lane 3")
-        .into_half();
+    let halves = four_halves(&mut crew, &round).expect(&rt, "four lanes");
     let task = Task {
         bits: 4,
         keys: 16,
         times: 1,
         out: false,
     };
-    let (one, two, three, four) = work(&rt, &round, (one, two, three, four), task);
+    let (one, two, three, four) = work(&rt, &round, halves, task);
     let (one, first) = looked(&round, one);
     let (two, second) = looked(&round, two);
     let (three, third) = looked(&round, three);
@@ -108,25 +97,14 @@ fn one_key_that_four_threads_put_in_and_take_out_is_accounted_for(
     rt: HostRuntime,
 ) -> Result<(), BeginError> {
     let (round, mut crew) = opened(rt.alloc(), 1, 4, 1_000)?;
-    let one = next_pass(&mut crew, &round)
-        .expect(&rt, "lane 0")
-        .into_half();
-    let two = next_pass(&mut crew, &round)
-        .expect(&rt, "lane 1")
-        .into_half();
-    let three = next_pass(&mut crew, &round)
-        .expect(&rt, "lane 2")
-        .into_half();
-    let four = next_pass(&mut crew, &round)
-        .expect(&rt, "lane 3")
-        .into_half();
+    let halves = four_halves(&mut crew, &round).expect(&rt, "four lanes");
     let task = Task {
         bits: 1,
         keys: 1,
         times: 500,
         out: true,
     };
-    let (one, two, three, four) = work(&rt, &round, (one, two, three, four), task);
+    let (one, two, three, four) = work(&rt, &round, halves, task);
     crew.back(round.pass(four));
     crew.back(round.pass(three));
     crew.back(round.pass(two));

@@ -6,7 +6,7 @@ use mathlib.Core.Option.{some, some-injective}
 use lib.ListN.{get_elem?}
 use Rattle.aug_core.specs.Places.{Shape}
 use Rattle.aug_core.specs.Lanes.{first_record, lane_records, block_start, block_size}
-use Rattle.aug_core.specs.Book.{IsFresh}
+use Rattle.aug_core.specs.Book.{Continues, IsFresh}
 use Rattle.aug_core.specs.Rule.{Lists}
 use Rattle.aug_core.specs.Counts.{change, changes_of}
 use Rattle.aug_core.specs.Told.{HoldsOnly, own_lane, on_first, with_word, with_published, with_change, stepping, storing, seeing, beginning, publishing, changing, KnowsTable, MayStore, MayChange, Sees}
@@ -16,6 +16,7 @@ use Rattle.aug_core.specs.declared.view.Held.{Held}
 use Rattle.aug_core.specs.declared.view.View.{View}
 use Rattle.aug_core.proofs.Books.{fresh_now, fresh_on}
 use Rattle.aug_core.proofs.Fits.{knows_shown, knows_same}
+use Rattle.aug_trie.specs.Points.{QuietStep}
 use Rattle.aug_trie.specs.Goes.{tries_leaf, IsFree, HasRoom, Took, TookBetween, Goes}
 
 -- ---- steps, one after another
@@ -69,6 +70,20 @@ may_store_room v number r = let room = r.room in may_store v number number r.is_
 -- the pass may try a leaf, while it has updates left
 pub may_change : (v : View) (next records : ℕ) → HasRoom v next records → length (changes_of v.held) < v.shape.updates → MayChange v
 may_change v next records r few = let f = r.is_free in record { lane = f.lane; only = f.only; room = subst (λ (z : List Change). length z < v.shape.updates) (only_changes v f.lane f.only) few }
+
+-- a load that showed the book is one step, in which no update began
+pub quiet_seeing : (v w : View) (taken : StepTaken) → w ≡ seeing v w.seen taken → Continues w.seen v.seen → QuietStep v w
+quiet_seeing v w taken is later = (
+  record {
+    taken = taken;
+    steps = ap (λ (z : View). z.steps) is;
+    later = later;
+    shaped = ap (λ (z : View). z.shape) is;
+    same_members = ap (λ (z : View). z.members) is;
+    lane = ap (λ (z : View). own_lane z.held) is;
+  },
+  ap (λ (z : View). z.began) is,
+)
 
 module _ (face : ℕ → ℕ → List ℕ → List ℕ) where
   pub goes_self : (v : View) → KnowsTable face v → Goes face 0 [] v v

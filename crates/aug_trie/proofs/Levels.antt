@@ -17,10 +17,10 @@ pub place_is : (s : Shape) (key level leaves node : ℕ) → leaves ≡ 2 ^ s.bi
 place_is s key level leaves node a b = omega arith
 
 -- the parts of the children of the first node above a leaf take no load, and those of the others three
-cost_first : (s : Shape) (key : ℕ) → key < 2 ^ s.bits → 1 ≤ s.bits → part_steps s (left_of s (above s key 1)) ≡ 0
+pub cost_first : (s : Shape) (key : ℕ) → key < 2 ^ s.bits → 1 ≤ s.bits → part_steps s (left_of s (above s key 1)) ≡ 0
 cost_first s key low some = let below = first_children s key low some in ap (λ (z : Bool). if z then 0 else 3) (lt-ltb (left_of s (above s key 1)) (2 ^ s.bits) (omega arith))
 
-cost_later : (s : Shape) (key j : ℕ) → key < 2 ^ s.bits → suc (suc j) ≤ s.bits → part_steps s (left_of s (above s key (suc (suc j)))) ≡ 3
+pub cost_later : (s : Shape) (key j : ℕ) → key < 2 ^ s.bits → suc (suc j) ≤ s.bits → part_steps s (left_of s (above s key (suc (suc j)))) ≡ 3
 cost_later s key j low up = ap (λ (z : Bool). if z then 0 else 3) (le-ltb (left_of s (above s key (suc (suc j)))) (2 ^ s.bits) (later_children s key j low up))
 
 -- the steps of one level more

@@ -26,3 +26,7 @@ pub mod TallyLemmas
 pub mod Versions
 pub mod Endings
 pub mod Ranking
+pub mod Advancing
+pub mod Ascending
+pub mod Staging
+pub mod Turning

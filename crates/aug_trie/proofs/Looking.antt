@@ -17,7 +17,7 @@ use Rattle.aug_trie.specs.Facts.{IsNodeOf}
 use Rattle.aug_trie.specs.Goes.{Goes}
 use Rattle.aug_trie.specs.Nodes.{Looks}
 use Rattle.aug_trie.specs.TreeOf.{IsTreeOf}
-use Rattle.aug_trie.proofs.Telling.{Says}
+use Rattle.aug_trie.specs.Points.{Says}
 use Rattle.aug_trie.proofs.Walking.{node_seen, left_node, right_node, node_told, count_few, count_told, leaf_told}
 
 -- a view that made steps and learnt nothing

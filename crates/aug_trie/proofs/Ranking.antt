@@ -21,7 +21,7 @@ use Rattle.aug_trie.specs.Facts.{index_named, IsNodeOf}
 use Rattle.aug_trie.specs.Goes.{HasLeaves}
 use Rattle.aug_trie.specs.Nodes.{cut_named, Looks}
 use Rattle.aug_trie.specs.TreeOf.{members_of}
-use Rattle.aug_trie.proofs.Telling.{Says}
+use Rattle.aug_trie.specs.Points.{Says}
 use Rattle.aug_trie.proofs.Trees.{tree_set}
 use Rattle.aug_trie.proofs.Looking.{record_seen, count_is}
 use Rattle.aug_trie.proofs.Walking.{node_seen, left_node, right_node, leaf_told}

@@ -14,11 +14,8 @@ use Rattle.aug_core.specs.declared.view.View.{View}
 use Rattle.aug_core.proofs.EntryKeys.{are_small}
 use Rattle.aug_core.proofs.FaceLemmas.{count_in, a_in, b_in, face_is}
 use Rattle.aug_trie.specs.Goes.{Goes, IsPart, IsPartOf}
+use Rattle.aug_trie.specs.Points.{Says}
 use Rattle.aug_trie.proofs.Going.{goes_on, goes_stepping}
-
--- a loaded word is what the record's entry says
-abbrev pub Says : View → ℕ → ℕ → ℕ → Type 0
-Says v number field r = (q i : ℕ) (e : Entry) → IsInner v.shape q → At v.seen q i e → e.number ≡ number → r ≡ get_or e.words field 0
 
 -- a record that an entry of a node has was seen
 pub has_seen : (f : ℕ → ℕ → List ℕ → List ℕ) (v : View) (node number : ℕ) → KnowsTable f v → IsInner v.shape node → HasEntry v.seen node number → HasSeen v number

@@ -1,5 +1,5 @@
 -- An update: a load of the leaf, a try unless the serial refuses it, and a propagation.
-use Rattle.std.proofs.Common.{◌≡◌, ◌≢◌, ◌↔◌, ℕ, ◌+◌, ◌-◌, ◌*◌, ◌%◌, ◌<◌, ◌≤◌, Bool, true, false, IsTrue, List, [], ◌∷◌, ◌++◌, append_assoc, sym, refl, ap, ◌∙◌, subst, ⊎_elim, arith}
+use Rattle.std.proofs.Common.{◌≡◌, ◌≢◌, ◌↔◌, ℕ, ◌+◌, ◌-◌, ◌*◌, ◌%◌, ◌^◌, ◌<◌, ◌≤◌, Bool, true, false, IsTrue, List, [], ◌∷◌, ◌++◌, append_assoc, sym, refl, ap, ◌∙◌, subst, ⊎_elim, arith}
 use Rattle.std.proofs.lemmas.Bool.{cases_eq, false≢true}
 use Rattle.aug_core.specs.Places.{Shape}
 use Rattle.aug_core.specs.Book.{Book, IsNewest}
@@ -14,9 +14,10 @@ use Rattle.aug_core.specs.declared.view.Held.{Held}
 use Rattle.aug_core.specs.declared.view.View.{View}
 use Rattle.aug_core.proofs.Books.{newest_is_last}
 use Rattle.aug_core.proofs.Showing.{shows_leaf}
-use Rattle.aug_trie.specs.Goes.{Goes, TookBetween}
+use Rattle.aug_trie.specs.Goes.{Goes, HasRoom}
 use Rattle.aug_trie.specs.Climbing.{Updated}
-use Rattle.aug_trie.proofs.Going.{goes_on, goes_after, goes_beginning, goes_seeing, goes_changing}
+use Rattle.aug_trie.specs.Stages.{MayRise, HasRisen}
+use Rattle.aug_trie.proofs.Going.{room_on, goes_on, goes_after, goes_beginning, goes_seeing, goes_changing}
 
 newest_shows : (s : Shape) (book : Book) (key index n : ℕ) (e : Entry) → IsNewest book key index e → n ≤ index → NewestShows s book key 0 n
 newest_shows s book key index n e newest le = record { index = index; entry = e; newest = newest; shows = ((e, newest.at), le) }
@@ -37,7 +38,19 @@ module _ (f : ℕ → ℕ → List ℕ → List ℕ) where
     at_most = λ i n h. let t = shows_leaf v.shape v.seen key v.shape.bits i n h in let le = newest_is_last w.seen key serial t.0 l.entry t.1 l.newest (l.sees.later key t.0 t.1 t.2) in let e = t.3 in omega arith;
   }
 
-  module _ (v w0 : View) (key serial parity used : ℕ) (small : parity < 2) (kn : KnowsTable f v) (loaded : BeginsAtLeaf f v key serial w0) where
+  -- after steps that published nothing the way to the root may begin
+  pub may_rise : (bits number key : ℕ) (gained : List Change) (v w : View) → key < 2 ^ v.shape.bits → bits ≡ v.shape.bits → HasRoom v number bits → Goes f 0 gained v w → MayRise f bits number key w
+  may_rise bits number key gained v w low is room g = record {
+    low = subst (λ (z : Shape). key < 2 ^ z.bits) (sym g.shaped) low;
+    bits_are = is ∙ ap (λ (z : Shape). z.bits) (sym g.shaped);
+    knows_table = g.knows_table;
+    room = room_on f gained v w number bits g room;
+  }
+
+  module _ (v w0 : View) (key serial parity bits number : ℕ) (small : parity < 2) (is : bits ≡ v.shape.bits) (some : 1 ≤ bits) (kn : KnowsTable f v) (loaded : BeginsAtLeaf f v key serial w0) where
+    abbrev used : ℕ
+    used = number + bits
+
     shaped0 : w0.shape ≡ v.shape
     shaped0 = ap (λ (z : View). z.shape) loaded.stepped
 
@@ -48,8 +61,8 @@ module _ (f : ℕ → ℕ → List ℕ → List ℕ) where
     first = goes_begun v w0 key serial kn loaded
 
     -- the serial that was loaded refuses the update
-    pub refused_at_once : (w : View) (bits : ℕ) → bits ≡ v.shape.bits → 1 ≤ bits → serial % 2 ≢ parity → Goes f used [] w0 w → TookBetween w0 w (15 * bits - 6) (30 * bits - 12) → Lifts w0.shape w0.seen w.seen key w0.shape.bits → Updated f used v key parity w false
-    refused_at_once w bits is some other goes between lifts = let least = between.least_steps in let most = between.most_steps in let count = between.took.count in record {
+    pub refused_at_once : (w : View) → serial % 2 ≢ parity → HasRisen f bits number key w0 bits w → Updated f (number + bits) v key parity w false
+    refused_at_once w other h = let goes = h.goes in let between = h.took in let lifts = h.lifts in let least = between.least_steps in let most = between.most_steps in let count = between.took.count in record {
       loaded = serial;
       more = between.took.more;
       steps = between.took.steps ∙ ap (λ (z : List StepTaken). z ++ between.took.more) steps0 ∙ append_assoc v.steps (load_leaf key serial ∷ []) between.took.more;
@@ -63,14 +76,14 @@ module _ (f : ℕ → ℕ → List ℕ → List ℕ) where
         was = other;
         goes = goes_on f 0 used used [] v w0 w (omega arith) (omega arith) first goes;
         before = at_most v w0 key serial loaded;
-        shown = subst (λ (z : Shape). NewestShows z w.seen key z.bits serial) shaped0 (lifts.lifted serial (newest_shows w0.shape w0.seen key serial serial loaded.entry loaded.newest (omega arith)));
+        shown = subst (λ (z : Shape × ℕ). NewestShows z.0 w.seen key z.1 serial) (λ i. (shaped0 i, is i)) (lifts.lifted serial (newest_shows w0.shape w0.seen key serial serial loaded.entry loaded.newest (omega arith)));
       };
     }
 
     -- the update was tried
-    pub updated : (w1 w : View) (bits found : ℕ) (done : Bool) (h : Held) → HoldsOnly w0 h → (IsTrue done ↔ (found ≡ serial)) → TriesLeaf f w0 key serial found w1 → bits ≡ v.shape.bits → 1 ≤ bits → serial % 2 ≡ parity
-        → Goes f used [] w1 w → TookBetween w1 w (15 * bits - 6) (30 * bits - 12) → Lifts w1.shape w1.seen w.seen key w1.shape.bits → Updated f used v key parity w done
-    updated w1 w bits found done h only decided told is some same goes between lifts = let least = between.least_steps in let most = between.most_steps in let count = between.took.count in
+    pub updated : (w1 w : View) (found : ℕ) (done : Bool) (h : Held) → HoldsOnly w0 h → (IsTrue done ↔ (found ≡ serial)) → TriesLeaf f w0 key serial found w1 → serial % 2 ≡ parity
+        → HasRisen f bits number key w1 bits w → Updated f (number + bits) v key parity w done
+    updated w1 w found done h only decided told same r = let goes = r.goes in let between = r.took in let lifts = r.lifts in let least = between.least_steps in let most = between.most_steps in let count = between.took.count in
         let shaped1 = told.shaped ∙ shaped0 in let taken : StepTaken = try_leaf key serial found in let more : List StepTaken = taken ∷ between.took.more in let kn0 = first.knows_table in
         let steps1 : w1.steps ≡ v.steps ++ load_leaf key serial ∷ taken ∷ [] = told.stepped ∙ ap (λ (z : List StepTaken). z ++ taken ∷ []) steps0 ∙ append_assoc v.steps (load_leaf key serial ∷ []) (taken ∷ []) in record {
           loaded = serial;
@@ -86,13 +99,13 @@ module _ (f : ℕ → ℕ → List ℕ → List ℕ) where
             goes = goes_on f 0 used used gained v w1 w (omega arith) (omega arith)
                 (goes_after f 0 0 0 [] gained gained v w0 w1 (omega arith) (omega arith) refl first (goes_changing f w0 w1 key (serial + 1) _ h only hit.0 kn0 told.sees)) goes;
             before = at_most v w0 key serial loaded;
-            shown = subst (λ (z : Shape). NewestShows z w.seen key z.bits (serial + 1)) shaped1 (lifts.lifted (serial + 1) (newest_shows w1.shape w1.seen key told.index (serial + 1) told.entry told.newest (omega arith)));
+            shown = subst (λ (z : Shape × ℕ). NewestShows z.0 w.seen key z.1 (serial + 1)) (λ i. (shaped1 i, is i)) (lifts.lifted (serial + 1) (newest_shows w1.shape w1.seen key told.index (serial + 1) told.entry told.newest (omega arith)));
           };
           refused = λ bad. let other : found ≢ serial = λ eq. (let good : done ≡ true = decided.1 eq in false≢true (sym bad ∙ good)) in let miss = told.miss other in let at = miss.1 in let past = miss.2 in record {
             serial = serial + 1;
             was = λ eq. omega arith;
             goes = goes_on f 0 used used [] v w1 w (omega arith) (omega arith) (goes_on f 0 0 0 [] v w0 w1 (omega arith) (omega arith) first (goes_seeing f w0 w1 _ miss.0 kn0 told.sees)) goes;
             before = record { at_most = λ i n x. let le = (at_most v w0 key serial loaded).at_most i n x in omega arith };
-            shown = subst (λ (z : Shape). NewestShows z w.seen key z.bits (serial + 1)) shaped1 (lifts.lifted (serial + 1) (newest_shows w1.shape w1.seen key told.index (serial + 1) told.entry told.newest (omega arith)));
+            shown = subst (λ (z : Shape × ℕ). NewestShows z.0 w.seen key z.1 (serial + 1)) (λ i. (shaped1 i, is i)) (lifts.lifted (serial + 1) (newest_shows w1.shape w1.seen key told.index (serial + 1) told.entry told.newest (omega arith)));
           };
         }

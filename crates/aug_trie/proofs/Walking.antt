@@ -21,7 +21,7 @@ use Rattle.aug_core.proofs.EntryKeys.{are_small}
 use Rattle.aug_core.proofs.FaceLemmas.{left_in, right_in, count_in, a_in, b_in}
 use Rattle.aug_trie.specs.Facts.{IsSnapshotOf, IsNodeOf}
 use Rattle.aug_trie.specs.TreeOf.{IsTreeOf}
-use Rattle.aug_trie.proofs.Telling.{Says}
+use Rattle.aug_trie.specs.Points.{Says}
 
 module _ {A B : Type 0} (parts_a : Parts A) (parts_b : Parts B) where
   abbrev both : ℕ → ℕ → List ℕ → List ℕ

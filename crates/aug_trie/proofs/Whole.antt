@@ -69,7 +69,7 @@ tries f v w0 w1 w2 w4 w q old ln rn number done inner kn shaped shaped4 c0 c01 c
 }
 
 -- the number of leaves is even, where there is a node
-even : (b n : ℕ) → 2 * n < 2 ^ b → n + 1 < 2 ^ b → 2 * n + 1 < 2 ^ b
+pub even : (b n : ℕ) → 2 * n < 2 ^ b → n + 1 < 2 ^ b → 2 * n + 1 < 2 ^ b
 even zero n low few = omega arith
 even (suc b) n low few = let t = two-pow-succ b in omega arith
 

@@ -28,14 +28,15 @@ pub record RoundFacts : Type 0 where
   pub updates : ℕ
   pub room : ℕ
 
--- a pass: its round and lane, what it knows, how many updates it made, its atomic steps, and the view that all this is read from
+-- a pass: its round and lane, what it knows, how many updates it made, its atomic steps, and the layout and the book that its snapshots are read from
 pub record PassFacts : Type 0 where
   pub round : RoundFacts
   pub lane : ℕ
   pub knows : Knowledge
   pub spent : ℕ
   pub steps : List StepTaken
-  pub view : View
+  pub shape : Shape
+  pub seen : Book
 
 -- the round of a table that was opened so
 abbrev pub round_of : TableId → View → RoundFacts
@@ -64,7 +65,8 @@ pass_facts known left = record {
   knows = knows known.view;
   spent = known.view.shape.updates - left;
   steps = known.view.steps;
-  view = known.view;
+  shape = known.view.shape;
+  seen = known.view.seen;
 }
 
 -- the pass is in the same round and lane, after so many further updates and steps
@@ -94,11 +96,11 @@ index_named (e ∷ es) number = if e.number == number then 0 else suc (index_nam
 
 -- where the root's entry with the number stands, as far as the pass has seen
 abbrev pub snapshot_index : PassFacts → ℕ → ℕ
-snapshot_index pass number = index_named (history_of pass.view.seen (root_place pass.view.shape)) number
+snapshot_index pass number = index_named (history_of pass.seen (root_place pass.shape)) number
 
 -- the cut that a snapshot shows, which is of a record of the root
 abbrev pub snapshot_cut : PassFacts → ℕ → Cut
-snapshot_cut pass number = root_cut pass.view.shape pass.view.seen (snapshot_index pass number)
+snapshot_cut pass number = root_cut pass.shape pass.seen (snapshot_index pass number)
 
 -- the snapshot is the pass's: it has seen the record as the root's
 abbrev pub HasSnapshot : PassFacts → ℕ → Type 0

@@ -17,3 +17,6 @@ pub mod Crews
 pub mod EndedTrees
 pub mod EndedLaws
 pub mod Errors
+pub mod Points
+pub mod Stages
+pub mod Turns

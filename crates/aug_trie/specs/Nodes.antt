@@ -35,7 +35,7 @@ module _ {A B : Type 0} (summary_of : List ℕ → Summary A B) where
   pub record HasNode (pass : PassFacts) (node : Node A B) : Type 0 where
     pub of_pass : HasSnapshot pass node.snapshot.number
     pub is_tree_set : IsTreeSet (set_at pass node.snapshot)
-    pub named : IsNodeOf pass.view.shape pass.view.seen (snapshot_cut pass node.snapshot.number) node.level node.place node.word
+    pub named : IsNodeOf pass.shape pass.seen (snapshot_cut pass node.snapshot.number) node.level node.place node.word
     pub tells : IsTreeOf summary_of pass.round.bits (snapshot_cut pass node.snapshot.number) node.level node.place node.summary
 
   -- what was a snapshot of the pass is one still, of the same cut and set, and what was a node of one is so still

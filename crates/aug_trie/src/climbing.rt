@@ -1,11 +1,10 @@
 //! From a leaf to the root.
-ghost use Rattle.std.specs.Prelude.{◌≡◌, ℕ, ◌+◌, ◌-◌, ◌*◌, ◌^◌, ◌<◌, ◌≤◌, []};
+ghost use Rattle.std.specs.Prelude.{◌≡◌, ◌+◌, ◌^◌, ◌<◌};
 ghost use Rattle.aug_core.specs.Faces.{face};
-ghost use Rattle.aug_core.specs.Tree.{IsInner, left_of};
+ghost use Rattle.aug_core.specs.Tree.{IsInner};
 ghost use Rattle.aug_core.specs.Told.{KnowsTable};
-ghost use Rattle.aug_core.specs.Refreshes.{NewestCovers};
-ghost use Rattle.aug_core.specs.Shows.{Lifts};
-ghost use Rattle.aug_trie.specs.Goes.{Goes, TookBetween, HasLeaves, HasRoom, part_steps};
+ghost use Rattle.aug_trie.specs.Goes.{HasLeaves, HasRoom};
+ghost use Rattle.aug_trie.specs.Stages.{IsCovered, MayRise, HasRisen};
 
 use crate::refreshing::refresh;
 use aug_monoid::Monoid;
@@ -25,9 +24,7 @@ fn refresh_twice<A: Monoid, B: Monoid>(
     requires knows { KnowsTable (face A.parts B.parts) pass.old.view }
     requires room { HasRoom pass.old.view number 1 }
     ensures table { pass.new.table ≡ pass.old.table }
-    ensures goes { Goes (face A.parts B.parts) (number + 1) [] pass.old.view pass.new.view }
-    ensures took { TookBetween pass.old.view pass.new.view (9 + 2 * part_steps pass.old.view.shape (left_of pass.old.view.shape node)) (18 + 4 * part_steps pass.old.view.shape (left_of pass.old.view.shape node)) }
-    ensures covers { NewestCovers pass.old.view.shape pass.old.view.seen pass.new.view.seen node }
+    ensures covered { IsCovered (face A.parts B.parts) pass.old.view pass.new.view node number }
 {
     if refresh(pass, leaves, node, number) {
         return;
@@ -45,15 +42,10 @@ pub(crate) fn propagate<'r, A: Monoid, B: Monoid>(
     number: u64,
 ) -> WordPass<'r, A, B>
     requires leaves { HasLeaves pass.view.shape leaves }
-    requires bits { bits ≡ pass.view.shape.bits }
-    requires leaf { leaf < 2 ^ pass.view.shape.bits }
-    requires knows { KnowsTable (face A.parts B.parts) pass.view }
-    requires room { HasRoom pass.view number bits }
+    requires rises { MayRise (face A.parts B.parts) bits number leaf pass.view }
     requires small { number + bits < 2 ^ 60 }
     ensures table { result.table ≡ pass.entry.table }
-    ensures goes { Goes (face A.parts B.parts) (number + bits) [] pass.entry.view result.view }
-    ensures took { TookBetween pass.entry.view result.view (15 * bits - 6) (30 * bits - 12) }
-    ensures lifts { Lifts pass.entry.view.shape pass.entry.view.seen result.view.seen leaf pass.entry.view.shape.bits }
+    ensures risen { HasRisen (face A.parts B.parts) bits number leaf pass.entry.view bits result.view }
 {
     let mut pass = pass;
     let mut node = leaf;

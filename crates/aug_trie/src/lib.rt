@@ -1,6 +1,7 @@
 //! A set of keys that many passes insert into, remove from and look at, by double refresh.
 #![tactic(auto)]
 
+mod ascents;
 mod climbing;
 mod crew;
 mod ended;
@@ -11,13 +12,16 @@ mod node;
 mod nodes;
 mod parts;
 mod pass;
+mod points;
 mod queries;
 mod ranks;
 mod refreshing;
 mod round;
 mod snapshot;
+mod stages;
 #[cfg(test)]
 mod tests;
+mod turns;
 mod updates;
 mod view;
 mod walks;
@@ -31,4 +35,5 @@ pub use node::Node;
 pub use pass::Pass;
 pub use round::Round;
 pub use snapshot::Snapshot;
+pub use turns::{Climb, Turn};
 pub use view::View;

@@ -39,6 +39,20 @@ pub(crate) fn leaf_part<A: Monoid, B: Monoid>(leaf: usize, serial: u64) -> Part<
     }
 }
 
+// What these words of a record tell.
+#[inline(always)]
+pub(crate) fn part_of_words<A: Monoid, B: Monoid>(count: u64, a: u64, b: u64) -> Part<A, B>
+    ensures count { result.count ≡ count }
+    ensures a { result.a ≡ A.parts.from_word a }
+    ensures b { result.b ≡ B.parts.from_word b }
+{
+    Part {
+        count,
+        a: A::from_word(a),
+        b: B::from_word(b),
+    }
+}
+
 // What the record of an inner node tells: three steps.
 #[inline(always)]
 fn node_part<A: Monoid, B: Monoid>(
@@ -59,11 +73,7 @@ fn node_part<A: Monoid, B: Monoid>(
     let count = pass.load_record_word(number, RecordField::Count);
     let a = pass.load_record_word(number, RecordField::A);
     let b = pass.load_record_word(number, RecordField::B);
-    Part {
-        count,
-        a: A::from_word(a),
-        b: B::from_word(b),
-    }
+    part_of_words(count, a, b)
 }
 
 // What the leaf or node at a place tells, of which this word was loaded.

@@ -1,25 +1,27 @@
 //! One try to bring a node up to its children.
-ghost use Rattle.std.specs.Prelude.{◌≡◌, ℕ, ◌+◌, ◌*◌, ◌<◌, [], slice_index, false};
+ghost use Rattle.std.specs.Prelude.{◌≡◌, ℕ, ◌+◌, ◌^◌, ◌<◌, [], ◌∷◌, slice_index, false};
 ghost use Rattle.aug_core.specs.Faces.{face};
-ghost use Rattle.aug_core.specs.Tree.{place_count, IsInner, left_of};
+ghost use Rattle.aug_core.specs.Tree.{place_count, IsInner};
 ghost use Rattle.aug_core.specs.Told.{KnowsTable};
 ghost use Rattle.aug_core.specs.Refreshes.{HasNewest, SaysLoaded, Published};
-ghost use Rattle.aug_trie.specs.Goes.{Goes, Took, HasLeaves, HasRoom, IsFree, Tries, part_steps};
+ghost use Rattle.aug_trie.specs.Goes.{Goes, Took, HasLeaves, HasRoom, IsFree};
+ghost use Rattle.aug_trie.specs.Points.{QuietStep, TryOver};
 
-use crate::parts::any_part;
+use crate::parts::{any_part, Part};
 use aug_core::RecordField;
 use aug_monoid::Monoid;
 use aug_words::WordPass;
 
 // Loads the word of a leaf or a node: one step.
 #[inline(always)]
-fn look<A: Monoid, B: Monoid>(pass: &mut WordPass<A, B>, leaves: usize, place: usize) -> u64
+pub(crate) fn look<A: Monoid, B: Monoid>(pass: &mut WordPass<A, B>, leaves: usize, place: usize) -> u64
     requires leaves { HasLeaves pass.old.view.shape leaves }
     requires knows { KnowsTable (face A.parts B.parts) pass.old.view }
     requires place { place < place_count pass.old.view.shape }
     ensures table { pass.new.table ≡ pass.old.table }
     ensures goes { Goes (face A.parts B.parts) 0 [] pass.old.view pass.new.view }
     ensures took { Took pass.old.view pass.new.view 1 }
+    ensures step { QuietStep pass.old.view pass.new.view }
     ensures newest { HasNewest pass.new.view.seen place result }
 {
     if place < leaves {
@@ -27,6 +29,23 @@ fn look<A: Monoid, B: Monoid>(pass: &mut WordPass<A, B>, leaves: usize, place: u
     } else {
         pass.load_node(place)
     }
+}
+
+// The words of a record over two children with these words, of which these parts were told.
+#[inline(always)]
+pub(crate) fn five_words<A: Monoid, B: Monoid>(
+    left: u64,
+    right: u64,
+    l: Part<A, B>,
+    r: Part<A, B>,
+) -> [u64; 5]
+    requires few { l.count + r.count < 2 ^ 64 }
+    ensures { result ≡ left ∷ right ∷ (l.count + r.count) ∷ A.parts.to_word (A.parts.join l.a r.a) ∷ B.parts.to_word (B.parts.join l.b r.b) ∷ [] }
+{
+    let count = l.count + r.count;
+    let a = l.a.join(r.a).to_word();
+    let b = l.b.join(r.b).to_word();
+    [left, right, count, a, b]
 }
 
 // Fills an own record and tries to publish it: six steps.
@@ -69,9 +88,7 @@ pub(crate) fn refresh<A: Monoid, B: Monoid>(
     requires knows { KnowsTable (face A.parts B.parts) pass.old.view }
     requires room { HasRoom pass.old.view number 1 }
     ensures table { pass.new.table ≡ pass.old.table }
-    ensures goes { Goes (face A.parts B.parts) (number + 1) [] pass.old.view pass.new.view }
-    ensures took { Took pass.old.view pass.new.view (9 + 2 * part_steps pass.old.view.shape (left_of pass.old.view.shape node)) }
-    ensures tries { Tries pass.old.view node number result pass.new.view }
+    ensures over { TryOver (face A.parts B.parts) pass.old.view node number result pass.new.view }
 {
     let from = look(pass, leaves, node);
     let child = 2 * (node - leaves);
@@ -79,8 +96,5 @@ pub(crate) fn refresh<A: Monoid, B: Monoid>(
     let right = look(pass, leaves, child + 1);
     let l = any_part(pass, leaves, child, left);
     let r = any_part(pass, leaves, child + 1, right);
-    let count = l.count + r.count;
-    let a = l.a.join(r.a).to_word();
-    let b = l.b.join(r.b).to_word();
-    publish(pass, node, from, number, [left, right, count, a, b])
+    publish(pass, node, from, number, five_words(left, right, l, r))
 }

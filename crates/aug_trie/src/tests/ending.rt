@@ -8,7 +8,7 @@ use aug_query::{has, keys, select, size};
 use std::alloc::Global;
 
 // How many members a new snapshot of the pass shows.
-fn seen_size(pass: &mut Pass<Sum, Extent>) -> u32
+pub(super) fn seen_size(pass: &mut Pass<Sum, Extent>) -> u32
     ensures round { pass.new.round ≡ pass.old.round }
 {
     let snapshot = pass.snapshot();
@@ -16,7 +16,7 @@ fn seen_size(pass: &mut Pass<Sum, Extent>) -> u32
 }
 
 // Whether a new snapshot of the pass shows the key.
-fn sees(pass: &mut Pass<Sum, Extent>, key: u32) -> bool
+pub(super) fn sees(pass: &mut Pass<Sum, Extent>, key: u32) -> bool
     ensures round { pass.new.round ≡ pass.old.round }
 {
     let snapshot = pass.snapshot();
@@ -34,12 +34,12 @@ fn looked(round: &Table, half: Half) -> (Half, u32)
 }
 
 // What the trie says of the round that ended it: insertions, removals, passes that did not come back.
-fn counts(ended: &Trie) -> (u32, u32, u32) {
+pub(super) fn counts(ended: &Trie) -> (u32, u32, u32) {
     (ended.inserts(), ended.removals(), ended.missing())
 }
 
 // The next round of a trie, and its crew.
-fn next_round(
+pub(super) fn next_round(
     alloc: Global,
     ended: Trie,
     workers: u32,

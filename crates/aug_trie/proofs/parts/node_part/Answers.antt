@@ -27,4 +27,4 @@ returns-clause-part g c = let m = g.A.Monoid in let n = g.B.Monoid in let v : Vi
     let l1 = c.load_record_word-count.ensures.view in let l2 = c.load_record_word-a.ensures.view in let l3 = c.load_record_word-b.ensures.view in
     let told = part_of_node m.parts n.parts (laws_of g.met.A.Monoid) (laws_of g.met.B.Monoid) v c.args.node c.args.number _ _ _ (omega arith) c.requires.knows c.requires.inner l1.known
     (says_before v w1 _ c.args.number 3 _ l1.stepped l2.known) (says_before v w1 _ c.args.number 4 _ l1.stepped (says_before w1 w2 _ c.args.number 4 _ l2.stepped l3.known)) in
-    record { of = λ i e p is. let t = told.of i e p is in record { count_is = t.count_is; a_is = c.from_word.ensures ∙ t.a_is; b_is = c.from_word-2.ensures ∙ t.b_is } }
+    record { of = λ i e p is. let t = told.of i e p is in record { count_is = c.part_of_words.ensures.count ∙ t.count_is; a_is = c.part_of_words.ensures.a ∙ t.a_is; b_is = c.part_of_words.ensures.b ∙ t.b_is } }

@@ -2,7 +2,7 @@ use Rattle.std.proofs.Common.{arith, ap, refl}
 use Rattle.aug_core.specs.Faces.{face}
 use Rattle.aug_core.specs.Kinds.{load_leaf, load_node}
 use Rattle.aug_core.specs.declared.view.View.{View}
-use Rattle.aug_trie.proofs.Going.{goes_seeing, took_one}
+use Rattle.aug_trie.proofs.Going.{goes_seeing, quiet_seeing, took_one}
 use Rattle.aug_trie.proofs.Whole.{leaf_loaded, node_loaded}
 use Rattle.aug_trie.proofs.refreshing.look.Goals as goal
 
@@ -31,3 +31,9 @@ returns-else-place-leaves-clause-took g c = let l = c.load_node.ensures.view in 
 pub returns-else-place-leaves-clause-newest : goal.returns-else-place-leaves-clause-newest
 returns-else-place-leaves-clause-newest g c = let are = c.requires.leaves.are in let past = c.if-place-leaves.false in
     node_loaded (face g.A.Monoid.parts g.B.Monoid.parts) c.args.pass.now.view c.load_node.new.self.view c.args.place c.load_node.result record { past_leaves = omega arith; inside = c.requires.place } c.load_node.ensures.view
+
+pub returns-then-place-leaves-clause-step : goal.returns-then-place-leaves-clause-step
+returns-then-place-leaves-clause-step g c = let l = c.load_leaf.ensures.view in quiet_seeing c.args.pass.now.view c.load_leaf.new.self.view _ l.stepped l.sees.later
+
+pub returns-else-place-leaves-clause-step : goal.returns-else-place-leaves-clause-step
+returns-else-place-leaves-clause-step g c = let l = c.load_node.ensures.view in quiet_seeing c.args.pass.now.view c.load_node.new.self.view _ l.stepped l.sees.later

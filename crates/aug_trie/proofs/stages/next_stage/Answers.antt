@@ -1,0 +1,39 @@
+use Rattle.std.proofs.Common.{arith, refl, subst, sym, ◌≡◌, ◌+◌, ◌^◌, ◌<◌, ℕ, Option}
+use Rattle.aug_core.specs.Faces.{face}
+use Rattle.aug_core.specs.declared.view.View.{View}
+use Rattle.aug_trie.specs.Stages.{StageAt, Ascends}
+use Rattle.aug_trie.specs.declared.ascents.Ascent.{Ascent}
+use Rattle.aug_trie.specs.declared.stages.Stage.{Stage}
+use Rattle.aug_trie.specs.declared.stages.Stage.TheVariants.{Leaf, Change, Up}
+use Rattle.aug_trie.proofs.Staging.{first_turns, room_one, begin_step, begun_change, begun_up, low_old, has_reached, may_try, try_step, tried_up, leaves_old, rising_on, risen_up}
+use Rattle.aug_trie.proofs.stages.next_stage.Goals as goal
+
+pub ascend-requires-clause-small : goal.ascend-requires-clause-small
+ascend-requires-clause-small g c = let f = face g.A.Monoid.parts g.B.Monoid.parts in let old : View = c.args.pass.now.view in
+    let left = c.requires.at.0 in let u : View = c.requires.at.1 in let t = subst (λ (z : Stage). StageAt f c.args.leaves c.args.bits c.args.number left c.args.key c.args.parity u z old) c.in-Up.is c.requires.at.2 in (room_one f u c.args.leaves c.args.bits c.args.number left t.is_pass t.some).1
+
+pub ascend-requires-clause-on_way : goal.ascend-requires-clause-on_way
+ascend-requires-clause-on_way g c = let f = face g.A.Monoid.parts g.B.Monoid.parts in let old : View = c.args.pass.now.view in
+    let left = c.requires.at.0 in let u : View = c.requires.at.1 in let t = subst (λ (z : Stage). StageAt f c.args.leaves c.args.bits c.args.number left c.args.key c.args.parity u z old) c.in-Up.is c.requires.at.2 in (c.args.key, t.is_stage.leaf, t.is_stage.on_way)
+
+pub returns-else-serial-parity-clause-on : goal.returns-else-serial-parity-clause-on
+returns-else-serial-parity-clause-on g c = λ left u t. let f = face g.A.Monoid.parts g.B.Monoid.parts in let old : View = c.args.pass.now.view in
+    let is = c.from_leaf.ensures in begun_up f c.args.leaves c.args.bits c.args.number left c.args.key c.args.parity u old c.begin_at_leaf-serial.new.self.view c.begin_at_leaf-serial.result (subst (λ (z : Stage). StageAt f c.args.leaves c.args.bits c.args.number left c.args.key c.args.parity u z old) c.in-Leaf.is t) c.begin_at_leaf-serial.ensures.view
+    c.from_leaf.result c.if-serial-parity.false is.level is.node is.second is.point
+
+pub returns-in-Change-clause-on : goal.returns-in-Change-clause-on
+returns-in-Change-clause-on g c = λ left u t. let f = face g.A.Monoid.parts g.B.Monoid.parts in let old : View = c.args.pass.now.view in
+    let is = c.from_leaf-in-Change.ensures in tried_up f c.args.leaves c.args.bits c.args.number left c.args.key c.args.parity u old c.in-Change.serial (subst (λ (z : Stage). StageAt f c.args.leaves c.args.bits c.args.number left c.args.key c.args.parity u z old) c.in-Change.is t) c.try_leaf-done.new.self.view c.try_leaf-done.result c.try_leaf-done.ensures.view
+    c.from_leaf-in-Change.result is.level is.node is.second is.point
+
+pub returns-in-Some-clause-on : goal.returns-in-Some-clause-on
+returns-in-Some-clause-on g c = λ left u t. let f = face g.A.Monoid.parts g.B.Monoid.parts in let old : View = c.args.pass.now.view in
+    let up = subst (λ (z : Stage). StageAt f c.args.leaves c.args.bits c.args.number left c.args.key c.args.parity u z old) c.in-Up.is t in let w : View = c.ascend.new.pass.view in let leaf : View = up.is_stage.leaf in
+    rising_on f c.args.leaves c.args.bits c.args.number left c.args.key c.args.parity u old w c.in-Up.done c.in-Up.ascent up c.in-Some.ascent c.ascend.ensures.step
+    (subst (λ (z : Option Ascent). Ascends f c.args.bits c.args.number c.args.key leaf z w) c.in-Some.is (c.ascend.ensures.on c.args.key leaf up.is_stage.on_way))
+
+pub returns-in-None-clause-on : goal.returns-in-None-clause-on
+returns-in-None-clause-on g c = λ left u t. let f = face g.A.Monoid.parts g.B.Monoid.parts in let old : View = c.args.pass.now.view in
+    let up = subst (λ (z : Stage). StageAt f c.args.leaves c.args.bits c.args.number left c.args.key c.args.parity u z old) c.in-Up.is t in let w : View = c.ascend.new.pass.view in let leaf : View = up.is_stage.leaf in
+    risen_up f c.args.leaves c.args.bits c.args.number left c.args.key c.args.parity u old w c.in-Up.done c.in-Up.ascent up
+    (subst (λ (z : Option Ascent). Ascends f c.args.bits c.args.number c.args.key leaf z w) c.in-None.is (c.ascend.ensures.on c.args.key leaf up.is_stage.on_way))

@@ -1,0 +1,152 @@
+-- One try at a node, step by step: what was done of it at each point.
+use Rattle.std.specs.Prelude.{◌≡◌, ℕ, zero, suc, ◌+◌, ◌-◌, ◌*◌, ◌%◌, ◌^◌, ◌<◌, ◌≤◌, ◌==◌, Bool, nat_lt, if◌then◌else◌, List, [], ◌∷◌, ◌++◌, length, slice_index}
+use Rattle.aug_monoid.specs.Parts.{Parts}
+use Rattle.aug_core.specs.Places.{record_start}
+use Rattle.aug_core.specs.Tree.{IsInner, left_of, right_of}
+use Rattle.aug_core.specs.Book.{At, Continues}
+use Rattle.aug_core.specs.Refreshes.{HasNewest, SaysLoaded}
+use Rattle.aug_core.specs.Told.{KnowsTable, own_lane, storing}
+use Rattle.aug_core.specs.declared.step.StepTaken.{StepTaken}
+use Rattle.aug_core.specs.declared.view.Entry.{Entry}
+use Rattle.aug_core.specs.declared.view.View.{View}
+use Rattle.aug_trie.specs.Goes.{Goes, Took, HasRoom, Tries, IsPart, part_steps}
+use Rattle.aug_trie.specs.Nodes.{Looks}
+use Rattle.aug_trie.specs.declared.points.Reading.{Reading}
+use Rattle.aug_trie.specs.declared.points.Filling.{Filling}
+use Rattle.aug_trie.specs.declared.points.Point.{Point}
+use Rattle.aug_trie.specs.declared.points.Point.TheVariants.{Node, Left, Right, Part, Record}
+use Rattle.aug_trie.specs.declared.points.Advanced.{Advanced}
+use Rattle.aug_trie.specs.declared.points.Advanced.TheVariants.{To, Tried}
+
+-- the view made one step more; what it saw grows, and its lane and table are the same
+pub record OneStep (v w : View) : Type 0 where
+  pub taken : StepTaken
+  pub steps : w.steps ≡ v.steps ++ taken ∷ []
+  pub later : Continues w.seen v.seen
+  pub shaped : w.shape ≡ v.shape
+  pub same_members : w.members ≡ v.members
+  pub lane : own_lane w.held ≡ own_lane v.held
+
+-- and its update began where it did
+abbrev pub QuietStep : View → View → Type 0
+QuietStep v w = OneStep v w × (w.began ≡ v.began)
+
+-- a loaded word of a record is what its entry says
+abbrev pub Says : View → ℕ → ℕ → ℕ → Type 0
+Says v number field r = (q i : ℕ) (e : Entry) → IsInner v.shape q → At v.seen q i e → e.number ≡ number → r ≡ slice_index e.words field
+
+-- the view after so many stores of the words of a record
+abbrev pub stored : View → ℕ → List ℕ → ℕ → View
+stored v number five zero = v
+stored v number five (suc k) = storing (stored v number five k) (record_start (stored v number five k).shape number + k) (slice_index five k)
+
+-- the child whose word is loaded after so many others, and which word it is of its record
+abbrev pub child_at : ℕ → ℕ → ℕ → ℕ
+child_at left right k = if nat_lt k 3 then left else right
+
+abbrev pub field_after : ℕ → ℕ
+field_after k = if nat_lt k 3 then k + 2 else k - 1
+
+module _ {A B : Type 0} (parts_a : Parts A) (parts_b : Parts B) where
+  -- the words of a record over two children with these words, whose records' counts and folds are the words from 0 on and from 3 on
+  abbrev pub five_over : ℕ → ℕ → (ℕ → ℕ) → List ℕ
+  five_over left right word = left ∷ right ∷ (word 0 + word 3) ∷ parts_a.to_word (parts_a.join (parts_a.from_word (word 1)) (parts_a.from_word (word 4)))
+      ∷ parts_b.to_word (parts_b.join (parts_b.from_word (word 2)) (parts_b.from_word (word 5))) ∷ []
+
+  -- the words of a record over a leaf and the next one, with these serials
+  pub record IsOverLeaves (key left right : ℕ) (five : List ℕ) : Type 0 where
+    pub m : ℕ
+    pub k : ℕ
+    pub a : A
+    pub a' : A
+    pub b : B
+    pub b' : B
+    pub left_part : IsPart parts_a parts_b m a b (if left % 2 == 1 then key ∷ [] else [])
+    pub right_part : IsPart parts_a parts_b k a' b' (if right % 2 == 1 then (key + 1) ∷ [] else [])
+    pub five_are : five ≡ left ∷ right ∷ (m + k) ∷ parts_a.to_word (parts_a.join a a') ∷ parts_b.to_word (parts_b.join b b') ∷ []
+
+-- a try that began at the view v
+module _ (face : ℕ → ℕ → List ℕ → List ℕ) (v : View) (q : ℕ) where
+  -- the node's word was loaded
+  pub record AfterNode (from : ℕ) (w : View) : Type 0 where
+    pub goes : Goes face 0 [] v w
+    pub took : Took v w 1
+    pub at_node : HasNewest w.seen q from
+
+  -- and then the left child's
+  pub record AfterLeft (from left : ℕ) (w : View) : Type 0 where
+    pub first : View
+    pub node : AfterNode from first
+    pub goes : Goes face 0 [] first w
+    pub took : Took first w 1
+    pub at_left : HasNewest w.seen (left_of v.shape q) left
+
+  -- and then the right child's
+  pub record AfterRight (from left right : ℕ) (w : View) : Type 0 where
+    pub second : View
+    pub lefts : AfterLeft from left second
+    pub goes : Goes face 0 [] second w
+    pub took : Took second w 1
+    pub at_right : HasNewest w.seen (right_of v.shape q) right
+
+  -- and then so many words of their records
+  pub record AfterWords (r : Reading) (w : View) : Type 0 where
+    pub third : View
+    pub loaded : AfterRight r.from r.left r.right third
+    pub nodes : 2 ^ v.shape.bits ≤ left_of v.shape q
+    pub few : r.count < 6
+    pub six : length r.words ≡ 6
+    pub looks : Looks r.count third w
+    pub took : Took third w r.count
+    pub says : (k : ℕ) → k < r.count → Says third (child_at r.left r.right k) (field_after k) (slice_index r.words k)
+
+  -- the own record's words are known, and so many were stored
+  pub record AfterStores (number : ℕ) (r : Filling) (w : View) : Type 0 where
+    pub third : View
+    pub loaded : AfterRight r.from (slice_index r.five 0) (slice_index r.five 1) third
+    pub told : View
+    pub goes : Goes face 0 [] third told
+    pub took : Took third told (2 * part_steps v.shape (left_of v.shape q))
+    pub says : SaysLoaded face told.shape told.seen q r.from r.five
+    pub few : r.count ≤ 5
+    pub five : length r.five ≡ 5
+    pub stands : w ≡ stored told number r.five r.count
+
+  -- what was done at a point
+  abbrev pub IsAt : ℕ → Point → View → Type 0
+  IsAt number Node w = w ≡ v
+  IsAt number (Left from) w = AfterNode from w
+  IsAt number (Right from left) w = AfterLeft from left w
+  IsAt number (Part r) w = AfterWords r w
+  IsAt number (Record r) w = AfterStores number r w
+
+  -- the try is at a point
+  pub record TryAt (number : ℕ) (point : Point) (w : View) : Type 0 where
+    pub inner : IsInner v.shape q
+    pub knows_table : KnowsTable face v
+    pub room : HasRoom v number 1
+    pub is_at : IsAt number point w
+
+  -- the try is over
+  pub record TryOver (number : ℕ) (done : Bool) (w : View) : Type 0 where
+    pub goes : Goes face (number + 1) [] v w
+    pub took : Took v w (9 + 2 * part_steps v.shape (left_of v.shape q))
+    pub tries : Tries v q number done w
+
+  -- what a step of it came to
+  abbrev pub Advances : ℕ → Advanced → View → Type 0
+  Advances number (To point) w = TryAt number point w
+  Advances number (Tried done) w = TryOver number done w
+
+-- how many steps are left of a try at a point, where the part of a child takes so many loads
+abbrev pub point_turns : ℕ → Point → ℕ
+point_turns part Node = 9 + 2 * part
+point_turns part (Left from) = 8 + 2 * part
+point_turns part (Right from left) = 7 + 2 * part
+point_turns part (Part r) = 12 - r.count
+point_turns part (Record r) = 6 - r.count
+
+-- a step leaves one less
+abbrev pub Falls : ℕ → Point → Advanced → Type 0
+Falls part point (To next) = point_turns part next + 1 ≡ point_turns part point
+Falls part point (Tried done) = 1 ≡ point_turns part point

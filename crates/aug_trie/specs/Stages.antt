@@ -1,0 +1,145 @@
+-- An update, step by step: what was done of it at each stage.
+use Rattle.std.specs.Prelude.{◌≡◌, ℕ, suc, ◌+◌, ◌-◌, ◌*◌, ◌%◌, ◌^◌, ◌<◌, ◌≤◌, ◌==◌, Bool, false, true, if◌then◌else◌, List, [], ◌∷◌, length, Option, Some, None}
+use Rattle.aug_core.specs.Tree.{left_of}
+use Rattle.aug_core.specs.Book.{history_of}
+use Rattle.aug_core.specs.Counts.{changes_of}
+use Rattle.aug_core.specs.Shows.{above, Lifts}
+use Rattle.aug_core.specs.Refreshes.{NewestCovers}
+use Rattle.aug_core.specs.Told.{own_lane, KnowsTable, BeginsAtLeaf}
+use Rattle.aug_core.specs.declared.view.View.{View}
+use Rattle.aug_trie.specs.Goes.{Goes, Took, TookBetween, HasRoom, IsFree, part_steps}
+use Rattle.aug_trie.specs.Climbing.{Updated}
+use Rattle.aug_trie.specs.Facts.{IsPass}
+use Rattle.aug_trie.specs.Points.{TryAt, TryOver, point_turns}
+use Rattle.aug_trie.specs.declared.points.Advanced.{Advanced}
+use Rattle.aug_trie.specs.declared.ascents.Ascent.{Ascent}
+use Rattle.aug_trie.specs.declared.stages.Stage.{Stage}
+use Rattle.aug_trie.specs.declared.stages.Stage.TheVariants.{Leaf, Change, Up}
+use Rattle.aug_trie.specs.declared.stages.Next.{Next}
+use Rattle.aug_trie.specs.declared.stages.Next.TheVariants.{More, Done}
+
+module _ (face : ℕ → ℕ → List ℕ → List ℕ) where
+  -- a try at the node that failed
+  pub record Missed (below begun : View) (q number : ℕ) : Type 0 where
+    pub goes : Goes face (number + 1) [] below begun
+    pub took : Took below begun (9 + 2 * part_steps below.shape (left_of below.shape q))
+    pub longer : length (history_of below.seen q) + 1 ≤ length (history_of begun.seen q)
+
+  -- the first try begins where the node was come to, and the second where the first failed
+  abbrev pub IsTry : View → View → ℕ → ℕ → Bool → Type 0
+  IsTry below begun q number false = begun ≡ below
+  IsTry below begun q number true = Missed below begun q number
+
+  -- a node that was tried once or twice covers what had been seen of its children
+  pub record IsCovered (below w : View) (q number : ℕ) : Type 0 where
+    pub goes : Goes face (number + 1) [] below w
+    pub took : TookBetween below w (9 + 2 * part_steps below.shape (left_of below.shape q)) (18 + 4 * part_steps below.shape (left_of below.shape q))
+    pub covers : NewestCovers below.shape below.seen w.seen q
+
+  -- the way from a leaf to the root, whose records begin at this number
+  module _ (bits number key : ℕ) (leaf : View) where
+    -- all levels up to this one show what the leaf had reached
+    pub record HasRisen (level : ℕ) (below : View) : Type 0 where
+      pub goes : Goes face (number + level) [] leaf below
+      pub took : TookBetween leaf below (15 * level - 6) (30 * level - 12)
+      pub lifts : Lifts leaf.shape leaf.seen below.seen key level
+
+    -- what is so all the way
+    pub record MayRise : Type 0 where
+      pub low : key < 2 ^ leaf.shape.bits
+      pub bits_are : bits ≡ leaf.shape.bits
+      pub knows_table : KnowsTable face leaf
+      pub room : HasRoom leaf number bits
+
+    -- where it is at a node
+    pub record IsAtNode (a : Ascent) (begun : View) : Type 0 where
+      pub may_rise : MayRise
+      pub below_root : a.level < bits
+      pub node_is : a.node ≡ above leaf.shape key (suc a.level)
+      pub below : View
+      pub risen : HasRisen a.level below
+      pub is_try : IsTry below begun a.node (number + a.level) a.second
+
+    -- and in a try there
+    pub record IsOnWay (a : Ascent) (w : View) : Type 0 where
+      pub begun : View
+      pub at_node : IsAtNode a begun
+      pub try_at : TryAt face begun a.node (number + a.level) a.point w
+
+    -- and after that try
+    pub record IsPastTry (a : Ascent) (done : Bool) (w : View) : Type 0 where
+      pub begun : View
+      pub at_node : IsAtNode a begun
+      pub room : HasRoom begun (number + a.level) 1
+      pub try_over : TryOver face begun a.node (number + a.level) done w
+
+    -- it goes on, or has come to the root
+    abbrev pub Ascends : Option Ascent → View → Type 0
+    Ascends (Some a) w = IsOnWay a w
+    Ascends None w = HasRisen bits w
+
+  -- an update of a key from the view u of a pass
+  module _ (leaves bits number left key parity : ℕ) (u : View) where
+    -- where the update began stands in the view
+    pub record HasBegun (w : View) : Type 0 where
+      pub began : w.began ≡ record { seen = u.seen; steps = u.steps; changes = changes_of u.held }
+      pub shaped : w.shape ≡ u.shape
+      pub same_members : w.members ≡ u.members
+      pub lane : own_lane w.held ≡ own_lane u.held
+
+    -- its leaf was loaded, and it may exchange it
+    pub record MayTry (serial : ℕ) (w : View) : Type 0 where
+      pub loaded : BeginsAtLeaf face u key serial w
+      pub same : serial % 2 ≡ parity
+
+    -- it is on its way, and will be an update when it has come to the root
+    pub record IsRising (done : Bool) (a : Ascent) (w : View) : Type 0 where
+      pub leaf : View
+      pub has_begun : HasBegun w
+      pub finish : (z : View) → HasRisen bits number key leaf bits z → Updated face (number + bits) u key parity z done
+      pub on_way : IsOnWay bits number key leaf a w
+
+    abbrev pub IsStage : Stage → View → Type 0
+    IsStage Leaf w = w ≡ u
+    IsStage (Change serial) w = MayTry serial w
+    IsStage (Up done a) w = IsRising done a w
+
+    -- the update is at a stage
+    pub record StageAt (stage : Stage) (w : View) : Type 0 where
+      pub is_pass : IsPass face u leaves bits number left
+      pub some : 1 ≤ left
+      pub low : key < 2 ^ u.shape.bits
+      pub parity_is : parity < 2
+      pub is_stage : IsStage stage w
+
+    -- it goes on, or is done
+    abbrev pub Climbs : Next → View → Type 0
+    Climbs (More stage) w = StageAt stage w
+    Climbs (Done done) w = Updated face (number + bits) u key parity w done
+
+-- how many loads a child's part takes above a level
+abbrev pub part_above : ℕ → ℕ
+part_above level = if level == 0 then 0 else 3
+
+-- how many turns an update has at most that is on its way
+abbrev pub ascent_turns : ℕ → Ascent → ℕ
+ascent_turns bits a = (bits - 1 - a.level) * 30 + (if a.second then 0 else 9 + 2 * part_above a.level) + point_turns (part_above a.level) a.point
+
+-- and how many at all
+abbrev pub stage_turns : ℕ → Stage → ℕ
+stage_turns bits Leaf = 30 * bits - 10
+stage_turns bits (Change serial) = 30 * bits - 11
+stage_turns bits (Up done a) = ascent_turns bits a
+
+-- they fall with each step, and there are some while there is more to do
+abbrev pub AscentFalls : ℕ → Ascent → Option Ascent → Type 0
+AscentFalls bits a (Some next) = (ascent_turns bits next < ascent_turns bits a) × (1 ≤ ascent_turns bits next)
+AscentFalls bits a None = 1 ≤ ascent_turns bits a
+
+-- how many turns are left once a try is over, if another follows at the node where it was the first
+abbrev pub past_try_turns : ℕ → Ascent → ℕ
+past_try_turns bits a = (bits - 1 - a.level) * 30 + (if a.second then 0 else 9 + 2 * part_above a.level)
+
+abbrev pub StageFalls : ℕ → Stage → Next → Type 0
+StageFalls bits stage (More next) = (stage_turns bits next < stage_turns bits stage) × (1 ≤ stage_turns bits next)
+StageFalls bits stage (Done done) = 1 ≤ stage_turns bits stage

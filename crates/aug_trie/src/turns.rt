@@ -1,0 +1,219 @@
+//! Updates by single turns.
+ghost use Rattle.std.specs.Prelude.{◌≡◌, ◌≢◌, ℕ, Bool, ◌+◌, ◌-◌, ◌*◌, ◌^◌, ◌<◌, ◌≤◌};
+ghost use Rattle.std.specs.Int.{from_bool};
+ghost use Rattle.aug_model.specs.Folds.{summary_of};
+ghost use Rattle.aug_trie.specs.Facts.{PassFacts};
+ghost use Rattle.aug_trie.specs.Knowledge.{insertion, removal};
+ghost use Rattle.aug_trie.specs.Nodes.{Keeps};
+ghost use Rattle.aug_trie.specs.Points.{point_turns};
+ghost use Rattle.aug_trie.specs.Stages.{ascent_turns, part_above};
+ghost use Rattle.aug_trie.specs.Turns.{ClimbFacts, BeginsClimb, TurnsOn, Finishes};
+
+use crate::ascents::Ascent;
+use crate::pass::Pass;
+use crate::points::Point;
+use crate::stages::{next_stage, Next, Stage};
+use aug_monoid::Monoid;
+use aug_words::WordPass;
+use std::marker::Model;
+
+/// An update that is made turn by turn, each one atomic step. It holds its pass meanwhile. Dropped, it gives the pass up with its lane,
+/// which harms no other pass: its change may then be shown or not.
+#[derive(Drop)]
+pub struct Climb<'r, A: Monoid, B: Monoid> {
+    pub(crate) words: WordPass<'r, A, B>,
+    pub(crate) leaves: usize,
+    pub(crate) bits: u32,
+    // The first record of the update, and how many updates were left before it.
+    pub(crate) next: u64,
+    pub(crate) left: u32,
+    pub(crate) inserts: u32,
+    pub(crate) removals: u32,
+    pub(crate) key: u32,
+    // 0 where the key goes in, and 1 where it goes out: the update takes on a serial of this parity.
+    pub(crate) parity: u64,
+    pub(crate) stage: Stage,
+}
+
+impl<'r, A: Monoid, B: Monoid> Model for Climb<'r, A, B> {
+    ghost use Rattle.aug_core.specs.Faces.{face};
+    ghost use Rattle.aug_trie.specs.Turns.{ClimbFacts, climb_facts, HoldsClimb};
+
+    ghost Value = { ClimbFacts };
+
+    ghost view = { λ c. climb_facts c.words c.bits c.left c.key c.parity c.stage };
+
+    ghost invariant = { λ c. HoldsClimb (face A.parts B.parts) c.words.view c.leaves c.bits c.next c.left c.inserts c.removals c.key c.parity c.stage };
+}
+
+/// What a turn leaves.
+#[derive(Drop)]
+pub enum Turn<'r, A: Monoid, B: Monoid> {
+    /// There is more to do.
+    More(Climb<'r, A, B>),
+    /// The update is done: its pass, and whether it was accepted.
+    Done(Pass<'r, A, B>, bool),
+}
+
+impl<'r, A: Monoid, B: Monoid> Pass<'r, A, B> {
+    /// Begins to put a key in, turn by turn. No step is made yet.
+    pub fn start_insert(self, k: u32) -> Climb<'r, A, B>
+        requires key { k < 2 ^ self.round.bits }
+        requires budget { self.spent < self.round.updates }
+        ensures { BeginsClimb insertion k self.entry result }
+    {
+        start(self, k, 0)
+    }
+
+    /// Begins to take a key out, turn by turn. No step is made yet.
+    pub fn start_remove(self, k: u32) -> Climb<'r, A, B>
+        requires key { k < 2 ^ self.round.bits }
+        requires budget { self.spent < self.round.updates }
+        ensures { BeginsClimb removal k self.entry result }
+    {
+        start(self, k, 1)
+    }
+}
+
+// Begins an update that takes on a serial of this parity.
+fn start<'r, A: Monoid, B: Monoid>(pass: Pass<'r, A, B>, key: u32, parity: u64) -> Climb<'r, A, B>
+    requires key { key < 2 ^ pass.round.bits }
+    requires budget { pass.spent < pass.round.updates }
+    requires parity { parity < 2 }
+    ensures { BeginsClimb (1 - parity) key pass.entry result }
+{
+    let Pass {
+        words,
+        leaves,
+        bits,
+        next,
+        left,
+        inserts,
+        removals,
+    } = pass;
+    let Some(words) = words else { unreachable!() };
+    Climb {
+        words,
+        leaves,
+        bits,
+        next,
+        left,
+        inserts,
+        removals,
+        key,
+        parity,
+        stage: Stage::Leaf,
+    }
+}
+
+impl<'r, A: Monoid, B: Monoid> Climb<'r, A, B> {
+    /// Makes one atomic step.
+    pub fn turn(self) -> Turn<'r, A, B>
+        ensures more { (climb : ClimbFacts) → result ≡ Turn.More climb → TurnsOn self.entry climb }
+        ensures done { (pass : PassFacts) (accepted : Bool) → result ≡ Turn.Done pass accepted → Finishes accepted self.entry pass }
+        ensures keeps { (pass : PassFacts) (accepted : Bool) → result ≡ Turn.Done pass accepted → Keeps (summary_of A.parts B.parts) self.entry.start pass }
+    {
+        let Climb {
+            mut words,
+            leaves,
+            bits,
+            next,
+            left,
+            inserts,
+            removals,
+            key,
+            parity,
+            stage,
+        } = self;
+        match next_stage(&mut words, leaves, bits, next, key, parity, stage) {
+            Next::More(stage) => Turn::More(Climb {
+                words,
+                leaves,
+                bits,
+                next,
+                left,
+                inserts,
+                removals,
+                key,
+                parity,
+                stage,
+            }),
+            Next::Done(done) => {
+                let pass = Pass {
+                    words: Some(words),
+                    leaves,
+                    bits,
+                    next: next + u64::from(bits),
+                    left: left - 1,
+                    inserts: inserts + gained(parity, 0, done),
+                    removals: removals + gained(parity, 1, done),
+                };
+                Turn::Done(pass, done)
+            }
+        }
+    }
+
+    /// The most turns that are still to come: `30 * bits - 10` at the start, and at least 1.
+    pub fn turns_left(&self) -> u32
+        ensures turns { result ≡ self.now.left }
+        ensures some { 1 ≤ result }
+    {
+        match self.stage {
+            Stage::Leaf => 30 * self.bits - 10,
+            Stage::Change(_) => 30 * self.bits - 11,
+            Stage::Up(_, ascent) => ascent_left(self.bits, ascent),
+        }
+    }
+}
+
+// What an update on serials of one parity adds to the counter of those on another.
+#[inline(always)]
+fn gained(parity: u64, counted: u64, done: bool) -> u32
+    ensures same { parity ≡ counted → result ≡ from_bool done }
+    ensures other { parity ≢ counted → result ≡ 0 }
+    ensures few { result ≤ 1 }
+{
+    if parity == counted {
+        u32::from(done)
+    } else {
+        0
+    }
+}
+
+// How many steps a try at a node has, whose children are leaves at level 0.
+#[inline(always)]
+fn try_steps(level: u32) -> u32
+    ensures { result ≡ 9 + 2 * part_above level }
+{
+    if level == 0 {
+        9
+    } else {
+        15
+    }
+}
+
+// The most turns of an update that is on its way.
+fn ascent_left(bits: u32, ascent: Ascent) -> u32
+    requires bits { bits ≤ 16 }
+    requires level { ascent.level < bits }
+    requires some { 1 ≤ point_turns (part_above ascent.level) ascent.point }
+    ensures { result ≡ ascent_turns bits ascent }
+{
+    let whole = try_steps(ascent.level);
+    let again = if ascent.second { 0 } else { whole };
+    (bits - 1 - ascent.level) * 30 + again + point_left(whole, ascent.point)
+}
+
+// The turns of a try of so many steps that is at a point.
+fn point_left(whole: u32, point: Point) -> u32
+    requires whole { (part : ℕ) × (whole ≡ 9 + 2 * part) × (whole ≤ 15) × (1 ≤ point_turns part point) }
+    ensures { (part : ℕ) → whole ≡ 9 + 2 * part → result ≡ point_turns part point }
+{
+    match point {
+        Point::Node => whole,
+        Point::Left(_) => whole - 1,
+        Point::Right(_, _) => whole - 2,
+        Point::Part(reading) => 12 - reading.count as u32,
+        Point::Record(filling) => 6 - filling.count as u32,
+    }
+}

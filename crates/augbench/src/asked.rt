@@ -1,0 +1,46 @@
+use crate::workload::Workload;
+
+/// What the command line asks for.
+#[derive(Clone, Copy, Debug, PartialEq, Eq)]
+pub(crate) enum Asked {
+    /// Measures a workload.
+    Measure {
+        workload: Workload,
+        threads: u32,
+        seconds: u32,
+    },
+    /// Measures it with 1, 2 and 4 threads, which are placed on the processors from this one on.
+    Bench {
+        workload: Workload,
+        first: u32,
+    },
+    /// Makes operations of one kind, for a counter of instructions.
+    Count(Counting),
+    /// Compares both engines.
+    Check,
+}
+
+/// Operations of one kind on one thread.
+#[derive(Clone, Copy, Debug, PartialEq, Eq)]
+pub(crate) struct Counting {
+    pub(crate) operation: Operation,
+    /// How many of them.
+    pub(crate) times: u32,
+    /// How many bits a key has.
+    pub(crate) bits: u32,
+    /// The members at the opening are the multiples of `2^gap`.
+    pub(crate) gap: u32,
+}
+
+/// The kinds of operations that are counted.
+#[derive(Clone, Copy, Debug, PartialEq, Eq)]
+pub(crate) enum Operation {
+    /// None: what the opening takes.
+    Nothing,
+    /// Inserts of keys that are not there.
+    New,
+    /// Inserts of keys that are there.
+    Duplicate,
+    /// Ranks on one snapshot.
+    Rank,
+}

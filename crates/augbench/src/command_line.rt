@@ -1,0 +1,164 @@
+//! The command line: `WORKLOAD THREADS SECONDS`, `bench WORKLOAD CPU0`, `count OP N` or `check`.
+
+use crate::asked::{Asked, Counting, Operation};
+use crate::stop::Stop;
+use crate::workload::Workload;
+use clap::error::ErrorKind;
+use clap::{Arg, ArgAction, ArgMatches, Command, Error, value_parser};
+use std::alloc::{AllocError, Global};
+
+/// What the words of the command line ask for, which come without the program's own name. `Help` is the answer to
+/// `--help`, and `Usage` to words that are wrong, each with the parser's text.
+pub(crate) fn asked(alloc: Global, words: &[String]) -> Result<Asked, Stop> {
+    match parse(alloc, words) {
+        Ok(matches) => asked_of(alloc, &matches),
+        Err(error) => Err(stop_of(alloc, &error)),
+    }
+}
+
+// What the parser finds in the words.
+fn parse<'a>(alloc: Global, words: &'a [String]) -> Result<ArgMatches<'a>, Error> {
+    command(alloc)?.try_get_matches_from(words)
+}
+
+// The program's arguments.
+fn command<'a>(alloc: Global) -> Result<Command<'a>, AllocError> {
+    Command::new(alloc, "augbench")
+        .about("Measures the shared trie beside a set behind a lock")
+        .no_binary_name(true)
+        .args_conflicts_with_subcommands(true)
+        .subcommand_negates_reqs(true)
+        .disable_help_subcommand(true)
+        .arg(workload(alloc))?
+        .arg(number(alloc, "THREADS", 1, 64).help("How many threads there are"))?
+        .arg(number(alloc, "SECONDS", 1, 600).help("For how many seconds each engine is measured"))?
+        .subcommand(bench(alloc)?)?
+        .subcommand(count(alloc)?)?
+        .subcommand(Command::new(alloc, "check").about("Compares the answers of both engines"))
+}
+
+fn bench<'a>(alloc: Global) -> Result<Command<'a>, AllocError> {
+    Command::new(alloc, "bench")
+        .about("Measures 1, 2 and 4 threads, and tells before each where to place them")
+        .arg(workload(alloc))?
+        .arg(number(alloc, "CPU0", 0, 4095).help("The first of the processors to place them on"))
+}
+
+fn count<'a>(alloc: Global) -> Result<Command<'a>, AllocError> {
+    Command::new(alloc, "count")
+        .about(
+            "Makes operations of one kind on the trie in one thread, for a counter of instructions",
+        )
+        .arg(
+            Arg::new(alloc, "OP")
+                .required(true)
+                .action(ArgAction::Set)
+                .value_parser(["none", "new", "dup", "rank"].as_slice())
+                .help("Nothing, inserts of absent or of present keys, or ranks on one snapshot"),
+        )?
+        .arg(number(alloc, "N", 1, 65_536).help("How many of them"))?
+        .arg(option(alloc, "bits", "H", 16, "16").help("Keys are below 2^H"))?
+        .arg(option(alloc, "gap", "G", 16, "1").help(
+            "The members at the opening are the multiples of 2^G",
+        ))
+}
+
+fn workload<'a>(alloc: Global) -> Arg<'a> {
+    Arg::new(alloc, "WORKLOAD")
+        .required(true)
+        .action(ArgAction::Set)
+        .value_parser(["U", "M", "Q", "S"].as_slice())
+        .help(
+            "U updates; M queries and a tenth updates; Q queries; S batches of 32 ranks and a tenth updates",
+        )
+}
+
+fn number<'a>(alloc: Global, name: &'a str, least: i64, most: i64) -> Arg<'a> {
+    Arg::new(alloc, name)
+        .required(true)
+        .action(ArgAction::Set)
+        .value_parser(value_parser!(u32).range(least..=most))
+}
+
+fn option<'a>(
+    alloc: Global,
+    name: &'a str,
+    value: &'a str,
+    most: i64,
+    default: &'a str,
+) -> Arg<'a> {
+    Arg::new(alloc, name)
+        .long(name)
+        .action(ArgAction::Set)
+        .value_name(value)
+        .value_parser(value_parser!(u32).range(1..=most))
+        .default_value(default)
+}
+
+// What was found, as a request.
+fn asked_of(alloc: Global, matches: &ArgMatches<'_>) -> Result<Asked, Stop> {
+    match matches.subcommand() {
+        None => Ok(Asked::Measure {
+            workload: workload_of(alloc, matches)?,
+            threads: number_of(alloc, matches, "THREADS")?,
+            seconds: number_of(alloc, matches, "SECONDS")?,
+        }),
+        Some(("bench", found)) => Ok(Asked::Bench {
+            workload: workload_of(alloc, found)?,
+            first: number_of(alloc, found, "CPU0")?,
+        }),
+        Some(("count", found)) => counting_of(alloc, found),
+        Some(_) => Ok(Asked::Check),
+    }
+}
+
+fn counting_of(alloc: Global, found: &ArgMatches<'_>) -> Result<Asked, Stop> {
+    let operation = match found.get_str("OP") {
+        Some("new") => Operation::New,
+        Some("dup") => Operation::Duplicate,
+        Some("rank") => Operation::Rank,
+        _ => Operation::Nothing,
+    };
+    Ok(Asked::Count(Counting {
+        operation,
+        times: number_of(alloc, found, "N")?,
+        bits: number_of(alloc, found, "bits")?,
+        gap: number_of(alloc, found, "gap")?,
+    }))
+}
+
+// The workload whose letter was found.
+fn workload_of(alloc: Global, found: &ArgMatches<'_>) -> Result<Workload, Stop> {
+    for workload in Workload::ALL {
+        if found.get_str("WORKLOAD") == Some(workload.letter()) {
+            return Ok(workload);
+        }
+    }
+    Err(missing(alloc))
+}
+
+// The number that was found.
+fn number_of(alloc: Global, found: &ArgMatches<'_>, name: &str) -> Result<u32, Stop> {
+    found.get_one(name).ok_or(missing(alloc))
+}
+
+// A word that the parser wants is not there, which it tells by itself.
+fn missing(alloc: Global) -> Stop {
+    match String::from_str(alloc, "error: a word is missing\n") {
+        Ok(text) => Stop::Usage(text),
+        Err(_) => Stop::OutOfMemory,
+    }
+}
+
+// What an error of the parser comes to.
+fn stop_of(alloc: Global, error: &Error) -> Stop {
+    let kind = error.kind();
+    if kind == ErrorKind::OutOfMemory {
+        return Stop::OutOfMemory;
+    }
+    match format!(in alloc; "{error}") {
+        Ok(text) if kind == ErrorKind::DisplayHelp => Stop::Help(text),
+        Ok(text) => Stop::Usage(text),
+        Err(_) => Stop::OutOfMemory,
+    }
+}

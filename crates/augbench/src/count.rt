@@ -1,0 +1,110 @@
+//! Operations of one kind on one thread, for a counter of instructions.
+ghost use Rattle.std.specs.Prelude.{◌≡◌, ◌+◌, ◌*◌, ◌^◌, ◌<◌, ◌≤◌, IfOk};
+ghost use Rattle.aug_trie.specs.Facts.{HasSnapshot};
+
+use crate::asked::{Counting, Operation};
+use crate::trie::{Hand, Trie};
+use anyhow::ensure;
+use aug_trie::Round;
+use std::alloc::Global;
+
+// How many updates a pass has.
+const UPDATES: u32 = 65_536;
+
+/// Opens a trie, makes operations of one kind, and gives the sum of their answers.
+pub(crate) fn count(alloc: Global, asked: Counting) -> anyhow::Result<u64> {
+    let Counting {
+        operation,
+        times,
+        bits,
+        gap,
+    } = asked;
+    ensure!(1 <= bits && bits <= 16, "a key has 1 to 16 bits");
+    ensure!(gap <= 16, "a gap has 1 to 16 bits");
+    ensure!(times <= UPDATES, "a round has 65536 updates");
+    let (universe, step) = (1u32 << bits, 1u32 << gap);
+    let members = universe / step;
+    ensure!(1 < step && 0 < members, "the gap is 0, or wider than a key");
+    ensure!(
+        operation != Operation::New || times <= members,
+        "there are not so many absent keys to take"
+    );
+    let trie = opening(alloc, bits, members, step)?;
+    let (table, mut crew) = match Round::begin(alloc, trie, 1, UPDATES) {
+        Ok(begun) => begun,
+        Err((_, cause)) => return Err(cause.into()),
+    };
+    let mut pass = crew.pass(&table)?;
+    let sum = match operation {
+        Operation::Nothing => 0,
+        Operation::New => inserts(&mut pass, times, members, step, 1),
+        Operation::Duplicate => inserts(&mut pass, times, members, step, 0),
+        Operation::Rank => ranks(&mut pass, times, universe),
+    };
+    crew.back(pass);
+    let _trie = table.end(crew);
+    Ok(sum)
+}
+
+// The trie whose members are the first so many multiples of the step.
+fn opening(alloc: Global, bits: u32, members: u32, step: u32) -> anyhow::Result<Trie>
+    requires some { 0 < members }
+    requires few { members ≤ UPDATES }
+    requires step { 0 < step }
+    requires fits { members * step ≤ 2 ^ bits }
+    requires small { members * step ≤ 65536 }
+    ensures { IfOk result (λ trie. trie.bits ≡ bits) }
+{
+    let empty = Trie::empty(alloc, bits)?;
+    let (table, mut crew) = match Round::begin(alloc, empty, 1, UPDATES) {
+        Ok(begun) => begun,
+        Err((_, cause)) => return Err(cause.into()),
+    };
+    let mut pass = crew.pass(&table)?;
+    inserts(&mut pass, members, members, step, 0);
+    crew.back(pass);
+    Ok(table.end(crew))
+}
+
+// Inserts the keys so far above the multiples of the step, in a spread order, and counts those that were not there.
+#[inline(never)]
+#[tactic(auto, using(crate::proofs::Spreads::spread_fits))]
+fn inserts(pass: &mut Hand, times: u32, members: u32, step: u32, above: u32) -> u64
+    requires some { 0 < members }
+    requires above { above < step }
+    requires fits { members * step ≤ 2 ^ pass.old.round.bits }
+    requires small { members * step ≤ 65536 }
+    requires budget { pass.old.spent + times ≤ pass.old.round.updates }
+    ensures { pass.new.round ≡ pass.old.round }
+{
+    let mut came = 0u64;
+    for i in 0..times {
+        let key = spread(i, members) * step + above;
+        came = came.wrapping_add(u64::from(pass.insert(key)));
+    }
+    came
+}
+
+// The sum of the ranks of keys in a spread order on one snapshot.
+#[inline(never)]
+fn ranks(pass: &mut Hand, times: u32, universe: u32) -> u64
+    requires { 0 < universe }
+    ensures { pass.new.round ≡ pass.old.round }
+{
+    let mut sum = 0u64;
+    let now = pass.snapshot();
+    for i in 0..times {
+        sum = sum.wrapping_add(u64::from(pass.rank(now, spread(i, universe))));
+    }
+    sum
+}
+
+// A number below a power of two: each comes once before the first comes again.
+#[inline(always)]
+#[tactic(auto, using(std::proofs::lemmas::Nat::and_le_r))]
+fn spread(i: u32, below: u32) -> u32
+    requires { 0 < below }
+    ensures { result < below }
+{
+    i.wrapping_mul(20_011) & (below - 1)
+}

@@ -1,0 +1,153 @@
+//! A set of keys as one thread would keep it: what a user would put behind a lock.
+ghost use Rattle.std.specs.Prelude.{◌≡◌, ◌+◌, ◌<◌, ◌≤◌, length, vec_len, IfOk, IfSome};
+
+use crate::keys::UNIVERSE;
+use crate::span::Span;
+use std::alloc::{AllocError, Global};
+
+/// A bitmap of the keys, with two Fenwick trees, of the counts and of the sums of the members. It is proved safe alone.
+#[derive(Drop)]
+pub(crate) struct FenwickSet {
+    present: Vec<u64>,
+    counts: Vec<u32>,
+    sums: Vec<u64>,
+    size: u32,
+    ghost room: { (vec_len present ≡ 1024) × (vec_len counts ≡ 65536) × (vec_len sums ≡ 65536) },
+}
+
+impl FenwickSet {
+    /// The empty set.
+    pub(crate) fn new(alloc: Global) -> Result<FenwickSet, AllocError> {
+        Ok(FenwickSet {
+            present: vec![in alloc; 0u64; 1024]?,
+            counts: vec![in alloc; 0u32; 65_536]?,
+            sums: vec![in alloc; 0u64; 65_536]?,
+            size: 0,
+        })
+    }
+
+    /// Puts a key in: true where it was not there.
+    pub(crate) fn insert(&mut self, key: u32) -> bool
+        requires { key < UNIVERSE }
+    {
+        let (place, bit) = (key as usize / 64, 1u64 << (key % 64));
+        let word = self.present[place];
+        if word & bit != 0 {
+            return false;
+        }
+        self.present[place] = word | bit;
+        self.size = self.size.wrapping_add(1);
+        add(&mut self.counts, &mut self.sums, key, 1, u64::from(key));
+        true
+    }
+
+    /// Takes a key out: true where it was there.
+    pub(crate) fn remove(&mut self, key: u32) -> bool
+        requires { key < UNIVERSE }
+    {
+        let (place, bit) = (key as usize / 64, 1u64 << (key % 64));
+        let word = self.present[place];
+        if word & bit == 0 {
+            return false;
+        }
+        self.present[place] = word ^ bit;
+        self.size = self.size.wrapping_sub(1);
+        add(
+            &mut self.counts,
+            &mut self.sums,
+            key,
+            u32::MAX,
+            u64::from(key).wrapping_neg(),
+        );
+        true
+    }
+
+    /// How many members there are.
+    pub(crate) fn size(&self) -> u32 {
+        self.size
+    }
+
+    /// How many members are below a key.
+    #[tactic(auto, using(std::proofs::lemmas::Nat::and_le_r))]
+    pub(crate) fn rank(&self, key: u32) -> u32
+        requires { key ≤ UNIVERSE }
+    {
+        let mut below = 0u32;
+        let mut left = key as usize;
+        while left > 0 {
+            below = below.wrapping_add(self.counts[left - 1]);
+            left &= left - 1;
+        }
+        below
+    }
+
+    /// The member with so many members below it, if there is one.
+    pub(crate) fn select(&self, index: u32) -> Option<u32>
+        ensures { IfSome result (λ key. key < UNIVERSE) }
+    {
+        if index >= self.size {
+            return None;
+        }
+        let (mut key, mut left) = (0u32, index);
+        let mut half = UNIVERSE / 2;
+        while half > 0 {
+            let count = self.counts[(key + half - 1) as usize];
+            if count <= left {
+                left -= count;
+                key += half;
+            }
+            half /= 2;
+        }
+        Some(key)
+    }
+
+    /// What the members from `from` on that are below `to` come to.
+    pub(crate) fn range(&self, from: u32, to: u32) -> Span
+        requires from { from ≤ UNIVERSE }
+        requires to { to ≤ UNIVERSE }
+    {
+        let (skipped, before) = self.below(from);
+        let (upto, all) = self.below(to);
+        let count = upto.wrapping_sub(skipped);
+        let ends = if count == 0 {
+            None
+        } else {
+            self.select(skipped).zip(self.select(upto.wrapping_sub(1)))
+        };
+        Span {
+            count,
+            sum: all.wrapping_sub(before),
+            ends,
+        }
+    }
+
+    // The number and the sum of the members below a key.
+    #[tactic(auto, using(std::proofs::lemmas::Nat::and_le_r))]
+    fn below(&self, key: u32) -> (u32, u64)
+        requires { key ≤ UNIVERSE }
+    {
+        let (mut count, mut sum) = (0u32, 0u64);
+        let mut left = key as usize;
+        while left > 0 {
+            count = count.wrapping_add(self.counts[left - 1]);
+            sum = sum.wrapping_add(self.sums[left - 1]);
+            left &= left - 1;
+        }
+        (count, sum)
+    }
+}
+
+// Adds to the count and to the sum of each place that covers a key.
+#[tactic(auto, using(std::proofs::lemmas::Nat::le_or_r))]
+fn add(counts: &mut [u32], sums: &mut [u64], key: u32, count: u32, sum: u64)
+    requires key { key < UNIVERSE }
+    requires counts { length counts.old ≡ 65536 }
+    requires sums { length sums.old ≡ 65536 }
+{
+    let mut place = key as usize;
+    while place < 65_536 {
+        counts[place] = counts[place].wrapping_add(count);
+        sums[place] = sums[place].wrapping_add(sum);
+        place |= place + 1;
+    }
+}

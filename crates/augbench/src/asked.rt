@@ -43,4 +43,8 @@ pub(crate) enum Operation {
     Duplicate,
     /// Ranks on one snapshot.
     Rank,
+    /// Selections on one snapshot.
+    Select,
+    /// Ranges on one snapshot.
+    Range,
 }

@@ -53,8 +53,8 @@ fn count<'a>(alloc: Global) -> Result<Command<'a>, AllocError> {
             Arg::new(alloc, "OP")
                 .required(true)
                 .action(ArgAction::Set)
-                .value_parser(["none", "new", "dup", "rank"].as_slice())
-                .help("Nothing, inserts of absent or of present keys, or ranks on one snapshot"),
+                .value_parser(["none", "new", "dup", "rank", "select", "range"].as_slice())
+                .help("Nothing, inserts of absent or of present keys, or queries on one snapshot"),
         )?
         .arg(number(alloc, "N", 1, 65_536).help("How many of them"))?
         .arg(option(alloc, "bits", "H", 16, "16").help("Keys are below 2^H"))?
@@ -117,6 +117,8 @@ fn counting_of(alloc: Global, found: &ArgMatches<'_>) -> Result<Asked, Stop> {
         Some("new") => Operation::New,
         Some("dup") => Operation::Duplicate,
         Some("rank") => Operation::Rank,
+        Some("select") => Operation::Select,
+        Some("range") => Operation::Range,
         _ => Operation::Nothing,
     };
     Ok(Asked::Count(Counting {

@@ -3,6 +3,7 @@ ghost use Rattle.std.specs.Prelude.{◌≡◌, ◌+◌, ◌*◌, ◌^◌, ◌<�
 ghost use Rattle.aug_trie.specs.Facts.{HasSnapshot};
 
 use crate::asked::{Counting, Operation};
+use crate::span::found;
 use crate::trie::{Hand, Trie};
 use anyhow::ensure;
 use aug_trie::Round;
@@ -40,6 +41,8 @@ pub(crate) fn count(alloc: Global, asked: Counting) -> anyhow::Result<u64> {
         Operation::New => inserts(&mut pass, times, members, step, 1),
         Operation::Duplicate => inserts(&mut pass, times, members, step, 0),
         Operation::Rank => ranks(&mut pass, times, universe),
+        Operation::Select => selects(&mut pass, times, members),
+        Operation::Range => ranges(&mut pass, times, universe),
     };
     crew.back(pass);
     let _trie = table.end(crew);
@@ -95,6 +98,36 @@ fn ranks(pass: &mut Hand, times: u32, universe: u32) -> u64
     let now = pass.snapshot();
     for i in 0..times {
         sum = sum.wrapping_add(u64::from(pass.rank(now, spread(i, universe))));
+    }
+    sum
+}
+
+// The sum of the members with so many members below them, in a spread order, on one snapshot.
+#[inline(never)]
+fn selects(pass: &mut Hand, times: u32, members: u32) -> u64
+    requires { 0 < members }
+    ensures { pass.new.round ≡ pass.old.round }
+{
+    let mut sum = 0u64;
+    let now = pass.snapshot();
+    for i in 0..times {
+        sum = sum.wrapping_add(found(pass.select(now, spread(i, members))));
+    }
+    sum
+}
+
+// The sum of how many members ranges have whose ends come in a spread order, on one snapshot.
+#[inline(never)]
+fn ranges(pass: &mut Hand, times: u32, universe: u32) -> u64
+    requires { 0 < universe }
+    ensures { pass.new.round ≡ pass.old.round }
+{
+    let mut sum = 0u64;
+    let now = pass.snapshot();
+    for i in 0..times {
+        let (one, two) = (spread(i, universe), spread(!i, universe));
+        let range = pass.range(now, one.min(two), one.max(two));
+        sum = sum.wrapping_add(u64::from(range.count));
     }
     sum
 }

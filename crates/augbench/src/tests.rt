@@ -24,6 +24,18 @@ fn asked_by(alloc: Global, line: &str) -> Result<Result<Asked, Stop>, AllocError
     Ok(asked(alloc, words.as_slice()))
 }
 
+// The text of the words' fault, or none.
+fn refusal(alloc: Global, line: &str) -> Result<String, AllocError> {
+    match asked_by(alloc, line)? {
+        Ok(_) => Ok(String::new(alloc)),
+        Err(stop) => match stop {
+            Stop::Usage(text) => Ok(text),
+            Stop::Help(_text) => Ok(String::new(alloc)),
+            Stop::OutOfMemory => Err(AllocError),
+        },
+    }
+}
+
 #[test]
 fn the_lock_answers_as_a_plain_set(rt: HostRuntime) -> Result<(), Fail> {
     let mut fenwick = FenwickSet::new(rt.alloc())?;
@@ -68,12 +80,13 @@ fn several_threads_run_each_workload(rt: HostRuntime) -> Result<(), Fail> {
 
 #[test]
 fn counts_operations_of_each_kind(rt: HostRuntime) -> Result<(), Fail> {
-    // of 16 keys every second is in; the ranks of all keys are 0, 1, 1, 2, 2 .. 7, 7, 8
+    // of 16 keys every second is in; the ranks of all keys are 0, 1, 1, 2, 2 .. 7, 7, 8, and the members 0, 2, 4 .. 14
     for (operation, times, sum) in [
         (Operation::Nothing, 16, 0),
         (Operation::New, 8, 8),
         (Operation::Duplicate, 16, 0),
         (Operation::Rank, 16, 64),
+        (Operation::Select, 8, 56),
     ] {
         let asked = Counting {
             operation,
@@ -176,13 +189,11 @@ fn refuses_wrong_words(rt: HostRuntime) -> Result<(), Fail> {
         ),
         ("check 1", "error: unexpected argument '1' found\n"),
     ] {
-        match asked_by(rt.alloc(), line)? {
-            Err(Stop::Usage(said)) => assert!(rt;
-                said.as_bytes().starts_with(text.as_bytes()),
-                "{said} in {line}"
-            ),
-            _ => assert!(rt; false, "{line} was not refused"),
-        }
+        let said = refusal(rt.alloc(), line)?;
+        assert!(rt;
+            said.as_bytes().starts_with(text.as_bytes()),
+            "{said} in {line}"
+        );
     }
     Ok(())
 }

@@ -4,14 +4,18 @@
 usage: tests/outside.py PROGRAM..
 
 Every test of a program runs once for each PROGRAM. The last line is 'N passed, M failed', and the exit status is 0 where none failed.
-It needs Python 3.8 or later and the toolchain, whose C compiler makes the library that refuses memory.
+It needs Python 3.8 or later and the toolchain, whose C compiler makes the library that refuses memory and threads.
 """
 
+import concurrent.futures
 import os
+import resource
 import subprocess
 import sys
 import tempfile
 import unittest
+
+from refusing import Refusing
 
 TOP = os.path.dirname(os.path.dirname(os.path.abspath(__file__)))
 EXAMPLES = os.path.join(TOP, "examples")
@@ -24,6 +28,7 @@ SCRIPT_LIMIT = 16777216
 
 INPUT_FAULT = (b"", b"augtrie: input\n", 3)
 OUTPUT_FAULT = (b"", b"augtrie: output\n", 3)
+MEMORY_FAULT = (b"", b"augtrie: memory\n", 4)
 TOO_LONG = (b"", b"augtrie: script too long\n", 1)
 
 FIRST = b"""\
@@ -48,6 +53,22 @@ FIRST_REPORT = b"""\
 1 0 range 0 16 = 2 14 5 9
 1 end size=2 in=2 out=0
 """
+
+# Two rounds of one lane.
+TWO_ROUNDS = b"0,insert,1\n0,insert,2\n0,insert,3\n*,end\n0,remove,2\n0,look\n0,select,1\n*,end\n"
+
+TWO_REPORTS = (
+    b"1 0 insert 1 = new\n1 0 insert 2 = new\n1 0 insert 3 = new\n1 end size=3 in=3 out=0\n",
+    b"2 0 remove 2 = gone\n2 0 look = ok\n2 0 select 1 = 3\n2 end size=2 in=0 out=1\n",
+)
+
+# Two rounds of four lanes, each key of one lane.
+FOUR_LANES = b"0,insert,1\n1,insert,2\n*,end\n2,insert,3\n3,remove,1\n"
+
+FOUR_LANES_REPORTS = (
+    b"1 0 insert 1 = new\n1 1 insert 2 = new\n1 end size=2 in=2 out=0\n",
+    b"2 2 insert 3 = new\n2 3 remove 1 = gone\n2 end size=2 in=1 out=1\n",
+)
 
 OTHER = b"0,size\n"
 
@@ -139,6 +160,8 @@ GOOD_SCRIPTS = [
         b"1 0 look = ok\n1 0 size = 0\n1 end size=0 in=0 out=0\n",
     ),
     ("byte_order_mark", "", b"\xef\xbb\xbf0,look\n", b"1 0 look = ok\n1 end size=0 in=0 out=0\n"),
+    ("two_rounds", "", TWO_ROUNDS, b"".join(TWO_REPORTS)),
+    ("four_lanes", "--workers 4", FOUR_LANES, b"".join(FOUR_LANES_REPORTS)),
 ]
 
 # Scripts with a fault: a name, the options, the script and the line of the fault after `augtrie: `.
@@ -322,36 +345,99 @@ class Outside:
             out, err, status = self.run_on(words, FIRST, **{stream: full})
         return out or b"", err or b"", status
 
-    # Want of memory.
+    def test_report_to_a_file_that_takes_a_part_of_it(self):
+        for size in range(len(FIRST_REPORT)):
+            self.assertEqual(self.to_short_file(size), (FIRST_REPORT[:size], OUTPUT_FAULT[1], OUTPUT_FAULT[2]))
+        self.assertEqual(self.to_short_file(len(FIRST_REPORT)), (FIRST_REPORT, b"", 0))
+
+    def to_short_file(self, size):
+        """Runs the first script into a file that takes so many bytes: what it then has, what was written to standard error, the status."""
+        limit = lambda: resource.setrlimit(resource.RLIMIT_FSIZE, (size, size))
+        path = os.path.join(self.folder, "report")
+        with open(path, "wb") as file:
+            # the signal that tells of the limit stays ignored
+            _, err, status = self.run_on([], FIRST, stdout=file, preexec_fn=limit, restore_signals=False)
+        return read(path), err, status
+
+    # Want of memory, and of threads.
 
     def test_each_request_for_memory_refused(self):
-        wanted = {4: (b"", b"augtrie: memory\n", 4)}
-        self.refuse_each([], FIRST, FIRST_REPORT, wanted)
+        self.refuse_each([], FIRST, FIRST_REPORT, [MEMORY_FAULT])
 
     def test_each_request_for_memory_refused_with_a_file(self):
         # room that is asked for ahead can be done without
-        wanted = {4: (b"", b"augtrie: memory\n", 4), 3: INPUT_FAULT, 0: (FIRST_REPORT, b"", 0)}
+        wanted = [MEMORY_FAULT, INPUT_FAULT, (FIRST_REPORT, b"", 0)]
         self.refuse_each(["--updates", "9", "first.csv"], b"", FIRST_REPORT, wanted)
 
+    def test_each_request_for_memory_refused_in_two_rounds(self):
+        wanted = [MEMORY_FAULT, (TWO_REPORTS[0], *MEMORY_FAULT[1:])]
+        self.assertEqual(self.refuse_each([], TWO_ROUNDS, b"".join(TWO_REPORTS), wanted), wanted)
+
     def refuse_each(self, words, script, report, wanted):
-        """Counts the program's requests for memory, and then refuses each in turn: the run ends as is wanted of its status."""
-        library = os.path.join(self.folder, "refuse_memory.so")
-        compile_shared(os.path.join(TOP, "tests", "refuse_memory.c"), library)
-        reader, writer = os.pipe()
-        self.addCleanup(os.close, reader)
-        env = {"LD_PRELOAD": library, "REQUESTS_TO": str(writer)}
-        ended = self.run_on(words, script, env=env, pass_fds=[writer])
-        os.close(writer)
+        """Counts the program's requests for memory, and then refuses each in turn: the run ends in one of the wanted ways. Returns those
+        that were seen, in the order of `wanted`."""
+        refusing = Refusing(self.folder)
+        ended, requests, _ = refusing.counted(lambda **given: self.run_on(words, script, **given))
         self.assertEqual(ended, (report, b"", 0))
-        requests = len(os.read(reader, 65536))
-        refused = 0
+        seen = []
         for number in range(1, requests + 1):
-            ended = self.run_on(words, script, env={"LD_PRELOAD": library, "REFUSED_REQUEST": str(number)})
-            status = ended[2]
-            self.assertEqual(ended, wanted.get(status), f"with request {number} of {requests} refused")
-            refused += status != 0
+            ended = self.run_on(words, script, env=refusing.request(number))
+            self.assertIn(ended, wanted, f"with request {number} of {requests} refused")
+            seen.append(ended)
+        refused = sum(status != 0 for _, _, status in seen)
         self.assertGreater(refused, 10)
         self.assertGreaterEqual(refused, requests - 1)
+        return [it for it in wanted if it in seen]
+
+    def test_each_start_of_a_thread_refused(self):
+        words = ["--workers", "4"]
+        refusing = Refusing(self.folder)
+        ended, _, starts = refusing.counted(lambda **given: self.run_on(words, FOUR_LANES, **given))
+        self.assertEqual((ended, starts), ((b"".join(FOUR_LANES_REPORTS), b"", 0), 8))
+        for number in range(1, 9):
+            out = FOUR_LANES_REPORTS[0] if number > 4 else b""
+            ended = self.run_on(words, FOUR_LANES, env=refusing.start(number))
+            self.assertEqual(ended, (out, *MEMORY_FAULT[1:]), f"with start {number} refused")
+
+    # Under load.
+
+    def test_script_of_the_greatest_size_in_64_lanes(self):
+        rows = [(lane, 1024 * lane + place) for place in range(1024) for lane in range(64)]
+        script = b"".join(b"%d,insert,%d\n" % row for row in rows) + b"".join(b"%d,look\n" % lane for lane in range(64))
+        asked = b"".join(b"%d,has,%d\n" % row for row in rows)
+        times = (SCRIPT_LIMIT - len(script)) // len(asked)
+        self.write("long.csv", (script + asked * times).ljust(SCRIPT_LIMIT, b"\n"))
+        report = b"".join(b"1 %d insert %d = new\n" % row for row in rows) + b"".join(b"1 %d look = ok\n" % lane for lane in range(64))
+        report += b"".join(b"1 %d has %d = yes\n" % row for row in rows) * times + b"1 end size=65536 in=65536 out=0\n"
+        out, err, status = self.run_on(["--bits", "16", "--workers", "64", "--updates", "1024", "long.csv"])
+        self.assertEqual((err, status), (b"", 0))
+        self.assertTrue(out == report, "not the report of this script")
+
+    def test_greatest_table(self):
+        script = b"".join(b"%d,insert,%d\n" % (lane, 1040 * lane) for lane in range(64))
+        report = b"".join(b"1 %d insert %d = new\n" % (lane, 1040 * lane) for lane in range(64))
+        words = ["--bits", "16", "--workers", "64", "--updates", "13017"]
+        self.assertEqual(self.run_on(words, script), (report + b"1 end size=64 in=64 out=0\n", b"", 0))
+
+    def test_rounds_give_their_memory_back(self):
+        # the table of each round takes some 4 MB
+        words = ["--bits", "16", "--workers", "64"]
+        one, many = (self.peak_of(words, b"0,insert,1\n*,end\n" * rounds) for rounds in (1, 100))
+        self.assertLess(many, 2 * one)
+
+    def peak_of(self, words, script):
+        """How many KiB a run takes at most."""
+        measured = "import resource, subprocess, sys; subprocess.run(sys.argv[1:], stdout=subprocess.DEVNULL, check=True); "
+        measured += "print(resource.getrusage(resource.RUSAGE_CHILDREN).ru_maxrss)"
+        words = [sys.executable, "-c", measured, self.program, *words]
+        return int(subprocess.run(words, input=script, stdout=subprocess.PIPE, timeout=SECONDS, check=True).stdout)
+
+    def test_several_programs_at_once(self):
+        wanted = (b"".join(FOUR_LANES_REPORTS), b"", 0)
+        with concurrent.futures.ThreadPoolExecutor(8) as pool:
+            ran = [pool.submit(self.run_on, ["--workers", "4"], FOUR_LANES) for _ in range(64)]
+            for it in ran:
+                self.assertEqual(it.result(), wanted)
 
 
 class Shown(unittest.TestCase):
@@ -369,14 +455,6 @@ class Shown(unittest.TestCase):
         script, report = (read(os.path.join(EXAMPLES, f"first.{kind}")).decode().splitlines() for kind in ("csv", "out"))
         lines = [f"{row:22}{line}" for row, line in zip([*script, ""], report)]
         self.assertIn("\n".join(["```text", *lines, "```"]).encode(), self.readme)
-
-
-def compile_shared(source, library):
-    """Compiles a shared library by the toolchain's own compiler, which needs no header and no other linker."""
-    page = subprocess.run(["rt", "doc"], stdout=subprocess.PIPE, check=True).stdout.decode().strip()
-    clang = os.path.join(os.path.dirname(page), "toolchain", "bin", "clang")
-    words = ["-O1", "-fPIC", "-shared", "-nostdlib", "-fno-builtin", "-fuse-ld=lld", "-o", library, source]
-    subprocess.run([clang, *words], check=True)
 
 
 def make_tests():

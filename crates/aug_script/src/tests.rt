@@ -339,11 +339,11 @@ fn a_sink_that_fails_has_a_beginning(rt: HostRuntime) -> Result<(), Fail> {
     Ok(())
 }
 
-// Under `rt try --test --fail-alloc N` the Nth request for memory is refused: reading then answers `OutOfMemory`, and
-// what is read after that is whole.
+// Passes whichever request for memory is refused: reading then answers `OutOfMemory`, and what is read after that is whole.
 #[test]
 fn refused_memory_is_told_by_reading(rt: HostRuntime) -> Result<(), Fail> {
     let limits = Limits::try_new(4, 2, 64)?;
+    let mut refused = 0u32;
     for _ in 0..2 {
         match Script::read(rt.alloc(), b"0,insert,5\n*,end\n1,look\n", &limits) {
             Ok(script) => {
@@ -353,8 +353,32 @@ fn refused_memory_is_told_by_reading(rt: HostRuntime) -> Result<(), Fail> {
                 let second = [row(3, 1, Verb::Look)];
                 assert_eq!(rt; script.rounds()[1].as_slice(), second.as_slice());
             }
-            Err(fault) => assert_eq!(rt; fault, ScriptError::OutOfMemory),
+            Err(fault) => {
+                assert_eq!(rt; (fault, refused), (ScriptError::OutOfMemory, 0));
+                refused = 1;
+            }
         }
     }
+    Ok(())
+}
+
+// Passes whichever request for memory is refused: nothing then went out, and all does once it is printed again.
+#[test]
+fn refused_memory_leaves_the_sink_as_it_was(rt: HostRuntime) -> Result<(), Fail> {
+    let report = match report(rt.alloc()) {
+        Ok(report) => report,
+        Err(_) => report(rt.alloc())?,
+    };
+    let mut sink = MemorySink::new(rt.alloc(), usize::MAX, None);
+    // The sink itself then asks for no memory.
+    if sink.out.reserve(TEXT.len()).is_err() {
+        sink.out.reserve(TEXT.len())?;
+    }
+    if print(rt.alloc(), &report, &mut sink) == Err(PrintError::OutOfMemory) {
+        assert_eq!(rt; (sink.calls, sink.out.len()), (0, 0));
+        assert_eq!(rt; print(rt.alloc(), &report, &mut sink), Ok(()));
+    }
+    assert_eq!(rt; sink.out.as_slice(), TEXT.as_bytes());
+    assert_eq!(rt; sink.finished, 1);
     Ok(())
 }

@@ -79,6 +79,28 @@ fn a_set_is_refused_while_no_memory_is_left_and_made_once_there_is(
     Ok(())
 }
 
+// A set of so many bits, asked for once more where memory was refused.
+fn made(alloc: Global, bits: u32) -> Result<KeySet, ModelError> {
+    match KeySet::try_new(alloc, bits) {
+        Err(ModelError::OutOfMemory) => KeySet::try_new(alloc, bits),
+        made => made,
+    }
+}
+
+// Passes whichever request for memory is refused.
+#[test]
+fn refused_memory_spoils_no_other_set(rt: HostRuntime) -> Result<(), Fail> {
+    let mut first = made(rt.alloc(), 4)?;
+    assert!(rt; put(&rt, &mut first, 9));
+    let second = made(rt.alloc(), 16)?;
+    assert_eq!(rt;
+        (first.size(), first.has(9), first.after(0)),
+        (1, true, Some(9))
+    );
+    assert_eq!(rt; (second.bits(), second.size()), (16, 0));
+    Ok(())
+}
+
 #[test]
 fn the_greatest_key_goes_in_and_out_at_every_number_of_bits(rt: HostRuntime) -> Result<(), Fail> {
     for bits in 1..=16 {

@@ -3,6 +3,7 @@ ghost use Rattle.std.specs.Prelude.{◌≡◌, ◌^◌, ◌<◌, ◌≤◌, IfOk
 
 mod ending;
 mod looking;
+mod refused;
 mod turning;
 
 use crate::{BeginError, Crew, CrewError, Ended, Pass, PassHalf, Round};

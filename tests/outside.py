@@ -8,7 +8,9 @@ It needs Python 3.8 or later and the toolchain, whose C compiler makes the libra
 """
 
 import concurrent.futures
+import glob
 import os
+import re
 import resource
 import subprocess
 import sys
@@ -389,6 +391,12 @@ class Outside:
         self.assertGreaterEqual(refused, requests - 1)
         return [it for it in wanted if it in seen]
 
+    def test_table_that_there_is_no_memory_for(self):
+        # the words take half a gigabyte, twice while the table is opened
+        room = lambda: resource.setrlimit(resource.RLIMIT_AS, (700 << 20, 700 << 20))
+        words = ["--bits", "16", "--workers", "64", "--updates", "13017", "first.csv"]
+        self.assertEqual(self.run_on(words, preexec_fn=room), MEMORY_FAULT)
+
     def test_each_start_of_a_thread_refused(self):
         words = ["--workers", "4"]
         refusing = Refusing(self.folder)
@@ -441,7 +449,7 @@ class Outside:
 
 
 class Shown(unittest.TestCase):
-    """The README shows what stands in the repository."""
+    """The README and the list of public calls show what stands in the repository."""
 
     def setUp(self):
         self.readme = read(os.path.join(TOP, "README.md"))
@@ -450,6 +458,15 @@ class Shown(unittest.TestCase):
         crate = os.path.join(TOP, "crates", "index_example")
         self.assertIn(b"```rust\n" + read(os.path.join(crate, "src", "main.rt")) + b"```\n", self.readme)
         self.assertIn(b"```text\n" + read(os.path.join(crate, "stdout")) + b"```\n", self.readme)
+
+    def test_names_in_the_list_of_calls(self):
+        files = glob.glob(os.path.join(TOP, "crates", "*", "src", "**", "*.rt"), recursive=True)
+        files += glob.glob(os.path.join(TOP, "tests", "*.py"))
+        edits = glob.glob(os.path.join(TOP, "crates", "*", "must-fail", "*.edit"))
+        there = " ".join([*(read(file).decode() for file in files), *(os.path.basename(edit) for edit in edits)])
+        said = re.findall(r"`(\w+)`", read(os.path.join(TOP, "docs", "surface.md")).decode())
+        self.assertGreater(len(said), 300)
+        self.assertLessEqual(set(said), {*re.findall(r"\w+", there), *re.findall(r"test_(\w+)", there)})
 
     def test_script_in_the_readme(self):
         script, report = (read(os.path.join(EXAMPLES, f"first.{kind}")).decode().splitlines() for kind in ("csv", "out"))

@@ -8,6 +8,9 @@ use std::sync::Wait;
 use std::test::Fail;
 use std::thread::Threads;
 
+const FIRST_SCRIPT: &str =
+    "0,insert,5\n0,insert,9\n0,insert,5\n0,look\n0,size\n0,rank,9\n0,select,1\n0,range,0,16\n";
+
 const FIRST_REPORT: &str = "\
 1 0 insert 5 = new
 1 0 insert 9 = new
@@ -60,12 +63,7 @@ fn assert_refused(
 
 #[test]
 fn first_script(rt: HostRuntime) {
-    assert_prints(
-        &rt,
-        rt.alloc(),
-        "0,insert,5\n0,insert,9\n0,insert,5\n0,look\n0,size\n0,rank,9\n0,select,1\n0,range,0,16\n",
-        FIRST_REPORT,
-    );
+    assert_prints(&rt, rt.alloc(), FIRST_SCRIPT, FIRST_REPORT);
     assert_prints(
         &rt,
         rt.alloc(),
@@ -292,9 +290,9 @@ fn script_past_its_limit_is_too_long(rt: HostRuntime) -> Result<(), Fail> {
 fn a_source_that_fails_prints_nothing(rt: HostRuntime) -> Result<(), Fail> {
     let alloc = rt.alloc();
     let limits = Limits::try_new(4, 1, 64).ok().ok_or("limits")?;
-    let script = b"0,look\n0,size\n";
-    for fault_at in 0..15 {
-        let mut source = MemorySource::new(script, 1, Some(fault_at));
+    // The last of these calls is the one that finds the end.
+    for fault_at in 0..FIRST_SCRIPT.len() as u64 + 1 {
+        let mut source = MemorySource::new(FIRST_SCRIPT.as_bytes(), 1, Some(fault_at));
         let mut sink = MemorySink::new(alloc, 7, None);
         let result = run(&rt, alloc, &mut source, &mut sink, &limits);
         assert_eq!(rt; result, Err(RunError::Input), "at {fault_at}");
@@ -307,14 +305,15 @@ fn a_source_that_fails_prints_nothing(rt: HostRuntime) -> Result<(), Fail> {
 fn a_sink_that_fails_has_a_beginning(rt: HostRuntime) -> Result<(), Fail> {
     let alloc = rt.alloc();
     let limits = Limits::try_new(4, 1, 64).ok().ok_or("limits")?;
-    let text = "1 0 look = ok\n1 end size=0 in=0 out=0\n";
-    for fault_at in 0..39u64 {
-        let mut source = MemorySource::new(b"0,look", 1, None);
+    assert_eq!(rt; FIRST_REPORT.len(), 166);
+    // The last of these calls is `finish`.
+    for fault_at in 0..167u64 {
+        let mut source = MemorySource::new(FIRST_SCRIPT.as_bytes(), usize::MAX, None);
         let mut sink = MemorySink::new(alloc, 1, Some(fault_at));
         let result = run(&rt, alloc, &mut source, &mut sink, &limits);
         assert_eq!(rt; result, Err(RunError::Output), "at {fault_at}");
         assert_eq!(rt; sink.out.len() as u64, fault_at);
-        assert!(rt; text.as_bytes().starts_with(sink.out.as_slice()));
+        assert!(rt; FIRST_REPORT.as_bytes().starts_with(sink.out.as_slice()));
     }
     Ok(())
 }
@@ -374,21 +373,44 @@ fn a_script_may_use_every_update_and_no_more(rt: HostRuntime) -> Result<(), Fail
     Ok(())
 }
 
-// Under `rt try --test --fail-alloc N` the Nth request for memory is refused: it is told, whole reports went out before,
-// and the same run made again prints everything. The sink takes memory too, and is then the one that fails.
+// A run over a script of 4 bits and one lane into a sink that has room for all that goes out, and so asks for no memory itself.
+fn into_room(
+    rt: &(impl Abort + Threads + Wait),
+    alloc: Global,
+    script: &[u8],
+) -> (Result<(), RunError>, MemorySink) {
+    let limits = Limits::try_new(4, 1, 64).expect(rt, "limits");
+    let mut source = MemorySource::new(script, 5, None);
+    let mut sink = MemorySink::new(alloc, 7, None);
+    if sink.out.reserve(512).is_err() {
+        sink.out.reserve(512).expect(rt, "room");
+    }
+    let result = run(rt, alloc, &mut source, &mut sink, &limits);
+    (result, sink)
+}
+
+// Passes whichever request for memory or start of a thread is refused: nothing went out then, or the first report, and the same run
+// made again prints everything.
 #[test]
 fn refused_memory_is_told_behind_whole_reports(rt: HostRuntime) {
-    let script = b"0,insert,5\n*,end\n0,range,0,16\n";
-    let first = "1 0 insert 5 = new\n1 end size=1 in=1 out=0\n";
-    let both =
-        "1 0 insert 5 = new\n1 end size=1 in=1 out=0\n2 0 range 0 16 = 1 5 5 5\n2 end size=1 in=0 out=0\n";
-    for _ in 0..2 {
-        let (result, sink) = outcome(&rt, rt.alloc(), script, 64);
-        match result {
-            Ok(()) => assert_eq!(rt; sink.out.as_slice(), both.as_bytes()),
-            Err(RunError::OutOfMemory) if sink.finished == 0 => assert_eq!(rt; sink.calls, 0),
-            Err(RunError::OutOfMemory) => assert_eq!(rt; sink.out.as_slice(), first.as_bytes()),
-            Err(error) => assert_eq!(rt; error, RunError::Output),
+    let script =
+        b"0,insert,1\n0,insert,2\n0,insert,3\n*,end\n0,remove,2\n0,look\n0,select,1\n*,end\n";
+    let first =
+        "1 0 insert 1 = new\n1 0 insert 2 = new\n1 0 insert 3 = new\n1 end size=3 in=3 out=0\n";
+    let second = "2 0 remove 2 = gone\n2 0 look = ok\n2 0 select 1 = 3\n2 end size=2 in=0 out=1\n";
+    assert_eq!(rt; first.len(), 81);
+    let (mut result, mut sink) = into_room(&rt, rt.alloc(), script);
+    if result.is_err() {
+        assert_eq!(rt; result, Err(RunError::OutOfMemory));
+        if sink.finished == 0 {
+            assert_eq!(rt; sink.calls, 0);
+        } else {
+            assert_eq!(rt; sink.out.as_slice(), first.as_bytes());
         }
+        (result, sink) = into_room(&rt, rt.alloc(), script);
     }
+    assert_eq!(rt; result, Ok(()));
+    assert_eq!(rt; sink.out.len(), first.len() + second.len());
+    assert!(rt; sink.out.as_slice().starts_with(first.as_bytes()));
+    assert!(rt; sink.out.as_slice().ends_with(second.as_bytes()));
 }

@@ -372,8 +372,11 @@ class Outside:
         self.refuse_each(["--updates", "9", "first.csv"], b"", FIRST_REPORT, wanted)
 
     def test_each_request_for_memory_refused_in_two_rounds(self):
-        wanted = [MEMORY_FAULT, (TWO_REPORTS[0], *MEMORY_FAULT[1:])]
-        self.assertEqual(self.refuse_each([], TWO_ROUNDS, b"".join(TWO_REPORTS), wanted), wanted)
+        for words, script, reports in (([], TWO_ROUNDS, TWO_REPORTS), (["--workers", "4"], FOUR_LANES, FOUR_LANES_REPORTS)):
+            report = b"".join(reports)
+            # room that is asked for ahead, for the words, can be done without
+            wanted = [MEMORY_FAULT, (reports[0], *MEMORY_FAULT[1:]), *[(report, b"", 0)] * bool(words)]
+            self.assertEqual(self.refuse_each(words, script, report, wanted), wanted)
 
     def refuse_each(self, words, script, report, wanted):
         """Counts the program's requests for memory, and then refuses each in turn: the run ends in one of the wanted ways. Returns those

@@ -382,12 +382,14 @@ class Outside:
         """Counts the program's requests for memory, and then refuses each in turn: the run ends in one of the wanted ways. Returns those
         that were seen, in the order of `wanted`."""
         refusing = Refusing(self.folder)
-        ended, requests, _ = refusing.counted(lambda **given: self.run_on(words, script, **given))
-        self.assertEqual(ended, (report, b"", 0))
+        run = lambda **given: self.run_on(words, script, **given)
+        ended, (requests, _, blocks) = refusing.counted(run)
+        self.assertEqual((ended, blocks), ((report, b"", 0), 0))
         seen = []
         for number in range(1, requests + 1):
-            ended = self.run_on(words, script, env=refusing.request(number))
+            ended, counts = refusing.counted(run, request=number)
             self.assertIn(ended, wanted, f"with request {number} of {requests} refused")
+            self.assertEqual(counts.blocks, 0, f"blocks left with request {number} of {requests} refused")
             seen.append(ended)
         refused = sum(status != 0 for _, _, status in seen)
         self.assertGreater(refused, 10)
@@ -401,14 +403,14 @@ class Outside:
         self.assertEqual(self.run_on(words, preexec_fn=room), MEMORY_FAULT)
 
     def test_each_start_of_a_thread_refused(self):
-        words = ["--workers", "4"]
         refusing = Refusing(self.folder)
-        ended, _, starts = refusing.counted(lambda **given: self.run_on(words, FOUR_LANES, **given))
-        self.assertEqual((ended, starts), ((b"".join(FOUR_LANES_REPORTS), b"", 0), 8))
+        run = lambda **given: self.run_on(["--workers", "4"], FOUR_LANES, **given)
+        ended, counts = refusing.counted(run)
+        self.assertEqual((ended, counts.starts, counts.blocks), ((b"".join(FOUR_LANES_REPORTS), b"", 0), 8, 0))
         for number in range(1, 9):
             out = FOUR_LANES_REPORTS[0] if number > 4 else b""
-            ended = self.run_on(words, FOUR_LANES, env=refusing.start(number))
-            self.assertEqual(ended, (out, *MEMORY_FAULT[1:]), f"with start {number} refused")
+            ended, counts = refusing.counted(run, start=number)
+            self.assertEqual((ended, counts.blocks), ((out, *MEMORY_FAULT[1:]), 0), f"with start {number} refused")
 
     # Under load.
 

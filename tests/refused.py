@@ -1,6 +1,6 @@
 #!/usr/bin/env python3
 """Runs the tests named refused_.. of the proved crates once for each of their requests for memory, and once for each of their starts of
-threads, with that one refused. Each run must pass.
+threads, with that one refused. Each run must pass, and give back all its memory.
 
 usage: tests/refused.py, once `rt ci` has built the tests
 
@@ -45,17 +45,18 @@ def passes(program, name, **given):
 
 def refuse_each(refusing, program, name):
     """Refuses each request and each start of a test in turn, and returns what went wrong, and how many runs there were."""
-    (whole, said), requests, starts = refusing.counted(lambda **given: passes(program, name, **given))
-    if not whole or not requests:
-        return [f"with nothing refused and {requests} requests: {said}"], 1
+    run = lambda **given: passes(program, name, **given)
+    (passed, said), counts = refusing.counted(run)
+    if not passed or not counts.requests:
+        return [f"with nothing refused and {counts.requests} requests: {said}"], 1
     wrong = []
-    refusals = [("request", refusing.request, requests), ("start", refusing.start, starts)]
-    for kind, refuse, count in refusals:
+    for kind, count in ("request", counts.requests), ("start", counts.starts):
         for number in range(1, count + 1):
-            passed, said = passes(program, name, env=refuse(number))
-            wrong += [] if passed else [f"with {kind} {number} of {count} refused: {said}"]
-    print(f"{name}: {requests} requests and {starts} starts refused in turn")
-    return wrong, requests + starts
+            (passed, said), after = refusing.counted(run, **{kind: number})
+            if not passed or after.blocks:
+                wrong.append(f"with {kind} {number} of {count} refused: {after.blocks} blocks are not given back, {said}")
+    print(f"{name}: {counts.requests} requests and {counts.starts} starts refused in turn")
+    return wrong, counts.requests + counts.starts
 
 
 def main():

@@ -1,10 +1,14 @@
 """Runs programs with a request for memory or the start of a thread refused. It needs the toolchain, whose C compiler makes the library that
 refuses them."""
 
+import collections
 import os
 import subprocess
 
 TESTS = os.path.dirname(os.path.abspath(__file__))
+
+# How many requests for memory and starts of threads a program made, and how many blocks it had not given back at its end.
+Counts = collections.namedtuple("Counts", "requests starts blocks")
 
 
 class Refusing:
@@ -17,22 +21,15 @@ class Refusing:
         words = ["-O1", "-fPIC", "-shared", "-nostdlib", "-fno-builtin", "-fuse-ld=lld", "-o", self.library]
         subprocess.run([clang, *words, os.path.join(TESTS, "refuse.c")], check=True)
 
-    def counted(self, run):
-        """What `run` returns, and how many requests for memory and how many starts of threads its program made. It is given the program's
-        environment and what it is to pass on."""
+    def counted(self, run, request=0, start=0):
+        """What `run` returns, which is given the environment of its program and what it is to pass on, and the counts of the program.
+        The request for memory or the start of a thread of a number, counted from 1, is refused; of number 0 none is."""
         reader, writer = os.pipe()
+        env = {"LD_PRELOAD": self.library, "COUNTS_TO": str(writer), "REFUSED_REQUEST": str(request), "REFUSED_START": str(start)}
         try:
-            returned = run(env={"LD_PRELOAD": self.library, "COUNTS_TO": str(writer)}, pass_fds=[writer])
+            returned = run(env=env, pass_fds=[writer])
             os.close(writer)
-            made = os.read(reader, 65536)
+            told = os.read(reader, 65536)
         finally:
             os.close(reader)
-        return returned, made.count(b"m"), made.count(b"t")
-
-    def request(self, number):
-        """The environment of a program whose request for memory of this number, counted from 1, is refused."""
-        return {"LD_PRELOAD": self.library, "REFUSED_REQUEST": str(number)}
-
-    def start(self, number):
-        """The environment of a program whose start of a thread of this number, counted from 1, is refused."""
-        return {"LD_PRELOAD": self.library, "REFUSED_START": str(number)}
+        return returned, Counts(*(told.count(kind) for kind in (b"m", b"t", b"b")))

@@ -4,7 +4,7 @@
 usage: tests/outside.py PROGRAM..
 
 Every test of a program runs once for each PROGRAM. The last line is 'N passed, M failed', and the exit status is 0 where none failed.
-It needs Python 3.8 or later and the toolchain, whose C compiler makes the library that refuses memory and threads.
+It needs Python 3.9 or later and the toolchain, whose C compiler makes the library that refuses memory and threads.
 """
 
 import concurrent.futures

@@ -1,24 +1,22 @@
 -- A try at a node goes on by one step.
-use Rattle.std.proofs.Common.{◌≡◌, ℕ, zero, suc, add-one, ◌+◌, ◌-◌, ◌*◌, ◌%◌, ◌^◌, ◌<◌, ◌≤◌, Bool, true, false, ltb, lt-ltb, le-ltb, eqb, if◌then◌else◌, IsTrue, ◌↔◌, List, [], ◌∷◌, ◌++◌, length, get_or, set, get_or-set_same, get_or-set_other, length-set, sym, refl, ap, ◌∙◌, subst, ⊎_elim, arith}
-use Rattle.std.proofs.lemmas.Bool.{cases_eq, cases_lt}
+use Rattle.std.proofs.Common.{◌≡◌, ℕ, zero, suc, add-one, ◌+◌, ◌-◌, ◌*◌, ◌^◌, ◌<◌, ◌≤◌, Bool, true, false, ltb, lt-ltb, le-ltb, if◌then◌else◌, IsTrue, ◌↔◌, List, [], ◌∷◌, get_or, set, get_or-set_same, get_or-set_other, length-set, sym, refl, ap, ◌∙◌, subst, ⊎_elim, arith}
+use Rattle.std.proofs.lemmas.Bool.{cases_eq}
 use Rattle.std.proofs.lemmas.List.{append-nil}
 use Rattle.aug_monoid.specs.Parts.{Parts}
 use Rattle.aug_monoid.specs.Laws.{IsMonoid}
 use Rattle.aug_core.specs.Places.{Shape, record_start}
 use Rattle.aug_core.specs.Faces.{face}
 use Rattle.aug_core.specs.Tree.{place_count, IsInner, left_of, right_of}
-use Rattle.aug_core.specs.Book.{At, IsBook}
-use Rattle.aug_core.specs.Refreshes.{HasEntry, HasNewest, SaysLoaded}
-use Rattle.aug_core.specs.Told.{HasSeen, KnowsTable, MayStore, IsFilled, TriesNode, stepping, storing}
-use Rattle.aug_core.specs.declared.step.StepTaken.{StepTaken}
+use Rattle.aug_core.specs.Refreshes.{HasNewest, SaysLoaded}
+use Rattle.aug_core.specs.Told.{HasSeen, KnowsTable, MayStore, IsFilled, TriesNode, storing}
 use Rattle.aug_core.specs.declared.view.View.{View}
 use Rattle.aug_core.proofs.FaceLemmas.{left_in, right_in}
 use Rattle.aug_core.proofs.Refreshing.{has_entry}
 use Rattle.aug_core.proofs.Sizes.{twice}
 use Rattle.aug_words.specs.Seats.{LoadsRecordWord}
-use Rattle.aug_trie.specs.Goes.{IsFree, HasRoom, Took, Goes, IsPart, IsPartOf, part_steps}
+use Rattle.aug_trie.specs.Goes.{HasRoom, Took, Goes, IsPartOf, part_steps}
 use Rattle.aug_trie.specs.Nodes.{Looks}
-use Rattle.aug_trie.specs.Points.{Says, stored, child_at, field_after, five_over, IsOverLeaves, AfterNode, AfterLeft, AfterRight, AfterWords, AfterStores, TryAt, TryOver}
+use Rattle.aug_trie.specs.Points.{Says, stored, child_at, field_after, five_over, IsOverLeaves, AfterLeft, AfterRight, AfterWords, AfterStores, TryAt, TryOver}
 use Rattle.aug_trie.specs.declared.points.Reading.{Reading}
 use Rattle.aug_trie.specs.declared.points.Filling.{Filling}
 use Rattle.aug_trie.specs.declared.points.Point.{Point}
@@ -190,7 +188,7 @@ module _ {A B : Type 0} (parts_a : Parts A) (parts_b : Parts B) (laws_a : IsMono
       let shaped = same_shape r.from r.left r.right third loaded in let kn = (goes_right both v q r.from r.left r.right third loaded).knows_table in
       let inner_l : IsInner third.shape (left_of v.shape q) = subst (λ (z : Shape). IsInner z (left_of v.shape q)) (sym shaped) record { past_leaves = a.nodes; inside = inside_left t.inner } in
       let inner_r : IsInner third.shape (right_of v.shape q) = subst (λ (z : Shape). IsInner z (right_of v.shape q)) (sym shaped)
-          record { past_leaves = let n = a.nodes in omega arith; inside = let past = t.inner.past_leaves in let inside = t.inner.inside in let w = twice v.shape.bits in omega arith } in
+      record { past_leaves = let n = a.nodes in omega arith; inside = let past = t.inner.past_leaves in let inside = t.inner.inside in let w = twice v.shape.bits in omega arith } in
       let e_l = has_entry both third.shape third.seen loaded.second.seen (left_of v.shape q) r.left loaded.goes.later loaded.lefts.at_left in
       let e_r = has_entry both third.shape third.seen third.seen (right_of v.shape q) r.right (λ p i e z. z) loaded.at_right in
       seen_looking r.count third old (child_at r.left r.right r.count) a.looks
@@ -221,8 +219,8 @@ module _ (f : ℕ → ℕ → List ℕ → List ℕ) (v : View) (q number : ℕ)
   said : (k : ℕ) → k < r.count + 1 → Says a.third (child_at r.left r.right k) (field_after k) (get_or words_now k 0)
   said k low = ⊎_elim
       (λ (same : k ≡ r.count). subst (λ (z : ℕ). Says a.third (child_at r.left r.right z) (field_after z) (get_or words_now z 0)) (sym same)
-          (subst (Says a.third (child_at r.left r.right r.count) (field_after r.count)) (sym (get_or-set_same r.words r.count x 0 (let six = a.six in let few = a.few in omega arith)))
-          (subst (λ (z : ℕ). Says a.third (child_at r.left r.right r.count) z x) is_field (says_looking r.count a.third old (child_at r.left r.right r.count) field x a.looks l.known))))
+      (subst (Says a.third (child_at r.left r.right r.count) (field_after r.count)) (sym (get_or-set_same r.words r.count x 0 (let six = a.six in let few = a.few in omega arith)))
+      (subst (λ (z : ℕ). Says a.third (child_at r.left r.right r.count) z x) is_field (says_looking r.count a.third old (child_at r.left r.right r.count) field x a.looks l.known))))
       (λ other. subst (Says a.third (child_at r.left r.right k) (field_after k)) (sym (get_or-set_other r.words r.count k x 0 other)) (a.says k (omega arith)))
       (cases_eq k r.count)
 
@@ -309,7 +307,7 @@ module _ {A B : Type 0} (parts_a : Parts A) (parts_b : Parts B) (v : View) (q nu
     try_over w found done decided tried = let l = held.loaded.lefts in let first = l.first in let second = held.loaded.second in
         let gw = goes_tried f old w q r.from number found done decided tried knows_old in
         let p = published f held.told number r.five room_told w q r.from found done (subst (λ (z : Shape). IsInner z q) (sym g_told.shaped) t.inner) (left_in parts_a parts_b) (right_in parts_a parts_b) decided
-            (subst (λ (z : View). TriesNode f z q r.from number found w) is_full tried) in
+        (subst (λ (z : View). TriesNode f z q r.from number found w) is_full tried) in
         let g_filled : Goes f 0 [] held.told old = subst (Goes f 0 [] held.told) (sym held.stands) (goes_stored f held.told number r.five r.count g_told.knows_table) in
         let to_w = goes_on f 0 (number + 1) (number + 1) [] held.told old w (omega arith) (omega arith) g_filled gw in
         let n : ℕ = part_steps v.shape (left_of v.shape q) in

@@ -1,20 +1,19 @@
 -- An update goes on by one step.
-use Rattle.std.proofs.Common.{◌≡◌, ◌≢◌, ◌↔◌, ℕ, suc, ◌+◌, ◌-◌, ◌*◌, ◌/◌, ◌%◌, ◌^◌, ◌<◌, ◌≤◌, Bool, true, false, if◌then◌else◌, IsTrue, List, [], ◌∷◌, ◌++◌, length, suc-mul, sym, refl, ap, ◌∙◌, subst, ⊎_elim, arith}
+use Rattle.std.proofs.Common.{◌≡◌, ◌≢◌, ℕ, suc, ◌+◌, ◌-◌, ◌*◌, ◌/◌, ◌%◌, ◌^◌, ◌<◌, ◌≤◌, Bool, false, List, [], length, suc-mul, sym, refl, ap, ◌∙◌, subst, ⊎_elim, arith}
 use Rattle.std.proofs.lemmas.Bool.{cases_eq}
 use Rattle.std.proofs.lemmas.List.{append-nil}
 use Rattle.aug_core.specs.Places.{Shape}
-use Rattle.aug_core.specs.Book.{At}
 use Rattle.aug_core.specs.Counts.{changes_of}
 use Rattle.aug_core.specs.Kinds.{load_leaf, try_leaf}
-use Rattle.aug_core.specs.Told.{own_lane, KnowsTable, MayChange, BeginsAtLeaf, TriesLeaf}
+use Rattle.aug_core.specs.Told.{own_lane, MayChange, BeginsAtLeaf}
 use Rattle.aug_core.specs.declared.view.Change as changed
 use Rattle.aug_core.specs.declared.view.View.{View}
 use Rattle.aug_words.specs.Seats.{HasReached, TriedLeaf}
 use Rattle.aug_trie.specs.Goes.{HasLeaves, HasRoom, Goes}
 use Rattle.aug_trie.specs.Climbing.{Updated}
 use Rattle.aug_trie.specs.Facts.{IsPass}
-use Rattle.aug_trie.specs.Points.{OneStep, QuietStep, point_turns}
-use Rattle.aug_trie.specs.Stages.{HasRisen, MayRise, IsOnWay, HasBegun, MayTry, IsRising, StageAt, part_above, ascent_turns}
+use Rattle.aug_trie.specs.Points.{OneStep, QuietStep}
+use Rattle.aug_trie.specs.Stages.{HasRisen, IsOnWay, HasBegun, IsRising, StageAt, ascent_turns}
 use Rattle.aug_trie.specs.declared.points.Point.TheVariants.{Node}
 use Rattle.aug_trie.specs.declared.ascents.Ascent.{Ascent}
 use Rattle.aug_trie.specs.declared.stages.Stage.TheVariants.{Leaf, Change, Up}

@@ -9,7 +9,6 @@ use Rattle.aug_core.specs.Book.{At}
 use Rattle.aug_core.specs.Refreshes.{HasEntry}
 use Rattle.aug_core.specs.Told.{HasSeen, KnowsTable, stepping}
 use Rattle.aug_core.specs.declared.step.StepTaken.{StepTaken}
-use Rattle.aug_core.specs.declared.view.Entry.{Entry}
 use Rattle.aug_core.specs.declared.view.View.{View}
 use Rattle.aug_core.proofs.EntryKeys.{are_small}
 use Rattle.aug_core.proofs.FaceLemmas.{count_in, a_in, b_in, face_is}

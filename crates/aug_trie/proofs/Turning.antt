@@ -1,8 +1,8 @@
 -- What contracts see of a turn.
-use Rattle.std.proofs.Common.{◌≡◌, ℕ, zero, suc, ◌+◌, ◌-◌, ◌*◌, ◌%◌, ◌^◌, ◌<◌, ◌≤◌, Bool, true, false, if◌then◌else◌, eqb, ltb, lt-ltb, le-ltb, ne_eqb, List, [], ◌∷◌, ◌++◌, length, sym, refl, ap, ◌∙◌, subst, ⊎_elim, arith}
+use Rattle.std.proofs.Common.{◌≡◌, ℕ, zero, suc, ◌+◌, ◌-◌, ◌*◌, ◌^◌, ◌<◌, ◌≤◌, Bool, true, false, if◌then◌else◌, le-ltb, ne_eqb, List, [], ◌∷◌, ◌++◌, length, sym, refl, ap, ◌∙◌, subst, ⊎_elim, arith}
 use Rattle.std.specs.Int.{from_bool}
 use Rattle.std.specs.Bool.{OnTrue, OnFalse}
-use Rattle.std.proofs.lemmas.Bool.{cases_eq, cases_lt}
+use Rattle.std.proofs.lemmas.Bool.{cases_eq}
 use Rattle.atomic_table.specs.Seated.{TableId}
 use Rattle.aug_monoid.specs.Parts.{Parts}
 use Rattle.aug_model.specs.Folds.{summary_of}
@@ -13,24 +13,21 @@ use Rattle.aug_core.specs.Counts.{changes_of}
 use Rattle.aug_core.specs.Kinds.{load_leaf, try_leaf}
 use Rattle.aug_core.specs.Told.{own_lane, KnowsTable}
 use Rattle.aug_core.specs.declared.view.View.{View}
-use Rattle.aug_core.specs.declared.view.Beginning.{Beginning}
-use Rattle.aug_words.specs.Seats.{Known}
 use Rattle.aug_trie.specs.Counted.{HasCounts}
 use Rattle.aug_trie.specs.Climbing.{Updated}
 use Rattle.aug_trie.specs.Goes.{part_steps}
 use Rattle.aug_trie.specs.Knows.{root_history, knows}
 use Rattle.aug_trie.specs.Updates.{AcceptedUpdate, RefusedUpdate}
-use Rattle.aug_trie.specs.Facts.{PassFacts, pass_facts, round_of, IsPass, GoesOn, StepsOf}
+use Rattle.aug_trie.specs.Facts.{PassFacts, pass_facts, round_of, GoesOn, StepsOf}
 use Rattle.aug_trie.specs.Nodes.{Keeps}
 use Rattle.aug_trie.specs.Points.{OneStep, TryAt, point_turns}
-use Rattle.aug_trie.specs.Stages.{IsOnWay, HasBegun, StageAt, StageFalls, part_above, ascent_turns, stage_turns}
-use Rattle.aug_trie.specs.Turns.{ClimbFacts, climb_facts, began_facts, start_facts, StepsOnce, TurnsOn, Finishes}
+use Rattle.aug_trie.specs.Stages.{IsOnWay, HasBegun, StageAt, part_above, ascent_turns, stage_turns}
+use Rattle.aug_trie.specs.Turns.{climb_facts, began_facts, start_facts, StepsOnce, TurnsOn, Finishes}
 use Rattle.aug_trie.specs.declared.points.Point.{Point}
 use Rattle.aug_trie.specs.declared.points.Point.TheVariants.{Node, Left, Right, Part, Record}
 use Rattle.aug_trie.specs.declared.ascents.Ascent.{Ascent}
 use Rattle.aug_trie.specs.declared.stages.Stage.{Stage}
 use Rattle.aug_trie.specs.declared.stages.Stage.TheVariants.{Leaf, Change, Up}
-use Rattle.aug_trie.specs.declared.stages.Next.TheVariants.{Done}
 use Rattle.aug_trie.proofs.Accepting.{knows_on, told_on}
 use Rattle.aug_trie.proofs.Advancing.{goes_at}
 use Rattle.aug_trie.proofs.Ascending.{part_is}

@@ -1,11 +1,11 @@
 -- An update: a load of the leaf, a try unless the serial refuses it, and a propagation.
-use Rattle.std.proofs.Common.{◌≡◌, ◌≢◌, ◌↔◌, ℕ, ◌+◌, ◌-◌, ◌*◌, ◌%◌, ◌^◌, ◌<◌, ◌≤◌, Bool, true, false, IsTrue, List, [], ◌∷◌, ◌++◌, append_assoc, sym, refl, ap, ◌∙◌, subst, ⊎_elim, arith}
+use Rattle.std.proofs.Common.{◌≡◌, ◌≢◌, ◌↔◌, ℕ, ◌+◌, ◌%◌, ◌^◌, ◌<◌, ◌≤◌, Bool, true, false, IsTrue, List, [], ◌∷◌, ◌++◌, append_assoc, sym, refl, ap, ◌∙◌, subst, ⊎_elim, arith}
 use Rattle.std.proofs.lemmas.Bool.{cases_eq, false≢true}
 use Rattle.aug_core.specs.Places.{Shape}
 use Rattle.aug_core.specs.Book.{Book, IsNewest}
 use Rattle.aug_core.specs.Counts.{change}
 use Rattle.aug_core.specs.Kinds.{load_leaf, try_leaf}
-use Rattle.aug_core.specs.Shows.{NewestShows, Lifts, ShowsAtMost}
+use Rattle.aug_core.specs.Shows.{NewestShows, ShowsAtMost}
 use Rattle.aug_core.specs.Told.{HoldsOnly, KnowsTable, BeginsAtLeaf, TriesLeaf}
 use Rattle.aug_core.specs.declared.step.StepTaken.{StepTaken}
 use Rattle.aug_core.specs.declared.view.Change.{Change}

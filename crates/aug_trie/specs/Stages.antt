@@ -1,5 +1,5 @@
 -- An update, step by step: what was done of it at each stage.
-use Rattle.std.specs.Prelude.{◌≡◌, ℕ, suc, ◌+◌, ◌-◌, ◌*◌, ◌%◌, ◌^◌, ◌<◌, ◌≤◌, ◌==◌, Bool, false, true, if◌then◌else◌, List, [], ◌∷◌, length, Option, Some, None}
+use Rattle.std.specs.Prelude.{◌≡◌, ℕ, suc, ◌+◌, ◌-◌, ◌*◌, ◌%◌, ◌^◌, ◌<◌, ◌≤◌, ◌==◌, Bool, false, true, if◌then◌else◌, List, [], length, Option, Some, None}
 use Rattle.aug_core.specs.Tree.{left_of}
 use Rattle.aug_core.specs.Book.{history_of}
 use Rattle.aug_core.specs.Counts.{changes_of}
@@ -7,11 +7,10 @@ use Rattle.aug_core.specs.Shows.{above, Lifts}
 use Rattle.aug_core.specs.Refreshes.{NewestCovers}
 use Rattle.aug_core.specs.Told.{own_lane, KnowsTable, BeginsAtLeaf}
 use Rattle.aug_core.specs.declared.view.View.{View}
-use Rattle.aug_trie.specs.Goes.{Goes, Took, TookBetween, HasRoom, IsFree, part_steps}
+use Rattle.aug_trie.specs.Goes.{Goes, Took, TookBetween, HasRoom, part_steps}
 use Rattle.aug_trie.specs.Climbing.{Updated}
 use Rattle.aug_trie.specs.Facts.{IsPass}
 use Rattle.aug_trie.specs.Points.{TryAt, TryOver, point_turns}
-use Rattle.aug_trie.specs.declared.points.Advanced.{Advanced}
 use Rattle.aug_trie.specs.declared.ascents.Ascent.{Ascent}
 use Rattle.aug_trie.specs.declared.stages.Stage.{Stage}
 use Rattle.aug_trie.specs.declared.stages.Stage.TheVariants.{Leaf, Change, Up}

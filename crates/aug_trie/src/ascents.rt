@@ -6,7 +6,7 @@ ghost use Rattle.aug_trie.specs.Goes.{HasLeaves};
 ghost use Rattle.aug_trie.specs.Points.{QuietStep};
 ghost use Rattle.aug_trie.specs.Stages.{IsOnWay, IsPastTry, Ascends, AscentFalls, ascent_turns, past_try_turns};
 
-use crate::points::{advance, Advanced, Point};
+use crate::points::{Advanced, Point, advance};
 use aug_monoid::Monoid;
 use aug_words::WordPass;
 

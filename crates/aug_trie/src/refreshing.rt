@@ -7,14 +7,18 @@ ghost use Rattle.aug_core.specs.Refreshes.{HasNewest, SaysLoaded, Published};
 ghost use Rattle.aug_trie.specs.Goes.{Goes, Took, HasLeaves, HasRoom, IsFree};
 ghost use Rattle.aug_trie.specs.Points.{QuietStep, TryOver};
 
-use crate::parts::{any_part, Part};
+use crate::parts::{Part, any_part};
 use aug_core::RecordField;
 use aug_monoid::Monoid;
 use aug_words::WordPass;
 
 // Loads the word of a leaf or a node: one step.
 #[inline(always)]
-pub(crate) fn look<A: Monoid, B: Monoid>(pass: &mut WordPass<A, B>, leaves: usize, place: usize) -> u64
+pub(crate) fn look<A: Monoid, B: Monoid>(
+    pass: &mut WordPass<A, B>,
+    leaves: usize,
+    place: usize,
+) -> u64
     requires leaves { HasLeaves pass.old.view.shape leaves }
     requires knows { KnowsTable (face A.parts B.parts) pass.old.view }
     requires place { place < place_count pass.old.view.shape }

@@ -6,7 +6,7 @@ ghost use Rattle.aug_core.specs.declared.view.View.{View};
 ghost use Rattle.aug_trie.specs.Points.{OneStep};
 ghost use Rattle.aug_trie.specs.Stages.{StageAt, Climbs, StageFalls};
 
-use crate::ascents::{ascend, Ascent};
+use crate::ascents::{Ascent, ascend};
 use aug_monoid::Monoid;
 use aug_words::WordPass;
 

@@ -12,7 +12,7 @@ ghost use Rattle.aug_trie.specs.Turns.{ClimbFacts, BeginsClimb, TurnsOn, Finishe
 use crate::ascents::Ascent;
 use crate::pass::Pass;
 use crate::points::Point;
-use crate::stages::{next_stage, Next, Stage};
+use crate::stages::{Next, Stage, next_stage};
 use aug_monoid::Monoid;
 use aug_words::WordPass;
 use std::marker::Model;
@@ -185,11 +185,7 @@ fn gained(parity: u64, counted: u64, done: bool) -> u32
 fn try_steps(level: u32) -> u32
     ensures { result ≡ 9 + 2 * part_above level }
 {
-    if level == 0 {
-        9
-    } else {
-        15
-    }
+    if level == 0 { 9 } else { 15 }
 }
 
 // The most turns of an update that is on its way.

@@ -1,7 +1,7 @@
 //! Updates by single turns: how many there are, schedules in which they meet others, and passes that are given up.
 ghost use Rattle.std.specs.Prelude.{◌≡◌, ◌+◌, IfOk, IfSome};
 
-use super::ending::{counts, next_round, sees, seen_size};
+use super::ending::{counts, next_round, seen_size, sees};
 use super::{Table, Trie, next_pass, opened, put, take};
 use crate::{BeginError, Climb, Pass, Turn};
 use aug_monoid::{Extent, Sum};

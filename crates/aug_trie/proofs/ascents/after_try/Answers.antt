@@ -1,5 +1,5 @@
-use Rattle.std.proofs.Common.{arith, refl, ◌≡◌, true, false, rules}
-use Rattle.aug_trie.proofs.Ascending.{at_root, second_begins, level_begins}
+use Rattle.std.proofs.Common.{arith, refl, rules}
+use Rattle.aug_trie.proofs.Ascending.{at_root, level_begins}
 use Rattle.aug_trie.proofs.ascents.after_try.Goals as goal
 use Rattle.aug_trie.proofs.ascents.after_try.Goals.{else-not-published-via-then-not-published+else-not-ascent, else-not-published-via-else-not-published}
 

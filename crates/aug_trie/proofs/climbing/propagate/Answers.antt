@@ -1,4 +1,4 @@
-use Rattle.std.proofs.Common.{arith, ap, subst, sym, refl, ◌∙◌, ◌≡◌, ◌+◌, ◌/◌, ℕ, suc, add-one}
+use Rattle.std.proofs.Common.{ap, subst, sym, refl, ◌∙◌, ◌≡◌, ◌+◌, ◌/◌, ℕ, suc, add-one}
 use Rattle.aug_core.specs.Faces.{face}
 use Rattle.aug_core.specs.Places.{Shape}
 use Rattle.aug_core.specs.Shows.{above}

@@ -1,4 +1,4 @@
-use Rattle.std.proofs.Common.{arith, ap, refl, subst, sym, ◌∙◌, ◌≡◌, ◌+◌, ◌-◌, ◌*◌, ◌^◌, ◌<◌, ◌≤◌, ℕ, []}
+use Rattle.std.proofs.Common.{arith, ap, subst, sym, ◌∙◌, ◌≡◌, ◌-◌, ◌*◌, ◌^◌, ℕ}
 use Rattle.aug_core.specs.Faces.{face}
 use Rattle.aug_core.specs.Places.{Shape}
 use Rattle.aug_core.specs.Tree.{left_of}
@@ -6,7 +6,7 @@ use Rattle.aug_core.specs.Refreshes.{HasNewest}
 use Rattle.aug_core.specs.declared.view.View.{View}
 use Rattle.aug_trie.specs.Points.{TryAt}
 use Rattle.aug_trie.specs.declared.points.Point.{Point}
-use Rattle.aug_trie.specs.declared.points.Point.TheVariants.{Node, Left}
+use Rattle.aug_trie.specs.declared.points.Point.TheVariants.{Left}
 use Rattle.aug_trie.proofs.Advancing.{goes_at, node_on, left_on}
 use Rattle.aug_trie.proofs.points.advance.Goals as goal
 

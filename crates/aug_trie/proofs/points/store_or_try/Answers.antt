@@ -1,4 +1,4 @@
-use Rattle.std.proofs.Common.{arith, refl, ◌≡◌}
+use Rattle.std.proofs.Common.{arith, refl}
 use Rattle.aug_trie.proofs.Advancing.{may_store_word, may_try, try_over, record_on}
 use Rattle.aug_trie.proofs.points.store_or_try.Goals as goal
 

@@ -1,4 +1,4 @@
-use Rattle.std.proofs.Common.{arith, ap, subst, sym, refl, get_or, List, ◌∙◌, ◌≡◌, ◌+◌, ◌-◌, ◌*◌, ℕ, []}
+use Rattle.std.proofs.Common.{arith, subst, sym, refl, get_or, List, ◌∙◌, ◌≡◌, ◌+◌, ◌-◌, ◌*◌, ℕ, []}
 use Rattle.aug_monoid.proofs.BoundLaws.{laws_of}
 use Rattle.aug_core.specs.Faces.{face}
 use Rattle.aug_core.specs.Places.{Shape}
@@ -64,8 +64,8 @@ returns-clause-over g c = let m = g.A.Monoid in let n = g.B.Monoid in let f = fa
     let gp = c.publish.ensures.goes in record {
       goes = goes_on f 0 (c.args.number + 1) (c.args.number + 1) [] v w4 c.publish.new.pass.view (omega arith) (omega arith) h4 c.publish.ensures.goes;
       took = took_refresh s c.args.node v w0 w1 w2 w3 w4 c.publish.new.pass.view inner s2 s3 c.look-from.ensures.took c.look-left.ensures.took c.look-right.ensures.took
-      (subst (λ (z : ℕ). Took w2 w3 (part_steps w2.shape z)) el c.any_part-l.ensures.took) (subst (λ (z : ℕ). Took w3 w4 (part_steps w3.shape z)) er c.any_part-r.ensures.took) c.publish.ensures.took;
+          (subst (λ (z : ℕ). Took w2 w3 (part_steps w2.shape z)) el c.any_part-l.ensures.took) (subst (λ (z : ℕ). Took w3 w4 (part_steps w3.shape z)) er c.any_part-r.ensures.took) c.publish.ensures.took;
       tries = tries f v w0 w1 w2 w4 c.publish.new.pass.view c.args.node c.look-from.result c.look-left.result c.look-right.result c.args.number c.publish.result inner gp.knows_table (gp.shaped ∙ s4) s4
-      g0.later g1.later g2.later (λ p i e z. gp.later p i e (g4.later p i e (g3.later p i e z))) at_node at_left at_right
-      (subst (λ (z : List ℕ). Published w4.shape c.args.node c.look-from.result (get_or z 0 0) (get_or z 1 0) c.publish.result c.publish.new.pass.view.seen) c.five_words.ensures c.publish.ensures.published) c.publish.ensures.again;
+          g0.later g1.later g2.later (λ p i e z. gp.later p i e (g4.later p i e (g3.later p i e z))) at_node at_left at_right
+          (subst (λ (z : List ℕ). Published w4.shape c.args.node c.look-from.result (get_or z 0 0) (get_or z 1 0) c.publish.result c.publish.new.pass.view.seen) c.five_words.ensures c.publish.ensures.published) c.publish.ensures.again;
     }

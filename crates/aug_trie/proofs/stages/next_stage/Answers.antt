@@ -1,11 +1,10 @@
-use Rattle.std.proofs.Common.{arith, refl, subst, sym, ◌≡◌, ◌+◌, ◌^◌, ◌<◌, ℕ, Option}
+use Rattle.std.proofs.Common.{subst, Option}
 use Rattle.aug_core.specs.Faces.{face}
 use Rattle.aug_core.specs.declared.view.View.{View}
 use Rattle.aug_trie.specs.Stages.{StageAt, Ascends}
 use Rattle.aug_trie.specs.declared.ascents.Ascent.{Ascent}
 use Rattle.aug_trie.specs.declared.stages.Stage.{Stage}
-use Rattle.aug_trie.specs.declared.stages.Stage.TheVariants.{Leaf, Change, Up}
-use Rattle.aug_trie.proofs.Staging.{first_turns, room_one, begin_step, begun_change, begun_up, low_old, has_reached, may_try, try_step, tried_up, leaves_old, rising_on, risen_up}
+use Rattle.aug_trie.proofs.Staging.{room_one, begun_up, tried_up, rising_on, risen_up}
 use Rattle.aug_trie.proofs.stages.next_stage.Goals as goal
 
 pub ascend-requires-clause-small : goal.ascend-requires-clause-small

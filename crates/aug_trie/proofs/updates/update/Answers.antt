@@ -1,4 +1,4 @@
-use Rattle.std.proofs.Common.{arith, refl, ◌≡◌, ◌+◌, ◌%◌, []}
+use Rattle.std.proofs.Common.{arith, refl, ◌≡◌, ◌%◌, []}
 use Rattle.aug_core.specs.Faces.{face}
 use Rattle.aug_core.specs.declared.view.View.{View}
 use Rattle.aug_trie.proofs.Going.{room_on, goes_after}

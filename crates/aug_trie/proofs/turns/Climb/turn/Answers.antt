@@ -1,16 +1,13 @@
-use Rattle.std.proofs.Common.{Bool, Option, Some, arith, rules, ap, refl, subst, sym, ◌∙◌, ◌≡◌, ◌+◌, ◌-◌, ◌<◌, ◌≤◌, ℕ}
+use Rattle.std.proofs.Common.{Bool, arith, rules, ap, refl, subst, sym, ◌∙◌, ◌≡◌, ◌+◌, ◌-◌, ℕ}
 use Rattle.aug_core.specs.Faces.{face}
-use Rattle.aug_core.specs.Counts.{changes_of}
 use Rattle.aug_core.specs.declared.view.View.{View}
 use Rattle.aug_model.specs.Folds.{summary_of}
 use Rattle.aug_words.specs.Seats.{Known}
-use Rattle.aug_trie.specs.Counted.{HasCounts}
 use Rattle.aug_trie.specs.Climbing.{Updated}
-use Rattle.aug_trie.specs.Facts.{PassFacts, pass_facts, IsPass}
+use Rattle.aug_trie.specs.Facts.{pass_facts, IsPass}
 use Rattle.aug_trie.specs.Nodes.{Keeps}
-use Rattle.aug_trie.specs.Stages.{StageAt, Climbs, StageFalls}
+use Rattle.aug_trie.specs.Stages.{Climbs, StageFalls}
 use Rattle.aug_trie.specs.Turns.{ClimbFacts, climb_facts, start_facts, TurnsOn, Finishes}
-use Rattle.aug_trie.specs.declared.stages.Stage.{Stage}
 use Rattle.aug_trie.specs.declared.stages.Next.{Next}
 use Rattle.aug_trie.proofs.Counters.{may_count}
 use Rattle.aug_trie.proofs.Passing.{pass_after}
@@ -29,15 +26,14 @@ overflow_add-pass-in-Done-2 g c = let f = face g.A.Monoid.parts g.B.Monoid.parts
 
 pub invariant_of-pass : goal.invariant_of-pass
 invariant_of-pass g c = let f = face g.A.Monoid.parts g.B.Monoid.parts in let i = c.self.inside in let inv = c.self.invariant in let v : View = i.words.view in let u : View = inv.began in let table = i.words.table in let w : View = c.next_stage.new.pass.view in let t = inv.stage_at in
-    let updated : Updated f (i.next + i.bits) u i.key i.parity w c.in-Done.done = subst (λ (z : Next). Climbs f i.leaves i.bits i.next i.left i.key i.parity u z w) c.in-Done.is (c.next_stage.ensures.on i.left u t) in
-    (
+    let updated : Updated f (i.next + i.bits) u i.key i.parity w c.in-Done.done = subst (λ (z : Next). Climbs f i.leaves i.bits i.next i.left i.key i.parity u z w) c.in-Done.is (c.next_stage.ensures.on i.left u t) in (
       record {
         known = c.next_stage.new.pass;
         there = refl;
         is_pass = subst (λ (z : ℕ). IsPass f w i.leaves i.bits (i.next + z) (i.left - 1)) (sym c.from.ensures) (pass_after f u w i.leaves i.bits i.next i.left i.key i.parity t.is_pass t.some t.low c.in-Done.done updated);
       },
       counted_by f (i.next + i.bits) u w i.key i.parity i.inserts i.removals c.gained.result c.gained-in-Done.result c.in-Done.done t.parity_is updated inv.counts
-      (λ is. (c.gained.ensures.same is, c.gained-in-Done.ensures.other (λ one. omega arith))) (λ is. (c.gained.ensures.other (λ none. omega arith), c.gained-in-Done.ensures.same is)),
+          (λ is. (c.gained.ensures.same is, c.gained-in-Done.ensures.other (λ one. omega arith))) (λ is. (c.gained.ensures.other (λ none. omega arith), c.gained-in-Done.ensures.same is)),
     )
 
 pub returns-in-More-clause-more : goal.returns-in-More-clause-more

@@ -4,6 +4,7 @@ ghost use Rattle.std.specs.Prelude.{◌≡◌, ◌==◌, codes, if◌then◌else
 use crate::lap::Lap;
 use crate::workload::Workload;
 use crate::{lock_round, trie_round};
+use anyhow::ensure;
 use std::alloc::Global;
 use std::io::Print;
 use std::sync::{Mutex, Wait};
@@ -13,13 +14,16 @@ use std::time::Clock;
 // How many rounds of each workload are compared.
 const ROUNDS: u64 = 2;
 
-/// Runs a few rounds of each workload on both engines in one thread, and prints whether they gave the same answers.
+/// Runs a few rounds of each workload on both engines in one thread, and prints whether they gave the same answers. It is
+/// an error where they did not.
 pub(crate) fn check<R: Threads + Wait + Clock + Sync + Print>(
     rt: &R,
     alloc: Global,
 ) -> anyhow::Result<()> {
+    let mut agree = true;
     for workload in Workload::ALL {
         let (trie, lock) = both(rt, alloc, workload)?;
+        agree &= trie.sum == lock.sum;
         let letter = workload.letter();
         println!(rt;
             "{letter} {} operations: {}",
@@ -27,6 +31,7 @@ pub(crate) fn check<R: Threads + Wait + Clock + Sync + Print>(
             verdict(trie.sum, lock.sum)
         )?;
     }
+    ensure!(agree, "trie and lock differ");
     Ok(())
 }
 

@@ -3,7 +3,7 @@ ghost use Rattle.std.specs.Prelude.{◌≡◌, IfOk};
 
 use crate::course::Course;
 use crate::fenwick::FenwickSet;
-use crate::keys::Keys;
+use crate::keys::{Keys, UNIVERSE};
 use crate::lap::Lap;
 use crate::span::found;
 use crate::workload::{Action, BATCH, UPDATES, Workload};
@@ -16,7 +16,7 @@ use std::{io, thread};
 /// The set of every second key.
 pub(crate) fn half_full(alloc: Global) -> Result<FenwickSet, AllocError> {
     let mut set = FenwickSet::new(alloc)?;
-    for i in 0..32_768 {
+    for i in 0..UNIVERSE / 2 {
         set.insert(2 * i);
     }
     Ok(set)

@@ -2,7 +2,7 @@
 ghost use Rattle.std.specs.Prelude.{◌≡◌, All, IfOk};
 
 use crate::course::{Course, nanoseconds};
-use crate::keys::BITS;
+use crate::keys::{BITS, UNIVERSE};
 use crate::lap::Lap;
 use crate::trie::{Hands, Table, Trie};
 use crate::trie_work::{Done, Job, work};
@@ -27,12 +27,12 @@ pub(crate) fn half_full(alloc: Global) -> anyhow::Result<Trie>
     ensures { IfOk result (λ trie. trie.bits ≡ 16) }
 {
     let empty = Trie::empty(alloc, BITS)?;
-    let (table, mut crew) = match Round::begin(alloc, empty, 1, 32_768) {
+    let (table, mut crew) = match Round::begin(alloc, empty, 1, UNIVERSE / 2) {
         Ok(begun) => begun,
         Err((_, cause)) => return Err(cause.into()),
     };
     let mut pass = crew.pass(&table)?;
-    for i in 0..32_768 {
+    for i in 0..UNIVERSE / 2 {
         pass.insert(2 * i);
     }
     crew.back(pass);

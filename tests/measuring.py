@@ -11,7 +11,8 @@ import os
 import re
 import subprocess
 import sys
-import unittest
+
+import programs
 
 # The most seconds that one run gets.
 SECONDS = 60
@@ -89,21 +90,5 @@ class Measuring:
         self.assertTrue(ran.stderr.startswith(b"augbench: "), ran.stderr)
 
 
-def main(programs):
-    suite = unittest.TestSuite()
-    missing = [path for path in programs if not os.access(path, os.X_OK)]
-    for path in programs:
-        if path not in missing:
-            tests = type(f"Measuring({os.path.basename(path)})", (Measuring, unittest.TestCase), {"program": os.path.abspath(path)})
-            suite.addTests(unittest.defaultTestLoader.loadTestsFromTestCase(tests))
-    result = unittest.TextTestRunner(sys.stdout, verbosity=2).run(suite)
-    for path in missing or ([] if programs else ["PROGRAM"]):
-        print(f"measuring.py: {path} is not there to be tested")
-    failing = len({test for test, _ in [*result.failures, *result.errors]})
-    failed = failing + (len(missing) or not programs)
-    print(f"{result.testsRun - failing} passed, {failed} failed")
-    return 1 if failed else 0
-
-
 if __name__ == "__main__":
-    sys.exit(main(sys.argv[1:]))
+    sys.exit(programs.run("measuring.py", Measuring, sys.argv[1:]))

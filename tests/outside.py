@@ -17,6 +17,7 @@ import sys
 import tempfile
 import unittest
 
+import programs
 from refusing import Refusing
 
 TOP = os.path.dirname(os.path.dirname(os.path.abspath(__file__)))
@@ -512,23 +513,6 @@ def read(path):
         return file.read()
 
 
-def main(programs):
-    make_tests()
-    suite = unittest.defaultTestLoader.loadTestsFromTestCase(Shown)
-    missing = [path for path in programs if not os.access(path, os.X_OK)]
-    for path in programs:
-        if path not in missing:
-            name = f"Outside({os.path.basename(path)})"
-            tests = type(name, (Outside, unittest.TestCase), {"program": os.path.abspath(path)})
-            suite.addTests(unittest.defaultTestLoader.loadTestsFromTestCase(tests))
-    result = unittest.TextTestRunner(sys.stdout, verbosity=2).run(suite)
-    for path in missing or ([] if programs else ["PROGRAM"]):
-        print(f"outside.py: {path} is not there to be tested")
-    failing = len({test for test, _ in [*result.failures, *result.errors]})
-    failed = failing + (len(missing) or not programs)
-    print(f"{result.testsRun - failing} passed, {failed} failed")
-    return 1 if failed else 0
-
-
 if __name__ == "__main__":
-    sys.exit(main(sys.argv[1:]))
+    make_tests()
+    sys.exit(programs.run("outside.py", Outside, sys.argv[1:], [Shown]))

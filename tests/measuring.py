@@ -7,7 +7,7 @@ Every test runs once for each PROGRAM. The last line is 'N passed, M failed', an
 It needs Python 3.8 or later.
 """
 
-import os
+import concurrent.futures
 import re
 import subprocess
 import sys
@@ -67,8 +67,10 @@ class Measuring:
             self.assertEqual(self.run_on(line), (f"{wanted}\n".encode(), b"", 0))
 
     def test_measures_each_workload_with_threads(self):
-        for workload, threads in [("U", 1), ("M", 2), ("Q", 4), ("S", 3)]:
-            output, errors, status = self.run_on(f"{workload} {threads} 1")
+        cases = [("U", 1), ("M", 2), ("Q", 4), ("S", 3)]
+        with concurrent.futures.ThreadPoolExecutor() as pool:
+            all_ran = list(pool.map(self.run_on, [f"{workload} {threads} 1" for workload, threads in cases]))
+        for (workload, threads), (output, errors, status) in zip(cases, all_ran):
             lines = "".join(
                 f"open {engine} {NUMBER}\nrun {engine} {workload} {threads} {NUMBER}\n" for engine in ["trie", "lock"]
             )

@@ -53,7 +53,7 @@ class Measuring:
             self.assertEqual(self.run_on(line), (b"", f"augbench: {why}\n".encode(), 1))
 
     def test_both_engines_agree(self):
-        lines = b"".join(b"%c %d operations: trie and lock agree\n" % row for row in zip(b"UMQS", [8192, 81920, 81920, 81920]))
+        lines = b"".join(b"%c %d operations: trie and lock agree\n" % row for row in zip(b"UMPQS", [8192, 81920, 81920, 81920, 81920]))
         self.assertEqual(self.run_on("check"), (lines, b"", 0))
 
     def test_counts_each_operation(self):
@@ -61,13 +61,14 @@ class Measuring:
             ("count none 5", "5 operations, 0 in all"),
             ("count new 32768", "32768 operations, 32768 in all"),
             ("count dup 65536", "65536 operations, 0 in all"),
+            ("count put 65536", "65536 operations, 65536 in all"),
             # Ranks of all keys below 16 over the even ones: 0, 1, 1, 2, 2 .. 7, 7, 8.
             ("count rank 16 --bits 4", "16 operations, 64 in all"),
         ]:
             self.assertEqual(self.run_on(line), (f"{wanted}\n".encode(), b"", 0))
 
     def test_measures_each_workload_with_threads(self):
-        cases = [("U", 1), ("M", 2), ("Q", 4), ("S", 3)]
+        cases = [("U", 1), ("M", 2), ("P", 2), ("Q", 4), ("S", 3)]
         with concurrent.futures.ThreadPoolExecutor() as pool:
             all_ran = list(pool.map(self.run_on, [f"{workload} {threads} 1" for workload, threads in cases]))
         for (workload, threads), (output, errors, status) in zip(cases, all_ran):

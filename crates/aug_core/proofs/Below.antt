@@ -1,16 +1,16 @@
 -- The members below a node, and the number of its opening record.
-use Rattle.std.proofs.Common.{◌≡◌, ◌≢◌, ℕ, zero, suc, ◌+◌, ◌-◌, ◌*◌, ◌^◌, ◌<◌, ◌≤◌, ◌⊎◌, inl, inr, min, Bool, true, false, ◌||◌, eqb, eq-eqb, ne_eqb, ltb, lt-ltb, if◌then◌else◌, List, [], ◌∷◌, ◌++◌, length, length-append, refl, sym, ap, ◌∙◌, subst, ⊎_elim, arith, suc-mul}
+use Rattle.std.proofs.Common.{◌≡◌, ℕ, zero, suc, ◌+◌, ◌-◌, ◌*◌, ◌^◌, ◌<◌, ◌≤◌, ◌⊎◌, inl, inr, min, Bool, true, false, ltb, lt-ltb, if◌then◌else◌, [], ◌∷◌, ◌++◌, length, refl, sym, ap, ◌∙◌, subst, ⊎_elim, arith, suc-mul}
 use Rattle.std.proofs.Math.Nat.{two-pow-succ, add-mul, mul-add, min-eq_left, min-eq_right}
-use Rattle.std.proofs.lemmas.Bool.{cases_eq, cases_lt}
-use Rattle.std.proofs.lemmas.List.{append_assoc, append-nil}
-use Rattle.aug_core.specs.Places.{Shape, own_records, opening_count}
-use Rattle.aug_core.specs.Tree.{place_count, IsInner, left_of, right_of, level_of, place_on}
-use Rattle.aug_core.specs.Opening.{opening_serial, Opening, members_below, has_members, own_before, number_at, opening_keys, opening_number}
-use Rattle.aug_model.specs.Keys.{is_member}
-use Rattle.aug_model.specs.Queries.{range_of}
+use Rattle.std.proofs.lemmas.Bool.{cases_lt}
+use Rattle.aug_core.specs.Places.{own_records, opening_count}
+use Rattle.aug_core.specs.Tree.{IsInner, left_of, right_of}
+use Rattle.aug_core.specs.Opening.{opening_leaf_word, Opening, members_below, pairs_below, has_members, own_before, number_at, opening_pairs, opening_number}
+use Rattle.aug_model.specs.Keys.{is_member, keys_of, pairs_of}
+use Rattle.aug_model.specs.Queries.{range_of, weight_in}
+use Rattle.aug_model.proofs.Pairs.{range-again, pairs_of-append}
 use Rattle.aug_model.proofs.Ranges.{Rises, range_cut, range_of_key, range_le, count_cut}
 use Rattle.aug_core.proofs.Sizes.{own_more}
-use Rattle.aug_core.proofs.Levels.{OnLevel, Above, on_level, level_is, leaf_level, above}
+use Rattle.aug_core.proofs.Levels.{OnLevel, level_is, leaf_level, above}
 
 -- ---- the own records of a level
 
@@ -26,19 +26,19 @@ own_within o l (suc p) = let h = own_within o l p in let one = at_most (has_memb
     at_most true = omega arith
     at_most false = omega arith
 
-own_few : (o : Opening) → Rises o.members → (l p : ℕ) → own_before o l p ≤ length (range_of o.members 0 (p * 2 ^ l))
+own_few : (o : Opening) → Rises (keys_of o.members) → (l p : ℕ) → own_before o l p ≤ length (range_of (keys_of o.members) 0 (p * 2 ^ l))
 own_few o rises l zero = omega arith
 own_few o rises l (suc p) = let h = own_few o rises l p in let w : ℕ = 2 ^ l in let one : p + 1 ≡ suc p = omega arith in
     let e : suc p * w ≡ p * w + w = suc-mul p w in let next : (p + 1) * w ≡ suc p * w = ap (λ (z : ℕ). z * w) one in
-    let cut = count_cut o.members 0 (p * w) ((p + 1) * w) rises (omega arith) (omega arith) in
-    let is = ap (λ (z : ℕ). length (range_of o.members 0 z)) next in let one = one_if (length (members_below o l p)) in omega arith
+    let cut = count_cut (keys_of o.members) 0 (p * w) ((p + 1) * w) rises (omega arith) (omega arith) in
+    let is = ap (λ (z : ℕ). length (range_of (keys_of o.members) 0 z)) next in let one = one_if (length (members_below o l p)) in omega arith
 
 lt_min : (x a b : ℕ) → x < a → x < b → x < min a b
 lt_min x a b h k = ⊎_elim (λ (lt : a < b). subst (λ (z : ℕ). x < z) (sym (min-eq_left {n = a} {m = b} (omega arith))) h) (λ (ge : b ≤ a). subst (λ (z : ℕ). x < z) (sym (min-eq_right {n = b} {m = a} ge)) k) (cases_lt a b)
 
 -- a node above a member has a record of its level's own ones
-pub own_room : (o : Opening) → Rises o.members → length o.members ≤ o.shape.members → (l p : ℕ) → p < 2 ^ (o.shape.bits - l) → has_members o l p ≡ true → own_before o l p < min (2 ^ (o.shape.bits - l)) o.shape.members
-own_room o rises few l p room some = let a = own_within o l p in let b = own_few o rises l (suc p) in let c = range_le o.members 0 (suc p * 2 ^ l) in
+pub own_room : (o : Opening) → Rises (keys_of o.members) → length (keys_of o.members) ≤ o.shape.members → (l p : ℕ) → p < 2 ^ (o.shape.bits - l) → has_members o l p ≡ true → own_before o l p < min (2 ^ (o.shape.bits - l)) o.shape.members
+own_room o rises few l p room some = let a = own_within o l p in let b = own_few o rises l (suc p) in let c = range_le (keys_of o.members) 0 (suc p * 2 ^ l) in
     let e : own_before o l (suc p) ≡ own_before o l p + 1 = ap (λ (z : Bool). own_before o l p + (if z then 1 else 0)) some in
     lt_min (own_before o l p) (2 ^ (o.shape.bits - l)) o.shape.members (omega arith) (omega arith)
 
@@ -60,20 +60,20 @@ true_or_false true = inl refl
 true_or_false false = inr refl
 
 -- it is one of the opening records
-pub number_low : (o : Opening) → Rises o.members → length o.members ≤ o.shape.members → (l p : ℕ) → suc l ≤ o.shape.bits → p < 2 ^ (o.shape.bits - suc l) → number_at o (suc l) p < opening_count o.shape
+pub number_low : (o : Opening) → Rises (keys_of o.members) → length (keys_of o.members) ≤ o.shape.members → (l p : ℕ) → suc l ≤ o.shape.bits → p < 2 ^ (o.shape.bits - suc l) → number_at o (suc l) p < opening_count o.shape
 number_low o rises few l p up room = ⊎_elim
     (λ some. let e = number_own o l p some in let r = own_room o rises few (suc l) p room some in let u = own_rises o.shape.bits o.shape.members (suc l) o.shape.bits up in let m = own_more o.shape.bits o.shape.members l in omega arith)
     (λ none. let e = number_shared o l p none in omega arith) (true_or_false (has_members o (suc l) p))
 
 module _ (o : Opening) where
-  pub keys_are : (q l p : ℕ) → OnLevel o.shape q l p → opening_keys o q ≡ members_below o l p
-  keys_are q l p a = let e = level_is o.shape q l p a in λ i. members_below o (e.0 i) (e.1 i)
+  pub pairs_are : (q l p : ℕ) → OnLevel o.shape q l p → opening_pairs o q ≡ pairs_below o l p
+  pairs_are q l p a = let e = level_is o.shape q l p a in λ i. pairs_below o (e.0 i) (e.1 i)
 
   pub number_is : (q l p : ℕ) → OnLevel o.shape q l p → opening_number o q ≡ number_at o l p
   number_is q l p a = let e = level_is o.shape q l p a in λ i. number_at o (e.0 i) (e.1 i)
 
   -- the members below a node are those below its children
-  pub below_both : Rises o.members → (l p : ℕ) → members_below o (suc l) p ≡ members_below o l (2 * p) ++ members_below o l (2 * p + 1)
+  pub below_both : Rises (keys_of o.members) → (l p : ℕ) → members_below o (suc l) p ≡ members_below o l (2 * p) ++ members_below o l (2 * p + 1)
   below_both rises l p = let w : ℕ = 2 ^ l in let e : 2 ^ suc l ≡ w + w = two-pow-succ l in
       let two : 2 * p ≡ p + p = omega arith in
       let first : p * 2 ^ suc l ≡ 2 * p * w = ap (λ (z : ℕ). p * z) e ∙ mul-add p w w ∙ sym (add-mul p p w) ∙ ap (λ (z : ℕ). z * w) (sym two) in
@@ -81,21 +81,36 @@ module _ (o : Opening) where
       let last : (2 * p + 1) * w + w ≡ (2 * p + 1 + 1) * w = next (2 * p + 1) w in
       let end : p * 2 ^ suc l + 2 ^ suc l ≡ (p + 1) * 2 ^ suc l = next p (2 ^ suc l) in
       let to : (p + 1) * 2 ^ suc l ≡ (2 * p + 1 + 1) * w = omega arith in
-      (λ i. range_of o.members (first i) (to i)) ∙ range_cut o.members (2 * p * w) ((2 * p + 1) * w) ((2 * p + 1 + 1) * w) rises (omega arith) (omega arith)
+      (λ i. range_of (keys_of o.members) (first i) (to i)) ∙ range_cut (keys_of o.members) (2 * p * w) ((2 * p + 1) * w) ((2 * p + 1 + 1) * w) rises (omega arith) (omega arith)
     where
       next : (n w : ℕ) → n * w + w ≡ (n + 1) * w
       next n w = let k : suc n * w ≡ n * w + w = suc-mul n w in let j : suc n ≡ n + 1 = omega arith in sym k ∙ ap (λ (z : ℕ). z * w) j
 
-  pub keys_over : Rises o.members → (q : ℕ) → IsInner o.shape q → opening_keys o q ≡ opening_keys o (left_of o.shape q) ++ opening_keys o (right_of o.shape q)
-  keys_over rises q inner = let t = above o.shape q inner in
-      keys_are q (suc t.level) t.place t.here ∙ below_both rises t.level t.place
-      ∙ (λ i. sym (keys_are (left_of o.shape q) t.level (2 * t.place) t.left) i ++ sym (keys_are (right_of o.shape q) t.level (2 * t.place + 1) t.right) i)
+  -- and so are they with their weights
+  weighed : Rises (keys_of o.members) → (l p : ℕ) → pairs_below o l p ≡ pairs_of (weight_in o.members) (members_below o l p)
+  weighed rises l p = range-again o.members (p * 2 ^ l) ((p + 1) * 2 ^ l) rises
 
-  pub keys_of_leaf : Rises o.members → (q : ℕ) → q < 2 ^ o.shape.bits → opening_keys o q ≡ (if is_member o.members q then q ∷ [] else [])
-  keys_of_leaf rises q low = keys_are q 0 q (leaf_level o.shape q low) ∙ (let e : q * 1 ≡ q = omega arith in let f : (q + 1) * 1 ≡ q + 1 = omega arith in λ i. range_of o.members (e i) (f i)) ∙ range_of_key o.members q rises
+  pairs_both : Rises (keys_of o.members) → (l p : ℕ) → pairs_below o (suc l) p ≡ pairs_below o l (2 * p) ++ pairs_below o l (2 * p + 1)
+  pairs_both rises l p =
+      weighed rises (suc l) p ∙ ap (pairs_of (weight_in o.members)) (below_both rises l p) ∙ pairs_of-append (weight_in o.members) (members_below o l (2 * p)) (members_below o l (2 * p + 1))
+      ∙ (λ i. sym (weighed rises l (2 * p)) i ++ sym (weighed rises l (2 * p + 1)) i)
 
-  pub number_of_leaf : (q : ℕ) → q < 2 ^ o.shape.bits → opening_number o q ≡ opening_serial o.members q
+  pub pairs_over : Rises (keys_of o.members) → (q : ℕ) → IsInner o.shape q → opening_pairs o q ≡ opening_pairs o (left_of o.shape q) ++ opening_pairs o (right_of o.shape q)
+  pairs_over rises q inner = let t = above o.shape q inner in
+      pairs_are q (suc t.level) t.place t.here ∙ pairs_both rises t.level t.place
+      ∙ (λ i. sym (pairs_are (left_of o.shape q) t.level (2 * t.place) t.left) i ++ sym (pairs_are (right_of o.shape q) t.level (2 * t.place + 1) t.right) i)
+
+  one_pair : (b : Bool) (weight : ℕ → ℕ) (q : ℕ) → pairs_of weight (if b then q ∷ [] else []) ≡ (if b then (q, weight q) ∷ [] else [])
+  one_pair true weight q = refl
+  one_pair false weight q = refl
+
+  pub pairs_of_leaf : Rises (keys_of o.members) → (q : ℕ) → q < 2 ^ o.shape.bits → opening_pairs o q ≡ (if is_member (keys_of o.members) q then (q, weight_in o.members q) ∷ [] else [])
+  pairs_of_leaf rises q low = pairs_are q 0 q (leaf_level o.shape q low) ∙ weighed rises 0 q
+      ∙ ap (pairs_of (weight_in o.members)) ((let e : q * 1 ≡ q = omega arith in let f : (q + 1) * 1 ≡ q + 1 = omega arith in λ i. range_of (keys_of o.members) (e i) (f i)) ∙ range_of_key (keys_of o.members) q rises)
+      ∙ one_pair (is_member (keys_of o.members) q) (weight_in o.members) q
+
+  pub number_of_leaf : (q : ℕ) → q < 2 ^ o.shape.bits → opening_number o q ≡ opening_leaf_word o.members q
   number_of_leaf q low = number_is q 0 q (leaf_level o.shape q low)
 
-  pub number_below : Rises o.members → length o.members ≤ o.shape.members → (q : ℕ) → IsInner o.shape q → opening_number o q < opening_count o.shape
+  pub number_below : Rises (keys_of o.members) → length (keys_of o.members) ≤ o.shape.members → (q : ℕ) → IsInner o.shape q → opening_number o q < opening_count o.shape
   number_below rises few q inner = let t = above o.shape q inner in subst (λ (z : ℕ). z < opening_count o.shape) (sym (number_is q (suc t.level) t.place t.here)) (number_low o rises few t.level t.place t.here.few t.here.room)

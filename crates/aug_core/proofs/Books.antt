@@ -1,12 +1,12 @@
 -- One history of a book grows at its end.
-use Rattle.std.proofs.Common.{◌≡◌, ℕ, zero, suc, ◌+◌, ◌-◌, ◌*◌, ◌^◌, ◌%◌, ◌<◌, ◌≤◌, ◌≢◌, ◌⊎◌, inl, inr, eqb, if◌then◌else◌, List, [], ◌∷◌, ◌++◌, length, get_or, set, sym, refl, ap, ◌∙◌, subst, ⊎_elim, arith, length-set, length-append, get_or-set_other, get_or-set_same}
+use Rattle.std.proofs.Common.{◌≡◌, ℕ, zero, suc, ◌+◌, ◌^◌, ◌<◌, ◌≤◌, ◌≢◌, ◌⊎◌, inl, inr, List, [], ◌∷◌, ◌++◌, length, set, sym, refl, ap, ◌∙◌, subst, ⊎_elim, arith, length-set, length-append, get_or-set_other, get_or-set_same}
 use Rattle.std.proofs.lemmas.Bool.{cases_eq, cases_lt}
-use mathlib.Core.Option.{none, some, some-injective, some-ne-none}
+use mathlib.Core.Option.{some, some-injective, some-ne-none}
 use lib.ListN.{get_elem?}
 use Rattle.atomic_table.proofs.Lists.{at_longer, at_last}
 use Rattle.aug_core.specs.Places.{Shape, opening_count, record_count}
 use Rattle.aug_core.specs.Tree.{place_count, IsInner, left_of, right_of}
-use Rattle.aug_core.specs.Book.{Book, history_of, At, IsNewest, ContinuesAt, Continues, GoesOnFromBoth, StandsOver, IsSerial, IsBook, FloorsCover, IsFresh}
+use Rattle.aug_core.specs.Book.{Book, history_of, At, IsNewest, ContinuesAt, Continues, GoesOnFromBoth, StandsOver, IsSerial, IsBook, IsFresh}
 use Rattle.aug_core.specs.declared.view.Entry.{Entry}
 
 module _ {A : Type 0} where
@@ -70,7 +70,7 @@ pub record Covers (s : Shape) (seen : Book) (q : ℕ) (e : Entry) : Type 0 where
   pub left : length (history_of seen (left_of s q)) ≤ e.left + 1
   pub right : length (history_of seen (right_of s q)) ≤ e.right + 1
 
-pub second_covers : (face : ℕ → ℕ → List ℕ → List ℕ) (s : Shape) (book seen : Book) → IsBook face s book → IsFresh s book seen → (q i : ℕ) (e f : Entry) → IsInner s q → length (history_of seen q) ≤ i
+pub second_covers : (face : ℕ → ℕ → List (ℕ × ℕ) → List ℕ) (s : Shape) (book seen : Book) → IsBook face s book → IsFresh s book seen → (q i : ℕ) (e f : Entry) → IsInner s q → length (history_of seen q) ≤ i
     → At book q i e → At book q (i + 1) f → Covers s seen q f
 second_covers face s book seen b h q i e f inner past p p' = let a = h.covers q i e inner past p in let c = b.floored q i e f inner p p' in let a0 = a.left in let a1 = a.right in let c0 = c.0 in let c1 = c.1 in
     record { left = omega arith; right = omega arith }
@@ -84,12 +84,12 @@ one_newest book q i j e f a b = let x = a.last in let y = b.last in let same : i
     (same, one_entry book q j e f (subst (λ (z : ℕ). At book q z e) same a.at) b.at)
 
 -- within one history a record's number stands once: an opening record's at the first entry, a lane's once in the whole book
-pub one_index : (face : ℕ → ℕ → List ℕ → List ℕ) (s : Shape) (book : Book) → IsBook face s book → (q i j : ℕ) (e f : Entry) → IsInner s q → At book q i e → At book q j f → e.number ≡ f.number → i ≡ j
+pub one_index : (face : ℕ → ℕ → List (ℕ × ℕ) → List ℕ) (s : Shape) (book : Book) → IsBook face s book → (q i j : ℕ) (e f : Entry) → IsInner s q → At book q i e → At book q j f → e.number ≡ f.number → i ≡ j
 one_index face s book b q i j e f inner p p' same = ⊎_elim
     (λ (low : e.number < opening_count s). b.opens q i e inner p low ∙ sym (b.opens q j f inner p' (subst (λ (z : ℕ). z < opening_count s) same low)))
     (λ (own : opening_count s ≤ e.number). (b.distinct q q i j e f inner inner p p' own same).1) (cases_lt e.number (opening_count s))
 
-pub same_index : (face : ℕ → ℕ → List ℕ → List ℕ) (s : Shape) (book : Book) → IsBook face s book → (q i j : ℕ) (e f : Entry) → q < place_count s → At book q i e → At book q j f → e.number ≡ f.number → i ≡ j
+pub same_index : (face : ℕ → ℕ → List (ℕ × ℕ) → List ℕ) (s : Shape) (book : Book) → IsBook face s book → (q i j : ℕ) (e f : Entry) → q < place_count s → At book q i e → At book q j f → e.number ≡ f.number → i ≡ j
 same_index face s book b q i j e f inside p p' same = ⊎_elim
     (λ (leaf : q < 2 ^ s.bits). let x = (b.serials q i e leaf p).counted in let y = (b.serials q j f leaf p').counted in omega arith)
     (λ (past : 2 ^ s.bits ≤ q). one_index face s book b q i j e f record { past_leaves = past; inside = inside } p p' same) (cases_lt q (2 ^ s.bits))
@@ -129,14 +129,16 @@ module _ (book : Book) (q : ℕ) (in_book : q < length book) (e : Entry) where
   pub newest_there : (p i : ℕ) (x : Entry) → p ≢ q → IsNewest book p i x → IsNewest grow p i x
   newest_there p i x ne new = record { at = grown_at p i x new.at; last = ap length (there p ne) ∙ new.last }
 
-  module _ (face : ℕ → ℕ → List ℕ → List ℕ) (s : Shape) (b : IsBook face s book) where
+  module _ (face : ℕ → ℕ → List (ℕ × ℕ) → List ℕ) (s : Shape) (b : IsBook face s book) where
     stands_over : (p : ℕ) (x : Entry) → StandsOver face s book p x → StandsOver face s grow p x
     stands_over p x o = record {
       left_child = o.left_child;
       right_child = o.right_child;
       left_at = grown_at (left_of s p) x.left o.left_child o.left_at;
       right_at = grown_at (right_of s p) x.right o.right_child o.right_at;
-      keys_of_both = o.keys_of_both;
+      left_shown = o.left_shown;
+      right_shown = o.right_shown;
+      pairs_of_both = o.pairs_of_both;
       words_say = o.words_say;
     }
 

@@ -5,33 +5,33 @@ use Rattle.aug_monoid.specs.Parts.{Parts}
 use Rattle.aug_core.specs.Faces.{face}
 
 module _ {A B : Type 0} (parts_a : Parts A) (parts_b : Parts B) where
-  abbrev both : ℕ → ℕ → List ℕ → List ℕ
+  abbrev both : ℕ → ℕ → List (ℕ × ℕ) → List ℕ
   both = face parts_a parts_b
 
   -- the first two name the children
-  pub left_in : (l r : ℕ) (keys : List ℕ) → get_or (both l r keys) 0 0 ≡ l
+  pub left_in : (l r : ℕ) (pairs : List (ℕ × ℕ)) → get_or (both l r pairs) 0 0 ≡ l
   unfolding face
-  left_in l r keys = refl
+  left_in l r pairs = refl
 
-  pub right_in : (l r : ℕ) (keys : List ℕ) → get_or (both l r keys) 1 0 ≡ r
+  pub right_in : (l r : ℕ) (pairs : List (ℕ × ℕ)) → get_or (both l r pairs) 1 0 ≡ r
   unfolding face
-  right_in l r keys = refl
+  right_in l r pairs = refl
 
-  -- the third counts the keys
-  pub count_in : (l r : ℕ) (keys : List ℕ) → get_or (both l r keys) 2 0 ≡ length keys
+  -- the third counts the pairs
+  pub count_in : (l r : ℕ) (pairs : List (ℕ × ℕ)) → get_or (both l r pairs) 2 0 ≡ length pairs
   unfolding face
-  count_in l r keys = refl
+  count_in l r pairs = refl
 
   -- the last two are their folds
-  pub a_in : (l r : ℕ) (keys : List ℕ) → get_or (both l r keys) 3 0 ≡ parts_a.to_word (fold_of parts_a keys)
+  pub a_in : (l r : ℕ) (pairs : List (ℕ × ℕ)) → get_or (both l r pairs) 3 0 ≡ parts_a.to_word (fold_of parts_a pairs)
   unfolding face
-  a_in l r keys = refl
+  a_in l r pairs = refl
 
-  pub b_in : (l r : ℕ) (keys : List ℕ) → get_or (both l r keys) 4 0 ≡ parts_b.to_word (fold_of parts_b keys)
+  pub b_in : (l r : ℕ) (pairs : List (ℕ × ℕ)) → get_or (both l r pairs) 4 0 ≡ parts_b.to_word (fold_of parts_b pairs)
   unfolding face
-  b_in l r keys = refl
+  b_in l r pairs = refl
 
   -- and five words that are these are the record's
-  pub face_is : (l r n x y : ℕ) (keys : List ℕ) → n ≡ length keys → x ≡ parts_a.to_word (fold_of parts_a keys) → y ≡ parts_b.to_word (fold_of parts_b keys) → l ∷ r ∷ n ∷ x ∷ y ∷ [] ≡ both l r keys
+  pub face_is : (l r n x y : ℕ) (pairs : List (ℕ × ℕ)) → n ≡ length pairs → x ≡ parts_a.to_word (fold_of parts_a pairs) → y ≡ parts_b.to_word (fold_of parts_b pairs) → l ∷ r ∷ n ∷ x ∷ y ∷ [] ≡ both l r pairs
   unfolding face
-  face_is l r n x y keys a b c i = l ∷ r ∷ a i ∷ b i ∷ c i ∷ []
+  face_is l r n x y pairs a b c i = l ∷ r ∷ a i ∷ b i ∷ c i ∷ []

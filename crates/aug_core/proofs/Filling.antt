@@ -1,5 +1,5 @@
 -- The five words of a record, stored one after another into the own lane, and what they must say to be published.
-use Rattle.std.proofs.Common.{◌≡◌, ℕ, zero, suc, ◌+◌, ◌-◌, ◌*◌, ◌<◌, ◌≤◌, List, [], ◌∷◌, ◌++◌, length, get_or, set, length-set, get_or-set_same, get_or-set_other, sym, ap, ◌∙◌, subst, arith}
+use Rattle.std.proofs.Common.{◌≡◌, ℕ, zero, suc, ◌+◌, ◌-◌, ◌*◌, ◌<◌, ◌≤◌, List, ◌++◌, length, get_or, set, length-set, get_or-set_same, get_or-set_other, sym, ap, ◌∙◌, subst, arith}
 use Rattle.aug_core.specs.Places.{record_start}
 use Rattle.aug_core.specs.Lanes.{first_record, IsOfLane, block_start, block_size}
 use Rattle.aug_core.specs.Refreshes.{SaysLoaded}
@@ -98,7 +98,7 @@ module _ (v : View) (number : ℕ) (five : List ℕ) (lane : Held) (only : Holds
       (at_field 0 (omega arith)) (at_field 1 (omega arith)) (at_field 2 (omega arith)) (at_field 3 (omega arith)) (at_field 4 (omega arith)) (λ i. get_or five i 0) k small)
 
   -- a record that says what was loaded may be published
-  pub is_filled : (face : ℕ → ℕ → List ℕ → List ℕ) (q old : ℕ) → SaysLoaded face v.shape v.seen q old five → IsFilled face (filled_view v number five) q old number
+  pub is_filled : (face : ℕ → ℕ → List (ℕ × ℕ) → List ℕ) (q old : ℕ) → SaysLoaded face v.shape v.seen q old five → IsFilled face (filled_view v number five) q old number
   is_filled face q old says = let l = says.is_loaded in record {
     index = l.index;
     from = l.from;
@@ -110,10 +110,12 @@ module _ (v : View) (number : ℕ) (five : List ℕ) (lane : Held) (only : Holds
     numbered = l.numbered;
     left_at = l.left_at;
     right_at = l.right_at;
+    left_shown = l.left_shown;
+    right_shown = l.right_shown;
     left_later = l.left_later;
     right_later = l.right_later;
     left_known = l.left_known;
     right_known = l.right_known;
     full = λ h only k small. five_held h only k small ∙ ap (λ (z : List ℕ). get_or z k 0) says.five_are
-        ∙ (λ i. get_or (face (sym l.left_named i) (sym l.right_named i) (l.left.keys ++ l.right.keys)) k 0);
+        ∙ (λ i. get_or (face (sym l.left_named i) (sym l.right_named i) (l.left.pairs ++ l.right.pairs)) k 0);
   }

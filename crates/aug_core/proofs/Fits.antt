@@ -1,10 +1,11 @@
 -- No serial is past the updates of all workers, and what a step that shows the whole book tells.
-use Rattle.std.proofs.Common.{Option, ◌≡◌, ℕ, zero, suc, ◌+◌, ◌*◌, ◌^◌, ◌<◌, ◌≤◌, Bool, true, false, if◌then◌else◌, List, [], ◌∷◌, length, get_or, sum, sym, subst, arith, suc-mul, mul-le-mul_right, ap, ◌∙◌, refl}
+use Rattle.std.proofs.Common.{Option, ◌≡◌, ℕ, suc, ◌*◌, ◌<◌, ◌≤◌, Bool, true, false, if◌then◌else◌, List, [], ◌∷◌, length, get_or, All, sym, subst, arith, suc-mul, ap}
 use Rattle.std.specs.List.{sum_by}
 use Rattle.std.proofs.lemmas.List.Sums.{sum_by-cons}
 use Rattle.aug_core.specs.Places.{Shape}
 use Rattle.aug_core.specs.Book.{Book, Continues, IsFresh, SerialsFit, IsBook}
-use Rattle.aug_model.specs.Keys.{is_member}
+use Rattle.aug_model.specs.Keys.{is_member, keys_of}
+use Rattle.aug_monoid.specs.Weighted.{FitsPair}
 use Rattle.aug_core.specs.Opening.{Opening}
 use Rattle.aug_core.specs.Counts.{AreTallied}
 use Rattle.aug_model.specs.Keys.{IsKeySet}
@@ -25,11 +26,11 @@ few_in_all [] m h = omega arith
 few_in_all (x ∷ xs) m h = let e = sum_by-cons (λ (y : ℕ). y) x xs in let first : x ≤ m = h 0 (omega arith) in let rest = few_in_all xs m (λ i low. h (suc i) (omega arith)) in let p = suc-mul (length xs) m in omega arith
 
 pub fits_book : (o : Opening) (words : List ℕ) (book : Book) (views : List View) (tally : List ℕ) → AreTallied o words book views tally → SerialsFit o.shape book
-fits_book o words book views tally t = let all = few_in_all tally o.shape.updates (λ i low. let long = t.long in t.few i (omega arith)) in
-    let is : length tally * o.shape.updates ≡ o.shape.workers * o.shape.updates = ap (λ (z : ℕ). z * o.shape.updates) t.long in
-    record { few = λ key low. let e = t.enough key low in let one = at_most_one (is_member o.members key) in omega arith }
+fits_book o words book views tally t = let all = few_in_all tally (2 * o.shape.updates) (λ i low. let long = t.long in t.few i (omega arith)) in
+    let is : length tally * (2 * o.shape.updates) ≡ o.shape.workers * (2 * o.shape.updates) = ap (λ (z : ℕ). z * (2 * o.shape.updates)) t.long in
+    record { few = λ key low. let e = t.enough key low in let one = at_most_one (is_member (keys_of o.members) key) in omega arith }
 
-module _ (face : ℕ → ℕ → List ℕ → List ℕ) where
+module _ (face : ℕ → ℕ → List (ℕ × ℕ) → List ℕ) where
   pub sees_after : (v w : View) (s : Shape) → v.shape ≡ s → Continues w.seen v.seen → Continues w.seen v.also → IsFresh s w.seen v.seen → IsBook face s w.seen → SerialsFit s w.seen → Sees face v w
   sees_after v w s shaped later also fresh book fits = record {
     later = later;
@@ -43,8 +44,9 @@ module _ (face : ℕ → ℕ → List ℕ → List ℕ) where
   pub knows_shown : (v w : View) → KnowsTable face v → Sees face v w → w.shape ≡ v.shape → w.members ≡ v.members → KnowsTable face w
   knows_shown v w kn sees shaped same = record {
     laid_out = subst IsLayout (sym shaped) kn.laid_out;
-    key_set = subst (λ (z : ℕ × List ℕ). IsKeySet z.0 z.1) (λ i. ((sym shaped i).bits, sym same i)) kn.key_set;
-    few_members = subst (λ (z : ℕ × List ℕ). length z.1 ≤ z.0) (λ i. ((sym shaped i).members, sym same i)) kn.few_members;
+    key_set = subst (λ (z : ℕ × List (ℕ × ℕ)). IsKeySet z.0 (keys_of z.1)) (λ i. ((sym shaped i).bits, sym same i)) kn.key_set;
+    members_fit = subst (All FitsPair) (sym same) kn.members_fit;
+    few_members = subst (λ (z : ℕ × List (ℕ × ℕ)). length z.1 ≤ z.0) (λ i. ((sym shaped i).members, sym same i)) kn.few_members;
     book = subst (λ (z : Shape). IsBook face z w.seen) (sym shaped) sees.book;
     opened = subst (λ (z : Opening). Continues w.seen (opening_book face z)) (λ i. record { shape = sym shaped i; members = sym same i }) (λ q i e p. sees.later q i e (kn.opened q i e p));
     fits = subst (λ (z : Shape). SerialsFit z w.seen) (sym shaped) sees.fits;
@@ -53,4 +55,4 @@ module _ (face : ℕ → ℕ → List ℕ → List ℕ) where
   -- and so it does after one that showed it nothing
   pub knows_same : (v : View) (live : Bool) (also : Book) (held : List Held) (spare : Option ℕ) (began : Beginning) (steps : List StepTaken) → KnowsTable face v
       → KnowsTable face record v { live = live; also = also; held = held; spare = spare; began = began; steps = steps }
-  knows_same v live also held spare began steps kn = record { laid_out = kn.laid_out; key_set = kn.key_set; few_members = kn.few_members; book = kn.book; opened = kn.opened; fits = kn.fits }
+  knows_same v live also held spare began steps kn = record { laid_out = kn.laid_out; key_set = kn.key_set; members_fit = kn.members_fit; few_members = kn.few_members; book = kn.book; opened = kn.opened; fits = kn.fits }

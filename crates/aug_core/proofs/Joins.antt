@@ -4,7 +4,6 @@ use mathlib.Core.Option.{some, some-ne-none}
 use lib.ListN.{get_elem?}
 use Rattle.atomic_table.specs.Table.{Joins}
 use Rattle.atomic_table.proofs.Lists.{at_set}
-use Rattle.aug_core.specs.Places.{Shape}
 use Rattle.aug_core.specs.Opening.{Opening}
 use Rattle.aug_core.specs.Rule.{Knows, Kept}
 use Rattle.aug_core.specs.Told.{taking_back, spent}
@@ -13,11 +12,11 @@ use Rattle.aug_core.specs.declared.view.Held.{Held}
 use Rattle.aug_core.specs.declared.view.View.{View}
 use Rattle.aug_core.proofs.Views.{apart_on}
 use Rattle.aug_core.proofs.Moves.{St}
-use Rattle.aug_core.specs.Counts.{StandsAt, Stands, AreCounted, AreTallied}
+use Rattle.aug_core.specs.Counts.{StandsAt, Stands}
 use Rattle.aug_core.specs.declared.view.Change.{Change}
 use Rattle.std.proofs.lemmas.Bool.{cases_eq}
 use Rattle.std.proofs.Common.{refl}
-use Rattle.aug_core.proofs.Books.{at_below, fresh_now}
+use Rattle.aug_core.proofs.Books.{at_below}
 use Rattle.atomic_table.proofs.Lists.{at_longer, set_here, set_else}
 
 module _ {A : Type 0} where
@@ -43,7 +42,7 @@ spent_knows o words book = record {
   spares = λ n lane e le low. let clash : None ≡ Some n = e in cc;
 }
 
-module _ (face : ℕ → ℕ → List ℕ → List ℕ) (o : Opening) (s : St) (r : Kept face o s) (id : ℕ) (v : View) (at : get_elem? s.views id ≡ some v) (other : ℕ) (w : View) (ne : other ≢ id) (at' : get_elem? s.views other ≡ some w) where
+module _ (face : ℕ → ℕ → List (ℕ × ℕ) → List ℕ) (o : Opening) (s : St) (r : Kept face o s) (id : ℕ) (v : View) (at : get_elem? s.views id ≡ some v) (other : ℕ) (w : View) (ne : other ≢ id) (at' : get_elem? s.views other ≡ some w) where
   abbrev lead : View
   lead = taking_back v w
 
@@ -163,7 +162,7 @@ module _ (face : ℕ → ℕ → List ℕ → List ℕ) (o : Opening) (s : St) (
     };
   }
 
-module _ (face : ℕ → ℕ → List ℕ → List ℕ) (o : Opening) where
+module _ (face : ℕ → ℕ → List (ℕ × ℕ) → List ℕ) (o : Opening) where
   pub joins_seat : (id other : ℕ) (v w : View) → Joins (Kept face o) id v other w (taking_back v w) spent
   joins_seat id other v w s r at ne at' =
       takes_back face o s r id v at other w ne (⊎_elim (λ t. absurd (ne t.0)) (λ t. t.1) (at_set s.views id other (taking_back v w) w at'))

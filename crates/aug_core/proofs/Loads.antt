@@ -6,12 +6,11 @@ use Rattle.atomic_table.specs.Table.{step, keeps, Allows}
 use Rattle.aug_core.specs.Places.{Shape, record_start}
 use Rattle.aug_core.specs.Tree.{IsInner}
 use Rattle.aug_core.specs.Lanes.{first_record, IsOfLane}
-use Rattle.aug_core.specs.Book.{At, IsNewest, IsFresh, SerialsFit, IsBook}
+use Rattle.aug_core.specs.Book.{At, IsFresh, SerialsFit, IsBook}
 use Rattle.aug_core.specs.Opening.{Opening}
-use Rattle.aug_core.specs.Rule.{Knows, Kept}
+use Rattle.aug_core.specs.Rule.{NamesNewest, Knows, Kept}
 use Rattle.aug_core.specs.Kinds.{load_leaf, load_node, load_record_word}
 use Rattle.aug_core.specs.Told.{stepping, held_word, read_record, seeing, beginning, Sees, loaded_leaf, began_at_leaf, loaded_node}
-use Rattle.aug_core.specs.declared.step.StepTaken.{StepTaken}
 use Rattle.aug_core.specs.declared.view.Entry.{Entry}
 use Rattle.aug_core.specs.declared.view.Held.{Held}
 use Rattle.aug_core.specs.declared.view.View.{View}
@@ -20,7 +19,7 @@ use Rattle.aug_core.proofs.Moves.{Sat, St, knows_keeping, rests, stands, watches
 use Rattle.aug_core.proofs.Fits.{fits_book, sees_after}
 use Rattle.aug_core.proofs.Sizes.{twice}
 
-module _ (face : ℕ → ℕ → List ℕ → List ℕ) (o : Opening) where
+module _ (face : ℕ → ℕ → List (ℕ × ℕ) → List ℕ) (o : Opening) where
   module _ (s : St) (r : Kept face o s) (v : View) (kn : Knows o s.words r.book v) (place : ℕ) where
     of_entry : (q i field : ℕ) (e : Entry) → IsInner o.shape q → At v.seen q i e → field < 5 → place ≡ record_start o.shape e.number + field → get_or s.words place 0 ≡ get_or e.words field 0
     of_entry q i field e inner p small is = ap (λ (z : ℕ). get_or s.words z 0) is ∙ r.tree.written q i field e inner (kn.saw q i e p) small
@@ -55,10 +54,9 @@ module _ (face : ℕ → ℕ → List ℕ → List ℕ) (o : Opening) where
         (subst (λ z. IsFresh o.shape z v.seen) (sym is) kn.fresh) (subst (λ z. IsBook face o.shape z) (sym is) r.tree.is_book)
         (subst (λ z. SerialsFit o.shape z) (sym is) (fits_book o s.words r.book s.views r.changes.tally r.changes.tallied))
 
-    -- a leaf's word is the serial of its newest entry
-    finds_leaf : (place : ℕ) → place < 2 ^ v.shape.bits → (e : Entry) × IsNewest r.book place (get_or s.words place 0) e
-    finds_leaf place low = let low' : place < 2 ^ o.shape.bits = subst (λ (z : Shape). place < 2 ^ z.bits) ((r.each_view id v at).shaped live) low in let t2 = twice o.shape.bits in let t = r.tree.newest place (omega arith) in
-        let is : t.index ≡ get_or s.words place 0 = sym (r.tree.is_book.serials place t.index t.entry low' t.newest.at).named ∙ sym t.word in (t.entry, subst (λ (z : ℕ). IsNewest r.book place z t.entry) is t.newest)
+    -- a leaf's word is that of its newest entry
+    finds_leaf : (place : ℕ) → place < 2 ^ v.shape.bits → NamesNewest s.words r.book place
+    finds_leaf place low = let low' : place < 2 ^ o.shape.bits = subst (λ (z : Shape). place < 2 ^ z.bits) ((r.each_view id v at).shaped live) low in let t2 = twice o.shape.bits in r.tree.newest place (omega arith)
 
   pub loads_leaf : (n id place : ℕ) (me : Sat) → me.0.live ≡ true → me.1 ≡ [] → Allows (Kept face o) n id me place (λ x. x) (loaded_leaf face (step n place 0 0 none) me)
   loads_leaf n id place me live empty s r _ at _ =
@@ -72,8 +70,11 @@ module _ (face : ℕ → ℕ → List ℕ → List ℕ) (o : Opening) where
           λ low. let t = finds_leaf s r id v at live place low in record {
             stepped = refl;
             sees = sees_it s r id v at live w refl;
-            entry = t.0;
-            newest = t.1;
+            index = t.index;
+            entry = t.entry;
+            newest = t.newest;
+            found = t.word;
+            shown = t.shown;
           },
         ),
       )
@@ -91,8 +92,11 @@ module _ (face : ℕ → ℕ → List ℕ → List ℕ) (o : Opening) where
           λ low. let t = finds_leaf s r id v at live place low in record {
             stepped = refl;
             sees = sees_it s r id v at live w refl;
-            entry = t.0;
-            newest = t.1;
+            index = t.index;
+            entry = t.entry;
+            newest = t.newest;
+            found = t.word;
+            shown = t.shown;
           },
         ),
       )
@@ -113,6 +117,7 @@ module _ (face : ℕ → ℕ → List ℕ → List ℕ) (o : Opening) where
             entry = t.entry;
             newest = t.newest;
             found = t.word ∙ r.tree.is_book.named place t.index t.entry inner' t.newest.at;
+            shown = t.shown;
           },
         ),
       )

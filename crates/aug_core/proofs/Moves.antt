@@ -1,26 +1,26 @@
 -- What a step of one seat carries over: the words of its own lanes change, or one word of a leaf or a node, and the book stays or grows.
-use Rattle.std.proofs.Common.{◌≡◌, ℕ, ◌+◌, ◌^◌, ◌<◌, ◌≤◌, ◌≢◌, ◌⊎◌, inl, inr, List, [], ◌∷◌, ◌++◌, length, get_or, set, refl, sym, ap, ◌∙◌, subst, ⊎_elim, arith, length-set, get_or-set_other, get_or-set_same, Some}
+use Rattle.std.proofs.Common.{◌≡◌, ℕ, ◌+◌, ◌^◌, ◌<◌, ◌≤◌, ◌≢◌, ◌⊎◌, inl, inr, List, [], ◌∷◌, ◌++◌, length, get_or, set, refl, sym, ap, ◌∙◌, subst, ⊎_elim, false, arith, length-set, get_or-set_other, get_or-set_same, Some}
 use Rattle.std.proofs.lemmas.Bool.{cases_eq}
 use Rattle.std.proofs.lemmas.List.{set-get_or}
 use mathlib.Core.Option.{some}
 use lib.ListN.{get_elem?}
-use Rattle.atomic_table.specs.Table.{State, Me, Act, Valid, carried_after, stepped}
+use Rattle.atomic_table.specs.Table.{State, Me}
 use Rattle.atomic_table.proofs.Lists.{at_set}
-use Rattle.aug_core.specs.Places.{Shape, lane_place, record_start, opening_count, word_count}
+use Rattle.aug_core.specs.Places.{Shape, lane_place, record_start, opening_count}
 use Rattle.aug_core.specs.Tree.{place_count, IsInner}
 use Rattle.aug_core.specs.Lanes.{IsOfLane, block_start, block_size}
 use Rattle.aug_core.specs.Book.{Book, history_of, At, IsNewest, Continues, FloorsCover, IsFresh, IsBook}
-use Rattle.aug_core.specs.Opening.{Opening, opening_book}
+use Rattle.aug_core.specs.Opening.{Opening}
 use Rattle.aug_core.specs.Counts.{WasMade, AreCounted, AreTallied}
 use Rattle.aug_core.specs.declared.view.Change.{Change}
 use Rattle.aug_core.specs.declared.step.StepTaken.{StepTaken}
-use Rattle.aug_core.specs.Rule.{Lists, NamesNewest, BlockIs, HoldsLane, Knows, KeepsTree, Kept}
+use Rattle.aug_core.specs.Rule.{Lists, NamesNewest, HoldsLane, Knows, KeepsTree, Kept}
 use Rattle.aug_core.specs.declared.view.Beginning.{Beginning}
 use Rattle.aug_core.specs.declared.view.Entry.{Entry}
 use Rattle.aug_core.specs.declared.view.Held.{Held}
 use Rattle.aug_core.specs.declared.view.View.{View}
-use Rattle.aug_core.proofs.Sizes.{lanes_apart}
-use Rattle.aug_core.proofs.Books.{fresh_now, no_shorter, grow, grown_at, at_grown, newest_here, newest_there, there, longer}
+use Rattle.aug_core.proofs.Sizes.{lanes_apart, twice}
+use Rattle.aug_core.proofs.Books.{fresh_now, at_below, there_is, one_entry, grow, grown_at, at_grown, newest_here, newest_there}
 use Rattle.aug_core.proofs.Views.{Likens, Repeats, was_there, repeats_like, counted_on, apart_on}
 
 abbrev pub Sat : Type 0
@@ -51,7 +51,7 @@ pub record IsOwn (s : Shape) (words : List ℕ) (v : View) (number : ℕ) : Type
   pub of_lane : IsOfLane s held.lane number
   pub some_state : 0 < get_or words (lane_place s held.lane) 0
 
-module _ (face : ℕ → ℕ → List ℕ → List ℕ) (o : Opening) (s : St) (r : Kept face o s) (id : ℕ) (v : View) (after : List ℕ) (book' : Book) where
+module _ (face : ℕ → ℕ → List (ℕ × ℕ) → List ℕ) (o : Opening) (s : St) (r : Kept face o s) (id : ℕ) (v : View) (after : List ℕ) (book' : Book) where
   -- what a step may do to the words and to the book
   pub record MayMove : Type 0 where
     pub tree : KeepsTree face o after book'
@@ -142,13 +142,20 @@ module _ (face : ℕ → ℕ → List ℕ → List ℕ) (o : Opening) (s : St) (
       enough = λ key low. let e = same key low in let l = t.enough key low in omega arith;
     }
 
-    made_on : (book1 book2 : Book) → ((key : ℕ) → key < 2 ^ o.shape.bits → length (history_of book1 key) ≡ length (history_of book2 key)) → (c : Change) → WasMade o book1 c → WasMade o book2 c
-    made_on book1 book2 same c w = record { exists = w.exists; past_opening = w.past_opening; reached = subst (λ (z : ℕ). c.serial < z) (same c.key w.exists) w.reached }
+    made_on : (c : Change) → WasMade o r.book c → WasMade o book' c
+    made_on c w = record { exists = w.exists; past_opening = w.past_opening; entry = w.entry; reached = m.grows c.key c.serial w.entry w.reached; weighs = w.weighs }
+
+    made_back : SameLeaves → (c : Change) → WasMade o book' c → WasMade o r.book c
+    made_back same c w =
+        let below = at_below (history_of book' c.key) c.serial w.entry w.reached in let long = same c.key w.exists in
+        let x = there_is (history_of r.book c.key) c.serial (omega arith) in
+        let is : x.0 ≡ w.entry = one_entry book' c.key c.serial x.0 w.entry (m.grows c.key c.serial x.0 x.1) w.reached in
+        record { exists = w.exists; past_opening = w.past_opening; entry = w.entry; reached = subst (At r.book c.key c.serial) is x.1; weighs = w.weighs }
 
     -- the rule holds after a step that makes no change
     pub moves_on : (w : View) → Repeats v w → Knows o after book' w → SameLeaves → Kept face o record { words = after; homes = s.homes; views = set s.views id w }
     moves_on w rep knows same = moves w (repeats_like v w rep) knows
-        (counted_on s.views id v w at rep o r.book book' (made_on book' r.book same) (made_on r.book book' (λ key low. sym (same key low))) r.changes.counted) r.changes.tally (tallied_on w rep same)
+        (counted_on s.views id v w at rep o r.book book' (made_back same) made_on r.changes.counted) r.changes.tally (tallied_on w rep same)
 
     -- what is known of a lane whose words stayed
     pub holds_on : (h : Held) (published : List ℕ) (changes : List Change) → HoldsLane o.shape s.words r.book h → Stays o.shape s.words after h.lane → ((n : ℕ) → Lists h.published n → Lists published n)
@@ -186,7 +193,7 @@ module _ (face : ℕ → ℕ → List ℕ → List ℕ) (o : Opening) (s : St) (
       spares = still_spare record v { held = held; steps = steps } refl;
     }
 
-module _ (face : ℕ → ℕ → List ℕ → List ℕ) (o : Opening) (s : St) (r : Kept face o s) (id : ℕ) (v : View) (at : get_elem? s.views id ≡ some v) where
+module _ (face : ℕ → ℕ → List (ℕ × ℕ) → List ℕ) (o : Opening) (s : St) (r : Kept face o s) (id : ℕ) (v : View) (at : get_elem? s.views id ≡ some v) where
   -- a step that changes no word
   pub rests : MayMove face o s r id v s.words r.book
   rests = record {
@@ -224,7 +231,7 @@ module _ (face : ℕ → ℕ → List ℕ → List ℕ) (o : Opening) (s : St) (
             wide = length-set s.words i x ∙ r.tree.wide;
             is_book = r.tree.is_book;
             opened = r.tree.opened;
-            newest = λ q low. let t = r.tree.newest q low in record { index = t.index; entry = t.entry; newest = t.newest; word = stays q (own.past_nodes q low) ∙ t.word };
+            newest = λ q low. let t = r.tree.newest q low in record { index = t.index; entry = t.entry; newest = t.newest; word = stays q (own.past_nodes q low) ∙ t.word; shown = t.shown };
             written = λ q j k e inner p small. stays (record_start o.shape e.number + k) (own.unpublished q j k e inner p small) ∙ r.tree.written q j k e inner p small;
             idle = λ number k is small. stays (record_start o.shape number + k) (own.past_idle number k is.opening small) ∙ r.tree.idle number k is small;
           };
@@ -256,9 +263,9 @@ module _ (face : ℕ → ℕ → List ℕ → List ℕ) (o : Opening) (s : St) (
     pub all_stay : (lane : ℕ) → Stays o.shape s.words after lane
     all_stay lane = record { state = stay (lane_place o.shape lane) (λ is. omega arith); block = λ k small. stay (block_start o.shape lane + k) (λ is. omega arith) }
 
-    pub tree_moves : IsBook face o.shape book' → (IsInner o.shape q → IsOwn o.shape s.words v e.number) → (IsInner o.shape q → (k : ℕ) → k < 5 → get_or s.words (record_start o.shape e.number + k) 0 ≡ get_or e.words k 0)
+    pub tree_moves : IsBook face o.shape book' → e.passed ≡ false → (IsInner o.shape q → IsOwn o.shape s.words v e.number) → (IsInner o.shape q → (k : ℕ) → k < 5 → get_or s.words (record_start o.shape e.number + k) 0 ≡ get_or e.words k 0)
         → ((seen : Book) → Continues r.book seen → IsInner o.shape q → FloorsCover o.shape seen q e) → MayMove face o s r id v after book'
-    tree_moves is_book own full floors = record {
+    tree_moves is_book shown own full floors = record {
       grows = grown_at r.book q in_book e;
       tree = record {
         wide = length-set s.words q e.word ∙ r.tree.wide;
@@ -270,8 +277,9 @@ module _ (face : ℕ → ℕ → List ℕ → List ℕ) (o : Opening) (s : St) (
               entry = e;
               newest = newest_here r.book q in_book e;
               word = let wide = r.tree.wide in get_or-set_same s.words q e.word 0 (omega arith);
+              shown = shown;
             })
-            (λ ne. let t = r.tree.newest p low in record { index = t.index; entry = t.entry; newest = newest_there r.book q in_book e p t.index t.entry ne t.newest; word = stay p ne ∙ t.word }) (cases_eq p q);
+            (λ ne. let t = r.tree.newest p low in record { index = t.index; entry = t.entry; newest = newest_there r.book q in_book e p t.index t.entry ne t.newest; word = stay p ne ∙ t.word; shown = t.shown }) (cases_eq p q);
         written = λ p j k f inner t small. record_stays f.number k ∙ ⊎_elim
             (λ old. r.tree.written p j k f inner old small)
             (λ new. subst (λ (z : Entry). get_or s.words (record_start o.shape z.number + k) 0 ≡ get_or z.words k 0) new.2 (full (subst (IsInner o.shape) new.0 inner) k small)) (at_grown r.book q in_book e p j f t);
@@ -285,4 +293,43 @@ module _ (face : ℕ → ℕ → List ℕ → List ℕ) (o : Opening) (s : St) (
         covers = λ p j x inner past t. ⊎_elim (λ old. f.covers p j x inner past old)
             (λ new. subst (λ (z : ℕ × Entry). FloorsCover o.shape seen z.0 z.1) (λ k. (sym new.0 k, new.2 k)) (floors seen saw (subst (IsInner o.shape) new.0 inner))) (at_grown r.book q in_book e p j x t);
       };
+    }
+
+  -- a step that changes the word of a leaf, whose history gains entries
+  module _ (key : ℕ) (leaf : key < 2 ^ o.shape.bits) (x : ℕ) (longer : Book) where
+    pub record GainsLeaf : Type 0 where
+      pub is_book : IsBook face o.shape longer
+      pub grows : Continues longer r.book
+      pub stays : (p i : ℕ) (e : Entry) → p ≢ key → At longer p i e → At r.book p i e
+      pub still : (p i : ℕ) (e : Entry) → p ≢ key → IsNewest r.book p i e → IsNewest longer p i e
+      pub names : NamesNewest (set s.words key x) longer key
+
+    stay_leaf : (j : ℕ) → j ≢ key → get_or (set s.words key x) j 0 ≡ get_or s.words j 0
+    stay_leaf j ne = get_or-set_other s.words key j x 0 ne
+
+    past_leaf : (j : ℕ) → place_count o.shape ≤ j → get_or (set s.words key x) j 0 ≡ get_or s.words j 0
+    past_leaf j le = let t = twice o.shape.bits in stay_leaf j (λ is. omega arith)
+
+    pub stays_leaf : (lane : ℕ) → Stays o.shape s.words (set s.words key x) lane
+    stays_leaf lane = record { state = past_leaf (lane_place o.shape lane) (omega arith); block = λ k small. past_leaf (block_start o.shape lane + k) (omega arith) }
+
+    no_leaf : (p : ℕ) → IsInner o.shape p → p ≢ key
+    no_leaf p inner is = let past = inner.past_leaves in omega arith
+
+    pub leaf_moves : GainsLeaf → MayMove face o s r id v (set s.words key x) longer
+    leaf_moves g = record {
+      grows = g.grows;
+      tree = record {
+        wide = length-set s.words key x ∙ r.tree.wide;
+        is_book = g.is_book;
+        opened = λ p j f t. g.grows p j f (r.tree.opened p j f t);
+        newest = λ p low. ⊎_elim
+            (λ is. subst (λ (z : ℕ). NamesNewest (set s.words key x) longer z) (sym is) g.names)
+            (λ ne. let t = r.tree.newest p low in record { index = t.index; entry = t.entry; newest = g.still p t.index t.entry ne t.newest; word = stay_leaf p ne ∙ t.word; shown = t.shown }) (cases_eq p key);
+        written = λ p j k f inner t small. past_leaf (record_start o.shape f.number + k) (omega arith) ∙ r.tree.written p j k f inner (g.stays p j f (no_leaf p inner) t) small;
+        idle = λ number k is small. past_leaf (record_start o.shape number + k) (omega arith) ∙ r.tree.idle number k is small;
+      };
+      lanes = λ lane low. inl (stays_leaf lane);
+      came = λ p j f inner t. inl (g.stays p j f (no_leaf p inner) t);
+      fresh = λ seen saw f. record { covers = λ p j e inner past t. f.covers p j e inner past (g.stays p j e (no_leaf p inner) t) };
     }

@@ -1,26 +1,25 @@
 -- A node's word goes to a record of the seat's own lane, which is its newest entry then.
-use Rattle.std.proofs.Common.{true, ◌≡◌, ◌≢◌, ℕ, zero, suc, ◌+◌, ◌-◌, ◌*◌, ◌^◌, ◌<◌, ◌≤◌, ◌⊎◌, inl, inr, List, [], ◌∷◌, ◌++◌, length, get_or, set, eqb, sym, refl, ap, ◌∙◌, subst, ⊎_elim, arith}
-use Rattle.std.proofs.lemmas.Bool.{cases_eq}
+use Rattle.std.proofs.Common.{true, false, ◌≡◌, ◌≢◌, ℕ, suc, ◌+◌, ◌-◌, ◌*◌, ◌^◌, ◌<◌, ◌≤◌, inl, inr, List, [], ◌∷◌, ◌++◌, length, get_or, set, eqb, sym, refl, ap, ◌∙◌, subst, ⊎_elim, arith}
 use mathlib.Core.Option.{none, some}
 use lib.ListN.{get_elem?}
 use prog.Atomic.{either}
 use Rattle.atomic_table.specs.Table.{step, keeps, Allows}
 use Rattle.atomic_table.proofs.Lists.{exchanged}
-use Rattle.aug_core.specs.Places.{Shape, lane_place, record_start, record_count}
-use Rattle.aug_core.specs.Tree.{place_count, IsInner, left_of, right_of}
+use Rattle.aug_core.specs.Places.{Shape}
+use Rattle.aug_core.specs.Tree.{IsInner, left_of, right_of}
 use Rattle.aug_core.specs.Lanes.{first_record, IsOfLane}
-use Rattle.aug_core.specs.Book.{Book, history_of, At, IsNewest, Continues, StandsOver, FloorsCover, IsFresh, SerialsFit, IsBook}
+use Rattle.aug_core.specs.Book.{Book, history_of, At, IsNewest, Continues, FloorsCover, IsFresh, SerialsFit, IsBook}
 use Rattle.aug_core.specs.Opening.{Opening}
-use Rattle.aug_core.specs.Rule.{Lists, NamesNewest, HoldsLane, Knows, Kept}
+use Rattle.aug_core.specs.Rule.{Lists, NamesNewest, HoldsLane, Kept}
 use Rattle.aug_core.specs.Kinds.{try_node}
-use Rattle.aug_core.specs.Told.{HoldsOnly, HasTakenLane, MayStore, held_word, on_first, with_published, seeing, publishing, IsFilled, TriesNode, tried_node}
+use Rattle.aug_core.specs.Told.{HoldsOnly, HasTakenLane, MayStore, held_word, on_first, with_published, seeing, publishing, IsFilled, tried_node}
 use Rattle.aug_core.specs.declared.step.StepTaken.{StepTaken}
 use Rattle.aug_core.specs.declared.view.Entry.{Entry}
 use Rattle.aug_core.specs.declared.view.Held.{Held}
 use Rattle.aug_core.specs.declared.view.View.{View}
 use Rattle.aug_core.proofs.Sizes.{twice, in_block, record_inside}
-use Rattle.aug_core.proofs.Books.{fresh_now, no_shorter, one_entry, one_index, grow, grown_at, at_grown, newest_here, there, grows}
-use Rattle.aug_core.proofs.Moves.{Sat, St, MayMove, IsOwn, moves_on, holds_on, knows_seeing, in_book, book', after, all_stay, tree_moves, watches}
+use Rattle.aug_core.proofs.Books.{no_shorter, one_entry, one_index, grown_at, at_grown, newest_here, there, grows}
+use Rattle.aug_core.proofs.Moves.{Sat, St, MayMove, moves_on, holds_on, knows_seeing, in_book, book', after, all_stay, tree_moves, watches}
 use Rattle.aug_core.proofs.Stores.{alone, one_lane, is_taken}
 use Rattle.aug_core.proofs.States.{Did}
 use Rattle.aug_core.proofs.Fits.{fits_book, sees_after}
@@ -30,7 +29,7 @@ use Rattle.aug_core.proofs.Loads.{sees_it}
 lists_more : (l : List ℕ) (x n : ℕ) → Lists l n → Lists (x ∷ l) n
 lists_more l x n t = (suc t.0, t.1)
 
-module _ (face : ℕ → ℕ → List ℕ → List ℕ) (o : Opening) where
+module _ (face : ℕ → ℕ → List (ℕ × ℕ) → List ℕ) (o : Opening) where
   module _ (s : St) (r : Kept face o s) (id : ℕ) (v : View) (at : get_elem? s.views id ≡ some v) (shaped : v.shape ≡ o.shape) (h : Held) (only : HoldsOnly v h) (taken : h.state ≡ 1) (number : ℕ)
       (of_lane : IsOfLane o.shape h.lane number) (unpublished : Lists h.published number → ⊥) (q : ℕ) (inner : IsInner o.shape q) (old : ℕ) (c : IsFilled face v q old number) where
     held : get_elem? v.held 0 ≡ some h
@@ -58,11 +57,11 @@ module _ (face : ℕ → ℕ → List ℕ → List ℕ) (o : Opening) where
     node_newest : NamesNewest s.words r.book q
     node_newest = r.tree.newest q inner.inside
 
-    abbrev keys : List ℕ
-    keys = c.left.keys ++ c.right.keys
+    abbrev pairs : List (ℕ × ℕ)
+    pairs = c.left.pairs ++ c.right.pairs
 
     abbrev pub entry : Entry
-    entry = record { number = number; word = number; left = c.left_index; right = c.right_index; left_floor = left_newest.index; right_floor = right_newest.index; keys = keys; words = face c.left.word c.right.word keys }
+    entry = record { number = number; word = number; left = c.left_index; right = c.right_index; left_floor = left_newest.index; right_floor = right_newest.index; weight = 0; passed = false; pairs = pairs; words = face c.left.word c.right.word pairs }
 
     abbrev pub longer_book : Book
     longer_book = book' face o s r id v at q inner.inside entry
@@ -86,7 +85,7 @@ module _ (face : ℕ → ℕ → List ℕ → List ℕ) (o : Opening) where
 
     pub is_book' : get_or s.words q 0 ≡ old → IsBook face o.shape longer_book
     is_book' hit = let e = sym (top_is hit) in let t = node_newest in grows r.book q ib entry face o.shape r.tree.is_book inner t.index t.entry t.newest refl (record_inside o.shape h.lane number mine.exists of_lane) (let from = of_lane.from_first in omega arith) fresh
-        record { left_child = c.left; right_child = c.right; left_at = left_at; right_at = right_at; keys_of_both = refl; words_say = refl }
+        record { left_child = c.left; right_child = c.right; left_at = left_at; right_at = right_at; left_shown = c.left_shown; right_shown = c.right_shown; pairs_of_both = refl; words_say = refl }
         (subst (λ (z : Entry). z.left ≤ c.left_index) e c.left_later) (subst (λ (z : Entry). z.right ≤ c.right_index) e c.right_later)
         (subst (λ (z : Entry). z.left_floor ≤ c.left_index) e c.left_known) (subst (λ (z : Entry). z.right_floor ≤ c.right_index) e c.right_known)
         ((left_newest.entry, left_newest.newest.at), (right_newest.entry, right_newest.newest.at))
@@ -96,7 +95,7 @@ module _ (face : ℕ → ℕ → List ℕ → List ℕ) (o : Opening) where
         record { left = omega arith; right = omega arith }
 
     pub moved : get_or s.words q 0 ≡ old → MayMove face o s r id v words' longer_book
-    moved hit = tree_moves face o s r id v at q inner.inside entry (is_book' hit)
+    moved hit = tree_moves face o s r id v at q inner.inside entry (is_book' hit) refl
         (λ _. record { index = 0; held = h; at = held; of_lane = of_lane; some_state = let st = mine.state in omega (arith, taken) })
         (λ _ k small. let b = in_block o.shape h.lane number k of_lane small in ap (λ (z : ℕ). get_or s.words z 0) b.0 ∙ mine.exact (5 * (number - first_record o.shape h.lane) + k) b.1 ∙ full k small) floors
 

@@ -1,5 +1,5 @@
 -- The first cut of a table is the opening cut.
-use Rattle.std.proofs.Common.{◌≡◌, ℕ, zero, suc, ◌+◌, ◌*◌, ◌^◌, ◌≤◌, Bool, le-ltb, if◌then◌else◌, List, [], ◌∷◌, ◌++◌, get_or, map, sym, refl, ap, ◌∙◌, arith}
+use Rattle.std.proofs.Common.{true, false, ◌≡◌, ℕ, zero, suc, ◌+◌, ◌*◌, ◌^◌, ◌<◌, ◌≤◌, Bool, le-ltb, if◌then◌else◌, List, [], ◌∷◌, ◌++◌, get_or, map, sym, refl, ap, ◌∙◌, arith}
 use Rattle.std.specs.List.{range_with_len}
 use Rattle.std.proofs.lemmas.List.{map-append}
 use Rattle.std.proofs.Math.Nat.{pow-le-pow_right}
@@ -7,27 +7,36 @@ use Rattle.aug_core.specs.Tree.{IsInner, left_of, right_of, root_place}
 use Rattle.aug_core.specs.Opening.{Opening, opening_serial, opening_index, opening_entry, opening_book, serial_entry}
 use Rattle.aug_core.specs.declared.view.Entry.{Entry}
 use Rattle.aug_core.proofs.Sizes.{twice}
-use Rattle.aug_core.proofs.Openings.{index_of_leaf, inner_history}
-use Rattle.aug_model.specs.Keys.{is_member}
+use Rattle.aug_core.proofs.Openings.{index_of_leaf, inner_history, newest_of, newest_entry}
+use Rattle.aug_model.specs.Keys.{is_member, keys_of}
+use Rattle.aug_model.specs.Queries.{weight_in}
+use Rattle.aug_core.specs.Book.{history_of}
 use Rattle.aug_core.specs.Cuts.{opening_cut}
 use Rattle.aug_core.specs.EntryCuts.{entry_of, cut_under, IsWord}
-use Rattle.aug_core.proofs.CutLists.{range_split}
+use Rattle.aug_core.proofs.CutLists.{read, range_split}
 use Rattle.aug_core.proofs.CutsUnder.{root_word, inner_word, left_word, right_word, leaf_word, halves}
 
-module _ (face : ℕ → ℕ → List ℕ → List ℕ) (o : Opening) where
-  abbrev serial_at_first : ℕ → ℕ
-  serial_at_first key = if is_member o.members key then 1 else 0
+module _ (face : ℕ → ℕ → List (ℕ × ℕ) → List ℕ) (o : Opening) where
+  abbrev serial_at_first : ℕ → ℕ × ℕ
+  serial_at_first key = if is_member (keys_of o.members) key then (1, weight_in o.members key) else (0, 0)
+
+  first_of : (b : Bool) (q : ℕ) → ◌≡◌ {A = ℕ × ℕ} ((if b then 1 else 0), (newest_of face o b q).weight) (if b then (1, weight_in o.members q) else (0, 0))
+  first_of true q = refl
+  first_of false q = refl
+
+  -- the opening entry of a leaf shows its serial and its weight
+  leaf_first : (q : ℕ) → q < 2 ^ o.shape.bits → ◌≡◌ {A = ℕ × ℕ} (opening_index o q, (entry_of (opening_book face o) q (opening_index o q)).weight) (serial_at_first q)
+  leaf_first q low = let e = newest_entry face o q low in (λ i. (index_of_leaf o q low i, (read (history_of (opening_book face o) q) (opening_index o q) (serial_entry 0 0 0) (newest_of face o (is_member (keys_of o.members) q) q) e i).weight)) ∙ first_of (is_member (keys_of o.members) q) q
 
   pub index_inner : (q : ℕ) → IsInner o.shape q → opening_index o q ≡ 0
   index_inner q inner = ap (λ (z : Bool). if z then opening_serial o.members q else 0) (le-ltb q (2 ^ o.shape.bits) inner.past_leaves)
 
   pub first_entry : (q : ℕ) → IsInner o.shape q → entry_of (opening_book face o) q 0 ≡ opening_entry face o q
-  first_entry q inner = ap (λ (z : List Entry). get_or z 0 (serial_entry 0 0)) (inner_history face o q inner)
+  first_entry q inner = ap (λ (z : List Entry). get_or z 0 (serial_entry 0 0 0)) (inner_history face o q inner)
 
   opening_under : (level place q : ℕ) → IsWord o.shape level place q → cut_under o.shape (opening_book face o) level q (opening_index o q) ≡ map serial_at_first (range_with_len (place * 2 ^ level) (2 ^ level))
   opening_under zero place q w = let l = leaf_word o.shape place q w in let one : q ≡ place * 2 ^ zero = let l0 = l.0 in omega arith in
-      let is : opening_index o q ≡ serial_at_first (place * 2 ^ zero) = index_of_leaf o q l.1 ∙ ap serial_at_first one in
-      ap (λ (z : ℕ). z ∷ []) is
+      ap (λ (z : ℕ × ℕ). z ∷ []) (leaf_first q l.1 ∙ ap serial_at_first one)
   opening_under (suc level) place q w = let inner = inner_word o.shape level place q w in let e : Entry = opening_entry face o q in let t = halves level place in
       let is : entry_of (opening_book face o) q (opening_index o q) ≡ e = ap (entry_of (opening_book face o) q) (index_inner q inner) ∙ first_entry q inner in
       let l = opening_under level (2 * place) (left_of o.shape q) (left_word o.shape level place q w) ∙ ap (λ (z : ℕ). map serial_at_first (range_with_len z (2 ^ level))) t.0 in

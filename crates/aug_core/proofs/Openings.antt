@@ -1,16 +1,19 @@
 -- The rule holds of a table that was just opened.
-use Rattle.std.proofs.Common.{true, false, ◌≡◌, ℕ, zero, suc, ◌+◌, ◌-◌, ◌^◌, ◌<◌, ◌≤◌, Bool, ltb, le-ltb, lt-ltb, if◌then◌else◌, List, [], ◌∷◌, ◌++◌, length, get_or, replicate, sym, refl, ap, ◌∙◌, subst, ⊎_elim, arith}
+use Rattle.std.proofs.Common.{true, false, ◌≡◌, ℕ, zero, suc, ◌+◌, ◌*◌, ◌^◌, ◌<◌, ◌≤◌, Bool, le-ltb, lt-ltb, if◌then◌else◌, List, [], ◌∷◌, ◌++◌, length, get_or, replicate, All, sym, refl, ap, ◌∙◌, subst, ⊎_elim, arith}
 use Rattle.std.proofs.lemmas.Bool.{cases_lt}
 use Rattle.std.proofs.lemmas.List.FromFn.{length-map-range_with_len, get_or-map-range_with_len}
 use mathlib.Core.Option.{some, some-injective, some-ne-none}
 use lib.ListN.{get_elem?}
 use Rattle.atomic_table.specs.Table.{opening}
-use Rattle.aug_core.specs.Places.{Shape, opening_count, lane_place, record_start, word_count}
+use Rattle.aug_core.specs.Places.{opening_count, lane_place, record_start, word_count}
 use Rattle.aug_core.specs.Tree.{place_count, IsInner, left_of, right_of}
 use Rattle.aug_core.specs.Lanes.{block_size}
-use Rattle.aug_core.specs.Book.{Book, history_of, At, IsNewest, StandsOver, IsSerial, SerialsFit, IsBook}
-use Rattle.aug_model.specs.Keys.{is_member, IsKeySet}
-use Rattle.aug_core.specs.Opening.{opening_serial, Opening, IsIdle, opening_keys, opening_number, opening_index, serial_entry, opening_words, opening_entry, opening_history, opening_book}
+use Rattle.aug_core.specs.Book.{Book, history_of, At, IsNewest, StandsOver, IsSerial, SerialsFit, IsBook, word_of_leaf}
+use Rattle.aug_model.specs.Keys.{is_member, keys_of, IsKeySet}
+use Rattle.aug_model.specs.Queries.{weight_in}
+use Rattle.aug_model.proofs.Pairs.{length-keys_of, weight_fits, weight-none}
+use Rattle.aug_monoid.specs.Weighted.{FitsPair}
+use Rattle.aug_core.specs.Opening.{opening_serial, Opening, IsIdle, opening_pairs, opening_number, opening_index, serial_entry, opening_words, opening_entry, opening_history, opening_book}
 use Rattle.aug_core.specs.Layout.{IsLayout}
 use Rattle.aug_core.specs.Told.{KnowsTable}
 use Rattle.aug_core.specs.Rule.{BlockIs, Knows, Kept, newcomer}
@@ -18,9 +21,9 @@ use Rattle.aug_core.specs.declared.view.Entry.{Entry}
 use Rattle.aug_core.specs.declared.view.View.{View}
 use Rattle.aug_model.proofs.Ranges.{Rises, rises_from}
 use Rattle.aug_core.proofs.Sizes.{twice}
-use Rattle.aug_core.proofs.Below.{keys_over, keys_of_leaf, number_of_leaf, number_below}
+use Rattle.aug_core.proofs.Below.{pairs_over, pairs_of_leaf, number_of_leaf, number_below}
 use Rattle.aug_core.proofs.Stores.{alone}
-use Rattle.aug_core.proofs.Books.{fresh_now}
+use Rattle.aug_core.proofs.Books.{fresh_now, at_below}
 use Rattle.aug_core.proofs.Fits.{at_most_one}
 use Rattle.aug_core.specs.Counts.{StandsAt}
 use Rattle.aug_core.specs.declared.view.Change.{Change}
@@ -36,12 +39,12 @@ module _ (o : Opening) where
   index_of_inner : (q : ℕ) → leaves ≤ q → opening_index o q ≡ 0
   index_of_inner q past = ap (λ (z : Bool). if z then opening_serial o.members q else 0) (le-ltb q leaves past)
 
-module _ (face : ℕ → ℕ → List ℕ → List ℕ) (o : Opening) where
+module _ (face : ℕ → ℕ → List (ℕ × ℕ) → List ℕ) (o : Opening) where
   abbrev book : Book
   book = opening_book face o
 
   abbrev leaf_history : Bool → ℕ → List Entry
-  leaf_history b q = if b then serial_entry q 0 ∷ serial_entry q 1 ∷ [] else serial_entry q 0 ∷ []
+  leaf_history b q = if b then serial_entry q 0 0 ∷ serial_entry q 1 (weight_in o.members q) ∷ [] else serial_entry q 0 0 ∷ []
 
   pub history_is : (q : ℕ) → q < place_count o.shape → history_of book q ≡ opening_history face o q
   history_is q low = get_or-map-range_with_len (opening_history face o) 0 (place_count o.shape) q q [] low (omega arith)
@@ -50,49 +53,67 @@ module _ (face : ℕ → ℕ → List ℕ → List ℕ) (o : Opening) where
   long = length-map-range_with_len (opening_history face o) 0 (place_count o.shape)
 
   pub inner_history : (q : ℕ) → IsInner o.shape q → history_of book q ≡ opening_entry face o q ∷ []
-  inner_history q inner = history_is q inner.inside ∙ ap (λ (z : Bool). if z then leaf_history (is_member o.members q) q else opening_entry face o q ∷ []) (le-ltb q (leaves o) inner.past_leaves)
+  inner_history q inner = history_is q inner.inside ∙ ap (λ (z : Bool). if z then leaf_history (is_member (keys_of o.members) q) q else opening_entry face o q ∷ []) (le-ltb q (leaves o) inner.past_leaves)
 
-  leaf_history_is : (q : ℕ) → q < leaves o → history_of book q ≡ leaf_history (is_member o.members q) q
+  leaf_history_is : (q : ℕ) → q < leaves o → history_of book q ≡ leaf_history (is_member (keys_of o.members) q) q
   leaf_history_is q low = let t = twice o.shape.bits in
-      history_is q (omega arith) ∙ ap (λ (z : Bool). if z then leaf_history (is_member o.members q) q else opening_entry face o q ∷ []) (lt-ltb q (leaves o) low)
+      history_is q (omega arith) ∙ ap (λ (z : Bool). if z then leaf_history (is_member (keys_of o.members) q) q else opening_entry face o q ∷ []) (lt-ltb q (leaves o) low)
 
   -- an inner node has one entry
   pub inner_at : (q i : ℕ) (e : Entry) → IsInner o.shape q → At book q i e → (i ≡ 0) × (opening_entry face o q ≡ e)
   inner_at q i e inner p = alone (opening_entry face o q) e i (subst (λ (z : List Entry). get_elem? z i ≡ some e) (inner_history q inner) p)
 
-  serial_at : (b : Bool) (q i : ℕ) (e : Entry) → get_elem? (leaf_history b q) i ≡ some e → IsSerial q i e
-  serial_at true q zero e p = subst (IsSerial q 0) (some-injective (serial_entry q 0) e p) record { counted = refl; named = refl; there_if_odd = refl }
-  serial_at true q (suc zero) e p = subst (IsSerial q 1) (some-injective (serial_entry q 1) e p) record { counted = refl; named = refl; there_if_odd = refl }
-  serial_at true q (suc (suc i)) e p = absurd (some-ne-none e (sym p))
-  serial_at false q zero e p = subst (IsSerial q 0) (some-injective (serial_entry q 0) e p) record { counted = refl; named = refl; there_if_odd = refl }
-  serial_at false q (suc i) e p = absurd (some-ne-none e (sym p))
+  serial_at : All FitsPair o.members → (b : Bool) (q i : ℕ) (e : Entry) → get_elem? (leaf_history b q) i ≡ some e → IsSerial q i e
+  serial_at fit true q zero e p = subst (IsSerial q 0) (some-injective (serial_entry q 0 0) e p) record { counted = refl; named = refl; fits = omega arith; there_if_odd = refl; none_if_even = λ _. refl }
+  serial_at fit true q (suc zero) e p = subst (IsSerial q 1) (some-injective (serial_entry q 1 (weight_in o.members q)) e p) record { counted = refl; named = refl; fits = weight_fits o.members q fit; there_if_odd = refl; none_if_even = λ odd. absurd (omega arith) }
+  serial_at fit true q (suc (suc i)) e p = absurd (some-ne-none e (sym p))
+  serial_at fit false q zero e p = subst (IsSerial q 0) (some-injective (serial_entry q 0 0) e p) record { counted = refl; named = refl; fits = omega arith; there_if_odd = refl; none_if_even = λ _. refl }
+  serial_at fit false q (suc i) e p = absurd (some-ne-none e (sym p))
 
-  -- the newest entry of a leaf has its serial, and that serial's keys
-  newest_leaf : (b : Bool) (q : ℕ) → (get_elem? (leaf_history b q) (if b then 1 else 0) ≡ some (serial_entry q (if b then 1 else 0))) × (length (leaf_history b q) ≡ (if b then 1 else 0) + 1)
+  -- the newest entry of a leaf has its serial, its weight, and that serial's pairs
+  abbrev pub newest_of : Bool → ℕ → Entry
+  newest_of b q = if b then serial_entry q 1 (weight_in o.members q) else serial_entry q 0 0
+
+  newest_leaf : (b : Bool) (q : ℕ) → (get_elem? (leaf_history b q) (if b then 1 else 0) ≡ some (newest_of b q)) × (length (leaf_history b q) ≡ (if b then 1 else 0) + 1)
   newest_leaf true q = (refl, refl)
   newest_leaf false q = (refl, refl)
 
-  keys_of_serial : (b : Bool) (q : ℕ) → (serial_entry q (if b then 1 else 0)).keys ≡ (if b then q ∷ [] else [])
-  keys_of_serial true q = refl
-  keys_of_serial false q = refl
+  pairs_of_newest : (b : Bool) (q : ℕ) → (newest_of b q).pairs ≡ (if b then (q, weight_in o.members q) ∷ [] else [])
+  pairs_of_newest true q = refl
+  pairs_of_newest false q = refl
+
+  word_of_newest : (b : Bool) (q : ℕ) → b ≡ is_member (keys_of o.members) q → (newest_of b q).word ≡ word_of_leaf (if b then 1 else 0) (weight_in o.members q)
+  word_of_newest true q is = refl
+  word_of_newest false q is = ap (word_of_leaf 0) (sym (weight-none o.members q (sym is)))
+
+  -- it stands at its serial
+  pub newest_entry : (q : ℕ) → q < leaves o → At book q (opening_index o q) (newest_of (is_member (keys_of o.members) q) q)
+  newest_entry q low = subst (λ (z : ℕ). At book q z (newest_of (is_member (keys_of o.members) q) q)) (sym (index_of_leaf o q low))
+      (subst (λ (z : List Entry). get_elem? z (opening_serial o.members q) ≡ some (newest_of (is_member (keys_of o.members) q) q)) (sym (leaf_history_is q low)) (newest_leaf (is_member (keys_of o.members) q) q).0)
+
+  not_passed : (b : Bool) (q : ℕ) → (newest_of b q).passed ≡ false
+  not_passed true q = refl
+  not_passed false q = refl
 
   -- what the newest entry of a leaf or an inner node says
   pub record Newly (q : ℕ) : Type 0 where
     pub entry : Entry
     pub newest : IsNewest book q (opening_index o q) entry
     pub named : entry.word ≡ opening_number o q
-    pub keys : Rises o.members → entry.keys ≡ opening_keys o q
+    pub shown : entry.passed ≡ false
+    pub pairs : Rises (keys_of o.members) → entry.pairs ≡ opening_pairs o q
 
   pub newly : (q : ℕ) → q < place_count o.shape → Newly q
   newly q inside = ⊎_elim
-      (λ (low : q < leaves o). let serial : ℕ = opening_serial o.members q in let b : Bool = is_member o.members q in let t = newest_leaf b q in record {
-        entry = serial_entry q serial;
+      (λ (low : q < leaves o). let serial : ℕ = opening_serial o.members q in let b : Bool = is_member (keys_of o.members) q in let t = newest_leaf b q in record {
+        entry = newest_of b q;
         newest = record {
-          at = subst (λ (z : ℕ). At book q z (serial_entry q serial)) (sym (index_of_leaf o q low)) (subst (λ (z : List Entry). get_elem? z serial ≡ some (serial_entry q serial)) (sym (leaf_history_is q low)) t.0);
+          at = subst (λ (z : ℕ). At book q z (newest_of b q)) (sym (index_of_leaf o q low)) (subst (λ (z : List Entry). get_elem? z serial ≡ some (newest_of b q)) (sym (leaf_history_is q low)) t.0);
           last = ap length (leaf_history_is q low) ∙ t.1 ∙ ap (λ (z : ℕ). z + 1) (sym (index_of_leaf o q low));
         };
-        named = sym (number_of_leaf o q low);
-        keys = λ rises. keys_of_serial b q ∙ sym (keys_of_leaf o rises q low);
+        named = word_of_newest b q refl ∙ sym (number_of_leaf o q low);
+        shown = not_passed b q;
+        pairs = λ rises. pairs_of_newest b q ∙ sym (pairs_of_leaf o rises q low);
       })
       (λ (past : leaves o ≤ q). let inner : IsInner o.shape q = record { past_leaves = past; inside = inside } in record {
         entry = opening_entry face o q;
@@ -101,26 +122,29 @@ module _ (face : ℕ → ℕ → List ℕ → List ℕ) (o : Opening) where
           last = ap length (inner_history q inner) ∙ ap (λ (z : ℕ). z + 1) (sym (index_of_inner o q past));
         };
         named = refl;
-        keys = λ _. refl;
+        shown = refl;
+        pairs = λ _. refl;
       }) (cases_lt q (leaves o))
 
-  over : Rises o.members → (q : ℕ) → IsInner o.shape q → StandsOver face o.shape book q (opening_entry face o q)
+  over : Rises (keys_of o.members) → (q : ℕ) → IsInner o.shape q → StandsOver face o.shape book q (opening_entry face o q)
   over rises q inner = let past = inner.past_leaves in let inside = inner.inside in let t = twice o.shape.bits in
       let l = newly (left_of o.shape q) (omega arith) in let r = newly (right_of o.shape q) (omega arith) in record {
         left_child = l.entry;
         right_child = r.entry;
         left_at = l.newest.at;
         right_at = r.newest.at;
-        keys_of_both = ◌∙◌ {c = l.entry.keys ++ r.entry.keys} (keys_over o rises q inner) (λ i. sym (l.keys rises) i ++ sym (r.keys rises) i);
-        words_say = λ i. face (sym l.named i) (sym r.named i) (opening_keys o q);
+        left_shown = l.shown;
+        right_shown = r.shown;
+        pairs_of_both = ◌∙◌ {c = l.entry.pairs ++ r.entry.pairs} (pairs_over o rises q inner) (λ i. sym (l.pairs rises) i ++ sym (r.pairs rises) i);
+        words_say = λ i. face (sym l.named i) (sym r.named i) (opening_pairs o q);
       }
 
   -- its nodes name opening records alone
-  low : Rises o.members → length o.members ≤ o.shape.members → (q i : ℕ) (e : Entry) → IsInner o.shape q → At book q i e → e.number < opening_count o.shape
+  low : Rises (keys_of o.members) → length (keys_of o.members) ≤ o.shape.members → (q i : ℕ) (e : Entry) → IsInner o.shape q → At book q i e → e.number < opening_count o.shape
   low rises few q i e inner p = subst (λ (z : Entry). z.number < opening_count o.shape) (inner_at q i e inner p).1 (number_below o rises few q inner)
 
-  pub is_book : Rises o.members → length o.members ≤ o.shape.members → IsBook face o.shape book
-  is_book rises fit = record {
+  pub is_book : Rises (keys_of o.members) → All FitsPair o.members → length (keys_of o.members) ≤ o.shape.members → IsBook face o.shape book
+  is_book rises pairs_fit fit = record {
     long = long;
     named = λ q i e inner p. subst (λ (z : Entry). z.word ≡ z.number) (inner_at q i e inner p).1 refl;
     below = λ q i e inner p. let few = low rises fit q i e inner p in omega arith;
@@ -132,7 +156,7 @@ module _ (face : ℕ → ℕ → List ℕ → List ℕ) (o : Opening) where
     floors = λ q i e inner p. subst (λ (z : Entry). ((f : Entry) × At book (left_of o.shape q) z.left_floor f) × ((g : Entry) × At book (right_of o.shape q) z.right_floor g)) (inner_at q i e inner p).1
         (let stands = over rises q inner in ((stands.left_child, stands.left_at), (stands.right_child, stands.right_at)));
     floored = λ q i e f inner at at'. let a = (inner_at q i e inner at).0 in let b = (inner_at q (i + 1) f inner at').0 in absurd (omega arith);
-    serials = λ key i e low p. serial_at (is_member o.members key) key i e (subst (λ (z : List Entry). get_elem? z i ≡ some e) (leaf_history_is key low) p);
+    serials = λ key i e low p. serial_at pairs_fit (is_member (keys_of o.members) key) key i e (subst (λ (z : List Entry). get_elem? z i ≡ some e) (leaf_history_is key low) p);
   }
 
   -- a leaf's history at the opening
@@ -141,27 +165,27 @@ module _ (face : ℕ → ℕ → List ℕ → List ℕ) (o : Opening) where
 
   -- and no serial is great
   pub opening_fits : SerialsFit o.shape book
-  opening_fits = record { few = λ key low. let long = leaf_long key low in let one = at_most_one (is_member o.members key) in omega arith }
+  opening_fits = record { few = λ key low. let long = leaf_long key low in let one = at_most_one (is_member (keys_of o.members) key) in omega arith }
 
   -- no change was made
   stands_nowhere : (i a k : ℕ) (c : Change) → StandsAt (newcomer face o ∷ []) i a k c → ⊥
   stands_nowhere i a k c t = let out : get_elem? ((newcomer face o).held) a ≡ some t.lane = subst (λ (z : View). get_elem? z.held a ≡ some t.lane) (sym (alone (newcomer face o) t.view i t.sits).1) t.held in some-ne-none t.lane (sym out)
 
   -- the rule holds of these words
-  pub opens : (words : List ℕ) → Rises o.members → length o.members ≤ o.shape.members → length words ≡ word_count o.shape
+  pub opens : (words : List ℕ) → Rises (keys_of o.members) → All FitsPair o.members → length (keys_of o.members) ≤ o.shape.members → length words ≡ word_count o.shape
       → ((q : ℕ) → q < place_count o.shape → get_or words q 0 ≡ opening_number o q)
       → ((q k : ℕ) → IsInner o.shape q → k < 5 → get_or words (record_start o.shape (opening_number o q) + k) 0 ≡ get_or (opening_words face o q) k 0)
       → ((number k : ℕ) → IsIdle o number → k < 5 → get_or words (record_start o.shape number + k) 0 ≡ 0)
       → ((lane : ℕ) → lane < o.shape.workers → get_or words (lane_place o.shape lane) 0 ≡ 0)
       → ((lane : ℕ) → lane < o.shape.workers → BlockIs o.shape words lane (replicate (block_size o.shape) 0))
       → Kept face o (opening words [] (newcomer face o))
-  opens words rises fit wide nodes records idle lanes blocks = record {
+  opens words rises pairs_fit fit wide nodes records idle lanes blocks = record {
     book = book;
     tree = record {
       wide = wide;
-      is_book = is_book rises fit;
+      is_book = is_book rises pairs_fit fit;
       opened = λ q i e p. p;
-      newest = λ q low. let t = newly q low in record { index = opening_index o q; entry = t.entry; newest = t.newest; word = nodes q low ∙ sym t.named };
+      newest = λ q low. let t = newly q low in record { index = opening_index o q; entry = t.entry; newest = t.newest; word = nodes q low ∙ sym t.named; shown = t.shown };
       written = λ q i k e inner p small. subst (λ (z : Entry). get_or words (record_start o.shape z.number + k) 0 ≡ get_or z.words k 0) (inner_at q i e inner p).1 (records q k inner small);
       idle = idle;
     };
@@ -186,7 +210,7 @@ module _ (face : ℕ → ℕ → List ℕ → List ℕ) (o : Opening) where
     };
     changes = record {
       counted = record {
-        all = λ c m. let long = leaf_long c.key m.exists in let past = m.past_opening in let reached = m.reached in absurd (omega arith);
+        all = λ c m. let long = leaf_long c.key m.exists in let past = m.past_opening in let reached = at_below (history_of book c.key) c.serial m.entry m.reached in absurd (omega arith);
         once = λ i j a b k l c p q. absurd (stands_nowhere i a k c p);
         none_else = λ i a k c p. absurd (stands_nowhere i a k c p);
       };
@@ -194,7 +218,7 @@ module _ (face : ℕ → ℕ → List ℕ → List ℕ) (o : Opening) where
       tallied = record {
         long = length-replicate o.shape.workers 0;
         each = λ i a v h p held. let out : get_elem? ((newcomer face o).held) a ≡ some h = subst (λ (z : View). get_elem? z.held a ≡ some h) (sym (alone (newcomer face o) v i p).1) held in absurd (some-ne-none h (sym out));
-        few = λ lane low. subst (λ (z : ℕ). z ≤ o.shape.updates) (sym (get_or-replicate o.shape.workers lane 0 0 low)) (omega arith);
+        few = λ lane low. subst (λ (z : ℕ). z ≤ 2 * o.shape.updates) (sym (get_or-replicate o.shape.workers lane 0 0 low)) (omega arith);
         free = λ lane low free. get_or-replicate o.shape.workers lane 0 0 low;
         enough = λ key low. let long = leaf_long key low in omega arith;
       };
@@ -202,5 +226,5 @@ module _ (face : ℕ → ℕ → List ℕ → List ℕ) (o : Opening) where
   }
 
   -- the first seat knows its table
-  pub newcomer_knows : IsLayout o.shape → IsKeySet o.shape.bits o.members → length o.members ≤ o.shape.members → KnowsTable face (newcomer face o)
-  newcomer_knows laid_out key_set few = record { laid_out = laid_out; key_set = key_set; few_members = few; book = is_book (rises_from o.members key_set.rising) few; opened = λ q i e p. p; fits = opening_fits }
+  pub newcomer_knows : IsLayout o.shape → IsKeySet o.shape.bits (keys_of o.members) → All FitsPair o.members → length (keys_of o.members) ≤ o.shape.members → KnowsTable face (newcomer face o)
+  newcomer_knows laid_out key_set fit few = record { laid_out = laid_out; key_set = key_set; members_fit = fit; few_members = let long = length-keys_of o.members in omega arith; book = is_book (rises_from (keys_of o.members) key_set.rising) fit few; opened = λ q i e p. p; fits = opening_fits }

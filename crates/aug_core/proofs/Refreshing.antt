@@ -9,15 +9,13 @@ use Rattle.aug_core.specs.declared.view.Entry.{Entry}
 use Rattle.aug_core.proofs.Sizes.{twice}
 use Rattle.aug_core.proofs.Books.{no_shorter, one_entry, same_index, newest_is_last, there_is, second_covers}
 
-module _ (face : ℕ → ℕ → List ℕ → List ℕ) (s : Shape) where
-  -- an entry's word is its number, and so names one entry of a history
-  pub word_is_number : (book : Book) → IsBook face s book → (q i : ℕ) (e : Entry) → q < place_count s → At book q i e → e.word ≡ e.number
-  word_is_number book b q i e inside p = ⊎_elim
-      (λ (leaf : q < 2 ^ s.bits). let x = b.serials q i e leaf p in x.named ∙ sym x.counted)
-      (λ (past : 2 ^ s.bits ≤ q). b.named q i e record { past_leaves = past; inside = inside } p) (cases_lt q (2 ^ s.bits))
-
+module _ (face : ℕ → ℕ → List (ℕ × ℕ) → List ℕ) (s : Shape) where
+  -- an entry's word names one entry of a history
   pub same_word : (book : Book) → IsBook face s book → (q i j : ℕ) (e f : Entry) → q < place_count s → At book q i e → At book q j f → e.word ≡ f.word → i ≡ j
-  same_word book b q i j e f inside p p' same = same_index face s book b q i j e f inside p p' (sym (word_is_number book b q i e inside p) ∙ same ∙ word_is_number book b q j f inside p')
+  same_word book b q i j e f inside p p' same = ⊎_elim
+      (λ (leaf : q < 2 ^ s.bits). let x = b.serials q i e leaf p in let y = b.serials q j f leaf p' in let nx = x.named in let ny = y.named in let fx = x.fits in let fy = y.fits in omega arith)
+      (λ (past : 2 ^ s.bits ≤ q). let inner : IsInner s q = record { past_leaves = past; inside = inside } in
+      same_index face s book b q i j e f inside p p' (sym (b.named q i e inner p) ∙ same ∙ b.named q j f inner p')) (cases_lt q (2 ^ s.bits))
 
   -- what is newest is an entry of every later book
   pub has_entry : (book seen : Book) (q word : ℕ) → Continues book seen → HasNewest seen q word → HasEntry book q word
@@ -56,6 +54,8 @@ module _ (face : ℕ → ℕ → List ℕ → List ℕ) (s : Shape) where
       right_at = right_at;
       left_named = at_left.named;
       right_named = at_right.named;
+      left_shown = at_left.shown;
+      right_shown = at_right.shown;
       left_later = newest_is_last book1 (left_of s q) at_left.index e.left at_left.entry o.left_child at_left.newest (c01 (left_of s q) e.left o.left_child o.left_at);
       right_later = newest_is_last book2 (right_of s q) at_right.index e.right at_right.entry o.right_child at_right.newest (c12 (right_of s q) e.right o.right_child (c01 (right_of s q) e.right o.right_child o.right_at));
       left_known = newest_is_last book1 (left_of s q) at_left.index e.left_floor at_left.entry fl.0.0 at_left.newest (c01 (left_of s q) e.left_floor fl.0.0 fl.0.1);

@@ -55,10 +55,10 @@ pub shows_leaf : (s : Shape) (book : Book) (key level i n : ℕ) → Shows s boo
 shows_leaf s book key zero i n h = (i, h.0.0, h.0.1, h.1)
 shows_leaf s book key (suc level) i n h = shows_leaf s book key level (toward h.0 (above s key level)) n h.2
 
-module _ (face : ℕ → ℕ → List ℕ → List ℕ) (s : Shape) (book : Book) (b : IsBook face s book) (key : ℕ) (low : key < 2 ^ s.bits) where
+module _ (face : ℕ → ℕ → List (ℕ × ℕ) → List ℕ) (s : Shape) (book : Book) (b : IsBook face s book) (key : ℕ) (low : key < 2 ^ s.bits) where
   -- the child's entry on the way to the key
   abbrev Below : ℕ → Entry → Type 0
-  Below level e = (f : Entry) × At book (above s key level) (toward e (above s key level)) f
+  Below level e = (f : Entry) × At book (above s key level) (toward e (above s key level)) f × (f.passed ≡ false)
 
   side : (c : ℕ) (e : Entry) → toward e c ≡ (if eqb (c % 2) 0 then e.left else e.right)
   side c e = refl
@@ -66,9 +66,9 @@ module _ (face : ℕ → ℕ → List ℕ → List ℕ) (s : Shape) (book : Book
   pub entry_below : (level i : ℕ) (e : Entry) → suc level ≤ s.bits → At book (above s key (suc level)) i e → Below level e
   entry_below level i e up p = let c : ℕ = above s key level in let q : ℕ = above s key (suc level) in let o = b.over q i e (above_inner s key level low up) p in ⊎_elim
       (λ (even : c % 2 ≡ 0). let place : left_of s q ≡ c = omega arith in
-      (o.left_child, subst (λ (z : Bool). At book c (if z then e.left else e.right) o.left_child) (sym (eq-eqb (c % 2) 0 even)) (subst (λ (z : ℕ). At book z e.left o.left_child) place o.left_at)))
+      (o.left_child, subst (λ (z : Bool). At book c (if z then e.left else e.right) o.left_child) (sym (eq-eqb (c % 2) 0 even)) (subst (λ (z : ℕ). At book z e.left o.left_child) place o.left_at), o.left_shown))
       (λ (odd : c % 2 ≢ 0). let place : right_of s q ≡ c = omega arith in
-      (o.right_child, subst (λ (z : Bool). At book c (if z then e.left else e.right) o.right_child) (sym (ne_eqb (c % 2) 0 odd)) (subst (λ (z : ℕ). At book z e.right o.right_child) place o.right_at))) (cases_eq (c % 2) 0)
+      (o.right_child, subst (λ (z : Bool). At book c (if z then e.left else e.right) o.right_child) (sym (ne_eqb (c % 2) 0 odd)) (subst (λ (z : ℕ). At book z e.right o.right_child) place o.right_at), o.right_shown)) (cases_eq (c % 2) 0)
 
   either_le : (b' : Bool) (x y x' y' : ℕ) → x ≤ x' → y ≤ y' → (if b' then x else y) ≤ (if b' then x' else y')
   either_le true x y x' y' p q = p

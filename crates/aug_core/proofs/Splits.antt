@@ -1,8 +1,8 @@
 -- A view hands its next lane out to a new view.
-use Rattle.std.proofs.Common.{true, ◌≡◌, ℕ, zero, suc, ◌+◌, ◌<◌, ◌⊎◌, inl, inr, List, [], ◌∷◌, ◌++◌, length, get_or, set, option_map, sym, refl, ap, ◌∙◌, subst, ⊎_elim, arith, Some, None}
+use Rattle.std.proofs.Common.{true, ◌≡◌, ℕ, ◌+◌, ◌<◌, ◌⊎◌, inl, inr, List, [], ◌∷◌, ◌++◌, length, get_or, set, option_map, sym, refl, ap, ◌∙◌, subst, ⊎_elim, arith, Some, None}
 use Rattle.std.specs.Prelude.{unwrap_or}
 use Rattle.std.proofs.lemmas.List.{length-replicate}
-use mathlib.Core.Option.{some, some-injective, some-ne-none}
+use mathlib.Core.Option.{some, some-ne-none}
 use lib.ListN.{get_elem?}
 use Rattle.atomic_table.specs.Table.{Splits}
 use Rattle.atomic_table.proofs.Lists.{at_set}
@@ -16,13 +16,13 @@ use Rattle.aug_core.specs.declared.view.View.{View}
 use Rattle.aug_core.proofs.Moves.{St}
 use Rattle.aug_core.proofs.Books.{snoc_at}
 use Rattle.aug_core.proofs.Views.{now_there, stays_there, apart_on}
-use Rattle.aug_core.specs.Counts.{StandsAt, Stands, AreCounted, AreTallied}
+use Rattle.aug_core.specs.Counts.{StandsAt}
 use Rattle.aug_core.specs.declared.view.Change.{Change}
 use Rattle.std.proofs.lemmas.Bool.{cases_eq}
 use Rattle.atomic_table.proofs.Lists.{at_longer}
 use Rattle.aug_core.proofs.Stores.{alone}
 
-module _ (face : ℕ → ℕ → List ℕ → List ℕ) (o : Opening) (s : St) (r : Kept face o s) (id : ℕ) (v : View) (at : get_elem? s.views id ≡ some v) (live : v.live ≡ true) (n : ℕ) (spare : v.spare ≡ Some n) (room : n < o.shape.workers) where
+module _ (face : ℕ → ℕ → List (ℕ × ℕ) → List ℕ) (o : Opening) (s : St) (r : Kept face o s) (id : ℕ) (v : View) (at : get_elem? s.views id ≡ some v) (live : v.live ≡ true) (n : ℕ) (spare : v.spare ≡ Some n) (room : n < o.shape.workers) where
   abbrev fresh : Held
   fresh = new_lane o.shape n
 
@@ -143,7 +143,7 @@ module _ (face : ℕ → ℕ → List ℕ → List ℕ) (o : Opening) (s : St) (
     };
   }
 
-module _ (face : ℕ → ℕ → List ℕ → List ℕ) (o : Opening) where
+module _ (face : ℕ → ℕ → List (ℕ × ℕ) → List ℕ) (o : Opening) where
   pub splits_seat : (id n : ℕ) (v : View) → v.live ≡ true → v.spare ≡ Some n → n < v.shape.workers → Splits (Kept face o) id v (handing_out v) (handed_out v)
   splits_seat id n v live spare room s r at =
       let shaped : v.shape ≡ o.shape = (r.each_view id v at).shaped live in

@@ -17,7 +17,7 @@ use Rattle.aug_core.specs.declared.view.View.{View}
 use Rattle.aug_core.proofs.Moves.{Sat, St, IsOwnWord, own_moves, moves_on, knows_keeping}
 use Rattle.aug_core.proofs.Stores.{alone, one_lane}
 
-module _ (face : ℕ → ℕ → List ℕ → List ℕ) (o : Opening) where
+module _ (face : ℕ → ℕ → List (ℕ × ℕ) → List ℕ) (o : Opening) where
   module _ (s : St) (r : Kept face o s) (id : ℕ) (v : View) (at : get_elem? s.views id ≡ some v) (h : Held) (only : v.held ≡ h ∷ []) (state : ℕ) (some_state : 0 < state) (last_state : state ≤ 2) (steps : List StepTaken) where
     abbrev place : ℕ
     place = lane_place o.shape h.lane

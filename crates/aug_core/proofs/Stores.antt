@@ -39,7 +39,7 @@ one_held v h g a b = some-injective h g (ap (λ (z : List Held). get_elem? z 0) 
 pub is_taken : (v : View) (h : Held) → HoldsOnly v h → HasTakenLane v → h.state ≡ 1
 is_taken v h only has = ap (λ (z : Held). z.state) (one_held v h has.lane only has.only) ∙ has.taken
 
-module _ (face : ℕ → ℕ → List ℕ → List ℕ) (o : Opening) where
+module _ (face : ℕ → ℕ → List (ℕ × ℕ) → List ℕ) (o : Opening) where
   module _ (s : St) (r : Kept face o s) (id : ℕ) (v : View) (at : get_elem? s.views id ≡ some v) (h : Held) (only : v.held ≡ h ∷ []) (taken : h.state ≡ 1) (number field x : ℕ)
       (of_lane : IsOfLane o.shape h.lane number) (unpublished : Lists h.published number → ⊥) (small : field < 5) (steps : List StepTaken) where
     abbrev offset : ℕ

@@ -1,11 +1,11 @@
 -- One view changes, and who holds which lane stays.
-use Rattle.std.proofs.Common.{◌≡◌, ℕ, ◌+◌, ◌<◌, ◌≤◌, ◌≢◌, ◌⊎◌, inl, inr, List, length, set, sym, refl, ap, ◌∙◌, subst, ⊎_elim, arith, Some}
+use Rattle.std.proofs.Common.{◌≡◌, ℕ, ◌<◌, ◌≤◌, ◌≢◌, ◌⊎◌, List, set, sym, refl, ◌∙◌, subst, ⊎_elim, arith, Some}
 use Rattle.std.proofs.lemmas.Bool.{cases_eq}
 use mathlib.Core.Option.{some}
 use lib.ListN.{get_elem?}
 use Rattle.atomic_table.proofs.Lists.{at_set, set_here, set_else}
-use Rattle.aug_core.specs.Counts.{StandsAt, Stands, WasMade, AreCounted}
-use Rattle.aug_core.specs.Book.{Book, history_of}
+use Rattle.aug_core.specs.Counts.{StandsAt, WasMade, AreCounted}
+use Rattle.aug_core.specs.Book.{Book}
 use Rattle.aug_core.specs.Opening.{Opening}
 use Rattle.aug_core.specs.Rule.{AreApart}
 use Rattle.aug_core.specs.declared.view.Change.{Change}

@@ -1,17 +1,18 @@
 -- The changes that were accepted, and who holds them.
-use Rattle.std.specs.Prelude.{◌≡◌, ℕ, ◌+◌, ◌^◌, ◌<◌, ◌≤◌, List, length, slice_index, flat_map}
+use Rattle.std.specs.Prelude.{◌≡◌, ℕ, ◌+◌, ◌*◌, ◌^◌, ◌<◌, ◌≤◌, List, length, slice_index, flat_map}
 use Rattle.std.specs.List.{sum}
 use mathlib.Core.Option.{some}
 use lib.ListN.{get_elem?}
-use Rattle.aug_core.specs.Places.{Shape, lane_place}
-use Rattle.aug_core.specs.Book.{Book, history_of}
+use Rattle.aug_core.specs.Places.{lane_place}
+use Rattle.aug_core.specs.Book.{Book, history_of, At}
 use Rattle.aug_core.specs.Opening.{Opening, opening_serial}
 use Rattle.aug_core.specs.declared.view.Change.{Change}
+use Rattle.aug_core.specs.declared.view.Entry.{Entry}
 use Rattle.aug_core.specs.declared.view.Held.{Held}
 use Rattle.aug_core.specs.declared.view.View.{View}
 
-abbrev pub change : ℕ → ℕ → Change
-change key serial = record { key = key; serial = serial }
+abbrev pub change : ℕ → ℕ → ℕ → Change
+change key serial weight = record { key = key; serial = serial; weight = weight }
 
 -- the changes of some lanes, one lane after another
 abbrev pub changes_of : List Held → List Change
@@ -32,11 +33,13 @@ pub record Stands (views : List View) (c : Change) : Type 0 where
   pub place : ℕ
   pub at : StandsAt views seat index place c
 
--- the change was made: its serial is past the key's opening one, and the leaf has reached it
+-- the change was made: its serial is past the key's opening one, and the leaf has reached it, with its weight
 pub record WasMade (o : Opening) (book : Book) (c : Change) : Type 0 where
   pub exists : c.key < 2 ^ o.shape.bits
   pub past_opening : opening_serial o.members c.key < c.serial
-  pub reached : c.serial < length (history_of book c.key)
+  pub entry : Entry
+  pub reached : At book c.key c.serial entry
+  pub weighs : entry.weight ≡ c.weight
 
 -- each serial past the opening one that a leaf has reached stands in one view's changes, once, and no other
 pub record AreCounted (o : Opening) (book : Book) (views : List View) : Type 0 where
@@ -44,10 +47,10 @@ pub record AreCounted (o : Opening) (book : Book) (views : List View) : Type 0 w
   pub once : (i j a b k l : ℕ) (c : Change) → StandsAt views i a k c → StandsAt views j b l c → (i ≡ j) × (a ≡ b) × (k ≡ l)
   pub none_else : (i a k : ℕ) (c : Change) → StandsAt views i a k c → WasMade o book c
 
--- how many changes each lane has: a lane has no more than its updates, and no serial is past the opening one and all of them
+-- how many changes each lane has: a lane has no more than twice its updates, and no serial is past the opening one and all of them
 pub record AreTallied (o : Opening) (words : List ℕ) (book : Book) (views : List View) (tally : List ℕ) : Type 0 where
   pub long : length tally ≡ o.shape.workers
   pub each : (i a : ℕ) (v : View) (h : Held) → get_elem? views i ≡ some v → get_elem? v.held a ≡ some h → length h.changes ≡ slice_index tally h.lane
-  pub few : (lane : ℕ) → lane < o.shape.workers → slice_index tally lane ≤ o.shape.updates
+  pub few : (lane : ℕ) → lane < o.shape.workers → slice_index tally lane ≤ 2 * o.shape.updates
   pub free : (lane : ℕ) → lane < o.shape.workers → slice_index words (lane_place o.shape lane) ≡ 0 → slice_index tally lane ≡ 0
   pub enough : (key : ℕ) → key < 2 ^ o.shape.bits → length (history_of book key) ≤ opening_serial o.members key + 1 + sum tally

@@ -1,4 +1,4 @@
--- The cut that an entry of the book shows: the serials that its leaves had reached.
+-- The cut that an entry of the book shows: the serials that its leaves had reached, and their weights.
 use Rattle.std.specs.Prelude.{◌≡◌, ℕ, ◌+◌, ◌-◌, ◌*◌, ◌^◌, ◌<◌, ◌≤◌, [], ◌∷◌, ◌++◌, length, slice_index_or, zero, suc}
 use Rattle.aug_core.specs.Places.{Shape}
 use Rattle.aug_core.specs.Tree.{left_of, right_of, root_place}
@@ -9,11 +9,11 @@ use Rattle.aug_core.specs.declared.view.Entry.{Entry}
 
 -- the entry i of a leaf or a node
 abbrev pub entry_of : Book → ℕ → ℕ → Entry
-entry_of book q i = slice_index_or (history_of book q) i (serial_entry 0 0)
+entry_of book q i = slice_index_or (history_of book q) i (serial_entry 0 0 0)
 
--- the serials of the keys below the entry i of a word at a level: a leaf's is its index, a node's are its left child's and then its right child's
+-- the serials and weights of the keys below the entry i of a word at a level: a leaf's are its index and its weight, a node's are its left child's and then its right child's
 abbrev pub cut_under : Shape → Book → ℕ → ℕ → ℕ → Cut
-cut_under s book zero q i = i ∷ []
+cut_under s book zero q i = (i, (entry_of book q i).weight) ∷ []
 cut_under s book (suc level) q i = cut_under s book level (left_of s q) (entry_of book q i).left ++ cut_under s book level (right_of s q) (entry_of book q i).right
 
 -- the cut of an entry of the root

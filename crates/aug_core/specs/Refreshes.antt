@@ -18,6 +18,7 @@ pub record HasNewest (book : Book) (q word : ℕ) : Type 0 where
   pub entry : Entry
   pub newest : IsNewest book q index entry
   pub named : entry.word ≡ word
+  pub shown : entry.passed ≡ false
 
 -- the newest entry of the node stands over children that are no older than the newest ones of what was seen
 pub record NewestCovers (s : Shape) (seen book : Book) (q : ℕ) : Type 0 where
@@ -41,15 +42,17 @@ pub record IsLoaded (s : Shape) (book : Book) (q old left_word right_word : ℕ)
   pub right_at : At book (right_of s q) right_index right
   pub left_named : left.word ≡ left_word
   pub right_named : right.word ≡ right_word
+  pub left_shown : left.passed ≡ false
+  pub right_shown : right.passed ≡ false
   pub left_later : from.left ≤ left_index
   pub right_later : from.right ≤ right_index
   pub left_known : from.left_floor ≤ left_index
   pub right_known : from.right_floor ≤ right_index
 
 -- five words that say what was loaded
-pub record SaysLoaded (face : ℕ → ℕ → List ℕ → List ℕ) (s : Shape) (book : Book) (q old : ℕ) (five : List ℕ) : Type 0 where
+pub record SaysLoaded (face : ℕ → ℕ → List (ℕ × ℕ) → List ℕ) (s : Shape) (book : Book) (q old : ℕ) (five : List ℕ) : Type 0 where
   pub is_loaded : IsLoaded s book q old (slice_index five 0) (slice_index five 1)
-  pub five_are : five ≡ face (slice_index five 0) (slice_index five 1) (is_loaded.left.keys ++ is_loaded.right.keys)
+  pub five_are : five ≡ face (slice_index five 0) (slice_index five 1) (is_loaded.left.pairs ++ is_loaded.right.pairs)
 
 -- the node's newest entry stands over children of these words, if it was published, and else is another than was loaded
 pub record Published (s : Shape) (q old left_word right_word : ℕ) (done : Bool) (book : Book) : Type 0 where

@@ -1,5 +1,5 @@
 -- The rule of the table: what its words and the views of its seats are between any two atomic steps.
-use Rattle.std.specs.Prelude.{◌≡◌, ℕ, ◌+◌, ◌<◌, ◌≤◌, List, [], length, slice_index, replicate, Some, true}
+use Rattle.std.specs.Prelude.{◌≡◌, ℕ, ◌+◌, ◌<◌, ◌≤◌, List, [], length, slice_index, replicate, Some, true, false}
 use mathlib.Core.Option.{some}
 use lib.ListN.{get_elem?}
 use Rattle.atomic_table.specs.Table.{State}
@@ -18,12 +18,13 @@ use Rattle.aug_core.specs.declared.view.View.{View}
 abbrev pub Lists : List ℕ → ℕ → Type 0
 Lists numbers number = (i : ℕ) × (get_elem? numbers i ≡ some number)
 
--- the word of a leaf or a node is the one that names its newest entry
+-- the word of a leaf or a node is the one that names its newest entry, which is not passed over
 pub record NamesNewest (words : List ℕ) (book : Book) (q : ℕ) : Type 0 where
   pub index : ℕ
   pub entry : Entry
   pub newest : IsNewest book q index entry
   pub word : slice_index words q ≡ entry.word
+  pub shown : entry.passed ≡ false
 
 -- the words of a lane's records
 abbrev pub BlockIs : Shape → List ℕ → ℕ → List ℕ → Type 0
@@ -59,7 +60,7 @@ pub record Knows (o : Opening) (words : List ℕ) (book : Book) (v : View) : Typ
   pub spares : (n lane : ℕ) → v.spare ≡ Some n → n ≤ lane → lane < o.shape.workers → slice_index words (lane_place o.shape lane) ≡ 0
 
 -- the words of the leaves, of the nodes and of the published records are as the book says
-pub record KeepsTree (face : ℕ → ℕ → List ℕ → List ℕ) (o : Opening) (words : List ℕ) (book : Book) : Type 0 where
+pub record KeepsTree (face : ℕ → ℕ → List (ℕ × ℕ) → List ℕ) (o : Opening) (words : List ℕ) (book : Book) : Type 0 where
   -- the table has its words
   pub wide : length words ≡ word_count o.shape
   -- the book is one, and it begins as the table was opened
@@ -99,7 +100,7 @@ pub record KeepsChanges (o : Opening) (words : List ℕ) (book : Book) (views : 
   pub tallied : AreTallied o words book views tally
 
 -- the rule
-pub record Kept (face : ℕ → ℕ → List ℕ → List ℕ) (o : Opening) (s : State (Unit {0}) View) : Type 0 where
+pub record Kept (face : ℕ → ℕ → List (ℕ × ℕ) → List ℕ) (o : Opening) (s : State (Unit {0}) View) : Type 0 where
   pub book : Book
   -- the words of the tree are as the book says
   pub tree : KeepsTree face o s.words book
@@ -117,5 +118,5 @@ abbrev pub no_beginning : Beginning
 no_beginning = record { seen = []; steps = []; changes = [] }
 
 -- the view of the first seat, which hands all lanes out
-abbrev pub newcomer : (ℕ → ℕ → List ℕ → List ℕ) → Opening → View
+abbrev pub newcomer : (ℕ → ℕ → List (ℕ × ℕ) → List ℕ) → Opening → View
 newcomer face o = record { live = true; shape = o.shape; members = o.members; seen = opening_book face o; also = []; held = []; spare = Some 0; began = no_beginning; steps = [] }

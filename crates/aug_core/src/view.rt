@@ -7,7 +7,7 @@ use std::collections::LinkedList;
 pub struct Entry {
     /// The record's number, or the leaf's serial.
     pub number: u64,
-    /// The word that names the entry: today the number itself.
+    /// The word that names the entry: of a node the number itself, of a leaf its serial and its weight.
     pub word: u64,
     /// Where the left child's entry stands in its history.
     pub left: u64,
@@ -17,16 +17,32 @@ pub struct Entry {
     pub left_floor: u64,
     /// Where the right child's newest entry stood as this one came.
     pub right_floor: u64,
-    /// The keys that are there below, rising.
-    pub keys: LinkedList<u64>,
+    /// What the key of a leaf weighs there; 0 where it is not there, and for a node.
+    pub weight: u64,
+    /// Whether the leaf went past this serial in the very step that brought it, so that no word ever named it.
+    pub passed: bool,
+    /// The keys that are there below, rising, each with its weight.
+    pub pairs: LinkedList<(u64, u64)>,
     /// The record's words.
     pub words: LinkedList<u64>,
 }
 
-/// An accepted change: the key's serial went up to this one.
+/// An accepted change: the key's serial went up to this one, and the key weighs so much there.
 pub struct Change {
     pub key: u64,
     pub serial: u64,
+    /// 0 for a removal.
+    pub weight: u64,
+}
+
+/// What an exchange of a leaf's word is to do: from a serial and a weight to the next serial, or past it to the one after that.
+pub struct Advance {
+    pub serial: u64,
+    pub weight: u64,
+    /// Whether the key goes out and comes in again in the one step.
+    pub replaces: bool,
+    /// What the key weighs afterwards; 0 where it is not there.
+    pub new_weight: u64,
 }
 
 /// A lane that a view holds.
@@ -58,8 +74,8 @@ pub struct View {
     pub live: bool,
     /// How the table is laid out.
     pub shape: Layout,
-    /// The keys that were there when it was opened, rising.
-    pub members: LinkedList<u64>,
+    /// The keys that were there when it was opened, rising, each with its weight.
+    pub members: LinkedList<(u64, u64)>,
     /// The book as far as it was seen: for each leaf and inner node its entries.
     pub seen: LinkedList<LinkedList<Entry>>,
     /// What the seat that was joined last had seen.

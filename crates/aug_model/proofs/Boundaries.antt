@@ -1,59 +1,27 @@
 -- What the place of a key in a rising list says of the list.
-use Rattle.std.proofs.Common.{◌≡◌, ℕ, zero, suc, ◌+◌, ◌-◌, ◌^◌, ◌<◌, ◌≤◌, Bool, true, false, not, ◌==◌, ◌&&◌, nat_lt, nat_le, List, ◌∷◌, ◌++◌, length, get_or, slice_index, slice_get, take, drop, filter, ap, sym, ◌∙◌, inl, inr, arith, All, insert, remove, Err, nat_cmp, length-take, length-drop, length-take-le, drop-cons, take-append-drop}
-use Rattle.std.specs.List.Sorted.{IsStrictlyIncreasing, IsNonDecreasing, IsPartitionPoint, IsBinarySearchResult}
-use Rattle.std.proofs.lemmas.List.Sorted.{searched}
-use Rattle.std.proofs.lemmas.List.{get_or_default, take_rest}
+use Rattle.std.proofs.Common.{◌≡◌, ℕ, zero, suc, ◌+◌, ◌-◌, ◌^◌, ◌<◌, ◌≤◌, Bool, true, false, not, ◌==◌, ◌&&◌, nat_lt, nat_le, List, [], ◌∷◌, ◌++◌, length, get_or, slice_index, slice_get, option_map, take, drop, set, filter, refl, ap, sym, ◌∙◌, inl, inr, arith, insert, remove, length-take, length-drop, length-take-le}
+use Rattle.std.specs.List.Sorted.{IsStrictlyIncreasing}
+use Rattle.std.proofs.lemmas.List.{take_rest}
+use Rattle.std.proofs.lemmas.Option.{slice_get-map}
 use Rattle.std.proofs.lemmas.List.Elements.{All-append, All-cons, All-take, All-drop}
 use Rattle.std.proofs.lemmas.List.Edits.{length-insert, get_or-insert_below, get_or-insert_at, get_or-insert_above}
-use Rattle.std.proofs.lemmas.Bool.{lt-ltb, le-ltb, le-leb, lt-leb, eq-eqb, ne_eqb, ltb-true, ltb-false, cases_lt, cases_order, and_from, and_left, and_right, not_from_true, not_from_false}
-use Rattle.aug_model.specs.Keys.{IsKeySet, with_key, without_key}
-use Rattle.aug_model.specs.Queries.{rank_of, select_of, range_of}
+use Rattle.std.proofs.lemmas.Bool.{lt-ltb, le-ltb, le-leb, lt-leb, eq-eqb, ne_eqb, cases_lt, cases_order, and_from, and_left, and_right, not_from_true, not_from_false}
+use Rattle.aug_model.specs.Keys.{IsKeySet, keys_of, with_pair, without_pair}
+use Rattle.aug_model.specs.Queries.{rank_of, select_of, last_of, first_of, before_of, after_of, weighted_range_of}
 use Rattle.aug_model.specs.Boundary.{IsBoundary, StandsAt, WouldStandAt}
-use Rattle.aug_model.proofs.Filters.{filter-between, filter-front, filter-back, filter-all, filter-but, find-at}
+use Rattle.aug_model.proofs.Filters.{PassesBetween, filter-front, filter-back, find-at, filter-between_pairs, filter-all_pairs, filter-but_pairs}
+use Rattle.aug_model.proofs.Pairs.{length-keys_of, keys_of-take, keys_of-between, last-keys_of}
+use Rattle.aug_model.proofs.Rising.{rises, length-le-bound}
 
-rises-by : (xs : List ℕ) → IsStrictlyIncreasing xs → (i m : ℕ) → i + m + 1 < length xs → slice_index xs i < slice_index xs (i + m + 1)
-rises-by xs up i zero l = let e : i + 1 ≡ i + 0 + 1 = omega arith in rw (sym e) (up i (omega arith))
-rises-by xs up i (suc m) l =
-    let e : i + m + 1 + 1 ≡ i + suc m + 1 = omega arith in
-    let one = rises-by xs up i m (omega arith) in
-    let two = up (i + m + 1) (omega arith) in
-    omega (arith, one, two, ap (slice_index xs) e)
-
--- an earlier key of a rising list is below a later one
-pub rises : (xs : List ℕ) → IsStrictlyIncreasing xs → (i j : ℕ) → i < j → j < length xs → slice_index xs i < slice_index xs j
-rises xs up i j lt l =
-    let e : i + (j - i - 1) + 1 ≡ j = omega arith in
-    omega (arith, rises-by xs up i (j - i - 1) (omega arith), ap (slice_index xs) e)
-
--- the place of a key in a rising list is at most the key
-pub place-le-key : (xs : List ℕ) → IsStrictlyIncreasing xs → (i : ℕ) → i < length xs → i ≤ slice_index xs i
-place-le-key xs up zero l = omega arith
-place-le-key xs up (suc i) l =
-    let e : i + 1 ≡ suc i = omega arith in
-    omega (arith, place-le-key xs up i (omega arith), up i (omega arith), ap (slice_index xs) e)
-
--- so it has no more keys than there are numbers below their bound
-pub length-le-bound : (xs : List ℕ) (n : ℕ) → IsStrictlyIncreasing xs → All (λ k. k < n) xs → length xs ≤ n
-length-le-bound xs n up below =
-    elim (cases_lt 0 (length xs)) [
-      | inl some ↦ omega (arith, place-le-key xs up (length xs - 1) (omega arith), below (length xs - 1) 0 (omega arith))
-      | inr none ↦ omega arith
-    ]
+-- a list with one element written over
+set-split : (xs : List (ℕ × ℕ)) (i : ℕ) (y : ℕ × ℕ) → i < length xs → set xs i y ≡ take i xs ++ y ∷ drop (suc i) xs
+set-split [] i y l = absurd (omega arith)
+set-split (x ∷ xs) zero y l = refl
+set-split (x ∷ xs) (suc i) y l = ap (λ z. x ∷ z) (set-split xs i y (omega arith))
 
 -- and a set of keys no more members than there are keys
 pub IsKeySet-few : (bits : ℕ) (keys : List ℕ) → IsKeySet bits keys → length keys ≤ 2 ^ bits
 IsKeySet-few bits keys set = length-le-bound keys (2 ^ bits) set.rising set.below
-
--- a rising list does not fall
-pub rising-not_falling : (xs : List ℕ) → IsStrictlyIncreasing xs → IsNonDecreasing xs
-rising-not_falling xs up i j d le l =
-    let at_i = get_or_default xs i d 0 (omega arith) in
-    let at_j = get_or_default xs j d 0 l in
-    elim (cases_order i j) [
-      | inl e ↦ omega (arith, ap (λ n. get_or xs n d) e)
-      | inr (inl lt) ↦ omega (arith, at_i, at_j, rises xs up i j lt l)
-      | inr (inr gt) ↦ absurd (omega arith)
-    ]
 
 module _ (xs : List ℕ) (k place : ℕ) (boundary : IsBoundary xs k place) where
   pub filter-below_boundary : filter (λ x. nat_lt x k) xs ≡ take place xs
@@ -89,72 +57,55 @@ module _ (xs : List ℕ) (k place : ℕ) (up : IsStrictlyIncreasing xs) (there :
   above-at_place : (j : ℕ) → j < length xs → place < j → k < slice_index xs j
   above-at_place j l gt = omega (arith, there.is, rises xs up place j gt l)
 
-  filter-below_member : filter (λ x. nat_lt x k) xs ≡ take place xs
-  filter-below_member =
-      filter-front (λ x. nat_lt x k) xs place (record {
-        before = λ j l q. absurd (omega arith);
-        between = λ j l q r. lt-ltb _ _ (below-at_place j l (omega arith));
-        behind = λ j l q. le-ltb _ _ (elim (cases_order j place) [
-          | inl e ↦ omega (arith, there.is, ap (slice_index xs) e)
-          | inr (inl lt) ↦ absurd (omega arith)
-          | inr (inr gt) ↦ omega (arith, above-at_place j l gt)
-        ]);
-      })
+  pub passes_below : PassesBetween (λ x. nat_lt x k) xs 0 place
+  passes_below = record {
+    before = λ j l q. absurd (omega arith);
+    between = λ j l q r. lt-ltb _ _ (below-at_place j l (omega arith));
+    behind = λ j l q. le-ltb _ _ (elim (cases_order j place) [
+      | inl e ↦ omega (arith, there.is, ap (slice_index xs) e)
+      | inr (inl lt) ↦ absurd (omega arith)
+      | inr (inr gt) ↦ omega (arith, above-at_place j l gt)
+    ]);
+  }
 
-  filter-above_member : filter (λ x. nat_lt k x) xs ≡ drop (suc place) xs
-  filter-above_member =
-      filter-back (λ x. nat_lt k x) xs (suc place) (record {
-        before = λ j l q. le-ltb _ _ (elim (cases_order j place) [
-          | inl e ↦ omega (arith, there.is, ap (slice_index xs) e)
-          | inr (inl lt) ↦ omega (arith, below-at_place j l lt)
-          | inr (inr gt) ↦ absurd (omega arith)
-        ]);
-        between = λ j l q r. lt-ltb _ _ (above-at_place j l (omega arith));
-        behind = λ j l q. absurd (omega (arith, there.within));
-      })
+  pub passes_above : PassesBetween (λ x. nat_lt k x) xs (suc place) (length xs - suc place)
+  passes_above = record {
+    before = λ j l q. le-ltb _ _ (elim (cases_order j place) [
+      | inl e ↦ omega (arith, there.is, ap (slice_index xs) e)
+      | inr (inl lt) ↦ omega (arith, below-at_place j l lt)
+      | inr (inr gt) ↦ absurd (omega arith)
+    ]);
+    between = λ j l q r. lt-ltb _ _ (above-at_place j l (omega arith));
+    behind = λ j l q. absurd (omega (arith, there.within));
+  }
 
-  split-at_member : take place xs ++ k ∷ drop (suc place) xs ≡ xs
-  split-at_member =
-      let e : drop place xs ≡ k ∷ drop (suc place) xs = drop-cons xs place 0 there.within ∙ ap (λ x. x ∷ drop (suc place) xs) there.is in
-      ap (λ ys. take place xs ++ ys) (sym e) ∙ take-append-drop place xs
-
-  pub with_key-member : with_key xs k ≡ xs
-  with_key-member = rw (filter-below_member, filter-above_member) split-at_member
-
-  pub without_key-member : without_key xs k ≡ remove xs place
-  without_key-member =
-      filter-but (λ x. not (x == k)) xs place there.within (not_from_true _ (eq-eqb _ _ there.is))
-      (λ j l ne. not_from_false _ (ne_eqb _ _ (λ e. elim (cases_order j place) [
-        | inl same ↦ ne same
-        | inr (inl lt) ↦ omega (arith, below-at_place j l lt)
-        | inr (inr gt) ↦ omega (arith, above-at_place j l gt)
-      ])))
+  pub other : (j : ℕ) → j < length xs → (j ≡ place → ⊥) → not (get_or xs j 0 == k) ≡ true
+  other j l ne = not_from_false _ (ne_eqb _ _ (λ e. elim (cases_order j place) [
+    | inl same ↦ ne same
+    | inr (inl lt) ↦ omega (arith, below-at_place j l lt)
+    | inr (inr gt) ↦ omega (arith, above-at_place j l gt)
+  ]))
 
 module _ (xs : List ℕ) (k place : ℕ) (gap : WouldStandAt xs k place) where
-  filter-below_absent : filter (λ x. nat_lt x k) xs ≡ take place xs
-  filter-below_absent =
-      filter-front (λ x. nat_lt x k) xs place (record {
-        before = λ j l q. absurd (omega arith);
-        between = λ j l q r. lt-ltb _ _ (gap.front j (omega arith));
-        behind = λ j l q. le-ltb _ _ (omega (arith, gap.back j (omega arith) l));
-      })
+  pub passes_below_gap : PassesBetween (λ x. nat_lt x k) xs 0 place
+  passes_below_gap = record {
+    before = λ j l q. absurd (omega arith);
+    between = λ j l q r. lt-ltb _ _ (gap.front j (omega arith));
+    behind = λ j l q. le-ltb _ _ (omega (arith, gap.back j (omega arith) l));
+  }
 
-  filter-above_absent : filter (λ x. nat_lt k x) xs ≡ drop place xs
-  filter-above_absent =
-      filter-back (λ x. nat_lt k x) xs place (record {
-        before = λ j l q. le-ltb _ _ (omega (arith, gap.front j q));
-        between = λ j l q r. lt-ltb _ _ (gap.back j q l);
-        behind = λ j l q. absurd (omega (arith, gap.within));
-      })
+  pub passes_above_gap : PassesBetween (λ x. nat_lt k x) xs place (length xs - place)
+  passes_above_gap = record {
+    before = λ j l q. le-ltb _ _ (omega (arith, gap.front j q));
+    between = λ j l q r. lt-ltb _ _ (gap.back j q l);
+    behind = λ j l q. absurd (omega (arith, gap.within));
+  }
 
-  pub with_key-absent : with_key xs k ≡ insert xs place k
-  with_key-absent = rw (filter-below_absent, filter-above_absent)
-
-  pub without_key-absent : without_key xs k ≡ xs
-  without_key-absent = filter-all (λ x. not (x == k)) xs (λ j l. not_from_false _ (ne_eqb _ _ (λ e. elim (cases_lt j place) [
+  pub none : (j : ℕ) → j < length xs → not (get_or xs j 0 == k) ≡ true
+  none j l = not_from_false _ (ne_eqb _ _ (λ e. elim (cases_lt j place) [
     | inl lt ↦ omega (arith, e, gap.front j lt)
     | inr ge ↦ omega (arith, e, gap.back j ge l)
-  ])))
+  ]))
 
   -- the key k put in at its place leaves a set of keys
   pub IsKeySet-insert : (bits : ℕ) → k < 2 ^ bits → IsKeySet bits xs → IsKeySet bits (insert xs place k)
@@ -200,24 +151,42 @@ select_of-rising xs up i =
     (λ l. eq-eqb _ _ (rank-at_boundary xs (slice_index xs i) i (member-IsBoundary xs up i l)))
     (λ j l ne. ne_eqb _ _ (λ e. ne (omega (arith, e, rank-at_boundary xs (slice_index xs j) j (member-IsBoundary xs up j l)))))
 
--- what `binary_search` says where it finds nothing
-pub find-err : (xs : List ℕ) (k i : ℕ) → IsStrictlyIncreasing xs → IsBinarySearchResult (λ y. nat_cmp y k) xs (Err i) → WouldStandAt xs k i
-find-err xs k i up h =
-    let at = searched xs k (Err i) h (λ a b le l. rising-not_falling xs up a b 0 le l) in
-    record { within = at.0; front = at.1; back = at.2 }
+module _ (ps : List (ℕ × ℕ)) (k place : ℕ) where
+  -- the greatest key below k is that of the last pair before the place of k
+  pub before-at_boundary : IsBoundary (keys_of ps) k place → before_of (keys_of ps) k ≡ option_map (λ p. p.0) (slice_get (take place ps) (length (take place ps) - 1))
+  before-at_boundary boundary = ap last_of (filter-below_boundary (keys_of ps) k place boundary ∙ keys_of-take place ps) ∙ last-keys_of (take place ps)
 
--- what `partition_point` says of the test `x < k`
-pub IsBoundary-from_below : (xs : List ℕ) (k i : ℕ) → i ≤ length xs → IsPartitionPoint (λ x. nat_lt x k ≡ true) (λ x. nat_lt x k ≡ false) xs i → IsBoundary xs k i
-IsBoundary-from_below xs k i within at = record {
-  within = within;
-  front = λ j l. ltb-true _ _ (at.0 j 0 (omega arith) l);
-  back = λ j le l. ltb-false _ _ (at.1 j 0 le l);
-}
+  -- the least key above k is that of the first pair from the place of k + 1 on
+  pub after-at_boundary : IsBoundary (keys_of ps) (k + 1) place → after_of (keys_of ps) k ≡ option_map (λ p. p.0) (slice_get (take (length ps - place) (drop place ps)) 0)
+  after-at_boundary boundary =
+      ap first_of (filter-above_boundary (keys_of ps) k place boundary ∙ ap (λ n. take (n - place) (drop place (keys_of ps))) (length-keys_of ps) ∙ keys_of-between place (length ps - place) ps)
+      ∙ slice_get-map (λ (p : ℕ × ℕ). p.0) (take (length ps - place) (drop place ps)) 0
 
--- the keys from a on that are below b, by the places of a and b
-pub range-at_boundaries : (xs : List ℕ) (a b from to : ℕ) → IsBoundary xs a from → IsBoundary xs b to → range_of xs a b ≡ take (to - from) (drop from xs)
-range-at_boundaries xs a b from to boundary_a boundary_b =
-    filter-between (λ x. nat_le a x && nat_lt x b) xs from (to - from) (record {
+module _ (ps : List (ℕ × ℕ)) (k w place : ℕ) where
+  -- a pair written over at a place
+  pub with_pair-member : IsStrictlyIncreasing (keys_of ps) → StandsAt (keys_of ps) k place → with_pair ps k w ≡ set ps place (k, w)
+  with_pair-member up there =
+      let long = length-keys_of ps in
+      rw (filter-between_pairs (λ x. nat_lt x k) ps 0 place (passes_below (keys_of ps) k place up there), filter-between_pairs (λ x. nat_lt k x) ps (suc place) (length (keys_of ps) - suc place) (passes_above (keys_of ps) k place up there), long, take_rest ps (suc place))
+      (sym (set-split ps place (k, w) (omega (arith, there.within))))
+
+  -- a pair put in at a place
+  pub with_pair-absent : WouldStandAt (keys_of ps) k place → with_pair ps k w ≡ insert ps place (k, w)
+  with_pair-absent gap =
+      let long = length-keys_of ps in
+      rw (filter-between_pairs (λ x. nat_lt x k) ps 0 place (passes_below_gap (keys_of ps) k place gap), filter-between_pairs (λ x. nat_lt k x) ps place (length (keys_of ps) - place) (passes_above_gap (keys_of ps) k place gap), long, take_rest ps place)
+
+module _ (ps : List (ℕ × ℕ)) (k place : ℕ) where
+  pub without_pair-member : IsStrictlyIncreasing (keys_of ps) → StandsAt (keys_of ps) k place → without_pair ps k ≡ remove ps place
+  without_pair-member up there = filter-but_pairs (λ x. not (x == k)) ps place there.within (not_from_true _ (eq-eqb _ _ there.is)) (other (keys_of ps) k place up there)
+
+  pub without_pair-absent : WouldStandAt (keys_of ps) k place → without_pair ps k ≡ ps
+  without_pair-absent gap = filter-all_pairs (λ x. not (x == k)) ps (none (keys_of ps) k place gap)
+
+-- the pairs whose keys are from a on and below b, by the places of a and b
+pub range-at_boundaries : (ps : List (ℕ × ℕ)) (a b from to : ℕ) → IsBoundary (keys_of ps) a from → IsBoundary (keys_of ps) b to → weighted_range_of ps a b ≡ take (to - from) (drop from ps)
+range-at_boundaries ps a b from to boundary_a boundary_b =
+    filter-between_pairs (λ x. nat_le a x && nat_lt x b) ps from (to - from) (record {
       before = λ j l q. and_left _ _ (lt-leb _ _ (boundary_a.front j q));
       between = λ j l q r. and_from _ _ (le-leb _ _ (boundary_a.back j q l)) (lt-ltb _ _ (boundary_b.front j (omega arith)));
       behind = λ j l q. elim (cases_lt j from) [
@@ -227,5 +196,5 @@ range-at_boundaries xs a b from to boundary_a boundary_b =
     })
 
 -- a part of a list is no longer than the list
-pub length-between-le : (xs : List ℕ) (start n : ℕ) → length (take n (drop start xs)) ≤ length xs
+pub length-between-le : (xs : List (ℕ × ℕ)) (start n : ℕ) → length (take n (drop start xs)) ≤ length xs
 length-between-le xs start n = omega (arith, length-take n (drop start xs), length-drop start xs)

@@ -1,4 +1,4 @@
--- What a summary says of a list of keys, in two monoids.
+-- What a summary says of a list of keys with weights, in two monoids.
 use Rattle.std.specs.Prelude.{ℕ, List, length}
 use Rattle.aug_monoid.specs.Fold.{fold_of}
 use Rattle.aug_monoid.specs.Parts.{Parts}
@@ -6,5 +6,5 @@ use Rattle.aug_model.specs.declared.summary.Summary.{Summary}
 
 module _ {A B : Type 0} (parts_a : Parts A) (parts_b : Parts B) where
   -- how many keys the list has, and its two folds
-  abbrev pub summary_of : List ℕ → Summary A B
-  summary_of keys = record { count = length keys; a = fold_of parts_a keys; b = fold_of parts_b keys }
+  abbrev pub summary_of : List (ℕ × ℕ) → Summary A B
+  summary_of pairs = record { count = length pairs; a = fold_of parts_a pairs; b = fold_of parts_b pairs }

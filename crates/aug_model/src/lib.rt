@@ -1,11 +1,13 @@
-//! Summaries of sets of keys, and a plain set that answers every query from the list of its members.
+//! Summaries of sets of keys with weights, and a plain set that answers every query from the list of its members.
 #![tactic(auto)]
 
 mod key_set;
 mod model_error;
+mod outcome;
 mod places;
 mod summary;
 
 pub use key_set::KeySet;
 pub use model_error::ModelError;
+pub use outcome::Outcome;
 pub use summary::Summary;

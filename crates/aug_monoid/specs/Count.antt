@@ -8,7 +8,7 @@ abbrev pub count_parts : Parts ℕ
 count_parts = record {
   IsProper = λ c. c < 2 ^ 64;
   unit = 0;
-  of_key = λ _. 1;
+  of_key = λ _ _. 1;
   join = wrapped_sum;
   to_word = λ c. c;
   from_word = λ w. w;

@@ -40,7 +40,7 @@ abbrev pub extent_parts : Parts (Option (ℕ × ℕ))
 extent_parts = record {
   IsProper = IsBoundsOrNone;
   unit = None;
-  of_key = λ k. Some (k, k);
+  of_key = λ k _. Some (k, k);
   join = spanned_by;
   to_word = word_of_bounds;
   from_word = bounds_of_word;

@@ -1,9 +1,9 @@
--- The fold of a list of keys in a monoid.
+-- The fold of a list of keys, each with its weight, in a monoid.
 use Rattle.std.specs.Prelude.{ℕ, List, [], ◌∷◌}
 use Rattle.aug_monoid.specs.Parts.{Parts}
 
 module _ {M : Type 0} (parts : Parts M) where
-  -- the join of the values of the keys, in the order of the list; the unit for no keys
-  abbrev pub fold_of : List ℕ → M
+  -- the join of the values of the keys with their weights, in the order of the list; the unit for no keys
+  abbrev pub fold_of : List (ℕ × ℕ) → M
   fold_of [] = parts.unit
-  fold_of (k ∷ ks) = parts.join (parts.of_key k) (fold_of ks)
+  fold_of (p ∷ ps) = parts.join (parts.of_key p.0 p.1) (fold_of ps)

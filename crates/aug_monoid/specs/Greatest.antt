@@ -14,7 +14,7 @@ abbrev pub greatest_parts : Parts (Option ℕ)
 greatest_parts = record {
   IsProper = IsKeyOrNone;
   unit = None;
-  of_key = λ k. Some k;
+  of_key = λ k _. Some k;
   join = greater_of;
   to_word = word_of_key;
   from_word = key_of_word;

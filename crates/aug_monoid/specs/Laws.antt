@@ -6,8 +6,8 @@ use Rattle.aug_monoid.specs.Parts.{Parts}
 pub record IsMonoid {M : Type 0} (parts : Parts M) : Type 0 where
   -- the fold of no keys is proper
   pub unit_is_proper : parts.IsProper parts.unit
-  -- so is the value of a key
-  pub key_is_proper : (k : ℕ) → k < 2 ^ 32 → parts.IsProper (parts.of_key k)
+  -- so is the value of a key with its weight
+  pub key_is_proper : (k w : ℕ) → k < 2 ^ 32 → w < 2 ^ 32 → parts.IsProper (parts.of_key k w)
   -- so is what two proper values give together
   pub join_is_proper : (x y : M) → parts.IsProper x → parts.IsProper y → parts.IsProper (parts.join x y)
   -- so is what a word stands for

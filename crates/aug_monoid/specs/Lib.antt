@@ -12,5 +12,6 @@ pub mod LeastLaws
 pub mod Nothing
 pub mod Parts
 pub mod Sum
+pub mod Weighted
 pub mod Wrapping
 pub mod WrappingLaws

@@ -7,7 +7,7 @@ abbrev pub nothing_parts : Parts Nothing
 nothing_parts = record {
   IsProper = λ _. Unit {0};
   unit = record {};
-  of_key = λ _. record {};
+  of_key = λ _ _. record {};
   join = λ _ _. record {};
   to_word = λ _. 0;
   from_word = λ _. record {};

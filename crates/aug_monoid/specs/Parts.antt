@@ -1,4 +1,4 @@
--- The plain parts of a monoid over keys, as one record: folds, summaries and laws take it.
+-- The plain parts of a monoid over keys with weights, as one record: folds, summaries and laws take it.
 use Rattle.std.specs.Prelude.{ℕ}
 
 -- what a member carries in a fold over keys, and what becomes of it
@@ -7,8 +7,8 @@ pub record Parts (M : Type 0) : Type 1 where
   pub IsProper : M → Type 0
   -- the fold of no keys
   pub unit : M
-  -- the fold of one key
-  pub of_key : ℕ → M
+  -- the fold of one key with its weight
+  pub of_key : ℕ → ℕ → M
   -- what two neighbouring folds give together
   pub join : M → M → M
   -- the word that stands for a value

@@ -16,6 +16,6 @@ wrapped_sum-zero_left x fits = ap (λ (n : ℕ). n % 2 ^ 64) (zero-add x) ∙ mo
 pub wrapped_sum-zero_right : (x : ℕ) → x < 2 ^ 64 → wrapped_sum x 0 ≡ x
 wrapped_sum-zero_right x fits = ap (λ (n : ℕ). n % 2 ^ 64) (add-zero x) ∙ mod-eq_of_lt fits
 
--- a key fits in a word
-pub key_fits : (k : ℕ) → k < 2 ^ 32 → k < 2 ^ 64
-key_fits k is_key = omega arith
+-- a weight fits in a word
+pub weight_fits : (w : ℕ) → w < 2 ^ 32 → w < 2 ^ 64
+weight_fits w fits = omega arith

@@ -39,7 +39,7 @@ impl Monoid for Count {
         Count { keys: 0 }
     }
 
-    fn of_key(_k: u32) -> Count {
+    fn of_key(_k: u32, _weight: u32) -> Count {
         Count { keys: 1 }
     }
 
@@ -68,7 +68,7 @@ impl Monoid for Count {
 
     ghost unit_is_proper = { lit< tt };
 
-    ghost key_is_proper = { λ _ _. lit< tt };
+    ghost key_is_proper = { λ _ _ _ _. lit< tt };
 
     ghost join_is_proper = { λ x y _ _. wrapped_sum-fits x y };
 

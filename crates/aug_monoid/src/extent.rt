@@ -54,7 +54,7 @@ impl Monoid for Extent {
         }
     }
 
-    fn of_key(k: u32) -> Extent {
+    fn of_key(k: u32, _weight: u32) -> Extent {
         Extent {
             least: k,
             greatest: k,
@@ -95,7 +95,7 @@ impl Monoid for Extent {
 
     ghost unit_is_proper = { tt };
 
-    ghost key_is_proper = { one_key-is_bounds };
+    ghost key_is_proper = { λ k _ is_key _. one_key-is_bounds k is_key };
 
     ghost join_is_proper = { spanned_by-is_bounds };
 

@@ -41,7 +41,7 @@ impl Monoid for Greatest {
         Greatest { key: None }
     }
 
-    fn of_key(k: u32) -> Greatest {
+    fn of_key(k: u32, _weight: u32) -> Greatest {
         Greatest { key: Some(k) }
     }
 
@@ -74,7 +74,7 @@ impl Monoid for Greatest {
 
     ghost unit_is_proper = { tt };
 
-    ghost key_is_proper = { λ _ is_key. is_key };
+    ghost key_is_proper = { λ _ _ is_key _. is_key };
 
     ghost join_is_proper = { greater_of-is_key };
 

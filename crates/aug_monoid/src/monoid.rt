@@ -1,4 +1,4 @@
-//! What a fold over keys adds up, and the laws that it keeps.
+//! What a fold over keys with weights adds up, and the laws that it keeps.
 ghost use Rattle.std.specs.Prelude.{◌≡◌, ◌↔◌, ℕ, ◌^◌, ◌<◌, IsTrue};
 ghost use Rattle.aug_monoid.specs.Parts.{Parts};
 
@@ -14,9 +14,9 @@ pub trait Monoid: Copy + Eq {
     fn unit() -> Self
         ensures { result ≡ parts.unit };
 
-    /// The fold of the one key `k`.
-    fn of_key(k: u32) -> Self
-        ensures { result ≡ parts.of_key k };
+    /// The fold of the one key `k` with its weight.
+    fn of_key(k: u32, weight: u32) -> Self
+        ensures { result ≡ parts.of_key k weight };
 
     /// The fold of the keys of `self` and then those of `other`.
     fn join(self, other: Self) -> Self
@@ -37,8 +37,8 @@ pub trait Monoid: Copy + Eq {
     // The fold of no keys is proper.
     ghost unit_is_proper: { parts.IsProper parts.unit };
 
-    // So is the fold of one key of 32 bits.
-    ghost key_is_proper: { (k : ℕ) → k < 2 ^ 32 → parts.IsProper (parts.of_key k) };
+    // So is the fold of one key of 32 bits with a weight of 32 bits.
+    ghost key_is_proper: { (k w : ℕ) → k < 2 ^ 32 → w < 2 ^ 32 → parts.IsProper (parts.of_key k w) };
 
     // So is what two proper values give together.
     ghost join_is_proper: { (x y : Self) → parts.IsProper x → parts.IsProper y → parts.IsProper (parts.join x y) };

@@ -16,7 +16,7 @@ impl Monoid for Nothing {
         Nothing
     }
 
-    fn of_key(_k: u32) -> Nothing {
+    fn of_key(_k: u32, _weight: u32) -> Nothing {
         Nothing
     }
 
@@ -41,7 +41,7 @@ impl Monoid for Nothing {
 
     ghost unit_is_proper = { tt };
 
-    ghost key_is_proper = { λ _ _. tt };
+    ghost key_is_proper = { λ _ _ _ _. tt };
 
     ghost join_is_proper = { λ _ _ _ _. tt };
 

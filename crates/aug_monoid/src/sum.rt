@@ -1,13 +1,13 @@
-//! The sum of the keys.
+//! The sum of the weights.
 ghost use Rattle.std.specs.Prelude.{◌≡◌, ◌^◌, ◌<◌, ◌↔◌, IsTrue, refl};
 ghost use Rattle.std.proofs.Common.{lit<};
 ghost use Rattle.aug_monoid.specs.Sum.{sum_parts};
-ghost use Rattle.aug_monoid.specs.WrappingLaws.{wrapped_sum-fits, wrapped_sum-assoc, wrapped_sum-zero_left, wrapped_sum-zero_right, key_fits};
+ghost use Rattle.aug_monoid.specs.WrappingLaws.{wrapped_sum-fits, wrapped_sum-assoc, wrapped_sum-zero_left, wrapped_sum-zero_right, weight_fits};
 
 use crate::Monoid;
 use std::marker::Model;
 
-/// The sum of the keys, modulo 2^64.
+/// The sum of the keys' weights, modulo 2^64.
 #[derive(Clone, Copy, PartialEq, Eq, Debug)]
 pub struct Sum {
     sum: u64,
@@ -39,8 +39,10 @@ impl Monoid for Sum {
         Sum { sum: 0 }
     }
 
-    fn of_key(k: u32) -> Sum {
-        Sum { sum: u64::from(k) }
+    fn of_key(_key: u32, weight: u32) -> Sum {
+        Sum {
+            sum: u64::from(weight),
+        }
     }
 
     fn join(self, other: Sum) -> Sum {
@@ -68,7 +70,7 @@ impl Monoid for Sum {
 
     ghost unit_is_proper = { lit< tt };
 
-    ghost key_is_proper = { key_fits };
+    ghost key_is_proper = { λ _ w _ fits. weight_fits w fits };
 
     ghost join_is_proper = { λ x y _ _. wrapped_sum-fits x y };
 

@@ -5,7 +5,7 @@ mod last;
 
 const UPPER: u64 = 4_294_967_296;
 
-fn word_of_fold<M: Monoid>(keys: &[u32]) -> u64 {
+fn word_of_fold<M: Monoid>(keys: &[(u32, u32)]) -> u64 {
     fold_slice::<M>(keys).to_word()
 }
 
@@ -17,13 +17,16 @@ fn word_gives_a_proper_value<M: Monoid>(word: u64) -> bool {
     M::from_word(word).proper()
 }
 
-fn word_after_round_trip<M: Monoid>(keys: &[u32]) -> u64 {
+fn word_after_round_trip<M: Monoid>(keys: &[(u32, u32)]) -> u64 {
     M::from_word(word_of_fold::<M>(keys)).to_word()
 }
 
 #[test]
 fn the_extent_of_5_and_9_has_the_word_with_5_above_9(rt: HostRuntime) {
-    assert_eq!(rt; fold_slice::<Extent>(&[5, 9]).to_word(), 21_474_836_489);
+    assert_eq!(rt;
+        fold_slice::<Extent>(&[(5, 5), (9, 9)]).to_word(),
+        21_474_836_489
+    );
     assert_eq!(rt; Extent::from_word(21_474_836_489).bounds(), Some((5, 9)));
 }
 
@@ -46,12 +49,15 @@ fn a_word_above_the_keys_gives_no_least_or_greatest(rt: HostRuntime) {
 
 #[test]
 fn each_fold_of_5_and_9_has_its_value(rt: HostRuntime) {
-    assert_eq!(rt; fold_slice::<Count>(&[5, 9]).value(), 2);
-    assert_eq!(rt; fold_slice::<Sum>(&[5, 9]).value(), 14);
-    assert_eq!(rt; fold_slice::<Least>(&[5, 9]).value(), Some(5));
-    assert_eq!(rt; fold_slice::<Greatest>(&[5, 9]).value(), Some(9));
-    assert_eq!(rt; fold_slice::<Extent>(&[5, 9]).bounds(), Some((5, 9)));
-    assert_eq!(rt; fold_slice::<Nothing>(&[5, 9]), Nothing);
+    assert_eq!(rt; fold_slice::<Count>(&[(5, 5), (9, 9)]).value(), 2);
+    assert_eq!(rt; fold_slice::<Sum>(&[(5, 5), (9, 9)]).value(), 14);
+    assert_eq!(rt; fold_slice::<Least>(&[(5, 5), (9, 9)]).value(), Some(5));
+    assert_eq!(rt; fold_slice::<Greatest>(&[(5, 5), (9, 9)]).value(), Some(9));
+    assert_eq!(rt;
+        fold_slice::<Extent>(&[(5, 5), (9, 9)]).bounds(),
+        Some((5, 9))
+    );
+    assert_eq!(rt; fold_slice::<Nothing>(&[(5, 5), (9, 9)]), Nothing);
 }
 
 #[test]
@@ -77,18 +83,18 @@ fn the_units_have_the_words_of_the_table(rt: HostRuntime) {
 
 #[test]
 fn counts_and_sums_wrap_at_the_end_of_a_word(rt: HostRuntime) {
-    assert_eq!(rt; Sum::from_word(u64::MAX).join(Sum::of_key(3)).value(), 2);
+    assert_eq!(rt; Sum::from_word(u64::MAX).join(Sum::of_key(3, 3)).value(), 2);
     assert_eq!(rt;
-        Count::from_word(u64::MAX).join(Count::of_key(3)).value(),
+        Count::from_word(u64::MAX).join(Count::of_key(3, 3)).value(),
         0
     );
 }
 
 #[test]
 fn the_order_of_keys_counts_where_the_join_is_not_commutative(rt: HostRuntime) {
-    assert_eq!(rt; word_of_fold::<Last>(&[5, 9]), 9);
-    assert_eq!(rt; word_of_fold::<Last>(&[9, 5]), 5);
-    assert_eq!(rt; word_of_fold::<Extent>(&[9, 5]), 21_474_836_489);
+    assert_eq!(rt; word_of_fold::<Last>(&[(5, 5), (9, 9)]), 9);
+    assert_eq!(rt; word_of_fold::<Last>(&[(9, 9), (5, 5)]), 5);
+    assert_eq!(rt; word_of_fold::<Extent>(&[(9, 9), (5, 5)]), 21_474_836_489);
 }
 
 #[test]
@@ -106,11 +112,14 @@ fn every_word_gives_a_proper_value(rt: HostRuntime) {
 
 #[test]
 fn the_word_of_a_fold_stands_for_it(rt: HostRuntime) {
-    assert_eq!(rt; word_after_round_trip::<Count>(&[5, 9]), 2);
-    assert_eq!(rt; word_after_round_trip::<Sum>(&[5, 9]), 14);
-    assert_eq!(rt; word_after_round_trip::<Least>(&[5, 9]), 5);
-    assert_eq!(rt; word_after_round_trip::<Greatest>(&[5, 9]), 9);
-    assert_eq!(rt; word_after_round_trip::<Extent>(&[5, 9]), 21_474_836_489);
-    assert_eq!(rt; word_after_round_trip::<Nothing>(&[5, 9]), 0);
-    assert_eq!(rt; word_after_round_trip::<Last>(&[5, 9]), 9);
+    assert_eq!(rt; word_after_round_trip::<Count>(&[(5, 5), (9, 9)]), 2);
+    assert_eq!(rt; word_after_round_trip::<Sum>(&[(5, 5), (9, 9)]), 14);
+    assert_eq!(rt; word_after_round_trip::<Least>(&[(5, 5), (9, 9)]), 5);
+    assert_eq!(rt; word_after_round_trip::<Greatest>(&[(5, 5), (9, 9)]), 9);
+    assert_eq!(rt;
+        word_after_round_trip::<Extent>(&[(5, 5), (9, 9)]),
+        21_474_836_489
+    );
+    assert_eq!(rt; word_after_round_trip::<Nothing>(&[(5, 5), (9, 9)]), 0);
+    assert_eq!(rt; word_after_round_trip::<Last>(&[(5, 5), (9, 9)]), 9);
 }

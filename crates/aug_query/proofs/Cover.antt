@@ -1,26 +1,28 @@
 -- Intervals of members put together, as the walk of an interval's two ends does.
-use Rattle.std.proofs.Common.{◌≡◌, ℕ, ◌+◌, ◌^◌, ◌<◌, ◌≤◌, ◌⊎◌, inl, inr, List, [], ◌++◌, length, min, sym, ap, ◌∙◌, arith}
+use Rattle.std.proofs.Common.{leb, ltb, ◌&&◌, ◌≡◌, ℕ, ◌+◌, ◌^◌, ◌≤◌, ◌⊎◌, inl, inr, List, [], ◌++◌, length, min, sym, ap, ◌∙◌, arith}
 use Rattle.std.proofs.Math.Nat.{le_of_lt}
 use Rattle.std.proofs.lemmas.Bool.{cases_lt}
 use Rattle.std.proofs.Math.Pow.{pow_mono}
 use Rattle.std.proofs.lemmas.List.{append-nil}
-use Rattle.std.proofs.lemmas.List.Elements.{All-filter, All-weaker}
+use Rattle.std.proofs.lemmas.List.Elements.{All-same, All-filter}
 use Rattle.std.specs.List.{All}
-use Rattle.aug_model.specs.Keys.{SetFacts}
-use Rattle.aug_model.specs.Queries.{range_of, rank_of}
+use Rattle.aug_monoid.specs.Weighted.{FitsPair}
+use Rattle.aug_model.proofs.Pairs.{range-again, length-pairs_of}
+use Rattle.aug_model.specs.Keys.{SetFacts, list_of, pairs_of}
+use Rattle.aug_model.specs.Queries.{range_of, rank_of, weight_in}
 use Rattle.aug_query.specs.Tree.{IsTreeSet}
 use Rattle.aug_model.proofs.Ranges.{Rises, AllBelow, rises_from, all_below_from, range_cut, range_none, range_clipped, range_within, range_le, count_few, no_members}
 use Rattle.aug_query.proofs.Orders.{rank_cut}
 
--- the members of an interval are keys
-pub range_are_keys : {set : SetFacts} → IsTreeSet set → (a b : ℕ) → All (λ k. k < 2 ^ 32) (range_of set.list a b)
-range_are_keys {set = set} is a b =
-    All-filter _ (λ k. k < 2 ^ 32) set.list (All-weaker (λ k. k < 2 ^ set.bits) (λ k. k < 2 ^ 32) (λ x h. omega (arith, h, pow_mono is.few_bits)) set.list is.is_key_set.below)
+-- the members of an interval and their weights have 32 bits
+pub range_fits : {set : SetFacts} → IsTreeSet set → (a b : ℕ) → All FitsPair (pairs_of (weight_in set.pairs) (range_of (list_of set) a b))
+range_fits {set = set} is a b =
+    All-same FitsPair _ _ (sym (range-again set.pairs a b (rises_from (list_of set) is.is_key_set.rising))) (All-filter (λ p. leb a p.0 && ltb p.0 b) FitsPair set.pairs is.fit)
 
--- and few
-pub range_is_few : {set : SetFacts} → IsTreeSet set → (a b : ℕ) → length (range_of set.list a b) ≤ 2 ^ 16
+-- and they are few
+pub range_is_few : {set : SetFacts} → IsTreeSet set → (a b : ℕ) → length (pairs_of (weight_in set.pairs) (range_of (list_of set) a b)) ≤ 2 ^ 16
 range_is_few {set = set} is a b =
-    omega (arith, range_le set.list a b, count_few (2 ^ set.bits) set.list (rises_from set.list is.is_key_set.rising) (all_below_from (2 ^ set.bits) set.list is.is_key_set.below), pow_mono is.few_bits)
+    omega (arith, length-pairs_of (weight_in set.pairs) (range_of (list_of set) a b), range_le (list_of set) a b, count_few (2 ^ set.bits) (list_of set) (rises_from (list_of set) is.is_key_set.rising) (all_below_from (2 ^ set.bits) (list_of set) is.is_key_set.below), pow_mono is.few_bits)
 
 -- no member is between two keys of one rank
 pub none_between : (keys : List ℕ) (a b : ℕ) → Rises keys → a ≤ b → rank_of keys a ≡ rank_of keys b → range_of keys a b ≡ []

@@ -6,3 +6,4 @@ pub mod Ends
 pub mod Passing
 pub mod Placed
 pub mod Cover
+pub mod Listed

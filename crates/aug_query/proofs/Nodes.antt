@@ -3,8 +3,9 @@ use Rattle.std.proofs.Common.{add-one, zero-mul, one-mul, mul-one, ◌≡◌, �
 use Rattle.std.proofs.Math.Nat.{pow-suc, mod-eq_of_lt, mul-le-mul_right, le_trans, le_of_lt}
 use Rattle.std.proofs.Math.Pow.{pow_mono}
 use Rattle.std.proofs.lemmas.Nat.{pow_pos}
-use Rattle.aug_model.specs.Keys.{SetFacts}
-use Rattle.aug_model.specs.Queries.{range_of, rank_of}
+use Rattle.aug_model.specs.Keys.{SetFacts, list_of, pairs_of}
+use Rattle.aug_model.specs.Queries.{range_of, rank_of, weight_in}
+use Rattle.aug_model.proofs.Pairs.{length-pairs_of}
 use Rattle.aug_model.specs.declared.summary.Summary.{Summary}
 use Rattle.aug_query.specs.Tree.{IsNodeOf, Stands, middle_key, first_key, end_key, below_node}
 use Rattle.aug_model.proofs.Ranges.{Rises, AllBelow, rises_from, all_below_from, range_whole, count_cut, range_cut}
@@ -49,7 +50,7 @@ pub middle_high : (level place : ℕ) → 1 ≤ level → middle_key level place
 middle_high level place h = (between place (2 ^ (level - 1)) (2 ^ level) (width level h) (pow_pos (level - 1))).1
 
 -- a node of a tree, where its set is written in another way
-pub of_set : {A B : Type 0} {sum : List ℕ → Summary A B} {set other : SetFacts} {level place : ℕ} {told : Summary A B} → other ≡ set → IsNodeOf sum other level place told → IsNodeOf sum set level place told
+pub of_set : {A B : Type 0} {sum : List (ℕ × ℕ) → Summary A B} {set other : SetFacts} {level place : ℕ} {told : Summary A B} → other ≡ set → IsNodeOf sum other level place told → IsNodeOf sum set level place told
 of_set {sum = sum} {level = level} {place = place} {told = told} e node = subst (λ (s : SetFacts). IsNodeOf sum s level place told) e node
 
 -- how wide a node is
@@ -110,13 +111,13 @@ pub leaf_is : (keys : List ℕ) (level place : ℕ) → level ≡ 0 → below_no
 leaf_is keys level place e =
     ap (λ a. range_of keys a (end_key level place)) (leaf_first level place e) ∙ ap (λ b. range_of keys place b) (leaf_end level place e)
 
-module _ {A B : Type 0} {sum : List ℕ → Summary A B} {set : SetFacts} {level place : ℕ} {told : Summary A B} (node : IsNodeOf sum set level place told) where
+module _ {A B : Type 0} {sum : List (ℕ × ℕ) → Summary A B} {set : SetFacts} {level place : ℕ} {told : Summary A B} (node : IsNodeOf sum set level place told) where
   -- the members of the tree's set rise, and are below the end of its keys
-  pub members_rise : Rises set.list
-  members_rise = rises_from set.list node.is_tree_set.is_key_set.rising
+  pub members_rise : Rises (list_of set)
+  members_rise = rises_from (list_of set) node.is_tree_set.is_key_set.rising
 
-  pub members_below : AllBelow (2 ^ set.bits) set.list
-  members_below = all_below_from (2 ^ set.bits) set.list node.is_tree_set.is_key_set.below
+  pub members_below : AllBelow (2 ^ set.bits) (list_of set)
+  members_below = all_below_from (2 ^ set.bits) (list_of set) node.is_tree_set.is_key_set.below
 
   -- the keys of a tree are few
   pub few_keys : (place + 1) * 2 ^ level ≤ 2 ^ 16
@@ -127,68 +128,68 @@ module _ {A B : Type 0} {sum : List ℕ → Summary A B} {set : SetFacts} {level
   stands = record { few_levels = le_trans node.level_fits node.is_tree_set.few_bits; few_keys = few_keys }
 
   -- a rank fits a u32
-  pub ranks_fit : (k : ℕ) → rank_of set.list k < 2 ^ 32
-  ranks_fit k = omega (arith, rank_few set.list k (2 ^ set.bits) members_rise members_below, pow_mono node.is_tree_set.few_bits)
+  pub ranks_fit : (k : ℕ) → rank_of (list_of set) k < 2 ^ 32
+  ranks_fit k = omega (arith, rank_few (list_of set) k (2 ^ set.bits) members_rise members_below, pow_mono node.is_tree_set.few_bits)
 
   -- a node counts the members below it
-  pub counts : ((keys : List ℕ) → (sum keys).count ≡ length keys) → told.count ≡ length (below_node set.list level place)
-  counts h = ap (λ s. s.count) node.tells ∙ h (below_node set.list level place)
+  pub counts : ((pairs : List (ℕ × ℕ)) → (sum pairs).count ≡ length pairs) → told.count ≡ length (below_node (list_of set) level place)
+  counts h = ap (λ s. s.count) node.tells ∙ h (pairs_of (weight_in set.pairs) (below_node (list_of set) level place)) ∙ length-pairs_of (weight_in set.pairs) (below_node (list_of set) level place)
 
   -- the top of a tree covers every key
-  pub top_covers : level ≡ set.bits → place ≡ 0 → below_node set.list level place ≡ set.list
+  pub top_covers : level ≡ set.bits → place ≡ 0 → below_node (list_of set) level place ≡ list_of set
   top_covers e f =
-      ap (λ a. range_of set.list a (end_key level place)) (top_first level place f) ∙ ap (λ b. range_of set.list 0 b) (top_end level place set.bits e f) ∙ range_whole set.list (2 ^ set.bits) members_below
+      ap (λ a. range_of (list_of set) a (end_key level place)) (top_first level place f) ∙ ap (λ b. range_of (list_of set) 0 b) (top_end level place set.bits e f) ∙ range_whole (list_of set) (2 ^ set.bits) members_below
 
 -- the top counts every member
-pub top_counts : {A B : Type 0} {sum : List ℕ → Summary A B} {set : SetFacts} {level place : ℕ} {told : Summary A B} → ((keys : List ℕ) → (sum keys).count ≡ length keys) → IsNodeOf sum set level place told → level ≡ set.bits → place ≡ 0 → told.count ≡ length set.list
+pub top_counts : {A B : Type 0} {sum : List (ℕ × ℕ) → Summary A B} {set : SetFacts} {level place : ℕ} {told : Summary A B} → ((pairs : List (ℕ × ℕ)) → (sum pairs).count ≡ length pairs) → IsNodeOf sum set level place told → level ≡ set.bits → place ≡ 0 → told.count ≡ length (list_of set)
 top_counts totals node e f = counts node totals ∙ ap length (top_covers node e f)
 
-module _ {A B : Type 0} {sum : List ℕ → Summary A B} {set : SetFacts} {level place l p : ℕ} {told child : Summary A B} (totals : (keys : List ℕ) → (sum keys).count ≡ length keys) (node : IsNodeOf sum set level place told) (below : IsNodeOf sum set l p child) where
+module _ {A B : Type 0} {sum : List (ℕ × ℕ) → Summary A B} {set : SetFacts} {level place l p : ℕ} {told child : Summary A B} (totals : (pairs : List (ℕ × ℕ)) → (sum pairs).count ≡ length pairs) (node : IsNodeOf sum set level place told) (below : IsNodeOf sum set l p child) where
   -- what a left child leaves of its parent's count is in the right half
-  pub left_leaves : l + 1 ≡ level → p ≡ 2 * place → told.count ≡ child.count + length (range_of set.list (middle_key level place) (end_key level place))
+  pub left_leaves : l + 1 ≡ level → p ≡ 2 * place → told.count ≡ child.count + length (range_of (list_of set) (middle_key level place) (end_key level place))
   left_leaves e f =
       let inner : 1 ≤ level = omega arith in
-      let cut = count_cut set.list (first_key level place) (middle_key level place) (end_key level place) (members_rise node) (le_of_lt (low_middle level place inner)) (le_of_lt (middle_high level place inner)) in
-      let half = ap (λ a. length (range_of set.list a (end_key l p))) (left_low level place l p e f) ∙ ap (λ b. length (range_of set.list (first_key level place) b)) (left_high level place l p e f) in
+      let cut = count_cut (list_of set) (first_key level place) (middle_key level place) (end_key level place) (members_rise node) (le_of_lt (low_middle level place inner)) (le_of_lt (middle_high level place inner)) in
+      let half = ap (λ a. length (range_of (list_of set) a (end_key l p))) (left_low level place l p e f) ∙ ap (λ b. length (range_of (list_of set) (first_key level place) b)) (left_high level place l p e f) in
       omega (arith, counts node totals, counts below totals, cut, half)
 
   -- what a right child leaves is in the left half
-  pub right_leaves : l + 1 ≡ level → p ≡ 2 * place + 1 → told.count ≡ length (range_of set.list (first_key level place) (middle_key level place)) + child.count
+  pub right_leaves : l + 1 ≡ level → p ≡ 2 * place + 1 → told.count ≡ length (range_of (list_of set) (first_key level place) (middle_key level place)) + child.count
   right_leaves e f =
       let inner : 1 ≤ level = omega arith in
-      let cut = count_cut set.list (first_key level place) (middle_key level place) (end_key level place) (members_rise node) (le_of_lt (low_middle level place inner)) (le_of_lt (middle_high level place inner)) in
-      let half = ap (λ a. length (range_of set.list a (end_key l p))) (right_low level place l p e f) ∙ ap (λ b. length (range_of set.list (middle_key level place) b)) (right_high level place l p e f) in
+      let cut = count_cut (list_of set) (first_key level place) (middle_key level place) (end_key level place) (members_rise node) (le_of_lt (low_middle level place inner)) (le_of_lt (middle_high level place inner)) in
+      let half = ap (λ a. length (range_of (list_of set) a (end_key l p))) (right_low level place l p e f) ∙ ap (λ b. length (range_of (list_of set) (middle_key level place) b)) (right_high level place l p e f) in
       omega (arith, counts node totals, counts below totals, cut, half)
 
   -- how many members are before a right child
-  pub right_rank : l + 1 ≡ level → p ≡ 2 * place + 1 → rank_of set.list (first_key l p) + child.count ≡ rank_of set.list (first_key level place) + told.count
+  pub right_rank : l + 1 ≡ level → p ≡ 2 * place + 1 → rank_of (list_of set) (first_key l p) + child.count ≡ rank_of (list_of set) (first_key level place) + told.count
   right_rank e f =
       let inner : 1 ≤ level = omega arith in
-      let cut = rank_cut set.list (first_key level place) (middle_key level place) (members_rise node) (le_of_lt (low_middle level place inner)) in
-      omega (arith, right_leaves e f, cut, ap (rank_of set.list) (right_low level place l p e f))
+      let cut = rank_cut (list_of set) (first_key level place) (middle_key level place) (members_rise node) (le_of_lt (low_middle level place inner)) in
+      omega (arith, right_leaves e f, cut, ap (rank_of (list_of set)) (right_low level place l p e f))
 
   -- as many as are before its parent are before a left child
-  pub left_rank : l + 1 ≡ level → p ≡ 2 * place → rank_of set.list (first_key l p) ≡ rank_of set.list (first_key level place)
-  left_rank e f = ap (rank_of set.list) (left_low level place l p e f)
+  pub left_rank : l + 1 ≡ level → p ≡ 2 * place → rank_of (list_of set) (first_key l p) ≡ rank_of (list_of set) (first_key level place)
+  left_rank e f = ap (rank_of (list_of set)) (left_low level place l p e f)
 
 -- a node counts what its two children count
-pub children_count : {A B : Type 0} {sum : List ℕ → Summary A B} {set : SetFacts} {level place l p m q : ℕ} {told left right : Summary A B} → ((keys : List ℕ) → (sum keys).count ≡ length keys)
+pub children_count : {A B : Type 0} {sum : List (ℕ × ℕ) → Summary A B} {set : SetFacts} {level place l p m q : ℕ} {told left right : Summary A B} → ((pairs : List (ℕ × ℕ)) → (sum pairs).count ≡ length pairs)
     → IsNodeOf sum set level place told → IsNodeOf sum set l p left → IsNodeOf sum set m q right → l + 1 ≡ level → p ≡ 2 * place → m + 1 ≡ level → q ≡ 2 * place + 1 → told.count ≡ left.count + right.count
 children_count {set = set} {level = level} {place = place} {m = m} {q = q} totals node left right e f g h =
-    let half = ap (λ a. length (range_of set.list a (end_key m q))) (right_low level place m q g h) ∙ ap (λ b. length (range_of set.list (middle_key level place) b)) (right_high level place m q g h) in
+    let half = ap (λ a. length (range_of (list_of set) a (end_key m q))) (right_low level place m q g h) ∙ ap (λ b. length (range_of (list_of set) (middle_key level place) b)) (right_high level place m q g h) in
     omega (arith, left_leaves totals node left e f, counts right totals, half)
 
-module _ {A B : Type 0} {sum : List ℕ → Summary A B} {set : SetFacts} {level place l p : ℕ} {told child : Summary A B} (totals : (keys : List ℕ) → (sum keys).count ≡ length keys) (node : IsNodeOf sum set level place told) (below : IsNodeOf sum set l p child) where
+module _ {A B : Type 0} {sum : List (ℕ × ℕ) → Summary A B} {set : SetFacts} {level place l p : ℕ} {told child : Summary A B} (totals : (pairs : List (ℕ × ℕ)) → (sum pairs).count ≡ length pairs) (node : IsNodeOf sum set level place told) (below : IsNodeOf sum set l p child) where
   -- how many members are before the end of a left child
-  pub left_end_rank : l + 1 ≡ level → p ≡ 2 * place → rank_of set.list (end_key l p) + told.count ≡ rank_of set.list (end_key level place) + child.count
+  pub left_end_rank : l + 1 ≡ level → p ≡ 2 * place → rank_of (list_of set) (end_key l p) + told.count ≡ rank_of (list_of set) (end_key level place) + child.count
   left_end_rank e f =
       let inner : 1 ≤ level = omega arith in
-      let cut = rank_cut set.list (middle_key level place) (end_key level place) (members_rise node) (le_of_lt (middle_high level place inner)) in
-      omega (arith, left_leaves totals node below e f, cut, ap (rank_of set.list) (left_high level place l p e f))
+      let cut = rank_cut (list_of set) (middle_key level place) (end_key level place) (members_rise node) (le_of_lt (middle_high level place inner)) in
+      omega (arith, left_leaves totals node below e f, cut, ap (rank_of (list_of set)) (left_high level place l p e f))
 
   -- as many as are before the end of its parent are before the end of a right child
-  pub right_end_rank : l + 1 ≡ level → p ≡ 2 * place + 1 → rank_of set.list (end_key l p) ≡ rank_of set.list (end_key level place)
-  right_end_rank e f = ap (rank_of set.list) (right_high level place l p e f)
+  pub right_end_rank : l + 1 ≡ level → p ≡ 2 * place + 1 → rank_of (list_of set) (end_key l p) ≡ rank_of (list_of set) (end_key level place)
+  right_end_rank e f = ap (rank_of (list_of set)) (right_high level place l p e f)
 
 -- what the children of a node cover
 pub left_covers : (keys : List ℕ) (level place l p : ℕ) → l + 1 ≡ level → p ≡ 2 * place → below_node keys l p ≡ range_of keys (first_key level place) (middle_key level place)

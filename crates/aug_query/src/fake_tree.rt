@@ -1,13 +1,14 @@
 //! A tree in memory.
-ghost use Rattle.std.specs.Prelude.{◌≡◌, ℕ, ◌+◌, ◌-◌, ◌*◌, ◌^◌, ◌<◌, ◌≤◌, List, IfOk};
+ghost use Rattle.std.specs.Prelude.{◌≡◌, ℕ, ◌+◌, ◌-◌, ◌*◌, ◌^◌, ◌<◌, ◌≤◌, List, All, IfOk};
 ghost use Rattle.aug_model.specs.Folds.{summary_of};
-ghost use Rattle.aug_model.specs.Keys.{IsKeySet};
-ghost use Rattle.aug_query.specs.Tree.{IsNodeOf};
+ghost use Rattle.aug_model.specs.Keys.{IsKeySet, keys_of};
+ghost use Rattle.aug_monoid.specs.Weighted.{FitsPair};
+ghost use Rattle.aug_query.specs.FakeTree.{IsFakeNode};
 
 use crate::Tree;
 use crate::calls::Calls;
-use crate::noted::NotedKeys;
-use crate::rows::{leaf_row, parent_row};
+use crate::noted::NotedPairs;
+use crate::rows::{leaf_row, leaf_weights, parent_row};
 use aug_model::Summary;
 use aug_monoid::Monoid;
 use std::alloc::{AllocError, Global};
@@ -19,14 +20,18 @@ pub struct FakeNode<A, B> {
     level: u32,
     place: u32,
     summary: Summary<A, B>,
+    // that of a leaf's key, 0 where it is no member and in the nodes above
+    weight: u32,
 }
 
-/// The complete tree of a set of keys in plain memory, each node with its summary. It is what tests walk.
+/// The complete tree of a set of keys, each with a weight, in plain memory, each node with its summary. It is
+/// what tests walk.
 #[derive(Drop)]
 pub struct FakeTree<A: Monoid, B: Monoid> {
     bits: u32,
     rows: Vec<Vec<Summary<A, B>>>,
-    keys: NotedKeys,
+    weights: Vec<u32>,
+    pairs: NotedPairs,
     calls: Calls,
 }
 
@@ -37,30 +42,38 @@ impl<A: Monoid, B: Monoid> Model for FakeTree<A, B> {
 
     ghost Value = { Asked };
 
-    ghost view = { λ t. record { set = record { bits = t.bits; list = t.keys.list }; calls = t.calls.made } };
+    ghost view = { λ t. record { set = record { bits = t.bits; pairs = t.pairs.list }; calls = t.calls.made } };
 
-    ghost invariant = { λ t. HoldsTree (summary_of A.parts B.parts) t.bits t.keys.list (map (λ row. row.items) t.rows.items) };
+    ghost invariant = { λ t. HoldsTree (summary_of A.parts B.parts) t.bits t.pairs.list (map (λ row. row.items) t.rows.items) t.weights.items };
 }
 
 impl<A: Monoid, B: Monoid> FakeTree<A, B> {
-    /// The tree of the set of `keys`, which rise and are below `2^bits`, with 1 to 16 bits.
-    pub fn try_new(alloc: Global, bits: u32, keys: &[u32]) -> Result<FakeTree<A, B>, AllocError>
+    /// The tree of the set of `pairs`, each a key and its weight. The keys rise and are below `2^bits`, with 1 to
+    /// 16 bits.
+    pub fn try_new(
+        alloc: Global,
+        bits: u32,
+        pairs: &[(u32, u32)],
+    ) -> Result<FakeTree<A, B>, AllocError>
         requires some_bits { 1 ≤ bits }
         requires few_bits { bits ≤ 16 }
-        requires keys { IsKeySet bits keys.now }
-        ensures set { IfOk result (λ tree. tree.set ≡ record { bits = bits; list = keys.now }) }
+        requires keys { IsKeySet bits (keys_of pairs.now) }
+        requires fit { All FitsPair pairs.now }
+        ensures set { IfOk result (λ tree. tree.set ≡ record { bits = bits; pairs = pairs.now }) }
         ensures calls { IfOk result (λ tree. tree.calls ≡ 0) }
     {
         let mut rows = Vec::with_capacity(alloc, bits as usize + 1)?;
-        rows.push(leaf_row(alloc, bits, keys)?)?;
+        rows.push(leaf_row(alloc, bits, pairs)?)?;
         for level in 0..bits {
             let above = parent_row(alloc, &rows[level as usize])?;
             rows.push(above)?;
         }
+        let weights = leaf_weights(alloc, bits, pairs)?;
         Ok(FakeTree {
             bits,
             rows,
-            keys: NotedKeys::of(keys),
+            weights,
+            pairs: NotedPairs::of(pairs),
             calls: Calls::new(),
         })
     }
@@ -76,15 +89,21 @@ impl<A: Monoid, B: Monoid> FakeTree<A, B> {
     fn node(&self, level: u32, place: u32) -> FakeNode<A, B>
         requires level { level ≤ self.now.set.bits }
         requires place { (place + 1) * 2 ^ level ≤ 2 ^ self.now.set.bits }
-        ensures node { IsNodeOf (summary_of A.parts B.parts) self.now.set level place result.summary }
+        ensures node { IsFakeNode (summary_of A.parts B.parts) self.now.set level place result.weight result.summary }
         ensures level { result.level ≡ level }
         ensures place { result.place ≡ place }
     {
         let row = &self.rows[level as usize];
+        let weight = if level == 0 {
+            self.weights[place as usize]
+        } else {
+            0
+        };
         FakeNode {
             level,
             place,
             summary: row[place as usize],
+            weight,
         }
     }
 }
@@ -94,13 +113,13 @@ impl<A: Monoid, B: Monoid> Tree<A, B> for FakeTree<A, B> {
 
     ghost use Rattle.std.specs.Prelude.{ℕ, ⊤};
     ghost use Rattle.aug_model.specs.Folds.{summary_of};
-    ghost use Rattle.aug_query.specs.Tree.{IsNodeOf};
+    ghost use Rattle.aug_query.specs.FakeTree.{IsFakeNode};
 
     ghost set_of = { λ t. t.set };
 
     ghost calls_of = { λ t. t.calls };
 
-    ghost HasNode = { λ t n. IsNodeOf (summary_of A.parts B.parts) t.set n.level n.place n.summary };
+    ghost HasNode = { λ t n. IsFakeNode (summary_of A.parts B.parts) t.set n.level n.place n.weight n.summary };
 
     ghost KeepsRest = { λ old new. ⊤ };
 
@@ -110,11 +129,15 @@ impl<A: Monoid, B: Monoid> Tree<A, B> for FakeTree<A, B> {
 
     ghost told_by = { λ n. n.summary };
 
+    ghost weight_by = { λ n. n.weight };
+
     ghost keeps_so = { λ t. tt };
 
     ghost keeps_on = { λ first t last a b. tt };
 
-    ghost node_tells = { λ t n has. has };
+    ghost node_tells = { λ t n has. has.is_node };
+
+    ghost leaf_weighs = { λ t n has leaf. has.weighs leaf };
 
     fn bits(&self) -> u32 {
         self.bits
@@ -145,5 +168,9 @@ impl<A: Monoid, B: Monoid> Tree<A, B> for FakeTree<A, B> {
 
     fn summary(node: &FakeNode<A, B>) -> Summary<A, B> {
         node.summary
+    }
+
+    fn weight(node: &FakeNode<A, B>) -> u32 {
+        node.weight
     }
 }

@@ -1,7 +1,8 @@
 ghost use Rattle.std.specs.Prelude.{◌≡◌, ℕ, ◌+◌, ◌-◌, ◌*◌, ◌^◌, ◌<◌, ◌≤◌};
 ghost use Rattle.aug_model.specs.Folds.{summary_of};
-ghost use Rattle.aug_model.specs.Queries.{range_of};
-ghost use Rattle.aug_query.specs.Tree.{WalksAtMost, first_key, middle_key, end_key};
+ghost use Rattle.aug_model.specs.Keys.{list_of};
+ghost use Rattle.aug_model.specs.Queries.{range_of, weighted_range_of};
+ghost use Rattle.aug_query.specs.Tree.{WalksAtMost, sum_of, first_key, middle_key, end_key};
 
 use crate::Tree;
 use crate::summaries::{joined, of_none};
@@ -12,7 +13,7 @@ use aug_monoid::Monoid;
 /// The number and the folds of the members of the set of `tree` from `a` on that are below `b`. Where
 /// `a >= b` there are none.
 pub fn range<A: Monoid, B: Monoid, T: Tree<A, B>>(tree: &mut T, a: u32, b: u32) -> Summary<A, B>
-    ensures answer { result ≡ summary_of A.parts B.parts (range_of (T.set_of tree.old).list a b) }
+    ensures answer { result ≡ summary_of A.parts B.parts (weighted_range_of (T.set_of tree.old).pairs a b) }
     ensures walks { WalksAtMost T.set_of T.calls_of T.HasNode T.KeepsRest (4 * (T.set_of tree.old).bits - 1) tree.old tree.new }
 {
     let b = b.min(universe(tree));
@@ -63,7 +64,7 @@ fn from<A: Monoid, B: Monoid, T: Tree<A, B>>(
     requires node { T.HasNode tree.old node }
     requires first { first_key (T.level_of node) (T.place_of node) ≤ a }
     requires end { a < end_key (T.level_of node) (T.place_of node) }
-    ensures answer { result ≡ summary_of A.parts B.parts (range_of (T.set_of tree.old).list a (end_key (T.level_of node) (T.place_of node))) }
+    ensures answer { result ≡ sum_of (summary_of A.parts B.parts) (T.set_of tree.old).pairs (range_of (list_of (T.set_of tree.old)) a (end_key (T.level_of node) (T.place_of node))) }
     ensures walks { WalksAtMost T.set_of T.calls_of T.HasNode T.KeepsRest (2 * T.level_of node) tree.old tree.new }
 {
     let mut total = of_none();
@@ -87,7 +88,7 @@ fn until<A: Monoid, B: Monoid, T: Tree<A, B>>(
     requires node { T.HasNode tree.old node }
     requires first { first_key (T.level_of node) (T.place_of node) ≤ b }
     requires end { b ≤ end_key (T.level_of node) (T.place_of node) }
-    ensures answer { result ≡ summary_of A.parts B.parts (range_of (T.set_of tree.old).list (first_key (T.level_of node) (T.place_of node)) b) }
+    ensures answer { result ≡ sum_of (summary_of A.parts B.parts) (T.set_of tree.old).pairs (range_of (list_of (T.set_of tree.old)) (first_key (T.level_of node) (T.place_of node)) b) }
     ensures walks { WalksAtMost T.set_of T.calls_of T.HasNode T.KeepsRest (2 * T.level_of node) tree.old tree.new }
 {
     if end::<A, B, T>(&node) == b {

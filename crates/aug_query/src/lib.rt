@@ -1,9 +1,9 @@
-//! Order queries on a tree of a set of keys, by descent from its top (after Fatourou and Ruppert 2024).
+//! Queries on a tree of a set of keys with weights, by descent from its top (after Fatourou and Ruppert 2024).
 //!
-//! A query goes down by the counts that the nodes carry. None takes memory but `keys`. With `bits` the bits of
-//! the keys, the calls of `top`, `left` and `right` are at most: `size` 1, `has` and `rank` `bits + 1`, `select`
-//! `2 * bits + 1`, `before` and `after` `3 * bits`, `range` `4 * bits - 1`, and `keys`, which goes to every one of
-//! `n` members, `2 * bits * n + 1`.
+//! A query goes down by the counts that the nodes carry. None takes memory but `keys` and `pairs`. With `bits` the
+//! bits of the keys, the calls of `top`, `left` and `right` are at most: `size` 1, `has`, `weight` and `rank`
+//! `bits + 1`, `select` `2 * bits + 1`, `before` and `after` `3 * bits`, `range` `4 * bits - 1`, and `keys` and
+//! `pairs`, which go to every one of `n` members, `2 * bits * n + 1`.
 #![tactic(auto)]
 
 mod calls;
@@ -19,16 +19,18 @@ mod rows;
 mod summaries;
 mod tree;
 mod walk;
+mod weights;
 
 pub use calls::Calls;
 pub use counts::{rank, size};
 pub use fake_tree::{FakeNode, FakeTree};
 pub use intervals::range;
-pub use listing::keys;
+pub use listing::{keys, pairs};
 pub use membership::has;
 pub use neighbours::{after, before};
 pub use positions::select;
 pub use tree::Tree;
+pub use weights::weight;
 
 #[cfg(test)]
 mod tests;

@@ -1,5 +1,5 @@
 ghost use Rattle.std.specs.Prelude.{◌≡◌, ◌+◌};
-ghost use Rattle.aug_model.specs.Keys.{is_member};
+ghost use Rattle.aug_model.specs.Keys.{is_member, list_of};
 ghost use Rattle.aug_query.specs.Tree.{WalksAtMost};
 
 use crate::Tree;
@@ -8,7 +8,7 @@ use aug_monoid::Monoid;
 
 /// Whether `k` is a member of the set of `tree`.
 pub fn has<A: Monoid, B: Monoid, T: Tree<A, B>>(tree: &mut T, k: u32) -> bool
-    ensures answer { result ≡ is_member (T.set_of tree.old).list k }
+    ensures answer { result ≡ is_member (list_of (T.set_of tree.old)) k }
     ensures walks { WalksAtMost T.set_of T.calls_of T.HasNode T.KeepsRest ((T.set_of tree.old).bits + 1) tree.old tree.new }
 {
     if universe(tree) <= k {

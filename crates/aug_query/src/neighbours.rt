@@ -1,4 +1,5 @@
 ghost use Rattle.std.specs.Prelude.{◌≡◌, ◌+◌, ◌*◌, ◌<◌, ◌≤◌, Some};
+ghost use Rattle.aug_model.specs.Keys.{list_of};
 ghost use Rattle.aug_model.specs.Queries.{before_of, after_of, first_of, last_of};
 ghost use Rattle.aug_query.specs.Tree.{WalksAtMost, below_node};
 
@@ -8,7 +9,7 @@ use aug_monoid::Monoid;
 
 /// The greatest member of the set of `tree` below `k`, if there is one.
 pub fn before<A: Monoid, B: Monoid, T: Tree<A, B>>(tree: &mut T, k: u32) -> Option<u32>
-    ensures answer { result ≡ before_of (T.set_of tree.old).list k }
+    ensures answer { result ≡ before_of (list_of (T.set_of tree.old)) k }
     ensures walks { WalksAtMost T.set_of T.calls_of T.HasNode T.KeepsRest (3 * (T.set_of tree.old).bits) tree.old tree.new }
 {
     let mut node = tree.top();
@@ -29,7 +30,7 @@ pub fn before<A: Monoid, B: Monoid, T: Tree<A, B>>(tree: &mut T, k: u32) -> Opti
 
 /// The least member of the set of `tree` above `k`, if there is one.
 pub fn after<A: Monoid, B: Monoid, T: Tree<A, B>>(tree: &mut T, k: u32) -> Option<u32>
-    ensures answer { result ≡ after_of (T.set_of tree.old).list k }
+    ensures answer { result ≡ after_of (list_of (T.set_of tree.old)) k }
     ensures walks { WalksAtMost T.set_of T.calls_of T.HasNode T.KeepsRest (3 * (T.set_of tree.old).bits) tree.old tree.new }
 {
     if universe(tree) <= k {
@@ -51,7 +52,7 @@ pub fn after<A: Monoid, B: Monoid, T: Tree<A, B>>(tree: &mut T, k: u32) -> Optio
 // The greatest member that `node` covers, if there is one.
 fn greatest<A: Monoid, B: Monoid, T: Tree<A, B>>(tree: &mut T, mut node: T::Node) -> Option<u32>
     requires { T.HasNode tree.old node }
-    ensures answer { result ≡ last_of (below_node (T.set_of tree.old).list (T.level_of node) (T.place_of node)) }
+    ensures answer { result ≡ last_of (below_node (list_of (T.set_of tree.old)) (T.level_of node) (T.place_of node)) }
     ensures walks { WalksAtMost T.set_of T.calls_of T.HasNode T.KeepsRest (2 * T.level_of node) tree.old tree.new }
 {
     if T::summary(&node).count == 0 {
@@ -72,7 +73,7 @@ fn last_child<A: Monoid, B: Monoid, T: Tree<A, B>>(tree: &mut T, node: &T::Node)
     ensures node { T.HasNode tree.new result }
     ensures level { T.level_of result + 1 ≡ T.level_of node.now }
     ensures some { 0 < (T.told_by result).count }
-    ensures same { last_of (below_node (T.set_of tree.old).list (T.level_of result) (T.place_of result)) ≡ last_of (below_node (T.set_of tree.old).list (T.level_of node.now) (T.place_of node.now)) }
+    ensures same { last_of (below_node (list_of (T.set_of tree.old)) (T.level_of result) (T.place_of result)) ≡ last_of (below_node (list_of (T.set_of tree.old)) (T.level_of node.now) (T.place_of node.now)) }
 {
     let right = tree.right(node);
     if T::summary(&right).count > 0 {
@@ -84,7 +85,7 @@ fn last_child<A: Monoid, B: Monoid, T: Tree<A, B>>(tree: &mut T, node: &T::Node)
 // The least member that `node` covers, if there is one.
 fn least<A: Monoid, B: Monoid, T: Tree<A, B>>(tree: &mut T, mut node: T::Node) -> Option<u32>
     requires { T.HasNode tree.old node }
-    ensures answer { result ≡ first_of (below_node (T.set_of tree.old).list (T.level_of node) (T.place_of node)) }
+    ensures answer { result ≡ first_of (below_node (list_of (T.set_of tree.old)) (T.level_of node) (T.place_of node)) }
     ensures walks { WalksAtMost T.set_of T.calls_of T.HasNode T.KeepsRest (2 * T.level_of node) tree.old tree.new }
 {
     if T::summary(&node).count == 0 {
@@ -105,7 +106,7 @@ fn first_child<A: Monoid, B: Monoid, T: Tree<A, B>>(tree: &mut T, node: &T::Node
     ensures node { T.HasNode tree.new result }
     ensures level { T.level_of result + 1 ≡ T.level_of node.now }
     ensures some { 0 < (T.told_by result).count }
-    ensures same { first_of (below_node (T.set_of tree.old).list (T.level_of result) (T.place_of result)) ≡ first_of (below_node (T.set_of tree.old).list (T.level_of node.now) (T.place_of node.now)) }
+    ensures same { first_of (below_node (list_of (T.set_of tree.old)) (T.level_of result) (T.place_of result)) ≡ first_of (below_node (list_of (T.set_of tree.old)) (T.level_of node.now) (T.place_of node.now)) }
 {
     let left = tree.left(node);
     if T::summary(&left).count > 0 {

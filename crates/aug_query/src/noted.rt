@@ -3,23 +3,24 @@ ghost use Rattle.std.specs.Borrow.{ftrue};
 
 use std::marker::Model;
 
-/// The keys of a set, as contracts alone read them: they take no bytes, and nothing is done when they are noted.
+/// The keys of a set and their weights, as contracts alone read them: they take no bytes, and nothing is done when
+/// they are noted.
 /// The invariant of the tree that holds them ties them to its nodes.
 #[derive(Drop)]
-pub(crate) struct NotedKeys {
-    pub(crate) ghost list: { List ℕ },
+pub(crate) struct NotedPairs {
+    pub(crate) ghost list: { List (ℕ × ℕ) },
 }
 
-impl Model for NotedKeys {
+impl Model for NotedPairs {
     ghost also_owns = { λ _. ftrue };
 }
 
-impl NotedKeys {
-    /// The keys of the slice.
-    pub(crate) fn of(keys: &[u32]) -> NotedKeys
-        ensures { result.list ≡ keys.now }
+impl NotedPairs {
+    /// The pairs of the slice.
+    pub(crate) fn of(pairs: &[(u32, u32)]) -> NotedPairs
+        ensures { result.list ≡ pairs.now }
     {
-        let _ = keys;
-        NotedKeys {}
+        let _ = pairs;
+        NotedPairs {}
     }
 }

@@ -1,4 +1,5 @@
 ghost use Rattle.std.specs.Prelude.{◌≡◌, ◌+◌, ◌*◌, ◌<◌, ◌≤◌};
+ghost use Rattle.aug_model.specs.Keys.{list_of};
 ghost use Rattle.aug_model.specs.Queries.{rank_of, select_of};
 ghost use Rattle.aug_query.specs.Tree.{WalksAtMost, first_key};
 
@@ -7,7 +8,7 @@ use aug_monoid::Monoid;
 
 /// The member of the set of `tree` with exactly `i` members below it, if there is one.
 pub fn select<A: Monoid, B: Monoid, T: Tree<A, B>>(tree: &mut T, i: u32) -> Option<u32>
-    ensures answer { result ≡ select_of (T.set_of tree.old).list i }
+    ensures answer { result ≡ select_of (list_of (T.set_of tree.old)) i }
     ensures walks { WalksAtMost T.set_of T.calls_of T.HasNode T.KeepsRest (2 * (T.set_of tree.old).bits + 1) tree.old tree.new }
 {
     let mut node = tree.top();
@@ -37,7 +38,7 @@ fn child_at<A: Monoid, B: Monoid, T: Tree<A, B>>(
     ensures node { T.HasNode tree.new result.0 }
     ensures level { T.level_of result.0 + 1 ≡ T.level_of node.now }
     ensures within { result.1 < (T.told_by result.0).count }
-    ensures same { rank_of (T.set_of tree.old).list (first_key (T.level_of result.0) (T.place_of result.0)) + result.1 ≡ rank_of (T.set_of tree.old).list (first_key (T.level_of node.now) (T.place_of node.now)) + i }
+    ensures same { rank_of (list_of (T.set_of tree.old)) (first_key (T.level_of result.0) (T.place_of result.0)) + result.1 ≡ rank_of (list_of (T.set_of tree.old)) (first_key (T.level_of node.now) (T.place_of node.now)) + i }
 {
     let count = T::summary(node).count;
     if i < count / 2 {

@@ -2,7 +2,7 @@
 ghost use Rattle.std.specs.Prelude.{◌≡◌, ◌^◌, ◌<◌, [], length, IfOk};
 ghost use Rattle.std.specs.List.{All};
 ghost use Rattle.aug_model.specs.Folds.{summary_of};
-ghost use Rattle.aug_query.specs.FakeTree.{IsRow, JoinsPairs};
+ghost use Rattle.aug_query.specs.FakeTree.{HasWeights, IsRow, JoinsPairs};
 ghost use Rattle.aug_query.specs.Tree.{IsTreeSet};
 
 use crate::summaries::{joined, of_none, of_one};
@@ -10,21 +10,37 @@ use aug_model::Summary;
 use aug_monoid::Monoid;
 use std::alloc::{AllocError, Global};
 
-// The row of the leaves of a set of keys.
+// The row of the leaves of a set of keys with weights.
 pub(crate) fn leaf_row<A: Monoid, B: Monoid>(
     alloc: Global,
     bits: u32,
-    keys: &[u32],
+    pairs: &[(u32, u32)],
 ) -> Result<Vec<Summary<A, B>>, AllocError>
-    requires { IsTreeSet (record { bits = bits; list = keys.now }) }
+    requires { IsTreeSet (record { bits = bits; pairs = pairs.now }) }
     ensures { let sum = summary_of A.parts B.parts in
-        IfOk result (λ row. IsRow sum bits keys.now 0 row.items) }
+        IfOk result (λ row. IsRow sum bits pairs.now 0 row.items) }
 {
     let mut row = empty_row(alloc, 1 << bits)?;
-    for key in keys {
-        row[*key as usize] = of_one(*key);
+    for &(key, weight) in pairs {
+        row[key as usize] = of_one(key, weight);
     }
     Ok(row)
+}
+
+// The weight of each key of `bits` bits, 0 where it is in none of `pairs`.
+pub(crate) fn leaf_weights(
+    alloc: Global,
+    bits: u32,
+    pairs: &[(u32, u32)],
+) -> Result<Vec<u32>, AllocError>
+    requires { IsTreeSet (record { bits = bits; pairs = pairs.now }) }
+    ensures { IfOk result (λ weights. HasWeights bits pairs.now weights.items) }
+{
+    let mut weights = vec![in alloc; 0; 1 << bits]?;
+    for &(key, weight) in pairs {
+        weights[key as usize] = weight;
+    }
+    Ok(weights)
 }
 
 // A row of so many leaves that cover no member.

@@ -1,6 +1,6 @@
-use super::{FakeTree, after, before, has, keys, range, rank, select, size};
+use super::{FakeTree, after, before, has, keys, pairs, range, rank, select, size, weight};
 use aug_model::{KeySet, ModelError};
-use aug_monoid::Extent;
+use aug_monoid::{Extent, Sum};
 use last::Last;
 use std::alloc::{AllocError, Global};
 use std::process::Abort;
@@ -8,9 +8,9 @@ use std::test::Fail;
 
 mod last;
 
-// The tree of 5 and 9, of 4 bits.
+// The tree of 5, which weighs 70, and 9, which weighs 30, of 4 bits.
 fn five_and_nine(alloc: Global) -> Result<FakeTree<Last, Extent>, AllocError> {
-    FakeTree::try_new(alloc, 4, &[5, 9])
+    FakeTree::try_new(alloc, 4, &[(5, 70), (9, 30)])
 }
 
 #[test]
@@ -57,6 +57,40 @@ fn keys_lists_the_members(rt: HostRuntime) -> Result<(), Fail> {
     Ok(())
 }
 
+#[test]
+fn members_weigh_what_they_were_given(rt: HostRuntime) -> Result<(), Fail> {
+    let mut tree = five_and_nine(rt.alloc())?;
+    assert_eq!(rt; weight(&mut tree, 5), Some(70));
+    assert_eq!(rt; weight(&mut tree, 9), Some(30));
+    Ok(())
+}
+
+#[test]
+fn what_is_no_member_has_no_weight(rt: HostRuntime) -> Result<(), Fail> {
+    let mut tree = five_and_nine(rt.alloc())?;
+    assert_eq!(rt; weight(&mut tree, 6), None);
+    assert_eq!(rt; weight(&mut tree, 16), None);
+    assert_eq!(rt; weight(&mut tree, 4_000_000_000), None);
+    Ok(())
+}
+
+#[test]
+fn pairs_lists_the_members_with_their_weights(rt: HostRuntime) -> Result<(), Fail> {
+    let mut tree = five_and_nine(rt.alloc())?;
+    let list = pairs(rt.alloc(), &mut tree)?;
+    assert_eq!(rt; list.as_slice(), [(5, 70), (9, 30)].as_slice());
+    Ok(())
+}
+
+#[test]
+fn a_range_adds_weights_past_32_bits(rt: HostRuntime) -> Result<(), Fail> {
+    let members = [(5, u32::MAX), (9, u32::MAX)];
+    let mut tree = FakeTree::<Sum, Extent>::try_new(rt.alloc(), 4, &members)?;
+    assert_eq!(rt; range(&mut tree, 0, 9).a.value(), 4_294_967_295);
+    assert_eq!(rt; range(&mut tree, 0, 16).a.value(), 8_589_934_590);
+    Ok(())
+}
+
 // A request that is refused is made again, and what was asked for before it is still so. Under
 // `rt try --test --fail-alloc N` the Nth request is refused.
 #[test]
@@ -74,24 +108,36 @@ fn refused_memory_changes_no_answer(rt: HostRuntime) -> Result<(), Fail> {
         }
     };
     assert_eq!(rt; list.as_slice(), [5, 9].as_slice());
+    let weighted = match pairs(rt.alloc(), &mut tree) {
+        Ok(weighted) => weighted,
+        Err(_) => {
+            assert_eq!(rt;
+                (weight(&mut tree, 9), weight(&mut tree, 6)),
+                (Some(30), None)
+            );
+            pairs(rt.alloc(), &mut tree)?
+        }
+    };
+    assert_eq!(rt; weighted.as_slice(), [(5, 70), (9, 30)].as_slice());
     Ok(())
 }
 
 // Compares the queries of one key or number.
-fn agrees_at(tree: &mut FakeTree<Last, Extent>, set: &KeySet, k: u32) -> bool {
+fn agrees_at(tree: &mut FakeTree<Last, Sum>, set: &KeySet, k: u32) -> bool {
     has(tree, k) == set.has(k)
+        && weight(tree, k) == set.weight(k)
         && rank(tree, k) == set.rank(k)
         && select(tree, k) == set.select(k)
         && before(tree, k) == set.before(k)
         && after(tree, k) == set.after(k)
 }
 
-// The set of the keys 0 to 3 whose bits are set in `code`.
+// The set of the keys 0 to 3 whose bits are set in `code`, none of which weighs what it is.
 fn set_of(alloc: Global, code: u32) -> Result<KeySet, ModelError> {
     let mut set = KeySet::try_new(alloc, 2)?;
     for k in 0..4 {
         if code >> k & 1 == 1 {
-            set.insert(k);
+            set.put(k, u32::MAX - k);
         }
     }
     Ok(set)
@@ -103,35 +149,32 @@ fn set_of_rests(alloc: Global, wanted: u32, divisor: u32, rest: u32) -> Result<K
     let bits = set.bits();
     for k in 0..1u32 << bits {
         if k.checked_rem(divisor) == Some(rest) {
-            set.insert(k);
+            set.put(k, u32::MAX - k);
         }
     }
     Ok(set)
 }
 
 // The tree of the members of `set`.
-fn tree_of(alloc: Global, set: &KeySet) -> Result<FakeTree<Last, Extent>, AllocError> {
+fn tree_of(alloc: Global, set: &KeySet) -> Result<FakeTree<Last, Sum>, AllocError> {
     let bits = set.bits();
     let mut list = Vec::new(alloc);
     for k in 0..1u32 << bits {
-        if set.has(k) {
-            list.push(k)?;
+        if let Some(weight) = set.weight(k) {
+            list.push((k, weight))?;
         }
     }
     FakeTree::try_new(alloc, bits, &list)
 }
 
-// Whether the list of `tree` has the members of `set`, and no others.
-fn lists(
-    alloc: Global,
-    tree: &mut FakeTree<Last, Extent>,
-    set: &KeySet,
-) -> Result<bool, AllocError> {
+// Whether the lists of `tree` have the members of `set`, and no others.
+fn lists(alloc: Global, tree: &mut FakeTree<Last, Sum>, set: &KeySet) -> Result<bool, AllocError> {
     let list = keys(alloc, tree)?;
-    let mut same = list.len() == set.size() as usize;
+    let weighted = pairs(alloc, tree)?;
+    let mut same = list.len() == set.size() as usize && weighted.len() == list.len();
     let mut i = 0u32;
-    for k in &list {
-        same = same && set.select(i) == Some(*k);
+    for (&key, &(k, weight)) in list.iter().zip(&weighted) {
+        same = same && set.select(i) == Some(key) && k == key && set.weight(k) == Some(weight);
         i = i.wrapping_add(1);
     }
     Ok(same)
@@ -196,6 +239,7 @@ fn every_query_agrees_with_the_plain_set(rt: HostRuntime) -> Result<(), Fail> {
     for code in 0..16u32 {
         let set = set_of(rt.alloc(), code)?;
         let mut tree = tree_of(rt.alloc(), &set)?;
+        assert!(rt; lists(rt.alloc(), &mut tree, &set)?, "lists of {code}");
         assert_eq!(rt; size(&mut tree), set.size(), "size of {code}");
         for a in 0..6 {
             assert!(rt; agrees_at(&mut tree, &set, a), "{a} in {code}");

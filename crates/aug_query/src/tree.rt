@@ -1,24 +1,25 @@
 ghost use Rattle.std.specs.Prelude.{◌≡◌, ℕ, ◌+◌, ◌*◌, ◌≤◌};
 ghost use Rattle.aug_model.specs.Keys.{SetFacts};
 ghost use Rattle.aug_model.specs.Folds.{summary_of};
+ghost use Rattle.aug_model.specs.Queries.{weight_in};
 ghost use Rattle.aug_model.specs.declared.summary.Summary.{Summary as Told};
 ghost use Rattle.aug_query.specs.Tree.{IsTreeSet, IsNodeOf, Walks};
 
 use aug_model::Summary;
 use aug_monoid::Monoid;
 
-/// A complete binary tree of a set of keys below `2^bits`. The node at level `j` and place `p` covers the
-/// keys `p * 2^j` to `(p + 1) * 2^j - 1`; a leaf is at level 0, and its summary counts 1 where its key is
-/// a member and else 0; the top is at level `bits`, place 0. Every node carries the summary of the members
-/// that it covers.
+/// A complete binary tree of a set of keys below `2^bits`, each with a weight. The node at level `j` and place
+/// `p` covers the keys `p * 2^j` to `(p + 1) * 2^j - 1`; a leaf is at level 0, and its summary counts 1 where
+/// its key is a member and else 0; the top is at level `bits`, place 0. Every node carries the summary of the
+/// members that it covers, and a leaf its key's weight.
 ///
 /// A walk may load each node anew, so it takes `&mut self`, but nothing that it does changes what the
 /// tree is: its set and bits stay, and a node once handed out is one of its nodes for good.
 pub trait Tree<A: Monoid, B: Monoid> {
-    /// A node as a walk holds it: where it stands, and its summary.
+    /// A node as a walk holds it: where it stands, its summary, and a leaf's weight.
     type Node: Drop;
 
-    // How many bits the keys have, and the members, rising.
+    // How many bits the keys have, and the members, rising, each with its weight.
     ghost set_of: { Self → SetFacts };
 
     // How often `top`, `left` and `right` have been called. It takes no bytes.
@@ -38,6 +39,9 @@ pub trait Tree<A: Monoid, B: Monoid> {
 
     // The summary that a node carries.
     ghost told_by: { Self.Node → Told A B };
+
+    // The weight of a leaf's key, 0 where it is no member.
+    ghost weight_by: { Self.Node → ℕ };
 
     /// How many bits the keys have, from 1 to 16.
     fn bits(&self) -> u32
@@ -81,6 +85,11 @@ pub trait Tree<A: Monoid, B: Monoid> {
     fn summary(node: &Self::Node) -> Summary<A, B>
         ensures { result ≡ told_by node.now };
 
+    /// The weight of the key that the leaf `node` covers, and 0 where that key is no member.
+    fn weight(node: &Self::Node) -> u32
+        requires { level_of node.now ≡ 0 }
+        ensures { result ≡ weight_by node.now };
+
     // A tree that no call has changed keeps it.
     ghost keeps_so: { (tree : Self) → KeepsRest tree tree };
 
@@ -89,4 +98,7 @@ pub trait Tree<A: Monoid, B: Monoid> {
 
     // A node of the tree stands within it, and its summary is that of the members that it covers.
     ghost node_tells: { (tree : Self) (node : Self.Node) → HasNode tree node → IsNodeOf (summary_of A.parts B.parts) (set_of tree) (level_of node) (place_of node) (told_by node) };
+
+    // A leaf of the tree knows its key's weight.
+    ghost leaf_weighs: { (tree : Self) (node : Self.Node) → HasNode tree node → level_of node ≡ 0 → weight_by node ≡ weight_in (set_of tree).pairs (place_of node) };
 }

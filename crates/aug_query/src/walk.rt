@@ -1,5 +1,6 @@
 //! Single steps of a descent.
 ghost use Rattle.std.specs.Prelude.{◌≡◌, ℕ, ◌+◌, ◌-◌, ◌*◌, ◌^◌, ◌<◌, ◌≤◌};
+ghost use Rattle.aug_model.specs.Keys.{list_of};
 ghost use Rattle.aug_model.specs.Queries.{rank_of};
 ghost use Rattle.aug_query.specs.Tree.{IsTreeSet, Stands, Walks, first_key, middle_key, end_key};
 
@@ -67,8 +68,8 @@ pub(crate) fn toward<A: Monoid, B: Monoid, T: Tree<A, B>>(
     ensures end { k < end_key (T.level_of result.child) (T.place_of result.child) }
     ensures no_earlier { first_key (T.level_of node.now) (T.place_of node.now) ≤ first_key (T.level_of result.child) (T.place_of result.child) }
     ensures no_later { end_key (T.level_of result.child) (T.place_of result.child) ≤ end_key (T.level_of node.now) (T.place_of node.now) }
-    ensures before { rank_of (T.set_of tree.old).list (first_key (T.level_of result.child) (T.place_of result.child)) ≡ rank_of (T.set_of tree.old).list (first_key (T.level_of node.now) (T.place_of node.now)) + result.before }
-    ensures after { rank_of (T.set_of tree.old).list (end_key (T.level_of result.child) (T.place_of result.child)) + result.after ≡ rank_of (T.set_of tree.old).list (end_key (T.level_of node.now) (T.place_of node.now)) }
+    ensures before { rank_of (list_of (T.set_of tree.old)) (first_key (T.level_of result.child) (T.place_of result.child)) ≡ rank_of (list_of (T.set_of tree.old)) (first_key (T.level_of node.now) (T.place_of node.now)) + result.before }
+    ensures after { rank_of (list_of (T.set_of tree.old)) (end_key (T.level_of result.child) (T.place_of result.child)) + result.after ≡ rank_of (list_of (T.set_of tree.old)) (end_key (T.level_of node.now) (T.place_of node.now)) }
     ensures right { 0 < result.before → first_key (T.level_of result.child) (T.place_of result.child) ≡ middle_key (T.level_of node.now) (T.place_of node.now) }
     ensures left { 0 < result.after → end_key (T.level_of result.child) (T.place_of result.child) ≡ middle_key (T.level_of node.now) (T.place_of node.now) }
 {

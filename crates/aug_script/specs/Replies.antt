@@ -7,8 +7,8 @@ use Rattle.aug_monoid.specs.declared.extent.Extent.{Extent}
 use Rattle.aug_monoid.specs.declared.sum.Sum.{Sum}
 use Rattle.aug_model.specs.Folds.{summary_of}
 use Rattle.aug_model.specs.declared.summary.Summary.{Summary}
-use Rattle.aug_model.specs.Keys.{is_member, with_key, without_key}
-use Rattle.aug_model.specs.Queries.{after_of, before_of, range_of, rank_of, select_of}
+use Rattle.aug_model.specs.Keys.{is_member, keys_of, with_pair, without_pair}
+use Rattle.aug_model.specs.Queries.{after_of, before_of, rank_of, select_of, weight_of, weighted_range_of}
 use Rattle.aug_script.specs.declared.reply.Reply.{Reply}
 use Rattle.aug_script.specs.declared.reply.Reply.TheVariants as reply
 use Rattle.aug_script.specs.declared.report.Report.{Report}
@@ -16,32 +16,36 @@ use Rattle.aug_script.specs.declared.row.Row.{Row}
 use Rattle.aug_script.specs.declared.verb.Verb.{Verb}
 use Rattle.aug_script.specs.declared.verb.Verb.TheVariants as verb
 
--- a lane's sets, each as the rising list of its members: the live one, and the snapshot that its queries are answered from
+-- a lane's sets, each as the rising list of its members with their weights: the live one, and the snapshot that its queries are
+-- answered from
 pub record Sets : Type 0 where
-  pub live : List ℕ
-  pub held : List ℕ
+  pub live : List (ℕ × ℕ)
+  pub held : List (ℕ × ℕ)
 
--- the number of the keys, their sum in a word of 64 bits, and the least and the greatest of them
-abbrev pub span_of : List ℕ → Summary Sum Extent
-span_of keys = summary_of sum_parts extent_parts keys
+-- the number of the keys, the sum of their weights in a word of 64 bits, and the least and the greatest of them
+abbrev pub span_of : List (ℕ × ℕ) → Summary Sum Extent
+span_of pairs = summary_of sum_parts extent_parts pairs
 
--- what a verb is answered
+-- what a verb is answered; where one lane runs alone, no `put` is lost
 abbrev pub reply_to : Sets → Verb → Reply
-reply_to sets (verb.Insert k) = if is_member sets.live k then reply.Old else reply.New
-reply_to sets (verb.Remove k) = if is_member sets.live k then reply.Gone else reply.Absent
+reply_to sets (verb.Insert k) = if is_member (keys_of sets.live) k then reply.Old else reply.New
+reply_to sets (verb.Put k w) = if is_member (keys_of sets.live) k then reply.Set else reply.New
+reply_to sets (verb.Remove k) = if is_member (keys_of sets.live) k then reply.Gone else reply.Absent
 reply_to sets verb.Look = reply.Looked
-reply_to sets (verb.Has k) = if is_member sets.held k then reply.Yes else reply.No
-reply_to sets verb.Size = reply.Number (length sets.held)
-reply_to sets (verb.Rank k) = reply.Number (rank_of sets.held k)
-reply_to sets (verb.Select i) = reply.Found (select_of sets.held i)
-reply_to sets (verb.Before k) = reply.Found (before_of sets.held k)
-reply_to sets (verb.After k) = reply.Found (after_of sets.held k)
-reply_to sets (verb.Range a b) = reply.Span (span_of (range_of sets.held a b))
+reply_to sets (verb.Has k) = if is_member (keys_of sets.held) k then reply.Yes else reply.No
+reply_to sets (verb.Weight k) = reply.Found (weight_of sets.held k)
+reply_to sets verb.Size = reply.Number (length (keys_of sets.held))
+reply_to sets (verb.Rank k) = reply.Number (rank_of (keys_of sets.held) k)
+reply_to sets (verb.Select i) = reply.Found (select_of (keys_of sets.held) i)
+reply_to sets (verb.Before k) = reply.Found (before_of (keys_of sets.held) k)
+reply_to sets (verb.After k) = reply.Found (after_of (keys_of sets.held) k)
+reply_to sets (verb.Range a b) = reply.Span (span_of (weighted_range_of sets.held a b))
 
--- the sets after a verb; a query leaves them
+-- the sets after a verb: an inserted key weighs itself, a member that is inserted keeps its weight, and a query leaves all
 abbrev pub sets_after : Sets → Verb → Sets
-sets_after sets (verb.Insert k) = record { live = with_key sets.live k; held = sets.held }
-sets_after sets (verb.Remove k) = record { live = without_key sets.live k; held = sets.held }
+sets_after sets (verb.Insert k) = record { live = if is_member (keys_of sets.live) k then sets.live else with_pair sets.live k k; held = sets.held }
+sets_after sets (verb.Put k w) = record { live = with_pair sets.live k w; held = sets.held }
+sets_after sets (verb.Remove k) = record { live = without_pair sets.live k; held = sets.held }
 sets_after sets verb.Look = record { live = sets.live; held = sets.live }
 sets_after sets query = sets
 
@@ -55,14 +59,16 @@ unfoldable pub sets_of : Sets → List Row → Sets
 sets_of sets [] = sets
 sets_of sets (row ∷ rows) = sets_of (sets_after sets row.verb) rows
 
--- the reply says that an insertion was accepted
+-- the reply says that an insertion was accepted, be it that of a replacement
 abbrev pub is_insertion : Reply → Bool
 is_insertion reply.New = true
+is_insertion reply.Set = true
 is_insertion answer = false
 
--- the reply says that a removal was accepted
+-- the reply says that a removal was accepted, be it that of a replacement
 abbrev pub is_removal : Reply → Bool
 is_removal reply.Gone = true
+is_removal reply.Set = true
 is_removal answer = false
 
 -- how many of the replies pass a test
@@ -70,12 +76,12 @@ abbrev pub count_of : (Reply → Bool) → List Reply → ℕ
 count_of test replies = length (filter test replies)
 
 -- a lane's sets as a round begins, over a set with these members: its first snapshot is of the whole set
-abbrev pub opening_sets : List ℕ → Sets
+abbrev pub opening_sets : List (ℕ × ℕ) → Sets
 opening_sets members = record { live = members; held = members }
 
 -- the report of the round with this number, where these rows run one after another over one such lane, whose set has these members
 -- at first
-abbrev pub report_of : ℕ → List ℕ → List Row → Report
+abbrev pub report_of : ℕ → List (ℕ × ℕ) → List Row → Report
 report_of number members rows = record {
   number = number;
   rows = zip rows (replies_of (opening_sets members) rows);

@@ -13,9 +13,11 @@ use Rattle.aug_script.specs.declared.verb.Verb.TheVariants as verb
 -- a verb with its arguments, parted by blanks
 abbrev pub verb_text : Verb → List ℕ
 verb_text (verb.Insert k) = codes "insert " ++ decimal k
+verb_text (verb.Put k w) = codes "put " ++ decimal k ++ codes " " ++ decimal w
 verb_text (verb.Remove k) = codes "remove " ++ decimal k
 verb_text verb.Look = codes "look"
 verb_text (verb.Has k) = codes "has " ++ decimal k
+verb_text (verb.Weight k) = codes "weight " ++ decimal k
 verb_text verb.Size = codes "size"
 verb_text (verb.Rank k) = codes "rank " ++ decimal k
 verb_text (verb.Select i) = codes "select " ++ decimal i
@@ -28,15 +30,17 @@ abbrev pub extent_text : Extent → List ℕ
 extent_text None = codes "- -"
 extent_text (Some bounds) = decimal bounds.0 ++ codes " " ++ decimal bounds.1
 
--- a member that was found, or `-` where there is none
+-- the key or the weight that was found, or `-` where there is none
 abbrev pub found_text : Option ℕ → List ℕ
 found_text None = codes "-"
-found_text (Some key) = decimal key
+found_text (Some number) = decimal number
 
 -- a reply
 abbrev pub reply_text : Reply → List ℕ
 reply_text reply.New = codes "new"
 reply_text reply.Old = codes "old"
+reply_text reply.Set = codes "set"
+reply_text reply.Lost = codes "lost"
 reply_text reply.Gone = codes "gone"
 reply_text reply.Absent = codes "none"
 reply_text reply.Looked = codes "ok"

@@ -44,9 +44,11 @@ is_end field = bytes_eq field (codes "end")
 abbrev pub word_of : List ℕ → Option Word
 word_of field =
     if bytes_eq field (codes "insert") then Some word.Insert
+    else if bytes_eq field (codes "put") then Some word.Put
     else if bytes_eq field (codes "remove") then Some word.Remove
     else if bytes_eq field (codes "look") then Some word.Look
     else if bytes_eq field (codes "has") then Some word.Has
+    else if bytes_eq field (codes "weight") then Some word.Weight
     else if bytes_eq field (codes "size") then Some word.Size
     else if bytes_eq field (codes "rank") then Some word.Rank
     else if bytes_eq field (codes "select") then Some word.Select
@@ -58,9 +60,11 @@ word_of field =
 -- how many arguments a verb has
 abbrev pub arity_of : Word → ℕ
 arity_of word.Insert = 1
+arity_of word.Put = 2
 arity_of word.Remove = 1
 arity_of word.Look = 0
 arity_of word.Has = 1
+arity_of word.Weight = 1
 arity_of word.Size = 0
 arity_of word.Rank = 1
 arity_of word.Select = 1
@@ -71,9 +75,11 @@ arity_of word.Range = 2
 -- the verb of a word with these arguments
 abbrev pub verb_of : Word → List (List ℕ) → Verb
 verb_of word.Insert arguments = verb.Insert (number_of (slice_index_or arguments 0 []))
+verb_of word.Put arguments = verb.Put (number_of (slice_index_or arguments 0 [])) (number_of (slice_index_or arguments 1 []))
 verb_of word.Remove arguments = verb.Remove (number_of (slice_index_or arguments 0 []))
 verb_of word.Look arguments = verb.Look
 verb_of word.Has arguments = verb.Has (number_of (slice_index_or arguments 0 []))
+verb_of word.Weight arguments = verb.Weight (number_of (slice_index_or arguments 0 []))
 verb_of word.Size arguments = verb.Size
 verb_of word.Rank arguments = verb.Rank (number_of (slice_index_or arguments 0 []))
 verb_of word.Select arguments = verb.Select (number_of (slice_index_or arguments 0 []))
@@ -81,12 +87,15 @@ verb_of word.Before arguments = verb.Before (number_of (slice_index_or arguments
 verb_of word.After arguments = verb.After (number_of (slice_index_or arguments 0 []))
 verb_of word.Range arguments = verb.Range (number_of (slice_index_or arguments 0 [])) (number_of (slice_index_or arguments 1 []))
 
--- the verb's arguments are within its bounds: keys of updates and of `has` below 2 ^ bits, arguments of other queries at most 2 ^ bits
+-- the verb's arguments are within its bounds: keys of updates, of `has` and of `weight` below 2 ^ bits, arguments of other queries at
+-- most 2 ^ bits, and a weight is any number
 abbrev pub is_in_bounds : ℕ → Verb → Bool
 is_in_bounds bits (verb.Insert k) = nat_lt k (2 ^ bits)
+is_in_bounds bits (verb.Put k w) = nat_lt k (2 ^ bits)
 is_in_bounds bits (verb.Remove k) = nat_lt k (2 ^ bits)
 is_in_bounds bits verb.Look = true
 is_in_bounds bits (verb.Has k) = nat_lt k (2 ^ bits)
+is_in_bounds bits (verb.Weight k) = nat_lt k (2 ^ bits)
 is_in_bounds bits verb.Size = true
 is_in_bounds bits (verb.Rank k) = nat_le k (2 ^ bits)
 is_in_bounds bits (verb.Select i) = nat_le i (2 ^ bits)
@@ -94,9 +103,10 @@ is_in_bounds bits (verb.Before k) = nat_le k (2 ^ bits)
 is_in_bounds bits (verb.After k) = nat_le k (2 ^ bits)
 is_in_bounds bits (verb.Range a b) = nat_le a (2 ^ bits) && nat_le b (2 ^ bits)
 
--- the verb is `insert` or `remove`
+-- the verb is `insert`, `put` or `remove`
 abbrev pub is_update : Verb → Bool
 is_update (verb.Insert k) = true
+is_update (verb.Put k w) = true
 is_update (verb.Remove k) = true
 is_update other = false
 

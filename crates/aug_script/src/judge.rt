@@ -48,9 +48,11 @@ fn verb(word: Word, fields: &ByteRecord) -> Verb
 {
     match word {
         Word::Insert => Verb::Insert(number(field(fields, 2))),
+        Word::Put => Verb::Put(number(field(fields, 2)), number(field(fields, 3))),
         Word::Remove => Verb::Remove(number(field(fields, 2))),
         Word::Look => Verb::Look,
         Word::Has => Verb::Has(number(field(fields, 2))),
+        Word::Weight => Verb::Weight(number(field(fields, 2))),
         Word::Size => Verb::Size,
         Word::Rank => Verb::Rank(number(field(fields, 2))),
         Word::Select => Verb::Select(number(field(fields, 2))),

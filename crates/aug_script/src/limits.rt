@@ -62,7 +62,7 @@ impl Limits {
         self.workers
     }
 
-    /// How many rows of a lane in a round may insert or remove.
+    /// How many rows of a lane in a round may insert, put or remove.
     pub fn updates(&self) -> u32
         ensures value { result ≡ self.now.updates }
         ensures known { IsBounds self.now }

@@ -13,9 +13,9 @@ pub struct Report {
     pub rows: Listed<(Row, Reply)>,
     /// How many members the set has at the round's end.
     pub size: u32,
-    /// How many insertions were accepted.
+    /// How many insertions were accepted. A replacement is one.
     pub inserts: u32,
-    /// How many removals were accepted.
+    /// How many removals were accepted. A replacement is one.
     pub removals: u32,
 }
 

@@ -67,7 +67,7 @@ fn a_script_may_ask_for_as_much_as_a_full_table_holds(rt: HostRuntime) {
 #[test]
 fn every_verb_is_read(rt: HostRuntime) -> Result<(), Fail> {
     let script =
-        "0,insert,1\n1,remove,2\n0,look\n1,has,3\n0,size\n1,rank,4\n0,select,5\n1,before,6\n0,after,7\n1,range,8,9\n";
+        "0,insert,1\n1,remove,2\n0,look\n1,has,3\n0,size\n1,rank,4\n0,select,5\n1,before,6\n0,after,7\n1,range,8,9\n0,put,10,11\n1,weight,12\n";
     let rounds = rounds_of(rt.alloc(), script, 2, 64)?;
     assert_eq!(rt; rounds.len(), 1);
     let rows = [
@@ -81,6 +81,8 @@ fn every_verb_is_read(rt: HostRuntime) -> Result<(), Fail> {
         row(8, 1, Verb::Before(6)),
         row(9, 0, Verb::After(7)),
         row(10, 1, Verb::Range(8, 9)),
+        row(11, 0, Verb::Put(10, 11)),
+        row(12, 1, Verb::Weight(12)),
     ];
     assert_eq!(rt; rounds[0].as_slice(), rows.as_slice());
     Ok(())
@@ -99,7 +101,7 @@ fn quotes_blank_lines_line_ends_and_leading_zeros(rt: HostRuntime) -> Result<(),
 fn faulty_scripts_of_one_row(rt: HostRuntime) -> Result<(), Fail> {
     let not_printable: &[u8] = &[48, 44, 105, 110, 115, 101, 114, 116, 44, 0xC3, 0xA9];
     let ends_not_printable: &[u8] = &[42, 44, 101, 110, 100, 44, 0xC3, 0xA9];
-    let scripts: [(&[u8], ScriptError); 33] = [
+    let scripts: [(&[u8], ScriptError); 45] = [
         (b"0,insert,16", ScriptError::OutOfRange(1)),
         (b"1,look", ScriptError::OutOfRange(1)),
         (b"0,insert", ScriptError::BadArity(1)),
@@ -137,6 +139,20 @@ fn faulty_scripts_of_one_row(rt: HostRuntime) -> Result<(), Fail> {
         (b"0,before,1,2", ScriptError::BadArity(1)),
         (b"0,after", ScriptError::BadArity(1)),
         (b"0,range,1", ScriptError::BadArity(1)),
+
+        // The same of keys with weights.
+        (b"0,put,16,1", ScriptError::OutOfRange(1)),
+        (b"1,put,1,1", ScriptError::OutOfRange(1)),
+        (b"0,weight,16", ScriptError::OutOfRange(1)),
+        (b"0,put", ScriptError::BadArity(1)),
+        (b"0,put,1", ScriptError::BadArity(1)),
+        (b"0,put,1,2,3", ScriptError::BadArity(1)),
+        (b"0,weight", ScriptError::BadArity(1)),
+        (b"0,weight,1,2", ScriptError::BadArity(1)),
+        (b"0,put,1,x", ScriptError::BadNumber(1)),
+        (b"0,put,16,x", ScriptError::BadNumber(1)),
+        (b"0,put,1,1000000000", ScriptError::BadNumber(1)),
+        (b"*,put,1,1", ScriptError::BadVerb(1)),
     ];
     for (place, (script, fault)) in scripts.into_iter().enumerate() {
         assert_eq!(rt;
@@ -151,8 +167,20 @@ fn faulty_scripts_of_one_row(rt: HostRuntime) -> Result<(), Fail> {
 #[test]
 fn arguments_up_to_their_bounds_are_taken(rt: HostRuntime) -> Result<(), Fail> {
     let script =
-        "0,insert,15\n0,remove,15\n0,has,15\n0,rank,16\n0,select,16\n0,before,16\n0,after,16\n0,range,16,16\n";
+        "0,insert,15\n0,remove,15\n0,has,15\n0,rank,16\n0,select,16\n0,before,16\n0,after,16\n0,range,16,16\n0,put,15,1\n0,weight,15\n";
     assert_eq!(rt; fault_of(rt.alloc(), script.as_bytes(), 64)?, None);
+    Ok(())
+}
+
+#[test]
+fn a_weight_is_any_number(rt: HostRuntime) -> Result<(), Fail> {
+    let rounds = rounds_of(rt.alloc(), "0,put,1,999999999\n0,put,1,0\n", 1, 64)?;
+    assert_eq!(rt; rounds.len(), 1);
+    let rows = [
+        row(1, 0, Verb::Put(1, 999_999_999)),
+        row(2, 0, Verb::Put(1, 0)),
+    ];
+    assert_eq!(rt; rounds[0].as_slice(), rows.as_slice());
     Ok(())
 }
 
@@ -186,6 +214,24 @@ fn updates_are_limited_in_each_round(rt: HostRuntime) -> Result<(), Fail> {
         ended[1].as_slice(),
         [row(4, 0, Verb::Insert(1))].as_slice()
     );
+    Ok(())
+}
+
+#[test]
+fn a_put_is_one_update(rt: HostRuntime) -> Result<(), Fail> {
+    let alloc = rt.alloc();
+    let three = b"0,put,1,5\n0,put,1,5\n0,put,2,5\n";
+    assert_eq!(rt;
+        fault_of(alloc, three, 2)?,
+        Some(ScriptError::TooManyUpdates(3))
+    );
+    assert_eq!(rt; fault_of(alloc, three, 3)?, None);
+    let asked = b"0,put,1,5\n0,weight,1\n0,weight,2\n0,insert,1\n";
+    assert_eq!(rt;
+        fault_of(alloc, asked, 1)?,
+        Some(ScriptError::TooManyUpdates(4))
+    );
+    assert_eq!(rt; fault_of(alloc, asked, 2)?, None);
     Ok(())
 }
 
@@ -246,8 +292,8 @@ fn rows_keep_their_numbers_past_the_end_of_a_round(rt: HostRuntime) -> Result<()
     Ok(())
 }
 
-// What is known of these keys, which are so many.
-fn span(count: u32, keys: &[u32]) -> Reply {
+// What is known of these keys with their weights, which are so many.
+fn span(count: u32, keys: &[(u32, u32)]) -> Reply {
     Reply::Span(Summary {
         count,
         a: fold_slice::<Sum>(keys),
@@ -270,8 +316,10 @@ fn report(alloc: Global) -> Result<Report, AllocError> {
         (row(10, 0, Verb::Select(1)), Reply::Found(Some(9))),
         (row(11, 0, Verb::Before(16)), Reply::Found(None)),
         (row(12, 0, Verb::After(0)), Reply::Found(Some(65_535))),
-        (row(13, 0, Verb::Range(0, 16)), span(2, &[5, 9])),
+        (row(13, 0, Verb::Range(0, 16)), span(2, &[(5, 5), (9, 9)])),
         (row(14, 0, Verb::Range(9, 5)), span(0, &[])),
+        (row(15, 1, Verb::Put(6, 1)), Reply::Lost),
+        (row(16, 0, Verb::Weight(6)), Reply::Found(None)),
     ];
     Ok(Report {
         number: 12,
@@ -297,6 +345,8 @@ const TEXT: &str = "\
 12 0 after 0 = 65535
 12 0 range 0 16 = 2 14 5 9
 12 0 range 9 5 = 0 0 - -
+12 1 put 6 1 = lost
+12 0 weight 6 = -
 12 end size=2 in=3 out=1
 ";
 
@@ -306,6 +356,66 @@ fn every_verb_and_every_reply_is_printed(rt: HostRuntime) -> Result<(), Fail> {
     assert_eq!(rt; print(rt.alloc(), &report(rt.alloc())?, &mut sink), Ok(()));
     assert_eq!(rt; sink.out.as_slice(), TEXT.as_bytes());
     assert_eq!(rt; sink.finished, 1);
+    Ok(())
+}
+
+// The rows of a set whose keys have weights, with their replies.
+const WEIGHED: &str = "\
+0,put,5,100
+0,put,5,7
+0,look
+0,weight,5
+0,range,0,16
+0,insert,9
+0,look
+0,range,0,16
+";
+
+const WEIGHED_TEXT: &str = "\
+1 0 put 5 100 = new
+1 0 put 5 7 = set
+1 0 look = ok
+1 0 weight 5 = 7
+1 0 range 0 16 = 1 7 5 5
+1 0 insert 9 = new
+1 0 look = ok
+1 0 range 0 16 = 2 16 5 9
+1 end size=2 in=3 out=1
+";
+
+#[test]
+fn rows_of_keys_with_weights_are_read_and_printed(rt: HostRuntime) -> Result<(), Fail> {
+    let alloc = rt.alloc();
+    let lines = [
+        (row(1, 0, Verb::Put(5, 100)), Reply::New),
+        (row(2, 0, Verb::Put(5, 7)), Reply::Set),
+        (row(3, 0, Verb::Look), Reply::Looked),
+        (row(4, 0, Verb::Weight(5)), Reply::Found(Some(7))),
+        (row(5, 0, Verb::Range(0, 16)), span(1, &[(5, 7)])),
+        (row(6, 0, Verb::Insert(9)), Reply::New),
+        (row(7, 0, Verb::Look), Reply::Looked),
+        (row(8, 0, Verb::Range(0, 16)), span(2, &[(5, 7), (9, 9)])),
+    ];
+    let rounds = rounds_of(alloc, WEIGHED, 1, 64)?;
+    assert_eq!(rt; rounds.len(), 1);
+    assert_eq!(rt; rounds[0].as_slice().len(), lines.len());
+    let mut inserts = 0u32;
+    let mut removals = 0u32;
+    for (read, line) in rounds[0].as_slice().iter().zip(lines.as_slice()) {
+        assert_eq!(rt; *read, line.0);
+        inserts = inserts.wrapping_add(u32::from(line.1.is_insertion()));
+        removals = removals.wrapping_add(u32::from(line.1.is_removal()));
+    }
+    let report = Report {
+        number: 1,
+        rows: Listed::from_vec(Vec::from_slice(alloc, lines.as_slice())?),
+        size: 2,
+        inserts,
+        removals,
+    };
+    let mut sink = MemorySink::new(alloc, 7, None);
+    assert_eq!(rt; print(alloc, &report, &mut sink), Ok(()));
+    assert_eq!(rt; sink.out.as_slice(), WEIGHED_TEXT.as_bytes());
     Ok(())
 }
 

@@ -2,18 +2,23 @@ ghost use Rattle.std.specs.Prelude.{◌≡◌, ◌≤◌};
 
 use std::fmt;
 
-/// What a row asks for. Keys are below `2^bits` in updates and in `has`; what the other queries are given is at most
-/// `2^bits`. Queries are answered from the snapshot that the lane took last.
+/// What a row asks for. Keys are below `2^bits` in updates, in `has` and in `weight`; what the other queries are given
+/// is at most `2^bits`. A weight is any number of a script. Queries are answered from the snapshot that the lane took
+/// last.
 #[derive(Clone, Copy, Debug, PartialEq, Eq)]
 pub enum Verb {
-    /// Put a key in.
+    /// Put a key in where it is not in. Its weight is then the key itself.
     Insert(u32),
+    /// Give a key, the first number, a weight, the second, and put it in where it is not in.
+    Put(u32, u32),
     /// Take a key out.
     Remove(u32),
     /// Take a new snapshot, from which the lane's queries are answered from now on.
     Look,
     /// Whether a key is a member.
     Has(u32),
+    /// The weight of a key, if it is a member.
+    Weight(u32),
     /// How many members there are.
     Size,
     /// How many members are below a key.
@@ -24,8 +29,8 @@ pub enum Verb {
     Before(u32),
     /// The least member above a key, if there is one.
     After(u32),
-    /// The number, the sum, the least and the greatest of the members from the first key on that are below the
-    /// second.
+    /// The number, the sum of the weights, the least and the greatest of the members from the first key on that are
+    /// below the second.
     Range(u32, u32),
 }
 
@@ -33,9 +38,11 @@ pub enum Verb {
 #[derive(Clone, Copy, Debug, PartialEq, Eq)]
 pub(crate) enum Word {
     Insert,
+    Put,
     Remove,
     Look,
     Has,
+    Weight,
     Size,
     Rank,
     Select,
@@ -53,12 +60,16 @@ impl Word {
     {
         if field == b"insert".as_slice() {
             Some(Word::Insert)
+        } else if field == b"put".as_slice() {
+            Some(Word::Put)
         } else if field == b"remove".as_slice() {
             Some(Word::Remove)
         } else if field == b"look".as_slice() {
             Some(Word::Look)
         } else if field == b"has".as_slice() {
             Some(Word::Has)
+        } else if field == b"weight".as_slice() {
+            Some(Word::Weight)
         } else if field == b"size".as_slice() {
             Some(Word::Size)
         } else if field == b"rank".as_slice() {
@@ -82,9 +93,9 @@ impl Word {
     {
         match self {
             Word::Look | Word::Size => 0,
-            Word::Insert | Word::Remove | Word::Has => 1,
+            Word::Insert | Word::Remove | Word::Has | Word::Weight => 1,
             Word::Rank | Word::Select | Word::Before | Word::After => 1,
-            Word::Range => 2,
+            Word::Put | Word::Range => 2,
         }
     }
 }
@@ -99,7 +110,8 @@ impl Verb {
     {
         let universe = 1u32 << bits;
         match self {
-            Verb::Insert(key) | Verb::Remove(key) | Verb::Has(key) => key < universe,
+            Verb::Insert(key) | Verb::Put(key, _) | Verb::Remove(key) => key < universe,
+            Verb::Has(key) | Verb::Weight(key) => key < universe,
             Verb::Rank(key) | Verb::Before(key) | Verb::After(key) => key <= universe,
             Verb::Select(index) => index <= universe,
             Verb::Range(from, to) => from <= universe && to <= universe,
@@ -107,11 +119,11 @@ impl Verb {
         }
     }
 
-    /// Whether this is `insert` or `remove`.
+    /// Whether this is `insert`, `put` or `remove`.
     pub(crate) fn is_update(self) -> bool
         ensures { result ≡ is_update_of self }
     {
-        matches!(self, Verb::Insert(_) | Verb::Remove(_))
+        matches!(self, Verb::Insert(_) | Verb::Put(_, _) | Verb::Remove(_))
     }
 }
 
@@ -125,9 +137,11 @@ impl fmt::Display for Verb {
     fn fmt<W: fmt::Write>(&self, f: &mut fmt::Formatter<W>) -> fmt::Result {
         match self {
             Verb::Insert(key) => write!(f, "insert {key}"),
+            Verb::Put(key, weight) => write!(f, "put {key} {weight}"),
             Verb::Remove(key) => write!(f, "remove {key}"),
             Verb::Look => write!(f, "look"),
             Verb::Has(key) => write!(f, "has {key}"),
+            Verb::Weight(key) => write!(f, "weight {key}"),
             Verb::Size => write!(f, "size"),
             Verb::Rank(key) => write!(f, "rank {key}"),
             Verb::Select(index) => write!(f, "select {index}"),

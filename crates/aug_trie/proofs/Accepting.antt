@@ -1,28 +1,37 @@
 -- What the steps and updates of a pass do to what it knows.
-use Rattle.std.proofs.Common.{◌≡◌, ℕ, ◌+◌, ◌^◌, ◌<◌, ◌≤◌, Bool, true, false, List, [], ◌∷◌, All, sym, refl, ap, ◌∙◌, subst, arith}
-use Rattle.std.specs.Bool.{OnTrue, OnFalse}
+use Rattle.std.proofs.Common.{◌≡◌, ◌≢◌, ℕ, ◌+◌, ◌%◌, ◌^◌, ◌<◌, ◌≤◌, Bool, true, false, List, [], ◌∷◌, ◌++◌, All, sym, refl, ap, ◌∙◌, subst, inl, inr, ⊎_elim, arith}
+use Rattle.std.proofs.lemmas.Bool.{eqb-true, eqb-false, false≢true}
 use Rattle.std.proofs.lemmas.List.{append-nil}
 use Rattle.std.proofs.lemmas.List.Elements.{All-nil, All-cons, All-append, All-weaker}
 use Rattle.aug_core.specs.Places.{Shape}
 use Rattle.aug_core.specs.Tree.{root_place}
 use Rattle.aug_core.specs.Book.{Continues, IsBook}
 use Rattle.aug_core.specs.Counts.{change, changes_of}
-use Rattle.aug_core.specs.Told.{KnowsTable, LoadsNode}
-use Rattle.aug_core.specs.Cuts.{serial_of, IsAtMost}
+use Rattle.aug_core.specs.Told.{KnowsTable, LoadsNode, made_by, new_serial}
+use Rattle.aug_core.specs.Cuts.{Cut, serial_of, IsAtMost}
 use Rattle.aug_core.specs.EntryCuts.{root_cut, IsPartOfCut}
 use Rattle.aug_core.specs.Shows.{NewestShows}
+use Rattle.aug_core.specs.declared.view.Advance.{Advance}
 use Rattle.aug_core.specs.declared.view.Change.{Change}
 use Rattle.aug_core.specs.declared.view.View.{View}
 use Rattle.aug_core.proofs.EntryCuts.{root_part}
+use Rattle.aug_model.specs.declared.outcome.Outcome.{Outcome}
+use Rattle.aug_model.specs.declared.outcome.Outcome.TheVariants.{Accepted, Replaced, Refused}
 use Rattle.aug_trie.specs.Goes.{Goes}
-use Rattle.aug_trie.specs.Climbing.{Accepted, Refused, Updated}
+use Rattle.aug_trie.specs.Climbing.{WentUp, Stayed, Updated}
 use Rattle.aug_trie.specs.History.{Begins, last_cut}
-use Rattle.aug_trie.specs.Knowledge.{StandsIn}
-use Rattle.aug_trie.specs.Updates.{AcceptedUpdate, RefusedUpdate, TakesSnapshot}
+use Rattle.aug_trie.specs.Knowledge.{StandsIn, insertion, removal}
+use Rattle.aug_trie.specs.LeafWords.{serial_in_word}
+use Rattle.aug_trie.specs.Requests.{advance_from}
+use Rattle.aug_trie.specs.Updates.{AcceptedUpdate, RefusedUpdate, ReplacedUpdate, RefusedPut, ComesTo, TakesSnapshot}
 use Rattle.aug_trie.specs.Knows.{root_history, knows, KnowsRound}
-use Rattle.aug_trie.proofs.Histories.{history_on, last_is, last_shown, shown_last, last_rises, root_some, is_history}
+use Rattle.aug_trie.specs.declared.request.Request.{Request}
+use Rattle.aug_trie.specs.declared.request.Request.TheVariants.{Insert, Remove, Put}
+use Rattle.aug_trie.proofs.Histories.{history_on, last_is, last_shown, shown_last, last_rises, root_some, some_bits, is_history}
+use Rattle.aug_trie.proofs.Requesting.{made_one, made_two, one_more, two_more, insert_stands, remove_stands}
+use Rattle.aug_trie.proofs.Standing.{at_least, stands_later, stands_last, never_shows}
 
-module _ (face : ℕ → ℕ → List ℕ → List ℕ) where
+module _ (face : ℕ → ℕ → List (ℕ × ℕ) → List ℕ) where
   -- a later view's history goes on
   pub knows_on : (v w : View) → KnowsTable face v → w.shape ≡ v.shape → Continues w.seen v.seen → Begins (knows v).history (knows w).history
   knows_on v w kn shaped later = subst (λ (z : Shape). Begins (root_history v.shape v.seen) (root_history z w.seen)) (sym shaped) (history_on face v.shape v.seen kn.book w.seen later)
@@ -38,7 +47,7 @@ module _ (face : ℕ → ℕ → List ℕ → List ℕ) where
   -- changes that stand in what was known stand in what is known
   pub stands_on : (v w : View) (changes : List Change) → KnowsTable face v → KnowsTable face w → w.shape ≡ v.shape → Continues w.seen v.seen → All (StandsIn (last_cut (knows v).history)) changes → All (StandsIn (last_cut (knows w).history)) changes
   stands_on v w changes kn kn' shaped later stand = let more = knows_more v w kn kn' shaped later in
-      All-weaker (StandsIn (last_cut (knows v).history)) (StandsIn (last_cut (knows w).history)) (λ c le. let up = more.no_greater c.key in omega arith) changes stand
+      All-weaker (StandsIn (last_cut (knows v).history)) (StandsIn (last_cut (knows w).history)) (λ c. stands_later (last_cut (knows v).history) (last_cut (knows w).history) c more) changes stand
 
   -- what a pass knows is knowledge still, when its history goes on and what it gains is shown
   pub knowledge_on : (used : ℕ) (gained : List Change) (v w : View) → KnowsTable face v → Goes face used gained v w → All (StandsIn (last_cut (knows w).history)) gained → KnowsRound v → KnowsRound w
@@ -48,40 +57,95 @@ module _ (face : ℕ → ℕ → List ℕ → List ℕ) where
         (All-append (StandsIn (last_cut (knows w).history)) (changes_of v.held) gained (stands_on v w (changes_of v.held) kn g.knows_table g.shaped g.later k.stands) shown);
   }
 
-  module _ (used : ℕ) (v : View) (key parity : ℕ) (w : View) (kn : KnowsTable face v) (low : key < 2 ^ v.shape.bits) where
-    module _ (kind : ℕ) (other : parity + kind ≡ 1) where
+  module _ (used : ℕ) (v : View) (key : ℕ) (request : Request) (w : View) (kn : KnowsTable face v) (low : key < 2 ^ v.shape.bits) where
+    -- what went up stands in the last cut with its weight
+    module _ (a : Advance) (up : WentUp face used v key request w a) where
+      stands_up : StandsIn (last_cut (knows w).history) (change key (new_serial a) a.new_weight)
+      stands_up = subst (λ (z : Shape). StandsIn (last_cut (root_history z w.seen)) (change key (new_serial a) a.new_weight)) (sym up.goes.shaped) (stands_last v.shape w.seen key (new_serial a) a.new_weight low up.shown up.weighs)
+
+      not_before : serial_of (last_cut (knows v).history) key ≤ a.serial
+      not_before = last_shown face v.shape v.seen kn.book key a.serial low (root_some face v kn) up.before
+
       -- an accepted update
-      pub accepted_is : Accepted face used v key parity w → AcceptedUpdate kind key (knows v) (knows w)
-      accepted_is a = record {
-        goes_on = knows_on v w kn a.goes.shaped a.goes.later;
+      accepted_is : (kind weight : ℕ) → (a.serial + 1) % 2 ≡ kind → a.new_weight ≡ weight → a.replaces ≡ false → AcceptedUpdate kind key weight (knows v) (knows w)
+      accepted_is kind weight suits weighs one = let next = one_more a one in record {
+        goes_on = knows_on v w kn up.goes.shaped up.goes.later;
         number = a.serial + 1;
-        suits = let was = a.was in omega arith;
-        is_new = let le = last_shown face v.shape v.seen kn.book key a.serial low (root_some face v kn) a.before in omega arith;
-        shows = shown_of v w key (a.serial + 1) a.goes.shaped low a.shown;
-        adds = a.goes.changes;
+        suits = suits;
+        is_new = let le = not_before in omega arith;
+        shows = subst (λ (z : ℕ × ℕ). StandsIn (last_cut (knows w).history) (change key z.0 z.1)) (λ i. (next i, weighs i)) stands_up;
+        adds = up.goes.changes ∙ ap (λ (z : List Change). changes_of v.held ++ z) (made_one key a one ∙ ap (λ (z : ℕ). change key (a.serial + 1) z ∷ []) weighs);
       }
 
-      -- a refused one
-      pub refused_is : Refused face used v key parity w → RefusedUpdate kind key (knows v) (knows w)
-      refused_is r = record {
-        goes_on = knows_on v w kn r.goes.shaped r.goes.later;
-        number = r.serial;
-        suits = let was = r.was in omega arith;
-        not_past = last_shown face v.shape v.seen kn.book key r.serial low (root_some face v kn) r.before;
-        shows = shown_of v w key r.serial r.goes.shaped low r.shown;
-        same_changes = r.goes.changes ∙ append-nil (changes_of v.held);
+      -- a replacement
+      replaced_is : (weight : ℕ) → a.serial % 2 ≡ 1 → a.new_weight ≡ weight → a.replaces ≡ true → ReplacedUpdate key weight (knows v) (knows w)
+      replaced_is weight odd weighs two = let next = two_more a two in let again : a.serial + 2 ≡ a.serial + 1 + 1 = omega arith in record {
+        goes_on = knows_on v w kn up.goes.shaped up.goes.later;
+        number = a.serial + 1;
+        suits = omega (arith, odd);
+        is_new = let le = not_before in omega arith;
+        shows = subst (λ (z : ℕ × ℕ). StandsIn (last_cut (knows w).history) (change key z.0 z.1)) (λ i. ((next ∙ again) i, weighs i)) stands_up;
+        never_shown = subst (λ (z : Shape). All (λ cut. serial_of cut key ≢ a.serial + 1) (root_history z w.seen)) (sym up.goes.shaped)
+            (never_shows face v.shape w.seen (subst (λ (z : Shape). IsBook face z w.seen) up.goes.shaped up.goes.knows_table.book) key (a.serial + 1) low (some_bits face v kn) (up.passes two));
+        adds = up.goes.changes ∙ ap (λ (z : List Change). changes_of v.held ++ z) (made_two key a two ∙ (λ i. change key (a.serial + 1) 0 ∷ change key (again i) (weighs i) ∷ []));
       }
 
-      -- a whole update
-      pub told_on : (done : Bool) → Updated face used v key parity w done → OnTrue done (AcceptedUpdate kind key (knows v) (knows w)) × OnFalse done (RefusedUpdate kind key (knows v) (knows w))
-      told_on true u = (accepted_is (u.accepted refl), tt)
-      told_on false u = (tt, refused_is (u.refused refl))
+      -- all that it changed stands
+      changes_stand : (b : Bool) → a.replaces ≡ b → All (StandsIn (last_cut (knows w).history)) (made_by key a)
+      changes_stand false one = let stands = StandsIn (last_cut (knows w).history) in let last : Change = change key (a.serial + 1) a.new_weight in
+          subst (All stands) (sym (made_one key a one)) (All-cons stands last [] (subst (λ (z : ℕ). stands (change key z a.new_weight)) (one_more a one) stands_up) (All-nil stands))
+      changes_stand true two = let stands = StandsIn (last_cut (knows w).history) in let last : Change = change key (a.serial + 2) a.new_weight in
+          let up_two = subst (λ (z : ℕ). stands (change key z a.new_weight)) (two_more a two) stands_up in
+          let past : a.serial + 1 < serial_of (last_cut (knows w).history) key = (let le = at_least (last_cut (knows w).history) last up_two in omega (arith, le)) in
+          subst (All stands) (sym (made_two key a two)) (All-cons stands (change key (a.serial + 1) 0) (last ∷ []) (inl past) (All-cons stands last [] up_two (All-nil stands)))
 
-    -- and what is known after it is knowledge
-    pub updated_knowledge : (done : Bool) → Updated face used v key parity w done → KnowsRound v → KnowsRound w
-    updated_knowledge true u k = let a = u.accepted refl in let c : Change = change key (a.serial + 1) in
-        knowledge_on used (c ∷ []) v w kn a.goes (All-cons (StandsIn (last_cut (knows w).history)) c [] (shown_of v w key (a.serial + 1) a.goes.shaped low a.shown) (All-nil (StandsIn (last_cut (knows w).history)))) k
-    updated_knowledge false u k = let r = u.refused refl in knowledge_on used [] v w kn r.goes (All-nil (StandsIn (last_cut (knows w).history))) k
+    refused_number : (found : ℕ) (s : Stayed face used v key request w found) → serial_of (last_cut (knows v).history) key ≤ found
+    refused_number found s = last_shown face v.shape v.seen kn.book key found low (root_some face v kn) s.before
+
+    shown_number : (found : ℕ) (s : Stayed face used v key request w found) → s.number ≤ serial_of (last_cut (knows w).history) key
+    shown_number found s = shown_of v w key s.number s.goes.shaped low s.shown
+
+    -- a refused update
+    refused_is : (kind found : ℕ) (s : Stayed face used v key request w found) → s.number % 2 ≡ kind → found ≤ s.number → RefusedUpdate kind key (knows v) (knows w)
+    refused_is kind found s suits le = record {
+      goes_on = knows_on v w kn s.goes.shaped s.goes.later;
+      number = s.number;
+      suits = suits;
+      not_past = let below = refused_number found s in omega arith;
+      shows = shown_number found s;
+      same_changes = s.goes.changes ∙ append-nil (changes_of v.held);
+    }
+
+    refused_put : (found : ℕ) (s : Stayed face used v key request w found) → s.number ≡ found + 1 → RefusedPut key (knows v) (knows w)
+    refused_put found s next = record {
+      goes_on = knows_on v w kn s.goes.shaped s.goes.later;
+      number = s.number;
+      is_new = let below = refused_number found s in omega arith;
+      shows = shown_number found s;
+      same_changes = s.goes.changes ∙ append-nil (changes_of v.held);
+    }
+
+    -- and what is known after an update is knowledge
+    pub updated_knowledge : (done : Outcome) → Updated face used v key request w done → KnowsRound v → KnowsRound w
+    updated_knowledge Accepted u k = let up = u.came_to.0 in let a = advance_from request key u.loaded in knowledge_on used (made_by key a) v w kn up.goes (changes_stand a up a.replaces refl) k
+    updated_knowledge Replaced u k = let up = u.came_to.0 in let a = advance_from request key u.loaded in knowledge_on used (made_by key a) v w kn up.goes (changes_stand a up a.replaces refl) k
+    updated_knowledge Refused u k = knowledge_on used [] v w kn u.came_to.goes (All-nil (StandsIn (last_cut (knows w).history))) k
+
+  -- what an update comes to
+  pub comes_to : (used : ℕ) (v : View) (key : ℕ) (request : Request) (w : View) → KnowsTable face v → key < 2 ^ v.shape.bits → (done : Outcome) → Updated face used v key request w done → ComesTo request key done (knows v) (knows w)
+  comes_to used v key Insert w kn low Accepted u = let a = advance_from Insert key u.loaded in let even = eqb-true (serial_in_word u.loaded % 2) 0 u.came_to.0.lets in
+      accepted_is used v key Insert w kn low a u.came_to.0 insertion key (omega (arith, even)) refl refl
+  comes_to used v key Insert w kn low Replaced u = false≢true u.came_to.1
+  comes_to used v key Insert w kn low Refused u = let s = u.came_to in let t = insert_stands (serial_in_word u.loaded) s.number s.stands in refused_is used v key Insert w kn low insertion (serial_in_word u.loaded) s t.0 t.1
+  comes_to used v key Remove w kn low Accepted u = let a = advance_from Remove key u.loaded in let odd = eqb-true (serial_in_word u.loaded % 2) 1 u.came_to.0.lets in
+      accepted_is used v key Remove w kn low a u.came_to.0 removal 0 (omega (arith, odd)) refl refl
+  comes_to used v key Remove w kn low Replaced u = false≢true u.came_to.1
+  comes_to used v key Remove w kn low Refused u = let s = u.came_to in let t = remove_stands (serial_in_word u.loaded) s.number s.stands in refused_is used v key Remove w kn low removal (serial_in_word u.loaded) s t.0 t.1
+  comes_to used v key (Put weight) w kn low Accepted u = let a = advance_from (Put weight) key u.loaded in let even = eqb-false (serial_in_word u.loaded % 2) 1 u.came_to.1 in
+      accepted_is used v key (Put weight) w kn low a u.came_to.0 insertion weight (omega (arith, even)) refl u.came_to.1
+  comes_to used v key (Put weight) w kn low Replaced u = let a = advance_from (Put weight) key u.loaded in
+      replaced_is used v key (Put weight) w kn low a u.came_to.0 weight (eqb-true (serial_in_word u.loaded % 2) 1 u.came_to.1) refl u.came_to.1
+  comes_to used v key (Put weight) w kn low Refused u = let s = u.came_to in refused_put used v key (Put weight) w kn low (serial_in_word u.loaded) s (s.stands.next refl)
 
   -- a load of the root is a snapshot: the cut of its newest entry, which has the number that was found
   pub snapshot_is : (v : View) (r : ℕ) (w : View) → KnowsTable face v → (t : LoadsNode face v (root_place v.shape) r w) → TakesSnapshot (knows v) (knows w) (root_cut v.shape w.seen t.index)

@@ -30,7 +30,7 @@ use Rattle.aug_trie.proofs.Whole.{says, tries, even, part_few}
 
 -- ---- the views so far
 
-module _ (f : ℕ → ℕ → List ℕ → List ℕ) where
+module _ (f : ℕ → ℕ → List (ℕ × ℕ) → List ℕ) where
   goes_stored : (v : View) (number : ℕ) (five : List ℕ) (k : ℕ) → KnowsTable f v → Goes f 0 [] v (stored v number five k)
   goes_stored v number five zero kn = goes_self f v kn
   goes_stored v number five (suc k) kn = let g = goes_stored v number five k kn in let w : View = stored v number five k in
@@ -122,7 +122,7 @@ pub record AllWords (left right : ℕ) (words : List ℕ) (third : View) : Type 
   pub says : (k : ℕ) → k < 6 → Says third (child_at left right k) (field_after k) (get_or words k 0)
 
 module _ {A B : Type 0} (parts_a : Parts A) (parts_b : Parts B) (laws_a : IsMonoid parts_a) (laws_b : IsMonoid parts_b) (v : View) (q : ℕ) where
-  abbrev both : ℕ → ℕ → List ℕ → List ℕ
+  abbrev both : ℕ → ℕ → List (ℕ × ℕ) → List ℕ
   both = face parts_a parts_b
 
   inside_left : IsInner v.shape q → left_of v.shape q < place_count v.shape
@@ -200,7 +200,7 @@ module _ {A B : Type 0} (parts_a : Parts A) (parts_b : Parts B) (laws_a : IsMono
 
 -- ---- a word of a child's record
 
-module _ (f : ℕ → ℕ → List ℕ → List ℕ) (v : View) (q number : ℕ) (r : Reading) (old w : View) (field x : ℕ) (t : TryAt f v q number (Part r) old) (is_field : field ≡ field_after r.count) (l : LoadsRecordWord old (child_at r.left r.right r.count) field x w) where
+module _ (f : ℕ → ℕ → List (ℕ × ℕ) → List ℕ) (v : View) (q number : ℕ) (r : Reading) (old w : View) (field x : ℕ) (t : TryAt f v q number (Part r) old) (is_field : field ≡ field_after r.count) (l : LoadsRecordWord old (child_at r.left r.right r.count) field x w) where
   abbrev a : AfterWords f v q r old
   a = t.is_at
 
@@ -243,7 +243,7 @@ module _ (f : ℕ → ℕ → List ℕ → List ℕ) (v : View) (q number : ℕ)
 -- ---- the own record
 
 module _ {A B : Type 0} (parts_a : Parts A) (parts_b : Parts B) (v : View) (q number : ℕ) (r : Filling) (old : View) (t : TryAt (face parts_a parts_b) v q number (Record r) old) where
-  abbrev f : ℕ → ℕ → List ℕ → List ℕ
+  abbrev f : ℕ → ℕ → List (ℕ × ℕ) → List ℕ
   f = face parts_a parts_b
 
   abbrev held : AfterStores f v q number r old

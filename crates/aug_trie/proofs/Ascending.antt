@@ -18,7 +18,7 @@ use Rattle.aug_trie.proofs.Going.{goes_on, goes_more, goes_self, took_none, took
 use Rattle.aug_trie.proofs.Levels.{lifts_none, place_is, cost_first, cost_later, took_level, lifts_level}
 use Rattle.aug_trie.proofs.Advancing.{goes_at}
 
-module _ (f : ℕ → ℕ → List ℕ → List ℕ) where
+module _ (f : ℕ → ℕ → List (ℕ × ℕ) → List ℕ) where
   -- ---- one try at a node, and the second
 
   -- a try that failed
@@ -175,7 +175,7 @@ module _ (f : ℕ → ℕ → List ℕ → List ℕ) where
 -- ---- the turns that are left
 
 -- some are, at every point
-pub point_some : (f : ℕ → ℕ → List ℕ → List ℕ) (v : View) (q number part : ℕ) (point : Point) (w : View) → TryAt f v q number point w → 1 ≤ point_turns part point
+pub point_some : (f : ℕ → ℕ → List (ℕ × ℕ) → List ℕ) (v : View) (q number part : ℕ) (point : Point) (w : View) → TryAt f v q number point w → 1 ≤ point_turns part point
 point_some f v q number part Node w t = omega arith
 point_some f v q number part (Left from) w t = omega arith
 point_some f v q number part (Right from left) w t = omega arith

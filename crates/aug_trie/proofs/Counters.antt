@@ -1,12 +1,21 @@
 -- The counters of a pass as it goes on.
-use Rattle.std.proofs.Common.{◌≡◌, ℕ, ◌+◌, ◌%◌, ◌≤◌, Bool, true, false, eqb, eq-eqb, ne_eqb, List, [], ◌∷◌, ◌++◌, length, sym, refl, ◌∙◌, subst, arith}
-use Rattle.std.specs.Int.{from_bool}
+use Rattle.std.proofs.Common.{◌≡◌, ℕ, ◌+◌, ◌%◌, ◌≤◌, ◌*◌, Bool, false, eqb, eq-eqb, ne_eqb, List, [], ◌∷◌, ◌++◌, length, sym, refl, ◌∙◌, subst, arith}
+use Rattle.std.proofs.lemmas.Bool.{eqb-true, eqb-false, false≢true}
 use Rattle.std.proofs.lemmas.List.{append-nil}
 use Rattle.aug_core.specs.Counts.{change, changes_of}
+use Rattle.aug_core.specs.Told.{made_by}
+use Rattle.aug_core.specs.declared.view.Advance.{Advance}
 use Rattle.aug_core.specs.declared.view.Change.{Change}
 use Rattle.aug_core.specs.declared.view.View.{View}
 use Rattle.aug_trie.specs.Counted.{HasCounts}
-use Rattle.aug_trie.specs.Climbing.{Updated}
+use Rattle.aug_model.specs.declared.outcome.Outcome.{Outcome}
+use Rattle.aug_model.specs.declared.outcome.Outcome.TheVariants.{Accepted, Replaced, Refused}
+use Rattle.aug_trie.specs.Climbing.{WentUp, Stayed, Updated}
+use Rattle.aug_trie.specs.LeafWords.{serial_in_word}
+use Rattle.aug_trie.specs.Requests.{advance_from, insertions_by, removals_by}
+use Rattle.aug_trie.specs.declared.request.Request.{Request}
+use Rattle.aug_trie.specs.declared.request.Request.TheVariants.{Insert, Remove, Put}
+use Rattle.aug_trie.proofs.Requesting.{made_one, made_two}
 use Rattle.aug_trie.specs.Facts.{IsPass}
 use Rattle.aug_trie.specs.Goes.{Goes}
 use Rattle.aug_trie.specs.Knowledge.{insertion, removal, inserts_of, removals_of}
@@ -26,16 +35,16 @@ counted_both xs ys a b c d p q = let i = hits-append is_insertion xs ys in let r
 pub counted_none : HasCounts [] 0 0
 counted_none = record { inserts_are = refl; removals_are = refl }
 
-one_insertion : (key serial : ℕ) → serial % 2 ≡ 1 → HasCounts (change key serial ∷ []) 1 0
-one_insertion key serial odd = record {
-  inserts_are = sym (hits_yes is_insertion (change key serial) [] (eq-eqb (serial % 2) 1 odd));
-  removals_are = sym (hits_no is_removal (change key serial) [] (ne_eqb (serial % 2) 0 (λ is. omega arith)));
+one_insertion : (key serial weight : ℕ) → serial % 2 ≡ 1 → HasCounts (change key serial weight ∷ []) 1 0
+one_insertion key serial weight odd = record {
+  inserts_are = sym (hits_yes is_insertion (change key serial weight) [] (eq-eqb (serial % 2) 1 odd));
+  removals_are = sym (hits_no is_removal (change key serial weight) [] (ne_eqb (serial % 2) 0 (λ is. omega arith)));
 }
 
-one_removal : (key serial : ℕ) → serial % 2 ≡ 0 → HasCounts (change key serial ∷ []) 0 1
-one_removal key serial even = record {
-  inserts_are = sym (hits_no is_insertion (change key serial) [] (ne_eqb (serial % 2) 1 (λ is. omega arith)));
-  removals_are = sym (hits_yes is_removal (change key serial) [] (eq-eqb (serial % 2) 0 even));
+one_removal : (key serial weight : ℕ) → serial % 2 ≡ 0 → HasCounts (change key serial weight ∷ []) 0 1
+one_removal key serial weight even = record {
+  inserts_are = sym (hits_no is_insertion (change key serial weight) [] (ne_eqb (serial % 2) 1 (λ is. omega arith)));
+  removals_are = sym (hits_yes is_removal (change key serial weight) [] (eq-eqb (serial % 2) 0 even));
 }
 
 -- no counter is past the number of changes
@@ -45,9 +54,9 @@ few_inserts changes = filter_shorter is_insertion changes
 pub few_removals : (changes : List Change) → removals_of changes ≤ length changes
 few_removals changes = filter_shorter is_removal changes
 
-module _ (face : ℕ → ℕ → List ℕ → List ℕ) where
-  -- a counter has room for one change more
-  pub may_count : (v : View) (leaves bits next left inserts removals : ℕ) → IsPass face v leaves bits next left → HasCounts (changes_of v.held) inserts removals → (inserts + left ≤ 65536) × (removals + left ≤ 65536)
+module _ (face : ℕ → ℕ → List (ℕ × ℕ) → List ℕ) where
+  -- a counter has room for all changes that may still come
+  pub may_count : (v : View) (leaves bits next left inserts removals : ℕ) → IsPass face v leaves bits next left → HasCounts (changes_of v.held) inserts removals → (inserts + 2 * left ≤ 131072) × (removals + 2 * left ≤ 131072)
   may_count v leaves bits next left inserts removals p c = let few = p.knows_table.laid_out.updates.1 in let b = p.budget in let i = few_inserts (changes_of v.held) in let r = few_removals (changes_of v.held) in
       let ci = c.inserts_are in let cr = c.removals_are in (omega arith, omega arith)
 
@@ -58,20 +67,26 @@ module _ (face : ℕ → ℕ → List ℕ → List ℕ) where
   pub counted_still : (used : ℕ) (v w : View) (inserts removals : ℕ) → Goes face used [] v w → HasCounts (changes_of v.held) inserts removals → HasCounts (changes_of w.held) inserts removals
   counted_still used v w inserts removals g c = subst (λ (z : List Change). HasCounts z inserts removals) (sym (g.changes ∙ append-nil (changes_of v.held))) c
 
-  -- an insertion counts one more where it was accepted
-  pub counted_insert : (used : ℕ) (v w : View) (key inserts removals : ℕ) (done : Bool) → Updated face used v key 0 w done → HasCounts (changes_of v.held) inserts removals → HasCounts (changes_of w.held) (inserts + from_bool done) removals
-  counted_insert used v w key inserts removals true u c = let a = u.accepted refl in let was = a.was in
-      subst (HasCounts (changes_of w.held) (inserts + 1)) (let e : removals + 0 ≡ removals = omega arith in e)
-      (counted_to v w inserts removals 1 0 (change key (a.serial + 1) ∷ []) a.goes.changes c (one_insertion key (a.serial + 1) (omega arith)))
-  counted_insert used v w key inserts removals false u c = subst (λ (z : ℕ). HasCounts (changes_of w.held) z removals) (let e : inserts ≡ inserts + 0 = omega arith in e) (counted_still used v w inserts removals (u.refused refl).goes c)
+  counted_one : (used : ℕ) (v w : View) (key inserts removals more less : ℕ) (request : Request) (a : Advance) → a.replaces ≡ false → HasCounts (change key (a.serial + 1) a.new_weight ∷ []) more less → WentUp face used v key request w a → HasCounts (changes_of v.held) inserts removals → HasCounts (changes_of w.held) (inserts + more) (removals + less)
+  counted_one used v w key inserts removals more less request a one g up c = counted_to v w inserts removals more less (made_by key a) up.goes.changes c (subst (λ (z : List Change). HasCounts z more less) (sym (made_one key a one)) g)
 
-  -- and so does a removal
-  pub counted_remove : (used : ℕ) (v w : View) (key inserts removals : ℕ) (done : Bool) → Updated face used v key 1 w done → HasCounts (changes_of v.held) inserts removals → HasCounts (changes_of w.held) inserts (removals + from_bool done)
-  counted_remove used v w key inserts removals true u c = let a = u.accepted refl in let was = a.was in
-      subst (λ (z : ℕ). HasCounts (changes_of w.held) z (removals + 1)) (let e : inserts + 0 ≡ inserts = omega arith in e)
-      (counted_to v w inserts removals 0 1 (change key (a.serial + 1) ∷ []) a.goes.changes c (one_removal key (a.serial + 1) (omega arith)))
-  counted_remove used v w key inserts removals false u c = subst (HasCounts (changes_of w.held) inserts) (let e : removals ≡ removals + 0 = omega arith in e) (counted_still used v w inserts removals (u.refused refl).goes c)
+  counted_same : (used : ℕ) (v w : View) (key inserts removals found : ℕ) (request : Request) → Stayed face used v key request w found → HasCounts (changes_of v.held) inserts removals → HasCounts (changes_of w.held) (inserts + 0) (removals + 0)
+  counted_same used v w key inserts removals found request s c = counted_to v w inserts removals 0 0 [] s.goes.changes c counted_none
 
-pub at_most_one : (done : Bool) → from_bool done ≤ 1
-at_most_one true = omega arith
-at_most_one false = omega arith
+  -- an update counts what it came to
+  pub counted_by : (used : ℕ) (v w : View) (key inserts removals : ℕ) (request : Request) (done : Outcome) → Updated face used v key request w done → HasCounts (changes_of v.held) inserts removals
+      → HasCounts (changes_of w.held) (inserts + insertions_by request done) (removals + removals_by request done)
+  counted_by used v w key inserts removals Insert Accepted u c = let a = advance_from Insert key u.loaded in let even = eqb-true (serial_in_word u.loaded % 2) 0 u.came_to.0.lets in
+      counted_one used v w key inserts removals 1 0 Insert a refl (one_insertion key (a.serial + 1) a.new_weight (omega (arith, even))) u.came_to.0 c
+  counted_by used v w key inserts removals Insert Replaced u c = absurd (false≢true u.came_to.1)
+  counted_by used v w key inserts removals Insert Refused u c = counted_same used v w key inserts removals (serial_in_word u.loaded) Insert u.came_to c
+  counted_by used v w key inserts removals Remove Accepted u c = let a = advance_from Remove key u.loaded in let odd = eqb-true (serial_in_word u.loaded % 2) 1 u.came_to.0.lets in
+      counted_one used v w key inserts removals 0 1 Remove a refl (one_removal key (a.serial + 1) a.new_weight (omega (arith, odd))) u.came_to.0 c
+  counted_by used v w key inserts removals Remove Replaced u c = absurd (false≢true u.came_to.1)
+  counted_by used v w key inserts removals Remove Refused u c = counted_same used v w key inserts removals (serial_in_word u.loaded) Remove u.came_to c
+  counted_by used v w key inserts removals (Put weight) Accepted u c = let a = advance_from (Put weight) key u.loaded in let even = eqb-false (serial_in_word u.loaded % 2) 1 u.came_to.1 in
+      counted_one used v w key inserts removals 1 0 (Put weight) a u.came_to.1 (one_insertion key (a.serial + 1) a.new_weight (omega (arith, even))) u.came_to.0 c
+  counted_by used v w key inserts removals (Put weight) Replaced u c = let a = advance_from (Put weight) key u.loaded in let odd = eqb-true (serial_in_word u.loaded % 2) 1 u.came_to.1 in
+      let two = counted_both (change key (a.serial + 1) 0 ∷ []) (change key (a.serial + 2) a.new_weight ∷ []) 0 1 1 0 (one_removal key (a.serial + 1) 0 (omega (arith, odd))) (one_insertion key (a.serial + 2) a.new_weight (omega (arith, odd))) in
+      counted_to v w inserts removals 1 1 (made_by key a) u.came_to.0.goes.changes c (subst (λ (z : List Change). HasCounts z 1 1) (sym (made_two key a u.came_to.1)) two)
+  counted_by used v w key inserts removals (Put weight) Refused u c = counted_same used v w key inserts removals (serial_in_word u.loaded) (Put weight) u.came_to c

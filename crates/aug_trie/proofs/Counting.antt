@@ -89,18 +89,32 @@ module _ {X : Type 0} (p q : X → Bool) where
       (λ good. let b = hits_yes p x xs good in omega arith)
       (λ bad. let b = hits_no p x xs bad in omega arith) (cases_Bool (p x))) (cases_Bool (q x))
 
--- ---- places of flat lists
+-- ---- places of lists
 
-at_longer : {X : Type 0} (xs ys : List X) (i : ℕ) (x : X) → get_elem? xs i ≡ some x → get_elem? (xs ++ ys) i ≡ some x
+-- the element stands somewhere in the list
+abbrev pub IsIn : {X : Type 0} → List X → X → Type 0
+IsIn xs x = (j : ℕ) × (get_elem? xs j ≡ some x)
+
+-- what passes the test is in the filtered list
+pub filter_place : {X : Type 0} (q : X → Bool) (xs : List X) (k : ℕ) (x : X) → get_elem? xs k ≡ some x → q x ≡ true → IsIn (filter q xs) x
+filter_place q [] k x at good = absurd (some-ne-none x (sym at))
+filter_place q (y ∷ ys) zero x at good = let e : q y ≡ true = ap q (some-injective y x at) ∙ good in (0, ap (λ (b : Bool). get_elem? (cond b (y ∷ filter q ys) (filter q ys)) 0) e ∙ at)
+filter_place q (y ∷ ys) (suc k) x at good = behind (q y) (filter_place q ys k x at good)
+  where
+    behind : (b : Bool) → IsIn (filter q ys) x → IsIn (cond b (y ∷ filter q ys) (filter q ys)) x
+    behind true t = (suc t.0, t.1)
+    behind false t = t
+
+pub at_longer : {X : Type 0} (xs ys : List X) (i : ℕ) (x : X) → get_elem? xs i ≡ some x → get_elem? (xs ++ ys) i ≡ some x
 at_longer [] ys i x at = absurd (some-ne-none x (sym at))
 at_longer (y ∷ xs) ys zero x at = at
 at_longer (y ∷ xs) ys (suc i) x at = at_longer xs ys i x at
 
-at_after : {X : Type 0} (xs ys : List X) (j : ℕ) (x : X) → get_elem? ys j ≡ some x → get_elem? (xs ++ ys) (length xs + j) ≡ some x
+pub at_after : {X : Type 0} (xs ys : List X) (j : ℕ) (x : X) → get_elem? ys j ≡ some x → get_elem? (xs ++ ys) (length xs + j) ≡ some x
 at_after [] ys j x at = let e : 0 + j ≡ j = omega arith in subst (λ (z : ℕ). get_elem? ys z ≡ some x) (sym e) at
 at_after (y ∷ xs) ys j x at = let e : suc (length xs) + j ≡ suc (length xs + j) = omega arith in subst (λ (z : ℕ). get_elem? (y ∷ (xs ++ ys)) z ≡ some x) (sym e) (at_after xs ys j x at)
 
-pub flat_place : {X Y : Type 0} (f : Y → List X) (ys : List Y) (a k : ℕ) (y : Y) (x : X) → get_elem? ys a ≡ some y → get_elem? (f y) k ≡ some x → (j : ℕ) × (get_elem? (flat_map f ys) j ≡ some x)
+pub flat_place : {X Y : Type 0} (f : Y → List X) (ys : List Y) (a k : ℕ) (y : Y) (x : X) → get_elem? ys a ≡ some y → get_elem? (f y) k ≡ some x → IsIn (flat_map f ys) x
 flat_place f [] a k y x at there = absurd (some-ne-none y (sym at))
 flat_place {X} {Y} f (z ∷ zs) zero k y x at there = (k, at_longer (f z) (flat_map f zs) k x (subst (λ (w : Y). get_elem? (f w) k ≡ some x) (sym (some-injective z y at)) there))
 flat_place f (z ∷ zs) (suc a) k y x at there = let t = flat_place f zs a k y x at there in (length (f z) + t.0, at_after (f z) (flat_map f zs) t.0 x t.1)

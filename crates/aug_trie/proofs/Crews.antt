@@ -1,8 +1,10 @@
 -- A crew as its round begins, and as it hands passes out.
-use Rattle.std.proofs.Common.{◌≡◌, ℕ, ◌+◌, ◌*◌, ◌%◌, ◌^◌, ◌<◌, ◌≤◌, List, [], ◌∷◌, length, sym, refl, ap, ◌∙◌, subst, arith}
+use Rattle.std.proofs.Common.{◌≡◌, ℕ, ◌+◌, ◌*◌, ◌%◌, ◌^◌, ◌<◌, ◌≤◌, List, [], ◌∷◌, All, length, sym, refl, ap, ◌∙◌, subst, arith}
 use Rattle.std.specs.Prelude.{unwrap_or, Some, map, Option, option_map}
 use Rattle.std.specs.List.{range_with_len}
-use Rattle.aug_model.specs.Keys.{IsKeySet}
+use Rattle.aug_monoid.specs.Weighted.{FitsPair}
+use Rattle.aug_model.specs.Keys.{IsKeySet, keys_of}
+use Rattle.aug_model.proofs.Pairs.{length-keys_of}
 use Rattle.aug_core.specs.Places.{Shape, record_count}
 use Rattle.aug_core.specs.Counts.{changes_of}
 use Rattle.aug_core.specs.declared.view.Held.{Held}
@@ -31,13 +33,13 @@ use Rattle.aug_trie.proofs.Counters.{counted_none, is_insertion, is_removal}
 use Rattle.aug_trie.proofs.Counting.{hits-append}
 use Rattle.aug_trie.proofs.Handing.{crew_begins, handed_out_is, handed_back_is, crew_after, pass_table, pass_begins, crew_out}
 
-module _ (face : ℕ → ℕ → List ℕ → List ℕ) where
+module _ (face : ℕ → ℕ → List (ℕ × ℕ) → List ℕ) where
   -- the lead of a table that was just opened
-  module _ (o : Opening) (laid_out : IsLayout o.shape) (set : IsKeySet o.shape.bits o.members) (few : length o.members ≤ o.shape.members) where
+  module _ (o : Opening) (laid_out : IsLayout o.shape) (set : IsKeySet o.shape.bits (keys_of o.members)) (fit : All FitsPair o.members) (few : length o.members ≤ o.shape.members) where
     pub begins_crew : HoldsCrew face (newcomer face o) 0 0 0
     begins_crew = record {
       handed = 0;
-      is_crew = crew_begins face (newcomer face o) (newcomer_knows face o laid_out set few) refl refl;
+      is_crew = crew_begins face (newcomer face o) (newcomer_knows face o laid_out set fit (let long = length-keys_of o.members in omega arith)) refl refl;
       few = omega arith;
       back_is = refl;
       inserts_are = refl;

@@ -1,18 +1,20 @@
 -- How a round ends, and the trie that no round ended.
-use Rattle.std.proofs.Common.{◌≡◌, ℕ, zero, suc, ◌+◌, ◌-◌, ◌*◌, ◌%◌, ◌^◌, ◌<◌, ◌≤◌, eqb, List, [], ◌∷◌, get_or, length, length-append, refl, sym, ap, ◌∙◌, subst, arith, Option}
+use Rattle.std.proofs.Common.{◌≡◌, ℕ, zero, suc, ◌+◌, ◌-◌, ◌*◌, ◌%◌, ◌^◌, ◌<◌, ◌≤◌, eqb, List, [], ◌∷◌, All, get_or, length, length-append, refl, sym, ap, ◌∙◌, subst, arith, Option}
 use Rattle.std.specs.Prelude.{unwrap_or}
 use Rattle.std.proofs.Math.Nat.{mod-eq_of_lt}
 use mathlib.Core.Option.{some}
 use lib.ListN.{get_elem?}
 use Rattle.atomic_table.specs.Seated.{TableId}
 use Rattle.std.proofs.lemmas.List.Elements.{All-nil}
-use Rattle.aug_model.specs.Keys.{IsKeySet}
+use Rattle.aug_monoid.specs.Weighted.{FitsPair}
+use Rattle.aug_model.specs.Keys.{IsKeySet, keys_of}
+use Rattle.aug_model.proofs.Pairs.{length-keys_of, length-pairs_of}
 use Rattle.aug_core.specs.Places.{Shape, shape_of, own_records}
 use Rattle.aug_core.specs.Layout.{IsLayout, IsWithin}
 use Rattle.aug_core.specs.Tree.{IsInner, root_place}
 use Rattle.aug_core.specs.Book.{At, history_of}
 use Rattle.aug_core.specs.Counts.{changes_of}
-use Rattle.aug_core.specs.Cuts.{Cut, set_of_cut, opening_cut, IsAtMost}
+use Rattle.aug_core.specs.Cuts.{Cut, weight_at, set_of_cut, pairs_of_cut, opening_cut, IsAtMost}
 use Rattle.aug_core.specs.Opening.{Opening}
 use Rattle.aug_core.specs.Rule.{Kept}
 use Rattle.aug_core.specs.Told.{opening_of}
@@ -33,7 +35,7 @@ use Rattle.aug_trie.specs.Tallies.{TalliesWithLost}
 use Rattle.aug_trie.specs.Versions.{word_in}
 use Rattle.aug_trie.proofs.Counting.{filter_shorter}
 use Rattle.aug_trie.proofs.Tallying.{held_few, tallies_at_end, none_lost_tallies}
-use Rattle.aug_trie.proofs.CutLemmas.{set_of_cut-opening}
+use Rattle.aug_trie.proofs.CutLemmas.{set_of_cut-opening, pairs_of_cut-opening}
 use Rattle.aug_trie.proofs.TallyLemmas.{sizes}
 use Rattle.aug_trie.proofs.Histories.{root_some, first_cut, last_is}
 use Rattle.aug_core.proofs.EntryCuts.{root_rises}
@@ -45,7 +47,7 @@ module _ (store : Store) (lead : Known) (rest : AtRest) (t : AreTogether store l
   pub rest_shape : rest.shape ≡ lead.view.shape
   rest_shape = shape ∙ sym t.one_shape
 
-  pub shows_seen : (face : ℕ → ℕ → List ℕ → List ℕ) → ShowAll face store.opening lead.view rest.words
+  pub shows_seen : (face : ℕ → ℕ → List (ℕ × ℕ) → List ℕ) → ShowAll face store.opening lead.view rest.words
       → (q i field : ℕ) (e : Entry) → IsInner lead.view.shape q → At lead.view.seen q i e → field < 5 → word_in rest e.number field ≡ get_or e.words field 0
   shows_seen face all q i field e inner p low = ap (λ (z : Shape). word_in (record { shape = z; words = rest.words }) e.number field) shape
       ∙ all.seen_records q i field e (subst (λ (z : Shape). IsInner z q) t.one_shape inner) p low
@@ -58,7 +60,7 @@ changes_few [] most each = omega arith
 changes_few (h ∷ hs) most each = let here = each 0 h refl in let rest = changes_few hs most (λ a g p. each (suc a) g p) in
     let long = length-append h.changes (changes_of hs) in omega arith
 
-module _ (face : ℕ → ℕ → List ℕ → List ℕ) (v : View) (back inserts removals : ℕ) (c : HoldsCrew face v back inserts removals) (s : St) (r : Kept face (opening_of v) s) (id : ℕ) (at : get_elem? s.views id ≡ some v) where
+module _ (face : ℕ → ℕ → List (ℕ × ℕ) → List ℕ) (v : View) (back inserts removals : ℕ) (c : HoldsCrew face v back inserts removals) (s : St) (r : Kept face (opening_of v) s) (id : ℕ) (at : get_elem? s.views id ≡ some v) where
   all_held : length v.held ≤ c.handed
   all_held = held_few face s id c.handed v r at c.is_crew.hands_out c.is_crew.knows_table c.is_crew.knowledge.stands
 
@@ -70,7 +72,7 @@ module _ (face : ℕ → ℕ → List ℕ → List ℕ) (v : View) (back inserts
 
   changes_fit : length (changes_of v.held) < 2 ^ 32
   changes_fit = let few = all_held in let most = c.few in let laid = c.is_crew.knows_table.laid_out in let workers = laid.workers.1 in let updates = laid.updates.1 in
-      let le = changes_few v.held 65536 (λ a h p. let is = r.changes.tallied.each id a v h at p in let le = r.changes.tallied.few h.lane ((r.each_view id v at).holds a h p).exists in omega arith) in omega arith
+      let le = changes_few v.held 131072 (λ a h p. let is = r.changes.tallied.each id a v h at p in let le = r.changes.tallied.few h.lane ((r.each_view id v at).holds a h p).exists in omega arith) in omega arith
 
   inserts_exact : inserts ≡ inserts_of (changes_of v.held)
   inserts_exact = let fit = changes_fit in let le : inserts_of (changes_of v.held) ≤ length (changes_of v.held) = filter_shorter (λ (z : Change). eqb (z.serial % 2) insertion) (changes_of v.held) in c.inserts_are ∙ mod-eq_of_lt (omega arith)
@@ -78,7 +80,7 @@ module _ (face : ℕ → ℕ → List ℕ → List ℕ) (v : View) (back inserts
   removals_exact : removals ≡ removals_of (changes_of v.held)
   removals_exact = let fit = changes_fit in let le : removals_of (changes_of v.held) ≤ length (changes_of v.held) = filter_shorter (λ (z : Change). eqb (z.serial % 2) removal) (changes_of v.held) in c.removals_are ∙ mod-eq_of_lt (omega arith)
 
-  pub ends_so : (table : TableId) (ended : EndedFacts) → ended.bits ≡ v.shape.bits → ended.members ≡ set_of_cut (last_cut (knows v).history) → ended.inserts ≡ inserts → ended.removals ≡ removals → ended.missing ≡ c.handed - back → ended.calls ≡ 0
+  pub ends_so : (table : TableId) (ended : EndedFacts) → ended.bits ≡ v.shape.bits → ended.members ≡ pairs_of_cut (last_cut (knows v).history) → ended.inserts ≡ inserts → ended.removals ≡ removals → ended.missing ≡ c.handed - back → ended.calls ≡ 0
       → Ends (crew_facts (record { table = table; view = v })) ended
   ends_so table ended bits members ins rem miss calls = let spare : unwrap_or v.spare 0 ≡ c.handed = ap (λ (z : Option ℕ). unwrap_or z 0) c.is_crew.hands_out in record {
     bits = bits;
@@ -88,7 +90,7 @@ module _ (face : ℕ → ℕ → List ℕ → List ℕ) (v : View) (back inserts
     missing = let few = back_few in let is = back_exact in omega arith;
     no_calls = calls;
     is_history = c.is_crew.knowledge.is_history;
-    tallies = subst (λ (z : ℕ). TalliesWithLost v.shape.updates z (opening_cut v.shape.bits v.members) (last_cut (knows v).history) (changes_of v.held)) (ap (λ (z : ℕ). c.handed - z) (sym back_exact) ∙ sym miss)
+    tallies = subst (λ (z : ℕ). TalliesWithLost v.shape.updates z (opening_cut v.shape.bits v.members) (last_cut (knows v).history) (knows v).history (changes_of v.held)) (ap (λ (z : ℕ). c.handed - z) (sym back_exact) ∙ sym miss)
         (tallies_at_end face s id c.handed v r at c.is_crew.hands_out c.is_crew.knows_table c.is_crew.knowledge.stands (length v.held) refl);
   }
 
@@ -101,12 +103,12 @@ module _ (face : ℕ → ℕ → List ℕ → List ℕ) (v : View) (back inserts
   -- so where no pass is missing, the set grew by the insertions and shrank by the removals
   pub sizes_so : (table : TableId) (ended : EndedFacts) → Ends (crew_facts (record { table = table; view = v })) ended → ended.missing ≡ 0 → length ended.members + ended.removals ≡ length v.members + ended.inserts
   sizes_so table ended e none = let first : Cut = opening_cut v.shape.bits v.members in let last : Cut = last_cut (knows v).history in let all : List Change = changes_of v.held in
-      let tally = none_lost_tallies v.shape.updates first last all (subst (λ (z : ℕ). TalliesWithLost v.shape.updates z first last all) none e.tallies) in
-      let sum = sizes first last all risen tally in let opened = ap (λ (z : List ℕ). length z) (set_of_cut-opening v.shape.bits v.members c.is_crew.knows_table.key_set) in
-      let members = ap (λ (z : List ℕ). length z) e.members in let ins = e.inserts in let rem = e.removals in omega arith
+      let tally = none_lost_tallies v.shape.updates first last (knows v).history all (subst (λ (z : ℕ). TalliesWithLost v.shape.updates z first last (knows v).history all) none e.tallies) in
+      let sum = sizes first last all risen tally in let opened : length (set_of_cut first) ≡ length v.members = ap (λ (z : List ℕ). length z) (set_of_cut-opening v.shape.bits v.members c.is_crew.knows_table.key_set) ∙ length-keys_of v.members in
+      let members : length ended.members ≡ length (set_of_cut last) = ap (λ (z : List (ℕ × ℕ)). length z) e.members ∙ length-pairs_of (weight_at last) (set_of_cut last) in let ins = e.inserts in let rem = e.removals in omega arith
 
 -- the rule at the end, for the opening that the lead knows
-pub kept_for : (face : ℕ → ℕ → List ℕ → List ℕ) (store : Store) (lead : Known) (words : List ℕ) → AreTogether store lead → (e : EndWith face store.opening lead.view words) → Kept face (opening_of lead.view) e.state
+pub kept_for : (face : ℕ → ℕ → List (ℕ × ℕ) → List ℕ) (store : Store) (lead : Known) (words : List ℕ) → AreTogether store lead → (e : EndWith face store.opening lead.view words) → Kept face (opening_of lead.view) e.state
 kept_for face store lead words t e = subst (λ (z : Opening). Kept face z e.state) (λ i. record { shape = sym t.one_shape i; members = sym t.same_members i }) e.kept
 
 -- ---- the empty trie
@@ -121,9 +123,12 @@ none_own bits (suc level) = let is = none_own bits level in omega arith
 pub smallest : (bits : ℕ) → IsWithin 1 16 bits → IsLayout (shape_of bits 1 1 0)
 smallest bits within = let t = twice bits in let k = keys-within bits within.0 within.1 in let none = none_own bits bits in record { bits = within; workers = (omega arith, omega arith); updates = (omega arith, omega arith); words = omega arith }
 
-pub no_keys : (bits : ℕ) (members : List ℕ) → members ≡ [] → IsKeySet bits members
-no_keys bits members is = subst (IsKeySet bits) (sym is) record { rising = λ k low. absurd (let e : k + 1 < 0 = low in omega arith); below = All-nil (λ k. k < 2 ^ bits) }
+pub no_keys : (bits : ℕ) (members : List (ℕ × ℕ)) → members ≡ [] → IsKeySet bits (keys_of members)
+no_keys bits members is = subst (λ (z : List (ℕ × ℕ)). IsKeySet bits (keys_of z)) (sym is) record { rising = λ k low. absurd (let e : k + 1 < 0 = low in omega arith); below = All-nil (λ k. k < 2 ^ bits) }
+
+pub none_fit : (members : List (ℕ × ℕ)) → members ≡ [] → All FitsPair members
+none_fit members is = subst (All FitsPair) (sym is) (All-nil FitsPair)
 
 -- the opening cut of no members shows none
-pub none_shown : (bits : ℕ) → set_of_cut (opening_cut bits []) ≡ []
-none_shown bits = set_of_cut-opening bits [] (no_keys bits [] refl)
+pub none_shown : (bits : ℕ) → pairs_of_cut (opening_cut bits []) ≡ []
+none_shown bits = pairs_of_cut-opening bits [] (no_keys bits [] refl)

@@ -1,5 +1,5 @@
 -- How the steps of a pass go together.
-use Rattle.std.proofs.Common.{◌≡◌, ℕ, zero, suc, ◌+◌, ◌-◌, ◌<◌, ◌≤◌, false, List, [], ◌∷◌, ◌++◌, length, append_assoc, length-append, length-set, sym, refl, ap, ◌∙◌, subst, arith}
+use Rattle.std.proofs.Common.{◌≡◌, ℕ, zero, suc, ◌+◌, ◌-◌, ◌*◌, ◌<◌, ◌≤◌, false, List, [], ◌∷◌, ◌++◌, length, append_assoc, length-append, length-set, sym, refl, ap, ◌∙◌, subst, arith}
 use Rattle.std.proofs.lemmas.List.{append-nil}
 use Rattle.std.proofs.lemmas.List.Elements.{All-nil, All-cons, All-append}
 use mathlib.Core.Option.{some, some-injective}
@@ -8,8 +8,8 @@ use Rattle.aug_core.specs.Places.{Shape}
 use Rattle.aug_core.specs.Lanes.{first_record, lane_records, block_start, block_size}
 use Rattle.aug_core.specs.Book.{Continues, IsFresh}
 use Rattle.aug_core.specs.Rule.{Lists}
-use Rattle.aug_core.specs.Counts.{change, changes_of}
-use Rattle.aug_core.specs.Told.{HoldsOnly, own_lane, on_first, with_word, with_published, with_change, stepping, storing, seeing, beginning, publishing, changing, KnowsTable, MayStore, MayChange, Sees}
+use Rattle.aug_core.specs.Counts.{changes_of}
+use Rattle.aug_core.specs.Told.{HoldsOnly, own_lane, on_first, with_word, with_published, with_changes, stepping, storing, seeing, beginning, publishing, changing, KnowsTable, MayStore, MayChange, Sees}
 use Rattle.aug_core.specs.declared.step.StepTaken.{StepTaken}
 use Rattle.aug_core.specs.declared.view.Change.{Change}
 use Rattle.aug_core.specs.declared.view.Held.{Held}
@@ -68,8 +68,8 @@ pub may_store_room : (v : View) (number : ℕ) → HasRoom v number 1 → MaySto
 may_store_room v number r = let room = r.room in may_store v number number r.is_free (omega arith) (omega arith)
 
 -- the pass may try a leaf, while it has updates left
-pub may_change : (v : View) (next records : ℕ) → HasRoom v next records → length (changes_of v.held) < v.shape.updates → MayChange v
-may_change v next records r few = let f = r.is_free in record { lane = f.lane; only = f.only; room = subst (λ (z : List Change). length z < v.shape.updates) (only_changes v f.lane f.only) few }
+pub may_change : (v : View) (next records : ℕ) → HasRoom v next records → length (changes_of v.held) + 2 ≤ 2 * v.shape.updates → MayChange v
+may_change v next records r few = let f = r.is_free in record { lane = f.lane; only = f.only; room = subst (λ (z : List Change). length z + 2 ≤ 2 * v.shape.updates) (only_changes v f.lane f.only) few }
 
 -- a load that showed the book is one step, in which no update began
 pub quiet_seeing : (v w : View) (taken : StepTaken) → w ≡ seeing v w.seen taken → Continues w.seen v.seen → QuietStep v w
@@ -85,7 +85,7 @@ quiet_seeing v w taken is later = (
   ap (λ (z : View). z.began) is,
 )
 
-module _ (face : ℕ → ℕ → List ℕ → List ℕ) where
+module _ (face : ℕ → ℕ → List (ℕ × ℕ) → List ℕ) where
   pub goes_self : (v : View) → KnowsTable face v → Goes face 0 [] v v
   goes_self v kn = record {
     later = λ q i e p. p;
@@ -198,21 +198,21 @@ module _ (face : ℕ → ℕ → List ℕ → List ℕ) where
       one_more l number n m past above not zero e = let same : number ≡ m = some-injective number m e in omega arith
       one_more l number n m past above not (suc i) e = not (i, e)
 
-  -- a view whose change was accepted
-  pub goes_changing : (v w : View) (key serial : ℕ) (taken : StepTaken) (h : Held) → HoldsOnly v h → w ≡ changing v w.seen key serial taken → KnowsTable face v → Sees face v w → Goes face 0 (change key serial ∷ []) v w
-  goes_changing v w key serial taken h only is kn sees = let shaped : w.shape ≡ v.shape = ap (λ (z : View). z.shape) is in let same : w.members ≡ v.members = ap (λ (z : View). z.members) is in
-      let held : w.held ≡ on_first (with_change key serial) v.held = ap (λ (z : View). z.held) is in
-      let new : HoldsOnly w (with_change key serial h) = held ∙ ap (on_first (with_change key serial)) only in record {
+  -- a view whose changes were accepted
+  pub goes_changing : (v w : View) (more : List Change) (taken : StepTaken) (h : Held) → HoldsOnly v h → w ≡ changing v w.seen more taken → KnowsTable face v → Sees face v w → Goes face 0 more v w
+  goes_changing v w more taken h only is kn sees = let shaped : w.shape ≡ v.shape = ap (λ (z : View). z.shape) is in let same : w.members ≡ v.members = ap (λ (z : View). z.members) is in
+      let held : w.held ≡ on_first (with_changes more) v.held = ap (λ (z : View). z.held) is in
+      let new : HoldsOnly w (with_changes more h) = held ∙ ap (on_first (with_changes more)) only in record {
         later = sees.later;
         fresh = sees.fresh;
         knows_table = knows_shown face v w kn sees shaped same;
         shaped = shaped;
         same_members = same;
-        lane = ap own_lane held ∙ own_lane_on (with_change key serial) v.held (λ h. refl);
-        changes = only_changes w (with_change key serial h) new ∙ ap (λ (z : List Change). z ++ change key serial ∷ []) (sym (only_changes v h only));
+        lane = ap own_lane held ∙ own_lane_on (with_changes more) v.held (λ h. refl);
+        changes = only_changes w (with_changes more h) new ∙ ap (λ (z : List Change). z ++ more) (sym (only_changes v h only));
         still_free = λ n past f. record {
-          lane = with_change key serial f.lane;
-          only = held ∙ ap (on_first (with_change key serial)) f.only;
+          lane = with_changes more f.lane;
+          only = held ∙ ap (on_first (with_changes more)) f.only;
           from_first = subst (λ (z : Shape). first_record z f.lane.lane ≤ n) (sym shaped) f.from_first;
           unpublished = f.unpublished;
           long = subst (λ (z : Shape). length f.lane.words ≡ block_size z) (sym shaped) f.long;

@@ -22,7 +22,7 @@ use Rattle.aug_trie.proofs.Histories.{is_history}
 use Rattle.aug_trie.proofs.Accepting.{knows_on, stands_on}
 use Rattle.aug_trie.proofs.Pieces.{either_begins, changes-append}
 
-module _ (face : ℕ → ℕ → List ℕ → List ℕ) where
+module _ (face : ℕ → ℕ → List (ℕ × ℕ) → List ℕ) where
   -- the lead of a new table is a crew
   pub crew_begins : (v : View) → KnowsTable face v → v.held ≡ [] → v.spare ≡ Some 0 → IsCrew face v 0 0
   crew_begins v kn none first = record {

@@ -7,18 +7,20 @@ use Rattle.aug_core.specs.Book.{Book, history_of, Continues, IsBook}
 use Rattle.aug_core.specs.Opening.{opening_book}
 use Rattle.aug_core.specs.declared.view.Entry.{Entry}
 use Rattle.aug_core.specs.declared.view.View.{View}
+use Rattle.aug_model.specs.Keys.{keys_of}
+use Rattle.aug_model.proofs.Pairs.{length-keys_of}
 use Rattle.aug_model.proofs.Ranges.{rises_from}
 use Rattle.aug_core.proofs.Books.{no_shorter}
 use Rattle.aug_core.proofs.Openings.{is_book, inner_history}
 use Rattle.aug_core.specs.Shows.{above, NewestShows, ShowsAtMost}
 use Rattle.aug_core.proofs.Showing.{above_root}
-use Rattle.aug_core.specs.Cuts.{Cut, serial_of, opening_cut, IsAtMost}
+use Rattle.aug_core.specs.Cuts.{Cut, shown_of, serial_of, opening_cut, IsAtMost}
 use Rattle.aug_trie.specs.History.{Begins, IsHistory, last_cut}
-use Rattle.aug_core.specs.EntryCuts.{root_cut}
+use Rattle.aug_core.specs.EntryCuts.{entry_of, root_cut}
 use Rattle.aug_core.specs.Told.{KnowsTable, opening_of}
 use Rattle.aug_trie.specs.Knows.{root_history}
 use Rattle.aug_trie.proofs.Pieces.{begins_at}
-use Rattle.aug_core.proofs.CutsUnder.{root_word, reached, serial_is, shows_reached}
+use Rattle.aug_core.proofs.CutsUnder.{root_word, reached, shown_is, serial_is, shows_reached}
 use Rattle.aug_core.proofs.EntryCuts.{Has, reached_shows, root_rises, cut_later}
 use Rattle.aug_core.proofs.OpeningCuts.{root_inner, opening_first}
 
@@ -36,13 +38,17 @@ last_is s book i long = let h = history_long s book in let e : length (root_hist
 pub root_serial : (s : Shape) (book : Book) (key i : ℕ) → key < 2 ^ s.bits → serial_of (root_cut s book i) key ≡ reached s book key s.bits i
 root_serial s book key i low = serial_is s book key s.bits 0 key (root_place s) i (root_word s) (omega arith) low
 
+-- and its weight is that entry's
+pub root_shows : (s : Shape) (book : Book) (key i : ℕ) → key < 2 ^ s.bits → shown_of (root_cut s book i) key ≡ (reached s book key s.bits i, (entry_of book key (reached s book key s.bits i)).weight)
+root_shows s book key i low = shown_is s book key s.bits 0 key (root_place s) i (root_word s) (omega arith) low
+
 -- what the root's newest entry shows of a key is no more than its serial in the last cut
 pub shown_last : (s : Shape) (book : Book) (key n : ℕ) → key < 2 ^ s.bits → NewestShows s book key s.bits n → n ≤ serial_of (last_cut (root_history s book)) key
 shown_last s book key n low h = let root = above_root s key low in
     let long : length (history_of book (root_place s)) ≡ h.index + 1 = ap (λ (z : ℕ). length (history_of book z)) (sym root) ∙ h.newest.last in
     let is = ap (λ (z : Cut). serial_of z key) (last_is s book h.index long) ∙ root_serial s book key h.index low in let le = shows_reached s book key s.bits h.index n h.shows in omega arith
 
-module _ (face : ℕ → ℕ → List ℕ → List ℕ) (s : Shape) (book : Book) (b : IsBook face s book) where
+module _ (face : ℕ → ℕ → List (ℕ × ℕ) → List ℕ) (s : Shape) (book : Book) (b : IsBook face s book) where
   -- and its serial there is shown
   pub last_shown : (key most : ℕ) → key < 2 ^ s.bits → 0 < length (history_of book (root_place s)) → ShowsAtMost s book key most → serial_of (last_cut (root_history s book)) key ≤ most
   last_shown key most low some h = let i : ℕ = length (history_of book (root_place s)) - 1 in let has : Has book (root_place s) i = omega arith in
@@ -58,13 +64,13 @@ module _ (face : ℕ → ℕ → List ℕ → List ℕ) (s : Shape) (book : Book
       cut_at s book i h ∙ sym (cut_later face s book b later s.bits 0 (root_place s) i grows (root_word s) h) ∙ sym (cut_at s later i h'))
 
 -- the last cut rises
-pub last_rises : (face : ℕ → ℕ → List ℕ → List ℕ) (s : Shape) (seen book : Book) → IsBook face s seen → IsBook face s book → Continues book seen → 0 < length (history_of seen (root_place s)) → IsAtMost (last_cut (root_history s seen)) (last_cut (root_history s book))
+pub last_rises : (face : ℕ → ℕ → List (ℕ × ℕ) → List ℕ) (s : Shape) (seen book : Book) → IsBook face s seen → IsBook face s book → Continues book seen → 0 < length (history_of seen (root_place s)) → IsAtMost (last_cut (root_history s seen)) (last_cut (root_history s book))
 last_rises face s seen book b b' later some = let le = no_shorter book seen later (root_place s) in let i : ℕ = length (history_of seen (root_place s)) - 1 in let j : ℕ = length (history_of book (root_place s)) - 1 in
     let x : root_cut s book i ≡ last_cut (root_history s seen) = cut_later face s seen b book s.bits 0 (root_place s) i later (root_word s) (omega arith) ∙ sym (last_is s seen i (omega arith)) in
     let y : root_cut s book j ≡ last_cut (root_history s book) = sym (last_is s book j (omega arith)) in
     subst (λ (z : Cut). IsAtMost z (last_cut (root_history s book))) x (subst (IsAtMost (root_cut s book i)) y (root_rises face s book b' i j (omega arith) (omega arith)))
 
-module _ (face : ℕ → ℕ → List ℕ → List ℕ) (v : View) (kn : KnowsTable face v) where
+module _ (face : ℕ → ℕ → List (ℕ × ℕ) → List ℕ) (v : View) (kn : KnowsTable face v) where
   abbrev root : ℕ
   root = root_place v.shape
 
@@ -83,7 +89,7 @@ module _ (face : ℕ → ℕ → List ℕ → List ℕ) (v : View) (kn : KnowsTa
 
   -- its history begins with the opening cut
   pub first_cut : root_cut v.shape v.seen 0 ≡ opening_cut v.shape.bits v.members
-  first_cut = cut_later face v.shape opened (is_book face (opening_of v) (rises_from v.members kn.key_set.rising) kn.few_members) v.seen v.shape.bits 0 root 0 kn.opened (root_word v.shape) first_has
+  first_cut = cut_later face v.shape opened (is_book face (opening_of v) (rises_from (keys_of v.members) kn.key_set.rising) kn.members_fit (let few = kn.few_members in let long = length-keys_of v.members in omega arith)) v.seen v.shape.bits 0 root 0 kn.opened (root_word v.shape) first_has
       ∙ opening_first face (opening_of v) some_bits
 
   pub is_history : IsHistory v.shape.bits v.members (root_history v.shape v.seen)

@@ -11,7 +11,7 @@ use Rattle.aug_core.proofs.CutsUnder.{root_word}
 use Rattle.aug_core.proofs.EntryCuts.{entry_later, cut_later}
 use Rattle.aug_trie.specs.Facts.{IsSnapshotOf, IsNodeOf}
 
-module _ (face : ℕ → ℕ → List ℕ → List ℕ) (s : Shape) (book later : Book) (b : IsBook face s book) (grows : Continues later book) where
+module _ (face : ℕ → ℕ → List (ℕ × ℕ) → List ℕ) (s : Shape) (book later : Book) (b : IsBook face s book) (grows : Continues later book) where
   pub part_later : (cut : Cut) (level place q i : ℕ) → IsPartOfCut s book cut level place q i → IsPartOfCut s later cut level place q i
   part_later cut level place q i p = record {
     word = p.word;

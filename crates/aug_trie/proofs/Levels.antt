@@ -29,6 +29,6 @@ pub took_level : (s : Shape) (u v w : View) (key level : ℕ) → key < 2 ^ s.bi
 took_level s u v w key zero low up x y = let c = cost_first s key low up in between_on u v w 0 0 _ _ 9 18 (omega arith) (omega arith) x y
 took_level s u v w key (suc j) low up x y = let c = cost_later s key j low up in between_on u v w _ _ _ _ _ _ (omega arith) (omega arith) x y
 
-module _ (f : ℕ → ℕ → List ℕ → List ℕ) where
+module _ (f : ℕ → ℕ → List (ℕ × ℕ) → List ℕ) where
   pub lifts_level : (s : Shape) (seen : Book) (v w : View) (key level : ℕ) → key < 2 ^ s.bits → suc level ≤ s.bits → IsBook f s w.seen → Continues w.seen v.seen → NewestCovers s v.seen w.seen (above s key (suc level)) → Lifts s seen v.seen key level → Lifts s seen w.seen key (suc level)
   lifts_level s seen v w key level low up b later c h = record { lifted = λ n x. shows_up f s w.seen b key low v.seen level n up later c (h.lifted n x) }

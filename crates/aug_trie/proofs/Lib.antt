@@ -1,6 +1,9 @@
 pub mod Going
 pub mod Pieces
+pub mod LeafWords
+pub mod Requesting
 pub mod Histories
+pub mod Standing
 pub mod Accepting
 pub mod Counting
 pub mod Counters

@@ -1,27 +1,28 @@
 -- What the words of a node's record show of its tree, and what loads of them leave as it was.
-use Rattle.std.proofs.Common.{◌≡◌, ℕ, suc, ◌+◌, ◌-◌, ◌*◌, ◌%◌, ◌^◌, ◌≤◌, eqb, if◌then◌else◌, List, [], ◌∷◌, ◌++◌, length, sym, refl, ap, ◌∙◌, subst, arith}
+use Rattle.std.proofs.Common.{◌≡◌, ℕ, suc, ◌+◌, ◌-◌, ◌*◌, ◌^◌, ◌≤◌, List, [], ◌++◌, length, sym, refl, ap, ◌∙◌, subst, arith}
 use Rattle.std.proofs.lemmas.List.{append-nil}
 use Rattle.aug_monoid.specs.Parts.{Parts}
 use Rattle.aug_monoid.specs.Laws.{IsMonoid}
 use Rattle.aug_model.specs.Folds.{summary_of}
-use Rattle.aug_model.specs.Queries.{range_of}
+use Rattle.aug_model.specs.Queries.{range_of, weight_in}
 use Rattle.aug_model.specs.declared.summary.Summary.{Summary}
 use Rattle.aug_core.specs.Faces.{face}
-use Rattle.aug_core.specs.Cuts.{Cut, set_of_cut}
+use Rattle.aug_core.specs.Cuts.{Cut, set_of_cut, pairs_of_cut}
 use Rattle.aug_core.specs.Counts.{changes_of}
 use Rattle.aug_core.specs.Told.{HasSeen, KnowsTable}
 use Rattle.aug_core.specs.declared.view.View.{View}
 use Rattle.aug_core.proofs.Books.{fresh_now}
 use Rattle.aug_core.proofs.Fits.{knows_same}
+use Rattle.aug_trie.specs.LeafWords.{weight_in_word, leaf_pairs}
 use Rattle.aug_trie.specs.Facts.{IsNodeOf}
 use Rattle.aug_trie.specs.Goes.{Goes}
 use Rattle.aug_trie.specs.Nodes.{Looks}
 use Rattle.aug_trie.specs.TreeOf.{IsTreeOf}
 use Rattle.aug_trie.specs.Points.{Says}
-use Rattle.aug_trie.proofs.Walking.{node_seen, left_node, right_node, node_told, count_few, count_told, leaf_told}
+use Rattle.aug_trie.proofs.Walking.{node_seen, left_node, right_node, node_told, count_few, count_told, leaf_told, leaf_weight}
 
 -- a view that made steps and learnt nothing
-pub goes_looking : (f : ℕ → ℕ → List ℕ → List ℕ) (most : ℕ) (v w : View) → Looks most v w → KnowsTable f v → Goes f 0 [] v w
+pub goes_looking : (f : ℕ → ℕ → List (ℕ × ℕ) → List ℕ) (most : ℕ) (v w : View) → Looks most v w → KnowsTable f v → Goes f 0 [] v w
 goes_looking f most v w l kn = subst (Goes f 0 [] v) (sym l.is) record {
   later = λ q i e p. p;
   fresh = fresh_now v.shape v.seen;
@@ -34,10 +35,14 @@ goes_looking f most v w l kn = subst (Goes f 0 [] v) (sym l.is) record {
 }
 
 module _ {A B : Type 0} (parts_a : Parts A) (parts_b : Parts B) (v : View) (kn : KnowsTable (face parts_a parts_b) v) (cut : Cut) (level place word : ℕ) (t : IsNodeOf v.shape v.seen cut level place word) where
-  -- what a leaf's serial tells
-  pub leaf_tells : (told : Summary A B) → level ≡ 0 → told ≡ summary_of parts_a parts_b (if eqb (word % 2) 1 then place ∷ [] else []) → IsTreeOf (summary_of parts_a parts_b) v.shape.bits cut level place told
+  -- what a leaf's word tells
+  pub leaf_tells : (told : Summary A B) → level ≡ 0 → told ≡ summary_of parts_a parts_b (leaf_pairs place word) → IsTreeOf (summary_of parts_a parts_b) v.shape.bits cut level place told
   leaf_tells told low is = subst (λ (z : ℕ). IsTreeOf (summary_of parts_a parts_b) v.shape.bits cut z place told) (sym low)
       (leaf_told parts_a parts_b v kn.book cut place word (subst (λ (z : ℕ). IsNodeOf v.shape v.seen cut z place word) low t) told is)
+
+  -- and what its key weighs
+  pub leaf_weighs : level ≡ 0 → weight_in_word word ≡ weight_in (pairs_of_cut cut) place
+  leaf_weighs low = leaf_weight parts_a parts_b v kn.book cut place word (subst (λ (z : ℕ). IsNodeOf v.shape v.seen cut z place word) low t)
 
   module _ (inner : 1 ≤ level) where
     one_up : level ≡ suc (level - 1)

@@ -1,8 +1,9 @@
 -- A pass stays one.
-use Rattle.std.proofs.Common.{◌≡◌, Option, Some, ℕ, suc, ◌+◌, ◌-◌, ◌*◌, ◌^◌, ◌<◌, ◌≤◌, Bool, true, false, List, [], ◌∷◌, length, length-append, suc-mul, sym, refl, ap, ◌∙◌, subst, arith}
+use Rattle.std.proofs.Common.{◌≡◌, Option, Some, ℕ, suc, ◌+◌, ◌-◌, ◌*◌, ◌^◌, ◌<◌, ◌≤◌, List, [], ◌∷◌, length, length-append, suc-mul, sym, refl, ap, ◌∙◌, subst, arith}
 use Rattle.aug_core.specs.Places.{Shape}
 use Rattle.aug_core.specs.Lanes.{first_record, lane_records}
-use Rattle.aug_core.specs.Counts.{change, changes_of}
+use Rattle.aug_core.specs.Counts.{changes_of}
+use Rattle.aug_core.specs.Told.{made_by}
 use Rattle.aug_core.specs.Kinds.{load_leaf}
 use Rattle.aug_core.specs.declared.step.StepTaken.{StepTaken}
 use Rattle.aug_core.specs.declared.view.Change.{Change}
@@ -10,14 +11,19 @@ use Rattle.aug_core.specs.declared.view.View.{View}
 use Rattle.atomic_table.specs.Seated.{TableId}
 use Rattle.aug_words.specs.Seats.{Known}
 use Rattle.aug_trie.specs.Goes.{HasLeaves, Goes}
+use Rattle.aug_model.specs.declared.outcome.Outcome.{Outcome}
+use Rattle.aug_model.specs.declared.outcome.Outcome.TheVariants.{Accepted, Replaced, Refused}
 use Rattle.aug_trie.specs.Climbing.{Updated}
+use Rattle.aug_trie.specs.Requests.{advance_from}
+use Rattle.aug_trie.specs.declared.request.Request.{Request}
 use Rattle.aug_trie.specs.Knows.{KnowsRound}
 use Rattle.aug_trie.specs.Facts.{PassFacts, pass_facts, known_in, round_of, GoesOn, StepsOf, IsPass, HoldsPass}
 use Rattle.aug_trie.proofs.Accepting.{updated_knowledge}
 use Rattle.aug_trie.proofs.Going.{free_from}
+use Rattle.aug_trie.proofs.Requesting.{made_few}
 
-module _ (face : ℕ → ℕ → List ℕ → List ℕ) where
-  pass_on : (v w : View) (leaves bits next left : ℕ) (gained : List Change) → IsPass face v leaves bits next left → 1 ≤ left → length gained ≤ 1 → Goes face (next + bits) gained v w → KnowsRound w → IsPass face w leaves bits (next + bits) (left - 1)
+module _ (face : ℕ → ℕ → List (ℕ × ℕ) → List ℕ) where
+  pass_on : (v w : View) (leaves bits next left : ℕ) (gained : List Change) → IsPass face v leaves bits next left → 1 ≤ left → length gained ≤ 2 → Goes face (next + bits) gained v w → KnowsRound w → IsPass face w leaves bits (next + bits) (left - 1)
   pass_on v w leaves bits next left gained p some few goes known =
       let e : left ≡ suc (left - 1) = omega arith in let m : left * bits ≡ (left - 1) * bits + bits = ap (λ (z : ℕ). z * bits) e ∙ suc-mul (left - 1) bits in
       let free = free_from v next (next + bits) (omega arith) p.room.is_free in let shape = goes.shaped in record {
@@ -34,23 +40,23 @@ module _ (face : ℕ → ℕ → List ℕ → List ℕ) where
         knowledge = known;
       }
 
-  module _ (v w : View) (leaves bits next left key parity : ℕ) (p : IsPass face v leaves bits next left) (some : 1 ≤ left) (low : key < 2 ^ v.shape.bits) where
-    known_after : (done : Bool) → Updated face (next + bits) v key parity w done → KnowsRound w
-    known_after done u = updated_knowledge face (next + bits) v key parity w p.knows_table low done u p.knowledge
-
-    pub pass_after : (done : Bool) → Updated face (next + bits) v key parity w done → IsPass face w leaves bits (next + bits) (left - 1)
-    pass_after true u = let a = u.accepted refl in pass_on v w leaves bits next left (change key (a.serial + 1) ∷ []) p some (omega arith) a.goes (known_after true u)
-    pass_after false u = let r = u.refused refl in pass_on v w leaves bits next left [] p some (omega arith) r.goes (known_after false u)
+  module _ (v w : View) (leaves bits next left key : ℕ) (request : Request) (p : IsPass face v leaves bits next left) (some : 1 ≤ left) (low : key < 2 ^ v.shape.bits) where
+    known_after : (done : Outcome) → Updated face (next + bits) v key request w done → KnowsRound w
+    known_after done u = updated_knowledge face (next + bits) v key request w p.knows_table low done u p.knowledge
 
     -- what it did to the view
-    pub gained_by : (done : Bool) → Updated face (next + bits) v key parity w done → (gained : List Change) × Goes face (next + bits) gained v w
-    gained_by true u = let a = u.accepted refl in (change key (a.serial + 1) ∷ [], a.goes)
-    gained_by false u = let r = u.refused refl in ([], r.goes)
+    pub gained_by : (done : Outcome) → Updated face (next + bits) v key request w done → (gained : List Change) × (length gained ≤ 2) × Goes face (next + bits) gained v w
+    gained_by Accepted u = let a = advance_from request key u.loaded in (made_by key a, made_few key a, u.came_to.0.goes)
+    gained_by Replaced u = let a = advance_from request key u.loaded in (made_by key a, made_few key a, u.came_to.0.goes)
+    gained_by Refused u = ([], omega arith, u.came_to.goes)
+
+    pub pass_after : (done : Outcome) → Updated face (next + bits) v key request w done → IsPass face w leaves bits (next + bits) (left - 1)
+    pass_after done u = let g = gained_by done u in pass_on v w leaves bits next left g.0 p some g.1 g.2 (known_after done u)
 
     -- what contracts see of it
-    pub goes_on_by : (table : TableId) (done : Bool) (u : Updated face (next + bits) v key parity w done)
+    pub goes_on_by : (table : TableId) (done : Outcome) (u : Updated face (next + bits) v key request w done)
         → GoesOn 1 (length u.more + 1) (pass_facts (record { table = table; view = v }) left) (pass_facts (record { table = table; view = w }) (left - 1))
-    goes_on_by table done u = let g = (gained_by done u).1 in let updates : w.shape.updates ≡ v.shape.updates = ap (λ (z : Shape). z.updates) g.shaped in let b = p.budget in record {
+    goes_on_by table done u = let g = (gained_by done u).2 in let updates : w.shape.updates ≡ v.shape.updates = ap (λ (z : Shape). z.updates) g.shaped in let b = p.budget in record {
       round = λ i. round_of table (record w { shape = g.shaped i; members = g.same_members i });
       lane = g.lane;
       spent = omega arith;
@@ -59,20 +65,20 @@ module _ (face : ℕ → ℕ → List ℕ → List ℕ) where
       knowledge = known_after done u;
     }
 
-    pub steps_of : (table : TableId) (kind : ℕ) (done : Bool) → parity + kind ≡ 1 → Updated face (next + bits) v key parity w done
-        → StepsOf kind key done (pass_facts (record { table = table; view = v }) left) (pass_facts (record { table = table; view = w }) (left - 1))
-    steps_of table kind done other u = record {
+    pub steps_of : (table : TableId) (done : Outcome) → Updated face (next + bits) v key request w done
+        → StepsOf request key done (pass_facts (record { table = table; view = v }) left) (pass_facts (record { table = table; view = w }) (left - 1))
+    steps_of table done u = record {
       found = u.loaded;
       more = u.more;
       steps = u.steps;
       least_steps = let l = u.least_steps in omega arith;
       most_steps = let m = u.most_steps in omega arith;
-      refuses = λ is. u.refusing (λ same. omega arith);
-      tries = λ not. u.tried (omega arith);
+      refuses = u.refusing;
+      tries = u.tried;
     }
 
 -- a pass whose seat was taken out for an update
-pub pass_told : (face : ℕ → ℕ → List ℕ → List ℕ) (words : Option Known) (k : Known) (leaves bits next left : ℕ) (now : PassFacts) → HoldsPass face words leaves bits next left → words ≡ Some k → pass_facts (known_in words) left ≡ now
+pub pass_told : (face : ℕ → ℕ → List (ℕ × ℕ) → List ℕ) (words : Option Known) (k : Known) (leaves bits next left : ℕ) (now : PassFacts) → HoldsPass face words leaves bits next left → words ≡ Some k → pass_facts (known_in words) left ≡ now
     → IsPass face k.view leaves bits next left × (pass_facts k left ≡ now)
 pass_told face words k leaves bits next left now h is facts = let same : h.known ≡ k = ap known_in (sym h.there ∙ is) in
     (subst (λ (z : Known). IsPass face z.view leaves bits next left) same h.is_pass, ap (λ (z : Option Known). pass_facts (known_in z) left) (sym is) ∙ facts)

@@ -17,7 +17,7 @@ of_lane v number room = let first = room.is_free.from_first in let is : own_lane
     let b = subst (λ (z : ℕ). number + 1 ≤ first_record v.shape z + lane_records v.shape) is room.room in record { from_first = omega arith; below_next = omega arith }
 
 -- the views after each of the five stores of a record
-module _ (face : ℕ → ℕ → List ℕ → List ℕ) (v v1 v2 v3 v4 v5 : View) (number : ℕ) (five : List ℕ) (room : HasRoom v number 1) (kn : KnowsTable face v) (e1 : v1 ≡ put v number 0 (get_or five 0 0)) (e2 : v2 ≡ put v1 number 1 (get_or five 1 0))
+module _ (face : ℕ → ℕ → List (ℕ × ℕ) → List ℕ) (v v1 v2 v3 v4 v5 : View) (number : ℕ) (five : List ℕ) (room : HasRoom v number 1) (kn : KnowsTable face v) (e1 : v1 ≡ put v number 0 (get_or five 0 0)) (e2 : v2 ≡ put v1 number 1 (get_or five 1 0))
     (e3 : v3 ≡ put v2 number 2 (get_or five 2 0)) (e4 : v4 ≡ put v3 number 3 (get_or five 3 0)) (e5 : v5 ≡ put v4 number 4 (get_or five 4 0)) where
   g1 : Goes face 0 [] v v1
   g1 = goes_storing face v v1 _ _ e1 kn
@@ -45,17 +45,17 @@ module _ (face : ℕ → ℕ → List ℕ → List ℕ) (v v1 v2 v3 v4 v5 : View
       took_on v v4 v5 4 1 5 refl t4 (took_one v4 v5 _ refl (ap (λ (z : View). z.steps) e5))
 
 -- a store leaves the record one that may be stored
-pub may_store_on : (face : ℕ → ℕ → List ℕ → List ℕ) (v w : View) (number place value : ℕ) → KnowsTable face v → w ≡ storing v place value → HasRoom v number 1 → HasRoom w number 1 × KnowsTable face w
+pub may_store_on : (face : ℕ → ℕ → List (ℕ × ℕ) → List ℕ) (v w : View) (number place value : ℕ) → KnowsTable face v → w ≡ storing v place value → HasRoom v number 1 → HasRoom w number 1 × KnowsTable face w
 may_store_on face v w number place value kn is room = let g = goes_storing face v w place value is kn in (room_on face [] v w number 1 g room, g.knows_table)
 
-module _ (face : ℕ → ℕ → List ℕ → List ℕ) where
+module _ (face : ℕ → ℕ → List (ℕ × ℕ) → List ℕ) where
   module _ (v : View) (number : ℕ) (five : List ℕ) (room : HasRoom v number 1) where
     -- a record that says what was loaded may be published
     pub may_publish : (q old : ℕ) → SaysLoaded face v.shape v.seen q old five → IsFilled face (filled_view v number five) q old number
     may_publish q old says = let f = room.is_free in is_filled v number five f.lane f.only (of_lane v number room) f.long face q old says
 
     -- what the try tells
-    pub published : (w : View) (q old found : ℕ) (done : Bool) → IsInner v.shape q → ((l r : ℕ) (keys : List ℕ) → get_or (face l r keys) 0 0 ≡ l) → ((l r : ℕ) (keys : List ℕ) → get_or (face l r keys) 1 0 ≡ r)
+    pub published : (w : View) (q old found : ℕ) (done : Bool) → IsInner v.shape q → ((l r : ℕ) (pairs : List (ℕ × ℕ)) → get_or (face l r pairs) 0 0 ≡ l) → ((l r : ℕ) (pairs : List (ℕ × ℕ)) → get_or (face l r pairs) 1 0 ≡ r)
         → (IsTrue done ↔ (found ≡ old)) → TriesNode face (filled_view v number five) q old number found w → Published v.shape q old (get_or five 0 0) (get_or five 1 0) done w.seen
     published w q old found done inner names_left names_right decided told = let f = room.is_free in let of = of_lane v number room in let o = told.sees.book.over q told.index told.entry inner told.newest.at in
         let now = holds_filled v number five f.lane f.only of f.long in let mine : Held = filled_lane v number five f.lane f.only of f.long in
@@ -68,8 +68,8 @@ module _ (face : ℕ → ℕ → List ℕ → List ℕ) where
           right_child = o.right_child;
           left_at = o.left_at;
           right_at = o.right_at;
-          left_is = λ good. sym (names_left o.left_child.word o.right_child.word told.entry.keys) ∙ ap (λ (z : List ℕ). get_or z 0 0) (sym o.words_say) ∙ sym (says good 0 (omega arith)) ∙ held 0 (omega arith);
-          right_is = λ good. sym (names_right o.left_child.word o.right_child.word told.entry.keys) ∙ ap (λ (z : List ℕ). get_or z 1 0) (sym o.words_say) ∙ sym (says good 1 (omega arith)) ∙ held 1 (omega arith);
+          left_is = λ good. sym (names_left o.left_child.word o.right_child.word told.entry.pairs) ∙ ap (λ (z : List ℕ). get_or z 0 0) (sym o.words_say) ∙ sym (says good 0 (omega arith)) ∙ held 0 (omega arith);
+          right_is = λ good. sym (names_right o.left_child.word o.right_child.word told.entry.pairs) ∙ ap (λ (z : List ℕ). get_or z 1 0) (sym o.words_say) ∙ sym (says good 1 (omega arith)) ∙ held 1 (omega arith);
           missed = λ bad same. let miss = lost done found old decided bad in miss ((told.miss miss).1 ∙ sym same);
         }
       where

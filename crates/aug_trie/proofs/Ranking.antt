@@ -1,22 +1,23 @@
 -- What a descent to a key counts on its way.
-use Rattle.std.proofs.Common.{◌≡◌, ◌≢◌, ℕ, zero, suc, add-one, zero-mul, one-mul, ◌+◌, ◌*◌, ◌/◌, ◌%◌, ◌^◌, ◌<◌, ◌≤◌, eqb, if◌then◌else◌, List, [], ◌∷◌, ◌++◌, length, length-append, append_assoc, sym, refl, ap, ◌∙◌, subst, arith}
+use Rattle.std.proofs.Common.{◌≡◌, ◌≢◌, ℕ, suc, add-one, zero-mul, one-mul, ◌+◌, ◌*◌, ◌/◌, ◌%◌, ◌^◌, ◌≤◌, List, [], ◌∷◌, ◌++◌, length, length-append, append_assoc, sym, refl, ap, ◌∙◌, subst, arith}
 use Rattle.std.proofs.Math.Nat.{pow-suc, div-div-eq-div-mul, mul-le-mul_right}
 use Rattle.std.proofs.lemmas.List.{append-nil}
 use Rattle.aug_monoid.specs.Parts.{Parts}
-use Rattle.aug_model.specs.Folds.{summary_of}
+use Rattle.aug_model.specs.Keys.{list_of}
 use Rattle.aug_model.specs.Queries.{range_of, rank_of}
-use Rattle.aug_model.specs.declared.summary.Summary.{Summary}
+use Rattle.aug_model.proofs.Pairs.{keys_of-pairs_of}
 use Rattle.aug_model.proofs.Ranges.{Rises, AllBelow, rises_from, all_below_from, range_whole}
 use Rattle.aug_query.specs.Tree.{first_key, end_key, IsTreeSet}
 use Rattle.aug_query.proofs.Nodes.{left_low}
 use Rattle.aug_query.proofs.Orders.{rank_cut, rank_few, rank_none, rank_past}
 use Rattle.aug_core.specs.Book.{At, history_of}
-use Rattle.aug_core.specs.Cuts.{Cut, set_of_cut}
+use Rattle.aug_core.specs.Cuts.{Cut, weight_at, set_of_cut}
 use Rattle.aug_core.specs.Faces.{face}
 use Rattle.aug_core.specs.Told.{HasSeen, KnowsTable, stepping}
 use Rattle.aug_core.specs.Tree.{IsInner, root_place}
 use Rattle.aug_core.specs.declared.step.StepTaken.{StepTaken}
 use Rattle.aug_core.specs.declared.view.View.{View}
+use Rattle.aug_trie.specs.LeafWords.{serial_in_word}
 use Rattle.aug_trie.specs.Facts.{index_named, IsNodeOf}
 use Rattle.aug_trie.specs.Goes.{HasLeaves}
 use Rattle.aug_trie.specs.Nodes.{cut_named, Looks}
@@ -24,7 +25,7 @@ use Rattle.aug_trie.specs.TreeOf.{members_of}
 use Rattle.aug_trie.specs.Points.{Says}
 use Rattle.aug_trie.proofs.Trees.{tree_set}
 use Rattle.aug_trie.proofs.Looking.{record_seen, count_is}
-use Rattle.aug_trie.proofs.Walking.{node_seen, left_node, right_node, leaf_told}
+use Rattle.aug_trie.proofs.Walking.{node_seen, left_node, right_node, leaf_count}
 
 -- the place above a key is half that of a level below
 pub half_place : (k level : ℕ) → k / 2 ^ suc level ≡ k / 2 ^ level / 2
@@ -33,15 +34,6 @@ half_place k level = ap (λ (n : ℕ). k / n) (pow-suc 2 level) ∙ sym (div-div
 -- a number that is not odd
 pub even_of : (k : ℕ) → k % 2 ≢ 1 → k % 2 ≡ 0
 even_of k odd = omega arith
-
--- a serial says how many keys its leaf has
-serial_count : (r key : ℕ) → length (if eqb (r % 2) 1 then key ∷ [] else []) ≡ r % 2
-serial_count r key = counted (r % 2) (omega arith)
-  where
-    counted : (n : ℕ) → n < 2 → length (if eqb n 1 then key ∷ [] else []) ≡ n
-    counted zero low = refl
-    counted (suc zero) low = refl
-    counted (suc (suc n)) low = absurd (let e : suc (suc n) < 2 = low in omega arith)
 
 module _ {A B : Type 0} (parts_a : Parts A) (parts_b : Parts B) (v : View) (kn : KnowsTable (face parts_a parts_b) v) (cut : Cut) (k : ℕ) where
   abbrev list : List ℕ
@@ -104,15 +96,13 @@ module _ {A B : Type 0} (parts_a : Parts A) (parts_b : Parts B) (v : View) (kn :
     last_low low = ap (rank_of list) (let e : k / 2 ^ 1 * 2 ^ 1 ≡ k = omega arith in e)
 
     -- and a right child those and what its left brother's serial counts
-    last_high : (r : ℕ) → k % 2 ≡ 1 → Rises list → Says v word 0 r → rank_of list (first_key 1 (k / 2 ^ 1)) + r % 2 ≡ rank_of list k
+    last_high : (r : ℕ) → k % 2 ≡ 1 → Rises list → Says v word 0 r → rank_of list (first_key 1 (k / 2 ^ 1)) + serial_in_word r % 2 ≡ rank_of list k
     last_high r high rises says =
         let key : ℕ = 2 * (k / 2 ^ 1) in
-        let told : Summary A B = summary_of parts_a parts_b (if eqb (r % 2) 1 then key ∷ [] else []) in
-        let tree = leaf_told parts_a parts_b v kn.book cut key r (left_node parts_a parts_b v kn.book cut 0 (k / 2 ^ 1) word t r says) told refl in
-        let count : length (if eqb (r % 2) 1 then key ∷ [] else []) ≡ length (range_of list (key * 2 ^ 0) ((key + 1) * 2 ^ 0)) = ap (λ (z : Summary A B). z.count) tree.tells in
+        let count = leaf_count parts_a parts_b v kn.book cut key r (left_node parts_a parts_b v kn.book cut 0 (k / 2 ^ 1) word t r says) in
         let from : key * 2 ^ 0 ≡ k / 2 ^ 1 * 2 ^ 1 = omega arith in let to : (key + 1) * 2 ^ 0 ≡ k = omega arith in
         let cut_there = rank_cut list (key * 2 ^ 0) ((key + 1) * 2 ^ 0) rises (omega arith) in
-        omega (arith, cut_there, ap (rank_of list) from, ap (rank_of list) to, count, serial_count r key)
+        omega (arith, cut_there, ap (rank_of list) from, ap (rank_of list) to, count)
 
   -- the end of a descent, at the node above the leaf
   module _ (level word below : ℕ) (last : level ≡ 0) (t : IsNodeOf v.shape v.seen cut (level + 1) (k / 2 ^ (level + 1)) word) (counted : below ≡ rank_of list (first_key (level + 1) (k / 2 ^ (level + 1)))) where
@@ -128,22 +118,26 @@ module _ {A B : Type 0} (parts_a : Parts A) (parts_b : Parts B) (v : View) (kn :
     pub even_rank : k % 2 ≡ 0 → below ≡ rank_of list k
     even_rank low = end_counted ∙ last_low word end_node low
 
-    pub odd_rank : (r : ℕ) → k % 2 ≡ 1 → Rises list → Says v word 0 r → below + r % 2 ≡ rank_of list k
-    odd_rank r high rises says = ap (λ (z : ℕ). z + r % 2) end_counted ∙ last_high word end_node r high rises says
+    pub odd_rank : (r : ℕ) → k % 2 ≡ 1 → Rises list → Says v word 0 r → below + serial_in_word r % 2 ≡ rank_of list k
+    odd_rank r high rises says = ap (λ (z : ℕ). z + serial_in_word r % 2) end_counted ∙ last_high word end_node r high rises says
 
 -- ---- the set of a snapshot
 
-module _ (f : ℕ → ℕ → List ℕ → List ℕ) (v : View) (number : ℕ) (kn : KnowsTable f v) where
+module _ (f : ℕ → ℕ → List (ℕ × ℕ) → List ℕ) (v : View) (number : ℕ) (kn : KnowsTable f v) where
   snapshot_set : IsTreeSet (members_of v.shape.bits (cut_named v.shape v.seen number))
   snapshot_set = tree_set f v (index_named (history_of v.seen (root_place v.shape)) number) kn
 
+  -- whose keys are the cut's
+  pub keys_are : list_of (members_of v.shape.bits (cut_named v.shape v.seen number)) ≡ set_of_cut (cut_named v.shape v.seen number)
+  keys_are = keys_of-pairs_of (weight_at (cut_named v.shape v.seen number)) (set_of_cut (cut_named v.shape v.seen number))
+
   -- its members rise
   pub cut_rises : Rises (set_of_cut (cut_named v.shape v.seen number))
-  cut_rises = rises_from (set_of_cut (cut_named v.shape v.seen number)) snapshot_set.is_key_set.rising
+  cut_rises = subst Rises keys_are (rises_from (list_of (members_of v.shape.bits (cut_named v.shape v.seen number))) snapshot_set.is_key_set.rising)
 
   -- and are below the end of the keys
   pub cut_below : AllBelow (2 ^ v.shape.bits) (set_of_cut (cut_named v.shape v.seen number))
-  cut_below = all_below_from (2 ^ v.shape.bits) (set_of_cut (cut_named v.shape v.seen number)) snapshot_set.is_key_set.below
+  cut_below = subst (AllBelow (2 ^ v.shape.bits)) keys_are (all_below_from (2 ^ v.shape.bits) (list_of (members_of v.shape.bits (cut_named v.shape v.seen number))) snapshot_set.is_key_set.below)
 
   -- a rank in it fits 32 bits
   pub rank_small : (k : ℕ) → 2 ^ v.shape.bits ≤ 65536 → rank_of (set_of_cut (cut_named v.shape v.seen number)) k ≤ 65536

@@ -41,10 +41,10 @@ first_named (x ∷ xs) (suc i) e at = ⊎_elim
     (λ ne. let t = first_named xs i e at in (t.0, ap (λ (z : Bool). get_elem? (x ∷ xs) (if z then 0 else suc (index_named xs e.number))) (ne_eqb x.number e.number ne) ∙ t.1, t.2)) (cases_eq x.number e.number)
 
 -- a record stands once in the root's history
-pub index_is : (face : ℕ → ℕ → List ℕ → List ℕ) (s : Shape) (book : Book) → IsBook face s book → (q i : ℕ) (e : Entry) → IsInner s q → At book q i e → index_named (history_of book q) e.number ≡ i
+pub index_is : (face : ℕ → ℕ → List (ℕ × ℕ) → List ℕ) (s : Shape) (book : Book) → IsBook face s book → (q i : ℕ) (e : Entry) → IsInner s q → At book q i e → index_named (history_of book q) e.number ≡ i
 index_is face s book b q i e inner at = let t = first_named (history_of book q) i e at in one_index face s book b q (index_named (history_of book q) e.number) i t.0 e inner t.1 at t.2
 
-module _ (face : ℕ → ℕ → List ℕ → List ℕ) where
+module _ (face : ℕ → ℕ → List (ℕ × ℕ) → List ℕ) where
   -- a pass that only looked is one still
   pub pass_still : (v w : View) (leaves bits next left : ℕ) → IsPass face v leaves bits next left → Goes face 0 [] v w → IsPass face w leaves bits next left
   pass_still v w leaves bits next left p g = let goes = goes_more face 0 next [] v w (omega arith) g in let shape = goes.shaped in record {

@@ -1,12 +1,14 @@
 -- What a tally says of the sizes of sets.
-use Rattle.std.proofs.Common.{◌≡◌, ℕ, zero, suc, ◌+◌, ◌-◌, ◌%◌, ◌<◌, ◌≤◌, Bool, true, false, cond, ◌==◌, ◌&&◌, nat_lt, nat_le, List, [], ◌∷◌, ◌++◌, length, filter, refl, ap, ◌∙◌, inl, inr, arith, if◌then◌else◌}
+use Rattle.std.proofs.Common.{◌≡◌, ℕ, zero, suc, ◌+◌, ◌-◌, ◌%◌, ◌<◌, ◌≤◌, Bool, true, false, cond, ◌==◌, ◌&&◌, nat_lt, nat_le, List, [], ◌∷◌, ◌++◌, length, filter, refl, ap, ◌∙◌, inl, inr, arith, subst, All, if◌then◌else◌}
+use Rattle.std.specs.Prelude.{flat_map}
+use Rattle.std.proofs.lemmas.List.{append-nil}
 use Rattle.std.proofs.lemmas.Bool.{eqb-true, eq-eqb, ne_eqb, cases_Bool, cases_lt, cases_eq, cases_order, le-leb, lt-leb, lt-ltb, le-ltb, ltb-true, leb-true, and_parts, and_right}
 use Rattle.std.specs.List.{range_with_len}
 use Rattle.aug_core.specs.Cuts.{Cut, serial_of, set_of_cut, IsAtMost}
 use Rattle.aug_core.specs.declared.view.Change.{Change}
 use Rattle.aug_trie.specs.Knowledge.{inserts_of, removals_of}
-use Rattle.aug_trie.specs.Tallies.{times, Tallies}
-use Rattle.aug_trie.proofs.CutLemmas.{serial_past}
+use Rattle.aug_trie.specs.Tallies.{times, Tallies, TalliesWithLost, Weighs}
+use Rattle.aug_trie.proofs.CutLemmas.{serial_past, serial_rises}
 
 abbrev one_if : Bool → ℕ
 one_if b = if b then 1 else 0
@@ -272,9 +274,18 @@ module _ (first last : Cut) (changes : List Change) (tallies : Tallies first las
 pub sizes : (first last : Cut) (changes : List Change) → IsAtMost first last → Tallies first last changes
     → length (set_of_cut last) + removals_of changes ≡ length (set_of_cut first) + inserts_of changes
 sizes first last changes le tallies =
-    let balance = balance_below first last changes tallies le.no_greater (length last) in
+    let balance = balance_below first last changes tallies (λ k. serial_rises first last k le) (length last) in
     let evens = all_below first last changes tallies (length last) is_even (omega arith) in
     let odds = all_below first last changes tallies (length last) is_odd (omega arith) in
     let after = length-set_of_cut last in
     let before = length-set_of_cut first ∙ ap (odd_keys first) le.same_keys in
     omega (arith, balance, evens, odds, after, before)
+
+-- where nothing is lost, the weights come from the changes that are there
+pub none_lost_weighs : (updates : ℕ) (first last : Cut) (history : List Cut) (changes : List Change) → TalliesWithLost updates 0 first last history changes → All (Weighs first changes) history
+none_lost_weighs updates first last history changes t =
+    subst (λ (z : List Change). All (Weighs first z) history) (ap (λ (z : List Change). changes ++ z) (gone t.lost t.one_each) ∙ append-nil changes) t.weigh
+  where
+    gone : (lost : List (List Change)) → length lost ≡ 0 → flat_map (λ list. list) lost ≡ []
+    gone [] none = refl
+    gone (x ∷ xs) none = absurd (omega (arith, none))

@@ -1,7 +1,8 @@
 -- What a child's part says, and what the words of two parts are.
-use Rattle.std.proofs.Common.{◌≡◌, ℕ, ◌+◌, ◌%◌, ◌^◌, ◌<◌, ◌≤◌, eqb, if◌then◌else◌, List, [], ◌∷◌, ◌++◌, All, get_or, length-append, sym, refl, ap, ◌∙◌, subst, arith}
+use Rattle.std.proofs.Common.{◌≡◌, ℕ, ◌+◌, ◌^◌, ◌<◌, ◌≤◌, List, [], ◌∷◌, ◌++◌, All, get_or, length-append, sym, refl, ap, ◌∙◌, subst, arith}
 use Rattle.aug_monoid.specs.Parts.{Parts}
 use Rattle.aug_monoid.specs.Laws.{IsMonoid}
+use Rattle.aug_monoid.specs.Weighted.{FitsPair}
 use Rattle.aug_monoid.proofs.FoldLemmas.{fold_of-append, fold_of-one, of_word-fold_of}
 use Rattle.aug_core.specs.Tree.{IsInner}
 use Rattle.aug_core.specs.Faces.{face}
@@ -12,12 +13,14 @@ use Rattle.aug_core.specs.declared.step.StepTaken.{StepTaken}
 use Rattle.aug_core.specs.declared.view.View.{View}
 use Rattle.aug_core.proofs.EntryKeys.{are_small}
 use Rattle.aug_core.proofs.FaceLemmas.{count_in, a_in, b_in, face_is}
+use Rattle.aug_trie.specs.LeafWords.{leaf_pairs}
 use Rattle.aug_trie.specs.Goes.{Goes, IsPart, IsPartOf}
 use Rattle.aug_trie.specs.Points.{Says}
+use Rattle.aug_trie.proofs.LeafWords.{pairs_of_serial}
 use Rattle.aug_trie.proofs.Going.{goes_on, goes_stepping}
 
 -- a record that an entry of a node has was seen
-pub has_seen : (f : ℕ → ℕ → List ℕ → List ℕ) (v : View) (node number : ℕ) → KnowsTable f v → IsInner v.shape node → HasEntry v.seen node number → HasSeen v number
+pub has_seen : (f : ℕ → ℕ → List (ℕ × ℕ) → List ℕ) (v : View) (node number : ℕ) → KnowsTable f v → IsInner v.shape node → HasEntry v.seen node number → HasSeen v number
 has_seen f v node number kn inner n = record { place = node; index = n.index; entry = n.entry; inner = inner; at = n.at; numbered = sym (kn.book.named node n.index n.entry inner n.at) ∙ n.named }
 
 pub seen_on : (v w : View) (taken : StepTaken) (number : ℕ) → w ≡ stepping v taken → HasSeen v number → HasSeen w number
@@ -28,13 +31,13 @@ pub says_before : (v w : View) (taken : StepTaken) (number field r : ℕ) → w 
 says_before v w taken number field r is says q i e inner p = says q i e (subst (λ (z : View). IsInner z.shape q) (sym is) inner) (subst (λ (z : View). At z.seen q i e) (sym is) p)
 
 -- three steps that show nothing of the book
-pub goes_three : (f : ℕ → ℕ → List ℕ → List ℕ) (v v1 v2 v3 : View) (t1 t2 t3 : StepTaken) → KnowsTable f v → v1 ≡ stepping v t1 → v2 ≡ stepping v1 t2 → v3 ≡ stepping v2 t3 → Goes f 0 [] v v3
+pub goes_three : (f : ℕ → ℕ → List (ℕ × ℕ) → List ℕ) (v v1 v2 v3 : View) (t1 t2 t3 : StepTaken) → KnowsTable f v → v1 ≡ stepping v t1 → v2 ≡ stepping v1 t2 → v3 ≡ stepping v2 t3 → Goes f 0 [] v v3
 goes_three f v v1 v2 v3 t1 t2 t3 kn e1 e2 e3 =
     let x = goes_stepping f v v1 t1 e1 kn in let y = goes_stepping f v1 v2 t2 e2 x.knows_table in let z = goes_stepping f v2 v3 t3 e3 y.knows_table in
     goes_on f 0 0 0 [] v v2 v3 (omega arith) (omega arith) (goes_on f 0 0 0 [] v v1 v2 (omega arith) (omega arith) x y) z
 
 module _ {A B : Type 0} (parts_a : Parts A) (parts_b : Parts B) (laws_a : IsMonoid parts_a) (laws_b : IsMonoid parts_b) where
-  abbrev both : ℕ → ℕ → List ℕ → List ℕ
+  abbrev both : ℕ → ℕ → List (ℕ × ℕ) → List ℕ
   both = face parts_a parts_b
 
   -- three words of a node's record tell the part of its entry
@@ -43,25 +46,25 @@ module _ {A B : Type 0} (parts_a : Parts A) (parts_b : Parts B) (laws_a : IsMono
   part_of_node v node word x y z few kn inner says_x says_y says_z = record {
     of = λ i e p is. let o = kn.book.over node i e inner p in let number : e.number ≡ word = sym (kn.book.named node i e inner p) ∙ is in
         let small = (are_small both v.shape v.seen kn.book few node i e inner.inside p).small in record {
-          count_is = says_x node i e inner p number ∙ ap (λ (w : List ℕ). get_or w 2 0) o.words_say ∙ count_in parts_a parts_b _ _ e.keys;
-          a_is = ap parts_a.from_word (says_y node i e inner p number ∙ ap (λ (w : List ℕ). get_or w 3 0) o.words_say ∙ a_in parts_a parts_b _ _ e.keys) ∙ of_word-fold_of laws_a e.keys small;
-          b_is = ap parts_b.from_word (says_z node i e inner p number ∙ ap (λ (w : List ℕ). get_or w 4 0) o.words_say ∙ b_in parts_a parts_b _ _ e.keys) ∙ of_word-fold_of laws_b e.keys small;
+          count_is = says_x node i e inner p number ∙ ap (λ (w : List ℕ). get_or w 2 0) o.words_say ∙ count_in parts_a parts_b _ _ e.pairs;
+          a_is = ap parts_a.from_word (says_y node i e inner p number ∙ ap (λ (w : List ℕ). get_or w 3 0) o.words_say ∙ a_in parts_a parts_b _ _ e.pairs) ∙ of_word-fold_of laws_a e.pairs small;
+          b_is = ap parts_b.from_word (says_z node i e inner p number ∙ ap (λ (w : List ℕ). get_or w 4 0) o.words_say ∙ b_in parts_a parts_b _ _ e.pairs) ∙ of_word-fold_of laws_b e.pairs small;
         };
   }
 
-  -- a leaf's word is its serial, and tells whether its key is there
-  pub part_of_leaf : (v : View) (key word n : ℕ) (a : A) (b : B) → KnowsTable both v → key < 2 ^ v.shape.bits → IsPart parts_a parts_b n a b (if eqb (word % 2) 1 then key ∷ [] else []) → IsPartOf parts_a parts_b v key word n a b
+  -- a leaf's word has its serial and its weight, and tells whether its key is there
+  pub part_of_leaf : (v : View) (key word n : ℕ) (a : A) (b : B) → KnowsTable both v → key < 2 ^ v.shape.bits → IsPart parts_a parts_b n a b (leaf_pairs key word) → IsPartOf parts_a parts_b v key word n a b
   part_of_leaf v key word n a b kn low part = record {
-    of = λ i e p is. let serial = kn.book.serials key i e low p in let same : i ≡ word = sym serial.named ∙ is in
-        subst (IsPart parts_a parts_b n a b) (sym (serial.there_if_odd ∙ ap (λ (z : ℕ). if eqb (z % 2) 1 then key ∷ [] else []) same)) part;
+    of = λ i e p is. let serial = kn.book.serials key i e low p in
+        subst (IsPart parts_a parts_b n a b) (sym (pairs_of_serial key i e serial ∙ ap (leaf_pairs key) is)) part;
   }
 
   -- what one key tells, and what none tells
-  pub part_of_one : (key : ℕ) → key < 2 ^ 32 → IsPart parts_a parts_b 1 (parts_a.of_key key) (parts_b.of_key key) (key ∷ [])
-  part_of_one key low = record { count_is = refl; a_is = sym (fold_of-one laws_a key low); b_is = sym (fold_of-one laws_b key low) }
+  pub part_of_one : (key weight : ℕ) → key < 2 ^ 32 → weight < 2 ^ 32 → IsPart parts_a parts_b 1 (parts_a.of_key key weight) (parts_b.of_key key weight) ((key, weight) ∷ [])
+  part_of_one key weight low light = record { count_is = refl; a_is = sym (fold_of-one laws_a (key, weight) (low, light)); b_is = sym (fold_of-one laws_b (key, weight) (low, light)) }
 
   -- the words of two parts
-  pub words_are : (l r m k : ℕ) (a a' : A) (b b' : B) (xs ys : List ℕ) → All (λ i. i < 2 ^ 32) xs → All (λ i. i < 2 ^ 32) ys → IsPart parts_a parts_b m a b xs → IsPart parts_a parts_b k a' b' ys
+  pub words_are : (l r m k : ℕ) (a a' : A) (b b' : B) (xs ys : List (ℕ × ℕ)) → All FitsPair xs → All FitsPair ys → IsPart parts_a parts_b m a b xs → IsPart parts_a parts_b k a' b' ys
       → l ∷ r ∷ (m + k) ∷ parts_a.to_word (parts_a.join a a') ∷ parts_b.to_word (parts_b.join b b') ∷ [] ≡ both l r (xs ++ ys)
   words_are l r m k a a' b b' xs ys small small' p q = face_is parts_a parts_b l r (m + k) (parts_a.to_word (parts_a.join a a')) (parts_b.to_word (parts_b.join b b')) (xs ++ ys)
       ((λ i. p.count_is i + q.count_is i) ∙ sym (length-append xs ys))

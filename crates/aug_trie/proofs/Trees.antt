@@ -2,31 +2,39 @@
 use Rattle.std.proofs.Common.{Some, ◌≡◌, ℕ, zero, suc, ◌+◌, ◌%◌, ◌^◌, ◌<◌, ◌≤◌, Bool, eqb, eq-eqb, ne_eqb, if◌then◌else◌, List, [], ◌∷◌, All, length, length-append, sym, refl, ap, ◌∙◌, subst, ⊎_elim, arith}
 use Rattle.std.specs.List.{range_with_len}
 use Rattle.std.specs.List.Sorted.{IsStrictlyIncreasing}
-use Rattle.std.proofs.lemmas.Bool.{cases_eq}
-use Rattle.std.proofs.lemmas.List.Elements.{All-nil, All-cons, All-filter}
+use Rattle.std.proofs.Math.Nat.{pow-le-pow_right}
+use Rattle.std.proofs.lemmas.List.{get_or_past}
+use Rattle.std.proofs.lemmas.Bool.{cases_eq, cases_lt}
+use Rattle.std.proofs.lemmas.List.Elements.{All-nil, All-cons, All-filter, All-map, All-weaker}
 use Rattle.std.proofs.lemmas.List.FromFn.{length-range_with_len, get_or-range_with_len}
 use Rattle.std.proofs.lemmas.List.Kept.{IsStrictlyIncreasing-filter}
 use mathlib.Core.Option.{some}
 use lib.ListN.{get_elem?}
 use Rattle.aug_monoid.specs.Parts.{Parts}
 use Rattle.aug_model.specs.Folds.{summary_of}
+use Rattle.aug_model.specs.Keys.{IsKeySet}
+use Rattle.aug_model.specs.Queries.{weight_in}
+use Rattle.aug_model.proofs.Pairs.{keys_of-pairs_of}
+use Rattle.aug_monoid.specs.Weighted.{FitsPair}
 use Rattle.aug_query.specs.Tree.{IsTreeSet}
 use Rattle.aug_core.specs.Faces.{face}
 use Rattle.aug_core.specs.Places.{Shape}
 use Rattle.aug_core.specs.Tree.{IsInner, root_place}
 use Rattle.aug_core.specs.Book.{Book, history_of, Continues, IsBook}
 use Rattle.aug_core.specs.Counts.{changes_of}
-use Rattle.aug_core.specs.Cuts.{Cut, serial_of}
-use Rattle.aug_core.specs.EntryCuts.{root_cut}
+use Rattle.aug_core.specs.Cuts.{Cut, serial_of, weight_at, set_of_cut}
+use Rattle.aug_core.specs.EntryCuts.{entry_of, root_cut}
+use Rattle.aug_core.specs.Opening.{serial_entry}
 use Rattle.aug_core.specs.Told.{KnowsTable, opening_of}
 use Rattle.aug_core.specs.declared.view.Entry.{Entry}
 use Rattle.aug_core.specs.declared.view.View.{View}
 use Rattle.aug_core.proofs.Books.{no_shorter}
-use Rattle.aug_core.proofs.CutsUnder.{root_word, cut_long}
-use Rattle.aug_core.proofs.EntryCuts.{cut_later}
+use Rattle.aug_core.proofs.CutsUnder.{root_word, cut_long, reached, shown_is}
+use Rattle.aug_core.proofs.EntryCuts.{entry_at, cut_later}
 use Rattle.aug_core.proofs.OpeningCuts.{root_inner}
 use Rattle.aug_words.specs.Seats.{Known}
 use Rattle.aug_trie.specs.Counted.{HasCounts}
+use Rattle.aug_trie.specs.LeafWords.{weight_in_word}
 use Rattle.aug_trie.specs.Facts.{index_named, pass_facts, HasSnapshot, IsNodeOf, IsPass, HoldsPass}
 use Rattle.aug_trie.specs.Nodes.{cut_named, Looks, HasNode, Keeps, Reads}
 use Rattle.aug_trie.specs.TreeOf.{members_of, IsTreeOf}
@@ -34,7 +42,7 @@ use Rattle.aug_trie.specs.declared.node.Node.{Node}
 use Rattle.aug_trie.proofs.Counters.{counted_still}
 use Rattle.aug_trie.proofs.Histories.{some_bits, history_long}
 use Rattle.aug_trie.proofs.Keeping.{node_later}
-use Rattle.aug_trie.proofs.Looking.{goes_looking}
+use Rattle.aug_trie.proofs.Looking.{goes_looking, leaf_weighs}
 use Rattle.aug_trie.proofs.Snapshots.{index_is, pass_still}
 use Rattle.aug_trie.proofs.Walking.{top_node}
 
@@ -47,16 +55,33 @@ range_below (suc n) a m fits = All-cons (λ k. k < m) a (range_with_len (a + 1) 
 range_rises : (n : ℕ) → IsStrictlyIncreasing (range_with_len 0 n)
 range_rises n k low = let l = length-range_with_len 0 n in let x = get_or-range_with_len 0 n k 0 (omega arith) in let y = get_or-range_with_len 0 n (k + 1) 0 (omega arith) in omega arith
 
+-- no entry of a leaf weighs too much, not even one that is not there
+light : (f : ℕ → ℕ → List (ℕ × ℕ) → List ℕ) (s : Shape) (book : Book) → IsBook f s book → (key i : ℕ) → key < 2 ^ s.bits → (entry_of book key i).weight < 2 ^ 32
+light f s book b key i low = ⊎_elim
+    (λ (there : i < length (history_of book key)). (b.serials key i (entry_of book key i) low (entry_at book key i there)).fits)
+    (λ (past : length (history_of book key) ≤ i). let e : (entry_of book key i).weight ≡ 0 = ap (λ (z : Entry). z.weight) (get_or_past (history_of book key) i (serial_entry 0 0 0) past) in omega arith)
+    (cases_lt i (length (history_of book key)))
+
+-- a key's weight in a root's cut is that of an entry
+cut_light : (f : ℕ → ℕ → List (ℕ × ℕ) → List ℕ) (v : View) (i key : ℕ) → KnowsTable f v → key < 2 ^ v.shape.bits → weight_at (root_cut v.shape v.seen i) key < 2 ^ 32
+cut_light f v i key kn low = let s : Shape = v.shape in let r : ℕ = reached s v.seen key s.bits i in
+    let is : weight_at (root_cut s v.seen i) key ≡ (entry_of v.seen key r).weight = ap (λ (z : ℕ × ℕ). z.1) (shown_is s v.seen key s.bits 0 key (root_place s) i (root_word s) (omega arith) low) in
+    let fits = light f s v.seen kn.book key r low in omega arith
+
 -- a root's cut is of a set of keys of so many bits
-pub tree_set : (f : ℕ → ℕ → List ℕ → List ℕ) (v : View) (i : ℕ) → KnowsTable f v → IsTreeSet (members_of v.shape.bits (root_cut v.shape v.seen i))
-tree_set f v i kn = let cut : Cut = root_cut v.shape v.seen i in let long = cut_long v.shape v.seen v.shape.bits (root_place v.shape) i in record {
-  some_bits = kn.laid_out.bits.0;
-  few_bits = kn.laid_out.bits.1;
-  is_key_set = record {
-    rising = IsStrictlyIncreasing-filter (λ key. eqb (serial_of cut key % 2) 1) (range_with_len 0 (length cut)) (range_rises (length cut));
-    below = All-filter (λ key. eqb (serial_of cut key % 2) 1) (λ k. k < 2 ^ v.shape.bits) (range_with_len 0 (length cut)) (range_below (length cut) 0 (2 ^ v.shape.bits) (omega arith));
-  };
-}
+pub tree_set : (f : ℕ → ℕ → List (ℕ × ℕ) → List ℕ) (v : View) (i : ℕ) → KnowsTable f v → IsTreeSet (members_of v.shape.bits (root_cut v.shape v.seen i))
+tree_set f v i kn = let cut : Cut = root_cut v.shape v.seen i in let long = cut_long v.shape v.seen v.shape.bits (root_place v.shape) i in
+    let below : All (λ k. k < 2 ^ v.shape.bits) (set_of_cut cut) =
+    All-filter (λ key. eqb (serial_of cut key % 2) 1) (λ k. k < 2 ^ v.shape.bits) (range_with_len 0 (length cut)) (range_below (length cut) 0 (2 ^ v.shape.bits) (omega arith)) in
+    let few : 2 ^ v.shape.bits ≤ 2 ^ 16 = pow-le-pow_right (omega arith) kn.laid_out.bits.1 in record {
+      some_bits = kn.laid_out.bits.0;
+      few_bits = kn.laid_out.bits.1;
+      is_key_set = subst (IsKeySet v.shape.bits) (sym (keys_of-pairs_of (weight_at cut) (set_of_cut cut))) record {
+        rising = IsStrictlyIncreasing-filter (λ key. eqb (serial_of cut key % 2) 1) (range_with_len 0 (length cut)) (range_rises (length cut));
+        below = below;
+      };
+      fit = All-map FitsPair (λ k. (k, weight_at cut k)) (set_of_cut cut) (All-weaker (λ k. k < 2 ^ v.shape.bits) (λ k. FitsPair (k, weight_at cut k)) (λ k low. (omega arith, cut_light f v i k kn low)) (set_of_cut cut) below);
+    }
 
 -- ---- the record of a snapshot
 
@@ -79,7 +104,7 @@ of_named : (known : Known) (left number : ℕ) → HasNamed known.view.shape kno
 of_named known left number has = let long = history_long known.view.shape known.view.seen in omega arith
 
 module _ {A B : Type 0} (parts_a : Parts A) (parts_b : Parts B) where
-  abbrev both : ℕ → ℕ → List ℕ → List ℕ
+  abbrev both : ℕ → ℕ → List (ℕ × ℕ) → List ℕ
   both = face parts_a parts_b
 
   pub inner_root : (v : View) → KnowsTable both v → IsInner v.shape (root_place v.shape)
@@ -102,7 +127,7 @@ module _ {A B : Type 0} (parts_a : Parts A) (parts_b : Parts B) where
       → IsNodeOf known.view.shape known.view.seen (cut_named known.view.shape known.view.seen node.snapshot.number) node.level node.place node.word
       → IsTreeOf (summary_of parts_a parts_b) known.view.shape.bits (cut_named known.view.shape known.view.seen node.snapshot.number) node.level node.place node.summary
       → HasNode (summary_of parts_a parts_b) (pass_facts known left) node
-  has_node known left node kn has named tells = record { of_pass = has; is_tree_set = tree_set both known.view (index_named (history_of known.view.seen (root_place known.view.shape)) node.snapshot.number) kn; named = named; tells = tells }
+  has_node known left node kn has named tells = record { of_pass = has; is_tree_set = tree_set both known.view (index_named (history_of known.view.seen (root_place known.view.shape)) node.snapshot.number) kn; named = named; tells = tells; weighs = leaf_weighs parts_a parts_b known.view kn (cut_named known.view.shape known.view.seen node.snapshot.number) node.level node.place node.word named }
 
   -- ---- what a pass keeps as its book grows
 
@@ -135,6 +160,7 @@ module _ {A B : Type 0} (parts_a : Parts A) (parts_b : Parts B) where
       is_tree_set = subst (λ (z : Shape × Cut). IsTreeSet (members_of z.0.bits z.1)) (sym both_same) has.is_tree_set;
       named = subst (λ (z : Shape × Cut). IsNodeOf z.0 later z.1 node.level node.place node.word) (sym both_same) (node_later both s book later kn.book grows (cut_named s book number) node.level node.place node.word has.named);
       tells = subst (λ (z : Shape × Cut). IsTreeOf (summary_of parts_a parts_b) z.0.bits z.1 node.level node.place node.summary) (sym both_same) has.tells;
+      weighs = λ level. subst (λ (z : Shape × Cut). weight_in_word node.word ≡ weight_in (members_of z.0.bits z.1).pairs node.place) (sym both_same) (has.weighs level);
     }
 
     pub keeps_on : Keeps (summary_of parts_a parts_b) (pass_facts old left) (pass_facts new rest)
@@ -153,14 +179,14 @@ module _ {A B : Type 0} (parts_a : Parts A) (parts_b : Parts B) where
         snapshots = λ z has. has;
         same_cuts = λ z has. refl;
         same_sets = λ z has. refl;
-        nodes = λ node has. record { of_pass = has.of_pass; is_tree_set = has.is_tree_set; named = has.named; tells = has.tells };
+        nodes = λ node has. record { of_pass = has.of_pass; is_tree_set = has.is_tree_set; named = has.named; tells = has.tells; weighs = has.weighs };
       };
     };
     few_steps = let long = length-append known.view.steps l.more in let few = l.few in omega arith;
   }
 
 -- a pass that looked is one still
-pub still_by : (f : ℕ → ℕ → List ℕ → List ℕ) (known new : Known) (leaves bits next left inserts removals most : ℕ) → IsPass f known.view leaves bits next left → HasCounts (changes_of known.view.held) inserts removals → Looks most known.view new.view
+pub still_by : (f : ℕ → ℕ → List (ℕ × ℕ) → List ℕ) (known new : Known) (leaves bits next left inserts removals most : ℕ) → IsPass f known.view leaves bits next left → HasCounts (changes_of known.view.held) inserts removals → Looks most known.view new.view
     → HoldsPass f (Some new) leaves bits next left × HasCounts (changes_of new.view.held) inserts removals
 still_by f known new leaves bits next left inserts removals most p counts l = let goes = goes_looking f most known.view new.view l p.knows_table in
     (record { known = new; there = refl; is_pass = pass_still f known.view new.view leaves bits next left p goes }, counted_still f 0 known.view new.view inserts removals goes counts)

@@ -1,8 +1,5 @@
 -- What contracts see of a turn.
-use Rattle.std.proofs.Common.{◌≡◌, ℕ, zero, suc, ◌+◌, ◌-◌, ◌*◌, ◌^◌, ◌<◌, ◌≤◌, Bool, true, false, if◌then◌else◌, le-ltb, ne_eqb, List, [], ◌∷◌, ◌++◌, length, sym, refl, ap, ◌∙◌, subst, ⊎_elim, arith}
-use Rattle.std.specs.Int.{from_bool}
-use Rattle.std.specs.Bool.{OnTrue, OnFalse}
-use Rattle.std.proofs.lemmas.Bool.{cases_eq}
+use Rattle.std.proofs.Common.{◌≡◌, ℕ, zero, suc, ◌+◌, ◌-◌, ◌*◌, ◌^◌, ◌<◌, ◌≤◌, Bool, true, false, if◌then◌else◌, le-ltb, ne_eqb, List, [], ◌∷◌, ◌++◌, length, sym, refl, ap, ◌∙◌, subst, arith}
 use Rattle.atomic_table.specs.Seated.{TableId}
 use Rattle.aug_monoid.specs.Parts.{Parts}
 use Rattle.aug_model.specs.Folds.{summary_of}
@@ -13,14 +10,16 @@ use Rattle.aug_core.specs.Counts.{changes_of}
 use Rattle.aug_core.specs.Kinds.{load_leaf, try_leaf}
 use Rattle.aug_core.specs.Told.{own_lane, KnowsTable}
 use Rattle.aug_core.specs.declared.view.View.{View}
-use Rattle.aug_trie.specs.Counted.{HasCounts}
+use Rattle.aug_model.specs.declared.outcome.Outcome.{Outcome}
 use Rattle.aug_trie.specs.Climbing.{Updated}
 use Rattle.aug_trie.specs.Goes.{part_steps}
 use Rattle.aug_trie.specs.Knows.{root_history, knows}
-use Rattle.aug_trie.specs.Updates.{AcceptedUpdate, RefusedUpdate}
+use Rattle.aug_trie.specs.Updates.{ComesTo}
 use Rattle.aug_trie.specs.Facts.{PassFacts, pass_facts, round_of, GoesOn, StepsOf}
 use Rattle.aug_trie.specs.Nodes.{Keeps}
 use Rattle.aug_trie.specs.Points.{OneStep, TryAt, point_turns}
+use Rattle.aug_trie.specs.Requests.{word_after}
+use Rattle.aug_trie.specs.declared.request.Request.{Request}
 use Rattle.aug_trie.specs.Stages.{IsOnWay, HasBegun, StageAt, part_above, ascent_turns, stage_turns}
 use Rattle.aug_trie.specs.Turns.{climb_facts, began_facts, start_facts, StepsOnce, TurnsOn, Finishes}
 use Rattle.aug_trie.specs.declared.points.Point.{Point}
@@ -28,10 +27,9 @@ use Rattle.aug_trie.specs.declared.points.Point.TheVariants.{Node, Left, Right, 
 use Rattle.aug_trie.specs.declared.ascents.Ascent.{Ascent}
 use Rattle.aug_trie.specs.declared.stages.Stage.{Stage}
 use Rattle.aug_trie.specs.declared.stages.Stage.TheVariants.{Leaf, Change, Up}
-use Rattle.aug_trie.proofs.Accepting.{knows_on, told_on}
+use Rattle.aug_trie.proofs.Accepting.{knows_on, comes_to}
 use Rattle.aug_trie.proofs.Advancing.{goes_at}
 use Rattle.aug_trie.proofs.Ascending.{part_is}
-use Rattle.aug_trie.proofs.Counters.{counted_insert, counted_remove}
 use Rattle.aug_trie.proofs.Passing.{gained_by, goes_on_by, steps_of}
 use Rattle.aug_trie.proofs.Staging.{room_one}
 use Rattle.aug_trie.proofs.Trees.{keeps_on}
@@ -40,7 +38,7 @@ use Rattle.aug_trie.proofs.Updating.{goes_begun}
 -- ---- the turns that are left
 
 -- a try has no more steps left than it has
-point_few : (f : ℕ → ℕ → List ℕ → List ℕ) (v : View) (q number : ℕ) (point : Point) (w : View) → TryAt f v q number point w → point_turns (part_steps v.shape (left_of v.shape q)) point ≤ 9 + 2 * part_steps v.shape (left_of v.shape q)
+point_few : (f : ℕ → ℕ → List (ℕ × ℕ) → List ℕ) (v : View) (q number : ℕ) (point : Point) (w : View) → TryAt f v q number point w → point_turns (part_steps v.shape (left_of v.shape q)) point ≤ 9 + 2 * part_steps v.shape (left_of v.shape q)
 point_few f v q number Node w t = omega arith
 point_few f v q number (Left from) w t = omega arith
 point_few f v q number (Right from left) w t = omega arith
@@ -56,7 +54,7 @@ level_few : (bits level x y : ℕ) → level < bits → x ≤ 9 + 2 * part_above
 level_few bits zero x y low a b = omega arith
 level_few bits (suc j) x y low a b = let three : part_above (suc j) ≡ 3 = ap (λ (z : Bool). if z then 0 else 3) (ne_eqb (suc j) 0 (λ is. omega arith)) in omega arith
 
-module _ (f : ℕ → ℕ → List ℕ → List ℕ) where
+module _ (f : ℕ → ℕ → List (ℕ × ℕ) → List ℕ) where
   -- an update that is on its way has at most all turns but the two at its leaf
   way_few : (bits number key : ℕ) (leaf : View) (a : Ascent) (v : View) → IsOnWay f bits number key leaf a v → ascent_turns bits a + 12 ≤ 30 * bits
   way_few bits number key leaf a v o = let is = part_is f bits number key leaf a v o in let shaped = (goes_at f o.begun a.node (number + a.level) a.point v o.try_at).shaped in
@@ -65,13 +63,13 @@ module _ (f : ℕ → ℕ → List ℕ → List ℕ) where
       level_few bits a.level (if a.second then 0 else 9 + 2 * part_above a.level) (point_turns (part_above a.level) a.point) o.at_node.below_root (again_few a.second (9 + 2 * part_above a.level))
       (subst (λ (z : ℕ). point_turns z a.point ≤ 9 + 2 * z) same few)
 
-  module _ (leaves bits number left key parity : ℕ) (u : View) (table : TableId) where
+  module _ (leaves bits number left key : ℕ) (request : Request) (u : View) (table : TableId) where
     -- ---- what a stage says of the start
 
     abbrev at_start : PassFacts
     at_start = pass_facts (record { table = table; view = u }) left
 
-    begun_is : (v : View) → HasBegun f leaves bits number left key parity u v → began_facts (record { table = table; view = v }) left ≡ at_start
+    begun_is : (v : View) → HasBegun f leaves bits number left key request u v → began_facts (record { table = table; view = v }) left ≡ at_start
     begun_is v b = let began : v.began ≡ record { seen = u.seen; steps = u.steps; changes = changes_of u.held } = b.began in λ i. record {
       round = round_of table (record v { shape = b.shaped i; members = b.same_members i });
       lane = b.lane i;
@@ -82,22 +80,22 @@ module _ (f : ℕ → ℕ → List ℕ → List ℕ) where
       seen = (began i).seen;
     }
 
-    loaded_begun : (v : View) (serial : ℕ) → StageAt f leaves bits number left key parity u (Change serial) v → HasBegun f leaves bits number left key parity u v
-    loaded_begun v serial t = let l = t.is_stage.loaded in record {
+    loaded_begun : (v : View) (word : ℕ) → StageAt f leaves bits number left key request u (Change word) v → HasBegun f leaves bits number left key request u v
+    loaded_begun v word t = let l = t.is_stage.loaded in record {
       began = ap (λ (z : View). z.began) l.stepped;
       shaped = ap (λ (z : View). z.shape) l.stepped;
       same_members = ap (λ (z : View). z.members) l.stepped;
       lane = ap (λ (z : View). own_lane z.held) l.stepped;
     }
 
-    pub start_is : (stage : Stage) (v : View) → StageAt f leaves bits number left key parity u stage v → start_facts (record { table = table; view = v }) left stage ≡ at_start
+    pub start_is : (stage : Stage) (v : View) → StageAt f leaves bits number left key request u stage v → start_facts (record { table = table; view = v }) left stage ≡ at_start
     start_is Leaf v t = let e : v ≡ u = t.is_stage in ap (λ (z : View). pass_facts (record { table = table; view = z }) left) e
-    start_is (Change serial) v t = begun_is v (loaded_begun v serial t)
+    start_is (Change word) v t = begun_is v (loaded_begun v word t)
     start_is (Up done a) v t = begun_is v t.is_stage.has_begun
 
-    pub knows_stage : (stage : Stage) (v : View) → StageAt f leaves bits number left key parity u stage v → KnowsTable f v
+    pub knows_stage : (stage : Stage) (v : View) → StageAt f leaves bits number left key request u stage v → KnowsTable f v
     knows_stage Leaf v t = subst (KnowsTable f) (sym t.is_stage) t.is_pass.knows_table
-    knows_stage (Change serial) v t = (goes_begun f u v key serial t.is_pass.knows_table t.is_stage.loaded).knows_table
+    knows_stage (Change word) v t = (goes_begun f u v key word t.is_pass.knows_table t.is_stage.loaded).knows_table
     knows_stage (Up done a) v t = let o = t.is_stage.on_way in (goes_at f o.begun a.node (number + a.level) a.point v o.try_at).knows_table
 
     -- one step
@@ -110,37 +108,37 @@ module _ (f : ℕ → ℕ → List ℕ → List ℕ) where
       goes_on = knows_on f v w kn s.shaped s.later;
     }
 
-    some_bits : (stage : Stage) (v : View) → StageAt f leaves bits number left key parity u stage v → 1 ≤ bits
+    some_bits : (stage : Stage) (v : View) → StageAt f leaves bits number left key request u stage v → 1 ≤ bits
     some_bits stage v t = (room_one f u leaves bits number left t.is_pass t.some).2
 
-    bits_start : (stage : Stage) (v : View) (t : StageAt f leaves bits number left key parity u stage v) → (start_facts (record { table = table; view = v }) left stage).round.bits ≡ bits
+    bits_start : (stage : Stage) (v : View) (t : StageAt f leaves bits number left key request u stage v) → (start_facts (record { table = table; view = v }) left stage).round.bits ≡ bits
     bits_start stage v t = ap (λ (z : PassFacts). z.round.bits) (start_is stage v t) ∙ sym t.is_pass.bits_are
 
     -- ---- a turn after which there is more to do
 
-    module _ (v w : View) (stage : Stage) (t : StageAt f leaves bits number left key parity u stage v) where
+    module _ (v w : View) (stage : Stage) (t : StageAt f leaves bits number left key request u stage v) where
       abbrev start : PassFacts
       start = start_facts (record { table = table; view = v }) left stage
 
-      first_loads : (stage : Stage) → StageAt f leaves bits number left key parity u stage v → (stage ≡ Leaf → (found : ℕ) × (w.steps ≡ v.steps ++ load_leaf key found ∷ [])) → stage_turns bits stage + 10 ≡ 30 * bits
+      first_loads : (stage : Stage) → StageAt f leaves bits number left key request u stage v → (stage ≡ Leaf → (found : ℕ) × (w.steps ≡ v.steps ++ load_leaf key found ∷ [])) → stage_turns bits stage + 10 ≡ 30 * bits
           → (found : ℕ) × (w.steps ≡ v.steps ++ load_leaf key found ∷ [])
       first_loads Leaf t told is = told refl
-      first_loads (Change serial) t told is = absurd (let some = some_bits (Change serial) v t in let e : 30 * bits - 11 + 10 ≡ 30 * bits = is in omega arith)
+      first_loads (Change word) t told is = absurd (let some = some_bits (Change word) v t in let e : 30 * bits - 11 + 10 ≡ 30 * bits = is in omega arith)
       first_loads (Up done a) t told is = absurd (let few = way_few bits number key t.is_stage.leaf a v t.is_stage.on_way in let e : ascent_turns bits a + 10 ≡ 30 * bits = is in omega arith)
 
-      second_tries : (stage : Stage) → StageAt f leaves bits number left key parity u stage v → ((serial : ℕ) → stage ≡ Change serial → (found : ℕ) × (w.steps ≡ v.steps ++ try_leaf key serial found ∷ [])) → stage_turns bits stage + 11 ≡ 30 * bits
-          → (loaded found : ℕ) × (v.steps ≡ (start_facts (record { table = table; view = v }) left stage).steps ++ load_leaf key loaded ∷ []) × (w.steps ≡ v.steps ++ try_leaf key loaded found ∷ [])
+      second_tries : (stage : Stage) → StageAt f leaves bits number left key request u stage v → ((word : ℕ) → stage ≡ Change word → (found : ℕ) × (w.steps ≡ v.steps ++ try_leaf key word (word_after request key word) found ∷ [])) → stage_turns bits stage + 11 ≡ 30 * bits
+          → (loaded found : ℕ) × (v.steps ≡ (start_facts (record { table = table; view = v }) left stage).steps ++ load_leaf key loaded ∷ []) × (w.steps ≡ v.steps ++ try_leaf key loaded (word_after request key loaded) found ∷ [])
       second_tries Leaf t told is = absurd (let some = some_bits Leaf v t in let e : 30 * bits - 10 + 11 ≡ 30 * bits = is in omega arith)
-      second_tries (Change serial) t told is = let x = told serial refl in let l = t.is_stage.loaded in
-          (serial, x.0, ap (λ (z : View). z.steps) l.stepped ∙ ap (λ (z : View). z.began.steps ++ load_leaf key serial ∷ []) (sym l.stepped), x.1)
+      second_tries (Change word) t told is = let x = told word refl in let l = t.is_stage.loaded in
+          (word, x.0, ap (λ (z : View). z.steps) l.stepped ∙ ap (λ (z : View). z.began.steps ++ load_leaf key word ∷ []) (sym l.stepped), x.1)
       second_tries (Up done a) t told is = absurd (let few = way_few bits number key t.is_stage.leaf a v t.is_stage.on_way in let e : ascent_turns bits a + 11 ≡ 30 * bits = is in omega arith)
 
-      pub turns_on : (next : Stage) → StageAt f leaves bits number left key parity u next w → OneStep v w → stage_turns bits next < stage_turns bits stage → 1 ≤ stage_turns bits next
-          → (stage ≡ Leaf → (found : ℕ) × (w.steps ≡ v.steps ++ load_leaf key found ∷ [])) → ((serial : ℕ) → stage ≡ Change serial → (found : ℕ) × (w.steps ≡ v.steps ++ try_leaf key serial found ∷ []))
-          → TurnsOn (climb_facts (record { table = table; view = v }) bits left key parity stage) (climb_facts (record { table = table; view = w }) bits left key parity next)
+      pub turns_on : (next : Stage) → StageAt f leaves bits number left key request u next w → OneStep v w → stage_turns bits next < stage_turns bits stage → 1 ≤ stage_turns bits next
+          → (stage ≡ Leaf → (found : ℕ) × (w.steps ≡ v.steps ++ load_leaf key found ∷ [])) → ((word : ℕ) → stage ≡ Change word → (found : ℕ) × (w.steps ≡ v.steps ++ try_leaf key word (word_after request key word) found ∷ []))
+          → TurnsOn (climb_facts (record { table = table; view = v }) bits left key request stage) (climb_facts (record { table = table; view = w }) bits left key request next)
       turns_on next t' step falls some first second = record {
         start = start_is next w t' ∙ sym (start_is stage v t);
-        kind = refl;
+        request = refl;
         key = refl;
         once = once v w left (knows_stage stage v t) step;
         falls = falls;
@@ -151,33 +149,19 @@ module _ (f : ℕ → ℕ → List ℕ → List ℕ) where
 
       -- ---- the last turn
 
-      module _ (done : Bool) (step : OneStep v w) (some : 1 ≤ stage_turns bits stage) (up : Updated f (number + bits) u key parity w done) where
-        other : parity + (1 - parity) ≡ 1
-        other = let low = t.parity_is in omega arith
-
-        pub finishes : Finishes done (climb_facts (record { table = table; view = v }) bits left key parity stage) (pass_facts (record { table = table; view = w }) (left - 1))
-        finishes = let e = sym (start_is stage v t) in let p = t.is_pass in let told = told_on f (number + bits) u key parity w p.knows_table t.low (1 - parity) other done up in record {
-          once = once v w (left - 1) (knows_stage stage v t) step;
-          some = some;
-          accepted = subst (λ (z : PassFacts). OnTrue done (AcceptedUpdate (1 - parity) key z.knows (knows w))) e told.0;
-          refused = subst (λ (z : PassFacts). OnFalse done (RefusedUpdate (1 - parity) key z.knows (knows w))) e told.1;
-          goes_on = (length up.more + 1, subst (λ (z : PassFacts). GoesOn 1 (length up.more + 1) z (pass_facts (record { table = table; view = w }) (left - 1))) e (goes_on_by f u w leaves bits number left key parity p t.some t.low table done up));
-          steps = subst (λ (z : PassFacts). StepsOf (1 - parity) key done z (pass_facts (record { table = table; view = w }) (left - 1))) e (steps_of f u w leaves bits number left key parity p t.some t.low table (1 - parity) done other up);
-        }
-
--- the counters, where the one or the other goes on
-pub counted_by : (f : ℕ → ℕ → List ℕ → List ℕ) (used : ℕ) (v w : View) (key parity inserts removals x y : ℕ) (done : Bool) → parity < 2 → Updated f used v key parity w done → HasCounts (changes_of v.held) inserts removals
-    → (parity ≡ 0 → (x ≡ from_bool done) × (y ≡ 0)) → (parity ≡ 1 → (x ≡ 0) × (y ≡ from_bool done)) → HasCounts (changes_of w.held) (inserts + x) (removals + y)
-counted_by f used v w key parity inserts removals x y done low up counts zero_is one_is = ⊎_elim
-    (λ (is : parity ≡ 0). let e = zero_is is in let none : removals + y ≡ removals = (let n = e.1 in omega arith) in
-    subst (λ (z : ℕ × ℕ). HasCounts (changes_of w.held) z.0 z.1) (sym (λ i. (inserts + e.0 i, none i))) (counted_insert f used v w key inserts removals done (subst (λ (z : ℕ). Updated f used v key z w done) is up) counts))
-    (λ not. let is : parity ≡ 1 = omega arith in let e = one_is is in let none : inserts + x ≡ inserts = (let n = e.0 in omega arith) in
-    subst (λ (z : ℕ × ℕ). HasCounts (changes_of w.held) z.0 z.1) (sym (λ i. (none i, removals + e.1 i))) (counted_remove f used v w key inserts removals done (subst (λ (z : ℕ). Updated f used v key z w done) is up) counts))
-    (cases_eq parity 0)
+      pub finishes : (done : Outcome) → OneStep v w → 1 ≤ stage_turns bits stage → Updated f (number + bits) u key request w done
+          → Finishes done (climb_facts (record { table = table; view = v }) bits left key request stage) (pass_facts (record { table = table; view = w }) (left - 1))
+      finishes done step some up = let e = sym (start_is stage v t) in let p = t.is_pass in let after = pass_facts (record { table = table; view = w }) (left - 1) in record {
+        once = once v w (left - 1) (knows_stage stage v t) step;
+        some = some;
+        comes_to = subst (λ (z : PassFacts). ComesTo request key done z.knows (knows w)) e (comes_to f (number + bits) u key request w p.knows_table t.low done up);
+        goes_on = (length up.more + 1, subst (λ (z : PassFacts). GoesOn 1 (length up.more + 1) z after) e (goes_on_by f u w leaves bits number left key request p t.some t.low table done up));
+        steps = subst (λ (z : PassFacts). StepsOf request key done z after) e (steps_of f u w leaves bits number left key request p t.some t.low table done up);
+      }
 
 -- what was a snapshot of the pass at the start is one still
-pub keeps_start : {A B : Type 0} (parts_a : Parts A) (parts_b : Parts B) (table : TableId) (leaves bits number left key parity : ℕ) (u v w : View) (stage : Stage) (done : Bool) (t : StageAt (face parts_a parts_b) leaves bits number left key parity u stage v)
-    → Updated (face parts_a parts_b) (number + bits) u key parity w done → Keeps (summary_of parts_a parts_b) (start_facts (record { table = table; view = v }) left stage) (pass_facts (record { table = table; view = w }) (left - 1))
-keeps_start parts_a parts_b table leaves bits number left key parity u v w stage done t up = let f = face parts_a parts_b in let p = t.is_pass in let goes = (gained_by f u w leaves bits number left key parity p t.some t.low done up).1 in
-    subst (λ (z : PassFacts). Keeps (summary_of parts_a parts_b) z (pass_facts (record { table = table; view = w }) (left - 1))) (sym (start_is f leaves bits number left key parity u table stage v t))
+pub keeps_start : {A B : Type 0} (parts_a : Parts A) (parts_b : Parts B) (table : TableId) (leaves bits number left key : ℕ) (request : Request) (u v w : View) (stage : Stage) (done : Outcome) (t : StageAt (face parts_a parts_b) leaves bits number left key request u stage v)
+    → Updated (face parts_a parts_b) (number + bits) u key request w done → Keeps (summary_of parts_a parts_b) (start_facts (record { table = table; view = v }) left stage) (pass_facts (record { table = table; view = w }) (left - 1))
+keeps_start parts_a parts_b table leaves bits number left key request u v w stage done t up = let f = face parts_a parts_b in let p = t.is_pass in let goes = (gained_by f u w leaves bits number left key request p t.some t.low done up).2 in
+    subst (λ (z : PassFacts). Keeps (summary_of parts_a parts_b) z (pass_facts (record { table = table; view = w }) (left - 1))) (sym (start_is f leaves bits number left key request u table stage v t))
     (keeps_on parts_a parts_b (record { table = table; view = u }) (record { table = table; view = w }) left (left - 1) p.knows_table goes.knows_table goes.shaped goes.later)

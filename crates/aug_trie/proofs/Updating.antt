@@ -1,41 +1,76 @@
--- An update: a load of the leaf, a try unless the serial refuses it, and a propagation.
-use Rattle.std.proofs.Common.{◌≡◌, ◌≢◌, ◌↔◌, ℕ, ◌+◌, ◌%◌, ◌^◌, ◌<◌, ◌≤◌, Bool, true, false, IsTrue, List, [], ◌∷◌, ◌++◌, append_assoc, sym, refl, ap, ◌∙◌, subst, ⊎_elim, arith}
-use Rattle.std.proofs.lemmas.Bool.{cases_eq, false≢true}
+-- An update: a load of the leaf, an exchange unless the serial refuses it, and a propagation.
+use Rattle.std.proofs.Common.{◌≡◌, ◌≢◌, ℕ, ◌+◌, ◌*◌, ◌%◌, ◌^◌, ◌<◌, ◌≤◌, Bool, true, false, if◌then◌else◌, List, [], ◌∷◌, ◌++◌, append_assoc, sym, refl, ap, ◌∙◌, subst, ⊎_elim, inl, inr, arith}
+use Rattle.std.proofs.lemmas.Bool.{cases_eq, cases_Bool, false≢true}
+use Rattle.std.proofs.lemmas.Nat.{mul-le}
 use Rattle.aug_core.specs.Places.{Shape}
-use Rattle.aug_core.specs.Book.{Book, IsNewest}
-use Rattle.aug_core.specs.Counts.{change}
+use Rattle.aug_core.specs.Book.{Book, At, IsNewest}
 use Rattle.aug_core.specs.Kinds.{load_leaf, try_leaf}
 use Rattle.aug_core.specs.Shows.{NewestShows, ShowsAtMost}
-use Rattle.aug_core.specs.Told.{HoldsOnly, KnowsTable, BeginsAtLeaf, TriesLeaf}
+use Rattle.aug_core.specs.Told.{HoldsOnly, KnowsTable, BeginsAtLeaf, TriesLeaf, old_word, new_serial, made_by}
 use Rattle.aug_core.specs.declared.step.StepTaken.{StepTaken}
+use Rattle.aug_core.specs.declared.view.Advance.{Advance}
 use Rattle.aug_core.specs.declared.view.Change.{Change}
 use Rattle.aug_core.specs.declared.view.Entry.{Entry}
 use Rattle.aug_core.specs.declared.view.Held.{Held}
 use Rattle.aug_core.specs.declared.view.View.{View}
 use Rattle.aug_core.proofs.Books.{newest_is_last}
+use Rattle.aug_core.proofs.PlaceLemmas.{keys-within}
 use Rattle.aug_core.proofs.Showing.{shows_leaf}
+use Rattle.aug_model.specs.declared.outcome.Outcome.{Outcome}
+use Rattle.aug_model.specs.declared.outcome.Outcome.TheVariants.{Accepted, Replaced, Refused}
+use Rattle.aug_words.specs.Seats.{MayAdvance, TriedLeaf}
 use Rattle.aug_trie.specs.Goes.{Goes, HasRoom}
-use Rattle.aug_trie.specs.Climbing.{Updated}
+use Rattle.aug_trie.specs.Climbing.{WentUp, Stayed, CameTo, Updated}
+use Rattle.aug_trie.specs.LeafWords.{serial_in_word, weight_in_word}
+use Rattle.aug_trie.specs.Requests.{FitsRequest, goes_from, advance_from, word_after, outcome_by}
 use Rattle.aug_trie.specs.Stages.{MayRise, HasRisen}
+use Rattle.aug_trie.specs.declared.request.Request.{Request}
 use Rattle.aug_trie.proofs.Going.{room_on, goes_on, goes_after, goes_beginning, goes_seeing, goes_changing}
+use Rattle.aug_trie.proofs.LeafWords.{serial_of_leaf, weight_of_leaf}
+use Rattle.aug_trie.proofs.Requesting.{is_advance, from_word, outcome_is, serial_is, weight_is}
 
 newest_shows : (s : Shape) (book : Book) (key index n : ℕ) (e : Entry) → IsNewest book key index e → n ≤ index → NewestShows s book key 0 n
 newest_shows s book key index n e newest le = record { index = index; entry = e; newest = newest; shows = ((e, newest.at), le) }
 
-module _ (f : ℕ → ℕ → List ℕ → List ℕ) where
-  pub goes_begun : (v w : View) (key serial : ℕ) → KnowsTable f v → BeginsAtLeaf f v key serial w → Goes f 0 [] v w
-  goes_begun v w key serial kn l = goes_beginning f v w _ l.stepped kn l.sees
+module _ (f : ℕ → ℕ → List (ℕ × ℕ) → List ℕ) where
+  pub goes_begun : (v w : View) (key word : ℕ) → KnowsTable f v → BeginsAtLeaf f v key word w → Goes f 0 [] v w
+  goes_begun v w key word kn l = goes_beginning f v w _ l.stepped kn l.sees
 
-  -- a try of a leaf gains a change or none
-  pub goes_leaf : (v w : View) (key serial found : ℕ) (h : Held) → HoldsOnly v h → KnowsTable f v → TriesLeaf f v key serial found w → (gained : List Change) × Goes f 0 gained v w
-  goes_leaf v w key serial found h only kn told = ⊎_elim
-      (λ (hit : found ≡ serial). (change key (serial + 1) ∷ [], goes_changing f v w key (serial + 1) _ h only (told.hit hit).0 kn told.sees))
-      (λ miss. ([], goes_seeing f v w _ (told.miss miss).0 kn told.sees)) (cases_eq found serial)
+  -- a try of a leaf gains changes or none
+  pub goes_leaf : (v w : View) (key found : ℕ) (a : Advance) (h : Held) → HoldsOnly v h → KnowsTable f v → TriesLeaf f v key a found w → (gained : List Change) × Goes f 0 gained v w
+  goes_leaf v w key found a h only kn told = ⊎_elim
+      (λ (hit : found ≡ old_word a). (made_by key a, goes_changing f v w (made_by key a) _ h only (told.hit hit).0 kn told.sees))
+      (λ miss. ([], goes_seeing f v w _ (told.miss miss).0 kn told.sees)) (cases_eq found (old_word a))
+
+  -- a loaded word has the serial and the weight of the leaf's newest entry
+  pub loaded_serial : (v w : View) (key word : ℕ) → key < 2 ^ v.shape.bits → (l : BeginsAtLeaf f v key word w) → (serial_in_word word ≡ l.index) × (weight_in_word word ≡ l.entry.weight)
+  loaded_serial v w key word low l = let is = l.sees.book.serials key l.index l.entry low l.newest.at in let same = l.found ∙ is.named in
+      (ap serial_in_word same ∙ serial_of_leaf l.index l.entry.weight is.fits, ap weight_in_word same ∙ weight_of_leaf l.index l.entry.weight is.fits)
+
+  small_key : (v : View) (key : ℕ) → KnowsTable f v → key < 2 ^ v.shape.bits → key < 2 ^ 32
+  small_key v key kn low = let few = (keys-within v.shape.bits kn.laid_out.bits.0 kn.laid_out.bits.1).1 in omega arith
+
+  -- the leaf may be exchanged as the request says
+  pub advances : (v w : View) (key word : ℕ) (request : Request) → key < 2 ^ v.shape.bits → KnowsTable f v → BeginsAtLeaf f v key word w → FitsRequest request → goes_from request (serial_in_word word) ≡ true → MayAdvance w key word (word_after request key word)
+  advances v w key word request low kn l fits lets = let is = loaded_serial v w key word low l in record {
+    advance = advance_from request key word;
+    is_advance = is_advance request key word fits (small_key v key kn low) lets;
+    from = from_word request key word;
+    to = refl;
+    entry = l.entry;
+    at = subst (λ (z : ℕ). At w.seen key z l.entry) (sym (serial_is request key word ∙ is.0)) l.newest.at;
+    weighs = sym (weight_is request key word ∙ is.1);
+  }
+
+  -- and its serial is far from the end of its half of the word
+  pub serial_few : (v w : View) (key word : ℕ) → key < 2 ^ v.shape.bits → KnowsTable f v → BeginsAtLeaf f v key word w → serial_in_word word < 2 ^ 31
+  serial_few v w key word low kn l = let is = (loaded_serial v w key word low l).0 in let long = l.newest.last in let few = l.sees.fits.few key low in
+      let some = mul-le v.shape.workers (2 * v.shape.updates) 64 131072 kn.laid_out.workers.1 (let up = kn.laid_out.updates.1 in omega arith) in omega (arith, is, long, few, some)
 
   -- the root showed no serial past the one that was loaded
-  at_most : (v w : View) (key serial : ℕ) → BeginsAtLeaf f v key serial w → ShowsAtMost v.shape v.seen key serial
-  at_most v w key serial l = record {
-    at_most = λ i n h. let t = shows_leaf v.shape v.seen key v.shape.bits i n h in let le = newest_is_last w.seen key serial t.0 l.entry t.1 l.newest (l.sees.later key t.0 t.1 t.2) in let e = t.3 in omega arith;
+  at_most : (v w : View) (key word : ℕ) → key < 2 ^ v.shape.bits → BeginsAtLeaf f v key word w → ShowsAtMost v.shape v.seen key (serial_in_word word)
+  at_most v w key word low l = let serial = (loaded_serial v w key word low l).0 in record {
+    at_most = λ i n h. let t = shows_leaf v.shape v.seen key v.shape.bits i n h in let le = newest_is_last w.seen key l.index t.0 l.entry t.1 l.newest (l.sees.later key t.0 t.1 t.2) in let e = t.3 in omega (arith, serial, le, e);
   }
 
   -- after steps that published nothing the way to the root may begin
@@ -47,65 +82,115 @@ module _ (f : ℕ → ℕ → List ℕ → List ℕ) where
     room = room_on f gained v w number bits g room;
   }
 
-  module _ (v w0 : View) (key serial parity bits number : ℕ) (small : parity < 2) (is : bits ≡ v.shape.bits) (some : 1 ≤ bits) (kn : KnowsTable f v) (loaded : BeginsAtLeaf f v key serial w0) where
+  module _ (v w0 : View) (key word : ℕ) (request : Request) (bits number : ℕ) (low : key < 2 ^ v.shape.bits) (is : bits ≡ v.shape.bits) (some : 1 ≤ bits) (kn : KnowsTable f v) (loaded : BeginsAtLeaf f v key word w0) where
     abbrev used : ℕ
     used = number + bits
+
+    abbrev a : Advance
+    a = advance_from request key word
 
     shaped0 : w0.shape ≡ v.shape
     shaped0 = ap (λ (z : View). z.shape) loaded.stepped
 
-    steps0 : w0.steps ≡ v.steps ++ load_leaf key serial ∷ []
+    steps0 : w0.steps ≡ v.steps ++ load_leaf key word ∷ []
     steps0 = ap (λ (z : View). z.steps) loaded.stepped
 
     first : Goes f 0 [] v w0
-    first = goes_begun v w0 key serial kn loaded
+    first = goes_begun v w0 key word kn loaded
+
+    at_leaf : serial_in_word word ≡ loaded.index
+    at_leaf = (loaded_serial v w0 key word low loaded).0
 
     -- the serial that was loaded refuses the update
-    pub refused_at_once : (w : View) → serial % 2 ≢ parity → HasRisen f bits number key w0 bits w → Updated f (number + bits) v key parity w false
+    pub refused_at_once : (w : View) → goes_from request (serial_in_word word) ≡ false → HasRisen f bits number key w0 bits w → Updated f (number + bits) v key request w Refused
     refused_at_once w other h = let goes = h.goes in let between = h.took in let lifts = h.lifts in let least = between.least_steps in let most = between.most_steps in let count = between.took.count in record {
-      loaded = serial;
+      loaded = word;
       more = between.took.more;
-      steps = between.took.steps ∙ ap (λ (z : List StepTaken). z ++ between.took.more) steps0 ∙ append_assoc v.steps (load_leaf key serial ∷ []) between.took.more;
+      steps = between.took.steps ∙ ap (λ (z : List StepTaken). z ++ between.took.more) steps0 ∙ append_assoc v.steps (load_leaf key word ∷ []) between.took.more;
       least_steps = omega arith;
       most_steps = omega arith;
-      tried = λ same. absurd (other same);
+      tried = λ lets. absurd (false≢true (sym other ∙ lets));
       refusing = λ _. (refl, between.took.no_try);
-      accepted = λ good. absurd (false≢true good);
-      refused = λ _. record {
-        serial = serial;
-        was = other;
+      came_to = record {
+        number = serial_in_word word;
+        stands = record { found_it = λ _. refl; next = λ lets. absurd (false≢true (sym other ∙ lets)) };
         goes = goes_on f 0 used used [] v w0 w (omega arith) (omega arith) first goes;
-        before = at_most v w0 key serial loaded;
-        shown = subst (λ (z : Shape × ℕ). NewestShows z.0 w.seen key z.1 serial) (λ i. (shaped0 i, is i)) (lifts.lifted serial (newest_shows w0.shape w0.seen key serial serial loaded.entry loaded.newest (omega arith)));
+        before = at_most v w0 key word low loaded;
+        shown = subst (λ (z : Shape × ℕ). NewestShows z.0 w.seen key z.1 (serial_in_word word)) (λ i. (shaped0 i, is i))
+            (lifts.lifted (serial_in_word word) (newest_shows w0.shape w0.seen key loaded.index (serial_in_word word) loaded.entry loaded.newest (omega (arith, at_leaf))));
       };
     }
 
-    -- the update was tried
-    pub updated : (w1 w : View) (found : ℕ) (done : Bool) (h : Held) → HoldsOnly w0 h → (IsTrue done ↔ (found ≡ serial)) → TriesLeaf f w0 key serial found w1 → serial % 2 ≡ parity
-        → HasRisen f bits number key w1 bits w → Updated f (number + bits) v key parity w done
-    updated w1 w found done h only decided told same r = let goes = r.goes in let between = r.took in let lifts = r.lifts in let least = between.least_steps in let most = between.most_steps in let count = between.took.count in
-        let shaped1 = told.shaped ∙ shaped0 in let taken : StepTaken = try_leaf key serial found in let more : List StepTaken = taken ∷ between.took.more in let kn0 = first.knows_table in
-        let steps1 : w1.steps ≡ v.steps ++ load_leaf key serial ∷ taken ∷ [] = told.stepped ∙ ap (λ (z : List StepTaken). z ++ taken ∷ []) steps0 ∙ append_assoc v.steps (load_leaf key serial ∷ []) (taken ∷ []) in record {
-          loaded = serial;
-          more = more;
-          steps = between.took.steps ∙ ap (λ (z : List StepTaken). z ++ between.took.more) steps1 ∙ append_assoc v.steps (load_leaf key serial ∷ taken ∷ []) between.took.more;
-          least_steps = omega arith;
-          most_steps = omega arith;
-          tried = λ _. record { found = found; rest = between.took.more; second = refl; decided = decided; no_other = between.took.no_try };
-          refusing = λ other. absurd (other same);
-          accepted = λ good. let hit = told.hit (decided.0 good) in let at : told.index ≡ serial + 1 = hit.1 in let gained : List Change = change key (serial + 1) ∷ [] in record {
-            serial = serial;
-            was = same;
-            goes = goes_on f 0 used used gained v w1 w (omega arith) (omega arith)
-                (goes_after f 0 0 0 [] gained gained v w0 w1 (omega arith) (omega arith) refl first (goes_changing f w0 w1 key (serial + 1) _ h only hit.0 kn0 told.sees)) goes;
-            before = at_most v w0 key serial loaded;
-            shown = subst (λ (z : Shape × ℕ). NewestShows z.0 w.seen key z.1 (serial + 1)) (λ i. (shaped1 i, is i)) (lifts.lifted (serial + 1) (newest_shows w1.shape w1.seen key told.index (serial + 1) told.entry told.newest (omega arith)));
-          };
-          refused = λ bad. let other : found ≢ serial = λ eq. (let good : done ≡ true = decided.1 eq in false≢true (sym bad ∙ good)) in let miss = told.miss other in let at = miss.1 in let past = miss.2 in record {
-            serial = serial + 1;
-            was = λ eq. omega arith;
-            goes = goes_on f 0 used used [] v w1 w (omega arith) (omega arith) (goes_on f 0 0 0 [] v w0 w1 (omega arith) (omega arith) first (goes_seeing f w0 w1 _ miss.0 kn0 told.sees)) goes;
-            before = record { at_most = λ i n x. let le = (at_most v w0 key serial loaded).at_most i n x in omega arith };
-            shown = subst (λ (z : Shape × ℕ). NewestShows z.0 w.seen key z.1 (serial + 1)) (λ i. (shaped1 i, is i)) (lifts.lifted (serial + 1) (newest_shows w1.shape w1.seen key told.index (serial + 1) told.entry told.newest (omega arith)));
-          };
+    -- the leaf was tried
+    module _ (fits : FitsRequest request) (lets : goes_from request (serial_in_word word) ≡ true) (w1 : View) (ok : Bool) (h : Held) (only : HoldsOnly w0 h) (tried : TriedLeaf f w0 key word (word_after request key word) ok w1) where
+      abbrev from : word ≡ old_word a
+      from = from_word request key word
+
+      pub told : TriesLeaf f w0 key a tried.found w1
+      told = tried.told a (is_advance request key word fits (small_key v key kn low) lets) from refl
+
+      missed : tried.found ≢ word → tried.found ≢ old_word a
+      missed other same = other (same ∙ sym from)
+
+      -- its exchange gained changes or none
+      pub tried_goes : (gained : List Change) × Goes f 0 gained w0 w1
+      tried_goes = goes_leaf w0 w1 key tried.found a h only first.knows_table told
+
+      shaped1 : w1.shape ≡ v.shape
+      shaped1 = told.shaped ∙ shaped0
+
+      abbrev taken : StepTaken
+      taken = try_leaf key word (word_after request key word) tried.found
+
+      steps1 : w1.steps ≡ v.steps ++ load_leaf key word ∷ taken ∷ []
+      steps1 = subst (λ (z : ℕ). w1.steps ≡ w0.steps ++ try_leaf key z (word_after request key word) tried.found ∷ []) (sym from) told.stepped
+          ∙ ap (λ (z : List StepTaken). z ++ taken ∷ []) steps0 ∙ append_assoc v.steps (load_leaf key word ∷ []) (taken ∷ [])
+
+      module _ (w : View) (r : HasRisen f bits number key w1 bits w) where
+        -- what the leaf had reached the root shows
+        shown_up : (n : ℕ) → n ≤ told.index → NewestShows v.shape w.seen key v.shape.bits n
+        shown_up n le = subst (λ (z : Shape × ℕ). NewestShows z.0 w.seen key z.1 n) (λ i. (shaped1 i, is i)) (r.lifts.lifted n (newest_shows w1.shape w1.seen key told.index n told.entry told.newest le))
+
+        went_up : tried.found ≡ word → WentUp f (number + bits) v key request w a
+        went_up same = let hit = told.hit (same ∙ from) in let reached : told.index ≡ new_serial a = hit.1 in let gained : List Change = made_by key a in record {
+          lets = subst (λ (z : ℕ). goes_from request z ≡ true) (sym (serial_is request key word)) lets;
+          goes = goes_on f 0 used used gained v w1 w (omega arith) (omega arith)
+              (goes_after f 0 0 0 [] gained gained v w0 w1 (omega arith) (omega arith) refl first (goes_changing f w0 w1 gained _ h only hit.0 first.knows_table told.sees)) r.goes;
+          before = subst (ShowsAtMost v.shape v.seen key) (sym (serial_is request key word)) (at_most v w0 key word low loaded);
+          shown = shown_up (new_serial a) (omega (arith, reached));
+          weighs = record { entry = told.entry; at = r.goes.later key (new_serial a) told.entry (subst (λ (z : ℕ). At w1.seen key z told.entry) reached told.newest.at); weighs = hit.2 };
+          passes = λ e. let p = told.passes (same ∙ from) e in record { entry = p.entry; at = r.goes.later key (a.serial + 1) p.entry p.at; passed = p.passed };
         }
+
+        stayed : tried.found ≢ word → Stayed f (number + bits) v key request w (serial_in_word word)
+        stayed other = let miss = told.miss (missed other) in let past = miss.1 in let serial = serial_is request key word in record {
+          number = serial_in_word word + 1;
+          stands = record { found_it = λ not. absurd (false≢true (sym not ∙ lets)); next = λ _. refl };
+          goes = goes_on f 0 used used [] v w1 w (omega arith) (omega arith) (goes_on f 0 0 0 [] v w0 w1 (omega arith) (omega arith) first (goes_seeing f w0 w1 _ miss.0 first.knows_table told.sees)) r.goes;
+          before = at_most v w0 key word low loaded;
+          shown = shown_up (serial_in_word word + 1) (omega (arith, past, serial));
+        }
+
+        by_replaces : (b : Bool) → a.replaces ≡ b → WentUp f (number + bits) v key request w a → CameTo f (number + bits) v key request w word (if b then Replaced else Accepted)
+        by_replaces true e up = (up, e)
+        by_replaces false e up = (up, e)
+
+        -- an update that tried its leaf
+        pub updated : (done : Outcome) → done ≡ (if ok then outcome_by request word else Refused) → Updated f (number + bits) v key request w done
+        updated done comes = let between = r.took in let least = between.least_steps in let most = between.most_steps in let count = between.took.count in
+            let done_hit : (tried.found ≡ word → done ≡ outcome_by request word) = λ same. comes ∙ ap (λ (z : Bool). if z then outcome_by request word else Refused) (tried.decided.1 same) in
+            let done_miss : (tried.found ≢ word → done ≡ Refused) = λ other. elim (cases_Bool ok) [
+              | inl t ↦ absurd (other (tried.decided.0 t))
+              | inr n ↦ comes ∙ ap (λ (z : Bool). if z then outcome_by request word else Refused) n
+            ] in record {
+              loaded = word;
+              more = taken ∷ between.took.more;
+              steps = between.took.steps ∙ ap (λ (z : List StepTaken). z ++ between.took.more) steps1 ∙ append_assoc v.steps (load_leaf key word ∷ taken ∷ []) between.took.more;
+              least_steps = omega arith;
+              most_steps = omega arith;
+              tried = λ _. record { found = tried.found; rest = between.took.more; second = refl; hit = done_hit; miss = done_miss; no_other = between.took.no_try };
+              refusing = λ other. absurd (false≢true (sym other ∙ lets));
+              came_to = ⊎_elim
+                  (λ (same : tried.found ≡ word). subst (CameTo f (number + bits) v key request w word) (sym (done_hit same ∙ outcome_is request key word)) (by_replaces a.replaces refl (went_up same)))
+                  (λ other. subst (CameTo f (number + bits) v key request w word) (sym (done_miss other)) (stayed other)) (cases_eq tried.found word);
+            }

@@ -1,30 +1,70 @@
 -- From the root of a cut's tree down.
-use Rattle.std.proofs.Common.{◌≡◌, ℕ, suc, ◌+◌, ◌*◌, ◌%◌, ◌^◌, ◌≤◌, eqb, if◌then◌else◌, List, [], ◌∷◌, length, get_or, sym, ap, ◌∙◌, subst, arith}
+use Rattle.std.proofs.Common.{◌≡◌, ℕ, zero, suc, ◌+◌, ◌*◌, ◌%◌, ◌^◌, ◌<◌, ◌≤◌, ◌&&◌, Bool, true, false, eqb, eq-eqb, ne_eqb, leb, ltb, le-leb, lt-ltb, if◌then◌else◌, Option, Some, None, unwrap_or, List, [], ◌∷◌, length, get_or, sym, refl, ap, ◌∙◌, subst, ⊎_elim, arith}
+use Rattle.std.proofs.lemmas.Bool.{cases_eq}
 use Rattle.aug_monoid.specs.Parts.{Parts}
 use Rattle.aug_monoid.specs.Laws.{IsMonoid}
 use Rattle.aug_monoid.proofs.FoldLemmas.{of_word-fold_of}
 use Rattle.aug_model.specs.Folds.{summary_of}
-use Rattle.aug_model.specs.Queries.{range_of}
+use Rattle.aug_model.specs.Queries.{range_of, weighted_range_of, weight_of, weight_in}
+use Rattle.aug_model.proofs.Pairs.{range-pairs_of, length-pairs_of}
 use Rattle.aug_model.specs.declared.summary.Summary.{Summary}
 use Rattle.aug_core.specs.Tree.{root_place, left_of, right_of, IsInner}
 use Rattle.aug_core.specs.Faces.{face}
-use Rattle.aug_core.specs.Book.{At, IsBook}
-use Rattle.aug_core.specs.Cuts.{Cut, set_of_cut}
+use Rattle.aug_core.specs.Book.{At, IsSerial, IsBook}
+use Rattle.aug_core.specs.Cuts.{Cut, weight_at, set_of_cut, pairs_of_cut}
 use Rattle.aug_core.specs.EntryCuts.{entry_of, IsPartOfCut}
 use Rattle.aug_core.specs.Told.{HasSeen}
 use Rattle.aug_core.specs.declared.view.Entry.{Entry}
 use Rattle.aug_core.specs.declared.view.View.{View}
 use Rattle.aug_core.proofs.Books.{at_below}
 use Rattle.aug_core.proofs.CutsUnder.{inner_word, leaf_word}
-use Rattle.aug_core.proofs.EntryCuts.{entry_at, entry_is, root_part, left_part, right_part, part_words, part_keys, part_fits}
+use Rattle.aug_core.proofs.EntryCuts.{entry_at, entry_is, root_part, left_part, right_part, part_words, part_pairs, part_fits}
 use Rattle.aug_core.proofs.EntryKeys.{are_small}
 use Rattle.aug_core.proofs.FaceLemmas.{left_in, right_in, count_in, a_in, b_in}
+use Rattle.aug_trie.specs.LeafWords.{serial_in_word, weight_in_word, leaf_pairs}
 use Rattle.aug_trie.specs.Facts.{IsSnapshotOf, IsNodeOf}
 use Rattle.aug_trie.specs.TreeOf.{IsTreeOf}
 use Rattle.aug_trie.specs.Points.{Says}
+use Rattle.aug_trie.proofs.LeafWords.{serial_of_entry, weight_of_entry, pairs_of_serial}
+
+-- an interval has as many pairs as keys
+range_long : (cut : Cut) (a b : ℕ) → length (weighted_range_of (pairs_of_cut cut) a b) ≡ length (range_of (set_of_cut cut) a b)
+range_long cut a b = ap length (range-pairs_of (weight_at cut) (set_of_cut cut) a b) ∙ length-pairs_of (weight_at cut) (range_of (set_of_cut cut) a b)
+
+-- a key weighs in an interval that it is in what it weighs
+weight_of-range : (ps : List (ℕ × ℕ)) (k a b : ℕ) → a ≤ k → k < b → weight_of (weighted_range_of ps a b) k ≡ weight_of ps k
+weight_of-range [] k a b from to = refl
+weight_of-range (p ∷ ps) k a b from to = ⊎_elim
+    (λ (same : p.0 ≡ k). let inside : (leb a p.0 && ltb p.0 b) ≡ true = ap (λ (z : Bool). z && ltb p.0 b) (le-leb a p.0 (omega arith)) ∙ lt-ltb p.0 b (omega arith) in
+    ap (λ (z : Bool). weight_of (if z then p ∷ weighted_range_of ps a b else weighted_range_of ps a b) k) inside
+    ∙ ap (λ (z : Bool). if z then Some p.1 else weight_of (weighted_range_of ps a b) k) (eq-eqb p.0 k same) ∙ sym (ap (λ (z : Bool). if z then Some p.1 else weight_of ps k) (eq-eqb p.0 k same)))
+    (λ ne. either (leb a p.0 && ltb p.0 b) (ne_eqb p.0 k ne) (weight_of-range ps k a b from to) ∙ sym (ap (λ (z : Bool). if z then Some p.1 else weight_of ps k) (ne_eqb p.0 k ne)))
+    (cases_eq p.0 k)
+  where
+    either : (c : Bool) → eqb p.0 k ≡ false → weight_of (weighted_range_of ps a b) k ≡ weight_of ps k → weight_of (if c then p ∷ weighted_range_of ps a b else weighted_range_of ps a b) k ≡ weight_of ps k
+    either true other rest = ap (λ (z : Bool). if z then Some p.1 else weight_of (weighted_range_of ps a b) k) other ∙ rest
+    either false other rest = rest
+
+-- a serial says how many pairs its leaf has
+pairs_counted : (key word : ℕ) → length (leaf_pairs key word) ≡ serial_in_word word % 2
+pairs_counted key word = counted (serial_in_word word % 2) (omega arith)
+  where
+    counted : (n : ℕ) → n < 2 → length {A = ℕ × ℕ} (if eqb n 1 then (key, weight_in_word word) ∷ [] else []) ≡ n
+    counted zero low = refl
+    counted (suc zero) low = refl
+    counted (suc (suc n)) low = absurd (let e : suc (suc n) < 2 = low in omega arith)
+
+-- and its weight is that of its pair, where an even one has none
+weighs_alone : (key word : ℕ) → (serial_in_word word % 2 ≡ 0 → weight_in_word word ≡ 0) → weight_in_word word ≡ weight_in (leaf_pairs key word) key
+weighs_alone key word light = weighs (serial_in_word word % 2) (omega arith) light
+  where
+    weighs : (n : ℕ) → n < 2 → (n ≡ 0 → weight_in_word word ≡ 0) → weight_in_word word ≡ weight_in (if eqb n 1 then (key, weight_in_word word) ∷ [] else []) key
+    weighs zero low none = none refl
+    weighs (suc zero) low none = sym (ap (λ (z : Bool). unwrap_or (if z then Some (weight_in_word word) else None) 0) (eq-eqb key key refl))
+    weighs (suc (suc n)) low none = absurd (let e : suc (suc n) < 2 = low in omega arith)
 
 module _ {A B : Type 0} (parts_a : Parts A) (parts_b : Parts B) where
-  abbrev both : ℕ → ℕ → List ℕ → List ℕ
+  abbrev both : ℕ → ℕ → List (ℕ × ℕ) → List ℕ
   both = face parts_a parts_b
 
   module _ (v : View) (b : IsBook both v.shape v.seen) (cut : Cut) where
@@ -38,11 +78,11 @@ module _ {A B : Type 0} (parts_a : Parts A) (parts_b : Parts B) where
     }
 
     -- whatever is told of a node's keys is told of the cut's tree
-    tree_is : (level place word : ℕ) (t : IsNodeOf v.shape v.seen cut level place word) (told : Summary A B) → told ≡ summary_of parts_a parts_b (entry_of v.seen t.q t.index).keys → IsTreeOf (summary_of parts_a parts_b) v.shape.bits cut level place told
+    tree_is : (level place word : ℕ) (t : IsNodeOf v.shape v.seen cut level place word) (told : Summary A B) → told ≡ summary_of parts_a parts_b (entry_of v.seen t.q t.index).pairs → IsTreeOf (summary_of parts_a parts_b) v.shape.bits cut level place told
     tree_is level place word t told is = record {
       level_fits = t.part.word.level_fits;
       place_fits = part_fits both v.shape v.seen b cut level place t.q t.index t.part;
-      tells = is ∙ ap (summary_of parts_a parts_b) (part_keys both v.shape v.seen b cut level place t.q t.index t.part);
+      tells = is ∙ ap (summary_of parts_a parts_b) (part_pairs both v.shape v.seen b cut level place t.q t.index t.part);
     }
 
     module _ (level place word : ℕ) (t : IsNodeOf v.shape v.seen cut (suc level) place word) where
@@ -65,11 +105,11 @@ module _ {A B : Type 0} (parts_a : Parts A) (parts_b : Parts B) where
       read : (field r : ℕ) → Says v word field r → r ≡ get_or entry.words field 0
       read field r says = says t.q t.index entry inner at numbered
 
-      words : entry.words ≡ both (entry_of v.seen (left_of v.shape t.q) entry.left).word (entry_of v.seen (right_of v.shape t.q) entry.right).word (range_of (set_of_cut cut) (place * 2 ^ suc level) ((place + 1) * 2 ^ suc level))
+      words : entry.words ≡ both (entry_of v.seen (left_of v.shape t.q) entry.left).word (entry_of v.seen (right_of v.shape t.q) entry.right).word (weighted_range_of (pairs_of_cut cut) (place * 2 ^ suc level) ((place + 1) * 2 ^ suc level))
       words = part_words both v.shape v.seen b cut level place t.q t.index t.part
 
-      over : (field : ℕ) → get_or entry.words field 0 ≡ get_or (both (entry_of v.seen (left_of v.shape t.q) entry.left).word (entry_of v.seen (right_of v.shape t.q) entry.right).word entry.keys) field 0
-      over field = ap (λ (z : List ℕ). get_or z field 0) (words ∙ ap (both (entry_of v.seen (left_of v.shape t.q) entry.left).word (entry_of v.seen (right_of v.shape t.q) entry.right).word) (sym (part_keys both v.shape v.seen b cut (suc level) place t.q t.index t.part)))
+      over : (field : ℕ) → get_or entry.words field 0 ≡ get_or (both (entry_of v.seen (left_of v.shape t.q) entry.left).word (entry_of v.seen (right_of v.shape t.q) entry.right).word entry.pairs) field 0
+      over field = ap (λ (z : List ℕ). get_or z field 0) (words ∙ ap (both (entry_of v.seen (left_of v.shape t.q) entry.left).word (entry_of v.seen (right_of v.shape t.q) entry.right).word) (sym (part_pairs both v.shape v.seen b cut (suc level) place t.q t.index t.part)))
 
       -- its first word names its left child
       pub left_node : (r : ℕ) → Says v word 0 r → IsNodeOf v.shape v.seen cut level (2 * place) r
@@ -77,7 +117,7 @@ module _ {A B : Type 0} (parts_a : Parts A) (parts_b : Parts B) where
         q = left_of v.shape t.q;
         index = entry.left;
         part = left_part both v.shape v.seen b cut level place t.q t.index t.part;
-        named = sym (read 0 r says ∙ over 0 ∙ left_in parts_a parts_b _ _ entry.keys);
+        named = sym (read 0 r says ∙ over 0 ∙ left_in parts_a parts_b _ _ entry.pairs);
       }
 
       -- its second its right child
@@ -86,31 +126,49 @@ module _ {A B : Type 0} (parts_a : Parts A) (parts_b : Parts B) where
         q = right_of v.shape t.q;
         index = entry.right;
         part = right_part both v.shape v.seen b cut level place t.q t.index t.part;
-        named = sym (read 1 r says ∙ over 1 ∙ right_in parts_a parts_b _ _ entry.keys);
+        named = sym (read 1 r says ∙ over 1 ∙ right_in parts_a parts_b _ _ entry.pairs);
       }
 
       -- its third says how many keys are below it, which are not many
       pub count_few : (n : ℕ) → 2 ^ v.shape.bits ≤ 65536 → Says v word 2 n → n ≤ 65536
-      count_few n few says = let f = (are_small both v.shape v.seen b few t.q t.index entry inner.inside at).few in let count = read 2 n says ∙ over 2 ∙ count_in parts_a parts_b _ _ entry.keys in omega arith
+      count_few n few says = let f = (are_small both v.shape v.seen b few t.q t.index entry inner.inside at).few in let count = read 2 n says ∙ over 2 ∙ count_in parts_a parts_b _ _ entry.pairs in omega arith
 
       -- they are the keys of the cut that it covers
       pub count_told : (n : ℕ) → Says v word 2 n → n ≡ length (range_of (set_of_cut cut) (place * 2 ^ suc level) ((place + 1) * 2 ^ suc level))
-      count_told n says = read 2 n says ∙ ap (λ (z : List ℕ). get_or z 2 0) words ∙ count_in parts_a parts_b _ _ (range_of (set_of_cut cut) (place * 2 ^ suc level) ((place + 1) * 2 ^ suc level))
+      count_told n says = read 2 n says ∙ ap (λ (z : List ℕ). get_or z 2 0) words ∙ count_in parts_a parts_b _ _ (weighted_range_of (pairs_of_cut cut) (place * 2 ^ suc level) ((place + 1) * 2 ^ suc level))
+          ∙ range_long cut (place * 2 ^ suc level) ((place + 1) * 2 ^ suc level)
 
       -- and the others say what is below it
       pub node_told : (n x y : ℕ) → 2 ^ v.shape.bits ≤ 65536 → IsMonoid parts_a → IsMonoid parts_b → Says v word 2 n → Says v word 3 x → Says v word 4 y
           → IsTreeOf (summary_of parts_a parts_b) v.shape.bits cut (suc level) place (record { count = n; a = parts_a.from_word x; b = parts_b.from_word y })
       node_told n x y few laws_a laws_b says_n says_x says_y = let small = (are_small both v.shape v.seen b few t.q t.index entry inner.inside at).small in
-          let count = read 2 n says_n ∙ over 2 ∙ count_in parts_a parts_b _ _ entry.keys in
-          let fold_a = ap parts_a.from_word (read 3 x says_x ∙ over 3 ∙ a_in parts_a parts_b _ _ entry.keys) ∙ of_word-fold_of laws_a entry.keys small in
-          let fold_b = ap parts_b.from_word (read 4 y says_y ∙ over 4 ∙ b_in parts_a parts_b _ _ entry.keys) ∙ of_word-fold_of laws_b entry.keys small in
+          let count = read 2 n says_n ∙ over 2 ∙ count_in parts_a parts_b _ _ entry.pairs in
+          let fold_a = ap parts_a.from_word (read 3 x says_x ∙ over 3 ∙ a_in parts_a parts_b _ _ entry.pairs) ∙ of_word-fold_of laws_a entry.pairs small in
+          let fold_b = ap parts_b.from_word (read 4 y says_y ∙ over 4 ∙ b_in parts_a parts_b _ _ entry.pairs) ∙ of_word-fold_of laws_b entry.pairs small in
           tree_is (suc level) place word t (record { count = n; a = parts_a.from_word x; b = parts_b.from_word y }) (λ i. record { count = count i; a = fold_a i; b = fold_b i })
 
-    -- a leaf's word is its serial, which says whether its key is there
+    -- a leaf's word has its serial, which says whether its key is there, and its weight
     module _ (key word : ℕ) (t : IsNodeOf v.shape v.seen cut 0 key word) where
-      pub leaf_keys : (entry_of v.seen t.q t.index).keys ≡ (if eqb (word % 2) 1 then key ∷ [] else [])
-      leaf_keys = let l = leaf_word v.shape key t.q t.part.word in let serial = b.serials t.q t.index (entry_of v.seen t.q t.index) l.1 (entry_at v.seen t.q t.index t.part.there) in
-          let is : t.index ≡ word = sym serial.named ∙ t.named in serial.there_if_odd ∙ (λ i. if eqb (is i % 2) 1 then l.0 i ∷ [] else [])
+      abbrev leaf : Entry
+      leaf = entry_of v.seen t.q t.index
 
-      pub leaf_told : (told : Summary A B) → told ≡ summary_of parts_a parts_b (if eqb (word % 2) 1 then key ∷ [] else []) → IsTreeOf (summary_of parts_a parts_b) v.shape.bits cut 0 key told
-      leaf_told told is = tree_is 0 key word t told (is ∙ ap (summary_of parts_a parts_b) (sym leaf_keys))
+      serial : (t.q ≡ key) × IsSerial t.q t.index leaf
+      serial = let l = leaf_word v.shape key t.q t.part.word in (l.0, b.serials t.q t.index leaf l.1 (entry_at v.seen t.q t.index t.part.there))
+
+      pairs_are : leaf.pairs ≡ leaf_pairs key word
+      pairs_are = pairs_of_serial t.q t.index leaf serial.1 ∙ (λ i. leaf_pairs (serial.0 i) (t.named i))
+
+      pub leaf_told : (told : Summary A B) → told ≡ summary_of parts_a parts_b (leaf_pairs key word) → IsTreeOf (summary_of parts_a parts_b) v.shape.bits cut 0 key told
+      leaf_told told is = tree_is 0 key word t told (is ∙ ap (summary_of parts_a parts_b) (sym pairs_are))
+
+      -- its serial counts the members that it covers
+      pub leaf_count : serial_in_word word % 2 ≡ length (range_of (set_of_cut cut) (key * 2 ^ 0) ((key + 1) * 2 ^ 0))
+      leaf_count = sym (pairs_counted key word) ∙ ap length (sym pairs_are ∙ part_pairs both v.shape v.seen b cut 0 key t.q t.index t.part) ∙ range_long cut (key * 2 ^ 0) ((key + 1) * 2 ^ 0)
+
+      -- its weight is what the key weighs among the cut's pairs
+      pub leaf_weight : weight_in_word word ≡ weight_in (pairs_of_cut cut) key
+      leaf_weight = let all : List (ℕ × ℕ) = pairs_of_cut cut in let first : ℕ = key * 2 ^ 0 in let end : ℕ = (key + 1) * 2 ^ 0 in
+          let light : serial_in_word word % 2 ≡ 0 → weight_in_word word ≡ 0 = λ even. ap weight_in_word (sym t.named) ∙ weight_of_entry t.q t.index leaf serial.1
+          ∙ serial.1.none_if_even (ap (λ (z : ℕ). z % 2) (sym (ap serial_in_word (sym t.named) ∙ serial_of_entry t.q t.index leaf serial.1)) ∙ even) in
+          weighs_alone key word light ∙ ap (λ (z : List (ℕ × ℕ)). weight_in z key) (sym pairs_are ∙ part_pairs both v.shape v.seen b cut 0 key t.q t.index t.part)
+          ∙ ap (λ (z : Option ℕ). unwrap_or z 0) (weight_of-range all key first end (omega arith) (omega arith))

@@ -18,19 +18,19 @@ use Rattle.aug_trie.specs.Goes.{IsFree, Goes, Took, Tries, IsPartOf, part_steps}
 use Rattle.aug_trie.proofs.Going.{took_on}
 use Rattle.aug_trie.proofs.Telling.{words_are}
 
-book_at : (f : ℕ → ℕ → List ℕ → List ℕ) (s : Shape) (w : View) → w.shape ≡ s → KnowsTable f w → IsBook f s w.seen
+book_at : (f : ℕ → ℕ → List (ℕ × ℕ) → List ℕ) (s : Shape) (w : View) → w.shape ≡ s → KnowsTable f w → IsBook f s w.seen
 book_at f s w shaped kn = subst (λ (z : Shape). IsBook f z w.seen) shaped kn.book
 
 -- what a load of a leaf shows
-pub leaf_loaded : (f : ℕ → ℕ → List ℕ → List ℕ) (v w : View) (key r : ℕ) → key < 2 ^ v.shape.bits → LoadsLeaf f v key r w → HasNewest w.seen key r
-leaf_loaded f v w key r low l = record { index = r; entry = l.entry; newest = l.newest; named = (l.sees.book.serials key r l.entry low l.newest.at).named }
+pub leaf_loaded : (f : ℕ → ℕ → List (ℕ × ℕ) → List ℕ) (v w : View) (key r : ℕ) → key < 2 ^ v.shape.bits → LoadsLeaf f v key r w → HasNewest w.seen key r
+leaf_loaded f v w key r low l = record { index = l.index; entry = l.entry; newest = l.newest; named = sym l.found; shown = l.shown }
 
 -- and one of a node
-pub node_loaded : (f : ℕ → ℕ → List ℕ → List ℕ) (v w : View) (q r : ℕ) → IsInner v.shape q → LoadsNode f v q r w → HasNewest w.seen q r
-node_loaded f v w q r inner l = record { index = l.index; entry = l.entry; newest = l.newest; named = l.sees.book.named q l.index l.entry inner l.newest.at ∙ sym l.found }
+pub node_loaded : (f : ℕ → ℕ → List (ℕ × ℕ) → List ℕ) (v w : View) (q r : ℕ) → IsInner v.shape q → LoadsNode f v q r w → HasNewest w.seen q r
+node_loaded f v w q r inner l = record { index = l.index; entry = l.entry; newest = l.newest; named = l.sees.book.named q l.index l.entry inner l.newest.at ∙ sym l.found; shown = l.shown }
 
 module _ {A B : Type 0} (parts_a : Parts A) (parts_b : Parts B) where
-  abbrev both : ℕ → ℕ → List ℕ → List ℕ
+  abbrev both : ℕ → ℕ → List (ℕ × ℕ) → List ℕ
   both = face parts_a parts_b
 
   -- a part counts few keys
@@ -57,11 +57,11 @@ module _ {A B : Type 0} (parts_a : Parts A) (parts_b : Parts B) where
         subst (λ (z : Shape). SaysLoaded both z w4.seen q old (ln ∷ rn ∷ (m + k) ∷ xa ∷ xb ∷ [])) (sym s4) record {
           is_loaded = is_loaded both s w0.seen w1.seen w2.seen w4.seen q old ln rn inner g1.later g2.later (λ p i e z. g4.later p i e (g3.later p i e z)) at_node at_left at_right (book_at both s w0 s0 g0.knows_table);
           five_are = (λ i. ln ∷ rn ∷ (m + k) ∷ ea i ∷ eb i ∷ [])
-              ∙ words_are parts_a parts_b laws_a laws_b ln rn m k x x' y y' at_left.entry.keys at_right.entry.keys small_l small_r p p';
+              ∙ words_are parts_a parts_b laws_a laws_b ln rn m k x x' y y' at_left.entry.pairs at_right.entry.pairs small_l small_r p p';
         }
 
 -- what the try left
-pub tries : (f : ℕ → ℕ → List ℕ → List ℕ) (v w0 w1 w2 w4 w : View) (q old ln rn number : ℕ) (done : Bool) → IsInner v.shape q → KnowsTable f w → w.shape ≡ v.shape → w4.shape ≡ v.shape → Continues w0.seen v.seen → Continues w1.seen w0.seen → Continues w2.seen w1.seen → Continues w.seen w2.seen
+pub tries : (f : ℕ → ℕ → List (ℕ × ℕ) → List ℕ) (v w0 w1 w2 w4 w : View) (q old ln rn number : ℕ) (done : Bool) → IsInner v.shape q → KnowsTable f w → w.shape ≡ v.shape → w4.shape ≡ v.shape → Continues w0.seen v.seen → Continues w1.seen w0.seen → Continues w2.seen w1.seen → Continues w.seen w2.seen
     → HasNewest w0.seen q old → HasNewest w1.seen (left_of v.shape q) ln → HasNewest w2.seen (right_of v.shape q) rn → Published w4.shape q old ln rn done w.seen → (done ≡ false → IsFree w number) → Tries v q number done w
 tries f v w0 w1 w2 w4 w q old ln rn number done inner kn shaped shaped4 c0 c01 c12 c23 at_node at_left at_right p again = record {
   refreshed = refreshed f v.shape w0.seen w1.seen w2.seen w.seen q old ln rn inner c01 c12 c23 at_node at_left at_right v.seen done (book_at f v.shape w shaped kn) c0 (subst (λ (z : Shape). Published z q old ln rn done w.seen) shaped4 p);

@@ -1,45 +1,72 @@
 -- An update as a whole: what its steps are, and what it comes to.
-use Rattle.std.specs.Prelude.{◌≡◌, ◌≢◌, ◌↔◌, ℕ, Bool, false, IsTrue, List, [], ◌∷◌, ◌++◌, length, ◌+◌, ◌*◌, ◌%◌, ◌≤◌}
-use Rattle.aug_core.specs.Counts.{change}
+use Rattle.std.specs.Prelude.{◌≡◌, ◌≢◌, ℕ, Bool, true, false, List, [], ◌∷◌, ◌++◌, length, ◌+◌, ◌*◌, ◌≤◌}
+use Rattle.aug_core.specs.Book.{Book, At, IsPassed}
 use Rattle.aug_core.specs.Kinds.{load_leaf, try_leaf}
 use Rattle.aug_core.specs.Shows.{NewestShows, ShowsAtMost}
+use Rattle.aug_core.specs.Told.{made_by, new_serial}
 use Rattle.aug_core.specs.declared.step.StepTaken.{StepTaken}
+use Rattle.aug_core.specs.declared.view.Advance.{Advance}
+use Rattle.aug_core.specs.declared.view.Entry.{Entry}
 use Rattle.aug_core.specs.declared.view.View.{View}
+use Rattle.aug_model.specs.declared.outcome.Outcome.{Outcome}
+use Rattle.aug_model.specs.declared.outcome.Outcome.TheVariants as outcome
 use Rattle.aug_trie.specs.Goes.{Goes, TryNoLeaf}
+use Rattle.aug_trie.specs.LeafWords.{serial_in_word}
+use Rattle.aug_trie.specs.Requests.{goes_from, advance_from, word_after, outcome_by}
+use Rattle.aug_trie.specs.declared.request.Request.{Request}
 
--- the second step is a try from the serial that was loaded, and the answer says whether it was accepted; there is no other
-pub record Tried (key loaded : ℕ) (more : List StepTaken) (done : Bool) : Type 0 where
+-- the second step is an exchange of the word that was loaded for the one that the request makes of it, and the outcome says whether it succeeded;
+-- there is no other
+pub record Tried (request : Request) (key loaded : ℕ) (more : List StepTaken) (done : Outcome) : Type 0 where
   pub found : ℕ
   pub rest : List StepTaken
-  pub second : more ≡ try_leaf key loaded found ∷ rest
-  pub decided : IsTrue done ↔ (found ≡ loaded)
+  pub second : more ≡ try_leaf key loaded (word_after request key loaded) found ∷ rest
+  pub hit : found ≡ loaded → done ≡ outcome_by request loaded
+  pub miss : found ≢ loaded → done ≡ outcome.Refused
   pub no_other : TryNoLeaf rest
 
-module _ (face : ℕ → ℕ → List ℕ → List ℕ) (used : ℕ) (v : View) (key parity : ℕ) (w : View) where
-  -- the key's serial went up from one of this parity, which is a change of the view and shown by the root
-  pub record Accepted : Type 0 where
-    pub serial : ℕ
-    pub was : serial % 2 ≡ parity
-    pub goes : Goes face used (change key (serial + 1) ∷ []) v w
-    pub before : ShowsAtMost v.shape v.seen key serial
-    pub shown : NewestShows v.shape w.seen key v.shape.bits (serial + 1)
+-- the leaf's entry with this serial weighs so much
+pub record WeighsAt (book : Book) (key serial weight : ℕ) : Type 0 where
+  pub entry : Entry
+  pub at : At book key serial entry
+  pub weighs : entry.weight ≡ weight
 
-  -- the key had a serial of the other parity, which the root shows
-  pub record Refused : Type 0 where
-    pub serial : ℕ
-    pub was : serial % 2 ≢ parity
+-- the serial that stands in an update's way: the one that was found, if it does not go on from it, and else the next one
+pub record StandsInWay (request : Request) (found number : ℕ) : Type 0 where
+  pub found_it : goes_from request found ≡ false → number ≡ found
+  pub next : goes_from request found ≡ true → number ≡ found + 1
+
+module _ (face : ℕ → ℕ → List (ℕ × ℕ) → List ℕ) (used : ℕ) (v : View) (key : ℕ) (request : Request) (w : View) where
+  -- the key's serial went up as the request says, which are changes of the view, and the root shows it with its weight; what it went past it never shows
+  pub record WentUp (a : Advance) : Type 0 where
+    pub lets : goes_from request a.serial ≡ true
+    pub goes : Goes face used (made_by key a) v w
+    pub before : ShowsAtMost v.shape v.seen key a.serial
+    pub shown : NewestShows v.shape w.seen key v.shape.bits (new_serial a)
+    pub weighs : WeighsAt w.seen key (new_serial a) a.new_weight
+    pub passes : a.replaces ≡ true → IsPassed w.seen key (a.serial + 1)
+
+  -- a serial of the key stood in the update's way, which the root shows
+  pub record Stayed (found : ℕ) : Type 0 where
+    pub number : ℕ
+    pub stands : StandsInWay request found number
     pub goes : Goes face used [] v w
-    pub before : ShowsAtMost v.shape v.seen key serial
-    pub shown : NewestShows v.shape w.seen key v.shape.bits serial
+    pub before : ShowsAtMost v.shape v.seen key found
+    pub shown : NewestShows v.shape w.seen key v.shape.bits number
+
+  -- what an update came to whose leaf had this word when it was loaded
+  abbrev pub CameTo : ℕ → Outcome → Type 0
+  CameTo loaded outcome.Accepted = WentUp (advance_from request key loaded) × ((advance_from request key loaded).replaces ≡ false)
+  CameTo loaded outcome.Replaced = WentUp (advance_from request key loaded) × ((advance_from request key loaded).replaces ≡ true)
+  CameTo loaded outcome.Refused = Stayed (serial_in_word loaded)
 
   -- an update: its first step is a load of the leaf, and the steps are at least and at most so many
-  pub record Updated (done : Bool) : Type 0 where
+  pub record Updated (done : Outcome) : Type 0 where
     pub loaded : ℕ
     pub more : List StepTaken
     pub steps : w.steps ≡ v.steps ++ load_leaf key loaded ∷ more
     pub least_steps : 15 * v.shape.bits ≤ length more + 6
     pub most_steps : length more + 11 ≤ 30 * v.shape.bits
-    pub tried : loaded % 2 ≡ parity → Tried key loaded more done
-    pub refusing : loaded % 2 ≢ parity → (done ≡ false) × TryNoLeaf more
-    pub accepted : IsTrue done → Accepted
-    pub refused : done ≡ false → Refused
+    pub tried : goes_from request (serial_in_word loaded) ≡ true → Tried request key loaded more done
+    pub refusing : goes_from request (serial_in_word loaded) ≡ false → (done ≡ outcome.Refused) × TryNoLeaf more
+    pub came_to : CameTo loaded done

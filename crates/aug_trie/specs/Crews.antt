@@ -1,7 +1,7 @@
 -- What contracts see of a crew and of a trie at rest; how a round begins, and how its passes come and go.
 use Rattle.std.specs.Prelude.{◌≡◌, ℕ, ◌+◌, ◌%◌, ◌^◌, ◌<◌, ◌≤◌, List, [], ◌∷◌, length, unwrap_or}
 use Rattle.aug_core.specs.Counts.{changes_of}
-use Rattle.aug_core.specs.Cuts.{opening_cut, set_of_cut}
+use Rattle.aug_core.specs.Cuts.{opening_cut, pairs_of_cut}
 use Rattle.aug_model.specs.Keys.{SetFacts}
 use Rattle.aug_core.specs.declared.view.View.{View}
 use Rattle.aug_words.specs.Seats.{Known}
@@ -20,10 +20,10 @@ pub record CrewFacts : Type 0 where
   pub handed : ℕ
   pub back : ℕ
 
--- a trie at rest: its bits and members, what the round that ended it came to, how often queries called it, and the words and the root's record that its members are read from
+-- a trie at rest: its bits and members with their weights, what the round that ended it came to, how often queries called it, and the words and the root's record that its members are read from
 pub record EndedFacts : Type 0 where
   pub bits : ℕ
-  pub members : List ℕ
+  pub members : List (ℕ × ℕ)
   pub inserts : ℕ
   pub removals : ℕ
   pub missing : ℕ
@@ -33,7 +33,7 @@ pub record EndedFacts : Type 0 where
 
 -- its set, with its bits
 abbrev pub set_of_ended : EndedFacts → SetFacts
-set_of_ended ended = record { bits = ended.bits; list = ended.members }
+set_of_ended ended = record { bits = ended.bits; pairs = ended.members }
 
 -- the trie of the empty set, which no round ended
 pub record IsEmptyTrie (bits : ℕ) (ended : EndedFacts) : Type 0 where
@@ -49,7 +49,7 @@ abbrev pub crew_facts : Known → CrewFacts
 crew_facts known = record { round = round_of known.table known.view; knows = knows known.view; handed = unwrap_or known.view.spare 0; back = length known.view.held }
 
 -- what a crew's fields keep: its counters are those of its changes, in 32 bits
-pub record HoldsCrew (face : ℕ → ℕ → List ℕ → List ℕ) (v : View) (back inserts removals : ℕ) : Type 0 where
+pub record HoldsCrew (face : ℕ → ℕ → List (ℕ × ℕ) → List ℕ) (v : View) (back inserts removals : ℕ) : Type 0 where
   pub handed : ℕ
   pub is_crew : IsCrew face v handed (length v.held)
   pub few : handed ≤ v.shape.workers
@@ -92,10 +92,10 @@ pub record TakesBack (old new : CrewFacts) (pass : PassFacts) : Type 0 where
 -- are all that happened from the opening cut to that one; and the counts are the crew's
 pub record Ends (crew : CrewFacts) (ended : EndedFacts) : Type 0 where
   pub bits : ended.bits ≡ crew.round.bits
-  pub members : ended.members ≡ set_of_cut (last_cut crew.knows.history)
+  pub members : ended.members ≡ pairs_of_cut (last_cut crew.knows.history)
   pub inserts : ended.inserts ≡ inserts_of crew.knows.accepted
   pub removals : ended.removals ≡ removals_of crew.knows.accepted
   pub missing : ended.missing + crew.back ≡ crew.handed
   pub no_calls : ended.calls ≡ 0
   pub is_history : IsHistory crew.round.bits crew.round.members crew.knows.history
-  pub tallies : TalliesWithLost crew.round.updates ended.missing (opening_cut crew.round.bits crew.round.members) (last_cut crew.knows.history) crew.knows.accepted
+  pub tallies : TalliesWithLost crew.round.updates ended.missing (opening_cut crew.round.bits crew.round.members) (last_cut crew.knows.history) crew.knows.history crew.knows.accepted

@@ -1,5 +1,5 @@
 -- What contracts see of a round, of its crew and its passes, and of snapshots and nodes.
-use Rattle.std.specs.Prelude.{◌≡◌, ◌≢◌, ℕ, ◌+◌, ◌-◌, ◌*◌, ◌%◌, ◌^◌, ◌<◌, ◌≤◌, Option, Some, unwrap_or, Bool, false, List, [], ◌∷◌, ◌++◌, length, suc, ◌==◌, if◌then◌else◌}
+use Rattle.std.specs.Prelude.{◌≡◌, ℕ, ◌+◌, ◌-◌, ◌*◌, ◌^◌, ◌<◌, ◌≤◌, Bool, true, false, Option, Some, unwrap_or, List, [], ◌∷◌, ◌++◌, length, suc, ◌==◌, if◌then◌else◌}
 use Rattle.atomic_table.specs.Seated.{TableId}
 use Rattle.aug_core.specs.Places.{Shape}
 use Rattle.aug_core.specs.Tree.{root_place}
@@ -14,7 +14,12 @@ use Rattle.aug_core.specs.declared.step.StepTaken.{StepTaken}
 use Rattle.aug_core.specs.declared.view.Entry.{Entry}
 use Rattle.aug_core.specs.declared.view.View.{View}
 use Rattle.aug_trie.specs.Goes.{HasLeaves, HasRoom, TryNoLeaf}
+use Rattle.aug_model.specs.declared.outcome.Outcome.{Outcome}
+use Rattle.aug_model.specs.declared.outcome.Outcome.TheVariants.{Refused}
 use Rattle.aug_trie.specs.Climbing.{Tried}
+use Rattle.aug_trie.specs.LeafWords.{serial_in_word}
+use Rattle.aug_trie.specs.Requests.{goes_from}
+use Rattle.aug_trie.specs.declared.request.Request.{Request}
 use Rattle.aug_trie.specs.History.{Begins}
 use Rattle.aug_trie.specs.Knowledge.{Knowledge, IsKnowledge}
 use Rattle.aug_trie.specs.Knows.{knows, KnowsRound}
@@ -23,7 +28,7 @@ use Rattle.aug_trie.specs.Knows.{knows, KnowsRound}
 pub record RoundFacts : Type 0 where
   pub table : TableId
   pub bits : ℕ
-  pub members : List ℕ
+  pub members : List (ℕ × ℕ)
   pub workers : ℕ
   pub updates : ℕ
   pub room : ℕ
@@ -79,15 +84,15 @@ pub record GoesOn (updates steps : ℕ) (old new : PassFacts) : Type 0 where
   pub knowledge : IsKnowledge new.round.bits new.round.members new.knows
 
 -- an update's steps: so many at least and at most; the first loads the key's leaf; where the serial found refuses, no leaf is exchanged, and else the
--- second step is the only exchange, from the serial found, and the answer says whether it succeeded
-pub record StepsOf (parity key : ℕ) (done : Bool) (old new : PassFacts) : Type 0 where
+-- second step is the only exchange, of the word found for the one that the request makes of it, and the outcome says whether it succeeded
+pub record StepsOf (request : Request) (key : ℕ) (done : Outcome) (old new : PassFacts) : Type 0 where
   pub found : ℕ
   pub more : List StepTaken
   pub steps : new.steps ≡ old.steps ++ load_leaf key found ∷ more
   pub least_steps : 15 * old.round.bits ≤ length more + 1 + 5
   pub most_steps : length more + 1 + 10 ≤ 30 * old.round.bits
-  pub refuses : found % 2 ≡ parity → (done ≡ false) × TryNoLeaf more
-  pub tries : found % 2 ≢ parity → Tried key found more done
+  pub refuses : goes_from request (serial_in_word found) ≡ false → (done ≡ Refused) × TryNoLeaf more
+  pub tries : goes_from request (serial_in_word found) ≡ true → Tried request key found more done
 
 -- where the first entry with the number stands
 abbrev pub index_named : List Entry → ℕ → ℕ
@@ -121,14 +126,14 @@ pub record IsNodeOf (s : Shape) (book : Book) (cut : Cut) (level place word : �
   pub part : IsPartOfCut s book cut level place q index
   pub named : (entry_of book q index).word ≡ word
 
-module _ (face : ℕ → ℕ → List ℕ → List ℕ) where
+module _ (face : ℕ → ℕ → List (ℕ × ℕ) → List ℕ) where
   -- the view of a pass with the records from `next` on, for so many updates more
   pub record IsPass (v : View) (leaves bits next left : ℕ) : Type 0 where
     pub leaves_are : HasLeaves v.shape leaves
     pub bits_are : bits ≡ v.shape.bits
     pub knows_table : KnowsTable face v
     pub room : HasRoom v next (left * bits)
-    pub budget : length (changes_of v.held) + left ≤ v.shape.updates
+    pub budget : length (changes_of v.held) + 2 * left ≤ 2 * v.shape.updates
     pub small : next + left * bits < 2 ^ 60
     pub knowledge : KnowsRound v
 

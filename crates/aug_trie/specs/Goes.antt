@@ -59,7 +59,7 @@ pub record TookBetween (v w : View) (least most : ℕ) : Type 0 where
   pub most_steps : steps ≤ most
   pub took : Took v w steps
 
-module _ (face : ℕ → ℕ → List ℕ → List ℕ) where
+module _ (face : ℕ → ℕ → List (ℕ × ℕ) → List ℕ) where
   -- what was known grows, the changes gain these, and the records from `used` on that were free are so
   pub record Goes (used : ℕ) (gained : List Change) (v w : View) : Type 0 where
     pub later : Continues w.seen v.seen
@@ -86,12 +86,12 @@ abbrev pub part_steps : Shape → ℕ → ℕ
 part_steps s place = if nat_lt place (2 ^ s.bits) then 0 else 3
 
 module _ {A B : Type 0} (parts_a : Parts A) (parts_b : Parts B) where
-  -- a count and two folds of the keys
-  pub record IsPart (count : ℕ) (a : A) (b : B) (keys : List ℕ) : Type 0 where
-    pub count_is : count ≡ length keys
-    pub a_is : a ≡ fold_of parts_a keys
-    pub b_is : b ≡ fold_of parts_b keys
+  -- a count and two folds of keys with their weights
+  pub record IsPart (count : ℕ) (a : A) (b : B) (pairs : List (ℕ × ℕ)) : Type 0 where
+    pub count_is : count ≡ length pairs
+    pub a_is : a ≡ fold_of parts_a pairs
+    pub b_is : b ≡ fold_of parts_b pairs
 
   -- what the entries of a place with this word have
   pub record IsPartOf (v : View) (place word count : ℕ) (a : A) (b : B) : Type 0 where
-    pub of : (i : ℕ) (e : Entry) → At v.seen place i e → e.word ≡ word → IsPart count a b e.keys
+    pub of : (i : ℕ) (e : Entry) → At v.seen place i e → e.word ≡ word → IsPart count a b e.pairs

@@ -1,12 +1,12 @@
 -- What a pass, or a crew, knows of a round.
-use Rattle.std.specs.Prelude.{ℕ, ◌%◌, ◌≤◌, ◌==◌, List, length, filter, All}
+use Rattle.std.specs.Prelude.{◌≡◌, ◌⊎◌, ℕ, ◌%◌, ◌<◌, ◌==◌, List, length, filter, All}
 use Rattle.aug_core.specs.declared.view.Change.{Change}
-use Rattle.aug_core.specs.Cuts.{Cut, serial_of}
+use Rattle.aug_core.specs.Cuts.{Cut, serial_of, shown_of}
 use Rattle.aug_trie.specs.History.{IsHistory, last_cut}
 
--- a change stands in a cut that shows its serial or a later one
+-- a change stands in a cut that shows a later serial, or its serial and its weight
 abbrev pub StandsIn : Cut → Change → Type 0
-StandsIn cut change = change.serial ≤ serial_of cut change.key
+StandsIn cut change = (change.serial < serial_of cut change.key) ⊎ (shown_of cut change.key ≡ (change.serial, change.weight))
 
 -- an insertion's serial is odd, and leaves 1 when divided by 2
 abbrev pub insertion : ℕ
@@ -30,6 +30,6 @@ pub record Knowledge : Type 0 where
   pub accepted : List Change
 
 -- the history is one of the round, and the last cut shows all that was accepted
-pub record IsKnowledge (bits : ℕ) (members : List ℕ) (knows : Knowledge) : Type 0 where
+pub record IsKnowledge (bits : ℕ) (members : List (ℕ × ℕ)) (knows : Knowledge) : Type 0 where
   pub is_history : IsHistory bits members knows.history
   pub stands : All (StandsIn (last_cut knows.history)) knows.accepted

@@ -1,5 +1,7 @@
 pub mod History
 pub mod Knowledge
+pub mod LeafWords
+pub mod Requests
 pub mod Counted
 pub mod Updates
 pub mod Passes

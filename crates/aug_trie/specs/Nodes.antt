@@ -2,6 +2,7 @@
 use Rattle.std.specs.Prelude.{◌≡◌, ℕ, ◌+◌, ◌≤◌, List, ◌++◌, length}
 use Rattle.aug_model.specs.declared.summary.Summary.{Summary}
 use Rattle.aug_model.specs.Keys.{SetFacts}
+use Rattle.aug_model.specs.Queries.{weight_in}
 use Rattle.aug_query.specs.Tree.{IsTreeSet}
 use Rattle.aug_core.specs.Places.{Shape}
 use Rattle.aug_core.specs.Tree.{root_place}
@@ -11,6 +12,7 @@ use Rattle.aug_core.specs.EntryCuts.{root_cut}
 use Rattle.aug_core.specs.declared.step.StepTaken.{StepTaken}
 use Rattle.aug_core.specs.declared.view.View.{View}
 use Rattle.aug_trie.specs.History.{Begins}
+use Rattle.aug_trie.specs.LeafWords.{weight_in_word}
 use Rattle.aug_trie.specs.TreeOf.{members_of, IsTreeOf}
 use Rattle.aug_trie.specs.Facts.{PassFacts, index_named, HasSnapshot, snapshot_cut, IsNodeOf}
 use Rattle.aug_trie.specs.declared.node.Node.{Node}
@@ -30,13 +32,14 @@ pub record Looks (most : ℕ) (v w : View) : Type 0 where
   pub is : w ≡ record v { steps = v.steps ++ more }
   pub few : length more ≤ most
 
-module _ {A B : Type 0} (summary_of : List ℕ → Summary A B) where
-  -- the node is one of the tree of a snapshot of the pass, and tells the summary of the members that it covers
+module _ {A B : Type 0} (summary_of : List (ℕ × ℕ) → Summary A B) where
+  -- the node is one of the tree of a snapshot of the pass, tells the summary of the members that it covers, and a leaf the weight of its key
   pub record HasNode (pass : PassFacts) (node : Node A B) : Type 0 where
     pub of_pass : HasSnapshot pass node.snapshot.number
     pub is_tree_set : IsTreeSet (set_at pass node.snapshot)
     pub named : IsNodeOf pass.shape pass.seen (snapshot_cut pass node.snapshot.number) node.level node.place node.word
     pub tells : IsTreeOf summary_of pass.round.bits (snapshot_cut pass node.snapshot.number) node.level node.place node.summary
+    pub weighs : node.level ≡ 0 → weight_in_word node.word ≡ weight_in (set_at pass node.snapshot).pairs node.place
 
   -- what was a snapshot of the pass is one still, of the same cut and set, and what was a node of one is so still
   pub record Keeps (old new : PassFacts) : Type 0 where

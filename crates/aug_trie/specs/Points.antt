@@ -11,6 +11,7 @@ use Rattle.aug_core.specs.declared.view.Entry.{Entry}
 use Rattle.aug_core.specs.declared.view.View.{View}
 use Rattle.aug_trie.specs.Goes.{Goes, Took, HasRoom, Tries, IsPart, part_steps}
 use Rattle.aug_trie.specs.Nodes.{Looks}
+use Rattle.aug_trie.specs.LeafWords.{leaf_pairs}
 use Rattle.aug_trie.specs.declared.points.Reading.{Reading}
 use Rattle.aug_trie.specs.declared.points.Filling.{Filling}
 use Rattle.aug_trie.specs.declared.points.Point.{Point}
@@ -53,7 +54,7 @@ module _ {A B : Type 0} (parts_a : Parts A) (parts_b : Parts B) where
   five_over left right word = left ∷ right ∷ (word 0 + word 3) ∷ parts_a.to_word (parts_a.join (parts_a.from_word (word 1)) (parts_a.from_word (word 4)))
       ∷ parts_b.to_word (parts_b.join (parts_b.from_word (word 2)) (parts_b.from_word (word 5))) ∷ []
 
-  -- the words of a record over a leaf and the next one, with these serials
+  -- the words of a record over a leaf and the next one, with these words
   pub record IsOverLeaves (key left right : ℕ) (five : List ℕ) : Type 0 where
     pub m : ℕ
     pub k : ℕ
@@ -61,12 +62,12 @@ module _ {A B : Type 0} (parts_a : Parts A) (parts_b : Parts B) where
     pub a' : A
     pub b : B
     pub b' : B
-    pub left_part : IsPart parts_a parts_b m a b (if left % 2 == 1 then key ∷ [] else [])
-    pub right_part : IsPart parts_a parts_b k a' b' (if right % 2 == 1 then (key + 1) ∷ [] else [])
+    pub left_part : IsPart parts_a parts_b m a b (leaf_pairs key left)
+    pub right_part : IsPart parts_a parts_b k a' b' (leaf_pairs (key + 1) right)
     pub five_are : five ≡ left ∷ right ∷ (m + k) ∷ parts_a.to_word (parts_a.join a a') ∷ parts_b.to_word (parts_b.join b b') ∷ []
 
 -- a try that began at the view v
-module _ (face : ℕ → ℕ → List ℕ → List ℕ) (v : View) (q : ℕ) where
+module _ (face : ℕ → ℕ → List (ℕ × ℕ) → List ℕ) (v : View) (q : ℕ) where
   -- the node's word was loaded
   pub record AfterNode (from : ℕ) (w : View) : Type 0 where
     pub goes : Goes face 0 [] v w

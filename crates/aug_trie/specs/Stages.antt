@@ -1,5 +1,5 @@
 -- An update, step by step: what was done of it at each stage.
-use Rattle.std.specs.Prelude.{◌≡◌, ℕ, suc, ◌+◌, ◌-◌, ◌*◌, ◌%◌, ◌^◌, ◌<◌, ◌≤◌, ◌==◌, Bool, false, true, if◌then◌else◌, List, [], length, Option, Some, None}
+use Rattle.std.specs.Prelude.{◌≡◌, ℕ, suc, ◌+◌, ◌-◌, ◌*◌, ◌^◌, ◌<◌, ◌≤◌, ◌==◌, Bool, false, true, if◌then◌else◌, List, [], length, Option, Some, None}
 use Rattle.aug_core.specs.Tree.{left_of}
 use Rattle.aug_core.specs.Book.{history_of}
 use Rattle.aug_core.specs.Counts.{changes_of}
@@ -9,15 +9,19 @@ use Rattle.aug_core.specs.Told.{own_lane, KnowsTable, BeginsAtLeaf}
 use Rattle.aug_core.specs.declared.view.View.{View}
 use Rattle.aug_trie.specs.Goes.{Goes, Took, TookBetween, HasRoom, part_steps}
 use Rattle.aug_trie.specs.Climbing.{Updated}
+use Rattle.aug_model.specs.declared.outcome.Outcome.{Outcome}
 use Rattle.aug_trie.specs.Facts.{IsPass}
+use Rattle.aug_trie.specs.LeafWords.{serial_in_word}
+use Rattle.aug_trie.specs.Requests.{FitsRequest, goes_from}
 use Rattle.aug_trie.specs.Points.{TryAt, TryOver, point_turns}
+use Rattle.aug_trie.specs.declared.request.Request.{Request}
 use Rattle.aug_trie.specs.declared.ascents.Ascent.{Ascent}
 use Rattle.aug_trie.specs.declared.stages.Stage.{Stage}
 use Rattle.aug_trie.specs.declared.stages.Stage.TheVariants.{Leaf, Change, Up}
 use Rattle.aug_trie.specs.declared.stages.Next.{Next}
 use Rattle.aug_trie.specs.declared.stages.Next.TheVariants.{More, Done}
 
-module _ (face : ℕ → ℕ → List ℕ → List ℕ) where
+module _ (face : ℕ → ℕ → List (ℕ × ℕ) → List ℕ) where
   -- a try at the node that failed
   pub record Missed (below begun : View) (q number : ℕ) : Type 0 where
     pub goes : Goes face (number + 1) [] below begun
@@ -78,7 +82,7 @@ module _ (face : ℕ → ℕ → List ℕ → List ℕ) where
     Ascends None w = HasRisen bits w
 
   -- an update of a key from the view u of a pass
-  module _ (leaves bits number left key parity : ℕ) (u : View) where
+  module _ (leaves bits number left key : ℕ) (request : Request) (u : View) where
     -- where the update began stands in the view
     pub record HasBegun (w : View) : Type 0 where
       pub began : w.began ≡ record { seen = u.seen; steps = u.steps; changes = changes_of u.held }
@@ -87,20 +91,20 @@ module _ (face : ℕ → ℕ → List ℕ → List ℕ) where
       pub lane : own_lane w.held ≡ own_lane u.held
 
     -- its leaf was loaded, and it may exchange it
-    pub record MayTry (serial : ℕ) (w : View) : Type 0 where
-      pub loaded : BeginsAtLeaf face u key serial w
-      pub same : serial % 2 ≡ parity
+    pub record MayTry (word : ℕ) (w : View) : Type 0 where
+      pub loaded : BeginsAtLeaf face u key word w
+      pub lets : goes_from request (serial_in_word word) ≡ true
 
     -- it is on its way, and will be an update when it has come to the root
-    pub record IsRising (done : Bool) (a : Ascent) (w : View) : Type 0 where
+    pub record IsRising (done : Outcome) (a : Ascent) (w : View) : Type 0 where
       pub leaf : View
       pub has_begun : HasBegun w
-      pub finish : (z : View) → HasRisen bits number key leaf bits z → Updated face (number + bits) u key parity z done
+      pub finish : (z : View) → HasRisen bits number key leaf bits z → Updated face (number + bits) u key request z done
       pub on_way : IsOnWay bits number key leaf a w
 
     abbrev pub IsStage : Stage → View → Type 0
     IsStage Leaf w = w ≡ u
-    IsStage (Change serial) w = MayTry serial w
+    IsStage (Change word) w = MayTry word w
     IsStage (Up done a) w = IsRising done a w
 
     -- the update is at a stage
@@ -108,13 +112,13 @@ module _ (face : ℕ → ℕ → List ℕ → List ℕ) where
       pub is_pass : IsPass face u leaves bits number left
       pub some : 1 ≤ left
       pub low : key < 2 ^ u.shape.bits
-      pub parity_is : parity < 2
+      pub fits : FitsRequest request
       pub is_stage : IsStage stage w
 
     -- it goes on, or is done
     abbrev pub Climbs : Next → View → Type 0
     Climbs (More stage) w = StageAt stage w
-    Climbs (Done done) w = Updated face (number + bits) u key parity w done
+    Climbs (Done done) w = Updated face (number + bits) u key request w done
 
 -- how many loads a child's part takes above a level
 abbrev pub part_above : ℕ → ℕ
@@ -127,7 +131,7 @@ ascent_turns bits a = (bits - 1 - a.level) * 30 + (if a.second then 0 else 9 + 2
 -- and how many at all
 abbrev pub stage_turns : ℕ → Stage → ℕ
 stage_turns bits Leaf = 30 * bits - 10
-stage_turns bits (Change serial) = 30 * bits - 11
+stage_turns bits (Change word) = 30 * bits - 11
 stage_turns bits (Up done a) = ascent_turns bits a
 
 -- they fall with each step, and there are some while there is more to do

@@ -1,16 +1,16 @@
 -- What a tree shows of a cut.
 use Rattle.std.specs.Prelude.{◌≡◌, ℕ, ◌+◌, ◌*◌, ◌^◌, ◌≤◌, List}
 use Rattle.aug_model.specs.Keys.{SetFacts}
-use Rattle.aug_model.specs.Queries.{range_of}
+use Rattle.aug_model.specs.Queries.{weighted_range_of}
 use Rattle.aug_model.specs.declared.summary.Summary.{Summary}
-use Rattle.aug_core.specs.Cuts.{Cut, set_of_cut}
+use Rattle.aug_core.specs.Cuts.{Cut, pairs_of_cut}
 
 -- the set of a cut, with its bits
 abbrev pub members_of : ℕ → Cut → SetFacts
-members_of bits cut = record { bits = bits; list = set_of_cut cut }
+members_of bits cut = record { bits = bits; pairs = pairs_of_cut cut }
 
--- a node at a level and a place of the tree of a cut tells the summary of the cut's keys that it covers
-pub record IsTreeOf {A B : Type 0} (summary_of : List ℕ → Summary A B) (bits : ℕ) (cut : Cut) (level place : ℕ) (told : Summary A B) : Type 0 where
+-- a node at a level and a place of the tree of a cut tells the summary of the cut's keys that it covers, with their weights
+pub record IsTreeOf {A B : Type 0} (summary_of : List (ℕ × ℕ) → Summary A B) (bits : ℕ) (cut : Cut) (level place : ℕ) (told : Summary A B) : Type 0 where
   pub level_fits : level ≤ bits
   pub place_fits : (place + 1) * 2 ^ level ≤ 2 ^ bits
-  pub tells : told ≡ summary_of (range_of (set_of_cut cut) (place * 2 ^ level) ((place + 1) * 2 ^ level))
+  pub tells : told ≡ summary_of (weighted_range_of (pairs_of_cut cut) (place * 2 ^ level) ((place + 1) * 2 ^ level))

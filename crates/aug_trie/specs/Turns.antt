@@ -1,6 +1,5 @@
 -- What contracts see of an update that is made by single turns.
 use Rattle.std.specs.Prelude.{◌≡◌, ℕ, ◌+◌, ◌-◌, ◌*◌, ◌<◌, ◌≤◌, Bool, List, [], ◌∷◌, ◌++◌}
-use Rattle.std.specs.Bool.{OnTrue, OnFalse}
 use Rattle.aug_core.specs.Counts.{changes_of}
 use Rattle.aug_core.specs.Kinds.{load_leaf, try_leaf}
 use Rattle.aug_core.specs.Told.{own_lane}
@@ -10,17 +9,20 @@ use Rattle.aug_words.specs.Seats.{Known}
 use Rattle.aug_trie.specs.Counted.{HasCounts}
 use Rattle.aug_trie.specs.History.{Begins}
 use Rattle.aug_trie.specs.Knows.{root_history}
-use Rattle.aug_trie.specs.Updates.{AcceptedUpdate, RefusedUpdate}
+use Rattle.aug_trie.specs.Updates.{ComesTo}
 use Rattle.aug_trie.specs.Facts.{PassFacts, round_of, pass_facts, GoesOn, StepsOf}
+use Rattle.aug_model.specs.declared.outcome.Outcome.{Outcome}
+use Rattle.aug_trie.specs.Requests.{word_after}
+use Rattle.aug_trie.specs.declared.request.Request.{Request}
 use Rattle.aug_trie.specs.Stages.{StageAt, stage_turns}
 use Rattle.aug_trie.specs.declared.stages.Stage.{Stage}
 use Rattle.aug_trie.specs.declared.stages.Stage.TheVariants.{Leaf, Change, Up}
 
--- an update by turns: its pass as it was at the start and as it is now, whether it puts in or takes out, its key, and how many turns are left at most
+-- an update by turns: its pass as it was at the start and as it is now, what it was asked to do, its key, and how many turns are left at most
 pub record ClimbFacts : Type 0 where
   pub start : PassFacts
   pub now : PassFacts
-  pub kind : ℕ
+  pub request : Request
   pub key : ℕ
   pub left : ℕ
 
@@ -39,24 +41,24 @@ began_facts known left = record {
 -- and as it was at the start: before the first step it is so still
 abbrev pub start_facts : Known → ℕ → Stage → PassFacts
 start_facts known left Leaf = pass_facts known left
-start_facts known left (Change serial) = began_facts known left
+start_facts known left (Change word) = began_facts known left
 start_facts known left (Up done a) = began_facts known left
 
 -- what a climb's fields say
-abbrev pub climb_facts : Known → ℕ → ℕ → ℕ → ℕ → Stage → ClimbFacts
-climb_facts known bits left key parity stage = record { start = start_facts known left stage; now = pass_facts known left; kind = 1 - parity; key = key; left = stage_turns bits stage }
+abbrev pub climb_facts : Known → ℕ → ℕ → ℕ → Request → Stage → ClimbFacts
+climb_facts known bits left key request stage = record { start = start_facts known left stage; now = pass_facts known left; request = request; key = key; left = stage_turns bits stage }
 
 -- what a climb's fields keep
-pub record HoldsClimb (face : ℕ → ℕ → List ℕ → List ℕ) (v : View) (leaves bits next left inserts removals key parity : ℕ) (stage : Stage) : Type 0 where
+pub record HoldsClimb (face : ℕ → ℕ → List (ℕ × ℕ) → List ℕ) (v : View) (leaves bits next left inserts removals key : ℕ) (request : Request) (stage : Stage) : Type 0 where
   pub began : View
-  pub stage_at : StageAt face leaves bits next left key parity began stage v
+  pub stage_at : StageAt face leaves bits next left key request began stage v
   pub counts : HasCounts (changes_of began.held) inserts removals
 
 -- an update begins, of which no step is made
-pub record BeginsClimb (kind key : ℕ) (pass : PassFacts) (climb : ClimbFacts) : Type 0 where
+pub record BeginsClimb (request : Request) (key : ℕ) (pass : PassFacts) (climb : ClimbFacts) : Type 0 where
   pub start : climb.start ≡ pass
   pub now : climb.now ≡ pass
-  pub kind_is : climb.kind ≡ kind
+  pub request_is : climb.request ≡ request
   pub key_is : climb.key ≡ key
   pub turns : climb.left + 10 ≡ 30 * pass.round.bits
 
@@ -68,22 +70,21 @@ pub record StepsOnce (old new : PassFacts) : Type 0 where
   pub steps : new.steps ≡ old.steps ++ taken ∷ []
   pub goes_on : Begins old.knows.history new.knows.history
 
--- a turn after which there is more to do. The first turn loads the key's leaf. The second, where the serial that was found lets the update go on, exchanges the leaf from it
+-- a turn after which there is more to do. The first turn loads the key's leaf. The second, where the serial that was found lets the update go on, exchanges the word found for the one that the request makes of it
 pub record TurnsOn (old new : ClimbFacts) : Type 0 where
   pub start : new.start ≡ old.start
-  pub kind : new.kind ≡ old.kind
+  pub request : new.request ≡ old.request
   pub key : new.key ≡ old.key
   pub once : StepsOnce old.now new.now
   pub falls : new.left < old.left
   pub some : 1 ≤ new.left
   pub first : old.left + 10 ≡ 30 * old.start.round.bits → (found : ℕ) × (new.now.steps ≡ old.now.steps ++ load_leaf old.key found ∷ [])
-  pub second : old.left + 11 ≡ 30 * old.start.round.bits → (loaded found : ℕ) × (old.now.steps ≡ old.start.steps ++ load_leaf old.key loaded ∷ []) × (new.now.steps ≡ old.now.steps ++ try_leaf old.key loaded found ∷ [])
+  pub second : old.left + 11 ≡ 30 * old.start.round.bits → (loaded found : ℕ) × (old.now.steps ≡ old.start.steps ++ load_leaf old.key loaded ∷ []) × (new.now.steps ≡ old.now.steps ++ try_leaf old.key loaded (word_after old.request old.key loaded) found ∷ [])
 
--- the last turn: the update is accepted or refused from what was known at the start to what is known now, and is one of the pass's budget
-pub record Finishes (done : Bool) (old : ClimbFacts) (pass : PassFacts) : Type 0 where
+-- the last turn: what the update comes to from what was known at the start to what is known now, and it is one of the pass's budget
+pub record Finishes (done : Outcome) (old : ClimbFacts) (pass : PassFacts) : Type 0 where
   pub once : StepsOnce old.now pass
   pub some : 1 ≤ old.left
-  pub accepted : OnTrue done (AcceptedUpdate old.kind old.key old.start.knows pass.knows)
-  pub refused : OnFalse done (RefusedUpdate old.kind old.key old.start.knows pass.knows)
+  pub comes_to : ComesTo old.request old.key done old.start.knows pass.knows
   pub goes_on : (steps : ℕ) × GoesOn 1 steps old.start pass
-  pub steps : StepsOf old.kind old.key done old.start pass
+  pub steps : StepsOf old.request old.key done old.start pass

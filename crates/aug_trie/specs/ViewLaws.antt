@@ -7,11 +7,16 @@ use Rattle.aug_model.specs.declared.summary.Summary.{Summary}
 use Rattle.aug_trie.specs.Facts.{PassFacts}
 use Rattle.aug_trie.specs.Nodes.{HasNode, Stays, set_at}
 use Rattle.aug_trie.specs.declared.node.Node.{Node}
-use Rattle.aug_query.specs.Tree.{IsNodeOf}
+use Rattle.aug_model.specs.Queries.{weight_in}
+use Rattle.aug_model.specs.Keys.{list_of}
+use Rattle.aug_model.proofs.Pairs.{range-again}
+use Rattle.aug_model.proofs.Ranges.{rises_from}
+use Rattle.aug_query.specs.Tree.{IsNodeOf, sum_of, below_node, first_key, end_key}
+use Rattle.aug_trie.specs.LeafWords.{weight_in_word}
 use Rattle.aug_trie.specs.Views.{KeepsPass}
 use Rattle.aug_trie.specs.declared.snapshot.Snapshot.{Snapshot}
 
-module _ {A B : Type 0} (summary_of : List ℕ → Summary A B) where
+module _ {A B : Type 0} (summary_of : List (ℕ × ℕ) → Summary A B) where
   stays_so : (p : PassFacts) → Stays summary_of p p
   stays_so p = record {
     round = refl;
@@ -48,7 +53,15 @@ module _ {A B : Type 0} (summary_of : List ℕ → Summary A B) where
     few_steps = let x = a.few_steps in let y = b.few_steps in omega arith;
   }
 
+  -- a leaf of a view's pass tells what its key weighs in the snapshot's set
+  pub leaf_weighs : (p : PassFacts) (s : Snapshot) (node : Node A B) → node.snapshot ≡ s → HasNode summary_of p node → node.level ≡ 0 → weight_in_word node.word ≡ weight_in (set_at p s).pairs node.place
+  leaf_weighs p s node same has level = subst (λ (z : Snapshot). weight_in_word node.word ≡ weight_in (set_at p z).pairs node.place) same (has.weighs level)
+
+  told : (p : PassFacts) (node : Node A B) (has : HasNode summary_of p node) → node.summary ≡ sum_of summary_of (set_at p node.snapshot).pairs (below_node (list_of (set_at p node.snapshot)) node.level node.place)
+  told p node has = let set = set_at p node.snapshot in has.tells.tells
+      ∙ ap summary_of (range-again set.pairs (first_key node.level node.place) (end_key node.level node.place) (rises_from (list_of set) has.is_tree_set.is_key_set.rising))
+
   -- a node of a view's pass is one of the tree of its snapshot's set
   pub node_of : (p : PassFacts) (s : Snapshot) (node : Node A B) → node.snapshot ≡ s → HasNode summary_of p node → IsNodeOf summary_of (set_at p s) node.level node.place node.summary
   node_of p s node same has = subst (λ (z : Snapshot). IsNodeOf summary_of (set_at p z) node.level node.place node.summary) same
-      record { is_tree_set = has.is_tree_set; level_fits = has.tells.level_fits; place_fits = has.tells.place_fits; tells = has.tells.tells }
+      record { is_tree_set = has.is_tree_set; level_fits = has.tells.level_fits; place_fits = has.tells.place_fits; tells = told p node has }

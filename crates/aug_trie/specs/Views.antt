@@ -6,7 +6,7 @@ use Rattle.aug_trie.specs.Facts.{PassFacts}
 use Rattle.aug_trie.specs.Nodes.{Stays, Reads}
 use Rattle.aug_trie.specs.declared.snapshot.Snapshot.{Snapshot}
 
-module _ {A B : Type 0} (summary_of : List ℕ → Summary A B) where
+module _ {A B : Type 0} (summary_of : List (ℕ × ℕ) → Summary A B) where
   -- the view is of the same pass and snapshot, and the pass made at most four steps for each call since, which told it nothing new
   pub record KeepsPass (first now : MutBor PassFacts) (s_first s_now : Snapshot) (calls_first calls_now : ℕ) : Type 0 where
     pub same_reference : now.ghost_name ≡ first.ghost_name

@@ -69,7 +69,7 @@ fn after_try(leaves: usize, bits: u32, ascent: Ascent, published: bool) -> Optio
     requires node { ascent.node < 2 ^ 32 }
     requires level { ascent.level < bits }
     requires bits { bits ≤ 16 }
-    ensures on { (f : ℕ → ℕ → List ℕ → List ℕ) (number key : ℕ) (leaf w : View) → leaves ≡ 2 ^ bits → IsPastTry f bits number key leaf ascent published w → Ascends f bits number key leaf result w }
+    ensures on { (f : ℕ → ℕ → List (ℕ × ℕ) → List ℕ) (number key : ℕ) (leaf w : View) → leaves ≡ 2 ^ bits → IsPastTry f bits number key leaf ascent published w → Ascends f bits number key leaf result w }
     ensures falls { IfSome result (λ next. (ascent_turns bits next ≤ past_try_turns bits ascent) × (1 ≤ ascent_turns bits next)) }
 {
     if !published && !ascent.second {

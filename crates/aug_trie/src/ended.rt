@@ -2,7 +2,7 @@
 ghost use Rattle.std.specs.Prelude.{◌≡◌, ◌⊎◌, ◌↔◌, ◌^◌, length, IsErrOf, IfOk, IfErr};
 ghost use Rattle.aug_core.specs.Faces.{face};
 ghost use Rattle.aug_core.specs.Layout.{IsOutside};
-ghost use Rattle.aug_core.specs.Cuts.{set_of_cut};
+ghost use Rattle.aug_core.specs.Cuts.{pairs_of_cut};
 ghost use Rattle.aug_words.specs.Seats.{AreTogether};
 ghost use Rattle.aug_words.specs.Rests.{EndWith};
 ghost use Rattle.aug_trie.specs.History.{last_cut};
@@ -17,7 +17,7 @@ use aug_words::{Lead, Rest, Words, WordsError};
 use std::alloc::Global;
 use std::marker::{Model, PhantomData};
 
-/// A trie at rest: a set of keys that no round works on. It is a tree, which the queries of `aug_query` walk.
+/// A trie at rest: a set of keys with weights that no round works on. It is a tree, which the queries of `aug_query` walk.
 #[derive(Drop)]
 pub struct Ended<A: Monoid, B: Monoid> {
     // The words of the round that ended, and the record of the root that its crew knew last: the set is that of this version.
@@ -35,11 +35,11 @@ pub struct Ended<A: Monoid, B: Monoid> {
 impl<A: Monoid, B: Monoid> Model for Ended<A, B> {
     ghost use Rattle.aug_core.specs.Faces.{face};
     ghost use Rattle.aug_trie.specs.Crews.{EndedFacts};
-    ghost use Rattle.aug_trie.specs.Versions.{keys_below, HoldsVersion};
+    ghost use Rattle.aug_trie.specs.Versions.{pairs_below, HoldsVersion};
 
     ghost Value = { EndedFacts };
 
-    ghost view = { λ e. record { bits = e.bits; members = keys_below e.rest e.bits 0 e.root; inserts = e.inserts; removals = e.removals; missing = e.missing; calls = e.calls.made; rest = e.rest; root = e.root } };
+    ghost view = { λ e. record { bits = e.bits; members = pairs_below e.rest e.bits 0 e.root; inserts = e.inserts; removals = e.removals; missing = e.missing; calls = e.calls.made; rest = e.rest; root = e.root } };
 
     ghost invariant = { λ e. HoldsVersion (face A.parts B.parts) e.rest e.root e.bits };
 }
@@ -65,7 +65,7 @@ impl<A: Monoid, B: Monoid> Ended<A, B> {
         requires together { AreTogether words lead }
         requires bits { bits ≡ lead.view.shape.bits }
         ensures bits { result.bits ≡ bits }
-        ensures members { result.members ≡ set_of_cut (last_cut (knows lead.view).history) }
+        ensures members { result.members ≡ pairs_of_cut (last_cut (knows lead.view).history) }
         ensures no_inserts { result.inserts ≡ 0 }
         ensures no_removals { result.removals ≡ 0 }
         ensures none_missing { result.missing ≡ 0 }
@@ -108,14 +108,14 @@ impl<A: Monoid, B: Monoid> Ended<A, B> {
         count as u32
     }
 
-    /// How many keys were put in by the passes that came back in the round that ended it.
+    /// How many keys were put in by the passes that came back in the round that ended it, replaced ones among them.
     pub fn inserts(&self) -> u32
         ensures { result ≡ self.now.inserts }
     {
         self.inserts
     }
 
-    /// How many keys those passes took out.
+    /// How many keys those passes took out, replaced ones among them.
     pub fn removals(&self) -> u32
         ensures { result ≡ self.now.removals }
     {

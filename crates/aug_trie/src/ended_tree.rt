@@ -2,12 +2,13 @@
 ghost use Rattle.std.specs.Prelude.{◌≡◌, ◌+◌, ◌*◌, ◌^◌, ◌≤◌};
 ghost use Rattle.aug_core.specs.Faces.{face};
 ghost use Rattle.aug_model.specs.Folds.{summary_of};
-ghost use Rattle.aug_query.specs.Tree.{IsTreeSet, below_node};
+ghost use Rattle.aug_query.specs.Tree.{IsTreeSet};
 ghost use Rattle.aug_trie.specs.Crews.{set_of_ended};
 ghost use Rattle.aug_trie.specs.EndedTrees.{HasEndedNode};
-ghost use Rattle.aug_trie.specs.Versions.{IsVersion};
+ghost use Rattle.aug_trie.specs.Versions.{IsVersion, covered};
 
 use crate::ended::Ended;
+use crate::leaf_words::leaf_weight;
 use crate::nodes::leaf_summary;
 use aug_core::RecordField;
 use aug_model::Summary;
@@ -19,7 +20,7 @@ use aug_query::Tree;
 pub struct EndedNode<A, B> {
     pub(crate) level: u32,
     pub(crate) place: u32,
-    // What names it: a leaf's serial, or an inner node's record.
+    // What names it: a leaf's serial and weight, or an inner node's record.
     pub(crate) word: u64,
     pub(crate) summary: Summary<A, B>,
 }
@@ -28,7 +29,7 @@ impl<A: Monoid, B: Monoid> Ended<A, B> {
     // What the node at a level and a place tells, of which this is the word.
     fn summary_of_word(&self, level: u32, place: u32, word: u64) -> Summary<A, B>
         requires version { IsVersion (face A.parts B.parts) self.now.rest self.now.members level place word }
-        ensures { result ≡ summary_of A.parts B.parts (below_node self.now.members level place) }
+        ensures { result ≡ summary_of A.parts B.parts (covered self.now.members level place) }
     {
         if level == 0 {
             return leaf_summary(place, word);
@@ -69,6 +70,7 @@ impl<A: Monoid, B: Monoid> Tree<A, B> for Ended<A, B> {
     ghost use Rattle.aug_model.specs.Folds.{summary_of};
     ghost use Rattle.aug_trie.specs.Crews.{set_of_ended};
     ghost use Rattle.aug_trie.specs.EndedTrees.{KeepsEnded, HasEndedNode};
+    ghost use Rattle.aug_trie.specs.LeafWords.{weight_in_word};
     ghost use Rattle.aug_trie.specs.EndedLaws.{kept_so, kept_on};
 
     ghost set_of = { λ e. set_of_ended e };
@@ -85,9 +87,13 @@ impl<A: Monoid, B: Monoid> Tree<A, B> for Ended<A, B> {
 
     ghost told_by = { λ n. n.summary };
 
+    ghost weight_by = { λ n. weight_in_word n.word };
+
     ghost keeps_so = { λ e. kept_so e };
 
     ghost keeps_on = { λ first e last a b. kept_on first e last a b };
+
+    ghost leaf_weighs = { λ e n has level. has.weighs level };
 
     ghost node_tells = { λ e n has. has.is_node };
 
@@ -122,5 +128,9 @@ impl<A: Monoid, B: Monoid> Tree<A, B> for Ended<A, B> {
 
     fn summary(node: &EndedNode<A, B>) -> Summary<A, B> {
         node.summary
+    }
+
+    fn weight(node: &EndedNode<A, B>) -> u32 {
+        leaf_weight(node.word)
     }
 }

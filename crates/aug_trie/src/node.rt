@@ -10,7 +10,7 @@ pub struct Node<A, B> {
     pub(crate) snapshot: Snapshot,
     pub(crate) level: u32,
     pub(crate) place: u32,
-    // What names it: a leaf's serial, or an inner node's record.
+    // What names it: a leaf's serial and weight, or an inner node's record.
     pub(crate) word: u64,
     pub(crate) summary: Summary<A, B>,
 }

@@ -1,9 +1,10 @@
 //! From one node of a snapshot's tree to the next, over a pass that knows its words alone.
-ghost use Rattle.std.specs.Prelude.{◌≡◌, ℕ, ◌+◌, ◌*◌, ◌%◌, ◌==◌, ◌^◌, ◌<◌, ◌≤◌, suc, if◌then◌else◌, [], ◌∷◌};
+ghost use Rattle.std.specs.Prelude.{◌≡◌, ℕ, ◌+◌, ◌*◌, ◌^◌, ◌<◌, ◌≤◌, suc};
 ghost use Rattle.aug_core.specs.Faces.{face};
 ghost use Rattle.aug_core.specs.Told.{KnowsTable};
 ghost use Rattle.aug_model.specs.Folds.{summary_of};
 ghost use Rattle.aug_trie.specs.Facts.{IsNodeOf};
+ghost use Rattle.aug_trie.specs.LeafWords.{leaf_pairs};
 ghost use Rattle.aug_trie.specs.TreeOf.{IsTreeOf};
 ghost use Rattle.aug_trie.specs.Nodes.{cut_named, Looks};
 
@@ -15,12 +16,12 @@ use aug_model::Summary;
 use aug_monoid::Monoid;
 use aug_words::WordPass;
 
-// The summary of what a leaf with this serial covers.
+// The summary of what a leaf with this word covers.
 #[inline(always)]
-pub(crate) fn leaf_summary<A: Monoid, B: Monoid>(key: u32, serial: u64) -> Summary<A, B>
-    ensures { result ≡ summary_of A.parts B.parts (if serial % 2 == 1 then key ∷ [] else []) }
+pub(crate) fn leaf_summary<A: Monoid, B: Monoid>(key: u32, word: u64) -> Summary<A, B>
+    ensures { result ≡ summary_of A.parts B.parts (leaf_pairs key word) }
 {
-    let part = leaf_part::<A, B>(key as usize, serial);
+    let part = leaf_part::<A, B>(key as usize, word);
     Summary {
         count: part.count as u32,
         a: part.a,

@@ -1,16 +1,18 @@
 //! What a child tells the node above it.
-ghost use Rattle.std.specs.Prelude.{◌≡◌, ℕ, ◌%◌, ◌==◌, ◌<◌, ◌^◌, if◌then◌else◌, [], ◌∷◌};
+ghost use Rattle.std.specs.Prelude.{◌≡◌, ℕ, ◌<◌, ◌^◌, []};
 ghost use Rattle.aug_core.specs.Faces.{face};
 ghost use Rattle.aug_core.specs.Tree.{place_count, IsInner};
 ghost use Rattle.aug_core.specs.Told.{KnowsTable};
 ghost use Rattle.aug_core.specs.Refreshes.{HasEntry};
+ghost use Rattle.aug_trie.specs.LeafWords.{leaf_pairs};
 ghost use Rattle.aug_trie.specs.Goes.{IsPart, IsPartOf, Goes, Took, HasLeaves, part_steps};
 
+use crate::leaf_words::{leaf_serial, leaf_weight};
 use aug_core::RecordField;
 use aug_monoid::Monoid;
 use aug_words::WordPass;
 
-// How many keys there are below a child, and their folds.
+// How many keys there are below a child, and the folds of these with their weights.
 #[derive(Clone, Copy)]
 pub(crate) struct Part<A, B> {
     pub(crate) count: u64,
@@ -18,17 +20,18 @@ pub(crate) struct Part<A, B> {
     pub(crate) b: B,
 }
 
-// What a leaf with this serial tells.
+// What a leaf with this word tells.
 #[inline(always)]
-pub(crate) fn leaf_part<A: Monoid, B: Monoid>(leaf: usize, serial: u64) -> Part<A, B>
+pub(crate) fn leaf_part<A: Monoid, B: Monoid>(leaf: usize, word: u64) -> Part<A, B>
     requires { leaf < 2 ^ 32 }
-    ensures { IsPart A.parts B.parts result.count result.a result.b (if serial % 2 == 1 then leaf ∷ [] else []) }
+    ensures { IsPart A.parts B.parts result.count result.a result.b (leaf_pairs leaf word) }
 {
-    if serial % 2 == 1 {
+    if leaf_serial(word) % 2 == 1 {
+        let weight = leaf_weight(word);
         Part {
             count: 1,
-            a: A::of_key(leaf as u32),
-            b: B::of_key(leaf as u32),
+            a: A::of_key(leaf as u32, weight),
+            b: B::of_key(leaf as u32, weight),
         }
     } else {
         Part {

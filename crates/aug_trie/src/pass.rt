@@ -2,13 +2,16 @@
 ghost use Rattle.std.specs.Prelude.{◌≡◌, ℕ, ◌+◌, ◌*◌, ◌^◌, ◌<◌, ◌≤◌};
 ghost use Rattle.std.specs.Bool.{OnTrue, OnFalse};
 ghost use Rattle.aug_trie.specs.Knowledge.{IsKnowledge, insertion, removal, inserts_of, removals_of};
-ghost use Rattle.aug_trie.specs.Updates.{AcceptedUpdate, RefusedUpdate, TakesSnapshot};
+ghost use Rattle.aug_trie.specs.Updates.{AcceptedUpdate, RefusedUpdate, ComesTo, PutsIn, TakesSnapshot};
 ghost use Rattle.aug_model.specs.Folds.{summary_of};
 ghost use Rattle.aug_trie.specs.Nodes.{Keeps};
+ghost use Rattle.aug_trie.specs.Requests.{FitsRequest, answered};
 ghost use Rattle.aug_trie.specs.Facts.{GoesOn, StepsOf, HasSnapshot, snapshot_cut};
 
+use crate::request::{Request, insertions_by, removals_by};
 use crate::snapshot::Snapshot;
-use crate::updates::{insert_key, remove_key};
+use crate::updates::update;
+use aug_model::Outcome;
 use aug_monoid::Monoid;
 use aug_words::WordPass;
 use std::marker::Model;
@@ -24,7 +27,7 @@ pub struct Pass<'r, A: Monoid, B: Monoid> {
     pub(crate) next: u64,
     // How many updates are left.
     pub(crate) left: u32,
-    // How many keys it put in, and how many it took out.
+    // How many keys it put in, and how many it took out, a replaced one on either side.
     pub(crate) inserts: u32,
     pub(crate) removals: u32,
 }
@@ -43,26 +46,19 @@ impl<'r, A: Monoid, B: Monoid> Model for Pass<'r, A, B> {
 }
 
 impl<'r, A: Monoid, B: Monoid> Pass<'r, A, B> {
-    /// Puts a key in. True where it was not there, and this call put it in; false where it was already there, or came in meanwhile.
+    /// Puts a key in, with the key itself as its weight. True where it was not there, and this call put it in; false where it was already
+    /// there, or came in meanwhile: then its weight stays.
     #[inline(never)]
     pub fn insert(&mut self, k: u32) -> bool
         requires key { k < 2 ^ self.old.round.bits }
         requires budget { self.old.spent < self.old.round.updates }
-        ensures accepted { OnTrue result (AcceptedUpdate insertion k self.old.knows self.new.knows) }
+        ensures accepted { OnTrue result (AcceptedUpdate insertion k k self.old.knows self.new.knows) }
         ensures refused { OnFalse result (RefusedUpdate insertion k self.old.knows self.new.knows) }
         ensures goes_on { (steps : ℕ) × GoesOn 1 steps self.old self.new }
         ensures keeps { Keeps (summary_of A.parts B.parts) self.old self.new }
-        ensures steps { StepsOf insertion k result self.old self.new }
+        ensures steps { StepsOf Request.Insert k (answered result) self.old self.new }
     {
-        let Some(words) = self.words.take() else {
-            unreachable!()
-        };
-        let (words, done) = insert_key(words, self.leaves, self.bits, k, self.next);
-        self.words = Some(words);
-        self.next += u64::from(self.bits);
-        self.left -= 1;
-        self.inserts += u32::from(done);
-        done
+        matches!(self.update(k, Request::Insert), Outcome::Accepted)
     }
 
     /// Takes a key out. True where it was there, and this call took it out; false where it was not there, or went out meanwhile.
@@ -70,21 +66,52 @@ impl<'r, A: Monoid, B: Monoid> Pass<'r, A, B> {
     pub fn remove(&mut self, k: u32) -> bool
         requires key { k < 2 ^ self.old.round.bits }
         requires budget { self.old.spent < self.old.round.updates }
-        ensures accepted { OnTrue result (AcceptedUpdate removal k self.old.knows self.new.knows) }
+        ensures accepted { OnTrue result (AcceptedUpdate removal k 0 self.old.knows self.new.knows) }
         ensures refused { OnFalse result (RefusedUpdate removal k self.old.knows self.new.knows) }
         ensures goes_on { (steps : ℕ) × GoesOn 1 steps self.old self.new }
         ensures keeps { Keeps (summary_of A.parts B.parts) self.old self.new }
-        ensures steps { StepsOf removal k result self.old self.new }
+        ensures steps { StepsOf Request.Remove k (answered result) self.old self.new }
+    {
+        matches!(self.update(k, Request::Remove), Outcome::Accepted)
+    }
+
+    /// Puts a key in with a weight, or gives it this weight where it is there, also where it has it already. `Accepted` where it was not
+    /// there, and this call put it in; `Replaced` where it was there, and this call gave it the weight: that counts as a removal and an
+    /// insertion, and no snapshot of anybody shows the key gone between them; `Refused` where another change of the key came meanwhile:
+    /// then nothing is stored.
+    #[inline(never)]
+    pub fn put(&mut self, k: u32, weight: u32) -> Outcome
+        requires key { k < 2 ^ self.old.round.bits }
+        requires budget { self.old.spent < self.old.round.updates }
+        ensures puts { PutsIn k weight result self.old.knows self.new.knows }
+        ensures goes_on { (steps : ℕ) × GoesOn 1 steps self.old self.new }
+        ensures keeps { Keeps (summary_of A.parts B.parts) self.old self.new }
+        ensures steps { StepsOf (Request.Put weight) k result self.old self.new }
+    {
+        self.update(k, Request::Put(weight))
+    }
+
+    // Makes an update of a key.
+    #[inline(always)]
+    fn update(&mut self, k: u32, request: Request) -> Outcome
+        requires key { k < 2 ^ self.old.round.bits }
+        requires budget { self.old.spent < self.old.round.updates }
+        requires fits { FitsRequest request }
+        ensures comes_to { ComesTo request k result self.old.knows self.new.knows }
+        ensures goes_on { (steps : ℕ) × GoesOn 1 steps self.old self.new }
+        ensures keeps { Keeps (summary_of A.parts B.parts) self.old self.new }
+        ensures steps { StepsOf request k result self.old self.new }
     {
         let Some(words) = self.words.take() else {
             unreachable!()
         };
-        let (words, done) = remove_key(words, self.leaves, self.bits, k, self.next);
+        let (words, outcome) = update(words, self.leaves, self.bits, k, self.next, request);
         self.words = Some(words);
         self.next += u64::from(self.bits);
         self.left -= 1;
-        self.removals += u32::from(done);
-        done
+        self.inserts += insertions_by(request, outcome);
+        self.removals += removals_by(request, outcome);
+        outcome
     }
 
     /// Takes a snapshot: one load of the root's word. It shows every change that the pass knows.
@@ -120,14 +147,14 @@ impl<'r, A: Monoid, B: Monoid> Pass<'r, A, B> {
         }
     }
 
-    /// How many keys this pass put in.
+    /// How many keys this pass put in. One that `put` replaced counts here and as a removal.
     pub fn inserts(&self) -> u32
         ensures { result ≡ inserts_of self.now.knows.accepted }
     {
         self.inserts
     }
 
-    /// How many keys this pass took out.
+    /// How many keys this pass took out. One that `put` replaced counts here and as an insertion.
     pub fn removals(&self) -> u32
         ensures { result ≡ removals_of self.now.knows.accepted }
     {

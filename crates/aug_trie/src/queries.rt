@@ -1,8 +1,8 @@
-//! The order queries on a snapshot of a pass. None but `keys` takes memory.
+//! The queries on a snapshot of a pass. None but `keys` and `pairs` takes memory.
 ghost use Rattle.std.specs.Prelude.{◌≡◌, ℕ, ◌+◌, ◌-◌, ◌*◌, ◌<◌, ◌≤◌, length, IfOk, vec_capacity};
 ghost use Rattle.aug_model.specs.Folds.{summary_of};
-ghost use Rattle.aug_model.specs.Keys.{is_member};
-ghost use Rattle.aug_model.specs.Queries.{rank_of, select_of, before_of, after_of, range_of};
+ghost use Rattle.aug_model.specs.Keys.{is_member, list_of};
+ghost use Rattle.aug_model.specs.Queries.{rank_of, select_of, before_of, after_of, weight_of, weighted_range_of};
 ghost use Rattle.aug_trie.specs.Facts.{HasSnapshot};
 ghost use Rattle.aug_trie.specs.Nodes.{Reads, set_at};
 
@@ -36,7 +36,7 @@ impl<'r, A: Monoid, B: Monoid> Pass<'r, A, B> {
     /// Whether `k` is a member.
     pub fn has(&mut self, s: Snapshot, k: u32) -> bool
         requires { HasSnapshot self.old s.number }
-        ensures answer { result ≡ is_member (set_at self.old s).list k }
+        ensures answer { result ≡ is_member (list_of (set_at self.old s)) k }
         ensures reads { Reads (summary_of A.parts B.parts) (4 * ((set_at self.old s).bits + 1)) self.old self.new }
     {
         let mut view = View {
@@ -47,10 +47,24 @@ impl<'r, A: Monoid, B: Monoid> Pass<'r, A, B> {
         view.has(k)
     }
 
+    /// What `k` weighs, if it is a member.
+    pub fn weight(&mut self, s: Snapshot, k: u32) -> Option<u32>
+        requires { HasSnapshot self.old s.number }
+        ensures answer { result ≡ weight_of (set_at self.old s).pairs k }
+        ensures reads { Reads (summary_of A.parts B.parts) (4 * ((set_at self.old s).bits + 1)) self.old self.new }
+    {
+        let mut view = View {
+            pass: self,
+            snapshot: s,
+            calls: Calls::new(),
+        };
+        view.weight(k)
+    }
+
     /// How many members there are.
     pub fn size(&mut self, s: Snapshot) -> u32
         requires { HasSnapshot self.old s.number }
-        ensures answer { result ≡ length (set_at self.old s).list }
+        ensures answer { result ≡ length (list_of (set_at self.old s)) }
         ensures reads { Reads (summary_of A.parts B.parts) 4 self.old self.new }
     {
         let mut view = View {
@@ -64,7 +78,7 @@ impl<'r, A: Monoid, B: Monoid> Pass<'r, A, B> {
     /// How many members are below `k`.
     pub fn rank(&mut self, s: Snapshot, k: u32) -> u32
         requires { HasSnapshot self.old s.number }
-        ensures answer { result ≡ rank_of (set_at self.old s).list k }
+        ensures answer { result ≡ rank_of (list_of (set_at self.old s)) k }
         ensures reads { Reads (summary_of A.parts B.parts) (4 * ((set_at self.old s).bits + 1)) self.old self.new }
     {
         let Some(mut words) = self.words.take() else {
@@ -78,7 +92,7 @@ impl<'r, A: Monoid, B: Monoid> Pass<'r, A, B> {
     /// The member with exactly `i` members below it, if there is one.
     pub fn select(&mut self, s: Snapshot, i: u32) -> Option<u32>
         requires { HasSnapshot self.old s.number }
-        ensures answer { result ≡ select_of (set_at self.old s).list i }
+        ensures answer { result ≡ select_of (list_of (set_at self.old s)) i }
         ensures reads { Reads (summary_of A.parts B.parts) (4 * (2 * (set_at self.old s).bits + 1)) self.old self.new }
     {
         let mut view = View {
@@ -92,7 +106,7 @@ impl<'r, A: Monoid, B: Monoid> Pass<'r, A, B> {
     /// The greatest member below `k`, if there is one.
     pub fn before(&mut self, s: Snapshot, k: u32) -> Option<u32>
         requires { HasSnapshot self.old s.number }
-        ensures answer { result ≡ before_of (set_at self.old s).list k }
+        ensures answer { result ≡ before_of (list_of (set_at self.old s)) k }
         ensures reads { Reads (summary_of A.parts B.parts) (4 * (3 * (set_at self.old s).bits)) self.old self.new }
     {
         let mut view = View {
@@ -106,7 +120,7 @@ impl<'r, A: Monoid, B: Monoid> Pass<'r, A, B> {
     /// The least member above `k`, if there is one.
     pub fn after(&mut self, s: Snapshot, k: u32) -> Option<u32>
         requires { HasSnapshot self.old s.number }
-        ensures answer { result ≡ after_of (set_at self.old s).list k }
+        ensures answer { result ≡ after_of (list_of (set_at self.old s)) k }
         ensures reads { Reads (summary_of A.parts B.parts) (4 * (3 * (set_at self.old s).bits)) self.old self.new }
     {
         let mut view = View {
@@ -117,10 +131,10 @@ impl<'r, A: Monoid, B: Monoid> Pass<'r, A, B> {
         view.after(k)
     }
 
-    /// The number and the folds of the members from `a` on that are below `b`.
+    /// The number and the folds of the members from `a` on that are below `b`, with their weights.
     pub fn range(&mut self, s: Snapshot, a: u32, b: u32) -> Summary<A, B>
         requires { HasSnapshot self.old s.number }
-        ensures answer { result ≡ summary_of A.parts B.parts (range_of (set_at self.old s).list a b) }
+        ensures answer { result ≡ summary_of A.parts B.parts (weighted_range_of (set_at self.old s).pairs a b) }
         ensures reads { Reads (summary_of A.parts B.parts) (4 * (4 * (set_at self.old s).bits - 1)) self.old self.new }
     {
         let mut view = View {
@@ -134,9 +148,9 @@ impl<'r, A: Monoid, B: Monoid> Pass<'r, A, B> {
     /// The members, rising. Room for all of them is made before the first is put in, and only that can be refused.
     pub fn keys(&mut self, alloc: Global, s: Snapshot) -> Result<Vec<u32>, AllocError>
         requires { HasSnapshot self.old s.number }
-        ensures answer { IfOk result (λ list. list.items ≡ (set_at self.old s).list) }
-        ensures room { IfOk result (λ list. vec_capacity list ≡ length (set_at self.old s).list) }
-        ensures reads { Reads (summary_of A.parts B.parts) (4 * (2 * (set_at self.old s).bits * length (set_at self.old s).list + 1)) self.old self.new }
+        ensures answer { IfOk result (λ list. list.items ≡ list_of (set_at self.old s)) }
+        ensures room { IfOk result (λ list. vec_capacity list ≡ length (list_of (set_at self.old s))) }
+        ensures reads { Reads (summary_of A.parts B.parts) (4 * (2 * (set_at self.old s).bits * length (list_of (set_at self.old s)) + 1)) self.old self.new }
     {
         let mut view = View {
             pass: self,
@@ -144,5 +158,20 @@ impl<'r, A: Monoid, B: Monoid> Pass<'r, A, B> {
             calls: Calls::new(),
         };
         view.keys(alloc)
+    }
+
+    /// The members with their weights, rising. Room for all of them is made before the first is put in, and only that can be refused.
+    pub fn pairs(&mut self, alloc: Global, s: Snapshot) -> Result<Vec<(u32, u32)>, AllocError>
+        requires { HasSnapshot self.old s.number }
+        ensures answer { IfOk result (λ list. list.items ≡ (set_at self.old s).pairs) }
+        ensures room { IfOk result (λ list. vec_capacity list ≡ length (set_at self.old s).pairs) }
+        ensures reads { Reads (summary_of A.parts B.parts) (4 * (2 * (set_at self.old s).bits * length (set_at self.old s).pairs + 1)) self.old self.new }
+    {
+        let mut view = View {
+            pass: self,
+            snapshot: s,
+            calls: Calls::new(),
+        };
+        view.pairs(alloc)
     }
 }

@@ -9,6 +9,7 @@ ghost use Rattle.aug_trie.specs.Facts.{IsNodeOf};
 ghost use Rattle.aug_trie.specs.Goes.{HasLeaves};
 ghost use Rattle.aug_trie.specs.Nodes.{cut_named, Looks};
 
+use crate::leaf_words::leaf_serial;
 use crate::snapshot::Snapshot;
 use aug_core::RecordField;
 use aug_monoid::Monoid;
@@ -78,7 +79,7 @@ pub(crate) fn rank_at<A: Monoid, B: Monoid>(
         level -= 1;
     }
     if k % 2 == 1 {
-        below += pass.load_record_word(word, RecordField::Left) % 2;
+        below += leaf_serial(pass.load_record_word(word, RecordField::Left)) % 2;
     }
     below as u32
 }

@@ -1,6 +1,7 @@
 //! A round: the table that its passes work on.
-ghost use Rattle.std.specs.Prelude.{◌≡◌, ◌≢◌, ◌↔◌, ◌+◌, length, IsErrOf, IfOk, IfErr};
-ghost use Rattle.aug_model.specs.Keys.{IsKeySet};
+ghost use Rattle.std.specs.Prelude.{◌≡◌, ◌≢◌, ◌↔◌, ◌+◌, length, All, IsErrOf, IfOk, IfErr};
+ghost use Rattle.aug_monoid.specs.Weighted.{FitsPair};
+ghost use Rattle.aug_model.specs.Keys.{IsKeySet, keys_of};
 ghost use Rattle.aug_core.specs.Layout.{IsRefused};
 ghost use Rattle.aug_core.specs.Places.{shape_of};
 ghost use Rattle.aug_trie.specs.Crews.{BeginsRound, Ends};
@@ -12,7 +13,7 @@ use crate::half::PassHalf;
 use crate::pass::Pass;
 use aug_core::{Layout, LayoutError};
 use aug_monoid::Monoid;
-use aug_query::keys;
+use aug_query::pairs;
 use aug_words::{Words, WordsError};
 use std::alloc::Global;
 use std::marker::Model;
@@ -36,7 +37,7 @@ impl<A: Monoid, B: Monoid> Model for Round<A, B> {
 }
 
 impl<A: Monoid, B: Monoid> Round<A, B> {
-    /// Begins a round over the set of a trie at rest, for so many passes, each with so many updates. All memory of the round is
+    /// Begins a round over the set of a trie at rest, each member with its weight, for so many passes, each with so many updates. All memory of the round is
     /// taken here, and that of the round before is given back. The refusals are tested in the order of `BeginError`, as
     /// `Layout::new` tests them for the size of the set; after one the same trie comes back.
     pub fn begin(
@@ -55,14 +56,15 @@ impl<A: Monoid, B: Monoid> Round<A, B> {
         ensures too_large { IsErrOf result (ended, BeginError.TooLarge)
             ↔ IsRefused LayoutError.TooLarge (shape_of ended.bits workers updates (length ended.members)) }
         ensures good_bits { IfErr result (λ e. e.1 ≢ BeginError.BadBits) }
-        ensures keys { IsKeySet ended.bits ended.members }
+        ensures keys { IsKeySet ended.bits (keys_of ended.members) }
+        ensures fit { All FitsPair ended.members }
     {
         let mut ended = ended;
         let layout = match Layout::new(ended.bits, workers, updates, ended.size()) {
             Ok(layout) => layout,
             Err(cause) => return Err((ended, BeginError::from(cause))),
         };
-        let Ok(members) = keys(alloc, &mut ended) else {
+        let Ok(members) = pairs(alloc, &mut ended) else {
             return Err((ended, BeginError::OutOfMemory));
         };
         match Words::open(alloc, &layout, members.as_slice()) {

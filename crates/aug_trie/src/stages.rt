@@ -4,9 +4,13 @@ ghost use Rattle.aug_core.specs.Faces.{face};
 ghost use Rattle.aug_core.specs.Kinds.{load_leaf, try_leaf};
 ghost use Rattle.aug_core.specs.declared.view.View.{View};
 ghost use Rattle.aug_trie.specs.Points.{OneStep};
+ghost use Rattle.aug_trie.specs.Requests.{word_after as word_of_request};
 ghost use Rattle.aug_trie.specs.Stages.{StageAt, Climbs, StageFalls};
 
 use crate::ascents::{Ascent, ascend};
+use crate::request::Request;
+use crate::updates::{goes_on, outcome_of, word_after};
+use aug_model::Outcome;
 use aug_monoid::Monoid;
 use aug_words::WordPass;
 
@@ -15,10 +19,10 @@ use aug_words::WordPass;
 pub(crate) enum Stage {
     // It loads its leaf.
     Leaf,
-    // It exchanges its leaf for the next serial after this one.
+    // It exchanges the leaf's word, which was this one.
     Change(u64),
-    // It is on its way from the leaf to the root, and this says whether the leaf was changed.
-    Up(bool, Ascent),
+    // It is on its way from the leaf to the root, and will have come to this.
+    Up(Outcome, Ascent),
 }
 
 // What a step of an update came to.
@@ -26,45 +30,46 @@ pub(crate) enum Stage {
 pub(crate) enum Next {
     // There is more to do.
     More(Stage),
-    // All is done, and this says whether the leaf was changed.
-    Done(bool),
+    // All is done, and came to this.
+    Done(Outcome),
 }
 
-// The next step of an update that takes a key's serial one on, if it is of this parity.
+// The next step of an update of a key.
 pub(crate) fn next_stage<A: Monoid, B: Monoid>(
     pass: &mut WordPass<A, B>,
     leaves: usize,
     bits: u32,
     number: u64,
     key: u32,
-    parity: u64,
+    request: Request,
     stage: Stage,
 ) -> Next
-    requires at { (left : ℕ) × (u : View) × StageAt (face A.parts B.parts) leaves bits number left key parity u stage pass.old.view }
+    requires at { (left : ℕ) × (u : View) × StageAt (face A.parts B.parts) leaves bits number left key request u stage pass.old.view }
     ensures table { pass.new.table ≡ pass.old.table }
     ensures step { OneStep pass.old.view pass.new.view }
-    ensures on { (left : ℕ) (u : View) → StageAt (face A.parts B.parts) leaves bits number left key parity u stage pass.old.view → Climbs (face A.parts B.parts) leaves bits number left key parity u result pass.new.view }
+    ensures on { (left : ℕ) (u : View) → StageAt (face A.parts B.parts) leaves bits number left key request u stage pass.old.view → Climbs (face A.parts B.parts) leaves bits number left key request u result pass.new.view }
     ensures falls { StageFalls bits stage result }
     ensures first { stage ≡ Stage.Leaf → (found : ℕ) × (pass.new.view.steps ≡ pass.old.view.steps ++ load_leaf key found ∷ []) }
-    ensures second { (serial : ℕ) → stage ≡ Stage.Change serial → (found : ℕ) × (pass.new.view.steps ≡ pass.old.view.steps ++ try_leaf key serial found ∷ []) }
+    ensures second { (word : ℕ) → stage ≡ Stage.Change word → (found : ℕ) × (pass.new.view.steps ≡ pass.old.view.steps ++ try_leaf key word (word_of_request request key word) found ∷ []) }
 {
     let leaf = key as usize;
     match stage {
         Stage::Leaf => {
-            let serial = pass.begin_at_leaf(leaf);
-            if serial % 2 == parity {
-                Next::More(Stage::Change(serial))
+            let word = pass.begin_at_leaf(leaf);
+            if goes_on(request, word) {
+                Next::More(Stage::Change(word))
             } else {
-                Next::More(Stage::Up(false, Ascent::from_leaf(leaves, leaf)))
+                Next::More(Stage::Up(Outcome::Refused, Ascent::from_leaf(leaves, leaf)))
             }
         }
-        Stage::Change(serial) => {
-            let done = pass.try_leaf(leaf, serial);
-            Next::More(Stage::Up(done, Ascent::from_leaf(leaves, leaf)))
+        Stage::Change(word) => {
+            let done = pass.try_leaf(leaf, word, word_after(request, key, word));
+            let outcome = outcome_of(request, word, done);
+            Next::More(Stage::Up(outcome, Ascent::from_leaf(leaves, leaf)))
         }
-        Stage::Up(done, ascent) => match ascend(pass, leaves, bits, number, ascent) {
-            Some(ascent) => Next::More(Stage::Up(done, ascent)),
-            None => Next::Done(done),
+        Stage::Up(outcome, ascent) => match ascend(pass, leaves, bits, number, ascent) {
+            Some(ascent) => Next::More(Stage::Up(outcome, ascent)),
+            None => Next::Done(outcome),
         },
     }
 }

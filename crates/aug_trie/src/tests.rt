@@ -1,12 +1,18 @@
 //! What no clause says: that rounds begin and passes get on with their updates, also in threads of their own.
 ghost use Rattle.std.specs.Prelude.{◌≡◌, ◌^◌, ◌<◌, ◌≤◌, IfOk};
 
+mod carrying;
+mod crowds;
 mod ending;
 mod looking;
+mod putting;
 mod refused;
+mod replacing;
+mod scripts;
 mod turning;
 
 use crate::{BeginError, Crew, CrewError, Ended, Pass, PassHalf, Round};
+use aug_model::Outcome;
 use aug_monoid::{Extent, Sum};
 use std::alloc::Global;
 use std::sync::Wait;
@@ -51,7 +57,7 @@ fn next_pass<'r>(crew: &mut Hands, round: &'r Table) -> Result<Pass<'r, Sum, Ext
 }
 
 // Puts a key in, where an update is left.
-fn put(pass: &mut Pass<Sum, Extent>, bits: u32, key: u32) -> bool
+fn insert(pass: &mut Pass<Sum, Extent>, bits: u32, key: u32) -> bool
     requires bits { pass.old.round.bits ≡ bits }
     requires key { key < 2 ^ bits }
     ensures bits { pass.new.round.bits ≡ bits }
@@ -61,7 +67,7 @@ fn put(pass: &mut Pass<Sum, Extent>, bits: u32, key: u32) -> bool
 }
 
 // Takes a key out, where an update is left.
-fn take(pass: &mut Pass<Sum, Extent>, bits: u32, key: u32) -> bool
+fn remove(pass: &mut Pass<Sum, Extent>, bits: u32, key: u32) -> bool
     requires bits { pass.old.round.bits ≡ bits }
     requires key { key < 2 ^ bits }
     ensures bits { pass.new.round.bits ≡ bits }
@@ -70,16 +76,29 @@ fn take(pass: &mut Pass<Sum, Extent>, bits: u32, key: u32) -> bool
     pass.budget() > 0 && pass.remove(key)
 }
 
+// Puts a key in with a weight, where an update is left.
+fn put(pass: &mut Pass<Sum, Extent>, bits: u32, key: u32, weight: u32) -> Outcome
+    requires bits { pass.old.round.bits ≡ bits }
+    requires key { key < 2 ^ bits }
+    ensures bits { pass.new.round.bits ≡ bits }
+    ensures round { pass.new.round ≡ pass.old.round }
+{
+    if pass.budget() == 0 {
+        return Outcome::Refused;
+    }
+    pass.put(key, weight)
+}
+
 #[test]
 fn a_pass_counts_its_changes(rt: HostRuntime) -> Result<(), BeginError> {
     let (round, mut crew) = opened(rt.alloc(), 2, 1, 3)?;
     let mut pass = next_pass(&mut crew, &round).expect(&rt, "a lane");
     assert_eq!(rt; pass.lane(), 0);
     assert_eq!(rt; pass.budget(), 3);
-    assert!(rt; put(&mut pass, 2, 1));
+    assert!(rt; insert(&mut pass, 2, 1));
     pass.snapshot();
-    assert!(rt; put(&mut pass, 2, 2));
-    assert!(rt; take(&mut pass, 2, 1));
+    assert!(rt; insert(&mut pass, 2, 2));
+    assert!(rt; remove(&mut pass, 2, 1));
     assert_eq!(rt; pass.budget(), 0);
     assert_eq!(rt; pass.inserts(), 2);
     assert_eq!(rt; pass.removals(), 1);
@@ -177,13 +196,24 @@ fn four_halves(crew: &mut Hands, round: &Table) -> Result<(Half, Half, Half, Hal
     Ok((one, two, three, four))
 }
 
-// What a lane does: puts the keys below `keys` in, and so often, and where `out` takes each out again.
+// What a lane does with a key.
+#[derive(Clone, Copy)]
+enum Deed {
+    // It puts the key in.
+    Insert,
+    // It puts the key in, and takes it out again.
+    InsertAndRemove,
+    // It puts the key in with a weight that changes from call to call and from lane to lane.
+    Put,
+}
+
+// What a lane does: the same with each of the keys below `keys`, and so often.
 #[derive(Clone, Copy)]
 struct Task {
     bits: u32,
     keys: u32,
     times: u32,
-    out: bool,
+    deed: Deed,
 }
 
 // All keys of a task once.
@@ -193,9 +223,18 @@ fn turn(pass: &mut Pass<Sum, Extent>, task: Task)
     ensures round { pass.new.round ≡ pass.old.round }
 {
     for key in 0..task.keys {
-        put(pass, task.bits, key);
-        if task.out {
-            take(pass, task.bits, key);
+        match task.deed {
+            Deed::Insert => {
+                insert(pass, task.bits, key);
+            }
+            Deed::InsertAndRemove => {
+                insert(pass, task.bits, key);
+                remove(pass, task.bits, key);
+            }
+            Deed::Put => {
+                let weight = pass.budget().wrapping_mul(64_000_003);
+                put(pass, task.bits, key, weight.wrapping_add(pass.lane()));
+            }
         }
     }
 }

@@ -1,18 +1,20 @@
 //! Updates by single turns.
-ghost use Rattle.std.specs.Prelude.{◌≡◌, ◌≢◌, ℕ, Bool, ◌+◌, ◌-◌, ◌*◌, ◌^◌, ◌<◌, ◌≤◌};
-ghost use Rattle.std.specs.Int.{from_bool};
+ghost use Rattle.std.specs.Prelude.{◌≡◌, ℕ, ◌+◌, ◌-◌, ◌*◌, ◌^◌, ◌<◌, ◌≤◌};
 ghost use Rattle.aug_model.specs.Folds.{summary_of};
+ghost use Rattle.aug_model.specs.declared.outcome.Outcome.{Outcome as Told};
 ghost use Rattle.aug_trie.specs.Facts.{PassFacts};
-ghost use Rattle.aug_trie.specs.Knowledge.{insertion, removal};
 ghost use Rattle.aug_trie.specs.Nodes.{Keeps};
 ghost use Rattle.aug_trie.specs.Points.{point_turns};
+ghost use Rattle.aug_trie.specs.Requests.{FitsRequest};
 ghost use Rattle.aug_trie.specs.Stages.{ascent_turns, part_above};
 ghost use Rattle.aug_trie.specs.Turns.{ClimbFacts, BeginsClimb, TurnsOn, Finishes};
 
 use crate::ascents::Ascent;
 use crate::pass::Pass;
 use crate::points::Point;
+use crate::request::{Request, insertions_by, removals_by};
 use crate::stages::{Next, Stage, next_stage};
+use aug_model::Outcome;
 use aug_monoid::Monoid;
 use aug_words::WordPass;
 use std::marker::Model;
@@ -30,8 +32,7 @@ pub struct Climb<'r, A: Monoid, B: Monoid> {
     pub(crate) inserts: u32,
     pub(crate) removals: u32,
     pub(crate) key: u32,
-    // 0 where the key goes in, and 1 where it goes out: the update takes on a serial of this parity.
-    pub(crate) parity: u64,
+    pub(crate) request: Request,
     pub(crate) stage: Stage,
 }
 
@@ -41,9 +42,9 @@ impl<'r, A: Monoid, B: Monoid> Model for Climb<'r, A, B> {
 
     ghost Value = { ClimbFacts };
 
-    ghost view = { λ c. climb_facts c.words c.bits c.left c.key c.parity c.stage };
+    ghost view = { λ c. climb_facts c.words c.bits c.left c.key c.request c.stage };
 
-    ghost invariant = { λ c. HoldsClimb (face A.parts B.parts) c.words.view c.leaves c.bits c.next c.left c.inserts c.removals c.key c.parity c.stage };
+    ghost invariant = { λ c. HoldsClimb (face A.parts B.parts) c.words.view c.leaves c.bits c.next c.left c.inserts c.removals c.key c.request c.stage };
 }
 
 /// What a turn leaves.
@@ -51,36 +52,49 @@ impl<'r, A: Monoid, B: Monoid> Model for Climb<'r, A, B> {
 pub enum Turn<'r, A: Monoid, B: Monoid> {
     /// There is more to do.
     More(Climb<'r, A, B>),
-    /// The update is done: its pass, and whether it was accepted.
-    Done(Pass<'r, A, B>, bool),
+    /// The update is done: its pass, and what it came to, which is `Replaced` for a put alone.
+    Done(Pass<'r, A, B>, Outcome),
 }
 
 impl<'r, A: Monoid, B: Monoid> Pass<'r, A, B> {
-    /// Begins to put a key in, turn by turn. No step is made yet.
+    /// Begins to put a key in, with the key itself as its weight, turn by turn. No step is made yet.
     pub fn start_insert(self, k: u32) -> Climb<'r, A, B>
         requires key { k < 2 ^ self.round.bits }
         requires budget { self.spent < self.round.updates }
-        ensures { BeginsClimb insertion k self.entry result }
+        ensures { BeginsClimb Request.Insert k self.entry result }
     {
-        start(self, k, 0)
+        start(self, k, Request::Insert)
     }
 
     /// Begins to take a key out, turn by turn. No step is made yet.
     pub fn start_remove(self, k: u32) -> Climb<'r, A, B>
         requires key { k < 2 ^ self.round.bits }
         requires budget { self.spent < self.round.updates }
-        ensures { BeginsClimb removal k self.entry result }
+        ensures { BeginsClimb Request.Remove k self.entry result }
     {
-        start(self, k, 1)
+        start(self, k, Request::Remove)
+    }
+
+    /// Begins to put a key in with a weight, as `put`, turn by turn. No step is made yet.
+    pub fn start_put(self, k: u32, weight: u32) -> Climb<'r, A, B>
+        requires key { k < 2 ^ self.round.bits }
+        requires budget { self.spent < self.round.updates }
+        ensures { BeginsClimb (Request.Put weight) k self.entry result }
+    {
+        start(self, k, Request::Put(weight))
     }
 }
 
-// Begins an update that takes on a serial of this parity.
-fn start<'r, A: Monoid, B: Monoid>(pass: Pass<'r, A, B>, key: u32, parity: u64) -> Climb<'r, A, B>
+// Begins an update.
+fn start<'r, A: Monoid, B: Monoid>(
+    pass: Pass<'r, A, B>,
+    key: u32,
+    request: Request,
+) -> Climb<'r, A, B>
     requires key { key < 2 ^ pass.round.bits }
     requires budget { pass.spent < pass.round.updates }
-    requires parity { parity < 2 }
-    ensures { BeginsClimb (1 - parity) key pass.entry result }
+    requires fits { FitsRequest request }
+    ensures { BeginsClimb request key pass.entry result }
 {
     let Pass {
         words,
@@ -101,7 +115,7 @@ fn start<'r, A: Monoid, B: Monoid>(pass: Pass<'r, A, B>, key: u32, parity: u64) 
         inserts,
         removals,
         key,
-        parity,
+        request,
         stage: Stage::Leaf,
     }
 }
@@ -110,8 +124,8 @@ impl<'r, A: Monoid, B: Monoid> Climb<'r, A, B> {
     /// Makes one atomic step.
     pub fn turn(self) -> Turn<'r, A, B>
         ensures more { (climb : ClimbFacts) → result ≡ Turn.More climb → TurnsOn self.entry climb }
-        ensures done { (pass : PassFacts) (accepted : Bool) → result ≡ Turn.Done pass accepted → Finishes accepted self.entry pass }
-        ensures keeps { (pass : PassFacts) (accepted : Bool) → result ≡ Turn.Done pass accepted → Keeps (summary_of A.parts B.parts) self.entry.start pass }
+        ensures done { (pass : PassFacts) (outcome : Told) → result ≡ Turn.Done pass outcome → Finishes outcome self.entry pass }
+        ensures keeps { (pass : PassFacts) (outcome : Told) → result ≡ Turn.Done pass outcome → Keeps (summary_of A.parts B.parts) self.entry.start pass }
     {
         let Climb {
             mut words,
@@ -122,10 +136,10 @@ impl<'r, A: Monoid, B: Monoid> Climb<'r, A, B> {
             inserts,
             removals,
             key,
-            parity,
+            request,
             stage,
         } = self;
-        match next_stage(&mut words, leaves, bits, next, key, parity, stage) {
+        match next_stage(&mut words, leaves, bits, next, key, request, stage) {
             Next::More(stage) => Turn::More(Climb {
                 words,
                 leaves,
@@ -135,20 +149,20 @@ impl<'r, A: Monoid, B: Monoid> Climb<'r, A, B> {
                 inserts,
                 removals,
                 key,
-                parity,
+                request,
                 stage,
             }),
-            Next::Done(done) => {
+            Next::Done(outcome) => {
                 let pass = Pass {
                     words: Some(words),
                     leaves,
                     bits,
                     next: next + u64::from(bits),
                     left: left - 1,
-                    inserts: inserts + gained(parity, 0, done),
-                    removals: removals + gained(parity, 1, done),
+                    inserts: inserts + insertions_by(request, outcome),
+                    removals: removals + removals_by(request, outcome),
                 };
-                Turn::Done(pass, done)
+                Turn::Done(pass, outcome)
             }
         }
     }
@@ -163,20 +177,6 @@ impl<'r, A: Monoid, B: Monoid> Climb<'r, A, B> {
             Stage::Change(_) => 30 * self.bits - 11,
             Stage::Up(_, ascent) => ascent_left(self.bits, ascent),
         }
-    }
-}
-
-// What an update on serials of one parity adds to the counter of those on another.
-#[inline(always)]
-fn gained(parity: u64, counted: u64, done: bool) -> u32
-    ensures same { parity ≡ counted → result ≡ from_bool done }
-    ensures other { parity ≢ counted → result ≡ 0 }
-    ensures few { result ≤ 1 }
-{
-    if parity == counted {
-        u32::from(done)
-    } else {
-        0
     }
 }
 

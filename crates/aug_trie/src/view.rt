@@ -1,12 +1,13 @@
 //! A snapshot as a tree that queries walk.
 ghost use Rattle.std.specs.Prelude.{◌≡◌, ℕ, ◌+◌, ◌-◌, ◌*◌, ◌<◌, ◌≤◌, length, IfOk, vec_capacity};
 ghost use Rattle.aug_model.specs.Folds.{summary_of};
-ghost use Rattle.aug_model.specs.Keys.{is_member};
-ghost use Rattle.aug_model.specs.Queries.{select_of, before_of, after_of, range_of};
+ghost use Rattle.aug_model.specs.Keys.{is_member, list_of};
+ghost use Rattle.aug_model.specs.Queries.{select_of, before_of, after_of, weight_of, weighted_range_of};
 ghost use Rattle.aug_trie.specs.Facts.{HasSnapshot};
 ghost use Rattle.aug_trie.specs.Nodes.{set_at};
 ghost use Rattle.aug_trie.specs.Views.{Walked};
 
+use crate::leaf_words::leaf_weight;
 use crate::node::Node;
 use crate::pass::Pass;
 use crate::snapshot::Snapshot;
@@ -41,8 +42,9 @@ impl<A: Monoid, B: Monoid> Tree<A, B> for View<'_, '_, A, B> {
     ghost use Rattle.std.specs.Prelude.{◌≡◌, ℕ};
     ghost use Rattle.aug_model.specs.Folds.{summary_of};
     ghost use Rattle.aug_trie.specs.Nodes.{HasNode as IsNode, set_at};
+    ghost use Rattle.aug_trie.specs.LeafWords.{weight_in_word};
     ghost use Rattle.aug_trie.specs.Views.{KeepsPass};
-    ghost use Rattle.aug_trie.specs.ViewLaws.{kept_so, kept_on, node_of};
+    ghost use Rattle.aug_trie.specs.ViewLaws.{kept_so, kept_on, node_of, leaf_weighs};
 
     ghost set_of = { λ v. set_at v.pass.now v.snapshot };
 
@@ -58,9 +60,13 @@ impl<A: Monoid, B: Monoid> Tree<A, B> for View<'_, '_, A, B> {
 
     ghost told_by = { λ n. n.summary };
 
+    ghost weight_by = { λ n. weight_in_word n.word };
+
     ghost keeps_so = { λ v. kept_so (summary_of A.parts B.parts) v.pass v.snapshot v.calls.made };
 
     ghost keeps_on = { λ first v last a b. kept_on (summary_of A.parts B.parts) first.pass v.pass last.pass first.snapshot v.snapshot last.snapshot first.calls.made v.calls.made last.calls.made a b };
+
+    ghost leaf_weighs = { λ v n has level. leaf_weighs (summary_of A.parts B.parts) v.pass.now v.snapshot n has.0 has.1 level };
 
     ghost node_tells = { λ v n has. node_of (summary_of A.parts B.parts) v.pass.now v.snapshot n has.0 has.1 };
 
@@ -94,20 +100,32 @@ impl<A: Monoid, B: Monoid> Tree<A, B> for View<'_, '_, A, B> {
     fn summary(node: &Node<A, B>) -> Summary<A, B> {
         node.summary
     }
+
+    fn weight(node: &Node<A, B>) -> u32 {
+        leaf_weight(node.word)
+    }
 }
 
 impl<'p, 'r, A: Monoid, B: Monoid> View<'p, 'r, A, B> {
     // Whether `k` is a member.
     pub(crate) fn has(&mut self, k: u32) -> bool
-        ensures answer { result ≡ is_member (set_at self.old.pass.now self.old.snapshot).list k }
+        ensures answer { result ≡ is_member (list_of (set_at self.old.pass.now self.old.snapshot)) k }
         ensures walked { Walked (summary_of A.parts B.parts) ((set_at self.old.pass.now self.old.snapshot).bits + 1) self.old.pass self.new.pass self.old.snapshot self.new.snapshot }
     {
         aug_query::has(self, k)
     }
 
+    // What `k` weighs, if it is a member.
+    pub(crate) fn weight(&mut self, k: u32) -> Option<u32>
+        ensures answer { result ≡ weight_of (set_at self.old.pass.now self.old.snapshot).pairs k }
+        ensures walked { Walked (summary_of A.parts B.parts) ((set_at self.old.pass.now self.old.snapshot).bits + 1) self.old.pass self.new.pass self.old.snapshot self.new.snapshot }
+    {
+        aug_query::weight(self, k)
+    }
+
     // How many members there are.
     pub(crate) fn size(&mut self) -> u32
-        ensures answer { result ≡ length (set_at self.old.pass.now self.old.snapshot).list }
+        ensures answer { result ≡ length (list_of (set_at self.old.pass.now self.old.snapshot)) }
         ensures walked { Walked (summary_of A.parts B.parts) 1 self.old.pass self.new.pass self.old.snapshot self.new.snapshot }
     {
         aug_query::size(self)
@@ -115,7 +133,7 @@ impl<'p, 'r, A: Monoid, B: Monoid> View<'p, 'r, A, B> {
 
     // The member with exactly `i` members below it, if there is one.
     pub(crate) fn select(&mut self, i: u32) -> Option<u32>
-        ensures answer { result ≡ select_of (set_at self.old.pass.now self.old.snapshot).list i }
+        ensures answer { result ≡ select_of (list_of (set_at self.old.pass.now self.old.snapshot)) i }
         ensures walked { Walked (summary_of A.parts B.parts) (2 * (set_at self.old.pass.now self.old.snapshot).bits + 1) self.old.pass self.new.pass self.old.snapshot self.new.snapshot }
     {
         aug_query::select(self, i)
@@ -123,7 +141,7 @@ impl<'p, 'r, A: Monoid, B: Monoid> View<'p, 'r, A, B> {
 
     // The greatest member below `k`, if there is one.
     pub(crate) fn before(&mut self, k: u32) -> Option<u32>
-        ensures answer { result ≡ before_of (set_at self.old.pass.now self.old.snapshot).list k }
+        ensures answer { result ≡ before_of (list_of (set_at self.old.pass.now self.old.snapshot)) k }
         ensures walked { Walked (summary_of A.parts B.parts) (3 * (set_at self.old.pass.now self.old.snapshot).bits) self.old.pass self.new.pass self.old.snapshot self.new.snapshot }
     {
         aug_query::before(self, k)
@@ -131,7 +149,7 @@ impl<'p, 'r, A: Monoid, B: Monoid> View<'p, 'r, A, B> {
 
     // The least member above `k`, if there is one.
     pub(crate) fn after(&mut self, k: u32) -> Option<u32>
-        ensures answer { result ≡ after_of (set_at self.old.pass.now self.old.snapshot).list k }
+        ensures answer { result ≡ after_of (list_of (set_at self.old.pass.now self.old.snapshot)) k }
         ensures walked { Walked (summary_of A.parts B.parts) (3 * (set_at self.old.pass.now self.old.snapshot).bits) self.old.pass self.new.pass self.old.snapshot self.new.snapshot }
     {
         aug_query::after(self, k)
@@ -139,7 +157,7 @@ impl<'p, 'r, A: Monoid, B: Monoid> View<'p, 'r, A, B> {
 
     // The number and the folds of the members from `a` on that are below `b`.
     pub(crate) fn range(&mut self, a: u32, b: u32) -> Summary<A, B>
-        ensures answer { result ≡ summary_of A.parts B.parts (range_of (set_at self.old.pass.now self.old.snapshot).list a b) }
+        ensures answer { result ≡ summary_of A.parts B.parts (weighted_range_of (set_at self.old.pass.now self.old.snapshot).pairs a b) }
         ensures walked { Walked (summary_of A.parts B.parts) (4 * (set_at self.old.pass.now self.old.snapshot).bits - 1) self.old.pass self.new.pass self.old.snapshot self.new.snapshot }
     {
         aug_query::range(self, a, b)
@@ -147,10 +165,19 @@ impl<'p, 'r, A: Monoid, B: Monoid> View<'p, 'r, A, B> {
 
     // The members, rising.
     pub(crate) fn keys(&mut self, alloc: Global) -> Result<Vec<u32>, AllocError>
-        ensures answer { IfOk result (λ list. list.items ≡ (set_at self.old.pass.now self.old.snapshot).list) }
-        ensures room { IfOk result (λ list. vec_capacity list ≡ length (set_at self.old.pass.now self.old.snapshot).list) }
-        ensures walked { Walked (summary_of A.parts B.parts) (2 * (set_at self.old.pass.now self.old.snapshot).bits * length (set_at self.old.pass.now self.old.snapshot).list + 1) self.old.pass self.new.pass self.old.snapshot self.new.snapshot }
+        ensures answer { IfOk result (λ list. list.items ≡ list_of (set_at self.old.pass.now self.old.snapshot)) }
+        ensures room { IfOk result (λ list. vec_capacity list ≡ length (list_of (set_at self.old.pass.now self.old.snapshot))) }
+        ensures walked { Walked (summary_of A.parts B.parts) (2 * (set_at self.old.pass.now self.old.snapshot).bits * length (list_of (set_at self.old.pass.now self.old.snapshot)) + 1) self.old.pass self.new.pass self.old.snapshot self.new.snapshot }
     {
         aug_query::keys(alloc, self)
+    }
+
+    // The members with their weights, rising.
+    pub(crate) fn pairs(&mut self, alloc: Global) -> Result<Vec<(u32, u32)>, AllocError>
+        ensures answer { IfOk result (λ list. list.items ≡ (set_at self.old.pass.now self.old.snapshot).pairs) }
+        ensures room { IfOk result (λ list. vec_capacity list ≡ length (set_at self.old.pass.now self.old.snapshot).pairs) }
+        ensures walked { Walked (summary_of A.parts B.parts) (2 * (set_at self.old.pass.now self.old.snapshot).bits * length (set_at self.old.pass.now self.old.snapshot).pairs + 1) self.old.pass self.new.pass self.old.snapshot self.new.snapshot }
+    {
+        aug_query::pairs(alloc, self)
     }
 }

@@ -1,26 +1,29 @@
 -- The words of a table are filled node by node.
-use Rattle.std.proofs.Common.{true, false, ◌≡◌, ℕ, zero, suc, ◌+◌, ◌-◌, ◌*◌, ◌^◌, ◌<◌, ◌≤◌, ◌≢◌, ◌⊎◌, inl, inr, max, Bool, ◌||◌, eqb, eq-eqb, ne_eqb, leb, le-leb, le-ltb, lt-ltb, if◌then◌else◌, List, [], ◌∷◌, ◌++◌, length, get_or, set, take, All, refl, sym, ap, ◌∙◌, subst, ⊎_elim, arith, length-set, length-append, get_or-set_other, get_or-set_same}
+use Rattle.std.proofs.Common.{true, false, ◌≡◌, ℕ, zero, suc, ◌+◌, ◌-◌, ◌*◌, ◌%◌, ◌^◌, ◌<◌, ◌≤◌, ◌≢◌, ◌⊎◌, inl, inr, max, Bool, ◌||◌, eqb, eq-eqb, ne_eqb, leb, le-leb, le-ltb, lt-ltb, if◌then◌else◌, List, [], ◌∷◌, ◌++◌, length, get_or, set, take, All, refl, sym, ap, ◌∙◌, subst, ⊎_elim, arith, length-set, length-append, get_or-set_other, get_or-set_same}
 use Rattle.std.proofs.lemmas.Bool.{cases_eq, cases_lt, lt-leb}
-use Rattle.std.proofs.lemmas.List.{take_more, get_or_read, get_or-replicate}
+use Rattle.std.proofs.lemmas.List.{take_all, take_more, get_or_read, get_or-replicate}
 use Rattle.std.proofs.lemmas.List.Elements.{All-filter, All-contains}
-use Rattle.std.proofs.lemmas.List.Folds.{list_any-append}
+use Rattle.std.proofs.lemmas.List.Folds.{list_any_at, list_any-append}
+use Rattle.std.specs.List.Sorted.{IsStrictlyIncreasing}
 use Rattle.aug_monoid.specs.Fold.{fold_of}
 use Rattle.aug_monoid.specs.Laws.{IsMonoid}
 use Rattle.aug_monoid.specs.Parts.{Parts}
-use Rattle.aug_monoid.proofs.FoldLemmas.{fold_of-append, fold_of-is_proper}
-use Rattle.aug_model.specs.Keys.{is_member, IsKeySet}
-use Rattle.aug_model.specs.Queries.{range_of}
+use Rattle.aug_monoid.proofs.FoldLemmas.{fold_of-append, fold_of-is_proper, fold_of-one}
+use Rattle.aug_monoid.specs.Weighted.{FitsPair}
+use Rattle.aug_model.specs.Keys.{is_member, keys_of, IsKeySet}
+use Rattle.aug_model.specs.Queries.{range_of, weight_in}
 use Rattle.aug_model.proofs.Membership.{is_member-iff_Contains}
-use Rattle.aug_model.proofs.Ranges.{Rises, rises_from, all_below_from, count_few, range_le, range_of_key, no_members}
+use Rattle.aug_model.proofs.Pairs.{key_at, length-keys_of, keys_of-range, weight_at_place, weight_fits, weight-none}
+use Rattle.aug_model.proofs.Ranges.{Rises, rises_from, all_below_from, count_few, range_le, range_of_key}
 use Rattle.aug_core.specs.Places.{Shape, shape_of, own_records, lane_place, record_start, word_count}
 use Rattle.aug_core.specs.Tree.{place_count, IsInner, left_of, right_of, level_start, level_of, place_on}
 use Rattle.aug_core.specs.Lanes.{IsOfLane, block_start, block_size}
-use Rattle.aug_core.specs.Opening.{Opening, members_below, has_members, own_before, number_at, opening_keys, opening_number, opening_words}
+use Rattle.aug_core.specs.Opening.{Opening, opening_leaf_word, members_below, pairs_below, has_members, own_before, number_at, opening_pairs, opening_number, opening_words}
 use Rattle.aug_core.specs.Faces.{face}
 use Rattle.aug_core.proofs.FaceLemmas.{face_is}
 use Rattle.aug_core.proofs.Sizes.{twice, own_more}
 use Rattle.aug_core.proofs.Levels.{OnLevel, halves, no_wider, level_rises, over_children, above, inner_level}
-use Rattle.aug_core.proofs.Below.{own_room, own_rises, number_own, number_shared, number_low, number_below, number_is, keys_are, below_both, true_or_false, keys_over, keys_of_leaf, number_of_leaf}
+use Rattle.aug_core.proofs.Below.{own_room, own_rises, number_own, number_shared, number_low, number_below, number_is, pairs_are, below_both, true_or_false, pairs_over, pairs_of_leaf, number_of_leaf}
 use Rattle.aug_core.specs.Rule.{Kept, newcomer}
 use Rattle.atomic_table.specs.Table.{opening}
 use Rattle.aug_core.proofs.Openings.{opens}
@@ -29,43 +32,51 @@ use Rattle.aug_words.specs.Builds.{WritesFive, MarksMembers, IsMarked, nodes_fro
 
 -- ---- the members below a place
 
-module _ (o : Opening) (set : IsKeySet o.shape.bits o.members) where
-  pub rises : Rises o.members
-  rises = rises_from o.members set.rising
+-- they and their weights have 32 bits
+pub pairs_fit : (o : Opening) → All FitsPair o.members → (q : ℕ) → All FitsPair (opening_pairs o q)
+pairs_fit o fit q = All-filter _ FitsPair o.members fit
 
-  -- they are keys of 32 bits
-  pub keys_small : 2 ^ o.shape.bits ≤ 65536 → (q : ℕ) → All (λ k. k < 2 ^ 32) (opening_keys o q)
-  keys_small few q = All-filter _ (λ k. k < 2 ^ 32) o.members (λ i d low. let below : get_or o.members i d < 2 ^ o.shape.bits = set.below i d low in omega arith)
+-- as many pairs as keys
+count_same : (o : Opening) (l p : ℕ) → length (pairs_below o l p) ≡ length (members_below o l p)
+count_same o l p = sym (length-keys_of (pairs_below o l p)) ∙ ap length (keys_of-range o.members (p * 2 ^ l) ((p + 1) * 2 ^ l))
+
+module _ (o : Opening) (set : IsKeySet o.shape.bits (keys_of o.members)) where
+  pub rises : Rises (keys_of o.members)
+  rises = rises_from (keys_of o.members) set.rising
 
   -- no more than there are keys
-  pub few_keys : (q : ℕ) → length (opening_keys o q) ≤ 2 ^ o.shape.bits
-  few_keys q = let all = count_few (2 ^ o.shape.bits) o.members rises (all_below_from (2 ^ o.shape.bits) o.members set.below) in let w : ℕ = 2 ^ level_of o.shape q in
-      let some = range_le o.members (place_on o.shape q * w) ((place_on o.shape q + 1) * w) in omega arith
+  pub few_pairs : (q : ℕ) → length (opening_pairs o q) ≤ 2 ^ o.shape.bits
+  few_pairs q = let all = count_few (2 ^ o.shape.bits) (keys_of o.members) rises (all_below_from (2 ^ o.shape.bits) (keys_of o.members) set.below) in let w : ℕ = 2 ^ level_of o.shape q in
+      let some = range_le (keys_of o.members) (place_on o.shape q * w) ((place_on o.shape q + 1) * w) in let as_many = count_same o (level_of o.shape q) (place_on o.shape q) in omega arith
 
 -- ---- the words of a record
 
 module _ {A B : Type 0} (parts_a : Parts A) (parts_b : Parts B) where
-  module _ (laws_a : IsMonoid parts_a) (laws_b : IsMonoid parts_b) (o : Opening) (set : IsKeySet o.shape.bits o.members) (few : 2 ^ o.shape.bits ≤ 65536) where
+  module _ (laws_a : IsMonoid parts_a) (laws_b : IsMonoid parts_b) (o : Opening) (set : IsKeySet o.shape.bits (keys_of o.members)) (fit : All FitsPair o.members) where
     -- what is read of a record that is ready
-    pub a_read : (q : ℕ) → parts_a.from_word (parts_a.to_word (fold_of parts_a (opening_keys o q))) ≡ fold_of parts_a (opening_keys o q)
-    a_read q = laws_a.round_trip _ (fold_of-is_proper laws_a (opening_keys o q) (keys_small o set few q))
+    pub a_read : (q : ℕ) → parts_a.from_word (parts_a.to_word (fold_of parts_a (opening_pairs o q))) ≡ fold_of parts_a (opening_pairs o q)
+    a_read q = laws_a.round_trip _ (fold_of-is_proper laws_a (opening_pairs o q) (pairs_fit o fit q))
 
-    pub b_read : (q : ℕ) → parts_b.from_word (parts_b.to_word (fold_of parts_b (opening_keys o q))) ≡ fold_of parts_b (opening_keys o q)
-    b_read q = laws_b.round_trip _ (fold_of-is_proper laws_b (opening_keys o q) (keys_small o set few q))
+    pub b_read : (q : ℕ) → parts_b.from_word (parts_b.to_word (fold_of parts_b (opening_pairs o q))) ≡ fold_of parts_b (opening_pairs o q)
+    b_read q = laws_b.round_trip _ (fold_of-is_proper laws_b (opening_pairs o q) (pairs_fit o fit q))
 
     -- what the children tell is what the record says
-    pub five_are : (q n x y : ℕ) → IsInner o.shape q → n ≡ length (opening_keys o (left_of o.shape q)) + length (opening_keys o (right_of o.shape q))
-        → x ≡ parts_a.to_word (parts_a.join (fold_of parts_a (opening_keys o (left_of o.shape q))) (fold_of parts_a (opening_keys o (right_of o.shape q))))
-        → y ≡ parts_b.to_word (parts_b.join (fold_of parts_b (opening_keys o (left_of o.shape q))) (fold_of parts_b (opening_keys o (right_of o.shape q))))
+    pub five_are : (q n x y : ℕ) → IsInner o.shape q → n ≡ length (opening_pairs o (left_of o.shape q)) + length (opening_pairs o (right_of o.shape q))
+        → x ≡ parts_a.to_word (parts_a.join (fold_of parts_a (opening_pairs o (left_of o.shape q))) (fold_of parts_a (opening_pairs o (right_of o.shape q))))
+        → y ≡ parts_b.to_word (parts_b.join (fold_of parts_b (opening_pairs o (left_of o.shape q))) (fold_of parts_b (opening_pairs o (right_of o.shape q))))
         → opening_number o (left_of o.shape q) ∷ opening_number o (right_of o.shape q) ∷ n ∷ x ∷ y ∷ [] ≡ opening_words (face parts_a parts_b) o q
     five_are q n x y inner en ex ey =
-        let ls : List ℕ = opening_keys o (left_of o.shape q) in let rs : List ℕ = opening_keys o (right_of o.shape q) in
-        let small_l = keys_small o set few (left_of o.shape q) in let small_r = keys_small o set few (right_of o.shape q) in
-        let is : opening_keys o q ≡ ls ++ rs = keys_over o (rises o set) q inner in
-        face_is parts_a parts_b (opening_number o (left_of o.shape q)) (opening_number o (right_of o.shape q)) n x y (opening_keys o q)
+        let ls : List (ℕ × ℕ) = opening_pairs o (left_of o.shape q) in let rs : List (ℕ × ℕ) = opening_pairs o (right_of o.shape q) in
+        let fit_l = pairs_fit o fit (left_of o.shape q) in let fit_r = pairs_fit o fit (right_of o.shape q) in
+        let is : opening_pairs o q ≡ ls ++ rs = pairs_over o (rises o set) q inner in
+        face_is parts_a parts_b (opening_number o (left_of o.shape q)) (opening_number o (right_of o.shape q)) n x y (opening_pairs o q)
         (en ∙ sym (length-append ls rs) ∙ ap length (sym is))
-        (ex ∙ ap parts_a.to_word (sym (fold_of-append laws_a ls rs small_l small_r)) ∙ ap (λ (z : List ℕ). parts_a.to_word (fold_of parts_a z)) (sym is))
-        (ey ∙ ap parts_b.to_word (sym (fold_of-append laws_b ls rs small_l small_r)) ∙ ap (λ (z : List ℕ). parts_b.to_word (fold_of parts_b z)) (sym is))
+        (ex ∙ ap parts_a.to_word (sym (fold_of-append laws_a ls rs fit_l fit_r)) ∙ ap (λ (z : List (ℕ × ℕ)). parts_a.to_word (fold_of parts_a z)) (sym is))
+        (ey ∙ ap parts_b.to_word (sym (fold_of-append laws_b ls rs fit_l fit_r)) ∙ ap (λ (z : List (ℕ × ℕ)). parts_b.to_word (fold_of parts_b z)) (sym is))
+
+-- the fold of one pair is what the monoid makes of it
+pub one_pair_is : {M : Type 0} {parts : Parts M} (laws : IsMonoid parts) (p : ℕ × ℕ) (pairs : List (ℕ × ℕ)) (value : M) → FitsPair p → value ≡ parts.of_key p.0 p.1 → pairs ≡ p ∷ [] → value ≡ fold_of parts pairs
+one_pair_is {parts = parts} laws p pairs value fits is only = is ∙ sym (fold_of-one laws p fits) ∙ sym (ap (fold_of parts) only)
 
 -- ---- one node more
 
@@ -84,7 +95,7 @@ pub own_same : (o : Opening) (l p : ℕ) → has_members o l p ≡ false → own
 own_same o l p none = ap (λ (z : Bool). own_before o l p + (if z then 1 else 0)) none ∙ (let e : own_before o l p + 0 ≡ own_before o l p = omega arith in e)
 
 -- a node's own record has a greater number than those of all nodes before it
-pub number_rises : (o : Opening) → Rises o.members → length o.members ≤ o.shape.members → (q r l p k n : ℕ) → OnLevel o.shape q (suc l) p → OnLevel o.shape r (suc k) n → q < r → has_members o (suc k) n ≡ true → number_at o (suc l) p < number_at o (suc k) n
+pub number_rises : (o : Opening) → Rises (keys_of o.members) → length (keys_of o.members) ≤ o.shape.members → (q r l p k n : ℕ) → OnLevel o.shape q (suc l) p → OnLevel o.shape r (suc k) n → q < r → has_members o (suc k) n ≡ true → number_at o (suc l) p < number_at o (suc k) n
 number_rises o up fit q r l p k n a b lt has = let e = number_own o k n has in let low_a = a.few in let low_b = b.few in ⊎_elim
     (λ own. let f = number_own o l p own in let room = own_room o up fit (suc l) p a.room own in ⊎_elim
     (λ (below : l < k). let u = own_rises o.shape.bits o.shape.members (suc l) k (omega arith) in let m = own_more o.shape.bits o.shape.members l in omega arith)
@@ -109,34 +120,47 @@ some_keys : (o : Opening) (l p : ℕ) → has_members o l p ≡ true → 0 < len
 some_keys o l p some = ⊎_elim (λ (lt : 0 < length (members_below o l p)). lt) (λ (z : length (members_below o l p) ≤ 0). let clash : true ≡ false = sym some ∙ le-ltb 0 (length (members_below o l p)) z in cc)
     (cases_lt 0 (length (members_below o l p)))
 
+no_pairs : (pairs : List (ℕ × ℕ)) → length pairs ≡ 0 → pairs ≡ []
+no_pairs [] none = refl
+no_pairs (p ∷ ps) none = absurd (omega arith)
+
 -- the members at a leaf
-below_leaf : (o : Opening) → Rises o.members → (p : ℕ) → members_below o 0 p ≡ (if is_member o.members p then p ∷ [] else [])
-below_leaf o up p = (let e : p * 1 ≡ p = omega arith in let f : (p + 1) * 1 ≡ p + 1 = omega arith in λ i. range_of o.members (e i) (f i)) ∙ range_of_key o.members p up
+below_leaf : (o : Opening) → Rises (keys_of o.members) → (p : ℕ) → members_below o 0 p ≡ (if is_member (keys_of o.members) p then p ∷ [] else [])
+below_leaf o up p = (let e : p * 1 ≡ p = omega arith in let f : (p + 1) * 1 ≡ p + 1 = omega arith in λ i. range_of (keys_of o.members) (e i) (f i)) ∙ range_of_key (keys_of o.members) p up
+
+-- a leaf without a member has the word 0
+leaf_word : (members : List (ℕ × ℕ)) (key : ℕ) → (if is_member (keys_of members) key then opening_leaf_word members key else 0) ≡ opening_leaf_word members key
+leaf_word members key = either (is_member (keys_of members) key) (weight-none members key)
+  where
+    either : (b : Bool) → (b ≡ false → weight_in members key ≡ 0)
+        → (if b then (if b then 1 else 0) * 2 ^ 32 + weight_in members key else 0) ≡ (if b then 1 else 0) * 2 ^ 32 + weight_in members key
+    either true weighs = refl
+    either false weighs = let zero_weight = weighs refl in omega arith
 
 -- the word of a place with no members below
-number_none : (o : Opening) → Rises o.members → (l p : ℕ) → length (members_below o l p) ≡ 0 → number_at o l p ≡ l - 1
-number_none o up zero p none = leaf_none (is_member o.members p) (let e = ap length (below_leaf o up p) in omega arith)
+number_none : (o : Opening) → Rises (keys_of o.members) → (l p : ℕ) → length (members_below o l p) ≡ 0 → number_at o l p ≡ l - 1
+number_none o up zero p none = leaf_none (is_member (keys_of o.members) p) (let e = ap length (below_leaf o up p) in omega arith) (weight-none o.members p)
   where
-    leaf_none : (b : Bool) → length (if b then p ∷ [] else []) ≡ 0 → (if b then 1 else 0) ≡ 0 - 1
-    leaf_none true e = absurd (omega arith)
-    leaf_none false e = refl
+    leaf_none : (b : Bool) → length (if b then p ∷ [] else []) ≡ 0 → (b ≡ false → weight_in o.members p ≡ 0) → (if b then 1 else 0) * 2 ^ 32 + weight_in o.members p ≡ 0 - 1
+    leaf_none true e weighs = absurd (omega arith)
+    leaf_none false e weighs = let zero_weight = weighs refl in omega arith
 number_none o up (suc l) p none = number_shared o l p (none_there o (suc l) p none) ∙ (let e : l ≡ suc l - 1 = omega arith in e)
 
--- a word tells whether there are members below: a leaf's by its serial, and a node's by being no number of a shared record
-pub number_tells : (o : Opening) → Rises o.members → (l p least : ℕ) → l ≤ o.shape.bits → (l ≡ 0 → least ≡ 1) → (l ≢ 0 → least ≡ o.shape.bits)
+-- a word tells whether there are members below: a leaf's by having a serial, and a node's by being no number of a shared record
+pub number_tells : (o : Opening) → Rises (keys_of o.members) → (l p least : ℕ) → l ≤ o.shape.bits → (l ≡ 0 → least ≡ 2 ^ 32) → (l ≢ 0 → least ≡ o.shape.bits)
     → ((0 < length (members_below o l p)) × (least ≤ number_at o l p)) ⊎ ((length (members_below o l p) ≡ 0) × (number_at o l p < least))
-number_tells o up zero p least few leaf node = of_leaf (is_member o.members p) (below_leaf o up p) refl
+number_tells o up zero p least few leaf node = of_leaf (is_member (keys_of o.members) p) (below_leaf o up p) refl (weight-none o.members p)
   where
-    of_leaf : (b : Bool) → members_below o 0 p ≡ (if b then p ∷ [] else []) → number_at o 0 p ≡ (if b then 1 else 0)
+    of_leaf : (b : Bool) → members_below o 0 p ≡ (if b then p ∷ [] else []) → number_at o 0 p ≡ (if b then 1 else 0) * 2 ^ 32 + weight_in o.members p → (b ≡ false → weight_in o.members p ≡ 0)
         → ((0 < length (members_below o 0 p)) × (least ≤ number_at o 0 p)) ⊎ ((length (members_below o 0 p) ≡ 0) × (number_at o 0 p < least))
-    of_leaf true is e = let one = leaf refl in let n = ap length is in inl (omega arith, omega arith)
-    of_leaf false is e = let one = leaf refl in let n = ap length is in inr (omega arith, omega arith)
+    of_leaf true is e weighs = let serial = leaf refl in let n = ap length is in inl (omega arith, omega arith)
+    of_leaf false is e weighs = let serial = leaf refl in let n = ap length is in let zero_weight = weighs refl in inr (omega arith, omega arith)
 number_tells o up (suc l) p least few leaf node = let is : least ≡ o.shape.bits = node (λ e. omega arith) in ⊎_elim
     (λ some. let e = number_own o l p some in inl (some_keys o (suc l) p some, omega arith))
     (λ none. let e = number_shared o l p none in inr (no_keys o (suc l) p none, omega arith)) (true_or_false (has_members o (suc l) p))
 
 -- a node has members below where the greater of its children's words tells so
-pub has_by_children : (o : Opening) → Rises o.members → (l p least x y : ℕ) → suc l ≤ o.shape.bits → (l ≡ 0 → least ≡ 1) → (l ≢ 0 → least ≡ o.shape.bits)
+pub has_by_children : (o : Opening) → Rises (keys_of o.members) → (l p least x y : ℕ) → suc l ≤ o.shape.bits → (l ≡ 0 → least ≡ 2 ^ 32) → (l ≢ 0 → least ≡ o.shape.bits)
     → x ≡ number_at o l (2 * p) → y ≡ number_at o l (2 * p + 1) → leb least (max x y) ≡ has_members o (suc l) p
 has_by_children o up l p least x y few leaf node ex ey =
     let both = ap length (below_both o up l p) in let sum = length-append (members_below o l (2 * p)) (members_below o l (2 * p + 1)) in ⊎_elim
@@ -146,15 +170,15 @@ has_by_children o up l p least x y few leaf node ex ey =
     (λ right. lt-leb least (max x y) (omega (arith, left.1, right.1, ex, ey)) ∙ sym (none_there o (suc l) p (omega (arith, left.0, right.0, both, sum))))
     (number_tells o up l (2 * p + 1) least (omega arith) leaf node)) (number_tells o up l (2 * p) least (omega arith) leaf node)
 
-module _ (face : ℕ → ℕ → List ℕ → List ℕ) (o : Opening) (up : Rises o.members) where
+module _ (face : ℕ → ℕ → List (ℕ × ℕ) → List ℕ) (o : Opening) (up : Rises (keys_of o.members)) where
   -- the record that a level's nodes share is that of each with no members below
   pub shared_is : (q l p : ℕ) → OnLevel o.shape q (suc l) p → has_members o (suc l) p ≡ false → shared_words face o l ≡ opening_words face o q
   shared_is q l p a none = let c = over_children o.shape q l p a in let zero_all = no_keys o (suc l) p none in
       let split = ap length (below_both o up l p) in let sum = length-append (members_below o l (2 * p)) (members_below o l (2 * p + 1)) in
       let left = number_is o (left_of o.shape q) l (2 * p) c.0 ∙ number_none o up l (2 * p) (omega arith) in
       let right = number_is o (right_of o.shape q) l (2 * p + 1) c.1 ∙ number_none o up l (2 * p + 1) (omega arith) in
-      let keys = keys_are o q (suc l) p a ∙ no_members (members_below o (suc l) p) zero_all in
-      λ i. face (sym left i) (sym right i) (sym keys i)
+      let pairs = pairs_are o q (suc l) p a ∙ no_pairs (pairs_below o (suc l) p) (count_same o (suc l) p ∙ zero_all) in
+      λ i. face (sym left i) (sym right i) (sym pairs i)
 
   -- one node more, whose record is there
   pub node_more : (q n : ℕ) (words : List ℕ) → IsInner o.shape q → n ≡ opening_number o q → IsBuilt face o o.shape.bits q words → HasRecord face o words q → IsBuilt face o o.shape.bits (q + 1) (set words q n)
@@ -180,7 +204,7 @@ module _ (face : ℕ → ℕ → List ℕ → List ℕ) (o : Opening) (up : Rise
       (λ k small. ap (λ (z : ℕ). get_or words (record_start o.shape z + k) 0) e ∙ built.shared l (let up = a.few in omega arith) k small ∙ ap (λ (z : List ℕ). get_or z k 0) (shared_is q l p a none))
 
   -- a node with members below has one of its own
-  pub node_own : length o.members ≤ o.shape.members → (q l p n : ℕ) (old mid five : List ℕ) → OnLevel o.shape q (suc l) p → has_members o (suc l) p ≡ true → IsBuilt face o o.shape.bits q old → n ≡ number_at o (suc l) p
+  pub node_own : length (keys_of o.members) ≤ o.shape.members → (q l p n : ℕ) (old mid five : List ℕ) → OnLevel o.shape q (suc l) p → has_members o (suc l) p ≡ true → IsBuilt face o o.shape.bits q old → n ≡ number_at o (suc l) p
       → WritesFive old mid (record_start o.shape n) five → five ≡ opening_words face o q → IsBuilt face o o.shape.bits (q + 1) (set mid q n)
   node_own fit q l p n old mid five a has built is writes words = let inner = inner_level o.shape q l p a in let inside = inner.inside in let t = twice o.shape.bits in let past = inner.past_leaves in
       let e : opening_number o q ≡ n = number_is o q (suc l) p a ∙ sym is in let low = number_low o up fit l p a.few a.room in let own = number_own o l p has in
@@ -213,12 +237,12 @@ module _ (face : ℕ → ℕ → List ℕ → List ℕ) (o : Opening) (up : Rise
   }
 
   -- the members' leaves are set
-  pub built_none : (words : List ℕ) → ((key : ℕ) → is_member o.members key ≡ true → key < 2 ^ o.shape.bits) → IsMarked o.shape o.members words → IsBuilt face o 0 (2 ^ o.shape.bits) words
+  pub built_none : (words : List ℕ) → ((key : ℕ) → is_member (keys_of o.members) key ≡ true → key < 2 ^ o.shape.bits) → IsMarked o.shape o.members words → IsBuilt face o 0 (2 ^ o.shape.bits) words
   built_none words below marks =
       let t = twice o.shape.bits in
-      let free : (i : ℕ) → 2 ^ o.shape.bits ≤ i → get_or words i 0 ≡ 0 = λ i past. marks.marked i ∙ unmarked (is_member o.members i) 0 (λ e. let low = below i e in absurd (omega arith)) in record {
+      let free : (i : ℕ) → 2 ^ o.shape.bits ≤ i → get_or words i 0 ≡ 0 = λ i past. marks.marked i ∙ unmarked (is_member (keys_of o.members) i) (opening_leaf_word o.members i) (λ e. let low = below i e in absurd (omega arith)) in record {
         long = marks.long;
-        named = λ q low. marks.marked q ∙ sym (number_of_leaf o q low);
+        named = λ q low. marks.marked q ∙ leaf_word o.members q ∙ sym (number_of_leaf o q low);
         shared = λ i none. absurd (omega arith);
         records = λ q past low. absurd (omega arith);
         idle = λ number k unused small. free (record_start o.shape number + k) (omega arith);
@@ -226,24 +250,38 @@ module _ (face : ℕ → ℕ → List ℕ → List ℕ) (o : Opening) (up : Rise
         blocks = λ lane k low small. free (block_start o.shape lane + k) (omega arith);
       }
     where
-      unmarked : (b : Bool) (x : ℕ) → (b ≡ true → ⊥) → (if b then 1 else x) ≡ x
+      unmarked : (b : Bool) (x : ℕ) → (b ≡ true → ⊥) → (if b then x else 0) ≡ 0
       unmarked true x ne = absurd (ne refl)
       unmarked false x ne = refl
 
 -- ---- the members
 
+-- the words of the first members' leaves are set, and all others as they were
+pub record MarksFirst (old new : List ℕ) (members : List (ℕ × ℕ)) (n : ℕ) : Type 0 where
+  pub marked : (i : ℕ) → get_or new i 0 ≡ (if is_member (take n (keys_of members)) i then opening_leaf_word members i else get_or old i 0)
+  pub long : length new ≡ length old
+
+-- the word of a member's leaf
+member_word : (members : List (ℕ × ℕ)) (i : ℕ) → IsStrictlyIncreasing (keys_of members) → i < length members → opening_leaf_word members (get_or members i (0, 0)).0 ≡ 2 ^ 32 + (get_or members i (0, 0)).1
+member_word members i up low =
+    let key : ℕ = (get_or members i (0, 0)).0 in let weighs = weight_at_place members i up low in
+    let there : is_member (keys_of members) key ≡ true = list_any_at (λ x. eqb x key) (keys_of members) i 0 (let long = length-keys_of members in omega arith) (eq-eqb _ key (key_at members i (0, 0) low)) in
+    ap (λ (z : Bool). (if z then 1 else 0) * 2 ^ 32 + weight_in members key) there ∙ (let is : 1 * 2 ^ 32 + weight_in members key ≡ 2 ^ 32 + (get_or members i (0, 0)).1 = omega arith in is)
+
 -- one member more is marked
-pub marks_more : (old words members : List ℕ) (i : ℕ) → i < length members → get_or members i 0 < length old → MarksMembers old words (take i members) → MarksMembers old (set words (get_or members i 0) 1) (take (i + 1) members)
-marks_more old words members i low inside marks =
-    let k : ℕ = get_or members i 0 in let l = marks.long in
-    let more : (j : ℕ) → is_member (take (i + 1) members) j ≡ (is_member (take i members) j || (eqb k j || false)) = λ j.
-    ap (λ (z : List ℕ). is_member z j) (take_more members i 0 low) ∙ list_any-append (λ x. eqb x j) (take i members) (k ∷ []) in record {
+pub marks_more : (old words : List ℕ) (members : List (ℕ × ℕ)) (i word : ℕ) → IsStrictlyIncreasing (keys_of members) → i < length members → get_or (keys_of members) i 0 < length old
+    → word ≡ 2 ^ 32 + (get_or members i (0, 0)).1 → MarksFirst old words members i → MarksFirst old (set words (get_or members i (0, 0)).0 word) members (i + 1)
+marks_more old words members i word up low inside is marks =
+    let k : ℕ = (get_or members i (0, 0)).0 in let l = marks.long in let at : get_or (keys_of members) i 0 ≡ k = key_at members i (0, 0) low in
+    let more : (j : ℕ) → is_member (take (i + 1) (keys_of members)) j ≡ (is_member (take i (keys_of members)) j || (eqb k j || false)) = λ j.
+    ap (λ (z : List ℕ). is_member z j) (take_more (keys_of members) i 0 (let long = length-keys_of members in omega arith)) ∙ list_any-append (λ x. eqb x j) (take i (keys_of members)) (get_or (keys_of members) i 0 ∷ [])
+    ∙ ap (λ (z : ℕ). is_member (take i (keys_of members)) j || (eqb z j || false)) at in record {
       marked = λ j. ⊎_elim
-          (λ (same : k ≡ j). subst (λ (z : ℕ). get_or (set words k 1) z 0 ≡ 1) same (get_or-set_same words k 1 0 (omega arith))
-          ∙ sym (ap (λ (z : Bool). if z then 1 else get_or old j 0) (more j ∙ ap (λ (z : Bool). is_member (take i members) j || (z || false)) (eq-eqb k j same) ∙ or_true (is_member (take i members) j))))
-          (λ (other : k ≢ j). get_or-set_other words k j 1 0 (λ e. other (sym e)) ∙ marks.marked j
-          ∙ sym (ap (λ (z : Bool). if z then 1 else get_or old j 0) (more j ∙ ap (λ (z : Bool). is_member (take i members) j || (z || false)) (ne_eqb k j other) ∙ or_no (is_member (take i members) j)))) (cases_eq k j);
-      long = length-set words k 1 ∙ marks.long;
+          (λ (same : k ≡ j). subst (λ (z : ℕ). get_or (set words k word) z 0 ≡ opening_leaf_word members z) same (get_or-set_same words k word 0 (omega arith) ∙ is ∙ sym (member_word members i up low))
+          ∙ sym (ap (λ (z : Bool). if z then opening_leaf_word members j else get_or old j 0) (more j ∙ ap (λ (z : Bool). is_member (take i (keys_of members)) j || (z || false)) (eq-eqb k j same) ∙ or_true (is_member (take i (keys_of members)) j))))
+          (λ (other : k ≢ j). get_or-set_other words k j word 0 (λ e. other (sym e)) ∙ marks.marked j
+          ∙ sym (ap (λ (z : Bool). if z then opening_leaf_word members j else get_or old j 0) (more j ∙ ap (λ (z : Bool). is_member (take i (keys_of members)) j || (z || false)) (ne_eqb k j other) ∙ or_no (is_member (take i (keys_of members)) j)))) (cases_eq k j);
+      long = length-set words k word ∙ marks.long;
     }
   where
     or_true : (b : Bool) → (b || true) ≡ true
@@ -254,48 +292,58 @@ marks_more old words members i low inside marks =
     or_no true = refl
     or_no false = refl
 
+-- and then all are
+pub marks_all : (old words : List ℕ) (members : List (ℕ × ℕ)) (n : ℕ) → length members ≤ n → MarksFirst old words members n → MarksMembers old words members
+marks_all old words members n past marks = let all : take n (keys_of members) ≡ keys_of members = take_all n (keys_of members) (let long = length-keys_of members in omega arith) in record {
+  marked = λ i. marks.marked i ∙ ap (λ (z : List ℕ). if is_member z i then opening_leaf_word members i else get_or old i 0) all;
+  long = marks.long;
+}
+
 -- a member is a key
 pub members_below_keys : (s : Shape) (members : List ℕ) → IsKeySet s.bits members → (key : ℕ) → is_member members key ≡ true → key < 2 ^ s.bits
 members_below_keys s members set key e = All-contains (λ k. k < 2 ^ s.bits) members key set.below ((is_member-iff_Contains members key).0 e)
 
 -- the leaves of the members are words of the table
-pub members_inside : (s : Shape) (members : List ℕ) → IsKeySet s.bits members → (i : ℕ) → i < length members → get_or members i 0 < word_count s
-members_inside s members set i low = let key : get_or members i 0 < 2 ^ s.bits = set.below i 0 low in let t = twice s.bits in omega arith
+pub members_inside : (s : Shape) (members : List (ℕ × ℕ)) → IsKeySet s.bits (keys_of members) → (i : ℕ) → i < length members → get_or (keys_of members) i 0 < word_count s
+members_inside s members set i low = let long = length-keys_of members in let key : get_or (keys_of members) i 0 < 2 ^ s.bits = set.below i 0 (omega arith) in let t = twice s.bits in omega arith
 
 -- ---- for the answers
 
 -- a place below the nodes that are built is ready
-pub built_ready : (face : ℕ → ℕ → List ℕ → List ℕ) (o : Opening) (levels done q : ℕ) (words : List ℕ) → IsBuilt face o levels done words → q < done → q < place_count o.shape → IsReady face o words q
+pub built_ready : (face : ℕ → ℕ → List (ℕ × ℕ) → List ℕ) (o : Opening) (levels done q : ℕ) (words : List ℕ) → IsBuilt face o levels done words → q < done → q < place_count o.shape → IsReady face o words q
 built_ready face o levels done q words built low inside = record { inside = inside; long = built.long; word = built.named q low; node = λ past. built.records q past low }
 
 -- a word that is read of a node that is ready
-pub ready_word : (face : ℕ → ℕ → List ℕ → List ℕ) (o : Opening) (words : List ℕ) (q k x start leaves : ℕ) → IsReady face o words q → leaves ≤ q → k < 5 → leaves ≡ 2 ^ o.shape.bits
+pub ready_word : (face : ℕ → ℕ → List (ℕ × ℕ) → List ℕ) (o : Opening) (words : List ℕ) (q k x start leaves : ℕ) → IsReady face o words q → leaves ≤ q → k < 5 → leaves ≡ 2 ^ o.shape.bits
     → start ≡ record_start o.shape (opening_number o q) → start + 5 ≤ length words → x ≡ get_or words (start + k) x → x ≡ get_or (opening_words face o q) k 0
 ready_word face o words q k x start leaves ready past small begin first inside is =
     let at : start + k ≡ record_start o.shape (opening_number o q) + k = omega arith in
     get_or_read words (start + k) x (omega arith) is 0 ∙ ap (λ (i : ℕ). get_or words i 0) at ∙ ready.node (omega arith) k small
 
 -- the word of a place that is ready
-pub ready_number : (face : ℕ → ℕ → List ℕ → List ℕ) (o : Opening) (words : List ℕ) (q x : ℕ) → IsReady face o words q → x ≡ get_or words q x → x ≡ opening_number o q
+pub ready_number : (face : ℕ → ℕ → List (ℕ × ℕ) → List ℕ) (o : Opening) (words : List ℕ) (q x : ℕ) → IsReady face o words q → x ≡ get_or words q x → x ≡ opening_number o q
 ready_number face o words q x ready is = let t = twice o.shape.bits in let long = ready.long in let inside = ready.inside in get_or_read words q x (omega arith) is 0 ∙ ready.word
 
 -- the record of a node that is ready lies in the table
-pub record_inside_words : (face : ℕ → ℕ → List ℕ → List ℕ) (o : Opening) (words : List ℕ) (q : ℕ) → Rises o.members → length o.members ≤ o.shape.members → IsReady face o words q → 2 ^ o.shape.bits ≤ q → record_start o.shape (opening_number o q) + 5 ≤ length words
+pub record_inside_words : (face : ℕ → ℕ → List (ℕ × ℕ) → List ℕ) (o : Opening) (words : List ℕ) (q : ℕ) → Rises (keys_of o.members) → length (keys_of o.members) ≤ o.shape.members → IsReady face o words q → 2 ^ o.shape.bits ≤ q → record_start o.shape (opening_number o q) + 5 ≤ length words
 record_inside_words face o words q up fit ready past = let long = ready.long in let low = number_below o up fit q record { past_leaves = past; inside = ready.inside } in omega arith
 
--- the keys below a leaf, by its word
-pub leaf_there : (o : Opening) → Rises o.members → (q x : ℕ) → q < 2 ^ o.shape.bits → x ≡ opening_number o q → x ≡ 1 → opening_keys o q ≡ q ∷ []
-leaf_there o up q x low is one = keys_of_leaf o up q low ∙ there (is_member o.members q) (sym (number_of_leaf o q low) ∙ sym is ∙ one)
+-- the pairs below a leaf, by its word
+pub leaf_there : (o : Opening) → Rises (keys_of o.members) → All FitsPair o.members → (q x : ℕ) → q < 2 ^ o.shape.bits → x ≡ opening_number o q → 2 ^ 32 ≤ x → opening_pairs o q ≡ (q, x % 2 ^ 32) ∷ []
+leaf_there o up fit q x low is some = pairs_of_leaf o up q low ∙ there (is_member (keys_of o.members) q) (is ∙ number_of_leaf o q low)
   where
-    there : (b : Bool) → ◌≡◌ {A = ℕ} (if b then 1 else 0) 1 → (if b then q ∷ [] else []) ≡ q ∷ []
-    there true e = refl
-    there false e = absurd (omega arith)
+    weight : weight_in o.members q < 2 ^ 32
+    weight = weight_fits o.members q fit
 
-pub leaf_not : (o : Opening) → Rises o.members → (q x : ℕ) → q < 2 ^ o.shape.bits → x ≡ opening_number o q → x ≢ 1 → opening_keys o q ≡ []
-leaf_not o up q x low is ne = keys_of_leaf o up q low ∙ not_there (is_member o.members q) (λ e. ne (is ∙ number_of_leaf o q low ∙ e))
+    there : (b : Bool) → x ≡ (if b then 1 else 0) * 2 ^ 32 + weight_in o.members q → ◌≡◌ {A = List (ℕ × ℕ)} (if b then (q, weight_in o.members q) ∷ [] else []) ((q, x % 2 ^ 32) ∷ [])
+    there true e = let w = weight in let same : weight_in o.members q ≡ x % 2 ^ 32 = omega arith in ap (λ (z : ℕ). (q, z) ∷ []) same
+    there false e = let w = weight in absurd (omega arith)
+
+pub leaf_not : (o : Opening) → Rises (keys_of o.members) → (q x : ℕ) → q < 2 ^ o.shape.bits → x ≡ opening_number o q → x < 2 ^ 32 → opening_pairs o q ≡ []
+leaf_not o up q x low is none = pairs_of_leaf o up q low ∙ not_there (is_member (keys_of o.members) q) (is ∙ number_of_leaf o q low)
   where
-    not_there : (b : Bool) → (◌≡◌ {A = ℕ} (if b then 1 else 0) 1 → ⊥) → (if b then q ∷ [] else []) ≡ []
-    not_there true e = absurd (e refl)
+    not_there : (b : Bool) → x ≡ (if b then 1 else 0) * 2 ^ 32 + weight_in o.members q → ◌≡◌ {A = List (ℕ × ℕ)} (if b then (q, weight_in o.members q) ∷ [] else []) []
+    not_there true e = absurd (omega arith)
     not_there false e = refl
 
 -- the node at a place on a level, the lowest level of nodes counted as 0
@@ -304,7 +352,7 @@ node_here s level place few room = let h = halves s level (omega arith) in let w
     record { few = omega arith; room = omega arith; is = omega arith }
 
 -- the next node, in the numbers of the code: where it lies, and its children, which are ready
-pub record NextNode (face : ℕ → ℕ → List ℕ → List ℕ) (p : Plan) (level place node : ℕ) (words : List ℕ) : Type 0 where
+pub record NextNode (face : ℕ → ℕ → List (ℕ × ℕ) → List ℕ) (p : Plan) (level place node : ℕ) (words : List ℕ) : Type 0 where
   pub is : node ≡ nodes_from p.key.shape level + place
   pub on : OnLevel p.key.shape node (suc level) place
   pub inner : IsInner p.key.shape node
@@ -317,7 +365,7 @@ pub record NextNode (face : ℕ → ℕ → List ℕ → List ℕ) (p : Plan) (l
   pub left_number : opening_number p.key (2 * (node - p.leaves)) ≡ number_at p.key level (2 * place)
   pub right_number : opening_number p.key (2 * (node - p.leaves) + 1) ≡ number_at p.key level (2 * place + 1)
 
-pub next_node : (face : ℕ → ℕ → List ℕ → List ℕ) (p : Plan) (level first place : ℕ) (words : List ℕ) → IsNextNode face p.key level first place words → NextNode face p level place (first + place) words
+pub next_node : (face : ℕ → ℕ → List (ℕ × ℕ) → List ℕ) (p : Plan) (level first place : ℕ) (words : List ℕ) → IsNextNode face p.key level first place words → NextNode face p level place (first + place) words
 next_node face p level first place words n =
     let o : Opening = p.key in let s : Shape = o.shape in let node : ℕ = first + place in let done : ℕ = nodes_from s level + place in
     let begins = n.begins in let is : node ≡ done = omega arith in let on = subst (λ (z : ℕ). OnLevel s z (suc level) place) (sym is) (node_here s level place n.up n.room) in
@@ -336,11 +384,15 @@ next_node face p level first place words n =
       right_number = ap (opening_number o) right_at ∙ number_is o (right_of s node) level (2 * place + 1) children.1;
     }
 
+-- there are no more keys than members that the table is laid out for
+pub few_keys : (p : Plan) → length (keys_of p.key.members) ≤ p.key.shape.members
+few_keys p = let fit = p.fit in let long = length-keys_of p.key.members in omega arith
+
 -- a node's own record is one of the table's
 pub own_inside : (p : Plan) (level place node next : ℕ) (words : List ℕ) → OnLevel p.key.shape node (suc level) place → IsOwn p.key level place → next ≡ next_own p.key level place → length words ≡ word_count p.key.shape
     → (p.records + 5 * next + 5 ≤ length words) × (length words ≤ 2 ^ 26)
 own_inside p level place node next words on own is long =
-    let low = number_low p.key (rises p.key p.key_set) p.fit level place on.few on.room in let number = number_own p.key level place own in let begin = p.records_are in let most = p.laid_out.words in (omega arith, omega arith)
+    let low = number_low p.key (rises p.key p.key_set) (few_keys p) level place on.few on.room in let number = number_own p.key level place own in let begin = p.records_are in let most = p.laid_out.words in (omega arith, omega arith)
 
 -- the next level begins behind
 pub next_level : (s : Shape) (level : ℕ) → level < s.bits → nodes_from s level + 2 ^ (s.bits - 1 - level) ≡ nodes_from s (level + 1)
@@ -361,10 +413,10 @@ pub next_more : (o : Opening) (l p : ℕ) → has_members o (suc l) p ≡ true �
 next_more o l p has = let e : p + 1 ≡ suc p = omega arith in let f = ap (own_before o (suc l)) e in let g = own_after o (suc l) p has in omega arith
 
 -- the rule holds of the words when all nodes are built
-pub built_opens : (face : ℕ → ℕ → List ℕ → List ℕ) (o : Opening) (words : List ℕ) → IsKeySet o.shape.bits o.members → length o.members ≤ o.shape.members
+pub built_opens : (face : ℕ → ℕ → List (ℕ × ℕ) → List ℕ) (o : Opening) (words : List ℕ) → IsKeySet o.shape.bits (keys_of o.members) → All FitsPair o.members → length (keys_of o.members) ≤ o.shape.members
     → IsBuilt face o o.shape.bits (place_count o.shape) words → Kept face o (opening words [] (newcomer face o))
-built_opens face o words set fit built =
-    opens face o words (rises o set) fit built.long built.named (λ q k inner small. built.records q inner.past_leaves inner.inside k small) built.idle built.lanes
+built_opens face o words set fit few built =
+    opens face o words (rises o set) fit few built.long built.named (λ q k inner small. built.records q inner.past_leaves inner.inside k small) built.idle built.lanes
     (λ lane low k small. built.blocks lane k low small ∙ sym (get_or-replicate (block_size o.shape) k 0 0 small))
 
 -- ---- the tests' table: 2 bits, 3 workers, 2 updates and 2 members have 5 opening records

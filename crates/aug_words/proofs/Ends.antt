@@ -15,7 +15,7 @@ use Rattle.aug_core.proofs.Moves.{St}
 use Rattle.aug_core.proofs.Openings.{inner_history}
 use Rattle.aug_words.specs.Rests.{EndWith, ShowAll}
 
-module _ (face : ℕ → ℕ → List ℕ → List ℕ) (o : Opening) where
+module _ (face : ℕ → ℕ → List (ℕ × ℕ) → List ℕ) (o : Opening) where
   module _ (s : St) (r : Kept face o s) where
     opening_at : (q : ℕ) → IsInner o.shape q → At r.book q 0 (opening_entry face o q)
     opening_at q inner = r.tree.opened q 0 (opening_entry face o q)

@@ -1,5 +1,5 @@
 -- The seat of a lead, and the table that it sits at.
-use Rattle.std.proofs.Common.{◌≡◌, ℕ, ◌+◌, ◌<◌, ◌≤◌, List, [], ◌∷◌, ◌++◌, length, Option, None, Some, option_map, sym, refl, ap, ◌∙◌, subst, arith}
+use Rattle.std.proofs.Common.{◌≡◌, ℕ, ◌+◌, ◌<◌, ◌≤◌, List, [], ◌∷◌, ◌++◌, length, All, Option, None, Some, option_map, sym, refl, ap, ◌∙◌, subst, arith}
 use Rattle.std.specs.Prelude.{unwrap_or}
 use Rattle.std.proofs.lemmas.List.{length-replicate}
 use Rattle.aug_core.specs.Lanes.{IsOfLane, block_size}
@@ -21,7 +21,8 @@ use Rattle.aug_core.specs.Opening.{Opening, opening_number, opening_entry}
 use Rattle.aug_core.specs.declared.view.Entry.{Entry}
 use Rattle.aug_core.specs.Layout.{IsLayout}
 use Rattle.aug_core.proofs.Openings.{newcomer_knows, inner_history}
-use Rattle.aug_model.specs.Keys.{IsKeySet}
+use Rattle.aug_model.specs.Keys.{IsKeySet, keys_of}
+use Rattle.aug_monoid.specs.Weighted.{FitsPair}
 use mathlib.Core.Option.{some}
 use lib.ListN.{get_elem?}
 use Rattle.aug_words.specs.Leads.{HandsLaneOut}
@@ -31,7 +32,7 @@ use Rattle.aug_words.specs.Seats.{Sat, HandsOut, SitsAt, IsPassSeat, IsLeadSeat,
 pub some_words : (table : TableId) (opening : Opening) (layout : Shape) (lanes records : ℕ) → IsStore table opening layout lanes records → 0 < table.words
 some_words table opening layout lanes records store = let wide = store.wide in let workers = store.laid_out.workers.0 in omega arith
 
-pub pass_has_words : (face : ℕ → ℕ → List ℕ → List ℕ) (seat_table table : TableId) (lanes records lane : ℕ) (me : Sat) → SitsAt seat_table table lanes records me.0.shape → IsPassSeat face lane me → 0 < table.words
+pub pass_has_words : (face : ℕ → ℕ → List (ℕ × ℕ) → List ℕ) (seat_table table : TableId) (lanes records lane : ℕ) (me : Sat) → SitsAt seat_table table lanes records me.0.shape → IsPassSeat face lane me → 0 < table.words
 pass_has_words face seat_table table lanes records lane me sits seat = let wide = sits.wide in let low = seat.exists in omega arith
 
 -- the first lane's word comes after the root's
@@ -43,12 +44,12 @@ pub root_inner : (s : Shape) → 1 ≤ s.bits → s.bits ≤ 16 → IsInner s (r
 root_inner s some_bits few = let b = (keys-within s.bits some_bits few).0 in let t = twice s.bits in record { past_leaves = omega arith; inside = omega arith }
 
 -- the first seat, which has the number of the root's opening record
-pub first_seat : (face : ℕ → ℕ → List ℕ → List ℕ) (o : Opening) (number : ℕ) → IsLayout o.shape → IsKeySet o.shape.bits o.members → length o.members ≤ o.shape.members → number ≡ opening_number o (root_place o.shape) → IsLeadSeat face 0 number (newcomer face o, [])
-first_seat face o number laid_out set fit named = let inner = root_inner o.shape laid_out.bits.0 laid_out.bits.1 in let only = inner_history face o (root_place o.shape) inner in record {
+pub first_seat : (face : ℕ → ℕ → List (ℕ × ℕ) → List ℕ) (o : Opening) (number : ℕ) → IsLayout o.shape → IsKeySet o.shape.bits (keys_of o.members) → All FitsPair o.members → length (keys_of o.members) ≤ o.shape.members → number ≡ opening_number o (root_place o.shape) → IsLeadSeat face 0 number (newcomer face o, [])
+first_seat face o number laid_out set fit few named = let inner = root_inner o.shape laid_out.bits.0 laid_out.bits.1 in let only = inner_history face o (root_place o.shape) inner in record {
   live = refl;
   no_slot = refl;
   hands_out = refl;
-  knows = newcomer_knows face o laid_out set fit;
+  knows = newcomer_knows face o laid_out set fit few;
   names_root = record {
     index = 0;
     entry = opening_entry face o (root_place o.shape);
@@ -57,7 +58,7 @@ first_seat face o number laid_out set fit named = let inner = root_inner o.shape
   };
 }
 
-module _ (face : ℕ → ℕ → List ℕ → List ℕ) (next root : ℕ) (me me' : Sat) (seat : IsLeadSeat face next root me) where
+module _ (face : ℕ → ℕ → List (ℕ × ℕ) → List ℕ) (next root : ℕ) (me me' : Sat) (seat : IsLeadSeat face next root me) where
   -- a lead that loaded the root's word
   pub lead_loaded : (found : ℕ) → me'.1 ≡ [] → LoadsNode face me.0 (root_place me.0.shape) found me'.0 → IsLeadSeat face next found me'
   lead_loaded found empty did = let is = did.stepped in record {
@@ -94,13 +95,13 @@ module _ (face : ℕ → ℕ → List ℕ → List ℕ) (next root : ℕ) (me me
   }
 
 -- a lead that may hand a lane out may do so after it loaded a node
-pub may_hand_out : (face : ℕ → ℕ → List ℕ → List ℕ) (old new : View) (q found lane next : ℕ) → LoadsNode face old q found new → HandsOut old lane → new.spare ≡ Some next → next < new.shape.workers
+pub may_hand_out : (face : ℕ → ℕ → List (ℕ × ℕ) → List ℕ) (old new : View) (q found lane next : ℕ) → LoadsNode face old q found new → HandsOut old lane → new.spare ≡ Some next → next < new.shape.workers
 may_hand_out face old new q found lane next did room spare =
     let same : Some next ≡ Some lane = sym spare ∙ ap (λ (z : View). z.spare) did.stepped ∙ room.next in let one : next ≡ lane = cc same in
     let shaped = ap (λ (z : View). z.shape) did.stepped in subst (λ (z : Shape). next < z.workers) (sym shaped) (let low = room.exists in omega arith)
 
 -- the seat that was split off a lead's, once it took its lane
-pub new_pass : (face : ℕ → ℕ → List ℕ → List ℕ) (next root place : ℕ) (lead me : Sat) → IsLeadSeat face next root lead → next < lead.0.shape.workers → me.1 ≡ [] → me.0 ≡ taking (handed_out lead.0) place → IsPassSeat face next me
+pub new_pass : (face : ℕ → ℕ → List (ℕ × ℕ) → List ℕ) (next root place : ℕ) (lead me : Sat) → IsLeadSeat face next root lead → next < lead.0.shape.workers → me.1 ≡ [] → me.0 ≡ taking (handed_out lead.0) place → IsPassSeat face next me
 new_pass face next root place lead me seat low empty is =
     let which : unwrap_or lead.0.spare 0 ≡ next = ap (λ (z : Option ℕ). unwrap_or z 0) seat.hands_out in
     subst (IsPassSeat face next) (λ i. (sym is i, sym empty i)) record {
@@ -116,11 +117,11 @@ new_pass face next root place lead me seat low empty is =
     }
 
 -- what the lead knows once it took a pass back and loaded the root
-pub took_back : (face : ℕ → ℕ → List ℕ → List ℕ) (v w u x : View) (q found : ℕ) → LoadsNode face (taking_back v w) q found u → w.seen ≡ x.seen → GoesOnFromBoth u.seen v.seen x.seen
+pub took_back : (face : ℕ → ℕ → List (ℕ × ℕ) → List ℕ) (v w u x : View) (q found : ℕ) → LoadsNode face (taking_back v w) q found u → w.seen ≡ x.seen → GoesOnFromBoth u.seen v.seen x.seen
 took_back face v w u x q found did same = goes_on_from_both u.seen v.seen x.seen did.sees.later (subst (Continues u.seen) same did.sees.also_later)
 
 -- a lane that is handed out leaves how the table is laid out and opened, and the next one is the next
-module _ (face : ℕ → ℕ → List ℕ → List ℕ) (lead after pass : View) (h : HandsLaneOut face lead after pass) where
+module _ (face : ℕ → ℕ → List (ℕ × ℕ) → List ℕ) (lead after pass : View) (h : HandsLaneOut face lead after pass) where
   pub lead_shape : after.shape ≡ lead.shape
   lead_shape = ap (λ (z : View). z.shape) h.lead_is ∙ ap (λ (z : View). z.shape) h.loaded.stepped
 

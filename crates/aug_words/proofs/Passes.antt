@@ -9,10 +9,11 @@ use Rattle.aug_core.specs.Book.{Book, history_of}
 use Rattle.aug_core.proofs.Books.{at_below}
 use Rattle.std.proofs.Math.Nat.{mul_comm}
 use Rattle.std.proofs.lemmas.Bool.{cases_eq}
-use Rattle.aug_core.specs.Told.{with_change, with_published, Sees, LoadsLeaf, BeginsAtLeaf, LoadsNode, TriesLeaf, TriesNode, HoldsOnly, HasSeen, Owns, MayStore, HasTakenLane, ReadsRecord, on_first, with_word, storing, beginning, own_lane}
+use Rattle.aug_core.specs.Told.{old_word, new_word, made_by, with_changes, with_published, Sees, LoadsLeaf, BeginsAtLeaf, LoadsNode, TriesLeaf, TriesNode, HoldsOnly, HasSeen, Owns, MayStore, HasTakenLane, ReadsRecord, on_first, with_word, storing, beginning, own_lane}
 use Rattle.aug_core.specs.Kinds.{load_leaf, try_leaf, load_node, try_node, load_record_word, store_record_word}
 use Rattle.aug_core.specs.declared.step.StepTaken.{StepTaken}
 use Rattle.aug_core.specs.declared.view.Beginning.{Beginning}
+use Rattle.aug_core.specs.declared.view.Advance.{Advance}
 use Rattle.aug_core.specs.declared.view.Held.{Held}
 use Rattle.aug_core.specs.declared.view.View.{View}
 use Rattle.aug_core.proofs.Sizes.{record_inside}
@@ -24,7 +25,7 @@ use Rattle.aug_words.specs.Seats.{Sat, SitsAt, IsPassSeat, HasReached, MayLoad, 
 pub sits_on : (a a' t : TableId) (l r : ℕ) (s s' : Shape) → SitsAt a t l r s → a' ≡ a → s' ≡ s → SitsAt a' t l r s'
 sits_on a a' t l r s s' sits one same = subst (λ (z : TableId). SitsAt z t l r s') (sym one) (subst (SitsAt a t l r) (sym same) sits)
 
-module _ (face : ℕ → ℕ → List ℕ → List ℕ) (a a' t : TableId) (l r lane : ℕ) (me me' : Sat) (is_pass : SitsAt a t l r me.0.shape × IsPassSeat face lane me) (one : a' ≡ a) where
+module _ (face : ℕ → ℕ → List (ℕ × ℕ) → List ℕ) (a a' t : TableId) (l r lane : ℕ) (me me' : Sat) (is_pass : SitsAt a t l r me.0.shape × IsPassSeat face lane me) (one : a' ≡ a) where
   abbrev IsPass : Type 0
   IsPass = SitsAt a' t l r me'.0.shape × IsPassSeat face lane me'
 
@@ -59,11 +60,11 @@ module _ (face : ℕ → ℕ → List ℕ → List ℕ) (a a' t : TableId) (l r 
   pub pass_loaded_node : (q word : ℕ) → me'.1 ≡ [] → LoadsNode face me.0 q word me'.0 → IsPass
   pass_loaded_node q word empty did = watched me.0.began (me.0.steps ++ load_node q word ∷ []) empty did.stepped did.sees
 
-  pub pass_tried_leaf : (key serial found : ℕ) → me'.1 ≡ [] → TriesLeaf face me.0 key serial found me'.0 → IsPass
-  pass_tried_leaf key serial found empty did = let seat = is_pass.1 in let taken : StepTaken = try_leaf key serial found in ⊎_elim
-      (λ (hit : found ≡ serial). shown (with_change key (serial + 1) seat.held) (on_first (with_change key (serial + 1)) me.0.held) me'.0.seen me.0.began (me.0.steps ++ taken ∷ [])
-      (ap (on_first (with_change key (serial + 1))) seat.only) seat.named seat.taken seat.long empty (did.hit hit).0 did.sees)
-      (λ miss. watched me.0.began (me.0.steps ++ taken ∷ []) empty (did.miss miss).0 did.sees) (cases_eq found serial)
+  pub pass_tried_leaf : (key : ℕ) (a : Advance) (found : ℕ) → me'.1 ≡ [] → TriesLeaf face me.0 key a found me'.0 → IsPass
+  pass_tried_leaf key a found empty did = let seat = is_pass.1 in let taken : StepTaken = try_leaf key (old_word a) (new_word a) found in ⊎_elim
+      (λ (hit : found ≡ old_word a). shown (with_changes (made_by key a) seat.held) (on_first (with_changes (made_by key a)) me.0.held) me'.0.seen me.0.began (me.0.steps ++ taken ∷ [])
+      (ap (on_first (with_changes (made_by key a))) seat.only) seat.named seat.taken seat.long empty (did.hit hit).0 did.sees)
+      (λ miss. watched me.0.began (me.0.steps ++ taken ∷ []) empty (did.miss miss).0 did.sees) (cases_eq found (old_word a))
 
   pub pass_tried_node : (q old number found : ℕ) → me'.1 ≡ [] → TriesNode face me.0 q old number found me'.0 → IsPass
   pass_tried_node q old number found empty did = let seat = is_pass.1 in let taken : StepTaken = try_node q old number found in ⊎_elim
@@ -96,7 +97,7 @@ module _ (face : ℕ → ℕ → List ℕ → List ℕ) (a a' t : TableId) (l r 
       kept (with_word me.0.shape place value seat.held) (on_first (with_word me.0.shape place value) me.0.held) (me.0.steps ++ store_record_word place value ∷ []) (ap (on_first (with_word me.0.shape place value)) seat.only) seat.named seat.taken
       (length-set seat.held.words (place - block_start me.0.shape seat.held.lane) value ∙ seat.long) did.0 did.1
 
-module _ (face : ℕ → ℕ → List ℕ → List ℕ) (lane : ℕ) (me : Sat) (seat : IsPassSeat face lane me) where
+module _ (face : ℕ → ℕ → List (ℕ × ℕ) → List ℕ) (lane : ℕ) (me : Sat) (seat : IsPassSeat face lane me) where
   -- a pass's lane is taken
   pub has_taken : HasTakenLane me.0
   has_taken = record { lane = seat.held; only = seat.only; taken = seat.taken }
@@ -121,7 +122,7 @@ module _ (face : ℕ → ℕ → List ℕ → List ℕ) (lane : ℕ) (me : Sat) 
   stores_inside number may = record_inside me.0.shape lane number seat.exists (subst (λ (z : ℕ). IsOfLane me.0.shape z number) (lane_named may.lane may.only).0 may.of_lane)
 
   -- a serial that a leaf has reached, and the next one, are small
-  pub serial_small : (key serial : ℕ) → key < 2 ^ me.0.shape.bits → HasReached me.0 key serial → serial ≤ 2 ^ 26
+  pub serial_small : (key serial : ℕ) → key < 2 ^ me.0.shape.bits → HasReached me.0 key serial → serial ≤ 2 ^ 27
   serial_small key serial low reached = let below = at_below (history_of me.0.seen key) serial reached.entry reached.at in let few = seat.knows.fits.few key low in
       let w : ℕ = me.0.shape.workers in let u : ℕ = me.0.shape.updates in let b : ℕ = me.0.shape.bits in
       let words = seat.knows.laid_out.words in let some_bits = seat.knows.laid_out.bits.0 in let more : 1 * (w * u) ≤ b * (w * u) = mul-le-mul_right (w * u) some_bits in let turned : b * (w * u) ≡ w * u * b = mul_comm b (w * u) in omega arith

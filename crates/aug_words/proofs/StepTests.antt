@@ -1,19 +1,18 @@
 -- What the test of two passes on one node needs: a table of 1 bit has the leaves 0 and 1, and the node 2 over them.
-use Rattle.std.proofs.Common.{◌≡◌, ◌≢◌, ℕ, Bool, ◌+◌, ◌*◌, ◌%◌, ◌<◌, ◌≤◌, eqb, eq-eqb, ne_eqb, if◌then◌else◌, List, [], ◌∷◌, ◌++◌, length, get_or, refl, sym, ap, ◌∙◌, subst, arith}
-use Rattle.aug_monoid.specs.Parts.{Parts}
-use Rattle.aug_monoid.specs.Fold.{fold_of}
-use Rattle.aug_core.specs.Faces.{face}
+use Rattle.std.proofs.Common.{◌≡◌, ◌≢◌, ℕ, Bool, true, false, ◌+◌, ◌*◌, ◌/◌, ◌%◌, ◌^◌, ◌<◌, ◌≤◌, eqb, eq-eqb, ne_eqb, if◌then◌else◌, List, [], ◌∷◌, ◌++◌, length, get_or, refl, sym, ap, ◌∙◌, subst, arith}
 use Rattle.aug_core.specs.Places.{Shape, shape_of, own_records}
 use Rattle.aug_core.specs.Tree.{IsInner}
 use Rattle.aug_core.specs.Lanes.{IsOfLane, block_size}
-use Rattle.aug_core.specs.Book.{IsBook}
+use Rattle.aug_core.specs.Book.{IsSerial, IsBook}
 use Rattle.aug_core.specs.Refreshes.{HasNewest, SaysLoaded}
-use Rattle.aug_core.specs.Told.{MayStore, LoadsLeaf, LoadsNode, IsFilled}
+use Rattle.aug_core.specs.Told.{MayStore, TriesLeaf, LoadsLeaf, BeginsAtLeaf, LoadsNode, IsFilled}
+use Rattle.aug_core.specs.declared.view.Entry.{Entry}
 use Rattle.aug_core.specs.declared.view.View.{View}
-use Rattle.aug_core.proofs.Clients.{may_store_same}
-use Rattle.aug_core.proofs.FaceLemmas.{face_is}
+use Rattle.aug_core.proofs.Clients.{may_store_same, may_store_tried}
 use Rattle.aug_core.proofs.Filling.{filled_view, is_filled}
 use Rattle.aug_core.proofs.Refreshing.{is_loaded}
+use mathlib.Core.Bool.{true≢false}
+use Rattle.aug_words.specs.Seats.{MayAdvance, TriedLeaf}
 
 abbrev pub small : Shape
 small = shape_of 1 2 1 0
@@ -29,23 +28,67 @@ first_lane lane n low high = let own = no_own in record { from_first = omega ari
 pub node_inner : IsInner small 2
 node_inner = record { past_leaves = omega arith; inside = omega arith }
 
--- the keys below a leaf of this serial
-abbrev pub there : ℕ → ℕ → List ℕ
-there key serial = if eqb (serial % 2) 1 then key ∷ [] else []
+-- the pairs below a leaf of this word: its key with the weight in the lower half, where the serial in the upper half is odd
+abbrev pub there : ℕ → ℕ → List (ℕ × ℕ)
+there key word = if eqb (word / 2 ^ 32 % 2) 1 then (key, word % 2 ^ 32) ∷ [] else []
 
-pub is_there : (key serial : ℕ) → serial % 2 ≡ 1 → there key serial ≡ key ∷ []
-is_there key serial odd = ap (λ (z : Bool). if z then key ∷ [] else []) (eq-eqb (serial % 2) 1 odd)
+pub is_there : (key word : ℕ) → word / 2 ^ 32 % 2 ≡ 1 → there key word ≡ (key, word % 2 ^ 32) ∷ []
+is_there key word odd = ap (λ (z : Bool). if z then (key, word % 2 ^ 32) ∷ [] else []) (eq-eqb (word / 2 ^ 32 % 2) 1 odd)
 
-pub not_there : (key serial : ℕ) → serial % 2 ≢ 1 → there key serial ≡ []
-not_there key serial even = ap (λ (z : Bool). if z then key ∷ [] else []) (ne_eqb (serial % 2) 1 even)
+pub not_there : (key word : ℕ) → word / 2 ^ 32 % 2 ≢ 1 → there key word ≡ []
+not_there key word even = ap (λ (z : Bool). if z then (key, word % 2 ^ 32) ∷ [] else []) (ne_eqb (word / 2 ^ 32 % 2) 1 even)
 
--- five words that are the summary of these keys
-pub are_words : {A B : Type 0} (parts_a : Parts A) (parts_b : Parts B) (l r x y : ℕ) (a : A) (b : B) (found keys : List ℕ) → found ≡ keys → a ≡ fold_of parts_a found → b ≡ fold_of parts_b found → x ≡ parts_a.to_word a → y ≡ parts_b.to_word b
-    → l ∷ r ∷ length found ∷ x ∷ y ∷ [] ≡ face parts_a parts_b l r keys
-are_words parts_a parts_b l r x y a b found keys are is_a is_b is_x is_y =
-    face_is parts_a parts_b l r (length found) x y keys (ap length are) (is_x ∙ ap parts_a.to_word (is_a ∙ ap (fold_of parts_a) are)) (is_y ∙ ap parts_b.to_word (is_b ∙ ap (fold_of parts_b) are))
+-- they are those of the entry that the word names
+there_is : (key i word : ℕ) (e : Entry) → IsSerial key i e → e.word ≡ word → e.pairs ≡ there key word
+there_is key i word e is named =
+    let of_leaf = is.named in let fits = is.fits in let serial : i ≡ word / 2 ^ 32 = omega arith in let weight : e.weight ≡ word % 2 ^ 32 = omega arith in
+    is.there_if_odd ∙ (λ j. if eqb (serial j % 2) 1 then (key, weight j) ∷ [] else [])
 
-module _ (face : ℕ → ℕ → List ℕ → List ℕ) (v v1 v2 v3 : View) (from left right : ℕ) (shaped : v.shape ≡ small) (node : LoadsNode face v 2 from v1) (at_left : LoadsLeaf face v1 0 left v2) (at_right : LoadsLeaf face v2 1 right v3) where
+-- what the first load of an update allows
+module _ (face : ℕ → ℕ → List (ℕ × ℕ) → List ℕ) (v w : View) (key word : ℕ) (began : BeginsAtLeaf face v key word w) (inside : key < 2 ^ v.shape.bits) where
+  of_leaf : IsSerial key began.index began.entry
+  of_leaf = began.sees.book.serials key began.index began.entry inside began.newest.at
+
+  -- the word has the newest serial, which is small
+  pub serial_is : (word / 2 ^ 32 ≡ began.index) × (began.index ≤ 1 + v.shape.workers * (2 * v.shape.updates))
+  serial_is = let leaf = of_leaf in let found = began.found in let named = leaf.named in let fits = leaf.fits in let last = began.newest.last in let few = began.sees.fits.few key inside in (omega arith, omega arith)
+
+  -- a key that is not there may come in
+  pub may_insert : (weight : ℕ) → word / 2 ^ 32 % 2 ≡ 0 → weight < 2 ^ 32 → MayAdvance w key word ((word / 2 ^ 32 + 1) * 2 ^ 32 + weight)
+  may_insert weight even fits = let leaf = of_leaf in let serial = serial_is.0 in record {
+    advance = record { serial = began.index; weight = began.entry.weight; replaces = false; new_weight = weight };
+    is_advance = record { fits = leaf.fits; new_fits = fits; from_there = λ e. absurd (true≢false (sym e)); weighs_nothing = λ _ odd. absurd (omega arith) };
+    from = began.found ∙ leaf.named;
+    to = ap (λ (z : ℕ). (z + 1) * 2 ^ 32 + weight) serial;
+    entry = began.entry;
+    at = began.newest.at;
+    weighs = refl;
+  }
+
+  -- and one that is there may get another weight
+  pub may_replace : (weight : ℕ) → word / 2 ^ 32 % 2 ≡ 1 → weight < 2 ^ 32 → MayAdvance w key word ((word / 2 ^ 32 + 2) * 2 ^ 32 + weight)
+  may_replace weight odd fits = let leaf = of_leaf in let serial = serial_is.0 in record {
+    advance = record { serial = began.index; weight = began.entry.weight; replaces = true; new_weight = weight };
+    is_advance = record { fits = leaf.fits; new_fits = fits; from_there = λ _. (let is : began.index % 2 ≡ 1 = omega arith in is); weighs_nothing = λ e. absurd (true≢false e) };
+    from = began.found ∙ leaf.named;
+    to = ap (λ (z : ℕ). (z + 2) * 2 ^ 32 + weight) serial;
+    entry = began.entry;
+    at = began.newest.at;
+    weighs = refl;
+  }
+
+  -- and once it was tried, the pass has the records that it had
+  module _ (x : View) (new : ℕ) (done : Bool) (may : MayAdvance w key word new) (tried : TriedLeaf face w key word new done x) where
+    told : TriesLeaf face w key may.advance tried.found x
+    told = tried.told may.advance may.is_advance may.from may.to
+
+    pub shape_stays : x.shape ≡ v.shape
+    shape_stays = told.shaped ∙ ap (λ (z : View). z.shape) began.stepped
+
+    pub stores_on : (number : ℕ) → MayStore v number → MayStore x number
+    stores_on number own = may_store_tried face w x key may.advance tried.found number told (may_store_same v w number (ap (λ (z : View). z.shape) began.stepped) (ap (λ (z : View). z.held) began.stepped) own)
+
+module _ (face : ℕ → ℕ → List (ℕ × ℕ) → List ℕ) (v v1 v2 v3 : View) (from left right : ℕ) (shaped : v.shape ≡ small) (node : LoadsNode face v 2 from v1) (at_left : LoadsLeaf face v1 0 left v2) (at_right : LoadsLeaf face v2 1 right v3) where
   shape1 : v1.shape ≡ small
   shape1 = ap (λ (z : View). z.shape) node.stepped ∙ shaped
 
@@ -71,20 +114,26 @@ module _ (face : ℕ → ℕ → List ℕ → List ℕ) (v v1 v2 v3 : View) (fro
   book3 = subst (λ (z : Shape). IsBook face z v3.seen) shape2 at_right.sees.book
 
   abbrev has_node : HasNewest v1.seen 2 from
-  has_node = record { index = node.index; entry = node.entry; newest = node.newest; named = book1.named 2 node.index node.entry node_inner node.newest.at ∙ sym node.found }
+  has_node = record { index = node.index; entry = node.entry; newest = node.newest; named = book1.named 2 node.index node.entry node_inner node.newest.at ∙ sym node.found; shown = node.shown }
 
   -- five words over the two leaves may be published
   module _ (five : List ℕ) (are : five ≡ face left right (there 0 left ++ there 1 right)) (first : get_or five 0 0 ≡ left) (second : get_or five 1 0 ≡ right) where
     abbrev has_left : HasNewest v2.seen 0 (get_or five 0 0)
-    has_left = record { index = left; entry = at_left.entry; newest = at_left.newest; named = (book2.serials 0 left at_left.entry (omega arith) at_left.newest.at).named ∙ sym first }
+    has_left = record { index = at_left.index; entry = at_left.entry; newest = at_left.newest; named = sym at_left.found ∙ sym first; shown = at_left.shown }
 
     abbrev has_right : HasNewest v3.seen 1 (get_or five 1 0)
-    has_right = record { index = right; entry = at_right.entry; newest = at_right.newest; named = (book3.serials 1 right at_right.entry (omega arith) at_right.newest.at).named ∙ sym second }
+    has_right = record { index = at_right.index; entry = at_right.entry; newest = at_right.newest; named = sym at_right.found ∙ sym second; shown = at_right.shown }
+
+    below_left : at_left.entry.pairs ≡ there 0 left
+    below_left = there_is 0 at_left.index left at_left.entry (book2.serials 0 at_left.index at_left.entry (omega arith) at_left.newest.at) (sym at_left.found)
+
+    below_right : at_right.entry.pairs ≡ there 1 right
+    below_right = there_is 1 at_right.index right at_right.entry (book3.serials 1 at_right.index at_right.entry (omega arith) at_right.newest.at) (sym at_right.found)
 
     says : SaysLoaded face small v3.seen 2 from five
     says = record {
       is_loaded = is_loaded face small v1.seen v2.seen v3.seen v3.seen 2 from (get_or five 0 0) (get_or five 1 0) node_inner at_left.sees.later at_right.sees.later (λ q i e p. p) has_node has_left has_right book1;
-      five_are = are ∙ (λ i. face (sym first i) (sym second i) (sym (book2.serials 0 left at_left.entry (omega arith) at_left.newest.at).there_if_odd i ++ sym (book3.serials 1 right at_right.entry (omega arith) at_right.newest.at).there_if_odd i));
+      five_are = are ∙ (λ i. face (sym first i) (sym second i) (sym below_left i ++ sym below_right i));
     }
 
     pub may_publish : (number : ℕ) (may : MayStore v3 number) → length may.lane.words ≡ block_size v3.shape → IsFilled face (filled_view v3 number five) 2 from number

@@ -5,7 +5,7 @@ use Rattle.aug_core.specs.Book.{GoesOnFromBoth}
 use Rattle.aug_core.specs.Told.{LoadsNode, handing_out, handed_out, taking, finishing, taking_back, own_lane_place}
 use Rattle.aug_core.specs.declared.view.View.{View}
 
-module _ (face : ℕ → ℕ → List ℕ → List ℕ) where
+module _ (face : ℕ → ℕ → List (ℕ × ℕ) → List ℕ) where
   -- the lead loads the root; a view with the next lane is split off, which knows what the lead then knows; and takes that lane
   pub record HandsLaneOut (lead after pass : View) : Type 0 where
     pub found : ℕ

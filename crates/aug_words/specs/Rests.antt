@@ -27,7 +27,7 @@ pub record IsRest (words slots : ℕ) (layout : Shape) (records : ℕ) : Type 0 
   pub no_slots : slots ≡ 0
   pub records_are : records ≡ record_start layout 0
 
-module _ (face : ℕ → ℕ → List ℕ → List ℕ) (o : Opening) (v : View) (words : List ℕ) where
+module _ (face : ℕ → ℕ → List (ℕ × ℕ) → List ℕ) (o : Opening) (v : View) (words : List ℕ) where
   -- the words meet the rule, and one of the views is this one
   pub record EndWith : Type 0 where
     pub state : State (Unit {0}) View

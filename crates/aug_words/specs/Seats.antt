@@ -11,7 +11,8 @@ use Rattle.aug_core.specs.Lanes.{IsOfLane, block_size}
 use Rattle.aug_core.specs.Book.{At, IsNewest}
 use Rattle.aug_core.specs.Opening.{Opening}
 use Rattle.aug_core.specs.Kinds.{load_record_word}
-use Rattle.aug_core.specs.Told.{stepping, held_word, HoldsOnly, HasSeen, Owns, KnowsTable, TriesLeaf, TriesNode}
+use Rattle.aug_core.specs.Told.{stepping, held_word, HoldsOnly, HasSeen, Owns, KnowsTable, IsAdvance, old_word, new_word, TriesLeaf, TriesNode}
+use Rattle.aug_core.specs.declared.view.Advance.{Advance}
 use Rattle.aug_core.specs.declared.view.Entry.{Entry}
 use Rattle.aug_core.specs.declared.view.Held.{Held}
 use Rattle.aug_core.specs.declared.view.View.{View}
@@ -76,6 +77,16 @@ pub record HasReached (v : View) (key serial : ℕ) : Type 0 where
   pub entry : Entry
   pub at : At v.seen key serial entry
 
+-- an exchange of the leaf's word for another is one of those that there are, and the leaf is known to have had the first
+pub record MayAdvance (v : View) (key old new : ℕ) : Type 0 where
+  pub advance : Advance
+  pub is_advance : IsAdvance advance
+  pub from : old ≡ old_word advance
+  pub to : new ≡ new_word advance
+  pub entry : Entry
+  pub at : At v.seen key advance.serial entry
+  pub weighs : entry.weight ≡ advance.weight
+
 -- the number is that of the newest record of the root that the view has seen
 pub record NamesRoot (v : View) (number : ℕ) : Type 0 where
   pub index : ℕ
@@ -83,7 +94,7 @@ pub record NamesRoot (v : View) (number : ℕ) : Type 0 where
   pub newest : IsNewest v.seen (root_place v.shape) index entry
   pub named : number ≡ entry.number
 
-module _ (face : ℕ → ℕ → List ℕ → List ℕ) where
+module _ (face : ℕ → ℕ → List (ℕ × ℕ) → List ℕ) where
   -- what is so of the seat of a pass: it has one lane, which is taken, and all words of its records, and knows its table
   pub record IsPassSeat (lane : ℕ) (me : Sat) : Type 0 where
     pub live : me.0.live ≡ true
@@ -104,11 +115,11 @@ module _ (face : ℕ → ℕ → List ℕ → List ℕ) where
     pub knows : KnowsTable face me.0
     pub names_root : NamesRoot me.0 root
 
-  -- the answer says whether the leaf's word was the serial
-  pub record TriedLeaf (v : View) (key serial : ℕ) (done : Bool) (w : View) : Type 0 where
+  -- the answer says whether the leaf's word was the old one
+  pub record TriedLeaf (v : View) (key old new : ℕ) (done : Bool) (w : View) : Type 0 where
     pub found : ℕ
-    pub decided : IsTrue done ↔ (found ≡ serial)
-    pub told : TriesLeaf face v key serial found w
+    pub decided : IsTrue done ↔ (found ≡ old)
+    pub told : (a : Advance) → IsAdvance a → old ≡ old_word a → new ≡ new_word a → TriesLeaf face v key a found w
 
   -- the answer says whether the node's word was the old number
   pub record TriedNode (v : View) (q old number : ℕ) (done : Bool) (w : View) : Type 0 where

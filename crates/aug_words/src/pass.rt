@@ -7,7 +7,7 @@ ghost use Rattle.aug_core.specs.Tree.{IsInner};
 ghost use Rattle.aug_core.specs.Fields.{field_offset};
 ghost use Rattle.aug_core.specs.Told.{HoldsOnly, MayStore, MayChange, KnowsTable, LoadsLeaf, BeginsAtLeaf, LoadsNode, IsFilled, storing};
 ghost use Rattle.aug_core.specs.declared.view.Held.{Held};
-ghost use Rattle.aug_words.specs.Seats.{Known, MayLoad, LoadsRecordWord, HasReached, TriedLeaf, TriedNode};
+ghost use Rattle.aug_words.specs.Seats.{Known, MayLoad, LoadsRecordWord, MayAdvance, TriedLeaf, TriedNode};
 
 use atomic_table::Seat;
 use aug_core::{
@@ -60,7 +60,7 @@ impl<'r, A: Monoid, B: Monoid> WordPass<'r, A, B> {
         self.lane
     }
 
-    /// Loads a leaf's word, its serial. `leaf` is the word's place, which is the key.
+    /// Loads a leaf's word, its serial and its weight. `leaf` is the word's place, which is the key.
     pub fn load_leaf(&mut self, leaf: usize) -> u64
         requires { leaf < 2 ^ self.old.view.shape.bits }
         ensures table { self.new.table ≡ self.old.table }
@@ -78,18 +78,20 @@ impl<'r, A: Monoid, B: Monoid> WordPass<'r, A, B> {
         self.words.load::<BeginAtLeaf<A, B>>(&mut self.seat, leaf)
     }
 
-    /// Adds one to a leaf's serial if it is still this one. True if it did: then the change is accepted.
-    pub fn try_leaf(&mut self, leaf: usize, serial: u64) -> bool
+    /// Puts a leaf's word in the place of the one that it was known to have, if it is still that. True if it did: then the
+    /// changes of it are accepted. The new word has the next serial, or the one after that where a key that is there gets a
+    /// new weight.
+    pub fn try_leaf(&mut self, leaf: usize, old: u64, new: u64) -> bool
         requires leaf { leaf < 2 ^ self.old.view.shape.bits }
-        requires reached { HasReached self.old.view leaf serial }
+        requires advance { MayAdvance self.old.view leaf old new }
         requires change { MayChange self.old.view }
         ensures table { self.new.table ≡ self.old.table }
-        ensures view { TriedLeaf (face A.parts B.parts) self.old.view leaf serial result self.new.view }
+        ensures view { TriedLeaf (face A.parts B.parts) self.old.view leaf old new result self.new.view }
     {
         let found = self
             .words
-            .compare_exchange::<TryAnyLeaf<A, B>>(&mut self.seat, leaf, serial, serial + 1);
-        found == serial
+            .compare_exchange::<TryAnyLeaf<A, B>>(&mut self.seat, leaf, old, new);
+        found == old
     }
 
     /// Loads a node's word, the number of its newest record. `node` is the word's place, as `Layout::node` gives it.

@@ -41,6 +41,8 @@ pub(crate) enum Operation {
     New,
     /// Inserts of keys that are there.
     Duplicate,
+    /// Puts of keys that are there.
+    Put,
     /// Ranks on one snapshot.
     Rank,
     /// Selections on one snapshot.

@@ -53,8 +53,10 @@ fn count<'a>(alloc: Global) -> Result<Command<'a>, AllocError> {
             Arg::new(alloc, "OP")
                 .required(true)
                 .action(ArgAction::Set)
-                .value_parser(["none", "new", "dup", "rank", "select", "range"].as_slice())
-                .help("Nothing, inserts of absent or of present keys, or queries on one snapshot"),
+                .value_parser(["none", "new", "dup", "put", "rank", "select", "range"].as_slice())
+                .help(
+                    "Nothing, inserts of absent or of present keys, puts of present keys, or queries on one snapshot",
+                ),
         )?
         .arg(number(alloc, "N", 1, 65_536).help("How many of them"))?
         .arg(option(alloc, "bits", "H", 16, "16").help("Keys are below 2^H"))?
@@ -67,9 +69,9 @@ fn workload<'a>(alloc: Global) -> Arg<'a> {
     Arg::new(alloc, "WORKLOAD")
         .required(true)
         .action(ArgAction::Set)
-        .value_parser(["U", "M", "Q", "S"].as_slice())
+        .value_parser(["U", "M", "P", "Q", "S"].as_slice())
         .help(
-            "U updates; M queries and a tenth updates; Q queries; S batches of 32 ranks and a tenth updates",
+            "U updates; M queries and a tenth updates; P the same, half of the updates being puts of members; Q queries; S batches of 32 ranks and a tenth updates",
         )
 }
 
@@ -116,6 +118,7 @@ fn counting_of(alloc: Global, found: &ArgMatches<'_>) -> Result<Asked, Stop> {
     let operation = match found.get_str("OP") {
         Some("new") => Operation::New,
         Some("dup") => Operation::Duplicate,
+        Some("put") => Operation::Put,
         Some("rank") => Operation::Rank,
         Some("select") => Operation::Select,
         Some("range") => Operation::Range,

@@ -6,6 +6,7 @@ use crate::asked::{Counting, Operation};
 use crate::span::found;
 use crate::trie::{Hand, Trie};
 use anyhow::ensure;
+use aug_model::Outcome;
 use aug_trie::Round;
 use std::alloc::Global;
 
@@ -40,6 +41,7 @@ pub(crate) fn count(alloc: Global, asked: Counting) -> anyhow::Result<u64> {
         Operation::Nothing => 0,
         Operation::New => inserts(&mut pass, times, members, step, 1),
         Operation::Duplicate => inserts(&mut pass, times, members, step, 0),
+        Operation::Put => puts(&mut pass, times, members, step),
         Operation::Rank => ranks(&mut pass, times, universe),
         Operation::Select => selects(&mut pass, times, members),
         Operation::Range => ranges(&mut pass, times, universe),
@@ -86,6 +88,25 @@ fn inserts(pass: &mut Hand, times: u32, members: u32, step: u32, above: u32) -> 
         came = came.wrapping_add(u64::from(pass.insert(key)));
     }
     came
+}
+
+// Gives new weights to the multiples of the step, in a spread order, and counts those that were there.
+#[inline(never)]
+#[tactic(auto, using(crate::proofs::Spreads::multiple_fits))]
+fn puts(pass: &mut Hand, times: u32, members: u32, step: u32) -> u64
+    requires some { 0 < members }
+    requires step { 0 < step }
+    requires fits { members * step ≤ 2 ^ pass.old.round.bits }
+    requires small { members * step ≤ 65536 }
+    requires budget { pass.old.spent + times ≤ pass.old.round.updates }
+    ensures { pass.new.round ≡ pass.old.round }
+{
+    let mut replaced = 0u64;
+    for i in 0..times {
+        let key = spread(i, members) * step;
+        replaced = replaced.wrapping_add(u64::from(pass.put(key, i) == Outcome::Replaced));
+    }
+    replaced
 }
 
 // The sum of the ranks of keys in a spread order on one snapshot.

@@ -1,18 +1,21 @@
-//! A set of keys as one thread would keep it: what a user would put behind a lock.
+//! A set of keys with weights as one thread would keep it: what a user would put behind a lock.
 ghost use Rattle.std.specs.Prelude.{◌≡◌, ◌+◌, ◌<◌, ◌≤◌, length, vec_len, IfOk, IfSome};
 
 use crate::keys::UNIVERSE;
 use crate::span::Span;
+use aug_model::Outcome;
 use std::alloc::{AllocError, Global};
 
-/// A bitmap of the keys, with two Fenwick trees, of the counts and of the sums of the members. It is proved safe alone.
+/// A bitmap of the keys and an array of their weights, with two Fenwick trees, of how many members there are and of what they
+/// weigh. It is proved safe alone.
 #[derive(Drop)]
 pub(crate) struct FenwickSet {
     present: Vec<u64>,
+    weights: Vec<u32>,
     counts: Vec<u32>,
     sums: Vec<u64>,
     size: u32,
-    ghost room: { (vec_len present ≡ 1024) × (vec_len counts ≡ 65536) × (vec_len sums ≡ 65536) },
+    ghost room: { (vec_len present ≡ 1024) × (vec_len weights ≡ 65536) × (vec_len counts ≡ 65536) × (vec_len sums ≡ 65536) },
 }
 
 impl FenwickSet {
@@ -20,14 +23,35 @@ impl FenwickSet {
     pub(crate) fn new(alloc: Global) -> Result<FenwickSet, AllocError> {
         Ok(FenwickSet {
             present: vec![in alloc; 0u64; 1024]?,
+            weights: vec![in alloc; 0u32; 65_536]?,
             counts: vec![in alloc; 0u32; 65_536]?,
             sums: vec![in alloc; 0u64; 65_536]?,
             size: 0,
         })
     }
 
-    /// Puts a key in: true where it was not there.
+    /// Puts a key in, which weighs as much as it says itself: true where it was not there.
     pub(crate) fn insert(&mut self, key: u32) -> bool
+        requires { key < UNIVERSE }
+    {
+        self.enter(key, key)
+    }
+
+    /// Puts a key in with a weight, or gives it this weight where it is there.
+    pub(crate) fn put(&mut self, key: u32, weight: u32) -> Outcome
+        requires { key < UNIVERSE }
+    {
+        if self.enter(key, weight) {
+            return Outcome::Accepted;
+        }
+        let more = u64::from(weight).wrapping_sub(u64::from(self.weights[key as usize]));
+        self.weights[key as usize] = weight;
+        add_to_sums(&mut self.sums, key, more);
+        Outcome::Replaced
+    }
+
+    // Puts a key in with a weight, unless it is there: true where it was not.
+    fn enter(&mut self, key: u32, weight: u32) -> bool
         requires { key < UNIVERSE }
     {
         let (place, bit) = (key as usize / 64, 1u64 << (key % 64));
@@ -36,8 +60,9 @@ impl FenwickSet {
             return false;
         }
         self.present[place] = word | bit;
+        self.weights[key as usize] = weight;
         self.size = self.size.wrapping_add(1);
-        add(&mut self.counts, &mut self.sums, key, 1, u64::from(key));
+        add(&mut self.counts, &mut self.sums, key, 1, u64::from(weight));
         true
     }
 
@@ -52,12 +77,13 @@ impl FenwickSet {
         }
         self.present[place] = word ^ bit;
         self.size = self.size.wrapping_sub(1);
+        let weight = u64::from(self.weights[key as usize]);
         add(
             &mut self.counts,
             &mut self.sums,
             key,
             u32::MAX,
-            u64::from(key).wrapping_neg(),
+            weight.wrapping_neg(),
         );
         true
     }
@@ -121,7 +147,7 @@ impl FenwickSet {
         }
     }
 
-    // The number and the sum of the members below a key.
+    // How many members are below a key, and what they weigh.
     #[tactic(auto, using(std::proofs::lemmas::Nat::and_le_r))]
     fn below(&self, key: u32) -> (u32, u64)
         requires { key ≤ UNIVERSE }
@@ -134,6 +160,19 @@ impl FenwickSet {
             left &= left - 1;
         }
         (count, sum)
+    }
+}
+
+// Adds to the sum of each place that covers a key.
+#[tactic(auto, using(std::proofs::lemmas::Nat::le_or_r))]
+fn add_to_sums(sums: &mut [u64], key: u32, sum: u64)
+    requires key { key < UNIVERSE }
+    requires sums { length sums.old ≡ 65536 }
+{
+    let mut place = key as usize;
+    while place < 65_536 {
+        sums[place] = sums[place].wrapping_add(sum);
+        place |= place + 1;
     }
 }
 

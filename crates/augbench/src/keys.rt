@@ -32,6 +32,22 @@ impl Keys {
         (self.random.next_u64() % u64::from(UNIVERSE)) as u32
     }
 
+    /// The next even key.
+    #[inline(always)]
+    pub(crate) fn next_even(&mut self) -> u32
+        ensures { result < UNIVERSE }
+    {
+        self.next() / 2 * 2
+    }
+
+    /// The next odd key.
+    #[inline(always)]
+    pub(crate) fn next_odd(&mut self) -> u32
+        ensures { result < UNIVERSE }
+    {
+        self.next() / 2 * 2 + 1
+    }
+
     /// The next two keys, the lower one first.
     #[inline(always)]
     pub(crate) fn next_two(&mut self) -> (u32, u32)

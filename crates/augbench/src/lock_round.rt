@@ -5,7 +5,7 @@ use crate::course::Course;
 use crate::fenwick::FenwickSet;
 use crate::keys::{Keys, UNIVERSE};
 use crate::lap::Lap;
-use crate::span::found;
+use crate::span::{came, found};
 use crate::workload::{Action, BATCH, UPDATES, Workload};
 use std::alloc::{AllocError, Global};
 use std::sync::{Mutex, Wait};
@@ -102,6 +102,18 @@ fn act<R: Wait>(rt: &R, set: &Mutex<FenwickSet>, keys: &mut Keys, action: Action
         Action::Remove => {
             let key = keys.next();
             u64::from(set.lock(rt).remove(key))
+        }
+        Action::InsertOdd => {
+            let key = keys.next_odd();
+            u64::from(set.lock(rt).insert(key))
+        }
+        Action::RemoveOdd => {
+            let key = keys.next_odd();
+            u64::from(set.lock(rt).remove(key))
+        }
+        Action::PutEven => {
+            let (key, weight) = (keys.next_even(), keys.next());
+            came(set.lock(rt).put(key, weight))
         }
         Action::Rank => {
             let key = keys.next();

@@ -1,11 +1,15 @@
-//! What a range of keys comes to.
+//! What operations come to, in the words of both engines.
+ghost use Rattle.std.specs.Prelude.{◌≡◌};
+ghost use Rattle.augbench.specs.Workloads.{answer_to_put};
 
-/// What the members of a range come to, in the words of both engines.
+use aug_model::Outcome;
+
+/// What the members of a range come to.
 #[derive(Clone, Copy, Debug, PartialEq, Eq)]
 pub(crate) struct Span {
     /// How many there are.
     pub(crate) count: u32,
-    /// Their sum.
+    /// The sum of their weights.
     pub(crate) sum: u64,
     /// The least and the greatest.
     pub(crate) ends: Option<(u32, u32)>,
@@ -24,6 +28,18 @@ impl Span {
                 .wrapping_add(u64::from(greatest)),
             None => digest,
         }
+    }
+}
+
+/// A number that stands for what came of a put.
+#[inline(always)]
+pub(crate) fn came(outcome: Outcome) -> u64
+    ensures { result ≡ answer_to_put outcome }
+{
+    match outcome {
+        Outcome::Refused => 0,
+        Outcome::Accepted => 1,
+        Outcome::Replaced => 2,
     }
 }
 

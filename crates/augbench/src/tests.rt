@@ -45,6 +45,9 @@ fn the_lock_answers_as_a_plain_set(rt: HostRuntime) -> Result<(), Fail> {
         let key = keys.next();
         if i % 3 == 0 {
             assert_eq!(rt; fenwick.remove(key), plain.remove(key));
+        } else if i % 3 == 1 {
+            assert_eq!(rt; fenwick.put(key, i), plain.put(key, i));
+            assert_eq!(rt; fenwick.put(key, !i), plain.put(key, !i));
         } else {
             assert_eq!(rt; fenwick.insert(key), plain.insert(key));
         }
@@ -85,6 +88,7 @@ fn counts_operations_of_each_kind(rt: HostRuntime) -> Result<(), Fail> {
         (Operation::Nothing, 16, 0),
         (Operation::New, 8, 8),
         (Operation::Duplicate, 16, 0),
+        (Operation::Put, 16, 16),
         (Operation::Rank, 16, 64),
         (Operation::Select, 8, 56),
     ] {
@@ -135,6 +139,14 @@ fn reads_what_is_asked(rt: HostRuntime) -> Result<(), Fail> {
                 workload: Workload::Batches,
                 threads: 64,
                 seconds: 600,
+            },
+        ),
+        (
+            "P 2 1",
+            Asked::Measure {
+                workload: Workload::Puts,
+                threads: 2,
+                seconds: 1,
             },
         ),
         (

@@ -6,7 +6,7 @@ ghost use Rattle.augbench.specs.Workloads.{is_update, is_updated};
 use crate::course::Course;
 use crate::keys::Keys;
 use crate::lap::Lap;
-use crate::span::{Span, found};
+use crate::span::{Span, came, found};
 use crate::trie::{Half, Hand, Table};
 use crate::workload::{Action, BATCH, UPDATES, Workload};
 use aug_model::Summary;
@@ -118,6 +118,12 @@ fn act(pass: &mut Hand, keys: &mut Keys, action: Action) -> u64
     match action {
         Action::Insert => u64::from(pass.insert(keys.next())),
         Action::Remove => u64::from(pass.remove(keys.next())),
+        Action::InsertOdd => u64::from(pass.insert(keys.next_odd())),
+        Action::RemoveOdd => u64::from(pass.remove(keys.next_odd())),
+        Action::PutEven => {
+            let key = keys.next_even();
+            came(pass.put(key, keys.next()))
+        }
         Action::Rank => {
             let now = pass.snapshot();
             u64::from(pass.rank(now, keys.next()))

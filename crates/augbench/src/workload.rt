@@ -12,6 +12,9 @@ pub(crate) enum Workload {
     Updates,
     /// Nine queries, each on a fresh snapshot, and then an update.
     Mixed,
+    /// The same, and every second update gives a new weight to an even key. Only odd ones come and go, so the even ones of
+    /// the opening stay members.
+    Puts,
     /// Queries alone, each on a fresh snapshot.
     Queries,
     /// Nine batches of ranks, each on one snapshot, and then an update.
@@ -25,6 +28,12 @@ pub(crate) enum Action {
     Insert,
     /// Takes a key out.
     Remove,
+    /// Puts an odd key in.
+    InsertOdd,
+    /// Takes an odd key out.
+    RemoveOdd,
+    /// Gives a weight to an even key.
+    PutEven,
     /// How many members are below a key.
     Rank,
     /// The member with so many members below it.
@@ -40,9 +49,10 @@ pub(crate) const BATCH: u32 = 32;
 
 impl Workload {
     /// All of them.
-    pub(crate) const ALL: [Workload; 4] = [
+    pub(crate) const ALL: [Workload; 5] = [
         Workload::Updates,
         Workload::Mixed,
+        Workload::Puts,
         Workload::Queries,
         Workload::Batches,
     ];
@@ -52,6 +62,7 @@ impl Workload {
         match self {
             Workload::Updates => "U",
             Workload::Mixed => "M",
+            Workload::Puts => "P",
             Workload::Queries => "Q",
             Workload::Batches => "S",
         }
@@ -75,7 +86,8 @@ impl Workload {
         match self {
             Workload::Updates => update(before),
             Workload::Mixed if before % 10 == 9 => update(before / 10),
-            Workload::Mixed => query(before % 10),
+            Workload::Puts if before % 10 == 9 => weighing(before / 10),
+            Workload::Mixed | Workload::Puts => query(before % 10),
             Workload::Queries => query(before),
             Workload::Batches if before % 10 == 9 => update(before / 10),
             Workload::Batches => Action::Ranks,
@@ -92,6 +104,18 @@ fn update(before: u64) -> Action
         Action::Insert
     } else {
         Action::Remove
+    }
+}
+
+// A put in every second place, and between them inserts and removes in turn.
+#[inline(always)]
+fn weighing(before: u64) -> Action
+    ensures { is_update result ≡ true }
+{
+    match before % 4 {
+        0 => Action::InsertOdd,
+        2 => Action::RemoveOdd,
+        _ => Action::PutEven,
     }
 }
 

@@ -1,8 +1,9 @@
 -- A tally that is cut in two at a cut in between.
-use Rattle.std.proofs.Common.{◌≡◌, ℕ, suc, ◌+◌, ◌<◌, ◌≤◌, Bool, ◌==◌, ◌&&◌, nat_lt, nat_le, List, [], ◌∷◌, ◌++◌, refl, ap, sym, ◌∙◌, inl, inr, arith, All, if◌then◌else◌}
+use Rattle.std.proofs.Common.{◌≡◌, ◌⊎◌, ℕ, suc, ◌+◌, ◌<◌, ◌≤◌, Bool, ◌==◌, ◌&&◌, nat_lt, nat_le, List, [], ◌∷◌, ◌++◌, refl, ap, sym, ◌∙◌, inl, inr, arith, All, if◌then◌else◌}
 use Rattle.std.proofs.lemmas.Bool.{eqb-true, ne_eqb, cases_Bool, cases_lt, cases_eq, le-leb, lt-leb, lt-ltb, le-ltb, and_parts, and_right}
 use Rattle.std.proofs.lemmas.List.Elements.{All-head, All-tail}
-use Rattle.aug_core.specs.Cuts.{Cut, serial_of}
+use Rattle.aug_core.specs.Counts.{change}
+use Rattle.aug_core.specs.Cuts.{Cut, shown_of, serial_of, IsAtMost}
 use Rattle.aug_core.specs.declared.view.Change.{Change}
 use Rattle.aug_trie.specs.Tallies.{times, Tallies}
 use Rattle.augtrie.proofs.Histories.{Below}
@@ -69,43 +70,81 @@ module _ (c d f : Cut) (front rest : List Change) (tallies : Tallies c f (front 
         | inr low ↦ past_none d rest k n past low ∙ rw (le-ltb (serial_of d k) n low)
       ]
 
--- where nothing happened, no serial changed
-pub tally_nothing : (c d : Cut) → Below c d → Tallies c d [] → (k : ℕ) → serial_of c k ≡ serial_of d k
+-- where a key's serial is the same, so is all that is shown of it
+same_shown : (c d : Cut) (k : ℕ) → IsAtMost c d → serial_of d k ≤ serial_of c k → shown_of c k ≡ shown_of d k
+same_shown c d k le no_more = elim (le.no_greater k) [
+  | inl less ↦ absurd (omega (arith, less, no_more))
+  | inr same ↦ same
+]
+
+-- where nothing happened, all keys are shown as they were
+pub tally_nothing : (c d : Cut) → IsAtMost c d → Tallies c d [] → (k : ℕ) → shown_of c k ≡ shown_of d k
 tally_nothing c d le tallies k =
     elim (cases_lt (serial_of c k) (serial_of d k)) [
       | inl lt ↦ absurd (omega (arith, once_between c d [] tallies k (serial_of d k) lt (omega arith)))
-      | inr ge ↦ omega (arith, le k, ge)
+      | inr ge ↦ same_shown c d k le ge
     ]
 
--- where one change happened, its key's serial went up by one, to its number, and no other serial changed
-pub record IsOneChange (c d : Cut) (k n : ℕ) : Type 0 where
-  pub number : n ≡ serial_of c k + 1
-  pub reached : serial_of d k ≡ n
-  pub others : (j : ℕ) → (j ≡ k → ⊥) → serial_of d j ≡ serial_of c j
+-- a key's serial went up to `last`, the first number past the one that it had is `first`, and nothing changed of other keys
+pub record ChangesOne (c d : Cut) (k first last : ℕ) : Type 0 where
+  pub begins : first ≡ serial_of c k + 1
+  pub reached : serial_of d k ≡ last
+  pub others : (j : ℕ) → (j ≡ k → ⊥) → shown_of d j ≡ shown_of c j
 
-times_one : (k n m : ℕ) → times k m (record { key = k; serial = n } ∷ []) ≡ 1 → m ≡ n
-times_one k n m is =
+times_single : (k n w m : ℕ) → times k m (change k n w ∷ []) ≡ one_if (k == k && n == m)
+times_single k n w m = omega (arith, counted-cons (exactly k m) (change k n w) [])
+
+times_this : (k n w m : ℕ) → times k m (change k n w ∷ []) ≡ 1 → m ≡ n
+times_this k n w m is =
     elim (cases_eq n m) [
       | inl e ↦ sym e
-      | inr ne ↦ absurd (omega (arith, is, counted-cons (exactly k m) (record { key = k; serial = n }) [], ap one_if (and_right (k == k) (n == m) (ne_eqb n m ne))))
+      | inr ne ↦ absurd (omega (arith, is, times_single k n w m, ap one_if (and_right (k == k) (n == m) (ne_eqb n m ne))))
     ]
 
-times_other : (k n j m : ℕ) → (j ≡ k → ⊥) → times j m (record { key = k; serial = n } ∷ []) ≡ 0
-times_other k n j m other = rw (ne_eqb k j (λ e. other (sym e)))
+times_other : (k n w j m : ℕ) → (j ≡ k → ⊥) → times j m (change k n w ∷ []) ≡ 0
+times_other k n w j m other = rw (ne_eqb k j (λ e. other (sym e)))
 
-pub tally_one : (c d : Cut) (k n : ℕ) → Below c d → Tallies c d (record { key = k; serial = n } ∷ []) → IsOneChange c d k n
-tally_one c d k n le tallies =
-    let change : Change = record { key = k; serial = n } in
-    let once = times_first change [] in
-    let low : serial_of c k < n = elim (cases_lt (serial_of c k) n) [ inl lt ↦ lt | inr ge ↦ absurd (omega (arith, once, none_low c d (change ∷ []) tallies k n ge)) ] in
-    let high : n ≤ serial_of d k = elim (cases_lt (serial_of d k) n) [ inl lt ↦ absurd (omega (arith, once, none_high c d (change ∷ []) tallies k n lt)) | inr ge ↦ ge ] in
-    let first = times_one k n (suc (serial_of c k)) (once_between c d (change ∷ []) tallies k (suc (serial_of c k)) (omega arith) (omega (arith, low, high))) in
-    let top = times_one k n (serial_of d k) (once_between c d (change ∷ []) tallies k (serial_of d k) (omega (arith, low, high)) (omega arith)) in
+-- where one change happened, its key's serial went up by one, to its number
+pub tally_one : (c d : Cut) (k n w : ℕ) → IsAtMost c d → Tallies c d (change k n w ∷ []) → ChangesOne c d k n n
+tally_one c d k n w le tallies =
+    let one : List Change = change k n w ∷ [] in
+    let once = times_first (change k n w) [] in
+    let low : serial_of c k < n = elim (cases_lt (serial_of c k) n) [ inl lt ↦ lt | inr ge ↦ absurd (omega (arith, once, none_low c d one tallies k n ge)) ] in
+    let high : n ≤ serial_of d k = elim (cases_lt (serial_of d k) n) [ inl lt ↦ absurd (omega (arith, once, none_high c d one tallies k n lt)) | inr ge ↦ ge ] in
+    let first = times_this k n w (suc (serial_of c k)) (once_between c d one tallies k (suc (serial_of c k)) (omega arith) (omega (arith, low, high))) in
     record {
-      number = omega (arith, first);
-      reached = top;
+      begins = omega (arith, first);
+      reached = times_this k n w (serial_of d k) (once_between c d one tallies k (serial_of d k) (omega (arith, low, high)) (omega arith));
       others = λ j other. elim (cases_lt (serial_of c j) (serial_of d j)) [
-        | inl lt ↦ absurd (omega (arith, once_between c d (change ∷ []) tallies j (serial_of d j) lt (omega arith), times_other k n j (serial_of d j) other))
-        | inr ge ↦ omega (arith, ge, le j)
+        | inl lt ↦ absurd (omega (arith, once_between c d one tallies j (serial_of d j) lt (omega arith), times_other k n w j (serial_of d j) other))
+        | inr ge ↦ sym (same_shown c d j le ge)
+      ];
+    }
+
+times_either : (k n w v m : ℕ) → times k m (change k n w ∷ change k (n + 1) v ∷ []) ≡ 1 → (m ≡ n) ⊎ (m ≡ n + 1)
+times_either k n w v m is =
+    elim (cases_eq n m) [
+      | inl e ↦ inl (sym e)
+      | inr ne ↦ inr (times_this k (n + 1) v m (omega (arith, is, counted-cons (exactly k m) (change k n w) (change k (n + 1) v ∷ []), ap one_if (and_right (k == k) (n == m) (ne_eqb n m ne)))))
+    ]
+
+times_neither : (k n w v j m : ℕ) → (j ≡ k → ⊥) → times j m (change k n w ∷ change k (n + 1) v ∷ []) ≡ 0
+times_neither k n w v j m other = rw (ne_eqb k j (λ e. other (sym e)))
+
+-- where two changes of a key happened that follow one another, its serial went up by two, to the second's number
+pub tally_two : (c d : Cut) (k n w v : ℕ) → IsAtMost c d → Tallies c d (change k n w ∷ change k (n + 1) v ∷ []) → ChangesOne c d k n (n + 1)
+tally_two c d k n w v le tallies =
+    let both : List Change = change k n w ∷ change k (n + 1) v ∷ [] in
+    let once = times_first (change k n w) (change k (n + 1) v ∷ []) in
+    let next = times_first (change k (n + 1) v) [] in
+    let more = counted-cons (exactly k (n + 1)) (change k n w) (change k (n + 1) v ∷ []) in
+    let low : serial_of c k < n = elim (cases_lt (serial_of c k) n) [ inl lt ↦ lt | inr ge ↦ absurd (omega (arith, once, none_low c d both tallies k n ge)) ] in
+    let high : n + 1 ≤ serial_of d k = elim (cases_lt (serial_of d k) (n + 1)) [ inl lt ↦ absurd (omega (arith, next, more, none_high c d both tallies k (n + 1) lt)) | inr ge ↦ ge ] in
+    record {
+      begins = elim (times_either k n w v (suc (serial_of c k)) (once_between c d both tallies k (suc (serial_of c k)) (omega arith) (omega (arith, low, high)))) [ inl e ↦ omega (arith, e) | inr e ↦ absurd (omega (arith, e, low)) ];
+      reached = elim (times_either k n w v (serial_of d k) (once_between c d both tallies k (serial_of d k) (omega (arith, low, high)) (omega arith))) [ inl e ↦ absurd (omega (arith, e, high)) | inr e ↦ e ];
+      others = λ j other. elim (cases_lt (serial_of c j) (serial_of d j)) [
+        | inl lt ↦ absurd (omega (arith, once_between c d both tallies j (serial_of d j) lt (omega arith), times_neither k n w v j (serial_of d j) other))
+        | inr ge ↦ sym (same_shown c d j le ge)
       ];
     }

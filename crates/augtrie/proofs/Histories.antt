@@ -1,9 +1,10 @@
 -- Beginnings of one history.
-use Rattle.std.proofs.Common.{◌≡◌, ℕ, zero, suc, ◌+◌, ◌-◌, ◌<◌, ◌≤◌, List, [], ◌∷◌, length, get_or, refl, sym, ◌∙◌, arith}
+use Rattle.std.proofs.Common.{◌≡◌, ℕ, zero, suc, ◌+◌, ◌-◌, ◌<◌, ◌≤◌, List, [], ◌∷◌, length, get_or, refl, sym, ap, ◌∙◌, inl, inr, arith}
 use Rattle.std.proofs.lemmas.List.{append-nil}
 use Rattle.std.proofs.lemmas.List.Prefix.{front_reads, front_fits}
 use Rattle.aug_core.specs.Cuts.{Cut, serial_of, IsAtMost, opening_cut}
 use Rattle.aug_trie.specs.History.{Begins, last_cut, IsHistory}
+use Rattle.aug_trie.proofs.CutLemmas.{serial_rises}
 use Rattle.aug_trie.proofs.Pieces.{begins_refl, begins_on}
 
 pub begins-same : {A : Type 0} (xs ys : List A) → ys ≡ xs → Begins xs ys
@@ -16,16 +17,25 @@ begins-length xs ys b = front_fits ys xs b.0 b.1
 abbrev pub Below : Cut → Cut → Type 0
 Below c d = (key : ℕ) → serial_of c key ≤ serial_of d key
 
+pub below_of : (c d : Cut) → IsAtMost c d → Below c d
+below_of c d le = λ key. serial_rises c d key le
+
 at_most-refl : (c : Cut) → IsAtMost c c
-at_most-refl c = record { same_keys = refl; no_greater = λ key. omega arith }
+at_most-refl c = record { same_keys = refl; no_greater = λ key. inr refl }
 
 at_most-trans : (c d e : Cut) → IsAtMost c d → IsAtMost d e → IsAtMost c e
 at_most-trans c d e cd de = record {
   same_keys = cd.same_keys ∙ de.same_keys;
-  no_greater = λ key. omega (arith, cd.no_greater key, de.no_greater key);
+  no_greater = λ key. elim (cd.no_greater key) [
+    | inl less ↦ inl (omega (arith, less, serial_rises d e key de))
+    | inr same ↦ elim (de.no_greater key) [
+      | inl less ↦ inl (omega (arith, less, ap (λ (z : ℕ × ℕ). z.0) same))
+      | inr stays ↦ inr (same ∙ stays)
+    ]
+  ];
 }
 
-module _ (bits : ℕ) (members : List ℕ) (history : List Cut) (is_history : IsHistory bits members history) where
+module _ (bits : ℕ) (members : List (ℕ × ℕ)) (history : List Cut) (is_history : IsHistory bits members history) where
   rises_by : (i d : ℕ) → i + d < length history → IsAtMost (get_or history i []) (get_or history (i + d) [])
   rises_by i zero below = let e : i + zero ≡ i = omega arith in rw e (at_most-refl (get_or history i []))
   rises_by i (suc d) below =

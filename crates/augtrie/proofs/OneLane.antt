@@ -4,8 +4,8 @@ use Rattle.std.specs.Prelude.{zip}
 use Rattle.std.proofs.lemmas.Bool.{eq-eqb, ne_eqb}
 use Rattle.std.proofs.lemmas.List.{append-nil}
 use Rattle.std.proofs.lemmas.List.Elements.{All-nil, All-head, All-tail}
-use Rattle.aug_model.specs.Keys.{IsKeySet}
-use Rattle.aug_core.specs.Cuts.{Cut, serial_of, set_of_cut, opening_cut}
+use Rattle.aug_model.specs.Keys.{IsKeySet, keys_of}
+use Rattle.aug_core.specs.Cuts.{Cut, serial_of, pairs_of_cut, opening_cut}
 use Rattle.aug_trie.specs.History.{last_cut, IsHistory}
 use Rattle.aug_core.specs.declared.view.Change.{Change}
 use Rattle.aug_trie.specs.Knowledge.{inserts_of, removals_of}
@@ -15,8 +15,8 @@ use Rattle.aug_script.specs.Replies.{Sets, replies_of, sets_of, opening_sets, re
 use Rattle.aug_script.specs.declared.reply.Reply.{Reply}
 use Rattle.aug_script.specs.declared.report.Report.{Report}
 use Rattle.aug_script.specs.declared.row.Row.{Row}
-use Rattle.aug_trie.proofs.CutLemmas.{same_cut, set_of_cut-opening}
-use Rattle.augtrie.proofs.Histories.{opening-at_most, opens-some, last-at_most_final}
+use Rattle.aug_trie.proofs.CutLemmas.{same_cut, pairs_of_cut-opening}
+use Rattle.augtrie.proofs.Histories.{below_of, opening-at_most, opens-some, last-at_most_final}
 use Rattle.aug_trie.proofs.Pieces.{begins_on}
 use Rattle.augtrie.proofs.Advances.{tally_nothing, tallies-front, tallies-rest}
 use Rattle.augtrie.proofs.Lanes.{story, sets_of_lane}
@@ -59,13 +59,13 @@ unfolding AnswersAll
 idle opening history end ran = ap (λ (l : Lane). l.knows.accepted) ran.runs ∙ ran.opens.no_change
 
 -- a lane whose changes are all that happened
-pub record Alone (members : List ℕ) (history : List Cut) (lines : List (Row × Reply)) (changes : List Change) : Type 0 where
+pub record Alone (members : List (ℕ × ℕ)) (history : List Cut) (lines : List (Row × Reply)) (changes : List Change) : Type 0 where
   pub replies : map (λ line. line.1) lines ≡ replies_of (opening_sets members) (map (λ line. line.0) lines)
-  pub closes : set_of_cut (last_cut history) ≡ (sets_of (opening_sets members) (map (λ line. line.0) lines)).live
+  pub closes : pairs_of_cut (last_cut history) ≡ (sets_of (opening_sets members) (map (λ line. line.0) lines)).live
   pub inserts : inserts_of changes ≡ count_of is_insertion (map (λ line. line.1) lines)
   pub removals : removals_of changes ≡ count_of is_removal (map (λ line. line.1) lines)
 
-module _ (bits : ℕ) (members : List ℕ) (history : List Cut) (is_history : IsHistory bits members history) (is_set : IsKeySet bits members) where
+module _ (bits : ℕ) (members : List (ℕ × ℕ)) (history : List Cut) (is_history : IsHistory bits members history) (is_set : IsKeySet bits (keys_of members)) where
   pub alone : (lines : List (Row × Reply)) (end : Lane) → RunsLane (opening_cut bits members) history lines end → Tallies (opening_cut bits members) (last_cut history) end.knows.accepted
       → Alone members history lines end.knows.accepted
   alone lines end ran tallies =
@@ -77,13 +77,13 @@ module _ (bits : ℕ) (members : List ℕ) (history : List Cut) (is_history : Is
       let all = rw changes at tallies in
       let low = opening-at_most bits members history is_history start.knows.history ran.opens.sees_opening within in
       let high = last-at_most_final bits members history is_history start.knows.history some within in
-      let nothing = tallies-front (opening_cut bits members) (last_cut start.knows.history) (last_cut history) [] told.goes.more all low.no_greater high.no_greater (All-nil (λ c. c.serial ≤ serial_of (last_cut start.knows.history) c.key)) told.goes.past in
-      let rest = tallies-rest (opening_cut bits members) (last_cut start.knows.history) (last_cut history) [] told.goes.more all low.no_greater high.no_greater (All-nil (λ c. c.serial ≤ serial_of (last_cut start.knows.history) c.key)) told.goes.past in
+      let nothing = tallies-front (opening_cut bits members) (last_cut start.knows.history) (last_cut history) [] told.goes.more all (below_of (opening_cut bits members) (last_cut start.knows.history) low) (below_of (last_cut start.knows.history) (last_cut history) high) (All-nil (λ c. c.serial ≤ serial_of (last_cut start.knows.history) c.key)) told.goes.past in
+      let rest = tallies-rest (opening_cut bits members) (last_cut start.knows.history) (last_cut history) [] told.goes.more all (below_of (opening_cut bits members) (last_cut start.knows.history) low) (below_of (last_cut start.knows.history) (last_cut history) high) (All-nil (λ c. c.serial ≤ serial_of (last_cut start.knows.history) c.key)) told.goes.past in
       let still : last_cut start.knows.history ≡ opening_cut bits members =
-      sym (same_cut (opening_cut bits members) (last_cut start.knows.history) low.same_keys (tally_nothing (opening_cut bits members) (last_cut start.knows.history) low.no_greater nothing)) in
-      let back = set_of_cut-opening bits members is_set in
-      let live : set_of_cut (last_cut start.knows.history) ≡ members = ap set_of_cut still ∙ back in
-      let held : set_of_cut start.held ≡ members = ap set_of_cut ran.opens.holds_last ∙ live in
+      sym (same_cut (opening_cut bits members) (last_cut start.knows.history) low.same_keys (tally_nothing (opening_cut bits members) (last_cut start.knows.history) low nothing)) in
+      let back = pairs_of_cut-opening bits members is_set in
+      let live : pairs_of_cut (last_cut start.knows.history) ≡ members = ap pairs_of_cut still ∙ back in
+      let held : pairs_of_cut start.held ≡ members = ap pairs_of_cut ran.opens.holds_last ∙ live in
       let opened : sets_of_lane start ≡ opening_sets members = (λ i. record { live = live i; held = held i }) in
       record {
         replies = told.replies rest ∙ ap (λ (s : Sets). replies_of s (map (λ line. line.0) lines)) opened;
@@ -95,13 +95,13 @@ module _ (bits : ℕ) (members : List ℕ) (history : List Cut) (is_history : Is
 abbrev no_lane : Lane
 no_lane = record { knows = record { history = []; accepted = [] }; held = [] }
 
-same_report : (members : List ℕ) (r : Report) (rows : List Row)
+same_report : (members : List (ℕ × ℕ)) (r : Report) (rows : List Row)
     → r.rows ≡ zip rows (replies_of (opening_sets members) rows) → r.size ≡ length (sets_of (opening_sets members) rows).live
     → r.inserts ≡ count_of is_insertion (replies_of (opening_sets members) rows) → r.removals ≡ count_of is_removal (replies_of (opening_sets members) rows)
     → r ≡ report_of r.number members rows
 same_report members r rows lines size inserts removals = λ i. record { number = r.number; rows = lines i; size = size i; inserts = inserts i; removals = removals i }
 
-pub one_report : (bits workers : ℕ) (members : List ℕ) (report : Report) (closing : List ℕ) → IsKeySet bits members → AllowedReport bits workers members report closing
+pub one_report : (bits workers : ℕ) (members : List (ℕ × ℕ)) (report : Report) (closing : List (ℕ × ℕ)) → IsKeySet bits (keys_of members) → AllowedReport bits workers members report closing
     → (lane : ℕ) → lane < workers → All (λ line. line.0.lane ≡ lane) report.rows
     → (report ≡ report_of report.number members (map (λ line. line.0) report.rows))
     × (closing ≡ (sets_of (opening_sets members) (map (λ line. line.0) report.rows)).live)

@@ -1,7 +1,7 @@
 -- A round that ran and ended has an allowed report.
 use Rattle.std.proofs.Common.{◌≡◌, ℕ, ◌<◌, List, [], ◌∷◌, length, map, sym, ap, ◌∙◌, subst, arith, All}
 use Rattle.std.proofs.lemmas.List.Elements.{All-nil, All-cons, All-head, All-tail}
-use Rattle.aug_model.specs.Keys.{IsKeySet}
+use Rattle.aug_model.specs.Keys.{IsKeySet, keys_of}
 use Rattle.aug_trie.specs.Crews.{CrewFacts, EndedFacts, Ends}
 use Rattle.aug_trie.specs.Facts.{RoundFacts}
 use Rattle.augtrie.specs.AllowedReport.{AllowedReport}
@@ -18,7 +18,7 @@ of_lines : (P : Row → Type 0) (lines : List (Row × Reply)) → All P (map (λ
 of_lines P [] all = All-nil (λ (line : Row × Reply). P line.0)
 of_lines P (line ∷ lines) all = All-cons (λ (l : Row × Reply). P l.0) line lines (All-head P line.0 (map (λ (l : Row × Reply). l.0) lines) all) (of_lines P lines (All-tail P line.0 (map (λ (l : Row × Reply). l.0) lines) all))
 
-module _ (bits workers : ℕ) (members : List ℕ) (round : RoundFacts) (crew : CrewFacts) (closed : EndedFacts) (rows : List Row) (report : Report)
+module _ (bits workers : ℕ) (members : List (ℕ × ℕ)) (round : RoundFacts) (crew : CrewFacts) (closed : EndedFacts) (rows : List Row) (report : Report)
     (bits_are : round.bits ≡ bits) (members_are : round.members ≡ members) (workers_are : round.workers ≡ workers)
     (ran : RanLanes round rows report.rows crew) (ends : Ends crew closed) (lanes : All (λ row. row.lane < workers) rows)
     (size : report.size ≡ length closed.members) (inserts : report.inserts ≡ closed.inserts) (removals : report.removals ≡ closed.removals) where
@@ -35,12 +35,12 @@ module _ (bits workers : ℕ) (members : List ℕ) (round : RoundFacts) (crew : 
       let history = rw (bits_known, members_known) at ends.is_history in
       let tallies = rw (bits_known, members_known, none_missing) at ends.tallies in
       let runs = rw (bits_are, members_are, workers_are) at ran.runs in
-      subst (λ (c : List ℕ). AllowedReport bits workers members report c) (sym ends.members)
+      subst (λ (c : List (ℕ × ℕ)). AllowedReport bits workers members report c) (sym ends.members)
       (round_allowed bits workers crew.round.updates members report ran.before crew.knows ran.ends (ran.one_each ∙ workers_are)
       (of_lines (λ row. row.lane < workers) report.rows (rw ran.rows_are lanes)) runs ran.no_change ran.backs history tallies
-      (size ∙ ap (λ (l : List ℕ). length l) ends.members) (inserts ∙ ends.inserts) (removals ∙ ends.removals))
+      (size ∙ ap (λ (l : List (ℕ × ℕ)). length l) ends.members) (inserts ∙ ends.inserts) (removals ∙ ends.removals))
 
-  pub in_turn : IsKeySet bits members → IsInTurn workers report.number members rows report closed.members
+  pub in_turn : IsKeySet bits (keys_of members) → IsInTurn workers report.number members rows report closed.members
   in_turn keys lane exists all =
       let one = one_report bits workers members report closed.members keys allowed lane exists (of_lines (λ row. row.lane ≡ lane) report.rows (rw ran.rows_are all)) in
       rw ran.rows_are at one

@@ -1,17 +1,18 @@
 -- What the calls of a round say makes its report an allowed one.
 use Rattle.std.proofs.Common.{◌≡◌, ℕ, zero, suc, ◌<◌, List, [], ◌∷◌, ◌++◌, length, get_or, refl, ap, sym, ◌∙◌, arith, All, append_assoc, subst}
 use Rattle.std.proofs.lemmas.List.{append-nil}
-use Rattle.aug_core.specs.Cuts.{Cut, opening_cut, set_of_cut}
+use Rattle.aug_core.specs.Cuts.{Cut, opening_cut, pairs_of_cut}
 use Rattle.aug_trie.specs.History.{Begins, IsHistory, last_cut}
 use Rattle.aug_core.specs.declared.view.Change.{Change}
 use Rattle.aug_trie.specs.Knowledge.{Knowledge, inserts_of, removals_of}
-use Rattle.aug_trie.specs.Tallies.{Tallies, TalliesWithLost}
+use Rattle.aug_trie.specs.Tallies.{Tallies, TalliesWithLost, Weighs}
 use Rattle.augtrie.specs.AllowedReport.{AllowedReport, Lane, Opens, AnswersAll, changes_of, lines_of}
 use Rattle.augtrie.specs.Rounds.{BacksAll, Started}
 use Rattle.aug_script.specs.declared.report.Report.{Report}
 use Rattle.augtrie.proofs.Histories.{begins-same}
 use Rattle.aug_trie.proofs.Pieces.{begins_on}
 use Rattle.aug_trie.proofs.Tallying.{none_lost_tallies}
+use Rattle.aug_trie.proofs.TallyLemmas.{none_lost_weighs}
 
 backs_begin : (lanes : List Lane) (old new : Knowledge) → BacksAll lanes old new → Begins old.history new.history
 unfolding BacksAll
@@ -42,13 +43,13 @@ opens_of opening start s =
     }
 
 -- all passes were handed back: what the crew then knows makes the report allowed
-pub round_allowed : (bits workers updates : ℕ) (members : List ℕ) (report : Report) (crew final : Knowledge) (lanes : List Lane)
+pub round_allowed : (bits workers updates : ℕ) (members : List (ℕ × ℕ)) (report : Report) (crew final : Knowledge) (lanes : List Lane)
     → length lanes ≡ workers → All (λ line. line.0.lane < workers) report.rows
     → ((lane : ℕ) (default : Lane) → lane < workers → (start : Lane) × Started (opening_cut bits members) start × AnswersAll (lines_of lane report.rows) start (get_or lanes lane default))
     → crew.accepted ≡ [] → BacksAll lanes crew final
-    → IsHistory bits members final.history → TalliesWithLost updates 0 (opening_cut bits members) (last_cut final.history) final.accepted
-    → report.size ≡ length (set_of_cut (last_cut final.history)) → report.inserts ≡ inserts_of final.accepted → report.removals ≡ removals_of final.accepted
-    → AllowedReport bits workers members report (set_of_cut (last_cut final.history))
+    → IsHistory bits members final.history → TalliesWithLost updates 0 (opening_cut bits members) (last_cut final.history) final.history final.accepted
+    → report.size ≡ length (pairs_of_cut (last_cut final.history)) → report.inserts ≡ inserts_of final.accepted → report.removals ≡ removals_of final.accepted
+    → AllowedReport bits workers members report (pairs_of_cut (last_cut final.history))
 round_allowed bits workers updates members report crew final lanes one_each of_lanes ran nothing backs is_history tallies size inserts removals =
     let changes : final.accepted ≡ changes_of lanes = backs_add lanes crew final backs ∙ ap (λ l. l ++ changes_of lanes) nothing in
     record {
@@ -63,7 +64,8 @@ round_allowed bits workers updates members report crew final lanes one_each of_l
         runs = one.2;
         of_history = backs_know lanes crew final backs lane default (omega (arith, one_each, below));
       };
-      tallies = subst (λ (l : List Change). Tallies (opening_cut bits members) (last_cut final.history) l) changes (none_lost_tallies updates (opening_cut bits members) (last_cut final.history) final.accepted tallies);
+      tallies = subst (λ (l : List Change). Tallies (opening_cut bits members) (last_cut final.history) l) changes (none_lost_tallies updates (opening_cut bits members) (last_cut final.history) final.history final.accepted tallies);
+      weigh = subst (λ (l : List Change). All (Weighs (opening_cut bits members) l) final.history) changes (none_lost_weighs updates (opening_cut bits members) (last_cut final.history) final.history final.accepted tallies);
       closes = refl;
       size = size;
       inserts = inserts ∙ ap inserts_of changes;

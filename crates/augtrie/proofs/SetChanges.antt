@@ -1,11 +1,19 @@
--- What one change of a cut does to its set.
+-- What the changes of one key do to the set of a cut.
 use Rattle.std.proofs.Common.{◌≡◌, ℕ, ◌+◌, ◌≤◌, Bool, true, false, not, ◌==◌, ◌&&◌, ◌||◌, nat_lt, List, [], ◌∷◌, ◌++◌, filter, refl, ap, sym, ◌∙◌, inl, inr, arith}
-use Rattle.std.proofs.lemmas.Bool.{eq-eqb, ne_eqb, cases_lt, cases_eq, cases_order, lt-ltb, le-ltb}
-use Rattle.aug_model.specs.Keys.{with_key, without_key}
-use Rattle.aug_model.specs.Keys.{is_member}
-use Rattle.aug_core.specs.Cuts.{Cut, serial_of, set_of_cut}
+use Rattle.std.proofs.lemmas.Bool.{eq-eqb, ne_eqb, cases_Bool, cases_lt, cases_eq, cases_order, lt-ltb, le-ltb, ltb-true, false≢true}
+use Rattle.aug_model.specs.Keys.{is_member, pairs_of, with_pair, without_pair}
+use Rattle.aug_model.proofs.Pairs.{pairs_of-append}
+use Rattle.aug_core.specs.Cuts.{Cut, shown_of, serial_of, weight_at, set_of_cut, pairs_of_cut}
 use Rattle.aug_trie.proofs.Rising.{Rises, same_list, is_member-filter, rises-filter}
 use Rattle.aug_trie.proofs.CutLemmas.{odd, rises-set_of_cut, is_member-set_of_cut}
+
+-- a list of keys with a key in it
+abbrev pub with_key : List ℕ → ℕ → List ℕ
+with_key keys k = filter (λ x. nat_lt x k) keys ++ k ∷ filter (λ x. nat_lt k x) keys
+
+-- and without it
+abbrev pub without_key : List ℕ → ℕ → List ℕ
+without_key keys k = filter (λ x. not (x == k)) keys
 
 is_member-append : (xs ys : List ℕ) (k : ℕ) → is_member (xs ++ ys) k ≡ (is_member xs k || is_member ys k)
 is_member-append [] ys k = refl
@@ -78,3 +86,34 @@ set-without_key c d k others is_even =
       | inl e ↦ ap (λ y. odd (serial_of d y)) e ∙ is_even ∙ sym (is_member-filter (λ y. not (y == k)) (set_of_cut c) x ∙ rw (eq-eqb x k e) (and_false (is_member (set_of_cut c) x)))
       | inr ne ↦ ap odd (others x ne) ∙ sym (is_member-filter (λ y. not (y == k)) (set_of_cut c) x ∙ rw (ne_eqb x k ne) (and_true (is_member (set_of_cut c) x) ∙ is_member-set_of_cut c x))
     ])
+
+-- the keys that pass a test, with weights that differ only where it fails, are the pairs whose keys pass it
+kept_pairs : (p : ℕ → Bool) (f g : ℕ → ℕ) (keys : List ℕ) → ((k : ℕ) → p k ≡ true → f k ≡ g k) → pairs_of f (filter p keys) ≡ filter (λ x. p x.0) (pairs_of g keys)
+kept_pairs p f g [] same = refl
+kept_pairs p f g (k ∷ keys) same =
+    let rest = kept_pairs p f g keys same in
+    elim (cases_Bool (p k)) [
+      | inl t ↦ (let here = same k t in rw t (λ i. (k, here i) ∷ rest i))
+      | inr f ↦ rw f rest
+    ]
+
+module _ (c d : Cut) (k : ℕ) (others : (j : ℕ) → (j ≡ k → ⊥) → shown_of d j ≡ shown_of c j) where
+  serials : (j : ℕ) → (j ≡ k → ⊥) → serial_of d j ≡ serial_of c j
+  serials j other = ap (λ (z : ℕ × ℕ). z.0) (others j other)
+
+  weights : (j : ℕ) → (j ≡ k → ⊥) → weight_at d j ≡ weight_at c j
+  weights j other = ap (λ (z : ℕ × ℕ). z.1) (others j other)
+
+  -- the cut d differs from c only at the key, which is in it now: it has its weight
+  pub pairs-with_key : odd (serial_of d k) ≡ true → pairs_of_cut d ≡ with_pair (pairs_of_cut c) k (weight_at d k)
+  pairs-with_key is_odd =
+      let below = kept_pairs (λ x. nat_lt x k) (weight_at d) (weight_at c) (set_of_cut c) (λ j t. weights j (λ e. omega (arith, e, ltb-true j k t))) in
+      let above = kept_pairs (λ x. nat_lt k x) (weight_at d) (weight_at c) (set_of_cut c) (λ j t. weights j (λ e. omega (arith, e, ltb-true k j t))) in
+      ap (pairs_of (weight_at d)) (set-with_key c d k serials is_odd) ∙ pairs_of-append (weight_at d) (filter (λ x. nat_lt x k) (set_of_cut c)) (k ∷ filter (λ x. nat_lt k x) (set_of_cut c))
+      ∙ (λ i. below i ++ (k, weight_at d k) ∷ above i)
+
+  -- or is not
+  pub pairs-without_key : odd (serial_of d k) ≡ false → pairs_of_cut d ≡ without_pair (pairs_of_cut c) k
+  pairs-without_key is_even =
+      ap (pairs_of (weight_at d)) (set-without_key c d k serials is_even)
+      ∙ kept_pairs (λ x. not (x == k)) (weight_at d) (weight_at c) (set_of_cut c) (λ j t. weights j (λ e. false≢true (sym (ap not (eq-eqb j k e)) ∙ t)))

@@ -1,14 +1,16 @@
 -- Which reports a round may have, whatever the order in which its lanes ran.
 use Rattle.std.specs.Prelude.{◌≡◌, ℕ, ◌+◌, ◌<◌, ◌⊎◌, ⊤, List, [], ◌∷◌, length, map, filter, flat_map, All, slice_index_or, ◌==◌, if◌then◌else◌}
-use Rattle.aug_model.specs.Queries.{rank_of, select_of, before_of, after_of, range_of}
-use Rattle.aug_core.specs.Cuts.{Cut, opening_cut, set_of_cut}
+use Rattle.aug_model.specs.Queries.{rank_of, select_of, before_of, after_of, weight_of, weighted_range_of}
+use Rattle.aug_model.specs.declared.outcome.Outcome.{Outcome}
+use Rattle.aug_model.specs.declared.outcome.Outcome.TheVariants as outcome
+use Rattle.aug_core.specs.Cuts.{Cut, opening_cut, pairs_of_cut}
 use Rattle.aug_trie.specs.History.{Begins, IsHistory, last_cut}
 use Rattle.aug_core.specs.declared.view.Change.{Change}
 use Rattle.aug_trie.specs.Knowledge.{removal, insertion, Knowledge, inserts_of, removals_of}
-use Rattle.aug_model.specs.Keys.{is_member}
+use Rattle.aug_model.specs.Keys.{is_member, keys_of}
 use Rattle.aug_script.specs.Replies.{span_of}
-use Rattle.aug_trie.specs.Tallies.{Tallies}
-use Rattle.aug_trie.specs.Updates.{AcceptedUpdate, RefusedUpdate, TakesSnapshot}
+use Rattle.aug_trie.specs.Tallies.{Tallies, Weighs}
+use Rattle.aug_trie.specs.Updates.{AcceptedUpdate, RefusedUpdate, PutsIn, TakesSnapshot}
 use Rattle.aug_script.specs.declared.reply.Reply.{Reply}
 use Rattle.aug_script.specs.declared.reply.Reply.TheVariants as reply
 use Rattle.aug_script.specs.declared.report.Report.{Report}
@@ -21,9 +23,22 @@ pub record Lane : Type 0 where
   pub knows : Knowledge
   pub held : Cut
 
--- an update is answered with one reply where it was accepted, and with another where it was refused
-pub record AnswersUpdate (parity key : ℕ) (yes no answer : Reply) (old new : Lane) : Type 0 where
-  pub outcome : ((answer ≡ yes) × AcceptedUpdate parity key old.knows new.knows) ⊎ ((answer ≡ no) × RefusedUpdate parity key old.knows new.knows)
+-- an update is answered with one reply where it was accepted, which gives the key this weight, and with another where it was refused
+pub record AnswersUpdate (parity key weight : ℕ) (yes no answer : Reply) (old new : Lane) : Type 0 where
+  pub outcome : ((answer ≡ yes) × AcceptedUpdate parity key weight old.knows new.knows) ⊎ ((answer ≡ no) × RefusedUpdate parity key old.knows new.knows)
+  pub holds_still : new.held ≡ old.held
+
+-- the reply to a put that came to this
+abbrev pub reply_to_put : Outcome → Reply
+reply_to_put outcome.Accepted = reply.New
+reply_to_put outcome.Replaced = reply.Set
+reply_to_put outcome.Refused = reply.Lost
+
+-- a put is answered with what it came to
+pub record AnswersPut (key weight : ℕ) (answer : Reply) (old new : Lane) : Type 0 where
+  pub outcome : Outcome
+  pub puts : PutsIn key weight outcome old.knows new.knows
+  pub answers : answer ≡ reply_to_put outcome
   pub holds_still : new.held ≡ old.held
 
 -- the lane takes a new snapshot, which it holds from then on
@@ -32,22 +47,24 @@ pub record Looks (answer : Reply) (old new : Lane) : Type 0 where
   pub takes : TakesSnapshot old.knows new.knows new.held
 
 -- a query is answered from the set of the snapshot that the lane holds, and changes nothing
-pub record Asks (about : List ℕ → Reply) (answer : Reply) (old new : Lane) : Type 0 where
-  pub answers : answer ≡ about (set_of_cut old.held)
+pub record Asks (about : List (ℕ × ℕ) → Reply) (answer : Reply) (old new : Lane) : Type 0 where
+  pub answers : answer ≡ about (pairs_of_cut old.held)
   pub stays : new ≡ old
 
--- what a lane goes through as it answers a verb
+-- what a lane goes through as it answers a verb: an inserted key weighs itself
 abbrev pub Answers : Verb → Reply → Lane → Lane → Type 0
-Answers (verb.Insert k) = AnswersUpdate insertion k reply.New reply.Old
-Answers (verb.Remove k) = AnswersUpdate removal k reply.Gone reply.Absent
+Answers (verb.Insert k) = AnswersUpdate insertion k k reply.New reply.Old
+Answers (verb.Put k w) = AnswersPut k w
+Answers (verb.Remove k) = AnswersUpdate removal k 0 reply.Gone reply.Absent
 Answers verb.Look = Looks
-Answers (verb.Has k) = Asks (λ keys. if is_member keys k then reply.Yes else reply.No)
-Answers verb.Size = Asks (λ keys. reply.Number (length keys))
-Answers (verb.Rank k) = Asks (λ keys. reply.Number (rank_of keys k))
-Answers (verb.Select i) = Asks (λ keys. reply.Found (select_of keys i))
-Answers (verb.Before k) = Asks (λ keys. reply.Found (before_of keys k))
-Answers (verb.After k) = Asks (λ keys. reply.Found (after_of keys k))
-Answers (verb.Range a b) = Asks (λ keys. reply.Span (span_of (range_of keys a b)))
+Answers (verb.Has k) = Asks (λ pairs. if is_member (keys_of pairs) k then reply.Yes else reply.No)
+Answers (verb.Weight k) = Asks (λ pairs. reply.Found (weight_of pairs k))
+Answers verb.Size = Asks (λ pairs. reply.Number (length (keys_of pairs)))
+Answers (verb.Rank k) = Asks (λ pairs. reply.Number (rank_of (keys_of pairs) k))
+Answers (verb.Select i) = Asks (λ pairs. reply.Found (select_of (keys_of pairs) i))
+Answers (verb.Before k) = Asks (λ pairs. reply.Found (before_of (keys_of pairs) k))
+Answers (verb.After k) = Asks (λ pairs. reply.Found (after_of (keys_of pairs) k))
+Answers (verb.Range a b) = Asks (λ pairs. reply.Span (span_of (weighted_range_of pairs a b)))
 
 -- what a lane goes through as it answers its rows, one after another
 unfoldable pub AnswersAll : List (Row × Reply) → Lane → Lane → Type 0
@@ -76,8 +93,9 @@ abbrev pub changes_of : List Lane → List Change
 changes_of lanes = flat_map (λ lane. lane.knows.accepted) lanes
 
 -- a round that opened with one set and closed with another may have this report: there are one history and an end for each
--- lane that tell how each row came to its reply, and the changes of all lanes are all that happened
-pub record AllowedReport (bits workers : ℕ) (members : List ℕ) (report : Report) (closing : List ℕ) : Type 0 where
+-- lane that tell how each row came to its reply, the changes of all lanes are all that happened, and each cut of the history shows
+-- the weights of these changes
+pub record AllowedReport (bits workers : ℕ) (members : List (ℕ × ℕ)) (report : Report) (closing : List (ℕ × ℕ)) : Type 0 where
   pub history : List Cut
   pub is_history : IsHistory bits members history
   pub lanes : List Lane
@@ -85,7 +103,8 @@ pub record AllowedReport (bits workers : ℕ) (members : List ℕ) (report : Rep
   pub of_lanes : All (λ line. line.0.lane < workers) report.rows
   pub runs : (lane : ℕ) (default : Lane) → lane < workers → RunsLane (opening_cut bits members) history (lines_of lane report.rows) (slice_index_or lanes lane default)
   pub tallies : Tallies (opening_cut bits members) (last_cut history) (changes_of lanes)
-  pub closes : closing ≡ set_of_cut (last_cut history)
+  pub weigh : All (Weighs (opening_cut bits members) (changes_of lanes)) history
+  pub closes : closing ≡ pairs_of_cut (last_cut history)
   pub size : report.size ≡ length closing
   pub inserts : report.inserts ≡ inserts_of (changes_of lanes)
   pub removals : report.removals ≡ removals_of (changes_of lanes)
@@ -96,10 +115,10 @@ pub record IsReportOf (number : ℕ) (rows : List Row) (report : Report) : Type 
   pub rows_are : map (λ line. line.0) report.rows ≡ rows
 
 -- rounds, the first with this number, may have these reports: each opens with the set that the one before closed with
-unfoldable pub AllowedReports : ℕ → ℕ → ℕ → List ℕ → List (List Row) → List Report → Type 0
+unfoldable pub AllowedReports : ℕ → ℕ → ℕ → List (ℕ × ℕ) → List (List Row) → List Report → Type 0
 AllowedReports bits workers number members [] [] = ⊤
 AllowedReports bits workers number members [] (report ∷ reports) = ⊥
 AllowedReports bits workers number members (rows ∷ rounds) [] = ⊥
 AllowedReports bits workers number members (rows ∷ rounds) (report ∷ reports) =
-    (closing : List ℕ) × IsReportOf number rows report × AllowedReport bits workers members report closing
+    (closing : List (ℕ × ℕ)) × IsReportOf number rows report × AllowedReport bits workers members report closing
     × AllowedReports bits workers (number + 1) closing rounds reports

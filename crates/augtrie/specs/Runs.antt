@@ -26,7 +26,7 @@ OfOneLane workers rows = (lane : ℕ) × (lane < workers) × All (λ row. row.la
 
 -- the reports of rounds of one lane each, of which the first has this number and begins with a set of these members, and each further one goes on from
 -- the set that the one before it left
-abbrev pub reports_of : ℕ → List ℕ → List (List Row) → List Report
+abbrev pub reports_of : ℕ → List (ℕ × ℕ) → List (List Row) → List Report
 reports_of number members [] = []
 reports_of number members (rows ∷ rest) = report_of number members rows ∷ reports_of (number + 1) (sets_of (opening_sets members) rows).live rest
 

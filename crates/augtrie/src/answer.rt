@@ -1,11 +1,12 @@
 //! One row, run by a pass.
 ghost use Rattle.std.specs.Prelude.{◌≡◌, ◌+◌, ◌<◌, IsTrue, if◌then◌else◌};
 ghost use Rattle.aug_trie.specs.Facts.{HasSnapshot};
-ghost use Rattle.augtrie.specs.AllowedReport.{Answers};
+ghost use Rattle.augtrie.specs.AllowedReport.{Answers, reply_to_put};
 ghost use Rattle.aug_script.specs.Script.{is_in_bounds, is_update};
 ghost use Rattle.augtrie.specs.Workers.{lane_of};
 
 use crate::trie::Hand;
+use aug_model::Outcome;
 use aug_script::{Reply, Verb};
 use aug_trie::Snapshot;
 
@@ -27,6 +28,7 @@ pub(crate) fn answer(pass: &mut Hand, held: &mut Snapshot, verb: Verb) -> Reply
                 Reply::Old
             }
         }
+        Verb::Put(key, weight) => put_reply(pass.put(key, weight)),
         Verb::Remove(key) => {
             if pass.remove(key) {
                 Reply::Gone
@@ -45,11 +47,23 @@ pub(crate) fn answer(pass: &mut Hand, held: &mut Snapshot, verb: Verb) -> Reply
                 Reply::No
             }
         }
+        Verb::Weight(key) => Reply::Found(pass.weight(*held, key)),
         Verb::Size => Reply::Number(pass.size(*held)),
         Verb::Rank(key) => Reply::Number(pass.rank(*held, key)),
         Verb::Select(index) => Reply::Found(pass.select(*held, index)),
         Verb::Before(key) => Reply::Found(pass.before(*held, key)),
         Verb::After(key) => Reply::Found(pass.after(*held, key)),
         Verb::Range(from, to) => Reply::Span(pass.range(*held, from, to)),
+    }
+}
+
+/// The reply to a put that came to this.
+pub(crate) fn put_reply(outcome: Outcome) -> Reply
+    ensures { result ≡ reply_to_put outcome }
+{
+    match outcome {
+        Outcome::Accepted => Reply::New,
+        Outcome::Replaced => Reply::Set,
+        Outcome::Refused => Reply::Lost,
     }
 }

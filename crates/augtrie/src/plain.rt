@@ -2,6 +2,7 @@
 ghost use Rattle.std.specs.Prelude.{◌≡◌, ◌^◌, ◌≤◌, All, IfOk, IsTrue, true};
 ghost use Rattle.aug_script.specs.Script.{KeepsLimits, is_in_bounds};
 
+use crate::answer::put_reply;
 use aug_model::{KeySet, ModelError};
 use aug_script::{Limits, Reply, Row, Script, Verb};
 use std::alloc::{AllocError, Global};
@@ -51,6 +52,7 @@ impl Plain {
         match verb {
             Verb::Insert(key) if self.live.insert(key) => Reply::New,
             Verb::Insert(_) => Reply::Old,
+            Verb::Put(key, weight) => put_reply(self.live.put(key, weight)),
             Verb::Remove(key) if self.live.remove(key) => Reply::Gone,
             Verb::Remove(_) => Reply::Absent,
             Verb::Look => {
@@ -59,6 +61,7 @@ impl Plain {
             }
             Verb::Has(key) if self.held.has(key) => Reply::Yes,
             Verb::Has(_) => Reply::No,
+            Verb::Weight(key) => Reply::Found(self.held.weight(key)),
             Verb::Size => Reply::Number(self.held.size()),
             Verb::Rank(key) => Reply::Number(self.held.rank(key)),
             Verb::Select(index) => Reply::Found(self.held.select(index)),

@@ -1,6 +1,6 @@
 //! A round on worker threads, one for each lane.
 ghost use Rattle.std.specs.Prelude.{◌≡◌, ◌+◌, length, IfOk};
-ghost use Rattle.aug_model.specs.Keys.{IsKeySet};
+ghost use Rattle.aug_model.specs.Keys.{IsKeySet, keys_of};
 ghost use Rattle.aug_trie.specs.Crews.{BeginsRound};
 ghost use Rattle.augtrie.specs.AllowedReport.{AllowedReport, IsReportOf};
 ghost use Rattle.augtrie.specs.InTurn.{IsInTurn};
@@ -81,7 +81,7 @@ pub fn run_round<R: Threads + Wait, G: Gate>(
 fn begin(alloc: Global, ended: Trie, limits: &Limits) -> Result<(Table, Hands), AllocError>
     requires bits { ended.bits ≡ limits.now.bits }
     ensures begun { IfOk result (λ t. BeginsRound ended limits.now.workers limits.now.updates t.0 t.1) }
-    ensures keys { IsKeySet ended.bits ended.members }
+    ensures keys { IsKeySet ended.bits (keys_of ended.members) }
 {
     match Round::begin(alloc, ended, limits.workers(), limits.updates()) {
         Ok(begun) => Ok(begun),

@@ -113,6 +113,41 @@ fn two_lanes_put_one_key_in_once_each_time(rt: HostRuntime) -> Result<(), Fail> 
     Ok(())
 }
 
+// Two lanes put one key in with two weights: the second replaces the first, or is refused.
+fn one_key_with_two_weights<R: Threads + Wait + Abort>(
+    rt: &R,
+    alloc: Global,
+) -> Result<(), AllocError> {
+    let run = report_of(rt, alloc, 2, "0,put,6,1\n1,put,6,2\n", &Open)?;
+    let report = run.expect(rt, "a report");
+    let mut new = 0u32;
+    let mut set = 0u32;
+    let mut lost = 0u32;
+    for (_, reply) in report.rows.as_slice() {
+        match reply {
+            Reply::New => new = new.wrapping_add(1),
+            Reply::Set => set = set.wrapping_add(1),
+            Reply::Lost => lost = lost.wrapping_add(1),
+            _ => {}
+        }
+    }
+    let totals = (report.size, report.inserts, report.removals);
+    if set == 1 {
+        assert_eq!(rt; (new, lost, totals), (1, 0, (1, 2, 1)));
+    } else {
+        assert_eq!(rt; (new, lost, totals), (1, 1, (1, 1, 0)));
+    }
+    Ok(())
+}
+
+#[test]
+fn of_two_puts_of_a_key_one_is_new_and_one_is_set_or_lost(rt: HostRuntime) -> Result<(), Fail> {
+    for _ in 0..200 {
+        one_key_with_two_weights(&rt, rt.alloc())?;
+    }
+    Ok(())
+}
+
 // The next number after a seed.
 fn next(seed: u64) -> u64 {
     seed.wrapping_mul(6_364_136_223_846_793_005)
@@ -126,7 +161,7 @@ fn random_script(alloc: Global, seed: u64) -> Result<String, AllocError> {
     for row in 0..150u32 {
         seed = next(seed);
         let key = (seed >> 40) % 16;
-        match (seed >> 33) % 12 {
+        match (seed >> 33) % 15 {
             0..=2 => writeln!(text, "0,insert,{key}")?,
             3..=4 => writeln!(text, "0,remove,{key}")?,
             5 => writeln!(text, "0,look")?,
@@ -135,6 +170,8 @@ fn random_script(alloc: Global, seed: u64) -> Result<String, AllocError> {
             8 => writeln!(text, "0,select,{key}")?,
             9 => writeln!(text, "0,before,{key}")?,
             10 => writeln!(text, "0,after,{key}")?,
+            11..=12 => writeln!(text, "0,put,{key},{}", (seed >> 45) % 1_000)?,
+            13 => writeln!(text, "0,weight,{key}")?,
             _ => writeln!(text, "0,range,{},{key}", (seed >> 50) % 17)?,
         }
         if row % 50 == 49 {

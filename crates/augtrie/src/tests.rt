@@ -127,6 +127,37 @@ fn queries_are_answered_from_the_last_look(rt: HostRuntime) {
 }
 
 #[test]
+fn a_put_gives_a_member_a_new_weight(rt: HostRuntime) {
+    assert_prints(
+        &rt,
+        rt.alloc(),
+        "0,put,5,100\n0,put,5,7\n0,look\n0,weight,5\n0,range,0,16\n0,insert,9\n0,look\n0,range,0,16\n",
+        "1 0 put 5 100 = new\n1 0 put 5 7 = set\n1 0 look = ok\n1 0 weight 5 = 7\n1 0 range 0 16 = 1 7 5 5\n1 0 insert 9 = new\n1 0 look = ok\n1 0 range 0 16 = 2 16 5 9\n1 end size=2 in=3 out=1\n",
+    );
+}
+
+#[test]
+fn the_greatest_weight_of_a_script(rt: HostRuntime) {
+    assert_prints(
+        &rt,
+        rt.alloc(),
+        "0,put,3,999999999\n0,put,4,999999999\n0,put,5,0\n0,look\n0,weight,3\n0,weight,5\n0,weight,6\n0,range,0,16\n",
+        "1 0 put 3 999999999 = new\n1 0 put 4 999999999 = new\n1 0 put 5 0 = new\n1 0 look = ok\n1 0 weight 3 = 999999999\n1 0 weight 5 = 0\n1 0 weight 6 = -\n1 0 range 0 16 = 3 1999999998 3 5\n1 end size=3 in=3 out=0\n",
+    );
+}
+
+#[test]
+fn weights_go_on_into_the_next_round(rt: HostRuntime) {
+    let script =
+        b"0,put,1,50\n0,put,2,60\n*,end\n0,weight,1\n0,insert,2\n0,put,1,70\n0,look\n0,weight,1\n0,weight,2\n*,end\n0,range,0,16\n";
+    let (result, sink) = outcome(&rt, rt.alloc(), script, 64);
+    assert_eq!(rt; result, Ok(()));
+    let text =
+        "1 0 put 1 50 = new\n1 0 put 2 60 = new\n1 end size=2 in=2 out=0\n2 0 weight 1 = 50\n2 0 insert 2 = old\n2 0 put 1 70 = set\n2 0 look = ok\n2 0 weight 1 = 70\n2 0 weight 2 = 60\n2 end size=2 in=1 out=1\n3 0 range 0 16 = 2 130 1 2\n3 end size=2 in=0 out=0\n";
+    assert_eq!(rt; sink.out.as_slice(), text.as_bytes());
+}
+
+#[test]
 fn removals_of_a_key_that_comes_and_goes(rt: HostRuntime) {
     assert_prints(
         &rt,

@@ -1,16 +1,17 @@
-//! An order book by price: one thread bids, one offers, and a third reads best prices and totals meanwhile.
+//! An order book by price: one thread bids, one offers, and a third reads best prices and volumes meanwhile.
 #![tactic(auto)]
 
 ghost use Rattle.std.specs.Prelude.{◌≡◌, ◌+◌, ◌≤◌};
 
 use aug_monoid::{Extent, Sum};
-use aug_query::{after, before, range};
+use aug_query::{after, before, range, weight};
 use aug_trie::{Ended, Pass, PassHalf, Round};
 use std::alloc::Global;
 use std::thread;
 use std::thread::Threads;
 
-// An order is a key, its price. The book keeps the sum of the prices, and the least and the greatest of them.
+// An order is a key, its price, with its volume as the weight. The book keeps the sum of the volumes, and the least and the
+// greatest of the prices.
 type Book = Round<Sum, Extent>;
 
 // A pass borrows its round, so what goes into a thread and comes out of it is its half.
@@ -19,7 +20,8 @@ type Half = PassHalf<Sum, Extent>;
 // Bids lie below this price, and offers above it.
 const MIDDLE: u32 = 2_000;
 
-// Puts an order in at each of 100 prices from the lowest on, and takes every fifth of them out again.
+// Puts an order of 10 in at each of 100 prices from the lowest on, takes every fifth of them out again, and replaces the one
+// behind each of these by an order of 25. No snapshot shows such a price without an order in between.
 fn trade(book: &Book, half: Half, lowest: u32) -> Half
     requires book { half.round ≡ book.now }
     requires bits { half.round.bits ≡ 12 }
@@ -29,16 +31,18 @@ fn trade(book: &Book, half: Half, lowest: u32) -> Half
 {
     let mut pass = book.pass(half);
     for i in 0..100 {
-        pass.insert(lowest + i);
+        pass.put(lowest + i, 10);
         if i % 5 == 0 {
             pass.remove(lowest + i);
+        } else if i % 5 == 1 {
+            pass.put(lowest + i, 25);
         }
     }
     pass.into_half()
 }
 
-// Whether a snapshot agrees with itself: the best bid is the greatest of the bids, and all of them add up to no more than
-// so many times the best. A snapshot stays what it is, so this holds whatever the other threads do meanwhile.
+// Whether a snapshot agrees with itself: the best bid is the greatest of the bids, and from there to the middle there is its
+// volume and no more. A snapshot stays what it is, so this holds whatever the other threads do meanwhile.
 fn agrees(pass: &mut Pass<Sum, Extent>) -> bool
     ensures { pass.new.round ≡ pass.old.round }
 {
@@ -46,7 +50,8 @@ fn agrees(pass: &mut Pass<Sum, Extent>) -> bool
     let bids = pass.range(now, 0, MIDDLE);
     match (pass.before(now, MIDDLE), bids.b.bounds()) {
         (Some(best), Some((_, greatest))) => {
-            best == greatest && bids.a.value() <= u64::from(bids.count) * u64::from(best)
+            let depth = pass.range(now, best, MIDDLE).a.value();
+            best == greatest && pass.weight(now, best).map(u64::from) == Some(depth)
         }
         (None, None) => bids.count == 0,
         _ => false,
@@ -112,15 +117,20 @@ fn day<R: Threads + Sync>(rt: &R, alloc: Global) -> anyhow::Result<(Ended<Sum, E
 
 fn main(rt: HostRuntime) -> anyhow::Result<()> {
     let (mut ended, agreed) = day(&rt, rt.alloc())?;
+    // Where an order was replaced one went, and another one came.
     let (came, went, left) = (ended.inserts(), ended.removals(), ended.size());
     println!(rt; "{came} orders came, {went} went, {left} are left")?;
     let answer = if agreed { "yes" } else { "no" };
     println!(rt; "each snapshot agreed with itself: {answer}")?;
     let near = range(&mut ended, 1_950, 2_050);
     let (count, sum) = (near.count, near.a.value());
-    println!(rt; "{count} from 1950 to 2049, which add up to {sum}")?;
-    if let (Some(bid), Some(offer)) = (before(&mut ended, MIDDLE), after(&mut ended, MIDDLE)) {
-        println!(rt; "best bid {bid}, best offer {offer}")?;
+    println!(rt; "{count} from 1950 to 2049, volume {sum}")?;
+    let (bid, offer) = (before(&mut ended, MIDDLE), after(&mut ended, MIDDLE));
+    for (side, best) in [("bid", bid), ("offer", offer)] {
+        if let Some(price) = best {
+            let volume = weight(&mut ended, price).unwrap_or(0);
+            println!(rt; "best {side} {price}, volume {volume}")?;
+        }
     }
     Ok(())
 }

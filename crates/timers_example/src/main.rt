@@ -1,32 +1,47 @@
-//! A scheduler's timer wheel: two threads arm and cancel timers, and a third asks meanwhile what is due and what is next.
+//! A scheduler's timer wheel: two threads arm and cancel timers, and a third asks meanwhile how many are due and what is next.
 #![tactic(auto)]
 
-ghost use Rattle.std.specs.Prelude.{◌≡◌, ◌+◌, ◌<◌, ◌≤◌};
+ghost use Rattle.std.specs.Prelude.{◌≡◌, ◌+◌, ◌^◌, ◌<◌, ◌≤◌};
 
-use aug_monoid::Nothing;
-use aug_query::{after, rank};
+use aug_monoid::{Nothing, Sum};
+use aug_query::{after, range};
 use aug_trie::{Ended, Pass, PassHalf, Round};
 use std::alloc::Global;
 use std::thread;
 use std::thread::Threads;
 
-// A timer is a key, the tick at which it is due. The wheel adds nothing up over its ticks.
-type Wheel = Round<Nothing, Nothing>;
+// A tick is a key, and how many timers are due at it is its weight. The wheel adds these up.
+type Wheel = Round<Sum, Nothing>;
 
 // A pass borrows its round, so what goes into a thread and comes out of it is its half.
-type Half = PassHalf<Nothing, Nothing>;
+type Half = PassHalf<Sum, Nothing>;
 
-// Arms a timer at each tick with this last digit, and cancels those before tick 250 again.
+// Arms one more timer at a tick. No other thread serves that tick, so there are still as many timers as the snapshot shows.
+fn arm(pass: &mut Pass<Sum, Nothing>, tick: u32)
+    requires tick { tick < 2 ^ pass.old.round.bits }
+    requires budget { pass.old.spent < pass.old.round.updates }
+    ensures round { pass.new.round ≡ pass.old.round }
+    ensures spent { pass.new.spent ≡ pass.old.spent + 1 }
+{
+    let now = pass.snapshot();
+    let due = pass.weight(now, tick).unwrap_or(0);
+    pass.put(tick, due.saturating_add(1));
+}
+
+// Arms a timer at each tick with this last digit, and two at every second one, and cancels those before tick 250 again.
 fn serve(wheel: &Wheel, half: Half, digit: u32) -> Half
     requires wheel { half.round ≡ wheel.now }
     requires bits { half.round.bits ≡ 10 }
-    requires budget { half.spent + 200 ≤ half.round.updates }
+    requires budget { half.spent + 300 ≤ half.round.updates }
     requires digit { digit < 10 }
     ensures { result.round ≡ half.round }
 {
     let mut pass = wheel.pass(half);
     for i in 0..100 {
-        pass.insert(10 * i + digit);
+        arm(&mut pass, 10 * i + digit);
+        if i % 2 == 0 {
+            arm(&mut pass, 10 * i + digit);
+        }
         if i < 25 {
             pass.remove(10 * i + digit);
         }
@@ -34,18 +49,16 @@ fn serve(wheel: &Wheel, half: Half, digit: u32) -> Half
     pass.into_half()
 }
 
-// Whether a snapshot agrees with itself: no timer lies between a tick and the next one after it. A snapshot stays what it
+// Whether a snapshot agrees with itself: no timer is due between a tick and the next one with timers. A snapshot stays what it
 // is, so this holds whatever the other threads do meanwhile.
-fn agrees(pass: &mut Pass<Nothing, Nothing>, tick: u32) -> bool
+fn agrees(pass: &mut Pass<Sum, Nothing>, tick: u32) -> bool
     requires { tick < 1024 }
     ensures { pass.new.round ≡ pass.old.round }
 {
     let now = pass.snapshot();
-    let due = pass.rank(now, tick + 1);
-    match pass.after(now, tick) {
-        Some(next) => pass.rank(now, next) == due,
-        None => pass.size(now) == due,
-    }
+    let due = pass.range(now, 0, tick + 1).a;
+    let next = pass.after(now, tick).unwrap_or(1024);
+    pass.range(now, 0, next).a == due
 }
 
 // Looks at each tick, from a new snapshot: whether each of them agreed with itself.
@@ -69,7 +82,7 @@ fn at_work<R: Threads + Sync>(
 ) -> (Half, (Half, (Half, bool)))
     requires wheel { (halves.0.round ≡ wheel.now) × (halves.1.round ≡ wheel.now) × (halves.2.round ≡ wheel.now) }
     requires bits { wheel.now.bits ≡ 10 }
-    requires budget { (halves.0.spent + 200 ≤ wheel.now.updates) × (halves.1.spent + 200 ≤ wheel.now.updates) }
+    requires budget { (halves.0.spent + 300 ≤ wheel.now.updates) × (halves.1.spent + 300 ≤ wheel.now.updates) }
     ensures one { result.0.round ≡ wheel.now }
     ensures two { result.1.0.round ≡ wheel.now }
     ensures three { result.1.1.0.round ≡ wheel.now }
@@ -80,20 +93,17 @@ fn at_work<R: Threads + Sync>(
         || serve(wheel, one, 0),
         move ||
             requires { (two.round ≡ wheel.now) × (three.round ≡ wheel.now) × (wheel.now.bits ≡ 10)
-                × (two.spent + 200 ≤ wheel.now.updates) }
+                × (two.spent + 300 ≤ wheel.now.updates) }
             ensures { (result.0.round ≡ two.round) × (result.1.0.round ≡ three.round) }
         { thread::join(rt, || serve(wheel, two, 5), || watch(wheel, three)) },
     )
 }
 
 // A round over an empty wheel: what it ends with, and whether each snapshot agreed with itself.
-fn round<R: Threads + Sync>(
-    rt: &R,
-    alloc: Global,
-) -> anyhow::Result<(Ended<Nothing, Nothing>, bool)> {
+fn round<R: Threads + Sync>(rt: &R, alloc: Global) -> anyhow::Result<(Ended<Sum, Nothing>, bool)> {
     let empty = Ended::empty(alloc, 10)?;
-    // For three passes with 200 updates each. All memory is taken here, and where it is refused the wheel comes back.
-    let (wheel, mut crew) = match Round::begin(alloc, empty, 3, 200) {
+    // For three passes with 300 updates each. All memory is taken here, and where it is refused the wheel comes back.
+    let (wheel, mut crew) = match Round::begin(alloc, empty, 3, 300) {
         Ok(begun) => begun,
         Err((_, cause)) => return Err(cause.into()),
     };
@@ -110,11 +120,13 @@ fn round<R: Threads + Sync>(
 
 fn main(rt: HostRuntime) -> anyhow::Result<()> {
     let (mut ended, agreed) = round(&rt, rt.alloc())?;
-    let (armed, cancelled, left) = (ended.inserts(), ended.removals(), ended.size());
-    println!(rt; "{armed} armed, {cancelled} cancelled, {left} left")?;
+    // Each timer that was armed gave its tick a new weight.
+    let (armed, all) = (ended.inserts(), range(&mut ended, 0, 1024));
+    let (left, ticks) = (all.a.value(), all.count);
+    println!(rt; "{armed} armed, {left} left, at {ticks} ticks")?;
     let answer = if agreed { "yes" } else { "no" };
     println!(rt; "each snapshot agreed with itself: {answer}")?;
-    let due = rank(&mut ended, 512);
+    let due = range(&mut ended, 0, 512).a.value();
     if let Some(next) = after(&mut ended, 511) {
         println!(rt; "{due} due before tick 512, the next at tick {next}")?;
     }

@@ -6,7 +6,7 @@ use std::test::Fail;
 #[test]
 fn an_opening_key_has_no_bytes(rt: HostRuntime) -> Result<(), Fail> {
     let layout = Layout::new(2, 3, 2, 2)?;
-    let _key = OpeningKey::new(&layout, &[0, 1]);
+    let _key = OpeningKey::new(&layout, &[(0, 0), (1, 1)]);
     assert_eq!(rt; size_of::<OpeningKey>(), 0);
     Ok(())
 }

@@ -233,3 +233,56 @@ fn sums_up_a_range(rt: HostRuntime) -> Result<(), Fail> {
     assert_eq!(rt; set.range(0, u32::MAX), whole);
     Ok(())
 }
+
+// Puts a key of 4 bits in with a weight.
+fn weigh(rt: &impl Abort, set: &mut KeySet, k: u32, weight: u32) -> Outcome {
+    assert!(rt; set.bits() == 4);
+    assert!(rt; k < 16);
+    set.put(k, weight)
+}
+
+#[test]
+fn a_weight_is_put_in_and_put_over(rt: HostRuntime) -> Result<(), Fail> {
+    let mut set = set_of(&rt, rt.alloc(), &[])?;
+    assert_eq!(rt; weigh(&rt, &mut set, 5, 100), Outcome::Accepted);
+    assert_eq!(rt; set.weight(5), Some(100));
+    assert_eq!(rt; weigh(&rt, &mut set, 5, 7), Outcome::Replaced);
+    assert_eq!(rt; weigh(&rt, &mut set, 5, 7), Outcome::Replaced);
+    assert_eq!(rt;
+        (set.size(), set.weight(5), set.weight(6)),
+        (1, Some(7), None)
+    );
+    let one: Summary<Sum, Extent> = set.range(0, 16);
+    assert_eq!(rt;
+        (one.count, one.a.value(), one.b.bounds()),
+        (1, 7, Some((5, 5)))
+    );
+    assert!(rt; set.bits() == 4);
+    assert!(rt; set.insert(9));
+    assert_eq!(rt; set.weight(9), Some(9));
+    assert_eq!(rt; set.insert(5), false);
+    assert_eq!(rt; set.weight(5), Some(7));
+    let both: Summary<Sum, Extent> = set.range(0, 16);
+    assert_eq!(rt;
+        (both.count, both.a.value(), both.b.bounds()),
+        (2, 16, Some((5, 9)))
+    );
+    assert!(rt; set.remove(5));
+    assert_eq!(rt; (set.weight(5), set.size()), (None, 1));
+    Ok(())
+}
+
+#[test]
+fn the_greatest_weight_of_each_key_adds_up(rt: HostRuntime) -> Result<(), Fail> {
+    let mut set = set_of(&rt, rt.alloc(), &[])?;
+    for k in 0..16 {
+        assert_eq!(rt; weigh(&rt, &mut set, k, u32::MAX), Outcome::Accepted, "{k}");
+    }
+    let whole: Summary<Sum, Extent> = set.range(0, 16);
+    assert_eq!(rt; (whole.count, whole.a.value()), (16, 68_719_476_720));
+    assert_eq!(rt;
+        (set.select(15), set.weight(15)),
+        (Some(15), Some(u32::MAX))
+    );
+    Ok(())
+}

@@ -32,7 +32,7 @@ impl Monoid for Last {
     ghost parts = { record {
       IsProper = IsKeyOrNone;
       unit = None;
-      of_key = λ k. Some k;
+      of_key = λ k w. Some k;
       join = λ x y. option_or y x;
       to_word = word_of_key;
       from_word = key_of_word;
@@ -42,7 +42,7 @@ impl Monoid for Last {
         Last { key: None }
     }
 
-    fn of_key(k: u32) -> Last {
+    fn of_key(k: u32, _weight: u32) -> Last {
         Last { key: Some(k) }
     }
 
@@ -69,7 +69,7 @@ impl Monoid for Last {
 
     ghost unit_is_proper = { tt };
 
-    ghost key_is_proper = { λ _ is_key. is_key };
+    ghost key_is_proper = { λ _ _ is_key _. is_key };
 
     ghost join_is_proper = { λ x y x_is_key y_is_key. elim y as (λ y'. IsKeyOrNone y' → IsKeyOrNone (option_or y' x)) [ None ↦ λ _. x_is_key | Some k ↦ λ is_key. is_key ] y_is_key };
 

@@ -1,7 +1,9 @@
 //! Rounds that end, with passes back and with passes that were dropped, and the rounds after them.
 ghost use Rattle.std.specs.Prelude.{◌≡◌, IfOk};
 
-use super::{Half, Hands, Table, Task, Trie, four_halves, next_pass, opened, put, take, work};
+use super::{
+    Deed, Half, Hands, Table, Task, Trie, four_halves, insert, next_pass, opened, remove, work,
+};
 use crate::{BeginError, Pass, Round};
 use aug_monoid::{Extent, Sum};
 use aug_query::{has, keys, select, size};
@@ -46,6 +48,7 @@ pub(super) fn next_round(
     updates: u32,
 ) -> Result<(Table, Hands), BeginError>
     ensures bits { IfOk result (λ t. t.0.bits ≡ ended.bits) }
+    ensures updates { IfOk result (λ t. t.0.updates ≡ updates) }
     ensures together { IfOk result (λ t. t.1.round ≡ t.0) }
 {
     match Round::begin(alloc, ended, workers, updates) {
@@ -64,7 +67,7 @@ fn four_threads_put_each_key_in_once_and_the_next_round_goes_on(
         bits: 4,
         keys: 16,
         times: 1,
-        out: false,
+        deed: Deed::Insert,
     };
     let (one, two, three, four) = work(&rt, &round, halves, task);
     let (one, first) = looked(&round, one);
@@ -82,8 +85,8 @@ fn four_threads_put_each_key_in_once_and_the_next_round_goes_on(
     let (round, mut crew) = next_round(rt.alloc(), ended, 2, 1)?;
     let mut first = next_pass(&mut crew, &round).expect(&rt, "lane 0");
     let mut second = next_pass(&mut crew, &round).expect(&rt, "lane 1");
-    assert!(rt; take(&mut first, 4, 0));
-    assert!(rt; !put(&mut second, 4, 1));
+    assert!(rt; remove(&mut first, 4, 0));
+    assert!(rt; !insert(&mut second, 4, 1));
     crew.back(second);
     crew.back(first);
     let ended = round.end(crew);
@@ -102,7 +105,7 @@ fn one_key_that_four_threads_put_in_and_take_out_is_accounted_for(
         bits: 1,
         keys: 1,
         times: 500,
-        out: true,
+        deed: Deed::InsertAndRemove,
     };
     let (one, two, three, four) = work(&rt, &round, halves, task);
     crew.back(round.pass(four));
@@ -123,10 +126,10 @@ fn a_pass_that_comes_back_tells_later_ones(rt: HostRuntime) -> Result<(), BeginE
     let (round, mut crew) = opened(rt.alloc(), 4, 3, 2)?;
     let mut first = next_pass(&mut crew, &round).expect(&rt, "lane 0");
     let mut third = next_pass(&mut crew, &round).expect(&rt, "lane 1");
-    assert!(rt; put(&mut first, 4, 3));
+    assert!(rt; insert(&mut first, 4, 3));
     assert!(rt; sees(&mut third, 3));
-    assert!(rt; take(&mut third, 4, 3));
-    assert!(rt; put(&mut first, 4, 3));
+    assert!(rt; remove(&mut third, 4, 3));
+    assert!(rt; insert(&mut first, 4, 3));
     crew.back(first);
     let mut second = next_pass(&mut crew, &round).expect(&rt, "lane 2");
     assert!(rt; sees(&mut second, 3));
@@ -143,9 +146,9 @@ fn a_dropped_pass_is_missing_and_harms_nobody(rt: HostRuntime) -> Result<(), Beg
     let (round, mut crew) = opened(rt.alloc(), 2, 2, 1)?;
     let mut dropped = next_pass(&mut crew, &round).expect(&rt, "lane 0");
     let mut other = next_pass(&mut crew, &round).expect(&rt, "lane 1");
-    assert!(rt; put(&mut dropped, 2, 0));
+    assert!(rt; insert(&mut dropped, 2, 0));
     drop(dropped);
-    assert!(rt; put(&mut other, 2, 1));
+    assert!(rt; insert(&mut other, 2, 1));
     assert_eq!(rt; seen_size(&mut other), 2);
     crew.back(other);
     let ended = round.end(crew);
@@ -162,14 +165,14 @@ fn what_came_after_the_last_look_of_the_crew_is_not_in_the_end(
     let first = next_pass(&mut crew, &round).expect(&rt, "lane 0");
     let mut late = next_pass(&mut crew, &round).expect(&rt, "lane 1");
     crew.back(first);
-    assert!(rt; put(&mut late, 2, 3));
+    assert!(rt; insert(&mut late, 2, 3));
     drop(late);
     let mut ended = round.end(crew);
     assert_eq!(rt; counts(&ended), (0, 0, 1));
     assert_eq!(rt; (ended.size(), has(&mut ended, 3)), (0, false));
     let (round, mut crew) = next_round(rt.alloc(), ended, 1, 1)?;
     let mut again = next_pass(&mut crew, &round).expect(&rt, "lane 0");
-    assert!(rt; put(&mut again, 2, 3));
+    assert!(rt; insert(&mut again, 2, 3));
     Ok(())
 }
 
@@ -177,8 +180,8 @@ fn what_came_after_the_last_look_of_the_crew_is_not_in_the_end(
 fn five_and_nine(alloc: Global) -> Result<Trie, BeginError> {
     let (round, mut crew) = opened(alloc, 4, 1, 2)?;
     if let Ok(mut pass) = next_pass(&mut crew, &round) {
-        put(&mut pass, 4, 9);
-        put(&mut pass, 4, 5);
+        insert(&mut pass, 4, 9);
+        insert(&mut pass, 4, 5);
         crew.back(pass);
     }
     Ok(round.end(crew))

@@ -1,12 +1,13 @@
 //! Walks and queries on a snapshot, before and after later updates.
 ghost use Rattle.std.specs.Prelude.{◌≡◌, ℕ, ◌+◌, ◌*◌, ◌^◌, ◌<◌, ◌≤◌, length};
 ghost use Rattle.aug_model.specs.Folds.{summary_of};
-ghost use Rattle.aug_model.specs.Queries.{rank_of};
+ghost use Rattle.aug_model.specs.Keys.{list_of};
+ghost use Rattle.aug_model.specs.Queries.{rank_of, weight_of};
 ghost use Rattle.aug_trie.specs.Facts.{HasSnapshot, snapshot_cut};
 ghost use Rattle.aug_trie.specs.Nodes.{HasNode, Reads, set_at};
 ghost use Rattle.aug_trie.specs.TreeOf.{IsTreeOf};
 
-use super::{next_pass, opened, put};
+use super::{insert, next_pass, opened};
 use crate::error::BeginError;
 use crate::node::Node;
 use crate::pass::Pass;
@@ -21,7 +22,7 @@ fn rank_twice<A: Monoid, B: Monoid>(pass: &mut Pass<'_, A, B>, s: Snapshot, k: u
     requires snapshot { HasSnapshot pass.old s.number }
     requires key { k < 2 ^ pass.old.round.bits }
     requires budget { pass.old.spent < pass.old.round.updates }
-    ensures answer { result.0 ≡ rank_of (set_at pass.old s).list k }
+    ensures answer { result.0 ≡ rank_of (list_of (set_at pass.old s)) k }
     ensures again { result.1 ≡ result.0 }
     ensures snapshot { HasSnapshot pass.new s.number }
     ensures same_cut { snapshot_cut pass.new s.number ≡ snapshot_cut pass.old s.number }
@@ -29,6 +30,26 @@ fn rank_twice<A: Monoid, B: Monoid>(pass: &mut Pass<'_, A, B>, s: Snapshot, k: u
     let first = pass.rank(s, k);
     pass.insert(k);
     (first, pass.rank(s, k))
+}
+
+// The weight of a key in one snapshot, before and after the key is put in with another.
+fn weight_twice<A: Monoid, B: Monoid>(
+    pass: &mut Pass<'_, A, B>,
+    s: Snapshot,
+    k: u32,
+    weight: u32,
+) -> (Option<u32>, Option<u32>)
+    requires snapshot { HasSnapshot pass.old s.number }
+    requires key { k < 2 ^ pass.old.round.bits }
+    requires budget { pass.old.spent < pass.old.round.updates }
+    ensures answer { result.0 ≡ weight_of (set_at pass.old s).pairs k }
+    ensures again { result.1 ≡ result.0 }
+    ensures snapshot { HasSnapshot pass.new s.number }
+    ensures same_cut { snapshot_cut pass.new s.number ≡ snapshot_cut pass.old s.number }
+{
+    let first = pass.weight(s, k);
+    pass.put(k, weight);
+    (first, pass.weight(s, k))
 }
 
 // The left child of a node, loaded after a key was taken out: it is of the tree that the node is of.
@@ -92,6 +113,34 @@ fn a_snapshot_stays_what_it_was(rt: HostRuntime) -> Result<(), BeginError> {
     Ok(())
 }
 
+// How many members the root's children cover.
+fn halves<A: Monoid, B: Monoid>(pass: &mut Pass<'_, A, B>, s: Snapshot) -> (u32, u32)
+    requires snapshot { HasSnapshot pass.old s.number }
+    ensures snapshot { HasSnapshot pass.new s.number }
+{
+    let top = pass.top(&s);
+    if top.level() == 0 {
+        return (0, 0);
+    }
+    (
+        pass.left(&top).summary().count,
+        pass.right(&top).summary().count,
+    )
+}
+
+// Which members are at the place 1, below 9, above 9 and at the place 2.
+fn neighbours<A: Monoid, B: Monoid>(pass: &mut Pass<'_, A, B>, s: Snapshot) -> [Option<u32>; 4]
+    requires snapshot { HasSnapshot pass.old s.number }
+    ensures snapshot { HasSnapshot pass.new s.number }
+{
+    [
+        pass.select(s, 1),
+        pass.before(s, 9),
+        pass.after(s, 9),
+        pass.select(s, 2),
+    ]
+}
+
 // What each query answers of 5 and 9 on a snapshot, and the keys that the root's children cover.
 fn asked<A: Monoid, B: Monoid>(
     pass: &mut Pass<'_, A, B>,
@@ -99,23 +148,11 @@ fn asked<A: Monoid, B: Monoid>(
 ) -> ([u32; 4], [Option<u32>; 4], [bool; 2])
     requires snapshot { HasSnapshot pass.old s.number }
 {
-    let top = pass.top(&s);
-    let counts = if top.level() == 0 {
-        (0, 0)
-    } else {
-        (
-            pass.left(&top).summary().count,
-            pass.right(&top).summary().count,
-        )
-    };
+    let (left, right) = halves(pass, s);
+    let keys = neighbours(pass, s);
     (
-        [pass.size(s), pass.rank(s, 9), counts.0, counts.1],
-        [
-            pass.select(s, 1),
-            pass.before(s, 9),
-            pass.after(s, 9),
-            pass.select(s, 2),
-        ],
+        [pass.size(s), pass.rank(s, 9), left, right],
+        keys,
         [pass.has(s, 5), pass.has(s, 6)],
     )
 }
@@ -135,7 +172,7 @@ fn listed(
 fn each_query_answers(rt: HostRuntime) -> Result<(), BeginError> {
     let (round, mut crew) = opened(rt.alloc(), 4, 1, 2)?;
     let mut pass = next_pass(&mut crew, &round).expect(&rt, "a lane");
-    assert!(rt; put(&mut pass, 4, 9) && put(&mut pass, 4, 5));
+    assert!(rt; insert(&mut pass, 4, 9) && insert(&mut pass, 4, 5));
     let s = pass.snapshot();
     let (counts, keys, there) = asked(&mut pass, s);
     assert_eq!(rt; counts, [2, 1, 1, 1]);

@@ -2,7 +2,7 @@
 //! begins a round.
 ghost use Rattle.std.specs.Prelude.{◌≡◌, IfOk};
 
-use super::{Hands, Table, Trie, next_pass, opened, put};
+use super::{Hands, Table, Trie, insert, next_pass, opened};
 use crate::{BeginError, Pass, Round};
 use aug_monoid::{Extent, Sum};
 use aug_query::{after, before, has, keys, range, rank, select, size};
@@ -13,8 +13,8 @@ use std::process::Abort;
 fn five_and_nine(alloc: Global) -> Result<Trie, BeginError> {
     let (round, mut crew) = opened(alloc, 16, 1, 2)?;
     if let Ok(mut pass) = next_pass(&mut crew, &round) {
-        put(&mut pass, 16, 9);
-        put(&mut pass, 16, 5);
+        insert(&mut pass, 16, 9);
+        insert(&mut pass, 16, 5);
         crew.back(pass);
     }
     Ok(round.end(crew))

@@ -2,18 +2,19 @@
 ghost use Rattle.std.specs.Prelude.{◌≡◌, ◌+◌, IfOk, IfSome};
 
 use super::ending::{counts, next_round, seen_size, sees};
-use super::{Table, Trie, next_pass, opened, put, take};
+use super::{Table, Trie, insert, next_pass, opened, remove};
 use crate::{BeginError, Climb, Pass, Turn};
+use aug_model::Outcome;
 use aug_monoid::{Extent, Sum};
 use aug_query::{has, size};
 use std::alloc::Global;
 
-type Walker<'r> = Pass<'r, Sum, Extent>;
+pub(super) type Walker<'r> = Pass<'r, Sum, Extent>;
 
-type Climber<'r> = Climb<'r, Sum, Extent>;
+pub(super) type Climber<'r> = Climb<'r, Sum, Extent>;
 
 // So many turns, none of which is the last.
-fn turns<'r>(climb: Climber<'r>, count: u32) -> Option<Climber<'r>>
+pub(super) fn turns<'r>(climb: Climber<'r>, count: u32) -> Option<Climber<'r>>
     ensures { IfSome result (λ now. now.start ≡ climb.entry.start) }
 {
     let mut climb = climb;
@@ -26,18 +27,18 @@ fn turns<'r>(climb: Climber<'r>, count: u32) -> Option<Climber<'r>>
     Some(climb)
 }
 
-// The last turn, and what it answers.
-fn last<'r>(climb: Climber<'r>) -> Option<(Walker<'r>, bool)>
+// The last turn, and what the update came to.
+pub(super) fn last<'r>(climb: Climber<'r>) -> Option<(Walker<'r>, Outcome)>
     ensures { IfSome result (λ t. t.0.round ≡ climb.entry.start.round) }
 {
     match climb.turn() {
         Turn::More(_) => None,
-        Turn::Done(pass, done) => Some((pass, done)),
+        Turn::Done(pass, outcome) => Some((pass, outcome)),
     }
 }
 
-// All turns: the pass, what the last one answers, and how many there were.
-fn to_the_end<'r>(climb: Climber<'r>) -> Option<(Walker<'r>, bool, u32)>
+// All turns: the pass, what the update came to, and how many there were.
+pub(super) fn to_the_end<'r>(climb: Climber<'r>) -> Option<(Walker<'r>, Outcome, u32)>
     ensures round { IfSome result (λ t. t.0.round ≡ climb.entry.start.round) }
     ensures spent { IfSome result (λ t. t.0.spent ≡ climb.entry.start.spent + 1) }
 {
@@ -46,7 +47,7 @@ fn to_the_end<'r>(climb: Climber<'r>) -> Option<(Walker<'r>, bool, u32)>
     for made in 0..most {
         match climb.turn() {
             Turn::More(next) => climb = next,
-            Turn::Done(pass, done) => return Some((pass, done, made + 1)),
+            Turn::Done(pass, outcome) => return Some((pass, outcome, made + 1)),
         }
     }
     None
@@ -59,12 +60,12 @@ fn turns_alone_in_a_round_are_the_least(rt: HostRuntime) -> Result<(), BeginErro
         let pass = next_pass(&mut crew, &round).expect(&rt, "a lane");
         let climb = pass.start_insert(0);
         assert_eq!(rt; climb.turns_left(), most);
-        let (pass, done, made) = to_the_end(climb).expect(&rt, "an end");
-        assert_eq!(rt; (done, made), (true, new));
+        let (pass, outcome, made) = to_the_end(climb).expect(&rt, "an end");
+        assert_eq!(rt; (outcome, made), (Outcome::Accepted, new));
         let climb = pass.start_insert(0);
         assert_eq!(rt; climb.turns_left(), most);
-        let (mut pass, done, made) = to_the_end(climb).expect(&rt, "an end");
-        assert_eq!(rt; (done, made), (false, again));
+        let (mut pass, outcome, made) = to_the_end(climb).expect(&rt, "an end");
+        assert_eq!(rt; (outcome, made), (Outcome::Refused, again));
         assert_eq!(rt; (pass.inserts(), pass.removals(), pass.budget()), (1, 0, 0));
         assert_eq!(rt; seen_size(&mut pass), 1);
     }
@@ -75,14 +76,14 @@ fn turns_alone_in_a_round_are_the_least(rt: HostRuntime) -> Result<(), BeginErro
 fn a_removal_by_turns_takes_the_key_out(rt: HostRuntime) -> Result<(), BeginError> {
     let (round, mut crew) = opened(rt.alloc(), 2, 1, 3)?;
     let mut pass = next_pass(&mut crew, &round).expect(&rt, "a lane");
-    assert!(rt; put(&mut pass, 2, 3));
+    assert!(rt; insert(&mut pass, 2, 3));
     if pass.budget() < 2 {
         panic!(rt; "no budget")
     }
-    let (pass, done, made) = to_the_end(pass.start_remove(3)).expect(&rt, "an end");
-    assert_eq!(rt; (done, made), (true, 26));
-    let (mut pass, done, made) = to_the_end(pass.start_remove(3)).expect(&rt, "an end");
-    assert_eq!(rt; (done, made), (false, 25));
+    let (pass, outcome, made) = to_the_end(pass.start_remove(3)).expect(&rt, "an end");
+    assert_eq!(rt; (outcome, made), (Outcome::Accepted, 26));
+    let (mut pass, outcome, made) = to_the_end(pass.start_remove(3)).expect(&rt, "an end");
+    assert_eq!(rt; (outcome, made), (Outcome::Refused, 25));
     assert_eq!(rt; (pass.inserts(), pass.removals(), pass.budget()), (1, 1, 0));
     assert_eq!(rt; seen_size(&mut pass), 0);
     crew.back(pass);
@@ -101,16 +102,16 @@ fn an_update_whose_tries_all_fail_is_shown(rt: HostRuntime) -> Result<(), BeginE
     let climb = a.start_insert(0);
     assert_eq!(rt; climb.turns_left(), 50);
     let climb = turns(climb, 10).expect(&rt, "before turn 11");
-    assert!(rt; put(&mut b, 2, 1));
+    assert!(rt; insert(&mut b, 2, 1));
     let climb = turns(climb, 9).expect(&rt, "before turn 20");
-    assert!(rt; take(&mut c, 2, 1));
+    assert!(rt; remove(&mut c, 2, 1));
     let climb = turns(climb, 15).expect(&rt, "before turn 35");
-    assert!(rt; put(&mut b, 2, 1));
+    assert!(rt; insert(&mut b, 2, 1));
     let climb = turns(climb, 15).expect(&rt, "before turn 50");
-    assert!(rt; take(&mut c, 2, 1));
+    assert!(rt; remove(&mut c, 2, 1));
     assert_eq!(rt; climb.turns_left(), 1);
-    let (mut a, done) = last(climb).expect(&rt, "the end at turn 50");
-    assert!(rt; done);
+    let (mut a, outcome) = last(climb).expect(&rt, "the end at turn 50");
+    assert_eq!(rt; outcome, Outcome::Accepted);
     assert!(rt; sees(&mut a, 0));
     assert_eq!(rt; seen_size(&mut a), 1);
     crew.back(a);
@@ -129,11 +130,11 @@ fn an_insertion_that_lost_its_leaf_is_refused(rt: HostRuntime) -> Result<(), Beg
     let a = next_pass(&mut crew, &round).expect(&rt, "lane 0");
     let mut b = next_pass(&mut crew, &round).expect(&rt, "lane 1");
     let climb = turns(a.start_insert(0), 1).expect(&rt, "turn 1");
-    assert!(rt; put(&mut b, 1, 0));
-    assert!(rt; take(&mut b, 1, 0));
+    assert!(rt; insert(&mut b, 1, 0));
+    assert!(rt; remove(&mut b, 1, 0));
     let climb = turns(climb, 9).expect(&rt, "turn 10");
-    let (mut a, done) = last(climb).expect(&rt, "the end at turn 11");
-    assert!(rt; !done);
+    let (mut a, outcome) = last(climb).expect(&rt, "the end at turn 11");
+    assert_eq!(rt; outcome, Outcome::Refused);
     assert_eq!(rt; seen_size(&mut a), 0);
     crew.back(a);
     crew.back(b);
@@ -144,7 +145,7 @@ fn an_insertion_that_lost_its_leaf_is_refused(rt: HostRuntime) -> Result<(), Beg
 }
 
 // What is left of an update that made two turns.
-fn nine_more<'r>(climb: Climber<'r>) -> Option<(Walker<'r>, bool)>
+fn nine_more<'r>(climb: Climber<'r>) -> Option<(Walker<'r>, Outcome)>
     ensures { IfSome result (λ t. t.0.round ≡ climb.entry.start.round) }
 {
     last(turns(climb, 8)?)
@@ -160,13 +161,15 @@ fn the_root_shows_three_changes_of_a_key_at_once(rt: HostRuntime) -> Result<(), 
     let a = turns(a.start_insert(0), 2).expect(&rt, "two turns");
     let b = turns(b.start_remove(0), 2).expect(&rt, "two turns");
     let c = turns(c.start_insert(0), 2).expect(&rt, "two turns");
-    let (mut a, a_done) = nine_more(a).expect(&rt, "the end at turn 11");
+    let (mut a, a_outcome) = nine_more(a).expect(&rt, "the end at turn 11");
     assert!(rt; sees(&mut a, 0));
-    let (mut b, b_done) = nine_more(b).expect(&rt, "the end at turn 11");
+    let (mut b, b_outcome) = nine_more(b).expect(&rt, "the end at turn 11");
     assert!(rt; sees(&mut b, 0));
-    let (mut c, c_done) = nine_more(c).expect(&rt, "the end at turn 11");
+    let (mut c, c_outcome) = nine_more(c).expect(&rt, "the end at turn 11");
     assert!(rt; sees(&mut c, 0));
-    assert_eq!(rt; (a_done, b_done, c_done), (true, true, true));
+    for outcome in [a_outcome, b_outcome, c_outcome] {
+        assert_eq!(rt; outcome, Outcome::Accepted);
+    }
     crew.back(a);
     crew.back(b);
     crew.back(c);
@@ -184,7 +187,7 @@ fn a_change_of_a_pass_given_up_is_shown_by_its_neighbour(
     let a = next_pass(&mut crew, &round).expect(&rt, "lane 0");
     let mut b = next_pass(&mut crew, &round).expect(&rt, "lane 1");
     drop(turns(a.start_insert(0), 2));
-    assert!(rt; put(&mut b, 2, 1));
+    assert!(rt; insert(&mut b, 2, 1));
     assert!(rt; sees(&mut b, 0));
     assert!(rt; sees(&mut b, 1));
     assert_eq!(rt; seen_size(&mut b), 2);
@@ -197,9 +200,9 @@ fn a_change_of_a_pass_given_up_is_shown_by_its_neighbour(
 
 // What is seen of a round of which one pass begins to put 0 in and is given up after so many turns, and the other puts a key in.
 #[derive(Clone, Copy, PartialEq, Eq, Debug)]
-struct Outcome {
+struct GivenUp {
     // What the other pass is answered, and what it then sees: how many members, and whether 0 and its key are among them.
-    put: bool,
+    went_in: bool,
     members: u32,
     zero: bool,
     key: bool,
@@ -211,7 +214,7 @@ struct Outcome {
 }
 
 // That round.
-fn given_up(alloc: Global, turned: u32, key: u32) -> Option<Outcome> {
+fn given_up(alloc: Global, turned: u32, key: u32) -> Option<GivenUp> {
     let Ok((round, mut crew)) = opened(alloc, 2, 2, 1) else {
         return None;
     };
@@ -220,7 +223,7 @@ fn given_up(alloc: Global, turned: u32, key: u32) -> Option<Outcome> {
     };
     let climb = turns(a.start_insert(0), turned)?;
     drop(climb);
-    let put_in = put(&mut b, 2, key % 4);
+    let went_in = insert(&mut b, 2, key % 4);
     let members = seen_size(&mut b);
     let (zero, seen) = (sees(&mut b, 0), sees(&mut b, key));
     crew.back(b);
@@ -232,14 +235,14 @@ fn given_up(alloc: Global, turned: u32, key: u32) -> Option<Outcome> {
     let Ok(mut pass) = next_pass(&mut crew, &round) else {
         return None;
     };
-    Some(Outcome {
-        put: put_in,
+    Some(GivenUp {
+        went_in,
         members,
         zero,
         key: seen,
         size: members_left,
         counts: counted,
-        again: put(&mut pass, 2, 0),
+        again: insert(&mut pass, 2, 0),
     })
 }
 
@@ -251,8 +254,8 @@ fn a_pass_given_up_after_each_turn_harms_nobody(rt: HostRuntime) {
         for turned in 0..26 {
             let zero = turned >= shown_from;
             let members = if zero { 2 } else { 1 };
-            let outcome = Outcome {
-                put: true,
+            let expected = GivenUp {
+                went_in: true,
                 members,
                 zero,
                 key: true,
@@ -260,7 +263,7 @@ fn a_pass_given_up_after_each_turn_harms_nobody(rt: HostRuntime) {
                 counts: (1, 0, 1),
                 again: !zero,
             };
-            assert_eq!(rt; given_up(rt.alloc(), turned, key), Some(outcome));
+            assert_eq!(rt; given_up(rt.alloc(), turned, key), Some(expected));
         }
     }
 }

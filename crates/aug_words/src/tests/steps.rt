@@ -1,5 +1,5 @@
 //! The steps of two passes on one node, driven one by one.
-ghost use Rattle.std.specs.Prelude.{◌≡◌, ◌<◌, ◌+◌, ◌%◌, ◌==◌, if◌then◌else◌, ◌++◌, ◌∷◌, [], ℕ, Some, false};
+ghost use Rattle.std.specs.Prelude.{◌≡◌, ◌<◌, ◌+◌, ◌/◌, ◌%◌, ◌^◌, ◌==◌, if◌then◌else◌, ◌++◌, ◌∷◌, [], ℕ, List, Some, false};
 ghost use Rattle.aug_core.specs.Faces.{face};
 ghost use Rattle.aug_core.specs.Lanes.{IsOfLane};
 ghost use Rattle.aug_core.specs.Places.{shape_of};
@@ -14,31 +14,45 @@ use std::alloc::Global;
 // The word of the one node.
 const NODE: usize = 2;
 
-// The first two steps of an update: the leaf is loaded, and its serial goes up by one if it is still what was loaded.
-fn change<A: Monoid, B: Monoid>(pass: &mut WordPass<'_, A, B>, leaf: usize) -> bool
+// What one serial adds to a leaf's word.
+const SERIAL: u64 = 1 << 32;
+
+// The first two steps of an insertion: the leaf is loaded, and if its key is not there, its serial goes up by one, if it is
+// still what was loaded. The key weighs its own number.
+fn insert<A: Monoid, B: Monoid>(pass: &mut WordPass<'_, A, B>, leaf: usize) -> bool
     requires shape { pass.old.view.shape ≡ shape_of 1 2 1 0 }
     requires leaf { leaf < 2 }
     requires room { MayChange pass.old.view }
     ensures same { (pass.new.table ≡ pass.old.table) × (pass.new.view.shape ≡ pass.old.view.shape) }
     ensures own { (number : ℕ) → MayStore pass.old.view number → MayStore pass.new.view number }
 {
-    let serial = pass.begin_at_leaf(leaf);
-    pass.try_leaf(leaf, serial)
+    let word = pass.begin_at_leaf(leaf);
+    let serial = word / SERIAL;
+    serial % 2 == 0 && pass.try_leaf(leaf, word, (serial + 1) * SERIAL + leaf as u64)
 }
 
-// The five words of a record over the leaves of the keys 0 and 1, by their serials.
+// The five words of a record over the leaves of the keys 0 and 1, by their words.
 fn words_over<A: Monoid, B: Monoid>(left: u64, right: u64) -> [u64; 5]
-    ensures { result ≡ face A.parts B.parts left right ((if left % 2 == 1 then 0 ∷ [] else []) ++ (if right % 2 == 1 then 1 ∷ [] else [])) }
+    ensures { let there : ℕ → ℕ → List (ℕ × ℕ) = λ key word. if word / 2 ^ 32 % 2 == 1 then (key, word % 2 ^ 32) ∷ [] else [] in
+        result ≡ face A.parts B.parts left right (there 0 left ++ there 1 right) }
 {
-    let keys: &[u32] = match (left % 2 == 1, right % 2 == 1) {
-        (false, false) => &[],
-        (true, false) => &[0],
-        (false, true) => &[1],
-        (true, true) => &[0, 1],
-    };
-    let a: A = fold_slice(keys);
-    let b: B = fold_slice(keys);
-    [left, right, keys.len() as u64, a.to_word(), b.to_word()]
+    let low = (0, (left % SERIAL) as u32);
+    let high = (1, (right % SERIAL) as u32);
+    match (left / SERIAL % 2 == 1, right / SERIAL % 2 == 1) {
+        (false, false) => words_of::<A, B>(left, right, &[]),
+        (true, false) => words_of::<A, B>(left, right, &[low]),
+        (false, true) => words_of::<A, B>(left, right, &[high]),
+        (true, true) => words_of::<A, B>(left, right, &[low, high]),
+    }
+}
+
+// The five words of a record over children of these words, with these pairs below.
+fn words_of<A: Monoid, B: Monoid>(left: u64, right: u64, pairs: &[(u32, u32)]) -> [u64; 5]
+    ensures { result ≡ face A.parts B.parts left right pairs.now }
+{
+    let a: A = fold_slice(pairs);
+    let b: B = fold_slice(pairs);
+    [left, right, pairs.len() as u64, a.to_word(), b.to_word()]
 }
 
 // Loads the node and then its two leaves, and fills the own record from them. Answers the number that was loaded.
@@ -99,15 +113,15 @@ fn next_pass<'r, A: Monoid, B: Monoid>(
 struct Outcome {
     lanes: [u32; 2],
     handed: u32,
-    changed: [bool; 2],
+    inserted: [bool; 2],
     loaded: [u64; 3],
     published: [bool; 3],
     leaves: [u64; 2],
     node: u64,
-    record: [u64; 5],
+    records: [[u64; 5]; 2],
 }
 
-// Two passes change a leaf each, load the node and its leaves, and fill a record each. The first publishes its own; the
+// Two passes put a key in each, load the node and its leaves, and fill a record each. The first publishes its own; the
 // second finds the node changed, loads it again with its leaves, fills its record again and publishes it.
 fn race(alloc: Global) -> Result<Outcome, WordsError> {
     let Ok(layout) = Layout::new(1, 2, 1, 0) else {
@@ -118,7 +132,7 @@ fn race(alloc: Global) -> Result<Outcome, WordsError> {
     let mut second = next_pass(&mut lead, &words, 1, 2);
     let lanes = [first.lane(), second.lane()];
     let handed = lead.handed();
-    let changed = [change(&mut first, 0), change(&mut second, 1)];
+    let inserted = [insert(&mut first, 0), insert(&mut second, 1)];
     let of_first = refill(&mut first, 1);
     let of_second = refill(&mut second, 2);
     let first_done = publish(&mut first, of_first, 1);
@@ -134,12 +148,12 @@ fn race(alloc: Global) -> Result<Outcome, WordsError> {
     Ok(Outcome {
         lanes,
         handed,
-        changed,
+        inserted,
         loaded: [of_first, of_second, of_again],
         published: [first_done, second_done, again_done],
         leaves: [rest.leaf(0), rest.leaf(1)],
         node: rest.node(1, 0),
-        record: super::record_at(&rest, 2),
+        records: [super::record_at(&rest, 1), super::record_at(&rest, 2)],
     })
 }
 
@@ -148,12 +162,12 @@ fn a_record_is_filled_again_after_a_lost_exchange(rt: HostRuntime) -> Result<(),
     let expected = Outcome {
         lanes: [0, 1],
         handed: 2,
-        changed: [true, true],
+        inserted: [true, true],
         loaded: [0, 0, 1],
         published: [true, false, true],
-        leaves: [1, 1],
+        leaves: [4_294_967_296, 4_294_967_297],
         node: 2,
-        record: [1, 1, 2, 1, 1],
+        records: [[4_294_967_296, 4_294_967_297, 2, 1, 1]; 2],
     };
     assert_eq!(rt; race(rt.alloc())?, expected);
     Ok(())

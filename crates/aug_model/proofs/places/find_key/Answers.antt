@@ -1,12 +1,14 @@
-use Rattle.std.proofs.Common.{ℕ, List, Result, Ok, Err, IfErr, nat_cmp}
-use Rattle.std.specs.List.Sorted.{IsStrictlyIncreasing, IsBinarySearchResult}
-use Rattle.aug_model.specs.Boundary.{WouldStandAt}
-use Rattle.aug_model.proofs.Boundaries.{find-err}
+use Rattle.std.proofs.Common.{rules}
+use Rattle.std.proofs.lemmas.List.Sorted.{answers_always}
+use Rattle.aug_model.proofs.Searches.{found, absent}
 use Rattle.aug_model.proofs.places.find_key.Goals as goal
 
-absent : (xs : List ℕ) (k : ℕ) (r : Result ℕ ℕ) → IsStrictlyIncreasing xs → IsBinarySearchResult (λ y. nat_cmp y k) xs r → IfErr r (WouldStandAt xs k)
-absent xs k (Ok i) up h = tt
-absent xs k (Err i) up h = find-err xs k i up h
+pub returns-clause-there : goal.returns-clause-there
+returns-clause-there c =
+    let by_key = c.binary_search_by_key.ensures.position (λ pair. pair.0) (answers_always _ _ _ (λ f a r g called. search rules)) in
+    found _ _ c.binary_search_by_key.result c.requires c.binary_search_by_key.ensures.bound by_key
 
 pub returns-clause-absent : goal.returns-clause-absent
-returns-clause-absent c = absent _ _ c.binary_search.result c.requires c.binary_search.ensures.position
+returns-clause-absent c =
+    let by_key = c.binary_search_by_key.ensures.position (λ pair. pair.0) (answers_always _ _ _ (λ f a r g called. search rules)) in
+    absent _ _ c.binary_search_by_key.result c.requires c.binary_search_by_key.ensures.bound by_key

@@ -1,4 +1,5 @@
 use Rattle.std.proofs.Common.{rules, ◌≡◌, refl, ap, sym, ◌∙◌, inl, inr, arith, ◌⊎◌}
+use Rattle.aug_model.specs.Keys.{list_of}
 use Rattle.aug_model.specs.Queries.{rank_of}
 use Rattle.aug_query.specs.Tree.{first_key}
 use Rattle.aug_model.proofs.Ranges.{all_below_from}
@@ -27,7 +28,7 @@ overflow_add-below g c =
     let same = c.loop-node.invariant.walks.same_set in
     let child = of_set (c.toward-step.ensures.walks.same_set ∙ same) (g.met.T.Tree.node_tells c.toward-step.new.tree c.toward-step.result.child c.toward-step.ensures.node) in
     let few = ranks_fit child (first_key (g.T.Tree.level_of c.toward-step.result.child) (g.T.Tree.place_of c.toward-step.result.child)) in
-    omega (arith, few, c.loop-node.invariant.below, c.toward-step.ensures.before, ap (λ s. rank_of s.list (first_key (g.T.Tree.level_of c.toward-step.result.child) (g.T.Tree.place_of c.toward-step.result.child))) same, ap (λ s. rank_of s.list (first_key (g.T.Tree.level_of c.loop-node.node) (g.T.Tree.place_of c.loop-node.node))) same)
+    omega (arith, few, c.loop-node.invariant.below, c.toward-step.ensures.before, ap (λ s. rank_of (list_of s) (first_key (g.T.Tree.level_of c.toward-step.result.child) (g.T.Tree.place_of c.toward-step.result.child))) same, ap (λ s. rank_of (list_of s) (first_key (g.T.Tree.level_of c.loop-node.node) (g.T.Tree.place_of c.loop-node.node))) same)
 
 pub returns-clause-answer : goal.returns-clause-answer
 returns-clause-answer g c =

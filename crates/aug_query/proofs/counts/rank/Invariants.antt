@@ -1,4 +1,5 @@
 use Rattle.std.proofs.Common.{◌≡◌, ◌+◌, ◌<◌, ◌≤◌}
+use Rattle.aug_model.specs.Keys.{list_of}
 use Rattle.aug_model.specs.Queries.{rank_of}
 use Rattle.aug_query.specs.Tree.{first_key, end_key}
 use Rattle.aug_query.proofs.Steps.{WalksLeaving}
@@ -6,7 +7,7 @@ use Rattle.aug_query.proofs.counts.rank.Given as goal
 
 abbrev pub invariant-loop-node : goal.invariant-loop-node
 invariant-loop-node g l = record {
-  below : l.below ≡ rank_of (g.T.Tree.set_of l.fn.tree).list (first_key (g.T.Tree.level_of l.node) (g.T.Tree.place_of l.node));
+  below : l.below ≡ rank_of (list_of (g.T.Tree.set_of l.fn.tree)) (first_key (g.T.Tree.level_of l.node) (g.T.Tree.place_of l.node));
   node : g.T.Tree.HasNode l.tree l.node;
   first : first_key (g.T.Tree.level_of l.node) (g.T.Tree.place_of l.node) ≤ l.k;
   end : l.k < end_key (g.T.Tree.level_of l.node) (g.T.Tree.place_of l.node);

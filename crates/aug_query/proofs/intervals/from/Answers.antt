@@ -1,24 +1,28 @@
-use Rattle.std.proofs.Common.{◌≡◌, ◌*◌, ◌≤◌, ◌⊎◌, inl, inr, ap, sym, ◌∙◌, subst, length, arith}
+use Rattle.std.proofs.Common.{refl, ◌≡◌, ◌*◌, ◌≤◌, ◌⊎◌, inl, inr, ap, sym, ◌∙◌, subst, length, arith}
 use Rattle.std.proofs.Math.Nat.{le_of_lt, le_refl}
 use Rattle.aug_model.specs.Folds.{summary_of}
-use Rattle.aug_model.specs.Queries.{range_of, rank_of}
-use Rattle.aug_query.specs.Tree.{first_key, middle_key, end_key}
+use Rattle.aug_model.proofs.Pairs.{pairs_of-append}
+use Rattle.aug_model.specs.Keys.{list_of, pairs_of}
+use Rattle.aug_model.specs.Queries.{weight_in, range_of, rank_of}
+use Rattle.aug_query.specs.Tree.{sum_of, first_key, middle_key, end_key}
 use Rattle.aug_model.proofs.Ranges.{range_cut, range_none}
-use Rattle.aug_query.proofs.Nodes.{of_set, stands, members_rise, right_covers, middle_high}
-use Rattle.aug_query.proofs.Cover.{range_are_keys, range_is_few, begins_alike, rest_alike}
+use Rattle.aug_query.proofs.Nodes.{of_set, counts, stands, members_rise, right_covers, middle_high}
+use Rattle.aug_query.proofs.Cover.{range_fits, range_is_few, begins_alike, rest_alike}
 use Rattle.aug_query.proofs.Steps.{WalksLeaving, stays, goes_on, goes_twice}
 use Rattle.aug_query.proofs.intervals.from.Goals as goal
 use Rattle.aug_query.proofs.intervals.from.Goals.{then-step-gt0, else-step-gt0, then-loop-node-test+else-summary-gt0, else-loop-node-test}
 
 pub loop-node-init : goal.loop-node-init
 loop-node-init g c =
-    let sum = summary_of g.A.Monoid.parts g.B.Monoid.parts in
+    let whole_sum = summary_of g.A.Monoid.parts g.B.Monoid.parts in
+    let pairs = (g.T.Tree.set_of c.args.tree.now).pairs in
+    let sum = sum_of whole_sum pairs in
     record {
       node = c.requires.node;
       first = c.requires.first;
       end = c.requires.end;
       no_later = le_refl _;
-      total = c.of_none-total.ensures ∙ ap sum (sym (range_none (g.T.Tree.set_of c.args.tree.now).list _ _ (le_refl _)));
+      total = c.of_none-total.ensures ∙ ap sum (sym (range_none (list_of (g.T.Tree.set_of c.args.tree.now)) _ _ (le_refl _)));
       walks = stays g.met.T.Tree.keeps_so (le_refl _);
     }
 
@@ -39,8 +43,10 @@ joined-total-requires g c =
 
 pub loop-node-preserved : goal.loop-node-preserved
 loop-node-preserved g c =
-    let sum = summary_of g.A.Monoid.parts g.B.Monoid.parts in
-    let keys = (g.T.Tree.set_of c.args.tree.now).list in
+    let whole_sum = summary_of g.A.Monoid.parts g.B.Monoid.parts in
+    let pairs = (g.T.Tree.set_of c.args.tree.now).pairs in
+    let sum = sum_of whole_sum pairs in
+    let keys = list_of (g.T.Tree.set_of c.args.tree.now) in
     let inv = c.loop-node.invariant in
     let step = c.toward-step.ensures in
     let child = c.toward-step.result.child in
@@ -56,7 +62,7 @@ loop-node-preserved g c =
           let right = of_set (w.right-right.ensures.walks.same_set ∙ step.walks.same_set ∙ same) (g.met.T.Tree.node_tells w.right-right.new.self w.right-right.result w.right-right.ensures.node) in
           let told = w.summary-then-step-gt0.ensures ∙ right.tells ∙ ap sum (right_covers keys _ _ _ _ w.right-right.ensures.level w.right-right.ensures.place) in
           let whole = range_cut keys middle high last (members_rise node) (le_of_lt (middle_high _ _ (omega (arith, step.level)))) inv.no_later in
-          let all = w.joined-total.ensures (range_of keys middle high) (range_of keys high last) (range_are_keys node.is_tree_set middle high) (range_are_keys node.is_tree_set high last) told inv.total in
+          let all = (w.joined-total.ensures (pairs_of (weight_in pairs) (range_of keys middle high)) (pairs_of (weight_in pairs) (range_of keys high last)) (range_fits node.is_tree_set middle high) (range_fits node.is_tree_set high last) told inv.total ∙ ap whole_sum (sym (pairs_of-append (weight_in pairs) (range_of keys middle high) (range_of keys high last)))) in
           record {
             node = subst (λ t. g.T.Tree.HasNode t child) (sym w.tree-is) (w.right-right.ensures.walks.keeps_nodes child step.node);
             first = step.first;
@@ -66,7 +72,7 @@ loop-node-preserved g c =
             walks = subst (λ t. WalksLeaving g.T.Tree.set_of g.T.Tree.calls_of g.T.Tree.HasNode g.T.Tree.KeepsRest (2 * g.T.Tree.level_of c.args.node) (2 * g.T.Tree.level_of child) c.args.tree.now t) (sym w.tree-is) (goes_twice g.met.T.Tree.keeps_on inv.walks step.walks w.right-right.ensures.walks (omega (arith, step.level)));
           }
       | else-step-gt0 w ↦
-          let ranks : rank_of keys low ≡ rank_of keys high = omega (arith, step.after, w.if-step-gt0.false, ap (λ s. rank_of s.list low) same, ap (λ s. rank_of s.list high) same) in
+          let ranks : rank_of keys low ≡ rank_of keys high = omega (arith, step.after, w.if-step-gt0.false, ap (λ s. rank_of (list_of s) low) same, ap (λ s. rank_of (list_of s) high) same) in
           record {
             node = subst (λ t. g.T.Tree.HasNode t child) (sym w.tree-is) step.node;
             first = step.first;
@@ -89,8 +95,10 @@ joined-requires g c =
 
 pub returns-clause-answer : goal.returns-clause-answer
 returns-clause-answer g c =
-    let sum = summary_of g.A.Monoid.parts g.B.Monoid.parts in
-    let keys = (g.T.Tree.set_of c.args.tree.now).list in
+    let whole_sum = summary_of g.A.Monoid.parts g.B.Monoid.parts in
+    let pairs = (g.T.Tree.set_of c.args.tree.now).pairs in
+    let sum = sum_of whole_sum pairs in
+    let keys = list_of (g.T.Tree.set_of c.args.tree.now) in
     let inv = c.loop-node.invariant in
     let a = c.args.a in
     let node = of_set inv.walks.same_set (g.met.T.Tree.node_tells c.loop-node.tree c.loop-node.node inv.node) in
@@ -99,11 +107,11 @@ returns-clause-answer g c =
     let last = end_key (g.T.Tree.level_of c.args.node) (g.T.Tree.place_of c.args.node) in
     let ended : (first ≡ a) ⊎ (length (range_of keys first high) ≡ 0) =
     elim c.loop-node-test.branch [
-      | then-loop-node-test+else-summary-gt0 w ↦ inr (omega (arith, w.if-summary-gt0.false, ap (λ s. s.count) w.summary.ensures, ap (λ s. s.count) node.tells))
+      | then-loop-node-test+else-summary-gt0 w ↦ inr (omega (arith, w.if-summary-gt0.false, ap (λ s. s.count) w.summary.ensures, counts node (λ _. refl)))
       | else-loop-node-test w ↦ inl (omega (arith, inv.first, w.loop-node-test.false, c.first.ensures))
     ] in
     let told = c.summary-2.ensures ∙ node.tells ∙ ap sum (rest_alike keys first a high (members_rise node) inv.first (le_of_lt inv.end) ended) in
-    c.joined.ensures (range_of keys a high) (range_of keys high last) (range_are_keys node.is_tree_set a high) (range_are_keys node.is_tree_set high last) told inv.total
+    (c.joined.ensures (pairs_of (weight_in pairs) (range_of keys a high)) (pairs_of (weight_in pairs) (range_of keys high last)) (range_fits node.is_tree_set a high) (range_fits node.is_tree_set high last) told inv.total ∙ ap whole_sum (sym (pairs_of-append (weight_in pairs) (range_of keys a high) (range_of keys high last))))
     ∙ ap sum (sym (range_cut keys a high last (members_rise node) (le_of_lt inv.end) inv.no_later))
 
 pub first-requires : goal.first-requires

@@ -1,7 +1,8 @@
 use Rattle.std.proofs.Common.{◌≡◌, ◌*◌, ◌<◌, ◌≤◌}
 use Rattle.aug_model.specs.Folds.{summary_of}
+use Rattle.aug_model.specs.Keys.{list_of}
 use Rattle.aug_model.specs.Queries.{range_of}
-use Rattle.aug_query.specs.Tree.{first_key, end_key}
+use Rattle.aug_query.specs.Tree.{sum_of, first_key, end_key}
 use Rattle.aug_query.proofs.Steps.{WalksLeaving}
 use Rattle.aug_query.proofs.intervals.until.Given as goal
 
@@ -11,7 +12,7 @@ invariant-loop-node g l = record {
   first : first_key (g.T.Tree.level_of l.node) (g.T.Tree.place_of l.node) ≤ l.b;
   end : l.b < end_key (g.T.Tree.level_of l.node) (g.T.Tree.place_of l.node);
   no_earlier : first_key (g.T.Tree.level_of l.fn.node) (g.T.Tree.place_of l.fn.node) ≤ first_key (g.T.Tree.level_of l.node) (g.T.Tree.place_of l.node);
-  total : l.total ≡ summary_of g.A.Monoid.parts g.B.Monoid.parts (range_of (g.T.Tree.set_of l.fn.tree).list (first_key (g.T.Tree.level_of l.fn.node) (g.T.Tree.place_of l.fn.node)) (first_key (g.T.Tree.level_of l.node) (g.T.Tree.place_of l.node)));
+  total : l.total ≡ sum_of (summary_of g.A.Monoid.parts g.B.Monoid.parts) (g.T.Tree.set_of l.fn.tree).pairs (range_of (list_of (g.T.Tree.set_of l.fn.tree)) (first_key (g.T.Tree.level_of l.fn.node) (g.T.Tree.place_of l.fn.node)) (first_key (g.T.Tree.level_of l.node) (g.T.Tree.place_of l.node)));
   walks : WalksLeaving g.T.Tree.set_of g.T.Tree.calls_of g.T.Tree.HasNode g.T.Tree.KeepsRest (2 * g.T.Tree.level_of l.fn.node) (2 * g.T.Tree.level_of l.node) l.fn.tree l.tree;
 }
 

@@ -1,16 +1,23 @@
 use Rattle.std.proofs.Common.{◌+◌, ◌≤◌, ◌∷◌, ◌++◌, [], length, vec_len, vec_capacity, refl, ap, sym, ◌∙◌, arith, rules, append_assoc}
 use Rattle.std.proofs.Math.Nat.{le_refl}
+use Rattle.aug_model.specs.Keys.{list_of}
 use Rattle.aug_query.specs.Tree.{below_node}
 use Rattle.aug_query.proofs.Nodes.{of_set, counts, left_leaves, children_count}
 use Rattle.aug_query.proofs.Ends.{leaf_member, all_left, both_cover}
 use Rattle.aug_query.proofs.Steps.{one_call, both_walk, calls_for_one, calls_for_both}
+use Rattle.aug_query.proofs.Listed.{items, items-append}
 use Rattle.aug_query.proofs.listing.+list_members.Goals as goal
 
 pub returns-then-level-eq0-clause-answer : goal.returns-then-level-eq0-clause-answer
 returns-then-level-eq0-clause-answer g t c =
     let node = g.met.T.Tree.node_tells c.args.tree.now c.args.node.now c.requires.node in
     let leaf = leaf_member (λ _. refl) node (omega (arith, c.level.ensures, c.if-level-eq0.true)) (omega (arith, c.if-count-eq0.false, ap (λ s. s.count) c.summary-count.ensures)) in
-    c.push_reserved.ensures.items ∙ ap (λ xs. c.args.list.now.items ++ xs) (ap (λ k. k ∷ []) c.place.ensures ∙ sym leaf)
+    let key = g.T.Tree.place_of c.args.node.now in
+    let pairs = (g.T.Tree.set_of c.args.tree.now).pairs in
+    let item = g.I.Item.item_of in
+    let weighs = c.weight.ensures ∙ g.met.T.Tree.leaf_weighs c.args.tree.now c.args.node.now c.requires.node (sym c.level.ensures ∙ c.if-level-eq0.true) in
+    let told = c.of_member.ensures ∙ ap (λ k. item k c.weight.result) c.place.ensures ∙ ap (item key) weighs in
+    c.push_reserved.ensures.items ∙ ap (λ xs. c.args.list.now.items ++ xs) (ap (λ x. x ∷ []) told ∙ sym (ap (items item pairs) leaf))
 
 pub returns-then-level-eq0-clause-count : goal.returns-then-level-eq0-clause-count
 returns-then-level-eq0-clause-count g t c =
@@ -41,7 +48,7 @@ list_members-requires-then-summary-count g t c κs within =
 
 pub returns-then-summary-count-clause-answer : goal.returns-then-summary-count-clause-answer
 returns-then-summary-count-clause-answer g t c =
-    let keys = (g.T.Tree.set_of c.args.tree.now).list in
+    let keys = list_of (g.T.Tree.set_of c.args.tree.now) in
     let old = c.args.list.now.items in
     let step = c.left-left.ensures in
     let further = c.right-right.ensures in
@@ -49,11 +56,13 @@ returns-then-summary-count-clause-answer g t c =
     let node = g.met.T.Tree.node_tells c.args.tree.now c.args.node.now c.requires.node in
     let low = below_node keys (g.T.Tree.level_of c.left-left.result) (g.T.Tree.place_of c.left-left.result) in
     let high = below_node keys (g.T.Tree.level_of c.right-right.result) (g.T.Tree.place_of c.right-right.result) in
-    let front = c.list_members.ensures.answer ∙ ap (λ s. old ++ below_node s.list (g.T.Tree.level_of c.left-left.result) (g.T.Tree.place_of c.left-left.result)) step.walks.same_set in
+    let listed = items g.I.Item.item_of in
+    let pairs = (g.T.Tree.set_of c.args.tree.now).pairs in
+    let front = c.list_members.ensures.answer ∙ ap (λ s. old ++ listed s.pairs (below_node (list_of s) (g.T.Tree.level_of c.left-left.result) (g.T.Tree.place_of c.left-left.result))) step.walks.same_set in
     c.list_members-then-summary-count.ensures.answer
-    ∙ ap (λ s. c.list_members.new.list.items ++ below_node s.list (g.T.Tree.level_of c.right-right.result) (g.T.Tree.place_of c.right-right.result)) same
-    ∙ ap (λ xs. xs ++ high) front ∙ append_assoc old low high
-    ∙ ap (λ xs. old ++ xs) (both_cover (λ _. refl) node _ _ _ _ step.level step.place further.level further.place)
+    ∙ ap (λ s. c.list_members.new.list.items ++ listed s.pairs (below_node (list_of s) (g.T.Tree.level_of c.right-right.result) (g.T.Tree.place_of c.right-right.result))) same
+    ∙ ap (λ xs. xs ++ listed pairs high) front ∙ append_assoc old (listed pairs low) (listed pairs high) ∙ ap (λ xs. old ++ xs) (sym (items-append g.I.Item.item_of pairs low high))
+    ∙ ap (λ xs. old ++ listed pairs xs) (both_cover (λ _. refl) node _ _ _ _ step.level step.place further.level further.place)
 
 pub returns-then-summary-count-clause-count : goal.returns-then-summary-count-clause-count
 returns-then-summary-count-clause-count g t c =
@@ -85,8 +94,9 @@ returns-clause-answer g t c =
     let step = c.left-left.ensures in
     let node = g.met.T.Tree.node_tells c.args.tree.now c.args.node.now c.requires.node in
     let left = of_set step.walks.same_set (g.met.T.Tree.node_tells c.left-left.new.self c.left-left.result step.node) in
-    c.list_members.ensures.answer ∙ ap (λ s. old ++ below_node s.list (g.T.Tree.level_of c.left-left.result) (g.T.Tree.place_of c.left-left.result)) step.walks.same_set
-    ∙ ap (λ xs. old ++ xs) (all_left (λ _. refl) node _ _ step.level step.place (omega (arith, c.if-summary-count.false, ap (λ s. s.count) c.summary.ensures, ap (λ s. s.count) c.summary-count.ensures, left_leaves (λ _. refl) node left step.level step.place)))
+    let listed = items g.I.Item.item_of in
+    c.list_members.ensures.answer ∙ ap (λ s. old ++ listed s.pairs (below_node (list_of s) (g.T.Tree.level_of c.left-left.result) (g.T.Tree.place_of c.left-left.result))) step.walks.same_set
+    ∙ ap (λ xs. old ++ listed (g.T.Tree.set_of c.args.tree.now).pairs xs) (all_left (λ _. refl) node _ _ step.level step.place (omega (arith, c.if-summary-count.false, ap (λ s. s.count) c.summary.ensures, ap (λ s. s.count) c.summary-count.ensures, left_leaves (λ _. refl) node left step.level step.place)))
 
 pub returns-clause-count : goal.returns-clause-count
 returns-clause-count g t c =

@@ -1,4 +1,5 @@
 use Rattle.std.proofs.Common.{rules, le_of_lt, ◌≡◌, ◌⊎◌, inl, inr, refl, ap, sym, ◌∙◌, subst, arith}
+use Rattle.aug_model.specs.Keys.{list_of}
 use Rattle.aug_model.specs.Queries.{before_of, last_of}
 use Rattle.aug_query.specs.Tree.{below_node, first_key}
 use Rattle.aug_query.proofs.Orders.{rank_none}
@@ -14,8 +15,8 @@ returns-then-universe-k-clause-answer g c =
     let same = c.top-node.ensures.walks.same_set in
     let top = g.met.T.Tree.node_tells c.top-node.new.self c.top-node.result c.top-node.ensures.node in
     let covers = top_covers top (c.top-node.ensures.level ∙ sym (ap (λ s. s.bits) same)) c.top-node.ensures.place in
-    let past = before_past (g.T.Tree.set_of c.top-node.new.self).list c.args.k _ (members_below top) (omega (arith, c.universe.ensures.value)) in
-    c.greatest.ensures.answer ∙ ap last_of covers ∙ sym past ∙ ap (λ s. before_of s.list c.args.k) same
+    let past = before_past (list_of (g.T.Tree.set_of c.top-node.new.self)) c.args.k _ (members_below top) (omega (arith, c.universe.ensures.value)) in
+    c.greatest.ensures.answer ∙ ap last_of covers ∙ sym past ∙ ap (λ s. before_of (list_of s) c.args.k) same
 
 pub loop-node-init : goal.loop-node-init
 loop-node-init g c = record {
@@ -35,7 +36,7 @@ returns-in_err-parent-clause-answer g c =
       | then-loop-node-test+else-summary-gt0 w ↦ inr (let same = ap (λ s. s.count) w.summary.ensures in omega (arith, same))
       | else-loop-node-test w ↦ inl (omega arith)
     ] in
-    let kept = subst (KeepsBefore (g.T.Tree.HasNode c.loop-node.tree) g.T.Tree.level_of g.T.Tree.place_of (g.T.Tree.set_of c.args.tree.now).list c.args.k (first_key (g.T.Tree.level_of c.loop-node.node) (g.T.Tree.place_of c.loop-node.node))) c.in_err-parent.was inv.kept in
+    let kept = subst (KeepsBefore (g.T.Tree.HasNode c.loop-node.tree) g.T.Tree.level_of g.T.Tree.place_of (list_of (g.T.Tree.set_of c.args.tree.now)) c.args.k (first_key (g.T.Tree.level_of c.loop-node.node) (g.T.Tree.place_of c.loop-node.node))) c.in_err-parent.was inv.kept in
     c.from_residual.ensures ∙ sym (before_none _ c.args.k (sym (rank_is c.args.k node (λ _. refl) inv.first inv.end last) ∙ kept))
 
 pub returns-clause-answer : goal.returns-clause-answer
@@ -47,8 +48,8 @@ returns-clause-answer g c =
       | then-loop-node-test+else-summary-gt0 w ↦ inr (let same = ap (λ s. s.count) w.summary.ensures in omega (arith, same))
       | else-loop-node-test w ↦ inl (omega arith)
     ] in
-    let kept = subst (KeepsBefore (g.T.Tree.HasNode c.loop-node.tree) g.T.Tree.level_of g.T.Tree.place_of (g.T.Tree.set_of c.args.tree.now).list c.args.k (first_key (g.T.Tree.level_of c.loop-node.node) (g.T.Tree.place_of c.loop-node.node))) c.in_ok-parent.was inv.kept in
+    let kept = subst (KeepsBefore (g.T.Tree.HasNode c.loop-node.tree) g.T.Tree.level_of g.T.Tree.place_of (list_of (g.T.Tree.set_of c.args.tree.now)) c.args.k (first_key (g.T.Tree.level_of c.loop-node.node) (g.T.Tree.place_of c.loop-node.node))) c.in_ok-parent.was inv.kept in
     let ends = before_ends _ c.args.k _ _ _ (members_rise node) kept.1 (rank_is c.args.k node (λ _. refl) inv.first inv.end last) (le_of_lt (low_middle _ _ kept.1.inner)) in
     let same = c.left-left.ensures.walks.same_set ∙ inv.walks.same_set in
-    c.greatest-2.ensures.answer ∙ ap (λ s. last_of (below_node s.list (g.T.Tree.level_of c.left-left.result) (g.T.Tree.place_of c.left-left.result))) same
+    c.greatest-2.ensures.answer ∙ ap (λ s. last_of (below_node (list_of s) (g.T.Tree.level_of c.left-left.result) (g.T.Tree.place_of c.left-left.result))) same
     ∙ ap last_of (left_covers _ _ _ _ _ c.left-left.ensures.level c.left-left.ensures.place) ∙ sym ends

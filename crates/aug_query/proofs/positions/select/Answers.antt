@@ -1,4 +1,5 @@
 use Rattle.std.proofs.Common.{rules, Some, refl, ap, sym, ◌∙◌, arith}
+use Rattle.aug_model.specs.Keys.{list_of}
 use Rattle.aug_query.proofs.Orders.{rank_none, select_past}
 use Rattle.aug_query.proofs.Nodes.{of_set, members_rise, members_below, top_first, top_counts}
 use Rattle.aug_query.proofs.Descents.{select_ends}
@@ -14,7 +15,7 @@ pub loop-tree-init : goal.loop-tree-init
 loop-tree-init g c = record {
   node = c.top-node.ensures.node;
   within = omega (arith, ap (λ s. s.count) c.summary.ensures);
-  same = omega (arith, rank_none (g.T.Tree.set_of c.args.tree.now).list _ (top_first (g.T.Tree.level_of c.top-node.result) _ c.top-node.ensures.place));
+  same = omega (arith, rank_none (list_of (g.T.Tree.set_of c.args.tree.now)) _ (top_first (g.T.Tree.level_of c.top-node.result) _ c.top-node.ensures.place));
   walks = search rules;
 }
 

@@ -1,13 +1,15 @@
-use Rattle.std.proofs.Common.{ℕ, ◌+◌, ◌^◌, ◌<◌, List, [], ◌∷◌, ◌++◌, length, refl, sym, subst, ap, ◌∙◌, arith, inl, inr, length-append}
+use Rattle.std.proofs.Common.{Option, unwrap_or, ℕ, ◌+◌, ◌^◌, ◌<◌, List, [], ◌∷◌, ◌++◌, length, refl, sym, subst, ap, ◌∙◌, arith, inl, inr, length-append}
 use Rattle.std.proofs.lemmas.Bool.{cases_lt}
-use Rattle.std.proofs.lemmas.List.{get_or_push, get_or_append_left}
+use Rattle.std.proofs.lemmas.List.{get_or_push, get_or_append_left, map-append}
 use Rattle.std.proofs.lemmas.List.Elements.{All-push, All-weaker}
 use Rattle.std.specs.List.{All}
 use Rattle.std.specs.List.Sorted.{IsStrictlyIncreasing}
-use Rattle.aug_model.specs.Keys.{IsKeySet}
+use Rattle.aug_model.specs.Keys.{IsKeySet, keys_of}
+use Rattle.aug_monoid.specs.Weighted.{FitsPair}
+use Rattle.aug_model.proofs.Pairs.{weight_fits}
 use Rattle.aug_query.proofs.Nodes.{wrapped_universe}
 use Rattle.aug_query.proofs.tests.tree_of.Goals as goal
-use Rattle.aug_query.proofs.tests.tree_of.Goals.{then-has+in_ok-push, else-has}
+use Rattle.aug_query.proofs.tests.tree_of.Goals.{in-Some+in_ok-push, in_default}
 
 -- rising numbers rise still with a greater one at their end
 rises_push : (xs : List ℕ) (k : ℕ) → IsStrictlyIncreasing xs → All (λ x. x < k) xs → IsStrictlyIncreasing (xs ++ k ∷ [])
@@ -21,22 +23,32 @@ pub loop-k-preserved : goal.loop-k-preserved
 loop-k-preserved c =
     let k = c.loop-k.k in
     let inv = c.loop-k.invariant in
-    let weaker = λ (xs : List ℕ). All-weaker (λ x. x < k) (λ x. x < k + 1) (λ x h. omega arith) xs in
-    elim c.if-has.branch [
-      | then-has+in_ok-push w ↦
+    let old = c.loop-k.list.items in
+    let weaker = All-weaker (λ x. x < k) (λ x. x < k + 1) (λ x h. omega arith) (keys_of old) inv.below in
+    elim c.match-weight.branch [
+      | in-Some+in_ok-push w ↦
           let items = ap (λ v. v.items) w.list-is ∙ w.in_ok-push.ensures.items in
+          let keys = ap keys_of items ∙ map-append (λ p. p.0) old ((k, w.in-Some.weight) ∷ []) in
+          let known = ap (λ (o : Option ℕ). unwrap_or o 0) w.in-Some.ensures in
+          let fits : FitsPair (k, w.in-Some.weight) = (omega (arith, c.loop-k-test.true), omega (arith, known, weight_fits c.args.set.now.pairs k c.bits-bits.ensures.fit)) in
           record {
-            rising = subst IsStrictlyIncreasing (sym items) (rises_push _ k inv.rising inv.below);
-            below = subst (All (λ x. x < k + 1)) (sym items) (All-push (λ x. x < k + 1) _ k (weaker _ inv.below) (omega arith));
+            rising = subst IsStrictlyIncreasing (sym keys) (rises_push (keys_of old) k inv.rising inv.below);
+            below = subst (All (λ x. x < k + 1)) (sym keys) (All-push (λ x. x < k + 1) (keys_of old) k weaker (omega arith));
+            fit = subst (All FitsPair) (sym items) (All-push FitsPair old (k, w.in-Some.weight) inv.fit fits);
           }
-      | else-has w ↦
+      | in_default w ↦
           let items = ap (λ v. v.items) w.list-is in
-          record { rising = subst IsStrictlyIncreasing (sym items) inv.rising; below = subst (All (λ x. x < k + 1)) (sym items) (weaker _ inv.below) }
+          let keys = ap keys_of items in
+          record {
+            rising = subst IsStrictlyIncreasing (sym keys) inv.rising;
+            below = subst (All (λ x. x < k + 1)) (sym keys) weaker;
+            fit = subst (All FitsPair) (sym items) inv.fit;
+          }
     ]
 
 pub try_new-requires-clause-keys : goal.try_new-requires-clause-keys
 try_new-requires-clause-keys c =
     let inv = c.loop-k.invariant in
     let width = wrapped_universe c.bits-bits.result c.bits-bits.result refl (omega (arith, c.bits-bits.ensures.value, c.bits-bits.ensures.at_most)) in
-    let below = All-weaker (λ x. x < c.loop-k.k) (λ x. x < 2 ^ c.bits-bits.result) (λ x h. omega (arith, h, width)) _ inv.below in
-    subst (IsKeySet c.bits-bits.result) (sym c.deref.ensures.value) (record { rising = inv.rising; below = below })
+    let below = All-weaker (λ x. x < c.loop-k.k) (λ x. x < 2 ^ c.bits-bits.result) (λ x h. omega (arith, h, width)) (keys_of c.loop-k.list.items) inv.below in
+    subst (λ ps. IsKeySet c.bits-bits.result (keys_of ps)) (sym c.deref.ensures.value) (record { rising = inv.rising; below = below })

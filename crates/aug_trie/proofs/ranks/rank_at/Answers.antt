@@ -1,4 +1,4 @@
-use Rattle.std.proofs.Common.{arith, refl, sym, ap, subst, inl, ◌∙◌, ◌≡◌, ◌+◌, ◌-◌, ◌*◌, ◌/◌, ◌^◌, ℕ}
+use Rattle.std.proofs.Common.{arith, refl, sym, ap, subst, inl, ◌∙◌, ◌≡◌, ◌+◌, ◌-◌, ◌*◌, ◌/◌, ◌%◌, ◌^◌, ℕ}
 use Rattle.std.proofs.Math.Nat.{div-eq_of_lt}
 use Rattle.aug_core.specs.Cuts.{Cut, set_of_cut}
 use Rattle.aug_core.specs.Faces.{face}
@@ -67,7 +67,7 @@ overflow_cast-result-2 g c = let f = face g.A.Monoid.parts g.B.Monoid.parts in l
     let done = c.loop-level-test.false in let last : c.loop-level.level ≡ 0 = omega arith in
     let is : c.if-k-eq1.below ≡ rank_of (set_of_cut cut) c.args.k =
     elim c.if-k-eq1.branch [
-      | then-k-eq1 w ↦ w.below-is ∙ odd_rank g.A.Monoid.parts g.B.Monoid.parts v c.requires.knows cut c.args.k c.loop-level.level c.loop-level.word c.loop-level.below last inv.node inv.counted w.load_record_word-then-k-eq1.result w.if-k-eq1.true (cut_rises f v n c.requires.knows)
+      | then-k-eq1 w ↦ w.below-is ∙ ap (λ (z : ℕ). c.loop-level.below + z % 2) w.leaf_serial.ensures ∙ odd_rank g.A.Monoid.parts g.B.Monoid.parts v c.requires.knows cut c.args.k c.loop-level.level c.loop-level.word c.loop-level.below last inv.node inv.counted w.load_record_word-then-k-eq1.result w.if-k-eq1.true (cut_rises f v n c.requires.knows)
           (says_looking _ v c.loop-level.pass.view c.loop-level.word 0 w.load_record_word-then-k-eq1.result inv.looks w.load_record_word-then-k-eq1.ensures.view.known)
       | else-k-eq1 w ↦ w.below-is ∙ even_rank g.A.Monoid.parts g.B.Monoid.parts v c.requires.knows cut c.args.k c.loop-level.level c.loop-level.word c.loop-level.below last inv.node inv.counted (even_of c.args.k w.if-k-eq1.false)
     ] in
@@ -85,7 +85,7 @@ pub returns-clause-answer : goal.returns-clause-answer
 returns-clause-answer g c = let f = face g.A.Monoid.parts g.B.Monoid.parts in let v : View = c.args.pass.now.view in let n : ℕ = c.args.snapshot.number in let cut : Cut = cut_named v.shape v.seen n in let inv = c.loop-level.invariant in
     let done = c.loop-level-test.false in let last : c.loop-level.level ≡ 0 = omega arith in
     elim c.if-k-eq1.branch [
-      | then-k-eq1 w ↦ w.below-is ∙ odd_rank g.A.Monoid.parts g.B.Monoid.parts v c.requires.knows cut c.args.k c.loop-level.level c.loop-level.word c.loop-level.below last inv.node inv.counted w.load_record_word-then-k-eq1.result w.if-k-eq1.true (cut_rises f v n c.requires.knows)
+      | then-k-eq1 w ↦ w.below-is ∙ ap (λ (z : ℕ). c.loop-level.below + z % 2) w.leaf_serial.ensures ∙ odd_rank g.A.Monoid.parts g.B.Monoid.parts v c.requires.knows cut c.args.k c.loop-level.level c.loop-level.word c.loop-level.below last inv.node inv.counted w.load_record_word-then-k-eq1.result w.if-k-eq1.true (cut_rises f v n c.requires.knows)
           (says_looking _ v c.loop-level.pass.view c.loop-level.word 0 w.load_record_word-then-k-eq1.result inv.looks w.load_record_word-then-k-eq1.ensures.view.known)
       | else-k-eq1 w ↦ w.below-is ∙ even_rank g.A.Monoid.parts g.B.Monoid.parts v c.requires.knows cut c.args.k c.loop-level.level c.loop-level.word c.loop-level.below last inv.node inv.counted (even_of c.args.k w.if-k-eq1.false)
     ]

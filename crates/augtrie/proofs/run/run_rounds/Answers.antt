@@ -15,7 +15,7 @@ pub loop-rows-init : goal.loop-rows-init
 loop-rows-init g c = record {
   number = refl;
   printed = let sink = c.args.sink.now in let known = g.W.Sink.contents sink in let calls = g.W.Sink.finish_count sink in
-      subst (λ (z : List ℕ). Printed c.args.limits.now c.args.rounds.now 0 z known known calls calls) (sym c.in-Ok.ensures.empty) (printed_none c.args.limits.now c.args.rounds.now known calls);
+      subst (λ (z : List (ℕ × ℕ)). Printed c.args.limits.now c.args.rounds.now 0 z known known calls calls) (sym c.in-Ok.ensures.empty) (printed_none c.args.limits.now c.args.rounds.now known calls);
   no_fault = refl;
   bits = c.in-Ok.ensures.bits;
 }

@@ -13,6 +13,7 @@ use types.ByLocal.{alloc_all, pass_all, free_all, look_at, sets}
 use denote.Exit.{yes}
 use denote.RattleType.{owns}
 use denote.Builtin.{RefOf, SliceRefOf, u32}
+use denote.Struct.Tuple.{Tuple}
 use denote.Ref.{shr_vals, shr_Tells}
 use denote.Slice.{shr_slice_vals, shr_slice_Tells}
 use denote.Shadow.{pure_i}
@@ -31,7 +32,7 @@ abbrev layout_slot : Slot 2
 layout_slot = RefOf (0 ∷ []) tt (plain (λ _. LayoutRow)) (λ _. tt)
 
 abbrev members_slot : Slot 2
-members_slot = SliceRefOf (1 ∷ []) tt (plain (λ _. u32)) (λ _. tt)
+members_slot = SliceRefOf (1 ∷ []) tt (plain (λ _. Tuple (u32 ∷ u32 ∷ []))) (λ _. tt)
 
 abbrev stayed : Stays f.ended.signature.params f.ended.kept
 stayed = (stay_dropped layout_slot yes, (stay_dropped members_slot yes, tt))
@@ -41,7 +42,7 @@ new_spec 𝓤 𝓛 𝓜 𝓡 wired =
     let c = f.clauses 𝓛 𝓜.mem 𝓡.returns in let W = walk_of 𝓛 f.ended stayed c in let 𝓣 = tables 𝓤 𝓛.H 𝓜 𝓡 𝓡.env in
     proved 𝓛 f.ended stayed c 𝓜 𝓡 (Goes-dropped 𝓛 2 layout_slot yes (λ κs x w. refl), (Goes-dropped 𝓛 2 members_slot yes (λ κs x w. refl), tt))
     f.Key.name code.function (code.unfolded 𝓤 𝓛.H 𝓜 𝓡 wired)
-    (λ κs. (shr_vals, (shr_slice_vals, tt))) (λ κs. (shr_Tells (named 0) κs.0 LayoutRow, (shr_slice_Tells (named 1) κs.1.0 u32, tt))) (λ κs qs bounds a g are.
+    (λ κs. (shr_vals, (shr_slice_vals, tt))) (λ κs. (shr_Tells (named 0) κs.0 LayoutRow, (shr_slice_Tells (named 1) κs.1.0 (Tuple (u32 ∷ u32 ∷ [])), tt))) (λ κs qs bounds a g are.
     let y : W.Ghost = ((κs, qs, bounds, a, (shr_vals a.0, (shr_slice_vals a.1.0, tt))), g) in
     let v : Val = vstruct vnil in
     let r : Res f.signature κs = record { shape = a.0.now; members = a.1.0.now } in

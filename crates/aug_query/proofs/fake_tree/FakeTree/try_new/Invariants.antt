@@ -6,5 +6,5 @@ use Rattle.aug_query.proofs.fake_tree.FakeTree.try_new.Given as goal
 abbrev pub invariant-loop-level : goal.invariant-loop-level
 invariant-loop-level g l = record {
   all : length l.rows.items ≡ l.level + 1;
-  each : (level : ℕ) (default : List _) → level < l.level + 1 → IsRow (summary_of g.A.Monoid.parts g.B.Monoid.parts) l.bits l.keys level (get_or (map (λ row. row.items) l.rows.items) level default);
+  each : (level : ℕ) (default : List _) → level < l.level + 1 → IsRow (summary_of g.A.Monoid.parts g.B.Monoid.parts) l.bits l.pairs level (get_or (map (λ row. row.items) l.rows.items) level default);
 }

@@ -1,6 +1,6 @@
 use Rattle.std.proofs.Common.{◌≡◌, ◌<◌, ◌≤◌, ◌∙◌, inl, inr, ℕ, List, ap, sym, subst, arith, rules, refl, ⊎_elim, length}
 use Rattle.std.proofs.lemmas.Bool.{cases_lt, false≢true}
-use Rattle.aug_core.specs.Cuts.{Cut, set_of_cut, opening_cut}
+use Rattle.aug_core.specs.Cuts.{Cut, pairs_of_cut, opening_cut}
 use Rattle.aug_core.specs.Faces.{face}
 use Rattle.aug_core.specs.Layout.{IsLayout}
 use Rattle.aug_core.specs.Opening.{Opening}
@@ -9,7 +9,7 @@ use Rattle.aug_core.specs.declared.view.View.{View}
 use Rattle.aug_trie.specs.History.{last_cut}
 use Rattle.aug_trie.specs.Knows.{knows}
 use Rattle.aug_trie.proofs.Crews.{begins_history}
-use Rattle.aug_trie.proofs.Endings.{smallest, none_shown, no_keys}
+use Rattle.aug_trie.proofs.Endings.{smallest, none_shown, no_keys, none_fit}
 use Rattle.aug_trie.proofs.ended.Ended.empty.Goals as goal
 
 pub returns-in_default-clause-bad_bits : goal.returns-in_default-clause-bad_bits
@@ -23,11 +23,11 @@ pub returns-in-Ok-open-clause-empty : goal.returns-in-Ok-open-clause-empty
 returns-in-Ok-open-clause-empty g c = let f = face g.A.Monoid.parts g.B.Monoid.parts in let o : Opening = c.in-Ok-open.words.opening in let opened = c.in-Ok-open.ensures.opening in let made = c.at_rest.ensures in
     let shape : o.shape ≡ shape_of c.args.bits 1 1 0 = opened.0 ∙ c.in-Ok.ensures.layout in
     let laid : IsLayout (shape_of c.args.bits 1 1 0) = search rules in
-    let first = begins_history f o (subst IsLayout (sym shape) laid) (no_keys o.shape.bits o.members opened.1) (let long = ap (λ (z : List ℕ). length z) opened.1 in omega arith) in
+    let first = begins_history f o (subst IsLayout (sym shape) laid) (no_keys o.shape.bits o.members opened.1) (none_fit o.members opened.1) (let long = ap (λ (z : List (ℕ × ℕ)). length z) opened.1 in omega arith) in
     record {
       bits_are = made.bits;
-      no_members = made.members ∙ ap (λ (z : View). set_of_cut (last_cut (knows z).history)) c.in-Ok-open.ensures.lead ∙ ap (λ (z : List Cut). set_of_cut (last_cut z)) first
-          ∙ ap (λ (z : List ℕ). set_of_cut (opening_cut o.shape.bits z)) opened.1 ∙ none_shown o.shape.bits;
+      no_members = made.members ∙ ap (λ (z : View). pairs_of_cut (last_cut (knows z).history)) c.in-Ok-open.ensures.lead ∙ ap (λ (z : List Cut). pairs_of_cut (last_cut z)) first
+          ∙ ap (λ (z : List (ℕ × ℕ)). pairs_of_cut (opening_cut o.shape.bits z)) opened.1 ∙ none_shown o.shape.bits;
       no_inserts = made.no_inserts;
       no_removals = made.no_removals;
       none_missing = made.none_missing;

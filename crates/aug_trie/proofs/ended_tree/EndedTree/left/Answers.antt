@@ -2,19 +2,19 @@ use Rattle.std.proofs.Common.{◌≡◌, ◌+◌, ◌-◌, ◌*◌, ◌^◌, ari
 use Rattle.aug_core.specs.Faces.{face}
 use Rattle.aug_query.proofs.Nodes.{left_high, middle_high}
 use Rattle.aug_trie.specs.Crews.{EndedFacts}
-use Rattle.aug_trie.specs.Versions.{IsVersion, keys_below}
+use Rattle.aug_trie.specs.Versions.{IsVersion, pairs_below}
 use Rattle.aug_trie.proofs.Versions.{ended_set, inside_of, left_version}
 use Rattle.aug_trie.proofs.ended_tree.EndedTree.left.Goals as goal
 
 pub record_word-word-requires : goal.record_word-word-requires
 record_word-word-requires g c = let m = g.A.Monoid.parts in let n = g.B.Monoid.parts in let e = c.self.inside in let node = c.args.node.now in
-    inside_of m n e.rest (keys_below e.rest e.bits 0 e.root) node.level node.place node.word c.requires.inner
+    inside_of m n e.rest (pairs_below e.rest e.bits 0 e.root) node.level node.place node.word c.requires.inner
     (subst (λ (z : EndedFacts). IsVersion (face m n) z.rest z.members node.level node.place node.word) (sym c.self.view_is) c.requires.node.is_version)
 
 pub node-requires-clause-version : goal.node-requires-clause-version
 node-requires-clause-version g c = let m = g.A.Monoid.parts in let n = g.B.Monoid.parts in let e = c.self.inside in let node = c.args.node.now in
-    subst (IsVersion (face m n) e.rest (keys_below e.rest e.bits 0 e.root) (node.level - 1) (2 * node.place)) (sym c.record_word-word.ensures)
-    (left_version m n e.rest (keys_below e.rest e.bits 0 e.root) node.level node.place node.word c.requires.inner
+    subst (IsVersion (face m n) e.rest (pairs_below e.rest e.bits 0 e.root) (node.level - 1) (2 * node.place)) (sym c.record_word-word.ensures)
+    (left_version m n e.rest (pairs_below e.rest e.bits 0 e.root) node.level node.place node.word c.requires.inner
     (subst (λ (z : EndedFacts). IsVersion (face m n) z.rest z.members node.level node.place node.word) (sym c.self.view_is) c.requires.node.is_version))
 
 pub node-requires-clause-place : goal.node-requires-clause-place

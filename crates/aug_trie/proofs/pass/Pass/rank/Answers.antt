@@ -1,6 +1,7 @@
-use Rattle.std.proofs.Common.{Option, Some, rules, subst, sym, ◌≡◌, ℕ, ◌+◌, ◌*◌}
+use Rattle.std.proofs.Common.{Option, Some, List, ap, rules, subst, sym, ◌≡◌, ◌∙◌, ℕ, ◌+◌, ◌*◌}
 use Rattle.atomic_table.specs.Seated.{TableId}
 use Rattle.aug_model.specs.Folds.{summary_of}
+use Rattle.aug_model.specs.Keys.{list_of}
 use Rattle.aug_model.specs.Queries.{rank_of}
 use Rattle.aug_core.specs.Faces.{face}
 use Rattle.aug_core.specs.Counts.{changes_of}
@@ -10,6 +11,7 @@ use Rattle.aug_trie.specs.Counted.{HasCounts}
 use Rattle.aug_trie.specs.Facts.{PassFacts, pass_facts, known_in, HasSnapshot, IsNodeOf}
 use Rattle.aug_trie.specs.Nodes.{cut_named, set_at, Looks, Reads}
 use Rattle.aug_trie.proofs.Passing.{pass_told}
+use Rattle.aug_trie.proofs.Ranking.{keys_are}
 use Rattle.aug_trie.proofs.Trees.{top_is, reads_by, still_by}
 use Rattle.aug_trie.proofs.pass.Pass.rank.Goals as goal
 
@@ -49,7 +51,8 @@ pub returns-clause-answer : goal.returns-clause-answer
 returns-clause-answer g c = let f = face g.A.Monoid.parts g.B.Monoid.parts in let i = c.self.inside in let known : Known = c.in-Some.words in let v : View = known.view in
     let value = c.take.ensures.value in let found = c.in-Some.is in let there : i.words ≡ Some known = search rules in
     let t = pass_told f i.words known i.leaves i.bits i.next i.left c.args.self.now c.self.invariant.0 there c.self.view_is in let p = t.0 in let facts = t.1 in
-    subst (λ (z : PassFacts). c.rank_at-below.result ≡ rank_of (set_at z c.args.s).list c.args.k) facts c.rank_at-below.ensures.answer
+    subst (λ (z : PassFacts). c.rank_at-below.result ≡ rank_of (list_of (set_at z c.args.s)) c.args.k) facts
+    (c.rank_at-below.ensures.answer ∙ ap (λ (z : List ℕ). rank_of z c.args.k) (sym (keys_are f v c.args.s.number p.knows_table)))
 
 pub returns-clause-reads : goal.returns-clause-reads
 returns-clause-reads g c = let f = face g.A.Monoid.parts g.B.Monoid.parts in let i = c.self.inside in let known : Known = c.in-Some.words in let v : View = known.view in

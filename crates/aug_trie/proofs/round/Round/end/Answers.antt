@@ -6,7 +6,7 @@ use Rattle.aug_core.specs.declared.view.View.{View}
 use Rattle.aug_words.specs.Seats.{Known}
 use Rattle.aug_trie.specs.Facts.{RoundFacts}
 use Rattle.aug_trie.specs.Crews.{CrewFacts, EndedFacts, Ends}
-use Rattle.aug_trie.specs.Versions.{keys_below}
+use Rattle.aug_trie.specs.Versions.{pairs_below}
 use Rattle.aug_trie.proofs.Rounds.{are_together}
 use Rattle.aug_trie.proofs.Endings.{kept_for, back_few, ends_so, sizes_so}
 use Rattle.aug_trie.proofs.round.Round.end.Goals as goal
@@ -22,7 +22,7 @@ returns-clause-ends g c = let f = face g.A.Monoid.parts g.B.Monoid.parts in let 
     let t = are_together c.self.inside.words lead (ap (λ (z : CrewFacts). z.round) c.crew.view_is ∙ c.requires.together ∙ sym c.self.view_is) in
     let at : h.handed ≡ c.handed-handed.result = ap (λ (z : Option ℕ). unwrap_or z 0) (sym h.is_crew.hands_out ∙ c.handed-handed.ensures.value) in
     let r = c.ended.inside in let made = c.at_rest-ended.ensures in
-    let ended : EndedFacts = record { bits = r.bits; members = keys_below r.rest r.bits 0 r.root; inserts = i.inserts; removals = i.removals; missing = c.handed-handed.result - i.back; calls = r.calls.made; rest = r.rest; root = r.root } in
+    let ended : EndedFacts = record { bits = r.bits; members = pairs_below r.rest r.bits 0 r.root; inserts = i.inserts; removals = i.removals; missing = c.handed-handed.result - i.back; calls = r.calls.made; rest = r.rest; root = r.root } in
     let bits : r.bits ≡ v.shape.bits = ap (λ (z : EndedFacts). z.bits) c.ended.view_is ∙ made.bits ∙ c.bits.ensures ∙ ap (λ (z : Shape). z.bits) (c.self.invariant ∙ sym t.one_shape) in
     subst (λ (z : CrewFacts). Ends z ended) c.crew.view_is
     (ends_so f v i.back i.inserts i.removals h e.state (kept_for f c.self.inside.words lead _ t e) e.seat e.view_is lead.table ended bits (ap (λ (z : EndedFacts). z.members) c.ended.view_is ∙ made.members) refl refl
@@ -33,7 +33,7 @@ returns-clause-sizes g c = let f = face g.A.Monoid.parts g.B.Monoid.parts in let
     let t = are_together c.self.inside.words lead (ap (λ (z : CrewFacts). z.round) c.crew.view_is ∙ c.requires.together ∙ sym c.self.view_is) in
     let at : h.handed ≡ c.handed-handed.result = ap (λ (z : Option ℕ). unwrap_or z 0) (sym h.is_crew.hands_out ∙ c.handed-handed.ensures.value) in
     let r = c.ended.inside in let made = c.at_rest-ended.ensures in
-    let ended : EndedFacts = record { bits = r.bits; members = keys_below r.rest r.bits 0 r.root; inserts = i.inserts; removals = i.removals; missing = c.handed-handed.result - i.back; calls = r.calls.made; rest = r.rest; root = r.root } in
+    let ended : EndedFacts = record { bits = r.bits; members = pairs_below r.rest r.bits 0 r.root; inserts = i.inserts; removals = i.removals; missing = c.handed-handed.result - i.back; calls = r.calls.made; rest = r.rest; root = r.root } in
     let bits : r.bits ≡ v.shape.bits = ap (λ (z : EndedFacts). z.bits) c.ended.view_is ∙ made.bits ∙ c.bits.ensures ∙ ap (λ (z : Shape). z.bits) (c.self.invariant ∙ sym t.one_shape) in
     let e' = ends_so f v i.back i.inserts i.removals h e.state (kept_for f c.self.inside.words lead _ t e) e.seat e.view_is lead.table ended bits (ap (λ (z : EndedFacts). z.members) c.ended.view_is ∙ made.members) refl refl
     (ap (λ (z : ℕ). z - i.back) (sym at)) (ap (λ (z : EndedFacts). z.calls) c.ended.view_is ∙ made.no_calls) in

@@ -21,6 +21,7 @@ use types.ByLocal.{alloc_all, pass_all, free_all, look_at, sets}
 use denote.Exit.{yes}
 use denote.RattleType.{owns}
 use denote.Builtin.{u32}
+use denote.Struct.Tuple.{Tuple}
 use denote.Slice.{slice_val, shr_slice_vals, shr_slice_Tells}
 use denote.Shadow.{pure_i}
 use denote.Signature.{plain, types_at}
@@ -28,14 +29,14 @@ use denote.Triple.Entry.{on_entry, alive, Args}
 use denote.Triple.Spec.{Meets, triple_of}
 use denote.Triple.Table.{entered}
 use denote.Triple.Walked.{says, stay_none_slice, Stays, walk_of, Walks, ends_at, walked, Goes-none_slice, walk_Meets}
-use Rattle.aug_query.specs.contracts.noted.NotedKeys.of.Key.{name as key}
-use Rattle.aug_query.specs.contracts.noted.NotedKeys.of as f
-use Rattle.aug_query.proofs.noted.NotedKeys.of.Statement as stated
-use Rattle.aug_query.proofs.noted.NotedKeys.of.Code as code
-use Rattle.aug_query.specs.contracts.noted.NotedKeys as made
+use Rattle.aug_query.specs.contracts.noted.NotedPairs.of.Key.{name as key}
+use Rattle.aug_query.specs.contracts.noted.NotedPairs.of as f
+use Rattle.aug_query.proofs.noted.NotedPairs.of.Statement as stated
+use Rattle.aug_query.proofs.noted.NotedPairs.of.Code as code
+use Rattle.aug_query.specs.contracts.noted.NotedPairs as made
 
 abbrev stayed : Stays (f.ended).signature.params (f.ended).kept
-stayed = (stay_none_slice (0 ∷ []) tt (plain (λ _. u32)) yes, tt)
+stayed = (stay_none_slice (0 ∷ []) tt (plain (λ _. Tuple (u32 ∷ u32 ∷ []))) yes, tt)
 
 module _ {M : Type 1} {𝓤 : Ura M} (𝓛 : Logic 𝓤) (mem : Memory → SProp 𝓤) (run : Routine → Fun 𝓤) (C : Calls 𝓤 𝓛.H) (Λ : Loops 𝓤 𝓛.H) where
   open 𝓛 use {H}
@@ -63,13 +64,13 @@ module _ {M : Type 1} {𝓤 : Ura M} (𝓛 : Logic 𝓤) (mem : Memory → SProp
   walks : Walks 𝓛 f.ended stayed (WpFn 𝓤 H C Λ code.function) (f.clauses 𝓛 mem run)
   walks =
       walked 𝓛 f.ended stayed (f.clauses 𝓛 mem run) (WpFn 𝓤 H C Λ code.function) (λ κs. (shr_slice_vals, tt))
-      (λ κs. (shr_slice_Tells (named 0) κs.0 u32, tt))
+      (λ κs. (shr_slice_Tells (named 0) κs.0 (Tuple (u32 ∷ u32 ∷ [])), tt))
       (λ κs qs bounds a g are. via 𝓤 _ (fst∗ 𝓤 _ (emp 𝓤)) (walk κs qs a are.0.0.1.0))
 
 meets : {M : Type 1} {𝓤 : Ura M} (𝓛 : Logic 𝓤) (mem : Memory → SProp 𝓤) (run : Routine → Fun 𝓤) (𝓣 : Tables 𝓤 𝓛.H)
     → Meets 𝓛 f.signature (WpFn 𝓤 𝓛.H 𝓣.C 𝓣.Λ code.function) (f.spec 𝓛 mem run)
 meets {𝓤 = 𝓤} 𝓛 mem run 𝓣 =
-    walk_Meets 𝓛 f.ended stayed (Goes-none_slice 𝓛 1 (0 ∷ []) tt (plain (λ _. u32)) yes, tt) (f.clauses 𝓛 mem run) (WpFn 𝓤 𝓛.H 𝓣.C 𝓣.Λ code.function)
+    walk_Meets 𝓛 f.ended stayed (Goes-none_slice 𝓛 1 (0 ∷ []) tt (plain (λ _. Tuple (u32 ∷ u32 ∷ []))) yes, tt) (f.clauses 𝓛 mem run) (WpFn 𝓤 𝓛.H 𝓣.C 𝓣.Λ code.function)
     (WpFn-mono 𝓤 𝓛.H 𝓛.laws 𝓣 code.function) (walks 𝓛 mem run 𝓣.C 𝓣.Λ)
 
 pub of_spec : {M : Type 1} → stated.statement M

@@ -1,0 +1,45 @@
+use Rattle.std.proofs.Common.{refl, sym, ◌∙◌, arith}
+use Rattle.aug_model.proofs.Boundaries.{with_pair-member, with_pair-absent}
+use Rattle.aug_model.proofs.Membership.{is_member-stands, is_member-absent}
+use Rattle.aug_model.proofs.StoredLemmas.{set-stored, insert-set, insert-fit, room_left}
+use Rattle.aug_model.proofs.key_set.KeySet.put.Goals as goal
+
+pub unreachable-requires : goal.unreachable-requires
+unreachable-requires c =
+    let gap = rw c.deref.ensures.value at c.in-Err.ensures.absent in
+    let fits = rw (← c.self.view_is) at c.requires in
+    let room = room_left _ _ _ _ _ fits gap c.self.invariant in
+    omega (arith, room, c.in_default.ensures.full)
+
+pub invariant_of-self : goal.invariant_of-self
+invariant_of-self c =
+    set-stored _ _ _ _ (omega (arith, c.ranges.k.fits), omega (arith, c.ranges.weight.fits)) _ _ (rw c.deref.ensures.value at c.in-Ok.ensures.there) c.self.invariant
+
+pub invariant_of-self-in-Err : goal.invariant_of-self-in-Err
+invariant_of-self-in-Err c =
+    let gap = rw c.deref.ensures.value at c.in-Err.ensures.absent in
+    let fits = rw (← c.self.view_is) at c.requires in
+    let h = c.self.invariant in
+    record {
+      set = rw c.in-Ok-insert.ensures.items (insert-set _ _ _ _ (omega (arith, c.ranges.k.fits), omega (arith, c.ranges.weight.fits)) _ fits gap h.set);
+      fit = rw c.in-Ok-insert.ensures.items (insert-fit _ _ _ _ (omega (arith, c.ranges.k.fits), omega (arith, c.ranges.weight.fits)) h.fit);
+      at_least = h.at_least;
+      at_most = h.at_most;
+      room = omega (arith, h.room, c.in-Ok-insert.ensures.capacity);
+    }
+
+pub returns-in-Ok-clause-pairs : goal.returns-in-Ok-clause-pairs
+returns-in-Ok-clause-pairs c = rw (← c.self.view_is) (sym (with_pair-member _ _ _ _ c.self.invariant.set.rising (rw c.deref.ensures.value at c.in-Ok.ensures.there)))
+
+pub returns-in-Ok-clause-outcome : goal.returns-in-Ok-clause-outcome
+returns-in-Ok-clause-outcome c = rw (← c.self.view_is, is_member-stands _ _ _ (rw c.deref.ensures.value at c.in-Ok.ensures.there)) refl
+
+pub returns-in-Ok-insert-clause-pairs : goal.returns-in-Ok-insert-clause-pairs
+returns-in-Ok-insert-clause-pairs c =
+    let gap = rw c.deref.ensures.value at c.in-Err.ensures.absent in
+    rw (← c.self.view_is) (c.in-Ok-insert.ensures.items ∙ sym (with_pair-absent _ _ _ _ gap))
+
+pub returns-in-Ok-insert-clause-outcome : goal.returns-in-Ok-insert-clause-outcome
+returns-in-Ok-insert-clause-outcome c =
+    let gap = rw c.deref.ensures.value at c.in-Err.ensures.absent in
+    rw (← c.self.view_is, is_member-absent _ _ _ gap) refl

@@ -1,0 +1,96 @@
+-- What a request makes of a leaf's word.
+use Rattle.std.proofs.Common.{◌≡◌, ℕ, ◌+◌, ◌%◌, ◌^◌, ◌<◌, ◌≤◌, ◌==◌, Bool, true, false, if◌then◌else◌, List, [], ◌∷◌, length, refl, sym, ap, ◌∙◌, inl, inr, arith}
+use Rattle.std.proofs.lemmas.Bool.{eq-eqb, eqb-true, eqb-false, cases_Bool, false≢true}
+use Rattle.aug_core.specs.Book.{word_of_leaf}
+use Rattle.aug_core.specs.Counts.{change}
+use Rattle.aug_core.specs.Told.{IsAdvance, made_by, new_serial, old_word}
+use Rattle.aug_core.specs.declared.view.Advance.{Advance}
+use Rattle.aug_core.specs.declared.view.Change.{Change}
+use Rattle.aug_model.specs.declared.outcome.Outcome.{Outcome}
+use Rattle.aug_model.specs.declared.outcome.Outcome.TheVariants.{Accepted, Replaced}
+use Rattle.aug_trie.specs.Climbing.{StandsInWay}
+use Rattle.aug_trie.specs.LeafWords.{serial_in_word, weight_in_word}
+use Rattle.aug_trie.specs.Requests.{FitsRequest, goes_from, advance_from, outcome_by}
+use Rattle.aug_trie.specs.declared.request.Request.{Request}
+use Rattle.aug_trie.specs.declared.request.Request.TheVariants.{Insert, Remove, Put}
+
+-- a word is that of its serial and its weight
+pub leaf_again : (word : ℕ) → word ≡ word_of_leaf (serial_in_word word) (weight_in_word word)
+leaf_again word = omega arith
+
+-- the exchange is one of those that there are
+pub is_advance : (request : Request) (key word : ℕ) → FitsRequest request → key < 2 ^ 32 → goes_from request (serial_in_word word) ≡ true → IsAdvance (advance_from request key word)
+is_advance Insert key word fits low lets = record {
+  fits = omega arith;
+  new_fits = low;
+  from_there = λ e. absurd (false≢true e);
+  weighs_nothing = λ _ odd. let even = eqb-true (serial_in_word word % 2) 0 lets in absurd (omega (arith, even, odd));
+}
+is_advance Remove key word fits low lets = record {
+  fits = omega arith;
+  new_fits = omega arith;
+  from_there = λ e. absurd (false≢true e);
+  weighs_nothing = λ _ _. refl;
+}
+is_advance (Put weight) key word fits low lets = record {
+  fits = omega arith;
+  new_fits = fits;
+  from_there = λ e. eqb-true (serial_in_word word % 2) 1 e;
+  weighs_nothing = λ e odd. absurd (false≢true (sym e ∙ eq-eqb (serial_in_word word % 2) 1 odd));
+}
+
+-- what it comes to says whether it replaces
+pub outcome_is : (request : Request) (key word : ℕ) → outcome_by request word ≡ (if (advance_from request key word).replaces then Replaced else Accepted)
+outcome_is Insert key word = refl
+outcome_is Remove key word = refl
+outcome_is (Put weight) key word = refl
+
+pub serial_is : (request : Request) (key word : ℕ) → (advance_from request key word).serial ≡ serial_in_word word
+serial_is Insert key word = refl
+serial_is Remove key word = refl
+serial_is (Put weight) key word = refl
+
+pub weight_is : (request : Request) (key word : ℕ) → (advance_from request key word).weight ≡ weight_in_word word
+weight_is Insert key word = refl
+weight_is Remove key word = refl
+weight_is (Put weight) key word = refl
+
+few_by : (b : Bool) (x y z : Change) → length (if b then x ∷ y ∷ [] else z ∷ []) ≤ 2
+few_by true x y z = omega arith
+few_by false x y z = omega arith
+
+-- it makes two changes at most
+pub made_few : (key : ℕ) (a : Advance) → length (made_by key a) ≤ 2
+made_few key a = few_by a.replaces (change key (a.serial + 1) 0) (change key (a.serial + 2) a.new_weight) (change key (a.serial + 1) a.new_weight)
+
+-- where it replaces nothing it makes one
+pub made_one : (key : ℕ) (a : Advance) → a.replaces ≡ false → made_by key a ≡ change key (a.serial + 1) a.new_weight ∷ []
+made_one key a e = ap (λ (z : Bool). if z then change key (a.serial + 1) 0 ∷ change key (a.serial + 2) a.new_weight ∷ [] else change key (a.serial + 1) a.new_weight ∷ []) e
+
+pub one_more : (a : Advance) → a.replaces ≡ false → new_serial a ≡ a.serial + 1
+one_more a e = ap (λ (z : Bool). if z then a.serial + 2 else a.serial + 1) e
+
+-- and else two
+pub made_two : (key : ℕ) (a : Advance) → a.replaces ≡ true → made_by key a ≡ change key (a.serial + 1) 0 ∷ change key (a.serial + 2) a.new_weight ∷ []
+made_two key a e = ap (λ (z : Bool). if z then change key (a.serial + 1) 0 ∷ change key (a.serial + 2) a.new_weight ∷ [] else change key (a.serial + 1) a.new_weight ∷ []) e
+
+pub two_more : (a : Advance) → a.replaces ≡ true → new_serial a ≡ a.serial + 2
+two_more a e = ap (λ (z : Bool). if z then a.serial + 2 else a.serial + 1) e
+
+-- the serial that stood in an insertion's way is odd, and no less than the one that was found
+pub insert_stands : (found number : ℕ) → StandsInWay Insert found number → (number % 2 ≡ 1) × (found ≤ number)
+insert_stands found number s = elim (cases_Bool (found % 2 == 0)) [
+  | inl lets ↦ (let e = s.next lets in let even = eqb-true (found % 2) 0 lets in (omega (arith, e, even), omega (arith, e)))
+  | inr not ↦ (let e = s.found_it not in let odd = eqb-false (found % 2) 0 not in (omega (arith, e, odd), omega (arith, e)))
+]
+
+-- that in a removal's way is even
+pub remove_stands : (found number : ℕ) → StandsInWay Remove found number → (number % 2 ≡ 0) × (found ≤ number)
+remove_stands found number s = elim (cases_Bool (found % 2 == 1)) [
+  | inl lets ↦ (let e = s.next lets in let odd = eqb-true (found % 2) 1 lets in (omega (arith, e, odd), omega (arith, e)))
+  | inr not ↦ (let e = s.found_it not in let even = eqb-false (found % 2) 1 not in (omega (arith, e, even), omega (arith, e)))
+]
+
+-- the word that was loaded is the one that the exchange goes from
+pub from_word : (request : Request) (key word : ℕ) → word ≡ old_word (advance_from request key word)
+from_word request key word = leaf_again word ∙ (λ i. word_of_leaf (sym (serial_is request key word) i) (sym (weight_is request key word) i))

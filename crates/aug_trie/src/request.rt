@@ -1,0 +1,40 @@
+//! What an update is asked to do.
+ghost use Rattle.std.specs.Prelude.{◌≡◌, ◌≤◌};
+ghost use Rattle.aug_trie.specs.Requests.{insertions_by as insertions, removals_by as removals};
+
+use aug_model::Outcome;
+
+// What an update does to its key.
+#[derive(Clone, Copy)]
+pub(crate) enum Request {
+    // It puts the key in, with the key itself as its weight, where it is not there.
+    Insert,
+    // It takes the key out, where it is there.
+    Remove,
+    // It puts the key in with this weight, or gives this weight to it where it is there.
+    Put(u32),
+}
+
+// How many insertions it is that came to this.
+#[inline(always)]
+pub(crate) fn insertions_by(request: Request, outcome: Outcome) -> u32
+    ensures value { result ≡ insertions request outcome }
+    ensures few { result ≤ 1 }
+{
+    match (request, outcome) {
+        (_, Outcome::Refused) | (Request::Remove, Outcome::Accepted) => 0,
+        _ => 1,
+    }
+}
+
+// How many removals it is.
+#[inline(always)]
+pub(crate) fn removals_by(request: Request, outcome: Outcome) -> u32
+    ensures value { result ≡ removals request outcome }
+    ensures few { result ≤ 1 }
+{
+    match (request, outcome) {
+        (_, Outcome::Replaced) | (Request::Remove, Outcome::Accepted) => 1,
+        _ => 0,
+    }
+}

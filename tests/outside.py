@@ -73,6 +73,14 @@ FOUR_LANES_REPORTS = (
     b"2 2 insert 3 = new\n2 3 remove 1 = gone\n2 end size=2 in=1 out=1\n",
 )
 
+# Two rounds of one lane, of 2 bits and of 5.
+WIDER = b"0,insert,3\n*,end\n*,grow,5\n0,insert,31\n0,look\n0,rank,32\n0,before,31\n0,has,3\n"
+
+WIDER_REPORTS = (
+    b"1 0 insert 3 = new\n1 end size=1 in=1 out=0\n",
+    b"2 0 insert 31 = new\n2 0 look = ok\n2 0 rank 32 = 2\n2 0 before 31 = 3\n2 0 has 3 = yes\n2 end size=2 in=1 out=0\n",
+)
+
 OTHER = b"0,size\n"
 
 OTHER_REPORT = b"1 0 size = 0\n1 end size=0 in=0 out=0\n"
@@ -86,9 +94,9 @@ Arguments:
   [FILE]  The script; without it standard input is read
 
 Options:
-      --bits <H>     Keys are below 2^H [default: 4]
+      --bits <H>     Keys are below 2^H at first [default: 4]
       --workers <W>  Lanes are below W [default: 1]
-      --updates <U>  How many rows of a lane may insert or remove in a round [default: 64]
+      --updates <U>  How many rows of a lane may insert, put or remove in a round [default: 64]
   -h, --help         Print help
 """
 
@@ -165,6 +173,12 @@ GOOD_SCRIPTS = [
     ("byte_order_mark", "", b"\xef\xbb\xbf0,look\n", b"1 0 look = ok\n1 end size=0 in=0 out=0\n"),
     ("two_rounds", "", TWO_ROUNDS, b"".join(TWO_REPORTS)),
     ("four_lanes", "--workers 4", FOUR_LANES, b"".join(FOUR_LANES_REPORTS)),
+    ("more_bits_in_the_second_round", "--bits 2", WIDER, b"".join(WIDER_REPORTS)),
+    ("more_bits_in_the_first_round", "", b"*,grow,5\n0,insert,31\n", b"1 0 insert 31 = new\n1 end size=1 in=1 out=0\n"),
+    ("more_bits_for_a_round_of_no_rows", "", b"*,grow,5\n*,end\n", b"1 end size=0 in=0 out=0\n"),
+    ("more_bits_for_no_round", "", b"*,grow,5\n", b""),
+    ("more_bits_behind_the_last_round", "", b"0,insert,1\n*,end\n*,grow,5\n", b"1 0 insert 1 = new\n1 end size=1 in=1 out=0\n"),
+    ("as_many_bits_as_before", "", b"*,grow,4\n*,grow,4\n0,insert,15\n", b"1 0 insert 15 = new\n1 end size=1 in=1 out=0\n"),
 ]
 
 # Scripts with a fault: a name, the options, the script and the line of the fault after `augtrie: `.
@@ -193,6 +207,15 @@ FAULTY_SCRIPTS = [
     ("tab", "", b"0,look\t", b"row 1: BadCsv"),
     ("byte_past_126", "", "0,insert,é".encode(), b"row 1: BadCsv"),
     ("too_many_updates", "--updates 2", b"0,insert,1\n0,remove,1\n0,insert,1\n", b"row 3: TooManyUpdates"),
+    ("fewer_bits", "", b"*,grow,3", b"row 1: OutOfRange"),
+    ("fewer_bits_than_in_the_round_before", "", b"*,grow,6\n*,end\n*,grow,5", b"row 3: OutOfRange"),
+    ("seventeen_bits", "", b"*,grow,17", b"row 1: OutOfRange"),
+    ("grow_without_bits", "", b"*,grow", b"row 1: BadArity"),
+    ("grow_with_a_lane", "", b"0,grow,5", b"row 1: BadVerb"),
+    ("grow_behind_a_row_of_its_round", "", b"0,insert,1\n*,grow,5\n", b"row 2: BadPlace"),
+    ("key_past_more_bits", "", b"*,grow,5\n0,insert,32", b"row 2: OutOfRange"),
+    ("grow_to_a_table_of_too_many_words", "--workers 64 --updates 13108", b"*,grow,16", b"row 1: TooWide"),
+    ("grow_to_a_table_of_a_few_words_too_many", "--bits 15 --workers 64 --updates 13018", b"*,grow,16", b"row 1: TooWide"),
     ("fault_behind_good_rows", "", FIRST + b"\n0,insert,16\n0,fly\n", b"row 9: OutOfRange"),
 ]
 
@@ -373,7 +396,11 @@ class Outside:
         self.refuse_each(["--updates", "9", "first.csv"], b"", FIRST_REPORT, wanted)
 
     def test_each_request_for_memory_refused_in_two_rounds(self):
-        for words, script, reports in (([], TWO_ROUNDS, TWO_REPORTS), (["--workers", "4"], FOUR_LANES, FOUR_LANES_REPORTS)):
+        for words, script, reports in (
+            ([], TWO_ROUNDS, TWO_REPORTS),
+            (["--workers", "4"], FOUR_LANES, FOUR_LANES_REPORTS),
+            (["--bits", "2"], WIDER, WIDER_REPORTS),
+        ):
             report = b"".join(reports)
             # room that is asked for ahead, for the words, can be done without
             wanted = [MEMORY_FAULT, (reports[0], *MEMORY_FAULT[1:]), *[(report, b"", 0)] * bool(words)]
@@ -428,16 +455,54 @@ class Outside:
         self.assertTrue(out == report, "not the report of this script")
 
     def test_greatest_table(self):
-        script = b"".join(b"%d,insert,%d\n" % (lane, 1040 * lane) for lane in range(64))
+        self.assert_runs_in_64_lanes("16", b"")
+
+    def test_greatest_table_of_more_bits(self):
+        self.assert_runs_in_64_lanes("15", b"*,grow,16\n")
+
+    def assert_runs_in_64_lanes(self, bits, before):
+        """Runs a row in each lane of the greatest table, behind what stands before them."""
+        script = before + b"".join(b"%d,insert,%d\n" % (lane, 1040 * lane) for lane in range(64))
         report = b"".join(b"1 %d insert %d = new\n" % (lane, 1040 * lane) for lane in range(64))
-        words = ["--bits", "16", "--workers", "64", "--updates", "13017"]
+        words = ["--bits", bits, "--workers", "64", "--updates", "13017"]
         self.assertEqual(self.run_on(words, script), (report + b"1 end size=64 in=64 out=0\n", b"", 0))
+
+    def test_script_of_the_greatest_size_with_grow_in_each_round(self):
+        # 128 rounds of 128 KiB each, of 1 to 16 bits
+        bits = [1 + number // 8 for number in range(128)]
+        asked = [b"0,rank,%d\n" % (1 << most) for most in bits]
+        rounds = [b"*,grow,%d\n%b*,end\n" % (most, row * 9000) for most, row in zip(bits, asked)]
+        self.write("long.csv", b"".join(rounds).ljust(SCRIPT_LIMIT, b"\n"))
+        self.assertEqual(os.path.getsize(os.path.join(self.folder, "long.csv")), SCRIPT_LIMIT)
+        report = b"".join(
+            b"%d 0 rank %d = 0\n" % (number, 1 << most) * 9000 + b"%d end size=0 in=0 out=0\n" % number
+            for number, most in enumerate(bits, 1)
+        )
+        out, err, status = self.run_on(["--bits", "1", "long.csv"])
+        self.assertEqual((err, status), (b"", 0))
+        self.assertTrue(out == report, "not the report of this script")
+
+    def test_script_of_the_greatest_size_of_grow_alone(self):
+        self.write("long.csv", (b"*,grow,4\n" * (SCRIPT_LIMIT // 9)).ljust(SCRIPT_LIMIT, b"\n"))
+        self.assertEqual(self.run_on(["long.csv"]), (b"", b"", 0))
+
+    def test_script_of_the_greatest_size_with_the_most_rounds_and_a_fault(self):
+        rounds = SCRIPT_LIMIT // 15 - 1
+        self.write("long.csv", b"*,grow,4\n*,end\n" * rounds + b"*,fly")
+        line = b"augtrie: row %d: BadVerb\n" % (2 * rounds + 1)
+        self.assertEqual(self.run_on(["long.csv"]), (b"", line, 1))
 
     def test_rounds_give_their_memory_back(self):
         # the table of each round takes some 4 MB
         words = ["--bits", "16", "--workers", "64"]
         one, many = (self.peak_of(words, b"0,insert,1\n*,end\n" * rounds) for rounds in (1, 100))
         self.assertLess(many, 2 * one)
+
+    def test_round_of_more_bits_takes_what_its_own_bits_take(self):
+        words = ["--workers", "64"]
+        grown = self.peak_of(["--bits", "1", *words], b"0,insert,1\n*,end\n*,grow,16\n0,insert,65535\n")
+        straight = self.peak_of(["--bits", "16", *words], b"0,insert,1\n*,end\n0,insert,65535\n")
+        self.assertLess(grown, 1.2 * straight)
 
     def peak_of(self, words, script):
         """How many KiB a run takes at most."""

@@ -1,5 +1,6 @@
 pub mod DeviceLemmas
 pub mod Fields
+pub mod LimitTests
 pub mod Lines
 pub mod Numbers
 mod ReaderLemmas

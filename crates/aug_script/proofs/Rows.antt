@@ -10,6 +10,7 @@ use Rattle.aug_script.specs.declared.script_error.ScriptError.{ScriptError}
 pub next-with_item : (read : Progress) (next : Item) → (with_item read next).next ≡ read.next + 1
 next-with_item read (item.Row row) = refl
 next-with_item read item.End = refl
+next-with_item read (item.Grow bits) = refl
 
 module _ (limits : Bounds) (read : Progress) (total : Result Progress ScriptError) where
   -- a record that is a row or the end of a round

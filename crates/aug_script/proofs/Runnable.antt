@@ -1,11 +1,12 @@
 -- The rows of a script keep its limits, and there are not more of them than bytes.
-use Rattle.std.proofs.Common.{◌≡◌, ℕ, zero, suc, ◌+◌, ◌<◌, ◌≤◌, Bool, true, false, not, ◌&&◌, ◌||◌, if◌then◌else◌, List, [], ◌∷◌, ◌++◌, length, drop, Option, Some, None, Result, Ok, Err, All, nat_lt, nat_le, ◌==◌, refl, subst, arith, slice_index_or}
+use Rattle.std.proofs.Common.{◌≡◌, ℕ, zero, suc, ◌+◌, ◌<◌, ◌≤◌, Bool, true, false, not, ◌&&◌, ◌||◌, if◌then◌else◌, List, [], ◌∷◌, ◌++◌, length, drop, Option, Some, None, Result, Ok, Err, All, nat_lt, nat_le, ◌==◌, refl, subst, arith, slice_index_or, get_or, inl, inr}
 use Rattle.std.proofs.lemmas.List.Elements.{All-nil, All-push, All-weaker}
 use Rattle.std.proofs.lemmas.List.{append-nil}
-use Rattle.std.proofs.Math.ListN.{length-append}
+use Rattle.std.proofs.Math.ListN.{get_or-append, length-append}
+use Rattle.std.proofs.Math.Seq.{get_or-append_seam}
 use Rattle.std.specs.List.{list_all}
 use Rattle.std.specs.Prelude.{⊤}
-use Rattle.std.proofs.lemmas.Bool.{and_parts, eqb-true, leb-false, ltb-true, not-false}
+use Rattle.std.proofs.lemmas.Bool.{and_parts, cases_lt, eqb-true, leb-false, leb-true, ltb-true, not-false}
 use Rattle.csv.specs.Machine.{Read, next_record}
 use Rattle.csv.specs.Reading.{default_config, is_bom, records_from, records_next, strip_bom}
 use Rattle.csv.specs.declared.parser.Config.{Config}
@@ -13,13 +14,15 @@ use Rattle.csv.specs.declared.parser.State.{State}
 use Rattle.csv.specs.declared.parser.State.TheVariants as st
 use Rattle.aug_script.proofs.Rows.{next-with_item}
 use Rattle.aug_script.proofs.Updates.{updates_of-push}
-use Rattle.aug_script.specs.Limits.{Bounds}
-use Rattle.aug_script.specs.Script.{KeepsLimits, Progress, are_printable, arity_of, bounded_row, end_of_round, is_end, is_in_bounds, is_number, is_star, is_update, item_of, nothing_read, number_of, read_from, records_of, rounds_read, then_read, updates_of, verb_of, with_item, word_of, worded_row}
+use Rattle.aug_script.proofs.LimitTests.{bounds_pass}
+use Rattle.aug_script.specs.Limits.{Bounds, IsBounds, bounds_at, is_bounds}
+use Rattle.aug_script.specs.Script.{IsRunnable, KeepsLimits, NeverNarrows, Progress, are_printable, arity_of, bounded_row, end_of_round, growth, growth_to, is_end, is_grow, is_in_bounds, is_number, is_star, is_update, item_of, nothing_read, number_of, open_round, read_from, records_of, rounds_read, starred_row, then_read, updates_of, verb_of, with_item, word_of, worded_row}
 use Rattle.aug_script.specs.declared.item.Item.{Item}
 use Rattle.aug_script.specs.declared.item.Item.TheVariants as item
 use Rattle.aug_script.specs.declared.row.Row.{Row}
 use Rattle.aug_script.specs.declared.script_error.ScriptError.{ScriptError}
-use Rattle.aug_script.specs.declared.script_error.ScriptError.TheVariants.{BadCsv, BadLane, BadVerb, BadArity, BadNumber, OutOfRange, TooManyUpdates}
+use Rattle.aug_script.specs.declared.script_error.ScriptError.TheVariants.{BadCsv, BadLane, BadVerb, BadArity, BadNumber, OutOfRange, TooManyUpdates, BadPlace, TooWide}
+use Rattle.aug_script.specs.declared.script_round.ScriptRound.{ScriptRound}
 use Rattle.aug_script.specs.declared.verb.Word.{Word}
 
 -- a test that stands before an item lets it through
@@ -28,57 +31,100 @@ passed : (b : Bool) (fault : ScriptError) (rest : Result Item ScriptError) (next
 passed true fault rest next e = cc
 passed false fault rest next e = (refl, e)
 
--- the row may come next in a round with these rows
-record MayCome (limits : Bounds) (rows : List Row) (row : Row) : Type 0 where
+-- the row may come next
+record MayCome (limits : Bounds) (read : Progress) (row : Row) : Type 0 where
   lane : row.lane < limits.workers
-  in_bounds : is_in_bounds limits.bits row.verb ≡ true
-  room : is_update row.verb ≡ true → updates_of row.lane rows < limits.updates
+  in_bounds : is_in_bounds read.bits row.verb ≡ true
+  room : is_update row.verb ≡ true → updates_of row.lane read.rows < limits.updates
 
--- so may the item, of which the end of a round always may
-abbrev MayFollow : Bounds → List Row → Item → Type 0
-MayFollow limits rows (item.Row row) = MayCome limits rows row
-MayFollow limits rows item.End = ⊤
+-- keys may get so many bits next
+record MayGrow (limits : Bounds) (read : Progress) (bits : ℕ) : Type 0 where
+  wider : read.bits ≤ bits
+  no_rows : read.rows ≡ []
+  bounds : IsBounds (bounds_at limits bits)
+
+-- the item may follow; the end of a round always may
+abbrev MayFollow : Bounds → Progress → Item → Type 0
+MayFollow limits read (item.Row row) = MayCome limits read row
+MayFollow limits read item.End = ⊤
+MayFollow limits read (item.Grow bits) = MayGrow limits read bits
 
 bounded_row-may_follow : (limits : Bounds) (read : Progress) (row : Row) (next : Item)
-    → bounded_row limits read row ≡ Ok next → MayFollow limits read.rows next
+    → bounded_row limits read row ≡ Ok next → MayFollow limits read next
 bounded_row-may_follow limits read row next e =
-    let range = passed (not (nat_lt row.lane limits.workers && is_in_bounds limits.bits row.verb)) (OutOfRange row.row) _ next e in
+    let range = passed (not (nat_lt row.lane limits.workers && is_in_bounds read.bits row.verb)) (OutOfRange row.row) _ next e in
     let room = passed (is_update row.verb && nat_le limits.updates (updates_of row.lane read.rows)) (TooManyUpdates row.row) (Ok (item.Row row)) next range.1 in
-    let within = and_parts (nat_lt row.lane limits.workers) (is_in_bounds limits.bits row.verb) (not-false _ range.0) in
+    let within = and_parts (nat_lt row.lane limits.workers) (is_in_bounds read.bits row.verb) (not-false _ range.0) in
     let same : item.Row row ≡ next = cc (room.1) in
-    subst (MayFollow limits read.rows) same (record {
+    subst (MayFollow limits read) same (record {
       lane = ltb-true row.lane limits.workers within.0;
       in_bounds = within.1;
       room = λ update. leb-false limits.updates (updates_of row.lane read.rows) (rw update at room.0);
     })
 
 worded_row-may_follow : (limits : Bounds) (read : Progress) (lane : ℕ) (arguments : List (List ℕ)) (word : Option Word) (next : Item)
-    → worded_row limits read lane arguments word ≡ Ok next → MayFollow limits read.rows next
+    → worded_row limits read lane arguments word ≡ Ok next → MayFollow limits read next
 worded_row-may_follow limits read lane arguments None next e = cc
 worded_row-may_follow limits read lane arguments (Some word) next e =
     let arity = passed (not (length arguments == arity_of word)) (BadArity read.next) _ next e in
     let numbers = passed (not (list_all is_number arguments)) (BadNumber read.next) _ next arity.1 in
     bounded_row-may_follow limits read (record { row = read.next; lane = lane; verb = verb_of word arguments }) next numbers.1
 
-end_of_round-may_follow : (limits : Bounds) (rows : List Row) (number : ℕ) (arguments : List (List ℕ)) (ends : Bool) (next : Item)
-    → end_of_round number arguments ends ≡ Ok next → MayFollow limits rows next
-end_of_round-may_follow limits rows number arguments ends next e =
-    let verb = passed (not ends) (BadVerb number) _ next e in
-    let arity = passed (not (length arguments == 0)) (BadArity number) (Ok item.End) next verb.1 in
+end_of_round-may_follow : (limits : Bounds) (read : Progress) (arguments : List (List ℕ)) (next : Item)
+    → end_of_round read.next arguments ≡ Ok next → MayFollow limits read next
+end_of_round-may_follow limits read arguments next e =
+    let arity = passed (not (length arguments == 0)) (BadArity read.next) (Ok item.End) next e in
     let same : item.End ≡ next = cc (arity.1) in
-    subst (MayFollow limits rows) same tt
+    subst (MayFollow limits read) same tt
+
+none_left : (rows : List Row) → (length rows == 0) ≡ true → rows ≡ []
+none_left [] is = refl
+none_left (row ∷ rows) is = absurd (omega (arith, eqb-true (length (row ∷ rows)) 0 is))
+
+growth_to-may_follow : (limits : Bounds) (read : Progress) (bits : ℕ) (next : Item) → growth_to limits read bits ≡ Ok next → MayFollow limits read next
+growth_to-may_follow limits read bits next e =
+    let range = passed (not (nat_le read.bits bits && nat_le bits 16)) (OutOfRange read.next) _ next e in
+    let place = passed (not (length read.rows == 0)) (BadPlace read.next) _ next range.1 in
+    let table = passed (not (is_bounds (bounds_at limits bits))) (TooWide read.next) (Ok (item.Grow bits)) next place.1 in
+    let same : item.Grow bits ≡ next = cc (table.1) in
+    subst (MayFollow limits read) same (record {
+      wider = leb-true read.bits bits (and_parts (nat_le read.bits bits) (nat_le bits 16) (not-false _ range.0)).0;
+      no_rows = none_left read.rows (not-false _ place.0);
+      bounds = bounds_pass (bounds_at limits bits) (not-false _ table.0);
+    })
+
+growth-may_follow : (limits : Bounds) (read : Progress) (arguments : List (List ℕ)) (next : Item) → growth limits read arguments ≡ Ok next → MayFollow limits read next
+growth-may_follow limits read arguments next e =
+    let arity = passed (not (length arguments == 1)) (BadArity read.next) _ next e in
+    let numbers = passed (not (list_all is_number arguments)) (BadNumber read.next) _ next arity.1 in
+    growth_to-may_follow limits read (number_of (slice_index_or arguments 0 [])) next numbers.1
+
+starred_row-may_follow : (limits : Bounds) (read : Progress) (arguments : List (List ℕ)) (verb : List ℕ) (next : Item)
+    → starred_row limits read arguments verb ≡ Ok next → MayFollow limits read next
+starred_row-may_follow limits read arguments verb next e =
+    let grows : (grow : Bool) → (if grow then growth limits read arguments else Err (BadVerb read.next)) ≡ Ok next → MayFollow limits read next =
+    elim [
+      | true ↦ λ is. growth-may_follow limits read arguments next is
+      | false ↦ λ is. cc
+    ] in
+    let ends : (end : Bool) → (if end then end_of_round read.next arguments else if is_grow verb then growth limits read arguments else Err (BadVerb read.next)) ≡ Ok next → MayFollow limits read next =
+    elim [
+      | true ↦ λ is. end_of_round-may_follow limits read arguments next is
+      | false ↦ λ is. grows (is_grow verb) is
+    ] in
+    ends (is_end verb) e
 
 item_of-may_follow : (limits : Bounds) (read : Progress) (fields : List (List ℕ)) (next : Item)
-    → item_of limits read fields ≡ Ok next → MayFollow limits read.rows next
+    → item_of limits read fields ≡ Ok next → MayFollow limits read next
 item_of-may_follow limits read fields next e =
     let first = slice_index_or fields 0 [] in
     let second = slice_index_or fields 1 [] in
     let printable = passed (not (are_printable fields)) (BadCsv read.next) _ next e in
     let lane = passed (not (is_number first || is_star first)) (BadLane read.next) _ next printable.1 in
-    let go : (star : Bool) → (if star then end_of_round read.next (drop 2 fields) (is_end second) else worded_row limits read (number_of first) (drop 2 fields) (word_of second)) ≡ Ok next
-    → MayFollow limits read.rows next =
+    let go : (star : Bool) → (if star then starred_row limits read (drop 2 fields) second else worded_row limits read (number_of first) (drop 2 fields) (word_of second)) ≡ Ok next
+    → MayFollow limits read next =
     elim [
-      | true ↦ λ ends. end_of_round-may_follow limits read.rows read.next (drop 2 fields) (is_end second) next ends
+      | true ↦ λ starred. starred_row-may_follow limits read (drop 2 fields) second next starred
       | false ↦ λ worded. worded_row-may_follow limits read (number_of first) (drop 2 fields) (word_of second) next worded
     ] in
     go (is_star first) lane.1
@@ -98,37 +144,78 @@ one_more-update updates lane rows row few room = go ((row.lane == lane) && is_up
         omega (arith, below)
 
 -- one more row keeps the limits
-keeps-more : (limits : Bounds) (rows : List Row) (row : Row) → KeepsLimits limits rows → MayCome limits rows row → KeepsLimits limits (rows ++ row ∷ [])
-keeps-more limits rows row keeps may = record {
-  lanes = All-push (λ r. r.lane < limits.workers) rows row keeps.lanes may.lane;
-  in_bounds = All-push (λ r. is_in_bounds limits.bits r.verb ≡ true) rows row keeps.in_bounds may.in_bounds;
-  updates = λ lane. one_more-update limits.updates lane rows row (keeps.updates lane) may.room;
+keeps-more : (limits : Bounds) (read : Progress) (row : Row) → KeepsLimits (bounds_at limits read.bits) read.rows → MayCome limits read row
+    → KeepsLimits (bounds_at limits read.bits) (read.rows ++ row ∷ [])
+keeps-more limits read row keeps may = record {
+  lanes = All-push (λ r. r.lane < limits.workers) read.rows row keeps.lanes may.lane;
+  in_bounds = All-push (λ r. is_in_bounds read.bits r.verb ≡ true) read.rows row keeps.in_bounds may.in_bounds;
+  updates = λ lane. one_more-update limits.updates lane read.rows row (keeps.updates lane) may.room;
 }
 
 -- no rows keep every limit
 keeps-none : (limits : Bounds) → KeepsLimits limits []
 keeps-none limits = record { lanes = All-nil (λ r. r.lane < limits.workers); in_bounds = All-nil (λ r. is_in_bounds limits.bits r.verb ≡ true); updates = λ lane. omega arith }
 
--- the rounds of what was read keep the limits, and none has as many rows as were read
-record IsSound (limits : Bounds) (read : Progress) : Type 0 where
-  keeps : KeepsLimits limits read.rows
-  few : length read.rows < read.next
-  closed : All (λ rows. KeepsLimits limits rows) read.closed
-  few_closed : All (λ rows. length rows < read.next) read.closed
+-- one more round that no earlier one has more bits than
+narrows-more : (rounds : List ScriptRound) (round : ScriptRound) → NeverNarrows rounds → All (λ r. r.bits ≤ round.bits) rounds → NeverNarrows (rounds ++ round ∷ [])
+narrows-more rounds round never below i j d le in_list =
+    let long = length-append rounds (round ∷ []) in
+    elim (cases_lt j (length rounds)) [
+      | inl inside ↦
+          let at_i = get_or-append rounds (round ∷ []) d i (omega (arith, le, inside)) in
+          let at_j = get_or-append rounds (round ∷ []) d j inside in
+          rw (at_i, at_j) (never i j d le inside)
+      | inr past ↦
+          let last : get_or (rounds ++ round ∷ []) (length rounds) d ≡ round = get_or-append_seam rounds round [] d in
+          let is : j ≡ length rounds = omega (arith, long, in_list, past) in
+          rw (is, last) (elim (cases_lt i (length rounds)) [
+            | inl inside ↦ rw (get_or-append rounds (round ∷ []) d i inside) (below i d inside)
+            | inr too ↦ let at_last : i ≡ length rounds = omega (arith, is, le, too) in rw (at_last, last) (omega arith)
+          ])
+    ]
 
-sound-item : (limits : Bounds) (read : Progress) (next : Item) → IsSound limits read → MayFollow limits read.rows next → IsSound limits (with_item read next)
+-- what was read can be run with the bits that keys have now, and so can each closed round with its own, which are no more; none has as
+-- many rows as were read
+record IsSound (limits : Bounds) (read : Progress) : Type 0 where
+  opened : IsRunnable limits (open_round read)
+  few : length read.rows < read.next
+  closed : All (IsRunnable limits) read.closed
+  below : All (λ round. round.bits ≤ read.bits) read.closed
+  never_narrows : NeverNarrows read.closed
+  few_closed : All (λ round. length round.rows < read.next) read.closed
+
+-- closed rounds have no fewer rows than before where one more row was read
+few-later : (next : ℕ) (rounds : List ScriptRound) → All (λ round. length round.rows < next) rounds → All (λ round. length round.rows < next + 1) rounds
+few-later next rounds few = All-weaker (λ round. length round.rows < next) (λ round. length round.rows < next + 1) (λ round short. omega (arith, short)) rounds few
+
+sound-item : (limits : Bounds) (read : Progress) (next : Item) → IsSound limits read → MayFollow limits read next → IsSound limits (with_item read next)
 sound-item limits read (item.Row row) sound may = record {
-  keeps = keeps-more limits read.rows row sound.keeps may;
+  opened = record { wider = sound.opened.wider; bounds = sound.opened.bounds; keeps = keeps-more limits read row sound.opened.keeps may };
   few = omega (arith, sound.few, length-append read.rows (row ∷ []));
   closed = sound.closed;
-  few_closed = All-weaker (λ rows. length rows < read.next) (λ rows. length rows < read.next + 1) (λ rows short. omega (arith, short)) read.closed sound.few_closed;
+  below = sound.below;
+  never_narrows = sound.never_narrows;
+  few_closed = few-later read.next read.closed sound.few_closed;
 }
 sound-item limits read item.End sound may = record {
-  keeps = keeps-none limits;
+  opened = record { wider = sound.opened.wider; bounds = sound.opened.bounds; keeps = keeps-none (bounds_at limits read.bits) };
   few = omega arith;
-  closed = All-push (λ rows. KeepsLimits limits rows) read.closed read.rows sound.closed sound.keeps;
-  few_closed = All-push (λ rows. length rows < read.next + 1) read.closed read.rows
-      (All-weaker (λ rows. length rows < read.next) (λ rows. length rows < read.next + 1) (λ rows short. omega (arith, short)) read.closed sound.few_closed) (omega (arith, sound.few));
+  closed = All-push (IsRunnable limits) read.closed (open_round read) sound.closed sound.opened;
+  below = All-push (λ round. round.bits ≤ read.bits) read.closed (open_round read) sound.below (omega arith);
+  never_narrows = narrows-more read.closed (open_round read) sound.never_narrows sound.below;
+  few_closed = All-push (λ round. length round.rows < read.next + 1) read.closed (open_round read) (few-later read.next read.closed sound.few_closed) (omega (arith, sound.few));
+}
+sound-item limits read (item.Grow bits) sound may = record {
+  opened = record {
+    wider = omega (arith, sound.opened.wider, may.wider);
+    bounds = may.bounds;
+    keeps = rw may.no_rows (keeps-none (bounds_at limits bits));
+  };
+  few = omega (arith, sound.few);
+  closed = sound.closed;
+  below = All-weaker (λ round. round.bits ≤ read.bits) (λ round. round.bits ≤ bits) (λ round le. omega (arith, le, may.wider)) read.closed sound.below;
+  never_narrows = sound.never_narrows;
+  few_closed = few-later read.next read.closed sound.few_closed;
 }
 
 -- so does what was read once some records were read too
@@ -175,23 +262,37 @@ records_of-few bytes =
     omega arith
 
 -- what a caller that runs the rounds needs of them
-pub record AreRunnable (limits : Bounds) (bytes : List ℕ) (rounds : List (List Row)) : Type 0 where
-  pub kept : All (KeepsLimits limits) rounds
-  pub few : All (λ rows. length rows ≤ length bytes + 1) rounds
+pub record AreRunnable (limits : Bounds) (bytes : List ℕ) (rounds : List ScriptRound) : Type 0 where
+  pub kept : All (IsRunnable limits) rounds
+  pub never_narrows : NeverNarrows rounds
+  pub few : All (λ round. length round.rows ≤ length bytes + 1) rounds
 
-pub rounds_are_runnable : (limits : Bounds) (bytes : List ℕ) (read : Progress)
-    → read_from limits nothing_read (records_of bytes) ≡ Ok read → AreRunnable limits bytes (rounds_read read)
-rounds_are_runnable limits bytes read is =
-    let none : IsSound limits nothing_read = record { keeps = keeps-none limits; few = omega arith; closed = All-nil (KeepsLimits limits); few_closed = All-nil (λ rows. length rows < 1) } in
-    let sound = read_from-sound limits (records_of bytes) nothing_read read none is in
-    let below : read.next ≤ length bytes + 2 = omega (arith, sound.1, records_of-few bytes) in
-    let few_closed = All-weaker (λ rows. length rows < read.next) (λ rows. length rows ≤ length bytes + 1) (λ rows short. omega (arith, short, below)) read.closed sound.0.few_closed in
-    let go : (empty : Bool) → AreRunnable limits bytes (read.closed ++ (if empty then [] else read.rows ∷ [])) =
+-- nothing was read yet
+sound-none : (limits : Bounds) → IsBounds limits → IsSound limits (nothing_read limits.bits)
+sound-none limits bounds = record {
+  opened = record { wider = omega arith; bounds = bounds; keeps = keeps-none (bounds_at limits limits.bits) };
+  few = omega arith;
+  closed = All-nil (IsRunnable limits);
+  below = All-nil (λ round. round.bits ≤ limits.bits);
+  never_narrows = λ i j d le in_list. absurd (omega (arith, in_list));
+  few_closed = All-nil (λ round. length round.rows < 1);
+}
+
+pub rounds_are_runnable : (limits : Bounds) (bytes : List ℕ) (read : Progress) → IsBounds limits
+    → read_from limits (nothing_read limits.bits) (records_of bytes) ≡ Ok read → AreRunnable limits bytes (rounds_read read)
+rounds_are_runnable limits bytes read bounds is =
+    let all = read_from-sound limits (records_of bytes) (nothing_read limits.bits) read (sound-none limits bounds) is in
+    let sound = all.0 in
+    let next = read.next in
+    let below : next ≤ length bytes + 2 = omega (arith, all.1, records_of-few bytes) in
+    let few_closed = All-weaker (λ round. length round.rows < next) (λ round. length round.rows ≤ length bytes + 1) (λ round short. omega (arith, short, below)) read.closed sound.few_closed in
+    let go : (empty : Bool) → AreRunnable limits bytes (read.closed ++ (if empty then [] else open_round read ∷ [])) =
     elim [
-      | true ↦ rw (append-nil read.closed) (record { kept = sound.0.closed; few = few_closed })
+      | true ↦ rw (append-nil read.closed) (record { kept = sound.closed; never_narrows = sound.never_narrows; few = few_closed })
       | false ↦ record {
-        kept = All-push (KeepsLimits limits) read.closed read.rows sound.0.closed sound.0.keeps;
-        few = All-push (λ rows. length rows ≤ length bytes + 1) read.closed read.rows few_closed (omega (arith, sound.0.few, below));
+        kept = All-push (IsRunnable limits) read.closed (open_round read) sound.closed sound.opened;
+        never_narrows = narrows-more read.closed (open_round read) sound.never_narrows sound.below;
+        few = All-push (λ round. length round.rows ≤ length bytes + 1) read.closed (open_round read) few_closed (omega (arith, sound.few, below));
       }
     ] in
     go (length read.rows == 0)

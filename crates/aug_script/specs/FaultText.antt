@@ -17,3 +17,5 @@ script_text (script.BadNumber row) = row_text row (codes "BadNumber")
 script_text (script.OutOfRange row) = row_text row (codes "OutOfRange")
 script_text (script.TooManyUpdates row) = row_text row (codes "TooManyUpdates")
 script_text script.OutOfMemory = codes "memory"
+script_text (script.BadPlace row) = row_text row (codes "BadPlace")
+script_text (script.TooWide row) = row_text row (codes "TooWide")

@@ -1,7 +1,7 @@
 -- What a script may ask for.
-use Rattle.std.specs.Prelude.{ℕ, ◌^◌}
+use Rattle.std.specs.Prelude.{ℕ, ◌^◌, ◌&&◌, nat_le, Bool}
 use Rattle.aug_core.specs.Layout.{IsLayout}
-use Rattle.aug_core.specs.Places.{shape_of}
+use Rattle.aug_core.specs.Places.{shape_of, word_count}
 
 -- keys below 2 ^ bits, lanes below workers, and so many updates a lane and round
 pub record Bounds : Type 0 where
@@ -12,3 +12,19 @@ pub record Bounds : Type 0 where
 -- limits that a script can have: a table can be laid out for a round that opens with every key
 abbrev pub IsBounds : Bounds → Type 0
 IsBounds b = IsLayout (shape_of b.bits b.workers b.updates (2 ^ b.bits))
+
+-- the number is one of those from the first to the last, as a test
+abbrev pub is_within : ℕ → ℕ → ℕ → Bool
+is_within first last n = nat_le first n && nat_le n last
+
+-- the words of the table for a round that opens with every key
+abbrev pub words_of : Bounds → ℕ
+words_of b = word_count (shape_of b.bits b.workers b.updates (2 ^ b.bits))
+
+-- limits that a script can have, as a test
+abbrev pub is_bounds : Bounds → Bool
+is_bounds b = is_within 1 16 b.bits && is_within 1 64 b.workers && is_within 1 65536 b.updates && nat_le (words_of b) (2 ^ 26)
+
+-- the limits with other bits
+abbrev pub bounds_at : Bounds → ℕ → Bounds
+bounds_at b bits = record { bits = bits; workers = b.workers; updates = b.updates }

@@ -1,16 +1,18 @@
--- How a script reads: its records are those of `csv`, and each is a row or the end of a round, or has the first fault of a table.
+-- How a script reads: its records are those of `csv`, and each is a row, the end of a round or more bits for the keys, or has the first
+-- fault of a table.
 use Rattle.std.specs.Prelude.{◌≡◌, ℕ, ◌+◌, ◌^◌, ◌<◌, ◌≤◌, ◌==◌, ◌&&◌, ◌||◌, not, nat_lt, nat_le, true, false, Bool, if◌then◌else◌, List, [], ◌∷◌, ◌++◌, length, drop, filter, slice_index_or, All, ⊤, codes, Option, Some, None, Result, Ok, Err}
 use Rattle.std.specs.Char.{is_ascii_digit}
 use Rattle.std.specs.List.{list_all}
 use Rattle.std.specs.Str.{bytes_eq}
 use Rattle.std.specs.Str.Parse.{digits_value}
 use Rattle.csv.specs.Reading.{default_config, strip_bom, records}
-use Rattle.aug_script.specs.Limits.{Bounds}
+use Rattle.aug_script.specs.Limits.{Bounds, IsBounds, bounds_at, is_bounds}
 use Rattle.aug_script.specs.declared.item.Item.{Item}
 use Rattle.aug_script.specs.declared.item.Item.TheVariants as item
 use Rattle.aug_script.specs.declared.row.Row.{Row}
 use Rattle.aug_script.specs.declared.script_error.ScriptError.{ScriptError}
-use Rattle.aug_script.specs.declared.script_error.ScriptError.TheVariants.{BadCsv, BadLane, BadVerb, BadArity, BadNumber, OutOfRange, TooManyUpdates}
+use Rattle.aug_script.specs.declared.script_error.ScriptError.TheVariants.{BadCsv, BadLane, BadVerb, BadArity, BadNumber, OutOfRange, TooManyUpdates, BadPlace, TooWide}
+use Rattle.aug_script.specs.declared.script_round.ScriptRound.{ScriptRound}
 use Rattle.aug_script.specs.declared.verb.Verb.{Verb}
 use Rattle.aug_script.specs.declared.verb.Verb.TheVariants as verb
 use Rattle.aug_script.specs.declared.verb.Word.{Word}
@@ -39,6 +41,10 @@ is_star field = bytes_eq field (codes "*")
 -- the field is `end`
 abbrev pub is_end : List ℕ → Bool
 is_end field = bytes_eq field (codes "end")
+
+-- the field is `grow`
+abbrev pub is_grow : List ℕ → Bool
+is_grow field = bytes_eq field (codes "grow")
 
 -- the verb's word that a field is, if it is one
 abbrev pub word_of : List ℕ → Option Word
@@ -114,30 +120,37 @@ is_update other = false
 abbrev pub updates_of : ℕ → List Row → ℕ
 updates_of lane rows = length (filter (λ row. (row.lane == lane) && is_update row.verb) rows)
 
--- how far a script was read: the number that the next row gets, the rows of the round that is open, and the rounds that were closed
--- before it
+-- how far a script was read: the number that the next row gets, the bits that keys have now, the rows of the round that is open, and the
+-- rounds that were closed before it
 pub record Progress : Type 0 where
   pub next : ℕ
+  pub bits : ℕ
   pub rows : List Row
-  pub closed : List (List Row)
+  pub closed : List ScriptRound
 
--- nothing was read yet
-abbrev pub nothing_read : Progress
-nothing_read = record { next = 1; rows = []; closed = [] }
+-- nothing was read yet, and keys have so many bits
+abbrev pub nothing_read : ℕ → Progress
+nothing_read bits = record { next = 1; bits = bits; rows = []; closed = [] }
 
--- one more item was read: a row of the open round, or the end of that round, which takes a row's number too
+-- the round that is open
+abbrev pub open_round : Progress → ScriptRound
+open_round read = record { bits = read.bits; rows = read.rows }
+
+-- one more item was read, and each takes a row's number: a row of the open round, the end of that round, or the bits that keys have from
+-- the open round on
 abbrev pub with_item : Progress → Item → Progress
-with_item read (item.Row row) = record { next = read.next + 1; rows = read.rows ++ row ∷ []; closed = read.closed }
-with_item read item.End = record { next = read.next + 1; rows = []; closed = read.closed ++ read.rows ∷ [] }
+with_item read (item.Row row) = record { next = read.next + 1; bits = read.bits; rows = read.rows ++ row ∷ []; closed = read.closed }
+with_item read item.End = record { next = read.next + 1; bits = read.bits; rows = []; closed = read.closed ++ open_round read ∷ [] }
+with_item read (item.Grow bits) = record { next = read.next + 1; bits = bits; rows = read.rows; closed = read.closed }
 
 -- the rounds of what was read; an open round without rows is none
-abbrev pub rounds_read : Progress → List (List Row)
-rounds_read read = read.closed ++ (if length read.rows == 0 then [] else read.rows ∷ [])
+abbrev pub rounds_read : Progress → List ScriptRound
+rounds_read read = read.closed ++ (if length read.rows == 0 then [] else open_round read ∷ [])
 
 -- the row, or its first fault, once its lane and verb are known
 abbrev pub bounded_row : Bounds → Progress → Row → Result Item ScriptError
 bounded_row limits read row =
-    if not (nat_lt row.lane limits.workers && is_in_bounds limits.bits row.verb) then Err (OutOfRange row.row)
+    if not (nat_lt row.lane limits.workers && is_in_bounds read.bits row.verb) then Err (OutOfRange row.row)
     else if is_update row.verb && nat_le limits.updates (updates_of row.lane read.rows) then Err (TooManyUpdates row.row)
     else Ok (item.Row row)
 
@@ -149,12 +162,32 @@ worded_row limits read lane arguments (Some word) =
     else if not (list_all is_number arguments) then Err (BadNumber read.next)
     else bounded_row limits read (record { row = read.next; lane = lane; verb = verb_of word arguments })
 
--- the end of a round, or the first fault of a row with this number whose lane is `*`, once it is known whether its verb is `end`
-abbrev pub end_of_round : ℕ → List (List ℕ) → Bool → Result Item ScriptError
-end_of_round number arguments ends =
-    if not ends then Err (BadVerb number)
-    else if not (length arguments == 0) then Err (BadArity number)
-    else Ok item.End
+-- the end of a round, or the fault of a row with this number and the verb `end`
+abbrev pub end_of_round : ℕ → List (List ℕ) → Result Item ScriptError
+end_of_round number arguments = if not (length arguments == 0) then Err (BadArity number) else Ok item.End
+
+-- keys have so many bits from now on, or the first fault of that: bits never fall and are at most 16, no row of the open round came
+-- before, and a round with these bits that opens with every key has a table
+abbrev pub growth_to : Bounds → Progress → ℕ → Result Item ScriptError
+growth_to limits read bits =
+    if not (nat_le read.bits bits && nat_le bits 16) then Err (OutOfRange read.next)
+    else if not (length read.rows == 0) then Err (BadPlace read.next)
+    else if not (is_bounds (bounds_at limits bits)) then Err (TooWide read.next)
+    else Ok (item.Grow bits)
+
+-- the same for a row with the verb `grow`
+abbrev pub growth : Bounds → Progress → List (List ℕ) → Result Item ScriptError
+growth limits read arguments =
+    if not (length arguments == 1) then Err (BadArity read.next)
+    else if not (list_all is_number arguments) then Err (BadNumber read.next)
+    else growth_to limits read (number_of (slice_index_or arguments 0 []))
+
+-- what a row whose lane is `*` is read as, by its verb, or its first fault
+abbrev pub starred_row : Bounds → Progress → List (List ℕ) → List ℕ → Result Item ScriptError
+starred_row limits read arguments verb =
+    if is_end verb then end_of_round read.next arguments
+    else if is_grow verb then growth limits read arguments
+    else Err (BadVerb read.next)
 
 -- what the record that comes next is read as, or its first fault
 abbrev pub item_of : Bounds → Progress → List (List ℕ) → Result Item ScriptError
@@ -163,7 +196,7 @@ item_of limits read fields =
     let second = slice_index_or fields 1 [] in
     if not (are_printable fields) then Err (BadCsv read.next)
     else if not (is_number first || is_star first) then Err (BadLane read.next)
-    else if is_star first then end_of_round read.next (drop 2 fields) (is_end second)
+    else if is_star first then starred_row limits read (drop 2 fields) second
     else worded_row limits read (number_of first) (drop 2 fields) (word_of second)
 
 -- a fault, or what the item leads on to
@@ -178,21 +211,34 @@ read_from limits read (fields ∷ rest) =
     then_read (item_of limits read fields) (λ next. read_from limits (with_item read next) rest)
 
 -- the rounds of what was read, or its fault
-abbrev pub rounds_or_fault : Result Progress ScriptError → Result (List (List Row)) ScriptError
+abbrev pub rounds_or_fault : Result Progress ScriptError → Result (List ScriptRound) ScriptError
 rounds_or_fault (Ok read) = Ok (rounds_read read)
 rounds_or_fault (Err fault) = Err fault
 
--- the rows of each round of a script's bytes, or the first faulty row's fault
-abbrev pub rounds_of : Bounds → List ℕ → Result (List (List Row)) ScriptError
-rounds_of limits bytes = rounds_or_fault (read_from limits nothing_read (records_of bytes))
+-- the rounds of a script's bytes, or the first faulty row's fault
+abbrev pub rounds_of : Bounds → List ℕ → Result (List ScriptRound) ScriptError
+rounds_of limits bytes = rounds_or_fault (read_from limits (nothing_read limits.bits) (records_of bytes))
 
--- the rows of a round can be run under the limits
+-- rows can be run under the limits
 pub record KeepsLimits (limits : Bounds) (rows : List Row) : Type 0 where
   pub lanes : All (λ row. row.lane < limits.workers) rows
   pub in_bounds : All (λ row. is_in_bounds limits.bits row.verb ≡ true) rows
   pub updates : (lane : ℕ) → updates_of lane rows ≤ limits.updates
 
--- a row's lane is below this number; the end of a round has no lane
-abbrev pub HasLaneBelow : ℕ → Item → Type 0
-HasLaneBelow most (item.Row row) = row.lane < most
-HasLaneBelow most item.End = ⊤
+-- a round can be run under the limits with its own bits: they are no fewer than at first, a round with them that opens with every key has
+-- a table, and its rows keep these limits
+pub record IsRunnable (limits : Bounds) (round : ScriptRound) : Type 0 where
+  pub wider : limits.bits ≤ round.bits
+  pub bounds : IsBounds (bounds_at limits round.bits)
+  pub keeps : KeepsLimits (bounds_at limits round.bits) round.rows
+
+-- no round has fewer bits than one before it
+abbrev pub NeverNarrows : List ScriptRound → Type 0
+NeverNarrows rounds =
+    (i j : ℕ) (d : ScriptRound) → i ≤ j → j < length rounds → (slice_index_or rounds i d).bits ≤ (slice_index_or rounds j d).bits
+
+-- an item that rounds of at most 64 lanes and 16 bits can take: a row's lane is below 64, and keys get at most 16 bits
+abbrev pub CanTake : Item → Type 0
+CanTake (item.Row row) = row.lane < 64
+CanTake item.End = ⊤
+CanTake (item.Grow bits) = bits ≤ 16

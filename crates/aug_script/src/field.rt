@@ -2,7 +2,7 @@
 ghost use Rattle.std.specs.Prelude.{◌≡◌, ◌&&◌, nat_le, IsTrue};
 ghost use Rattle.std.specs.Char.{is_ascii_digit};
 ghost use Rattle.std.specs.List.{list_all};
-ghost use Rattle.aug_script.specs.Script.{is_end as is_end_field, is_number as is_number_field, number_of, is_star as is_star_field};
+ghost use Rattle.aug_script.specs.Script.{is_end as is_end_field, is_grow as is_grow_field, is_number as is_number_field, number_of, is_star as is_star_field};
 
 fn are_digits(field: &[u8]) -> bool
     ensures { result ≡ list_all is_ascii_digit field.now }
@@ -41,6 +41,13 @@ pub(crate) fn is_end(field: &[u8]) -> bool
     ensures { result ≡ is_end_field field.now }
 {
     field == b"end".as_slice()
+}
+
+/// Whether a field is `grow`.
+pub(crate) fn is_grow(field: &[u8]) -> bool
+    ensures { result ≡ is_grow_field field.now }
+{
+    field == b"grow".as_slice()
 }
 
 /// Whether every byte of a field is from 32 to 126.

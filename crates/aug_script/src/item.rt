@@ -7,4 +7,6 @@ pub(crate) enum Item {
     Row(Row),
     /// The end of that round.
     End,
+    /// Keys have so many bits, from that round on.
+    Grow(u32),
 }

@@ -19,6 +19,7 @@ mod reply;
 mod report;
 mod row;
 mod script_error;
+mod script_round;
 mod sending;
 #[cfg(test)]
 mod tests;
@@ -40,6 +41,7 @@ pub use reply::Reply;
 pub use report::Report;
 pub use row::Row;
 pub use script_error::ScriptError;
+pub use script_round::ScriptRound;
 pub use sending::send;
 pub use to_write::ToWrite;
 pub use verb::Verb;

@@ -1,12 +1,14 @@
 ghost use Rattle.std.specs.Prelude.{◌≡◌, ◌^◌, ◌↔◌, IfOk, IsErrOf, IsOk};
+ghost use Rattle.std.specs.Result.{is_ok};
 ghost use Rattle.aug_core.specs.Layout.{IsRefused};
 ghost use Rattle.aug_core.specs.Places.{shape_of};
-ghost use Rattle.aug_script.specs.Limits.{Bounds, IsBounds};
+ghost use Rattle.aug_script.specs.Limits.{Bounds, IsBounds, bounds_at, is_bounds};
 
 use aug_core::{Layout, LayoutError};
 use std::marker::Model;
 
-/// What a script may ask for: keys below `2^bits`, lanes below `workers`, and so many updates a lane and round.
+/// What a script may ask for: keys below `2^bits`, until a `grow` row gives them more bits, lanes below `workers`, and so
+/// many updates a lane and round.
 #[derive(Clone, Copy, Debug, PartialEq, Eq)]
 pub struct Limits {
     bits: u32,
@@ -31,6 +33,9 @@ impl Limits {
         ensures ok { IsOk result ↔ IsBounds (record { bits = bits; workers = workers; updates = updates }) }
         ensures limits { IfOk result (λ l. l ≡ record { bits = bits; workers = workers; updates = updates }) }
 
+        // The same as a test, as the reading of a script makes it.
+        ensures test { is_ok result ≡ is_bounds (record { bits = bits; workers = workers; updates = updates }) }
+
         // One cause each, and the first that is met.
         ensures bad_bits { IsErrOf result LayoutError.BadBits ↔ IsRefused LayoutError.BadBits (shape_of bits workers updates (2 ^ bits)) }
         ensures bad_workers { IsErrOf result LayoutError.BadWorkers ↔ IsRefused LayoutError.BadWorkers (shape_of bits workers updates (2 ^ bits)) }
@@ -46,7 +51,7 @@ impl Limits {
         })
     }
 
-    /// Keys are below `2^bits`.
+    /// Keys are below `2^bits` until a `grow` row gives them more bits.
     pub fn bits(&self) -> u32
         ensures value { result ≡ self.now.bits }
         ensures known { IsBounds self.now }
@@ -68,5 +73,12 @@ impl Limits {
         ensures known { IsBounds self.now }
     {
         self.updates
+    }
+
+    /// Whether a round of so many bits that opens with every key has a table too, with these workers and updates.
+    pub(crate) fn has_table(&self, bits: u32) -> bool
+        ensures { result ≡ is_bounds (bounds_at self.now bits) }
+    {
+        Limits::try_new(bits, self.workers, self.updates).is_ok()
     }
 }

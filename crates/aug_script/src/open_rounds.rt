@@ -1,9 +1,9 @@
 //! The rounds of a script while it is read.
-ghost use Rattle.std.specs.Prelude.{◌≡◌, ◌+◌, ◌-◌, ◌^◌, ◌<◌, IfOk, OnOk};
-ghost use Rattle.aug_script.specs.Script.{HasLaneBelow, nothing_read, rounds_read, updates_of, with_item};
+ghost use Rattle.std.specs.Prelude.{◌≡◌, ◌+◌, ◌-◌, ◌^◌, ◌<◌, ◌≤◌, ◌==◌, IfOk, OnOk, length};
+ghost use Rattle.aug_script.specs.Script.{CanTake, nothing_read, rounds_read, updates_of, with_item};
 ghost use Rattle.aug_script.specs.declared.item.Item.TheVariants as item;
 
-use crate::{Item, Listed, Row};
+use crate::{Item, Listed, Row, ScriptRound};
 use std::alloc::{AllocError, Global};
 use std::marker::Model;
 use std::mem;
@@ -11,10 +11,11 @@ use std::mem;
 /// The most lanes that a round has.
 const LANES: usize = 64;
 
-/// The rounds that were closed, and the rows of the one that is open.
+/// The rounds that were closed, and the bits and the rows of the one that is open.
 #[derive(Drop)]
 pub(crate) struct OpenRounds {
-    closed: Vec<Listed<Row>>,
+    closed: Vec<ScriptRound>,
+    bits: u32,
     rows: Vec<Row>,
     /// How many of these rows are updates of each lane.
     updates: [usize; LANES],
@@ -23,22 +24,25 @@ pub(crate) struct OpenRounds {
 }
 
 impl Model for OpenRounds {
-    ghost use Rattle.std.specs.Prelude.{◌≡◌, ℕ, ◌<◌, slice_index_or};
+    ghost use Rattle.std.specs.Prelude.{◌≡◌, ℕ, ◌<◌, ◌≤◌, slice_index_or};
     ghost use Rattle.aug_script.specs.Script.{Progress, updates_of};
 
     ghost Value = { Progress };
 
-    ghost view = { λ r. record { next = r.next; rows = r.rows.items; closed = r.closed.items } };
+    ghost view = { λ r. record { next = r.next; bits = r.bits; rows = r.rows.items; closed = r.closed.items } };
 
-    ghost invariant = { λ r. (lane : ℕ) → lane < 64 → slice_index_or r.updates lane 0 ≡ updates_of lane r.rows.items };
+    ghost invariant = { λ r. (r.bits ≤ 16) × ((lane : ℕ) → lane < 64 → slice_index_or r.updates lane 0 ≡ updates_of lane r.rows.items) };
 }
 
 impl OpenRounds {
-    pub(crate) fn new(alloc: Global) -> OpenRounds
-        ensures { result ≡ nothing_read }
+    /// No rounds yet, and keys of so many bits.
+    pub(crate) fn new(alloc: Global, bits: u32) -> OpenRounds
+        requires { bits ≤ 16 }
+        ensures { result ≡ nothing_read bits }
     {
         OpenRounds {
             closed: Vec::new(alloc),
+            bits,
             rows: Vec::new(alloc),
             updates: [0; LANES],
             next: 1,
@@ -52,6 +56,21 @@ impl OpenRounds {
         self.next
     }
 
+    /// How many bits the keys of the open round have.
+    pub(crate) fn bits(&self) -> u32
+        ensures value { result ≡ self.now.bits }
+        ensures most { result ≤ 16 }
+    {
+        self.bits
+    }
+
+    /// Whether the open round has no rows yet.
+    pub(crate) fn is_empty(&self) -> bool
+        ensures { result ≡ (length self.now.rows == 0) }
+    {
+        self.rows.is_empty()
+    }
+
     /// How many of the open round's rows are updates of a lane.
     pub(crate) fn updates(&self, lane: u32) -> usize
         requires { lane < 64 }
@@ -60,15 +79,19 @@ impl OpenRounds {
         self.updates[lane as usize]
     }
 
-    /// Puts a row behind those of the open round, or closes that round and opens the next.
+    /// Puts a row behind those of the open round, or closes that round and opens the next, or gives keys more bits.
     pub(crate) fn take(&mut self, alloc: Global, item: Item) -> Result<(), AllocError>
-        requires lane { HasLaneBelow 64 item }
+        requires can { CanTake item }
         requires number { self.old.next < 2 ^ 64 - 1 }
         ensures { OnOk result (self.new ≡ with_item self.old item) }
     {
         match item {
             Item::Row(row) => self.push(row),
             Item::End => self.close(alloc),
+            Item::Grow(bits) => {
+                self.grow(bits);
+                Ok(())
+            }
         }
     }
 
@@ -93,18 +116,32 @@ impl OpenRounds {
     {
         let rows = mem::replace(&mut self.rows, Vec::new(alloc));
         self.updates = [0; LANES];
-        self.closed.push(Listed::from_vec(rows))?;
+        let bits = self.bits;
+        let rows = Listed::from_vec(rows);
+        self.closed.push(ScriptRound { bits, rows })?;
         self.next += 1;
         Ok(())
     }
 
+    // From the open round on, keys have so many bits.
+    fn grow(&mut self, bits: u32)
+        requires most { bits ≤ 16 }
+        requires number { self.old.next < 2 ^ 64 - 1 }
+        ensures { self.new ≡ with_item self.old (item.Grow bits) }
+    {
+        self.bits = bits;
+        self.next += 1;
+    }
+
     /// All rounds, the open one as the last where it has rows.
-    pub(crate) fn into_rounds(self) -> Result<Vec<Listed<Row>>, AllocError>
+    pub(crate) fn into_rounds(self) -> Result<Vec<ScriptRound>, AllocError>
         ensures { IfOk result (λ rounds. rounds.items ≡ rounds_read self) }
     {
         let mut rounds = self.closed;
         if !self.rows.is_empty() {
-            rounds.push(Listed::from_vec(self.rows))?;
+            let bits = self.bits;
+            let rows = Listed::from_vec(self.rows);
+            rounds.push(ScriptRound { bits, rows })?;
         }
         Ok(rounds)
     }

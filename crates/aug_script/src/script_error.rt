@@ -17,12 +17,17 @@ pub enum ScriptError {
     BadArity(u64),
     /// 5: an argument is no number.
     BadNumber(u64),
-    /// 6: the lane is not below `workers`, or an argument is past its bound.
+    /// 6: the lane is not below `workers`, or an argument is past its bound. That of `grow` is at least the present
+    /// bits and at most 16.
     OutOfRange(u64),
     /// 7: this lane's updates in this round exceed `updates`.
     TooManyUpdates(u64),
     /// 8: memory was refused. It may come at any point, and has no row.
     OutOfMemory,
+    /// 9: a row of a lane came before `grow` in this round. It is tested after 6.
+    BadPlace(u64),
+    /// 10: a round of so many bits that opens with every key has no table under the limits. It is tested after 9.
+    TooWide(u64),
 }
 
 impl ScriptError {
@@ -42,6 +47,8 @@ impl ScriptError {
             ScriptError::OutOfRange(row) => row_text(*row, "OutOfRange"),
             ScriptError::TooManyUpdates(row) => row_text(*row, "TooManyUpdates"),
             ScriptError::OutOfMemory => memory_text(),
+            ScriptError::BadPlace(row) => row_text(*row, "BadPlace"),
+            ScriptError::TooWide(row) => row_text(*row, "TooWide"),
         }
     }
 }
@@ -86,11 +93,14 @@ mod tests {
 
     #[test]
     fn shows_its_row_and_its_name(rt: HostRuntime) -> Result<(), Fail> {
-        let fault = ScriptError::BadArity(12);
-        assert_eq!(rt;
-            format!(in rt.alloc(); "{fault}")?.as_str(),
-            "row 12: BadArity"
-        );
+        for (fault, text) in [
+            (ScriptError::BadArity(12), "row 12: BadArity"),
+            (ScriptError::BadPlace(2), "row 2: BadPlace"),
+            (ScriptError::TooWide(1), "row 1: TooWide"),
+            (ScriptError::OutOfMemory, "memory"),
+        ] {
+            assert_eq!(rt; format!(in rt.alloc(); "{fault}")?.as_str(), text);
+        }
         Ok(())
     }
 }

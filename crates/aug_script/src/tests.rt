@@ -19,7 +19,7 @@ fn rounds_of(
     let script = Script::read(alloc, script.as_bytes(), &limits)?;
     let mut rounds = Vec::new(alloc);
     for round in script.rounds() {
-        let rows = Vec::from_slice(alloc, round.as_slice())?;
+        let rows = Vec::from_slice(alloc, round.rows.as_slice())?;
         rounds.push(Listed::from_vec(rows))?;
     }
     Ok(rounds)
@@ -101,7 +101,7 @@ fn quotes_blank_lines_line_ends_and_leading_zeros(rt: HostRuntime) -> Result<(),
 fn faulty_scripts_of_one_row(rt: HostRuntime) -> Result<(), Fail> {
     let not_printable: &[u8] = &[48, 44, 105, 110, 115, 101, 114, 116, 44, 0xC3, 0xA9];
     let ends_not_printable: &[u8] = &[42, 44, 101, 110, 100, 44, 0xC3, 0xA9];
-    let scripts: [(&[u8], ScriptError); 45] = [
+    let scripts: [(&[u8], ScriptError); 60] = [
         (b"0,insert,16", ScriptError::OutOfRange(1)),
         (b"1,look", ScriptError::OutOfRange(1)),
         (b"0,insert", ScriptError::BadArity(1)),
@@ -153,6 +153,23 @@ fn faulty_scripts_of_one_row(rt: HostRuntime) -> Result<(), Fail> {
         (b"0,put,16,x", ScriptError::BadNumber(1)),
         (b"0,put,1,1000000000", ScriptError::BadNumber(1)),
         (b"*,put,1,1", ScriptError::BadVerb(1)),
+
+        // The same of rows that give keys more bits.
+        (b"*,grow,3", ScriptError::OutOfRange(1)),
+        (b"*,grow,17", ScriptError::OutOfRange(1)),
+        (b"*,grow", ScriptError::BadArity(1)),
+        (b"0,grow,5", ScriptError::BadVerb(1)),
+        (b"*,grow,5,6", ScriptError::BadArity(1)),
+        (b"*,grow,x", ScriptError::BadNumber(1)),
+        (b"*,grow,", ScriptError::BadNumber(1)),
+        (b"*,grow,1000000000", ScriptError::BadNumber(1)),
+        (b"*,grow,x,6", ScriptError::BadArity(1)),
+        (b"*,grow,0", ScriptError::OutOfRange(1)),
+        (b"*,grow,999999999", ScriptError::OutOfRange(1)),
+        (b"x,grow,5", ScriptError::BadLane(1)),
+        (b"0,grow", ScriptError::BadVerb(1)),
+        (b"*,GROW,5", ScriptError::BadVerb(1)),
+        (b"grow,5", ScriptError::BadLane(1)),
     ];
     for (place, (script, fault)) in scripts.into_iter().enumerate() {
         assert_eq!(rt;
@@ -289,6 +306,165 @@ fn rows_keep_their_numbers_past_the_end_of_a_round(rt: HostRuntime) -> Result<()
         fault_of(rt.alloc(), late, 64)?,
         Some(ScriptError::BadVerb(4))
     );
+    Ok(())
+}
+
+// The bits of each round of a script of one worker, with how many rows it has.
+fn growth_of(alloc: Global, script: &str, bits: u32) -> Result<Vec<(u32, usize)>, Fail> {
+    let limits = Limits::try_new(bits, 1, 64)?;
+    let script = Script::read(alloc, script.as_bytes(), &limits)?;
+    let mut rounds = Vec::new(alloc);
+    for round in script.rounds() {
+        rounds.push((round.bits, round.rows.as_slice().len()))?;
+    }
+    Ok(rounds)
+}
+
+#[test]
+fn rounds_have_the_bits_that_hold_at_their_rows(rt: HostRuntime) -> Result<(), Fail> {
+    let none: &[(u32, usize)] = &[];
+    for (script, bits, rounds) in [
+        ("*,grow,5", 4, none),
+        ("*,grow,4\n*,grow,4\n*,grow,16", 4, none),
+        ("*,grow,5\n*,end", 4, [(5, 0)].as_slice()),
+        ("*,grow,5\n0,look", 4, [(5, 1)].as_slice()),
+        (
+            "*,grow,05\n\"*\",\"grow\",\"006\"\n*,end",
+            4,
+            [(6, 0)].as_slice(),
+        ),
+        (
+            "*,grow,1\n*,grow,9\n*,grow,9\n0,look",
+            1,
+            [(9, 1)].as_slice(),
+        ),
+        ("0,look\n*,end\n*,grow,5", 4, [(4, 1)].as_slice()),
+        (
+            "0,look\n*,end\n*,grow,5\n*,end",
+            4,
+            [(4, 1), (5, 0)].as_slice(),
+        ),
+        (
+            "*,end\n*,grow,5\n*,end\n*,end\n*,grow,16\n0,look\n0,size",
+            4,
+            [(4, 0), (5, 0), (5, 0), (16, 2)].as_slice(),
+        ),
+    ] {
+        let read = growth_of(rt.alloc(), script, bits)?;
+        assert_eq!(rt; read.as_slice(), rounds, "in {script}");
+    }
+    Ok(())
+}
+
+#[test]
+fn a_round_is_wider_than_the_one_before(rt: HostRuntime) -> Result<(), Fail> {
+    let limits = Limits::try_new(2, 1, 64)?;
+    let script =
+        "0,insert,3\n*,end\n*,grow,5\n0,insert,31\n0,look\n0,rank,32\n0,before,31\n0,has,3\n";
+    let script = Script::read(rt.alloc(), script.as_bytes(), &limits)?;
+    assert_eq!(rt; script.rounds().len(), 2);
+    let narrow = &script.rounds()[0];
+    assert_eq!(rt; narrow.bits, 2);
+    assert_eq!(rt;
+        narrow.rows.as_slice(),
+        [row(1, 0, Verb::Insert(3))].as_slice()
+    );
+    let wide = &script.rounds()[1];
+    assert_eq!(rt; wide.bits, 5);
+    let rows = [
+        row(4, 0, Verb::Insert(31)),
+        row(5, 0, Verb::Look),
+        row(6, 0, Verb::Rank(32)),
+        row(7, 0, Verb::Before(31)),
+        row(8, 0, Verb::Has(3)),
+    ];
+    assert_eq!(rt; wide.rows.as_slice(), rows.as_slice());
+    Ok(())
+}
+
+#[test]
+fn arguments_have_the_bounds_that_hold_at_their_row(rt: HostRuntime) -> Result<(), Fail> {
+    let alloc = rt.alloc();
+    let scripts: [(&[u8], Option<ScriptError>); 12] = [
+        (b"*,grow,5\n0,insert,31", None),
+        (b"0,insert,31", Some(ScriptError::OutOfRange(1))),
+        (b"*,grow,5\n0,insert,32", Some(ScriptError::OutOfRange(2))),
+        (b"*,grow,5\n0,rank,32", None),
+        (b"*,grow,5\n0,rank,33", Some(ScriptError::OutOfRange(2))),
+        (b"*,grow,5\n*,end\n0,remove,31", None),
+        (
+            b"0,insert,16\n*,end\n*,grow,5",
+            Some(ScriptError::OutOfRange(1)),
+        ),
+
+        // The bits never fall, also from round to round.
+        (b"*,grow,6\n*,grow,5", Some(ScriptError::OutOfRange(2))),
+        (
+            b"*,grow,6\n*,end\n*,grow,5",
+            Some(ScriptError::OutOfRange(3)),
+        ),
+
+        // A row that gives them takes a number, and ends no round.
+        (
+            b"*,grow,4\n\n*,grow,4\n0,fly",
+            Some(ScriptError::BadVerb(3)),
+        ),
+        (
+            b"*,grow,5\n0,insert,1\n*,end\n*,grow,5\n0,insert,1\n0,remove,1",
+            Some(ScriptError::TooManyUpdates(6)),
+        ),
+        (b"*,grow,5\n0,insert,1\n*,end\n*,grow,5\n0,insert,1", None),
+    ];
+    for (place, (script, fault)) in scripts.into_iter().enumerate() {
+        assert_eq!(rt; fault_of(alloc, script, 1)?, fault, "at {place}");
+    }
+    Ok(())
+}
+
+#[test]
+fn keys_get_more_bits_before_the_rows_of_a_round(rt: HostRuntime) -> Result<(), Fail> {
+    let scripts: [(&[u8], ScriptError); 5] = [
+        (b"0,insert,1\n*,grow,5", ScriptError::BadPlace(2)),
+        (b"0,look\n*,grow,4", ScriptError::BadPlace(2)),
+        (
+            b"0,look\n*,end\n*,grow,5\n0,look\n*,grow,6\n",
+            ScriptError::BadPlace(5),
+        ),
+
+        // The bits are looked at first.
+        (b"0,look\n*,grow,3", ScriptError::OutOfRange(2)),
+        (b"0,look\n*,grow,17", ScriptError::OutOfRange(2)),
+    ];
+    for (place, (script, fault)) in scripts.into_iter().enumerate() {
+        assert_eq!(rt;
+            fault_of(rt.alloc(), script, 64)?,
+            Some(fault),
+            "at {place}"
+        );
+    }
+    Ok(())
+}
+
+#[test]
+fn a_wider_round_has_a_table_too(rt: HostRuntime) -> Result<(), Fail> {
+    let scripts: [(&[u8], u32, Option<ScriptError>); 7] = [
+        (b"*,grow,16", 13_108, Some(ScriptError::TooWide(1))),
+        (b"*,grow,16", 13_018, Some(ScriptError::TooWide(1))),
+        (b"*,grow,16", 13_017, None),
+        (
+            b"*,end\n*,grow,5\n*,grow,16",
+            13_108,
+            Some(ScriptError::TooWide(3)),
+        ),
+        (b"*,grow,15", 13_108, None),
+        (b"0,look\n*,grow,16", 13_108, Some(ScriptError::BadPlace(2))),
+        (b"*,grow,17", 13_108, Some(ScriptError::OutOfRange(1))),
+    ];
+    for (place, (script, updates, fault)) in scripts.into_iter().enumerate() {
+        let limits = Limits::try_new(4, 64, updates)?;
+        let read = Script::read(rt.alloc(), script, &limits);
+        assert_eq!(rt; read.err(), fault, "at {place}");
+    }
     Ok(())
 }
 
@@ -459,9 +635,9 @@ fn refused_memory_is_told_by_reading(rt: HostRuntime) -> Result<(), Fail> {
             Ok(script) => {
                 assert_eq!(rt; script.rounds().len(), 2);
                 let first = [row(1, 0, Verb::Insert(5))];
-                assert_eq!(rt; script.rounds()[0].as_slice(), first.as_slice());
+                assert_eq!(rt; script.rounds()[0].rows.as_slice(), first.as_slice());
                 let second = [row(3, 1, Verb::Look)];
-                assert_eq!(rt; script.rounds()[1].as_slice(), second.as_slice());
+                assert_eq!(rt; script.rounds()[1].rows.as_slice(), second.as_slice());
             }
             Err(fault) => {
                 assert_eq!(rt; (fault, refused), (ScriptError::OutOfMemory, 0));

@@ -57,15 +57,15 @@ pub record HoldsCrew (face : ℕ → ℕ → List (ℕ × ℕ) → List ℕ) (v 
   pub inserts_are : inserts ≡ inserts_of (changes_of v.held) % 2 ^ 32
   pub removals_are : removals ≡ removals_of (changes_of v.held) % 2 ^ 32
 
--- a round over the set of a trie at rest, and its crew, which knows the opening cut alone and handed nothing out
-pub record BeginsRound (ended : EndedFacts) (workers updates : ℕ) (round : RoundFacts) (crew : CrewFacts) : Type 0 where
-  pub bits : round.bits ≡ ended.bits
+-- a round of keys of so many bits over the set of a trie at rest, and its crew, which knows the opening cut alone and handed nothing out
+pub record BeginsRound (ended : EndedFacts) (bits workers updates : ℕ) (round : RoundFacts) (crew : CrewFacts) : Type 0 where
+  pub bits_are : round.bits ≡ bits
   pub members : round.members ≡ ended.members
   pub workers_are : round.workers ≡ workers
   pub updates_are : round.updates ≡ updates
   pub room : round.room ≡ length ended.members
   pub together : crew.round ≡ round
-  pub opening : crew.knows ≡ record { history = opening_cut ended.bits ended.members ∷ []; accepted = [] }
+  pub opening : crew.knows ≡ record { history = opening_cut bits ended.members ∷ []; accepted = [] }
   pub none_out : crew.handed ≡ 0
   pub none_back : crew.back ≡ 0
 

@@ -3,7 +3,7 @@ use Rattle.std.specs.Prelude.{ℕ, List, codes}
 use Rattle.aug_core.specs.declared.layout.LayoutError.{LayoutError}
 use Rattle.aug_core.specs.declared.layout.LayoutError.TheVariants as layout
 use Rattle.aug_trie.specs.declared.error.BeginError.{BeginError}
-use Rattle.aug_trie.specs.declared.error.BeginError.TheVariants.{BadWorkers, BadUpdates, TooLarge, OutOfMemory, BadBits}
+use Rattle.aug_trie.specs.declared.error.BeginError.TheVariants.{BadWorkers, BadUpdates, TooLarge, OutOfMemory, BadBits, Narrower}
 use Rattle.aug_trie.specs.declared.error.CrewError.{CrewError}
 use Rattle.aug_trie.specs.declared.error.CrewError.TheVariants.{NoLane}
 
@@ -14,6 +14,7 @@ begin_text BadUpdates = codes "BadUpdates"
 begin_text TooLarge = codes "TooLarge"
 begin_text OutOfMemory = codes "OutOfMemory"
 begin_text BadBits = codes "BadBits"
+begin_text Narrower = codes "Narrower"
 
 abbrev pub crew_text : CrewError → List ℕ
 crew_text NoLane = codes "NoLane"

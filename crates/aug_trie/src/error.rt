@@ -22,6 +22,9 @@ pub enum BeginError {
 
     /// Refusal 5: the bits of a key are outside 1 to 16.
     BadBits,
+
+    /// Refusal 6: the bits of a key are fewer than the trie's.
+    Narrower,
 }
 
 impl fmt::Display for BeginError {
@@ -37,6 +40,7 @@ impl fmt::Display for BeginError {
             BeginError::TooLarge => "TooLarge",
             BeginError::OutOfMemory => "OutOfMemory",
             BeginError::BadBits => "BadBits",
+            BeginError::Narrower => "Narrower",
         })
     }
 }

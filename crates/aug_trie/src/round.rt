@@ -1,8 +1,8 @@
 //! A round: the table that its passes work on.
-ghost use Rattle.std.specs.Prelude.{◌≡◌, ◌≢◌, ◌↔◌, ◌+◌, length, All, IsErrOf, IfOk, IfErr};
+ghost use Rattle.std.specs.Prelude.{◌≡◌, ◌≢◌, ◌↔◌, ◌+◌, ◌<◌, ◌≤◌, length, All, IsErrOf, IfOk, IfErr};
 ghost use Rattle.aug_monoid.specs.Weighted.{FitsPair};
 ghost use Rattle.aug_model.specs.Keys.{IsKeySet, keys_of};
-ghost use Rattle.aug_core.specs.Layout.{IsRefused};
+ghost use Rattle.aug_core.specs.Layout.{IsWithin, IsOutside, IsRefused};
 ghost use Rattle.aug_core.specs.Places.{shape_of};
 ghost use Rattle.aug_trie.specs.Crews.{BeginsRound, Ends};
 
@@ -37,16 +37,14 @@ impl<A: Monoid, B: Monoid> Model for Round<A, B> {
 }
 
 impl<A: Monoid, B: Monoid> Round<A, B> {
-    /// Begins a round over the set of a trie at rest, each member with its weight, for so many passes, each with so many updates. All memory of the round is
-    /// taken here, and that of the round before is given back. The refusals are tested in the order of `BeginError`, as
-    /// `Layout::new` tests them for the size of the set; after one the same trie comes back.
+    /// Begins a round over the set of a trie at rest, as `begin_wider` does, with the trie's own bits: those are never refused.
     pub fn begin(
         alloc: Global,
         ended: Ended<A, B>,
         workers: u32,
         updates: u32,
     ) -> Result<(Round<A, B>, Crew<A, B>), (Ended<A, B>, BeginError)>
-        ensures begun { IfOk result (λ t. BeginsRound ended workers updates t.0 t.1) }
+        ensures begun { IfOk result (λ t. BeginsRound ended ended.bits workers updates t.0 t.1) }
         ensures same { IfErr result (λ e. e.0 ≡ record ended { calls = e.0.calls }) }
         ensures not_walked { IfErr result (λ e. e.1 ≢ BeginError.OutOfMemory → e.0 ≡ ended) }
         ensures bad_workers { IsErrOf result (ended, BeginError.BadWorkers)
@@ -56,11 +54,44 @@ impl<A: Monoid, B: Monoid> Round<A, B> {
         ensures too_large { IsErrOf result (ended, BeginError.TooLarge)
             ↔ IsRefused LayoutError.TooLarge (shape_of ended.bits workers updates (length ended.members)) }
         ensures good_bits { IfErr result (λ e. e.1 ≢ BeginError.BadBits) }
+        ensures not_narrower { IfErr result (λ e. e.1 ≢ BeginError.Narrower) }
+        ensures keys { IsKeySet ended.bits (keys_of ended.members) }
+        ensures fit { All FitsPair ended.members }
+    {
+        let bits = ended.bits;
+        Round::begin_wider(alloc, ended, bits, workers, updates)
+    }
+
+    /// Begins a round over the set of a trie at rest, each member with its weight, for keys of so many bits, which are at least the
+    /// trie's, for so many passes, each with so many updates. All memory of the round is taken here, and that of the round before
+    /// is given back. Refused, in this order, with `BadBits`, `Narrower`, `BadWorkers`, `BadUpdates` and `TooLarge`, as `Layout::new`
+    /// refuses these bits with the size of the set, and with `OutOfMemory`; after a refusal the same trie comes back, with its own bits.
+    pub fn begin_wider(
+        alloc: Global,
+        ended: Ended<A, B>,
+        bits: u32,
+        workers: u32,
+        updates: u32,
+    ) -> Result<(Round<A, B>, Crew<A, B>), (Ended<A, B>, BeginError)>
+        ensures begun { IfOk result (λ t. BeginsRound ended bits workers updates t.0 t.1) }
+        ensures same { IfErr result (λ e. e.0 ≡ record ended { calls = e.0.calls }) }
+        ensures not_walked { IfErr result (λ e. e.1 ≢ BeginError.OutOfMemory → e.0 ≡ ended) }
+        ensures bad_bits { IsErrOf result (ended, BeginError.BadBits) ↔ IsOutside 1 16 bits }
+        ensures narrower { IsErrOf result (ended, BeginError.Narrower) ↔ IsWithin 1 16 bits × (bits < ended.bits) }
+        ensures bad_workers { IsErrOf result (ended, BeginError.BadWorkers)
+            ↔ (ended.bits ≤ bits) × IsRefused LayoutError.BadWorkers (shape_of bits workers updates (length ended.members)) }
+        ensures bad_updates { IsErrOf result (ended, BeginError.BadUpdates)
+            ↔ (ended.bits ≤ bits) × IsRefused LayoutError.BadUpdates (shape_of bits workers updates (length ended.members)) }
+        ensures too_large { IsErrOf result (ended, BeginError.TooLarge)
+            ↔ (ended.bits ≤ bits) × IsRefused LayoutError.TooLarge (shape_of bits workers updates (length ended.members)) }
         ensures keys { IsKeySet ended.bits (keys_of ended.members) }
         ensures fit { All FitsPair ended.members }
     {
         let mut ended = ended;
-        let layout = match Layout::new(ended.bits, workers, updates, ended.size()) {
+        if (1..ended.bits).contains(&bits) {
+            return Err((ended, BeginError::Narrower));
+        }
+        let layout = match Layout::new(bits, workers, updates, ended.size()) {
             Ok(layout) => layout,
             Err(cause) => return Err((ended, BeginError::from(cause))),
         };

@@ -10,6 +10,7 @@ mod refused;
 mod replacing;
 mod scripts;
 mod turning;
+mod widening;
 
 use crate::{BeginError, Crew, CrewError, Ended, Pass, PassHalf, Round};
 use aug_model::Outcome;
@@ -174,6 +175,7 @@ fn refusals_are_printed_by_their_names(rt: HostRuntime) -> Result<(), std::alloc
         (BeginError::TooLarge, "TooLarge"),
         (BeginError::OutOfMemory, "OutOfMemory"),
         (BeginError::BadBits, "BadBits"),
+        (BeginError::Narrower, "Narrower"),
     ] {
         let printed = format!(in rt.alloc(); "{cause}")?;
         assert_eq!(rt; printed.as_str(), text);

@@ -1,5 +1,5 @@
 -- A round under limits that a script can have is never refused for its numbers.
-use Rattle.std.proofs.Common.{◌≡◌, ℕ, zero, suc, ◌^◌, ◌≤◌, refl, inl, inr, arith}
+use Rattle.std.proofs.Common.{◌≡◌, ℕ, zero, suc, ◌^◌, ◌<◌, ◌≤◌, refl, inl, inr, arith}
 use Rattle.aug_core.specs.Layout.{IsLayout, IsOutside, IsWithin, IsRefused}
 use Rattle.aug_core.specs.Places.{shape_of, own_records, word_count}
 use Rattle.aug_core.specs.declared.layout.LayoutError.TheVariants as layout
@@ -19,14 +19,16 @@ outside_none : (first last n : ℕ) → IsWithin first last n → IsOutside firs
 outside_none first last n within (inl low) = omega (arith, within.0)
 outside_none first last n within (inr high) = omega (arith, within.1)
 
--- no refusal but that for want of memory
-pub never_refused : (bits workers updates members : ℕ) (cause : BeginError) → IsLayout (shape_of bits workers updates (2 ^ bits)) → members ≤ 2 ^ bits
+-- no refusal but that for want of memory, where the trie has no more bits than the round
+pub never_refused : (old bits workers updates members : ℕ) (cause : BeginError) → old ≤ bits → IsLayout (shape_of bits workers updates (2 ^ bits)) → members ≤ 2 ^ bits
+    → (cause ≡ begin.BadBits → IsOutside 1 16 bits) → (cause ≡ begin.Narrower → bits < old)
     → (cause ≡ begin.BadWorkers → IsRefused layout.BadWorkers (shape_of bits workers updates members))
     → (cause ≡ begin.BadUpdates → IsRefused layout.BadUpdates (shape_of bits workers updates members))
     → (cause ≡ begin.TooLarge → IsRefused layout.TooLarge (shape_of bits workers updates members))
-    → (cause ≡ begin.BadBits → ⊥) → (cause ≡ begin.OutOfMemory → ⊥) → ⊥
-never_refused bits workers updates members begin.BadWorkers laid few bad_workers bad_updates too_large bad_bits memory = outside_none 1 64 workers laid.workers (bad_workers refl).1
-never_refused bits workers updates members begin.BadUpdates laid few bad_workers bad_updates too_large bad_bits memory = outside_none 1 65536 updates laid.updates (bad_updates refl).2
-never_refused bits workers updates members begin.TooLarge laid few bad_workers bad_updates too_large bad_bits memory = omega (arith, laid.words, (too_large refl).3, words_more bits workers updates members (2 ^ bits) few)
-never_refused bits workers updates members begin.OutOfMemory laid few bad_workers bad_updates too_large bad_bits memory = memory refl
-never_refused bits workers updates members begin.BadBits laid few bad_workers bad_updates too_large bad_bits memory = bad_bits refl
+    → (cause ≡ begin.OutOfMemory → ⊥) → ⊥
+never_refused old bits workers updates members begin.BadWorkers wider laid few bad_bits narrower bad_workers bad_updates too_large memory = outside_none 1 64 workers laid.workers (bad_workers refl).1
+never_refused old bits workers updates members begin.BadUpdates wider laid few bad_bits narrower bad_workers bad_updates too_large memory = outside_none 1 65536 updates laid.updates (bad_updates refl).2
+never_refused old bits workers updates members begin.TooLarge wider laid few bad_bits narrower bad_workers bad_updates too_large memory = omega (arith, laid.words, (too_large refl).3, words_more bits workers updates members (2 ^ bits) few)
+never_refused old bits workers updates members begin.OutOfMemory wider laid few bad_bits narrower bad_workers bad_updates too_large memory = memory refl
+never_refused old bits workers updates members begin.BadBits wider laid few bad_bits narrower bad_workers bad_updates too_large memory = outside_none 1 16 bits laid.bits (bad_bits refl)
+never_refused old bits workers updates members begin.Narrower wider laid few bad_bits narrower bad_workers bad_updates too_large memory = omega (arith, wider, narrower refl)

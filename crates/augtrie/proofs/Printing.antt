@@ -12,66 +12,66 @@ use Rattle.aug_script.specs.Limits.{Bounds}
 use Rattle.aug_script.specs.Replies.{report_of}
 use Rattle.aug_script.specs.ReportText.{report_text}
 use Rattle.aug_script.specs.declared.report.Report.{Report}
-use Rattle.aug_script.specs.declared.row.Row.{Row}
+use Rattle.aug_script.specs.declared.script_round.ScriptRound.{ScriptRound}
 use Rattle.augtrie.specs.AllowedReport.{AllowedReport, AllowedReports, IsReportOf}
 use Rattle.augtrie.specs.InTurn.{IsInTurn}
 use Rattle.augtrie.specs.Runs.{MayHave, OfOneLane, Prints, PrintsInPart, reports_of, texts_of}
 
-module _ (bits workers : ℕ) where
+module _ (workers : ℕ) where
   -- rounds had these reports, each on from the set that the one before closed with, and the last closed with this one
-  unfoldable pub Chain : ℕ → List (ℕ × ℕ) → List (List Row) → List Report → List (ℕ × ℕ) → Type 0
+  unfoldable pub Chain : ℕ → List (ℕ × ℕ) → List ScriptRound → List Report → List (ℕ × ℕ) → Type 0
   Chain number members [] [] closing = closing ≡ members
   Chain number members [] (report ∷ reports) closing = ⊥
-  Chain number members (rows ∷ rounds) [] closing = ⊥
-  Chain number members (rows ∷ rounds) (report ∷ reports) closing =
-      (next : List (ℕ × ℕ)) × IsReportOf number rows report × AllowedReport bits workers members report next × IsInTurn workers number members rows report next
+  Chain number members (round ∷ rounds) [] closing = ⊥
+  Chain number members (round ∷ rounds) (report ∷ reports) closing =
+      (next : List (ℕ × ℕ)) × IsReportOf number round.rows report × AllowedReport round.bits workers members report next × IsInTurn workers number members round.rows report next
       × Chain (number + 1) next rounds reports closing
 
   -- one round more
-  chain_more : (number at : ℕ) (members mid closing : List (ℕ × ℕ)) (rounds : List (List Row)) (rows : List Row) (reports : List Report) (report : Report)
-      → Chain number members rounds reports mid → number + length rounds ≡ at → IsReportOf at rows report → AllowedReport bits workers mid report closing → IsInTurn workers at mid rows report closing
-      → Chain number members (rounds ++ rows ∷ []) (reports ++ report ∷ []) closing
+  chain_more : (number at : ℕ) (members mid closing : List (ℕ × ℕ)) (rounds : List ScriptRound) (round : ScriptRound) (reports : List Report) (report : Report)
+      → Chain number members rounds reports mid → number + length rounds ≡ at → IsReportOf at round.rows report → AllowedReport round.bits workers mid report closing → IsInTurn workers at mid round.rows report closing
+      → Chain number members (rounds ++ round ∷ []) (reports ++ report ∷ []) closing
   unfolding Chain
-  chain_more number at members mid closing [] rows [] report chain is of_rows allowed turn =
+  chain_more number at members mid closing [] round [] report chain is of_rows allowed turn =
       let n : number ≡ at = omega arith in (
         closing,
-        subst (λ (z : ℕ). IsReportOf z rows report) (sym n) of_rows,
-        subst (λ (z : List (ℕ × ℕ)). AllowedReport bits workers z report closing) chain allowed,
-        subst (λ (z : List (ℕ × ℕ)). IsInTurn workers number z rows report closing) chain (subst (λ (z : ℕ). IsInTurn workers z mid rows report closing) (sym n) turn),
+        subst (λ (z : ℕ). IsReportOf z round.rows report) (sym n) of_rows,
+        subst (λ (z : List (ℕ × ℕ)). AllowedReport round.bits workers z report closing) chain allowed,
+        subst (λ (z : List (ℕ × ℕ)). IsInTurn workers number z round.rows report closing) chain (subst (λ (z : ℕ). IsInTurn workers z mid round.rows report closing) (sym n) turn),
         refl,
       )
-  chain_more number at members mid closing [] rows (r ∷ reports) report chain is of_rows allowed turn = absurd chain
-  chain_more number at members mid closing (r ∷ rounds) rows [] report chain is of_rows allowed turn = absurd chain
-  chain_more number at members mid closing (first ∷ rounds) rows (r ∷ reports) report chain is of_rows allowed turn =
-      (chain.0, chain.1, chain.2, chain.3, chain_more (number + 1) at chain.0 mid closing rounds rows reports report chain.4 (omega arith) of_rows allowed turn)
+  chain_more number at members mid closing [] round (r ∷ reports) report chain is of_rows allowed turn = absurd chain
+  chain_more number at members mid closing (r ∷ rounds) round [] report chain is of_rows allowed turn = absurd chain
+  chain_more number at members mid closing (first ∷ rounds) round (r ∷ reports) report chain is of_rows allowed turn =
+      (chain.0, chain.1, chain.2, chain.3, chain_more (number + 1) at chain.0 mid closing rounds round reports report chain.4 (omega arith) of_rows allowed turn)
 
-  chain_allowed : (number : ℕ) (members closing : List (ℕ × ℕ)) (rounds : List (List Row)) (reports : List Report) → Chain number members rounds reports closing → AllowedReports bits workers number members rounds reports
+  chain_allowed : (number : ℕ) (members closing : List (ℕ × ℕ)) (rounds : List ScriptRound) (reports : List Report) → Chain number members rounds reports closing → AllowedReports workers number members rounds reports
   unfolding Chain AllowedReports
   chain_allowed number members closing [] [] chain = tt
   chain_allowed number members closing [] (r ∷ reports) chain = absurd chain
-  chain_allowed number members closing (rows ∷ rounds) [] chain = absurd chain
-  chain_allowed number members closing (rows ∷ rounds) (r ∷ reports) chain = (chain.0, chain.1, chain.2, chain_allowed (number + 1) chain.0 closing rounds reports chain.4)
+  chain_allowed number members closing (round ∷ rounds) [] chain = absurd chain
+  chain_allowed number members closing (round ∷ rounds) (r ∷ reports) chain = (chain.0, chain.1, chain.2, chain_allowed (number + 1) chain.0 closing rounds reports chain.4)
 
-  chain_in_turn : (number : ℕ) (members closing : List (ℕ × ℕ)) (rounds : List (List Row)) (reports : List Report) → Chain number members rounds reports closing → All (OfOneLane workers) rounds → reports ≡ reports_of number members rounds
+  chain_in_turn : (number : ℕ) (members closing : List (ℕ × ℕ)) (rounds : List ScriptRound) (reports : List Report) → Chain number members rounds reports closing → All (OfOneLane workers) rounds → reports ≡ reports_of number members rounds
   unfolding Chain
   chain_in_turn number members closing [] [] chain one = refl
   chain_in_turn number members closing [] (r ∷ reports) chain one = absurd chain
-  chain_in_turn number members closing (rows ∷ rounds) [] chain one = absurd chain
-  chain_in_turn number members closing (rows ∷ rounds) (r ∷ reports) chain one = let lane = All-head (OfOneLane workers) rows rounds one in
-      let is = chain.3 lane.0 lane.1 lane.2 in let rest = chain_in_turn (number + 1) chain.0 closing rounds reports chain.4 (All-tail (OfOneLane workers) rows rounds one) in
-      (λ i. is.0 i ∷ rest i) ∙ ap (λ (z : List (ℕ × ℕ)). report_of number members rows ∷ reports_of (number + 1) z rounds) is.1
+  chain_in_turn number members closing (round ∷ rounds) [] chain one = absurd chain
+  chain_in_turn number members closing (round ∷ rounds) (r ∷ reports) chain one = let lane = All-head (OfOneLane workers) round rounds one in
+      let is = chain.3 lane.0 lane.1 lane.2 in let rest = chain_in_turn (number + 1) chain.0 closing rounds reports chain.4 (All-tail (OfOneLane workers) round rounds one) in
+      (λ i. is.0 i ∷ rest i) ∙ ap (λ (z : List (ℕ × ℕ)). report_of number members round.rows ∷ reports_of (number + 1) z rounds) is.1
 
-  chain_long : (number : ℕ) (members closing : List (ℕ × ℕ)) (rounds : List (List Row)) (reports : List Report) → Chain number members rounds reports closing → length reports ≡ length rounds
+  chain_long : (number : ℕ) (members closing : List (ℕ × ℕ)) (rounds : List ScriptRound) (reports : List Report) → Chain number members rounds reports closing → length reports ≡ length rounds
   unfolding Chain
   chain_long number members closing [] [] chain = refl
   chain_long number members closing [] (r ∷ reports) chain = absurd chain
-  chain_long number members closing (rows ∷ rounds) [] chain = absurd chain
-  chain_long number members closing (rows ∷ rounds) (r ∷ reports) chain = ap suc (chain_long (number + 1) chain.0 closing rounds reports chain.4)
+  chain_long number members closing (round ∷ rounds) [] chain = absurd chain
+  chain_long number members closing (round ∷ rounds) (r ∷ reports) chain = ap suc (chain_long (number + 1) chain.0 closing rounds reports chain.4)
 
-may_have : (limits : Bounds) (closing : List (ℕ × ℕ)) (rounds : List (List Row)) (reports : List Report) → Chain limits.bits limits.workers 1 [] rounds reports closing → MayHave limits rounds reports
+may_have : (limits : Bounds) (closing : List (ℕ × ℕ)) (rounds : List ScriptRound) (reports : List Report) → Chain limits.workers 1 [] rounds reports closing → MayHave limits rounds reports
 may_have limits closing rounds reports chain = record {
-  allowed = chain_allowed limits.bits limits.workers 1 [] closing rounds reports chain;
-  in_turn = chain_in_turn limits.bits limits.workers 1 [] closing rounds reports chain;
+  allowed = chain_allowed limits.workers 1 [] closing rounds reports chain;
+  in_turn = chain_in_turn limits.workers 1 [] closing rounds reports chain;
 }
 
 texts_of-push : (reports : List Report) (report : Report) → texts_of (reports ++ report ∷ []) ≡ texts_of reports ++ report_text report
@@ -80,13 +80,13 @@ texts_of-push reports report =
     ∙ ap (λ (last : List ℕ). texts_of reports ++ last) (append-nil (report_text report))
 
 -- the first rounds were printed, and closed with this set
-pub record Printed (limits : Bounds) (rounds : List (List Row)) (count : ℕ) (closing : List (ℕ × ℕ)) (before after : Option (List ℕ)) (calls calls' : ℕ) : Type 0 where
+pub record Printed (limits : Bounds) (rounds : List ScriptRound) (count : ℕ) (closing : List (ℕ × ℕ)) (before after : Option (List ℕ)) (calls calls' : ℕ) : Type 0 where
   pub reports : List Report
-  pub chain : Chain limits.bits limits.workers 1 [] (take count rounds) reports closing
+  pub chain : Chain limits.workers 1 [] (take count rounds) reports closing
   pub wrote : Appends before after (texts_of reports)
   pub finished : calls' ≡ calls + length reports
 
-module _ (limits : Bounds) (rounds : List (List Row)) where
+module _ (limits : Bounds) (rounds : List ScriptRound) where
   -- no round was printed yet
   pub printed_none : (known : Option (List ℕ)) (calls : ℕ) → Printed limits rounds 0 [] known known calls calls
   unfolding Chain
@@ -94,16 +94,16 @@ module _ (limits : Bounds) (rounds : List (List Row)) where
 
   module _ (count : ℕ) (closing : List (ℕ × ℕ)) (before between : Option (List ℕ)) (calls calls' : ℕ) (done : Printed limits rounds count closing before between calls calls') where
     pub prints_first : Prints limits (take count rounds) before between calls calls'
-    prints_first = let long = chain_long limits.bits limits.workers 1 [] closing (take count rounds) done.reports done.chain in let f = done.finished in
+    prints_first = let long = chain_long limits.workers 1 [] closing (take count rounds) done.reports done.chain in let f = done.finished in
         record { reports = done.reports; may_have = may_have limits closing (take count rounds) done.reports done.chain; wrote = done.wrote; finished = omega arith }
 
-    module _ (rows d : List Row) (report : Report) (next : List (ℕ × ℕ)) (below : count < length rounds) (rows_are : rows ≡ get_or rounds count d) (of_rows : IsReportOf (count + 1) rows report)
-        (allowed : AllowedReport limits.bits limits.workers closing report next) (turn : IsInTurn limits.workers (count + 1) closing rows report next) where
-      more : Chain limits.bits limits.workers 1 [] (take (count + 1) rounds) (done.reports ++ report ∷ []) next
+    module _ (round d : ScriptRound) (report : Report) (next : List (ℕ × ℕ)) (below : count < length rounds) (round_is : round ≡ get_or rounds count d) (of_rows : IsReportOf (count + 1) round.rows report)
+        (allowed : AllowedReport round.bits limits.workers closing report next) (turn : IsInTurn limits.workers (count + 1) closing round.rows report next) where
+      more : Chain limits.workers 1 [] (take (count + 1) rounds) (done.reports ++ report ∷ []) next
       more = let long = length-take-le count rounds (omega arith) in
-          subst (λ (z : List (List Row)). Chain limits.bits limits.workers 1 [] z (done.reports ++ report ∷ []) next)
-          (ap (λ (z : List Row). take count rounds ++ z ∷ []) rows_are ∙ sym (take_more rounds count d below))
-          (chain_more limits.bits limits.workers 1 (count + 1) [] closing next (take count rounds) rows done.reports report done.chain (omega arith) of_rows allowed turn)
+          subst (λ (z : List ScriptRound). Chain limits.workers 1 [] z (done.reports ++ report ∷ []) next)
+          (ap (λ (z : ScriptRound). take count rounds ++ z ∷ []) round_is ∙ sym (take_more rounds count d below))
+          (chain_more limits.workers 1 (count + 1) [] closing next (take count rounds) round done.reports report done.chain (omega arith) of_rows allowed turn)
 
       -- one more was printed
       pub printed_more : (after : Option (List ℕ)) (calls'' : ℕ) → Appends between after (report_text report) → calls'' ≡ calls' + 1 → Printed limits rounds (count + 1) next before after calls calls''

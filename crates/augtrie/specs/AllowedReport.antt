@@ -15,6 +15,7 @@ use Rattle.aug_script.specs.declared.reply.Reply.{Reply}
 use Rattle.aug_script.specs.declared.reply.Reply.TheVariants as reply
 use Rattle.aug_script.specs.declared.report.Report.{Report}
 use Rattle.aug_script.specs.declared.row.Row.{Row}
+use Rattle.aug_script.specs.declared.script_round.ScriptRound.{ScriptRound}
 use Rattle.aug_script.specs.declared.verb.Verb.{Verb}
 use Rattle.aug_script.specs.declared.verb.Verb.TheVariants as verb
 
@@ -92,7 +93,7 @@ lines_of lane lines = filter (λ line. line.0.lane == lane) lines
 abbrev pub changes_of : List Lane → List Change
 changes_of lanes = flat_map (λ lane. lane.knows.accepted) lanes
 
--- a round that opened with one set and closed with another may have this report: there are one history and an end for each
+-- a round with keys of so many bits that opened with one set and closed with another may have this report: there are one history and an end for each
 -- lane that tell how each row came to its reply, the changes of all lanes are all that happened, and each cut of the history shows
 -- the weights of these changes
 pub record AllowedReport (bits workers : ℕ) (members : List (ℕ × ℕ)) (report : Report) (closing : List (ℕ × ℕ)) : Type 0 where
@@ -114,11 +115,11 @@ pub record IsReportOf (number : ℕ) (rows : List Row) (report : Report) : Type 
   pub number_is : report.number ≡ number
   pub rows_are : map (λ line. line.0) report.rows ≡ rows
 
--- rounds, the first with this number, may have these reports: each opens with the set that the one before closed with
-unfoldable pub AllowedReports : ℕ → ℕ → ℕ → List (ℕ × ℕ) → List (List Row) → List Report → Type 0
-AllowedReports bits workers number members [] [] = ⊤
-AllowedReports bits workers number members [] (report ∷ reports) = ⊥
-AllowedReports bits workers number members (rows ∷ rounds) [] = ⊥
-AllowedReports bits workers number members (rows ∷ rounds) (report ∷ reports) =
-    (closing : List (ℕ × ℕ)) × IsReportOf number rows report × AllowedReport bits workers members report closing
-    × AllowedReports bits workers (number + 1) closing rounds reports
+-- rounds, the first with this number, may have these reports: each opens with the set that the one before closed with, with its own bits
+unfoldable pub AllowedReports : ℕ → ℕ → List (ℕ × ℕ) → List ScriptRound → List Report → Type 0
+AllowedReports workers number members [] [] = ⊤
+AllowedReports workers number members [] (report ∷ reports) = ⊥
+AllowedReports workers number members (round ∷ rounds) [] = ⊥
+AllowedReports workers number members (round ∷ rounds) (report ∷ reports) =
+    (closing : List (ℕ × ℕ)) × IsReportOf number round.rows report × AllowedReport round.bits workers members report closing
+    × AllowedReports workers (number + 1) closing rounds reports

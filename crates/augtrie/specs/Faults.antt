@@ -22,6 +22,8 @@ script_status (script.BadNumber row) = 1
 script_status (script.OutOfRange row) = 1
 script_status (script.TooManyUpdates row) = 1
 script_status script.OutOfMemory = 4
+script_status (script.BadPlace row) = 1
+script_status (script.TooWide row) = 1
 
 -- what went wrong in a run
 abbrev pub run_error_text : RunError → List ℕ

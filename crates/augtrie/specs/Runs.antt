@@ -8,7 +8,7 @@ use Rattle.aug_script.specs.Replies.{opening_sets, report_of, sets_of}
 use Rattle.aug_script.specs.ReportText.{report_text}
 use Rattle.aug_script.specs.Script.{rounds_of}
 use Rattle.aug_script.specs.declared.report.Report.{Report}
-use Rattle.aug_script.specs.declared.row.Row.{Row}
+use Rattle.aug_script.specs.declared.script_round.ScriptRound.{ScriptRound}
 use Rattle.aug_script.specs.declared.script_error.ScriptError.{ScriptError}
 use Rattle.augtrie.specs.AllowedReport.{AllowedReports}
 
@@ -20,30 +20,31 @@ script_limit = 16777216
 abbrev pub texts_of : List Report → List ℕ
 texts_of reports = concat (map report_text reports)
 
--- all rows are of one lane
-abbrev pub OfOneLane : ℕ → List Row → Type 0
-OfOneLane workers rows = (lane : ℕ) × (lane < workers) × All (λ row. row.lane ≡ lane) rows
+-- all rows of a round are of one lane
+abbrev pub OfOneLane : ℕ → ScriptRound → Type 0
+OfOneLane workers round = (lane : ℕ) × (lane < workers) × All (λ row. row.lane ≡ lane) round.rows
 
 -- the reports of rounds of one lane each, of which the first has this number and begins with a set of these members, and each further one goes on from
 -- the set that the one before it left
-abbrev pub reports_of : ℕ → List (ℕ × ℕ) → List (List Row) → List Report
+abbrev pub reports_of : ℕ → List (ℕ × ℕ) → List ScriptRound → List Report
 reports_of number members [] = []
-reports_of number members (rows ∷ rest) = report_of number members rows ∷ reports_of (number + 1) (sets_of (opening_sets members) rows).live rest
+reports_of number members (round ∷ rest) =
+    report_of number members round.rows ∷ reports_of (number + 1) (sets_of (opening_sets members) round.rows).live rest
 
 -- the rounds of a script, counted from 1 and from the empty set on, may have these reports; where each round's rows are of one lane there are no others
-pub record MayHave (limits : Bounds) (rounds : List (List Row)) (reports : List Report) : Type 0 where
-  pub allowed : AllowedReports limits.bits limits.workers 1 [] rounds reports
+pub record MayHave (limits : Bounds) (rounds : List ScriptRound) (reports : List Report) : Type 0 where
+  pub allowed : AllowedReports limits.workers 1 [] rounds reports
   pub in_turn : All (OfOneLane limits.workers) rounds → reports ≡ reports_of 1 [] rounds
 
 -- reports that these rounds may have went out whole behind what had gone out before, and `finish` was called once for each
-pub record Prints (limits : Bounds) (rounds : List (List Row)) (before after : Option (List ℕ)) (calls calls' : ℕ) : Type 0 where
+pub record Prints (limits : Bounds) (rounds : List ScriptRound) (before after : Option (List ℕ)) (calls calls' : ℕ) : Type 0 where
   pub reports : List Report
   pub may_have : MayHave limits rounds reports
   pub wrote : Appends before after (texts_of reports)
   pub finished : calls' ≡ calls + length rounds
 
 -- the same, but of the last report a beginning went out; where `finish` was called once more, it was behind all of it
-pub record PrintsInPart (limits : Bounds) (rounds : List (List Row)) (before after : Option (List ℕ)) (calls calls' : ℕ) : Type 0 where
+pub record PrintsInPart (limits : Bounds) (rounds : List ScriptRound) (before after : Option (List ℕ)) (calls calls' : ℕ) : Type 0 where
   pub reports : List Report
   pub broken : Report
   pub may_have : MayHave limits rounds (reports ++ broken ∷ [])
@@ -57,14 +58,14 @@ pub record PrintsInPart (limits : Bounds) (rounds : List (List Row)) (before aft
 -- the bytes are a script without a fault, and reports that its rounds may have were printed
 pub record RunsWhole (limits : Bounds) (before after : Option (List ℕ)) (calls calls' : ℕ) (bytes : List ℕ) : Type 0 where
   pub fits : length bytes ≤ script_limit
-  pub rounds : List (List Row)
+  pub rounds : List ScriptRound
   pub read : rounds_of limits bytes ≡ Ok rounds
   pub prints : Prints limits rounds before after calls calls'
 
 -- the same, but the whole reports of the first rounds alone went out
 pub record RunsFirst (limits : Bounds) (before after : Option (List ℕ)) (calls calls' : ℕ) (bytes : List ℕ) : Type 0 where
   pub fits : length bytes ≤ script_limit
-  pub rounds : List (List Row)
+  pub rounds : List ScriptRound
   pub read : rounds_of limits bytes ≡ Ok rounds
   pub count : ℕ
   pub prints : Prints limits (take count rounds) before after calls calls'
@@ -72,7 +73,7 @@ pub record RunsFirst (limits : Bounds) (before after : Option (List ℕ)) (calls
 -- the same, but of the last report that went out a beginning did
 pub record RunsInPart (limits : Bounds) (before after : Option (List ℕ)) (calls calls' : ℕ) (bytes : List ℕ) : Type 0 where
   pub fits : length bytes ≤ script_limit
-  pub rounds : List (List Row)
+  pub rounds : List ScriptRound
   pub read : rounds_of limits bytes ≡ Ok rounds
   pub count : ℕ
   pub prints : PrintsInPart limits (take count rounds) before after calls calls'

@@ -60,7 +60,7 @@ fn bits<'a>(alloc: Global) -> Arg<'a>
         .value_name("H")
         .value_parser(value_parser!(u32).range(1..=16))
         .default_value("4")
-        .help("Keys are below 2^H")
+        .help("Keys are below 2^H at first")
 }
 
 fn workers<'a>(alloc: Global) -> Arg<'a>
@@ -86,7 +86,7 @@ fn updates<'a>(alloc: Global) -> Arg<'a>
         .value_name("U")
         .value_parser(value_parser!(u32).range(1..=65_536))
         .default_value("64")
-        .help("How many rows of a lane may insert or remove in a round")
+        .help("How many rows of a lane may insert, put or remove in a round")
 }
 
 fn file<'a>(alloc: Global) -> Arg<'a>
@@ -273,9 +273,9 @@ Arguments:
   [FILE]  The script; without it standard input is read
 
 Options:
-      --bits <H>     Keys are below 2^H [default: 4]
+      --bits <H>     Keys are below 2^H at first [default: 4]
       --workers <W>  Lanes are below W [default: 1]
-      --updates <U>  How many rows of a lane may insert or remove in a round [default: 64]
+      --updates <U>  How many rows of a lane may insert, put or remove in a round [default: 64]
   -h, --help         Print help
 ";
         let (status, said) = refusal(rt.alloc(), "--bits 3 --help")?;

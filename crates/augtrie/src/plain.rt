@@ -94,10 +94,11 @@ pub(crate) fn plain_replies(
     let Ok(script) = Script::read(alloc, text.as_bytes(), limits) else {
         return Ok(None);
     };
-    let mut plain = Plain::new(alloc, limits.bits())?;
+    // Its answers are those of a set of fewer bits.
+    let mut plain = Plain::new(alloc, 16)?;
     let mut replies = Vec::new(alloc);
-    for rows in script.rounds() {
-        plain.run_round(rows.as_slice(), &mut replies)?;
+    for round in script.rounds() {
+        plain.run_round(round.rows.as_slice(), &mut replies)?;
     }
     Ok(Some((replies, plain.live.size())))
 }

@@ -1,10 +1,11 @@
 //! A round on worker threads, one for each lane.
-ghost use Rattle.std.specs.Prelude.{◌≡◌, ◌+◌, length, IfOk};
+ghost use Rattle.std.specs.Prelude.{◌≡◌, ◌+◌, ◌≤◌, length, IfOk};
 ghost use Rattle.aug_model.specs.Keys.{IsKeySet, keys_of};
 ghost use Rattle.aug_trie.specs.Crews.{BeginsRound};
 ghost use Rattle.augtrie.specs.AllowedReport.{AllowedReport, IsReportOf};
 ghost use Rattle.augtrie.specs.InTurn.{IsInTurn};
 ghost use Rattle.augtrie.specs.Returns.{HasBegun, RanLanes};
+ghost use Rattle.aug_script.specs.Limits.{IsBounds, bounds_at};
 ghost use Rattle.aug_script.specs.Script.{KeepsLimits};
 ghost use Rattle.augtrie.specs.Workers.{bounds_of};
 
@@ -13,7 +14,7 @@ use crate::jobs::jobs;
 use crate::returning::{in_order, take_back};
 use crate::threads::in_threads;
 use crate::trie::{Hands, Table, Trie};
-use aug_script::{Limits, Listed, Reply, Report, Row};
+use aug_script::{Limits, Listed, Reply, Report, Row, ScriptRound};
 use aug_trie::{BeginError, Round};
 use std::alloc::{AllocError, Global};
 use std::sync::Wait;
@@ -43,30 +44,33 @@ fn run_lanes<'r, R: Threads + Wait, G: Gate>(
     Ok(in_order(rows, &mut lanes, lines))
 }
 
-/// Runs a round over a trie at rest: one pass and one worker thread for each lane, all at the same time. The report has the
-/// rows in their order, each with its reply, and the trie that comes back is that of its last set. Only memory, or the
-/// start of a thread, can be refused; the trie is then given up. The gate is told of each row in the thread of its lane.
+/// Runs a round over a trie at rest: one pass and one worker thread for each lane, all at the same time. Keys have the bits of
+/// the round, which are no fewer than the trie's. The report has the rows in their order, each with its reply, and the trie that
+/// comes back has these bits, and the round's last set. Only memory, or the start of a thread, can be refused; the trie is then
+/// given up. The gate is told of each row in the thread of its lane.
 pub fn run_round<R: Threads + Wait, G: Gate>(
     rt: &R,
     alloc: Global,
     ended: Trie,
     limits: &Limits,
     number: u64,
-    rows: &[Row],
+    round: &ScriptRound,
     gate: &G,
 ) -> Result<(Trie, Report), AllocError>
-    requires bits { ended.bits ≡ limits.now.bits }
-    requires kept { KeepsLimits limits.now rows.now }
-    ensures report { IfOk result (λ r. IsReportOf number rows.now r.1) }
-    ensures allowed { IfOk result (λ r. AllowedReport limits.now.bits limits.now.workers ended.members r.1 r.0.members) }
-    ensures alone { IfOk result (λ r. IsInTurn limits.now.workers number ended.members rows.now r.1 r.0.members) }
+    requires wider { ended.bits ≤ round.now.bits }
+    requires bounds { IsBounds (bounds_at limits.now round.now.bits) }
+    requires kept { KeepsLimits (bounds_at limits.now round.now.bits) round.now.rows }
+    ensures report { IfOk result (λ r. IsReportOf number round.now.rows r.1) }
+    ensures allowed { IfOk result (λ r. AllowedReport round.now.bits limits.now.workers ended.members r.1 r.0.members) }
+    ensures alone { IfOk result (λ r. IsInTurn limits.now.workers number ended.members round.now.rows r.1 r.0.members) }
     ensures sizes { IfOk result (λ r. r.1.size + r.1.removals ≡ length ended.members + r.1.inserts) }
-    ensures bits { IfOk result (λ r. r.0.bits ≡ limits.now.bits) }
+    ensures bits { IfOk result (λ r. r.0.bits ≡ round.now.bits) }
     ensures all_back { IfOk result (λ r. r.0.missing ≡ 0) }
 {
-    let (round, mut crew) = begin(alloc, ended, limits)?;
-    let lines = run_lanes(rt, alloc, &round, &mut crew, limits.workers(), rows, gate)?;
-    let ended = round.end(crew);
+    let (table, mut crew) = begin(alloc, ended, limits, round.bits)?;
+    let rows = round.rows.as_slice();
+    let lines = run_lanes(rt, alloc, &table, &mut crew, limits.workers(), rows, gate)?;
+    let ended = table.end(crew);
     let report = Report {
         number,
         rows: Listed::from_vec(lines),
@@ -77,13 +81,19 @@ pub fn run_round<R: Threads + Wait, G: Gate>(
     Ok((ended, report))
 }
 
-// The round of these limits. It is refused for want of memory alone.
-fn begin(alloc: Global, ended: Trie, limits: &Limits) -> Result<(Table, Hands), AllocError>
-    requires bits { ended.bits ≡ limits.now.bits }
-    ensures begun { IfOk result (λ t. BeginsRound ended limits.now.workers limits.now.updates t.0 t.1) }
+// The round of these limits with keys of so many bits. It is refused for want of memory alone.
+fn begin(
+    alloc: Global,
+    ended: Trie,
+    limits: &Limits,
+    bits: u32,
+) -> Result<(Table, Hands), AllocError>
+    requires wider { ended.bits ≤ bits }
+    requires bounds { IsBounds (bounds_at limits.now bits) }
+    ensures begun { IfOk result (λ t. BeginsRound ended bits limits.now.workers limits.now.updates t.0 t.1) }
     ensures keys { IsKeySet ended.bits (keys_of ended.members) }
 {
-    match Round::begin(alloc, ended, limits.workers(), limits.updates()) {
+    match Round::begin_wider(alloc, ended, bits, limits.workers(), limits.updates()) {
         Ok(begun) => Ok(begun),
         Err((_, cause)) => match cause {
             BeginError::OutOfMemory => Err(AllocError),

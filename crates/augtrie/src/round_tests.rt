@@ -3,6 +3,7 @@ use crate::gate::{Gate, Open};
 use crate::plain::plain_replies;
 use crate::round::run_round;
 use crate::trie::Trie;
+use aug_query::pairs;
 use aug_script::{Limits, Reply, Report, Script, Verb};
 use aug_trie::Ended;
 use std::alloc::{AllocError, Global};
@@ -33,9 +34,9 @@ fn run_text<R: Threads + Wait, G: Gate>(
     };
     let mut reports = Vec::new(alloc);
     let mut number = 0u64;
-    for rows in script.rounds() {
+    for round in script.rounds() {
         number = number.wrapping_add(1);
-        let (next, report) = run_round(rt, alloc, ended, &limits, number, rows.as_slice(), gate)?;
+        let (next, report) = run_round(rt, alloc, ended, &limits, number, round, gate)?;
         ended = next;
         reports.push(report)?;
     }
@@ -154,29 +155,30 @@ fn next(seed: u64) -> u64 {
         .wrapping_add(1_442_695_040_888_963_407)
 }
 
-// A script of one lane and three rounds, from a seed.
+// A script of one lane and three rounds, from a seed: of 4, 5 and 7 bits.
 fn random_script(alloc: Global, seed: u64) -> Result<String, AllocError> {
     let mut text = String::new(alloc);
     let mut seed = seed;
-    for row in 0..150u32 {
-        seed = next(seed);
-        let key = (seed >> 40) % 16;
-        match (seed >> 33) % 15 {
-            0..=2 => writeln!(text, "0,insert,{key}")?,
-            3..=4 => writeln!(text, "0,remove,{key}")?,
-            5 => writeln!(text, "0,look")?,
-            6 => writeln!(text, "0,has,{key}")?,
-            7 => writeln!(text, "0,size\n0,rank,{key}")?,
-            8 => writeln!(text, "0,select,{key}")?,
-            9 => writeln!(text, "0,before,{key}")?,
-            10 => writeln!(text, "0,after,{key}")?,
-            11..=12 => writeln!(text, "0,put,{key},{}", (seed >> 45) % 1_000)?,
-            13 => writeln!(text, "0,weight,{key}")?,
-            _ => writeln!(text, "0,range,{},{key}", (seed >> 50) % 17)?,
+    for (bits, keys) in [(4, 16), (5, 32), (7, 128)] {
+        writeln!(text, "*,grow,{bits}")?;
+        for _ in 0..50u32 {
+            seed = next(seed);
+            let key = (seed >> 40) % keys;
+            match (seed >> 33) % 15 {
+                0..=2 => writeln!(text, "0,insert,{key}")?,
+                3..=4 => writeln!(text, "0,remove,{key}")?,
+                5 => writeln!(text, "0,look")?,
+                6 => writeln!(text, "0,has,{key}")?,
+                7 => writeln!(text, "0,size\n0,rank,{key}")?,
+                8 => writeln!(text, "0,select,{key}")?,
+                9 => writeln!(text, "0,before,{key}")?,
+                10 => writeln!(text, "0,after,{key}")?,
+                11..=12 => writeln!(text, "0,put,{key},{}", (seed >> 45) % 1_000)?,
+                13 => writeln!(text, "0,weight,{key}")?,
+                _ => writeln!(text, "0,range,{},{key}", (seed >> 50) % 17)?,
+            }
         }
-        if row % 50 == 49 {
-            writeln!(text, "*,end")?;
-        }
+        writeln!(text, "*,end")?;
     }
     Ok(text)
 }
@@ -231,6 +233,18 @@ fn a_round_goes_on_from_the_one_before(rt: HostRuntime) -> Result<(), Fail> {
     assert_eq!(rt; found, Some(Reply::Found(Some(3))));
     let first = reports.pop().expect(&rt, "the first report");
     assert_eq!(rt; (first.size, first.inserts, first.removals), (3, 3, 0));
+    Ok(())
+}
+
+#[test]
+fn a_round_of_more_bits_goes_on_from_the_one_before(rt: HostRuntime) -> Result<(), Fail> {
+    let text = "0,put,1,70\n1,put,15,80\n*,end\n*,grow,16\n0,insert,65535\n1,remove,1\n*,end\n";
+    let run = run_text(&rt, rt.alloc(), 2, text, &Open)?;
+    let (mut ended, reports) = run.expect(&rt, "reports");
+    assert_eq!(rt; (ended.bits(), ended.size(), ended.missing()), (16, 2, 0));
+    let members = pairs(rt.alloc(), &mut ended)?;
+    assert_eq!(rt; members.as_slice(), [(15, 80), (65_535, 65_535)].as_slice());
+    assert_eq!(rt; reports.len(), 2);
     Ok(())
 }
 

@@ -1,6 +1,6 @@
 //! A whole script, from its bytes to its printed reports.
 ghost use Rattle.std.specs.Prelude.{◌≡◌, ◌≢◌, ℕ, ◌-◌, ◌^◌, ◌<◌, ◌≤◌, ◌↔◌, ◌⊎◌, All, Err, IfErr, IfOk, IfSome, OnErr, OnOk, Some, [], length, take};
-ghost use Rattle.aug_script.specs.Script.{KeepsLimits};
+ghost use Rattle.aug_script.specs.Script.{IsRunnable, NeverNarrows};
 ghost use Rattle.augtrie.specs.Runs.{HasFault, Prints, PrintsInPart, RunsInPart, RunsOutOfMemory, RunsWhole, script_limit};
 ghost use Rattle.aug_script.specs.declared.script_error.ScriptError.{ScriptError};
 
@@ -9,7 +9,7 @@ use crate::read_all::{ReadError, read_all};
 use crate::round::run_round;
 use crate::run_error::RunError;
 use crate::trie::Trie;
-use aug_script::{Limits, Listed, PrintError, Row, Script, ScriptError, Sink, Source, print};
+use aug_script::{Limits, PrintError, Script, ScriptError, ScriptRound, Sink, Source, print};
 use aug_trie::{BeginError, Ended};
 use std::alloc::{AllocError, Global};
 use std::sync::Wait;
@@ -73,15 +73,17 @@ fn run_bytes<R: Threads + Wait, W: Sink>(
     run_rounds(rt, alloc, script.rounds(), sink, limits)
 }
 
-/// Runs rounds one after the other, over a set that is empty at first, and writes each report before the next round.
+/// Runs rounds one after the other, each with its own bits, over a set that is empty at first, and writes each report before the
+/// next round.
 fn run_rounds<R: Threads + Wait, W: Sink>(
     rt: &R,
     alloc: Global,
-    rounds: &[Listed<Row>],
+    rounds: &[ScriptRound],
     sink: &mut W,
     limits: &Limits,
 ) -> Result<(), RunError>
-    requires kept { All (KeepsLimits limits.now) rounds.now }
+    requires kept { All (IsRunnable limits.now) rounds.now }
+    requires never_narrows { NeverNarrows rounds.now }
     requires sink { W.fault_count sink.old < 2 ^ 64 - 1 }
     ensures ok { OnOk result (Prints limits.now rounds.now (W.contents sink.old) (W.contents sink.new) (W.finish_count sink.old) (W.finish_count sink.new)) }
     ensures named { OnErr result ((result ≡ Err RunError.Output) ⊎ (result ≡ Err RunError.OutOfMemory)) }
@@ -94,9 +96,8 @@ fn run_rounds<R: Threads + Wait, W: Sink>(
     };
     let mut ended = empty;
     let mut number = 1;
-    for rows in rounds {
-        let Ok((next, report)) = run_round(rt, alloc, ended, limits, number, rows.as_slice(), &Open)
-        else {
+    for round in rounds {
+        let Ok((next, report)) = run_round(rt, alloc, ended, limits, number, round, &Open) else {
             return Err(RunError::OutOfMemory);
         };
         ended = next;

@@ -84,7 +84,7 @@ mod tests {
     use super::RunError;
     use aug_script::{Fault, MemorySink, ScriptError};
 
-    const LINES: [(RunError, u8, &str); 12] = [
+    const LINES: [(RunError, u8, &str); 14] = [
         (
             RunError::Script(ScriptError::BadCsv(1)),
             1,
@@ -124,6 +124,16 @@ mod tests {
             RunError::Script(ScriptError::OutOfMemory),
             4,
             "augtrie: memory\n",
+        ),
+        (
+            RunError::Script(ScriptError::BadPlace(6)),
+            1,
+            "augtrie: row 6: BadPlace\n",
+        ),
+        (
+            RunError::Script(ScriptError::TooWide(7)),
+            1,
+            "augtrie: row 7: TooWide\n",
         ),
         (RunError::Input, 3, "augtrie: input\n"),
         (RunError::Output, 3, "augtrie: output\n"),

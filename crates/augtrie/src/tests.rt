@@ -23,7 +23,20 @@ const FIRST_REPORT: &str = "\
 1 end size=2 in=2 out=0
 ";
 
-// Runs a script of 4 bits from one device of small pieces to another.
+// Runs a script from one device of small pieces to another.
+fn outcome_under(
+    rt: &(impl Abort + Threads + Wait),
+    alloc: Global,
+    script: &[u8],
+    limits: &Limits,
+) -> (Result<(), RunError>, MemorySink) {
+    let mut source = MemorySource::new(script, 5, None);
+    let mut sink = MemorySink::new(alloc, 7, None);
+    let result = run(rt, alloc, &mut source, &mut sink, limits);
+    (result, sink)
+}
+
+// The same with 4 bits and one lane.
 fn outcome(
     rt: &(impl Abort + Threads + Wait),
     alloc: Global,
@@ -31,10 +44,7 @@ fn outcome(
     updates: u32,
 ) -> (Result<(), RunError>, MemorySink) {
     let limits = Limits::try_new(4, 1, updates).expect(rt, "limits");
-    let mut source = MemorySource::new(script, 5, None);
-    let mut sink = MemorySink::new(alloc, 7, None);
-    let result = run(rt, alloc, &mut source, &mut sink, &limits);
-    (result, sink)
+    outcome_under(rt, alloc, script, &limits)
 }
 
 fn assert_prints(rt: &(impl Abort + Threads + Wait), alloc: Global, script: &str, text: &str) {
@@ -44,14 +54,15 @@ fn assert_prints(rt: &(impl Abort + Threads + Wait), alloc: Global, script: &str
     assert_eq!(rt; sink.finished, 1);
 }
 
-fn assert_refused(
+fn assert_refused_under(
     rt: &(impl Abort + Threads + Wait),
     alloc: Global,
     script: &[u8],
+    limits: &Limits,
     fault: ScriptError,
     line: &str,
 ) {
-    let (result, sink) = outcome(rt, alloc, script, 2);
+    let (result, sink) = outcome_under(rt, alloc, script, limits);
     assert_eq!(rt; result, Err(RunError::Script(fault)), "{line}");
     assert_eq!(rt; sink.calls, 0, "{line}");
     let mut standard_error = MemorySink::new(alloc, 7, None);
@@ -59,6 +70,17 @@ fn assert_refused(
     assert_eq!(rt; error.status(), 1);
     assert_eq!(rt; error.write_line(&mut standard_error), Ok(()));
     assert_eq!(rt; standard_error.out.as_slice(), line.as_bytes());
+}
+
+fn assert_refused(
+    rt: &(impl Abort + Threads + Wait),
+    alloc: Global,
+    script: &[u8],
+    fault: ScriptError,
+    line: &str,
+) {
+    let limits = Limits::try_new(4, 1, 2).expect(rt, "limits");
+    assert_refused_under(rt, alloc, script, &limits, fault, line);
 }
 
 #[test]
@@ -158,6 +180,55 @@ fn weights_go_on_into_the_next_round(rt: HostRuntime) {
 }
 
 #[test]
+fn a_round_after_grow_has_more_keys(rt: HostRuntime) -> Result<(), Fail> {
+    let limits = Limits::try_new(2, 1, 64).ok().ok_or("limits")?;
+    let script =
+        b"0,insert,3\n*,end\n*,grow,5\n0,insert,31\n0,look\n0,rank,32\n0,before,31\n0,has,3\n";
+    let (result, sink) = outcome_under(&rt, rt.alloc(), script, &limits);
+    assert_eq!(rt; result, Ok(()));
+    let text =
+        "1 0 insert 3 = new\n1 end size=1 in=1 out=0\n2 0 insert 31 = new\n2 0 look = ok\n2 0 rank 32 = 2\n2 0 before 31 = 3\n2 0 has 3 = yes\n2 end size=2 in=1 out=0\n";
+    assert_eq!(rt; sink.out.as_slice(), text.as_bytes());
+    assert_eq!(rt; sink.finished, 2);
+    Ok(())
+}
+
+#[test]
+fn weights_go_on_into_a_round_of_more_bits(rt: HostRuntime) {
+    let script =
+        b"0,put,5,100\n0,put,15,7\n*,end\n*,grow,9\n0,weight,5\n0,put,511,40\n0,look\n0,weight,15\n0,range,0,512\n*,end\n*,grow,12\n*,grow,16\n0,weight,511\n0,range,15,65536\n";
+    let (result, sink) = outcome(&rt, rt.alloc(), script, 64);
+    assert_eq!(rt; result, Ok(()));
+    let text =
+        "1 0 put 5 100 = new\n1 0 put 15 7 = new\n1 end size=2 in=2 out=0\n2 0 weight 5 = 100\n2 0 put 511 40 = new\n2 0 look = ok\n2 0 weight 15 = 7\n2 0 range 0 512 = 3 147 5 511\n2 end size=3 in=1 out=0\n3 0 weight 511 = 40\n3 0 range 15 65536 = 2 47 15 511\n3 end size=3 in=0 out=0\n";
+    assert_eq!(rt; sink.out.as_slice(), text.as_bytes());
+}
+
+#[test]
+fn grow_makes_no_round(rt: HostRuntime) {
+    let (result, sink) = outcome(&rt, rt.alloc(), b"*,grow,5", 64);
+    assert_eq!(rt; result, Ok(()));
+    assert_eq!(rt; sink.calls, 0);
+    let alloc = rt.alloc();
+    assert_prints(&rt, alloc, "*,grow,5\n*,end\n", "1 end size=0 in=0 out=0\n");
+    assert_prints(&rt, alloc, "*,end\n*,grow,5\n", "1 end size=0 in=0 out=0\n");
+}
+
+#[test]
+fn grow_to_a_table_of_too_many_words_is_refused(rt: HostRuntime) -> Result<(), Fail> {
+    let limits = Limits::try_new(4, 64, 13_108).ok().ok_or("limits")?;
+    assert_refused_under(
+        &rt,
+        rt.alloc(),
+        b"*,grow,16",
+        &limits,
+        ScriptError::TooWide(1),
+        "augtrie: row 1: TooWide\n",
+    );
+    Ok(())
+}
+
+#[test]
 fn removals_of_a_key_that_comes_and_goes(rt: HostRuntime) {
     assert_prints(
         &rt,
@@ -191,7 +262,7 @@ fn updates_of_a_lane_are_limited(rt: HostRuntime) {
 #[test]
 fn faulty_rows_are_refused(rt: HostRuntime) {
     let bad_csv: &[u8] = &[48, 44, 105, 110, 115, 101, 114, 116, 44, 0xC3, 0xA9];
-    let rows: [(&[u8], ScriptError, &str); 17] = [
+    let rows: [(&[u8], ScriptError, &str); 23] = [
         (bad_csv, ScriptError::BadCsv(1), "augtrie: row 1: BadCsv\n"),
         (
             b"x,fly",
@@ -264,6 +335,36 @@ fn faulty_rows_are_refused(rt: HostRuntime) {
             b"0,fly\n0,insert,16\n",
             ScriptError::BadVerb(1),
             "augtrie: row 1: BadVerb\n",
+        ),
+        (
+            b"*,grow,3",
+            ScriptError::OutOfRange(1),
+            "augtrie: row 1: OutOfRange\n",
+        ),
+        (
+            b"*,grow,17",
+            ScriptError::OutOfRange(1),
+            "augtrie: row 1: OutOfRange\n",
+        ),
+        (
+            b"*,grow",
+            ScriptError::BadArity(1),
+            "augtrie: row 1: BadArity\n",
+        ),
+        (
+            b"0,grow,5",
+            ScriptError::BadVerb(1),
+            "augtrie: row 1: BadVerb\n",
+        ),
+        (
+            b"0,insert,1\n*,grow,5\n",
+            ScriptError::BadPlace(2),
+            "augtrie: row 2: BadPlace\n",
+        ),
+        (
+            b"*,grow,5\n0,insert,32\n",
+            ScriptError::OutOfRange(2),
+            "augtrie: row 2: OutOfRange\n",
         ),
     ];
     for (script, fault, line) in rows {

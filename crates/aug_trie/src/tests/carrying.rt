@@ -12,7 +12,7 @@ use std::alloc::{AllocError, Global};
 use std::process::Abort;
 
 // A trie of 4 bits with the members 5, which weighs 70, and 9, which weighs 2^32 - 1.
-fn heavy(alloc: Global) -> Result<Trie, BeginError> {
+pub(super) fn heavy(alloc: Global) -> Result<Trie, BeginError> {
     let (round, mut crew) = opened(alloc, 4, 1, 4)?;
     if let Ok(mut pass) = next_pass(&mut crew, &round) {
         put(&mut pass, 4, 9, u32::MAX);
@@ -24,7 +24,7 @@ fn heavy(alloc: Global) -> Result<Trie, BeginError> {
 }
 
 // Asks such a trie what its members weigh.
-fn assert_weights(rt: &impl Abort, alloc: Global, ended: &mut Trie) {
+pub(super) fn assert_weights(rt: &impl Abort, alloc: Global, ended: &mut Trie) {
     assert_eq!(rt;
         (weight(ended, 5), weight(ended, 9)),
         (Some(70), Some(u32::MAX))

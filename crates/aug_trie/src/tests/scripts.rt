@@ -77,7 +77,7 @@ fn update(
 }
 
 // Asks each query of a snapshot of the pass, and the same of the plain set.
-fn assert_agrees(
+pub(super) fn assert_agrees(
     rt: &impl Abort,
     pass: &mut Pass<Sum, Extent>,
     s: Snapshot,
@@ -143,20 +143,25 @@ fn step(
     assert_agrees(rt, pass, late, &plain.set, k, end);
 }
 
-// Asks each query of a trie at rest, and the same of the plain set.
-fn assert_rests(rt: &impl Abort, alloc: Global, ended: &mut Trie, set: &KeySet) {
+// Asks each query of a trie at rest about a key, and the same of the plain set.
+pub(super) fn assert_rests_at(rt: &impl Abort, ended: &mut Trie, set: &KeySet, k: u32) {
+    assert_eq!(rt;
+        (has(ended, k), weight(ended, k)),
+        (set.has(k), set.weight(k))
+    );
+    assert_eq!(rt; (size(ended), rank(ended, k)), (set.size(), set.rank(k)));
+    assert_eq!(rt; select(ended, k), set.select(k));
+    assert_eq!(rt;
+        (before(ended, k), after(ended, k)),
+        (set.before(k), set.after(k))
+    );
+    assert_eq!(rt; range(ended, k / 2, k), set.range(k / 2, k));
+}
+
+// Asks a trie at rest about the first keys, and for the lists of all.
+pub(super) fn assert_rests(rt: &impl Abort, alloc: Global, ended: &mut Trie, set: &KeySet) {
     for k in 0..66 {
-        assert_eq!(rt;
-            (has(ended, k), weight(ended, k)),
-            (set.has(k), set.weight(k))
-        );
-        assert_eq!(rt; (size(ended), rank(ended, k)), (set.size(), set.rank(k)));
-        assert_eq!(rt; select(ended, k), set.select(k));
-        assert_eq!(rt;
-            (before(ended, k), after(ended, k)),
-            (set.before(k), set.after(k))
-        );
-        assert_eq!(rt; range(ended, k / 2, k), set.range(k / 2, k));
+        assert_rests_at(rt, ended, set, k);
     }
     let keys = keys(alloc, ended).expect(rt, "memory");
     let pairs = pairs(alloc, ended).expect(rt, "memory");

@@ -1,5 +1,5 @@
 -- What the steps and updates of a pass do to what it knows.
-use Rattle.std.proofs.Common.{◌≡◌, ◌≢◌, ℕ, ◌+◌, ◌%◌, ◌^◌, ◌<◌, ◌≤◌, Bool, true, false, List, [], ◌∷◌, ◌++◌, All, sym, refl, ap, ◌∙◌, subst, inl, inr, ⊎_elim, arith}
+use Rattle.std.proofs.Common.{◌≡◌, ◌≢◌, ℕ, ◌+◌, ◌%◌, ◌^◌, ◌<◌, ◌≤◌, Bool, true, false, List, [], ◌∷◌, ◌++◌, All, sym, refl, ap, ◌∙◌, subst, inl, arith}
 use Rattle.std.proofs.lemmas.Bool.{eqb-true, eqb-false, false≢true}
 use Rattle.std.proofs.lemmas.List.{append-nil}
 use Rattle.std.proofs.lemmas.List.Elements.{All-nil, All-cons, All-append, All-weaker}
@@ -8,7 +8,7 @@ use Rattle.aug_core.specs.Tree.{root_place}
 use Rattle.aug_core.specs.Book.{Continues, IsBook}
 use Rattle.aug_core.specs.Counts.{change, changes_of}
 use Rattle.aug_core.specs.Told.{KnowsTable, LoadsNode, made_by, new_serial}
-use Rattle.aug_core.specs.Cuts.{Cut, serial_of, IsAtMost}
+use Rattle.aug_core.specs.Cuts.{serial_of, IsAtMost}
 use Rattle.aug_core.specs.EntryCuts.{root_cut, IsPartOfCut}
 use Rattle.aug_core.specs.Shows.{NewestShows}
 use Rattle.aug_core.specs.declared.view.Advance.{Advance}

@@ -1,5 +1,5 @@
 -- A pass stays one.
-use Rattle.std.proofs.Common.{◌≡◌, Option, Some, ℕ, suc, ◌+◌, ◌-◌, ◌*◌, ◌^◌, ◌<◌, ◌≤◌, List, [], ◌∷◌, length, length-append, suc-mul, sym, refl, ap, ◌∙◌, subst, arith}
+use Rattle.std.proofs.Common.{◌≡◌, Option, Some, ℕ, suc, ◌+◌, ◌-◌, ◌*◌, ◌^◌, ◌<◌, ◌≤◌, List, [], ◌∷◌, length, length-append, suc-mul, sym, ap, ◌∙◌, subst, arith}
 use Rattle.aug_core.specs.Places.{Shape}
 use Rattle.aug_core.specs.Lanes.{first_record, lane_records}
 use Rattle.aug_core.specs.Counts.{changes_of}

@@ -1,12 +1,11 @@
 -- What a request makes of a leaf's word.
-use Rattle.std.proofs.Common.{◌≡◌, ℕ, ◌+◌, ◌%◌, ◌^◌, ◌<◌, ◌≤◌, ◌==◌, Bool, true, false, if◌then◌else◌, List, [], ◌∷◌, length, refl, sym, ap, ◌∙◌, inl, inr, arith}
+use Rattle.std.proofs.Common.{◌≡◌, ℕ, ◌+◌, ◌%◌, ◌^◌, ◌<◌, ◌≤◌, ◌==◌, Bool, true, false, if◌then◌else◌, [], ◌∷◌, length, refl, sym, ap, ◌∙◌, inl, inr, arith}
 use Rattle.std.proofs.lemmas.Bool.{eq-eqb, eqb-true, eqb-false, cases_Bool, false≢true}
 use Rattle.aug_core.specs.Book.{word_of_leaf}
 use Rattle.aug_core.specs.Counts.{change}
 use Rattle.aug_core.specs.Told.{IsAdvance, made_by, new_serial, old_word}
 use Rattle.aug_core.specs.declared.view.Advance.{Advance}
 use Rattle.aug_core.specs.declared.view.Change.{Change}
-use Rattle.aug_model.specs.declared.outcome.Outcome.{Outcome}
 use Rattle.aug_model.specs.declared.outcome.Outcome.TheVariants.{Accepted, Replaced}
 use Rattle.aug_trie.specs.Climbing.{StandsInWay}
 use Rattle.aug_trie.specs.LeafWords.{serial_in_word, weight_in_word}

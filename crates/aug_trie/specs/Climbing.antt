@@ -1,5 +1,5 @@
 -- An update as a whole: what its steps are, and what it comes to.
-use Rattle.std.specs.Prelude.{◌≡◌, ◌≢◌, ℕ, Bool, true, false, List, [], ◌∷◌, ◌++◌, length, ◌+◌, ◌*◌, ◌≤◌}
+use Rattle.std.specs.Prelude.{◌≡◌, ◌≢◌, ℕ, true, false, List, [], ◌∷◌, ◌++◌, length, ◌+◌, ◌*◌, ◌≤◌}
 use Rattle.aug_core.specs.Book.{Book, At, IsPassed}
 use Rattle.aug_core.specs.Kinds.{load_leaf, try_leaf}
 use Rattle.aug_core.specs.Shows.{NewestShows, ShowsAtMost}

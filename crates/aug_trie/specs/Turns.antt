@@ -1,5 +1,5 @@
 -- What contracts see of an update that is made by single turns.
-use Rattle.std.specs.Prelude.{◌≡◌, ℕ, ◌+◌, ◌-◌, ◌*◌, ◌<◌, ◌≤◌, Bool, List, [], ◌∷◌, ◌++◌}
+use Rattle.std.specs.Prelude.{◌≡◌, ℕ, ◌+◌, ◌-◌, ◌*◌, ◌<◌, ◌≤◌, List, [], ◌∷◌, ◌++◌}
 use Rattle.aug_core.specs.Counts.{changes_of}
 use Rattle.aug_core.specs.Kinds.{load_leaf, try_leaf}
 use Rattle.aug_core.specs.Told.{own_lane}

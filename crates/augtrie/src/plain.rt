@@ -94,7 +94,7 @@ pub(crate) fn plain_replies(
     let Ok(script) = Script::read(alloc, text.as_bytes(), limits) else {
         return Ok(None);
     };
-    // Its answers are those of a set of fewer bits.
+    // With the most bits: its answers are those of a set of fewer.
     let mut plain = Plain::new(alloc, 16)?;
     let mut replies = Vec::new(alloc);
     for round in script.rounds() {

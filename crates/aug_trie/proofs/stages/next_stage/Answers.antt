@@ -1,4 +1,4 @@
-use Rattle.std.proofs.Common.{◌≡◌, ◌∙◌, sym, subst, ℕ, Option}
+use Rattle.std.proofs.Common.{◌∙◌, sym, subst, ℕ, Option}
 use Rattle.aug_core.specs.Faces.{face}
 use Rattle.aug_core.specs.declared.view.View.{View}
 use Rattle.aug_words.specs.Seats.{MayAdvance, TriedLeaf}

@@ -1,11 +1,9 @@
-use Rattle.std.proofs.Common.{arith, refl, sym, subst, ◌≡◌, ◌∙◌, ℕ, Bool, true, false, if◌then◌else◌, []}
+use Rattle.std.proofs.Common.{arith, refl, sym, subst, ◌≡◌, ◌∙◌, ℕ, true, []}
 use Rattle.aug_core.specs.Faces.{face}
 use Rattle.aug_core.specs.declared.view.View.{View}
-use Rattle.aug_model.specs.declared.outcome.Outcome.{Outcome}
-use Rattle.aug_model.specs.declared.outcome.Outcome.TheVariants.{Refused}
 use Rattle.aug_words.specs.Seats.{MayAdvance, TriedLeaf}
 use Rattle.aug_trie.specs.LeafWords.{serial_in_word}
-use Rattle.aug_trie.specs.Requests.{goes_from, word_after, outcome_by}
+use Rattle.aug_trie.specs.Requests.{goes_from}
 use Rattle.aug_trie.proofs.Going.{room_on, goes_after}
 use Rattle.aug_trie.proofs.Updating.{goes_begun, advances, serial_few, tried_goes, may_rise, refused_at_once, updated}
 use Rattle.aug_trie.proofs.updates.update.Goals as goal

@@ -1,4 +1,4 @@
-use Rattle.std.proofs.Common.{◌≡◌, ℕ, ◌<◌, ◌≤◌, length, get_or}
+use Rattle.std.proofs.Common.{ℕ, ◌<◌, ◌≤◌, length, get_or}
 use Rattle.aug_script.specs.declared.script_round.ScriptRound.{ScriptRound}
 use Rattle.augtrie.proofs.round_tests.run_text.Given as goal
 

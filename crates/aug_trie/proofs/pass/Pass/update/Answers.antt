@@ -1,4 +1,4 @@
-use Rattle.std.proofs.Common.{Option, Some, arith, rules, subst, sym, refl, ◌≡◌, ◌+◌, ◌-◌, ◌*◌, ◌^◌, ◌<◌, ◌≤◌, ℕ, length}
+use Rattle.std.proofs.Common.{Option, Some, arith, rules, subst, sym, refl, ◌≡◌, ◌+◌, ◌-◌, ◌^◌, ◌<◌, ◌≤◌, ℕ, length}
 use Rattle.atomic_table.specs.Seated.{TableId}
 use Rattle.aug_core.specs.Faces.{face}
 use Rattle.aug_core.specs.Counts.{changes_of}

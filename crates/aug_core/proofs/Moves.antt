@@ -233,6 +233,7 @@ module _ (face : ℕ → ℕ → List (ℕ × ℕ) → List ℕ) (o : Opening) (
             opened = r.tree.opened;
             newest = λ q low. let t = r.tree.newest q low in record { index = t.index; entry = t.entry; newest = t.newest; word = stays q (own.past_nodes q low) ∙ t.word; shown = t.shown };
             written = λ q j k e inner p small. stays (record_start o.shape e.number + k) (own.unpublished q j k e inner p small) ∙ r.tree.written q j k e inner p small;
+            shared = λ level k low small. stays (record_start o.shape level + k) (own.past_idle level k (omega arith) small) ∙ r.tree.shared level k low small;
             idle = λ number k is small. stays (record_start o.shape number + k) (own.past_idle number k is.opening small) ∙ r.tree.idle number k is small;
           };
           grows = λ q j e p. p;
@@ -283,6 +284,7 @@ module _ (face : ℕ → ℕ → List (ℕ × ℕ) → List ℕ) (o : Opening) (
         written = λ p j k f inner t small. record_stays f.number k ∙ ⊎_elim
             (λ old. r.tree.written p j k f inner old small)
             (λ new. subst (λ (z : Entry). get_or s.words (record_start o.shape z.number + k) 0 ≡ get_or z.words k 0) new.2 (full (subst (IsInner o.shape) new.0 inner) k small)) (at_grown r.book q in_book e p j f t);
+        shared = λ level k low small. record_stays level k ∙ r.tree.shared level k low small;
         idle = λ number k is small. record_stays number k ∙ r.tree.idle number k is small;
       };
       lanes = λ lane low. inl (all_stay lane);
@@ -327,6 +329,7 @@ module _ (face : ℕ → ℕ → List (ℕ × ℕ) → List ℕ) (o : Opening) (
             (λ is. subst (λ (z : ℕ). NamesNewest (set s.words key x) longer z) (sym is) g.names)
             (λ ne. let t = r.tree.newest p low in record { index = t.index; entry = t.entry; newest = g.still p t.index t.entry ne t.newest; word = stay_leaf p ne ∙ t.word; shown = t.shown }) (cases_eq p key);
         written = λ p j k f inner t small. past_leaf (record_start o.shape f.number + k) (omega arith) ∙ r.tree.written p j k f inner (g.stays p j f (no_leaf p inner) t) small;
+        shared = λ level k low small. past_leaf (record_start o.shape level + k) (omega arith) ∙ r.tree.shared level k low small;
         idle = λ number k is small. past_leaf (record_start o.shape number + k) (omega arith) ∙ r.tree.idle number k is small;
       };
       lanes = λ lane low. inl (stays_leaf lane);

@@ -13,7 +13,7 @@ use Rattle.aug_model.specs.Keys.{is_member, keys_of, IsKeySet}
 use Rattle.aug_model.specs.Queries.{weight_in}
 use Rattle.aug_model.proofs.Pairs.{length-keys_of, weight_fits, weight-none}
 use Rattle.aug_monoid.specs.Weighted.{FitsPair}
-use Rattle.aug_core.specs.Opening.{opening_serial, Opening, IsIdle, opening_pairs, opening_number, opening_index, serial_entry, opening_words, opening_entry, opening_history, opening_book}
+use Rattle.aug_core.specs.Opening.{opening_serial, Opening, IsIdle, opening_pairs, opening_number, opening_index, serial_entry, opening_words, shared_words, opening_entry, opening_history, opening_book}
 use Rattle.aug_core.specs.Layout.{IsLayout}
 use Rattle.aug_core.specs.Told.{KnowsTable}
 use Rattle.aug_core.specs.Rule.{BlockIs, Knows, Kept, newcomer}
@@ -175,11 +175,12 @@ module _ (face : ℕ → ℕ → List (ℕ × ℕ) → List ℕ) (o : Opening) w
   pub opens : (words : List ℕ) → Rises (keys_of o.members) → All FitsPair o.members → length (keys_of o.members) ≤ o.shape.members → length words ≡ word_count o.shape
       → ((q : ℕ) → q < place_count o.shape → get_or words q 0 ≡ opening_number o q)
       → ((q k : ℕ) → IsInner o.shape q → k < 5 → get_or words (record_start o.shape (opening_number o q) + k) 0 ≡ get_or (opening_words face o q) k 0)
+      → ((level k : ℕ) → level < o.shape.bits → k < 5 → get_or words (record_start o.shape level + k) 0 ≡ get_or (shared_words face level) k 0)
       → ((number k : ℕ) → IsIdle o number → k < 5 → get_or words (record_start o.shape number + k) 0 ≡ 0)
       → ((lane : ℕ) → lane < o.shape.workers → get_or words (lane_place o.shape lane) 0 ≡ 0)
       → ((lane : ℕ) → lane < o.shape.workers → BlockIs o.shape words lane (replicate (block_size o.shape) 0))
       → Kept face o (opening words [] (newcomer face o))
-  opens words rises pairs_fit fit wide nodes records idle lanes blocks = record {
+  opens words rises pairs_fit fit wide nodes records shared idle lanes blocks = record {
     book = book;
     tree = record {
       wide = wide;
@@ -187,6 +188,7 @@ module _ (face : ℕ → ℕ → List (ℕ × ℕ) → List ℕ) (o : Opening) w
       opened = λ q i e p. p;
       newest = λ q low. let t = newly q low in record { index = opening_index o q; entry = t.entry; newest = t.newest; word = nodes q low ∙ sym t.named; shown = t.shown };
       written = λ q i k e inner p small. subst (λ (z : Entry). get_or words (record_start o.shape z.number + k) 0 ≡ get_or z.words k 0) (inner_at q i e inner p).1 (records q k inner small);
+      shared = shared;
       idle = idle;
     };
     lanes = record {

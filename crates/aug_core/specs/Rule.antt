@@ -7,7 +7,7 @@ use Rattle.aug_core.specs.Places.{Shape, lane_place, record_start, word_count}
 use Rattle.aug_core.specs.Tree.{place_count, IsInner}
 use Rattle.aug_core.specs.Lanes.{IsOfLane, block_start, block_size}
 use Rattle.aug_core.specs.Book.{Book, At, IsNewest, Continues, IsFresh, IsBook}
-use Rattle.aug_core.specs.Opening.{Opening, IsIdle, opening_book}
+use Rattle.aug_core.specs.Opening.{Opening, IsIdle, shared_words, opening_book}
 use Rattle.aug_core.specs.Counts.{AreCounted, AreTallied}
 use Rattle.aug_core.specs.declared.view.Beginning.{Beginning}
 use Rattle.aug_core.specs.declared.view.Entry.{Entry}
@@ -70,7 +70,9 @@ pub record KeepsTree (face : ℕ → ℕ → List (ℕ × ℕ) → List ℕ) (o 
   pub newest : (q : ℕ) → q < place_count o.shape → NamesNewest words book q
   -- the words of a published record are those of its entry, and never change
   pub written : (q i k : ℕ) (e : Entry) → IsInner o.shape q → At book q i e → k < 5 → slice_index words (record_start o.shape e.number + k) ≡ slice_index e.words k
-  -- the words of an opening record that no node opens with are zeros
+  -- the words of a level's empty record are those, also where no node opens with it
+  pub shared : (level k : ℕ) → level < o.shape.bits → k < 5 → slice_index words (record_start o.shape level + k) ≡ slice_index (shared_words face level) k
+  -- the words of an own opening record that no node opens with are zeros
   pub idle : (number k : ℕ) → IsIdle o number → k < 5 → slice_index words (record_start o.shape number + k) ≡ 0
 
 -- the lanes' words, and the records of the lanes that are free

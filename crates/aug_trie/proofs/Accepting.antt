@@ -22,7 +22,7 @@ use Rattle.aug_trie.specs.Climbing.{WentUp, Stayed, Updated}
 use Rattle.aug_trie.specs.History.{Begins, last_cut}
 use Rattle.aug_trie.specs.Knowledge.{StandsIn, insertion, removal}
 use Rattle.aug_trie.specs.LeafWords.{serial_in_word}
-use Rattle.aug_trie.specs.Requests.{advance_from}
+use Rattle.aug_trie.specs.Requests.{advance_from, in_the_way}
 use Rattle.aug_trie.specs.Updates.{AcceptedUpdate, RefusedUpdate, ReplacedUpdate, RefusedPut, ComesTo, TakesSnapshot}
 use Rattle.aug_trie.specs.Knows.{root_history, knows, KnowsRound}
 use Rattle.aug_trie.specs.declared.request.Request.{Request}
@@ -102,24 +102,25 @@ module _ (face : ℕ → ℕ → List (ℕ × ℕ) → List ℕ) where
     refused_number : (found : ℕ) (s : Stayed face used v key request w found) → serial_of (last_cut (knows v).history) key ≤ found
     refused_number found s = last_shown face v.shape v.seen kn.book key found low (root_some face v kn) s.before
 
-    shown_number : (found : ℕ) (s : Stayed face used v key request w found) → s.number ≤ serial_of (last_cut (knows w).history) key
-    shown_number found s = shown_of v w key s.number s.goes.shaped low s.shown
+    -- what stood in the way is shown
+    pub shown_number : (found : ℕ) → Stayed face used v key request w found → in_the_way request found ≤ serial_of (last_cut (knows w).history) key
+    shown_number found s = shown_of v w key (in_the_way request found) s.goes.shaped low s.shown
 
     -- a refused update
-    refused_is : (kind found : ℕ) (s : Stayed face used v key request w found) → s.number % 2 ≡ kind → found ≤ s.number → RefusedUpdate kind key (knows v) (knows w)
+    refused_is : (kind found : ℕ) (s : Stayed face used v key request w found) → in_the_way request found % 2 ≡ kind → found ≤ in_the_way request found → RefusedUpdate kind key (knows v) (knows w)
     refused_is kind found s suits le = record {
       goes_on = knows_on v w kn s.goes.shaped s.goes.later;
-      number = s.number;
+      number = in_the_way request found;
       suits = suits;
       not_past = let below = refused_number found s in omega arith;
       shows = shown_number found s;
       same_changes = s.goes.changes ∙ append-nil (changes_of v.held);
     }
 
-    refused_put : (found : ℕ) (s : Stayed face used v key request w found) → s.number ≡ found + 1 → RefusedPut key (knows v) (knows w)
+    refused_put : (found : ℕ) (s : Stayed face used v key request w found) → in_the_way request found ≡ found + 1 → RefusedPut key (knows v) (knows w)
     refused_put found s next = record {
       goes_on = knows_on v w kn s.goes.shaped s.goes.later;
-      number = s.number;
+      number = in_the_way request found;
       is_new = let below = refused_number found s in omega arith;
       shows = shown_number found s;
       same_changes = s.goes.changes ∙ append-nil (changes_of v.held);
@@ -136,16 +137,16 @@ module _ (face : ℕ → ℕ → List (ℕ × ℕ) → List ℕ) where
   comes_to used v key Insert w kn low Accepted u = let a = advance_from Insert key u.loaded in let even = eqb-true (serial_in_word u.loaded % 2) 0 u.came_to.0.lets in
       accepted_is used v key Insert w kn low a u.came_to.0 insertion key (omega (arith, even)) refl refl
   comes_to used v key Insert w kn low Replaced u = false≢true u.came_to.1
-  comes_to used v key Insert w kn low Refused u = let s = u.came_to in let t = insert_stands (serial_in_word u.loaded) s.number s.stands in refused_is used v key Insert w kn low insertion (serial_in_word u.loaded) s t.0 t.1
+  comes_to used v key Insert w kn low Refused u = let s = u.came_to in let t = insert_stands (serial_in_word u.loaded) in refused_is used v key Insert w kn low insertion (serial_in_word u.loaded) s t.0 t.1
   comes_to used v key Remove w kn low Accepted u = let a = advance_from Remove key u.loaded in let odd = eqb-true (serial_in_word u.loaded % 2) 1 u.came_to.0.lets in
       accepted_is used v key Remove w kn low a u.came_to.0 removal 0 (omega (arith, odd)) refl refl
   comes_to used v key Remove w kn low Replaced u = false≢true u.came_to.1
-  comes_to used v key Remove w kn low Refused u = let s = u.came_to in let t = remove_stands (serial_in_word u.loaded) s.number s.stands in refused_is used v key Remove w kn low removal (serial_in_word u.loaded) s t.0 t.1
+  comes_to used v key Remove w kn low Refused u = let s = u.came_to in let t = remove_stands (serial_in_word u.loaded) in refused_is used v key Remove w kn low removal (serial_in_word u.loaded) s t.0 t.1
   comes_to used v key (Put weight) w kn low Accepted u = let a = advance_from (Put weight) key u.loaded in let even = eqb-false (serial_in_word u.loaded % 2) 1 u.came_to.1 in
       accepted_is used v key (Put weight) w kn low a u.came_to.0 insertion weight (omega (arith, even)) refl u.came_to.1
   comes_to used v key (Put weight) w kn low Replaced u = let a = advance_from (Put weight) key u.loaded in
       replaced_is used v key (Put weight) w kn low a u.came_to.0 weight (eqb-true (serial_in_word u.loaded % 2) 1 u.came_to.1) refl u.came_to.1
-  comes_to used v key (Put weight) w kn low Refused u = let s = u.came_to in refused_put used v key (Put weight) w kn low (serial_in_word u.loaded) s (s.stands.next refl)
+  comes_to used v key (Put weight) w kn low Refused u = refused_put used v key (Put weight) w kn low (serial_in_word u.loaded) u.came_to refl
 
   -- a load of the root is a snapshot: the cut of its newest entry, which has the number that was found
   pub snapshot_is : (v : View) (r : ℕ) (w : View) → KnowsTable face v → (t : LoadsNode face v (root_place v.shape) r w) → TakesSnapshot (knows v) (knows w) (root_cut v.shape w.seen t.index)

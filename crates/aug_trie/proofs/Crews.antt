@@ -32,6 +32,7 @@ use Rattle.aug_trie.specs.Crews.{crew_facts, HoldsCrew, HandsOut, TakesBack}
 use Rattle.aug_trie.proofs.Counters.{counted_none, is_insertion, is_removal}
 use Rattle.aug_trie.proofs.Counting.{hits-append}
 use Rattle.aug_trie.proofs.Handing.{crew_begins, handed_out_is, handed_back_is, crew_after, pass_table, pass_begins, crew_out}
+use Rattle.aug_trie.proofs.Histories.{numbers_long}
 
 module _ (face : ℕ → ℕ → List (ℕ × ℕ) → List ℕ) where
   -- the lead of a table that was just opened
@@ -105,6 +106,8 @@ module _ (face : ℕ → ℕ → List (ℕ × ℕ) → List ℕ) where
       exists = omega arith;
       one_more = ap (λ (z : Option ℕ). unwrap_or (option_map (λ n. n + 1) z) 0) (same_spare ∙ out) ∙ ap (λ n. n + 1) (sym at);
       same_back = ap (λ (z : List Held). length z) same_held;
+      loads = record { found = r; step = ap (λ (z : View). z.steps) l.stepped };
+      named = numbers_long b.shape b.seen;
       fresh = let e : b.shape.updates ≡ old.shape.updates = ap (λ (z : Shape). z.updates) same_shape in omega arith;
       knowledge = record { is_history = known.is_history; stands = known.stands };
     }
@@ -142,4 +145,6 @@ module _ (face : ℕ → ℕ → List (ℕ × ℕ) → List ℕ) where
       round = ap (λ (z : View). round_of table z) l.stepped;
       one_more = one_back;
       same_handed = ap (λ (z : View). unwrap_or z.spare 0) l.stepped;
+      knowledge = (crew_after face old p w place r lane c.is_crew.knows_table kp one_shape only l c.handed (length old.held) c.is_crew known).knowledge;
+      loads = record { found = r; step = ap (λ (z : View). z.steps) l.stepped };
     }

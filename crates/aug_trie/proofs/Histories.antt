@@ -18,14 +18,19 @@ use Rattle.aug_core.specs.Cuts.{Cut, shown_of, serial_of, opening_cut, IsAtMost}
 use Rattle.aug_trie.specs.History.{Begins, IsHistory, last_cut}
 use Rattle.aug_core.specs.EntryCuts.{entry_of, root_cut}
 use Rattle.aug_core.specs.Told.{KnowsTable, opening_of}
-use Rattle.aug_trie.specs.Knows.{root_history}
+use Rattle.aug_trie.specs.Knows.{root_history, root_numbers}
 use Rattle.aug_trie.proofs.Pieces.{begins_at}
 use Rattle.aug_core.proofs.CutsUnder.{root_word, reached, shown_is, serial_is, shows_reached}
 use Rattle.aug_core.proofs.EntryCuts.{Has, reached_shows, root_rises, cut_later}
 use Rattle.aug_core.proofs.OpeningCuts.{root_inner, opening_first}
+use Rattle.std.proofs.lemmas.List.{length-map}
 
 pub history_long : (s : Shape) (book : Book) → length (root_history s book) ≡ length (history_of book (root_place s))
 history_long s book = length-map-range_with_len (root_cut s book) 0 (length (history_of book (root_place s)))
+
+-- each of its cuts has a number
+pub numbers_long : (s : Shape) (book : Book) → length (root_numbers s book) ≡ length (root_history s book)
+numbers_long s book = length-map (history_of book (root_place s)) (λ (e : Entry). e.number) ∙ sym (history_long s book)
 
 pub cut_at : (s : Shape) (book : Book) (i : ℕ) → Has book (root_place s) i → get_or (root_history s book) i [] ≡ root_cut s book i
 cut_at s book i h = get_or-map-range_with_len (root_cut s book) 0 (length (history_of book (root_place s))) i i [] h (omega arith)

@@ -13,14 +13,16 @@ use Rattle.aug_words.specs.Seats.{Known}
 use Rattle.aug_trie.specs.Goes.{HasLeaves, Goes}
 use Rattle.aug_model.specs.declared.outcome.Outcome.{Outcome}
 use Rattle.aug_model.specs.declared.outcome.Outcome.TheVariants.{Accepted, Replaced, Refused}
-use Rattle.aug_trie.specs.Climbing.{Updated}
+use Rattle.aug_trie.specs.Climbing.{Updated, CameTo}
 use Rattle.aug_trie.specs.Requests.{advance_from}
 use Rattle.aug_trie.specs.declared.request.Request.{Request}
 use Rattle.aug_trie.specs.Knows.{KnowsRound}
 use Rattle.aug_trie.specs.Facts.{PassFacts, pass_facts, known_in, round_of, GoesOn, StepsOf, IsPass, HoldsPass}
-use Rattle.aug_trie.proofs.Accepting.{updated_knowledge}
+use Rattle.aug_trie.proofs.Accepting.{updated_knowledge, shown_number}
 use Rattle.aug_trie.proofs.Going.{free_from}
 use Rattle.aug_trie.proofs.Requesting.{made_few}
+use Rattle.aug_trie.specs.LeafWords.{serial_in_word}
+use Rattle.aug_trie.proofs.Histories.{numbers_long}
 
 module _ (face : ℕ → ℕ → List (ℕ × ℕ) → List ℕ) where
   pass_on : (v w : View) (leaves bits next left : ℕ) (gained : List Change) → IsPass face v leaves bits next left → 1 ≤ left → length gained ≤ 2 → Goes face (next + bits) gained v w → KnowsRound w → IsPass face w leaves bits (next + bits) (left - 1)
@@ -63,6 +65,7 @@ module _ (face : ℕ → ℕ → List (ℕ × ℕ) → List ℕ) where
       step_count = ap (λ (z : List StepTaken). length z) u.steps ∙ length-append v.steps (load_leaf key u.loaded ∷ u.more) ∙ (let e : length v.steps + suc (length u.more) ≡ length v.steps + (length u.more + 1) = omega arith in e);
       steps_stay = (load_leaf key u.loaded ∷ u.more, u.steps);
       knowledge = known_after done u;
+      named = numbers_long w.shape w.seen;
     }
 
     pub steps_of : (table : TableId) (done : Outcome) → Updated face (next + bits) v key request w done
@@ -75,6 +78,7 @@ module _ (face : ℕ → ℕ → List (ℕ × ℕ) → List ℕ) where
       most_steps = let m = u.most_steps in omega arith;
       refuses = u.refusing;
       tries = u.tried;
+      shows = λ refused. shown_number face (next + bits) v key request w p.knows_table low (serial_in_word u.loaded) (subst (CameTo face (next + bits) v key request w u.loaded) refused u.came_to);
     }
 
 -- a pass whose seat was taken out for an update

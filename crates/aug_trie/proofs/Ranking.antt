@@ -10,20 +10,20 @@ use Rattle.aug_model.proofs.Ranges.{Rises, AllBelow, rises_from, all_below_from,
 use Rattle.aug_query.specs.Tree.{first_key, end_key, IsTreeSet}
 use Rattle.aug_query.proofs.Nodes.{left_low}
 use Rattle.aug_query.proofs.Orders.{rank_cut, rank_few, rank_none, rank_past}
-use Rattle.aug_core.specs.Book.{At, history_of}
+use Rattle.aug_core.specs.Book.{At}
 use Rattle.aug_core.specs.Cuts.{Cut, weight_at, set_of_cut}
 use Rattle.aug_core.specs.Faces.{face}
 use Rattle.aug_core.specs.Told.{HasSeen, KnowsTable, stepping}
-use Rattle.aug_core.specs.Tree.{IsInner, root_place}
+use Rattle.aug_core.specs.Tree.{IsInner}
 use Rattle.aug_core.specs.declared.step.StepTaken.{StepTaken}
 use Rattle.aug_core.specs.declared.view.View.{View}
 use Rattle.aug_trie.specs.LeafWords.{serial_in_word}
-use Rattle.aug_trie.specs.Facts.{index_named, IsNodeOf}
+use Rattle.aug_trie.specs.Facts.{IsNodeOf}
 use Rattle.aug_trie.specs.Goes.{HasLeaves}
 use Rattle.aug_trie.specs.Nodes.{cut_named, Looks}
 use Rattle.aug_trie.specs.TreeOf.{members_of}
 use Rattle.aug_trie.specs.Points.{Says}
-use Rattle.aug_trie.proofs.Trees.{tree_set}
+use Rattle.aug_trie.proofs.Trees.{named_set}
 use Rattle.aug_trie.proofs.Looking.{record_seen, count_is}
 use Rattle.aug_trie.proofs.Walking.{node_seen, left_node, right_node, leaf_count}
 
@@ -125,7 +125,7 @@ module _ {A B : Type 0} (parts_a : Parts A) (parts_b : Parts B) (v : View) (kn :
 
 module _ (f : ℕ → ℕ → List (ℕ × ℕ) → List ℕ) (v : View) (number : ℕ) (kn : KnowsTable f v) where
   snapshot_set : IsTreeSet (members_of v.shape.bits (cut_named v.shape v.seen number))
-  snapshot_set = tree_set f v (index_named (history_of v.seen (root_place v.shape)) number) kn
+  snapshot_set = named_set f v number kn
 
   -- whose keys are the cut's
   pub keys_are : list_of (members_of v.shape.bits (cut_named v.shape v.seen number)) ≡ set_of_cut (cut_named v.shape v.seen number)

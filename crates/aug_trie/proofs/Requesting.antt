@@ -7,9 +7,8 @@ use Rattle.aug_core.specs.Told.{IsAdvance, made_by, new_serial, old_word}
 use Rattle.aug_core.specs.declared.view.Advance.{Advance}
 use Rattle.aug_core.specs.declared.view.Change.{Change}
 use Rattle.aug_model.specs.declared.outcome.Outcome.TheVariants.{Accepted, Replaced}
-use Rattle.aug_trie.specs.Climbing.{StandsInWay}
 use Rattle.aug_trie.specs.LeafWords.{serial_in_word, weight_in_word}
-use Rattle.aug_trie.specs.Requests.{FitsRequest, goes_from, advance_from, outcome_by}
+use Rattle.aug_trie.specs.Requests.{FitsRequest, goes_from, in_the_way, advance_from, outcome_by}
 use Rattle.aug_trie.specs.declared.request.Request.{Request}
 use Rattle.aug_trie.specs.declared.request.Request.TheVariants.{Insert, Remove, Put}
 
@@ -76,18 +75,25 @@ made_two key a e = ap (λ (z : Bool). if z then change key (a.serial + 1) 0 ∷ 
 pub two_more : (a : Advance) → a.replaces ≡ true → new_serial a ≡ a.serial + 2
 two_more a e = ap (λ (z : Bool). if z then a.serial + 2 else a.serial + 1) e
 
+-- what stands in the way of an update that does not go on is what it found, and else the next serial
+pub way_found : (request : Request) (serial : ℕ) → goes_from request serial ≡ false → in_the_way request serial ≡ serial
+way_found request serial e = ap (λ (z : Bool). if z then serial + 1 else serial) e
+
+pub way_next : (request : Request) (serial : ℕ) → goes_from request serial ≡ true → in_the_way request serial ≡ serial + 1
+way_next request serial e = ap (λ (z : Bool). if z then serial + 1 else serial) e
+
 -- the serial that stood in an insertion's way is odd, and no less than the one that was found
-pub insert_stands : (found number : ℕ) → StandsInWay Insert found number → (number % 2 ≡ 1) × (found ≤ number)
-insert_stands found number s = elim (cases_Bool (found % 2 == 0)) [
-  | inl lets ↦ (let e = s.next lets in let even = eqb-true (found % 2) 0 lets in (omega (arith, e, even), omega (arith, e)))
-  | inr not ↦ (let e = s.found_it not in let odd = eqb-false (found % 2) 0 not in (omega (arith, e, odd), omega (arith, e)))
+pub insert_stands : (found : ℕ) → (in_the_way Insert found % 2 ≡ 1) × (found ≤ in_the_way Insert found)
+insert_stands found = elim (cases_Bool (found % 2 == 0)) [
+  | inl lets ↦ (let e = way_next Insert found lets in let even = eqb-true (found % 2) 0 lets in (omega (arith, e, even), omega (arith, e)))
+  | inr not ↦ (let e = way_found Insert found not in let odd = eqb-false (found % 2) 0 not in (omega (arith, e, odd), omega (arith, e)))
 ]
 
 -- that in a removal's way is even
-pub remove_stands : (found number : ℕ) → StandsInWay Remove found number → (number % 2 ≡ 0) × (found ≤ number)
-remove_stands found number s = elim (cases_Bool (found % 2 == 1)) [
-  | inl lets ↦ (let e = s.next lets in let odd = eqb-true (found % 2) 1 lets in (omega (arith, e, odd), omega (arith, e)))
-  | inr not ↦ (let e = s.found_it not in let even = eqb-false (found % 2) 1 not in (omega (arith, e, even), omega (arith, e)))
+pub remove_stands : (found : ℕ) → (in_the_way Remove found % 2 ≡ 0) × (found ≤ in_the_way Remove found)
+remove_stands found = elim (cases_Bool (found % 2 == 1)) [
+  | inl lets ↦ (let e = way_next Remove found lets in let odd = eqb-true (found % 2) 1 lets in (omega (arith, e, odd), omega (arith, e)))
+  | inr not ↦ (let e = way_found Remove found not in let even = eqb-false (found % 2) 1 not in (omega (arith, e, even), omega (arith, e)))
 ]
 
 -- the word that was loaded is the one that the exchange goes from

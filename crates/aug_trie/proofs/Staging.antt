@@ -1,6 +1,6 @@
 -- An update goes on by one step.
-use Rattle.std.proofs.Common.{◌≡◌, ℕ, suc, ◌+◌, ◌-◌, ◌*◌, ◌/◌, ◌^◌, ◌<◌, ◌≤◌, Bool, true, false, if◌then◌else◌, List, [], ◌∷◌, ◌++◌, length, suc-mul, sym, refl, ap, ◌∙◌, subst, ⊎_elim, arith}
-use Rattle.std.proofs.lemmas.Bool.{cases_eq}
+use Rattle.std.proofs.Common.{◌≡◌, ℕ, suc, ◌+◌, ◌-◌, ◌*◌, ◌/◌, ◌^◌, ◌<◌, ◌≤◌, Bool, true, false, if◌then◌else◌, List, [], ◌∷◌, ◌++◌, length, suc-mul, sym, refl, ap, ◌∙◌, subst, ⊎_elim, arith, append_assoc, length-append}
+use Rattle.std.proofs.lemmas.Bool.{cases_eq, false≢true}
 use Rattle.std.proofs.lemmas.List.{append-nil}
 use Rattle.aug_core.specs.Places.{Shape}
 use Rattle.aug_core.specs.Counts.{changes_of}
@@ -27,6 +27,7 @@ use Rattle.aug_trie.proofs.Going.{may_change, room_on, goes_after}
 use Rattle.aug_trie.proofs.Requesting.{from_word}
 use Rattle.aug_trie.proofs.Updating.{goes_begun, goes_leaf, advances, serial_few, told, may_rise, refused_at_once, updated}
 use Rattle.aug_trie.proofs.Ascending.{way_begins}
+use Rattle.aug_core.specs.declared.step.StepTaken.{StepTaken}
 
 -- the first node above a leaf, tried twice, and two tries at each of the others
 pub first_turns : (bits : ℕ) (a : Ascent) → 1 ≤ bits → a.level ≡ 0 → a.second ≡ false → a.point ≡ Node → ascent_turns bits a + 12 ≡ 30 * bits
@@ -69,6 +70,7 @@ module _ (f : ℕ → ℕ → List (ℕ × ℕ) → List ℕ) where
             is_stage = record {
               leaf = w;
               has_begun = begun_here;
+              has_left = record { found = word; more = []; steps = ap (λ (z : View). z.steps) from_start.stepped; tried = λ lets. absurd (false≢true (sym other ∙ lets)) };
               finish = λ z risen. refused_at_once f u w key word request bits number t.low p.bits_are r.2 p.knows_table from_start z other risen;
               on_way = way_begins f bits number key w m a r.2 el (en ∙ ap (λ (z : ℕ). z + key / 2) (p.leaves_are.are ∙ ap (λ (z : Shape). 2 ^ z.bits) (sym g.shaped))) es ep;
             };
@@ -137,6 +139,13 @@ module _ (f : ℕ → ℕ → List (ℕ × ℕ) → List ℕ) where
               fits = t.fits;
               is_stage = record {
                 leaf = w;
+                has_left = record {
+                  found = word;
+                  more = try_leaf key word (word_after request key word) tried.found ∷ [];
+                  steps = tried_steps ∙ ap (λ (z : List StepTaken). z ++ try_leaf key word (word_after request key word) tried.found ∷ []) (ap (λ (z : View). z.steps) loaded.stepped)
+                      ∙ append_assoc u.steps (load_leaf key word ∷ []) (try_leaf key word (word_after request key word) tried.found ∷ []);
+                  tried = λ lets. omega arith;
+                };
                 has_begun = record { began = same_beginning ∙ ap (λ (z : View). z.began) loaded.stepped; shaped = g.shaped; same_members = g.same_members; lane = g.lane };
                 finish = λ z risen. updated f u old key word request bits number t.low p.bits_are r.2 p.knows_table loaded t.fits t.is_stage.lets w ok room_old.is_free.lane room_old.is_free.only tried z risen done comes;
                 on_way = way_begins f bits number key w m up r.2 el (en ∙ ap (λ (z : ℕ). z + key / 2) (p.leaves_are.are ∙ ap (λ (z : Shape). 2 ^ z.bits) (sym g.shaped))) es ep;
@@ -161,6 +170,12 @@ module _ (f : ℕ → ℕ → List (ℕ × ℕ) → List ℕ) where
         is_stage = record {
           leaf = r.leaf;
           has_begun = record { began = quiet.1 ∙ b.began; shaped = s.shaped ∙ b.shaped; same_members = s.same_members ∙ b.same_members; lane = s.lane ∙ b.lane };
+          has_left = let l = r.has_left in record {
+            found = l.found;
+            more = l.more ++ s.taken ∷ [];
+            steps = s.steps ∙ ap (λ (z : List StepTaken). z ++ s.taken ∷ []) l.steps ∙ append_assoc u.steps (load_leaf key l.found ∷ l.more) (s.taken ∷ []);
+            tried = λ lets. let some = l.tried lets in let long = length-append l.more (s.taken ∷ []) in omega arith;
+          };
           finish = r.finish;
           on_way = way;
         };

@@ -1,15 +1,13 @@
 -- The trees of a pass's snapshots, as contracts see them, and what keeps them.
-use Rattle.std.proofs.Common.{Some, ◌≡◌, ℕ, zero, suc, ◌+◌, ◌%◌, ◌^◌, ◌<◌, ◌≤◌, Bool, eqb, eq-eqb, ne_eqb, if◌then◌else◌, List, [], ◌∷◌, All, length, length-append, sym, refl, ap, ◌∙◌, subst, ⊎_elim, arith}
+use Rattle.std.proofs.Common.{Some, ◌≡◌, ℕ, zero, suc, ◌+◌, ◌%◌, ◌^◌, ◌<◌, ◌≤◌, eqb, List, [], All, length, length-append, sym, refl, ap, ◌∙◌, subst, ⊎_elim, arith}
 use Rattle.std.specs.List.{range_with_len}
 use Rattle.std.specs.List.Sorted.{IsStrictlyIncreasing}
 use Rattle.std.proofs.Math.Nat.{pow-le-pow_right}
-use Rattle.std.proofs.lemmas.List.{get_or_past}
-use Rattle.std.proofs.lemmas.Bool.{cases_eq, cases_lt}
+use Rattle.std.proofs.lemmas.List.{get_or_past, length-map}
+use Rattle.std.proofs.lemmas.Bool.{cases_lt}
 use Rattle.std.proofs.lemmas.List.Elements.{All-nil, All-cons, All-filter, All-map, All-weaker}
 use Rattle.std.proofs.lemmas.List.FromFn.{length-range_with_len, get_or-range_with_len}
 use Rattle.std.proofs.lemmas.List.Kept.{IsStrictlyIncreasing-filter}
-use mathlib.Core.Option.{some}
-use lib.ListN.{get_elem?}
 use Rattle.aug_monoid.specs.Parts.{Parts}
 use Rattle.aug_model.specs.Folds.{summary_of}
 use Rattle.aug_model.specs.Keys.{IsKeySet}
@@ -35,15 +33,16 @@ use Rattle.aug_core.proofs.OpeningCuts.{root_inner}
 use Rattle.aug_words.specs.Seats.{Known}
 use Rattle.aug_trie.specs.Counted.{HasCounts}
 use Rattle.aug_trie.specs.LeafWords.{weight_in_word}
-use Rattle.aug_trie.specs.Facts.{index_named, pass_facts, HasSnapshot, IsNodeOf, IsPass, HoldsPass}
-use Rattle.aug_trie.specs.Nodes.{cut_named, Looks, HasNode, Keeps, Reads}
+use Rattle.aug_trie.specs.Facts.{pass_facts, HasSnapshot, IsNodeOf, IsPass, HoldsPass}
+use Rattle.aug_trie.specs.Knows.{root_history, root_numbers, first_place}
+use Rattle.aug_trie.specs.Nodes.{HasNamed, cut_named, Looks, HasNode, Keeps, Reads}
 use Rattle.aug_trie.specs.TreeOf.{members_of, IsTreeOf}
 use Rattle.aug_trie.specs.declared.node.Node.{Node}
 use Rattle.aug_trie.proofs.Counters.{counted_still}
-use Rattle.aug_trie.proofs.Histories.{some_bits, history_long}
+use Rattle.aug_trie.proofs.Histories.{some_bits, history_long, numbers_long}
 use Rattle.aug_trie.proofs.Keeping.{node_later}
 use Rattle.aug_trie.proofs.Looking.{goes_looking, leaf_weighs}
-use Rattle.aug_trie.proofs.Snapshots.{index_is, pass_still}
+use Rattle.aug_trie.proofs.Snapshots.{named_there, index_is, cut_is, pass_still}
 use Rattle.aug_trie.proofs.Walking.{top_node}
 
 -- ---- the set of a cut
@@ -68,9 +67,9 @@ cut_light f v i key kn low = let s : Shape = v.shape in let r : ℕ = reached s 
     let is : weight_at (root_cut s v.seen i) key ≡ (entry_of v.seen key r).weight = ap (λ (z : ℕ × ℕ). z.1) (shown_is s v.seen key s.bits 0 key (root_place s) i (root_word s) (omega arith) low) in
     let fits = light f s v.seen kn.book key r low in omega arith
 
--- a root's cut is of a set of keys of so many bits
-pub tree_set : (f : ℕ → ℕ → List (ℕ × ℕ) → List ℕ) (v : View) (i : ℕ) → KnowsTable f v → IsTreeSet (members_of v.shape.bits (root_cut v.shape v.seen i))
-tree_set f v i kn = let cut : Cut = root_cut v.shape v.seen i in let long = cut_long v.shape v.seen v.shape.bits (root_place v.shape) i in
+-- a cut that is no longer than the keys, and whose weights fit, is of a set of keys of so many bits
+cut_set : (f : ℕ → ℕ → List (ℕ × ℕ) → List ℕ) (v : View) (cut : Cut) → KnowsTable f v → length cut ≤ 2 ^ v.shape.bits → ((key : ℕ) → key < 2 ^ v.shape.bits → weight_at cut key < 2 ^ 32) → IsTreeSet (members_of v.shape.bits cut)
+cut_set f v cut kn long light =
     let below : All (λ k. k < 2 ^ v.shape.bits) (set_of_cut cut) =
     All-filter (λ key. eqb (serial_of cut key % 2) 1) (λ k. k < 2 ^ v.shape.bits) (range_with_len 0 (length cut)) (range_below (length cut) 0 (2 ^ v.shape.bits) (omega arith)) in
     let few : 2 ^ v.shape.bits ≤ 2 ^ 16 = pow-le-pow_right (omega arith) kn.laid_out.bits.1 in record {
@@ -80,28 +79,22 @@ tree_set f v i kn = let cut : Cut = root_cut v.shape v.seen i in let long = cut_
         rising = IsStrictlyIncreasing-filter (λ key. eqb (serial_of cut key % 2) 1) (range_with_len 0 (length cut)) (range_rises (length cut));
         below = below;
       };
-      fit = All-map FitsPair (λ k. (k, weight_at cut k)) (set_of_cut cut) (All-weaker (λ k. k < 2 ^ v.shape.bits) (λ k. FitsPair (k, weight_at cut k)) (λ k low. (omega arith, cut_light f v i k kn low)) (set_of_cut cut) below);
+      fit = All-map FitsPair (λ k. (k, weight_at cut k)) (set_of_cut cut) (All-weaker (λ k. k < 2 ^ v.shape.bits) (λ k. FitsPair (k, weight_at cut k)) (λ k low. (omega arith, light k low)) (set_of_cut cut) below);
     }
+
+-- so is a root's
+pub tree_set : (f : ℕ → ℕ → List (ℕ × ℕ) → List ℕ) (v : View) (i : ℕ) → KnowsTable f v → IsTreeSet (members_of v.shape.bits (root_cut v.shape v.seen i))
+tree_set f v i kn = let long = cut_long v.shape v.seen v.shape.bits (root_place v.shape) i in cut_set f v (root_cut v.shape v.seen i) kn (omega arith) (λ key low. cut_light f v i key kn low)
 
 -- ---- the record of a snapshot
 
--- where the first entry with a number stands there is one
-named_there : (l : List Entry) (n : ℕ) → index_named l n < length l → (e : Entry) × (get_elem? l (index_named l n) ≡ some e) × (e.number ≡ n)
-named_there [] n low = absurd (let e : 0 < 0 = low in omega arith)
-named_there (x ∷ xs) n low = ⊎_elim
-    (λ (same : x.number ≡ n). (x, ap (λ (z : Bool). get_elem? (x ∷ xs) (if z then 0 else suc (index_named xs n))) (eq-eqb x.number n same), same))
-    (λ ne. let next : index_named (x ∷ xs) n ≡ suc (index_named xs n) = ap (λ (z : Bool). if z then 0 else suc (index_named xs n)) (ne_eqb x.number n ne) in
-    let t = named_there xs n (omega arith) in (t.0, ap (get_elem? (x ∷ xs)) next ∙ t.1, t.2)) (cases_eq x.number n)
-
--- the view has seen a record of the root with this number
-abbrev pub HasNamed : Shape → Book → ℕ → Type 0
-HasNamed s book number = index_named (history_of book (root_place s)) number < length (history_of book (root_place s))
-
-named_of : (known : Known) (left number : ℕ) → HasSnapshot (pass_facts known left) number → HasNamed known.view.shape known.view.seen number
-named_of known left number has = let long = history_long known.view.shape known.view.seen in omega arith
-
-of_named : (known : Known) (left number : ℕ) → HasNamed known.view.shape known.view.seen number → HasSnapshot (pass_facts known left) number
-of_named known left number has = let long = history_long known.view.shape known.view.seen in omega arith
+-- what a number names that stands nowhere is no set but the empty one
+pub named_set : (f : ℕ → ℕ → List (ℕ × ℕ) → List ℕ) (v : View) (number : ℕ) → KnowsTable f v → IsTreeSet (members_of v.shape.bits (cut_named v.shape v.seen number))
+named_set f v number kn = ⊎_elim
+    (λ (has : HasNamed v.shape v.seen number). subst (λ (z : Cut). IsTreeSet (members_of v.shape.bits z)) (sym (cut_is v.shape v.seen number has)) (tree_set f v (first_place (root_numbers v.shape v.seen) number) kn))
+    (λ (past : length (root_numbers v.shape v.seen) ≤ first_place (root_numbers v.shape v.seen) number). let long = numbers_long v.shape v.seen in
+        subst (λ (z : Cut). IsTreeSet (members_of v.shape.bits z)) (sym (get_or_past (root_history v.shape v.seen) (first_place (root_numbers v.shape v.seen) number) [] (omega arith))) (cut_set f v [] kn (omega arith) (λ key low. omega arith)))
+    (cases_lt (first_place (root_numbers v.shape v.seen) number) (length (root_numbers v.shape v.seen)))
 
 module _ {A B : Type 0} (parts_a : Parts A) (parts_b : Parts B) where
   abbrev both : ℕ → ℕ → List (ℕ × ℕ) → List ℕ
@@ -113,13 +106,13 @@ module _ {A B : Type 0} (parts_a : Parts A) (parts_b : Parts B) where
   -- the top of a snapshot's tree
   pub top_is : (known : Known) (left number : ℕ) → KnowsTable both known.view → HasSnapshot (pass_facts known left) number
       → IsNodeOf known.view.shape known.view.seen (cut_named known.view.shape known.view.seen number) known.view.shape.bits 0 number
-  top_is known left number kn has = let v : View = known.view in let t = named_there (history_of v.seen (root_place v.shape)) number (named_of known left number has) in
+  top_is known left number kn has = let v : View = known.view in let t = named_there v.shape v.seen number has in
       top_node parts_a parts_b v kn.book (cut_named v.shape v.seen number) number (inner_root v kn) record {
-        index = index_named (history_of v.seen (root_place v.shape)) number;
+        index = first_place (root_numbers v.shape v.seen) number;
         entry = t.0;
         at = t.1;
         numbered = sym t.2;
-        cut_is = refl;
+        cut_is = cut_is v.shape v.seen number has;
       }
 
   -- what a load tells of a node makes it a node of the pass
@@ -127,7 +120,7 @@ module _ {A B : Type 0} (parts_a : Parts A) (parts_b : Parts B) where
       → IsNodeOf known.view.shape known.view.seen (cut_named known.view.shape known.view.seen node.snapshot.number) node.level node.place node.word
       → IsTreeOf (summary_of parts_a parts_b) known.view.shape.bits (cut_named known.view.shape known.view.seen node.snapshot.number) node.level node.place node.summary
       → HasNode (summary_of parts_a parts_b) (pass_facts known left) node
-  has_node known left node kn has named tells = record { of_pass = has; is_tree_set = tree_set both known.view (index_named (history_of known.view.seen (root_place known.view.shape)) node.snapshot.number) kn; named = named; tells = tells; weighs = leaf_weighs parts_a parts_b known.view kn (cut_named known.view.shape known.view.seen node.snapshot.number) node.level node.place node.word named }
+  has_node known left node kn has named tells = record { of_pass = has; is_tree_set = named_set both known.view node.snapshot.number kn; named = named; tells = tells; weighs = leaf_weighs parts_a parts_b known.view kn (cut_named known.view.shape known.view.seen node.snapshot.number) node.level node.place node.word named }
 
   -- ---- what a pass keeps as its book grows
 
@@ -141,18 +134,21 @@ module _ {A B : Type 0} (parts_a : Parts A) (parts_b : Parts B) where
     abbrev later : Book
     later = new.view.seen
 
-    same_index : (number : ℕ) → HasNamed s book number → index_named (history_of later (root_place s)) number ≡ index_named (history_of book (root_place s)) number
-    same_index number has = let t = named_there (history_of book (root_place s)) number has in let i = index_named (history_of book (root_place s)) number in
-        subst (λ (z : ℕ). index_named (history_of later (root_place s)) z ≡ i) t.2
-        (index_is both s later (subst (λ (z : Shape). IsBook both z later) shaped kn'.book) (root_place s) i t.0 (inner_root old.view kn) (grows (root_place s) i t.0 t.1))
+    same_index : (number : ℕ) → HasNamed s book number → first_place (root_numbers s later) number ≡ first_place (root_numbers s book) number
+    same_index number has = let t = named_there s book number has in let i = first_place (root_numbers s book) number in
+        subst (λ (z : ℕ). first_place (root_numbers s later) z ≡ i) t.2
+        (index_is both s later (subst (λ (z : Shape). IsBook both z later) shaped kn'.book) i t.0 (inner_root old.view kn) (grows (root_place s) i t.0 t.1))
+
+    still_named : (number : ℕ) → HasNamed s book number → HasNamed s later number
+    still_named number has = let same = same_index number has in let le = no_shorter later book grows (root_place s) in let a = length-map (history_of book (root_place s)) (λ (z : Entry). z.number) in
+        let b = length-map (history_of later (root_place s)) (λ (z : Entry). z.number) in omega arith
 
     snapshot_on : (number : ℕ) → HasSnapshot (pass_facts old left) number → HasSnapshot (pass_facts new rest) number
-    snapshot_on number has = let h = named_of old left number has in let same = same_index number h in let le = no_shorter later book grows (root_place s) in
-        of_named new rest number (subst (λ (z : Shape). HasNamed z later number) (sym shaped) (let e : HasNamed s later number = omega arith in e))
+    snapshot_on number has = subst (λ (z : Shape). HasNamed z later number) (sym shaped) (still_named number has)
 
     cut_on : (number : ℕ) → HasSnapshot (pass_facts old left) number → cut_named new.view.shape later number ≡ cut_named s book number
-    cut_on number has = let h = named_of old left number has in ap (λ (z : Shape). cut_named z later number) shaped ∙ ap (root_cut s later) (same_index number h)
-        ∙ cut_later both s book kn.book later s.bits 0 (root_place s) (index_named (history_of book (root_place s)) number) grows (root_word s) h
+    cut_on number has = let long = numbers_long s book in let same = history_long s book in ap (λ (z : Shape). cut_named z later number) shaped ∙ cut_is s later number (still_named number has) ∙ ap (root_cut s later) (same_index number has)
+        ∙ cut_later both s book kn.book later s.bits 0 (root_place s) (first_place (root_numbers s book) number) grows (root_word s) (omega arith) ∙ sym (cut_is s book number has)
 
     node_on : (node : Node A B) → HasNode (summary_of parts_a parts_b) (pass_facts old left) node → HasNode (summary_of parts_a parts_b) (pass_facts new rest) node
     node_on node has = let number = node.snapshot.number in let both_same : (new.view.shape, cut_named new.view.shape later number) ≡ (s, cut_named s book number) = λ i. (shaped i, cut_on number has.of_pass i) in record {
@@ -173,6 +169,7 @@ module _ {A B : Type 0} (parts_a : Parts A) (parts_b : Parts B) where
       round = refl;
       lane = refl;
       knows = refl;
+      numbers = refl;
       spent = refl;
       steps_stay = (l.more, refl);
       keeps = record {

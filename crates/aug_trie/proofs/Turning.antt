@@ -1,5 +1,5 @@
 -- What contracts see of a turn.
-use Rattle.std.proofs.Common.{◌≡◌, ℕ, zero, suc, ◌+◌, ◌-◌, ◌*◌, ◌^◌, ◌<◌, ◌≤◌, Bool, true, false, if◌then◌else◌, le-ltb, ne_eqb, List, [], ◌∷◌, ◌++◌, length, sym, refl, ap, ◌∙◌, subst, arith}
+use Rattle.std.proofs.Common.{◌≡◌, ℕ, zero, suc, ◌+◌, ◌-◌, ◌*◌, ◌^◌, ◌<◌, ◌≤◌, Bool, true, false, if◌then◌else◌, le-ltb, ne_eqb, List, [], ◌∷◌, ◌++◌, length, sym, refl, ap, ◌∙◌, subst, arith, length-append}
 use Rattle.atomic_table.specs.Seated.{TableId}
 use Rattle.aug_monoid.specs.Parts.{Parts}
 use Rattle.aug_model.specs.Folds.{summary_of}
@@ -13,14 +13,14 @@ use Rattle.aug_core.specs.declared.view.View.{View}
 use Rattle.aug_model.specs.declared.outcome.Outcome.{Outcome}
 use Rattle.aug_trie.specs.Climbing.{Updated}
 use Rattle.aug_trie.specs.Goes.{part_steps}
-use Rattle.aug_trie.specs.Knows.{root_history, knows}
+use Rattle.aug_trie.specs.Knows.{root_history, knows, root_numbers}
 use Rattle.aug_trie.specs.Updates.{ComesTo}
 use Rattle.aug_trie.specs.Facts.{PassFacts, pass_facts, round_of, GoesOn, StepsOf}
 use Rattle.aug_trie.specs.Nodes.{Keeps}
 use Rattle.aug_trie.specs.Points.{OneStep, TryAt, point_turns}
-use Rattle.aug_trie.specs.Requests.{word_after}
+use Rattle.aug_trie.specs.Requests.{word_after, goes_from}
 use Rattle.aug_trie.specs.declared.request.Request.{Request}
-use Rattle.aug_trie.specs.Stages.{IsOnWay, HasBegun, StageAt, part_above, ascent_turns, stage_turns}
+use Rattle.aug_trie.specs.Stages.{IsOnWay, HasBegun, StageAt, part_above, ascent_turns, stage_turns, MayTry, IsRising}
 use Rattle.aug_trie.specs.Turns.{climb_facts, began_facts, start_facts, StepsOnce, TurnsOn, Finishes}
 use Rattle.aug_trie.specs.declared.points.Point.{Point}
 use Rattle.aug_trie.specs.declared.points.Point.TheVariants.{Node, Left, Right, Part, Record}
@@ -31,9 +31,12 @@ use Rattle.aug_trie.proofs.Accepting.{knows_on, comes_to}
 use Rattle.aug_trie.proofs.Advancing.{goes_at}
 use Rattle.aug_trie.proofs.Ascending.{part_is}
 use Rattle.aug_trie.proofs.Passing.{gained_by, goes_on_by, steps_of}
-use Rattle.aug_trie.proofs.Staging.{room_one}
 use Rattle.aug_trie.proofs.Trees.{keeps_on}
 use Rattle.aug_trie.proofs.Updating.{goes_begun}
+use Rattle.std.specs.Prelude.{unwrap_or, slice_index_or, drop}
+use Rattle.std.proofs.lemmas.List.{append_cancel_left}
+use Rattle.aug_core.specs.declared.step.StepTaken.{StepTaken}
+use Rattle.aug_trie.specs.LeafWords.{serial_in_word}
 
 -- ---- the turns that are left
 
@@ -45,6 +48,15 @@ point_few f v q number (Right from left) w t = omega arith
 point_few f v q number (Part r) w t = let nodes = t.is_at.nodes in
     let three : part_steps v.shape (left_of v.shape q) ≡ 3 = ap (λ (z : Bool). if z then 0 else 3) (le-ltb (left_of v.shape q) (2 ^ v.shape.bits) nodes) in omega arith
 point_few f v q number (Record r) w t = omega arith
+
+-- a list that goes on from another is not the same
+made_some : (front all : List StepTaken) (x : StepTaken) (more : List StepTaken) → all ≡ front ++ x ∷ more → all ≡ front → ⊥
+made_some front all x more is same = let a = ap (λ (z : List StepTaken). length z) is in let b = ap (λ (z : List StepTaken). length z) same in let long = length-append front (x ∷ more) in omega arith
+
+-- two lists that go on from one by a load of the same leaf found the same, and go on as each other
+one_load : (key found other : ℕ) (front more rest : List StepTaken) → front ++ load_leaf key found ∷ more ≡ front ++ load_leaf key other ∷ rest → (found ≡ other) × (more ≡ rest)
+one_load key found other front more rest is = let e = append_cancel_left front (load_leaf key found ∷ more) (load_leaf key other ∷ rest) is in
+    (ap (λ (z : List StepTaken). unwrap_or (slice_index_or z 0 (load_leaf key other)).found 0) e, ap (λ (z : List StepTaken). drop 1 z) e)
 
 again_few : (second : Bool) (n : ℕ) → (if second then 0 else n) ≤ n
 again_few true n = omega arith
@@ -74,10 +86,10 @@ module _ (f : ℕ → ℕ → List (ℕ × ℕ) → List ℕ) where
       round = round_of table (record v { shape = b.shaped i; members = b.same_members i });
       lane = b.lane i;
       knows = record { history = root_history (b.shaped i) (began i).seen; accepted = (began i).changes };
+      numbers = root_numbers (b.shaped i) (began i).seen;
       spent = (b.shaped i).updates - left;
       steps = (began i).steps;
-      shape = b.shaped i;
-      seen = (began i).seen;
+      words = record { shape = b.shaped i; book = (began i).seen };
     }
 
     loaded_begun : (v : View) (word : ℕ) → StageAt f leaves bits number left key request u (Change word) v → HasBegun f leaves bits number left key request u v
@@ -98,6 +110,14 @@ module _ (f : ℕ → ℕ → List (ℕ × ℕ) → List ℕ) where
     knows_stage (Change word) v t = (goes_begun f u v key word t.is_pass.knows_table t.is_stage.loaded).knows_table
     knows_stage (Up done a) v t = let o = t.is_stage.on_way in (goes_at f o.begun a.node (number + a.level) a.point v o.try_at).knows_table
 
+    -- the steps since the start: a load of the leaf
+    loaded_steps : (v : View) (word : ℕ) → MayTry f leaves bits number left key request u word v → v.steps ≡ v.began.steps ++ load_leaf key word ∷ []
+    loaded_steps v word m = let l = m.loaded in ap (λ (z : View). z.steps) l.stepped ∙ ap (λ (z : View). z.began.steps ++ load_leaf key word ∷ []) (sym l.stepped)
+
+    -- and all others
+    left_steps : (v : View) (done : Outcome) (a : Ascent) (r : IsRising f leaves bits number left key request u done a v) → v.steps ≡ v.began.steps ++ load_leaf key r.has_left.found ∷ r.has_left.more
+    left_steps v done a r = r.has_left.steps ∙ ap (λ z. z.steps ++ load_leaf key r.has_left.found ∷ r.has_left.more) (sym r.has_begun.began)
+
     -- one step
     pub once : (v w : View) (rest : ℕ) → KnowsTable f v → OneStep v w → StepsOnce (pass_facts (record { table = table; view = v }) left) (pass_facts (record { table = table; view = w }) rest)
     once v w rest kn s = record {
@@ -108,30 +128,26 @@ module _ (f : ℕ → ℕ → List (ℕ × ℕ) → List ℕ) where
       goes_on = knows_on f v w kn s.shaped s.later;
     }
 
-    some_bits : (stage : Stage) (v : View) → StageAt f leaves bits number left key request u stage v → 1 ≤ bits
-    some_bits stage v t = (room_one f u leaves bits number left t.is_pass t.some).2
-
-    bits_start : (stage : Stage) (v : View) (t : StageAt f leaves bits number left key request u stage v) → (start_facts (record { table = table; view = v }) left stage).round.bits ≡ bits
-    bits_start stage v t = ap (λ (z : PassFacts). z.round.bits) (start_is stage v t) ∙ sym t.is_pass.bits_are
-
     -- ---- a turn after which there is more to do
 
     module _ (v w : View) (stage : Stage) (t : StageAt f leaves bits number left key request u stage v) where
       abbrev start : PassFacts
       start = start_facts (record { table = table; view = v }) left stage
 
-      first_loads : (stage : Stage) → StageAt f leaves bits number left key request u stage v → (stage ≡ Leaf → (found : ℕ) × (w.steps ≡ v.steps ++ load_leaf key found ∷ [])) → stage_turns bits stage + 10 ≡ 30 * bits
+      first_loads : (stage : Stage) → StageAt f leaves bits number left key request u stage v → (stage ≡ Leaf → (found : ℕ) × (w.steps ≡ v.steps ++ load_leaf key found ∷ [])) → v.steps ≡ (start_facts (record { table = table; view = v }) left stage).steps
           → (found : ℕ) × (w.steps ≡ v.steps ++ load_leaf key found ∷ [])
       first_loads Leaf t told is = told refl
-      first_loads (Change word) t told is = absurd (let some = some_bits (Change word) v t in let e : 30 * bits - 11 + 10 ≡ 30 * bits = is in omega arith)
-      first_loads (Up done a) t told is = absurd (let few = way_few bits number key t.is_stage.leaf a v t.is_stage.on_way in let e : ascent_turns bits a + 10 ≡ 30 * bits = is in omega arith)
+      first_loads (Change word) t told is = absurd (made_some v.began.steps v.steps (load_leaf key word) [] (loaded_steps v word t.is_stage) is)
+      first_loads (Up done a) t told is = let left = t.is_stage.has_left in absurd (made_some v.began.steps v.steps (load_leaf key left.found) left.more (left_steps v done a t.is_stage) is)
 
-      second_tries : (stage : Stage) → StageAt f leaves bits number left key request u stage v → ((word : ℕ) → stage ≡ Change word → (found : ℕ) × (w.steps ≡ v.steps ++ try_leaf key word (word_after request key word) found ∷ [])) → stage_turns bits stage + 11 ≡ 30 * bits
-          → (loaded found : ℕ) × (v.steps ≡ (start_facts (record { table = table; view = v }) left stage).steps ++ load_leaf key loaded ∷ []) × (w.steps ≡ v.steps ++ try_leaf key loaded (word_after request key loaded) found ∷ [])
-      second_tries Leaf t told is = absurd (let some = some_bits Leaf v t in let e : 30 * bits - 10 + 11 ≡ 30 * bits = is in omega arith)
-      second_tries (Change word) t told is = let x = told word refl in let l = t.is_stage.loaded in
-          (word, x.0, ap (λ (z : View). z.steps) l.stepped ∙ ap (λ (z : View). z.began.steps ++ load_leaf key word ∷ []) (sym l.stepped), x.1)
-      second_tries (Up done a) t told is = absurd (let few = way_few bits number key t.is_stage.leaf a v t.is_stage.on_way in let e : ascent_turns bits a + 11 ≡ 30 * bits = is in omega arith)
+      second_tries : (stage : Stage) → StageAt f leaves bits number left key request u stage v → ((word : ℕ) → stage ≡ Change word → (found : ℕ) × (w.steps ≡ v.steps ++ try_leaf key word (word_after request key word) found ∷ []))
+          → (loaded : ℕ) → v.steps ≡ (start_facts (record { table = table; view = v }) left stage).steps ++ load_leaf key loaded ∷ [] → goes_from request (serial_in_word loaded) ≡ true
+          → (found : ℕ) × (w.steps ≡ v.steps ++ try_leaf key loaded (word_after request key loaded) found ∷ [])
+      second_tries Leaf t told loaded is lets = absurd (made_some v.steps v.steps (load_leaf key loaded) [] is refl)
+      second_tries (Change word) t told loaded is lets = let same = (one_load key word loaded v.began.steps [] [] (sym (loaded_steps v word t.is_stage) ∙ is)).0 in
+          subst (λ (z : ℕ). (found : ℕ) × (w.steps ≡ v.steps ++ try_leaf key z (word_after request key z) found ∷ [])) same (told word refl)
+      second_tries (Up done a) t told loaded is lets = let left = t.is_stage.has_left in let one = one_load key left.found loaded v.began.steps left.more [] (sym (left_steps v done a t.is_stage) ∙ is) in
+          absurd (let some = left.tried (subst (λ (z : ℕ). goes_from request (serial_in_word z) ≡ true) (sym one.0) lets) in let none = ap (λ (z : List StepTaken). length z) one.1 in omega arith)
 
       pub turns_on : (next : Stage) → StageAt f leaves bits number left key request u next w → OneStep v w → stage_turns bits next < stage_turns bits stage → 1 ≤ stage_turns bits next
           → (stage ≡ Leaf → (found : ℕ) × (w.steps ≡ v.steps ++ load_leaf key found ∷ [])) → ((word : ℕ) → stage ≡ Change word → (found : ℕ) × (w.steps ≡ v.steps ++ try_leaf key word (word_after request key word) found ∷ []))
@@ -143,8 +159,8 @@ module _ (f : ℕ → ℕ → List (ℕ × ℕ) → List ℕ) where
         once = once v w left (knows_stage stage v t) step;
         falls = falls;
         some = some;
-        first = λ is. first_loads stage t first (is ∙ ap (λ (z : ℕ). 30 * z) (bits_start stage v t));
-        second = λ is. second_tries stage t second (is ∙ ap (λ (z : ℕ). 30 * z) (bits_start stage v t));
+        first = first_loads stage t first;
+        second = second_tries stage t second;
       }
 
       -- ---- the last turn

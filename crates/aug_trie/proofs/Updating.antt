@@ -27,7 +27,7 @@ use Rattle.aug_trie.specs.Stages.{MayRise, HasRisen}
 use Rattle.aug_trie.specs.declared.request.Request.{Request}
 use Rattle.aug_trie.proofs.Going.{room_on, goes_on, goes_after, goes_beginning, goes_seeing, goes_changing}
 use Rattle.aug_trie.proofs.LeafWords.{serial_of_leaf, weight_of_leaf}
-use Rattle.aug_trie.proofs.Requesting.{is_advance, from_word, outcome_is, serial_is, weight_is}
+use Rattle.aug_trie.proofs.Requesting.{is_advance, from_word, outcome_is, serial_is, weight_is, way_found, way_next}
 
 newest_shows : (s : Shape) (book : Book) (key index n : ℕ) (e : Entry) → IsNewest book key index e → n ≤ index → NewestShows s book key 0 n
 newest_shows s book key index n e newest le = record { index = index; entry = e; newest = newest; shows = ((e, newest.at), le) }
@@ -112,11 +112,9 @@ module _ (f : ℕ → ℕ → List (ℕ × ℕ) → List ℕ) where
       tried = λ lets. absurd (false≢true (sym other ∙ lets));
       refusing = λ _. (refl, between.took.no_try);
       came_to = record {
-        number = serial_in_word word;
-        stands = record { found_it = λ _. refl; next = λ lets. absurd (false≢true (sym other ∙ lets)) };
         goes = goes_on f 0 used used [] v w0 w (omega arith) (omega arith) first goes;
         before = at_most v w0 key word low loaded;
-        shown = subst (λ (z : Shape × ℕ). NewestShows z.0 w.seen key z.1 (serial_in_word word)) (λ i. (shaped0 i, is i))
+        shown = subst (λ (z : Shape × ℕ × ℕ). NewestShows z.0 w.seen key z.1 z.2) (λ i. (shaped0 i, is i, sym (way_found request (serial_in_word word) other) i))
             (lifts.lifted (serial_in_word word) (newest_shows w0.shape w0.seen key loaded.index (serial_in_word word) loaded.entry loaded.newest (omega (arith, at_leaf))));
       };
     }
@@ -164,11 +162,9 @@ module _ (f : ℕ → ℕ → List (ℕ × ℕ) → List ℕ) where
 
         stayed : tried.found ≢ word → Stayed f (number + bits) v key request w (serial_in_word word)
         stayed other = let miss = told.miss (missed other) in let past = miss.1 in let serial = serial_is request key word in record {
-          number = serial_in_word word + 1;
-          stands = record { found_it = λ not. absurd (false≢true (sym not ∙ lets)); next = λ _. refl };
           goes = goes_on f 0 used used [] v w1 w (omega arith) (omega arith) (goes_on f 0 0 0 [] v w0 w1 (omega arith) (omega arith) first (goes_seeing f w0 w1 _ miss.0 first.knows_table told.sees)) r.goes;
           before = at_most v w0 key word low loaded;
-          shown = shown_up (serial_in_word word + 1) (omega (arith, past, serial));
+          shown = subst (NewestShows v.shape w.seen key v.shape.bits) (sym (way_next request (serial_in_word word) lets)) (shown_up (serial_in_word word + 1) (omega (arith, past, serial)));
         }
 
         by_replaces : (b : Bool) → a.replaces ≡ b → WentUp f (number + bits) v key request w a → CameTo f (number + bits) v key request w word (if b then Replaced else Accepted)

@@ -12,7 +12,7 @@ use Rattle.aug_model.specs.declared.outcome.Outcome.{Outcome}
 use Rattle.aug_model.specs.declared.outcome.Outcome.TheVariants as outcome
 use Rattle.aug_trie.specs.Goes.{Goes, TryNoLeaf}
 use Rattle.aug_trie.specs.LeafWords.{serial_in_word}
-use Rattle.aug_trie.specs.Requests.{goes_from, advance_from, word_after, outcome_by}
+use Rattle.aug_trie.specs.Requests.{goes_from, in_the_way, advance_from, word_after, outcome_by}
 use Rattle.aug_trie.specs.declared.request.Request.{Request}
 
 -- the second step is an exchange of the word that was loaded for the one that the request makes of it, and the outcome says whether it succeeded;
@@ -31,11 +31,6 @@ pub record WeighsAt (book : Book) (key serial weight : ℕ) : Type 0 where
   pub at : At book key serial entry
   pub weighs : entry.weight ≡ weight
 
--- the serial that stands in an update's way: the one that was found, if it does not go on from it, and else the next one
-pub record StandsInWay (request : Request) (found number : ℕ) : Type 0 where
-  pub found_it : goes_from request found ≡ false → number ≡ found
-  pub next : goes_from request found ≡ true → number ≡ found + 1
-
 module _ (face : ℕ → ℕ → List (ℕ × ℕ) → List ℕ) (used : ℕ) (v : View) (key : ℕ) (request : Request) (w : View) where
   -- the key's serial went up as the request says, which are changes of the view, and the root shows it with its weight; what it went past it never shows
   pub record WentUp (a : Advance) : Type 0 where
@@ -48,11 +43,9 @@ module _ (face : ℕ → ℕ → List (ℕ × ℕ) → List ℕ) (used : ℕ) (v
 
   -- a serial of the key stood in the update's way, which the root shows
   pub record Stayed (found : ℕ) : Type 0 where
-    pub number : ℕ
-    pub stands : StandsInWay request found number
     pub goes : Goes face used [] v w
     pub before : ShowsAtMost v.shape v.seen key found
-    pub shown : NewestShows v.shape w.seen key v.shape.bits number
+    pub shown : NewestShows v.shape w.seen key v.shape.bits (in_the_way request found)
 
   -- what an update came to whose leaf had this word when it was loaded
   abbrev pub CameTo : ℕ → Outcome → Type 0

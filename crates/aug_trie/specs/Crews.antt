@@ -1,8 +1,10 @@
 -- What contracts see of a crew and of a trie at rest; how a round begins, and how its passes come and go.
-use Rattle.std.specs.Prelude.{◌≡◌, ℕ, ◌+◌, ◌%◌, ◌^◌, ◌<◌, ◌≤◌, List, [], ◌∷◌, length, unwrap_or}
+use Rattle.std.specs.Prelude.{◌≡◌, ℕ, ◌+◌, ◌%◌, ◌^◌, ◌<◌, ◌≤◌, List, [], ◌∷◌, ◌++◌, length, unwrap_or}
 use Rattle.aug_core.specs.Counts.{changes_of}
 use Rattle.aug_core.specs.Cuts.{opening_cut, pairs_of_cut}
 use Rattle.aug_model.specs.Keys.{SetFacts}
+use Rattle.aug_core.specs.Kinds.{load_node}
+use Rattle.aug_core.specs.declared.step.StepTaken.{StepTaken}
 use Rattle.aug_core.specs.declared.view.View.{View}
 use Rattle.aug_words.specs.Seats.{Known}
 use Rattle.aug_words.specs.Rests.{AtRest}
@@ -10,13 +12,14 @@ use Rattle.aug_trie.specs.History.{IsHistory, last_cut}
 use Rattle.aug_trie.specs.Knowledge.{Knowledge, IsKnowledge, inserts_of, removals_of}
 use Rattle.aug_trie.specs.Knows.{knows}
 use Rattle.aug_trie.specs.Passes.{HandedOut, HandedBack}
-use Rattle.aug_trie.specs.Facts.{RoundFacts, PassFacts, round_of, IsCrew}
+use Rattle.aug_trie.specs.Facts.{RoundFacts, PassFacts, round_of, root_of, IsCrew}
 use Rattle.aug_trie.specs.Tallies.{TalliesWithLost}
 
--- a crew: its round, what it knows, and how many passes it handed out and took back
+-- a crew: its round, what it knows, its atomic steps, and how many passes it handed out and took back
 pub record CrewFacts : Type 0 where
   pub round : RoundFacts
   pub knows : Knowledge
+  pub steps : List StepTaken
   pub handed : ℕ
   pub back : ℕ
 
@@ -46,7 +49,7 @@ pub record IsEmptyTrie (bits : ℕ) (ended : EndedFacts) : Type 0 where
 
 -- the crew whose seat knows this
 abbrev pub crew_facts : Known → CrewFacts
-crew_facts known = record { round = round_of known.table known.view; knows = knows known.view; handed = unwrap_or known.view.spare 0; back = length known.view.held }
+crew_facts known = record { round = round_of known.table known.view; knows = knows known.view; steps = known.view.steps; handed = unwrap_or known.view.spare 0; back = length known.view.held }
 
 -- what a crew's fields keep: its counters are those of its changes, in 32 bits
 pub record HoldsCrew (face : ℕ → ℕ → List (ℕ × ℕ) → List ℕ) (v : View) (back inserts removals : ℕ) : Type 0 where
@@ -69,7 +72,12 @@ pub record BeginsRound (ended : EndedFacts) (bits workers updates : ℕ) (round 
   pub none_out : crew.handed ≡ 0
   pub none_back : crew.back ≡ 0
 
--- the crew hands out its next lane
+-- the crew's one step loads the root's word
+pub record LoadsRoot (old new : CrewFacts) : Type 0 where
+  pub found : ℕ
+  pub step : new.steps ≡ old.steps ++ load_node (root_of old.round) found ∷ []
+
+-- the crew hands out its next lane, after it loaded the root
 pub record HandsOut (old new : CrewFacts) (pass : PassFacts) : Type 0 where
   pub knows : HandedOut old.knows new.knows pass.knows
   pub round : new.round ≡ old.round
@@ -80,13 +88,17 @@ pub record HandsOut (old new : CrewFacts) (pass : PassFacts) : Type 0 where
   pub same_back : new.back ≡ old.back
   pub fresh : pass.spent ≡ 0
   pub knowledge : IsKnowledge pass.round.bits pass.round.members pass.knows
+  pub named : length pass.numbers ≡ length pass.knows.history
+  pub loads : LoadsRoot old new
 
--- the crew takes a pass back
+-- the crew takes a pass back, and then loads the root
 pub record TakesBack (old new : CrewFacts) (pass : PassFacts) : Type 0 where
   pub knows : HandedBack old.knows pass.knows new.knows
   pub round : new.round ≡ old.round
   pub one_more : new.back ≡ old.back + 1
   pub same_handed : new.handed ≡ old.handed
+  pub knowledge : IsKnowledge new.round.bits new.round.members new.knows
+  pub loads : LoadsRoot old new
 
 -- a round ends: its set is that of the last cut that the crew knows; the changes that the crew knows, with lists of those of the passes that did not come back,
 -- are all that happened from the opening cut to that one; and the counts are the crew's

@@ -1,11 +1,11 @@
 -- What contracts see of a round, of its crew and its passes, and of snapshots and nodes.
-use Rattle.std.specs.Prelude.{◌≡◌, ℕ, ◌+◌, ◌-◌, ◌*◌, ◌^◌, ◌<◌, ◌≤◌, true, false, Option, Some, unwrap_or, List, [], ◌∷◌, ◌++◌, length, suc, ◌==◌, if◌then◌else◌}
+use Rattle.std.specs.Prelude.{◌≡◌, ℕ, ◌+◌, ◌-◌, ◌*◌, ◌^◌, ◌<◌, ◌≤◌, true, false, Option, Some, unwrap_or, List, [], ◌∷◌, ◌++◌, length, slice_index_or}
 use Rattle.atomic_table.specs.Seated.{TableId}
 use Rattle.aug_core.specs.Places.{Shape}
 use Rattle.aug_core.specs.Tree.{root_place}
-use Rattle.aug_core.specs.Book.{Book, At, history_of}
+use Rattle.aug_core.specs.Book.{Book, At}
 use Rattle.aug_core.specs.Counts.{changes_of}
-use Rattle.aug_core.specs.Cuts.{Cut}
+use Rattle.aug_core.specs.Cuts.{Cut, serial_of}
 use Rattle.aug_core.specs.EntryCuts.{entry_of, root_cut, IsPartOfCut}
 use Rattle.aug_core.specs.Kinds.{load_leaf}
 use Rattle.aug_core.specs.Told.{KnowsTable, own_lane, spent}
@@ -18,11 +18,11 @@ use Rattle.aug_model.specs.declared.outcome.Outcome.{Outcome}
 use Rattle.aug_model.specs.declared.outcome.Outcome.TheVariants.{Refused}
 use Rattle.aug_trie.specs.Climbing.{Tried}
 use Rattle.aug_trie.specs.LeafWords.{serial_in_word}
-use Rattle.aug_trie.specs.Requests.{goes_from}
+use Rattle.aug_trie.specs.Requests.{goes_from, in_the_way}
 use Rattle.aug_trie.specs.declared.request.Request.{Request}
-use Rattle.aug_trie.specs.History.{Begins}
+use Rattle.aug_trie.specs.History.{Begins, last_cut}
 use Rattle.aug_trie.specs.Knowledge.{Knowledge, IsKnowledge}
-use Rattle.aug_trie.specs.Knows.{knows, KnowsRound}
+use Rattle.aug_trie.specs.Knows.{knows, root_numbers, first_place, KnowsRound}
 
 -- a round: its table, the bits of its keys, the set that it opened with, its lanes, the updates of each, and for how many members it was laid out
 pub record RoundFacts : Type 0 where
@@ -33,15 +33,21 @@ pub record RoundFacts : Type 0 where
   pub updates : ℕ
   pub room : ℕ
 
--- a pass: its round and lane, what it knows, how many updates it made, its atomic steps, and the layout and the book that its snapshots are read from
+-- the words that the nodes of a pass's snapshots are read from: how they are laid out, and what they said. A caller hands this on as it is, and never looks into it
+pub record WordsSeen : Type 0 where
+  pub shape : Shape
+  pub book : Book
+
+-- a pass: its round and lane, what it knows, for each cut of its history the number of the root's record that shows it, how many updates it made, its atomic
+-- steps, and the words that it has seen
 pub record PassFacts : Type 0 where
   pub round : RoundFacts
   pub lane : ℕ
   pub knows : Knowledge
+  pub numbers : List ℕ
   pub spent : ℕ
   pub steps : List StepTaken
-  pub shape : Shape
-  pub seen : Book
+  pub words : WordsSeen
 
 -- the round of a table that was opened so
 abbrev pub round_of : TableId → View → RoundFacts
@@ -62,16 +68,20 @@ store_round store = record {
 abbrev pub known_in : Option Known → Known
 known_in words = unwrap_or words (record { table = record { words = 0; slots = 0; views_name = 0; atom = 0; block = 0; offset = 0; slot_names = [] }; view = spent })
 
+-- the place of the root's word in a round's table
+abbrev pub root_of : RoundFacts → ℕ
+root_of round = 2 ^ (round.bits + 1) - 2
+
 -- a pass with what its seat knows, and so many updates left
 abbrev pub pass_facts : Known → ℕ → PassFacts
 pass_facts known left = record {
   round = round_of known.table known.view;
   lane = own_lane known.view.held;
   knows = knows known.view;
+  numbers = root_numbers known.view.shape known.view.seen;
   spent = known.view.shape.updates - left;
   steps = known.view.steps;
-  shape = known.view.shape;
-  seen = known.view.seen;
+  words = record { shape = known.view.shape; book = known.view.seen };
 }
 
 -- the pass is in the same round and lane, after so many further updates and steps
@@ -82,9 +92,11 @@ pub record GoesOn (updates steps : ℕ) (old new : PassFacts) : Type 0 where
   pub step_count : length new.steps ≡ length old.steps + steps
   pub steps_stay : Begins old.steps new.steps
   pub knowledge : IsKnowledge new.round.bits new.round.members new.knows
+  pub named : length new.numbers ≡ length new.knows.history
 
 -- an update's steps: so many at least and at most; the first loads the key's leaf; where the serial found refuses, no leaf is exchanged, and else the
--- second step is the only exchange, of the word found for the one that the request makes of it, and the outcome says whether it succeeded
+-- second step is the only exchange, of the word found for the one that the request makes of it, and the outcome says whether it succeeded. After a refusal the last
+-- cut shows what stood in the way, so the steps brought it to the root
 pub record StepsOf (request : Request) (key : ℕ) (done : Outcome) (old new : PassFacts) : Type 0 where
   pub found : ℕ
   pub more : List StepTaken
@@ -93,23 +105,19 @@ pub record StepsOf (request : Request) (key : ℕ) (done : Outcome) (old new : P
   pub most_steps : length more + 1 + 10 ≤ 30 * old.round.bits
   pub refuses : goes_from request (serial_in_word found) ≡ false → (done ≡ Refused) × TryNoLeaf more
   pub tries : goes_from request (serial_in_word found) ≡ true → Tried request key found more done
+  pub shows : done ≡ Refused → in_the_way request (serial_in_word found) ≤ serial_of (last_cut new.knows.history) key
 
--- where the first entry with the number stands
-abbrev pub index_named : List Entry → ℕ → ℕ
-index_named [] number = 0
-index_named (e ∷ es) number = if e.number == number then 0 else suc (index_named es number)
-
--- where the root's entry with the number stands, as far as the pass has seen
+-- where a snapshot's number stands among those of the pass's cuts
 abbrev pub snapshot_index : PassFacts → ℕ → ℕ
-snapshot_index pass number = index_named (history_of pass.seen (root_place pass.shape)) number
+snapshot_index pass number = first_place pass.numbers number
 
--- the cut that a snapshot shows, which is of a record of the root
-abbrev pub snapshot_cut : PassFacts → ℕ → Cut
-snapshot_cut pass number = root_cut pass.shape pass.seen (snapshot_index pass number)
-
--- the snapshot is the pass's: it has seen the record as the root's
+-- the snapshot is the pass's: its number is that of one of the pass's cuts
 abbrev pub HasSnapshot : PassFacts → ℕ → Type 0
-HasSnapshot pass number = snapshot_index pass number < length pass.knows.history
+HasSnapshot pass number = snapshot_index pass number < length pass.numbers
+
+-- the cut that a snapshot shows: the one of the pass's history that has its number
+abbrev pub snapshot_cut : PassFacts → ℕ → Cut
+snapshot_cut pass number = slice_index_or pass.knows.history (snapshot_index pass number) []
 
 -- the number is that of an entry of the root, whose cut is this
 pub record IsSnapshotOf (s : Shape) (book : Book) (number : ℕ) (cut : Cut) : Type 0 where

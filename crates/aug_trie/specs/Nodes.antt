@@ -1,26 +1,29 @@
 -- What contracts see of the nodes of a snapshot's tree, and what a walk leaves as it was.
-use Rattle.std.specs.Prelude.{◌≡◌, ℕ, ◌+◌, ◌≤◌, List, ◌++◌, length}
+use Rattle.std.specs.Prelude.{◌≡◌, ℕ, ◌+◌, ◌≤◌, List, [], ◌++◌, length, slice_index_or, ◌<◌}
 use Rattle.aug_model.specs.declared.summary.Summary.{Summary}
 use Rattle.aug_model.specs.Keys.{SetFacts}
 use Rattle.aug_model.specs.Queries.{weight_in}
 use Rattle.aug_query.specs.Tree.{IsTreeSet}
 use Rattle.aug_core.specs.Places.{Shape}
-use Rattle.aug_core.specs.Tree.{root_place}
-use Rattle.aug_core.specs.Book.{Book, history_of}
+use Rattle.aug_core.specs.Book.{Book}
 use Rattle.aug_core.specs.Cuts.{Cut}
-use Rattle.aug_core.specs.EntryCuts.{root_cut}
 use Rattle.aug_core.specs.declared.step.StepTaken.{StepTaken}
 use Rattle.aug_core.specs.declared.view.View.{View}
 use Rattle.aug_trie.specs.History.{Begins}
+use Rattle.aug_trie.specs.Knows.{root_history, root_numbers, first_place}
 use Rattle.aug_trie.specs.LeafWords.{weight_in_word}
 use Rattle.aug_trie.specs.TreeOf.{members_of, IsTreeOf}
-use Rattle.aug_trie.specs.Facts.{PassFacts, index_named, HasSnapshot, snapshot_cut, IsNodeOf}
+use Rattle.aug_trie.specs.Facts.{PassFacts, HasSnapshot, snapshot_cut, IsNodeOf}
 use Rattle.aug_trie.specs.declared.node.Node.{Node}
 use Rattle.aug_trie.specs.declared.snapshot.Snapshot.{Snapshot}
 
--- the cut of the root's first entry with the number
+-- the cut that the root's record with the number shows
 abbrev pub cut_named : Shape → Book → ℕ → Cut
-cut_named s book number = root_cut s book (index_named (history_of book (root_place s)) number)
+cut_named s book number = slice_index_or (root_history s book) (first_place (root_numbers s book) number) []
+
+-- the root has a record with this number
+abbrev pub HasNamed : Shape → Book → ℕ → Type 0
+HasNamed s book number = first_place (root_numbers s book) number < length (root_numbers s book)
 
 -- the set that a snapshot of the pass shows, with its bits
 abbrev pub set_at : PassFacts → Snapshot → SetFacts
@@ -37,7 +40,7 @@ module _ {A B : Type 0} (summary_of : List (ℕ × ℕ) → Summary A B) where
   pub record HasNode (pass : PassFacts) (node : Node A B) : Type 0 where
     pub of_pass : HasSnapshot pass node.snapshot.number
     pub is_tree_set : IsTreeSet (set_at pass node.snapshot)
-    pub named : IsNodeOf pass.shape pass.seen (snapshot_cut pass node.snapshot.number) node.level node.place node.word
+    pub named : IsNodeOf pass.words.shape pass.words.book (snapshot_cut pass node.snapshot.number) node.level node.place node.word
     pub tells : IsTreeOf summary_of pass.round.bits (snapshot_cut pass node.snapshot.number) node.level node.place node.summary
     pub weighs : node.level ≡ 0 → weight_in_word node.word ≡ weight_in (set_at pass node.snapshot).pairs node.place
 
@@ -53,6 +56,7 @@ module _ {A B : Type 0} (summary_of : List (ℕ × ℕ) → Summary A B) where
     pub round : new.round ≡ old.round
     pub lane : new.lane ≡ old.lane
     pub knows : new.knows ≡ old.knows
+    pub numbers : new.numbers ≡ old.numbers
     pub spent : new.spent ≡ old.spent
     pub steps_stay : Begins old.steps new.steps
     pub keeps : Keeps old new

@@ -1,5 +1,5 @@
 -- What an update is asked to do, and what it makes of a leaf.
-use Rattle.std.specs.Prelude.{ℕ, ◌%◌, ◌^◌, ◌<◌, ⊤, ◌==◌, Bool, true, false, if◌then◌else◌}
+use Rattle.std.specs.Prelude.{ℕ, ◌+◌, ◌%◌, ◌^◌, ◌<◌, ⊤, ◌==◌, Bool, true, false, if◌then◌else◌}
 use Rattle.aug_core.specs.declared.view.Advance.{Advance}
 use Rattle.aug_core.specs.Told.{new_word}
 use Rattle.aug_model.specs.declared.outcome.Outcome.{Outcome}
@@ -19,6 +19,10 @@ abbrev pub goes_from : Request → ℕ → Bool
 goes_from Insert serial = serial % 2 == 0
 goes_from Remove serial = serial % 2 == 1
 goes_from (Put weight) serial = true
+
+-- the serial that stands in the way of an update that is refused: the one that was found, or where it would have gone on from that, the next one
+abbrev pub in_the_way : Request → ℕ → ℕ
+in_the_way request serial = if goes_from request serial then serial + 1 else serial
 
 -- what it makes of a leaf with this word: a put of a key that is there replaces it
 abbrev pub advance_from : Request → ℕ → ℕ → Advance

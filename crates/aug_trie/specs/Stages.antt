@@ -1,5 +1,5 @@
 -- An update, step by step: what was done of it at each stage.
-use Rattle.std.specs.Prelude.{◌≡◌, ℕ, suc, ◌+◌, ◌-◌, ◌*◌, ◌^◌, ◌<◌, ◌≤◌, ◌==◌, Bool, false, true, if◌then◌else◌, List, [], length, Option, Some, None}
+use Rattle.std.specs.Prelude.{◌≡◌, ℕ, suc, ◌+◌, ◌-◌, ◌*◌, ◌^◌, ◌<◌, ◌≤◌, ◌==◌, Bool, false, true, if◌then◌else◌, List, [], length, Option, Some, None, ◌∷◌, ◌++◌}
 use Rattle.aug_core.specs.Tree.{left_of}
 use Rattle.aug_core.specs.Book.{history_of}
 use Rattle.aug_core.specs.Counts.{changes_of}
@@ -20,6 +20,8 @@ use Rattle.aug_trie.specs.declared.stages.Stage.{Stage}
 use Rattle.aug_trie.specs.declared.stages.Stage.TheVariants.{Leaf, Change, Up}
 use Rattle.aug_trie.specs.declared.stages.Next.{Next}
 use Rattle.aug_trie.specs.declared.stages.Next.TheVariants.{More, Done}
+use Rattle.aug_core.specs.Kinds.{load_leaf}
+use Rattle.aug_core.specs.declared.step.StepTaken.{StepTaken}
 
 module _ (face : ℕ → ℕ → List (ℕ × ℕ) → List ℕ) where
   -- a try at the node that failed
@@ -95,10 +97,18 @@ module _ (face : ℕ → ℕ → List (ℕ × ℕ) → List ℕ) where
       pub loaded : BeginsAtLeaf face u key word w
       pub lets : goes_from request (serial_in_word word) ≡ true
 
+    -- its leaf was loaded, and exchanged where what was found let it go on
+    pub record HasLeft (w : View) : Type 0 where
+      pub found : ℕ
+      pub more : List StepTaken
+      pub steps : w.steps ≡ u.steps ++ load_leaf key found ∷ more
+      pub tried : goes_from request (serial_in_word found) ≡ true → 1 ≤ length more
+
     -- it is on its way, and will be an update when it has come to the root
     pub record IsRising (done : Outcome) (a : Ascent) (w : View) : Type 0 where
       pub leaf : View
       pub has_begun : HasBegun w
+      pub has_left : HasLeft w
       pub finish : (z : View) → HasRisen bits number key leaf bits z → Updated face (number + bits) u key request z done
       pub on_way : IsOnWay bits number key leaf a w
 

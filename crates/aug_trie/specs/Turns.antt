@@ -1,5 +1,5 @@
 -- What contracts see of an update that is made by single turns.
-use Rattle.std.specs.Prelude.{◌≡◌, ℕ, ◌+◌, ◌-◌, ◌*◌, ◌<◌, ◌≤◌, List, [], ◌∷◌, ◌++◌}
+use Rattle.std.specs.Prelude.{◌≡◌, ℕ, ◌+◌, ◌-◌, ◌*◌, ◌<◌, ◌≤◌, List, [], ◌∷◌, ◌++◌, true}
 use Rattle.aug_core.specs.Counts.{changes_of}
 use Rattle.aug_core.specs.Kinds.{load_leaf, try_leaf}
 use Rattle.aug_core.specs.Told.{own_lane}
@@ -8,15 +8,16 @@ use Rattle.aug_core.specs.declared.view.View.{View}
 use Rattle.aug_words.specs.Seats.{Known}
 use Rattle.aug_trie.specs.Counted.{HasCounts}
 use Rattle.aug_trie.specs.History.{Begins}
-use Rattle.aug_trie.specs.Knows.{root_history}
+use Rattle.aug_trie.specs.Knows.{root_history, root_numbers}
 use Rattle.aug_trie.specs.Updates.{ComesTo}
 use Rattle.aug_trie.specs.Facts.{PassFacts, round_of, pass_facts, GoesOn, StepsOf}
 use Rattle.aug_model.specs.declared.outcome.Outcome.{Outcome}
-use Rattle.aug_trie.specs.Requests.{word_after}
+use Rattle.aug_trie.specs.Requests.{word_after, goes_from}
 use Rattle.aug_trie.specs.declared.request.Request.{Request}
 use Rattle.aug_trie.specs.Stages.{StageAt, stage_turns}
 use Rattle.aug_trie.specs.declared.stages.Stage.{Stage}
 use Rattle.aug_trie.specs.declared.stages.Stage.TheVariants.{Leaf, Change, Up}
+use Rattle.aug_trie.specs.LeafWords.{serial_in_word}
 
 -- an update by turns: its pass as it was at the start and as it is now, what it was asked to do, its key, and how many turns are left at most
 pub record ClimbFacts : Type 0 where
@@ -32,10 +33,10 @@ began_facts known left = record {
   round = round_of known.table known.view;
   lane = own_lane known.view.held;
   knows = record { history = root_history known.view.shape known.view.began.seen; accepted = known.view.began.changes };
+  numbers = root_numbers known.view.shape known.view.began.seen;
   spent = known.view.shape.updates - left;
   steps = known.view.began.steps;
-  shape = known.view.shape;
-  seen = known.view.began.seen;
+  words = record { shape = known.view.shape; book = known.view.began.seen };
 }
 
 -- and as it was at the start: before the first step it is so still
@@ -78,8 +79,9 @@ pub record TurnsOn (old new : ClimbFacts) : Type 0 where
   pub once : StepsOnce old.now new.now
   pub falls : new.left < old.left
   pub some : 1 ≤ new.left
-  pub first : old.left + 10 ≡ 30 * old.start.round.bits → (found : ℕ) × (new.now.steps ≡ old.now.steps ++ load_leaf old.key found ∷ [])
-  pub second : old.left + 11 ≡ 30 * old.start.round.bits → (loaded found : ℕ) × (old.now.steps ≡ old.start.steps ++ load_leaf old.key loaded ∷ []) × (new.now.steps ≡ old.now.steps ++ try_leaf old.key loaded (word_after old.request old.key loaded) found ∷ [])
+  pub first : old.now.steps ≡ old.start.steps → (found : ℕ) × (new.now.steps ≡ old.now.steps ++ load_leaf old.key found ∷ [])
+  pub second : (loaded : ℕ) → old.now.steps ≡ old.start.steps ++ load_leaf old.key loaded ∷ [] → goes_from old.request (serial_in_word loaded) ≡ true
+      → (found : ℕ) × (new.now.steps ≡ old.now.steps ++ try_leaf old.key loaded (word_after old.request old.key loaded) found ∷ [])
 
 -- the last turn: what the update comes to from what was known at the start to what is known now, and it is one of the pass's budget
 pub record Finishes (done : Outcome) (old : ClimbFacts) (pass : PassFacts) : Type 0 where

@@ -22,6 +22,7 @@ module _ {A B : Type 0} (summary_of : List (ℕ × ℕ) → Summary A B) where
     round = refl;
     lane = refl;
     knows = refl;
+    numbers = refl;
     spent = refl;
     steps_stay = ([], sym (append-nil p.steps));
     keeps = record { snapshots = λ s has. has; same_cuts = λ s has. refl; same_sets = λ s has. refl; nodes = λ node has. has };
@@ -32,6 +33,7 @@ module _ {A B : Type 0} (summary_of : List (ℕ × ℕ) → Summary A B) where
     round = b.round ∙ a.round;
     lane = b.lane ∙ a.lane;
     knows = b.knows ∙ a.knows;
+    numbers = b.numbers ∙ a.numbers;
     spent = b.spent ∙ a.spent;
     steps_stay = (a.steps_stay.0 ++ b.steps_stay.0, b.steps_stay.1 ∙ ap (λ (z : List StepTaken). z ++ b.steps_stay.0) a.steps_stay.1 ∙ append_assoc p.steps a.steps_stay.0 b.steps_stay.0);
     keeps = record {

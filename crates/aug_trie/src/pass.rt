@@ -1,12 +1,13 @@
 //! A pass of a round: it updates the set and looks at it.
-ghost use Rattle.std.specs.Prelude.{◌≡◌, ℕ, ◌+◌, ◌*◌, ◌^◌, ◌<◌, ◌≤◌};
+ghost use Rattle.std.specs.Prelude.{◌≡◌, ℕ, ◌+◌, ◌*◌, ◌^◌, ◌<◌, ◌≤◌, [], ◌∷◌, ◌++◌};
 ghost use Rattle.std.specs.Bool.{OnTrue, OnFalse};
 ghost use Rattle.aug_trie.specs.Knowledge.{IsKnowledge, insertion, removal, inserts_of, removals_of};
 ghost use Rattle.aug_trie.specs.Updates.{AcceptedUpdate, RefusedUpdate, ComesTo, PutsIn, TakesSnapshot};
 ghost use Rattle.aug_model.specs.Folds.{summary_of};
 ghost use Rattle.aug_trie.specs.Nodes.{Keeps};
 ghost use Rattle.aug_trie.specs.Requests.{FitsRequest, answered};
-ghost use Rattle.aug_trie.specs.Facts.{GoesOn, StepsOf, HasSnapshot, snapshot_cut};
+ghost use Rattle.aug_core.specs.Kinds.{load_node};
+ghost use Rattle.aug_trie.specs.Facts.{root_of, GoesOn, StepsOf, HasSnapshot, snapshot_cut};
 
 use crate::request::{Request, insertions_by, removals_by};
 use crate::snapshot::Snapshot;
@@ -119,6 +120,7 @@ impl<'r, A: Monoid, B: Monoid> Pass<'r, A, B> {
         ensures takes { TakesSnapshot self.old.knows self.new.knows (snapshot_cut self.new result.number) }
         ensures known { HasSnapshot self.new result.number }
         ensures goes_on { GoesOn 0 1 self.old self.new }
+        ensures step { self.new.steps ≡ self.old.steps ++ load_node (root_of self.old.round) result.number ∷ [] }
         ensures keeps { Keeps (summary_of A.parts B.parts) self.old self.new }
     {
         let Some(mut words) = self.words.take() else {

@@ -18,7 +18,7 @@ use Rattle.aug_model.proofs.Ranges.{Rises, rises_from, all_below_from, count_few
 use Rattle.aug_core.specs.Places.{Shape, shape_of, own_records, lane_place, record_start, word_count}
 use Rattle.aug_core.specs.Tree.{place_count, IsInner, left_of, right_of, level_start, level_of, place_on}
 use Rattle.aug_core.specs.Lanes.{IsOfLane, block_start, block_size}
-use Rattle.aug_core.specs.Opening.{Opening, opening_leaf_word, members_below, pairs_below, has_members, own_before, number_at, opening_pairs, opening_number, opening_words}
+use Rattle.aug_core.specs.Opening.{Opening, opening_leaf_word, members_below, pairs_below, has_members, own_before, number_at, opening_pairs, opening_number, opening_words, shared_words}
 use Rattle.aug_core.specs.Faces.{face}
 use Rattle.aug_core.proofs.FaceLemmas.{face_is}
 use Rattle.aug_core.proofs.Sizes.{twice, own_more}
@@ -28,7 +28,7 @@ use Rattle.aug_core.specs.Rule.{Kept, newcomer}
 use Rattle.atomic_table.specs.Table.{opening}
 use Rattle.aug_core.proofs.Openings.{opens}
 use Rattle.aug_words.specs.declared.building.Plan.{Plan}
-use Rattle.aug_words.specs.Builds.{WritesFive, MarksMembers, IsMarked, nodes_from, next_own, shared_words, IsOwn, HasRecord, IsReady, IsBuilt, IsNextNode}
+use Rattle.aug_words.specs.Builds.{WritesFive, MarksMembers, IsMarked, nodes_from, next_own, IsOwn, HasRecord, IsReady, IsBuilt, IsNextNode}
 
 -- ---- the members below a place
 
@@ -172,7 +172,7 @@ has_by_children o up l p least x y few leaf node ex ey =
 
 module _ (face : ℕ → ℕ → List (ℕ × ℕ) → List ℕ) (o : Opening) (up : Rises (keys_of o.members)) where
   -- the record that a level's nodes share is that of each with no members below
-  pub shared_is : (q l p : ℕ) → OnLevel o.shape q (suc l) p → has_members o (suc l) p ≡ false → shared_words face o l ≡ opening_words face o q
+  pub shared_is : (q l p : ℕ) → OnLevel o.shape q (suc l) p → has_members o (suc l) p ≡ false → shared_words face l ≡ opening_words face o q
   shared_is q l p a none = let c = over_children o.shape q l p a in let zero_all = no_keys o (suc l) p none in
       let split = ap length (below_both o up l p) in let sum = length-append (members_below o l (2 * p)) (members_below o l (2 * p + 1)) in
       let left = number_is o (left_of o.shape q) l (2 * p) c.0 ∙ number_none o up l (2 * p) (omega arith) in
@@ -223,12 +223,12 @@ module _ (face : ℕ → ℕ → List (ℕ × ℕ) → List ℕ) (o : Opening) (
       } (λ k small. ap (λ (z : ℕ). get_or mid (record_start o.shape z + k) 0) e ∙ writes.written k small ∙ ap (λ (z : List ℕ). get_or z k 0) words)
 
   -- one shared record more
-  pub shared_more : (l : ℕ) (old new five : List ℕ) → l < o.shape.bits → IsBuilt face o l (2 ^ o.shape.bits) old → WritesFive old new (record_start o.shape l) five → five ≡ shared_words face o l → IsBuilt face o (l + 1) (2 ^ o.shape.bits) new
+  pub shared_more : (l : ℕ) (old new five : List ℕ) → l < o.shape.bits → IsBuilt face o l (2 ^ o.shape.bits) old → WritesFive old new (record_start o.shape l) five → five ≡ shared_words face l → IsBuilt face o (l + 1) (2 ^ o.shape.bits) new
   shared_more l old new five few built writes is = let t = twice o.shape.bits in record {
     long = writes.long ∙ built.long;
     named = λ q low. writes.before q (omega arith) ∙ built.named q low;
     shared = λ i low k small. ⊎_elim
-        (λ same. subst (λ (z : ℕ). get_or new (record_start o.shape z + k) 0 ≡ get_or (shared_words face o z) k 0) (sym same) (writes.written k small ∙ ap (λ (z : List ℕ). get_or z k 0) is))
+        (λ same. subst (λ (z : ℕ). get_or new (record_start o.shape z + k) 0 ≡ get_or (shared_words face z) k 0) (sym same) (writes.written k small ∙ ap (λ (z : List ℕ). get_or z k 0) is))
         (λ other. writes.before (record_start o.shape i + k) (omega arith) ∙ built.shared i (omega arith) k small) (cases_eq i l);
     records = λ q past low. absurd (omega arith);
     idle = λ number k unused small. let own = unused.own in writes.behind (record_start o.shape number + k) (omega arith) ∙ built.idle number k unused small;
@@ -416,7 +416,7 @@ next_more o l p has = let e : p + 1 ≡ suc p = omega arith in let f = ap (own_b
 pub built_opens : (face : ℕ → ℕ → List (ℕ × ℕ) → List ℕ) (o : Opening) (words : List ℕ) → IsKeySet o.shape.bits (keys_of o.members) → All FitsPair o.members → length (keys_of o.members) ≤ o.shape.members
     → IsBuilt face o o.shape.bits (place_count o.shape) words → Kept face o (opening words [] (newcomer face o))
 built_opens face o words set fit few built =
-    opens face o words (rises o set) fit few built.long built.named (λ q k inner small. built.records q inner.past_leaves inner.inside k small) built.idle built.lanes
+    opens face o words (rises o set) fit few built.long built.named (λ q k inner small. built.records q inner.past_leaves inner.inside k small) (λ level k low small. built.shared level low k small) built.idle built.lanes
     (λ lane low k small. built.blocks lane k low small ∙ sym (get_or-replicate (block_size o.shape) k 0 0 small))
 
 -- ---- the tests' table: 2 bits, 3 workers, 2 updates and 2 members have 5 opening records

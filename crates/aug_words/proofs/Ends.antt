@@ -24,6 +24,7 @@ module _ (face : ℕ → ℕ → List (ℕ × ℕ) → List ℕ) (o : Opening) w
     pub shows_all : (id : ℕ) (v : View) → get_elem? s.views id ≡ some v → ShowAll face o v s.words
     shows_all id v at = let kn = r.each_view id v at in record {
       opening_records = λ q field inner small. r.tree.written q 0 field (opening_entry face o q) inner (opening_at q inner) small;
+      shared_records = λ level field low small. r.tree.shared level field low small;
       idle_records = λ number field is small. r.tree.idle number field is small;
       seen_records = λ q i field e inner p small. r.tree.written q i field e inner (kn.saw q i e p) small;
       lanes = λ a h p. (kn.holds a h p).state;

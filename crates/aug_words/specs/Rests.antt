@@ -8,7 +8,7 @@ use Rattle.aug_core.specs.Places.{Shape, lane_place, record_start, word_count}
 use Rattle.aug_core.specs.Tree.{IsInner}
 use Rattle.aug_core.specs.Lanes.{IsOfLane}
 use Rattle.aug_core.specs.Book.{At}
-use Rattle.aug_core.specs.Opening.{Opening, IsIdle, opening_number, opening_words}
+use Rattle.aug_core.specs.Opening.{Opening, IsIdle, opening_number, opening_words, shared_words}
 use Rattle.aug_core.specs.Rule.{Kept}
 use Rattle.aug_core.specs.Told.{held_word}
 use Rattle.aug_core.specs.declared.view.Entry.{Entry}
@@ -40,7 +40,9 @@ module _ (face : ℕ → ℕ → List (ℕ × ℕ) → List ℕ) (o : Opening) (
   pub record ShowAll : Type 0 where
     -- the words of a node's opening record, its own one or the empty one of its level, say what was there below it at the opening
     pub opening_records : (q field : ℕ) → IsInner o.shape q → field < 5 → slice_index words (record_start o.shape (opening_number o q) + field) ≡ slice_index (opening_words face o q) field
-    -- and those of an opening record that no node opened with are zeros
+    -- so do those of each level's empty record, also where no node opened with it: it counts nothing
+    pub shared_records : (level field : ℕ) → level < o.shape.bits → field < 5 → slice_index words (record_start o.shape level + field) ≡ slice_index (shared_words face level) field
+    -- and those of an own opening record that no node opened with are zeros
     pub idle_records : (number field : ℕ) → IsIdle o number → field < 5 → slice_index words (record_start o.shape number + field) ≡ 0
     -- the words of every record that the view has seen are its entry's
     pub seen_records : (q i field : ℕ) (e : Entry) → IsInner o.shape q → At v.seen q i e → field < 5 → slice_index words (record_start o.shape e.number + field) ≡ slice_index e.words field

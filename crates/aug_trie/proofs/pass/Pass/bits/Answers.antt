@@ -1,14 +1,12 @@
 use Rattle.std.proofs.Common.{Option, ap, sym, subst, ◌∙◌}
 use Rattle.aug_query.specs.Tree.{IsTreeSet}
-use Rattle.aug_core.specs.Book.{history_of}
 use Rattle.aug_core.specs.Faces.{face}
-use Rattle.aug_core.specs.Tree.{root_place}
 use Rattle.aug_words.specs.Seats.{Known}
-use Rattle.aug_trie.specs.Facts.{PassFacts, index_named, pass_facts, known_in}
+use Rattle.aug_trie.specs.Facts.{PassFacts, pass_facts, known_in}
 use Rattle.aug_trie.specs.Nodes.{set_at}
-use Rattle.aug_trie.proofs.Trees.{tree_set}
+use Rattle.aug_trie.proofs.Trees.{named_set}
 use Rattle.aug_trie.proofs.pass.Pass.bits.Goals as goal
 
 pub returns-clause-sets : goal.returns-clause-sets
 returns-clause-sets g c s has = let i = c.self.inside in let h = c.self.invariant.0 in let facts = ap (λ (z : Option Known). pass_facts (known_in z) i.left) (sym h.there) ∙ c.self.view_is in
-    subst (λ (z : PassFacts). IsTreeSet (set_at z s)) facts (tree_set (face g.A.Monoid.parts g.B.Monoid.parts) h.known.view (index_named (history_of h.known.view.seen (root_place h.known.view.shape)) s.number) h.is_pass.knows_table)
+    subst (λ (z : PassFacts). IsTreeSet (set_at z s)) facts (named_set (face g.A.Monoid.parts g.B.Monoid.parts) h.known.view s.number h.is_pass.knows_table)

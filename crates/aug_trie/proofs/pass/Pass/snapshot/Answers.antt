@@ -1,7 +1,8 @@
-use Rattle.std.proofs.Common.{Option, Some, rules, subst, sym, refl, ◌≡◌, ℕ}
+use Rattle.std.proofs.Common.{Option, Some, rules, subst, sym, refl, ◌≡◌, ℕ, [], ◌∷◌, ◌++◌}
 use Rattle.atomic_table.specs.Seated.{TableId}
 use Rattle.aug_core.specs.Faces.{face}
 use Rattle.aug_core.specs.Counts.{changes_of}
+use Rattle.aug_core.specs.Kinds.{load_node}
 use Rattle.aug_core.specs.Told.{LoadsNode}
 use Rattle.aug_core.specs.declared.view.View.{View}
 use Rattle.aug_words.specs.Seats.{Known}
@@ -10,12 +11,12 @@ use Rattle.aug_trie.specs.Knows.{knows}
 use Rattle.aug_trie.specs.Counted.{HasCounts}
 use Rattle.aug_model.specs.Folds.{summary_of}
 use Rattle.aug_trie.specs.Nodes.{Keeps}
-use Rattle.aug_trie.specs.Facts.{PassFacts, pass_facts, known_in, snapshot_cut, GoesOn}
+use Rattle.aug_trie.specs.Facts.{PassFacts, pass_facts, known_in, root_of, snapshot_cut, GoesOn}
 use Rattle.aug_trie.proofs.Going.{goes_seeing}
 use Rattle.aug_trie.proofs.Counters.{counted_still}
 use Rattle.aug_trie.proofs.Trees.{keeps_on}
 use Rattle.aug_trie.proofs.Passing.{pass_told}
-use Rattle.aug_trie.proofs.Snapshots.{pass_still, root_node, takes_snapshot, has_snapshot, looked_on}
+use Rattle.aug_trie.proofs.Snapshots.{pass_still, root_node, takes_snapshot, has_snapshot, loads_root, looked_on}
 use Rattle.aug_trie.proofs.pass.Pass.snapshot.Goals as goal
 
 pub load_node-number-requires : goal.load_node-number-requires
@@ -54,6 +55,13 @@ returns-clause-goes_on g c = let f = face g.A.Monoid.parts g.B.Monoid.parts in l
     let w : View = c.load_node-number.new.self.view in let r = c.load_node-number.result in let l = subst (λ (z : ℕ). LoadsNode f v z r w) (sym root.1) c.load_node-number.ensures.view in
     subst (λ (z : PassFacts × TableId). GoesOn 0 1 z.0 (pass_facts (record { table = z.1; view = w }) i.left)) (λ j. (facts j, sym c.load_node-number.ensures.table j))
     (looked_on f v w r i.leaves i.bits i.next i.left p l k.table (goes_seeing f v w _ l.stepped p.knows_table l.sees))
+
+pub returns-clause-step : goal.returns-clause-step
+returns-clause-step g c = let f = face g.A.Monoid.parts g.B.Monoid.parts in let i = c.self.inside in let k : Known = c.in-Some.words in let v : View = k.view in
+    let value = c.take.ensures.value in let found = c.in-Some.is in let there : i.words ≡ Some k = search rules in
+    let t = pass_told f i.words k i.leaves i.bits i.next i.left c.args.self.now c.self.invariant.0 there c.self.view_is in let p = t.0 in let facts = t.1 in let root = root_node f v i.leaves i.bits i.next i.left p in
+    let w : View = c.load_node-number.new.self.view in let r = c.load_node-number.result in let l = subst (λ (z : ℕ). LoadsNode f v z r w) (sym root.1) c.load_node-number.ensures.view in
+    subst (λ (z : PassFacts). w.steps ≡ z.steps ++ load_node (root_of z.round) r ∷ []) facts (loads_root f v w r i.leaves i.bits i.next i.left p l)
 
 pub returns-clause-keeps : goal.returns-clause-keeps
 returns-clause-keeps g c = let f = face g.A.Monoid.parts g.B.Monoid.parts in let i = c.self.inside in let k : Known = c.in-Some.words in let v : View = k.view in

@@ -16,8 +16,8 @@ use aug_query::Calls;
 use std::alloc::{AllocError, Global};
 
 impl<'r, A: Monoid, B: Monoid> Pass<'r, A, B> {
-    /// The tree of a snapshot, for a query of one's own. Contracts know nothing of the pass once the view is gone, so
-    /// where it is used again call the queries below.
+    /// The tree of a snapshot, for a query of one's own. Contracts know nothing of the pass once a view is gone that came from here: to use
+    /// the pass again, write the [`View`] out.
     pub fn view<'p>(&'p mut self, s: Snapshot) -> View<'p, 'r, A, B>
         requires { HasSnapshot self.old s.number }
         ensures same_reference { result.pass.ghost_name ≡ self.entry.ghost_name }

@@ -16,11 +16,16 @@ use aug_monoid::Monoid;
 use aug_query::{Calls, Tree};
 use std::alloc::{AllocError, Global};
 
-/// The tree of a snapshot of a pass, which the pass walks.
+/// The tree of a snapshot of a pass, which the pass walks. For a query of one's own over [`Tree`] write it out, as
+/// `View { pass: &mut pass, snapshot, calls: Calls::new() }`: then contracts know what became of the pass once the view is gone. What a query
+/// keeps of it is `KeepsPass`: at most four steps for each call of the tree, and nothing learnt.
 pub struct View<'p, 'r, A: Monoid, B: Monoid> {
-    pub(crate) pass: &'p mut Pass<'r, A, B>,
-    pub(crate) snapshot: Snapshot,
-    pub(crate) calls: Calls,
+    /// The pass, which is borrowed while the view is there.
+    pub pass: &'p mut Pass<'r, A, B>,
+    /// A snapshot of this pass.
+    pub snapshot: Snapshot,
+    /// How often the tree was called, which contracts alone know.
+    pub calls: Calls,
     pub ghost of_pass: { HasSnapshot pass.now snapshot.number },
 }
 

@@ -346,7 +346,7 @@ class Outside(Sweeps):
         if os.getuid() != 0:
             return {}
         os.chmod(self.folder, 0o755)
-        self.program = shutil.copy(self.program, self.folder)
+        self.program = os.path.join(".", os.path.basename(shutil.copy(self.program, self.folder)))
         return {"user": NOBODY, "group": NOBODY, "extra_groups": []}
 
     def test_odd_names_of_files_that_are_not_there(self):

@@ -6,6 +6,7 @@ usage: tests/refusals.py
 
 A place is an `AllocError`, `AllocFailed` or `OutOfMemory` that stands as a value, in code that is no test: an answer that is passed on
 by `?` is none. It is told by its file, its function and all that it stands in, so that a place whose condition changes is a new one.
+A body that asks for more memory than there can be is not seen here, but by the sweeps of tests/outside.py.
 tests/refusals.txt has three lines for each: the file and the function, the place, and why. The last line of the output is
 'N passed, M failed', and the exit status is 0 where none failed. It needs Python 3.8 or later.
 """

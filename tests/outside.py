@@ -1,5 +1,6 @@
 #!/usr/bin/env python3
-"""Runs the built program as its user does, and compares what it writes and its exit status with texts written by hand.
+"""Runs the built program as its user does, and compares what it writes and its exit status with texts written by hand, and in the sweeps
+with a small model.
 
 usage: tests/outside.py PROGRAM..
 

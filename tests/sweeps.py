@@ -63,10 +63,10 @@ class Sweeps:
         self.assertGreater(ran, 2499)
 
     def test_sweep_of_reports_of_each_size(self):
-        sizes = range(100, 2600)
+        sizes = [size for size in numbers(2600, 1 << 17) if size >= 100]
         line, end = (lambda number: len(f"{number} 0 size = 0\n")), (lambda number: len(f"{number} end size=0 in=0 out=0\n"))
         rounds = [rows_of_size(line(number), size - end(number)) for number, size in enumerate(sizes, 1)]
-        self.assertEqual([len(report) for report in reports_of(rounds)], [*sizes])
+        self.assertEqual([len(report) for report in reports_of(rounds)], sizes)
         self.run_rounds("", rounds)
 
     def test_sweep_of_rounds(self):

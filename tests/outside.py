@@ -1,5 +1,6 @@
 #!/usr/bin/env python3
-"""Runs the built program as its user does, and compares what it writes and its exit status with texts written by hand.
+"""Runs the built program as its user does, and compares what it writes and its exit status with texts written by hand, and in the sweeps
+with a small model.
 
 usage: tests/outside.py PROGRAM..
 
@@ -7,24 +8,33 @@ Every test of a program runs once for each PROGRAM. The last line is 'N passed, 
 It needs Python 3.9 or later and the toolchain, whose C compiler makes the library that refuses memory and threads.
 """
 
+import array
 import concurrent.futures
+import fcntl
 import glob
 import os
 import re
 import resource
+import shutil
 import subprocess
 import sys
 import tempfile
+import termios
+import time
 import unittest
 
 import programs
 from refusing import Refusing
+from sweeps import Sweeps
 
 TOP = os.path.dirname(os.path.dirname(os.path.abspath(__file__)))
 EXAMPLES = os.path.join(TOP, "examples")
 
 # The most seconds that one run of the program gets.
 SECONDS = 60
+
+# The user and the group of nobody.
+NOBODY = 65534
 
 # The most bytes that a script may have.
 SCRIPT_LIMIT = 16777216
@@ -219,25 +229,47 @@ FAULTY_SCRIPTS = [
     ("fault_behind_good_rows", "", FIRST + b"\n0,insert,16\n0,fly\n", b"row 9: OutOfRange"),
 ]
 
-# Words that the command line does not take: a name, the words and how the parser's text begins.
+# How the parser's texts end.
+TRY_HELP = b"\nFor more information, try '--help'.\n"
+USAGE = b"\nUsage: augtrie [OPTIONS] [FILE]\n" + TRY_HELP
+
+SECOND_FILE = b"error: unexpected argument 'other.csv' found\n" + USAGE
+
+# Words that the command line does not take: a name, the words and the parser's whole text.
 BAD_WORDS = [
-    ("unknown_option", ["--lanes", "3"], b"error: unexpected argument '--lanes' found\n"),
-    ("second_file", ["first.csv", "other.csv"], b"error: unexpected argument 'other.csv' found\n"),
-    ("option_without_its_value", ["--bits"], b"error: a value is required for '--bits <H>' but none was supplied\n"),
-    ("option_twice", ["--bits", "3", "--bits", "3"], b"error: the argument '--bits <H>' cannot be used multiple times\n"),
-    ("bits_of_0", ["--bits", "0"], b"error: invalid value '0' for '--bits <H>': 0 is not in 1..=16\n"),
-    ("bits_of_17", ["--bits=17"], b"error: invalid value '17' for '--bits <H>': 17 is not in 1..=16\n"),
-    ("bits_of_a_letter", ["--bits", "x"], b"error: invalid value 'x' for '--bits <H>': invalid digit found in string\n"),
-    ("workers_of_0", ["--workers", "0"], b"error: invalid value '0' for '--workers <W>': 0 is not in 1..="),
-    ("workers_of_65", ["--workers", "65"], b"error: invalid value '65' for '--workers <W>': 65 is not in 1..="),
-    ("updates_of_0", ["--updates", "0"], b"error: invalid value '0' for '--updates <U>': 0 is not in 1..=65536\n"),
-    ("updates_of_65537", ["--updates", "65537"], b"error: invalid value '65537' for '--updates <U>': 65537 is not in 1..=65536\n"),
-    ("words_before_the_file", ["--bits", "17", "missing.csv"], b"error: invalid value '17' for '--bits <H>'"),
-    ("word_that_is_no_utf_8", [b"\xff"], b"error: "),
+    (
+        "unknown_option",
+        ["--lanes", "3"],
+        b"error: unexpected argument '--lanes' found\n\n  tip: to pass '--lanes' as a value, use '-- --lanes'\n" + USAGE,
+    ),
+    ("second_file", ["first.csv", "other.csv"], SECOND_FILE),
+    ("option_without_its_value", ["--bits"], b"error: a value is required for '--bits <H>' but none was supplied\n" + TRY_HELP),
+    ("option_twice", ["--bits", "3", "--bits", "3"], b"error: the argument '--bits <H>' cannot be used multiple times\n" + USAGE),
+    ("bits_of_0", ["--bits", "0"], b"error: invalid value '0' for '--bits <H>': 0 is not in 1..=16\n" + TRY_HELP),
+    ("bits_of_17", ["--bits=17"], b"error: invalid value '17' for '--bits <H>': 17 is not in 1..=16\n" + TRY_HELP),
+    ("bits_of_a_letter", ["--bits", "x"], b"error: invalid value 'x' for '--bits <H>': invalid digit found in string\n" + TRY_HELP),
+    ("workers_of_0", ["--workers", "0"], b"error: invalid value '0' for '--workers <W>': 0 is not in 1..=64\n" + TRY_HELP),
+    ("workers_of_65", ["--workers", "65"], b"error: invalid value '65' for '--workers <W>': 65 is not in 1..=64\n" + TRY_HELP),
+    ("updates_of_0", ["--updates", "0"], b"error: invalid value '0' for '--updates <U>': 0 is not in 1..=65536\n" + TRY_HELP),
+    (
+        "updates_of_65537",
+        ["--updates", "65537"],
+        b"error: invalid value '65537' for '--updates <U>': 65537 is not in 1..=65536\n" + TRY_HELP,
+    ),
+    (
+        "words_before_the_file",
+        ["--bits", "17", "missing.csv"],
+        b"error: invalid value '17' for '--bits <H>': 17 is not in 1..=16\n" + TRY_HELP,
+    ),
+    ("word_that_is_no_utf_8", [b"\xff"], b"error: a word of the command line is no UTF-8\n"),
+    ("word_that_is_no_utf_8_behind_good_ones", ["--bits", "4", "first.csv", b"a\xc3"], b"error: a word of the command line is no UTF-8\n"),
 ]
 
+# As many words as the options and the file are.
+ALL_WORDS = ["--bits", "4", "--workers", "1", "--updates", "64", "first.csv"]
 
-class Outside:
+
+class Outside(Sweeps):
     """The tests of one built program, in a folder with some scripts, which is made anew for each test."""
 
     program = None
@@ -262,11 +294,6 @@ class Outside:
         words = [self.program, *words]
         ran = subprocess.run(words, cwd=self.folder, stdout=stdout, stderr=stderr, timeout=SECONDS, **given)
         return ran.stdout, ran.stderr, ran.returncode
-
-    def assert_is_usage_fault(self, ended, beginning):
-        out, err, status = ended
-        self.assertEqual((out, status), (b"", 2), err)
-        self.assertTrue(err.startswith(beginning), err)
 
     # Where the script comes from.
 
@@ -308,6 +335,84 @@ class Outside:
         self.addCleanup(os.close, folder)
         self.assertEqual(self.run_on([], stdin=folder), INPUT_FAULT)
 
+    def test_file_that_may_not_be_read(self):
+        self.write("secret.csv", FIRST)
+        os.chmod(os.path.join(self.folder, "secret.csv"), 0)
+        stranger = self.as_stranger()
+        self.assertEqual(self.run_on(["first.csv"], OTHER, **stranger), (FIRST_REPORT, b"", 0))
+        self.assertEqual(self.run_on(["secret.csv"], OTHER, **stranger), INPUT_FAULT)
+
+    def as_stranger(self):
+        """How to run the program with no more than a user's rights: as nobody, who can reach a copy of it, where the tests run as root."""
+        if os.getuid() != 0:
+            return {}
+        os.chmod(self.folder, 0o755)
+        self.program = os.path.join(".", os.path.basename(shutil.copy(self.program, self.folder)))
+        return {"user": NOBODY, "group": NOBODY, "extra_groups": []}
+
+    def test_odd_names_of_files_that_are_not_there(self):
+        for name in ("", "-", " ", " first.csv", "first.csv ", " first.csv ", "\tfirst.csv", "first.csv\n", "First.csv", "first.csv/"):
+            self.assertEqual(self.run_on([name], FIRST), INPUT_FAULT, repr(name))
+            self.assertEqual(self.run_on(["--bits", "4", "--", name], FIRST), INPUT_FAULT, repr(name))
+
+    def test_odd_names_of_files_that_are_there(self):
+        for name in ("-", " ", " first.csv", "first.csv ", " first.csv ", "first.csv\n", "é.csv", "x" * 255):
+            self.write(name, OTHER)
+            self.assertEqual(self.run_on([name], FIRST), (OTHER_REPORT, b"", 0), repr(name))
+
+    def test_as_many_words_as_there_are(self):
+        self.assertEqual(self.run_on(ALL_WORDS, OTHER), (FIRST_REPORT, b"", 0))
+        self.assertEqual(self.run_on([*ALL_WORDS[:-1], "--", "first.csv"], OTHER), (FIRST_REPORT, b"", 0))
+
+    def test_more_words_than_there_are(self):
+        for more in (1, 2, 3, 10, 100, 1000):
+            self.assertEqual(self.run_on([*ALL_WORDS, *["other.csv"] * more]), (b"", SECOND_FILE, 2), f"{more} more")
+        self.assertEqual(self.run_on([*ALL_WORDS[:-1], "--", "first.csv", "other.csv"]), (b"", SECOND_FILE, 2))
+        self.assertEqual(self.run_on([*ALL_WORDS, "--help"]), (HELP, b"", 0))
+
+    def test_script_that_comes_in_pieces_by_a_pipe(self):
+        for pieces, report in self.pieces():
+            reader, writer = os.pipe()
+            with os.fdopen(reader, "rb") as script:
+                self.assertEqual(self.feed(writer, pieces, [], stdin=script), (report, b"", 0))
+
+    def test_script_that_comes_in_pieces_by_a_named_pipe(self):
+        path = os.path.join(self.folder, "pipe.csv")
+        os.mkfifo(path)
+        for pieces, report in self.pieces():
+            # both ends, so that nobody waits for the other
+            writer = os.open(path, os.O_RDWR)
+            self.assertEqual(self.feed(writer, pieces, ["pipe.csv"], stdin=subprocess.DEVNULL), (report, b"", 0))
+
+    def pieces(self):
+        """Scripts in pieces, each with its report."""
+        long = b"0,size\n" * 10000
+        yield [FIRST[:30], FIRST[30:]], FIRST_REPORT
+        yield [FIRST[place : place + 1] for place in range(len(FIRST))], FIRST_REPORT
+        for size in (4096, 8191, 8192, 8193):
+            parts = [long[place : place + size] for place in range(0, len(long), size)]
+            yield parts, b"1 0 size = 0\n" * 10000 + b"1 end size=0 in=0 out=0\n"
+
+    def feed(self, writer, pieces, words, stdin):
+        """Runs the program, and writes each piece to its pipe once it has read the one before."""
+        streams = {"stdin": stdin, "stdout": subprocess.PIPE, "stderr": subprocess.PIPE}
+        with subprocess.Popen([self.program, *words], cwd=self.folder, env={}, **streams) as running:
+            end = time.monotonic() + SECONDS
+            for piece in pieces:
+                if running.poll() is None:
+                    os.write(writer, piece)
+                while count_unread(writer) and running.poll() is None:
+                    if time.monotonic() > end:
+                        running.kill()
+                    time.sleep(0.0005)
+            os.close(writer)
+            out, err = running.communicate(timeout=SECONDS)
+            return out, err, running.returncode
+
+    def test_closed_standard_input(self):
+        self.assertEqual(self.run_on([], FIRST, preexec_fn=closing(0)), INPUT_FAULT)
+        self.assertEqual(self.run_on(["first.csv"], OTHER, preexec_fn=closing(0)), (FIRST_REPORT, b"", 0))
+
     def test_script_at_its_limit(self):
         self.write("long.csv", b"\n" * SCRIPT_LIMIT)
         self.assertEqual(self.run_on(["long.csv"]), (b"", b"", 0))
@@ -348,6 +453,22 @@ class Outside:
         self.addCleanup(os.close, writer)
         _, err, status = self.run_on(["first.csv"], stdout=writer)
         self.assertEqual((b"", err, status), OUTPUT_FAULT)
+
+    def test_closed_standard_output(self):
+        self.assertEqual(self.run_on([], FIRST, preexec_fn=closing(1)), OUTPUT_FAULT)
+        self.assertEqual(self.run_on(["first.csv"], preexec_fn=closing(1)), OUTPUT_FAULT)
+        self.assertEqual(self.run_on(["--help"], preexec_fn=closing(1)), (b"", b"", 0))
+        self.assertEqual(self.run_on(["empty.csv"], preexec_fn=closing(1)), (b"", b"", 0))
+
+    def test_closed_standard_error(self):
+        self.assertEqual(self.run_on(["first.csv"], preexec_fn=closing(2)), (FIRST_REPORT, b"", 0))
+        for words, status in (["--lanes"], 2), (["missing.csv"], 3), (["--bits", "1", "first.csv"], 1):
+            self.assertEqual(self.run_on(words, preexec_fn=closing(2)), (b"", b"", status))
+
+    def test_all_streams_closed(self):
+        for words, status in ([], 3), (["first.csv"], 3), (["--lanes"], 2), (["--help"], 0):
+            self.assertEqual(self.run_on(words, preexec_fn=closing(0, 1, 2)), (b"", b"", status))
+        self.assertEqual(read(os.path.join(self.folder, "first.csv")), FIRST)
 
     def test_help_to_a_full_device(self):
         self.assertEqual(self.to_full_device(["--help"], "stdout"), (b"", b"", 0))
@@ -429,6 +550,14 @@ class Outside:
         room = lambda: resource.setrlimit(resource.RLIMIT_AS, (700 << 20, 700 << 20))
         words = ["--bits", "16", "--workers", "64", "--updates", "13017", "first.csv"]
         self.assertEqual(self.run_on(words, preexec_fn=room), MEMORY_FAULT)
+
+    def test_user_who_may_start_no_thread(self):
+        stranger = self.as_stranger()
+        one = lambda: resource.setrlimit(resource.RLIMIT_NPROC, (1, 1))
+        self.assertEqual(self.run_on(["first.csv"], **stranger), (FIRST_REPORT, b"", 0))
+        for words in ["first.csv"], ["--workers", "64", "first.csv"]:
+            self.assertEqual(self.run_on(words, **stranger, preexec_fn=one), MEMORY_FAULT)
+        self.assertEqual(self.run_on(["empty.csv"], **stranger, preexec_fn=one), (b"", b"", 0))
 
     def test_each_start_of_a_thread_refused(self):
         refusing = Refusing(self.folder)
@@ -551,9 +680,8 @@ def make_tests():
         add(f"good_{name}", options.split(), script, (report, b"", 0))
     for name, options, script, line in FAULTY_SCRIPTS:
         add(f"faulty_{name}", options.split(), script, (b"", b"augtrie: " + line + b"\n", 1))
-    for name, words, beginning in BAD_WORDS:
-        test = lambda self, words=words, beginning=beginning: self.assert_is_usage_fault(self.run_on(words, FIRST), beginning)
-        setattr(Outside, f"test_words_{name}", test)
+    for name, words, text in BAD_WORDS:
+        add(f"words_{name}", words, FIRST, (b"", text, 2))
     for file in sorted(os.listdir(EXAMPLES)):
         name, kind = os.path.splitext(file)
         if kind == ".csv":
@@ -571,6 +699,18 @@ def run_example(test, name):
     wanted = (read(f"{path}.out"), b"", 0)
     test.assertEqual(test.run_on([*words, f"{path}.csv"], FIRST), wanted)
     test.assertEqual(test.run_on(words, read(f"{path}.csv")), wanted)
+
+
+def closing(*streams):
+    """What closes some streams of the program before it begins."""
+    return lambda: [os.close(stream) for stream in streams]
+
+
+def count_unread(pipe):
+    """How many bytes of a pipe nobody has read yet."""
+    count = array.array("i", [0])
+    fcntl.ioctl(pipe, termios.FIONREAD, count)
+    return count[0]
 
 
 def read(path):

@@ -1,0 +1,204 @@
+#!/usr/bin/env python3
+"""Holds the places of the crates that answer want of memory to a list. No contract sees what memory there is, so a body may refuse
+whatever it likes for want of memory: whoever adds such an answer says in the list why it comes only where a request was refused.
+
+usage: tests/refusals.py
+
+A place is an `AllocError`, `AllocFailed` or `OutOfMemory` that stands as a value, in code that is no test: an answer that is passed on
+by `?` is none. It is told by its file, its function and all that it stands in, so that a place whose condition changes is a new one.
+A body that asks for more memory than there can be is not seen here, but by the sweeps of tests/outside.py.
+tests/refusals.txt has three lines for each: the file and the function, the place, and why. The last line of the output is
+'N passed, M failed', and the exit status is 0 where none failed. It needs Python 3.8 or later.
+"""
+
+import collections
+import glob
+import os
+import re
+import sys
+
+TESTS = os.path.dirname(os.path.abspath(__file__))
+TOP = os.path.dirname(TESTS)
+LIST = os.path.join(TESTS, "refusals.txt")
+
+# What stands for want of memory; `started` is what `start_all` answers where the start of a thread was refused.
+WANT = re.compile(r"\b(AllocError|AllocFailed|OutOfMemory|Err\(started\))(?!\w)")
+
+# Comments, texts and characters.
+NO_CODE = re.compile(r"""//[^\n]*|"(?:\\.|[^"\\])*"|'(?:\\.[^']*|[^'\\])'""", re.DOTALL)
+
+# What begins a part that makes no value, up to its `;` or its closing brace.
+PARTS = re.compile(r"\bghost\b|\b(?:requires|ensures|invariant)\b[^{;=]*(?=\{)|\buse\b|\benum\b|#\[cfg\(test\)\]\s*|#\[test\]\s*")
+
+# A module of tests that has a file of its own.
+TEST_MODULE = re.compile(r"#\[cfg\(test\)\]\s*mod\s+(\w+)\s*;")
+
+# A place: its file, its function, and what it stands in, from the outermost.
+Place = collections.namedtuple("Place", "file function code")
+
+
+def end_of_part(code, begin):
+    """The end of the part that begins there: behind its `;`, or behind the brace that closes it where no `;` is to follow."""
+    depth = 0
+    needs_end = code.startswith(("ghost", "use"), begin)
+    for at in range(begin, len(code)):
+        depth += {"{": 1, "}": -1}.get(code[at], 0)
+        if depth == 0 and (code[at] == ";" or code[at] == "}" and not needs_end):
+            return at + 1
+    return len(code)
+
+
+def code_of(text):
+    """The text without comments, texts, contracts, imports, declarations of enums and tests."""
+    code = NO_CODE.sub(lambda found: '""' if found[0][0] == '"' else " ", text)
+    begin = PARTS.search(code)
+    while begin:
+        code = f"{code[:begin.start()]} {code[end_of_part(code, begin.start()):]}"
+        begin = PARTS.search(code, begin.start())
+    return code
+
+
+def is_value(code, found):
+    """Whether what was found is a value, and no type, pattern or side of a comparison."""
+    before, after = code[: found.start()], code[found.end() :]
+    is_type = re.match(r"\s*,?\s*>|\s*<", after) or (re.search(r"[^:]:\s*$", before) and after.startswith(")"))
+    is_pattern = re.match(r"[^;,{}]*?=>|[\s)]*=[^=]", after)
+    return not (is_type or is_pattern or re.search(r"[!=]=\s*(\w+::)*$", before))
+
+
+DEPTH = {"(": 1, "[": 1, ")": -1, "]": -1}
+
+
+def begin_of(code, begin, at):
+    """Where the statement, or the arm of a match, begins that stands at `at`: behind `begin`, or behind the last comma since."""
+    depth = 0
+    for place in range(begin, at):
+        depth = max(depth + DEPTH.get(code[place], 0), 0)
+        if code[place] == "," and depth == 0:
+            begin = place + 1
+    return begin
+
+
+def end_of(code, begin, at):
+    """Where the statement or the arm that begins at `begin` ends, behind `at`."""
+    depth = 0
+    for place in range(begin, len(code)):
+        depth += DEPTH.get(code[place], 0)
+        if place >= at and (code[place] in "{}" or depth <= 0 and code[place] in ",;"):
+            return place
+    return len(code)
+
+
+def blocks_at(code, at):
+    """Where the last statement before `at` begins, and the beginning and the brace of each block that is open there, innermost last."""
+    begin, depth, blocks = 0, 0, []
+    for place in range(at):
+        depth += DEPTH.get(code[place], 0)
+        if code[place] == "{":
+            blocks.append((begin, place, depth))
+            depth = 0
+        elif code[place] == "}":
+            depth = blocks.pop()[2]
+        if code[place] in "{}" or code[place] == ";" and depth == 0:
+            begin = place + 1
+    return begin, blocks
+
+
+def places_in(file, text):
+    """The places of a file."""
+    code = code_of(text)
+    for found in filter(lambda it: is_value(code, it), WANT.finditer(code)):
+        begin, blocks = blocks_at(code, found.start())
+        begin = begin_of(code, begin, found.start())
+        inside = [code[begin : end_of(code, begin, found.end())]]
+        function = "-"
+        for begin, brace, _ in reversed(blocks):
+            named = re.search(r"\bfn (\w+)", code[begin:brace])
+            if named:
+                function = named[1]
+                break
+            inside.insert(0, code[begin_of(code, begin, brace) : brace])
+        yield Place(file, function, " { ".join(" ".join(it.split()) for it in inside))
+
+
+def sources():
+    """The text of each source file that is no test, by its path below the repository."""
+    paths = sorted(glob.glob(os.path.join(TOP, "crates", "*", "src", "**", "*.rt"), recursive=True))
+    texts = {os.path.relpath(path, TOP): open(path, encoding="utf-8").read() for path in paths}
+    tests = set()
+    for path, text in texts.items():
+        folder = os.path.dirname(path) if os.path.basename(path) in ("lib.rt", "main.rt") else path[: -len(".rt")]
+        tests |= {os.path.join(folder, name) for name in TEST_MODULE.findall(text)}
+    is_test = lambda path: any(path == f"{test}.rt" or path.startswith(f"{test}/") for test in tests)
+    return {path: text for path, text in texts.items() if not is_test(path)}
+
+
+def listed():
+    """The places of the list, each of which has a reason."""
+    with open(LIST, encoding="utf-8") as file:
+        lines = [line.strip() for line in file if line.strip() and not line.startswith("#")]
+    if len(lines) % 3:
+        sys.exit(f"{LIST} has no three lines for each place")
+    return [Place(*lines[at].split(), lines[at + 1]) for at in range(0, len(lines), 3)]
+
+
+def compare(places, allowed):
+    """What differs: a line for each place that the list lacks, and for each that is gone."""
+    there, wanted = collections.Counter(places), collections.Counter(allowed)
+    new = [f"answers want of memory, and is not in the list: {' '.join(it)}" for it in (there - wanted).elements()]
+    gone = [f"stands in the list, and is gone: {' '.join(it)}" for it in (wanted - there).elements()]
+    return new + gone
+
+
+# Lines that are planted at the beginning of a function, and whether each is a place.
+PLANTED = [
+    ("if bits == 2 { return Err(AllocError); }", True),
+    ("if bits == 2 { return Err((ended, BeginError::OutOfMemory)); }", True),
+    ("let cause = Some(1).ok_or(AllocError)?;", True),
+    ("let cause = check(bits).map_err(|_| ScriptError::OutOfMemory)?;", True),
+    ("match bits { 2 => Err(RunError::OutOfMemory), _ => Ok(()) }?;", True),
+    ("let fault = Fault { cause: AllocError };", True),
+    ("if bits == 2 { return Err(started); }", True),
+    ("return Err(std::alloc::AllocError.into());", True),
+    ("// return Err(AllocError);", False),
+    ('let text = "AllocError";', False),
+    ("let done: Result<u32, AllocError> = work(bits);", False),
+    ("if error == Stop::OutOfMemory { stop(); }", False),
+    ("if let Err(Stop::OutOfMemory) = done { stop(); }", False),
+    ("match done { Err(Stop::OutOfMemory) => stop(), Ok(_) => (), }", False),
+]
+
+
+def test_itself(texts, places):
+    """What goes wrong with each planted line, and with each place that is taken away from the list."""
+    path = "crates/augtrie/src/run.rt"
+    head = "{\n    let bytes = match read_all"
+    others = [place for place in places if place.file != path]
+    wrong = []
+    for line, is_place in PLANTED:
+        text = texts[path].replace(head, head.replace("{\n", f"{{\n    {line}\n"), 1)
+        told = compare([*others, *places_in(path, text)], places)
+        if line not in text or len(told) != is_place:
+            wrong.append(f"planted {line!r}: {told}")
+    for it, place in enumerate(places):
+        if len(compare(places, places[:it] + places[it + 1 :])) != 1 or len(compare(places[:it] + places[it + 1 :], places)) != 1:
+            wrong.append(f"nobody misses {' '.join(place)}")
+    return wrong
+
+
+def main():
+    texts = sources()
+    places = [place for path, text in texts.items() for place in places_in(path, text)]
+    wrong = compare(places, listed())
+    if len(texts) < 50 or len(places) < 20:
+        wrong.append(f"only {len(places)} places in {len(texts)} files")
+    wrong += test_itself(texts, places)
+    for it in wrong:
+        print(f"refusals.py: {it}")
+    runs = 2 * len(places) + len(PLANTED)
+    print(f"{max(runs - len(wrong), 0)} passed, {len(wrong)} failed")
+    return 1 if wrong else 0
+
+
+if __name__ == "__main__":
+    sys.exit(main())

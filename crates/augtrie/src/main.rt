@@ -5,6 +5,8 @@ mod answer;
 mod command_line;
 mod fault_line;
 mod gate;
+#[cfg(test)]
+mod gate_tests;
 mod input;
 mod jobs;
 mod options;

@@ -9,6 +9,8 @@ mod gate;
 mod gate_tests;
 mod input;
 mod jobs;
+#[cfg(test)]
+mod known_bytes;
 mod options;
 #[cfg(test)]
 mod plain;

@@ -33,7 +33,9 @@ fn run_text<R: Threads + Wait, G: Gate>(
     let mut number = 0u64;
     for round in script.rounds() {
         number = number.wrapping_add(1);
-        let (next, report) = run_round(rt, alloc, ended, &limits, number, round, gate)?;
+        let Ok((next, report)) = run_round(rt, alloc, ended, &limits, number, round, gate) else {
+            return Err(AllocError);
+        };
         ended = next;
         reports.push(report)?;
     }

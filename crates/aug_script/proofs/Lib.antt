@@ -3,6 +3,7 @@ pub mod Fields
 pub mod LimitTests
 pub mod Lines
 pub mod Numbers
+pub mod OnLiterals
 mod ReaderLemmas
 pub mod RecordLemmas
 pub mod Rows

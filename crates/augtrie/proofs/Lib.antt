@@ -17,3 +17,4 @@ pub mod Merging
 pub mod Counting
 pub mod Beginning
 pub mod Reports
+mod KnownBytes

@@ -5,8 +5,12 @@ mod answer;
 mod command_line;
 mod fault_line;
 mod gate;
+#[cfg(test)]
+mod gate_tests;
 mod input;
 mod jobs;
+#[cfg(test)]
+mod known_bytes;
 mod options;
 #[cfg(test)]
 mod plain;

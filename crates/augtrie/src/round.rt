@@ -1,5 +1,5 @@
 //! A round on worker threads, one for each lane.
-ghost use Rattle.std.specs.Prelude.{◌≡◌, ◌+◌, ◌≤◌, length, IfOk};
+ghost use Rattle.std.specs.Prelude.{◌≡◌, ◌+◌, ◌≤◌, length, Err, IfOk, OnErr};
 ghost use Rattle.aug_model.specs.Keys.{IsKeySet, keys_of};
 ghost use Rattle.aug_trie.specs.Crews.{BeginsRound};
 ghost use Rattle.augtrie.specs.AllowedReport.{AllowedReport, IsReportOf};
@@ -8,10 +8,12 @@ ghost use Rattle.augtrie.specs.Returns.{HasBegun, RanLanes};
 ghost use Rattle.aug_script.specs.Limits.{IsBounds, bounds_at};
 ghost use Rattle.aug_script.specs.Script.{KeepsLimits};
 ghost use Rattle.augtrie.specs.Workers.{bounds_of};
+ghost use Rattle.augtrie.specs.declared.run_error.RunError.{RunError};
 
 use crate::gate::Gate;
 use crate::jobs::jobs;
 use crate::returning::{in_order, take_back};
+use crate::run_error::RunError;
 use crate::threads::in_threads;
 use crate::trie::{Hands, Table, Trie};
 use aug_script::{Limits, Listed, Reply, Report, Row, ScriptRound};
@@ -46,8 +48,8 @@ fn run_lanes<'r, R: Threads + Wait, G: Gate>(
 
 /// Runs a round over a trie at rest: one pass and one worker thread for each lane, all at the same time. Keys have the bits of
 /// the round, which are no fewer than the trie's. The report has the rows in their order, each with its reply, and the trie that
-/// comes back has these bits, and the round's last set. Only memory, or the start of a thread, can be refused; the trie is then
-/// given up. The gate is told of each row in the thread of its lane.
+/// comes back has these bits, and the round's last set. It is refused for want of memory, or of a thread, alone, as `OutOfMemory`; the
+/// trie is then given up. The gate is told of each row in the thread of its lane.
 pub fn run_round<R: Threads + Wait, G: Gate>(
     rt: &R,
     alloc: Global,
@@ -56,7 +58,7 @@ pub fn run_round<R: Threads + Wait, G: Gate>(
     number: u64,
     round: &ScriptRound,
     gate: &G,
-) -> Result<(Trie, Report), AllocError>
+) -> Result<(Trie, Report), RunError>
     requires wider { ended.bits ≤ round.now.bits }
     requires bounds { IsBounds (bounds_at limits.now round.now.bits) }
     requires kept { KeepsLimits (bounds_at limits.now round.now.bits) round.now.rows }
@@ -66,6 +68,7 @@ pub fn run_round<R: Threads + Wait, G: Gate>(
     ensures sizes { IfOk result (λ r. r.1.size + r.1.removals ≡ length ended.members + r.1.inserts) }
     ensures bits { IfOk result (λ r. r.0.bits ≡ round.now.bits) }
     ensures all_back { IfOk result (λ r. r.0.missing ≡ 0) }
+    ensures memory { OnErr result (result ≡ Err RunError.OutOfMemory) }
 {
     let (table, mut crew) = begin(alloc, ended, limits, round.bits)?;
     let rows = round.rows.as_slice();

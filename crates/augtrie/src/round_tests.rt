@@ -1,4 +1,4 @@
-//! What no clause says: that rounds run with ample memory, that the lanes run at the same time, and what the gate is told.
+//! What no clause says: that rounds run with ample memory.
 use crate::gate::{Gate, Open};
 use crate::plain::plain_replies;
 use crate::round::run_round;
@@ -9,10 +9,7 @@ use aug_trie::Ended;
 use std::alloc::{AllocError, Global};
 use std::process::Abort;
 use std::sync::Wait;
-use std::sync::atomic::AtomicU64;
-use std::sync::atomic::Ordering::SeqCst;
 use std::test::Fail;
-use std::thread;
 use std::thread::Threads;
 
 // The trie at the end of a script's rounds, and their reports. None where the script or a limit has a fault.
@@ -36,7 +33,9 @@ fn run_text<R: Threads + Wait, G: Gate>(
     let mut number = 0u64;
     for round in script.rounds() {
         number = number.wrapping_add(1);
-        let (next, report) = run_round(rt, alloc, ended, &limits, number, round, gate)?;
+        let Ok((next, report)) = run_round(rt, alloc, ended, &limits, number, round, gate) else {
+            return Err(AllocError);
+        };
         ended = next;
         reports.push(report)?;
     }
@@ -44,7 +43,7 @@ fn run_text<R: Threads + Wait, G: Gate>(
 }
 
 // The one report of a script of one round.
-fn report_of<R: Threads + Wait, G: Gate>(
+pub(crate) fn report_of<R: Threads + Wait, G: Gate>(
     rt: &R,
     alloc: Global,
     workers: u32,
@@ -254,76 +253,6 @@ fn lanes_without_rows_come_back(rt: HostRuntime) -> Result<(), Fail> {
     let (ended, reports) = run.expect(&rt, "a report");
     assert_eq!(rt; (ended.size(), ended.missing()), (0, 0));
     assert_eq!(rt; reports.len(), 1);
-    Ok(())
-}
-
-// Each lane waits before its row for the other, for so many looks at most.
-#[derive(Drop)]
-struct Meet {
-    here: AtomicU64,
-    met: AtomicU64,
-}
-
-impl Gate for Meet {
-    fn before(&self, _lane: u32, _row: u64) {
-        self.here.fetch_add(1, SeqCst);
-        for _ in 0..200_000_000u64 {
-            if self.here.load(SeqCst) == 2 {
-                self.met.fetch_add(1, SeqCst);
-                return;
-            }
-            thread::yield_now();
-        }
-    }
-
-    fn after(&self, _lane: u32, _row: u64) {}
-}
-
-#[test]
-fn the_lanes_run_at_the_same_time(rt: HostRuntime) -> Result<(), Fail> {
-    let gate = Meet {
-        here: AtomicU64::new(0),
-        met: AtomicU64::new(0),
-    };
-    let run = report_of(&rt, rt.alloc(), 2, "0,insert,1\n1,insert,2\n", &gate)?;
-    assert!(rt; run.is_some());
-    assert_eq!(rt; gate.met.load(SeqCst), 2);
-    Ok(())
-}
-
-// What it is told, one digit for each call: twice the row's number before it, one more after it, and 0 for another lane.
-#[derive(Drop)]
-struct Told {
-    calls: AtomicU64,
-}
-
-impl Told {
-    fn note(&self, lane: u32, digit: u64) {
-        let calls = self.calls.load(SeqCst);
-        let digit = if lane == 3 { digit } else { 0 };
-        self.calls
-            .store(calls.wrapping_mul(10).wrapping_add(digit), SeqCst);
-    }
-}
-
-impl Gate for Told {
-    fn before(&self, lane: u32, row: u64) {
-        self.note(lane, row.wrapping_mul(2));
-    }
-
-    fn after(&self, lane: u32, row: u64) {
-        self.note(lane, row.wrapping_mul(2).wrapping_add(1));
-    }
-}
-
-#[test]
-fn the_gate_is_told_of_each_row(rt: HostRuntime) -> Result<(), Fail> {
-    let gate = Told {
-        calls: AtomicU64::new(0),
-    };
-    let run = report_of(&rt, rt.alloc(), 4, "3,insert,1\n3,look\n3,size\n", &gate)?;
-    assert!(rt; run.is_some());
-    assert_eq!(rt; gate.calls.load(SeqCst), 234_567);
     Ok(())
 }
 

@@ -97,9 +97,7 @@ fn run_rounds<R: Threads + Wait, W: Sink>(
     let mut ended = empty;
     let mut number = 1;
     for round in rounds {
-        let Ok((next, report)) = run_round(rt, alloc, ended, limits, number, round, &Open) else {
-            return Err(RunError::OutOfMemory);
-        };
+        let (next, report) = run_round(rt, alloc, ended, limits, number, round, &Open)?;
         ended = next;
         match print(alloc, &report, sink) {
             Ok(()) => number += 1,

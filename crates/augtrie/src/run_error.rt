@@ -4,6 +4,7 @@ ghost use Rattle.std.specs.Io.KnownBytes.{Appends};
 
 use crate::fault_line::fault_line;
 use aug_script::{Fault, FaultText, ScriptError, Sink, send};
+use std::alloc::AllocError;
 use std::error::Error;
 use std::fmt;
 
@@ -20,6 +21,16 @@ pub enum RunError {
     OutOfMemory,
     /// 5: the script has more than 16,777,216 bytes.
     TooLong,
+}
+
+impl From<AllocError> for RunError {
+    ghost use Rattle.augtrie.specs.declared.run_error.RunError.TheVariants.{OutOfMemory};
+
+    ghost from_gives = { λ _ e. e ≡ OutOfMemory };
+
+    fn from(_: AllocError) -> RunError {
+        RunError::OutOfMemory
+    }
 }
 
 impl RunError {

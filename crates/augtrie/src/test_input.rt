@@ -1,5 +1,5 @@
 //! An input over memory, for tests.
-ghost use Rattle.std.specs.Prelude.{◌≡◌, ◌+◌, ◌-◌, ◌^◌, ◌<◌, ◌≤◌, length, IfOk, OnOk, is_ok, if◌then◌else◌};
+ghost use Rattle.std.specs.Prelude.{◌≡◌, ◌+◌, ◌-◌, ◌^◌, ◌<◌, ◌≤◌, Some, length, IfOk, OnOk, is_ok, if◌then◌else◌};
 ghost use Rattle.std.specs.Io.KnownBytes.{ReadConsumes};
 
 use crate::input::Input;
@@ -18,7 +18,9 @@ pub(crate) struct TestInput<'a> {
 
 impl<'a> TestInput<'a> {
     pub(crate) fn new(standard: &'a [u8], path: &'a str, file: &'a [u8]) -> TestInput<'a>
-        ensures { result.faults ≡ 0 }
+        ensures standard { result.rest.now ≡ standard.now }
+        ensures file { result.file.now ≡ file.now }
+        ensures none { result.faults ≡ 0 }
     {
         TestInput {
             rest: standard,
@@ -31,6 +33,8 @@ impl<'a> TestInput<'a> {
 }
 
 impl Source for TestInput<'_> {
+    ghost remaining = { λ s. Some s.rest.now };
+
     ghost fault_count = { λ s. s.faults };
 
     fn read_some(&mut self, piece: &mut [u8]) -> Result<usize, Fault> {
@@ -47,6 +51,8 @@ impl Source for TestInput<'_> {
 }
 
 impl Input for TestInput<'_> {
+    ghost file_bytes = { λ s _. Some s.file.now };
+
     fn open(&mut self, path: &str) -> Result<(), Fault> {
         self.opened = self.opened.wrapping_add(1);
         if path == self.path {

@@ -22,4 +22,4 @@ loop-round-preserved g c =
     let narrows : NeverNarrows rounds = rw c.rounds-round-items.ensures c.in-Ok-read.ensures.never_narrows in
     λ j d from below.
     let here : round.bits ≡ (get_or rounds i d).bits = ap (λ (r : ScriptRound). r.bits) (c.round-item.is ∙ get_or_default rounds i round d c.loop-round-test.true) in
-    omega (arith, c.in_ok-next.ensures.bits, here, narrows i j d (omega arith) below)
+    omega (arith, c.in-Ok-run_round.ensures.bits, here, narrows i j d (omega arith) below)

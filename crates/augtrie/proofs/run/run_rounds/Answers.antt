@@ -26,8 +26,8 @@ run_round-requires-clause-kept g c _ _ =
     let runnable = c.requires.kept c.loop-round.round-index c.round-item.result c.loop-round-test.true in
     subst (λ (round : ScriptRound). KeepsLimits (bounds_at c.args.limits.now round.bits) round.rows) (sym c.round-item.is) runnable.keeps
 
-pub returns-in_default-run_round-clause-memory : goal.returns-in_default-run_round-clause-memory
-returns-in_default-run_round-clause-memory g c same = (c.loop-round.round-index, prints_first c.args.limits.now c.args.rounds.now c.loop-round.round-index c.loop-round.ended.members _ _ _ _ c.loop-round.invariant.printed)
+pub returns-in_err-next-clause-memory : goal.returns-in_err-next-clause-memory
+returns-in_err-next-clause-memory g c same = (c.loop-round.round-index, prints_first c.args.limits.now c.args.rounds.now c.loop-round.round-index c.loop-round.ended.members _ _ _ _ c.loop-round.invariant.printed)
 
 pub returns-in-Err-OutOfMemory-clause-memory : goal.returns-in-Err-OutOfMemory-clause-memory
 returns-in-Err-OutOfMemory-clause-memory g c same = let i = c.loop-round.round-index in let kept = c.in-Err-OutOfMemory.ensures.memory (λ j. Err (c.in-Err-OutOfMemory.field-0-is j)) in
@@ -35,8 +35,8 @@ returns-in-Err-OutOfMemory-clause-memory g c same = let i = c.loop-round.round-i
 
 pub returns-in-Err-Output-clause-part : goal.returns-in-Err-Output-clause-part
 returns-in-Err-Output-clause-part g c same =
-    let limits = c.args.limits.now in let rounds = c.args.rounds.now in let i = c.loop-round.round-index in let inv = c.loop-round.invariant in let ran = c.in-Ok-run_round.ensures in
-    let round = c.round-item.result in let closing = c.loop-round.ended.members in let report = c.in-Ok-run_round.report in let next = c.in-Ok-run_round.next.members in (
+    let limits = c.args.limits.now in let rounds = c.args.rounds.now in let i = c.loop-round.round-index in let inv = c.loop-round.invariant in let ran = c.in_ok-next.ensures in
+    let round = c.round-item.result in let closing = c.loop-round.ended.members in let report = c.in_ok-next.report in let next = c.in_ok-next.next.members in (
       i + 1,
       prints_in_part limits rounds i closing _ _ _ _ inv.printed round round report next c.loop-round-test.true c.round-item.is
           (subst (λ (z : ℕ). IsReportOf z round.rows report) inv.number ran.report) ran.allowed (subst (λ (z : ℕ). IsInTurn limits.workers z closing round.rows report next) inv.number ran.alone)
@@ -45,8 +45,8 @@ returns-in-Err-Output-clause-part g c same =
 
 pub loop-round-preserved : goal.loop-round-preserved
 loop-round-preserved g c =
-    let limits = c.args.limits.now in let rounds = c.args.rounds.now in let i = c.loop-round.round-index in let inv = c.loop-round.invariant in let ran = c.in-Ok-run_round.ensures in
-    let round = c.round-item.result in let closing = c.loop-round.ended.members in let report = c.in-Ok-run_round.report in let next = c.in-Ok-run_round.next.members in
+    let limits = c.args.limits.now in let rounds = c.args.rounds.now in let i = c.loop-round.round-index in let inv = c.loop-round.invariant in let ran = c.in_ok-next.ensures in
+    let round = c.round-item.result in let closing = c.loop-round.ended.members in let report = c.in_ok-next.report in let next = c.in_ok-next.next.members in
     record {
       number = omega (arith, inv.number);
       printed = printed_more limits rounds i closing _ _ _ _ inv.printed round round report next c.loop-round-test.true c.round-item.is

@@ -76,7 +76,7 @@ int main(int count, char **words) {
         if (!LEAKS || block && left > 1) free(block);
     }
     write(1, ENDING, sizeof ENDING - 1);
-    return 0;
+    return STATUS;
 }
 """
 
@@ -86,6 +86,7 @@ WELL = {
     "FAILS": 0,
     "LEAKS": 0,
     "ENDING": '"\\ntest result: ok\\n"',
+    "STATUS": 0,
 }
 
 
@@ -259,10 +260,13 @@ class Refused(InFolder):
         self.assert_fails("no crate", "0 passed, 1 failed", source="#[test]\nfn others() {}\n")
 
     def test_test_that_makes_no_request(self):
-        self.assert_fails("0 requests", "0 passed, 1 failed", ASKED=0)
+        self.assert_fails("with nothing refused, 0 requests", "0 passed, 1 failed", ASKED=0)
 
     def test_test_that_does_not_say_that_it_passed(self):
         self.assert_fails("with nothing refused", "0 passed, 1 failed", ENDING='"no test was run\\n"')
+
+    def test_test_that_fails_though_it_says_that_it_passed(self):
+        self.assert_fails("with nothing refused", "0 passed, 1 failed", STATUS=3)
 
     def test_test_that_fails_where_memory_is_refused(self):
         self.assert_fails("status 101", "0 passed, 3 failed", FAILS=1)
@@ -391,6 +395,7 @@ pub fn hidden() -> u32 {
         self.assert_told("one: no contract of `size` of `Shelf`; `count` has a clause rest", list_, "`count` | | |", "`count` | | `rest` |")
         self.assert_told("refusals: no contract of take of Shelf has a clause fair", list_, "| `gone` | `rest`", "| `gone`, `fair` | `rest`")
         self.assert_told("there is no test take_gives_none", list_, "| `takes_one` | `take", "| `take_gives_none` | `take")
+        self.assert_told("there is no test takes_two", list_, "`count` | | |", "`count` | | none: `takes_two` |")
         self.assert_told("there is no edit takes_one", list_, "`take_gives_none`", "`takes_one`")
         self.assert_told("there is no test docs/other.md", list_, "(`docs/surface.md`)", "(`docs/other.md`)")
 

@@ -116,12 +116,13 @@ def compare(what, listed, there):
 
 def own_names(cell):
     """The names in a cell, without those that refer to another call, as in `of x`."""
-    return [] if cell.startswith("none") else CODE.findall(re.sub(r"of `\w+`", "", cell))
+    return CODE.findall(re.sub(r"of `\w+`", "", cell))
 
 
 def clauses_named(cell):
-    """The names of clauses in a cell, where `result` stands for one without a name."""
-    return {{"result": "ensures"}.get(name, name) for name in own_names(cell) if name.islower()}
+    """The names of clauses in a cell, where `result` stands for one without a name. Behind `none` there is no clause."""
+    names = [] if cell.startswith("none") else own_names(cell)
+    return {{"result": "ensures"}.get(name, name) for name in names if name.islower()}
 
 
 def laws(crate):
@@ -169,6 +170,7 @@ def wrong_names(text, top):
     tests |= {name for path in files(top, "tests/*.py") for name in re.findall(r"def test_(\w+)", read(path))}
     edits = {os.path.basename(path).removesuffix(".edit") for path in files(top, "crates/*/must-fail/*.edit")}
     of_tests = [cells[4] for cells in rows(text, "Call")] + [cells[1] for cells in rows(text, "What is tested")]
+    of_tests += [cells[3] for cells in rows(text, "Crate") if cells[3].startswith("none")]
     of_edits = [cells[5] for cells in rows(text, "Call")]
     said = [(name, "test", tests) for cell in of_tests for name in own_names(cell)]
     said += [(name, "edit", edits) for cell in of_edits for name in own_names(cell)]

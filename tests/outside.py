@@ -11,9 +11,7 @@ It needs Python 3.9 or later and the toolchain, whose C compiler makes the libra
 import array
 import concurrent.futures
 import fcntl
-import glob
 import os
-import re
 import resource
 import shutil
 import subprocess
@@ -659,19 +657,14 @@ class Shown(unittest.TestCase):
         self.assertIn(b"```rust\n" + read(os.path.join(crate, "src", "main.rt")) + b"```\n", self.readme)
         self.assertIn(b"```text\n" + read(os.path.join(crate, "stdout")) + b"```\n", self.readme)
 
-    def test_names_in_the_list_of_calls(self):
-        files = glob.glob(os.path.join(TOP, "crates", "*", "src", "**", "*.rt"), recursive=True)
-        files += glob.glob(os.path.join(TOP, "tests", "*.py"))
-        edits = glob.glob(os.path.join(TOP, "crates", "*", "must-fail", "*.edit"))
-        there = " ".join([*(read(file).decode() for file in files), *(os.path.basename(edit) for edit in edits)])
-        said = re.findall(r"`(\w+)`", read(os.path.join(TOP, "docs", "surface.md")).decode())
-        self.assertGreater(len(said), 300)
-        self.assertLessEqual(set(said), {*re.findall(r"\w+", there), *re.findall(r"test_(\w+)", there)})
-
     def test_script_in_the_readme(self):
         script, report = (read(os.path.join(EXAMPLES, f"first.{kind}")).decode().splitlines() for kind in ("csv", "out"))
         lines = [f"{row:22}{line}" for row, line in zip([*script, ""], report)]
         self.assertIn("\n".join(["```text", *lines, "```"]).encode(), self.readme)
+
+
+# How many tests there are of each kind at least: fewer means that a table was lost.
+LEAST = {"test_": 140, "test_good_": 24, "test_faulty_": 34, "test_words_": 14, "test_sweep_": 11, "test_example_": 6, "test_each_": 4}
 
 
 def make_tests():
@@ -720,4 +713,4 @@ def read(path):
 
 if __name__ == "__main__":
     make_tests()
-    sys.exit(programs.run("outside.py", Outside, sys.argv[1:], [Shown]))
+    sys.exit(programs.run("outside.py", Outside, sys.argv[1:], [Shown], least=LEAST))

@@ -4,11 +4,14 @@ threads, with that one refused. Each run must pass, and give back all its memory
 
 usage: tests/refused.py, once `rt ci` has built the tests
 
-The last line is 'N passed, M failed', and the exit status is 0 where none failed. It needs Python 3.8 or later and the toolchain.
+A test that stands in a crate's sources and is not run, or makes no request, counts as one that failed. The last line is
+'N passed, M failed', and the exit status is 0 where none failed. It needs Python 3.8 or later and the toolchain.
 """
 
+import collections
 import glob
 import os
+import re
 import subprocess
 import sys
 import tempfile
@@ -20,17 +23,25 @@ CRATES = os.path.join(os.path.dirname(TESTS), "crates")
 # The most seconds that one run of a test gets.
 SECONDS = 60
 
+TEST = re.compile(r"#\[test\]\s*(?:#\[.*\]\s*)*fn (refused_\w+)")
 
-def names_of(program):
-    """The full names of a crate's tests that are to be run."""
-    listed = subprocess.run([program, "--list"], stdout=subprocess.PIPE, check=True).stdout.decode()
-    names = [line.partition(": ")[0] for line in listed.splitlines()]
+
+def written(crate):
+    """The names of the tests that are to be run, as the crate's sources have them."""
+    names = []
+    for path in glob.glob(os.path.join(crate, "src", "**", "*.rt"), recursive=True):
+        with open(path, encoding="utf-8") as file:
+            names += TEST.findall(file.read())
+    return names
+
+
+def listed(program):
+    """The same names in full, as the crate's built tests have them, or none where they cannot be asked."""
+    if not os.access(program, os.X_OK):
+        return []
+    asked = subprocess.run([program, "--list"], stdin=subprocess.DEVNULL, stdout=subprocess.PIPE).stdout.decode()
+    names = [line.partition(": ")[0] for line in asked.splitlines()]
     return [name for name in names if name.split("::")[-1].startswith("refused_")]
-
-
-def has_such_tests(crate):
-    sources = glob.glob(os.path.join(crate, "src", "**", "*.rt"), recursive=True)
-    return any("fn refused_" in open(path, encoding="utf-8").read() for path in sources)
 
 
 def passes(program, name, **given):
@@ -40,41 +51,54 @@ def passes(program, name, **given):
         ran = subprocess.run([program, name], stdin=subprocess.DEVNULL, stdout=subprocess.PIPE, stderr=subprocess.STDOUT, timeout=SECONDS, **how)
     except subprocess.TimeoutExpired:
         return False, f"it had not ended after {SECONDS} seconds"
-    return ran.returncode == 0, f"status {ran.returncode}\n{ran.stdout.decode(errors='replace')}"
+    said = ran.stdout.decode(errors="replace")
+    return ran.returncode == 0 and "test result: ok" in said, f"status {ran.returncode}\n{said}"
 
 
 def refuse_each(refusing, program, name):
     """Refuses each request and each start of a test in turn, and returns what went wrong, and how many runs there were."""
     run = lambda **given: passes(program, name, **given)
     (passed, said), counts = refusing.counted(run)
-    if not passed or not counts.requests:
-        return [f"with nothing refused and {counts.requests} requests: {said}"], 1
+    if not passed or not counts.requests or counts.blocks:
+        return [f"with nothing refused, {counts.requests} requests and {counts.blocks} blocks not given back: {said}"], 1
     wrong = []
     for kind, count in ("request", counts.requests), ("start", counts.starts):
         for number in range(1, count + 1):
             (passed, said), after = refusing.counted(run, **{kind: number})
             if not passed or after.blocks:
                 wrong.append(f"with {kind} {number} of {count} refused: {after.blocks} blocks are not given back, {said}")
+            elif getattr(after, f"{kind}s") < number:
+                wrong.append(f"with {kind} {number} of {count} refused: it was never made")
     print(f"{name}: {counts.requests} requests and {counts.starts} starts refused in turn")
     return wrong, counts.requests + counts.starts
 
 
-def main():
+def run_tests_of(refusing, crate):
+    """Refuses each request and start of each test of a crate, and returns what went wrong, and how many runs there were."""
+    program = os.path.join(crate, "out", f"{os.path.basename(crate)}_tests")
+    names = listed(program)
+    lacking = collections.Counter(written(crate)) - collections.Counter(name.split("::")[-1] for name in names)
+    wrong = [f"{name} is not there to be run" for name in lacking.elements()]
+    runs = len(wrong)
+    for name in names:
+        more, count = refuse_each(refusing, program, name)
+        wrong, runs = wrong + [f"{name}: {it}" for it in more], runs + count
+    return wrong, runs
+
+
+def main(crates=CRATES):
     runs, failed = 0, 0
     with tempfile.TemporaryDirectory(prefix="refused-") as folder:
         refusing = Refusing(folder)
-        for crate in sorted(filter(has_such_tests, glob.glob(os.path.join(CRATES, "*")))):
-            program = os.path.join(crate, "out", f"{os.path.basename(crate)}_tests")
-            if not os.access(program, os.X_OK):
-                print(f"{program} is not there to be run")
-                runs, failed = runs + 1, failed + 1
-                continue
-            for name in names_of(program):
-                wrong, more = refuse_each(refusing, program, name)
-                for it in wrong:
-                    print(f"{os.path.basename(crate)}: {name}: {it}")
-                runs, failed = runs + more, failed + len(wrong)
-    print(f"{runs - failed} passed, {failed} failed")
+        for crate in sorted(filter(written, glob.glob(os.path.join(crates, "*")))):
+            wrong, more = run_tests_of(refusing, crate)
+            for it in wrong:
+                print(f"{os.path.basename(crate)}: {it}")
+            runs, failed = runs + more, failed + len(wrong)
+    if not runs:
+        print(f"no crate of {crates} has a test that is to be run")
+        failed = 1
+    print(f"{max(runs - failed, 0)} passed, {failed} failed")
     return 1 if failed else 0
 
 

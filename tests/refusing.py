@@ -2,6 +2,7 @@
 refuses them."""
 
 import collections
+import functools
 import os
 import subprocess
 
@@ -11,15 +12,24 @@ TESTS = os.path.dirname(os.path.abspath(__file__))
 Counts = collections.namedtuple("Counts", "requests starts blocks")
 
 
+@functools.lru_cache
+def clang():
+    """The toolchain's C compiler."""
+    page = subprocess.run(["rt", "doc"], stdout=subprocess.PIPE, check=True).stdout.decode().strip()
+    return os.path.join(os.path.dirname(page), "toolchain", "bin", "clang")
+
+
+def compile_c(source, made, words=()):
+    """Makes a program, or by these words a library, of a file in C."""
+    subprocess.run([clang(), "-O1", "-fno-builtin", "-fuse-ld=lld", *words, "-o", made, source], check=True)
+
+
 class Refusing:
     """The library that refuses them, in a folder."""
 
     def __init__(self, folder):
         self.library = os.path.join(folder, "refuse.so")
-        page = subprocess.run(["rt", "doc"], stdout=subprocess.PIPE, check=True).stdout.decode().strip()
-        clang = os.path.join(os.path.dirname(page), "toolchain", "bin", "clang")
-        words = ["-O1", "-fPIC", "-shared", "-nostdlib", "-fno-builtin", "-fuse-ld=lld", "-o", self.library]
-        subprocess.run([clang, *words, os.path.join(TESTS, "refuse.c")], check=True)
+        compile_c(os.path.join(TESTS, "refuse.c"), self.library, ["-fPIC", "-shared", "-nostdlib"])
 
     def counted(self, run, request=0, start=0):
         """What `run` returns, which is given the environment of its program and what it is to pass on, and the counts of the program.

@@ -1,0 +1,258 @@
+#!/usr/bin/env python3
+"""Runs ./run and the scripts of tools/ over programs that stand in for the toolchain, the built programs and gnuplot, and holds what is
+called, what is written and the exit status to what they should be.
+
+usage: tests/commands.py
+
+The last line is 'N passed, M failed', and the exit status is 0 where none failed. It needs Python 3.8 or later.
+"""
+
+import os
+import shutil
+import subprocess
+import sys
+import tempfile
+import unittest
+
+import programs
+
+TOP = os.path.dirname(os.path.dirname(os.path.abspath(__file__)))
+
+# The most seconds that one run gets.
+SECONDS = 60
+
+# Stands in for rt: it notes its folder and words, says what the file said.rt holds, and ends as status.VERB does. `rt run` builds a program.
+RT = r"""#!/bin/bash
+printf '%s:' "${PWD##*/}" >>"$ROOM/called"
+printf ' [%s]' "$@" >>"$ROOM/called"
+echo >>"$ROOM/called"
+cat "$ROOM/said.rt"
+status=$(cat "$ROOM/status.$1")
+if [[ $1 == run ]] && ((status == 0)); then mkdir -p out && cp "$ROOM/program" out/augtrie; fi
+exit "$status"
+"""
+
+# Stands in for the built program: it shows its words and its input.
+PROGRAM = r"""#!/bin/bash
+printf '[%s]' "$@"
+echo " $(cat)"
+exit 3
+"""
+
+# Stands in for the measuring program: it waits until it was placed, which it is once for each line `place`.
+MEASURING = r"""#!/bin/bash
+echo "place 1 $3-$3"
+until grep -q -- "-apc $3-$3 $$" "$ROOM/placed" 2>/dev/null; do sleep 0.01; done
+echo "run trie $2 1 1.000 of $*"
+[[ $2 != "$FAILS" ]]
+"""
+
+
+class Folder(unittest.TestCase):
+    """A test in a folder of its own, which has copies of some of the repository's scripts, and programs that come before all others."""
+
+    copied = ()
+
+    def setUp(self):
+        held = tempfile.TemporaryDirectory(prefix="commands-")
+        self.addCleanup(held.cleanup)
+        self.folder = os.path.realpath(held.name)
+        for name in self.copied:
+            os.makedirs(os.path.dirname(os.path.join(self.folder, name)), exist_ok=True)
+            shutil.copy(os.path.join(TOP, name), os.path.join(self.folder, name))
+
+    def write(self, name, text, mode=0o644):
+        path = os.path.join(self.folder, name)
+        os.makedirs(os.path.dirname(path), exist_ok=True)
+        with open(path, "w", encoding="utf-8") as file:
+            file.write(text)
+        os.chmod(path, mode)
+        return path
+
+    def read(self, name):
+        with open(os.path.join(self.folder, name), encoding="utf-8") as file:
+            return file.read()
+
+    def run_script(self, *words, given="", path=None, **variables):
+        """What a script wrote to its output and to its errors, and its status."""
+        path = path or f"{self.folder}/bin:{os.environ['PATH']}"
+        env = {**os.environ, "PATH": path, "ROOM": self.folder, **variables}
+        how = {"cwd": self.folder, "input": given, "capture_output": True, "text": True, "timeout": SECONDS}
+        ran = subprocess.run([os.path.join(self.folder, words[0]), *words[1:]], env=env, **how)
+        return ran.stdout, ran.stderr, ran.returncode
+
+
+class Run(Folder):
+    """./run proves and builds what is not there yet, and runs the program."""
+
+    copied = ["run"]
+
+    def setUp(self):
+        super().setUp()
+        self.write("bin/rt", RT, 0o755)
+        self.write("program", PROGRAM, 0o755)
+        self.write("crates.txt", "low:\nmiddle: low of_the_kit\naugtrie may_wait=9: low middle\n")
+        for crate in "low", "middle", "augtrie":
+            for name in "src/lib.rt", "specs/Lib.antt", "proofs/Lemmas.antt":
+                self.write(f"crates/{crate}/{name}", "")
+        self.behave()
+
+    def behave(self, said="", **ends):
+        """Has rt say so, and end with a status for each of its verbs, and forgets how it was called."""
+        for verb in "lib", "run", "try":
+            self.write(f"status.{verb}", str(ends.get(verb, 0)))
+        self.write("said.rt", said)
+        self.write("called", "")
+
+    def called(self):
+        return self.read("called").splitlines()
+
+    PROVED = ["low: [lib]", "middle: [lib]", "augtrie: [run] [--] [--help]"]
+    BUILT = PROVED[-1:]
+
+    def test_proves_the_crates_lowest_first_and_runs_the_program(self):
+        out, err, status = self.run_script("./run", "--bits", "5", "a name", "", given="rows")
+        self.assertEqual((out, status), ("[--bits][5][a name][] rows\n", 3))
+        self.assertEqual(self.called(), self.PROVED)
+        self.assertIn("run: proves and builds low middle augtrie ", err)
+
+    def test_runs_what_is_built_already(self):
+        self.run_script("./run")
+        self.behave()
+        self.assertEqual(self.run_script("./run", "first.csv"), ("[first.csv] \n", "", 3))
+        self.assertEqual(self.called(), self.BUILT)
+
+    def test_what_is_older_than_a_source_is_proved_again(self):
+        for name in "crates.txt", "crates/low/src/lib.rt", "crates/middle/specs/Lib.antt", "crates/augtrie/proofs/Lemmas.antt":
+            self.run_script("./run")
+            os.utime(os.path.join(self.folder, "crates/augtrie/out/augtrie.current"), (0, 1e9))
+            for other in "crates", "crates.txt":
+                self.age(other)
+            self.behave()
+            self.run_script("./run")
+            self.assertEqual(self.called(), self.BUILT)
+            os.utime(os.path.join(self.folder, "crates/augtrie/out/augtrie.current"), (0, 1e9))
+            os.utime(os.path.join(self.folder, name), (0, 2e9))
+            self.behave()
+            self.run_script("./run")
+            self.assertEqual(self.called(), self.PROVED, name)
+
+    def age(self, name):
+        """Makes a file or all of a folder older than anything else."""
+        path = os.path.join(self.folder, name)
+        for at, folders, files in [(path, [], [""]), *os.walk(path)]:
+            for file in [*folders, *files]:
+                os.utime(os.path.join(at, file).rstrip("/"), (0, 1e8))
+
+    def test_proof_that_fails_is_told(self):
+        said = "so far: 1 of 2 functions checked\nfn low::good: proved\nfn low::bad: NOT PROVED\n"
+        for verb, crate, called in ("lib", "low", self.PROVED[:1]), ("run", "augtrie", self.PROVED):
+            self.behave(said, **{verb: 1})
+            out, err, status = self.run_script("./run", "first.csv")
+            self.assertEqual((out, status), ("", 1))
+            self.assertIn("so far: 1 of 2 functions checked\n", err)
+            self.assertIn("fn low::bad: NOT PROVED\n", err)
+            self.assertNotIn("low::good", err)
+            self.assertIn(f"run: {crate} was not proved or not built", err)
+            self.assertEqual(self.called(), called)
+        # and not taken for proved afterwards
+        self.behave()
+        self.run_script("./run")
+        self.assertEqual(self.called(), self.PROVED)
+
+    def test_unproved_passes_words_on_and_the_file_as_data(self):
+        file = self.write("a script.csv", "0,look\n")
+        self.behave("what it printed\n", **{"try": 4})
+        out, err, status = self.run_script("./run", "--unproved", "--workers", "2", "a script.csv", "")
+        self.assertEqual((out, status), ("what it printed\n", 4))
+        self.assertIn("run: NOT PROVED: ", err)
+        self.assertEqual(self.called(), [f"augtrie: [try] [--data] [script={file}] [--] [--workers] [2] [script] []"])
+
+    def test_unproved_without_a_file(self):
+        self.assertEqual(self.run_script("./run", "--unproved", "--help")[2], 0)
+        self.assertEqual(self.called(), ["augtrie: [try] [--] [--help]"])
+
+
+class Measure(Folder):
+    """tools/measure runs each workload, and places the program where it asks to be."""
+
+    copied = ["tools/measure"]
+
+    def setUp(self):
+        super().setUp()
+        self.write("bin/taskset", '#!/bin/bash\necho "$*" >>"$ROOM/placed"\n', 0o755)
+        self.write("crates/augbench/out/augbench", MEASURING, 0o755)
+
+    def test_measures_each_workload_where_it_is_placed(self):
+        out, err, status = self.run_script("tools/measure", "6")
+        lines = [line for name in "UMPQS" for line in ("place 1 6-6", f"run trie {name} 1 1.000 of bench {name} 6")]
+        self.assertEqual((out.splitlines(), err, status), (lines, "", 0))
+        self.assertEqual(len(self.read("placed").splitlines()), 5)
+
+    def test_program_that_fails_ends_it(self):
+        out, _, status = self.run_script("tools/measure", "0", FAILS="P")
+        self.assertEqual((out.splitlines()[-1], status), ("run trie P 1 1.000 of bench P 0", 1))
+
+    def test_program_that_is_not_built(self):
+        os.remove(os.path.join(self.folder, "crates/augbench/out/augbench"))
+        out, err, status = self.run_script("tools/measure", "0")
+        self.assertEqual(out, "")
+        self.assertIn("augbench", err)
+        self.assertNotEqual(status, 0)
+
+    def test_no_processor_named(self):
+        out, err, status = self.run_script("tools/measure")
+        self.assertEqual((out, status), ("", 1))
+        self.assertIn("usage: tools/measure CPU0", err)
+
+
+class Picture(Folder):
+    """tools/picture has gnuplot draw the middle one of each ratio of its files."""
+
+    copied = ["tools/picture"]
+
+    # What it calls beside gnuplot.
+    CALLED = ["env", "bash", "mktemp", "rm", "awk", "sort", "cat"]
+
+    def setUp(self):
+        super().setUp()
+        # with one thread the lock makes 2, 4 and 5 million a second, and the trie 3, 3 and 10
+        for name, lock, trie in ("one", 2, 3), ("two", 4, 3), ("three", 5, 10):
+            rows = f"place 1 0-0\nopen lock 9.000\nrun lock U 1 {lock}.000\nrun trie U 1 {trie}.000\nrun trie U 2 {2 * trie}.000\n"
+            self.write(name, rows)
+        for name in self.CALLED:
+            os.makedirs(os.path.join(self.folder, "bin"), exist_ok=True)
+            os.symlink(shutil.which(name), os.path.join(self.folder, "bin", name))
+
+    def draw(self, *files):
+        return self.run_script("tools/picture", *files, path=os.path.join(self.folder, "bin"))
+
+    def test_draws_the_middle_of_each_ratio(self):
+        shown = r"""#!/bin/bash
+while read -r line; do
+    if [[ $line =~ ^plot\ \"([^\"]*)/\" ]]; then echo "U: $(cat "${BASH_REMATCH[1]}/U-trie"), $(cat "${BASH_REMATCH[1]}/U-lock")"; fi
+done
+"""
+        self.write("bin/gnuplot", shown, 0o755)
+        out, err, status = self.draw("one", "two", "three")
+        self.assertEqual((out, status), ("U: 1 1.5\n2 3, 1 1\n", 0))
+        self.assertEqual(err, "U lock 1 1\nU trie 1 1.5\nU trie 2 3\n")
+
+    def test_without_gnuplot_it_fails_and_draws_nothing(self):
+        out, err, status = self.draw("one")
+        self.assertEqual((out, status), ("", 127))
+        self.assertIn("gnuplot: command not found", err)
+
+    def test_gnuplot_that_fails_is_told(self):
+        self.write("bin/gnuplot", "#!/bin/bash\ncat >/dev/null\nexit 5\n", 0o755)
+        self.assertEqual(self.draw("one")[2], 5)
+
+    def test_no_file_named(self):
+        self.write("bin/gnuplot", "#!/bin/bash\ncat\n", 0o755)
+        out, err, status = self.draw()
+        self.assertEqual((out, status), ("", 1))
+        self.assertIn("usage: tools/picture FILE..", err)
+
+
+if __name__ == "__main__":
+    sys.exit(programs.run_classes("commands.py", [Run, Measure, Picture]))

@@ -1,0 +1,478 @@
+#!/usr/bin/env python3
+"""Gives the scripts that test the repository what must fail, and holds what they count and their exit status to it.
+
+usage: tests/selftest.py
+
+The last line is 'N passed, M failed', and the exit status is 0 where none failed. It needs Python 3.9 or later and the toolchain.
+"""
+
+import contextlib
+import io
+import os
+import subprocess
+import sys
+import tempfile
+import unittest
+
+import programs
+import refused
+import surface
+from refusing import TESTS, Refusing, compile_c
+
+TOP = os.path.dirname(TESTS)
+
+# The most seconds that one run of a program gets.
+SECONDS = 60
+
+# Makes three requests for memory and two starts of threads, and prints a digit for each: 1 where it was granted, 0 where it was refused
+# with the right number. It keeps so many of its blocks as its first word says, and with a second one it ends by _exit.
+REQUESTS = r"""
+extern void *malloc(unsigned long), *realloc(void *, unsigned long);
+extern void free(void *), _exit(int);
+extern long write(int, const void *, unsigned long);
+extern int *__errno_location(void);
+extern int pthread_create(unsigned long *, const void *, void *(*)(void *), void *), pthread_join(unsigned long, void **);
+
+static char digit(int is_granted, int number, int wanted) { return is_granted ? '1' : number == wanted ? '0' : '?'; }
+static char given(void *block) { return digit(block != 0, *__errno_location(), 12); }
+static void *rest(void *argument) { return argument; }
+
+static char start(void) {
+    unsigned long thread;
+    int number = pthread_create(&thread, 0, rest, 0);
+    if (!number) pthread_join(thread, 0);
+    return digit(!number, number, 11);
+}
+
+int main(int count, char **words) {
+    char said[6] = "";
+    void *first = malloc(10);
+    said[0] = given(first);
+    void *second = realloc(0, 10);
+    said[1] = given(second);
+    void *grown = realloc(second, 1000000);
+    said[2] = given(grown);
+    said[3] = start();
+    said[4] = start();
+    write(1, said, 5);
+    if (words[1][0] < '2') free(grown ? grown : second);
+    if (words[1][0] < '1') free(first);
+    if (count > 2) _exit(0);
+    return 0;
+}
+"""
+
+# Stands in for the built tests of a crate: it lists LISTED, and its one test makes ASKED requests.
+BUILT_TESTS = r"""
+extern void *malloc(unsigned long);
+extern void free(void *);
+extern long write(int, const void *, unsigned long);
+
+int main(int count, char **words) {
+    if (words[1][0] == '-') return write(1, LISTED, sizeof LISTED - 1) < 0;
+    for (int left = ASKED; left; left--) {
+        void *block = malloc(10);
+        if (!block && FAILS) return 101;
+        if (!LEAKS || block && left > 1) free(block);
+    }
+    write(1, ENDING, sizeof ENDING - 1);
+    return STATUS;
+}
+"""
+
+WELL = {
+    "LISTED": '"tests::others: test\\ntests::refused_one: test\\ntests: 2\\n"',
+    "ASKED": 3,
+    "FAILS": 0,
+    "LEAKS": 0,
+    "ENDING": '"\\ntest result: ok\\n"',
+    "STATUS": 0,
+}
+
+
+def quietly(call, *given, **named):
+    """What a call returns, and what it prints."""
+    with contextlib.redirect_stdout(io.StringIO()) as said:
+        returned = call(*given, **named)
+    return returned, said.getvalue()
+
+
+class InFolder(unittest.TestCase):
+    """A test with a folder of its own."""
+
+    def setUp(self):
+        held = tempfile.TemporaryDirectory(prefix="selftest-")
+        self.addCleanup(held.cleanup)
+        self.folder = held.name
+
+    def write(self, name, text, mode=0o644):
+        path = os.path.join(self.folder, name)
+        os.makedirs(os.path.dirname(path), exist_ok=True)
+        with open(path, "w", encoding="utf-8") as file:
+            file.write(text)
+        os.chmod(path, mode)
+        return path
+
+
+class Sample:
+    """Tests for `Programs` to run, of which all but one fail on every program that is not TRUE."""
+
+    TRUE = os.path.realpath("/bin/true")
+
+    def test_passes(self):
+        self.assertTrue(self.program)
+
+    def test_fails(self):
+        self.assertEqual(self.program, self.TRUE)
+
+    def test_goes_wrong(self):
+        if self.program != self.TRUE:
+            raise OSError
+
+    def test_fails_in_parts(self):
+        for part in range(3):
+            with self.subTest(part=part):
+                self.assertEqual(self.program, self.TRUE)
+
+    def test_is_skipped(self):
+        if self.program != self.TRUE:
+            self.skipTest("on this program")
+
+
+class Without:
+    """No tests."""
+
+
+class Programs(InFolder):
+    """tests/programs.py counts what fails."""
+
+    def assert_counts(self, line, tests, *given, **named):
+        status, said = quietly(programs.run, "sample", tests, *given, **named)
+        self.assertEqual(said.splitlines()[-1], line)
+        self.assertEqual(status, 0 if line.endswith(" 0 failed") else 1)
+        return said
+
+    def test_tests_that_pass(self):
+        self.assert_counts("5 passed, 0 failed", Sample, [Sample.TRUE])
+        self.assert_counts("10 passed, 0 failed", Sample, [Sample.TRUE, Sample.TRUE])
+
+    def test_tests_that_fail(self):
+        other = self.write("other", "#!/bin/sh\n", 0o755)
+        self.assert_counts("1 passed, 4 failed", Sample, [other])
+        self.assert_counts("6 passed, 4 failed", Sample, [Sample.TRUE, other])
+
+    def test_program_that_is_not_there(self):
+        missing = os.path.join(self.folder, "missing")
+        said = self.assert_counts("5 passed, 1 failed", Sample, [Sample.TRUE, missing])
+        self.assertIn(f"{missing} is not there", said)
+        self.assert_counts("0 passed, 1 failed", Sample, [missing])
+
+    def test_no_program(self):
+        self.assert_counts("0 passed, 1 failed", Sample, [])
+
+    def test_class_without_tests(self):
+        self.assert_counts("0 passed, 1 failed", Without, [Sample.TRUE])
+        others = [type("Others", (Without, unittest.TestCase), {})]
+        self.assert_counts("5 passed, 1 failed", Sample, [Sample.TRUE], others)
+
+    def test_other_class_that_fails(self):
+        others = [type("Others", (Sample, unittest.TestCase), {"program": "other"})]
+        self.assert_counts("6 passed, 4 failed", Sample, [Sample.TRUE], others)
+
+    def test_too_few_tests_of_a_kind(self):
+        self.assert_counts("5 passed, 0 failed", Sample, [Sample.TRUE], least={"test_fails": 2, "test_": 5})
+        said = self.assert_counts("5 passed, 1 failed", Sample, [Sample.TRUE], least={"test_fails": 3})
+        self.assertIn("has 2 tests test_fails.., and should have 3", said)
+
+
+class Refuse(InFolder):
+    """tests/refuse.c refuses the request and the start of a number, and tells of each block that is not given back."""
+
+    def setUp(self):
+        super().setUp()
+        self.refusing = Refusing(self.folder)
+        self.program = os.path.join(self.folder, "requests")
+        compile_c(self.write("requests.c", REQUESTS), self.program)
+
+    def run_with(self, *words, **which):
+        """What the program said, and its counts."""
+        run = lambda **given: subprocess.run([self.program, *words], stdout=subprocess.PIPE, timeout=SECONDS, check=True, **given).stdout
+        said, counts = self.refusing.counted(run, **which)
+        return said.decode(), tuple(counts)
+
+    def test_counts_requests_and_starts(self):
+        self.assertEqual(self.run_with("0"), ("11111", (3, 2, 0)))
+
+    def test_tells_of_each_block_that_is_kept(self):
+        for ending in [], ["exit"]:
+            self.assertEqual(self.run_with("1", *ending), ("11111", (3, 2, 1)))
+            self.assertEqual(self.run_with("2", *ending), ("11111", (3, 2, 2)))
+
+    def test_refuses_the_request_of_the_number(self):
+        for number, said in enumerate(["01111", "10111", "11011", "11111"], 1):
+            self.assertEqual(self.run_with("0", request=number), (said, (3, 2, 0)))
+
+    def test_refuses_the_start_of_the_number(self):
+        for number, said in enumerate(["11101", "11110", "11111"], 1):
+            self.assertEqual(self.run_with("0", start=number), (said, (3, 2, 0)))
+
+    def test_tells_of_a_block_that_is_kept_behind_a_refusal(self):
+        self.assertEqual(self.run_with("2", request=1), ("01111", (3, 2, 1)))
+
+
+class Refused(InFolder):
+    """tests/refused.py runs each test that stands in the sources, and counts those that fail."""
+
+    SOURCE = "#[test]\nfn others() {}\n\n#[test]\nfn refused_one(rt: HostRuntime) {}\n\nfn refused_helper() {}\n"
+
+    def run_on(self, source=SOURCE, built=True, **changed):
+        """Runs it over a crate with these sources and built tests: its last line, its status, and all that it printed."""
+        self.write("sample/src/tests.rt", source)
+        if built:
+            defined = [f"-D{name}={value}" for name, value in {**WELL, **changed}.items()]
+            program = os.path.join(self.folder, "sample", "out", "sample_tests")
+            os.makedirs(os.path.dirname(program), exist_ok=True)
+            compile_c(self.write("tests.c", BUILT_TESTS), program, ["-w", *defined])
+        status, said = quietly(refused.main, self.folder)
+        return said.splitlines()[-1], status, said
+
+    def assert_fails(self, why, line, **given):
+        last, status, said = self.run_on(**given)
+        self.assertEqual((last, status), (line, 1), said)
+        self.assertIn(why, said)
+
+    def test_each_request_is_refused(self):
+        line, status, said = self.run_on()
+        self.assertEqual((line, status), ("3 passed, 0 failed", 0), said)
+        self.assertIn("tests::refused_one: 3 requests and 0 starts refused in turn", said)
+
+    def test_tests_that_are_not_built(self):
+        self.assert_fails("refused_one is not there to be run", "0 passed, 1 failed", built=False)
+
+    def test_tests_that_are_not_listed(self):
+        self.assert_fails("refused_one is not there to be run", "0 passed, 1 failed", LISTED='"tests: 0\\n"')
+
+    def test_one_of_two_that_is_not_listed(self):
+        two = self.SOURCE + "#[test]\n#[allow(unused)]\nfn refused_two() {}\n"
+        self.assert_fails("refused_two is not there to be run", "3 passed, 1 failed", source=two)
+
+    def test_no_crate_with_such_tests(self):
+        self.assert_fails("no crate", "0 passed, 1 failed", source="#[test]\nfn others() {}\n")
+
+    def test_test_that_makes_no_request(self):
+        self.assert_fails("with nothing refused, 0 requests", "0 passed, 1 failed", ASKED=0)
+
+    def test_test_that_does_not_say_that_it_passed(self):
+        self.assert_fails("with nothing refused", "0 passed, 1 failed", ENDING='"no test was run\\n"')
+
+    def test_test_that_fails_though_it_says_that_it_passed(self):
+        self.assert_fails("with nothing refused", "0 passed, 1 failed", STATUS=3)
+
+    def test_test_that_fails_where_memory_is_refused(self):
+        self.assert_fails("status 101", "0 passed, 3 failed", FAILS=1)
+
+    def test_test_that_keeps_a_block(self):
+        self.assert_fails("1 blocks not given back", "0 passed, 1 failed", LEAKS=1)
+
+
+class Surface(InFolder):
+    """tests/surface.py compares the list of calls with the sources, both ways."""
+
+    SOURCES = {
+        "lib.rt": """
+mod shelf;
+pub use shelf::{Shelf, Lends};
+pub use shelf::count;
+""",
+        "shelf.rt": """
+impl<A: Copy> Shelf<A> {
+    /// Takes a book out.
+    pub fn take(&mut self, number: u32) -> Result<A, Gone>
+        requires room { number < 9 }
+        ensures gone { IsErr result }
+
+        ensures rest { result ≡ result }
+    {
+        self.inner()
+    }
+
+    pub fn size(&self) -> u32 {
+        0
+    }
+
+    pub(crate) fn inner(&self) {}
+}
+
+impl fmt::Display for Shelf<u32> {
+    fn fmt(&self) {}
+}
+
+pub trait Lends {
+    ghost fair: { yes };
+
+    fn lend(&self) -> u32
+        ensures { result ≡ 0 };
+
+    /// What it is.
+    fn name(&self) -> u32;
+}
+
+pub fn count() -> u32 {
+    0
+}
+
+pub fn hidden() -> u32 {
+    0
+}
+""",
+        "tests.rt": "#[test]\nfn takes_one() {}\n",
+    }
+
+    TABLES = """
+| Call | Refusal | Exactly where | What is as it was | Tests | Edits |
+|---|---|---|---|---|---|
+| `take` of `Shelf` | `Gone` | `gone` | `rest` | `takes_one` | `take_gives_none` |
+
+| Crate | Calls | Conditions | Clauses |
+|---|---|---|---|
+| `one` | `take` of `Shelf` | `room`: below 9 | `gone`, `rest` |
+| | `size` of `Shelf`; `count` | | |
+| | `lend`, `name` of `Lends` | | `result`; the law `fair` |
+
+| What is tested | Where |
+|---|---|
+| a book | `takes_one` (`docs/surface.md`) |
+
+"""
+
+    def compare(self, file=None, old="", new="", least=10):
+        """Compares the list with the sources, in one of which a text was put in the place of another: what it printed, and its status."""
+        texts = {"docs/surface.md": self.TABLES, "crates/one/must-fail/take_gives_none.edit": ""}
+        texts.update((f"crates/one/src/{name}", text) for name, text in self.SOURCES.items())
+        if file:
+            self.assertEqual(texts[file].count(old), 1)
+            texts[file] = texts[file].replace(old, new)
+        for name, text in texts.items():
+            self.write(name, text)
+        status, said = quietly(surface.main, self.folder, least)
+        return said, status
+
+    def assert_told(self, why, *changed):
+        said, status = self.compare(*changed)
+        self.assertEqual((said.splitlines()[:-1], status), ([f"docs/surface.md: {why}"], 1))
+        self.assertTrue(said.endswith(" passed, 1 failed\n"), said)
+
+    def test_list_that_agrees(self):
+        self.assertEqual(self.compare(), ("10 passed, 0 failed\n", 0))
+
+    def test_list_that_names_too_little(self):
+        said, status = self.compare(least=11)
+        self.assertIn("the tables name 10 calls, tests and edits, and should name 11", said)
+        self.assertEqual(status, 1)
+
+    def test_call_that_is_not_listed(self):
+        shelf = "crates/one/src/shelf.rt"
+        inner = "    pub(crate) fn inner"
+        self.assert_told("one: put of Shelf is there and not listed", shelf, inner, f"    pub fn put(&mut self) {{}}\n\n{inner}")
+        self.assert_told("one: more of Lends is there and not listed", shelf, "    /// What it is.\n", "    fn more(&self);\n\n    /// What it is.\n")
+        self.assert_told("one: hidden is there and not listed", "crates/one/src/lib.rt", "pub use shelf::count;", "pub use shelf::{count, hidden};")
+
+    def test_listed_call_that_is_gone(self):
+        shelf, list_ = "crates/one/src/shelf.rt", "docs/surface.md"
+        self.assert_told("one: count is listed and not there", shelf, "pub fn count", "fn count")
+        self.assert_told("one: size of Shelf is listed and not there", shelf, "    pub fn size", "    pub(crate) fn size")
+        self.assert_told("one: take of Lends is listed and not there", list_, "`lend`, `name` of", "`lend`, `name`, `take` of")
+        self.assert_told("one: count is listed 2 times", list_, "`lend`, `name` of", "`count`; `lend`, `name` of")
+
+    def test_refusal_that_is_not_listed(self):
+        shelf = "crates/one/src/shelf.rt"
+        self.assert_told("refusals: name of Lends is there and not listed", shelf, "fn name(&self) -> u32;", "fn name(&self) -> Result<u32, Gone>;")
+        self.assert_told("refusals: take of Shelf is listed and not there", shelf, "-> Result<A, Gone>", "-> Option<A>")
+
+    def test_clause_test_or_edit_that_is_not_there(self):
+        list_ = "docs/surface.md"
+        self.assert_told("one: no contract of `take` of `Shelf` has a clause least", list_, "`room`: below 9", "`room`, `least`")
+        self.assert_told("one: no contract of `size` of `Shelf`; `count` has a clause rest", list_, "`count` | | |", "`count` | | `rest` |")
+        self.assert_told("refusals: no contract of take of Shelf has a clause fair", list_, "| `gone` | `rest`", "| `gone`, `fair` | `rest`")
+        self.assert_told("there is no test take_gives_none", list_, "| `takes_one` | `take", "| `take_gives_none` | `take")
+        self.assert_told("there is no test takes_two", list_, "`count` | | |", "`count` | | none: `takes_two` |")
+        self.assert_told("there is no edit takes_one", list_, "`take_gives_none`", "`takes_one`")
+        self.assert_told("there is no test docs/other.md", list_, "(`docs/surface.md`)", "(`docs/other.md`)")
+
+
+class Gate(InFolder):
+    """.ci/run adds up what each of its commands counts, and tests each program as each compiler built it."""
+
+    # A note of rt ci on a program that Rattle's own compiler refused.
+    NOTE = "rt: note: Rattle's own compiler did not compile this program, so only the LLVM build is run: too large"
+
+    def setUp(self):
+        super().setUp()
+        with open(os.path.join(TOP, ".ci", "run"), encoding="utf-8") as file:
+            self.write(".ci/run", file.read(), 0o755)
+        entries = [it for it in os.scandir(TESTS) if it.is_file() and os.access(it.path, os.X_OK)]
+        self.scripts = sorted(it.name for it in entries)
+        for name in self.scripts:
+            self.write(f"tests/{name}", f'#!/bin/sh\necho "{name} $*" >>ran\necho "10 passed, 0 failed"\n', 0o755)
+
+    def run_gate(self, said="7 passed, 0 failed", status=0, built=("augtrie", "augbench")):
+        """Runs it with an rt that says so and ends so: its last line, its status, and what it ran."""
+        for name in "augtrie", "augbench":
+            self.write(f"crates/{name}/out/{name}", "", 0o755)
+        for name in built:
+            self.write(f"crates/{name}/out/{name}.by-rattle", "", 0o755)
+        self.write("said", said + "\n")
+        self.write("ran", "")
+        self.write("bin/rt", f'#!/bin/sh\necho "rt $*" >>ran\ncat said\nexit {status}\n', 0o755)
+        path = f"{self.folder}/bin:{os.environ['PATH']}"
+        ran = subprocess.run([os.path.join(self.folder, ".ci", "run")], env={**os.environ, "PATH": path}, stdout=subprocess.PIPE, timeout=SECONDS)
+        with open(os.path.join(self.folder, "ran"), encoding="utf-8") as file:
+            return ran.stdout.decode().splitlines()[-1], ran.returncode, file.read().splitlines()
+
+    def test_runs_every_script(self):
+        line, status, ran = self.run_gate()
+        self.assertEqual(ran[0], "rt ci")
+        self.assertEqual(sorted(row.split()[0] for row in ran[1:]), self.scripts)
+        self.assertEqual((line, status), (f"{7 + 10 * len(self.scripts)} passed, 0 failed", 0))
+
+    def test_failures_are_added_up(self):
+        self.write("tests/refused.py", "#!/bin/sh\necho 3 passed, 2 failed\nexit 1\n", 0o755)
+        line, status, _ = self.run_gate("7 passed, 4 failed", 1)
+        self.assertEqual((line, status), (f"{10 * len(self.scripts)} passed, 6 failed", 1))
+
+    def test_command_that_does_not_count_fails(self):
+        rest = 10 * len(self.scripts)
+        for said, ends, wanted in [("7 passed", 0, f"{rest} passed, 1 failed"), ("7 passed, 0 failed", 3, f"{rest + 7} passed, 1 failed")]:
+            line, status, _ = self.run_gate(said, ends)
+            self.assertEqual((line, status), (wanted, 1))
+
+    def programs_of(self, script, **given):
+        """The programs that a script was given."""
+        (row,) = [row for row in self.run_gate(**given)[2] if row.startswith(script)]
+        return row.split()[1:]
+
+    def test_both_builds_are_tested(self):
+        built = ["crates/augtrie/out/augtrie", "crates/augtrie/out/augtrie.by-rattle"]
+        self.assertEqual(self.programs_of("outside.py"), built)
+
+    def test_build_that_is_not_there_is_asked_for(self):
+        # so that the script counts it as one that failed
+        for said in "7 passed, 0 failed", f"== augbench\n{self.NOTE}\n== augtrie\n7 passed, 0 failed":
+            asked = self.programs_of("outside.py", said=said, built=())
+            self.assertEqual(asked, ["crates/augtrie/out/augtrie", "crates/augtrie/out/augtrie.by-rattle"])
+
+    def test_build_that_was_refused_is_not_asked_for(self):
+        said = f"== augtrie\n{self.NOTE}\nrt: augtrie proved\n== augbench\nrt: augbench proved\n7 passed, 0 failed"
+        self.assertEqual(self.programs_of("outside.py", said=said, built=("augbench",)), ["crates/augtrie/out/augtrie"])
+
+
+def main():
+    tests = unittest.defaultTestLoader.loadTestsFromModule(sys.modules[__name__])
+    result = unittest.TextTestRunner(sys.stdout, verbosity=2).run(tests)
+    failed = len(result.failures) + len(result.errors) + len(result.skipped) or int(not result.testsRun)
+    print(f"{result.testsRun - failed} passed, {failed} failed")
+    return 1 if failed else 0
+
+
+if __name__ == "__main__":
+    sys.exit(main())

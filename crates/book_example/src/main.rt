@@ -1,11 +1,14 @@
 //! An order book by price: one thread bids, one offers, and a third reads best prices and volumes meanwhile.
 #![tactic(auto)]
 
-ghost use Rattle.std.specs.Prelude.{◌≡◌, ◌+◌, ◌≤◌};
+ghost use Rattle.std.specs.Prelude.{◌≡◌, ◌+◌, ◌≤◌, IfOk};
+ghost use Rattle.aug_trie.specs.Facts.{HasSnapshot};
+ghost use Rattle.aug_trie.specs.Nodes.{set_at};
+ghost use Rattle.book_example.specs.Bids.{agrees};
 
 use aug_monoid::{Extent, Sum};
 use aug_query::{after, before, range, weight};
-use aug_trie::{Ended, Pass, PassHalf, Round};
+use aug_trie::{Ended, Pass, PassHalf, Round, Snapshot};
 use std::alloc::Global;
 use std::thread;
 use std::thread::Threads;
@@ -43,15 +46,17 @@ fn trade(book: &Book, half: Half, lowest: u32) -> Half
 
 // Whether a snapshot agrees with itself: the best bid is the greatest of the bids, and from there to the middle there is its
 // volume and no more. A snapshot stays what it is, so this holds whatever the other threads do meanwhile.
-fn agrees(pass: &mut Pass<Sum, Extent>) -> bool
-    ensures { pass.new.round ≡ pass.old.round }
+fn agrees(pass: &mut Pass<Sum, Extent>, now: Snapshot) -> bool
+    requires snapshot { HasSnapshot pass.old now.number }
+    ensures round { pass.new.round ≡ pass.old.round }
+    ensures agrees { result ≡ agrees (set_at pass.old now) }
 {
-    let now = pass.snapshot();
     let bids = pass.range(now, 0, MIDDLE);
     match (pass.before(now, MIDDLE), bids.b.bounds()) {
         (Some(best), Some((_, greatest))) => {
             let depth = pass.range(now, best, MIDDLE).a.value();
-            best == greatest && pass.weight(now, best).map(u64::from) == Some(depth)
+            let volume = pass.weight(now, best).unwrap_or(0);
+            best == greatest && u64::from(volume) == depth
         }
         (None, None) => bids.count == 0,
         _ => false,
@@ -66,7 +71,8 @@ fn watch(book: &Book, half: Half) -> (Half, bool)
     let mut pass = book.pass(half);
     let mut all = true;
     for _ in 0..500 {
-        all &= agrees(&mut pass);
+        let now = pass.snapshot();
+        all &= agrees(&mut pass, now);
     }
     (pass.into_half(), all)
 }
@@ -97,7 +103,9 @@ fn at_work<R: Threads + Sync>(
 }
 
 // A round over an empty book: what it ends with, and whether each snapshot agreed with itself.
-fn day<R: Threads + Sync>(rt: &R, alloc: Global) -> anyhow::Result<(Ended<Sum, Extent>, bool)> {
+fn day<R: Threads + Sync>(rt: &R, alloc: Global) -> anyhow::Result<(Ended<Sum, Extent>, bool)>
+    ensures all_back { IfOk result (λ r. r.0.missing ≡ 0) }
+{
     let empty = Ended::empty(alloc, 12)?;
     // For three passes with 200 updates each. All memory is taken here, and where it is refused the book comes back.
     let (book, mut crew) = match Round::begin(alloc, empty, 3, 200) {
@@ -122,6 +130,8 @@ fn main(rt: HostRuntime) -> anyhow::Result<()> {
     println!(rt; "{came} orders came, {went} went, {left} are left")?;
     let answer = if agreed { "yes" } else { "no" };
     println!(rt; "each snapshot agreed with itself: {answer}")?;
+    let missing = ended.missing();
+    println!(rt; "{missing} passes missing")?;
     let near = range(&mut ended, 1_950, 2_050);
     let (count, sum) = (near.count, near.a.value());
     println!(rt; "{count} from 1950 to 2049, volume {sum}")?;

@@ -40,7 +40,8 @@ fn fill(
 // A round of two threads, which put in what 3 divides and what 5 divides.
 fn in_threads<R: Threads + Sync>(rt: &R, alloc: Global, index: Index) -> anyhow::Result<Index>
     requires { index.bits ≡ 5 }
-    ensures { IfOk result (λ new. new.bits ≡ 5) }
+    ensures bits { IfOk result (λ new. new.bits ≡ 5) }
+    ensures all_back { IfOk result (λ new. new.missing ≡ 0) }
 {
     // For two passes with 32 updates each. All memory is taken here, and where it is refused the index comes back.
     let (round, mut crew) = match Round::begin(alloc, index, 2, 32) {
@@ -59,6 +60,7 @@ fn in_threads<R: Threads + Sync>(rt: &R, alloc: Global, index: Index) -> anyhow:
 // A round of one pass, which stays where it is and so needs no half: it puts 1 in the place of 0.
 fn alone(alloc: Global, index: Index) -> anyhow::Result<Index>
     requires { index.bits ≡ 5 }
+    ensures all_back { IfOk result (λ new. new.missing ≡ 0) }
 {
     // The round opens with the keys that the one before ended with.
     let (round, mut crew) = match Round::begin(alloc, index, 1, 2) {
@@ -91,7 +93,7 @@ fn main(rt: HostRuntime) -> anyhow::Result<()> {
     show(&rt, alloc, &mut index)?;
     let mut index = alone(alloc, index)?;
     show(&rt, alloc, &mut index)?;
-    let (came, went) = (index.inserts(), index.removals());
-    println!(rt; "{came} came and {went} went")?;
+    let (came, went, missing) = (index.inserts(), index.removals(), index.missing());
+    println!(rt; "{came} came and {went} went, {missing} passes missing")?;
     Ok(())
 }

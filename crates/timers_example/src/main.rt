@@ -1,11 +1,14 @@
 //! A scheduler's timer wheel: two threads arm and cancel timers, and a third asks meanwhile how many are due and what is next.
 #![tactic(auto)]
 
-ghost use Rattle.std.specs.Prelude.{◌≡◌, ◌+◌, ◌^◌, ◌<◌, ◌≤◌};
+ghost use Rattle.std.specs.Prelude.{◌≡◌, ◌+◌, ◌^◌, ◌<◌, ◌≤◌, IfOk};
+ghost use Rattle.aug_trie.specs.Facts.{HasSnapshot};
+ghost use Rattle.aug_trie.specs.Nodes.{set_at};
+ghost use Rattle.timers_example.specs.Due.{agrees};
 
 use aug_monoid::{Nothing, Sum};
 use aug_query::{after, range};
-use aug_trie::{Ended, Pass, PassHalf, Round};
+use aug_trie::{Ended, Pass, PassHalf, Round, Snapshot};
 use std::alloc::Global;
 use std::thread;
 use std::thread::Threads;
@@ -51,14 +54,15 @@ fn serve(wheel: &Wheel, half: Half, digit: u32) -> Half
 
 // Whether a snapshot agrees with itself: no timer is due between a tick and the next one with timers. A snapshot stays what it
 // is, so this holds whatever the other threads do meanwhile.
-fn agrees(pass: &mut Pass<Sum, Nothing>, tick: u32) -> bool
-    requires { tick < 1024 }
-    ensures { pass.new.round ≡ pass.old.round }
+fn agrees(pass: &mut Pass<Sum, Nothing>, now: Snapshot, tick: u32) -> bool
+    requires tick { tick < 1024 }
+    requires snapshot { HasSnapshot pass.old now.number }
+    ensures round { pass.new.round ≡ pass.old.round }
+    ensures agrees { result ≡ agrees (set_at pass.old now) tick }
 {
-    let now = pass.snapshot();
-    let due = pass.range(now, 0, tick + 1).a;
+    let due = pass.range(now, 0, tick + 1).a.value();
     let next = pass.after(now, tick).unwrap_or(1024);
-    pass.range(now, 0, next).a == due
+    pass.range(now, 0, next).a.value() == due
 }
 
 // Looks at each tick, from a new snapshot: whether each of them agreed with itself.
@@ -69,7 +73,8 @@ fn watch(wheel: &Wheel, half: Half) -> (Half, bool)
     let mut pass = wheel.pass(half);
     let mut all = true;
     for tick in 0..1024 {
-        all &= agrees(&mut pass, tick);
+        let now = pass.snapshot();
+        all &= agrees(&mut pass, now, tick);
     }
     (pass.into_half(), all)
 }
@@ -100,7 +105,9 @@ fn at_work<R: Threads + Sync>(
 }
 
 // A round over an empty wheel: what it ends with, and whether each snapshot agreed with itself.
-fn round<R: Threads + Sync>(rt: &R, alloc: Global) -> anyhow::Result<(Ended<Sum, Nothing>, bool)> {
+fn round<R: Threads + Sync>(rt: &R, alloc: Global) -> anyhow::Result<(Ended<Sum, Nothing>, bool)>
+    ensures all_back { IfOk result (λ r. r.0.missing ≡ 0) }
+{
     let empty = Ended::empty(alloc, 10)?;
     // For three passes with 300 updates each. All memory is taken here, and where it is refused the wheel comes back.
     let (wheel, mut crew) = match Round::begin(alloc, empty, 3, 300) {
@@ -126,6 +133,8 @@ fn main(rt: HostRuntime) -> anyhow::Result<()> {
     println!(rt; "{armed} armed, {left} left, at {ticks} ticks")?;
     let answer = if agreed { "yes" } else { "no" };
     println!(rt; "each snapshot agreed with itself: {answer}")?;
+    let missing = ended.missing();
+    println!(rt; "{missing} passes missing")?;
     let due = range(&mut ended, 0, 512).a.value();
     if let Some(next) = after(&mut ended, 511) {
         println!(rt; "{due} due before tick 512, the next at tick {next}")?;

@@ -12,3 +12,4 @@ pub mod RowsInTurn
 pub mod OwnUpdates
 pub mod Puts
 pub mod LostPuts
+pub mod SeenPuts

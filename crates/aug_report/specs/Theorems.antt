@@ -122,7 +122,12 @@ abbrev pub SetKeepsTheKey : Type 0
 SetKeepsTheKey = (k w bits number size inserts removals : ℕ) (members closing : List (ℕ × ℕ)) → k < 2 ^ bits → is_member (keys_of members) k ≡ true
     → AllowedReport bits 2 members (report_with number (put_and_query k w reply.Set (verb.Has k) reply.No) size inserts removals) closing → ⊥
 
--- one lane puts a key in, and another sees it with a weight that nobody put: no report has that
+-- one lane puts a key in with a weight, and another sees it so: that may be
+abbrev pub WeightIsSeen : Type 0
+WeightIsSeen = (k w bits : ℕ) → k < 2 ^ bits
+    → AllowedReport bits 2 [] (report_with 1 (put_and_query k w reply.New (verb.Weight k) (reply.Found (Some w))) 1 1 0) ((k, w) ∷ [])
+
+-- but not with a weight that nobody put
 abbrev pub WeightsWerePut : Type 0
 WeightsWerePut = (k w v bits number size inserts removals : ℕ) (members closing : List (ℕ × ℕ)) → is_member (keys_of members) k ≡ false → v ≢ w
     → AllowedReport bits 2 members (report_with number (put_and_query k w reply.New (verb.Weight k) (reply.Found (Some v))) size inserts removals) closing → ⊥

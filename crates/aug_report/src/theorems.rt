@@ -1,5 +1,5 @@
 //! Theorems over the definitions, each a clause of a function that does nothing.
-ghost use Rattle.aug_report.specs.Theorems.{HasOneReport, InTurnIsAllowed, LostHasCause, NewChanges, NextRoundGoesOn, NotBothNew, NotBothOld, OldHasCause, OneOfTwoIsNew, SeesItsInsertion, SetKeepsTheKey, SizesAddUp, SnapshotsShowAccepted, ThreeAtOnce, TotalsCountLines, WeightsWerePut};
+ghost use Rattle.aug_report.specs.Theorems.{HasOneReport, InTurnIsAllowed, LostHasCause, NewChanges, NextRoundGoesOn, NotBothNew, NotBothOld, OldHasCause, OneOfTwoIsNew, SeesItsInsertion, SetKeepsTheKey, SizesAddUp, SnapshotsShowAccepted, ThreeAtOnce, TotalsCountLines, WeightIsSeen, WeightsWerePut};
 
 /// Of two lanes that insert one key into a set without it, one has `new` and the other `old`, whichever it is.
 pub fn two_insertions()
@@ -45,6 +45,7 @@ pub fn rounds()
 /// While a weight is replaced no snapshot is without the key, each weight that shows was put, and a put is lost only where something changed.
 pub fn weights()
     ensures set_keeps_the_key { SetKeepsTheKey }
+    ensures is_seen { WeightIsSeen }
     ensures were_put { WeightsWerePut }
     ensures lost_has_cause { LostHasCause }
 {}

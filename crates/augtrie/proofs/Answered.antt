@@ -1,7 +1,7 @@
 -- The rows of a lane that were answered, and one more.
 use Rattle.std.proofs.Common.{List, [], ◌∷◌, ◌++◌, refl, ap, ◌∙◌}
 use Rattle.std.proofs.lemmas.List.{map-append}
-use Rattle.augtrie.specs.AllowedReport.{Lane, Answers, AnswersAll}
+use Rattle.aug_report.specs.AllowedReport.{Lane, Answers, AnswersAll}
 use Rattle.augtrie.specs.Workers.{AnswersRows}
 use Rattle.aug_script.specs.declared.reply.Reply.{Reply}
 use Rattle.aug_script.specs.declared.row.Row.{Row}

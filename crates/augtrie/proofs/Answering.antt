@@ -6,7 +6,7 @@ use Rattle.aug_trie.specs.Facts.{PassFacts, HasSnapshot}
 use Rattle.aug_trie.specs.Nodes.{Keeps, Stays, set_at}
 use Rattle.aug_trie.specs.Updates.{AcceptedUpdate, RefusedUpdate, PutsIn}
 use Rattle.aug_trie.specs.declared.snapshot.Snapshot.{Snapshot}
-use Rattle.augtrie.specs.AllowedReport.{AnswersUpdate, AnswersPut, Asks, reply_to_put}
+use Rattle.aug_report.specs.AllowedReport.{AnswersUpdate, AnswersPut, Asks, reply_to_put}
 use Rattle.augtrie.specs.Workers.{lane_of}
 use Rattle.aug_script.specs.declared.reply.Reply.{Reply}
 

@@ -7,7 +7,7 @@ use Rattle.aug_trie.specs.Crews.{CrewFacts}
 use Rattle.aug_trie.specs.Facts.{RoundFacts}
 use Rattle.aug_trie.specs.Knowledge.{Knowledge}
 use Rattle.aug_trie.specs.Passes.{HandedBack}
-use Rattle.augtrie.specs.AllowedReport.{Lane, AnswersAll, lines_of}
+use Rattle.aug_report.specs.AllowedReport.{Lane, AnswersAll, lines_of}
 use Rattle.augtrie.specs.Returns.{AreAnswered, AreInOrder, RanLanes, WentBack}
 use Rattle.augtrie.specs.Rounds.{BacksAll}
 use Rattle.augtrie.specs.Workers.{RunsTo, opening_of, rows_of}

@@ -1,11 +1,6 @@
 pub mod CommandLineLemmas
 pub mod OptionReads
 pub mod Printing
-pub mod Histories
-pub mod Advances
-pub mod SetChanges
-pub mod Lanes
-pub mod OneLane
 pub mod Rounds
 pub mod Answering
 pub mod Taking

@@ -13,8 +13,8 @@ use Rattle.aug_script.specs.Replies.{report_of}
 use Rattle.aug_script.specs.ReportText.{report_text}
 use Rattle.aug_script.specs.declared.report.Report.{Report}
 use Rattle.aug_script.specs.declared.script_round.ScriptRound.{ScriptRound}
-use Rattle.augtrie.specs.AllowedReport.{AllowedReport, AllowedReports, IsReportOf}
-use Rattle.augtrie.specs.InTurn.{IsInTurn}
+use Rattle.aug_report.specs.AllowedReport.{AllowedReport, AllowedReports, IsReportOf}
+use Rattle.aug_report.specs.InTurn.{IsInTurn}
 use Rattle.augtrie.specs.Runs.{MayHave, OfOneLane, Prints, PrintsInPart, reports_of, texts_of}
 
 module _ (workers : ℕ) where

@@ -1,22 +1,15 @@
 -- A round that ran and ended has an allowed report.
-use Rattle.std.proofs.Common.{◌≡◌, ℕ, ◌<◌, List, [], ◌∷◌, length, map, sym, ap, ◌∙◌, subst, arith, All}
-use Rattle.std.proofs.lemmas.List.Elements.{All-nil, All-cons, All-head, All-tail}
+use Rattle.std.proofs.Common.{◌≡◌, ℕ, ◌<◌, List, length, sym, ap, ◌∙◌, subst, arith, All}
 use Rattle.aug_model.specs.Keys.{IsKeySet, keys_of}
 use Rattle.aug_trie.specs.Crews.{CrewFacts, EndedFacts, Ends}
 use Rattle.aug_trie.specs.Facts.{RoundFacts}
-use Rattle.augtrie.specs.AllowedReport.{AllowedReport}
-use Rattle.augtrie.specs.InTurn.{IsInTurn}
+use Rattle.aug_report.specs.AllowedReport.{AllowedReport}
+use Rattle.aug_report.specs.InTurn.{IsInTurn}
 use Rattle.augtrie.specs.Returns.{RanLanes}
-use Rattle.aug_script.specs.declared.reply.Reply.{Reply}
 use Rattle.aug_script.specs.declared.report.Report.{Report}
 use Rattle.aug_script.specs.declared.row.Row.{Row}
-use Rattle.augtrie.proofs.OneLane.{one_report}
+use Rattle.aug_report.proofs.OneLane.{of_lines, one_lane_in_turn}
 use Rattle.augtrie.proofs.Rounds.{round_allowed}
-
--- what holds of each row holds of each line's
-of_lines : (P : Row → Type 0) (lines : List (Row × Reply)) → All P (map (λ line. line.0) lines) → All (λ line. P line.0) lines
-of_lines P [] all = All-nil (λ (line : Row × Reply). P line.0)
-of_lines P (line ∷ lines) all = All-cons (λ (l : Row × Reply). P l.0) line lines (All-head P line.0 (map (λ (l : Row × Reply). l.0) lines) all) (of_lines P lines (All-tail P line.0 (map (λ (l : Row × Reply). l.0) lines) all))
 
 module _ (bits workers : ℕ) (members : List (ℕ × ℕ)) (round : RoundFacts) (crew : CrewFacts) (closed : EndedFacts) (rows : List Row) (report : Report)
     (bits_are : round.bits ≡ bits) (members_are : round.members ≡ members) (workers_are : round.workers ≡ workers)
@@ -41,6 +34,4 @@ module _ (bits workers : ℕ) (members : List (ℕ × ℕ)) (round : RoundFacts)
       (size ∙ ap (λ (l : List (ℕ × ℕ)). length l) ends.members) (inserts ∙ ends.inserts) (removals ∙ ends.removals))
 
   pub in_turn : IsKeySet bits (keys_of members) → IsInTurn workers report.number members rows report closed.members
-  in_turn keys lane exists all =
-      let one = one_report bits workers members report closed.members keys allowed lane exists (of_lines (λ row. row.lane ≡ lane) report.rows (rw ran.rows_are all)) in
-      rw ran.rows_are at one
+  in_turn keys = subst (λ (z : List Row). IsInTurn workers report.number members z report closed.members) ran.rows_are (one_lane_in_turn bits workers members report closed.members keys allowed)

@@ -6,10 +6,10 @@ use Rattle.aug_trie.specs.History.{Begins, IsHistory, last_cut}
 use Rattle.aug_core.specs.declared.view.Change.{Change}
 use Rattle.aug_trie.specs.Knowledge.{Knowledge, inserts_of, removals_of}
 use Rattle.aug_trie.specs.Tallies.{Tallies, TalliesWithLost, Weighs}
-use Rattle.augtrie.specs.AllowedReport.{AllowedReport, Lane, Opens, AnswersAll, changes_of, lines_of}
+use Rattle.aug_report.specs.AllowedReport.{AllowedReport, Lane, Opens, AnswersAll, changes_of, lines_of}
 use Rattle.augtrie.specs.Rounds.{BacksAll, Started}
 use Rattle.aug_script.specs.declared.report.Report.{Report}
-use Rattle.augtrie.proofs.Histories.{begins-same}
+use Rattle.aug_report.proofs.Histories.{begins-same}
 use Rattle.aug_trie.proofs.Pieces.{begins_on}
 use Rattle.aug_trie.proofs.Tallying.{none_lost_tallies}
 use Rattle.aug_trie.proofs.TallyLemmas.{none_lost_weighs}

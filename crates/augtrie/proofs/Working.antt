@@ -4,7 +4,7 @@ use Rattle.std.proofs.lemmas.Bool.{eq-eqb, ne_eqb}
 use Rattle.std.proofs.lemmas.List.Filters.{length-filter_more}
 use Rattle.aug_trie.specs.Facts.{RoundFacts, PassFacts, HasSnapshot}
 use Rattle.aug_trie.specs.declared.snapshot.Snapshot.{Snapshot}
-use Rattle.augtrie.specs.AllowedReport.{Lane, Answers}
+use Rattle.aug_report.specs.AllowedReport.{Lane, Answers}
 use Rattle.aug_script.specs.Script.{is_update, updates_of}
 use Rattle.augtrie.specs.Workers.{AnswersRows, lane_of, rows_of}
 use Rattle.aug_script.specs.declared.reply.Reply.{Reply}

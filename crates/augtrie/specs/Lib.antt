@@ -2,8 +2,6 @@ pub mod CommandLine
 pub mod Faults
 pub mod Program
 pub mod Runs
-pub mod AllowedReport
-pub mod InTurn
 pub mod Returns
 pub mod Rounds
 pub mod Threads

@@ -3,7 +3,7 @@ use Rattle.std.specs.Prelude.{◌≡◌, ℕ, ◌<◌, List, [], ◌∷◌, leng
 use Rattle.aug_trie.specs.Crews.{CrewFacts}
 use Rattle.aug_trie.specs.Facts.{RoundFacts}
 use Rattle.aug_trie.specs.Knowledge.{Knowledge}
-use Rattle.augtrie.specs.AllowedReport.{Lane, AnswersAll, lines_of}
+use Rattle.aug_report.specs.AllowedReport.{Lane, AnswersAll, lines_of}
 use Rattle.augtrie.specs.Rounds.{BacksAll, Started}
 use Rattle.augtrie.specs.Workers.{RunsTo, opening_of, rows_of}
 use Rattle.aug_script.specs.declared.reply.Reply.{Reply}

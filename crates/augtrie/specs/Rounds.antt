@@ -5,7 +5,7 @@ use Rattle.aug_trie.specs.History.{Begins}
 use Rattle.aug_trie.specs.Knowledge.{Knowledge}
 use Rattle.aug_trie.specs.Passes.{HandedBack, HandedOut}
 use Rattle.aug_trie.specs.Updates.{TakesSnapshot}
-use Rattle.augtrie.specs.AllowedReport.{Lane}
+use Rattle.aug_report.specs.AllowedReport.{Lane}
 
 -- the pass was handed out by a crew that knew the opening cut
 pub record WasHandedOut (opening : Cut) (pass : Knowledge) : Type 0 where

@@ -10,7 +10,7 @@ use Rattle.aug_script.specs.Script.{rounds_of}
 use Rattle.aug_script.specs.declared.report.Report.{Report}
 use Rattle.aug_script.specs.declared.script_round.ScriptRound.{ScriptRound}
 use Rattle.aug_script.specs.declared.script_error.ScriptError.{ScriptError}
-use Rattle.augtrie.specs.AllowedReport.{AllowedReports}
+use Rattle.aug_report.specs.AllowedReport.{AllowedReports}
 
 -- how many bytes a script may have
 abbrev pub script_limit : ℕ

@@ -3,7 +3,7 @@ use Rattle.std.specs.Prelude.{◌≡◌, ℕ, ◌<◌, ◌≤◌, ◌==◌, List
 use Rattle.aug_core.specs.Cuts.{Cut, opening_cut}
 use Rattle.aug_trie.specs.Facts.{RoundFacts, PassFacts, snapshot_cut}
 use Rattle.aug_trie.specs.declared.snapshot.Snapshot.{Snapshot}
-use Rattle.augtrie.specs.AllowedReport.{Lane, AnswersAll}
+use Rattle.aug_report.specs.AllowedReport.{Lane, AnswersAll}
 use Rattle.aug_script.specs.Limits.{Bounds}
 use Rattle.augtrie.specs.Rounds.{WasHandedOut, Started}
 use Rattle.aug_script.specs.declared.reply.Reply.{Reply}

@@ -1,7 +1,7 @@
 //! One row, run by a pass.
 ghost use Rattle.std.specs.Prelude.{◌≡◌, ◌+◌, ◌<◌, IsTrue, if◌then◌else◌};
 ghost use Rattle.aug_trie.specs.Facts.{HasSnapshot};
-ghost use Rattle.augtrie.specs.AllowedReport.{Answers, reply_to_put};
+ghost use Rattle.aug_report.specs.AllowedReport.{Answers, reply_to_put};
 ghost use Rattle.aug_script.specs.Script.{is_in_bounds, is_update};
 ghost use Rattle.augtrie.specs.Workers.{lane_of};
 

@@ -2,8 +2,8 @@
 ghost use Rattle.std.specs.Prelude.{◌≡◌, ◌+◌, ◌≤◌, length, Err, IfOk, OnErr};
 ghost use Rattle.aug_model.specs.Keys.{IsKeySet, keys_of};
 ghost use Rattle.aug_trie.specs.Crews.{BeginsRound};
-ghost use Rattle.augtrie.specs.AllowedReport.{AllowedReport, IsReportOf};
-ghost use Rattle.augtrie.specs.InTurn.{IsInTurn};
+ghost use Rattle.aug_report.specs.AllowedReport.{AllowedReport, IsReportOf};
+ghost use Rattle.aug_report.specs.InTurn.{IsInTurn};
 ghost use Rattle.augtrie.specs.Returns.{HasBegun, RanLanes};
 ghost use Rattle.aug_script.specs.Limits.{IsBounds, bounds_at};
 ghost use Rattle.aug_script.specs.Script.{KeepsLimits};

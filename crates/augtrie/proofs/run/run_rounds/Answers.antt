@@ -3,8 +3,8 @@ use Rattle.std.proofs.lemmas.List.{take_all, get_or_default}
 use Rattle.aug_script.specs.Limits.{bounds_at}
 use Rattle.aug_script.specs.Script.{KeepsLimits}
 use Rattle.aug_script.specs.declared.script_round.ScriptRound.{ScriptRound}
-use Rattle.augtrie.specs.AllowedReport.{IsReportOf}
-use Rattle.augtrie.specs.InTurn.{IsInTurn}
+use Rattle.aug_report.specs.AllowedReport.{IsReportOf}
+use Rattle.aug_report.specs.InTurn.{IsInTurn}
 use Rattle.augtrie.specs.Runs.{Prints}
 use Rattle.augtrie.proofs.Printing.{Printed, printed_none, prints_first, printed_more, prints_in_part}
 use Rattle.augtrie.proofs.run.run_rounds.Goals as goal

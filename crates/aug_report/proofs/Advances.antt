@@ -6,7 +6,7 @@ use Rattle.aug_core.specs.Counts.{change}
 use Rattle.aug_core.specs.Cuts.{Cut, shown_of, serial_of, IsAtMost}
 use Rattle.aug_core.specs.declared.view.Change.{Change}
 use Rattle.aug_trie.specs.Tallies.{times, Tallies}
-use Rattle.augtrie.proofs.Histories.{Below}
+use Rattle.aug_report.proofs.Histories.{Below}
 use Rattle.aug_trie.proofs.TallyLemmas.{counted-append, counted-cons, exactly, times_first, none_low, none_high, once_between}
 
 -- the changes show in a cut
@@ -94,14 +94,14 @@ pub record ChangesOne (c d : Cut) (k first last : ℕ) : Type 0 where
 times_single : (k n w m : ℕ) → times k m (change k n w ∷ []) ≡ one_if (k == k && n == m)
 times_single k n w m = omega (arith, counted-cons (exactly k m) (change k n w) [])
 
-times_this : (k n w m : ℕ) → times k m (change k n w ∷ []) ≡ 1 → m ≡ n
+pub times_this : (k n w m : ℕ) → times k m (change k n w ∷ []) ≡ 1 → m ≡ n
 times_this k n w m is =
     elim (cases_eq n m) [
       | inl e ↦ sym e
       | inr ne ↦ absurd (omega (arith, is, times_single k n w m, ap one_if (and_right (k == k) (n == m) (ne_eqb n m ne))))
     ]
 
-times_other : (k n w j m : ℕ) → (j ≡ k → ⊥) → times j m (change k n w ∷ []) ≡ 0
+pub times_other : (k n w j m : ℕ) → (j ≡ k → ⊥) → times j m (change k n w ∷ []) ≡ 0
 times_other k n w j m other = rw (ne_eqb k j (λ e. other (sym e)))
 
 -- where one change happened, its key's serial went up by one, to its number
@@ -121,7 +121,7 @@ tally_one c d k n w le tallies =
       ];
     }
 
-times_either : (k n w v m : ℕ) → times k m (change k n w ∷ change k (n + 1) v ∷ []) ≡ 1 → (m ≡ n) ⊎ (m ≡ n + 1)
+pub times_either : (k n w v m : ℕ) → times k m (change k n w ∷ change k (n + 1) v ∷ []) ≡ 1 → (m ≡ n) ⊎ (m ≡ n + 1)
 times_either k n w v m is =
     elim (cases_eq n m) [
       | inl e ↦ inl (sym e)

@@ -3,23 +3,24 @@ use Rattle.std.proofs.Common.{◌≡◌, ℕ, zero, suc, ◌<◌, ◌≤◌, Lis
 use Rattle.std.specs.Prelude.{zip}
 use Rattle.std.proofs.lemmas.Bool.{eq-eqb, ne_eqb}
 use Rattle.std.proofs.lemmas.List.{append-nil}
-use Rattle.std.proofs.lemmas.List.Elements.{All-nil, All-head, All-tail}
+use Rattle.std.proofs.lemmas.List.Elements.{All-nil, All-cons, All-head, All-tail}
 use Rattle.aug_model.specs.Keys.{IsKeySet, keys_of}
 use Rattle.aug_core.specs.Cuts.{Cut, serial_of, pairs_of_cut, opening_cut}
 use Rattle.aug_trie.specs.History.{last_cut, IsHistory}
 use Rattle.aug_core.specs.declared.view.Change.{Change}
 use Rattle.aug_trie.specs.Knowledge.{inserts_of, removals_of}
 use Rattle.aug_trie.specs.Tallies.{Tallies}
-use Rattle.augtrie.specs.AllowedReport.{Lane, AnswersAll, RunsLane, AllowedReport, lines_of, changes_of}
+use Rattle.aug_report.specs.AllowedReport.{Lane, AnswersAll, RunsLane, AllowedReport, lines_of, changes_of}
+use Rattle.aug_report.specs.InTurn.{IsInTurn}
 use Rattle.aug_script.specs.Replies.{Sets, replies_of, sets_of, opening_sets, report_of, count_of, is_insertion, is_removal}
 use Rattle.aug_script.specs.declared.reply.Reply.{Reply}
 use Rattle.aug_script.specs.declared.report.Report.{Report}
 use Rattle.aug_script.specs.declared.row.Row.{Row}
 use Rattle.aug_trie.proofs.CutLemmas.{same_cut, pairs_of_cut-opening}
-use Rattle.augtrie.proofs.Histories.{below_of, opening-at_most, opens-some, last-at_most_final}
+use Rattle.aug_report.proofs.Histories.{below_of, opening-at_most, opens-some, last-at_most_final}
 use Rattle.aug_trie.proofs.Pieces.{begins_on}
-use Rattle.augtrie.proofs.Advances.{tally_nothing, tallies-front, tallies-rest}
-use Rattle.augtrie.proofs.Lanes.{story, sets_of_lane}
+use Rattle.aug_report.proofs.Advances.{tally_nothing, tallies-front, tallies-rest}
+use Rattle.aug_report.proofs.Lanes.{story, sets_of_lane}
 
 -- the lines of the one lane are all lines, and those of another none
 pub lines-all : (lane : ℕ) (lines : List (Row × Reply)) → All (λ line. line.0.lane ≡ lane) lines → lines_of lane lines ≡ lines
@@ -122,3 +123,13 @@ one_report bits workers members report closing is_set allowed lane exists all =
           (allowed.removals ∙ ap removals_of changes ∙ told.removals ∙ ap (count_of is_removal) told.replies),
       closes,
     )
+
+-- what holds of each row holds of each line's
+pub of_lines : (P : Row → Type 0) (lines : List (Row × Reply)) → All P (map (λ line. line.0) lines) → All (λ line. P line.0) lines
+of_lines P [] all = All-nil (λ (line : Row × Reply). P line.0)
+of_lines P (line ∷ lines) all = All-cons (λ (l : Row × Reply). P l.0) line lines (All-head P line.0 (map (λ (l : Row × Reply). l.0) lines) all) (of_lines P lines (All-tail P line.0 (map (λ (l : Row × Reply). l.0) lines) all))
+
+pub one_lane_in_turn : (bits workers : ℕ) (members : List (ℕ × ℕ)) (report : Report) (closing : List (ℕ × ℕ)) → IsKeySet bits (keys_of members)
+    → AllowedReport bits workers members report closing → IsInTurn workers report.number members (map (λ line. line.0) report.rows) report closing
+one_lane_in_turn bits workers members report closing is_set allowed lane exists all =
+    one_report bits workers members report closing is_set allowed lane exists (of_lines (λ (row : Row). row.lane ≡ lane) report.rows all)

@@ -15,7 +15,7 @@ use Rattle.aug_core.specs.declared.view.Change.{Change}
 use Rattle.aug_trie.specs.Knowledge.{Knowledge, StandsIn, insertion, removal, inserts_of, removals_of}
 use Rattle.aug_trie.specs.Updates.{AcceptedUpdate, RefusedUpdate, ReplacedUpdate, RefusedPut, PutsIn}
 use Rattle.aug_trie.specs.Tallies.{Tallies}
-use Rattle.augtrie.specs.AllowedReport.{Lane, Looks, Asks, AnswersPut, reply_to_put, Answers, AnswersAll}
+use Rattle.aug_report.specs.AllowedReport.{Lane, Looks, Asks, AnswersPut, reply_to_put, Answers, AnswersAll}
 use Rattle.aug_script.specs.Replies.{Sets, span_of, reply_to, sets_after, replies_of, sets_of, is_insertion, is_removal, count_of}
 use Rattle.aug_script.specs.declared.reply.Reply.{Reply}
 use Rattle.aug_script.specs.declared.reply.Reply.TheVariants as reply
@@ -23,11 +23,11 @@ use Rattle.aug_script.specs.declared.row.Row.{Row}
 use Rattle.aug_script.specs.declared.verb.Verb.{Verb}
 use Rattle.aug_script.specs.declared.verb.Verb.TheVariants as verb
 use Rattle.aug_trie.proofs.CutLemmas.{serial_rises, is_member-set_of_cut, same_cut, odd}
-use Rattle.augtrie.proofs.Histories.{below_of, begins-same, begins-length, last-rises, last-at_most_final}
+use Rattle.aug_report.proofs.Histories.{below_of, begins-same, begins-length, last-rises, last-at_most_final}
 use Rattle.aug_trie.proofs.Pieces.{begins_on}
-use Rattle.augtrie.proofs.Advances.{AllShow, AllPast, ChangesOne, tally_one, tally_two, tally_nothing, tallies-front, tallies-rest}
+use Rattle.aug_report.proofs.Advances.{AllShow, AllPast, ChangesOne, tally_one, tally_two, tally_nothing, tallies-front, tallies-rest}
 use Rattle.aug_trie.proofs.TallyLemmas.{counted, counted-append}
-use Rattle.augtrie.proofs.SetChanges.{pairs-with_key, pairs-without_key}
+use Rattle.aug_report.proofs.SetChanges.{pairs-with_key, pairs-without_key}
 
 abbrev one_if : Bool → ℕ
 one_if b = if b then 1 else 0
@@ -126,7 +126,7 @@ not_odd : (n : ℕ) → n % 2 ≡ 0 → odd n ≡ false
 not_odd n even = ne_eqb (n % 2) 1 (λ e. omega (arith, e, even))
 
 -- a key is a member of a lane's set where its serial is odd
-there_if_odd : (cut : Cut) (k : ℕ) → is_member (keys_of (pairs_of_cut cut)) k ≡ odd (serial_of cut k)
+pub there_if_odd : (cut : Cut) (k : ℕ) → is_member (keys_of (pairs_of_cut cut)) k ≡ odd (serial_of cut k)
 there_if_odd cut k = ap (λ (l : List ℕ). is_member l k) (keys_of-pairs_of (weight_at cut) (set_of_cut cut)) ∙ is_member-set_of_cut cut k
 
 module _ (k : ℕ) (old new : Lane) where

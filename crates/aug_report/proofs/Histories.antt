@@ -20,10 +20,10 @@ Below c d = (key : ℕ) → serial_of c key ≤ serial_of d key
 pub below_of : (c d : Cut) → IsAtMost c d → Below c d
 below_of c d le = λ key. serial_rises c d key le
 
-at_most-refl : (c : Cut) → IsAtMost c c
+pub at_most-refl : (c : Cut) → IsAtMost c c
 at_most-refl c = record { same_keys = refl; no_greater = λ key. inr refl }
 
-at_most-trans : (c d e : Cut) → IsAtMost c d → IsAtMost d e → IsAtMost c e
+pub at_most-trans : (c d e : Cut) → IsAtMost c d → IsAtMost d e → IsAtMost c e
 at_most-trans c d e cd de = record {
   same_keys = cd.same_keys ∙ de.same_keys;
   no_greater = λ key. elim (cd.no_greater key) [
@@ -42,7 +42,7 @@ module _ (bits : ℕ) (members : List (ℕ × ℕ)) (history : List Cut) (is_his
       let e : i + suc d ≡ i + d + 1 = omega arith in
       rw e (at_most-trans (get_or history i []) (get_or history (i + d) []) (get_or history (i + d + 1) []) (rises_by i d (omega arith)) (is_history.rises (i + d) (omega arith)))
 
-  rises_to : (i j : ℕ) → i ≤ j → j < length history → IsAtMost (get_or history i []) (get_or history j [])
+  pub rises_to : (i j : ℕ) → i ≤ j → j < length history → IsAtMost (get_or history i []) (get_or history j [])
   rises_to i j le below =
       let e : i + (j - i) ≡ j = omega arith in
       let r = rises_by i (j - i) (omega arith) in

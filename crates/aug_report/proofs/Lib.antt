@@ -1,0 +1,15 @@
+pub mod Histories
+pub mod Advances
+pub mod SetChanges
+pub mod Lanes
+pub mod OneLane
+pub mod Tallied
+pub mod OneKey
+pub mod TwoInsertions
+pub mod ThreeAtOnce
+pub mod LineCounts
+pub mod RowsInTurn
+pub mod OwnUpdates
+pub mod Puts
+pub mod LostPuts
+pub mod SeenPuts

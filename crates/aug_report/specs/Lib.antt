@@ -1,0 +1,3 @@
+pub mod AllowedReport
+pub mod InTurn
+pub mod Theorems

@@ -254,3 +254,42 @@ fn every_query_agrees_with_the_plain_set(rt: HostRuntime) -> Result<(), Fail> {
     }
     Ok(())
 }
+
+// Compares the lists of the tree of so many of the least keys with the plain set.
+fn assert_lists(rt: &impl Abort, alloc: Global, wanted: u32, members: u32) -> Result<(), Fail> {
+    let mut set = KeySet::try_new(alloc, wanted)?;
+    let bits = set.bits();
+    for k in 0..1u32 << bits {
+        if k < members {
+            set.put(k, u32::MAX - k);
+        }
+    }
+    let mut tree = tree_of(alloc, &set)?;
+    assert_eq!(rt; (size(&mut tree), set.size()), (members, members));
+    assert!(rt;
+        lists(alloc, &mut tree, &set)?,
+        "{members} members of {bits} bits"
+    );
+    Ok(())
+}
+
+#[test]
+fn each_number_of_members_is_listed(rt: HostRuntime) -> Result<(), Fail> {
+    for members in 0..=300 {
+        assert_lists(&rt, rt.alloc(), 9, members)?;
+    }
+    for members in [511, 512, 1_000, 4_095, 4_096] {
+        assert_lists(&rt, rt.alloc(), 12, members)?;
+    }
+    Ok(())
+}
+
+#[test]
+fn trees_of_each_number_of_bits_are_listed(rt: HostRuntime) -> Result<(), Fail> {
+    for bits in 1..=16 {
+        for members in [0, 1, 2] {
+            assert_lists(&rt, rt.alloc(), bits, members)?;
+        }
+    }
+    Ok(())
+}

@@ -11,6 +11,7 @@ mod looking;
 mod putting;
 mod refused;
 mod replacing;
+mod requests;
 mod scripts;
 mod sweeping;
 mod turning;

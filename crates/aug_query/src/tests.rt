@@ -254,3 +254,74 @@ fn every_query_agrees_with_the_plain_set(rt: HostRuntime) -> Result<(), Fail> {
     }
     Ok(())
 }
+
+// The set of so many of the least keys of so many bits.
+fn set_of_least(alloc: Global, wanted: u32, members: u32) -> Result<KeySet, ModelError> {
+    let mut set = KeySet::try_new(alloc, wanted)?;
+    let bits = set.bits();
+    for k in 0..1u32 << bits {
+        if k < members {
+            set.put(k, u32::MAX - k);
+        }
+    }
+    Ok(set)
+}
+
+// Compares the lists of the tree of such a set with the set.
+fn assert_lists(rt: &impl Abort, alloc: Global, bits: u32, members: u32) -> Result<(), Fail> {
+    let set = set_of_least(alloc, bits, members)?;
+    let mut tree = tree_of(alloc, &set)?;
+    assert_eq!(rt; (size(&mut tree), set.size()), (members, members));
+    assert!(rt;
+        lists(alloc, &mut tree, &set)?,
+        "{members} members of {bits} bits"
+    );
+    Ok(())
+}
+
+#[test]
+fn each_number_of_members_is_listed(rt: HostRuntime) -> Result<(), Fail> {
+    for members in 0..=300 {
+        assert_lists(&rt, rt.alloc(), 9, members)?;
+    }
+    for members in [511, 512, 1_000, 4_095, 4_096] {
+        assert_lists(&rt, rt.alloc(), 12, members)?;
+    }
+    Ok(())
+}
+
+#[test]
+fn trees_of_each_number_of_bits_are_listed(rt: HostRuntime) -> Result<(), Fail> {
+    for bits in 1..=16 {
+        for members in [0, 1, 2] {
+            assert_lists(&rt, rt.alloc(), bits, members)?;
+        }
+    }
+    Ok(())
+}
+
+// The tree asks once for each of its 5 rows, once for their row and once for the weights. `tests/requests.py` counts.
+#[test]
+fn the_queries_of_a_tree_of_4_bits_ask_7_times_for_memory(rt: HostRuntime) -> Result<(), Fail> {
+    let mut tree = five_and_nine(rt.alloc())?;
+    assert_eq!(rt; (size(&mut tree), rank(&mut tree, 9)), (2, 1));
+    assert_eq!(rt; (has(&mut tree, 9), weight(&mut tree, 9)), (true, Some(30)));
+    assert_eq!(rt; select(&mut tree, 1), Some(9));
+    assert_eq!(rt;
+        (before(&mut tree, 9), after(&mut tree, 5)),
+        (Some(5), Some(9))
+    );
+    assert_eq!(rt; range(&mut tree, 0, 16).count, 2);
+    Ok(())
+}
+
+// Each list asks once more.
+#[test]
+fn the_lists_of_a_tree_of_4_bits_ask_9_times_for_memory(rt: HostRuntime) -> Result<(), Fail> {
+    let mut tree = five_and_nine(rt.alloc())?;
+    let list = keys(rt.alloc(), &mut tree)?;
+    let weighted = pairs(rt.alloc(), &mut tree)?;
+    assert_eq!(rt; list.as_slice(), [5, 9].as_slice());
+    assert_eq!(rt; weighted.as_slice(), [(5, 70), (9, 30)].as_slice());
+    Ok(())
+}

@@ -2,13 +2,18 @@
 ghost use Rattle.std.specs.Prelude.{◌≡◌, ◌^◌, ◌<◌, ◌≤◌, IfOk};
 
 mod carrying;
+mod copying;
 mod crowds;
 mod ending;
+mod filling;
+mod latest;
 mod looking;
 mod putting;
 mod refused;
 mod replacing;
+mod requests;
 mod scripts;
+mod sweeping;
 mod turning;
 mod widening;
 

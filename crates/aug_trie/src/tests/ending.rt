@@ -1,9 +1,8 @@
 //! Rounds that end, with passes back and with passes that were dropped, and the rounds after them.
 ghost use Rattle.std.specs.Prelude.{◌≡◌, IfOk};
 
-use super::{
-    Deed, Half, Hands, Table, Task, Trie, four_halves, insert, next_pass, opened, remove, work,
-};
+use super::filling::four_filled;
+use super::{Deed, Hands, Table, Task, Trie, four_halves, insert, next_pass, opened, remove, work};
 use crate::{BeginError, Pass, Round};
 use aug_monoid::{Extent, Sum};
 use aug_query::{has, keys, select, size};
@@ -23,16 +22,6 @@ pub(super) fn sees(pass: &mut Pass<Sum, Extent>, key: u32) -> bool
 {
     let snapshot = pass.snapshot();
     pass.has(snapshot, key)
-}
-
-// A half that holds a snapshot of so many members takes it.
-fn looked(round: &Table, half: Half) -> (Half, u32)
-    requires { half.round ≡ round.now }
-    ensures { result.0.round ≡ round.now }
-{
-    let mut pass = round.pass(half);
-    let members = seen_size(&mut pass);
-    (pass.into_half(), members)
 }
 
 // What the trie says of the round that ended it: insertions, removals, passes that did not come back.
@@ -63,18 +52,8 @@ fn four_threads_put_each_key_in_once_and_the_next_round_goes_on(
 ) -> Result<(), BeginError> {
     let (round, mut crew) = opened(rt.alloc(), 4, 4, 16)?;
     let halves = four_halves(&mut crew, &round).expect(&rt, "four lanes");
-    let task = Task {
-        bits: 4,
-        keys: 16,
-        times: 1,
-        deed: Deed::Insert,
-    };
-    let (one, two, three, four) = work(&rt, &round, halves, task);
-    let (one, first) = looked(&round, one);
-    let (two, second) = looked(&round, two);
-    let (three, third) = looked(&round, three);
-    let (four, fourth) = looked(&round, four);
-    assert_eq!(rt; (first, second, third, fourth), (16, 16, 16, 16));
+    let ((one, two, three, four), seen) = four_filled(&rt, &round, halves);
+    assert_eq!(rt; seen, [16; 4]);
     crew.back(round.pass(one));
     crew.back(round.pass(two));
     crew.back(round.pass(three));

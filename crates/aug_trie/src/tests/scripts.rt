@@ -104,7 +104,7 @@ pub(super) fn assert_agrees(
 }
 
 // The lists of keys and of pairs that the set has.
-fn assert_lists(rt: &impl Abort, keys: &[u32], pairs: &[(u32, u32)], set: &KeySet) {
+pub(super) fn assert_lists(rt: &impl Abort, keys: &[u32], pairs: &[(u32, u32)], set: &KeySet) {
     assert_eq!(rt;
         (keys.len(), pairs.len()),
         (set.size() as usize, set.size() as usize)

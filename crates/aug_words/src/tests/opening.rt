@@ -14,7 +14,7 @@ use std::alloc::{AllocError, Global};
 const NO_KEYS: u64 = 1 << 32;
 
 // The keys of so many bits from one on, each with its own number as its weight.
-fn keys_from(alloc: Global, bits: u32, first: u32) -> Result<Vec<(u32, u32)>, AllocError>
+pub(super) fn keys_from(alloc: Global, bits: u32, first: u32) -> Result<Vec<(u32, u32)>, AllocError>
     requires bits { bits ≤ 16 }
     requires first { first ≤ 2 ^ bits }
     ensures set { IfOk result (λ keys. IsKeySet bits (keys_of keys.items)) }

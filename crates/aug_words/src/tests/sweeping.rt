@@ -71,10 +71,12 @@ fn a_table_opens_with_each_number_of_members(rt: HostRuntime) -> Result<(), Word
 fn a_table_opens_with_many_members(rt: HostRuntime) -> Result<(), WordsError> {
     for bits in 11..=16 {
         for members in [0, 1, 100, 255, 256, 257, 1_000, 2_047, 2_048] {
+            assert!(rt; members <= 1 << bits);
             assert_opens(&rt, rt.alloc(), bits, members, 1, 1)?;
         }
     }
     for members in [4_096, 10_000, 32_768, 65_535, 65_536] {
+        assert!(rt; members <= 65_536);
         assert_opens(&rt, rt.alloc(), 16, members, 1, 1)?;
     }
     Ok(())

@@ -91,8 +91,7 @@ fn a_range_adds_weights_past_32_bits(rt: HostRuntime) -> Result<(), Fail> {
     Ok(())
 }
 
-// A request that is refused is made again, and what was asked for before it is still so. Under
-// `rt try --test --fail-alloc N` the Nth request is refused.
+// A request that is refused is made again, and what was asked for before it is still so. `tests/refused.py` refuses each in turn.
 #[test]
 fn refused_memory_changes_no_answer(rt: HostRuntime) -> Result<(), Fail> {
     let mut tree = match five_and_nine(rt.alloc()) {

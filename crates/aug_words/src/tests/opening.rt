@@ -169,7 +169,7 @@ fn a_table_of_sixteen_bits_opens_with_all_keys(rt: HostRuntime) -> Result<(), Wo
     Ok(())
 }
 
-// A request that is refused is made again. Under `rt try --test --fail-alloc N` the Nth request is refused.
+// A request that is refused is made again. `tests/refused.py` refuses each in turn.
 #[test]
 fn refused_memory_spoils_no_later_opening(rt: HostRuntime) -> Result<(), WordsError> {
     let rest = match opened(rt.alloc(), 2, 2, 2) {

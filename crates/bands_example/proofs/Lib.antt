@@ -1,0 +1,2 @@
+mod Descent
+mod Halving

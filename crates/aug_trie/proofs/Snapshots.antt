@@ -49,7 +49,7 @@ at_first_place numbers number low = let stops = prefix_len_stops (λ n. not (n =
 first_low : (numbers : List ℕ) (i number : ℕ) → i < length numbers → get_or numbers i 0 ≡ number → first_place numbers number < length numbers
 first_low numbers i number low is = ⊎_elim (λ inside. inside)
     (λ (past : length numbers ≤ first_place numbers number). absurd (let passes = prefix_len_passes (λ n. not (n == number)) numbers i 0 (omega arith) in
-        false≢true (sym (ap not (eq-eqb (get_or numbers i 0) number is)) ∙ passes)))
+    false≢true (sym (ap not (eq-eqb (get_or numbers i 0) number is)) ∙ passes)))
     (cases_lt (first_place numbers number) (length numbers))
 
 -- ---- the records of the root

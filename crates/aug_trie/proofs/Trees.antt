@@ -93,7 +93,7 @@ pub named_set : (f : ℕ → ℕ → List (ℕ × ℕ) → List ℕ) (v : View) 
 named_set f v number kn = ⊎_elim
     (λ (has : HasNamed v.shape v.seen number). subst (λ (z : Cut). IsTreeSet (members_of v.shape.bits z)) (sym (cut_is v.shape v.seen number has)) (tree_set f v (first_place (root_numbers v.shape v.seen) number) kn))
     (λ (past : length (root_numbers v.shape v.seen) ≤ first_place (root_numbers v.shape v.seen) number). let long = numbers_long v.shape v.seen in
-        subst (λ (z : Cut). IsTreeSet (members_of v.shape.bits z)) (sym (get_or_past (root_history v.shape v.seen) (first_place (root_numbers v.shape v.seen) number) [] (omega arith))) (cut_set f v [] kn (omega arith) (λ key low. omega arith)))
+    subst (λ (z : Cut). IsTreeSet (members_of v.shape.bits z)) (sym (get_or_past (root_history v.shape v.seen) (first_place (root_numbers v.shape v.seen) number) [] (omega arith))) (cut_set f v [] kn (omega arith) (λ key low. omega arith)))
     (cases_lt (first_place (root_numbers v.shape v.seen) number) (length (root_numbers v.shape v.seen)))
 
 module _ {A B : Type 0} (parts_a : Parts A) (parts_b : Parts B) where

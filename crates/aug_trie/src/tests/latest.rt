@@ -28,19 +28,17 @@ fn over_zero(alloc: Global) -> Result<(Table, Hands), BeginError>
 fn each_look_shows_what_another_pass_changed_since_the_last(
     rt: HostRuntime,
 ) -> Result<(), BeginError> {
-    for bits in [1, 4, 16] {
-        let (round, mut crew) = opened(rt.alloc(), bits, 2, 2)?;
-        let mut a = next_pass(&mut crew, &round).expect(&rt, "lane 0");
-        let mut b = next_pass(&mut crew, &round).expect(&rt, "lane 1");
-        assert!(rt; !sees(&mut a, 1));
-        assert_eq!(rt; seen_size(&mut a), 0);
-        assert!(rt; insert(&mut b, bits, 1));
-        assert!(rt; sees(&mut a, 1));
-        assert_eq!(rt; seen_size(&mut a), 1);
-        assert!(rt; remove(&mut b, bits, 1));
-        assert!(rt; !sees(&mut a, 1));
-        assert_eq!(rt; seen_size(&mut a), 0);
-    }
+    let (round, mut crew) = opened(rt.alloc(), 4, 2, 2)?;
+    let mut a = next_pass(&mut crew, &round).expect(&rt, "lane 0");
+    let mut b = next_pass(&mut crew, &round).expect(&rt, "lane 1");
+    assert!(rt; !sees(&mut a, 1));
+    assert_eq!(rt; seen_size(&mut a), 0);
+    assert!(rt; insert(&mut b, 4, 1));
+    assert!(rt; sees(&mut a, 1));
+    assert_eq!(rt; seen_size(&mut a), 1);
+    assert!(rt; remove(&mut b, 4, 1));
+    assert!(rt; !sees(&mut a, 1));
+    assert_eq!(rt; seen_size(&mut a), 0);
     Ok(())
 }
 

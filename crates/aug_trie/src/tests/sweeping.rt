@@ -23,9 +23,10 @@ fn an_empty_trie_is_made_at_each_number_of_bits(rt: HostRuntime) -> Result<(), B
 }
 
 // A trie of so many bits with the members 0, which weighs 70, and 1, which weighs 2^32 - 1.
-fn zero_and_one(alloc: Global, bits: u32) -> Result<Trie, BeginError>
-    requires { 1 ≤ bits }
-{
+fn zero_and_one(alloc: Global, bits: u32) -> Result<Trie, BeginError> {
+    if bits == 0 {
+        return Err(BeginError::BadBits);
+    }
     let (round, mut crew) = opened(alloc, bits, 1, 2)?;
     if let Ok(mut pass) = next_pass(&mut crew, &round) {
         put(&mut pass, bits, 1, u32::MAX);
@@ -53,6 +54,7 @@ fn begun(
         [(0, 70), (1, u32::MAX)].as_slice(),
         "{workers} workers, {updates} updates"
     );
+    crew.back(pass);
     Ok(round.end(crew))
 }
 

@@ -11,10 +11,9 @@ import os
 import shutil
 import subprocess
 import sys
-import tempfile
-import unittest
 
 import programs
+from folders import InFolder
 
 TOP = os.path.dirname(os.path.dirname(os.path.abspath(__file__)))
 
@@ -48,26 +47,16 @@ echo "run trie $2 1 1.000 of $*"
 """
 
 
-class Folder(unittest.TestCase):
+class Folder(InFolder):
     """A test in a folder of its own, which has copies of some of the repository's scripts, and programs that come before all others."""
 
     copied = ()
 
     def setUp(self):
-        held = tempfile.TemporaryDirectory(prefix="commands-")
-        self.addCleanup(held.cleanup)
-        self.folder = os.path.realpath(held.name)
+        super().setUp()
         for name in self.copied:
             os.makedirs(os.path.dirname(os.path.join(self.folder, name)), exist_ok=True)
             shutil.copy(os.path.join(TOP, name), os.path.join(self.folder, name))
-
-    def write(self, name, text, mode=0o644):
-        path = os.path.join(self.folder, name)
-        os.makedirs(os.path.dirname(path), exist_ok=True)
-        with open(path, "w", encoding="utf-8") as file:
-            file.write(text)
-        os.chmod(path, mode)
-        return path
 
     def read(self, name):
         with open(os.path.join(self.folder, name), encoding="utf-8") as file:

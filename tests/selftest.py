@@ -11,12 +11,12 @@ import io
 import os
 import subprocess
 import sys
-import tempfile
 import unittest
 
 import programs
 import refused
 import surface
+from folders import InFolder
 from refusing import TESTS, Refusing, compile_c
 
 TOP = os.path.dirname(TESTS)
@@ -95,23 +95,6 @@ def quietly(call, *given, **named):
     with contextlib.redirect_stdout(io.StringIO()) as said:
         returned = call(*given, **named)
     return returned, said.getvalue()
-
-
-class InFolder(unittest.TestCase):
-    """A test with a folder of its own."""
-
-    def setUp(self):
-        held = tempfile.TemporaryDirectory(prefix="selftest-")
-        self.addCleanup(held.cleanup)
-        self.folder = held.name
-
-    def write(self, name, text, mode=0o644):
-        path = os.path.join(self.folder, name)
-        os.makedirs(os.path.dirname(path), exist_ok=True)
-        with open(path, "w", encoding="utf-8") as file:
-            file.write(text)
-        os.chmod(path, mode)
-        return path
 
 
 class Sample:

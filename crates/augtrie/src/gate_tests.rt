@@ -155,8 +155,8 @@ fn the_gate_is_told_of_each_lane(rt: HostRuntime) -> Result<(), Fail> {
     Ok(())
 }
 
-// Lane 1 waits before row 3 for the end of row 2, which is lane 0's. Lane 0 begins once lane 1 waits there, and goes on from row 2
-// once row 3 is over.
+// Lane 1 waits before its last row for the end of lane 0's first. Lane 0 begins once lane 1 waits there, and goes on from its first row
+// once that row of lane 1 is over.
 #[derive(Drop)]
 struct InOrder {
     meeting: Meeting,

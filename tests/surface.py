@@ -8,85 +8,15 @@ The last line is 'N passed, M failed', and the exit status is 0 where none faile
 """
 
 import collections
-import glob
 import os
 import re
 import sys
 
-TOP = os.path.dirname(os.path.dirname(os.path.abspath(__file__)))
-
-# A public call as the list names it, whether it answers a Result, and the names of its clauses.
-Call = collections.namedtuple("Call", "name may_refuse clauses")
+from sources import TOP, calls, clause_names, exported, files, may_refuse, read
 
 CODE = re.compile(r"`([^`]+)`")
 WORDS = r"`\w+`(?:(?:, | and )`\w+`)*"
 GROUP = re.compile(rf"({WORDS})(?: of ({WORDS}))?")
-CLAUSE = re.compile(r"^\s+(?:requires|ensures) (?:(\w+) )?\{")
-
-
-def read(path):
-    with open(path, encoding="utf-8") as file:
-        return file.read()
-
-
-def files(top, pattern):
-    return sorted(glob.glob(os.path.join(top, pattern), recursive=True))
-
-
-def exported(crate):
-    """The names that a library gives out, or none where the crate is a program, all of whose public items count."""
-    root = os.path.join(crate, "src", "lib.rt")
-    if not os.path.exists(root):
-        return None
-    uses = re.findall(r"^pub use \w+::(?:\{([^}]*)\}|(\w+));", read(root), re.M)
-    return set(re.findall(r"\w+", " ".join(many + one + " " for many, one in uses)))
-
-
-def signature_and_contract(lines):
-    """The lines from a function's first one on that stand before its body, or before the end of its declaration."""
-    indent = re.match(r" *", lines[0])[0]
-    said = lines[:1]
-    for line in lines[1:]:
-        is_body = said[-1].endswith(("{", ";")) and not any(map(CLAUSE.match, said))
-        if is_body or line and not line.startswith((indent + " ", indent + ")")):
-            break
-        said.append(line)
-    return said
-
-
-def functions(text, start):
-    """The name of each function of a text whose line begins so, whether it answers a Result, and the names of its clauses."""
-    lines = text.splitlines()
-    for number, line in enumerate(lines):
-        name = re.match(start + r"fn (\w+)", line)
-        if name:
-            said = signature_and_contract(lines[number:])
-            clauses = [CLAUSE.match(line) for line in said]
-            first = next((at for at, clause in enumerate(clauses) if clause), len(said))
-            may_refuse = "-> Result<" in " ".join(said[:first])
-            yield name[1], may_refuse, {it[1] or it[0].split()[0] for it in clauses if it}
-
-
-def parts(text):
-    """The parts of a file that have public calls: the type or trait that they are of, the text, and how a call's line begins there."""
-    for head, body in re.findall(r"^impl\b([^{]*)\{$(.*?)^\}", text, re.M | re.S):
-        if " for " not in head:
-            yield re.sub(r"^<[^>]*>|<.*", "", head.strip()).strip(), body, "    pub "
-    for name, body in re.findall(r"^pub trait (\w+)[^{]*\{$(.*?)^\}", text, re.M | re.S):
-        yield name, body, "    "
-    yield "", text, "pub "
-
-
-def calls(crate):
-    """The public calls of a crate: those of its types and traits, and its functions."""
-    names = exported(crate)
-    found = []
-    for path in files(crate, "src/**/*.rt"):
-        for owner, body, start in parts(read(path)):
-            for call, may_refuse, clauses in functions(body, start):
-                if names is None or (owner or call) in names:
-                    found.append(Call(f"{call} of {owner}" if owner else call, may_refuse, clauses))
-    return found
 
 
 def rows(text, first):
@@ -142,7 +72,7 @@ def wrong_calls(text, crates):
             wrong += [f"{crate}: {name} is listed and not there" for name in names if name not in exported(paths[crate])]
             continue
         listed[crate] += names
-        clauses = {"output"}.union(laws(paths[crate]), *(call.clauses for call in there[crate] if call.name in names))
+        clauses = {"output"}.union(laws(paths[crate]), *(clause_names(call) for call in there[crate] if call.name in names))
         lacking = (clauses_named(cells[2]) | clauses_named(cells[3])) - clauses
         wrong += [f"{crate}: no contract of {cells[1]} has a clause {it}" for it in sorted(lacking)]
     for crate in sorted(there):
@@ -157,10 +87,10 @@ def wrong_refusals(text, crates):
     for cells in rows(text, "Call"):
         names = named(cells[0]) if cells[0] else names
         listed += names if cells[0] else []
-        clauses = set().union(*(call.clauses for call in there if call.name in names))
+        clauses = set().union(*(clause_names(call) for call in there if call.name in names))
         lacking = (clauses_named(cells[2]) | clauses_named(cells[3])) - clauses
         wrong += [f"refusals: no contract of {' or '.join(names)} has a clause {it}" for it in sorted(lacking)]
-    return wrong + compare("refusals", listed, [call.name for call in there if call.may_refuse]), len(listed)
+    return wrong + compare("refusals", listed, [call.name for call in there if may_refuse(call)]), len(listed)
 
 
 def wrong_names(text, top):

@@ -1,0 +1,121 @@
+"""The crates as their sources have them: the public calls with their clauses, and the types and the traits that these speak of."""
+
+import collections
+import glob
+import os
+import re
+
+TOP = os.path.dirname(os.path.dirname(os.path.abspath(__file__)))
+
+# A `requires` or an `ensures`, its name or none, and what it says.
+Clause = collections.namedtuple("Clause", "kind name text")
+
+# A call: its name, as in `a of T`, the type or trait that it is of, or none, its lines up to the first clause, and its clauses.
+Function = collections.namedtuple("Function", "name signature clauses")
+
+# What has calls: the type or trait that they are of, or none, the text before the brace, and the text in the braces.
+Part = collections.namedtuple("Part", "owner head body")
+
+# A call of a crate, where it stands: its part, and the file.
+Call = collections.namedtuple("Call", "name function part path")
+
+CLAUSE = re.compile(r"^\s+(requires|ensures) (?:(\w+) )?\{")
+
+
+def read(path):
+    with open(path, encoding="utf-8") as file:
+        return file.read()
+
+
+def files(top, pattern):
+    return sorted(glob.glob(os.path.join(top, pattern), recursive=True))
+
+
+def exported(crate):
+    """The names that a library gives out, or none where the crate is a program, all of whose public items count."""
+    root = os.path.join(crate, "src", "lib.rt")
+    if not os.path.exists(root):
+        return None
+    uses = re.findall(r"^pub use \w+::(?:\{([^}]*)\}|(\w+));", read(root), re.M)
+    return set(re.findall(r"\w+", " ".join(many + one + " " for many, one in uses)))
+
+
+def signature_and_contract(lines):
+    """The lines from a function's first one on that stand before its body, or before the end of its declaration."""
+    indent = re.match(r" *", lines[0])[0]
+    said = lines[:1]
+    for line in lines[1:]:
+        is_body = said[-1].endswith(("{", ";")) and not any(map(CLAUSE.match, said))
+        if is_body or line and not line.startswith((indent + " ", indent + ")")):
+            break
+        said.append(line)
+    return said
+
+
+def braced(text, start):
+    """What stands in the braces that begin at a place of a text."""
+    depth = 0
+    for place in range(start, len(text)):
+        depth += {"{": 1, "}": -1}.get(text[place], 0)
+        if not depth:
+            return text[start + 1 : place]
+    return text[start + 1 :]
+
+
+def without_comments(text):
+    return re.sub(r"//.*", "", text)
+
+
+def clauses_of(lines):
+    """The clauses that begin on some of the lines."""
+    found = []
+    for number, line in enumerate(lines):
+        match = CLAUSE.match(line)
+        if match:
+            text = without_comments("\n".join(lines[number:]))
+            found.append(Clause(match[1], match[2], braced(text, text.index("{"))))
+    return found
+
+
+def functions(text, start):
+    """The functions of a text whose line begins so."""
+    lines = text.splitlines()
+    for number, line in enumerate(lines):
+        name = re.match(start + r"fn (\w+)", line)
+        if name:
+            said = signature_and_contract(lines[number:])
+            first = next((at for at, line in enumerate(said) if CLAUSE.match(line)), len(said))
+            yield Function(name[1], " ".join(said[:first]), clauses_of(said))
+
+
+def parts(text):
+    """The parts of a file that have public calls, and how a call's line begins there."""
+    for head, body in re.findall(r"^impl\b([^{]*)\{$(.*?)^\}", text, re.M | re.S):
+        if " for " not in head:
+            yield Part(re.sub(r"^<[^>]*>|<.*", "", head.strip()).strip(), head, body), "    pub "
+    for name, head, body in re.findall(r"^pub trait (\w+)([^{]*)\{$(.*?)^\}", text, re.M | re.S):
+        yield Part(name, head, body), "    "
+    yield Part("", "", text), "pub "
+
+
+def calls(crate):
+    """The public calls of a crate: those of its types and traits, and its functions."""
+    names = exported(crate)
+    found = []
+    for path in files(crate, "src/**/*.rt"):
+        for part, start in parts(read(path)):
+            for call in functions(part.body, start):
+                if names is None or (part.owner or call.name) in names:
+                    name = f"{call.name} of {part.owner}" if part.owner else call.name
+                    found.append(Call(name, call, part, path))
+    return found
+
+
+def may_refuse(call):
+    """Whether a call answers a Result."""
+    return "-> Result<" in call.function.signature
+
+
+def clause_names(call):
+    """The names of a call's clauses; one without a name is named by its kind."""
+    return {it.name or it.kind for it in call.function.clauses}

@@ -19,7 +19,17 @@ Part = collections.namedtuple("Part", "owner head body")
 # A call of a crate, where it stands: its part, and the file.
 Call = collections.namedtuple("Call", "name function part path")
 
+# An impl of a trait for a type, both by their names.
+Impl = collections.namedtuple("Impl", "trait type part path")
+
+# A type or a trait: whether it is public, its kind, what stands behind its name without comments and without the names of an enum's variants,
+# its impl of `Model`, or none, and the file.
+Type = collections.namedtuple("Type", "is_public kind text model path")
+
 CLAUSE = re.compile(r"^\s+(requires|ensures) (?:(\w+) )?\{")
+TYPE = re.compile(r"^(pub )?(?:pub\([^)]*\) )?(struct|enum|trait|type) (\w+)", re.M)
+IMPL = re.compile(r"^impl\b([^{]*) for ([^{]*)\{$(.*?)^\}", re.M | re.S)
+GHOST = re.compile(r"^    (?:pub(?:\([^)]*\))? )?ghost (\w+)(?::| =) \{", re.M)
 
 
 def read(path):
@@ -119,3 +129,52 @@ def may_refuse(call):
 def clause_names(call):
     """The names of a call's clauses; one without a name is named by its kind."""
     return {it.name or it.kind for it in call.function.clauses}
+
+
+def code_files(crate):
+    """The files of a crate that are not there for its tests alone."""
+    src = os.path.join(crate, "src")
+    paths = files(src, "**/*.rt")
+    tests = set(re.findall(r"#\[cfg\(test\)\]\s*mod (\w+)", "".join(map(read, paths))))
+    return [path for path in paths if not tests & set(os.path.relpath(path, src)[: -len(".rt")].split(os.sep))]
+
+
+def ghosts(text):
+    """The ghost members or fields of a body, by their names: the type of each, and what it is set to, as far as these are there."""
+    found = {}
+    for match in GHOST.finditer(text):
+        said = braced(text, match.end() - 1)
+        behind = text[match.end() + len(said) + 1 :]
+        found[match[1]] = [said, braced(behind, behind.index("{"))] if behind.startswith(" = {") else [said]
+    return found
+
+
+def last_name(text):
+    """The name of a type or a trait, without its path and its parameters."""
+    return re.findall(r"\w+", text.partition("<")[0])[-1]
+
+
+def impls(crate):
+    """The impls of traits for types with a name."""
+    found = []
+    for path in code_files(crate):
+        for head, type_, body in IMPL.findall(read(path)):
+            if re.match(r"[\w&]", type_):
+                trait = re.sub(r"^<.*?>(?= )", "", head)
+                found.append(Impl(last_name(trait), last_name(type_), Part(last_name(type_), f"{head} for {type_}", body), path))
+    return found
+
+
+def types(crate):
+    """The types and the traits of a crate, by their names."""
+    models = {it.type: it for it in impls(crate) if it.trait == "Model"}
+    found = {}
+    for path in code_files(crate):
+        text = without_comments(read(path))
+        for match in TYPE.finditer(text):
+            head = re.match(r"[^;{]*", text[match.end() :])[0]
+            brace = match.end() + len(head)
+            body = braced(text, brace) if text[brace] == "{" else ""
+            said = head + (re.sub(r"^    \w+", "", body, flags=re.M) if match[2] == "enum" else body)
+            found[match[3]] = Type(bool(match[1]), match[2], said, models.get(match[3]), path)
+    return found

@@ -1,0 +1,198 @@
+"""What the promises of the crates rest on: from the clauses of public calls to the definitions that a reader has to believe.
+
+A clause rests on the definitions that it names, and on the types and traits of its call's signature; a definition on what it names; a type
+with a `Model` on that model's `Value`, and one without on its fields; a trait on its ghost members. What the `view` of a model names is told
+apart: contracts see a value of this type and never the fields, so how it comes of these is no part of a promise.
+"""
+
+import collections
+import os
+import re
+
+import sources
+from specs import Rust, Spec, imports, meaning, modules
+from terms import free_names
+
+# A promise of a crate: the name of its call, as in `a of T`, or of an impl, as in `A for T`; what its clauses name; and whether it is one that
+# a program makes to its user.
+Promise = collections.namedtuple("Promise", "name names is_program")
+
+# Names that a clause has of Rust and of the language: parameters of types, and the variants that each file has.
+OF_RUST = re.compile(r"[A-Z]|Self|Some|None|Ok|Err")
+USE = re.compile(r"^(?:pub(?:\([^)]*\))? )?use ([^;]+);", re.M)
+FUNCTION = r"(?:pub(?:\([^)]*\))? )?"
+
+
+def uses_of(path, body):
+    """The `ghost use` lines of a file, and those in a body in it, of an impl or a trait."""
+    lines = sources.read(path).splitlines()
+    return "\n".join([it for it in lines if it.startswith("ghost use ")] + [it for it in body.splitlines() if it.startswith("    ghost use ")])
+
+
+def words(text):
+    return set(re.findall(r"\w+", text))
+
+
+class Crates:
+    """The crates below a folder, their modules of specs, their types and their promises."""
+
+    def __init__(self, top):
+        self.top = top
+        paths = [os.path.dirname(path) for path in sources.files(top, "crates/*/src")]
+        self.paths = {os.path.basename(path): path for path in paths}
+        self.modules = {(crate, name): it for crate, path in self.paths.items() for name, it in modules(path, self.paths).items()}
+        self.types = {Rust(crate, name): it for crate, path in self.paths.items() for name, it in sources.types(path).items()}
+        self.members = set().union(*(sources.ghosts(it.text) for it in self.types.values() if it.kind == "trait"))
+        self.scopes, self.found, self.unknown = {}, {}, set()
+        self.promises = {crate: list(self.promises_of(crate)) for crate in self.paths}
+
+    # Names of Rust
+
+    def scope(self, path):
+        """The types and traits that the names of a file mean."""
+        if path not in self.scopes:
+            own = os.path.relpath(path, os.path.join(self.top, "crates")).split(os.sep)[0]
+            scope = {type_.name: type_ for type_ in self.types if type_.crate == own}
+            for use in USE.findall(sources.without_comments(sources.read(path))):
+                if use.split("::")[0] in self.paths:
+                    scope.update((type_.name, type_) for type_ in self.imported(use.split("::")[0], words(use)))
+            self.scopes[path] = scope
+        return self.scopes[path]
+
+    def imported(self, crate, names):
+        """The types of these names that a crate gives out, its own or those of a crate below it."""
+        for name in names:
+            others = [type_ for type_ in self.types if type_.name == name]
+            yield from [type_ for type_ in others if type_.crate == crate] or others[:1]
+
+    def types_in(self, text, path):
+        scope = self.scope(path)
+        return {scope[word] for word in words(text) if word in scope}
+
+    # What a text names
+
+    def names_in(self, text, uses, path, bound=()):
+        """What the names of a term of a file mean, of those that it does not bind."""
+        ghost, rust, found = imports(uses, self.paths), self.scope(path), set()
+        text = re.sub(r"⟦<(.*?)>⟧", lambda match: " ".join(re.findall(r"\w+", match[1])), text)
+        for token in free_names(text, bound):
+            head = token.partition(".")[0]
+            name = meaning(token, ghost, self.paths) or rust.get(head)
+            if name:
+                found.add(name)
+            elif head not in self.members and not OF_RUST.fullmatch(head):
+                self.unknown.add(f"{os.path.relpath(path, self.top)} names {head}, which nothing brings")
+        return found
+
+    def names_of_call(self, function, part, path):
+        """What the signature and the clauses of a function name."""
+        uses, found = uses_of(path, part.body if part.owner else ""), self.types_in(f"{function.signature} {part.head} {part.owner}", path)
+        bound = {"self", "result", *re.findall(r"(\w+): ", function.signature)}
+        return found.union(*(self.names_in(clause.text, uses, path, bound) for clause in function.clauses))
+
+    # Promises
+
+    def promises_of(self, crate):
+        path = self.paths[crate]
+        given = sources.exported(path)
+        public = {type_.name for type_, it in self.types.items() if type_.crate == crate and it.is_public}
+        for call in sources.calls(path):
+            yield Promise(call.name, self.names_of_call(call.function, call.part, call.path), False)
+        for impl in sources.impls(path):
+            if impl.trait != "Model" and impl.type in (public if given is None else given):
+                names = self.names_of_impl(impl)
+                if names - {Rust(crate, impl.type)}:
+                    yield Promise(f"{impl.trait} for {impl.type}", names, False)
+        if given is None:
+            yield from self.program(path)
+
+    def names_of_impl(self, impl):
+        """What an impl of a trait says of a type: its ghost members, but for the proofs of laws, and clauses of its own."""
+        uses, found = uses_of(impl.path, impl.part.body), self.types_in(impl.type, impl.path)
+        laws = self.laws(impl.trait)
+        for name, texts in sources.ghosts(impl.part.body).items():
+            if name not in laws:
+                found |= self.names_in(texts[0], uses, impl.path)
+        for function in sources.functions(impl.part.body, "    "):
+            if function.clauses:
+                found |= self.names_of_call(function, impl.part, impl.path)
+        return found
+
+    def laws(self, trait):
+        """The ghost members of a trait that no clause and no other member of it names."""
+        texts = [it.text for type_, it in self.types.items() if type_.name == trait and it.kind == "trait"]
+        members = sources.ghosts("".join(texts))
+        clauses = [clause.text for text in texts for function in sources.functions(text, "    ") for clause in function.clauses]
+        named = {word for name, said in members.items() for word in words(" ".join(said)) if word != name}
+        return set(members) - named - words(" ".join(clauses))
+
+    def program(self, path):
+        """The promises of a program: the functions of its first file that have clauses, and those with clauses that this file calls."""
+        main = os.path.join(path, "src", "main.rt")
+        called = set(re.findall(r"\b(\w+)\(", sources.without_comments(sources.read(main))))
+        for file in sources.code_files(path):
+            text = sources.read(file)
+            for function in sources.functions(text, FUNCTION):
+                if function.clauses and (file == main or function.name in called):
+                    yield Promise(function.name, self.names_of_call(function, sources.Part("", "", text), file), True)
+
+    # What a name rests on
+
+    def rests_on(self, name):
+        if name not in self.found:
+            self.found[name] = self.definition_names(name) if isinstance(name, Spec) else self.type_names(name) if isinstance(name, Rust) else set()
+        return self.found[name]
+
+    def definition_names(self, name):
+        module = self.modules.get((name.crate, name.module))
+        if not module or name.name not in module.definitions:
+            self.unknown.add(f"there is no definition {name.name} in {name.module} of {name.crate}")
+            return set()
+        means = module.definitions[name.name].names
+        self.unknown |= {f"{name.module}.{name.name} of {name.crate} names {it}, which nothing brings" for it, said in means.items() if not said}
+        return set(means.values()) - {None}
+
+    def type_names(self, name):
+        type_ = self.types.get(name)
+        if not type_:
+            self.unknown.add(f"there is no type {name.name} in {name.crate}")
+            return set()
+        has_value = type_.model and "Value" in sources.ghosts(type_.model.part.body)
+        return self.model_names(type_, "Value") if has_value else self.member_names(type_)
+
+    def model_names(self, type_, member):
+        """What a member of the model of a type names, or none where it has none."""
+        if not type_.model:
+            return set()
+        body, path = type_.model.part.body, type_.model.path
+        return set().union(*(self.names_in(text, uses_of(path, body), path) for text in sources.ghosts(body).get(member, [])))
+
+    def member_names(self, type_):
+        """What the fields of a type name, or the ghost members of a trait."""
+        members = sources.ghosts(type_.text)
+        said = [text for texts in members.values() for text in texts]
+        plain = type_.text.partition("\n")[0] if type_.kind == "trait" else type_.text
+        for text in said:
+            plain = plain.replace(text, "")
+        uses, bound = uses_of(type_.path, type_.text), re.findall(r"(\w+): ", plain)
+        return self.types_in(plain, type_.path).union(*(self.names_in(text, uses, type_.path, bound) for text in said))
+
+    def chain(self, names):
+        """All that some names rest on, and they themselves."""
+        found, left = set(), list(names)
+        while left:
+            name = left.pop()
+            if name not in found:
+                found.add(name)
+                left += self.rests_on(name)
+        return found
+
+    def behind_views(self, chain):
+        """What the views of the types of a chain add to it."""
+        found = chain
+        while True:
+            views = [self.model_names(self.types[name], "view") for name in found if name in self.types]
+            more = self.chain(found.union(*views))
+            if more == found:
+                return found - chain
+            found = more

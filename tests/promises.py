@@ -1,0 +1,220 @@
+#!/usr/bin/env python3
+"""Works out which definitions the promises of the crates rest on, from the clauses of their public calls (tests/chain.py says how), and
+compares docs/definitions.md with that: its lists of modules, and which modules its chapters speak of. What is in a folder specs/inside/ must
+be behind no clause, and no module outside of it may import it.
+
+usage: tests/promises.py [--list | --write]
+
+--list prints the definitions behind each public call, and how many lines there are to believe; --write puts the lists of modules into
+docs/definitions.md. Without these the last line is 'N passed, M failed', and the exit status is 0 where none failed. It needs Python 3.8 or later.
+"""
+
+import collections
+import os
+import re
+import sys
+import textwrap
+
+from chain import Crates
+from sources import TOP, read
+from specs import Other, Rust, Spec
+
+# The crate of the program, and that of the library.
+PROGRAM, LIBRARY = "augtrie", "aug_trie"
+
+# How many public calls and impls, modules and definitions there are at least.
+LEAST = 200, 80, 600
+
+# The modules outside of `inside` that may import it, each as (crate, module) with its reason: the view of a `Model` stands there.
+EXCEPTIONS = {}
+
+INSIDE = re.compile(r"Rattle\.\w+\.specs\.inside(\.|$)")
+BEGIN, END = "<!-- modules {}: begin -->", "<!-- end -->"
+BLOCK = re.compile(r"<!-- modules (.*?): begin -->\n(.*?)<!-- end -->", re.S)
+REST = "## Not in the chain"
+
+
+def by_module(names):
+    """The definitions among some names, by crate and module."""
+    found = collections.defaultdict(set)
+    for name in names:
+        if isinstance(name, Spec):
+            found[name.crate, name.module].add(name.name)
+    return found
+
+
+class Promises:
+    """What the promises of the crates below a folder rest on."""
+
+    def __init__(self, top):
+        self.top, self.crates = top, Crates(top)
+        self.all = [(crate, it) for crate, promises in self.crates.promises.items() for it in promises]
+        self.chain = self.crates.chain(name for _, it in self.all for name in it.names)
+        self.views = self.crates.behind_views(self.chain)
+        self.in_chain, self.in_views = by_module(self.chain), by_module(self.views)
+
+    # Lists of modules
+
+    def modules_text(self, chain, crate):
+        """The modules of a crate that are in a chain, each with the part of it that is."""
+        found = []
+        for key in sorted(key for key in chain if key[0] == crate):
+            inside, every = chain[key], set(self.crates.modules[key].definitions)
+            alone, without = (", ".join(f"`{name}`" for name in sorted(names)) for names in (inside, every - inside))
+            part = "" if inside == every else f" ({alone} alone)" if 2 * len(inside) < len(every) else f" (without {without})"
+            found.append(f"`{key[1]}`{part}")
+        return ", ".join(found)
+
+    def rest_text(self, crate):
+        """The modules of a crate that are not in the chain."""
+        rest = sorted(key for key in self.crates.modules if key[0] == crate and key not in self.in_chain)
+        views = ", ".join(f"`{key[1]}`" for key in rest if key in self.in_views)
+        said = [f"`{key[1]}`" for key in rest if key not in self.in_views] + [f"and behind a view {views}"] * bool(views)
+        return ", ".join(said)
+
+    def lists(self):
+        """The lists of docs/definitions.md, by what stands in their first lines."""
+        crates = sorted({crate for crate, _ in self.crates.modules})
+        chain = {crate: self.modules_text(self.in_chain, crate) for crate in crates}
+        found = {f"of {crate}": filled(f"Modules of `{crate}`: {said}.", "") for crate, said in chain.items() if said}
+        for what, names in ("behind the program", self.names_of(PROGRAM, True)), ("behind the library", self.names_of(LIBRARY)):
+            modules = by_module(self.crates.chain(names))
+            if modules:
+                found[what] = bullets(crates, lambda crate: self.modules_text(modules, crate))
+        found["that are not in the chain"] = bullets(crates, self.rest_text)
+        return found
+
+    def names_of(self, crate, of_program=False):
+        """What the promises of a crate name, or those that it makes as a program."""
+        return {name for it in self.crates.promises.get(crate, []) if it.is_program or not of_program for name in it.names}
+
+    def written(self, text):
+        """A text with its lists as they should be."""
+        lists = self.lists()
+        return BLOCK.sub(lambda match: f"{BEGIN.format(match[1])}\n{lists.get(match[1], match[2])}{END}", text)
+
+    # What is wrong
+
+    def wrong_lists(self, text):
+        lists, there = self.lists(), BLOCK.findall(text)
+        wrong = [f"there is no list of the modules {of}" for of in lists if [it for it, _ in there].count(of) != 1]
+        wrong += [f"nothing is to be listed of the modules {of}" for of, _ in there if of not in lists]
+        return wrong + [f"the modules {of} are not these, but\n{lists[of]}" for of, said in there if lists.get(of, said) != said]
+
+    def wrong_paragraphs(self, text):
+        """What is wrong with the modules that the chapters have paragraphs of."""
+        told, names = set(), []
+        for name, crate in re.findall(r"\*\*`([\w.]+)`\*\*|\(`(\w+)`\)", text.partition(REST)[0]):
+            if name:
+                names.append(name)
+            elif crate in self.crates.paths:
+                told.update((crate, it) for it in names)
+                names = []
+        wrong = [f"{name} of {crate} has a paragraph, and no clause rests on it" for crate, name in sorted(told - set(self.in_chain))]
+        return wrong + [f"{name} of {crate} is in the chain, and has no paragraph" for crate, name in sorted(set(self.in_chain) - told)]
+
+    def wrong_imports(self, exceptions):
+        """Which modules import what is inside, and should not."""
+        found = {key for key, it in self.crates.modules.items() if not is_inside(key[1]) and any(map(INSIDE.match, it.uses))}
+        wrong = [f"{name} of {crate} imports a module from inside" for crate, name in sorted(found - set(exceptions))]
+        return wrong + [f"{name} of {crate} is excepted, and imports no module from inside" for crate, name in sorted(set(exceptions) - found)]
+
+    def wrong_clauses(self):
+        """Which definitions from inside a clause rests on."""
+        wrong = []
+        for crate, name in sorted(key for key in self.in_chain if is_inside(key[1])):
+            of = {it for it in self.chain if isinstance(it, Spec) and (it.crate, it.module) == (crate, name)}
+            call = next(f"{it.name} ({owner})" for owner, it in self.all if of & self.crates.chain(it.names))
+            wrong.append(f"{name} of {crate} is inside, and {call} rests on its {', '.join(sorted(it.name for it in of))}")
+        return wrong
+
+    def counts(self):
+        return len(self.all), len(self.crates.modules), sum(len(it.definitions) for it in self.crates.modules.values())
+
+    # What is listed
+
+    def lines(self, names):
+        """How many definitions are among some names, on how many lines, and with how many lines of comments."""
+        said = [(self.crates.modules[key], names) for key, names in by_module(names).items()]
+        code, comment = (sum(len(set().union(*(getattr(it.definitions[name], kind) for name in of))) for it, of in said) for kind in ("code", "comment"))
+        return f"{sum(len(of) for _, of in said)} definitions on {code} lines, with {comment} lines of comments"
+
+    def list_names(self, names, title):
+        """Prints some names by where they are from."""
+        found = collections.defaultdict(list)
+        for (crate, module), of in sorted(by_module(names).items()):
+            found[crate] += [f"{module}.{name}" for name in sorted(of)]
+        for name in sorted((it for it in names if isinstance(it, Rust)), key=str):
+            found[f"types of {name.crate}"].append(name.name)
+        for name in sorted((it for it in names if isinstance(it, Other)), key=str):
+            found[f"library {name.library}"].append(name.name)
+        for of, said in found.items():
+            print(textwrap.fill(f"{title}{of}: {', '.join(said)}", 140, initial_indent="    ", subsequent_indent="      ", break_on_hyphens=False))
+
+    def list_all(self):
+        for crate, promises in self.crates.promises.items():
+            for promise in promises:
+                chain = self.crates.chain(promise.names)
+                print(f"{crate}: {promise.name}{' (the program)' if promise.is_program else ''}")
+                self.list_names(chain, "")
+                self.list_names(self.crates.behind_views(chain), "behind views, ")
+        self.list_sums()
+
+    def list_sums(self):
+        program, library = self.names_of(PROGRAM, True), self.names_of(LIBRARY)
+        for what, names in (f"the program {PROGRAM}", program), (f"the library {LIBRARY}", library), ("both", program | library):
+            chain = self.crates.chain(names)
+            print(f"\n{what}: {self.lines(chain)}")
+            for crate in self.crates.paths:
+                own = {name for name in chain if isinstance(name, Spec) and name.crate == crate}
+                if own:
+                    print(f"  {crate}: {self.lines(own)}")
+            print(f"  behind views alone: {self.lines(self.crates.behind_views(chain))}")
+
+
+def is_inside(module):
+    return module.partition(".")[0] == "inside"
+
+
+def bullets(crates, text):
+    """A list with a text for each crate that has one."""
+    return "".join(filled(f"- `{crate}`: {text(crate)}", "  ") for crate in crates if text(crate))
+
+
+def filled(text, indent):
+    return textwrap.fill(text, 140, subsequent_indent=indent, break_on_hyphens=False, break_long_words=False) + "\n"
+
+
+def check(promises, text, least, exceptions):
+    """Prints what is wrong. The exit status."""
+    wrong = [f"docs/definitions.md: {it}" for it in promises.wrong_lists(text) + promises.wrong_paragraphs(text)]
+    wrong += promises.wrong_imports(exceptions) + promises.wrong_clauses() + sorted(promises.crates.unknown)
+    counts = promises.counts()
+    for what, count, most in zip(("public calls and impls", "modules", "definitions"), counts, least):
+        if count < most:
+            wrong.append(f"there are {count} {what}, and should be {most}")
+    for it in wrong:
+        print(it)
+    print(f"{max(sum(counts[:2]) - len(wrong), 0)} passed, {len(wrong)} failed")
+    return 1 if wrong else 0
+
+
+def main(words=(), top=TOP, least=LEAST, exceptions=EXCEPTIONS):
+    """`least` is how many calls, modules and definitions there are at least."""
+    if list(words) not in ([], ["--list"], ["--write"]):
+        print("usage: tests/promises.py [--list | --write]", file=sys.stderr)
+        return 2
+    promises, path = Promises(top), os.path.join(top, "docs", "definitions.md")
+    if "--list" in words:
+        promises.list_all()
+    elif "--write" in words:
+        text = promises.written(read(path))
+        with open(path, "w", encoding="utf-8") as file:
+            file.write(text)
+    else:
+        return check(promises, read(path), least, exceptions)
+    return 0
+
+
+if __name__ == "__main__":
+    sys.exit(main(sys.argv[1:]))

@@ -205,14 +205,14 @@ def main(words=(), top=TOP, least=LEAST, exceptions=EXCEPTIONS):
         print("usage: tests/promises.py [--list | --write]", file=sys.stderr)
         return 2
     promises, path = Promises(top), os.path.join(top, "docs", "definitions.md")
+    text = read(path) if os.path.exists(path) else ""
+    if not words:
+        return check(promises, text, least, exceptions)
     if "--list" in words:
         promises.list_all()
-    elif "--write" in words:
-        text = promises.written(read(path))
-        with open(path, "w", encoding="utf-8") as file:
-            file.write(text)
     else:
-        return check(promises, read(path), least, exceptions)
+        with open(path, "w", encoding="utf-8") as file:
+            file.write(promises.written(text))
     return 0
 
 

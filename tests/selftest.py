@@ -14,10 +14,12 @@ import sys
 import unittest
 
 import programs
+import promises
 import refused
 import surface
 from folders import InFolder
 from refusing import TESTS, Refusing, compile_c
+from terms import free_names
 
 TOP = os.path.dirname(TESTS)
 
@@ -381,6 +383,207 @@ pub fn hidden() -> u32 {
         self.assert_told("there is no test takes_two", list_, "`count` | | |", "`count` | | none: `takes_two` |")
         self.assert_told("there is no edit takes_one", list_, "`take_gives_none`", "`takes_one`")
         self.assert_told("there is no test docs/other.md", list_, "(`docs/surface.md`)", "(`docs/other.md`)")
+
+
+class Promises(InFolder):
+    """tests/promises.py follows names from clauses to definitions, and holds docs/definitions.md and the folders specs/inside/ to it."""
+
+    TEXTS = {
+        "crates/one/src/lib.rt": "mod shelf;\npub use shelf::Shelf;\n",
+        "crates/one/src/shelf.rt": """
+ghost use Rattle.std.specs.Prelude.{◌≡◌, ◌<◌};
+ghost use Rattle.one.specs.Books.{size_of};
+ghost use Rattle.one.specs.Steps.{IsStep};
+
+pub struct Shelf {
+    books: Vec<u32>,
+}
+
+impl Model for Shelf {
+    ghost use Rattle.one.specs.Books.{ShelfFacts};
+    ghost use Rattle.one.specs.Kept.{facts_of};
+
+    ghost Value = { ShelfFacts };
+
+    ghost view = { λ shelf. facts_of shelf.books };
+}
+
+impl Shelf {
+    pub fn size(&self) -> u32
+        ensures { result ≡ size_of self.now }
+    {
+        self.step()
+    }
+
+    fn step(&self) -> u32
+        ensures { IsStep result }
+    {
+        0
+    }
+}
+""",
+        "crates/one/specs/Lib.antt": "pub mod Books\npub mod Kept\npub mod Steps\npub mod inside\n",
+        "crates/one/specs/Books.antt": """-- What a shelf has.
+use Rattle.std.specs.Prelude.{ℕ, List, length}
+use Rattle.one.specs.Steps.{IsStep}
+
+-- a shelf as contracts see it
+pub record ShelfFacts : Type 0 where
+  pub books : List ℕ
+
+-- how many books it has, whatever is called a step here
+abbrev pub size_of : ShelfFacts → ℕ
+size_of shelf = length (kept (λ IsStep. IsStep) shelf.books)
+
+-- those of some books that a function keeps
+abbrev kept : (ℕ → ℕ) → List ℕ → List ℕ
+kept f books = books
+
+-- a step is one for all books
+abbrev pub AreSteps : Type 0
+AreSteps = (n : ℕ) → IsStep n
+""",
+        "crates/one/specs/Kept.antt": """-- How the books are kept.
+use Rattle.std.specs.Prelude.{ℕ, List}
+use Rattle.one.specs.Books.{ShelfFacts}
+
+abbrev pub facts_of : List ℕ → ShelfFacts
+facts_of books = record { books = books }
+""",
+        "crates/one/specs/Steps.antt": """-- Steps.
+use Rattle.std.specs.Prelude.{ℕ, ◌<◌}
+
+abbrev pub IsStep : ℕ → Type 0
+IsStep n = n < 9
+""",
+        "crates/one/specs/inside.antt": "pub mod Deep\n",
+        "crates/one/specs/inside/Deep.antt": """-- What lies deep.
+use Rattle.std.specs.Prelude.{ℕ}
+
+abbrev pub deep : ℕ
+deep = 0
+""",
+        "docs/definitions.md": """# What has to be believed
+
+**`Books`** (`one`). What a shelf has.
+
+<!-- modules of one: begin -->
+Modules of `one`: `Books` (without `AreSteps`).
+<!-- end -->
+
+## Not in the chain
+
+<!-- modules that are not in the chain: begin -->
+- `one`: `Steps`, `inside.Deep`, and behind a view `Kept`
+<!-- end -->
+""",
+    }
+
+    def check(self, file=None, old="", new="", words=(), least=(1, 4, 7), exceptions=()):
+        """Checks the folder, in one file of which a text was put in the place of another: what it printed, and its status."""
+        for name, text in self.TEXTS.items():
+            if name == file:
+                self.assertEqual(text.count(old), 1)
+                text = text.replace(old, new)
+            self.write(name, text)
+        status, said = quietly(promises.main, words, self.folder, least, dict(exceptions))
+        return said, status
+
+    def assert_told(self, why, *changed, **given):
+        said, status = self.check(*changed, **given)
+        self.assertEqual((said.splitlines()[:-1], status), ([why], 1))
+        self.assertEqual(said.splitlines()[-1], "4 passed, 1 failed")
+
+    DEFINITIONS, BOOKS, SHELF = "docs/definitions.md", "crates/one/specs/Books.antt", "crates/one/src/shelf.rt"
+    IMPORT = "use Rattle.one.specs.inside.Deep.{deep}\n"
+
+    def test_lists_that_agree(self):
+        self.assertEqual(self.check(), ("5 passed, 0 failed\n", 0))
+
+    def test_too_little_that_is_found(self):
+        self.assert_told("there are 1 public calls and impls, and should be 2", least=(2, 4, 7))
+        self.assert_told("there are 4 modules, and should be 5", least=(1, 5, 7))
+        self.assert_told("there are 7 definitions, and should be 8", least=(1, 4, 8))
+
+    def test_empty_folder(self):
+        status, said = quietly(promises.main, (), self.folder)
+        self.assertEqual(status, 1)
+        self.assertIn("there are 0 public calls and impls", said)
+        self.assertRegex(said, r"\n0 passed, \d failed\n$")
+
+    def test_module_that_a_list_lacks(self):
+        why = "docs/definitions.md: the modules that are not in the chain are not these, but"
+        said, status = self.check(self.DEFINITIONS, "`Steps`, `inside", "`inside")
+        self.assertEqual((said.splitlines(), status), ([why, "- `one`: `Steps`, `inside.Deep`, and behind a view `Kept`", "", "4 passed, 1 failed"], 1))
+        said, status = self.check(self.DEFINITIONS, "Modules of `one`: `Books` (without `AreSteps`).\n", "")
+        self.assertIn("docs/definitions.md: the modules of one are not these, but\nModules of `one`: `Books` (without `AreSteps`).\n", said)
+
+    def test_list_that_is_not_there(self):
+        self.assert_told("docs/definitions.md: there is no list of the modules of one", self.DEFINITIONS, "<!-- modules of one: begin -->", "")
+        said, _ = self.check(self.DEFINITIONS, "<!-- modules of one:", "<!-- modules of two:")
+        self.assertIn("docs/definitions.md: nothing is to be listed of the modules of two\n", said)
+
+    def test_paragraph_that_is_not_there(self):
+        self.assert_told("docs/definitions.md: Books of one is in the chain, and has no paragraph", self.DEFINITIONS, "**`Books`**", "`Books`")
+
+    def test_paragraph_of_a_module_that_is_behind_no_clause(self):
+        why = "docs/definitions.md: Steps of one has a paragraph, and no clause rests on it"
+        self.assert_told(why, self.DEFINITIONS, "**`Books`** (", "**`Books`**, **`Steps`** (")
+
+    def test_lists_are_written(self):
+        self.assertEqual(self.check(self.DEFINITIONS, " (without `AreSteps`)", "", ["--write"]), ("", 0))
+        with open(os.path.join(self.folder, self.DEFINITIONS), encoding="utf-8") as file:
+            self.assertEqual(file.read(), self.TEXTS[self.DEFINITIONS])
+
+    def test_import_from_inside(self):
+        planted = self.BOOKS, "-- a shelf", f"{self.IMPORT}\n-- a shelf"
+        self.assert_told("Books of one imports a module from inside", *planted)
+        self.assertEqual(self.check(*planted, exceptions={("one", "Books"): "a view"})[1], 0)
+        self.assertEqual(self.check("crates/one/specs/inside/Deep.antt", "-- What", f"{self.IMPORT}-- What")[1], 0)
+
+    def test_exception_that_is_not_needed(self):
+        self.assert_told("Books of one is excepted, and imports no module from inside", exceptions={("one", "Books"): "a view"})
+
+    def test_clause_that_rests_on_what_is_inside(self):
+        deep = "ghost use Rattle.one.specs.inside.Deep.{deep as "
+        self.assertEqual(self.check(self.SHELF, "ghost use Rattle.one.specs.Steps.{", deep), ("5 passed, 0 failed\n", 0))
+        said, status = self.check(self.SHELF, "ghost use Rattle.one.specs.Books.{size_of", f"{deep}size_of")
+        self.assertIn("inside.Deep of one is inside, and size of Shelf (one) rests on its deep\n", said)
+        self.assertEqual(status, 1)
+
+    def test_definition_behind_a_clause_that_rests_on_what_is_inside(self):
+        deep = "use Rattle.std.specs.Prelude.{ℕ, List}\nuse Rattle.one.specs.inside.Deep.{deep as length}"
+        changed = self.BOOKS, "use Rattle.std.specs.Prelude.{ℕ, List, length}", deep
+        said, status = self.check(*changed, exceptions={("one", "Books"): "a view"})
+        self.assertIn("inside.Deep of one is inside, and size of Shelf (one) rests on its deep\n", said)
+        self.assertEqual(status, 1)
+
+    def test_name_that_nothing_brings(self):
+        self.assert_told("Books.kept of one names more, which nothing brings", self.BOOKS, "kept f books = books", "kept f books = more")
+        self.assert_told("crates/one/src/shelf.rt names more, which nothing brings", self.SHELF, "size_of self.now", "size_of more")
+        said, _ = self.check(self.SHELF, "Books.{size_of}", "Kept.{size_of}")
+        self.assertIn("there is no definition size_of in Kept of one\n", said)
+
+    def test_each_call_is_listed(self):
+        said, status = self.check(words=["--list"])
+        self.assertEqual(status, 0)
+        self.assertIn("one: size of Shelf\n    one: Books.ShelfFacts, Books.kept, Books.size_of\n    types of one: Shelf\n", said)
+        self.assertIn("    behind views, one: Kept.facts_of\n", said)
+
+    def test_other_words_are_refused(self):
+        with contextlib.redirect_stderr(io.StringIO()):
+            self.assertEqual(promises.main(["--wrote"], self.folder), 2)
+
+    def test_names_that_a_term_binds(self):
+        for text, names in [
+            ("λ x y. f x (y.a z)", ["f", "z"]),
+            ("(x : A x) → P x × (y z : B) × Q y z x w", ["A", "x", "P", "B", "Q", "w"]),
+            ("let x : T = x in g x", ["T", "x", "g"]),
+            ("record r { a = b; c = λ a. a c }", ["r", "b", "c"]),
+            ("(λ x. x, x)", ["x"]),
+            ("f {x = e} (x : A) {0} \"let y\" 2 .0", ["f", "e", "A"]),
+        ]:
+            self.assertEqual(free_names(text), names, text)
 
 
 class Gate(InFolder):

@@ -26,7 +26,8 @@ FUNCTION = r"(?:pub(?:\([^)]*\))? )?"
 def uses_of(path, body):
     """The `ghost use` lines of a file, and those in a body in it, of an impl or a trait."""
     lines = sources.read(path).splitlines()
-    return "\n".join([it for it in lines if it.startswith("ghost use ")] + [it for it in body.splitlines() if it.startswith("    ghost use ")])
+    inner = [it for it in body.splitlines() if it.startswith("    ghost use ")]
+    return "\n".join([it for it in lines if it.startswith("ghost use ")] + inner)
 
 
 def words(text):
@@ -140,7 +141,8 @@ class Crates:
 
     def rests_on(self, name):
         if name not in self.found:
-            self.found[name] = self.definition_names(name) if isinstance(name, Spec) else self.type_names(name) if isinstance(name, Rust) else set()
+            names = {Spec: self.definition_names, Rust: self.type_names}.get(type(name), lambda _: set())
+            self.found[name] = names(name)
         return self.found[name]
 
     def definition_names(self, name):
@@ -149,7 +151,8 @@ class Crates:
             self.unknown.add(f"there is no definition {name.name} in {name.module} of {name.crate}")
             return set()
         means = module.definitions[name.name].names
-        self.unknown |= {f"{name.module}.{name.name} of {name.crate} names {it}, which nothing brings" for it, said in means.items() if not said}
+        unknown = [it for it, said in means.items() if not said]
+        self.unknown |= {f"{name.module}.{name.name} of {name.crate} names {it}, which nothing brings" for it in unknown}
         return set(means.values()) - {None}
 
     def type_names(self, name):

@@ -1,12 +1,13 @@
 #!/usr/bin/env python3
 """Works out which definitions the promises of the crates rest on, from the clauses of their public calls (tests/chain.py says how), and
-compares docs/definitions.md with that: its lists of modules, and which modules its chapters speak of. What is in a folder specs/inside/ must
-be behind no clause, and no module outside of it may import it.
+compares docs/definitions.md with that: its lists of modules, and which modules its parts have paragraphs of. What is in a folder
+specs/inside/ must be behind no clause, and no module outside of it may import it.
 
 usage: tests/promises.py [--list | --write]
 
 --list prints the definitions behind each public call, and how many lines there are to believe; --write puts the lists of modules into
-docs/definitions.md. Without these the last line is 'N passed, M failed', and the exit status is 0 where none failed. It needs Python 3.8 or later.
+docs/definitions.md. Without these the last line is 'N passed, M failed', and the exit status is 0 where none failed.
+It needs Python 3.8 or later.
 """
 
 import collections
@@ -117,7 +118,8 @@ class Promises:
         """Which modules import what is inside, and should not."""
         found = {key for key, it in self.crates.modules.items() if not is_inside(key[1]) and any(map(INSIDE.match, it.uses))}
         wrong = [f"{name} of {crate} imports a module from inside" for crate, name in sorted(found - set(exceptions))]
-        return wrong + [f"{name} of {crate} is excepted, and imports no module from inside" for crate, name in sorted(set(exceptions) - found)]
+        unneeded = sorted(set(exceptions) - found)
+        return wrong + [f"{name} of {crate} is excepted, and imports no module from inside" for crate, name in unneeded]
 
     def wrong_clauses(self):
         """Which definitions from inside a clause rests on."""
@@ -135,9 +137,13 @@ class Promises:
 
     def lines(self, names):
         """How many definitions are among some names, on how many lines, and with how many lines of comments."""
-        said = [(self.crates.modules[key], names) for key, names in by_module(names).items()]
-        code, comment = (sum(len(set().union(*(getattr(it.definitions[name], kind) for name in of))) for it, of in said) for kind in ("code", "comment"))
-        return f"{sum(len(of) for _, of in said)} definitions on {code} lines, with {comment} lines of comments"
+        count, code, comment = 0, 0, 0
+        for key, of in by_module(names).items():
+            said = [self.crates.modules[key].definitions[name] for name in of]
+            count += len(said)
+            code += len(set().union(*(it.code for it in said)))
+            comment += len(set().union(*(it.comment for it in said)))
+        return f"{count} definitions on {code} lines, with {comment} lines of comments"
 
     def list_names(self, names, title):
         """Prints some names by where they are from."""
@@ -149,7 +155,7 @@ class Promises:
         for name in sorted((it for it in names if isinstance(it, Other)), key=str):
             found[f"library {name.library}"].append(name.name)
         for of, said in found.items():
-            print(textwrap.fill(f"{title}{of}: {', '.join(said)}", 140, initial_indent="    ", subsequent_indent="      ", break_on_hyphens=False))
+            print(filled(f"    {title}{of}: {', '.join(said)}", "      "), end="")
 
     def list_all(self):
         for crate, promises in self.crates.promises.items():

@@ -6,7 +6,7 @@ TOKEN = re.compile(r'"(?:[^"\\]|\\.)*"|[(){}\[\];,]|[^\s(){}\[\];,"]+')
 CLOSING = {"(": ")", "{": "}", "[": "]"}
 
 # Words of the language, which no import brings.
-BUILT_IN = frozenset("→ × ⊥ λ : = | ↦ . _ ? Type Unit tt absurd record let in where elim as".split())
+BUILT_IN = frozenset("→ × ⊥ λ : = | ↦ . _ ? Type Unit tt absurd record let in where elim as unfolding".split())
 
 
 def grouped(text):
@@ -36,12 +36,12 @@ def parted(tokens, separator):
 
 def binder(group):
     """The names that brackets bind, as in (x y : A), and the tokens of their type; or none where they bind no name."""
-    names, _, said = group[1:], "", []
-    if ":" in names and group[0] != "[":
-        names, said = names[: names.index(":")], names[names.index(":") + 1 :]
-        if names and all(isinstance(it, str) and (it == "_" or it not in BUILT_IN) for it in names):
-            return names, said
-    return None
+    if group[0] == "[" or ":" not in group:
+        return None
+    colon = group.index(":")
+    names, said = group[1:colon], group[colon + 1 :]
+    is_binder = names and all(isinstance(it, str) and (it == "_" or it not in BUILT_IN) for it in names)
+    return (names, said) if is_binder else None
 
 
 class FreeNames:

@@ -38,12 +38,35 @@ echo " $(cat)"
 exit 3
 """
 
-# Stands in for the measuring program: it waits until it was placed, which it is once for each line `place`.
-MEASURING = r"""#!/bin/bash
-echo "place 1 $3-$3"
-until grep -q -- "-apc $3-$3 $$" "$ROOM/placed" 2>/dev/null; do sleep 0.01; done
-echo "run trie $2 1 1.000 of $*"
-[[ $2 != "$FAILS" ]]
+# Stands in for the measuring program: it shows its words, and the processors that it and each of its further threads may run on.
+MEASURING = r"""#!/usr/bin/env python3
+import os, sys, threading
+found = [os.sched_getaffinity(0)]
+all_here = threading.Barrier(int(sys.argv[2]))
+def look():
+    all_here.wait()
+    found.append(os.sched_getaffinity(0))
+threads = [threading.Thread(target=look) for _ in range(int(sys.argv[2]) - 1)]
+for thread in threads: thread.start()
+all_here.wait()
+for thread in threads: thread.join()
+print("trie", *sys.argv[1:], "on", *sorted(processor for it in found if len(it) == 1 for processor in it))
+sys.exit(sys.argv[1] == os.environ.get("FAILS"))
+"""
+
+# Stands in for the compiler of Rust: it makes the file behind -o.
+COMPILER = r"""#!/bin/bash
+while (($#)); do if [[ $1 == -o ]]; then : >"$2"; fi; shift; done
+"""
+
+# Stands in for valgrind: the program executes 1,000 instructions, and for each operation as many as the length of the operation's name.
+VALGRIND = r"""#!/bin/bash
+shift 2
+if [[ $2 == count ]]; then shift; fi
+all=1000
+if [[ $2 != none ]]; then all=$((1000 + $3 * ${#2})); fi
+echo "${1##*/} $*" >>"$ROOM/called"
+echo "==1== Collected : $all" >&2
 """
 
 
@@ -163,24 +186,30 @@ class Run(Folder):
 
 
 class Measure(Folder):
-    """tools/measure runs each workload, and places the program where it asks to be."""
+    """tools/measure runs each workload with each number of threads, each in its place, or counts instructions."""
 
-    copied = ["tools/measure"]
+    copied = ["tools/measure", "tools/place.c"]
 
     def setUp(self):
         super().setUp()
-        self.write("bin/taskset", '#!/bin/bash\necho "$*" >>"$ROOM/placed"\n', 0o755)
+        self.write("bin/rustc", COMPILER, 0o755)
+        self.write("bin/valgrind", VALGRIND, 0o755)
         self.write("crates/augbench/out/augbench", MEASURING, 0o755)
 
-    def test_measures_each_workload_where_it_is_placed(self):
-        out, err, status = self.run_script("tools/measure", "6")
-        lines = [line for name in "UMPQS" for line in ("place 1 6-6", f"run trie {name} 1 1.000 of bench {name} 6")]
-        self.assertEqual((out.splitlines(), err, status), (lines, "", 0))
-        self.assertEqual(len(self.read("placed").splitlines()), 5)
+    def test_measures_each_workload_with_threads_in_their_places(self):
+        first, *more = sorted(os.sched_getaffinity(0))
+        out, err, status = self.run_script("tools/measure", str(first), SECONDS_EACH="3")
+        self.assertEqual((err, status), ("", 0))
+        lines = out.splitlines()
+        self.assertEqual([line.split(" on ")[0] for line in lines], [f"trie {name} {count} 3" for name in "UCMPQS" for count in (1, 2, 4)])
+        self.assertEqual(lines[0].split(" on ")[1], f"{first}")
+        if first + 1 in more:
+            self.assertEqual(lines[1].split(" on ")[1], f"{first} {first + 1}")
 
     def test_program_that_fails_ends_it(self):
-        out, _, status = self.run_script("tools/measure", "0", FAILS="P")
-        self.assertEqual((out.splitlines()[-1], status), ("run trie P 1 1.000 of bench P 0", 1))
+        first = min(os.sched_getaffinity(0))
+        out, _, status = self.run_script("tools/measure", str(first), FAILS="P")
+        self.assertEqual((out.splitlines()[-1], status), (f"trie P 1 2 on {first}", 1))
 
     def test_program_that_is_not_built(self):
         os.remove(os.path.join(self.folder, "crates/augbench/out/augbench"))
@@ -194,6 +223,24 @@ class Measure(Folder):
         self.assertEqual((out, status), ("", 1))
         self.assertIn("usage: tools/measure CPU0", err)
 
+    def test_counts_instructions_of_each_operation(self):
+        out, err, status = self.run_script("tools/measure", "counts")
+        operations = ["new", "dup", "put", "rank", "select", "range"]
+        lines = [f"{name} {operation} {len(operation)}" for name in ("trie", "checked", "unchecked") for operation in operations]
+        self.assertEqual((out.splitlines(), err, status), (lines, "", 0))
+        called = self.read("called").splitlines()
+        self.assertEqual(len(called), 36)
+        self.assertTrue(called[0].endswith(" new 8000 --bits 16 --gap 1"), called[0])
+        self.assertTrue(called[-1].endswith(" none 8000 16 1"), called[-1])
+
+    def test_counts_without_rustc_leave_plain_rust_out(self):
+        for name in ["env", "bash", "mktemp", "rm", "awk", "dirname"]:
+            os.symlink(shutil.which(name), os.path.join(self.folder, "bin", name))
+        os.remove(os.path.join(self.folder, "bin/rustc"))
+        out, err, status = self.run_script("tools/measure", "counts", path=os.path.join(self.folder, "bin"))
+        self.assertEqual([line.split()[0] for line in out.splitlines()], ["trie"] * 6)
+        self.assertEqual((err, status), ("tools/measure: no rustc, so plain Rust is left out\n", 0))
+
 
 class Picture(Folder):
     """tools/picture has gnuplot draw the middle one of each ratio of its files."""
@@ -205,10 +252,11 @@ class Picture(Folder):
 
     def setUp(self):
         super().setUp()
-        # with one thread the lock makes 2, 4 and 5 million a second, and the trie 3, 3 and 10
-        for name, lock, trie in ("one", 2, 3), ("two", 4, 3), ("three", 5, 10):
-            rows = f"place 1 0-0\nopen lock 9.000\nrun lock U 1 {lock}.000\nrun trie U 1 {trie}.000\nrun trie U 2 {2 * trie}.000\n"
-            self.write(name, rows)
+        # with one thread the mutex makes 2, 4 and 5 million a second, and the trie 3, 3 and 10, a third of that with openings
+        for name, mutex, trie in ("one", 2, 3), ("two", 4, 3), ("three", 5, 10):
+            rows = [("mutex", 1, mutex, mutex), ("trie", 1, trie, trie / 3), ("trie", 2, 2 * trie, trie)]
+            lines = [f"{engine} U {threads} mops={speed:.3f} with_openings={slow:.3f} opening_ms=0.000 unchanged=0.500\n" for engine, threads, speed, slow in rows]
+            self.write(name, "".join(lines))
         for name in self.CALLED:
             os.makedirs(os.path.join(self.folder, "bin"), exist_ok=True)
             os.symlink(shutil.which(name), os.path.join(self.folder, "bin", name))
@@ -219,13 +267,13 @@ class Picture(Folder):
     def test_draws_the_middle_of_each_ratio(self):
         shown = r"""#!/bin/bash
 while read -r line; do
-    if [[ $line =~ ^plot\ \"([^\"]*)/\" ]]; then echo "U: $(cat "${BASH_REMATCH[1]}/U-trie"), $(cat "${BASH_REMATCH[1]}/U-lock")"; fi
+    if [[ $line =~ ^plot\ \"([^\"]*)/\" ]]; then echo "U: $(cat "${BASH_REMATCH[1]}/U-trie"), $(cat "${BASH_REMATCH[1]}/U-mutex")"; fi
 done
 """
         self.write("bin/gnuplot", shown, 0o755)
         out, err, status = self.draw("one", "two", "three")
         self.assertEqual((out, status), ("U: 1 1.5\n2 3, 1 1\n", 0))
-        self.assertEqual(err, "U lock 1 1\nU trie 1 1.5\nU trie 2 3\n")
+        self.assertEqual(err, "U mutex 1 1\nU trie 1 1.5\nU trie 2 3\nU with_openings 1 0.5\nU with_openings 2 1.5\n")
 
     def test_without_gnuplot_it_fails_and_draws_nothing(self):
         out, err, status = self.draw("one")

@@ -7,10 +7,10 @@ Every test runs once for each PROGRAM. The last line is 'N passed, M failed', an
 It needs Python 3.8 or later.
 """
 
-import concurrent.futures
 import re
 import subprocess
 import sys
+import time
 
 import programs
 
@@ -18,14 +18,19 @@ import programs
 SECONDS = 60
 
 HELP = b"""\
-Measures the shared trie beside a set behind a lock
+Measures the shared trie beside plain sets behind locks
 
 Usage: augbench <WORKLOAD> <THREADS> <SECONDS>
        augbench <COMMAND>
 """
 
 # A number with three places behind its point, as in what is measured.
-NUMBER = r"\d+\.\d{3}"
+NUMBER = r"(\d+\.\d{3})"
+
+ENGINES = ["trie", "mutex", "rwlock", "left_right"]
+
+# Operations of two rounds of each workload.
+OPERATIONS = {"U": 8192, "C": 8192, "M": 81920, "P": 81920, "Q": 81920, "S": 81920}
 
 
 class Measuring:
@@ -40,7 +45,7 @@ class Measuring:
         self.assertEqual((errors, status), (b"", 0))
 
     def test_wrong_words_have_a_text_and_a_status(self):
-        for line in ["", "U", "V 1 1", "U 0 1", "U 65 1", "U 1 601", "bench U", "bench U x", "count one 1", "count rank 0", "check U"]:
+        for line in ["", "U", "V 1 1", "U 0 1", "U 65 1", "U 1 601", "bench U 0", "check --without 65536", "count one 1", "count rank 0", "check U"]:
             output, errors, status = self.run_on(line)
             self.assertEqual((output, status), (b"", 2), line)
             self.assertTrue(errors.startswith(b"error: "), errors)
@@ -52,9 +57,23 @@ class Measuring:
         ]:
             self.assertEqual(self.run_on(line), (b"", f"augbench: {why}\n".encode(), 1))
 
-    def test_both_engines_agree(self):
-        lines = b"".join(b"%c %d operations: trie and lock agree\n" % row for row in zip(b"UMPQS", [8192, 81920, 81920, 81920, 81920]))
-        self.assertEqual(self.run_on("check"), (lines, b"", 0))
+    def check_lines(self, verdict):
+        return "".join(
+            f"{workload} {count} operations: trie and {engine} {verdict}\n" for workload, count in OPERATIONS.items() for engine in ENGINES[1:]
+        ).encode()
+
+    def test_all_engines_agree(self):
+        self.assertEqual(self.run_on("check"), (self.check_lines("agree"), b"", 0))
+
+    def test_a_key_that_plain_sets_never_had_changes_nothing(self):
+        self.assertEqual(self.run_on("check --without 1"), (self.check_lines("agree"), b"", 0))
+
+    def test_sets_that_differ_are_found(self):
+        output, errors, status = self.run_on("check --without 0")
+        self.assertEqual((errors, status), (b"augbench: the engines differ\n", 1))
+        # Updates of other keys do not show that one is missing, but ranks, selections and ranges do.
+        found = re.findall(r"^(\w) \d+ operations: trie and (\w+) (\w+)$", output.decode(), re.M)
+        self.assertEqual(found, [(name, engine, "agree" if name in "UC" else "DIFFER") for name in OPERATIONS for engine in ENGINES[1:]])
 
     def test_counts_each_operation(self):
         for line, wanted in [
@@ -64,27 +83,40 @@ class Measuring:
             ("count put 65536", "65536 operations, 65536 in all"),
             # Ranks of all keys below 16 over the even ones: 0, 1, 1, 2, 2 .. 7, 7, 8.
             ("count rank 16 --bits 4", "16 operations, 64 in all"),
+            # Of the members 0, 2 .. 14 the sum, and how many are between 11 * i and 5 - 11 * i, modulo 16, for each i below 16.
+            ("count select 8 --bits 4", "8 operations, 56 in all"),
+            ("count range 16 --bits 4", "16 operations, 36 in all"),
         ]:
             self.assertEqual(self.run_on(line), (f"{wanted}\n".encode(), b"", 0))
 
     def test_measures_each_workload_with_threads(self):
-        cases = [("U", 1), ("M", 2), ("P", 2), ("Q", 4), ("S", 3)]
-        with concurrent.futures.ThreadPoolExecutor() as pool:
-            all_ran = list(pool.map(self.run_on, [f"{workload} {threads} 1" for workload, threads in cases]))
-        for (workload, threads), (output, errors, status) in zip(cases, all_ran):
-            lines = "".join(
-                f"open {engine} {NUMBER}\nrun {engine} {workload} {threads} {NUMBER}\n" for engine in ["trie", "lock"]
-            )
-            self.assertRegex(output.decode(), re.compile(f"\\A{lines}\\Z"))
-            self.assertNotIn(b" 0.000\n", output)
+        cases = [("U", 1), ("C", 4), ("M", 2), ("P", 2), ("Q", 4), ("S", 3)]
+        for workload, threads in cases:
+            began = time.monotonic()
+            output, errors, status = self.run_on(f"{workload} {threads} 1")
+            took = time.monotonic() - began
             self.assertEqual((errors, status), (b"", 0))
+            lines = output.decode().splitlines()
+            self.assertEqual([line.split()[:3] for line in lines], [[engine, workload, str(threads)] for engine in ENGINES])
+            for line in lines:
+                figures = f"mops={NUMBER} with_openings={NUMBER} opening_ms={NUMBER} unchanged={NUMBER}"
+                match = re.fullmatch(f"\\w+ {workload} {threads} {figures}", line)
+                self.assertTrue(match, line)
+                self.check_figures(workload, line.startswith("trie"), *map(float, match.groups()))
+            # Each engine has its rounds for a second.
+            self.assertGreaterEqual(took, 4)
 
-    def test_says_where_threads_are_to_be_placed(self):
-        output, errors, status = self.run_on("bench U 5")
-        places = [line for line in output.decode().splitlines() if line.startswith("place")]
-        self.assertEqual(places, ["place 1 5-5", "place 2 5-6", "place 4 5-8"])
-        self.assertEqual(len(output.splitlines()), 15)
-        self.assertEqual((errors, status), (b"", 0))
+    def check_figures(self, workload, is_trie, speed, with_openings, opening, unchanged):
+        """Holds the figures of an engine to one another: openings take time of the trie alone, and not every workload has idle updates."""
+        self.assertGreater(speed, 0)
+        if is_trie:
+            self.assertTrue(with_openings < speed and opening > 0, (speed, with_openings, opening))
+        else:
+            self.assertEqual((with_openings, opening), (speed, 0))
+        if workload in "CQ":
+            self.assertEqual(unchanged, 0)
+        else:
+            self.assertTrue(0.1 < unchanged < 0.7, unchanged)
 
     def test_an_output_that_takes_nothing_is_told(self):
         with open("/dev/full", "wb") as full:

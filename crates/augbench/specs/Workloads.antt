@@ -1,27 +1,48 @@
--- How many of the first operations of a workload are updates, and which numbers the answers to them are.
-use Rattle.std.specs.Prelude.{ℕ, ◌/◌, Bool, true, false}
-use Rattle.aug_model.specs.declared.outcome.Outcome.{Outcome}
-use Rattle.aug_model.specs.declared.outcome.Outcome.TheVariants.{Accepted, Replaced, Refused}
+-- The operations of each workload, and how many of the first ones are updates.
+use Rattle.std.specs.Prelude.{ℕ, ◌/◌, ◌%◌, Bool, true, false, if◌then◌else◌, ◌==◌}
 use Rattle.augbench.specs.declared.workload.Action.{Action}
-use Rattle.augbench.specs.declared.workload.Action.TheVariants.{Insert, Remove, InsertOdd, RemoveOdd, PutEven, Rank, Select, Range, Ranks}
+use Rattle.augbench.specs.declared.workload.Kind.{Kind}
+use Rattle.augbench.specs.declared.workload.Kind.TheVariants.{Insert, Remove, Put, Rank, Select, Range, Ranks}
+use Rattle.augbench.specs.declared.workload.Pool.{Pool}
+use Rattle.augbench.specs.declared.workload.Pool.TheVariants.{Any, Odd, Even, Own}
 use Rattle.augbench.specs.declared.workload.Workload.{Workload}
-use Rattle.augbench.specs.declared.workload.Workload.TheVariants.{Updates, Mixed, Puts, Queries, Batches}
+use Rattle.augbench.specs.declared.workload.Workload.TheVariants.{Updates, Changes, Mixed, Puts, Queries, Batches}
+
+-- an insert, and then a remove
+abbrev pub update_in : Pool → ℕ → Action
+update_in pool n = record { kind = if n % 2 == 0 then Insert else Remove; pool = pool }
+
+-- an insert of an odd key, a put of an even one, a remove of an odd one and a put again
+abbrev pub weighing_at : ℕ → Action
+weighing_at n = if n % 2 == 1 then record { kind = Put; pool = Even } else update_in Odd (n / 2)
+
+-- a rank, a selection and a range
+abbrev pub query_at : ℕ → Action
+query_at n = record { kind = if n % 3 == 0 then Rank else (if n % 3 == 1 then Select else Range); pool = Any }
+
+-- the operation with a number, counted from 0
+abbrev pub action_of : Workload → ℕ → Action
+action_of Updates n = update_in Any n
+action_of Changes n = update_in Own n
+action_of Mixed n = if n % 10 == 9 then update_in Any (n / 10) else query_at (n % 10)
+action_of Puts n = if n % 10 == 9 then weighing_at (n / 10) else query_at (n % 10)
+action_of Queries n = query_at n
+action_of Batches n = if n % 10 == 9 then update_in Any (n / 10) else record { kind = Ranks; pool = Any }
 
 -- the operation changes the set
-abbrev pub is_update : Action → Bool
+abbrev pub is_update : Kind → Bool
 is_update Insert = true
 is_update Remove = true
-is_update InsertOdd = true
-is_update RemoveOdd = true
-is_update PutEven = true
+is_update Put = true
 is_update Rank = false
 is_update Select = false
 is_update Range = false
 is_update Ranks = false
 
--- so many of the first operations of a thread are updates
+-- the number of updates among the first operations of a thread
 abbrev pub updates_of : Workload → ℕ → ℕ
 updates_of Updates n = n
+updates_of Changes n = n
 updates_of Mixed n = n / 10
 updates_of Puts n = n / 10
 updates_of Queries n = 0
@@ -30,13 +51,8 @@ updates_of Batches n = n / 10
 -- the workload has updates
 abbrev pub is_updated : Workload → Bool
 is_updated Updates = true
+is_updated Changes = true
 is_updated Mixed = true
 is_updated Puts = true
 is_updated Queries = false
 is_updated Batches = true
-
--- the number that stands for what came of a put
-abbrev pub answer_to_put : Outcome → ℕ
-answer_to_put Refused = 0
-answer_to_put Accepted = 1
-answer_to_put Replaced = 2

@@ -9,15 +9,12 @@ pub(crate) enum Asked {
         threads: u32,
         seconds: u32,
     },
-    /// Measures it with 1, 2 and 4 threads, which are placed on the processors from this one on.
-    Bench {
-        workload: Workload,
-        first: u32,
-    },
     /// Makes operations of one kind, for a counter of instructions.
     Count(Counting),
-    /// Compares both engines.
-    Check,
+    /// Compares all engines. The plain sets open without this key, if there is one.
+    Check {
+        without: Option<u32>,
+    },
 }
 
 /// Operations of one kind on one thread.

@@ -1,65 +1,111 @@
-//! The same operations on both engines.
-ghost use Rattle.std.specs.Prelude.{◌≡◌, ◌==◌, codes, if◌then◌else◌};
+//! The same operations on all engines.
+ghost use Rattle.std.specs.Prelude.{◌≡◌, ◌≢◌, codes, if◌then◌else◌, IfOk};
+ghost use Rattle.augbench.specs.Totals.{AreOfEach, agrees};
 
-use crate::lap::Lap;
+use crate::course::Length;
+use crate::each::Each;
+use crate::engine::Engine;
+use crate::ran::{Plan, Ran};
+use crate::sets::{Pace, Sets, round_of_each};
+use crate::trie::Trie;
+use crate::trie_round::half_full;
 use crate::workload::Workload;
-use crate::{lock_round, trie_round};
 use anyhow::ensure;
 use std::alloc::Global;
+use std::io;
 use std::io::Print;
-use std::sync::{Mutex, Wait};
+use std::sync::Wait;
 use std::thread::Threads;
 use std::time::Clock;
 
-// How many rounds of each workload are compared.
-const ROUNDS: u64 = 2;
-
-/// Runs a few rounds of each workload on both engines in one thread, and prints whether they gave the same answers. It is
-/// an error where they did not.
+/// Runs two rounds of each workload on all engines in one thread, and prints of each plain set whether it answered as the trie
+/// did. It is an error if one did not. The plain sets open without this key, if there is one: then they differ.
 pub(crate) fn check<R: Threads + Wait + Clock + Sync + Print>(
     rt: &R,
     alloc: Global,
+    without: Option<u32>,
 ) -> anyhow::Result<()> {
-    let mut agree = true;
+    let sets = Sets::open(rt, alloc, without)?;
+    let (mut trie, mut agree) = (half_full(alloc)?, true);
     for workload in Workload::ALL {
-        let (trie, lock) = both(rt, alloc, workload)?;
-        agree &= trie.sum == lock.sum;
-        let letter = workload.letter();
-        println!(rt;
-            "{letter} {} operations: {}",
-            trie.operations,
-            verdict(trie.sum, lock.sum)
-        )?;
+        let (back, rans) = rounds(rt, alloc, trie, &sets, workload)?;
+        trie = back;
+        agree &= print_verdict(rt, workload, &rans.trie, &rans.mutex)?;
+        agree &= print_verdict(rt, workload, &rans.trie, &rans.rwlock)?;
+        agree &= print_verdict(rt, workload, &rans.trie, &rans.left_right)?;
     }
-    ensure!(agree, "trie and lock differ");
+    ensure!(agree, "the engines differ");
     Ok(())
 }
 
-/// Whether the sums of both engines agree.
-pub(crate) fn verdict(trie: u64, lock: u64) -> &'static str
-    ensures { result.now ≡ (if trie == lock then codes "trie and lock agree" else codes "trie and lock DIFFER") }
+// What the rounds of each engine came to.
+fn rounds<R: Threads + Wait + Clock + Sync>(
+    rt: &R,
+    alloc: Global,
+    trie: Trie,
+    sets: &Sets<'_, R>,
+    workload: Workload,
+) -> anyhow::Result<(Trie, Each<Ran>)>
+    requires { trie.bits ≡ 16 }
+    ensures bits { IfOk result (λ both. both.0.bits ≡ 16) }
+    ensures engines { IfOk result (λ both. AreOfEach both.1) }
 {
-    if trie == lock {
-        "trie and lock agree"
-    } else {
-        "trie and lock DIFFER"
+    let length = Length {
+        operations: workload.operations(),
+        nanoseconds: u64::MAX,
+    };
+    let first = Plan {
+        workload,
+        length,
+        threads: 1,
+        round: 0,
+    };
+    let second = Plan { round: 1, ..first };
+    let pace = Pace::SameOperations;
+    let (trie, one) = round_of_each(rt, rt, alloc, trie, sets, first, pace)?;
+    let (trie, other) = round_of_each(rt, rt, alloc, trie, sets, second, pace)?;
+    Ok((trie, join(one, other)))
+}
+
+// Both rounds of each engine together.
+fn join(one: Each<Ran>, other: Each<Ran>) -> Each<Ran>
+    requires one { AreOfEach one }
+    requires other { AreOfEach other }
+    ensures { AreOfEach result }
+{
+    Each {
+        trie: one.trie.join(other.trie),
+        mutex: one.mutex.join(other.mutex),
+        rwlock: one.rwlock.join(other.rwlock),
+        left_right: one.left_right.join(other.left_right),
     }
 }
 
-// What the rounds of both engines came to.
-fn both<R: Threads + Wait + Clock + Sync>(
-    rt: &R,
-    alloc: Global,
-    workload: Workload,
-) -> anyhow::Result<(Lap, Lap)> {
-    let mut trie = trie_round::half_full(alloc)?;
-    let set = Mutex::new(lock_round::half_full(alloc)?);
-    let (mut of_trie, mut of_lock) = (Lap::NONE, Lap::NONE);
-    for seed in 0..ROUNDS {
-        let ran = trie_round::run_round(rt, alloc, trie, workload, 1, seed)?;
-        trie = ran.trie;
-        of_trie = of_trie.join(ran.lap);
-        of_lock = of_lock.join(lock_round::run_round(rt, alloc, &set, workload, 1, seed)?);
-    }
-    Ok((of_trie, of_lock))
+// Prints whether a plain set answered as the trie did.
+fn print_verdict(out: &impl Print, workload: Workload, trie: &Ran, other: &Ran) -> io::Result<bool>
+    requires trie { trie.now.engine ≡ Engine.Trie }
+    requires other { other.now.engine ≢ Engine.Trie }
+    ensures { IfOk result (λ same. same ≡ agrees trie.now.lap other.now.lap) }
+{
+    let same = has_same_answers(trie, other);
+    let (letter, name) = (workload.letter(), other.engine.name());
+    let (operations, verdict) = (other.lap.operations, verdict(same));
+    println!(out; "{letter} {operations} operations: trie and {name} {verdict}")?;
+    Ok(same)
+}
+
+/// Whether as many operations had answers with the same sum.
+pub(crate) fn has_same_answers(trie: &Ran, other: &Ran) -> bool
+    requires trie { trie.now.engine ≡ Engine.Trie }
+    requires other { other.now.engine ≢ Engine.Trie }
+    ensures { result ≡ agrees trie.now.lap other.now.lap }
+{
+    trie.lap.sum == other.lap.sum && trie.lap.operations == other.lap.operations
+}
+
+/// Whether they agree, as it is printed.
+pub(crate) fn verdict(same: bool) -> &'static str
+    ensures { result.now ≡ (if same then codes "agree" else codes "DIFFER") }
+{
+    if same { "agree" } else { "DIFFER" }
 }

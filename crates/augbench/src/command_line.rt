@@ -1,4 +1,4 @@
-//! The command line: `WORKLOAD THREADS SECONDS`, `bench WORKLOAD CPU0`, `count OP N` or `check`.
+//! The command line: `WORKLOAD THREADS SECONDS`, `count OP N` or `check`.
 
 use crate::asked::{Asked, Counting, Operation};
 use crate::stop::Stop;
@@ -24,7 +24,7 @@ fn parse<'a>(alloc: Global, words: &'a [String]) -> Result<ArgMatches<'a>, Error
 // The program's arguments.
 fn command<'a>(alloc: Global) -> Result<Command<'a>, AllocError> {
     Command::new(alloc, "augbench")
-        .about("Measures the shared trie beside a set behind a lock")
+        .about("Measures the shared trie beside plain sets behind locks")
         .no_binary_name(true)
         .args_conflicts_with_subcommands(true)
         .subcommand_negates_reqs(true)
@@ -32,16 +32,21 @@ fn command<'a>(alloc: Global) -> Result<Command<'a>, AllocError> {
         .arg(workload(alloc))?
         .arg(number(alloc, "THREADS", 1, 64).help("How many threads there are"))?
         .arg(number(alloc, "SECONDS", 1, 600).help("For how many seconds each engine is measured"))?
-        .subcommand(bench(alloc)?)?
         .subcommand(count(alloc)?)?
-        .subcommand(Command::new(alloc, "check").about("Compares the answers of both engines"))
+        .subcommand(check(alloc)?)
 }
 
-fn bench<'a>(alloc: Global) -> Result<Command<'a>, AllocError> {
-    Command::new(alloc, "bench")
-        .about("Measures 1, 2 and 4 threads, and tells before each where to place them")
-        .arg(workload(alloc))?
-        .arg(number(alloc, "CPU0", 0, 4095).help("The first of the processors to place them on"))
+fn check<'a>(alloc: Global) -> Result<Command<'a>, AllocError> {
+    Command::new(alloc, "check")
+        .about("Compares the answers of all engines")
+        .arg(
+            Arg::new(alloc, "without")
+                .long("without")
+                .action(ArgAction::Set)
+                .value_name("KEY")
+                .value_parser(value_parser!(u32).range(0..=65_535))
+                .help("Opens the plain sets without this key, so that they differ if it is even"),
+        )
 }
 
 fn count<'a>(alloc: Global) -> Result<Command<'a>, AllocError> {
@@ -69,9 +74,9 @@ fn workload<'a>(alloc: Global) -> Arg<'a> {
     Arg::new(alloc, "WORKLOAD")
         .required(true)
         .action(ArgAction::Set)
-        .value_parser(["U", "M", "P", "Q", "S"].as_slice())
+        .value_parser(["U", "C", "M", "P", "Q", "S"].as_slice())
         .help(
-            "U updates; M queries and a tenth updates; P the same, half of the updates being puts of members; Q queries; S batches of 32 ranks and a tenth updates",
+            "U updates; C updates that all change the set; M queries and a tenth updates; P the same, half of the updates being puts of members; Q queries; S batches of 32 ranks and a tenth updates",
         )
 }
 
@@ -105,12 +110,10 @@ fn asked_of(alloc: Global, matches: &ArgMatches<'_>) -> Result<Asked, Stop> {
             threads: number_of(alloc, matches, "THREADS")?,
             seconds: number_of(alloc, matches, "SECONDS")?,
         }),
-        Some(("bench", found)) => Ok(Asked::Bench {
-            workload: workload_of(alloc, found)?,
-            first: number_of(alloc, found, "CPU0")?,
-        }),
         Some(("count", found)) => counting_of(alloc, found),
-        Some(_) => Ok(Asked::Check),
+        Some((_, found)) => Ok(Asked::Check {
+            without: found.get_one("without"),
+        }),
     }
 }
 

@@ -3,7 +3,7 @@ ghost use Rattle.std.specs.Prelude.{◌≡◌, ◌+◌, ◌*◌, ◌^◌, ◌<�
 ghost use Rattle.aug_trie.specs.Facts.{HasSnapshot};
 
 use crate::asked::{Counting, Operation};
-use crate::span::found;
+use crate::operation::Answer;
 use crate::trie::{Hand, Trie};
 use anyhow::ensure;
 use aug_model::Outcome;
@@ -132,7 +132,7 @@ fn selects(pass: &mut Hand, times: u32, members: u32) -> u64
     let mut sum = 0u64;
     let now = pass.snapshot();
     for i in 0..times {
-        sum = sum.wrapping_add(found(pass.select(now, spread(i, members))));
+        sum = sum.wrapping_add(Answer::Found(pass.select(now, spread(i, members))).digest());
     }
     sum
 }

@@ -1,41 +1,80 @@
 //! What the threads of a round share beside the set: their start, their end, and the clock.
+ghost use Rattle.std.specs.Prelude.{◌≡◌, IfOk};
 
+use crate::workload::Workload;
 use std::sync::atomic::{AtomicBool, AtomicU64, Ordering};
 use std::time::{Clock, Duration, Instant};
 use std::{io, thread};
 
-// How often a thread looks for the others before it goes on without them.
-const PATIENCE: u64 = 1_000_000;
+// For how many nanoseconds a thread waits for the others to begin.
+const PATIENCE: u64 = 10_000_000_000;
 
-/// Lets the threads of a round begin together, and stops all where the first is done.
+/// How long a round is: it ends once the first thread has made this many operations, or this many nanoseconds have gone.
+#[derive(Clone, Copy, Debug)]
+pub(crate) struct Length {
+    pub(crate) operations: u64,
+    pub(crate) nanoseconds: u64,
+}
+
+/// Lets the threads of a round begin together, and stops all when the first is done.
 #[derive(Drop)]
 pub(crate) struct Course {
+    pub(crate) workload: Workload,
+    pub(crate) length: Length,
     made: Instant,
     threads: u64,
     arrived: AtomicU64,
+    open: AtomicBool,
     over: AtomicBool,
+    // When the last thread came to the start, and when the first one was done, since it was made.
+    began: AtomicU64,
+    ended: AtomicU64,
 }
 
 impl Course {
-    /// For so many threads.
-    pub(crate) fn new(clock: &impl Clock, threads: u32) -> io::Result<Course> {
+    /// For this many threads.
+    pub(crate) fn new(
+        clock: &impl Clock,
+        workload: Workload,
+        length: Length,
+        threads: u32,
+    ) -> io::Result<Course>
+        ensures workload { IfOk result (λ course. course.workload ≡ workload) }
+        ensures length { IfOk result (λ course. course.length ≡ length) }
+    {
         Ok(Course {
+            workload,
+            length,
             made: Instant::now(clock)?,
             threads: u64::from(threads),
             arrived: AtomicU64::new(0),
+            open: AtomicBool::new(false),
             over: AtomicBool::new(false),
+            began: AtomicU64::new(0),
+            ended: AtomicU64::new(u64::MAX),
         })
     }
 
-    /// Waits until all threads have come here, but not for good: where one could not be started the others go on.
-    pub(crate) fn meet(&self) {
-        self.arrived.fetch_add(1, Ordering::SeqCst);
-        for _ in 0..PATIENCE {
-            if self.arrived.load(Ordering::SeqCst) >= self.threads {
+    /// Waits until all threads have come here; the round's time begins when the last one does. False if they did not within ten
+    /// seconds, as when one could not be started.
+    pub(crate) fn meet(&self, clock: &impl Clock) -> io::Result<bool> {
+        let before = self.arrived.fetch_add(1, Ordering::SeqCst);
+        let came = self.now(clock)?;
+        if before.saturating_add(1) >= self.threads {
+            self.began.store(came, Ordering::SeqCst);
+            self.open.store(true, Ordering::SeqCst);
+            return Ok(true);
+        }
+        for _ in 0..u64::MAX {
+            if self.open.load(Ordering::SeqCst) {
+                return Ok(true);
+            }
+            if self.now(clock)?.saturating_sub(came) > PATIENCE {
                 break;
             }
             thread::yield_now();
         }
+        Ok(false)
     }
 
     /// Whether a thread is done.
@@ -44,18 +83,40 @@ impl Course {
         self.over.load(Ordering::SeqCst)
     }
 
-    /// Stops all threads.
-    pub(crate) fn finish(&self) {
-        self.over.store(true, Ordering::SeqCst);
+    /// Whether the round's nanoseconds have gone.
+    pub(crate) fn is_late(&self, clock: &impl Clock) -> io::Result<bool> {
+        let time = self
+            .now(clock)?
+            .saturating_sub(self.began.load(Ordering::SeqCst));
+        Ok(time >= self.length.nanoseconds)
     }
 
-    /// The nanoseconds since it was made.
-    pub(crate) fn time(&self, clock: &impl Clock) -> io::Result<u64> {
+    /// Stops all threads. The round's time ends with the first call.
+    pub(crate) fn finish(&self, clock: &impl Clock) -> io::Result<()> {
+        let now = self.now(clock)?;
+        let _ = self
+            .ended
+            .compare_exchange(u64::MAX, now, Ordering::SeqCst, Ordering::SeqCst);
+        self.over.store(true, Ordering::SeqCst);
+        Ok(())
+    }
+
+    /// The nanoseconds from the start to the end, 0 if it has not ended.
+    pub(crate) fn time(&self) -> u64 {
+        let ended = self.ended.load(Ordering::SeqCst);
+        if ended == u64::MAX {
+            return 0;
+        }
+        ended.saturating_sub(self.began.load(Ordering::SeqCst))
+    }
+
+    // The nanoseconds since it was made.
+    fn now(&self, clock: &impl Clock) -> io::Result<u64> {
         Ok(nanoseconds(self.made.elapsed(clock)?))
     }
 }
 
-/// A time in nanoseconds, or the greatest number where it is longer than that.
+/// A time in nanoseconds, or the greatest number if it is longer than that.
 pub(crate) fn nanoseconds(time: Duration) -> u64 {
     time.as_secs()
         .saturating_mul(1_000_000_000)

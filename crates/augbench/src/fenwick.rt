@@ -2,7 +2,7 @@
 ghost use Rattle.std.specs.Prelude.{◌≡◌, ◌+◌, ◌<◌, ◌≤◌, length, vec_len, IfOk, IfSome};
 
 use crate::keys::UNIVERSE;
-use crate::span::Span;
+use crate::operation::Span;
 use aug_model::Outcome;
 use std::alloc::{AllocError, Global};
 
@@ -86,6 +86,13 @@ impl FenwickSet {
             weight.wrapping_neg(),
         );
         true
+    }
+
+    /// Whether a key is a member.
+    pub(crate) fn has(&self, key: u32) -> bool
+        requires { key < UNIVERSE }
+    {
+        self.present[key as usize / 64] & (1u64 << (key % 64)) != 0
     }
 
     /// How many members there are.

@@ -1,6 +1,9 @@
 //! The keys of operations.
-ghost use Rattle.std.specs.Prelude.{◌<◌};
+ghost use Rattle.std.specs.Prelude.{◌≡◌, ◌+◌, ◌*◌, ◌%◌, ◌<◌, ◌≤◌};
+ghost use Rattle.augbench.specs.Lanes.{lane_of};
 
+use crate::operation::Operation;
+use crate::workload::{Action, Kind, Pool};
 use rand_core::{Rng, SeedableRng};
 use rand_xoshiro::SplitMix64;
 
@@ -10,51 +13,115 @@ pub(crate) const BITS: u32 = 16;
 /// How many keys there are.
 pub(crate) const UNIVERSE: u32 = 65_536;
 
-/// Keys, uniform from a seed.
+/// The most threads of a round.
+pub(crate) const LANES: u32 = 64;
+
+/// A thread of a round: its number, counted from 0, and the seed of its keys.
+#[derive(Clone, Copy, Debug, PartialEq, Eq)]
+pub(crate) struct Lane {
+    pub(crate) number: u32,
+    pub(crate) seed: u64,
+}
+
+impl Lane {
+    /// A thread of the round with this number. No other thread of any round has its seed.
+    pub(crate) fn new(round: u64, number: u32) -> Lane
+        ensures { result ≡ lane_of round number }
+    {
+        Lane {
+            number,
+            seed: round
+                .wrapping_mul(u64::from(LANES))
+                .wrapping_add(u64::from(number)),
+        }
+    }
+}
+
+/// Draws the keys of a thread's operations, uniform from its seed.
 #[derive(Drop)]
 pub(crate) struct Keys {
     random: SplitMix64,
+    lane: u32,
+    // The key of the last insert of an own key.
+    own: u32,
+    ghost room: { (lane < 64) × (own < 65536) },
 }
 
 impl Keys {
-    /// The keys of a seed.
-    pub(crate) fn new(seed: u64) -> Keys {
+    /// The keys of a thread.
+    pub(crate) fn new(lane: Lane) -> Keys {
+        let number = lane.number % LANES;
         Keys {
-            random: SplitMix64::seed_from_u64(seed),
+            random: SplitMix64::seed_from_u64(lane.seed),
+            lane: number,
+            own: 2 * number + 1,
         }
     }
 
-    /// The next key.
+    /// An operation of this kind, with keys that it draws.
     #[inline(always)]
-    pub(crate) fn next(&mut self) -> u32
+    pub(crate) fn draw(&mut self, action: Action) -> Operation
+        ensures kind { result.kind ≡ action.kind }
+        ensures one { result.one < UNIVERSE }
+        ensures two { result.two < UNIVERSE }
+    {
+        let kind = action.kind;
+        let one = self.pick(action);
+        match kind {
+            Kind::Put => Operation {
+                kind,
+                one,
+                two: self.next(),
+            },
+            Kind::Select => Operation {
+                kind,
+                one: one / 2,
+                two: 0,
+            },
+            Kind::Range => {
+                let two = self.next();
+                Operation {
+                    kind,
+                    one: one.min(two),
+                    two: one.max(two),
+                }
+            }
+            _ => Operation { kind, one, two: 0 },
+        }
+    }
+
+    // A key of the pool.
+    #[inline(always)]
+    fn pick(&mut self, action: Action) -> u32
+        ensures { result < UNIVERSE }
+    {
+        match action.pool {
+            Pool::Any => self.next(),
+            Pool::Odd => self.next() / 2 * 2 + 1,
+            Pool::Even => self.next() / 2 * 2,
+            Pool::Own => {
+                if action.kind == Kind::Insert {
+                    let place = self.next() / (2 * LANES);
+                    self.own = 2 * (place * LANES + self.lane) + 1;
+                }
+                self.own
+            }
+        }
+    }
+
+    // The next key.
+    #[inline(always)]
+    fn next(&mut self) -> u32
         ensures { result < UNIVERSE }
     {
         (self.random.next_u64() % u64::from(UNIVERSE)) as u32
     }
+}
 
-    /// The next even key.
-    #[inline(always)]
-    pub(crate) fn next_even(&mut self) -> u32
-        ensures { result < UNIVERSE }
-    {
-        self.next() / 2 * 2
-    }
-
-    /// The next odd key.
-    #[inline(always)]
-    pub(crate) fn next_odd(&mut self) -> u32
-        ensures { result < UNIVERSE }
-    {
-        self.next() / 2 * 2 + 1
-    }
-
-    /// The next two keys, the lower one first.
-    #[inline(always)]
-    pub(crate) fn next_two(&mut self) -> (u32, u32)
-        ensures first { result.0 < UNIVERSE }
-        ensures second { result.1 < UNIVERSE }
-    {
-        let (one, two) = (self.next(), self.next());
-        if one < two { (one, two) } else { (two, one) }
-    }
+/// A key of a batch, which the batch's one drawn key gives.
+#[inline(always)]
+pub(crate) fn of_batch(drawn: u32, number: u32) -> u32
+    ensures { result < UNIVERSE }
+{
+    drawn.wrapping_add(number.wrapping_mul(40_503)) % UNIVERSE
 }

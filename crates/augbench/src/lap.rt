@@ -1,39 +1,59 @@
-//! What a thread did in a round, and what a round came to.
+//! What the threads of a round did.
+ghost use Rattle.std.specs.Prelude.{◌≡◌};
+ghost use Rattle.augbench.specs.Laps.{no_lap, counted, joined};
 
-/// What a thread did in a round.
-#[derive(Clone, Copy, Debug)]
+use crate::operation::{Answer, Operation};
+
+/// What the threads of a round did.
+#[derive(Clone, Copy, Debug, PartialEq, Eq)]
 pub(crate) struct Lap {
-    /// How many operations it made.
+    /// How many operations they made.
     pub(crate) operations: u64,
-    /// The sum of their answers.
+    /// The sum of the numbers that stand for their answers.
     pub(crate) sum: u64,
-    /// When it began, in nanoseconds of the round's clock.
-    pub(crate) began: u64,
-    /// When it ended.
-    pub(crate) ended: u64,
+    /// How many of the operations were updates.
+    pub(crate) updates: u64,
+    /// How many of these changed nothing.
+    pub(crate) idle: u64,
 }
 
 impl Lap {
-    /// No thread at all.
-    pub(crate) const NONE: Lap = Lap {
-        operations: 0,
-        sum: 0,
-        began: u64::MAX,
-        ended: 0,
-    };
-
-    /// Two threads of one round together.
-    pub(crate) fn join(self, other: Lap) -> Lap {
+    /// No thread's at all.
+    pub(crate) fn new() -> Lap
+        ensures { result ≡ no_lap }
+    {
         Lap {
-            operations: self.operations.wrapping_add(other.operations),
-            sum: self.sum.wrapping_add(other.sum),
-            began: self.began.min(other.began),
-            ended: self.ended.max(other.ended),
+            operations: 0,
+            sum: 0,
+            updates: 0,
+            idle: 0,
         }
     }
 
-    /// The nanoseconds from the first thread's begin to the last one's end.
-    pub(crate) fn time(self) -> u64 {
-        self.ended.saturating_sub(self.began)
+    /// Counts an operation.
+    #[inline(always)]
+    pub(crate) fn count(self, operation: Operation, answer: Answer) -> Lap
+        ensures { result ≡ counted operation.kind answer self }
+    {
+        let update = u64::from(operation.kind.is_update());
+        let idle = if answer.has_changed() { 0 } else { update };
+        Lap {
+            operations: self.operations.wrapping_add(1),
+            sum: self.sum.wrapping_add(answer.digest()),
+            updates: self.updates.wrapping_add(update),
+            idle: self.idle.wrapping_add(idle),
+        }
+    }
+
+    /// Both together.
+    pub(crate) fn join(self, other: Lap) -> Lap
+        ensures { result ≡ joined self other }
+    {
+        Lap {
+            operations: self.operations.wrapping_add(other.operations),
+            sum: self.sum.wrapping_add(other.sum),
+            updates: self.updates.wrapping_add(other.updates),
+            idle: self.idle.wrapping_add(other.idle),
+        }
     }
 }

@@ -1,24 +1,31 @@
-//! `augbench` measures the shared trie beside what one would use instead: a set behind a lock.
+//! `augbench` measures the shared trie beside what one would use instead: a plain set behind a lock, or two copies of it.
 #![tactic(auto)]
 
 mod asked;
 mod check;
 mod command_line;
+mod copies;
 mod count;
 mod course;
+mod each;
+mod engine;
 mod fenwick;
 mod keys;
 mod lap;
-mod lock_round;
+mod locked;
 mod measure;
-mod span;
+mod operation;
+mod plain;
+mod ran;
+mod sets;
+mod stint;
 mod stop;
 #[cfg(test)]
 mod tests;
 mod total;
 mod trie;
 mod trie_round;
-mod trie_work;
+mod trie_seat;
 mod workload;
 
 use asked::Asked;
@@ -77,12 +84,11 @@ fn carry_out<R: Threads + Wait + Clock + Sync + Print>(
             threads,
             seconds,
         } => measure::measure(rt, alloc, workload, threads, seconds),
-        Asked::Bench { workload, first } => measure::bench(rt, alloc, workload, first),
         Asked::Count(counting) => {
             let (times, sum) = (counting.times, count::count(alloc, counting)?);
             println!(rt; "{times} operations, {sum} in all")?;
             Ok(())
         }
-        Asked::Check => check::check(rt, alloc),
+        Asked::Check { without } => check::check(rt, alloc, without),
     }
 }

@@ -1,31 +1,25 @@
-//! Measures both engines in one run, in turn.
-ghost use Rattle.std.specs.Prelude.{◌≡◌, IfOk};
+//! Measures all engines in one run, a round of each in turn.
+ghost use Rattle.std.specs.Prelude.{◌≡◌, ◌≤◌, true, IfOk};
+ghost use Rattle.augbench.specs.Totals.{AreOfEach, TotalsOfEach, LastFor};
 
-use crate::course::nanoseconds;
-use crate::fenwick::FenwickSet;
-use crate::lap::Lap;
+use crate::course::Length;
+use crate::each::Each;
+use crate::engine::Engine;
+use crate::ran::{Plan, Ran};
+use crate::sets::{Pace, Sets, round_of_each};
 use crate::total::Total;
 use crate::trie::Trie;
-use crate::trie_round::Ran;
+use crate::trie_round::half_full;
 use crate::workload::Workload;
-use crate::{lock_round, trie_round};
+use anyhow::bail;
 use std::alloc::Global;
+use std::io;
 use std::io::Print;
-use std::sync::{Mutex, Wait};
+use std::sync::Wait;
 use std::thread::Threads;
-use std::time::{Clock, Duration, Instant};
-use std::{io, thread};
+use std::time::Clock;
 
-// How often each engine has its turn.
-const TURNS: u32 = 10;
-
-// For how many seconds `bench` measures each number of threads.
-const BENCH_SECONDS: u32 = 2;
-
-// For how many milliseconds `bench` waits before each of them, so that it can be placed.
-const PAUSE: u64 = 200;
-
-/// Runs rounds of the trie and of the lock in turn, until each was timed for so long, and prints what they came to.
+/// Runs rounds of each engine until each was timed for so many seconds, and prints a line for each.
 pub(crate) fn measure<R: Threads + Wait + Clock + Sync + Print>(
     rt: &R,
     alloc: Global,
@@ -33,85 +27,95 @@ pub(crate) fn measure<R: Threads + Wait + Clock + Sync + Print>(
     threads: u32,
     seconds: u32,
 ) -> anyhow::Result<()> {
-    let time = u64::from(seconds) * 1_000_000_000 / u64::from(TURNS);
-    let (mut of_trie, mut of_lock) = (Total::new(), Total::new());
-    let mut trie = trie_round::half_full(alloc)?;
-    let before = Instant::now(rt)?;
-    let set = Mutex::new(lock_round::half_full(alloc)?);
-    of_lock.open(nanoseconds(before.elapsed(rt)?));
-    for _ in 0..TURNS {
-        trie = trie_turn(rt, alloc, trie, workload, threads, time, &mut of_trie)?;
-        lock_turn(rt, alloc, &set, workload, threads, time, &mut of_lock)?;
-    }
-    let letter = workload.letter();
-    for (name, total) in [("trie", of_trie), ("lock", of_lock)] {
-        let (opening, speed) = (total.opening(), total.speed());
-        println!(rt; "open {name} {opening}")?;
-        println!(rt; "run {name} {letter} {threads} {speed}")?;
-    }
+    let trie = half_full(alloc)?;
+    let sets = Sets::open(rt, alloc, None)?;
+    let time = u64::from(seconds) * 1_000_000_000;
+    let totals = rounds(rt, rt, alloc, trie, &sets, workload, threads, time)?;
+    print_figures(rt, workload, threads, &totals.trie)?;
+    print_figures(rt, workload, threads, &totals.mutex)?;
+    print_figures(rt, workload, threads, &totals.rwlock)?;
+    print_figures(rt, workload, threads, &totals.left_right)?;
     Ok(())
 }
 
-/// Measures 1, 2 and 4 threads. Before each of them it prints `place`, how many threads, and the processors that they are
-/// to have, from the first one on, and waits for a moment: it cannot place its threads itself.
-pub(crate) fn bench<R: Threads + Wait + Clock + Sync + Print>(
+/// Runs a round of each engine in turn until the rounds of each took so many nanoseconds. The other engines' rounds are as long as the
+/// trie's just before.
+pub(crate) fn rounds<R: Threads + Wait + Sync, C: Clock + Sync>(
     rt: &R,
-    alloc: Global,
-    workload: Workload,
-    first: u32,
-) -> anyhow::Result<()> {
-    for threads in [1u32, 2, 4] {
-        let last = first.saturating_add(threads - 1);
-        println!(rt; "place {threads} {first}-{last}")?;
-        thread::sleep(rt, Duration::from_millis(PAUSE));
-        measure(rt, alloc, workload, threads, BENCH_SECONDS)?;
-    }
-    Ok(())
-}
-
-// Runs rounds of the trie until they were timed for so long.
-fn trie_turn<R: Threads + Clock + Sync>(
-    rt: &R,
+    clock: &C,
     alloc: Global,
     mut trie: Trie,
+    sets: &Sets<'_, R>,
     workload: Workload,
     threads: u32,
     time: u64,
-    total: &mut Total,
-) -> anyhow::Result<Trie>
+) -> anyhow::Result<Each<Total>>
     requires { trie.bits ≡ 16 }
-    ensures { IfOk result (λ trie. trie.bits ≡ 16) }
+    ensures engines { IfOk result (λ totals. TotalsOfEach totals) }
+    ensures time { IfOk result (λ totals. LastFor time totals) }
 {
-    let end = total.time().saturating_add(time);
-    for _ in 0..u64::MAX {
-        if total.time() >= end {
-            break;
+    let length = Length {
+        operations: workload.operations(),
+        nanoseconds: u64::MAX,
+    };
+    let mut totals = no_totals();
+    for round in 0..u64::MAX {
+        if has_lasted(&totals, time) {
+            return Ok(totals);
         }
-        let ran = trie_round::run_round(rt, alloc, trie, workload, threads, total.seed())?;
-        total.open(ran.opening);
-        total.add(ran.lap);
-        trie = ran.trie;
+        let plan = Plan {
+            workload,
+            length,
+            threads,
+            round,
+        };
+        let (back, rans) = round_of_each(rt, clock, alloc, trie, sets, plan, Pace::SameTime)?;
+        trie = back;
+        add(&mut totals, rans);
     }
-    Ok(trie)
+    bail!("the clock stands still")
 }
 
-// Runs rounds of the lock until they were timed for so long.
-fn lock_turn<R: Threads + Wait + Clock + Sync>(
-    rt: &R,
-    alloc: Global,
-    set: &Mutex<FenwickSet>,
-    workload: Workload,
-    threads: u32,
-    time: u64,
-    total: &mut Total,
-) -> io::Result<()> {
-    let end = total.time().saturating_add(time);
-    for _ in 0..u64::MAX {
-        if total.time() >= end {
-            break;
-        }
-        let lap = lock_round::run_round(rt, alloc, set, workload, threads, total.seed())?;
-        total.add(lap);
+// Of no round.
+fn no_totals() -> Each<Total>
+    ensures { TotalsOfEach result }
+{
+    Each {
+        trie: Total::new(Engine::Trie),
+        mutex: Total::new(Engine::Mutex),
+        rwlock: Total::new(Engine::RwLock),
+        left_right: Total::new(Engine::LeftRight),
     }
-    Ok(())
+}
+
+// Whether each engine's rounds took so many nanoseconds.
+fn has_lasted(totals: &Each<Total>, time: u64) -> bool
+    ensures { result ≡ true → LastFor time totals.now }
+{
+    totals.trie.time >= time
+        && totals.mutex.time >= time
+        && totals.rwlock.time >= time
+        && totals.left_right.time >= time
+}
+
+// Counts a round of each.
+fn add(totals: &mut Each<Total>, rans: Each<Ran>)
+    requires totals { TotalsOfEach totals.old }
+    requires rans { AreOfEach rans }
+    ensures { TotalsOfEach totals.new }
+{
+    totals.trie.add(rans.trie);
+    totals.mutex.add(rans.mutex);
+    totals.rwlock.add(rans.rwlock);
+    totals.left_right.add(rans.left_right);
+}
+
+// Prints an engine's line.
+fn print_figures(out: &impl Print, workload: Workload, threads: u32, total: &Total) -> io::Result<()> {
+    let (name, letter) = (total.engine.name(), workload.letter());
+    let (speed, slow) = (total.speed(), total.speed_with_openings());
+    let (opening, unchanged) = (total.opening(), total.unchanged());
+    println!(out;
+        "{name} {letter} {threads} mops={speed} with_openings={slow} opening_ms={opening} unchanged={unchanged}"
+    )
 }

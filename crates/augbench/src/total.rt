@@ -1,16 +1,23 @@
 //! What the rounds of an engine came to.
+ghost use Rattle.std.specs.Prelude.{◌≡◌, ◌≤◌};
+ghost use Rattle.augbench.specs.Totals.{no_total, added};
 
-use crate::lap::Lap;
+use crate::engine::Engine;
+use crate::ran::Ran;
 use std::fmt;
 
 /// What the rounds of an engine came to.
 #[derive(Clone, Copy, Debug)]
 pub(crate) struct Total {
-    rounds: u64,
-    operations: u64,
-    time: u64,
-    openings: u64,
-    opening: u64,
+    pub(crate) engine: Engine,
+    pub(crate) rounds: u64,
+    pub(crate) operations: u64,
+    pub(crate) updates: u64,
+    pub(crate) idle: u64,
+    /// The nanoseconds of all rounds, without their openings.
+    pub(crate) time: u64,
+    /// The nanoseconds of their openings.
+    pub(crate) opening: u64,
 }
 
 /// A number of thousandths, printed with three places behind its point.
@@ -19,47 +26,52 @@ pub(crate) struct Thousandths(u64);
 
 impl Total {
     /// Of no round.
-    pub(crate) fn new() -> Total {
+    pub(crate) fn new(engine: Engine) -> Total
+        ensures { result ≡ no_total engine }
+    {
         Total {
+            engine,
             rounds: 0,
             operations: 0,
+            updates: 0,
+            idle: 0,
             time: 0,
-            openings: 0,
             opening: 0,
         }
     }
 
-    /// Counts an opening of so many nanoseconds.
-    pub(crate) fn open(&mut self, time: u64) {
-        self.openings = self.openings.saturating_add(1);
-        self.opening = self.opening.saturating_add(time);
-    }
-
-    /// Counts a round.
-    pub(crate) fn add(&mut self, lap: Lap) {
+    /// Counts a round of the engine.
+    pub(crate) fn add(&mut self, ran: Ran)
+        requires { ran.engine ≡ self.old.engine }
+        ensures { self.new ≡ added ran self.old }
+    {
         self.rounds = self.rounds.saturating_add(1);
-        self.operations = self.operations.saturating_add(lap.operations);
-        self.time = self.time.saturating_add(lap.time());
-    }
-
-    /// The nanoseconds of all rounds.
-    pub(crate) fn time(&self) -> u64 {
-        self.time
-    }
-
-    /// A seed for the next round, 64 after that of the round before, so that no two threads have the same.
-    pub(crate) fn seed(&self) -> u64 {
-        self.rounds.wrapping_mul(64)
+        self.operations = self.operations.saturating_add(ran.lap.operations);
+        self.updates = self.updates.saturating_add(ran.lap.updates);
+        self.idle = self.idle.saturating_add(ran.lap.idle);
+        self.time = self.time.saturating_add(ran.time);
+        self.opening = self.opening.saturating_add(ran.opening);
     }
 
     /// The milliseconds of an opening, on average.
     pub(crate) fn opening(&self) -> Thousandths {
-        Thousandths(self.opening / self.openings.max(1) / 1_000)
+        Thousandths(self.opening / self.rounds.max(1) / 1_000)
     }
 
-    /// How many million operations there were in a second.
+    /// Million operations a second, while rounds run.
     pub(crate) fn speed(&self) -> Thousandths {
         Thousandths(self.operations.saturating_mul(1_000_000) / self.time.max(1))
+    }
+
+    /// Million operations a second, with the time of openings.
+    pub(crate) fn speed_with_openings(&self) -> Thousandths {
+        let time = self.time.saturating_add(self.opening);
+        Thousandths(self.operations.saturating_mul(1_000_000) / time.max(1))
+    }
+
+    /// The share of updates that changed nothing.
+    pub(crate) fn unchanged(&self) -> Thousandths {
+        Thousandths(self.idle.saturating_mul(1_000) / self.updates.max(1))
     }
 }
 

@@ -1,25 +1,35 @@
 //! Rounds of the trie.
-ghost use Rattle.std.specs.Prelude.{◌≡◌, All, IfOk};
+ghost use Rattle.std.specs.Prelude.{◌≡◌, ◌≤◌, All, IfOk, map};
+ghost use Rattle.augbench.specs.Lanes.{lanes_of};
+ghost use Rattle.augbench.specs.Workloads.{updates_of};
 
 use crate::course::{Course, nanoseconds};
-use crate::keys::{BITS, UNIVERSE};
+use crate::engine::Engine;
+use crate::keys::{BITS, Lane, UNIVERSE};
 use crate::lap::Lap;
-use crate::trie::{Hands, Table, Trie};
-use crate::trie_work::{Done, Job, work};
-use crate::workload::{UPDATES, Workload};
+use crate::ran::{Plan, Ran, join_all};
+use crate::stint::run;
+use crate::trie::{Half, Hands, Table, Trie};
+use crate::trie_seat::TrieSeat;
+use crate::workload::UPDATES;
 use aug_trie::Round;
 use std::alloc::{AllocError, Global};
 use std::thread::Threads;
 use std::time::{Clock, Instant};
 use std::{io, thread};
 
-/// What a round of the trie leaves and came to.
+// What a thread begins with. It names no lifetime, so a closure may own it.
 #[derive(Drop)]
-pub(crate) struct Ran {
-    pub(crate) trie: Trie,
-    pub(crate) lap: Lap,
-    /// How long the round took to open, in nanoseconds.
-    pub(crate) opening: u64,
+struct Job {
+    half: Half,
+    lane: Lane,
+}
+
+// What a thread gives back.
+#[derive(Drop)]
+struct Done {
+    half: Half,
+    lap: io::Result<Option<Lap>>,
 }
 
 /// The trie of every second key.
@@ -39,80 +49,135 @@ pub(crate) fn half_full(alloc: Global) -> anyhow::Result<Trie>
     Ok(table.end(crew))
 }
 
-/// Runs a round: the same operations for the same seed, as far as the threads get.
-pub(crate) fn run_round<R: Threads + Clock + Sync>(
+/// Runs a round, and gives the trie back.
+pub(crate) fn trie_round<R: Threads + Sync, C: Clock + Sync>(
     rt: &R,
+    clock: &C,
     alloc: Global,
     trie: Trie,
-    workload: Workload,
-    threads: u32,
-    seed: u64,
-) -> anyhow::Result<Ran>
-    requires { trie.bits ≡ 16 }
-    ensures { IfOk result (λ ran. ran.trie.bits ≡ 16) }
+    plan: Plan,
+) -> anyhow::Result<(Trie, Ran)>
+    requires bits { trie.bits ≡ 16 }
+    requires budget { updates_of plan.workload plan.length.operations ≤ UPDATES }
+    ensures bits { IfOk result (λ both. both.0.bits ≡ 16) }
+    ensures engine { IfOk result (λ both. both.1.engine ≡ Engine.Trie) }
 {
-    let before = Instant::now(rt)?;
-    let (table, mut crew) = match Round::begin(alloc, trie, threads, UPDATES) {
+    let before = Instant::now(clock)?;
+    let (table, mut crew) = match Round::begin(alloc, trie, plan.threads, UPDATES) {
         Ok(begun) => begun,
         Err((_, cause)) => return Err(cause.into()),
     };
-    let opening = nanoseconds(before.elapsed(rt)?);
-    let jobs = jobs(alloc, &mut crew, &table, threads, seed)?;
-    let course = Course::new(rt, threads)?;
-    let done = in_threads(rt, &table, jobs, workload, &course)?;
-    let lap = take_back(&mut crew, &table, done)?;
+    let opening = nanoseconds(before.elapsed(clock)?);
+    let mut ran = race(rt, clock, alloc, &mut crew, &table, plan)?;
+    let before = Instant::now(clock)?;
     let trie = table.end(crew);
-    Ok(Ran { trie, lap, opening })
+    let ending = nanoseconds(before.elapsed(clock)?);
+    ran.opening = opening.saturating_add(ending);
+    Ok((trie, ran))
 }
 
-// A pass and a seed for each thread.
+// Runs the threads of a round that was opened.
+fn race<R: Threads + Sync, C: Clock + Sync>(
+    rt: &R,
+    clock: &C,
+    alloc: Global,
+    crew: &mut Hands,
+    table: &Table,
+    plan: Plan,
+) -> anyhow::Result<Ran>
+    requires together { crew.old.round ≡ table.now }
+    requires bits { table.now.bits ≡ 16 }
+    requires updates { table.now.updates ≡ UPDATES }
+    requires budget { updates_of plan.workload plan.length.operations ≤ UPDATES }
+    ensures round { IfOk result (λ ran. crew.new.round ≡ table.now) }
+    ensures engine { IfOk result (λ ran. ran.engine ≡ Engine.Trie) }
+{
+    let lanes = plan.lanes(alloc)?;
+    let jobs = jobs(alloc, crew, table, lanes)?;
+    let course = plan.course(clock)?;
+    let done = in_threads(rt, clock, table, jobs, &course)?;
+    let laps = take_back(alloc, crew, table, done)?;
+    Ok(Ran {
+        engine: Engine::Trie,
+        lap: join_all(laps)?,
+        time: course.time(),
+        opening: 0,
+    })
+}
+
+// A pass for each thread.
 fn jobs(
     alloc: Global,
     crew: &mut Hands,
     table: &Table,
-    threads: u32,
-    seed: u64,
+    lanes: Vec<Lane>,
 ) -> anyhow::Result<Vec<Job>>
     requires together { crew.old.round ≡ table.now }
     ensures ready { IfOk result (λ jobs. All (λ job. (job.half.round ≡ table.now) × (job.half.spent ≡ 0)) jobs.items) }
+    ensures lanes { IfOk result (λ jobs. map (λ job. job.lane) jobs.items ≡ lanes.items) }
     ensures round { IfOk result (λ jobs. crew.new.round ≡ table.now) }
 {
     let mut jobs = Vec::new(alloc);
-    for lane in 0..threads {
+    for lane in lanes {
         let half = crew.pass(table)?.into_half();
-        let seed = seed.wrapping_add(u64::from(lane));
-        jobs.push(Job { half, seed })?;
+        jobs.push(Job { half, lane })?;
     }
     Ok(jobs)
 }
 
 // Runs all jobs at the same time.
-fn in_threads<R: Threads + Clock + Sync>(
+fn in_threads<R: Threads + Sync, C: Clock + Sync>(
     rt: &R,
+    clock: &C,
     table: &Table,
     jobs: Vec<Job>,
-    workload: Workload,
     course: &Course,
 ) -> Result<Vec<Done>, AllocError>
     requires bits { table.now.bits ≡ 16 }
     requires updates { table.now.updates ≡ UPDATES }
+    requires budget { updates_of course.now.workload course.now.length.operations ≤ UPDATES }
     requires ready { All (λ job. (job.half.round ≡ table.now) × (job.half.spent ≡ 0)) jobs.items }
     ensures { IfOk result (λ done. All (λ one. one.half.round ≡ table.now) done.items) }
 {
-    thread::map_vec(rt, jobs, &|job| work(rt, table, job, workload, course))
+    thread::map_vec(rt, jobs, &|job| work(clock, table, job, course))
 }
 
-// Takes all passes back, and adds up what their threads did.
-fn take_back(crew: &mut Hands, table: &Table, done: Vec<Done>) -> io::Result<Lap>
+// Runs the operations of one thread.
+fn work<C: Clock>(clock: &C, table: &Table, job: Job, course: &Course) -> Done
+    requires here { job.half.round ≡ table.now }
+    requires bits { table.now.bits ≡ 16 }
+    requires updates { table.now.updates ≡ UPDATES }
+    requires budget { updates_of course.now.workload course.now.length.operations ≤ UPDATES }
+    requires unspent { job.half.spent ≡ 0 }
+    ensures { result.half.round ≡ table.now }
+{
+    let Job { half, lane } = job;
+    let mut seat = TrieSeat {
+        pass: table.pass(half),
+    };
+    let lap = run(clock, &mut seat, lane, course);
+    Done {
+        half: seat.pass.into_half(),
+        lap,
+    }
+}
+
+// Takes all passes back, and gives what their threads did.
+fn take_back(
+    alloc: Global,
+    crew: &mut Hands,
+    table: &Table,
+    done: Vec<Done>,
+) -> Result<Vec<io::Result<Option<Lap>>>, AllocError>
     requires together { crew.old.round ≡ table.now }
     requires here { All (λ one. one.half.round ≡ table.now) done.items }
-    ensures { IfOk result (λ lap. crew.new.round ≡ table.now) }
+    ensures { IfOk result (λ laps. crew.new.round ≡ table.now) }
 {
-    let mut all = Lap::NONE;
+    let mut laps = Vec::new(alloc);
     for one in done {
         let Done { half, lap } = one;
         crew.back(table.pass(half));
-        all = all.join(lap?);
+        laps.push(lap)?;
     }
-    Ok(all)
+    Ok(laps)
 }

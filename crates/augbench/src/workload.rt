@@ -1,16 +1,18 @@
 //! The workloads, and which operation comes when.
-ghost use Rattle.std.specs.Prelude.{◌≡◌, ◌+◌, true, false, if◌then◌else◌};
-ghost use Rattle.augbench.specs.Workloads.{is_update, is_updated, updates_of};
+ghost use Rattle.std.specs.Prelude.{◌≡◌, ◌+◌, ◌≤◌, if◌then◌else◌};
+ghost use Rattle.augbench.specs.Workloads.{action_of, update_in, weighing_at, query_at, is_update, updates_of, is_updated};
 
-/// How many updates a thread makes in a round.
+/// How many updates a thread of the trie makes in a round.
 pub(crate) const UPDATES: u32 = 4096;
 
 /// What the threads of a round do.
 #[derive(Clone, Copy, Debug, PartialEq, Eq)]
 pub(crate) enum Workload {
-    /// Inserts and removes in turn.
+    /// Inserts and removes in turn, of any keys: about half of them change nothing.
     Updates,
-    /// Nine queries, each on a fresh snapshot, and then an update.
+    /// An insert of an odd key that no other thread has, and then its remove: each of them changes the set.
+    Changes,
+    /// Nine queries, each on a fresh snapshot, and then an update of any key.
     Mixed,
     /// The same, and every second update gives a new weight to an even key. Only odd ones come and go, so the even ones of
     /// the opening stay members.
@@ -21,36 +23,63 @@ pub(crate) enum Workload {
     Batches,
 }
 
-/// One operation.
+/// The kinds of operations.
 #[derive(Clone, Copy, Debug, PartialEq, Eq)]
-pub(crate) enum Action {
+pub(crate) enum Kind {
     /// Puts a key in.
     Insert,
     /// Takes a key out.
     Remove,
-    /// Puts an odd key in.
-    InsertOdd,
-    /// Takes an odd key out.
-    RemoveOdd,
-    /// Gives a weight to an even key.
-    PutEven,
+    /// Gives a weight to a key.
+    Put,
     /// How many members are below a key.
     Rank,
-    /// The member with so many members below it.
+    /// The member with a number of members below it.
     Select,
-    /// What the members between two keys come to.
+    /// The totals of the members between two keys.
     Range,
-    /// The ranks of so many keys on one snapshot.
+    /// The ranks of a batch of keys on one snapshot.
     Ranks,
 }
 
-/// How many ranks a batch has.
+/// The keys among which an operation's are drawn.
+#[derive(Clone, Copy, Debug, PartialEq, Eq)]
+pub(crate) enum Pool {
+    /// All keys.
+    Any,
+    /// The odd ones.
+    Odd,
+    /// The even ones.
+    Even,
+    /// Odd keys that no other thread of the round draws; a remove has the key of the insert before it.
+    Own,
+}
+
+/// A kind of operation, and where its keys are drawn.
+#[derive(Clone, Copy, Debug, PartialEq, Eq)]
+pub(crate) struct Action {
+    pub(crate) kind: Kind,
+    pub(crate) pool: Pool,
+}
+
+/// The number of ranks in a batch.
 pub(crate) const BATCH: u32 = 32;
+
+impl Kind {
+    /// Whether the operation changes the set.
+    #[inline(always)]
+    pub(crate) fn is_update(self) -> bool
+        ensures { result ≡ is_update self }
+    {
+        matches!(self, Kind::Insert | Kind::Remove | Kind::Put)
+    }
+}
 
 impl Workload {
     /// All of them.
-    pub(crate) const ALL: [Workload; 5] = [
+    pub(crate) const ALL: [Workload; 6] = [
         Workload::Updates,
+        Workload::Changes,
         Workload::Mixed,
         Workload::Puts,
         Workload::Queries,
@@ -61,6 +90,7 @@ impl Workload {
     pub(crate) fn letter(self) -> &'static str {
         match self {
             Workload::Updates => "U",
+            Workload::Changes => "C",
             Workload::Mixed => "M",
             Workload::Puts => "P",
             Workload::Queries => "Q",
@@ -68,65 +98,80 @@ impl Workload {
         }
     }
 
-    /// How many operations a thread makes in a round: those among which 4,096 are updates, and as many queries where none is.
+    /// How many operations a thread of the trie makes in a round: those among which 4,096 are updates, and as many queries where
+    /// none is.
     pub(crate) fn operations(self) -> u64
-        ensures { updates_of self result ≡ (if is_updated self then UPDATES else 0) }
+        ensures all { updates_of self result ≡ (if is_updated self then UPDATES else 0) }
+        ensures few { updates_of self result ≤ UPDATES }
     {
         match self {
-            Workload::Updates => u64::from(UPDATES),
+            Workload::Updates | Workload::Changes => u64::from(UPDATES),
             _ => 10 * u64::from(UPDATES),
         }
     }
 
-    /// The operation that comes after so many.
+    /// The operation with this number, counted from 0.
     #[inline(always)]
-    pub(crate) fn action(self, before: u64) -> Action
-        ensures { updates_of self (before + 1) ≡ updates_of self before + (if is_update result then 1 else 0) }
+    pub(crate) fn action(self, number: u64) -> Action
+        ensures is { result ≡ action_of self number }
+        ensures counts { updates_of self (number + 1) ≡ updates_of self number + (if is_update result.kind then 1 else 0) }
     {
         match self {
-            Workload::Updates => update(before),
-            Workload::Mixed if before % 10 == 9 => update(before / 10),
-            Workload::Puts if before % 10 == 9 => weighing(before / 10),
-            Workload::Mixed | Workload::Puts => query(before % 10),
-            Workload::Queries => query(before),
-            Workload::Batches if before % 10 == 9 => update(before / 10),
-            Workload::Batches => Action::Ranks,
+            Workload::Updates => update(number, Pool::Any),
+            Workload::Changes => update(number, Pool::Own),
+            Workload::Queries => query(number),
+            _ if number % 10 != 9 => match self {
+                Workload::Batches => Action {
+                    kind: Kind::Ranks,
+                    pool: Pool::Any,
+                },
+                _ => query(number % 10),
+            },
+            Workload::Puts => weighing(number / 10),
+            _ => update(number / 10, Pool::Any),
         }
     }
 }
 
 // Inserts and removes in turn.
 #[inline(always)]
-fn update(before: u64) -> Action
-    ensures { is_update result ≡ true }
+fn update(number: u64, pool: Pool) -> Action
+    ensures { result ≡ update_in pool number }
 {
-    if before % 2 == 0 {
-        Action::Insert
+    let kind = if number % 2 == 0 {
+        Kind::Insert
     } else {
-        Action::Remove
-    }
+        Kind::Remove
+    };
+    Action { kind, pool }
 }
 
 // A put in every second place, and between them inserts and removes in turn.
 #[inline(always)]
-fn weighing(before: u64) -> Action
-    ensures { is_update result ≡ true }
+fn weighing(number: u64) -> Action
+    ensures { result ≡ weighing_at number }
 {
-    match before % 4 {
-        0 => Action::InsertOdd,
-        2 => Action::RemoveOdd,
-        _ => Action::PutEven,
+    if number % 2 == 1 {
+        return Action {
+            kind: Kind::Put,
+            pool: Pool::Even,
+        };
     }
+    update(number / 2, Pool::Odd)
 }
 
 // Ranks, selects and ranges in turn.
 #[inline(always)]
-fn query(before: u64) -> Action
-    ensures { is_update result ≡ false }
+fn query(number: u64) -> Action
+    ensures { result ≡ query_at number }
 {
-    match before % 3 {
-        0 => Action::Rank,
-        1 => Action::Select,
-        _ => Action::Range,
+    let kind = match number % 3 {
+        0 => Kind::Rank,
+        1 => Kind::Select,
+        _ => Kind::Range,
+    };
+    Action {
+        kind,
+        pool: Pool::Any,
     }
 }

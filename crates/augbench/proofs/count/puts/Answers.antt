@@ -1,4 +1,4 @@
-use Rattle.std.proofs.Common.{◌*◌, ◌<◌, arith}
+use Rattle.std.proofs.Common.{◌<◌, arith}
 use Rattle.augbench.proofs.Spreads.{multiple_fits}
 use Rattle.augbench.proofs.count.puts.Goals as goal
 

@@ -1,6 +1,6 @@
 use Rattle.std.proofs.Common.{◌≡◌, ◌∙◌}
 use Rattle.std.proofs.lemmas.List.Elements.{All-rest}
-use Rattle.augbench.specs.declared.trie_work.Done.{Done}
+use Rattle.augbench.specs.declared.trie_round.Done.{Done}
 use Rattle.augbench.proofs.trie_round.take_back.Goals as goal
 
 pub loop-one-preserved : goal.loop-one-preserved

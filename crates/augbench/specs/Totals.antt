@@ -1,0 +1,53 @@
+-- What the rounds of the engines came to.
+use Rattle.std.specs.Prelude.{◌≡◌, ◌≤◌, ℕ, ◌+◌, ◌-◌, ◌^◌, ◌==◌, ◌&&◌, Bool, min}
+use Rattle.augbench.specs.declared.engine.Engine.{Engine}
+use Rattle.augbench.specs.declared.engine.Engine.TheVariants.{Trie, Mutex, RwLock, LeftRight}
+use Rattle.augbench.specs.declared.lap.Lap.{Lap}
+use Rattle.augbench.specs.declared.ran.Ran.{Ran}
+use Rattle.augbench.specs.declared.each.Each.{Each}
+use Rattle.augbench.specs.declared.total.Total.{Total}
+
+-- what each engine's round came to
+pub record AreOfEach (rans : Each Ran) : Type 0 where
+  pub trie : rans.trie.engine ≡ Trie
+  pub mutex : rans.mutex.engine ≡ Mutex
+  pub rwlock : rans.rwlock.engine ≡ RwLock
+  pub left_right : rans.left_right.engine ≡ LeftRight
+
+-- what each engine's rounds came to
+pub record TotalsOfEach (totals : Each Total) : Type 0 where
+  pub trie : totals.trie.engine ≡ Trie
+  pub mutex : totals.mutex.engine ≡ Mutex
+  pub rwlock : totals.rwlock.engine ≡ RwLock
+  pub left_right : totals.left_right.engine ≡ LeftRight
+
+-- each engine's rounds took at least so many nanoseconds
+pub record LastFor (time : ℕ) (totals : Each Total) : Type 0 where
+  pub trie : time ≤ totals.trie.time
+  pub mutex : time ≤ totals.mutex.time
+  pub rwlock : time ≤ totals.rwlock.time
+  pub left_right : time ≤ totals.left_right.time
+
+-- the sum of two counts, or the greatest number
+abbrev pub capped : ℕ → ℕ → ℕ
+capped a b = min (a + b) (2 ^ 64 - 1)
+
+-- of no round
+abbrev pub no_total : Engine → Total
+no_total engine = record { engine = engine; rounds = 0; operations = 0; updates = 0; idle = 0; time = 0; opening = 0 }
+
+-- with one round more
+abbrev pub added : Ran → Total → Total
+added ran total = record {
+  engine = total.engine;
+  rounds = capped total.rounds 1;
+  operations = capped total.operations ran.lap.operations;
+  updates = capped total.updates ran.lap.updates;
+  idle = capped total.idle ran.lap.idle;
+  time = capped total.time ran.time;
+  opening = capped total.opening ran.opening;
+}
+
+-- as many operations, with answers of the same sum
+abbrev pub agrees : Lap → Lap → Bool
+agrees a b = (a.sum == b.sum) && (a.operations == b.operations)

@@ -1,0 +1,10 @@
+//! One value for each engine.
+
+/// One value for each engine.
+#[derive(Clone, Copy, Debug)]
+pub(crate) struct Each<T> {
+    pub(crate) trie: T,
+    pub(crate) mutex: T,
+    pub(crate) rwlock: T,
+    pub(crate) left_right: T,
+}

@@ -1,0 +1,26 @@
+//! The sets that are measured.
+
+/// A set that is measured.
+#[derive(Clone, Copy, Debug, PartialEq, Eq)]
+pub(crate) enum Engine {
+    /// The shared trie.
+    Trie,
+    /// A plain set behind a lock that one thread has at a time.
+    Mutex,
+    /// A plain set behind a lock that many threads may read under.
+    RwLock,
+    /// Two plain sets: readers read one without a lock, and a writer changes the other.
+    LeftRight,
+}
+
+impl Engine {
+    /// The name under which it is printed.
+    pub(crate) fn name(self) -> &'static str {
+        match self {
+            Engine::Trie => "trie",
+            Engine::Mutex => "mutex",
+            Engine::RwLock => "rwlock",
+            Engine::LeftRight => "left_right",
+        }
+    }
+}

@@ -235,7 +235,7 @@ mod tests {
         for name, text in self.FILES.items():
             self.write(name, text)
             self.write(f"base/{name}", text)
-        for name in "surface.py", "refusals.py", "commands.py", "selftest.py":
+        for name in "surface.py", "promises.py", "refusals.py", "commands.py", "selftest.py":
             self.write(f"tests/{name}", "#!/bin/sh\necho 3 passed, 0 failed\n", 0o755)
         self.write("said.rt", "fn some: proved\nonly=1 proved=1\n")
 
@@ -249,7 +249,7 @@ mod tests {
         self.write("status.check", str(status))
         out, err, ended = self.run_script("tools/quick", *words)
         self.assertEqual((err, ended), ("", ends), out)
-        for name in "surface", "refusals", "commands", "selftest":
+        for name in "surface", "promises", "refusals", "commands", "selftest":
             self.assertEqual(out.count(f"  tests/{name}.py: "), 1)
         return self.read("called").splitlines(), out
 

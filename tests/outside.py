@@ -12,6 +12,7 @@ import array
 import concurrent.futures
 import fcntl
 import os
+import re
 import resource
 import shutil
 import subprocess
@@ -646,16 +647,25 @@ class Outside(Sweeps):
                 self.assertEqual(it.result(), wanted)
 
 
+# An excerpt in the README: the path in the sentence before it, and its lines, where `// ..` stands for lines that are left out.
+EXCERPT = re.compile(rb"`(crates/[^`]+)`(?:[^`]|`// \.\.`)*:\n\n```rust\n(.*?)```\n", re.S)
+
+
 class Shown(unittest.TestCase):
     """The README and the list of public calls show what stands in the repository."""
 
     def setUp(self):
         self.readme = read(os.path.join(TOP, "README.md"))
 
-    def test_program_in_the_readme(self):
-        crate = os.path.join(TOP, "crates", "index_example")
-        self.assertIn(b"```rust\n" + read(os.path.join(crate, "src", "main.rt")) + b"```\n", self.readme)
-        self.assertIn(b"```text\n" + read(os.path.join(crate, "stdout")) + b"```\n", self.readme)
+    def test_excerpts_in_the_readme(self):
+        excerpts = EXCERPT.findall(self.readme)
+        self.assertEqual(len(excerpts), self.readme.count(b"```rust\n"))
+        self.assertTrue(excerpts)
+        for file, code in excerpts:
+            program = read(os.path.join(TOP, file.decode()))
+            for part in re.split(rb"^ *// \.\.\n", code, flags=re.M):
+                self.assertTrue(part.strip())
+                self.assertIn(b"\n" + part, program)
 
     def test_script_in_the_readme(self):
         script, report = (read(os.path.join(EXAMPLES, f"first.{kind}")).decode().splitlines() for kind in ("csv", "out"))

@@ -1,4 +1,4 @@
-/// What is known of some keys: how many they are, and their folds in two monoids, in rising key order.
+/// The number of some keys, and their folds in two monoids, in rising key order.
 #[derive(Clone, Copy, PartialEq, Eq, Debug)]
 pub struct Summary<A, B> {
     /// How many keys there are.

@@ -10,7 +10,7 @@ use std::marker::Model;
 /// How many numbers one half of a word can tell apart.
 const HALF: u64 = 1 << 32;
 
-/// The least and the greatest of the keys, or none where there are no keys.
+/// The least and the greatest of the keys, or none if there are no keys.
 #[derive(Clone, Copy, PartialEq, Eq, Debug)]
 pub struct Extent {
     // Of no keys the greatest number and the least, which `join` passes over with no test.
@@ -35,7 +35,7 @@ impl Model for Extent {
 }
 
 impl Extent {
-    /// The least key and the greatest, or none where there are no keys.
+    /// The least key and the greatest, or none if there are no keys.
     pub fn bounds(self) -> Option<(u32, u32)>
         ensures same { result ≡ self }
         ensures ordered { IfSome result (λ b. b.0 ≤ b.1) }

@@ -9,7 +9,7 @@ use crate::Monoid;
 use crate::key_word::{key_of, word_of};
 use std::marker::Model;
 
-/// The greatest of the keys, or none where there are no keys.
+/// The greatest of the keys, or none if there are no keys.
 #[derive(Clone, Copy, PartialEq, Eq, Debug)]
 pub struct Greatest {
     key: Option<u32>,
@@ -26,7 +26,7 @@ impl Model for Greatest {
 }
 
 impl Greatest {
-    /// The greatest key, or none where there are no keys.
+    /// The greatest key, or none if there are no keys.
     pub fn value(self) -> Option<u32>
         ensures { result ≡ self }
     {

@@ -9,7 +9,7 @@ use crate::Monoid;
 use crate::key_word::{key_of, word_of};
 use std::marker::Model;
 
-/// The least of the keys, or none where there are no keys.
+/// The least of the keys, or none if there are no keys.
 #[derive(Clone, Copy, PartialEq, Eq, Debug)]
 pub struct Least {
     key: Option<u32>,
@@ -26,7 +26,7 @@ impl Model for Least {
 }
 
 impl Least {
-    /// The least key, or none where there are no keys.
+    /// The least key, or none if there are no keys.
     pub fn value(self) -> Option<u32>
         ensures { result ≡ self }
     {

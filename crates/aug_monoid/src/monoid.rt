@@ -4,7 +4,7 @@ ghost use Rattle.aug_monoid.specs.Parts.{Parts};
 
 /// What a fold over keys adds up. Folds go in rising key order, so `join` need not be commutative.
 ///
-/// A value is proper where it is one that a program can hold; the laws speak of proper values.
+/// A value is proper if a program can hold it. The laws speak of proper values.
 /// A word is how a value is stored in one atomic word of a record.
 pub trait Monoid: Copy + Eq {
     // Its plain parts, which folds and laws speak of.
@@ -26,11 +26,11 @@ pub trait Monoid: Copy + Eq {
     fn to_word(self) -> u64
         ensures { result ≡ parts.to_word self };
 
-    /// The value that `word` stands for; a word that stands for none gives a proper value still.
+    /// The value that `word` stands for. A word that stands for none gives some proper value.
     fn from_word(word: u64) -> Self
         ensures { result ≡ parts.from_word word };
 
-    /// Whether this is a value that a program can hold. It is so of every one that these calls make.
+    /// Whether a program can hold this value. It can hold every value that these calls make.
     fn proper(self) -> bool
         ensures { IsTrue result ↔ parts.IsProper self };
 

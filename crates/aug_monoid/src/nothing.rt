@@ -5,7 +5,7 @@ ghost use Rattle.aug_monoid.specs.Nothing.{nothing_parts};
 
 use crate::Monoid;
 
-/// The one value that every fold has, for a tree that adds up nothing.
+/// The monoid with one value, for a tree that adds nothing up.
 #[derive(Clone, Copy, PartialEq, Eq, Debug)]
 pub struct Nothing;
 

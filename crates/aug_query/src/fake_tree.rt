@@ -24,8 +24,7 @@ pub struct FakeNode<A, B> {
     weight: u32,
 }
 
-/// The complete tree of a set of keys, each with a weight, in plain memory, each node with its summary. It is
-/// what tests walk.
+/// The complete tree of a set of keys, each with a weight, in plain memory. Each node has its summary. Tests walk it.
 #[derive(Drop)]
 pub struct FakeTree<A: Monoid, B: Monoid> {
     bits: u32,
@@ -48,8 +47,8 @@ impl<A: Monoid, B: Monoid> Model for FakeTree<A, B> {
 }
 
 impl<A: Monoid, B: Monoid> FakeTree<A, B> {
-    /// The tree of the set of `pairs`, each a key and its weight. The keys rise and are below `2^bits`, with 1 to
-    /// 16 bits.
+    /// The tree of the set of `pairs`, each a key and its weight. The keys rise and are below `2^bits`; `bits` is 1
+    /// to 16.
     pub fn try_new(
         alloc: Global,
         bits: u32,

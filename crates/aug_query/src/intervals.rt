@@ -10,8 +10,8 @@ use crate::walk::{end, first, middle, toward, universe};
 use aug_model::Summary;
 use aug_monoid::Monoid;
 
-/// The number and the folds of the members of the set of `tree` from `a` on that are below `b`. Where
-/// `a >= b` there are none.
+/// The number and the folds of the members of the set of `tree` from `a` on that are below `b`. If `a >= b` there
+/// are none.
 pub fn range<A: Monoid, B: Monoid, T: Tree<A, B>>(tree: &mut T, a: u32, b: u32) -> Summary<A, B>
     ensures answer { result ≡ summary_of A.parts B.parts (weighted_range_of (T.set_of tree.old).pairs a b) }
     ensures walks { WalksAtMost T.set_of T.calls_of T.HasNode T.KeepsRest (4 * (T.set_of tree.old).bits - 1) tree.old tree.new }

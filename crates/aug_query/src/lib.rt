@@ -1,9 +1,9 @@
 //! Queries on a tree of a set of keys with weights, by descent from its top (after Fatourou and Ruppert 2024).
 //!
-//! A query goes down by the counts that the nodes carry. None takes memory but `keys` and `pairs`. With `bits` the
-//! bits of the keys, the calls of `top`, `left` and `right` are at most: `size` 1, `has`, `weight` and `rank`
-//! `bits + 1`, `select` `2 * bits + 1`, `before` and `after` `3 * bits`, `range` `4 * bits - 1`, and `keys` and
-//! `pairs`, which go to every one of `n` members, `2 * bits * n + 1`.
+//! A query goes down by the counts that the nodes carry. Only `keys` and `pairs` take memory. If keys have `bits`
+//! bits, a query makes at most this many calls of `top`, `left` and `right`: `size` 1; `has`, `weight` and `rank`
+//! `bits + 1`; `select` `2 * bits + 1`; `before` and `after` `3 * bits`; `range` `4 * bits - 1`; `keys` and `pairs`,
+//! which visit each of `n` members, `2 * bits * n + 1`.
 #![tactic(auto)]
 
 mod calls;

@@ -7,8 +7,8 @@ use crate::Tree;
 use aug_monoid::Monoid;
 use std::alloc::{AllocError, Global};
 
-/// The members of the set of `tree`, rising. Room for all of them is made before the first is put in, and only
-/// that can be refused.
+/// The members of the set of `tree`, rising. Room for all of them is made at the beginning, and only that can be
+/// refused.
 pub fn keys<A: Monoid, B: Monoid, T: Tree<A, B>>(
     alloc: Global,
     tree: &mut T,
@@ -20,8 +20,8 @@ pub fn keys<A: Monoid, B: Monoid, T: Tree<A, B>>(
     list(alloc, tree)
 }
 
-/// The members of the set of `tree`, rising, each with its weight. Room for all of them is made before the first
-/// is put in, and only that can be refused.
+/// The members of the set of `tree`, rising, each with its weight. Room for all of them is made at the beginning,
+/// and only that can be refused.
 pub fn pairs<A: Monoid, B: Monoid, T: Tree<A, B>>(
     alloc: Global,
     tree: &mut T,

@@ -9,12 +9,12 @@ use aug_model::Summary;
 use aug_monoid::Monoid;
 
 /// A complete binary tree of a set of keys below `2^bits`, each with a weight. The node at level `j` and place
-/// `p` covers the keys `p * 2^j` to `(p + 1) * 2^j - 1`; a leaf is at level 0, and its summary counts 1 where
-/// its key is a member and else 0; the top is at level `bits`, place 0. Every node carries the summary of the
-/// members that it covers, and a leaf its key's weight.
+/// `p` covers the keys `p * 2^j` to `(p + 1) * 2^j - 1`. A leaf is at level 0, and its summary counts 1 if its key
+/// is a member, else 0. The top is at level `bits`, place 0. Every node carries the summary of the members that it
+/// covers, and a leaf its key's weight.
 ///
-/// A walk may load each node anew, so it takes `&mut self`, but nothing that it does changes what the
-/// tree is: its set and bits stay, and a node once handed out is one of its nodes for good.
+/// A walk may load each node anew, so it takes `&mut self`. But it does not change the tree: its set and bits stay,
+/// and a node that was once handed out stays one of its nodes.
 pub trait Tree<A: Monoid, B: Monoid> {
     /// A node as a walk holds it: where it stands, its summary, and a leaf's weight.
     type Node: Drop;
@@ -81,11 +81,11 @@ pub trait Tree<A: Monoid, B: Monoid> {
     fn place(node: &Self::Node) -> u32
         ensures { result ≡ place_of node.now };
 
-    /// What `node` knows of the members that it covers.
+    /// The summary of the members that `node` covers.
     fn summary(node: &Self::Node) -> Summary<A, B>
         ensures { result ≡ told_by node.now };
 
-    /// The weight of the key that the leaf `node` covers, and 0 where that key is no member.
+    /// The weight of the key that the leaf `node` covers, or 0 if that key is no member.
     fn weight(node: &Self::Node) -> u32
         requires { level_of node.now ≡ 0 }
         ensures { result ≡ weight_by node.now };

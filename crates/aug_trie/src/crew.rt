@@ -9,7 +9,7 @@ use aug_monoid::Monoid;
 use aug_words::Lead;
 use std::marker::Model;
 
-/// The crew of a round: it hands the round's passes out, and takes them back.
+/// The crew of a round. It hands the round's passes out, and takes them back.
 #[derive(Drop)]
 pub struct Crew<A: Monoid, B: Monoid> {
     pub(crate) lead: Lead<A, B>,
@@ -32,8 +32,8 @@ impl<A: Monoid, B: Monoid> Model for Crew<A, B> {
 }
 
 impl<A: Monoid, B: Monoid> Crew<A, B> {
-    /// Hands out the next lane, 0 first, to a new pass, which starts from what the crew knows. Refused where all lanes
-    /// were handed out.
+    /// Hands out the next lane, 0 first, to a new pass. The pass knows what the crew then knows. Refused with `NoLane`
+    /// once all lanes were handed out.
     pub fn pass<'r>(&mut self, round: &'r Round<A, B>) -> Result<Pass<'r, A, B>, CrewError>
         requires together { self.old.round ≡ round.now }
         ensures no_lane { IsErr result ↔ (self.old.handed ≡ self.old.round.workers) }
@@ -56,7 +56,7 @@ impl<A: Monoid, B: Monoid> Crew<A, B> {
         })
     }
 
-    /// Takes a pass back: ends its lane, which is not handed out again, and learns what the pass knows.
+    /// Takes a pass back, and learns what it knows. Its lane ends, and is not handed out again.
     pub fn back<'r>(&mut self, pass: Pass<'r, A, B>)
         requires of_crew { pass.round ≡ self.old.round }
         ensures { TakesBack self.old self.new pass.entry }

@@ -17,7 +17,8 @@ use aug_words::{Lead, Rest, Words, WordsError};
 use std::alloc::Global;
 use std::marker::{Model, PhantomData};
 
-/// A trie at rest: a set of keys with weights that no round works on. It is a tree, which the queries of `aug_query` walk.
+/// A trie at rest: a set of keys with weights that no round works on. It is a `Tree`, so all queries of `aug_query`
+/// answer over it.
 #[derive(Drop)]
 pub struct Ended<A: Monoid, B: Monoid> {
     // The words of the round that ended, and the record of the root that its crew knew last: the set is that of this version.
@@ -45,7 +46,8 @@ impl<A: Monoid, B: Monoid> Model for Ended<A, B> {
 }
 
 impl<A: Monoid, B: Monoid> Ended<A, B> {
-    /// The empty trie for keys of so many bits. Refused with `BadBits` outside 1 to 16, else with `OutOfMemory`.
+    /// The empty trie for keys below `2^bits`. Refused with `BadBits` if `bits` is outside 1 to 16, and with
+    /// `OutOfMemory` if memory is refused.
     pub fn empty(alloc: Global, bits: u32) -> Result<Self, BeginError>
         ensures bad_bits { IsErrOf result BeginError.BadBits ↔ IsOutside 1 16 bits }
         ensures others { IfErr result (λ e. (e ≡ BeginError.BadBits) ⊎ (e ≡ BeginError.OutOfMemory)) }
@@ -93,7 +95,7 @@ impl<A: Monoid, B: Monoid> Ended<A, B> {
         self.bits
     }
 
-    /// How many keys there may be: all those below it.
+    /// How many keys there are: `2^bits`. The keys are the numbers below it.
     pub fn universe(&self) -> u32
         ensures { result ≡ 2 ^ self.now.bits }
     {
@@ -108,21 +110,22 @@ impl<A: Monoid, B: Monoid> Ended<A, B> {
         count as u32
     }
 
-    /// How many keys were put in by the passes that came back in the round that ended it, replaced ones among them.
+    /// How many keys were put in during the round that ended with this trie, by the passes that came back. A replaced
+    /// weight counts as an insertion and a removal.
     pub fn inserts(&self) -> u32
         ensures { result ≡ self.now.inserts }
     {
         self.inserts
     }
 
-    /// How many keys those passes took out, replaced ones among them.
+    /// How many keys those passes took out. A replaced weight counts here too.
     pub fn removals(&self) -> u32
         ensures { result ≡ self.now.removals }
     {
         self.removals
     }
 
-    /// How many passes of that round did not come back.
+    /// How many passes of that round were handed out and did not come back.
     pub fn missing(&self) -> u32
         ensures { result ≡ self.now.missing }
     {

@@ -6,7 +6,7 @@ use aug_monoid::Monoid;
 use aug_words::WordHalf;
 use std::marker::Model;
 
-/// A pass without its round. It names no lifetime, so a closure may own it and take it into a thread, where
+/// A pass without its round. It has no lifetime, so a closure may own it and take it into a thread. There
 /// `Round::pass` makes a pass of it again.
 #[derive(Drop)]
 pub struct PassHalf<A: Monoid, B: Monoid> {
@@ -33,7 +33,7 @@ impl<A: Monoid, B: Monoid> Model for PassHalf<A, B> {
 }
 
 impl<'r, A: Monoid, B: Monoid> Pass<'r, A, B> {
-    /// Takes the pass apart. All that it knows stays with the half.
+    /// Makes a half of the pass. The half keeps all that the pass knows.
     pub fn into_half(self) -> PassHalf<A, B>
         ensures { result ≡ self.entry }
     {

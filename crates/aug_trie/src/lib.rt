@@ -1,4 +1,4 @@
-//! A set of keys that many passes insert into, remove from and look at, by double refresh.
+//! A set of keys with weights that threads share. Passes update it by double refresh, and look at it by snapshots.
 #![tactic(auto)]
 
 mod ascents;

@@ -4,7 +4,7 @@ ghost use Rattle.std.specs.Prelude.{◌≡◌};
 use crate::snapshot::Snapshot;
 use aug_model::Summary;
 
-/// A node of the tree of a snapshot. It stays what it is whatever the pass does later.
+/// A node of the tree of a snapshot. Nothing that the pass does later changes it.
 #[derive(Clone, Copy)]
 pub struct Node<A, B> {
     pub(crate) snapshot: Snapshot,

@@ -17,7 +17,8 @@ use aug_monoid::Monoid;
 use aug_words::WordPass;
 use std::marker::Model;
 
-/// A pass of a round, with a lane of its own. It may go to another thread. None of its calls takes memory or waits.
+/// A pass of a round, with a lane of its own. It may go to another thread. None of its calls waits, and only `keys`
+/// and `pairs` take memory.
 #[derive(Drop)]
 pub struct Pass<'r, A: Monoid, B: Monoid> {
     // What it knows of the words. An update takes it out and puts it back, so that its steps can keep it in registers.
@@ -47,8 +48,8 @@ impl<'r, A: Monoid, B: Monoid> Model for Pass<'r, A, B> {
 }
 
 impl<'r, A: Monoid, B: Monoid> Pass<'r, A, B> {
-    /// Puts a key in, with the key itself as its weight. True where it was not there, and this call put it in; false where it was already
-    /// there, or came in meanwhile: then its weight stays.
+    /// Puts a key in, with the key itself as its weight. True if this call put it in. False if it was a member already,
+    /// or somebody else put it in meanwhile; then its weight stays.
     #[inline(never)]
     pub fn insert(&mut self, k: u32) -> bool
         requires key { k < 2 ^ self.old.round.bits }
@@ -62,7 +63,7 @@ impl<'r, A: Monoid, B: Monoid> Pass<'r, A, B> {
         matches!(self.update(k, Request::Insert), Outcome::Accepted)
     }
 
-    /// Takes a key out. True where it was there, and this call took it out; false where it was not there, or went out meanwhile.
+    /// Takes a key out. True if this call took it out. False if it was no member, or somebody else took it out meanwhile.
     #[inline(never)]
     pub fn remove(&mut self, k: u32) -> bool
         requires key { k < 2 ^ self.old.round.bits }
@@ -76,10 +77,11 @@ impl<'r, A: Monoid, B: Monoid> Pass<'r, A, B> {
         matches!(self.update(k, Request::Remove), Outcome::Accepted)
     }
 
-    /// Puts a key in with a weight, or gives it this weight where it is there, also where it has it already. `Accepted` where it was not
-    /// there, and this call put it in; `Replaced` where it was there, and this call gave it the weight: that counts as a removal and an
-    /// insertion, and no snapshot of anybody shows the key gone between them; `Refused` where another change of the key came meanwhile:
-    /// then nothing is stored.
+    /// Puts a key in with a weight, or gives a member this weight, also if it has it already.
+    ///
+    /// `Accepted` if this call put the key in. `Replaced` if the key was a member, and this call gave it the weight. That
+    /// counts as a removal and an insertion, and no snapshot of anybody shows the key gone between them. `Refused` if
+    /// another change of the key came in meanwhile; then nothing is stored.
     #[inline(never)]
     pub fn put(&mut self, k: u32, weight: u32) -> Outcome
         requires key { k < 2 ^ self.old.round.bits }
@@ -115,7 +117,7 @@ impl<'r, A: Monoid, B: Monoid> Pass<'r, A, B> {
         outcome
     }
 
-    /// Takes a snapshot: one load of the root's word. It shows every change that the pass knows.
+    /// Takes a snapshot, by one load of the root's word. It shows every change that the pass knows.
     pub fn snapshot(&mut self) -> Snapshot
         ensures takes { TakesSnapshot self.old.knows self.new.knows (snapshot_cut self.new result.number) }
         ensures known { HasSnapshot self.new result.number }
@@ -149,14 +151,14 @@ impl<'r, A: Monoid, B: Monoid> Pass<'r, A, B> {
         }
     }
 
-    /// How many keys this pass put in. One that `put` replaced counts here and as a removal.
+    /// How many keys this pass put in. A weight that `put` replaced counts here and as a removal.
     pub fn inserts(&self) -> u32
         ensures { result ≡ inserts_of self.now.knows.accepted }
     {
         self.inserts
     }
 
-    /// How many keys this pass took out. One that `put` replaced counts here and as an insertion.
+    /// How many keys this pass took out. A weight that `put` replaced counts here and as an insertion.
     pub fn removals(&self) -> u32
         ensures { result ≡ removals_of self.now.knows.accepted }
     {

@@ -1,4 +1,4 @@
-//! The queries on a snapshot of a pass. None but `keys` and `pairs` takes memory.
+//! The queries on a snapshot of a pass. Only `keys` and `pairs` take memory.
 ghost use Rattle.std.specs.Prelude.{◌≡◌, ℕ, ◌+◌, ◌-◌, ◌*◌, ◌<◌, ◌≤◌, length, IfOk, vec_capacity};
 ghost use Rattle.aug_model.specs.Folds.{summary_of};
 ghost use Rattle.aug_model.specs.Keys.{is_member, list_of};
@@ -16,8 +16,8 @@ use aug_query::Calls;
 use std::alloc::{AllocError, Global};
 
 impl<'r, A: Monoid, B: Monoid> Pass<'r, A, B> {
-    /// The tree of a snapshot, for a query of one's own. Contracts know nothing of the pass once a view is gone that came from here: to use
-    /// the pass again, write the [`View`] out.
+    /// The tree of a snapshot, for a query of one's own. Once the view that this call gives is gone, contracts know
+    /// nothing of the pass. To use the pass again, write the [`View`] out.
     pub fn view<'p>(&'p mut self, s: Snapshot) -> View<'p, 'r, A, B>
         requires { HasSnapshot self.old s.number }
         ensures same_reference { result.pass.ghost_name ≡ self.entry.ghost_name }
@@ -47,7 +47,7 @@ impl<'r, A: Monoid, B: Monoid> Pass<'r, A, B> {
         view.has(k)
     }
 
-    /// What `k` weighs, if it is a member.
+    /// The weight of `k`, if it is a member.
     pub fn weight(&mut self, s: Snapshot, k: u32) -> Option<u32>
         requires { HasSnapshot self.old s.number }
         ensures answer { result ≡ weight_of (set_at self.old s).pairs k }
@@ -145,7 +145,7 @@ impl<'r, A: Monoid, B: Monoid> Pass<'r, A, B> {
         view.range(a, b)
     }
 
-    /// The members, rising. Room for all of them is made before the first is put in, and only that can be refused.
+    /// The members, rising. Room for all of them is made at the beginning, and only that can be refused.
     pub fn keys(&mut self, alloc: Global, s: Snapshot) -> Result<Vec<u32>, AllocError>
         requires { HasSnapshot self.old s.number }
         ensures answer { IfOk result (λ list. list.items ≡ list_of (set_at self.old s)) }
@@ -160,7 +160,7 @@ impl<'r, A: Monoid, B: Monoid> Pass<'r, A, B> {
         view.keys(alloc)
     }
 
-    /// The members with their weights, rising. Room for all of them is made before the first is put in, and only that can be refused.
+    /// The members with their weights, rising. Room for all of them is made at the beginning, and only that can be refused.
     pub fn pairs(&mut self, alloc: Global, s: Snapshot) -> Result<Vec<(u32, u32)>, AllocError>
         requires { HasSnapshot self.old s.number }
         ensures answer { IfOk result (λ list. list.items ≡ (set_at self.old s).pairs) }

@@ -18,7 +18,7 @@ use aug_words::{Words, WordsError};
 use std::alloc::Global;
 use std::marker::Model;
 
-/// A round: the table that the passes of its crew work on, until it is ended.
+/// A round: the table that the passes of its crew work on until the round ends.
 #[derive(Drop)]
 pub struct Round<A: Monoid, B: Monoid> {
     pub(crate) words: Words<A, B>,
@@ -37,7 +37,7 @@ impl<A: Monoid, B: Monoid> Model for Round<A, B> {
 }
 
 impl<A: Monoid, B: Monoid> Round<A, B> {
-    /// Begins a round over the set of a trie at rest, as `begin_wider` does, with the trie's own bits: those are never refused.
+    /// Begins a round as `begin_wider` does, with the trie's own bits. These are never refused.
     pub fn begin(
         alloc: Global,
         ended: Ended<A, B>,
@@ -62,10 +62,13 @@ impl<A: Monoid, B: Monoid> Round<A, B> {
         Round::begin_wider(alloc, ended, bits, workers, updates)
     }
 
-    /// Begins a round over the set of a trie at rest, each member with its weight, for keys of so many bits, which are at least the
-    /// trie's, for so many passes, each with so many updates. All memory of the round is taken here, and that of the round before
-    /// is given back. Refused, in this order, with `BadBits`, `Narrower`, `BadWorkers`, `BadUpdates` and `TooLarge`, as `Layout::new`
-    /// refuses these bits with the size of the set, and with `OutOfMemory`; after a refusal the same trie comes back, with its own bits.
+    /// Begins a round over the set of a trie at rest, each member with its weight. Keys are below `2^bits`, with at least
+    /// as many bits as the trie's. There may be `workers` passes, each with `updates` updates. All memory of the round
+    /// is taken here, and that of the round before is given back.
+    ///
+    /// Refused, in this order, with `BadBits`, `Narrower`, `BadWorkers`, `BadUpdates` and `TooLarge`, as `Layout::new`
+    /// refuses these numbers with the size of the set, and then with `OutOfMemory`. After a refusal the same trie comes
+    /// back, with its own bits.
     pub fn begin_wider(
         alloc: Global,
         ended: Ended<A, B>,
@@ -112,8 +115,8 @@ impl<A: Monoid, B: Monoid> Round<A, B> {
         }
     }
 
-    /// Ends the round, also where passes did not come back: the set is then that of the last version of the root that the
-    /// crew knows. It makes no step, takes no memory and has no refusal.
+    /// Ends the round, also if passes did not come back. The set is that of the last version of the root that the crew
+    /// knows. The call makes no step, takes no memory and has no refusal.
     pub fn end(self, crew: Crew<A, B>) -> Ended<A, B>
         requires together { crew.round ≡ self }
         ensures ends { Ends crew result }

@@ -1,6 +1,6 @@
 //! What a pass saw at one moment.
 
-/// A snapshot of a pass: the set as the root showed it at one moment. It stays what it is whatever the pass does later.
+/// A snapshot of a pass: the set as the root showed it at one moment. Nothing that the pass does later changes it.
 #[derive(Clone, Copy)]
 pub struct Snapshot {
     // The record that the root's word named.

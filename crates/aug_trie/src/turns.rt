@@ -19,8 +19,8 @@ use aug_monoid::Monoid;
 use aug_words::WordPass;
 use std::marker::Model;
 
-/// An update that is made turn by turn, each one atomic step. It holds its pass meanwhile. Dropped, it gives the pass up with its lane,
-/// which harms no other pass: its change may then be shown or not.
+/// An update that is made turn by turn, one atomic step each. It holds its pass meanwhile. If it is dropped, the pass is
+/// given up with its lane. That harms no other pass, and the change may be shown or not.
 #[derive(Drop)]
 pub struct Climb<'r, A: Monoid, B: Monoid> {
     pub(crate) words: WordPass<'r, A, B>,
@@ -47,12 +47,12 @@ impl<'r, A: Monoid, B: Monoid> Model for Climb<'r, A, B> {
     ghost invariant = { λ c. HoldsClimb (face A.parts B.parts) c.words.view c.leaves c.bits c.next c.left c.inserts c.removals c.key c.request c.stage };
 }
 
-/// What a turn leaves.
+/// The result of a turn.
 #[derive(Drop)]
 pub enum Turn<'r, A: Monoid, B: Monoid> {
     /// There is more to do.
     More(Climb<'r, A, B>),
-    /// The update is done: its pass, and what it came to, which is `Replaced` for a put alone.
+    /// The update is done: its pass, and its outcome. Only a put can be `Replaced`.
     Done(Pass<'r, A, B>, Outcome),
 }
 
@@ -167,7 +167,7 @@ impl<'r, A: Monoid, B: Monoid> Climb<'r, A, B> {
         }
     }
 
-    /// The most turns that are still to come: `30 * bits - 10` at the start, and at least 1.
+    /// How many turns there are still to come at most: `30 * bits - 10` at the start, and always at least 1.
     pub fn turns_left(&self) -> u32
         ensures turns { result ≡ self.now.left }
         ensures some { 1 ≤ result }

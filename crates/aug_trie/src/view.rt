@@ -16,15 +16,16 @@ use aug_monoid::Monoid;
 use aug_query::{Calls, Tree};
 use std::alloc::{AllocError, Global};
 
-/// The tree of a snapshot of a pass, which the pass walks. For a query of one's own over [`Tree`] write it out, as
-/// `View { pass: &mut pass, snapshot, calls: Calls::new() }`: then contracts know what became of the pass once the view is gone. What a query
-/// keeps of it is `KeepsPass`: at most four steps for each call of the tree, and nothing learnt.
+/// The tree of a snapshot of a pass, which the pass walks. For a query of one's own over [`Tree`], write it out as
+/// `View { pass: &mut pass, snapshot, calls: Calls::new() }`. Then contracts know what became of the pass once the view
+/// is gone. What a query keeps of the pass is `KeepsPass`: it makes at most four steps for each call of the tree, and
+/// learns nothing.
 pub struct View<'p, 'r, A: Monoid, B: Monoid> {
-    /// The pass, which is borrowed while the view is there.
+    /// The pass. It is borrowed as long as the view is there.
     pub pass: &'p mut Pass<'r, A, B>,
     /// A snapshot of this pass.
     pub snapshot: Snapshot,
-    /// How often the tree was called, which contracts alone know.
+    /// How often the tree was called. Only contracts read it.
     pub calls: Calls,
     pub ghost of_pass: { HasSnapshot pass.now snapshot.number },
 }

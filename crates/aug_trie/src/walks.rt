@@ -20,7 +20,7 @@ impl<'r, A: Monoid, B: Monoid> Pass<'r, A, B> {
         self.bits
     }
 
-    /// The top of the tree of a snapshot of this pass. At most four steps, as `left` and `right`.
+    /// The top of the tree of a snapshot of this pass. It makes at most four steps, and so do `left` and `right`.
     pub fn top(&mut self, s: &Snapshot) -> Node<A, B>
         requires { HasSnapshot self.old s.now.number }
         ensures node { HasNode (summary_of A.parts B.parts) self.new result }

@@ -81,7 +81,7 @@ fn around(
 fn day(rt: &impl Print, alloc: Global) -> anyhow::Result<Book>
     ensures { IfOk result (λ book. book.bits ≡ 10) }
 {
-    // For one pass with 32 updates. All memory is taken here, and where it is refused the book comes back.
+    // For one pass with 32 updates. All memory is taken here. If it is refused, the book comes back.
     let (round, mut crew) = match Round::begin(alloc, Ended::empty(alloc, 10)?, 1, 32) {
         Ok(begun) => begun,
         Err((_, cause)) => return Err(cause.into()),

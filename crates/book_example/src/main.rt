@@ -107,7 +107,7 @@ fn day<R: Threads + Sync>(rt: &R, alloc: Global) -> anyhow::Result<(Ended<Sum, E
     ensures all_back { IfOk result (λ r. r.0.missing ≡ 0) }
 {
     let empty = Ended::empty(alloc, 12)?;
-    // For three passes with 200 updates each. All memory is taken here, and where it is refused the book comes back.
+    // For three passes with 200 updates each. All memory is taken here. If it is refused, the book comes back.
     let (book, mut crew) = match Round::begin(alloc, empty, 3, 200) {
         Ok(begun) => begun,
         Err((_, cause)) => return Err(cause.into()),

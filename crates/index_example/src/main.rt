@@ -30,7 +30,7 @@ fn fill(
     let mut pass = round.pass(half);
     for key in 0..32 {
         if key % step == 0 {
-            // False where it is there already, as where the other thread was faster.
+            // False if the key is a member already, since the other thread was faster.
             pass.insert(key);
         }
     }
@@ -43,7 +43,7 @@ fn in_threads<R: Threads + Sync>(rt: &R, alloc: Global, index: Index) -> anyhow:
     ensures bits { IfOk result (λ new. new.bits ≡ 5) }
     ensures all_back { IfOk result (λ new. new.missing ≡ 0) }
 {
-    // For two passes with 32 updates each. All memory is taken here, and where it is refused the index comes back.
+    // For two passes with 32 updates each. All memory is taken here. If it is refused, the index comes back.
     let (round, mut crew) = match Round::begin(alloc, index, 2, 32) {
         Ok(begun) => begun,
         Err((_, cause)) => return Err(cause.into()),
@@ -57,7 +57,7 @@ fn in_threads<R: Threads + Sync>(rt: &R, alloc: Global, index: Index) -> anyhow:
     Ok(round.end(crew))
 }
 
-// A round of one pass, which stays where it is and so needs no half: it puts 1 in the place of 0.
+// A round of one pass, which stays in this thread and so needs no half. It takes 0 out and puts 1 in.
 fn alone(alloc: Global, index: Index) -> anyhow::Result<Index>
     requires { index.bits ≡ 5 }
     ensures all_back { IfOk result (λ new. new.missing ≡ 0) }

@@ -109,7 +109,7 @@ fn round<R: Threads + Sync>(rt: &R, alloc: Global) -> anyhow::Result<(Ended<Sum,
     ensures all_back { IfOk result (λ r. r.0.missing ≡ 0) }
 {
     let empty = Ended::empty(alloc, 10)?;
-    // For three passes with 300 updates each. All memory is taken here, and where it is refused the wheel comes back.
+    // For three passes with 300 updates each. All memory is taken here. If it is refused, the wheel comes back.
     let (wheel, mut crew) = match Round::begin(alloc, empty, 3, 300) {
         Ok(begun) => begun,
         Err((_, cause)) => return Err(cause.into()),

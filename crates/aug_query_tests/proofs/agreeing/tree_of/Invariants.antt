@@ -3,7 +3,7 @@ use Rattle.std.specs.List.{All}
 use Rattle.std.specs.List.Sorted.{IsStrictlyIncreasing}
 use Rattle.aug_model.specs.Keys.{keys_of}
 use Rattle.aug_monoid.specs.Weighted.{FitsPair}
-use Rattle.aug_query.proofs.tests.tree_of.Given as goal
+use Rattle.aug_query_tests.proofs.agreeing.tree_of.Given as goal
 
 abbrev pub invariant-loop-k : goal.invariant-loop-k
 invariant-loop-k l = record {

@@ -8,8 +8,8 @@ use Rattle.aug_model.specs.Keys.{IsKeySet, keys_of}
 use Rattle.aug_monoid.specs.Weighted.{FitsPair}
 use Rattle.aug_model.proofs.Pairs.{weight_fits}
 use Rattle.aug_query.proofs.Nodes.{wrapped_universe}
-use Rattle.aug_query.proofs.tests.tree_of.Goals as goal
-use Rattle.aug_query.proofs.tests.tree_of.Goals.{in-Some+in_ok-push, in_default}
+use Rattle.aug_query_tests.proofs.agreeing.tree_of.Goals as goal
+use Rattle.aug_query_tests.proofs.agreeing.tree_of.Goals.{in-Some+in_ok-push, in_default}
 
 -- rising numbers rise still with a greater one at their end
 rises_push : (xs : List ℕ) (k : ℕ) → IsStrictlyIncreasing xs → All (λ x. x < k) xs → IsStrictlyIncreasing (xs ++ k ∷ [])

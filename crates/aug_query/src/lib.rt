@@ -31,6 +31,3 @@ pub use neighbours::{after, before};
 pub use positions::select;
 pub use tree::Tree;
 pub use weights::weight;
-
-#[cfg(test)]
-mod tests;

@@ -21,8 +21,6 @@ mod row;
 mod script_error;
 mod script_round;
 mod sending;
-#[cfg(test)]
-mod tests;
 mod to_write;
 mod verb;
 

@@ -46,19 +46,3 @@ pub fn print<S: Sink>(alloc: Global, report: &Report, sink: &mut S) -> Result<()
         Err(Fault) => Err(PrintError::Output),
     }
 }
-
-#[cfg(test)]
-mod tests {
-    use crate::{Fault, PrintError};
-    use std::test::Fail;
-
-    #[test]
-    fn errors_say_what_is_wrong(rt: HostRuntime) -> Result<(), Fail> {
-        let alloc = rt.alloc();
-        let (output, memory) = (PrintError::Output, PrintError::OutOfMemory);
-        assert_eq!(rt; format!(in alloc; "{output}")?.as_str(), "output");
-        assert_eq!(rt; format!(in alloc; "{memory}")?.as_str(), "memory");
-        assert_eq!(rt; format!(in alloc; "{}", Fault)?.as_str(), "a device failed");
-        Ok(())
-    }
-}

@@ -85,22 +85,3 @@ impl From<AllocError> for ScriptError {
         ScriptError::OutOfMemory
     }
 }
-
-#[cfg(test)]
-mod tests {
-    use crate::ScriptError;
-    use std::test::Fail;
-
-    #[test]
-    fn shows_its_row_and_its_name(rt: HostRuntime) -> Result<(), Fail> {
-        for (fault, text) in [
-            (ScriptError::BadArity(12), "row 12: BadArity"),
-            (ScriptError::BadPlace(2), "row 2: BadPlace"),
-            (ScriptError::TooWide(1), "row 1: TooWide"),
-            (ScriptError::OutOfMemory, "memory"),
-        ] {
-            assert_eq!(rt; format!(in rt.alloc(); "{fault}")?.as_str(), text);
-        }
-        Ok(())
-    }
-}

@@ -33,29 +33,3 @@ fn write_pieces<W: Sink>(bytes: &[u8], sink: &mut W) -> Result<(), Fault>
     }
     Ok(())
 }
-
-#[cfg(test)]
-mod tests {
-    use super::send;
-    use crate::{Fault, MemorySink};
-
-    #[test]
-    fn gives_byte_by_byte_and_finishes_once(rt: HostRuntime) {
-        let mut sink = MemorySink::new(rt.alloc(), 1, None);
-        assert_eq!(rt; send(b"abc", &mut sink), Ok(()));
-        assert_eq!(rt; sink.out.as_slice(), b"abc".as_slice());
-        assert_eq!(rt; sink.calls, 4);
-        assert_eq!(rt; sink.finished, 1);
-    }
-
-    #[test]
-    fn stops_at_the_first_fault(rt: HostRuntime) {
-        for (fault_at, out) in [(0, ""), (2, "ab"), (3, "abc")] {
-            let mut sink = MemorySink::new(rt.alloc(), 1, Some(fault_at));
-            assert_eq!(rt; send(b"abc", &mut sink), Err(Fault), "at {fault_at}");
-            assert_eq!(rt; sink.out.as_slice(), out.as_bytes(), "at {fault_at}");
-            assert_eq!(rt; sink.calls, fault_at + 1);
-            assert_eq!(rt; sink.finished, 0);
-        }
-    }
-}

@@ -21,8 +21,6 @@ mod request;
 mod round;
 mod snapshot;
 mod stages;
-#[cfg(test)]
-mod tests;
 mod turns;
 mod updates;
 mod view;

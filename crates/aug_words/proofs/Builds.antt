@@ -15,9 +15,9 @@ use Rattle.aug_model.specs.Queries.{range_of, weight_in}
 use Rattle.aug_model.proofs.Membership.{is_member-iff_Contains}
 use Rattle.aug_model.proofs.Pairs.{key_at, length-keys_of, keys_of-range, weight_at_place, weight_fits, weight-none}
 use Rattle.aug_model.proofs.Ranges.{Rises, rises_from, all_below_from, count_few, range_le, range_of_key}
-use Rattle.aug_core.specs.Places.{Shape, shape_of, own_records, lane_place, record_start, word_count}
+use Rattle.aug_core.specs.Places.{Shape, own_records, lane_place, record_start, word_count}
 use Rattle.aug_core.specs.Tree.{place_count, IsInner, left_of, right_of, level_start, level_of, place_on}
-use Rattle.aug_core.specs.Lanes.{IsOfLane, block_start, block_size}
+use Rattle.aug_core.specs.Lanes.{block_start, block_size}
 use Rattle.aug_core.specs.Opening.{Opening, opening_leaf_word, members_below, pairs_below, has_members, own_before, number_at, opening_pairs, opening_number, opening_words, shared_words}
 use Rattle.aug_core.specs.Faces.{face}
 use Rattle.aug_core.proofs.FaceLemmas.{face_is}
@@ -418,12 +418,3 @@ pub built_opens : (face : ℕ → ℕ → List (ℕ × ℕ) → List ℕ) (o : O
 built_opens face o words set fit few built =
     opens face o words (rises o set) fit few built.long built.named (λ q k inner small. built.records q inner.past_leaves inner.inside k small) (λ level k low small. built.shared level low k small) built.idle built.lanes
     (λ lane low k small. built.blocks lane k low small ∙ sym (get_or-replicate (block_size o.shape) k 0 0 small))
-
--- ---- the tests' table: 2 bits, 3 workers, 2 updates and 2 members have 5 opening records
-
-own_of_small : own_records 2 2 2 ≡ 3
-unfolding own_records
-own_of_small = refl
-
-pub small_lane : (s : Shape) → s ≡ shape_of 2 3 2 2 → (lane n : ℕ) → 5 + lane * 4 ≤ n → n < 9 + lane * 4 → IsOfLane s lane n
-small_lane s e lane n low high = subst (λ (z : Shape). IsOfLane z lane n) (sym e) (let own = own_of_small in record { from_first = omega arith; below_next = omega arith })

@@ -1,0 +1,9 @@
+//! The tests of `aug_query`: its queries by examples, and beside the plain set.
+#![tactic(auto)]
+
+#[cfg(test)]
+mod agreeing;
+#[cfg(test)]
+mod examples;
+#[cfg(test)]
+mod last;

@@ -1,5 +1,0 @@
-use Rattle.std.proofs.Common.{refl}
-use Rattle.aug_trie.proofs.tests.turning.last.Goals as goal
-
-pub returns : goal.returns
-returns c = (c.in-Done.ensures.done c.in-Done.pass c.in-Done.outcome refl).goes_on.1.round

@@ -1,5 +1,0 @@
-use Rattle.std.proofs.Common.{refl, ◌∙◌}
-use Rattle.aug_trie.proofs.tests.turning.turns.Goals as goal
-
-pub loop-preserved : goal.loop-preserved
-loop-preserved c = (c.in-More.ensures.more c.in-More.next refl).start ∙ c.loop.invariant

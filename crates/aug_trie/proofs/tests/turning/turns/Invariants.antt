@@ -1,5 +1,0 @@
-use Rattle.std.proofs.Common.{◌≡◌}
-use Rattle.aug_trie.proofs.tests.turning.turns.Given as goal
-
-abbrev pub invariant-loop : goal.invariant-loop
-invariant-loop l = l.climb.start ≡ l.fn.climb.start

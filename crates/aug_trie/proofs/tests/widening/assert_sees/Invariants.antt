@@ -1,6 +1,0 @@
-use Rattle.std.proofs.Common.{◌≡◌}
-use Rattle.aug_trie.specs.Facts.{HasSnapshot}
-use Rattle.aug_trie.proofs.tests.widening.assert_sees.Given as goal
-
-abbrev pub invariant-loop-k : goal.invariant-loop-k
-invariant-loop-k g l = (l.pass.round ≡ l.initial.pass.round) × HasSnapshot l.pass l.s.number

@@ -1,0 +1,5 @@
+use Rattle.std.proofs.Common.{refl}
+use Rattle.aug_trie_tests.proofs.turning.last.Goals as goal
+
+pub returns : goal.returns
+returns c = (c.in-Done.ensures.done c.in-Done.pass c.in-Done.outcome refl).goes_on.1.round

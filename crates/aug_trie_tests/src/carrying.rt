@@ -1,0 +1,136 @@
+//! Weights that go from a round to the trie at rest, and from there to the next round.
+ghost use Rattle.std.specs.Prelude.{◌≡◌, IfOk};
+
+use super::ending::{counts, next_round};
+use super::putting::seen_weight;
+use super::rounds::{Hands, Table, Trie, insert, next_pass, opened, put, remove};
+use aug_model::Outcome;
+use aug_monoid::{Extent, Sum};
+use aug_query::{pairs, range, weight};
+use aug_trie::{BeginError, Pass, Round};
+use std::alloc::{AllocError, Global};
+use std::process::Abort;
+
+// A trie of 4 bits with the members 5, which weighs 70, and 9, which weighs 2^32 - 1.
+pub(super) fn heavy(alloc: Global) -> Result<Trie, BeginError> {
+    let (round, mut crew) = opened(alloc, 4, 1, 4)?;
+    if let Ok(mut pass) = next_pass(&mut crew, &round) {
+        put(&mut pass, 4, 9, u32::MAX);
+        put(&mut pass, 4, 5, 6);
+        put(&mut pass, 4, 5, 70);
+        crew.back(pass);
+    }
+    Ok(round.end(crew))
+}
+
+// Asks such a trie what its members weigh.
+pub(super) fn assert_weights(rt: &impl Abort, alloc: Global, ended: &mut Trie) {
+    assert_eq!(rt;
+        (weight(ended, 5), weight(ended, 9)),
+        (Some(70), Some(u32::MAX))
+    );
+    assert_eq!(rt; (weight(ended, 6), weight(ended, 16)), (None, None));
+    let whole = range(ended, 0, 16);
+    assert_eq!(rt; (whole.count, whole.a.value()), (2, 4_294_967_365));
+    let list = pairs(alloc, ended).expect(rt, "memory");
+    assert_eq!(rt; list.as_slice(), [(5, 70), (9, u32::MAX)].as_slice());
+    assert_eq!(rt; counts(ended), (3, 1, 0));
+}
+
+#[test]
+fn the_next_round_has_the_weights(rt: HostRuntime) -> Result<(), BeginError> {
+    let mut ended = heavy(rt.alloc())?;
+    assert_weights(&rt, rt.alloc(), &mut ended);
+    let (round, mut crew) = next_round(rt.alloc(), ended, 2, 1)?;
+    let mut first = next_pass(&mut crew, &round).expect(&rt, "lane 0");
+    let mut second = next_pass(&mut crew, &round).expect(&rt, "lane 1");
+    let snapshot = first.snapshot();
+    let list = first.pairs(rt.alloc(), snapshot).expect(&rt, "memory");
+    assert_eq!(rt; list.as_slice(), [(5, 70), (9, u32::MAX)].as_slice());
+    assert_eq!(rt;
+        (seen_weight(&mut second, 5), seen_weight(&mut second, 4)),
+        (Some(70), None)
+    );
+    Ok(())
+}
+
+// The pairs of a trie at rest, and what is counted of the round that ended it.
+fn rest(alloc: Global, ended: &mut Trie) -> Result<(Vec<(u32, u32)>, (u32, u32, u32)), AllocError> {
+    let list = pairs(alloc, ended)?;
+    Ok((list, counts(ended)))
+}
+
+#[test]
+fn weights_change_in_the_next_round(rt: HostRuntime) -> Result<(), BeginError> {
+    let ended = heavy(rt.alloc())?;
+    assert!(rt; ended.bits() == 4);
+    let (round, mut crew) = next_round(rt.alloc(), ended, 2, 2)?;
+    let mut first = next_pass(&mut crew, &round).expect(&rt, "lane 0");
+    let mut second = next_pass(&mut crew, &round).expect(&rt, "lane 1");
+    assert!(rt; !insert(&mut second, 4, 5));
+    assert_eq!(rt; put(&mut second, 4, 9, 0), Outcome::Replaced);
+    assert!(rt; remove(&mut first, 4, 5));
+    assert!(rt; insert(&mut first, 4, 12));
+    crew.back(first);
+    crew.back(second);
+    let mut ended = round.end(crew);
+    let (list, counted) = rest(rt.alloc(), &mut ended).expect(&rt, "memory");
+    assert_eq!(rt; list.as_slice(), [(9, 0), (12, 12)].as_slice());
+    assert_eq!(rt; counted, (2, 2, 0));
+    let (round, crew) = next_round(rt.alloc(), ended, 1, 1)?;
+    let mut ended = round.end(crew);
+    let (list, counted) = rest(rt.alloc(), &mut ended).expect(&rt, "memory");
+    assert_eq!(rt; list.as_slice(), [(9, 0), (12, 12)].as_slice());
+    assert_eq!(rt; counted, (0, 0, 0));
+    Ok(())
+}
+
+// A round of one update, which is asked for again where memory was refused: the trie that came back has its weights then.
+fn begun(rt: &impl Abort, alloc: Global, ended: Trie) -> Result<(Table, Hands), BeginError>
+    ensures together { IfOk result (λ t. t.1.round ≡ t.0) }
+{
+    let mut ended = match Round::begin(alloc, ended, 1, 1) {
+        Ok(begun) => return Ok(begun),
+        Err((ended, cause)) => {
+            assert_eq!(rt; cause, BeginError::OutOfMemory);
+            ended
+        }
+    };
+    assert_weights(rt, alloc, &mut ended);
+    next_round(alloc, ended, 1, 1)
+}
+
+// All pairs of a new snapshot, which are asked for again where memory was refused.
+fn listed(alloc: Global, pass: &mut Pass<Sum, Extent>) -> Result<Vec<(u32, u32)>, AllocError>
+    ensures round { pass.new.round ≡ pass.old.round }
+{
+    let snapshot = pass.snapshot();
+    match pass.pairs(alloc, snapshot) {
+        Ok(list) => Ok(list),
+        Err(_) => pass.pairs(alloc, snapshot),
+    }
+}
+
+// Passes whichever request for memory is refused.
+#[test]
+fn refused_memory_leaves_the_weights(rt: HostRuntime) -> Result<(), BeginError> {
+    let ended = match heavy(rt.alloc()) {
+        Ok(ended) => ended,
+        Err(cause) => {
+            assert_eq!(rt; cause, BeginError::OutOfMemory);
+            heavy(rt.alloc())?
+        }
+    };
+    let (round, mut crew) = begun(&rt, rt.alloc(), ended)?;
+    let mut pass = next_pass(&mut crew, &round).expect(&rt, "lane 0");
+    let list = listed(rt.alloc(), &mut pass).expect(&rt, "memory");
+    assert_eq!(rt; list.as_slice(), [(5, 70), (9, u32::MAX)].as_slice());
+    assert_eq!(rt; seen_weight(&mut pass, 9), Some(u32::MAX));
+    crew.back(pass);
+    let mut ended = round.end(crew);
+    assert_eq!(rt;
+        (weight(&mut ended, 5), weight(&mut ended, 9)),
+        (Some(70), Some(u32::MAX))
+    );
+    Ok(())
+}

@@ -1,0 +1,134 @@
+//! Copies of snapshots, nodes and refusals: each is used as what it is a copy of. And the texts of refusals for programmers.
+ghost use Rattle.std.specs.Prelude.{◌≡◌, ◌<◌};
+ghost use Rattle.aug_trie.specs.Facts.{HasSnapshot};
+
+use super::rounds::{Trie, next_pass, opened, put};
+use aug_model::Summary;
+use aug_monoid::{Extent, Sum};
+use aug_query::Tree;
+use aug_trie::{BeginError, CrewError, Node, Pass, Snapshot};
+use std::alloc::AllocError;
+use std::process::Abort;
+
+// How many members a snapshot shows, what 1 and 2 weigh in it, and their sum.
+type Shown = (u32, Option<u32>, Option<u32>, u64);
+
+// What a snapshot of 2 bits shows.
+fn shown(pass: &mut Pass<Sum, Extent>, s: Snapshot) -> Shown
+    requires snapshot { HasSnapshot pass.old s.number }
+    ensures snapshot { HasSnapshot pass.new s.number }
+    ensures round { pass.new.round ≡ pass.old.round }
+    ensures spent { pass.new.spent ≡ pass.old.spent }
+{
+    let sum = pass.range(s, 0, 4).a.value();
+    (pass.size(s), pass.weight(s, 1), pass.weight(s, 2), sum)
+}
+
+// What a snapshot and a clone of it show, the clone asked first and last, with a put of 2 in between.
+fn cloned(rt: &impl Abort, pass: &mut Pass<Sum, Extent>) -> [Shown; 4]
+    requires bits { pass.old.round.bits ≡ 2 }
+    requires budget { pass.old.spent < pass.old.round.updates }
+    ensures round { pass.new.round ≡ pass.old.round }
+{
+    let snapshot = pass.snapshot();
+    let clone = snapshot.clone().expect(rt, "a clone");
+    let first = shown(pass, clone);
+    let second = shown(pass, snapshot);
+    pass.put(2, 8);
+    let third = shown(pass, snapshot);
+    [first, second, third, shown(pass, clone)]
+}
+
+#[test]
+fn a_clone_of_a_snapshot_answers_as_the_snapshot(rt: HostRuntime) -> Result<(), BeginError> {
+    let (round, mut crew) = opened(rt.alloc(), 2, 1, 2)?;
+    let mut pass = next_pass(&mut crew, &round).expect(&rt, "a lane");
+    put(&mut pass, 2, 1, 70);
+    assert!(rt; pass.budget() > 0);
+    for shown in cloned(&rt, &mut pass) {
+        assert_eq!(rt; shown, (1, Some(70), None, 70));
+    }
+    Ok(())
+}
+
+// Where a node stands, and what it covers.
+type Stand = (u32, u32, Summary<Sum, Extent>);
+
+fn stand(node: &Node<Sum, Extent>) -> Stand {
+    (node.level(), node.place(), node.summary())
+}
+
+// Where the top of a new snapshot of 2 bits stands and its clone, and then the right child of the clone.
+fn clones_of_top(rt: &impl Abort, pass: &mut Pass<Sum, Extent>) -> (Stand, Stand, Stand)
+    requires bits { pass.old.round.bits ≡ 2 }
+    ensures round { pass.new.round ≡ pass.old.round }
+{
+    let snapshot = pass.snapshot();
+    let top = pass.top(&snapshot);
+    let clone = top.clone().expect(rt, "a clone");
+    let right = pass.right(&clone);
+    (stand(&clone), stand(&top), stand(&right))
+}
+
+#[test]
+fn a_clone_of_a_node_leads_where_the_node_does(rt: HostRuntime) -> Result<(), BeginError> {
+    let (round, mut crew) = opened(rt.alloc(), 2, 1, 2)?;
+    let mut pass = next_pass(&mut crew, &round).expect(&rt, "a lane");
+    put(&mut pass, 2, 1, 70);
+    put(&mut pass, 2, 3, 9);
+    let (clone, top, right) = clones_of_top(&rt, &mut pass);
+    assert_eq!(rt; clone, top);
+    let (level, place, summary) = clone;
+    assert_eq!(rt;
+        (level, place, summary.count, summary.a.value()),
+        (2, 0, 2, 79)
+    );
+    assert_eq!(rt; summary.b.bounds(), Some((1, 3)));
+    let (level, place, summary) = right;
+    assert_eq!(rt;
+        (level, place, summary.count, summary.a.value()),
+        (1, 1, 1, 9)
+    );
+    Ok(())
+}
+
+#[test]
+fn a_clone_of_a_node_at_rest_stands_where_the_node_does(rt: HostRuntime) -> Result<(), BeginError> {
+    let (round, mut crew) = opened(rt.alloc(), 1, 1, 2)?;
+    let mut pass = next_pass(&mut crew, &round).expect(&rt, "a lane");
+    put(&mut pass, 1, 0, 70);
+    put(&mut pass, 1, 1, 9);
+    crew.back(pass);
+    let mut ended = round.end(crew);
+    assert!(rt; ended.bits() == 1);
+    let top = ended.top();
+    let clone = top.clone().expect(&rt, "a clone");
+    assert_eq!(rt; (Trie::level(&clone), Trie::place(&clone)), (1, 0));
+    assert_eq!(rt; Trie::summary(&clone), Trie::summary(&top));
+    assert_eq!(rt; Trie::summary(&clone).a.value(), 79);
+    Ok(())
+}
+
+#[test]
+fn a_clone_of_a_refusal_is_the_refusal(rt: HostRuntime) -> Result<(), AllocError> {
+    for (cause, text) in [
+        (BeginError::BadWorkers, "BadWorkers"),
+        (BeginError::BadUpdates, "BadUpdates"),
+        (BeginError::TooLarge, "TooLarge"),
+        (BeginError::OutOfMemory, "OutOfMemory"),
+        (BeginError::BadBits, "BadBits"),
+        (BeginError::Narrower, "Narrower"),
+    ] {
+        let clone = cause.clone()?;
+        assert_eq!(rt; clone, cause);
+        let printed = format!(in rt.alloc(); "{clone} {clone:?}")?;
+        assert_eq!(rt;
+            printed.as_str(),
+            format!(in rt.alloc(); "{text} {text}")?.as_str()
+        );
+    }
+    let clone = CrewError::NoLane.clone()?;
+    let printed = format!(in rt.alloc(); "{clone} {clone:?}")?;
+    assert_eq!(rt; printed.as_str(), "NoLane NoLane");
+    Ok(())
+}

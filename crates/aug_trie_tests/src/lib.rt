@@ -1,0 +1,39 @@
+//! The tests of `aug_trie`: what no clause says, as that rounds begin and passes get on with their updates, also in threads of their own.
+#![tactic(auto)]
+
+#[cfg(test)]
+mod beginning;
+#[cfg(test)]
+mod carrying;
+#[cfg(test)]
+mod copying;
+#[cfg(test)]
+mod crowds;
+#[cfg(test)]
+mod ending;
+#[cfg(test)]
+mod filling;
+#[cfg(test)]
+mod latest;
+#[cfg(test)]
+mod looking;
+#[cfg(test)]
+mod putting;
+#[cfg(test)]
+mod refused;
+#[cfg(test)]
+mod replacing;
+#[cfg(test)]
+mod requests;
+#[cfg(test)]
+mod rounds;
+#[cfg(test)]
+mod scripts;
+#[cfg(test)]
+mod sweeping;
+#[cfg(test)]
+mod turning;
+#[cfg(test)]
+mod widening;
+#[cfg(test)]
+mod working;

@@ -1,0 +1,197 @@
+//! Puts: keys that come in with a weight of their own, and members that get another one.
+ghost use Rattle.std.specs.Prelude.{◌≡◌, ◌+◌, ◌<◌};
+ghost use Rattle.aug_trie.specs.Facts.{HasSnapshot};
+
+use super::ending::{counts, next_round, seen_size};
+use super::rounds::{insert, next_pass, opened, put, remove};
+use aug_model::Outcome;
+use aug_monoid::{Extent, Sum};
+use aug_query::range;
+use aug_trie::{BeginError, Pass, Snapshot};
+
+// What a key weighs in a new snapshot of the pass.
+pub(super) fn seen_weight(pass: &mut Pass<Sum, Extent>, key: u32) -> Option<u32>
+    ensures round { pass.new.round ≡ pass.old.round }
+{
+    let snapshot = pass.snapshot();
+    pass.weight(snapshot, key)
+}
+
+// A put of the same weight replaces too.
+#[test]
+fn a_put_is_accepted_for_an_absent_key_and_replaces_a_member(
+    rt: HostRuntime,
+) -> Result<(), BeginError> {
+    let (round, mut crew) = opened(rt.alloc(), 2, 1, 4)?;
+    let mut pass = next_pass(&mut crew, &round).expect(&rt, "a lane");
+    assert_eq!(rt; seen_weight(&mut pass, 3), None);
+    assert_eq!(rt; put(&mut pass, 2, 3, 7), Outcome::Accepted);
+    assert_eq!(rt; seen_weight(&mut pass, 3), Some(7));
+    assert_eq!(rt; (pass.inserts(), pass.removals()), (1, 0));
+    assert_eq!(rt; put(&mut pass, 2, 3, 9), Outcome::Replaced);
+    assert_eq!(rt; seen_weight(&mut pass, 3), Some(9));
+    assert_eq!(rt; (pass.inserts(), pass.removals()), (2, 1));
+    assert_eq!(rt; put(&mut pass, 2, 3, 9), Outcome::Replaced);
+    assert_eq!(rt; seen_weight(&mut pass, 3), Some(9));
+    assert_eq!(rt; (pass.inserts(), pass.removals()), (3, 2));
+    assert_eq!(rt; put(&mut pass, 2, 1, 9), Outcome::Accepted);
+    assert_eq!(rt; (seen_size(&mut pass), pass.budget()), (2, 0));
+    crew.back(pass);
+    let ended = round.end(crew);
+    assert_eq!(rt; (ended.size(), counts(&ended)), (2, (4, 2, 0)));
+    Ok(())
+}
+
+// The weights 0, 1 and 2^32 - 1 are weights as others.
+#[test]
+fn each_weight_comes_back(rt: HostRuntime) -> Result<(), BeginError> {
+    for weight in [0, 1, 2, u32::MAX - 1, u32::MAX] {
+        let (round, mut crew) = opened(rt.alloc(), 1, 1, 2)?;
+        let mut pass = next_pass(&mut crew, &round).expect(&rt, "a lane");
+        assert_eq!(rt; put(&mut pass, 1, 0, u32::MAX - weight), Outcome::Accepted);
+        assert_eq!(rt; put(&mut pass, 1, 0, weight), Outcome::Replaced);
+        let snapshot = pass.snapshot();
+        let summary = pass.range(snapshot, 0, 2);
+        assert_eq!(rt; (summary.count, summary.a.value()), (1, u64::from(weight)));
+        let list = pass.pairs(rt.alloc(), snapshot).expect(&rt, "memory");
+        assert_eq!(rt; list.as_slice(), [(0, weight)].as_slice());
+        assert_eq!(rt; seen_weight(&mut pass, 0), Some(weight));
+    }
+    Ok(())
+}
+
+#[test]
+fn an_insertion_weighs_its_key_and_changes_no_weight(rt: HostRuntime) -> Result<(), BeginError> {
+    let (round, mut crew) = opened(rt.alloc(), 3, 1, 5)?;
+    let mut pass = next_pass(&mut crew, &round).expect(&rt, "a lane");
+    assert!(rt; insert(&mut pass, 3, 6));
+    assert_eq!(rt; seen_weight(&mut pass, 6), Some(6));
+    assert_eq!(rt; put(&mut pass, 3, 6, 40), Outcome::Replaced);
+    assert!(rt; !insert(&mut pass, 3, 6));
+    assert_eq!(rt; seen_weight(&mut pass, 6), Some(40));
+    assert!(rt; remove(&mut pass, 3, 6));
+    assert_eq!(rt; seen_weight(&mut pass, 6), None);
+    assert!(rt; insert(&mut pass, 3, 6));
+    assert_eq!(rt; seen_weight(&mut pass, 6), Some(6));
+    assert_eq!(rt; (pass.inserts(), pass.removals(), pass.budget()), (3, 2, 0));
+    Ok(())
+}
+
+// What 1 weighs in a snapshot, what a put of another weight then comes to, and what 1 weighs after it in the same snapshot and in a new one.
+fn around_a_put(
+    pass: &mut Pass<Sum, Extent>,
+    weight: u32,
+) -> (Option<u32>, Outcome, Option<u32>, Option<u32>)
+    requires bits { pass.old.round.bits ≡ 2 }
+    requires budget { pass.old.spent < pass.old.round.updates }
+    ensures round { pass.new.round ≡ pass.old.round }
+    ensures spent { pass.new.spent ≡ pass.old.spent + 1 }
+{
+    let early = pass.snapshot();
+    let before = pass.weight(early, 1);
+    let outcome = pass.put(1, weight);
+    let after = pass.weight(early, 1);
+    let late = pass.snapshot();
+    (before, outcome, after, pass.weight(late, 1))
+}
+
+#[test]
+fn a_snapshot_keeps_the_weight_that_it_showed(rt: HostRuntime) -> Result<(), BeginError> {
+    let (round, mut crew) = opened(rt.alloc(), 2, 1, 2)?;
+    let mut pass = next_pass(&mut crew, &round).expect(&rt, "a lane");
+    assert_eq!(rt;
+        around_a_put(&mut pass, 5),
+        (None, Outcome::Accepted, None, Some(5))
+    );
+    assert_eq!(rt;
+        around_a_put(&mut pass, 6),
+        (Some(5), Outcome::Replaced, Some(5), Some(6))
+    );
+    Ok(())
+}
+
+// What a key weighs in a snapshot taken before, and in a new one.
+fn looked(pass: &mut Pass<Sum, Extent>, held: Snapshot, key: u32) -> (Option<u32>, Option<u32>)
+    requires { HasSnapshot pass.old held.number }
+    ensures snapshot { HasSnapshot pass.new held.number }
+    ensures round { pass.new.round ≡ pass.old.round }
+{
+    let new = pass.snapshot();
+    (pass.weight(held, key), pass.weight(new, key))
+}
+
+// Whether a pass that held a snapshot in which 1 weighs 1,000 sees each of a hundred replacements by another pass, and none in that snapshot.
+fn sees_replacements(a: &mut Pass<Sum, Extent>, held: Snapshot, b: &mut Pass<Sum, Extent>) -> bool
+    requires snapshot { HasSnapshot a.old held.number }
+    requires bits { b.old.round.bits ≡ 2 }
+    ensures a { a.new.round ≡ a.old.round }
+    ensures b { b.new.round ≡ b.old.round }
+{
+    for weight in 0..100 {
+        let outcome = put(b, 2, 1, weight);
+        let seen = looked(a, held, 1);
+        if outcome != Outcome::Replaced || seen != (Some(1_000), Some(weight)) {
+            return false;
+        }
+    }
+    true
+}
+
+#[test]
+fn a_pass_that_looks_never_misses_a_key_that_another_replaces(
+    rt: HostRuntime,
+) -> Result<(), BeginError> {
+    let (round, mut crew) = opened(rt.alloc(), 2, 2, 101)?;
+    let mut a = next_pass(&mut crew, &round).expect(&rt, "lane 0");
+    let mut b = next_pass(&mut crew, &round).expect(&rt, "lane 1");
+    assert_eq!(rt; put(&mut b, 2, 1, 1_000), Outcome::Accepted);
+    let held = a.snapshot();
+    assert!(rt; sees_replacements(&mut a, held, &mut b));
+    crew.back(a);
+    crew.back(b);
+    let ended = round.end(crew);
+    assert_eq!(rt; (ended.size(), counts(&ended)), (1, (101, 100, 0)));
+    Ok(())
+}
+
+// Puts every key of 16 bits in with the greatest weight, where updates are left.
+fn put_all(pass: &mut Pass<Sum, Extent>)
+    requires bits { pass.old.round.bits ≡ 16 }
+    ensures round { pass.new.round ≡ pass.old.round }
+{
+    for key in 0..65_536 {
+        put(pass, 16, key, u32::MAX);
+    }
+}
+
+// The count and the sum of all keys in a new snapshot of the pass.
+fn seen_sum(pass: &mut Pass<Sum, Extent>) -> (u32, u64)
+    ensures round { pass.new.round ≡ pass.old.round }
+{
+    let snapshot = pass.snapshot();
+    let whole = pass.range(snapshot, 0, 65_536);
+    (whole.count, whole.a.value())
+}
+
+// The sum is 2^48 - 2^16.
+#[test]
+fn all_keys_of_16_bits_may_have_the_greatest_weight(rt: HostRuntime) -> Result<(), BeginError> {
+    let (round, mut crew) = opened(rt.alloc(), 16, 1, 65_536)?;
+    let mut pass = next_pass(&mut crew, &round).expect(&rt, "a lane");
+    put_all(&mut pass);
+    assert_eq!(rt; seen_sum(&mut pass), (65_536, 281_474_976_645_120));
+    crew.back(pass);
+    let mut ended = round.end(crew);
+    let whole = range(&mut ended, 0, 65_536);
+    assert_eq!(rt;
+        (whole.count, whole.a.value()),
+        (65_536, 281_474_976_645_120)
+    );
+    assert_eq!(rt; whole.b.bounds(), Some((0, 65_535)));
+    let (round, mut crew) = next_round(rt.alloc(), ended, 1, 1)?;
+    let mut pass = next_pass(&mut crew, &round).expect(&rt, "lane 0");
+    assert_eq!(rt; seen_sum(&mut pass), (65_536, 281_474_976_645_120));
+    assert_eq!(rt; put(&mut pass, 16, 65_535, 0), Outcome::Replaced);
+    assert_eq!(rt; seen_sum(&mut pass), (65_536, 281_470_681_677_825));
+    Ok(())
+}

@@ -1,0 +1,122 @@
+//! Rounds that are refused, for want of memory or for their numbers: the trie that comes back answers as before, and a later call
+//! begins a round.
+ghost use Rattle.std.specs.Prelude.{◌≡◌, IfOk};
+
+use super::rounds::{Hands, Table, Trie, insert, next_pass, opened};
+use aug_monoid::{Extent, Sum};
+use aug_query::{after, before, has, keys, range, rank, select, size};
+use aug_trie::{BeginError, Pass, Round};
+use std::alloc::{AllocError, Global};
+use std::process::Abort;
+
+// A trie of 16 bits with the members 5 and 9.
+fn five_and_nine(alloc: Global) -> Result<Trie, BeginError> {
+    let (round, mut crew) = opened(alloc, 16, 1, 2)?;
+    if let Ok(mut pass) = next_pass(&mut crew, &round) {
+        insert(&mut pass, 16, 9);
+        insert(&mut pass, 16, 5);
+        crew.back(pass);
+    }
+    Ok(round.end(crew))
+}
+
+// Asks such a trie every query.
+fn assert_answers(rt: &impl Abort, alloc: Global, ended: &mut Trie) {
+    assert_eq!(rt; (has(ended, 5), has(ended, 6)), (true, false));
+    assert_eq!(rt; (rank(ended, 9), size(ended)), (1, 2));
+    assert_eq!(rt; (select(ended, 1), select(ended, 2)), (Some(9), None));
+    assert_eq!(rt; (before(ended, 9), after(ended, 9)), (Some(5), None));
+    let whole = range(ended, 0, 65_536);
+    assert_eq!(rt;
+        (whole.count, whole.a.value(), whole.b.bounds()),
+        (2, 14, Some((5, 9)))
+    );
+    let list = keys(alloc, ended).expect(rt, "memory");
+    assert_eq!(rt; list.as_slice(), [5, 9].as_slice());
+    assert_eq!(rt; (ended.bits(), ended.size()), (16, 2));
+    assert_eq!(rt;
+        (ended.inserts(), ended.removals(), ended.missing()),
+        (2, 0, 0)
+    );
+}
+
+// A round of one update, which is asked for again where memory was refused.
+fn begun(rt: &impl Abort, alloc: Global, ended: Trie) -> Result<(Table, Hands), BeginError>
+    ensures together { IfOk result (λ t. t.1.round ≡ t.0) }
+{
+    let mut ended = match Round::begin(alloc, ended, 1, 1) {
+        Ok(begun) => return Ok(begun),
+        Err((ended, cause)) => {
+            assert_eq!(rt; cause, BeginError::OutOfMemory);
+            ended
+        }
+    };
+    assert_answers(rt, alloc, &mut ended);
+    match Round::begin(alloc, ended, 1, 1) {
+        Ok(begun) => Ok(begun),
+        Err((_, cause)) => Err(cause),
+    }
+}
+
+// All keys of a new snapshot, which are asked for again where memory was refused.
+fn listed(alloc: Global, pass: &mut Pass<Sum, Extent>) -> Result<Vec<u32>, AllocError> {
+    let snapshot = pass.snapshot();
+    match pass.keys(alloc, snapshot) {
+        Ok(list) => Ok(list),
+        Err(_) => pass.keys(alloc, snapshot),
+    }
+}
+
+// Passes whichever request for memory is refused.
+#[test]
+fn refused_memory_leaves_every_answer(rt: HostRuntime) -> Result<(), BeginError> {
+    let ended = match five_and_nine(rt.alloc()) {
+        Ok(ended) => ended,
+        Err(cause) => {
+            assert_eq!(rt; cause, BeginError::OutOfMemory);
+            five_and_nine(rt.alloc())?
+        }
+    };
+    let (round, mut crew) = begun(&rt, rt.alloc(), ended)?;
+    let mut pass = next_pass(&mut crew, &round).expect(&rt, "lane 0");
+    let list = listed(rt.alloc(), &mut pass).expect(&rt, "memory");
+    assert_eq!(rt; list.as_slice(), [5, 9].as_slice());
+    let snapshot = pass.snapshot();
+    assert_eq!(rt;
+        (pass.rank(snapshot, 65_536), pass.select(snapshot, 0)),
+        (2, Some(5))
+    );
+    Ok(())
+}
+
+// The trie that comes back where these numbers are refused.
+fn given_back(
+    rt: &impl Abort,
+    alloc: Global,
+    ended: Trie,
+    numbers: (u32, u32),
+    cause: BeginError,
+) -> Trie {
+    match Round::begin(alloc, ended, numbers.0, numbers.1) {
+        Ok(_) => panic!(rt; "{} workers, {} updates", numbers.0, numbers.1),
+        Err((ended, refused)) => {
+            assert_eq!(rt; refused, cause);
+            ended
+        }
+    }
+}
+
+#[test]
+fn numbers_that_are_refused_leave_every_answer(rt: HostRuntime) -> Result<(), BeginError> {
+    let mut ended = five_and_nine(rt.alloc())?;
+    for (numbers, cause) in [
+        ((0, 0), BeginError::BadWorkers),
+        ((1, 0), BeginError::BadUpdates),
+        ((64, 65_536), BeginError::TooLarge),
+    ] {
+        ended = given_back(&rt, rt.alloc(), ended, numbers, cause);
+        assert_answers(&rt, rt.alloc(), &mut ended);
+    }
+    begun(&rt, rt.alloc(), ended)?;
+    Ok(())
+}

@@ -1,6 +1,0 @@
-use Rattle.std.proofs.Common.{arith}
-use Rattle.aug_words.proofs.StepTests.{first_lane}
-use Rattle.aug_words.proofs.tests.steps.race.Goals as goal
-
-pub next_pass-first-requires-clause-number : goal.next_pass-first-requires-clause-number
-next_pass-first-requires-clause-number c = first_lane 0 1 (omega arith) (omega arith)

@@ -1,0 +1,3 @@
+mod StepTests
+mod OpeningTests
+mod LaneTests

@@ -1,0 +1,17 @@
+//! The tests of `aug_words`: what no clause says, as that tables open and that passes in threads of their own get on with them.
+#![tactic(auto)]
+
+#[cfg(test)]
+mod opening;
+#[cfg(test)]
+mod replacing;
+#[cfg(test)]
+mod requests;
+#[cfg(test)]
+mod steps;
+#[cfg(test)]
+mod sweeping;
+#[cfg(test)]
+mod tables;
+#[cfg(test)]
+mod working;

@@ -1,0 +1,29 @@
+//! How often tables ask for memory. The number stands in a test's name: `tests/requests.py` counts. A table is opened with three
+//! requests, for its words while they are made and for its two rows, one of which is empty. Nothing else asks.
+use super::tables::small;
+use super::working::{Filled, next_half, work};
+use aug_words::WordsError;
+
+#[test]
+fn a_table_that_is_opened_and_closed_asks_3_times_for_memory(
+    rt: HostRuntime,
+) -> Result<(), WordsError> {
+    let (words, lead) = small(rt.alloc())?;
+    let rest = words.close(lead);
+    assert_eq!(rt; (rest.leaf(0), rest.leaf(3)), (4_294_967_296, 0));
+    Ok(())
+}
+
+#[test]
+fn a_table_that_passes_work_on_asks_3_times_for_memory(rt: HostRuntime) -> Result<(), WordsError> {
+    let (words, mut lead) = small(rt.alloc())?;
+    let first = next_half(&mut lead, &words, 0, 5);
+    let second = next_half(&mut lead, &words, 1, 9);
+    let Filled { half, words: one } = work(&words, first, 5, 10);
+    lead.join(words.pass(half));
+    let Filled { half, words: two } = work(&words, second, 9, 20);
+    lead.join(words.pass(half));
+    assert_eq!(rt; one, [10, 11, 12, 13, 14]);
+    assert_eq!(rt; two, [20, 21, 22, 23, 24]);
+    Ok(())
+}

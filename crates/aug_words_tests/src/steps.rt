@@ -1,0 +1,175 @@
+//! The steps of two passes on one node, driven one by one.
+ghost use Rattle.std.specs.Prelude.{◌≡◌, ◌<◌, ◌+◌, ◌/◌, ◌%◌, ◌^◌, ◌==◌, if◌then◌else◌, ◌++◌, ◌∷◌, [], ℕ, List, Some, false};
+ghost use Rattle.aug_core.specs.Faces.{face};
+ghost use Rattle.aug_core.specs.Lanes.{IsOfLane};
+ghost use Rattle.aug_core.specs.Places.{shape_of};
+ghost use Rattle.aug_core.specs.Told.{MayStore, MayChange, IsFilled};
+ghost use Rattle.aug_words.specs.Seats.{AreTogether};
+
+use super::tables::record_at;
+use aug_core::{Layout, RecordField};
+use aug_monoid::{Extent, Monoid, Sum, fold_slice};
+use aug_words::{Lead, WordPass, Words, WordsError};
+use std::alloc::Global;
+
+// The word of the one node.
+const NODE: usize = 2;
+
+// What one serial adds to a leaf's word.
+const SERIAL: u64 = 1 << 32;
+
+// The first two steps of an insertion: the leaf is loaded, and if its key is not there, its serial goes up by one, if it is
+// still what was loaded. The key weighs its own number.
+fn insert<A: Monoid, B: Monoid>(pass: &mut WordPass<'_, A, B>, leaf: usize) -> bool
+    requires shape { pass.old.view.shape ≡ shape_of 1 2 1 0 }
+    requires leaf { leaf < 2 }
+    requires room { MayChange pass.old.view }
+    ensures same { (pass.new.table ≡ pass.old.table) × (pass.new.view.shape ≡ pass.old.view.shape) }
+    ensures own { (number : ℕ) → MayStore pass.old.view number → MayStore pass.new.view number }
+{
+    let word = pass.begin_at_leaf(leaf);
+    let serial = word / SERIAL;
+    serial % 2 == 0 && pass.try_leaf(leaf, word, (serial + 1) * SERIAL + leaf as u64)
+}
+
+// The five words of a record over the leaves of the keys 0 and 1, by their words.
+fn words_over<A: Monoid, B: Monoid>(left: u64, right: u64) -> [u64; 5]
+    ensures { let there : ℕ → ℕ → List (ℕ × ℕ) = λ key word. if word / 2 ^ 32 % 2 == 1 then (key, word % 2 ^ 32) ∷ [] else [] in
+        result ≡ face A.parts B.parts left right (there 0 left ++ there 1 right) }
+{
+    let low = (0, (left % SERIAL) as u32);
+    let high = (1, (right % SERIAL) as u32);
+    match (left / SERIAL % 2 == 1, right / SERIAL % 2 == 1) {
+        (false, false) => words_of::<A, B>(left, right, &[]),
+        (true, false) => words_of::<A, B>(left, right, &[low]),
+        (false, true) => words_of::<A, B>(left, right, &[high]),
+        (true, true) => words_of::<A, B>(left, right, &[low, high]),
+    }
+}
+
+// The five words of a record over children of these words, with these pairs below.
+fn words_of<A: Monoid, B: Monoid>(left: u64, right: u64, pairs: &[(u32, u32)]) -> [u64; 5]
+    ensures { result ≡ face A.parts B.parts left right pairs.now }
+{
+    let a: A = fold_slice(pairs);
+    let b: B = fold_slice(pairs);
+    [left, right, pairs.len() as u64, a.to_word(), b.to_word()]
+}
+
+// Loads the node and then its two leaves, and fills the own record from them. Answers the number that was loaded.
+fn refill<A: Monoid, B: Monoid>(pass: &mut WordPass<'_, A, B>, number: u64) -> u64
+    requires shape { pass.old.view.shape ≡ shape_of 1 2 1 0 }
+    requires own { MayStore pass.old.view number }
+    ensures same { (pass.new.table ≡ pass.old.table) × (pass.new.view.shape ≡ pass.old.view.shape) }
+    ensures own { MayStore pass.new.view number }
+    ensures filled { IsFilled (face A.parts B.parts) pass.new.view 2 result number }
+{
+    let from = pass.load_node(NODE);
+    let left = pass.load_leaf(0);
+    let right = pass.load_leaf(1);
+    pass.lane();
+    let five = words_over::<A, B>(left, right);
+    pass.store_record_word(number, RecordField::Left, five[0]);
+    pass.store_record_word(number, RecordField::Right, five[1]);
+    pass.store_record_word(number, RecordField::Count, five[2]);
+    pass.store_record_word(number, RecordField::A, five[3]);
+    pass.store_record_word(number, RecordField::B, five[4]);
+    from
+}
+
+// An exchange of the node's word to the own record, which was filled for it.
+fn publish<A: Monoid, B: Monoid>(pass: &mut WordPass<'_, A, B>, from: u64, number: u64) -> bool
+    requires shape { pass.old.view.shape ≡ shape_of 1 2 1 0 }
+    requires own { MayStore pass.old.view number }
+    requires filled { IsFilled (face A.parts B.parts) pass.old.view 2 from number }
+    ensures same { (pass.new.table ≡ pass.old.table) × (pass.new.view.shape ≡ pass.old.view.shape) }
+    ensures own { result ≡ false → MayStore pass.new.view number }
+{
+    pass.try_node(NODE, from, number)
+}
+
+// The pass of the next lane, which has this record and may make a change.
+fn next_pass<'r, A: Monoid, B: Monoid>(
+    lead: &mut Lead<A, B>,
+    words: &'r Words<A, B>,
+    lane: u32,
+    number: u64,
+) -> WordPass<'r, A, B>
+    requires together { AreTogether words.now lead.old }
+    requires shape { lead.old.view.shape ≡ shape_of 1 2 1 0 }
+    requires lane { (lead.old.view.spare ≡ Some lane) × (lane < 2) }
+    requires number { IsOfLane (shape_of 1 2 1 0) lane number }
+    ensures together { AreTogether words.now lead.new }
+    ensures lead { lead.new.view.spare ≡ Some (lane + 1) }
+    ensures table { result.table ≡ lead.new.table }
+    ensures shape { result.view.shape ≡ shape_of 1 2 1 0 }
+    ensures own { MayStore result.view number }
+    ensures change { MayChange result.view }
+{
+    lead.split(words)
+}
+
+// What two passes did, and what the words at rest say of it.
+#[derive(Drop, Debug, PartialEq, Eq)]
+struct Outcome {
+    lanes: [u32; 2],
+    handed: u32,
+    inserted: [bool; 2],
+    loaded: [u64; 3],
+    published: [bool; 3],
+    leaves: [u64; 2],
+    node: u64,
+    records: [[u64; 5]; 2],
+}
+
+// Two passes put a key in each, load the node and its leaves, and fill a record each. The first publishes its own; the
+// second finds the node changed, loads it again with its leaves, fills its record again and publishes it.
+fn race(alloc: Global) -> Result<Outcome, WordsError> {
+    let Ok(layout) = Layout::new(1, 2, 1, 0) else {
+        return Err(WordsError::OutOfMemory)
+    };
+    let (words, mut lead) = Words::<Sum, Extent>::open(alloc, &layout, &[])?;
+    let mut first = next_pass(&mut lead, &words, 0, 1);
+    let mut second = next_pass(&mut lead, &words, 1, 2);
+    let lanes = [first.lane(), second.lane()];
+    let handed = lead.handed();
+    let inserted = [insert(&mut first, 0), insert(&mut second, 1)];
+    let of_first = refill(&mut first, 1);
+    let of_second = refill(&mut second, 2);
+    let first_done = publish(&mut first, of_first, 1);
+    let second_done = publish(&mut second, of_second, 2);
+    if second_done {
+        return Err(WordsError::OutOfMemory);
+    }
+    let of_again = refill(&mut second, 2);
+    let again_done = publish(&mut second, of_again, 2);
+    lead.join(first);
+    lead.join(second);
+    let rest = words.close(lead);
+    Ok(Outcome {
+        lanes,
+        handed,
+        inserted,
+        loaded: [of_first, of_second, of_again],
+        published: [first_done, second_done, again_done],
+        leaves: [rest.leaf(0), rest.leaf(1)],
+        node: rest.node(1, 0),
+        records: [record_at(&rest, 1), record_at(&rest, 2)],
+    })
+}
+
+#[test]
+fn a_record_is_filled_again_after_a_lost_exchange(rt: HostRuntime) -> Result<(), WordsError> {
+    let expected = Outcome {
+        lanes: [0, 1],
+        handed: 2,
+        inserted: [true, true],
+        loaded: [0, 0, 1],
+        published: [true, false, true],
+        leaves: [4_294_967_296, 4_294_967_297],
+        node: 2,
+        records: [[4_294_967_296, 4_294_967_297, 2, 1, 1]; 2],
+    };
+    assert_eq!(rt; race(rt.alloc())?, expected);
+    Ok(())
+}

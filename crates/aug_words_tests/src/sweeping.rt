@@ -1,0 +1,100 @@
+//! Tables of all small numbers of bits, members, workers and updates, and of some great ones. Memory is at hand, so that each opens, and
+//! its leaves show its members.
+ghost use Rattle.std.specs.Prelude.{◌≡◌, ◌-◌, ◌^◌, ◌≤◌, IfOk};
+ghost use Rattle.aug_core.specs.Places.{shape_of};
+
+use super::opening::keys_from;
+use aug_core::Layout;
+use aug_monoid::{Extent, Sum};
+use aug_words::{Rest, Words, WordsError};
+use std::alloc::Global;
+use std::process::Abort;
+
+// The words of a table of so many bits, workers and updates that was opened with so many of the greatest keys, each of which weighs what
+// it is.
+fn opened(
+    rt: &impl Abort,
+    alloc: Global,
+    bits: u32,
+    members: u32,
+    workers: u32,
+    updates: u32,
+) -> Result<Rest, WordsError>
+    requires bits { bits ≤ 16 }
+    requires members { members ≤ 2 ^ bits }
+    ensures { IfOk result (λ rest. rest.shape ≡ shape_of bits workers updates members) }
+{
+    let keys = keys_from(alloc, bits, (1 << bits) - members)?;
+    let layout = Layout::new(bits, workers, updates, members).expect(rt, "a layout");
+    let (words, lead) = Words::<Sum, Extent>::open(alloc, &layout, keys.as_slice())?;
+    Ok(words.close(lead))
+}
+
+// Opens such a table, and reads all its leaves.
+fn assert_opens(
+    rt: &impl Abort,
+    alloc: Global,
+    bits: u32,
+    members: u32,
+    workers: u32,
+    updates: u32,
+) -> Result<(), WordsError>
+    requires bits { bits ≤ 16 }
+    requires members { members ≤ 2 ^ bits }
+{
+    let rest = opened(rt, alloc, bits, members, workers, updates)?;
+    let first = (1 << bits) - members;
+    for key in 0..1 << bits {
+        let word = if key < first {
+            0
+        } else {
+            4_294_967_296 + u64::from(key)
+        };
+        assert_eq!(rt; rest.leaf(key), word, "leaf {key} of {bits} bits");
+    }
+    Ok(())
+}
+
+#[test]
+fn a_table_opens_with_each_number_of_members(rt: HostRuntime) -> Result<(), WordsError> {
+    for bits in 1..=10 {
+        for members in 0..=300 {
+            if members <= 1 << bits {
+                assert_opens(&rt, rt.alloc(), bits, members, 1, 1)?;
+            }
+        }
+    }
+    Ok(())
+}
+
+#[test]
+fn a_table_opens_with_many_members(rt: HostRuntime) -> Result<(), WordsError> {
+    for bits in 11..=16 {
+        for members in [0, 1, 100, 255, 256, 257, 1_000, 2_047, 2_048] {
+            assert!(rt; members <= 1 << bits);
+            assert_opens(&rt, rt.alloc(), bits, members, 1, 1)?;
+        }
+    }
+    for members in [4_096, 10_000, 32_768, 65_535, 65_536] {
+        assert!(rt; members <= 65_536);
+        assert_opens(&rt, rt.alloc(), 16, members, 1, 1)?;
+    }
+    Ok(())
+}
+
+#[test]
+fn a_table_opens_for_each_number_of_workers_and_of_updates(
+    rt: HostRuntime,
+) -> Result<(), WordsError> {
+    for workers in 1..=64 {
+        assert_opens(&rt, rt.alloc(), 3, 5, workers, 1)?;
+    }
+    for updates in 1..=300 {
+        assert_opens(&rt, rt.alloc(), 3, 5, 1, updates)?;
+        assert_opens(&rt, rt.alloc(), 3, 5, 1 + 7 * updates % 64, updates)?;
+    }
+    for updates in [999, 1_000, 4_096, 10_000, 65_535, 65_536] {
+        assert_opens(&rt, rt.alloc(), 3, 5, 5, updates)?;
+    }
+    Ok(())
+}

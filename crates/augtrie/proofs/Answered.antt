@@ -2,7 +2,7 @@
 use Rattle.std.proofs.Common.{List, [], ◌∷◌, ◌++◌, refl, ap, ◌∙◌}
 use Rattle.std.proofs.lemmas.List.{map-append}
 use Rattle.aug_report.specs.AllowedReport.{Lane, Answers, AnswersAll}
-use Rattle.augtrie.specs.Workers.{AnswersRows}
+use Rattle.augtrie.specs.inside.Workers.{AnswersRows}
 use Rattle.aug_script.specs.declared.reply.Reply.{Reply}
 use Rattle.aug_script.specs.declared.row.Row.{Row}
 

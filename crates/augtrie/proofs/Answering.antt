@@ -7,7 +7,7 @@ use Rattle.aug_trie.specs.Nodes.{Keeps, Stays, set_at}
 use Rattle.aug_trie.specs.Updates.{AcceptedUpdate, RefusedUpdate, PutsIn}
 use Rattle.aug_trie.specs.declared.snapshot.Snapshot.{Snapshot}
 use Rattle.aug_report.specs.AllowedReport.{AnswersUpdate, AnswersPut, Asks, reply_to_put}
-use Rattle.augtrie.specs.Workers.{lane_of}
+use Rattle.augtrie.specs.inside.Workers.{lane_of}
 use Rattle.aug_script.specs.declared.reply.Reply.{Reply}
 
 module _ {A B : Type 0} (summary_of : List (ℕ × ℕ) → Summary A B) (old new : PassFacts) (s : Snapshot) (has : HasSnapshot old s.number) where

@@ -8,9 +8,9 @@ use Rattle.aug_trie.specs.Facts.{RoundFacts}
 use Rattle.aug_trie.specs.Knowledge.{Knowledge}
 use Rattle.aug_trie.specs.Passes.{HandedBack}
 use Rattle.aug_report.specs.AllowedReport.{Lane, AnswersAll, lines_of}
-use Rattle.augtrie.specs.Returns.{AreAnswered, AreInOrder, RanLanes, WentBack}
-use Rattle.augtrie.specs.Rounds.{BacksAll}
-use Rattle.augtrie.specs.Workers.{RunsTo, opening_of, rows_of}
+use Rattle.augtrie.specs.inside.Returns.{AreAnswered, AreInOrder, RanLanes, WentBack}
+use Rattle.augtrie.specs.inside.Rounds.{BacksAll}
+use Rattle.augtrie.specs.inside.Workers.{RunsTo, opening_of, rows_of}
 use Rattle.aug_script.specs.declared.reply.Reply.{Reply}
 use Rattle.aug_script.specs.declared.row.Row.{Row}
 

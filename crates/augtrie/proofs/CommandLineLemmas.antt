@@ -27,7 +27,8 @@ use Rattle.clap.proofs.OnLiterals.{clap_on_literals}
 use Rattle.clap.proofs.SimpleLemmas.{ready_simple, simple_groups}
 use Rattle.clap.proofs.WalkLemmas.{one_text-rows}
 use Rattle.augtrie.proofs.OptionReads.{IsOwn, TakesOne, option_reads}
-use Rattle.augtrie.specs.CommandLine.{IsStopFor, FindsNumber, FindsNumbers, bits_rule, file_rule, number_of, number_rule, program, updates_rule, workers_rule}
+use Rattle.augtrie.specs.CommandLine.{IsStopFor, bits_rule, file_rule, number_of, number_rule, program, updates_rule, workers_rule}
+use Rattle.augtrie.specs.inside.FoundNumbers.{FindsNumber, FindsNumbers}
 
 pub program_is_simple : is_simple program ≡ true
 unfolding clap_on_literals

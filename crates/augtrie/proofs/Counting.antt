@@ -5,7 +5,7 @@ use Rattle.std.proofs.lemmas.List.{length-set, length-replicate, length-take-le,
 use Rattle.std.proofs.lemmas.List.Elements.{All-get_or}
 use Rattle.std.proofs.lemmas.List.Filters.{length-filter_more}
 use Rattle.aug_trie.proofs.Counting.{filter_shorter}
-use Rattle.augtrie.specs.Workers.{AreCounted}
+use Rattle.augtrie.specs.inside.Workers.{AreCounted}
 use Rattle.aug_script.specs.declared.row.Row.{Row}
 use Rattle.augtrie.proofs.Working.{no_row}
 

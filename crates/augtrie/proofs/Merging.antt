@@ -5,8 +5,8 @@ use Rattle.std.proofs.lemmas.Bool.{cases_eq, eq-eqb, ne_eqb}
 use Rattle.std.proofs.lemmas.List.{append-nil, map-append, length-map, length-append, length-set, get_or-set_same, get_or-set_other}
 use Rattle.std.proofs.lemmas.List.Elements.{All-get_or, filter-append}
 use Rattle.aug_report.specs.AllowedReport.{lines_of}
-use Rattle.augtrie.specs.Returns.{AreAnswered, AreInOrder}
-use Rattle.augtrie.specs.Workers.{rows_of}
+use Rattle.augtrie.specs.inside.Returns.{AreAnswered, AreInOrder}
+use Rattle.augtrie.specs.inside.Workers.{rows_of}
 use Rattle.aug_script.specs.declared.reply.Reply.{Reply}
 use Rattle.aug_script.specs.declared.row.Row.{Row}
 use Rattle.augtrie.proofs.Backs.{lines_rows}

@@ -5,7 +5,7 @@ use Rattle.aug_trie.specs.Crews.{CrewFacts, EndedFacts, Ends}
 use Rattle.aug_trie.specs.Facts.{RoundFacts}
 use Rattle.aug_report.specs.AllowedReport.{AllowedReport}
 use Rattle.aug_report.specs.InTurn.{IsInTurn}
-use Rattle.augtrie.specs.Returns.{RanLanes}
+use Rattle.augtrie.specs.inside.Returns.{RanLanes}
 use Rattle.aug_script.specs.declared.report.Report.{Report}
 use Rattle.aug_script.specs.declared.row.Row.{Row}
 use Rattle.aug_report.proofs.OneLane.{of_lines, one_lane_in_turn}

@@ -6,7 +6,7 @@ use Rattle.aug_trie.specs.Facts.{RoundFacts, PassFacts, HasSnapshot}
 use Rattle.aug_trie.specs.declared.snapshot.Snapshot.{Snapshot}
 use Rattle.aug_report.specs.AllowedReport.{Lane, Answers}
 use Rattle.aug_script.specs.Script.{is_update, updates_of}
-use Rattle.augtrie.specs.Workers.{AnswersRows, lane_of, rows_of}
+use Rattle.augtrie.specs.inside.Workers.{AnswersRows, lane_of, rows_of}
 use Rattle.aug_script.specs.declared.reply.Reply.{Reply}
 use Rattle.aug_script.specs.declared.row.Row.{Row}
 use Rattle.aug_script.specs.declared.verb.Verb.TheVariants as verb

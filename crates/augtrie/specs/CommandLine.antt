@@ -1,12 +1,11 @@
 -- The command line, as the crate `clap` reads it.
 use Rattle.std.specs.Prelude.{◌≡◌, ◌≢◌, ◌^◌, ℕ, pos, true, List, [], ◌∷◌, ⊤, Option, Some, None, option_map, string_bytes, codes}
 use Rattle.std.specs.Str.Parse.{digits_value, without_leading_plus}
-use Rattle.clap.specs.Words.{App, IsAmong, IsSignedIn, Kinds, Row, Rule, Text, fault_of, first_of, matches_of, new_app, new_rule, one_of, one_text, with_rule, without_minus}
+use Rattle.clap.specs.Words.{App, IsAmong, Kinds, Row, Rule, Text, fault_of, first_of, matches_of, new_app, new_rule, one_of, with_rule}
 use Rattle.clap.specs.declared.builder.action.ArgAction.TheVariants.{Set}
 use Rattle.clap.specs.declared.builder.value_parser.ValueParser.TheVariants.{Signed}
 use Rattle.clap.specs.declared.error.kind.ErrorKind.{ErrorKind}
 use Rattle.clap.specs.declared.error.kind.ErrorKind.TheVariants.{DisplayHelp}
-use Rattle.clap.specs.declared.parser.matches.Found.{Found}
 use Rattle.aug_core.specs.Layout.{IsRefused}
 use Rattle.aug_core.specs.Places.{shape_of}
 use Rattle.aug_core.specs.declared.layout.LayoutError.TheVariants.{TooLarge}
@@ -87,15 +86,3 @@ pub record IsUsual (options : Options) : Type 0 where
   pub workers : options.limits.workers ≡ 1
   pub updates : options.limits.updates ≡ 64
   pub file : options.file ≡ None
-
--- a number from 1 to `most` was found for the option of this name
-pub record FindsNumber (found : Found) (name : Text) (most : ℕ) : Type 0 where
-  pub text : Text
-  pub read : one_text found name ≡ Some (without_minus text)
-  pub in_range : IsSignedIn (pos 1) (pos most) text
-
--- a number was found for each option that takes one
-pub record FindsNumbers (found : Found) : Type 0 where
-  pub bits : FindsNumber found (codes "bits") 16
-  pub workers : FindsNumber found (codes "workers") 64
-  pub updates : FindsNumber found (codes "updates") 65536

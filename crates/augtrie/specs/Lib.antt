@@ -2,7 +2,4 @@ pub mod CommandLine
 pub mod Faults
 pub mod Program
 pub mod Runs
-pub mod Returns
-pub mod Rounds
-pub mod Threads
-pub mod Workers
+pub mod inside

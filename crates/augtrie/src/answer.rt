@@ -3,7 +3,7 @@ ghost use Rattle.std.specs.Prelude.{◌≡◌, ◌+◌, ◌<◌, IsTrue, if◌th
 ghost use Rattle.aug_trie.specs.Facts.{HasSnapshot};
 ghost use Rattle.aug_report.specs.AllowedReport.{Answers, reply_to_put};
 ghost use Rattle.aug_script.specs.Script.{is_in_bounds, is_update};
-ghost use Rattle.augtrie.specs.Workers.{lane_of};
+ghost use Rattle.augtrie.specs.inside.Workers.{lane_of};
 
 use crate::trie::Hand;
 use aug_model::Outcome;

@@ -1,7 +1,8 @@
 //! The command line, `[--bits H] [--workers W] [--updates U] [FILE]`.
 ghost use Rattle.std.specs.Prelude.{◌≡◌, ◌≢◌, ◌⊎◌, false, IfOk, IfErr, OnErr, OnOk, [], ◌∷◌, codes, map, option_map, string_bytes};
 ghost use Rattle.clap.specs.Words.{FailsBy, app_of, first_of, found_of, kind_of, matches_of, rows_of, rule_of};
-ghost use Rattle.augtrie.specs.CommandLine.{AsksFor, AsksTooMuch, FindsNumbers, IsReadFrom, IsStopFor, IsUsual, bits_rule, faults_of, file_rule, program, updates_rule, workers_rule};
+ghost use Rattle.augtrie.specs.CommandLine.{AsksFor, AsksTooMuch, IsReadFrom, IsStopFor, IsUsual, bits_rule, faults_of, file_rule, program, updates_rule, workers_rule};
+ghost use Rattle.augtrie.specs.inside.FoundNumbers.{FindsNumbers};
 
 use crate::options::Options;
 use crate::stop::Stop;

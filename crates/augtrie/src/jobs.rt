@@ -1,7 +1,7 @@
 //! What each worker begins with.
 ghost use Rattle.std.specs.Prelude.{◌≡◌, ℕ, ◌<◌, [], ◌∷◌, length, All, slice_index, vec_len, IfOk};
 ghost use Rattle.aug_trie.specs.History.{Begins};
-ghost use Rattle.augtrie.specs.Workers.{opening_of, AllReady, AreCounted};
+ghost use Rattle.augtrie.specs.inside.Workers.{opening_of, AllReady, AreCounted};
 
 use crate::trie::{Hands, Table};
 use crate::work::Job;

@@ -1,8 +1,8 @@
 //! All passes back at the crew, and the replies in the order of the script.
 ghost use Rattle.std.specs.Prelude.{◌≡◌, ◌+◌, ◌≤◌, [], length, map, vec_len, vec_capacity};
 ghost use Rattle.std.specs.Vec.Iter.{into_iter_items};
-ghost use Rattle.augtrie.specs.Returns.{AreAnswered, AreInOrder, WentBack};
-ghost use Rattle.augtrie.specs.Workers.{AllDone};
+ghost use Rattle.augtrie.specs.inside.Returns.{AreAnswered, AreInOrder, WentBack};
+ghost use Rattle.augtrie.specs.inside.Workers.{AllDone};
 
 use crate::trie::{Hands, Table};
 use crate::work::Done;

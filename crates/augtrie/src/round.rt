@@ -4,10 +4,10 @@ ghost use Rattle.aug_model.specs.Keys.{IsKeySet, keys_of};
 ghost use Rattle.aug_trie.specs.Crews.{BeginsRound};
 ghost use Rattle.aug_report.specs.AllowedReport.{AllowedReport, IsReportOf};
 ghost use Rattle.aug_report.specs.InTurn.{IsInTurn};
-ghost use Rattle.augtrie.specs.Returns.{HasBegun, RanLanes};
+ghost use Rattle.augtrie.specs.inside.Returns.{HasBegun, RanLanes};
 ghost use Rattle.aug_script.specs.Limits.{IsBounds, bounds_at};
 ghost use Rattle.aug_script.specs.Script.{KeepsLimits};
-ghost use Rattle.augtrie.specs.Workers.{bounds_of};
+ghost use Rattle.augtrie.specs.inside.Workers.{bounds_of};
 ghost use Rattle.augtrie.specs.declared.run_error.RunError.{RunError};
 
 use crate::gate::Gate;

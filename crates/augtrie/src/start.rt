@@ -1,8 +1,8 @@
 //! Starts the thread of one lane.
 ghost use Rattle.std.specs.Prelude.{◌≡◌, ◌≤◌, [], length, vec_capacity, IfOk};
 ghost use Rattle.aug_script.specs.Script.{KeepsLimits};
-ghost use Rattle.augtrie.specs.Rounds.{WasHandedOut};
-ghost use Rattle.augtrie.specs.Workers.{bounds_of, opening_of, rows_of, IsDone};
+ghost use Rattle.augtrie.specs.inside.Rounds.{WasHandedOut};
+ghost use Rattle.augtrie.specs.inside.Workers.{bounds_of, opening_of, rows_of, IsDone};
 
 use crate::gate::Gate;
 use crate::trie::Table;

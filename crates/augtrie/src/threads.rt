@@ -1,8 +1,8 @@
 //! All lanes at the same time, each in a thread of its own.
 ghost use Rattle.std.specs.Prelude.{◌≡◌, ◌≤◌, vec_len, vec_capacity, IfOk};
 ghost use Rattle.aug_script.specs.Script.{KeepsLimits};
-ghost use Rattle.augtrie.specs.Threads.{AllPromised};
-ghost use Rattle.augtrie.specs.Workers.{bounds_of, AllReady, AllDone};
+ghost use Rattle.augtrie.specs.inside.Threads.{AllPromised};
+ghost use Rattle.augtrie.specs.inside.Workers.{bounds_of, AllReady, AllDone};
 
 use crate::gate::Gate;
 use crate::start::{LaneOf, start};

@@ -1,8 +1,8 @@
 //! What one worker does.
 ghost use Rattle.std.specs.Prelude.{◌≡◌, ◌≤◌, [], length, vec_capacity};
 ghost use Rattle.aug_script.specs.Script.{KeepsLimits};
-ghost use Rattle.augtrie.specs.Rounds.{WasHandedOut};
-ghost use Rattle.augtrie.specs.Workers.{bounds_of, opening_of, rows_of, IsDone};
+ghost use Rattle.augtrie.specs.inside.Rounds.{WasHandedOut};
+ghost use Rattle.augtrie.specs.inside.Workers.{bounds_of, opening_of, rows_of, IsDone};
 
 use crate::answer::answer;
 use crate::gate::Gate;

@@ -1,5 +1,5 @@
 use Rattle.std.specs.Prelude.{length, take}
-use Rattle.augtrie.specs.Workers.{AreCounted}
+use Rattle.augtrie.specs.inside.Workers.{AreCounted}
 use Rattle.augtrie.proofs.jobs.count_rows.Given as goal
 
 abbrev pub invariant-loop-row : goal.invariant-loop-row

@@ -2,7 +2,7 @@ use Rattle.std.proofs.Common.{◌≡◌, ◌+◌, ◌∙◌, refl, ap, vec_len, 
 use Rattle.std.proofs.lemmas.List.{get_or_read}
 use Rattle.aug_trie.specs.Facts.{PassFacts}
 use Rattle.aug_trie.proofs.Pieces.{begins_on}
-use Rattle.augtrie.specs.Workers.{IsReady, opening_of}
+use Rattle.augtrie.specs.inside.Workers.{IsReady, opening_of}
 use Rattle.augtrie.specs.declared.work.Job.{Job}
 use Rattle.augtrie.proofs.Passing.{push_one}
 use Rattle.augtrie.proofs.jobs.jobs.Goals as goal

@@ -1,6 +1,6 @@
 use Rattle.std.specs.Prelude.{◌≡◌, ℕ, ◌<◌, [], ◌∷◌, get_or, vec_len}
 use Rattle.aug_trie.specs.History.{Begins}
-use Rattle.augtrie.specs.Workers.{IsReady, opening_of}
+use Rattle.augtrie.specs.inside.Workers.{IsReady, opening_of}
 use Rattle.augtrie.proofs.jobs.jobs.Given as goal
 
 abbrev pub invariant-loop-lane : goal.invariant-loop-lane

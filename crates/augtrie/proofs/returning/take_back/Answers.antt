@@ -1,6 +1,6 @@
 use Rattle.std.proofs.Common.{◌≡◌, ◌+◌, ◌<◌, ◌∙◌, sym, vec_len, rules, arith}
 use Rattle.std.specs.Vec.Iter.{into_iter_items, into_iter_len}
-use Rattle.augtrie.specs.Workers.{IsDone}
+use Rattle.augtrie.specs.inside.Workers.{IsDone}
 use Rattle.augtrie.proofs.Passing.{head_of, tail_of}
 use Rattle.augtrie.proofs.Backs.{went_none, went_on}
 use Rattle.augtrie.proofs.returning.take_back.Goals as goal

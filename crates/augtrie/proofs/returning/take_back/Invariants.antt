@@ -1,7 +1,7 @@
 use Rattle.std.specs.Prelude.{◌≡◌, ℕ, ◌+◌, ◌<◌, ◌≤◌, get_or, map, vec_len, vec_capacity}
 use Rattle.std.specs.Vec.Iter.{into_iter_items, into_iter_len}
-use Rattle.augtrie.specs.Returns.{WentBack}
-use Rattle.augtrie.specs.Workers.{IsDone}
+use Rattle.augtrie.specs.inside.Returns.{WentBack}
+use Rattle.augtrie.specs.inside.Workers.{IsDone}
 use Rattle.augtrie.proofs.returning.take_back.Given as goal
 
 abbrev pub invariant-loop-one : goal.invariant-loop-one

@@ -1,6 +1,6 @@
 use Rattle.std.proofs.Common.{◌≡◌, ◌+◌, vec_len, rules, arith}
-use Rattle.augtrie.specs.Threads.{Owes}
-use Rattle.augtrie.specs.Workers.{IsDone}
+use Rattle.augtrie.specs.inside.Threads.{Owes}
+use Rattle.augtrie.specs.inside.Workers.{IsDone}
 use Rattle.augtrie.proofs.Passing.{head_of, tail_of, push_one, owed}
 use Rattle.augtrie.proofs.threads.join_all.Goals as goal
 

@@ -1,7 +1,7 @@
 use Rattle.std.specs.Prelude.{◌≡◌, ℕ, ◌+◌, ◌<◌, ◌≤◌, get_or, vec_items, vec_len, vec_capacity}
 use Rattle.std.specs.Vec.Iter.{into_iter_items, into_iter_len}
-use Rattle.augtrie.specs.Threads.{Owes}
-use Rattle.augtrie.specs.Workers.{IsDone}
+use Rattle.augtrie.specs.inside.Threads.{Owes}
+use Rattle.augtrie.specs.inside.Workers.{IsDone}
 use Rattle.augtrie.proofs.threads.join_all.Given as goal
 
 abbrev pub invariant-loop-child : goal.invariant-loop-child

@@ -1,6 +1,6 @@
 use Rattle.std.proofs.Common.{◌≡◌, ◌+◌, ◌∙◌, vec_len, rules, arith}
-use Rattle.augtrie.specs.Threads.{Owes}
-use Rattle.augtrie.specs.Workers.{IsReady}
+use Rattle.augtrie.specs.inside.Threads.{Owes}
+use Rattle.augtrie.specs.inside.Workers.{IsReady}
 use Rattle.augtrie.proofs.Passing.{head_of, tail_of, push_one}
 use Rattle.augtrie.proofs.threads.start_all.Goals as goal
 

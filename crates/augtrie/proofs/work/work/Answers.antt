@@ -1,5 +1,5 @@
 use Rattle.std.proofs.Common.{rules, arith}
-use Rattle.augtrie.specs.Workers.{lane_of}
+use Rattle.augtrie.specs.inside.Workers.{lane_of}
 use Rattle.augtrie.proofs.Working.{worked_none, budget_left, room_left, worked_more, worked_same, worked_all}
 use Rattle.augtrie.proofs.work.work.Goals as goal
 use Rattle.augtrie.proofs.work.work.Goals.{then-row-lane, else-row-lane}

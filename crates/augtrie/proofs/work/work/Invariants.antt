@@ -1,5 +1,5 @@
 use Rattle.std.proofs.Common.{vec_len, vec_capacity}
-use Rattle.augtrie.specs.Workers.{lane_of}
+use Rattle.augtrie.specs.inside.Workers.{lane_of}
 use Rattle.augtrie.proofs.Working.{Worked}
 use Rattle.augtrie.proofs.work.work.Given as goal
 

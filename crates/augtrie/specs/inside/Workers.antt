@@ -5,7 +5,7 @@ use Rattle.aug_trie.specs.Facts.{RoundFacts, PassFacts, snapshot_cut}
 use Rattle.aug_trie.specs.declared.snapshot.Snapshot.{Snapshot}
 use Rattle.aug_report.specs.AllowedReport.{Lane, AnswersAll}
 use Rattle.aug_script.specs.Limits.{Bounds}
-use Rattle.augtrie.specs.Rounds.{WasHandedOut, Started}
+use Rattle.augtrie.specs.inside.Rounds.{WasHandedOut, Started}
 use Rattle.aug_script.specs.declared.reply.Reply.{Reply}
 use Rattle.aug_script.specs.declared.row.Row.{Row}
 use Rattle.augtrie.specs.declared.work.Done.{Done}

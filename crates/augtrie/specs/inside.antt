@@ -1,0 +1,6 @@
+-- What no promise rests on: what private fields keep, what private calls leave, how views come of fields, and lemmas.
+pub mod FoundNumbers
+pub mod Returns
+pub mod Rounds
+pub mod Threads
+pub mod Workers

@@ -5,7 +5,7 @@ use Rattle.csv.specs.Reading.{Reached, ReadRecord, default_config, is_flexible, 
 use Rattle.csv.specs.declared.parser.State.{State}
 use Rattle.csv.specs.declared.reader.Reader.{Reader}
 use Rattle.csv.proofs.ReadFacts.{rows-more, rows-end}
-use Rattle.aug_script.specs.RecordsLeft.{IsReading, bytes_left, records_in, records_left}
+use Rattle.aug_script.specs.inside.RecordsLeft.{IsReading, bytes_left, records_in, records_left}
 use Rattle.aug_script.proofs.RecordLemmas.{next_record-shorter, records_from-next, records_from-none}
 
 abbrev bytes_of : Bor (List ℕ) → Option (List ℕ)

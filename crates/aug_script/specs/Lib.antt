@@ -1,7 +1,7 @@
 pub mod Devices
 pub mod FaultText
 pub mod Limits
-pub mod RecordsLeft
 pub mod Replies
 pub mod ReportText
 pub mod Script
+pub mod inside

@@ -1,6 +1,6 @@
 -- How a script reads: its records are those of `csv`, and each is a row, the end of a round or more bits for the keys, or has the first
 -- fault of a table.
-use Rattle.std.specs.Prelude.{◌≡◌, ℕ, ◌+◌, ◌^◌, ◌<◌, ◌≤◌, ◌==◌, ◌&&◌, ◌||◌, not, nat_lt, nat_le, true, false, Bool, if◌then◌else◌, List, [], ◌∷◌, ◌++◌, length, drop, filter, slice_index_or, All, ⊤, codes, Option, Some, None, Result, Ok, Err}
+use Rattle.std.specs.Prelude.{◌≡◌, ℕ, ◌+◌, ◌^◌, ◌<◌, ◌≤◌, ◌==◌, ◌&&◌, ◌||◌, not, nat_lt, nat_le, true, false, Bool, if◌then◌else◌, List, [], ◌∷◌, ◌++◌, length, drop, filter, slice_index_or, All, codes, Option, Some, None, Result, Ok, Err}
 use Rattle.std.specs.Char.{is_ascii_digit}
 use Rattle.std.specs.List.{list_all}
 use Rattle.std.specs.Str.{bytes_eq}
@@ -236,9 +236,3 @@ pub record IsRunnable (limits : Bounds) (round : ScriptRound) : Type 0 where
 abbrev pub NeverNarrows : List ScriptRound → Type 0
 NeverNarrows rounds =
     (i j : ℕ) (d : ScriptRound) → i ≤ j → j < length rounds → (slice_index_or rounds i d).bits ≤ (slice_index_or rounds j d).bits
-
--- an item that rounds of at most 64 lanes and 16 bits can take: a row's lane is below 64, and keys get at most 16 bits
-abbrev pub CanTake : Item → Type 0
-CanTake (item.Row row) = row.lane < 64
-CanTake item.End = ⊤
-CanTake (item.Grow bits) = bits ≤ 16

@@ -2,7 +2,8 @@
 ghost use Rattle.std.specs.Prelude.{◌≡◌, IsTrue, List, [], drop, length, slice_index_or, IfOk};
 ghost use Rattle.std.specs.List.{list_all};
 ghost use Rattle.csv.specs.Records.{fields_of};
-ghost use Rattle.aug_script.specs.Script.{CanTake, are_printable, arity_of, bounded_row, end_of_round, growth, growth_to, is_number as is_number_field, item_of, starred_row, verb_of, word_of, worded_row};
+ghost use Rattle.aug_script.specs.inside.Items.{CanTake};
+ghost use Rattle.aug_script.specs.Script.{are_printable, arity_of, bounded_row, end_of_round, growth, growth_to, is_number as is_number_field, item_of, starred_row, verb_of, word_of, worded_row};
 
 use crate::field::{is_end, is_grow, is_number, is_printable, is_star, number};
 use crate::open_rounds::OpenRounds;

@@ -1,6 +1,7 @@
 //! The rounds of a script while it is read.
 ghost use Rattle.std.specs.Prelude.{◌≡◌, ◌+◌, ◌-◌, ◌^◌, ◌<◌, ◌≤◌, ◌==◌, IfOk, OnOk, length};
-ghost use Rattle.aug_script.specs.Script.{CanTake, nothing_read, rounds_read, updates_of, with_item};
+ghost use Rattle.aug_script.specs.inside.Items.{CanTake};
+ghost use Rattle.aug_script.specs.Script.{nothing_read, rounds_read, updates_of, with_item};
 ghost use Rattle.aug_script.specs.declared.item.Item.TheVariants as item;
 
 use crate::{Item, Listed, Row, ScriptRound};

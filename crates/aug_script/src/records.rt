@@ -17,7 +17,7 @@ pub(crate) struct Records<'a> {
 
 impl<'a> Model for Records<'a> {
     ghost use Rattle.std.specs.Prelude.{◌≡◌, false, ℕ, List};
-    ghost use Rattle.aug_script.specs.RecordsLeft.{IsReading, records_left};
+    ghost use Rattle.aug_script.specs.inside.RecordsLeft.{IsReading, records_left};
 
     ghost Value = { List (List (List ℕ)) };
 

@@ -1,6 +1,6 @@
 use Rattle.std.proofs.Common.{◌≡◌, ℕ, Bool, false, List, ◌∷◌, sym, ap, ◌∙◌}
 use Rattle.csv.specs.Records.{fields_of}
-use Rattle.aug_script.specs.RecordsLeft.{records_left}
+use Rattle.aug_script.specs.inside.RecordsLeft.{records_left}
 use Rattle.aug_script.proofs.ReaderLemmas.{found_more, found_none}
 use Rattle.aug_script.proofs.records.Records.next.Goals as goal
 use Rattle.aug_script.proofs.records.Records.next.Goals.{in-Ok-true, in-Ok-false, in-Err}

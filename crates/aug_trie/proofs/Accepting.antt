@@ -17,14 +17,14 @@ use Rattle.aug_core.specs.declared.view.View.{View}
 use Rattle.aug_core.proofs.EntryCuts.{root_part}
 use Rattle.aug_model.specs.declared.outcome.Outcome.{Outcome}
 use Rattle.aug_model.specs.declared.outcome.Outcome.TheVariants.{Accepted, Replaced, Refused}
-use Rattle.aug_trie.specs.Goes.{Goes}
-use Rattle.aug_trie.specs.Climbing.{WentUp, Stayed, Updated}
+use Rattle.aug_trie.specs.inside.Goes.{Goes}
+use Rattle.aug_trie.specs.inside.Climbing.{WentUp, Stayed, Updated}
 use Rattle.aug_trie.specs.History.{Begins, last_cut}
 use Rattle.aug_trie.specs.Knowledge.{StandsIn, insertion, removal}
 use Rattle.aug_trie.specs.LeafWords.{serial_in_word}
 use Rattle.aug_trie.specs.Requests.{advance_from, in_the_way}
 use Rattle.aug_trie.specs.Updates.{AcceptedUpdate, RefusedUpdate, ReplacedUpdate, RefusedPut, ComesTo, TakesSnapshot}
-use Rattle.aug_trie.specs.Knows.{root_history, knows, KnowsRound}
+use Rattle.aug_trie.specs.inside.Knows.{root_history, knows, KnowsRound}
 use Rattle.aug_trie.specs.declared.request.Request.{Request}
 use Rattle.aug_trie.specs.declared.request.Request.TheVariants.{Insert, Remove, Put}
 use Rattle.aug_trie.proofs.Histories.{history_on, last_is, last_shown, shown_last, last_rises, root_some, some_bits, is_history}

@@ -14,9 +14,8 @@ use Rattle.aug_core.proofs.FaceLemmas.{left_in, right_in}
 use Rattle.aug_core.proofs.Refreshing.{has_entry}
 use Rattle.aug_core.proofs.Sizes.{twice}
 use Rattle.aug_words.specs.Seats.{LoadsRecordWord}
-use Rattle.aug_trie.specs.Goes.{HasRoom, Took, Goes, IsPartOf, part_steps}
-use Rattle.aug_trie.specs.Nodes.{Looks}
-use Rattle.aug_trie.specs.Points.{Says, stored, child_at, field_after, five_over, IsOverLeaves, AfterLeft, AfterRight, AfterWords, AfterStores, TryAt, TryOver}
+use Rattle.aug_trie.specs.inside.Goes.{HasRoom, Took, Goes, IsPartOf, part_steps, Looks}
+use Rattle.aug_trie.specs.inside.Points.{Says, stored, child_at, field_after, five_over, IsOverLeaves, AfterLeft, AfterRight, AfterWords, AfterStores, TryAt, TryOver}
 use Rattle.aug_trie.specs.declared.points.Reading.{Reading}
 use Rattle.aug_trie.specs.declared.points.Filling.{Filling}
 use Rattle.aug_trie.specs.declared.points.Point.{Point}

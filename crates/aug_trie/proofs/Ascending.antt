@@ -8,9 +8,9 @@ use Rattle.aug_core.specs.Shows.{above, Lifts}
 use Rattle.aug_core.specs.declared.view.View.{View}
 use Rattle.aug_core.proofs.Refreshing.{covers_second}
 use Rattle.aug_core.proofs.Showing.{above_inner}
-use Rattle.aug_trie.specs.Goes.{Goes, Took, TookBetween, HasRoom, part_steps}
-use Rattle.aug_trie.specs.Points.{TryAt, TryOver, point_turns}
-use Rattle.aug_trie.specs.Stages.{Missed, IsTry, IsCovered, HasRisen, MayRise, IsAtNode, IsOnWay, IsPastTry, part_above, ascent_turns}
+use Rattle.aug_trie.specs.inside.Goes.{Goes, Took, TookBetween, HasRoom, part_steps}
+use Rattle.aug_trie.specs.inside.Points.{TryAt, TryOver, point_turns}
+use Rattle.aug_trie.specs.inside.Stages.{Missed, IsTry, IsCovered, HasRisen, MayRise, IsAtNode, IsOnWay, IsPastTry, part_above, ascent_turns}
 use Rattle.aug_trie.specs.declared.points.Point.{Point}
 use Rattle.aug_trie.specs.declared.points.Point.TheVariants.{Node, Left, Right, Part, Record}
 use Rattle.aug_trie.specs.declared.ascents.Ascent.{Ascent}

@@ -7,17 +7,17 @@ use Rattle.aug_core.specs.Told.{made_by}
 use Rattle.aug_core.specs.declared.view.Advance.{Advance}
 use Rattle.aug_core.specs.declared.view.Change.{Change}
 use Rattle.aug_core.specs.declared.view.View.{View}
-use Rattle.aug_trie.specs.Counted.{HasCounts}
+use Rattle.aug_trie.specs.inside.Counted.{HasCounts, insertions_by, removals_by}
 use Rattle.aug_model.specs.declared.outcome.Outcome.{Outcome}
 use Rattle.aug_model.specs.declared.outcome.Outcome.TheVariants.{Accepted, Replaced, Refused}
-use Rattle.aug_trie.specs.Climbing.{WentUp, Stayed, Updated}
+use Rattle.aug_trie.specs.inside.Climbing.{WentUp, Stayed, Updated}
 use Rattle.aug_trie.specs.LeafWords.{serial_in_word}
-use Rattle.aug_trie.specs.Requests.{advance_from, insertions_by, removals_by}
+use Rattle.aug_trie.specs.Requests.{advance_from}
 use Rattle.aug_trie.specs.declared.request.Request.{Request}
 use Rattle.aug_trie.specs.declared.request.Request.TheVariants.{Insert, Remove, Put}
 use Rattle.aug_trie.proofs.Requesting.{made_one, made_two}
-use Rattle.aug_trie.specs.Facts.{IsPass}
-use Rattle.aug_trie.specs.Goes.{Goes}
+use Rattle.aug_trie.specs.inside.PassState.{IsPass}
+use Rattle.aug_trie.specs.inside.Goes.{Goes}
 use Rattle.aug_trie.specs.Knowledge.{insertion, removal, inserts_of, removals_of}
 use Rattle.aug_trie.proofs.Counting.{hits-append, hits_yes, hits_no, filter_shorter}
 

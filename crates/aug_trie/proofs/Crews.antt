@@ -22,13 +22,15 @@ use Rattle.aug_core.specs.declared.view.View.{View}
 use Rattle.aug_core.proofs.Openings.{newcomer_knows, inner_history}
 use Rattle.aug_core.proofs.OpeningCuts.{root_inner, opening_first}
 use Rattle.atomic_table.specs.Seated.{TableId}
-use Rattle.aug_trie.specs.Counted.{HasCounts}
-use Rattle.aug_trie.specs.Goes.{HasLeaves}
-use Rattle.aug_trie.specs.Knows.{knows, root_history, KnowsRound}
-use Rattle.aug_trie.specs.Facts.{IsPass, IsCrew, round_of, pass_facts}
+use Rattle.aug_trie.specs.inside.Counted.{HasCounts}
+use Rattle.aug_trie.specs.inside.Goes.{HasLeaves}
+use Rattle.aug_trie.specs.inside.Knows.{knows, root_history, KnowsRound}
+use Rattle.aug_trie.specs.inside.PassState.{IsPass, pass_facts}
+use Rattle.aug_trie.specs.inside.CrewState.{IsCrew, crew_facts, HoldsCrew}
+use Rattle.aug_trie.specs.inside.RoundState.{round_of}
 use Rattle.aug_trie.specs.Passes.{HandedBack}
 use Rattle.aug_trie.specs.Knowledge.{inserts_of, removals_of}
-use Rattle.aug_trie.specs.Crews.{crew_facts, HoldsCrew, HandsOut, TakesBack}
+use Rattle.aug_trie.specs.Crew.{HandsOut, TakesBack}
 use Rattle.aug_trie.proofs.Counters.{counted_none, is_insertion, is_removal}
 use Rattle.aug_trie.proofs.Counting.{hits-append}
 use Rattle.aug_trie.proofs.Handing.{crew_begins, handed_out_is, handed_back_is, crew_after, pass_table, pass_begins, crew_out}

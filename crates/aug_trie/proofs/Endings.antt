@@ -29,10 +29,11 @@ use Rattle.aug_words.specs.Seats.{Store, Known, AreTogether}
 use Rattle.aug_trie.specs.History.{last_cut}
 use Rattle.aug_trie.specs.Knowledge.{insertion, removal, inserts_of, removals_of}
 use Rattle.aug_core.specs.declared.view.Change.{Change}
-use Rattle.aug_trie.specs.Knows.{knows}
-use Rattle.aug_trie.specs.Crews.{crew_facts, EndedFacts, HoldsCrew, Ends}
+use Rattle.aug_trie.specs.inside.Knows.{knows}
+use Rattle.aug_trie.specs.inside.CrewState.{crew_facts, HoldsCrew}
+use Rattle.aug_trie.specs.Ended.{EndedFacts, word_in}
+use Rattle.aug_trie.specs.Crew.{Ends}
 use Rattle.aug_trie.specs.Tallies.{TalliesWithLost}
-use Rattle.aug_trie.specs.Versions.{word_in}
 use Rattle.aug_trie.proofs.Counting.{filter_shorter}
 use Rattle.aug_trie.proofs.Tallying.{held_few, tallies_at_end, none_lost_tallies}
 use Rattle.aug_trie.proofs.CutLemmas.{set_of_cut-opening, pairs_of_cut-opening}

@@ -16,8 +16,9 @@ use Rattle.aug_core.specs.declared.view.Held.{Held}
 use Rattle.aug_core.specs.declared.view.View.{View}
 use Rattle.aug_core.proofs.Books.{fresh_now, fresh_on}
 use Rattle.aug_core.proofs.Fits.{knows_shown, knows_same}
-use Rattle.aug_trie.specs.Points.{QuietStep}
-use Rattle.aug_trie.specs.Goes.{tries_leaf, IsFree, HasRoom, Took, TookBetween, Goes}
+use Rattle.aug_trie.specs.inside.Points.{QuietStep}
+use Rattle.aug_trie.specs.Pass.{tries_leaf}
+use Rattle.aug_trie.specs.inside.Goes.{IsFree, HasRoom, Took, TookBetween, Goes}
 
 -- ---- steps, one after another
 

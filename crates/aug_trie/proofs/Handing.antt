@@ -12,12 +12,13 @@ use Rattle.aug_core.specs.declared.view.Change.{Change}
 use Rattle.aug_core.specs.declared.view.Held.{Held}
 use Rattle.aug_core.specs.declared.view.View.{View}
 use Rattle.aug_core.proofs.Fits.{knows_shown, knows_same}
-use Rattle.aug_trie.specs.Goes.{HasRoom, HasLeaves}
+use Rattle.aug_trie.specs.inside.Goes.{HasRoom, HasLeaves}
 use Rattle.aug_trie.specs.History.{last_cut}
 use Rattle.aug_trie.specs.Knowledge.{StandsIn}
 use Rattle.aug_trie.specs.Passes.{HandedOut, HandedBack}
-use Rattle.aug_trie.specs.Knows.{knows, KnowsRound}
-use Rattle.aug_trie.specs.Facts.{IsPass, IsCrew}
+use Rattle.aug_trie.specs.inside.Knows.{knows, KnowsRound}
+use Rattle.aug_trie.specs.inside.PassState.{IsPass}
+use Rattle.aug_trie.specs.inside.CrewState.{IsCrew}
 use Rattle.aug_trie.proofs.Histories.{is_history}
 use Rattle.aug_trie.proofs.Accepting.{knows_on, stands_on}
 use Rattle.aug_trie.proofs.Pieces.{either_begins, changes-append}

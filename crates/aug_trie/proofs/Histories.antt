@@ -18,7 +18,7 @@ use Rattle.aug_core.specs.Cuts.{Cut, shown_of, serial_of, opening_cut, IsAtMost}
 use Rattle.aug_trie.specs.History.{Begins, IsHistory, last_cut}
 use Rattle.aug_core.specs.EntryCuts.{entry_of, root_cut}
 use Rattle.aug_core.specs.Told.{KnowsTable, opening_of}
-use Rattle.aug_trie.specs.Knows.{root_history, root_numbers}
+use Rattle.aug_trie.specs.inside.Knows.{root_history, root_numbers}
 use Rattle.aug_trie.proofs.Pieces.{begins_at}
 use Rattle.aug_core.proofs.CutsUnder.{root_word, reached, shown_is, serial_is, shows_reached}
 use Rattle.aug_core.proofs.EntryCuts.{Has, reached_shows, root_rises, cut_later}

@@ -7,7 +7,7 @@ use Rattle.aug_core.specs.Shows.{above, Lifts}
 use Rattle.aug_core.specs.Refreshes.{NewestCovers}
 use Rattle.aug_core.specs.declared.view.View.{View}
 use Rattle.aug_core.proofs.Showing.{first_children, later_children, shows_up}
-use Rattle.aug_trie.specs.Goes.{TookBetween, part_steps}
+use Rattle.aug_trie.specs.inside.Goes.{TookBetween, part_steps}
 use Rattle.aug_trie.proofs.Going.{between_on}
 
 pub lifts_none : (s : Shape) (seen : Book) (key : ℕ) → Lifts s seen seen key 0

@@ -14,11 +14,10 @@ use Rattle.aug_core.specs.declared.view.View.{View}
 use Rattle.aug_core.proofs.Books.{fresh_now}
 use Rattle.aug_core.proofs.Fits.{knows_same}
 use Rattle.aug_trie.specs.LeafWords.{weight_in_word, leaf_pairs}
-use Rattle.aug_trie.specs.Facts.{IsNodeOf}
-use Rattle.aug_trie.specs.Goes.{Goes}
-use Rattle.aug_trie.specs.Nodes.{Looks}
+use Rattle.aug_trie.specs.Node.{IsNodeOf}
+use Rattle.aug_trie.specs.inside.Goes.{Goes, Looks}
 use Rattle.aug_trie.specs.TreeOf.{IsTreeOf}
-use Rattle.aug_trie.specs.Points.{Says}
+use Rattle.aug_trie.specs.inside.Points.{Says}
 use Rattle.aug_trie.proofs.Walking.{node_seen, left_node, right_node, node_told, count_few, count_told, leaf_told, leaf_weight}
 
 -- a view that made steps and learnt nothing

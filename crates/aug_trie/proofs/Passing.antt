@@ -10,14 +10,16 @@ use Rattle.aug_core.specs.declared.view.Change.{Change}
 use Rattle.aug_core.specs.declared.view.View.{View}
 use Rattle.atomic_table.specs.Seated.{TableId}
 use Rattle.aug_words.specs.Seats.{Known}
-use Rattle.aug_trie.specs.Goes.{HasLeaves, Goes}
+use Rattle.aug_trie.specs.inside.Goes.{HasLeaves, Goes}
 use Rattle.aug_model.specs.declared.outcome.Outcome.{Outcome}
 use Rattle.aug_model.specs.declared.outcome.Outcome.TheVariants.{Accepted, Replaced, Refused}
-use Rattle.aug_trie.specs.Climbing.{Updated, CameTo}
+use Rattle.aug_trie.specs.inside.Climbing.{Updated, CameTo}
 use Rattle.aug_trie.specs.Requests.{advance_from}
 use Rattle.aug_trie.specs.declared.request.Request.{Request}
-use Rattle.aug_trie.specs.Knows.{KnowsRound}
-use Rattle.aug_trie.specs.Facts.{PassFacts, pass_facts, known_in, round_of, GoesOn, StepsOf, IsPass, HoldsPass}
+use Rattle.aug_trie.specs.inside.Knows.{KnowsRound}
+use Rattle.aug_trie.specs.Pass.{PassFacts, GoesOn, StepsOf}
+use Rattle.aug_trie.specs.inside.PassState.{pass_facts, known_in, IsPass, HoldsPass}
+use Rattle.aug_trie.specs.inside.RoundState.{round_of}
 use Rattle.aug_trie.proofs.Accepting.{updated_knowledge, shown_number}
 use Rattle.aug_trie.proofs.Going.{free_from}
 use Rattle.aug_trie.proofs.Requesting.{made_few}

@@ -8,7 +8,7 @@ use Rattle.aug_core.specs.Told.{own_lane, storing, KnowsTable, IsFilled, TriesNo
 use Rattle.aug_core.specs.declared.view.Held.{Held}
 use Rattle.aug_core.specs.declared.view.View.{View}
 use Rattle.aug_core.proofs.Filling.{put, filled_view, holds_filled, filled_lane, five_held, is_filled}
-use Rattle.aug_trie.specs.Goes.{IsFree, HasRoom, Took, Goes}
+use Rattle.aug_trie.specs.inside.Goes.{IsFree, HasRoom, Took, Goes}
 use Rattle.aug_trie.proofs.Going.{took_one, took_on, room_on, goes_on, goes_more, goes_storing, goes_seeing, goes_publishing}
 
 -- a record that there is room for is the lane's

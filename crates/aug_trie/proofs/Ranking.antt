@@ -18,11 +18,11 @@ use Rattle.aug_core.specs.Tree.{IsInner}
 use Rattle.aug_core.specs.declared.step.StepTaken.{StepTaken}
 use Rattle.aug_core.specs.declared.view.View.{View}
 use Rattle.aug_trie.specs.LeafWords.{serial_in_word}
-use Rattle.aug_trie.specs.Facts.{IsNodeOf}
-use Rattle.aug_trie.specs.Goes.{HasLeaves}
-use Rattle.aug_trie.specs.Nodes.{cut_named, Looks}
+use Rattle.aug_trie.specs.Node.{IsNodeOf}
+use Rattle.aug_trie.specs.inside.Goes.{HasLeaves, Looks}
+use Rattle.aug_trie.specs.inside.NamedCuts.{cut_named}
 use Rattle.aug_trie.specs.TreeOf.{members_of}
-use Rattle.aug_trie.specs.Points.{Says}
+use Rattle.aug_trie.specs.inside.Points.{Says}
 use Rattle.aug_trie.proofs.Trees.{named_set}
 use Rattle.aug_trie.proofs.Looking.{record_seen, count_is}
 use Rattle.aug_trie.proofs.Walking.{node_seen, left_node, right_node, leaf_count}

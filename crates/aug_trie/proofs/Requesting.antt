@@ -8,7 +8,8 @@ use Rattle.aug_core.specs.declared.view.Advance.{Advance}
 use Rattle.aug_core.specs.declared.view.Change.{Change}
 use Rattle.aug_model.specs.declared.outcome.Outcome.TheVariants.{Accepted, Replaced}
 use Rattle.aug_trie.specs.LeafWords.{serial_in_word, weight_in_word}
-use Rattle.aug_trie.specs.Requests.{FitsRequest, goes_from, in_the_way, advance_from, outcome_by}
+use Rattle.aug_trie.specs.inside.Climbing.{FitsRequest}
+use Rattle.aug_trie.specs.Requests.{goes_from, in_the_way, advance_from, outcome_by}
 use Rattle.aug_trie.specs.declared.request.Request.{Request}
 use Rattle.aug_trie.specs.declared.request.Request.TheVariants.{Insert, Remove, Put}
 

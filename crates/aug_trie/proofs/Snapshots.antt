@@ -16,12 +16,15 @@ use Rattle.aug_core.specs.declared.view.View.{View}
 use Rattle.aug_core.proofs.Books.{one_index, at_below}
 use Rattle.aug_core.proofs.OpeningCuts.{root_inner}
 use Rattle.aug_core.proofs.Sizes.{twice}
-use Rattle.aug_trie.specs.Goes.{HasLeaves, Goes}
+use Rattle.aug_trie.specs.inside.Goes.{HasLeaves, Goes}
 use Rattle.aug_trie.specs.History.{last_cut}
 use Rattle.aug_trie.specs.Knowledge.{StandsIn}
 use Rattle.aug_trie.specs.Updates.{TakesSnapshot}
-use Rattle.aug_trie.specs.Knows.{knows, root_numbers, first_place}
-use Rattle.aug_trie.specs.Facts.{pass_facts, round_of, GoesOn, IsPass}
+use Rattle.aug_trie.specs.inside.Knows.{knows, root_numbers}
+use Rattle.aug_trie.specs.Snapshot.{first_place}
+use Rattle.aug_trie.specs.inside.PassState.{pass_facts, IsPass}
+use Rattle.aug_trie.specs.inside.RoundState.{round_of}
+use Rattle.aug_trie.specs.Pass.{GoesOn}
 use Rattle.atomic_table.specs.Seated.{TableId}
 use Rattle.aug_core.specs.Kinds.{load_node}
 use Rattle.aug_core.specs.declared.step.StepTaken.{StepTaken}
@@ -30,7 +33,7 @@ use Rattle.aug_trie.proofs.Going.{goes_more}
 use Rattle.aug_trie.proofs.Histories.{some_bits, history_long, numbers_long, cut_at}
 use Rattle.std.proofs.lemmas.List.Sums.{prefix_len_stops, prefix_len_passes}
 use Rattle.std.specs.Prelude.{not}
-use Rattle.aug_trie.specs.Nodes.{HasNamed, cut_named}
+use Rattle.aug_trie.specs.inside.NamedCuts.{HasNamed, cut_named}
 use Rattle.aug_core.proofs.EntryCuts.{entry_at, entry_is}
 use Rattle.aug_core.specs.Opening.{serial_entry}
 

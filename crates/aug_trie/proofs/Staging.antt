@@ -12,13 +12,13 @@ use Rattle.aug_core.specs.declared.view.View.{View}
 use Rattle.aug_model.specs.declared.outcome.Outcome.{Outcome}
 use Rattle.aug_model.specs.declared.outcome.Outcome.TheVariants.{Refused}
 use Rattle.aug_words.specs.Seats.{MayAdvance, TriedLeaf}
-use Rattle.aug_trie.specs.Goes.{HasLeaves, HasRoom, Goes}
-use Rattle.aug_trie.specs.Climbing.{Updated}
-use Rattle.aug_trie.specs.Facts.{IsPass}
+use Rattle.aug_trie.specs.inside.Goes.{HasLeaves, HasRoom, Goes}
+use Rattle.aug_trie.specs.inside.Climbing.{Updated}
+use Rattle.aug_trie.specs.inside.PassState.{IsPass}
 use Rattle.aug_trie.specs.LeafWords.{serial_in_word}
-use Rattle.aug_trie.specs.Points.{OneStep, QuietStep}
+use Rattle.aug_trie.specs.inside.Points.{OneStep, QuietStep}
 use Rattle.aug_trie.specs.Requests.{goes_from, advance_from, word_after, outcome_by}
-use Rattle.aug_trie.specs.Stages.{HasRisen, IsOnWay, HasBegun, IsRising, StageAt, ascent_turns}
+use Rattle.aug_trie.specs.inside.Stages.{HasRisen, IsOnWay, HasBegun, IsRising, StageAt, ascent_turns}
 use Rattle.aug_trie.specs.declared.request.Request.{Request}
 use Rattle.aug_trie.specs.declared.points.Point.TheVariants.{Node}
 use Rattle.aug_trie.specs.declared.ascents.Ascent.{Ascent}

@@ -15,10 +15,10 @@ use Rattle.aug_core.specs.declared.view.View.{View}
 use Rattle.aug_core.proofs.CutsUnder.{reached, shows_reached}
 use Rattle.aug_core.proofs.EntryCuts.{Has, entry_is, reached_shown, not_passed}
 use Rattle.aug_core.proofs.Showing.{above_root}
-use Rattle.aug_trie.specs.Climbing.{WeighsAt}
+use Rattle.aug_trie.specs.inside.Climbing.{WeighsAt}
 use Rattle.aug_trie.specs.History.{last_cut}
 use Rattle.aug_trie.specs.Knowledge.{StandsIn}
-use Rattle.aug_trie.specs.Knows.{root_history}
+use Rattle.aug_trie.specs.inside.Knows.{root_history}
 use Rattle.aug_trie.proofs.Histories.{history_long, cut_at, last_is, root_serial, root_shows}
 
 -- a change that stands in a cut stands in a later one

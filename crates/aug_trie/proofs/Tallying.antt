@@ -23,7 +23,7 @@ use Rattle.aug_trie.specs.Knowledge.{StandsIn}
 use Rattle.aug_trie.specs.Tallies.{times, Tallies, Weighs, TalliesWithLost}
 use Rattle.aug_core.specs.EntryCuts.{entry_of, root_cut}
 use Rattle.aug_core.specs.Told.{KnowsTable, opening_of}
-use Rattle.aug_trie.specs.Knows.{knows}
+use Rattle.aug_trie.specs.inside.Knows.{knows}
 use Rattle.aug_core.proofs.CutsUnder.{root_word, cut_long, reached}
 use Rattle.aug_core.proofs.EntryCuts.{Has, entry_at, entry_is, reached_shows, root_rises, cut_later}
 use Rattle.aug_core.proofs.CutLists.{read}

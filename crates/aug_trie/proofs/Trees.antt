@@ -31,11 +31,14 @@ use Rattle.aug_core.proofs.CutsUnder.{root_word, cut_long, reached, shown_is}
 use Rattle.aug_core.proofs.EntryCuts.{entry_at, cut_later}
 use Rattle.aug_core.proofs.OpeningCuts.{root_inner}
 use Rattle.aug_words.specs.Seats.{Known}
-use Rattle.aug_trie.specs.Counted.{HasCounts}
+use Rattle.aug_trie.specs.inside.Counted.{HasCounts}
 use Rattle.aug_trie.specs.LeafWords.{weight_in_word}
-use Rattle.aug_trie.specs.Facts.{pass_facts, HasSnapshot, IsNodeOf, IsPass, HoldsPass}
-use Rattle.aug_trie.specs.Knows.{root_history, root_numbers, first_place}
-use Rattle.aug_trie.specs.Nodes.{HasNamed, cut_named, Looks, HasNode, Keeps, Reads}
+use Rattle.aug_trie.specs.inside.PassState.{pass_facts, IsPass, HoldsPass}
+use Rattle.aug_trie.specs.Snapshot.{HasSnapshot, first_place}
+use Rattle.aug_trie.specs.Node.{IsNodeOf, HasNode, Keeps, Reads}
+use Rattle.aug_trie.specs.inside.Knows.{root_history, root_numbers}
+use Rattle.aug_trie.specs.inside.NamedCuts.{HasNamed, cut_named}
+use Rattle.aug_trie.specs.inside.Goes.{Looks}
 use Rattle.aug_trie.specs.TreeOf.{members_of, IsTreeOf}
 use Rattle.aug_trie.specs.declared.node.Node.{Node}
 use Rattle.aug_trie.proofs.Counters.{counted_still}

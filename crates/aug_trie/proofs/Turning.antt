@@ -11,17 +11,20 @@ use Rattle.aug_core.specs.Kinds.{load_leaf, try_leaf}
 use Rattle.aug_core.specs.Told.{own_lane, KnowsTable}
 use Rattle.aug_core.specs.declared.view.View.{View}
 use Rattle.aug_model.specs.declared.outcome.Outcome.{Outcome}
-use Rattle.aug_trie.specs.Climbing.{Updated}
-use Rattle.aug_trie.specs.Goes.{part_steps}
-use Rattle.aug_trie.specs.Knows.{root_history, knows, root_numbers}
+use Rattle.aug_trie.specs.inside.Climbing.{Updated}
+use Rattle.aug_trie.specs.inside.Goes.{part_steps}
+use Rattle.aug_trie.specs.inside.Knows.{root_history, knows, root_numbers}
 use Rattle.aug_trie.specs.Updates.{ComesTo}
-use Rattle.aug_trie.specs.Facts.{PassFacts, pass_facts, round_of, GoesOn, StepsOf}
-use Rattle.aug_trie.specs.Nodes.{Keeps}
-use Rattle.aug_trie.specs.Points.{OneStep, TryAt, point_turns}
+use Rattle.aug_trie.specs.Pass.{PassFacts, GoesOn, StepsOf}
+use Rattle.aug_trie.specs.inside.PassState.{pass_facts}
+use Rattle.aug_trie.specs.inside.RoundState.{round_of}
+use Rattle.aug_trie.specs.Node.{Keeps}
+use Rattle.aug_trie.specs.inside.Points.{OneStep, TryAt, point_turns}
 use Rattle.aug_trie.specs.Requests.{word_after, goes_from}
 use Rattle.aug_trie.specs.declared.request.Request.{Request}
-use Rattle.aug_trie.specs.Stages.{IsOnWay, HasBegun, StageAt, part_above, ascent_turns, stage_turns, MayTry, IsRising}
-use Rattle.aug_trie.specs.Turns.{climb_facts, began_facts, start_facts, StepsOnce, TurnsOn, Finishes}
+use Rattle.aug_trie.specs.inside.Stages.{IsOnWay, HasBegun, StageAt, part_above, ascent_turns, stage_turns, MayTry, IsRising}
+use Rattle.aug_trie.specs.inside.ClimbState.{climb_facts, began_facts, start_facts}
+use Rattle.aug_trie.specs.Climb.{StepsOnce, TurnsOn, Finishes}
 use Rattle.aug_trie.specs.declared.points.Point.{Point}
 use Rattle.aug_trie.specs.declared.points.Point.TheVariants.{Node, Left, Right, Part, Record}
 use Rattle.aug_trie.specs.declared.ascents.Ascent.{Ascent}

@@ -19,11 +19,11 @@ use Rattle.aug_core.proofs.Showing.{shows_leaf}
 use Rattle.aug_model.specs.declared.outcome.Outcome.{Outcome}
 use Rattle.aug_model.specs.declared.outcome.Outcome.TheVariants.{Accepted, Replaced, Refused}
 use Rattle.aug_words.specs.Seats.{MayAdvance, TriedLeaf}
-use Rattle.aug_trie.specs.Goes.{Goes, HasRoom}
-use Rattle.aug_trie.specs.Climbing.{WentUp, Stayed, CameTo, Updated}
+use Rattle.aug_trie.specs.inside.Goes.{Goes, HasRoom}
+use Rattle.aug_trie.specs.inside.Climbing.{WentUp, Stayed, CameTo, Updated, FitsRequest}
 use Rattle.aug_trie.specs.LeafWords.{serial_in_word, weight_in_word}
-use Rattle.aug_trie.specs.Requests.{FitsRequest, goes_from, advance_from, word_after, outcome_by}
-use Rattle.aug_trie.specs.Stages.{MayRise, HasRisen}
+use Rattle.aug_trie.specs.Requests.{goes_from, advance_from, word_after, outcome_by}
+use Rattle.aug_trie.specs.inside.Stages.{MayRise, HasRisen}
 use Rattle.aug_trie.specs.declared.request.Request.{Request}
 use Rattle.aug_trie.proofs.Going.{room_on, goes_on, goes_after, goes_beginning, goes_seeing, goes_changing}
 use Rattle.aug_trie.proofs.LeafWords.{serial_of_leaf, weight_of_leaf}

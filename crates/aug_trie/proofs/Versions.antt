@@ -32,9 +32,10 @@ use Rattle.aug_core.proofs.PlaceLemmas.{keys-within}
 use Rattle.aug_words.specs.Rests.{AtRest}
 use Rattle.aug_words.specs.Seats.{NamesRoot}
 use Rattle.aug_trie.specs.History.{last_cut}
-use Rattle.aug_trie.specs.Knows.{knows}
+use Rattle.aug_trie.specs.inside.Knows.{knows}
 use Rattle.aug_trie.specs.LeafWords.{serial_in_word, weight_in_word, leaf_pairs}
-use Rattle.aug_trie.specs.Versions.{word_in, pairs_below, covered, IsLeafOf, IsVersion, HoldsVersion}
+use Rattle.aug_trie.specs.Ended.{word_in, covered, IsLeafOf, IsVersion}
+use Rattle.aug_trie.specs.inside.EndedState.{pairs_below, HoldsVersion}
 use Rattle.aug_trie.proofs.Counting.{filter_shorter}
 use Rattle.aug_trie.proofs.Histories.{last_is}
 use Rattle.aug_trie.proofs.LeafWords.{serial_of_entry, weight_of_entry, pairs_of_serial}

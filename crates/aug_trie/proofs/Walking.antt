@@ -22,9 +22,10 @@ use Rattle.aug_core.proofs.EntryCuts.{entry_at, entry_is, root_part, left_part, 
 use Rattle.aug_core.proofs.EntryKeys.{are_small}
 use Rattle.aug_core.proofs.FaceLemmas.{left_in, right_in, count_in, a_in, b_in}
 use Rattle.aug_trie.specs.LeafWords.{serial_in_word, weight_in_word, leaf_pairs}
-use Rattle.aug_trie.specs.Facts.{IsSnapshotOf, IsNodeOf}
+use Rattle.aug_trie.specs.inside.NamedCuts.{IsSnapshotOf}
+use Rattle.aug_trie.specs.Node.{IsNodeOf}
 use Rattle.aug_trie.specs.TreeOf.{IsTreeOf}
-use Rattle.aug_trie.specs.Points.{Says}
+use Rattle.aug_trie.specs.inside.Points.{Says}
 use Rattle.aug_trie.proofs.LeafWords.{serial_of_entry, weight_of_entry, pairs_of_serial}
 
 -- an interval has as many pairs as keys

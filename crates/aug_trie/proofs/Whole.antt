@@ -14,7 +14,7 @@ use Rattle.aug_core.specs.declared.view.View.{View}
 use Rattle.aug_core.proofs.Sizes.{twice}
 use Rattle.aug_core.proofs.EntryKeys.{are_small}
 use Rattle.aug_core.proofs.Refreshing.{is_loaded, refreshed}
-use Rattle.aug_trie.specs.Goes.{IsFree, Goes, Took, Tries, IsPartOf, part_steps}
+use Rattle.aug_trie.specs.inside.Goes.{IsFree, Goes, Took, Tries, IsPartOf, part_steps}
 use Rattle.aug_trie.proofs.Going.{took_on}
 use Rattle.aug_trie.proofs.Telling.{words_are}
 

@@ -1,5 +1,5 @@
 -- What an update is asked to do, and what it makes of a leaf.
-use Rattle.std.specs.Prelude.{ℕ, ◌+◌, ◌%◌, ◌^◌, ◌<◌, ⊤, ◌==◌, Bool, true, false, if◌then◌else◌}
+use Rattle.std.specs.Prelude.{ℕ, ◌+◌, ◌%◌, ◌==◌, Bool, true, false, if◌then◌else◌}
 use Rattle.aug_core.specs.declared.view.Advance.{Advance}
 use Rattle.aug_core.specs.Told.{new_word}
 use Rattle.aug_model.specs.declared.outcome.Outcome.{Outcome}
@@ -7,12 +7,6 @@ use Rattle.aug_model.specs.declared.outcome.Outcome.TheVariants.{Accepted, Repla
 use Rattle.aug_trie.specs.LeafWords.{serial_in_word, weight_in_word}
 use Rattle.aug_trie.specs.declared.request.Request.{Request}
 use Rattle.aug_trie.specs.declared.request.Request.TheVariants.{Insert, Remove, Put}
-
--- the weight that a put brings fits a leaf's word
-abbrev pub FitsRequest : Request → Type 0
-FitsRequest Insert = ⊤
-FitsRequest Remove = ⊤
-FitsRequest (Put weight) = weight < 2 ^ 32
 
 -- whether an update goes on from a leaf with this serial: an insertion where the key is not there, a removal where it is, and a put always
 abbrev pub goes_from : Request → ℕ → Bool
@@ -44,18 +38,3 @@ outcome_by (Put weight) word = if serial_in_word word % 2 == 1 then Replaced els
 abbrev pub answered : Bool → Outcome
 answered true = Accepted
 answered false = Refused
-
--- how many insertions and how many removals an update comes to: a replacement is one of each
-abbrev pub insertions_by : Request → Outcome → ℕ
-insertions_by Insert Accepted = 1
-insertions_by Remove Accepted = 0
-insertions_by (Put weight) Accepted = 1
-insertions_by request Replaced = 1
-insertions_by request Refused = 0
-
-abbrev pub removals_by : Request → Outcome → ℕ
-removals_by Insert Accepted = 0
-removals_by Remove Accepted = 1
-removals_by (Put weight) Accepted = 0
-removals_by request Replaced = 1
-removals_by request Refused = 0

@@ -2,9 +2,9 @@
 ghost use Rattle.std.specs.Prelude.{◌≡◌, ℕ, List, ◌+◌, ◌/◌, ◌^◌, ◌<◌, ◌≤◌, false, IfSome};
 ghost use Rattle.aug_core.specs.Faces.{face};
 ghost use Rattle.aug_core.specs.declared.view.View.{View};
-ghost use Rattle.aug_trie.specs.Goes.{HasLeaves};
-ghost use Rattle.aug_trie.specs.Points.{QuietStep};
-ghost use Rattle.aug_trie.specs.Stages.{IsOnWay, IsPastTry, Ascends, AscentFalls, ascent_turns, past_try_turns};
+ghost use Rattle.aug_trie.specs.inside.Goes.{HasLeaves};
+ghost use Rattle.aug_trie.specs.inside.Points.{QuietStep};
+ghost use Rattle.aug_trie.specs.inside.Stages.{IsOnWay, IsPastTry, Ascends, AscentFalls, ascent_turns, past_try_turns};
 
 use crate::points::{Advanced, Point, advance};
 use aug_monoid::Monoid;

@@ -3,8 +3,8 @@ ghost use Rattle.std.specs.Prelude.{◌≡◌, ◌+◌, ◌^◌, ◌<◌};
 ghost use Rattle.aug_core.specs.Faces.{face};
 ghost use Rattle.aug_core.specs.Tree.{IsInner};
 ghost use Rattle.aug_core.specs.Told.{KnowsTable};
-ghost use Rattle.aug_trie.specs.Goes.{HasLeaves, HasRoom};
-ghost use Rattle.aug_trie.specs.Stages.{IsCovered, MayRise, HasRisen};
+ghost use Rattle.aug_trie.specs.inside.Goes.{HasLeaves, HasRoom};
+ghost use Rattle.aug_trie.specs.inside.Stages.{IsCovered, MayRise, HasRisen};
 
 use crate::refreshing::refresh;
 use aug_monoid::Monoid;

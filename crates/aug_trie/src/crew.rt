@@ -1,6 +1,6 @@
 //! The crew of a round, which hands its passes out and takes them back.
 ghost use Rattle.std.specs.Prelude.{◌≡◌, ◌↔◌, IsErr, OnErr, IfOk};
-ghost use Rattle.aug_trie.specs.Crews.{HandsOut, TakesBack};
+ghost use Rattle.aug_trie.specs.Crew.{HandsOut, TakesBack};
 
 use crate::error::CrewError;
 use crate::pass::Pass;
@@ -22,7 +22,8 @@ pub struct Crew<A: Monoid, B: Monoid> {
 
 impl<A: Monoid, B: Monoid> Model for Crew<A, B> {
     ghost use Rattle.aug_core.specs.Faces.{face};
-    ghost use Rattle.aug_trie.specs.Crews.{CrewFacts, crew_facts, HoldsCrew};
+    ghost use Rattle.aug_trie.specs.Crew.{CrewFacts};
+    ghost use Rattle.aug_trie.specs.inside.CrewState.{crew_facts, HoldsCrew};
 
     ghost Value = { CrewFacts };
 

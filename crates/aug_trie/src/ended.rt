@@ -6,8 +6,8 @@ ghost use Rattle.aug_core.specs.Cuts.{pairs_of_cut};
 ghost use Rattle.aug_words.specs.Seats.{AreTogether};
 ghost use Rattle.aug_words.specs.Rests.{EndWith};
 ghost use Rattle.aug_trie.specs.History.{last_cut};
-ghost use Rattle.aug_trie.specs.Knows.{knows};
-ghost use Rattle.aug_trie.specs.Crews.{IsEmptyTrie};
+ghost use Rattle.aug_trie.specs.inside.Knows.{knows};
+ghost use Rattle.aug_trie.specs.Ended.{IsEmptyTrie};
 
 use crate::error::BeginError;
 use aug_core::{Layout, RecordField};
@@ -35,8 +35,8 @@ pub struct Ended<A: Monoid, B: Monoid> {
 
 impl<A: Monoid, B: Monoid> Model for Ended<A, B> {
     ghost use Rattle.aug_core.specs.Faces.{face};
-    ghost use Rattle.aug_trie.specs.Crews.{EndedFacts};
-    ghost use Rattle.aug_trie.specs.Versions.{pairs_below, HoldsVersion};
+    ghost use Rattle.aug_trie.specs.Ended.{EndedFacts};
+    ghost use Rattle.aug_trie.specs.inside.EndedState.{pairs_below, HoldsVersion};
 
     ghost Value = { EndedFacts };
 

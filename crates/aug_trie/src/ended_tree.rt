@@ -3,9 +3,7 @@ ghost use Rattle.std.specs.Prelude.{◌≡◌, ◌+◌, ◌*◌, ◌^◌, ◌≤
 ghost use Rattle.aug_core.specs.Faces.{face};
 ghost use Rattle.aug_model.specs.Folds.{summary_of};
 ghost use Rattle.aug_query.specs.Tree.{IsTreeSet};
-ghost use Rattle.aug_trie.specs.Crews.{set_of_ended};
-ghost use Rattle.aug_trie.specs.EndedTrees.{HasEndedNode};
-ghost use Rattle.aug_trie.specs.Versions.{IsVersion, covered};
+ghost use Rattle.aug_trie.specs.Ended.{set_of_ended, HasEndedNode, IsVersion, covered};
 
 use crate::ended::Ended;
 use crate::leaf_words::leaf_weight;
@@ -68,10 +66,9 @@ impl<A: Monoid, B: Monoid> Tree<A, B> for Ended<A, B> {
 
     ghost use Rattle.aug_core.specs.Faces.{face};
     ghost use Rattle.aug_model.specs.Folds.{summary_of};
-    ghost use Rattle.aug_trie.specs.Crews.{set_of_ended};
-    ghost use Rattle.aug_trie.specs.EndedTrees.{KeepsEnded, HasEndedNode};
+    ghost use Rattle.aug_trie.specs.Ended.{set_of_ended, KeepsEnded, HasEndedNode};
     ghost use Rattle.aug_trie.specs.LeafWords.{weight_in_word};
-    ghost use Rattle.aug_trie.specs.EndedLaws.{kept_so, kept_on};
+    ghost use Rattle.aug_trie.specs.inside.EndedLaws.{kept_so, kept_on};
 
     ghost set_of = { λ e. set_of_ended e };
 

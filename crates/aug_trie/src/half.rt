@@ -22,8 +22,9 @@ pub struct PassHalf<A: Monoid, B: Monoid> {
 impl<A: Monoid, B: Monoid> Model for PassHalf<A, B> {
     ghost use Rattle.aug_core.specs.Faces.{face};
     ghost use Rattle.aug_core.specs.Counts.{changes_of};
-    ghost use Rattle.aug_trie.specs.Counted.{HasCounts};
-    ghost use Rattle.aug_trie.specs.Facts.{PassFacts, pass_facts, IsPass};
+    ghost use Rattle.aug_trie.specs.inside.Counted.{HasCounts};
+    ghost use Rattle.aug_trie.specs.Pass.{PassFacts};
+    ghost use Rattle.aug_trie.specs.inside.PassState.{pass_facts, IsPass};
 
     ghost Value = { PassFacts };
 

@@ -3,10 +3,11 @@ ghost use Rattle.std.specs.Prelude.{◌≡◌, ℕ, ◌+◌, ◌*◌, ◌^◌, �
 ghost use Rattle.aug_core.specs.Faces.{face};
 ghost use Rattle.aug_core.specs.Told.{KnowsTable};
 ghost use Rattle.aug_model.specs.Folds.{summary_of};
-ghost use Rattle.aug_trie.specs.Facts.{IsNodeOf};
+ghost use Rattle.aug_trie.specs.Node.{IsNodeOf};
 ghost use Rattle.aug_trie.specs.LeafWords.{leaf_pairs};
 ghost use Rattle.aug_trie.specs.TreeOf.{IsTreeOf};
-ghost use Rattle.aug_trie.specs.Nodes.{cut_named, Looks};
+ghost use Rattle.aug_trie.specs.inside.NamedCuts.{cut_named};
+ghost use Rattle.aug_trie.specs.inside.Goes.{Looks};
 
 use crate::node::Node;
 use crate::parts::leaf_part;

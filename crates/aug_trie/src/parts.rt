@@ -5,7 +5,7 @@ ghost use Rattle.aug_core.specs.Tree.{place_count, IsInner};
 ghost use Rattle.aug_core.specs.Told.{KnowsTable};
 ghost use Rattle.aug_core.specs.Refreshes.{HasEntry};
 ghost use Rattle.aug_trie.specs.LeafWords.{leaf_pairs};
-ghost use Rattle.aug_trie.specs.Goes.{IsPart, IsPartOf, Goes, Took, HasLeaves, part_steps};
+ghost use Rattle.aug_trie.specs.inside.Goes.{IsPart, IsPartOf, Goes, Took, HasLeaves, part_steps};
 
 use crate::leaf_words::{leaf_serial, leaf_weight};
 use aug_core::RecordField;

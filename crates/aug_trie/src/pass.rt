@@ -4,10 +4,13 @@ ghost use Rattle.std.specs.Bool.{OnTrue, OnFalse};
 ghost use Rattle.aug_trie.specs.Knowledge.{IsKnowledge, insertion, removal, inserts_of, removals_of};
 ghost use Rattle.aug_trie.specs.Updates.{AcceptedUpdate, RefusedUpdate, ComesTo, PutsIn, TakesSnapshot};
 ghost use Rattle.aug_model.specs.Folds.{summary_of};
-ghost use Rattle.aug_trie.specs.Nodes.{Keeps};
-ghost use Rattle.aug_trie.specs.Requests.{FitsRequest, answered};
+ghost use Rattle.aug_trie.specs.Node.{Keeps};
+ghost use Rattle.aug_trie.specs.inside.Climbing.{FitsRequest};
+ghost use Rattle.aug_trie.specs.Requests.{answered};
 ghost use Rattle.aug_core.specs.Kinds.{load_node};
-ghost use Rattle.aug_trie.specs.Facts.{root_of, GoesOn, StepsOf, HasSnapshot, snapshot_cut};
+ghost use Rattle.aug_trie.specs.Round.{root_of};
+ghost use Rattle.aug_trie.specs.Pass.{GoesOn, StepsOf};
+ghost use Rattle.aug_trie.specs.Snapshot.{HasSnapshot, snapshot_cut};
 
 use crate::request::{Request, insertions_by, removals_by};
 use crate::snapshot::Snapshot;
@@ -37,8 +40,9 @@ pub struct Pass<'r, A: Monoid, B: Monoid> {
 impl<'r, A: Monoid, B: Monoid> Model for Pass<'r, A, B> {
     ghost use Rattle.aug_core.specs.Faces.{face};
     ghost use Rattle.aug_core.specs.Counts.{changes_of};
-    ghost use Rattle.aug_trie.specs.Counted.{HasCounts};
-    ghost use Rattle.aug_trie.specs.Facts.{PassFacts, pass_facts, known_in, HoldsPass};
+    ghost use Rattle.aug_trie.specs.inside.Counted.{HasCounts};
+    ghost use Rattle.aug_trie.specs.Pass.{PassFacts};
+    ghost use Rattle.aug_trie.specs.inside.PassState.{pass_facts, known_in, HoldsPass};
 
     ghost Value = { PassFacts };
 

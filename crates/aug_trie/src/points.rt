@@ -4,8 +4,8 @@ ghost use Rattle.aug_core.specs.Faces.{face};
 ghost use Rattle.aug_core.specs.Fields.{field_offset};
 ghost use Rattle.aug_core.specs.Tree.{left_of};
 ghost use Rattle.aug_core.specs.declared.view.View.{View};
-ghost use Rattle.aug_trie.specs.Goes.{HasLeaves, part_steps};
-ghost use Rattle.aug_trie.specs.Points.{QuietStep, TryAt, Advances, Falls, IsOverLeaves, five_over, child_at, field_after};
+ghost use Rattle.aug_trie.specs.inside.Goes.{HasLeaves, part_steps};
+ghost use Rattle.aug_trie.specs.inside.Points.{QuietStep, TryAt, Advances, Falls, IsOverLeaves, five_over, child_at, field_after};
 
 use crate::parts::{leaf_part, part_of_words};
 use crate::refreshing::{five_words, look};

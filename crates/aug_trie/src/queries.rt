@@ -3,8 +3,8 @@ ghost use Rattle.std.specs.Prelude.{◌≡◌, ℕ, ◌+◌, ◌-◌, ◌*◌, �
 ghost use Rattle.aug_model.specs.Folds.{summary_of};
 ghost use Rattle.aug_model.specs.Keys.{is_member, list_of};
 ghost use Rattle.aug_model.specs.Queries.{rank_of, select_of, before_of, after_of, weight_of, weighted_range_of};
-ghost use Rattle.aug_trie.specs.Facts.{HasSnapshot};
-ghost use Rattle.aug_trie.specs.Nodes.{Reads, set_at};
+ghost use Rattle.aug_trie.specs.Snapshot.{HasSnapshot, set_at};
+ghost use Rattle.aug_trie.specs.Node.{Reads};
 
 use crate::pass::Pass;
 use crate::ranks::rank_at;

@@ -5,9 +5,9 @@ ghost use Rattle.aug_core.specs.Faces.{face};
 ghost use Rattle.aug_core.specs.Told.{KnowsTable};
 ghost use Rattle.aug_model.specs.Queries.{rank_of};
 ghost use Rattle.aug_query.specs.Tree.{first_key};
-ghost use Rattle.aug_trie.specs.Facts.{IsNodeOf};
-ghost use Rattle.aug_trie.specs.Goes.{HasLeaves};
-ghost use Rattle.aug_trie.specs.Nodes.{cut_named, Looks};
+ghost use Rattle.aug_trie.specs.Node.{IsNodeOf};
+ghost use Rattle.aug_trie.specs.inside.Goes.{HasLeaves, Looks};
+ghost use Rattle.aug_trie.specs.inside.NamedCuts.{cut_named};
 
 use crate::leaf_words::leaf_serial;
 use crate::snapshot::Snapshot;

@@ -4,8 +4,8 @@ ghost use Rattle.aug_core.specs.Faces.{face};
 ghost use Rattle.aug_core.specs.Tree.{place_count, IsInner};
 ghost use Rattle.aug_core.specs.Told.{KnowsTable};
 ghost use Rattle.aug_core.specs.Refreshes.{HasNewest, SaysLoaded, Published};
-ghost use Rattle.aug_trie.specs.Goes.{Goes, Took, HasLeaves, HasRoom, IsFree};
-ghost use Rattle.aug_trie.specs.Points.{QuietStep, TryOver};
+ghost use Rattle.aug_trie.specs.inside.Goes.{Goes, Took, HasLeaves, HasRoom, IsFree};
+ghost use Rattle.aug_trie.specs.inside.Points.{QuietStep, TryOver};
 
 use crate::parts::{Part, any_part};
 use aug_core::RecordField;

@@ -1,6 +1,6 @@
 //! What an update is asked to do.
 ghost use Rattle.std.specs.Prelude.{◌≡◌, ◌≤◌};
-ghost use Rattle.aug_trie.specs.Requests.{insertions_by as insertions, removals_by as removals};
+ghost use Rattle.aug_trie.specs.inside.Counted.{insertions_by as insertions, removals_by as removals};
 
 use aug_model::Outcome;
 

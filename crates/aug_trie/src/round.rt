@@ -4,7 +4,7 @@ ghost use Rattle.aug_monoid.specs.Weighted.{FitsPair};
 ghost use Rattle.aug_model.specs.Keys.{IsKeySet, keys_of};
 ghost use Rattle.aug_core.specs.Layout.{IsWithin, IsOutside, IsRefused};
 ghost use Rattle.aug_core.specs.Places.{shape_of};
-ghost use Rattle.aug_trie.specs.Crews.{BeginsRound, Ends};
+ghost use Rattle.aug_trie.specs.Crew.{BeginsRound, Ends};
 
 use crate::crew::Crew;
 use crate::ended::Ended;
@@ -27,7 +27,8 @@ pub struct Round<A: Monoid, B: Monoid> {
 
 impl<A: Monoid, B: Monoid> Model for Round<A, B> {
     ghost use Rattle.std.specs.Prelude.{◌≡◌};
-    ghost use Rattle.aug_trie.specs.Facts.{RoundFacts, store_round};
+    ghost use Rattle.aug_trie.specs.Round.{RoundFacts};
+    ghost use Rattle.aug_trie.specs.inside.RoundState.{store_round};
 
     ghost Value = { RoundFacts };
 

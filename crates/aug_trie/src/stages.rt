@@ -3,9 +3,9 @@ ghost use Rattle.std.specs.Prelude.{◌≡◌, ℕ, ◌+◌, ◌^◌, ◌<◌, [
 ghost use Rattle.aug_core.specs.Faces.{face};
 ghost use Rattle.aug_core.specs.Kinds.{load_leaf, try_leaf};
 ghost use Rattle.aug_core.specs.declared.view.View.{View};
-ghost use Rattle.aug_trie.specs.Points.{OneStep};
+ghost use Rattle.aug_trie.specs.inside.Points.{OneStep};
 ghost use Rattle.aug_trie.specs.Requests.{word_after as word_of_request};
-ghost use Rattle.aug_trie.specs.Stages.{StageAt, Climbs, StageFalls};
+ghost use Rattle.aug_trie.specs.inside.Stages.{StageAt, Climbs, StageFalls};
 
 use crate::ascents::{Ascent, ascend};
 use crate::request::Request;

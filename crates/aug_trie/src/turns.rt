@@ -2,12 +2,12 @@
 ghost use Rattle.std.specs.Prelude.{◌≡◌, ℕ, ◌+◌, ◌-◌, ◌*◌, ◌^◌, ◌<◌, ◌≤◌};
 ghost use Rattle.aug_model.specs.Folds.{summary_of};
 ghost use Rattle.aug_model.specs.declared.outcome.Outcome.{Outcome as Told};
-ghost use Rattle.aug_trie.specs.Facts.{PassFacts};
-ghost use Rattle.aug_trie.specs.Nodes.{Keeps};
-ghost use Rattle.aug_trie.specs.Points.{point_turns};
-ghost use Rattle.aug_trie.specs.Requests.{FitsRequest};
-ghost use Rattle.aug_trie.specs.Stages.{ascent_turns, part_above};
-ghost use Rattle.aug_trie.specs.Turns.{ClimbFacts, BeginsClimb, TurnsOn, Finishes};
+ghost use Rattle.aug_trie.specs.Pass.{PassFacts};
+ghost use Rattle.aug_trie.specs.Node.{Keeps};
+ghost use Rattle.aug_trie.specs.inside.Points.{point_turns};
+ghost use Rattle.aug_trie.specs.inside.Climbing.{FitsRequest};
+ghost use Rattle.aug_trie.specs.inside.Stages.{ascent_turns, part_above};
+ghost use Rattle.aug_trie.specs.Climb.{ClimbFacts, BeginsClimb, TurnsOn, Finishes};
 
 use crate::ascents::Ascent;
 use crate::pass::Pass;
@@ -38,7 +38,8 @@ pub struct Climb<'r, A: Monoid, B: Monoid> {
 
 impl<'r, A: Monoid, B: Monoid> Model for Climb<'r, A, B> {
     ghost use Rattle.aug_core.specs.Faces.{face};
-    ghost use Rattle.aug_trie.specs.Turns.{ClimbFacts, climb_facts, HoldsClimb};
+    ghost use Rattle.aug_trie.specs.Climb.{ClimbFacts};
+    ghost use Rattle.aug_trie.specs.inside.ClimbState.{climb_facts, HoldsClimb};
 
     ghost Value = { ClimbFacts };
 

@@ -4,10 +4,10 @@ ghost use Rattle.aug_core.specs.Faces.{face};
 ghost use Rattle.aug_core.specs.Counts.{changes_of};
 ghost use Rattle.aug_core.specs.Told.{KnowsTable};
 ghost use Rattle.aug_model.specs.declared.outcome.Outcome.TheVariants as outcome;
-ghost use Rattle.aug_trie.specs.Climbing.{Updated};
-ghost use Rattle.aug_trie.specs.Goes.{HasLeaves, HasRoom};
+ghost use Rattle.aug_trie.specs.inside.Climbing.{Updated, FitsRequest};
+ghost use Rattle.aug_trie.specs.inside.Goes.{HasLeaves, HasRoom};
 ghost use Rattle.aug_trie.specs.LeafWords.{serial_in_word};
-ghost use Rattle.aug_trie.specs.Requests.{FitsRequest, goes_from, outcome_by, word_after as word_of_request};
+ghost use Rattle.aug_trie.specs.Requests.{goes_from, outcome_by, word_after as word_of_request};
 
 use crate::climbing::propagate;
 use crate::leaf_words::{leaf_serial, leaf_word};

@@ -3,9 +3,8 @@ ghost use Rattle.std.specs.Prelude.{◌≡◌, ℕ, ◌+◌, ◌-◌, ◌*◌, �
 ghost use Rattle.aug_model.specs.Folds.{summary_of};
 ghost use Rattle.aug_model.specs.Keys.{is_member, list_of};
 ghost use Rattle.aug_model.specs.Queries.{select_of, before_of, after_of, weight_of, weighted_range_of};
-ghost use Rattle.aug_trie.specs.Facts.{HasSnapshot};
-ghost use Rattle.aug_trie.specs.Nodes.{set_at};
-ghost use Rattle.aug_trie.specs.Views.{Walked};
+ghost use Rattle.aug_trie.specs.Snapshot.{HasSnapshot, set_at};
+ghost use Rattle.aug_trie.specs.inside.ViewWalks.{Walked};
 
 use crate::leaf_words::leaf_weight;
 use crate::node::Node;
@@ -47,10 +46,11 @@ impl<A: Monoid, B: Monoid> Tree<A, B> for View<'_, '_, A, B> {
 
     ghost use Rattle.std.specs.Prelude.{◌≡◌, ℕ};
     ghost use Rattle.aug_model.specs.Folds.{summary_of};
-    ghost use Rattle.aug_trie.specs.Nodes.{HasNode as IsNode, set_at};
+    ghost use Rattle.aug_trie.specs.Node.{HasNode as IsNode};
+    ghost use Rattle.aug_trie.specs.Snapshot.{set_at};
     ghost use Rattle.aug_trie.specs.LeafWords.{weight_in_word};
-    ghost use Rattle.aug_trie.specs.Views.{KeepsPass};
-    ghost use Rattle.aug_trie.specs.ViewLaws.{kept_so, kept_on, node_of, leaf_weighs};
+    ghost use Rattle.aug_trie.specs.View.{KeepsPass};
+    ghost use Rattle.aug_trie.specs.inside.ViewLaws.{kept_so, kept_on, node_of, leaf_weighs};
 
     ghost set_of = { λ v. set_at v.pass.now v.snapshot };
 

@@ -2,8 +2,8 @@
 ghost use Rattle.std.specs.Prelude.{◌≡◌, ℕ, ◌+◌, ◌*◌, ◌^◌, ◌≤◌};
 ghost use Rattle.aug_model.specs.Folds.{summary_of};
 ghost use Rattle.aug_query.specs.Tree.{IsTreeSet};
-ghost use Rattle.aug_trie.specs.Facts.{HasSnapshot};
-ghost use Rattle.aug_trie.specs.Nodes.{HasNode, Reads, set_at};
+ghost use Rattle.aug_trie.specs.Snapshot.{HasSnapshot, set_at};
+ghost use Rattle.aug_trie.specs.Node.{HasNode, Reads};
 
 use crate::node::Node;
 use crate::nodes::{left_of, node_at, right_of};

@@ -1,6 +1,6 @@
 //! Copies of snapshots, nodes and refusals: each is used as what it is a copy of. And the texts of refusals for programmers.
 ghost use Rattle.std.specs.Prelude.{◌≡◌, ◌<◌};
-ghost use Rattle.aug_trie.specs.Facts.{HasSnapshot};
+ghost use Rattle.aug_trie.specs.Snapshot.{HasSnapshot};
 
 use super::rounds::{Trie, next_pass, opened, put};
 use aug_model::Summary;

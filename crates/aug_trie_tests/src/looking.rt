@@ -3,8 +3,8 @@ ghost use Rattle.std.specs.Prelude.{◌≡◌, ◌+◌, ◌*◌, ◌^◌, ◌<�
 ghost use Rattle.aug_model.specs.Folds.{summary_of};
 ghost use Rattle.aug_model.specs.Keys.{list_of};
 ghost use Rattle.aug_model.specs.Queries.{rank_of, weight_of};
-ghost use Rattle.aug_trie.specs.Facts.{HasSnapshot, snapshot_cut};
-ghost use Rattle.aug_trie.specs.Nodes.{HasNode, set_at};
+ghost use Rattle.aug_trie.specs.Snapshot.{HasSnapshot, snapshot_cut, set_at};
+ghost use Rattle.aug_trie.specs.Node.{HasNode};
 ghost use Rattle.aug_trie.specs.TreeOf.{IsTreeOf};
 
 use super::rounds::{insert, next_pass, opened};

@@ -1,6 +1,6 @@
 //! Puts: keys that come in with a weight of their own, and members that get another one.
 ghost use Rattle.std.specs.Prelude.{◌≡◌, ◌+◌, ◌<◌};
-ghost use Rattle.aug_trie.specs.Facts.{HasSnapshot};
+ghost use Rattle.aug_trie.specs.Snapshot.{HasSnapshot};
 
 use super::ending::{counts, next_round, seen_size};
 use super::rounds::{insert, next_pass, opened, put, remove};

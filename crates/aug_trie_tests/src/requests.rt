@@ -2,7 +2,7 @@
 //! words while they are made and for the two rows of its table, one of which is empty, and so does a round over no members. A round over
 //! some asks once more, for their list. Nothing else asks but a list, once.
 ghost use Rattle.std.specs.Prelude.{◌≡◌};
-ghost use Rattle.aug_trie.specs.Facts.{HasSnapshot};
+ghost use Rattle.aug_trie.specs.Snapshot.{HasSnapshot};
 
 use super::ending::next_round;
 use super::rounds::{Trie, insert, next_pass, opened, put, remove};

@@ -1,6 +1,6 @@
 //! Random scripts of one pass over some rounds, compared with the plain set.
 ghost use Rattle.std.specs.Prelude.{◌≡◌, ◌^◌, ◌<◌, ◌≤◌};
-ghost use Rattle.aug_trie.specs.Facts.{HasSnapshot};
+ghost use Rattle.aug_trie.specs.Snapshot.{HasSnapshot};
 
 use super::ending::next_round;
 use super::rounds::{Trie, next_pass};

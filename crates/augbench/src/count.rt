@@ -1,6 +1,6 @@
 //! Operations of one kind on one thread, for a counter of instructions.
 ghost use Rattle.std.specs.Prelude.{◌≡◌, ◌+◌, ◌*◌, ◌^◌, ◌<◌, ◌≤◌, IfOk};
-ghost use Rattle.aug_trie.specs.Facts.{HasSnapshot};
+ghost use Rattle.aug_trie.specs.Snapshot.{HasSnapshot};
 
 use crate::asked::{Counting, Operation};
 use crate::operation::Answer;

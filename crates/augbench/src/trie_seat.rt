@@ -1,6 +1,6 @@
 //! The trie as one thread works on it.
 ghost use Rattle.std.specs.Prelude.{◌≡◌};
-ghost use Rattle.aug_trie.specs.Facts.{HasSnapshot};
+ghost use Rattle.aug_trie.specs.Snapshot.{HasSnapshot};
 
 use crate::keys::of_batch;
 use crate::operation::{Answer, Operation, Seat, Span};

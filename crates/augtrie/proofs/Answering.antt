@@ -2,8 +2,9 @@
 use Rattle.std.proofs.Common.{◌≡◌, ℕ, List, refl, inl, inr}
 use Rattle.aug_model.specs.declared.outcome.Outcome.{Outcome}
 use Rattle.aug_model.specs.declared.summary.Summary.{Summary}
-use Rattle.aug_trie.specs.Facts.{PassFacts, HasSnapshot}
-use Rattle.aug_trie.specs.Nodes.{Keeps, Stays, set_at}
+use Rattle.aug_trie.specs.Pass.{PassFacts}
+use Rattle.aug_trie.specs.Snapshot.{HasSnapshot, set_at}
+use Rattle.aug_trie.specs.Node.{Keeps, Stays}
 use Rattle.aug_trie.specs.Updates.{AcceptedUpdate, RefusedUpdate, PutsIn}
 use Rattle.aug_trie.specs.declared.snapshot.Snapshot.{Snapshot}
 use Rattle.aug_report.specs.AllowedReport.{AnswersUpdate, AnswersPut, Asks, reply_to_put}

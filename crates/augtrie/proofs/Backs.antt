@@ -3,8 +3,8 @@ use Rattle.std.proofs.Common.{◌≡◌, ℕ, ◌<◌, ◌==◌, Bool, true, fal
 use Rattle.std.proofs.lemmas.Bool.{cases_lt}
 use Rattle.std.proofs.lemmas.List.{map-append, length-map, length-append, get_or_append_left}
 use Rattle.std.proofs.Math.Seq.{get_or-append_seam}
-use Rattle.aug_trie.specs.Crews.{CrewFacts}
-use Rattle.aug_trie.specs.Facts.{RoundFacts}
+use Rattle.aug_trie.specs.Crew.{CrewFacts}
+use Rattle.aug_trie.specs.Round.{RoundFacts}
 use Rattle.aug_trie.specs.Knowledge.{Knowledge}
 use Rattle.aug_trie.specs.Passes.{HandedBack}
 use Rattle.aug_report.specs.AllowedReport.{Lane, AnswersAll, lines_of}

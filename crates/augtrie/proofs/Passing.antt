@@ -4,7 +4,7 @@ use Rattle.std.proofs.lemmas.Bool.{cases_lt}
 use Rattle.std.proofs.lemmas.List.{get_or_append_left}
 use Rattle.std.proofs.Math.Seq.{get_or-append_seam}
 use Rattle.std.specs.declared.thread.PromisedHandle.{PromisedHandle}
-use Rattle.aug_trie.specs.Facts.{RoundFacts}
+use Rattle.aug_trie.specs.Round.{RoundFacts}
 use Rattle.augtrie.specs.inside.Threads.{Owes}
 use Rattle.augtrie.specs.inside.Workers.{IsDone}
 use Rattle.aug_script.specs.declared.row.Row.{Row}

@@ -1,8 +1,9 @@
 -- A round that ran and ended has an allowed report.
 use Rattle.std.proofs.Common.{◌≡◌, ℕ, ◌<◌, List, length, sym, ap, ◌∙◌, subst, arith, All}
 use Rattle.aug_model.specs.Keys.{IsKeySet, keys_of}
-use Rattle.aug_trie.specs.Crews.{CrewFacts, EndedFacts, Ends}
-use Rattle.aug_trie.specs.Facts.{RoundFacts}
+use Rattle.aug_trie.specs.Crew.{CrewFacts, Ends}
+use Rattle.aug_trie.specs.Ended.{EndedFacts}
+use Rattle.aug_trie.specs.Round.{RoundFacts}
 use Rattle.aug_report.specs.AllowedReport.{AllowedReport}
 use Rattle.aug_report.specs.InTurn.{IsInTurn}
 use Rattle.augtrie.specs.inside.Returns.{RanLanes}

@@ -2,7 +2,9 @@
 use Rattle.std.proofs.Common.{◌≡◌, ◌≢◌, ℕ, ◌+◌, ◌<◌, ◌≤◌, ◌==◌, ◌&&◌, IsTrue, Bool, true, cond, List, [], ◌∷◌, ◌++◌, length, take, take_all, get_or, sym, ap, ◌∙◌, subst, arith, if◌then◌else◌}
 use Rattle.std.proofs.lemmas.Bool.{eq-eqb, ne_eqb}
 use Rattle.std.proofs.lemmas.List.Filters.{length-filter_more}
-use Rattle.aug_trie.specs.Facts.{RoundFacts, PassFacts, HasSnapshot}
+use Rattle.aug_trie.specs.Round.{RoundFacts}
+use Rattle.aug_trie.specs.Pass.{PassFacts}
+use Rattle.aug_trie.specs.Snapshot.{HasSnapshot}
 use Rattle.aug_trie.specs.declared.snapshot.Snapshot.{Snapshot}
 use Rattle.aug_report.specs.AllowedReport.{Lane, Answers}
 use Rattle.aug_script.specs.Script.{is_update, updates_of}

@@ -1,6 +1,6 @@
 //! One row, run by a pass.
 ghost use Rattle.std.specs.Prelude.{◌≡◌, ◌+◌, ◌<◌, IsTrue, if◌then◌else◌};
-ghost use Rattle.aug_trie.specs.Facts.{HasSnapshot};
+ghost use Rattle.aug_trie.specs.Snapshot.{HasSnapshot};
 ghost use Rattle.aug_report.specs.AllowedReport.{Answers, reply_to_put};
 ghost use Rattle.aug_script.specs.Script.{is_in_bounds, is_update};
 ghost use Rattle.augtrie.specs.inside.Workers.{lane_of};

@@ -1,7 +1,7 @@
 //! A round on worker threads, one for each lane.
 ghost use Rattle.std.specs.Prelude.{◌≡◌, ◌+◌, ◌≤◌, length, Err, IfOk, OnErr};
 ghost use Rattle.aug_model.specs.Keys.{IsKeySet, keys_of};
-ghost use Rattle.aug_trie.specs.Crews.{BeginsRound};
+ghost use Rattle.aug_trie.specs.Crew.{BeginsRound};
 ghost use Rattle.aug_report.specs.AllowedReport.{AllowedReport, IsReportOf};
 ghost use Rattle.aug_report.specs.InTurn.{IsInTurn};
 ghost use Rattle.augtrie.specs.inside.Returns.{HasBegun, RanLanes};

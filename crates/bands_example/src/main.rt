@@ -6,8 +6,8 @@ ghost use Rattle.aug_model.specs.Folds.{summary_of};
 ghost use Rattle.aug_model.specs.Keys.{list_of};
 ghost use Rattle.aug_monoid.specs.Nothing.{nothing_parts};
 ghost use Rattle.aug_query.specs.Tree.{WalksAtMost, below_node, end_key};
-ghost use Rattle.aug_trie.specs.Facts.{HasSnapshot};
-ghost use Rattle.aug_trie.specs.Nodes.{Reads, set_at};
+ghost use Rattle.aug_trie.specs.Snapshot.{HasSnapshot, set_at};
+ghost use Rattle.aug_trie.specs.Node.{Reads};
 
 use aug_monoid::{Monoid, Nothing};
 use aug_query::{Calls, Tree};

@@ -2,8 +2,7 @@
 #![tactic(auto)]
 
 ghost use Rattle.std.specs.Prelude.{◌≡◌, ◌+◌, ◌≤◌, IfOk};
-ghost use Rattle.aug_trie.specs.Facts.{HasSnapshot};
-ghost use Rattle.aug_trie.specs.Nodes.{set_at};
+ghost use Rattle.aug_trie.specs.Snapshot.{HasSnapshot, set_at};
 ghost use Rattle.book_example.specs.Bids.{agrees};
 
 use aug_monoid::{Extent, Sum};

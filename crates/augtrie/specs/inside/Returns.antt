@@ -1,7 +1,7 @@
 -- What a round comes to once all passes are back at the crew.
 use Rattle.std.specs.Prelude.{◌≡◌, ℕ, ◌<◌, List, [], ◌∷◌, length, map, slice_index_or, All}
-use Rattle.aug_trie.specs.Crews.{CrewFacts}
-use Rattle.aug_trie.specs.Facts.{RoundFacts}
+use Rattle.aug_trie.specs.Crew.{CrewFacts}
+use Rattle.aug_trie.specs.Round.{RoundFacts}
 use Rattle.aug_trie.specs.Knowledge.{Knowledge}
 use Rattle.aug_report.specs.AllowedReport.{Lane, AnswersAll, lines_of}
 use Rattle.augtrie.specs.inside.Rounds.{BacksAll, Started}

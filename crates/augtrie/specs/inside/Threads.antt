@@ -1,7 +1,7 @@
 -- What the threads of a round owe.
 use Rattle.std.specs.Prelude.{◌≡◌, ℕ, ◌<◌, List, length, slice_index_or}
 use Rattle.std.specs.declared.thread.PromisedHandle.{PromisedHandle}
-use Rattle.aug_trie.specs.Facts.{RoundFacts}
+use Rattle.aug_trie.specs.Round.{RoundFacts}
 use Rattle.aug_script.specs.declared.row.Row.{Row}
 use Rattle.augtrie.specs.declared.start.LaneOf.{LaneOf}
 use Rattle.augtrie.specs.declared.work.Done.{Done}

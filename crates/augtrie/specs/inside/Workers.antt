@@ -1,7 +1,9 @@
 -- What the worker of a lane begins with, and what it gives back.
 use Rattle.std.specs.Prelude.{◌≡◌, ℕ, ◌<◌, ◌≤◌, ◌==◌, List, [], length, map, filter, slice_index, slice_index_or, vec_capacity}
 use Rattle.aug_core.specs.Cuts.{Cut, opening_cut}
-use Rattle.aug_trie.specs.Facts.{RoundFacts, PassFacts, snapshot_cut}
+use Rattle.aug_trie.specs.Round.{RoundFacts}
+use Rattle.aug_trie.specs.Pass.{PassFacts}
+use Rattle.aug_trie.specs.Snapshot.{snapshot_cut}
 use Rattle.aug_trie.specs.declared.snapshot.Snapshot.{Snapshot}
 use Rattle.aug_report.specs.AllowedReport.{Lane, AnswersAll}
 use Rattle.aug_script.specs.Limits.{Bounds}

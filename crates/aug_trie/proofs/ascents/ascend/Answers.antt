@@ -2,9 +2,9 @@ use Rattle.std.proofs.Common.{subst, sym, ◌≡◌, ◌+◌, ℕ}
 use Rattle.aug_core.specs.Faces.{face}
 use Rattle.aug_core.specs.Tree.{left_of}
 use Rattle.aug_core.specs.declared.view.View.{View}
-use Rattle.aug_trie.specs.Goes.{part_steps}
-use Rattle.aug_trie.specs.Points.{TryAt, Advances, Falls}
-use Rattle.aug_trie.specs.Stages.{part_above}
+use Rattle.aug_trie.specs.inside.Goes.{part_steps}
+use Rattle.aug_trie.specs.inside.Points.{TryAt, Advances, Falls}
+use Rattle.aug_trie.specs.inside.Stages.{part_above}
 use Rattle.aug_trie.specs.declared.points.Advanced.{Advanced}
 use Rattle.aug_trie.proofs.Ascending.{leaves_are, part_is, step_on, past_try, point_some, ascent_falls}
 use Rattle.aug_trie.proofs.ascents.ascend.Goals as goal

@@ -3,8 +3,8 @@ use Rattle.aug_core.specs.Faces.{face}
 use Rattle.aug_core.specs.Places.{Shape}
 use Rattle.aug_core.specs.Shows.{above}
 use Rattle.aug_core.specs.declared.view.View.{View}
-use Rattle.aug_trie.specs.Goes.{HasLeaves, HasRoom}
-use Rattle.aug_trie.specs.Stages.{IsCovered}
+use Rattle.aug_trie.specs.inside.Goes.{HasLeaves, HasRoom}
+use Rattle.aug_trie.specs.inside.Stages.{IsCovered}
 use Rattle.aug_trie.proofs.Ascending.{risen_none, inner_above, room_above, risen_on}
 use Rattle.aug_trie.proofs.Levels.{place_is}
 use Rattle.aug_trie.proofs.climbing.propagate.Goals as goal

@@ -1,7 +1,7 @@
 use Rattle.std.proofs.Common.{Bool, subst, ◌+◌}
 use Rattle.aug_core.specs.Faces.{face}
 use Rattle.aug_core.specs.declared.view.View.{View}
-use Rattle.aug_trie.specs.Points.{TryOver}
+use Rattle.aug_trie.specs.inside.Points.{TryOver}
 use Rattle.aug_trie.proofs.Ascending.{missed, covered_once, covered_twice}
 use Rattle.aug_trie.proofs.Going.{room_again}
 use Rattle.aug_trie.proofs.climbing.refresh_twice.Goals as goal

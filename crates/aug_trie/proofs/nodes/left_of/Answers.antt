@@ -1,7 +1,7 @@
 use Rattle.std.proofs.Common.{ℕ, ◌-◌, ◌*◌, inl, sym, subst}
 use Rattle.aug_core.specs.declared.view.View.{View}
-use Rattle.aug_trie.specs.Facts.{IsNodeOf}
-use Rattle.aug_trie.specs.Nodes.{cut_named}
+use Rattle.aug_trie.specs.Node.{IsNodeOf}
+use Rattle.aug_trie.specs.inside.NamedCuts.{cut_named}
 use Rattle.aug_trie.proofs.Looking.{record_seen, left_is}
 use Rattle.aug_trie.proofs.nodes.left_of.Goals as goal
 

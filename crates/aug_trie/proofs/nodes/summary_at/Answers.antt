@@ -2,7 +2,7 @@ use Rattle.std.proofs.Common.{◌∙◌, ◌≤◌, arith, inl, rules}
 use Rattle.aug_monoid.proofs.BoundLaws.{laws_of}
 use Rattle.aug_core.specs.Cuts.{Cut}
 use Rattle.aug_core.specs.declared.view.View.{View}
-use Rattle.aug_trie.specs.Nodes.{cut_named}
+use Rattle.aug_trie.specs.inside.NamedCuts.{cut_named}
 use Rattle.aug_trie.proofs.Telling.{seen_on, says_before}
 use Rattle.aug_trie.proofs.Looking.{leaf_tells, record_seen, count_fits, record_tells}
 use Rattle.aug_trie.proofs.nodes.summary_at.Goals as goal

@@ -4,7 +4,7 @@ use Rattle.aug_core.specs.Places.{Shape}
 use Rattle.aug_core.specs.Tree.{left_of}
 use Rattle.aug_core.specs.Refreshes.{HasNewest}
 use Rattle.aug_core.specs.declared.view.View.{View}
-use Rattle.aug_trie.specs.Points.{TryAt}
+use Rattle.aug_trie.specs.inside.Points.{TryAt}
 use Rattle.aug_trie.specs.declared.points.Point.{Point}
 use Rattle.aug_trie.specs.declared.points.Point.TheVariants.{Left}
 use Rattle.aug_trie.proofs.Advancing.{goes_at, node_on, left_on}

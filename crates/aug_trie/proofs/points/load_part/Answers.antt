@@ -6,7 +6,7 @@ use Rattle.aug_core.specs.Places.{Shape}
 use Rattle.aug_core.specs.Told.{HasSeen}
 use Rattle.aug_core.specs.declared.view.View.{View}
 use Rattle.aug_words.specs.Seats.{LoadsRecordWord}
-use Rattle.aug_trie.specs.Points.{child_at}
+use Rattle.aug_trie.specs.inside.Points.{child_at}
 use Rattle.aug_trie.specs.declared.points.Point.TheVariants.{Part}
 use Rattle.aug_trie.proofs.Advancing.{goes_at, child_seen, counts_fit, part_on, all_on, goes_all, took_all, nodes_told}
 use Rattle.aug_trie.proofs.points.load_part.Goals as goal

@@ -5,7 +5,7 @@ use Rattle.aug_core.specs.Places.{Shape}
 use Rattle.aug_core.specs.Tree.{left_of, right_of}
 use Rattle.aug_core.specs.Refreshes.{HasNewest}
 use Rattle.aug_core.specs.declared.view.View.{View}
-use Rattle.aug_trie.specs.Points.{IsOverLeaves}
+use Rattle.aug_trie.specs.inside.Points.{IsOverLeaves}
 use Rattle.aug_trie.specs.declared.points.Point.TheVariants.{Right}
 use Rattle.aug_trie.proofs.Advancing.{goes_at, right_on, to_words, leaves_told}
 use Rattle.aug_trie.proofs.points.load_right.Goals as goal

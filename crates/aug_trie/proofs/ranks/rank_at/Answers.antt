@@ -6,8 +6,9 @@ use Rattle.aug_core.specs.declared.view.View.{View}
 use Rattle.aug_model.specs.Queries.{rank_of}
 use Rattle.aug_query.specs.Tree.{first_key}
 use Rattle.aug_words.specs.Seats.{Known}
-use Rattle.aug_trie.specs.Facts.{IsNodeOf}
-use Rattle.aug_trie.specs.Nodes.{cut_named, Looks}
+use Rattle.aug_trie.specs.Node.{IsNodeOf}
+use Rattle.aug_trie.specs.inside.NamedCuts.{cut_named}
+use Rattle.aug_trie.specs.inside.Goes.{Looks}
 use Rattle.aug_trie.proofs.Looking.{record_seen, count_fits, count_is}
 use Rattle.aug_trie.proofs.Ranking.{above_seen, even_of, even_rank, odd_rank, cut_rises, top_rank, past_rank, rank_small, few_leaves, looks_none, looks_on, looks_one, seen_looking, says_looking}
 use Rattle.aug_trie.proofs.ranks.rank_at.Goals as goal

@@ -2,8 +2,9 @@ use Rattle.std.proofs.Common.{◌≡◌, ◌+◌, ◌-◌, ◌*◌, ◌/◌, ◌
 use Rattle.aug_core.specs.Cuts.{set_of_cut}
 use Rattle.aug_model.specs.Queries.{rank_of}
 use Rattle.aug_query.specs.Tree.{first_key}
-use Rattle.aug_trie.specs.Facts.{IsNodeOf}
-use Rattle.aug_trie.specs.Nodes.{cut_named, Looks}
+use Rattle.aug_trie.specs.Node.{IsNodeOf}
+use Rattle.aug_trie.specs.inside.NamedCuts.{cut_named}
+use Rattle.aug_trie.specs.inside.Goes.{Looks}
 use Rattle.aug_trie.proofs.ranks.rank_at.Given as goal
 
 abbrev pub invariant-loop-level : goal.invariant-loop-level

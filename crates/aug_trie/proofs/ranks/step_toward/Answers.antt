@@ -5,7 +5,7 @@ use Rattle.aug_core.specs.declared.view.View.{View}
 use Rattle.aug_model.specs.Queries.{rank_of}
 use Rattle.aug_model.proofs.Ranges.{Rises}
 use Rattle.aug_query.specs.Tree.{first_key}
-use Rattle.aug_trie.specs.Nodes.{cut_named}
+use Rattle.aug_trie.specs.inside.NamedCuts.{cut_named}
 use Rattle.aug_trie.proofs.Ranking.{above_seen, low_node, low_rank, high_node, low_seen, high_rank, cut_rises, rank_small}
 use Rattle.aug_trie.proofs.Telling.{seen_on, says_before}
 use Rattle.aug_trie.proofs.ranks.step_toward.Goals as goal

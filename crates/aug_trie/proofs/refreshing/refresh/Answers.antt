@@ -7,7 +7,7 @@ use Rattle.aug_core.specs.Refreshes.{HasNewest, SaysLoaded, Published}
 use Rattle.aug_core.specs.declared.view.View.{View}
 use Rattle.aug_core.proofs.Sizes.{twice}
 use Rattle.aug_core.proofs.Refreshing.{has_entry}
-use Rattle.aug_trie.specs.Goes.{Took, IsPartOf, part_steps}
+use Rattle.aug_trie.specs.inside.Goes.{Took, IsPartOf, part_steps}
 use Rattle.aug_trie.proofs.Going.{goes_on, room_on}
 use Rattle.aug_trie.proofs.Whole.{part_few, says, tries, took_refresh}
 use Rattle.aug_trie.proofs.refreshing.refresh.Goals as goal

@@ -2,7 +2,7 @@ use Rattle.std.proofs.Common.{◌∙◌, sym, subst, ℕ, Option}
 use Rattle.aug_core.specs.Faces.{face}
 use Rattle.aug_core.specs.declared.view.View.{View}
 use Rattle.aug_words.specs.Seats.{MayAdvance, TriedLeaf}
-use Rattle.aug_trie.specs.Stages.{StageAt, Ascends}
+use Rattle.aug_trie.specs.inside.Stages.{StageAt, Ascends}
 use Rattle.aug_trie.specs.declared.ascents.Ascent.{Ascent}
 use Rattle.aug_trie.specs.declared.stages.Stage.{Stage}
 use Rattle.aug_trie.proofs.Staging.{room_one, begun_change, begun_up, low_serial, may_advance, tried_up, rising_on, risen_up}

@@ -1,5 +1,5 @@
 use Rattle.std.proofs.Common.{◌≡◌}
-use Rattle.aug_trie.specs.Facts.{HasSnapshot}
+use Rattle.aug_trie.specs.Snapshot.{HasSnapshot}
 use Rattle.aug_trie_tests.proofs.putting.sees_replacements.Given as goal
 
 abbrev pub invariant-loop-weight : goal.invariant-loop-weight

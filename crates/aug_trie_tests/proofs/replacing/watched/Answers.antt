@@ -1,5 +1,5 @@
 use Rattle.std.proofs.Common.{refl, ap, ◌∙◌}
-use Rattle.aug_trie.specs.Facts.{PassFacts}
+use Rattle.aug_trie.specs.Pass.{PassFacts}
 use Rattle.aug_trie_tests.proofs.replacing.watched.Goals as goal
 
 pub loop-made-preserved : goal.loop-made-preserved

@@ -1,5 +1,5 @@
 use Rattle.std.proofs.Common.{◌≡◌}
-use Rattle.aug_trie.specs.Facts.{HasSnapshot}
+use Rattle.aug_trie.specs.Snapshot.{HasSnapshot}
 use Rattle.augbench.proofs.count.ranges.Given as goal
 
 abbrev pub invariant-loop-i : goal.invariant-loop-i

@@ -1,6 +1,6 @@
 use Rattle.std.proofs.Common.{◌≡◌, ◌∙◌, All, ap, subst, sym}
 use Rattle.std.proofs.lemmas.List.Elements.{All-push}
-use Rattle.aug_trie.specs.Facts.{PassFacts}
+use Rattle.aug_trie.specs.Pass.{PassFacts}
 use Rattle.augbench.proofs.Queues.{goes_over}
 use Rattle.augbench.specs.declared.trie_round.Job.{Job}
 use Rattle.augbench.proofs.trie_round.jobs.Goals as goal

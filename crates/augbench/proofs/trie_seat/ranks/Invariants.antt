@@ -1,5 +1,5 @@
 use Rattle.std.proofs.Common.{◌≡◌}
-use Rattle.aug_trie.specs.Facts.{HasSnapshot}
+use Rattle.aug_trie.specs.Snapshot.{HasSnapshot}
 use Rattle.augbench.proofs.trie_seat.ranks.Given as goal
 
 abbrev pub invariant-loop-number : goal.invariant-loop-number

@@ -1,6 +1,6 @@
 use Rattle.std.proofs.Common.{◌≡◌, ◌+◌, ◌∙◌, refl, ap, vec_len, slice_index, ◌∷◌, [], arith}
 use Rattle.std.proofs.lemmas.List.{get_or_read}
-use Rattle.aug_trie.specs.Facts.{PassFacts}
+use Rattle.aug_trie.specs.Pass.{PassFacts}
 use Rattle.aug_trie.proofs.Pieces.{begins_on}
 use Rattle.augtrie.specs.inside.Workers.{IsReady, opening_of}
 use Rattle.augtrie.specs.declared.work.Job.{Job}

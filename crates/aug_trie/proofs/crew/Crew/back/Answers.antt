@@ -6,9 +6,13 @@ use Rattle.aug_core.specs.Counts.{changes_of}
 use Rattle.aug_core.specs.Told.{own_lane_place}
 use Rattle.aug_core.specs.declared.view.View.{View}
 use Rattle.aug_words.specs.Seats.{Known}
-use Rattle.aug_trie.specs.Counted.{HasCounts}
-use Rattle.aug_trie.specs.Facts.{RoundFacts, PassFacts, round_of, pass_facts, known_in}
-use Rattle.aug_trie.specs.Crews.{CrewFacts, crew_facts, TakesBack}
+use Rattle.aug_trie.specs.inside.Counted.{HasCounts}
+use Rattle.aug_trie.specs.Round.{RoundFacts}
+use Rattle.aug_trie.specs.Pass.{PassFacts}
+use Rattle.aug_trie.specs.inside.RoundState.{round_of}
+use Rattle.aug_trie.specs.inside.PassState.{pass_facts, known_in}
+use Rattle.aug_trie.specs.Crew.{CrewFacts, TakesBack}
+use Rattle.aug_trie.specs.inside.CrewState.{crew_facts}
 use Rattle.aug_trie.proofs.Passing.{pass_told}
 use Rattle.aug_trie.proofs.Crews.{back_crew, takes_back_is}
 use Rattle.aug_trie.proofs.crew.Crew.back.Goals as goal

@@ -9,9 +9,10 @@ use Rattle.aug_core.specs.Counts.{changes_of}
 use Rattle.aug_core.specs.Told.{handed_out, taking, own_lane_place}
 use Rattle.aug_core.specs.declared.view.View.{View}
 use Rattle.aug_words.specs.Seats.{Known}
-use Rattle.aug_trie.specs.Counted.{HasCounts}
-use Rattle.aug_trie.specs.Facts.{pass_facts, IsPass}
-use Rattle.aug_trie.specs.Crews.{CrewFacts, crew_facts, HoldsCrew, HandsOut}
+use Rattle.aug_trie.specs.inside.Counted.{HasCounts}
+use Rattle.aug_trie.specs.inside.PassState.{pass_facts, IsPass}
+use Rattle.aug_trie.specs.Crew.{CrewFacts, HandsOut}
+use Rattle.aug_trie.specs.inside.CrewState.{crew_facts, HoldsCrew}
 use Rattle.aug_trie.proofs.Rounds.{are_together}
 use Rattle.aug_trie.proofs.Crews.{hands_crew, hands_pass, hands_counts, hands_out_is}
 use Rattle.aug_trie.proofs.crew.Crew.pass.Goals as goal

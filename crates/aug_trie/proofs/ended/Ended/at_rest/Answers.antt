@@ -2,7 +2,7 @@ use Rattle.std.proofs.Common.{◌∙◌, ℕ, ap, sym, subst}
 use Rattle.aug_core.specs.Faces.{face}
 use Rattle.aug_core.specs.declared.view.View.{View}
 use Rattle.aug_words.specs.Rests.{AtRest}
-use Rattle.aug_trie.specs.Versions.{pairs_below, HoldsVersion}
+use Rattle.aug_trie.specs.inside.EndedState.{pairs_below, HoldsVersion}
 use Rattle.aug_trie.proofs.Versions.{members_are, holds_version}
 use Rattle.aug_trie.proofs.Endings.{rest_shape, shows_seen}
 use Rattle.aug_trie.proofs.ended.Ended.at_rest.Goals as goal

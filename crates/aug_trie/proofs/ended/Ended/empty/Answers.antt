@@ -7,7 +7,7 @@ use Rattle.aug_core.specs.Opening.{Opening}
 use Rattle.aug_core.specs.Places.{shape_of}
 use Rattle.aug_core.specs.declared.view.View.{View}
 use Rattle.aug_trie.specs.History.{last_cut}
-use Rattle.aug_trie.specs.Knows.{knows}
+use Rattle.aug_trie.specs.inside.Knows.{knows}
 use Rattle.aug_trie.proofs.Crews.{begins_history}
 use Rattle.aug_trie.proofs.Endings.{smallest, none_shown, no_keys, none_fit}
 use Rattle.aug_trie.proofs.ended.Ended.empty.Goals as goal

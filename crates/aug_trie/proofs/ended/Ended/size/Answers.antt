@@ -1,5 +1,5 @@
 use Rattle.std.proofs.Common.{◌≤◌, ◌∙◌, length, arith, ap}
-use Rattle.aug_trie.specs.Crews.{EndedFacts}
+use Rattle.aug_trie.specs.Ended.{EndedFacts}
 use Rattle.aug_trie.proofs.Versions.{root_inside, root_counts, root_fits}
 use Rattle.aug_trie.proofs.ended.Ended.size.Goals as goal
 

@@ -2,8 +2,8 @@ use Rattle.std.proofs.Common.{◌≤◌, ◌∙◌, arith, ap, sym, subst, rules
 use Rattle.aug_monoid.proofs.BoundLaws.{laws_of}
 use Rattle.aug_core.specs.Faces.{face}
 use Rattle.aug_model.specs.Folds.{summary_of}
-use Rattle.aug_trie.specs.Crews.{EndedFacts}
-use Rattle.aug_trie.specs.Versions.{IsVersion, pairs_below, covered}
+use Rattle.aug_trie.specs.Ended.{EndedFacts, IsVersion, covered}
+use Rattle.aug_trie.specs.inside.EndedState.{pairs_below}
 use Rattle.aug_trie.proofs.Versions.{inside_of, count_fits, tells, leaf_tells, some_bits, few_bits}
 use Rattle.aug_trie.proofs.ended.Ended.summary_of_word.Goals as goal
 

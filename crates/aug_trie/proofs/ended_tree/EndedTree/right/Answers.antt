@@ -1,8 +1,8 @@
 use Rattle.std.proofs.Common.{◌≡◌, ◌+◌, ◌-◌, ◌*◌, ◌^◌, arith, ap, sym, subst, refl}
 use Rattle.aug_core.specs.Faces.{face}
 use Rattle.aug_query.proofs.Nodes.{right_high}
-use Rattle.aug_trie.specs.Crews.{EndedFacts}
-use Rattle.aug_trie.specs.Versions.{IsVersion, pairs_below}
+use Rattle.aug_trie.specs.Ended.{EndedFacts, IsVersion}
+use Rattle.aug_trie.specs.inside.EndedState.{pairs_below}
 use Rattle.aug_trie.proofs.Versions.{ended_set, inside_of, right_version}
 use Rattle.aug_trie.proofs.ended_tree.EndedTree.right.Goals as goal
 

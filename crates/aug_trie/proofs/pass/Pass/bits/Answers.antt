@@ -2,8 +2,9 @@ use Rattle.std.proofs.Common.{Option, ap, sym, subst, ◌∙◌}
 use Rattle.aug_query.specs.Tree.{IsTreeSet}
 use Rattle.aug_core.specs.Faces.{face}
 use Rattle.aug_words.specs.Seats.{Known}
-use Rattle.aug_trie.specs.Facts.{PassFacts, pass_facts, known_in}
-use Rattle.aug_trie.specs.Nodes.{set_at}
+use Rattle.aug_trie.specs.Pass.{PassFacts}
+use Rattle.aug_trie.specs.inside.PassState.{pass_facts, known_in}
+use Rattle.aug_trie.specs.Snapshot.{set_at}
 use Rattle.aug_trie.proofs.Trees.{named_set}
 use Rattle.aug_trie.proofs.pass.Pass.bits.Goals as goal
 

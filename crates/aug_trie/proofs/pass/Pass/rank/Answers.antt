@@ -7,9 +7,13 @@ use Rattle.aug_core.specs.Faces.{face}
 use Rattle.aug_core.specs.Counts.{changes_of}
 use Rattle.aug_core.specs.declared.view.View.{View}
 use Rattle.aug_words.specs.Seats.{Known}
-use Rattle.aug_trie.specs.Counted.{HasCounts}
-use Rattle.aug_trie.specs.Facts.{PassFacts, pass_facts, known_in, HasSnapshot, IsNodeOf}
-use Rattle.aug_trie.specs.Nodes.{cut_named, set_at, Looks, Reads}
+use Rattle.aug_trie.specs.inside.Counted.{HasCounts}
+use Rattle.aug_trie.specs.Pass.{PassFacts}
+use Rattle.aug_trie.specs.inside.PassState.{pass_facts, known_in}
+use Rattle.aug_trie.specs.Snapshot.{HasSnapshot, set_at}
+use Rattle.aug_trie.specs.Node.{IsNodeOf, Reads}
+use Rattle.aug_trie.specs.inside.NamedCuts.{cut_named}
+use Rattle.aug_trie.specs.inside.Goes.{Looks}
 use Rattle.aug_trie.proofs.Passing.{pass_told}
 use Rattle.aug_trie.proofs.Ranking.{keys_are}
 use Rattle.aug_trie.proofs.Trees.{top_is, reads_by, still_by}

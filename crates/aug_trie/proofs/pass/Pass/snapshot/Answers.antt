@@ -7,11 +7,14 @@ use Rattle.aug_core.specs.Told.{LoadsNode}
 use Rattle.aug_core.specs.declared.view.View.{View}
 use Rattle.aug_words.specs.Seats.{Known}
 use Rattle.aug_trie.specs.Updates.{TakesSnapshot}
-use Rattle.aug_trie.specs.Knows.{knows}
-use Rattle.aug_trie.specs.Counted.{HasCounts}
+use Rattle.aug_trie.specs.inside.Knows.{knows}
+use Rattle.aug_trie.specs.inside.Counted.{HasCounts}
 use Rattle.aug_model.specs.Folds.{summary_of}
-use Rattle.aug_trie.specs.Nodes.{Keeps}
-use Rattle.aug_trie.specs.Facts.{PassFacts, pass_facts, known_in, root_of, snapshot_cut, GoesOn}
+use Rattle.aug_trie.specs.Node.{Keeps}
+use Rattle.aug_trie.specs.Pass.{PassFacts, GoesOn}
+use Rattle.aug_trie.specs.inside.PassState.{pass_facts, known_in}
+use Rattle.aug_trie.specs.Round.{root_of}
+use Rattle.aug_trie.specs.Snapshot.{snapshot_cut}
 use Rattle.aug_trie.proofs.Going.{goes_seeing}
 use Rattle.aug_trie.proofs.Counters.{counted_still}
 use Rattle.aug_trie.proofs.Trees.{keeps_on}

@@ -5,9 +5,12 @@ use Rattle.aug_core.specs.Faces.{face}
 use Rattle.aug_core.specs.Counts.{changes_of}
 use Rattle.aug_core.specs.declared.view.View.{View}
 use Rattle.aug_words.specs.Seats.{Known}
-use Rattle.aug_trie.specs.Counted.{HasCounts}
-use Rattle.aug_trie.specs.Facts.{PassFacts, pass_facts, known_in, HasSnapshot, IsNodeOf}
-use Rattle.aug_trie.specs.Nodes.{cut_named, HasNode}
+use Rattle.aug_trie.specs.inside.Counted.{HasCounts}
+use Rattle.aug_trie.specs.Pass.{PassFacts}
+use Rattle.aug_trie.specs.inside.PassState.{pass_facts, known_in}
+use Rattle.aug_trie.specs.Snapshot.{HasSnapshot}
+use Rattle.aug_trie.specs.Node.{IsNodeOf, HasNode}
+use Rattle.aug_trie.specs.inside.NamedCuts.{cut_named}
 use Rattle.aug_trie.specs.TreeOf.{IsTreeOf}
 use Rattle.aug_trie.specs.declared.node.Node.{Node}
 use Rattle.aug_trie.specs.declared.snapshot.Snapshot.{Snapshot}

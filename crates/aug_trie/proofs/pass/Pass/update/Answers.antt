@@ -5,11 +5,12 @@ use Rattle.aug_core.specs.Counts.{changes_of}
 use Rattle.aug_core.specs.declared.view.View.{View}
 use Rattle.aug_words.specs.Seats.{Known}
 use Rattle.aug_trie.specs.Updates.{ComesTo}
-use Rattle.aug_trie.specs.Knows.{knows}
-use Rattle.aug_trie.specs.Counted.{HasCounts}
+use Rattle.aug_trie.specs.inside.Knows.{knows}
+use Rattle.aug_trie.specs.inside.Counted.{HasCounts}
 use Rattle.aug_model.specs.Folds.{summary_of}
-use Rattle.aug_trie.specs.Nodes.{Keeps}
-use Rattle.aug_trie.specs.Facts.{PassFacts, pass_facts, known_in, GoesOn, StepsOf, IsPass}
+use Rattle.aug_trie.specs.Node.{Keeps}
+use Rattle.aug_trie.specs.Pass.{PassFacts, GoesOn, StepsOf}
+use Rattle.aug_trie.specs.inside.PassState.{pass_facts, known_in, IsPass}
 use Rattle.aug_trie.proofs.Accepting.{comes_to}
 use Rattle.aug_trie.proofs.Counters.{counted_by, may_count}
 use Rattle.aug_trie.proofs.Trees.{keeps_on}

@@ -8,12 +8,14 @@ use Rattle.aug_core.specs.Faces.{face}
 use Rattle.aug_core.specs.Places.{Shape, shape_of}
 use Rattle.aug_core.specs.Layout.{IsLayout}
 use Rattle.aug_core.specs.Opening.{Opening}
-use Rattle.aug_trie.specs.Versions.{pairs_below}
+use Rattle.aug_trie.specs.inside.EndedState.{pairs_below}
 use Rattle.aug_core.specs.declared.view.View.{View}
 use Rattle.aug_words.specs.Seats.{Known}
-use Rattle.aug_trie.specs.Knows.{knows}
-use Rattle.aug_trie.specs.Facts.{store_round}
-use Rattle.aug_trie.specs.Crews.{EndedFacts, HoldsCrew, BeginsRound, crew_facts}
+use Rattle.aug_trie.specs.inside.Knows.{knows}
+use Rattle.aug_trie.specs.inside.RoundState.{store_round}
+use Rattle.aug_trie.specs.Ended.{EndedFacts}
+use Rattle.aug_trie.specs.inside.CrewState.{HoldsCrew, crew_facts}
+use Rattle.aug_trie.specs.Crew.{BeginsRound}
 use Rattle.aug_trie.proofs.Crews.{begins_crew, begins_history}
 use Rattle.aug_trie.proofs.round.Round.begin_wider.Goals as goal
 

@@ -4,9 +4,10 @@ use Rattle.aug_core.specs.Places.{Shape}
 use Rattle.aug_core.specs.Faces.{face}
 use Rattle.aug_core.specs.declared.view.View.{View}
 use Rattle.aug_words.specs.Seats.{Known}
-use Rattle.aug_trie.specs.Facts.{RoundFacts}
-use Rattle.aug_trie.specs.Crews.{CrewFacts, EndedFacts, Ends}
-use Rattle.aug_trie.specs.Versions.{pairs_below}
+use Rattle.aug_trie.specs.Round.{RoundFacts}
+use Rattle.aug_trie.specs.Crew.{CrewFacts, Ends}
+use Rattle.aug_trie.specs.Ended.{EndedFacts}
+use Rattle.aug_trie.specs.inside.EndedState.{pairs_below}
 use Rattle.aug_trie.proofs.Rounds.{are_together}
 use Rattle.aug_trie.proofs.Endings.{kept_for, back_few, ends_so, sizes_so}
 use Rattle.aug_trie.proofs.round.Round.end.Goals as goal

@@ -5,12 +5,13 @@ use Rattle.aug_model.specs.Folds.{summary_of}
 use Rattle.aug_words.specs.Seats.{Known}
 use Rattle.aug_core.specs.Counts.{changes_of}
 use Rattle.aug_model.specs.declared.outcome.Outcome.{Outcome}
-use Rattle.aug_trie.specs.Counted.{HasCounts}
-use Rattle.aug_trie.specs.Climbing.{Updated}
-use Rattle.aug_trie.specs.Facts.{pass_facts, IsPass}
-use Rattle.aug_trie.specs.Nodes.{Keeps}
-use Rattle.aug_trie.specs.Stages.{Climbs, StageFalls}
-use Rattle.aug_trie.specs.Turns.{ClimbFacts, climb_facts, start_facts, TurnsOn, Finishes}
+use Rattle.aug_trie.specs.inside.Counted.{HasCounts}
+use Rattle.aug_trie.specs.inside.Climbing.{Updated}
+use Rattle.aug_trie.specs.inside.PassState.{pass_facts, IsPass}
+use Rattle.aug_trie.specs.Node.{Keeps}
+use Rattle.aug_trie.specs.inside.Stages.{Climbs, StageFalls}
+use Rattle.aug_trie.specs.Climb.{ClimbFacts, TurnsOn, Finishes}
+use Rattle.aug_trie.specs.inside.ClimbState.{climb_facts, start_facts}
 use Rattle.aug_trie.specs.declared.stages.Next.{Next}
 use Rattle.aug_trie.proofs.Counters.{may_count, counted_by}
 use Rattle.aug_trie.proofs.Passing.{pass_after}

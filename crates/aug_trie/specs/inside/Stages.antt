@@ -7,13 +7,13 @@ use Rattle.aug_core.specs.Shows.{above, Lifts}
 use Rattle.aug_core.specs.Refreshes.{NewestCovers}
 use Rattle.aug_core.specs.Told.{own_lane, KnowsTable, BeginsAtLeaf}
 use Rattle.aug_core.specs.declared.view.View.{View}
-use Rattle.aug_trie.specs.Goes.{Goes, Took, TookBetween, HasRoom, part_steps}
-use Rattle.aug_trie.specs.Climbing.{Updated}
+use Rattle.aug_trie.specs.inside.Goes.{Goes, Took, TookBetween, HasRoom, part_steps}
+use Rattle.aug_trie.specs.inside.Climbing.{Updated, FitsRequest}
 use Rattle.aug_model.specs.declared.outcome.Outcome.{Outcome}
-use Rattle.aug_trie.specs.Facts.{IsPass}
+use Rattle.aug_trie.specs.inside.PassState.{IsPass}
 use Rattle.aug_trie.specs.LeafWords.{serial_in_word}
-use Rattle.aug_trie.specs.Requests.{FitsRequest, goes_from}
-use Rattle.aug_trie.specs.Points.{TryAt, TryOver, point_turns}
+use Rattle.aug_trie.specs.Requests.{goes_from}
+use Rattle.aug_trie.specs.inside.Points.{TryAt, TryOver, point_turns}
 use Rattle.aug_trie.specs.declared.request.Request.{Request}
 use Rattle.aug_trie.specs.declared.ascents.Ascent.{Ascent}
 use Rattle.aug_trie.specs.declared.stages.Stage.{Stage}

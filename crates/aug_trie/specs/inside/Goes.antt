@@ -1,5 +1,5 @@
 -- What the steps of a pass leave of what it knew, and what they add.
-use Rattle.std.specs.Prelude.{◌≡◌, ℕ, ◌+◌, ◌^◌, ◌≤◌, Bool, false, true, nat_lt, if◌then◌else◌, List, ◌++◌, length, All}
+use Rattle.std.specs.Prelude.{◌≡◌, ℕ, ◌+◌, ◌^◌, ◌≤◌, Bool, false, nat_lt, if◌then◌else◌, List, ◌++◌, length}
 use Rattle.aug_monoid.specs.Parts.{Parts}
 use Rattle.aug_monoid.specs.Fold.{fold_of}
 use Rattle.aug_core.specs.Places.{Shape}
@@ -9,13 +9,12 @@ use Rattle.aug_core.specs.Rule.{Lists}
 use Rattle.aug_core.specs.Counts.{changes_of}
 use Rattle.aug_core.specs.Told.{HoldsOnly, own_lane, KnowsTable}
 use Rattle.aug_core.specs.Refreshes.{Refreshed}
-use Rattle.aug_core.specs.declared.step.StepKind.{StepKind}
-use Rattle.aug_core.specs.declared.step.StepKind.TheVariants.{LoadLeaf, TryLeaf, LoadNode, TryNode, LoadRecordWord, StoreRecordWord, TakeLane, FinishLane}
 use Rattle.aug_core.specs.declared.step.StepTaken.{StepTaken}
 use Rattle.aug_core.specs.declared.view.Change.{Change}
 use Rattle.aug_core.specs.declared.view.Entry.{Entry}
 use Rattle.aug_core.specs.declared.view.Held.{Held}
 use Rattle.aug_core.specs.declared.view.View.{View}
+use Rattle.aug_trie.specs.Pass.{TryNoLeaf}
 
 -- the records of the view's lane from this one on were not published
 pub record IsFree (v : View) (next : ℕ) : Type 0 where
@@ -30,21 +29,6 @@ pub record HasRoom (v : View) (next records : ℕ) : Type 0 where
   pub is_free : IsFree v next
   pub room : next + records ≤ first_record v.shape (own_lane v.held) + lane_records v.shape
 
--- the kind is that of an exchange of a leaf
-abbrev pub tries_leaf : StepKind → Bool
-tries_leaf TryLeaf = true
-tries_leaf LoadLeaf = false
-tries_leaf LoadNode = false
-tries_leaf TryNode = false
-tries_leaf LoadRecordWord = false
-tries_leaf StoreRecordWord = false
-tries_leaf TakeLane = false
-tries_leaf FinishLane = false
-
--- none of the steps is one
-abbrev pub TryNoLeaf : List StepTaken → Type 0
-TryNoLeaf steps = All (λ taken. tries_leaf taken.kind ≡ false) steps
-
 -- the view made so many steps more, and no exchange of a leaf
 pub record Took (v w : View) (n : ℕ) : Type 0 where
   pub more : List StepTaken
@@ -58,6 +42,12 @@ pub record TookBetween (v w : View) (least most : ℕ) : Type 0 where
   pub least_steps : least ≤ steps
   pub most_steps : steps ≤ most
   pub took : Took v w steps
+
+-- the view made at most so many steps more, and nothing else of it changed
+pub record Looks (most : ℕ) (v w : View) : Type 0 where
+  pub more : List StepTaken
+  pub is : w ≡ record v { steps = v.steps ++ more }
+  pub few : length more ≤ most
 
 module _ (face : ℕ → ℕ → List (ℕ × ℕ) → List ℕ) where
   -- what was known grows, the changes gain these, and the records from `used` on that were free are so

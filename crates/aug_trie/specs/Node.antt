@@ -1,39 +1,26 @@
--- What contracts see of the nodes of a snapshot's tree, and what a walk leaves as it was.
-use Rattle.std.specs.Prelude.{◌≡◌, ℕ, ◌+◌, ◌≤◌, List, [], ◌++◌, length, slice_index_or, ◌<◌}
-use Rattle.aug_model.specs.declared.summary.Summary.{Summary}
-use Rattle.aug_model.specs.Keys.{SetFacts}
-use Rattle.aug_model.specs.Queries.{weight_in}
-use Rattle.aug_query.specs.Tree.{IsTreeSet}
+-- What contracts see of the nodes of a snapshot's tree, and what calls leave of a pass's snapshots and nodes.
+use Rattle.std.specs.Prelude.{◌≡◌, ℕ, ◌+◌, ◌≤◌, List, length}
 use Rattle.aug_core.specs.Places.{Shape}
 use Rattle.aug_core.specs.Book.{Book}
 use Rattle.aug_core.specs.Cuts.{Cut}
-use Rattle.aug_core.specs.declared.step.StepTaken.{StepTaken}
-use Rattle.aug_core.specs.declared.view.View.{View}
+use Rattle.aug_core.specs.EntryCuts.{entry_of, IsPartOfCut}
+use Rattle.aug_model.specs.declared.summary.Summary.{Summary}
+use Rattle.aug_model.specs.Queries.{weight_in}
+use Rattle.aug_query.specs.Tree.{IsTreeSet}
 use Rattle.aug_trie.specs.History.{Begins}
-use Rattle.aug_trie.specs.Knows.{root_history, root_numbers, first_place}
 use Rattle.aug_trie.specs.LeafWords.{weight_in_word}
-use Rattle.aug_trie.specs.TreeOf.{members_of, IsTreeOf}
-use Rattle.aug_trie.specs.Facts.{PassFacts, HasSnapshot, snapshot_cut, IsNodeOf}
+use Rattle.aug_trie.specs.TreeOf.{IsTreeOf}
+use Rattle.aug_trie.specs.Pass.{PassFacts}
+use Rattle.aug_trie.specs.Snapshot.{HasSnapshot, snapshot_cut, set_at}
 use Rattle.aug_trie.specs.declared.node.Node.{Node}
 use Rattle.aug_trie.specs.declared.snapshot.Snapshot.{Snapshot}
 
--- the cut that the root's record with the number shows
-abbrev pub cut_named : Shape → Book → ℕ → Cut
-cut_named s book number = slice_index_or (root_history s book) (first_place (root_numbers s book) number) []
-
--- the root has a record with this number
-abbrev pub HasNamed : Shape → Book → ℕ → Type 0
-HasNamed s book number = first_place (root_numbers s book) number < length (root_numbers s book)
-
--- the set that a snapshot of the pass shows, with its bits
-abbrev pub set_at : PassFacts → Snapshot → SetFacts
-set_at pass s = members_of pass.round.bits (snapshot_cut pass s.number)
-
--- the view made at most so many steps more, and nothing else of it changed
-pub record Looks (most : ℕ) (v w : View) : Type 0 where
-  pub more : List StepTaken
-  pub is : w ≡ record v { steps = v.steps ++ more }
-  pub few : length more ≤ most
+-- the word names an entry that stands below the cut, at the level and the place
+pub record IsNodeOf (s : Shape) (book : Book) (cut : Cut) (level place word : ℕ) : Type 0 where
+  pub q : ℕ
+  pub index : ℕ
+  pub part : IsPartOfCut s book cut level place q index
+  pub named : (entry_of book q index).word ≡ word
 
 module _ {A B : Type 0} (summary_of : List (ℕ × ℕ) → Summary A B) where
   -- the node is one of the tree of a snapshot of the pass, tells the summary of the members that it covers, and a leaf the weight of its key

@@ -9,8 +9,7 @@ use Rattle.aug_core.specs.Told.{KnowsTable, own_lane, storing}
 use Rattle.aug_core.specs.declared.step.StepTaken.{StepTaken}
 use Rattle.aug_core.specs.declared.view.Entry.{Entry}
 use Rattle.aug_core.specs.declared.view.View.{View}
-use Rattle.aug_trie.specs.Goes.{Goes, Took, HasRoom, Tries, IsPart, part_steps}
-use Rattle.aug_trie.specs.Nodes.{Looks}
+use Rattle.aug_trie.specs.inside.Goes.{Goes, Took, HasRoom, Tries, IsPart, part_steps, Looks}
 use Rattle.aug_trie.specs.LeafWords.{leaf_pairs}
 use Rattle.aug_trie.specs.declared.points.Reading.{Reading}
 use Rattle.aug_trie.specs.declared.points.Filling.{Filling}

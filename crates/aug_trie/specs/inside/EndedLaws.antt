@@ -1,7 +1,6 @@
 -- The laws of a trie at rest as a tree.
 use Rattle.std.proofs.Common.{refl, ap, ◌∙◌}
-use Rattle.aug_trie.specs.Crews.{EndedFacts}
-use Rattle.aug_trie.specs.EndedTrees.{KeepsEnded}
+use Rattle.aug_trie.specs.Ended.{EndedFacts, KeepsEnded}
 
 -- a trie that no call has walked keeps it
 pub kept_so : (trie : EndedFacts) → KeepsEnded trie trie

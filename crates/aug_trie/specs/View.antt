@@ -1,9 +1,9 @@
--- What a walk of a view keeps of its pass.
+-- What a query over a view keeps of its pass.
 use Rattle.std.specs.Prelude.{◌≡◌, ℕ, ◌+◌, ◌*◌, ◌≤◌, List, length}
 use Rattle.std.specs.Borrow.{MutBor}
 use Rattle.aug_model.specs.declared.summary.Summary.{Summary}
-use Rattle.aug_trie.specs.Facts.{PassFacts}
-use Rattle.aug_trie.specs.Nodes.{Stays, Reads}
+use Rattle.aug_trie.specs.Pass.{PassFacts}
+use Rattle.aug_trie.specs.Node.{Stays}
 use Rattle.aug_trie.specs.declared.snapshot.Snapshot.{Snapshot}
 
 module _ {A B : Type 0} (summary_of : List (ℕ × ℕ) → Summary A B) where
@@ -13,9 +13,3 @@ module _ {A B : Type 0} (summary_of : List (ℕ × ℕ) → Summary A B) where
     pub same_snapshot : s_now ≡ s_first
     pub stays : Stays summary_of first.now now.now
     pub few_steps : length now.now.steps + 4 * calls_first ≤ length first.now.steps + 4 * calls_now
-
-  -- the same after a query of at most so many calls
-  pub record Walked (calls : ℕ) (old new : MutBor PassFacts) (s_old s_new : Snapshot) : Type 0 where
-    pub same_reference : new.ghost_name ≡ old.ghost_name
-    pub same_snapshot : s_new ≡ s_old
-    pub reads : Reads summary_of (4 * calls) old.now new.now

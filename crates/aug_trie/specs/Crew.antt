@@ -1,19 +1,15 @@
--- What contracts see of a crew and of a trie at rest; how a round begins, and how its passes come and go.
-use Rattle.std.specs.Prelude.{◌≡◌, ℕ, ◌+◌, ◌%◌, ◌^◌, ◌<◌, ◌≤◌, List, [], ◌∷◌, ◌++◌, length, unwrap_or}
-use Rattle.aug_core.specs.Counts.{changes_of}
+-- What contracts see of a crew: how its round begins, how its passes come and go, and how the round ends.
+use Rattle.std.specs.Prelude.{◌≡◌, ℕ, ◌+◌, ◌<◌, List, [], ◌∷◌, ◌++◌, length}
 use Rattle.aug_core.specs.Cuts.{opening_cut, pairs_of_cut}
-use Rattle.aug_model.specs.Keys.{SetFacts}
 use Rattle.aug_core.specs.Kinds.{load_node}
 use Rattle.aug_core.specs.declared.step.StepTaken.{StepTaken}
-use Rattle.aug_core.specs.declared.view.View.{View}
-use Rattle.aug_words.specs.Seats.{Known}
-use Rattle.aug_words.specs.Rests.{AtRest}
 use Rattle.aug_trie.specs.History.{IsHistory, last_cut}
 use Rattle.aug_trie.specs.Knowledge.{Knowledge, IsKnowledge, inserts_of, removals_of}
-use Rattle.aug_trie.specs.Knows.{knows}
 use Rattle.aug_trie.specs.Passes.{HandedOut, HandedBack}
-use Rattle.aug_trie.specs.Facts.{RoundFacts, PassFacts, round_of, root_of, IsCrew}
+use Rattle.aug_trie.specs.Round.{RoundFacts, root_of}
+use Rattle.aug_trie.specs.Pass.{PassFacts}
 use Rattle.aug_trie.specs.Tallies.{TalliesWithLost}
+use Rattle.aug_trie.specs.Ended.{EndedFacts}
 
 -- a crew: its round, what it knows, its atomic steps, and how many passes it handed out and took back
 pub record CrewFacts : Type 0 where
@@ -22,43 +18,6 @@ pub record CrewFacts : Type 0 where
   pub steps : List StepTaken
   pub handed : ℕ
   pub back : ℕ
-
--- a trie at rest: its bits and members with their weights, what the round that ended it came to, how often queries called it, and the words and the root's record that its members are read from
-pub record EndedFacts : Type 0 where
-  pub bits : ℕ
-  pub members : List (ℕ × ℕ)
-  pub inserts : ℕ
-  pub removals : ℕ
-  pub missing : ℕ
-  pub calls : ℕ
-  pub rest : AtRest
-  pub root : ℕ
-
--- its set, with its bits
-abbrev pub set_of_ended : EndedFacts → SetFacts
-set_of_ended ended = record { bits = ended.bits; pairs = ended.members }
-
--- the trie of the empty set, which no round ended
-pub record IsEmptyTrie (bits : ℕ) (ended : EndedFacts) : Type 0 where
-  pub bits_are : ended.bits ≡ bits
-  pub no_members : ended.members ≡ []
-  pub no_inserts : ended.inserts ≡ 0
-  pub no_removals : ended.removals ≡ 0
-  pub none_missing : ended.missing ≡ 0
-  pub no_calls : ended.calls ≡ 0
-
--- the crew whose seat knows this
-abbrev pub crew_facts : Known → CrewFacts
-crew_facts known = record { round = round_of known.table known.view; knows = knows known.view; steps = known.view.steps; handed = unwrap_or known.view.spare 0; back = length known.view.held }
-
--- what a crew's fields keep: its counters are those of its changes, in 32 bits
-pub record HoldsCrew (face : ℕ → ℕ → List (ℕ × ℕ) → List ℕ) (v : View) (back inserts removals : ℕ) : Type 0 where
-  pub handed : ℕ
-  pub is_crew : IsCrew face v handed (length v.held)
-  pub few : handed ≤ v.shape.workers
-  pub back_is : back ≡ length v.held % 2 ^ 32
-  pub inserts_are : inserts ≡ inserts_of (changes_of v.held) % 2 ^ 32
-  pub removals_are : removals ≡ removals_of (changes_of v.held) % 2 ^ 32
 
 -- a round of keys of so many bits over the set of a trie at rest, and its crew, which knows the opening cut alone and handed nothing out
 pub record BeginsRound (ended : EndedFacts) (bits workers updates : ℕ) (round : RoundFacts) (crew : CrewFacts) : Type 0 where

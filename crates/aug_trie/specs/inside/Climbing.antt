@@ -1,7 +1,7 @@
 -- An update as a whole: what its steps are, and what it comes to.
-use Rattle.std.specs.Prelude.{◌≡◌, ◌≢◌, ℕ, true, false, List, [], ◌∷◌, ◌++◌, length, ◌+◌, ◌*◌, ◌≤◌}
+use Rattle.std.specs.Prelude.{◌≡◌, ℕ, ◌+◌, ◌*◌, ◌^◌, ◌<◌, ◌≤◌, ⊤, true, false, List, [], ◌∷◌, ◌++◌, length}
 use Rattle.aug_core.specs.Book.{Book, At, IsPassed}
-use Rattle.aug_core.specs.Kinds.{load_leaf, try_leaf}
+use Rattle.aug_core.specs.Kinds.{load_leaf}
 use Rattle.aug_core.specs.Shows.{NewestShows, ShowsAtMost}
 use Rattle.aug_core.specs.Told.{made_by, new_serial}
 use Rattle.aug_core.specs.declared.step.StepTaken.{StepTaken}
@@ -10,20 +10,18 @@ use Rattle.aug_core.specs.declared.view.Entry.{Entry}
 use Rattle.aug_core.specs.declared.view.View.{View}
 use Rattle.aug_model.specs.declared.outcome.Outcome.{Outcome}
 use Rattle.aug_model.specs.declared.outcome.Outcome.TheVariants as outcome
-use Rattle.aug_trie.specs.Goes.{Goes, TryNoLeaf}
+use Rattle.aug_trie.specs.inside.Goes.{Goes}
+use Rattle.aug_trie.specs.Pass.{TryNoLeaf, Tried}
 use Rattle.aug_trie.specs.LeafWords.{serial_in_word}
-use Rattle.aug_trie.specs.Requests.{goes_from, in_the_way, advance_from, word_after, outcome_by}
+use Rattle.aug_trie.specs.Requests.{goes_from, in_the_way, advance_from}
 use Rattle.aug_trie.specs.declared.request.Request.{Request}
+use Rattle.aug_trie.specs.declared.request.Request.TheVariants.{Insert, Remove, Put}
 
--- the second step is an exchange of the word that was loaded for the one that the request makes of it, and the outcome says whether it succeeded;
--- there is no other
-pub record Tried (request : Request) (key loaded : ℕ) (more : List StepTaken) (done : Outcome) : Type 0 where
-  pub found : ℕ
-  pub rest : List StepTaken
-  pub second : more ≡ try_leaf key loaded (word_after request key loaded) found ∷ rest
-  pub hit : found ≡ loaded → done ≡ outcome_by request loaded
-  pub miss : found ≢ loaded → done ≡ outcome.Refused
-  pub no_other : TryNoLeaf rest
+-- the weight that a put brings fits a leaf's word
+abbrev pub FitsRequest : Request → Type 0
+FitsRequest Insert = ⊤
+FitsRequest Remove = ⊤
+FitsRequest (Put weight) = weight < 2 ^ 32
 
 -- the leaf's entry with this serial weighs so much
 pub record WeighsAt (book : Book) (key serial weight : ℕ) : Type 0 where

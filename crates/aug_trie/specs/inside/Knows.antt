@@ -1,6 +1,6 @@
 -- What a view knows of a round: the cuts that the root's entries show, and the changes of the view's lanes.
-use Rattle.std.specs.Prelude.{ℕ, ◌==◌, List, length, map}
-use Rattle.std.specs.List.{range_with_len, position_or_len}
+use Rattle.std.specs.Prelude.{ℕ, List, length, map}
+use Rattle.std.specs.List.{range_with_len}
 use Rattle.aug_core.specs.Places.{Shape}
 use Rattle.aug_core.specs.Tree.{root_place}
 use Rattle.aug_core.specs.Book.{Book, history_of}
@@ -17,10 +17,6 @@ root_history s book = map (root_cut s book) (range_with_len 0 (length (history_o
 -- the numbers of the root's records, one for each of these cuts
 abbrev pub root_numbers : Shape → Book → List ℕ
 root_numbers s book = map (λ entry. entry.number) (history_of book (root_place s))
-
--- where a number first stands in a list: past its end where it does not
-abbrev pub first_place : List ℕ → ℕ → ℕ
-first_place numbers number = position_or_len (λ n. n == number) numbers
 
 -- what a view knows
 abbrev pub knows : View → Knowledge

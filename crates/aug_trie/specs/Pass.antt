@@ -1,0 +1,81 @@
+-- What contracts see of a pass, and what an update makes of it.
+use Rattle.std.specs.Prelude.{◌≡◌, ◌≢◌, ℕ, ◌+◌, ◌*◌, ◌≤◌, Bool, true, false, List, ◌∷◌, ◌++◌, length, All}
+use Rattle.aug_core.specs.Places.{Shape}
+use Rattle.aug_core.specs.Book.{Book}
+use Rattle.aug_core.specs.Cuts.{serial_of}
+use Rattle.aug_core.specs.Kinds.{load_leaf, try_leaf}
+use Rattle.aug_core.specs.declared.step.StepTaken.{StepTaken}
+use Rattle.aug_model.specs.declared.outcome.Outcome.{Outcome}
+use Rattle.aug_model.specs.declared.outcome.Outcome.TheVariants.{Refused}
+use Rattle.aug_core.specs.declared.step.StepKind.{StepKind}
+use Rattle.aug_core.specs.declared.step.StepKind.TheVariants.{LoadLeaf, TryLeaf, LoadNode, TryNode, LoadRecordWord, StoreRecordWord, TakeLane, FinishLane}
+use Rattle.aug_trie.specs.LeafWords.{serial_in_word}
+use Rattle.aug_trie.specs.Requests.{goes_from, in_the_way, word_after, outcome_by}
+use Rattle.aug_trie.specs.History.{Begins, last_cut}
+use Rattle.aug_trie.specs.Knowledge.{Knowledge, IsKnowledge}
+use Rattle.aug_trie.specs.Round.{RoundFacts}
+use Rattle.aug_trie.specs.declared.request.Request.{Request}
+
+-- the words that the nodes of a pass's snapshots are read from: how they are laid out, and what they said. A caller hands this on as it is, and never looks into it
+pub record WordsSeen : Type 0 where
+  pub shape : Shape
+  pub book : Book
+
+-- a pass: its round and lane, what it knows, for each cut of its history the number of the root's record that shows it, how many updates it made, its atomic
+-- steps, and the words that it has seen
+pub record PassFacts : Type 0 where
+  pub round : RoundFacts
+  pub lane : ℕ
+  pub knows : Knowledge
+  pub numbers : List ℕ
+  pub spent : ℕ
+  pub steps : List StepTaken
+  pub words : WordsSeen
+
+-- the pass is in the same round and lane, after so many further updates and steps
+pub record GoesOn (updates steps : ℕ) (old new : PassFacts) : Type 0 where
+  pub round : new.round ≡ old.round
+  pub lane : new.lane ≡ old.lane
+  pub spent : new.spent ≡ old.spent + updates
+  pub step_count : length new.steps ≡ length old.steps + steps
+  pub steps_stay : Begins old.steps new.steps
+  pub knowledge : IsKnowledge new.round.bits new.round.members new.knows
+  pub named : length new.numbers ≡ length new.knows.history
+
+-- the kind is that of an exchange of a leaf
+abbrev pub tries_leaf : StepKind → Bool
+tries_leaf TryLeaf = true
+tries_leaf LoadLeaf = false
+tries_leaf LoadNode = false
+tries_leaf TryNode = false
+tries_leaf LoadRecordWord = false
+tries_leaf StoreRecordWord = false
+tries_leaf TakeLane = false
+tries_leaf FinishLane = false
+
+-- none of the steps is one
+abbrev pub TryNoLeaf : List StepTaken → Type 0
+TryNoLeaf steps = All (λ taken. tries_leaf taken.kind ≡ false) steps
+
+-- an update's second step is an exchange of the word that was loaded for the one that the request makes of it, and the outcome says whether it succeeded;
+-- it exchanges no other leaf
+pub record Tried (request : Request) (key loaded : ℕ) (more : List StepTaken) (done : Outcome) : Type 0 where
+  pub found : ℕ
+  pub rest : List StepTaken
+  pub second : more ≡ try_leaf key loaded (word_after request key loaded) found ∷ rest
+  pub hit : found ≡ loaded → done ≡ outcome_by request loaded
+  pub miss : found ≢ loaded → done ≡ Refused
+  pub no_other : TryNoLeaf rest
+
+-- an update's steps: so many at least and at most; the first loads the key's leaf; where the serial found refuses, no leaf is exchanged, and else the
+-- second step is the only exchange, of the word found for the one that the request makes of it, and the outcome says whether it succeeded. After a refusal the last
+-- cut shows what stood in the way, so the steps brought it to the root
+pub record StepsOf (request : Request) (key : ℕ) (done : Outcome) (old new : PassFacts) : Type 0 where
+  pub found : ℕ
+  pub more : List StepTaken
+  pub steps : new.steps ≡ old.steps ++ load_leaf key found ∷ more
+  pub least_steps : 15 * old.round.bits ≤ length more + 1 + 5
+  pub most_steps : length more + 1 + 10 ≤ 30 * old.round.bits
+  pub refuses : goes_from request (serial_in_word found) ≡ false → (done ≡ Refused) × TryNoLeaf more
+  pub tries : goes_from request (serial_in_word found) ≡ true → Tried request key found more done
+  pub shows : done ≡ Refused → in_the_way request (serial_in_word found) ≤ serial_of (last_cut new.knows.history) key

@@ -1,0 +1,31 @@
+-- What the fields of a crew keep, and how what contracts see of it comes of them.
+use Rattle.std.specs.Prelude.{◌≡◌, ℕ, ◌%◌, ◌^◌, ◌≤◌, Some, unwrap_or, List, length}
+use Rattle.aug_core.specs.Counts.{changes_of}
+use Rattle.aug_core.specs.declared.view.View.{View}
+use Rattle.aug_words.specs.Seats.{Known}
+use Rattle.aug_core.specs.Told.{KnowsTable}
+use Rattle.aug_trie.specs.Knowledge.{inserts_of, removals_of}
+use Rattle.aug_trie.specs.inside.Knows.{knows, KnowsRound}
+use Rattle.aug_trie.specs.inside.RoundState.{round_of}
+use Rattle.aug_trie.specs.Crew.{CrewFacts}
+
+-- the crew whose seat knows this
+abbrev pub crew_facts : Known → CrewFacts
+crew_facts known = record { round = round_of known.table known.view; knows = knows known.view; steps = known.view.steps; handed = unwrap_or known.view.spare 0; back = length known.view.held }
+
+module _ (face : ℕ → ℕ → List (ℕ × ℕ) → List ℕ) where
+  -- the view of a lead that handed out so many lanes and took so many passes back
+  pub record IsCrew (v : View) (handed back : ℕ) : Type 0 where
+    pub knows_table : KnowsTable face v
+    pub hands_out : v.spare ≡ Some handed
+    pub took_back : length v.held ≡ back
+    pub knowledge : KnowsRound v
+
+-- what a crew's fields keep: its counters are those of its changes, in 32 bits
+pub record HoldsCrew (face : ℕ → ℕ → List (ℕ × ℕ) → List ℕ) (v : View) (back inserts removals : ℕ) : Type 0 where
+  pub handed : ℕ
+  pub is_crew : IsCrew face v handed (length v.held)
+  pub few : handed ≤ v.shape.workers
+  pub back_is : back ≡ length v.held % 2 ^ 32
+  pub inserts_are : inserts ≡ inserts_of (changes_of v.held) % 2 ^ 32
+  pub removals_are : removals ≡ removals_of (changes_of v.held) % 2 ^ 32

@@ -1,0 +1,43 @@
+-- What the fields of a pass keep, and how what contracts see of it comes of them.
+use Rattle.std.specs.Prelude.{◌≡◌, ℕ, ◌+◌, ◌-◌, ◌*◌, ◌^◌, ◌<◌, ◌≤◌, Option, Some, unwrap_or, List, [], length}
+use Rattle.aug_core.specs.Counts.{changes_of}
+use Rattle.aug_core.specs.Told.{KnowsTable, own_lane, spent}
+use Rattle.aug_words.specs.Seats.{Known}
+use Rattle.aug_core.specs.declared.view.View.{View}
+use Rattle.aug_trie.specs.inside.Goes.{HasLeaves, HasRoom}
+use Rattle.aug_trie.specs.inside.Knows.{knows, root_numbers, KnowsRound}
+use Rattle.aug_trie.specs.Pass.{PassFacts}
+use Rattle.aug_trie.specs.inside.RoundState.{round_of}
+
+-- what a seat knows, where it is there
+abbrev pub known_in : Option Known → Known
+known_in words = unwrap_or words (record { table = record { words = 0; slots = 0; views_name = 0; atom = 0; block = 0; offset = 0; slot_names = [] }; view = spent })
+
+-- a pass with what its seat knows, and so many updates left
+abbrev pub pass_facts : Known → ℕ → PassFacts
+pass_facts known left = record {
+  round = round_of known.table known.view;
+  lane = own_lane known.view.held;
+  knows = knows known.view;
+  numbers = root_numbers known.view.shape known.view.seen;
+  spent = known.view.shape.updates - left;
+  steps = known.view.steps;
+  words = record { shape = known.view.shape; book = known.view.seen };
+}
+
+module _ (face : ℕ → ℕ → List (ℕ × ℕ) → List ℕ) where
+  -- the view of a pass with the records from `next` on, for so many updates more
+  pub record IsPass (v : View) (leaves bits next left : ℕ) : Type 0 where
+    pub leaves_are : HasLeaves v.shape leaves
+    pub bits_are : bits ≡ v.shape.bits
+    pub knows_table : KnowsTable face v
+    pub room : HasRoom v next (left * bits)
+    pub budget : length (changes_of v.held) + 2 * left ≤ 2 * v.shape.updates
+    pub small : next + left * bits < 2 ^ 60
+    pub knowledge : KnowsRound v
+
+  -- and a pass that holds it
+  pub record HoldsPass (words : Option Known) (leaves bits next left : ℕ) : Type 0 where
+    pub known : Known
+    pub there : words ≡ Some known
+    pub is_pass : IsPass known.view leaves bits next left

@@ -28,7 +28,7 @@ use Rattle.aug_core.specs.Rule.{Kept, newcomer}
 use Rattle.atomic_table.specs.Table.{opening}
 use Rattle.aug_core.proofs.Openings.{opens}
 use Rattle.aug_words.specs.declared.building.Plan.{Plan}
-use Rattle.aug_words.specs.Builds.{WritesFive, MarksMembers, IsMarked, nodes_from, next_own, IsOwn, HasRecord, IsReady, IsBuilt, IsNextNode}
+use Rattle.aug_words.specs.inside.Builds.{WritesFive, MarksMembers, IsMarked, nodes_from, next_own, IsOwn, HasRecord, IsReady, IsBuilt, IsNextNode}
 
 -- ---- the members below a place
 

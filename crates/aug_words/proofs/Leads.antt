@@ -26,7 +26,8 @@ use Rattle.aug_monoid.specs.Weighted.{FitsPair}
 use mathlib.Core.Option.{some}
 use lib.ListN.{get_elem?}
 use Rattle.aug_words.specs.Leads.{HandsLaneOut}
-use Rattle.aug_words.specs.Seats.{Sat, HandsOut, SitsAt, IsPassSeat, IsLeadSeat, IsStore}
+use Rattle.aug_words.specs.inside.SeatState.{Sat, SitsAt, IsPassSeat, IsLeadSeat, IsStore}
+use Rattle.aug_words.specs.Seats.{HandsOut}
 
 -- a table has a word
 pub some_words : (table : TableId) (opening : Opening) (layout : Shape) (lanes records : ℕ) → IsStore table opening layout lanes records → 0 < table.words

@@ -19,7 +19,8 @@ use Rattle.aug_core.specs.declared.view.View.{View}
 use Rattle.aug_core.proofs.Sizes.{record_inside}
 use Rattle.aug_core.proofs.Fits.{knows_shown, knows_same}
 use Rattle.aug_core.proofs.Stores.{alone, one_held}
-use Rattle.aug_words.specs.Seats.{Sat, SitsAt, IsPassSeat, HasReached, MayLoad, LoadsRecordWord}
+use Rattle.aug_words.specs.inside.SeatState.{Sat, SitsAt, IsPassSeat, HasReached}
+use Rattle.aug_words.specs.Seats.{MayLoad, LoadsRecordWord}
 
 -- a seat whose shape and table stayed
 pub sits_on : (a a' t : TableId) (l r : ℕ) (s s' : Shape) → SitsAt a t l r s → a' ≡ a → s' ≡ s → SitsAt a' t l r s'

@@ -3,8 +3,7 @@ use Rattle.std.specs.Prelude.{◌≡◌, ℕ, ◌+◌, ◌<◌, List, slice_inde
 use mathlib.Core.Option.{some}
 use lib.ListN.{get_elem?}
 use Rattle.atomic_table.specs.Table.{State}
-use Rattle.aug_core.specs.Layout.{IsLayout}
-use Rattle.aug_core.specs.Places.{Shape, lane_place, record_start, word_count}
+use Rattle.aug_core.specs.Places.{Shape, lane_place, record_start}
 use Rattle.aug_core.specs.Tree.{IsInner}
 use Rattle.aug_core.specs.Lanes.{IsOfLane}
 use Rattle.aug_core.specs.Book.{At}
@@ -19,13 +18,6 @@ use Rattle.aug_core.specs.declared.view.View.{View}
 pub record AtRest : Type 0 where
   pub shape : Shape
   pub words : List ℕ
-
--- a table at rest has all words of its layout and no slot, and its records begin at this word
-pub record IsRest (words slots : ℕ) (layout : Shape) (records : ℕ) : Type 0 where
-  pub laid_out : IsLayout layout
-  pub wide : words ≡ word_count layout
-  pub no_slots : slots ≡ 0
-  pub records_are : records ≡ record_start layout 0
 
 module _ (face : ℕ → ℕ → List (ℕ × ℕ) → List ℕ) (o : Opening) (v : View) (words : List ℕ) where
   -- the words meet the rule, and one of the views is this one

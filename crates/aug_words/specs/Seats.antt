@@ -1,24 +1,19 @@
--- What contracts see of a table, of a lead and of a pass, and what their fields keep.
-use Rattle.std.specs.Prelude.{◌≡◌, ℕ, ◌+◌, ◌<◌, ◌⊎◌, ◌↔◌, Bool, IsTrue, List, [], length, slice_index, Some, true}
+-- What contracts see of a table, of a lead and of a pass, and what a call of a pass asks.
+use Rattle.std.specs.Prelude.{◌≡◌, ℕ, ◌+◌, ◌<◌, ◌⊎◌, ◌↔◌, Bool, IsTrue, List, slice_index, Some}
 use mathlib.Core.Option.{some}
 use lib.ListN.{get_elem?}
-use Rattle.atomic_table.specs.Table.{Me}
 use Rattle.atomic_table.specs.Seated.{TableId}
-use Rattle.aug_core.specs.Places.{Shape, lane_place, record_start, word_count}
-use Rattle.aug_core.specs.Layout.{IsLayout}
+use Rattle.aug_core.specs.Places.{record_start}
 use Rattle.aug_core.specs.Tree.{root_place, IsInner}
-use Rattle.aug_core.specs.Lanes.{IsOfLane, block_size}
+use Rattle.aug_core.specs.Lanes.{IsOfLane}
 use Rattle.aug_core.specs.Book.{At, IsNewest}
 use Rattle.aug_core.specs.Opening.{Opening}
 use Rattle.aug_core.specs.Kinds.{load_record_word}
-use Rattle.aug_core.specs.Told.{stepping, held_word, HoldsOnly, HasSeen, Owns, KnowsTable, IsAdvance, old_word, new_word, TriesLeaf, TriesNode}
+use Rattle.aug_core.specs.Told.{stepping, held_word, HasSeen, Owns, IsAdvance, old_word, new_word, TriesLeaf, TriesNode}
 use Rattle.aug_core.specs.declared.view.Advance.{Advance}
 use Rattle.aug_core.specs.declared.view.Entry.{Entry}
 use Rattle.aug_core.specs.declared.view.Held.{Held}
 use Rattle.aug_core.specs.declared.view.View.{View}
-
-abbrev pub Sat : Type 0
-Sat = Me (Unit {0}) View
 
 -- a table, and how it was opened
 pub record Store : Type 0 where
@@ -56,27 +51,6 @@ pub record LoadsRecordWord (v : View) (number field r : ℕ) (w : View) : Type 0
   pub known : (q i : ℕ) (e : Entry) → IsInner v.shape q → At v.seen q i e → e.number ≡ number → r ≡ slice_index e.words field
   pub own : (a : ℕ) (h : Held) → get_elem? v.held a ≡ some h → IsOfLane v.shape h.lane number → r ≡ held_word v.shape h number field
 
--- what a table's fields keep
-pub record IsStore (table : TableId) (opening : Opening) (layout : Shape) (lanes records : ℕ) : Type 0 where
-  pub laid_out : IsLayout opening.shape
-  pub one_layout : layout ≡ opening.shape
-  pub wide : table.words ≡ word_count opening.shape
-  pub no_slots : table.slots ≡ 0
-  pub lanes_are : lanes ≡ lane_place opening.shape 0
-  pub records_are : records ≡ record_start opening.shape 0
-
--- a seat sits at its table, whose lanes and records begin at these words
-pub record SitsAt (seat_table table : TableId) (lanes records : ℕ) (s : Shape) : Type 0 where
-  pub seated : seat_table ≡ table
-  pub wide : table.words ≡ word_count s
-  pub lanes_are : lanes ≡ lane_place s 0
-  pub records_are : records ≡ record_start s 0
-
--- the leaf has reached the serial
-pub record HasReached (v : View) (key serial : ℕ) : Type 0 where
-  pub entry : Entry
-  pub at : At v.seen key serial entry
-
 -- an exchange of the leaf's word for another is one of those that there are, and the leaf is known to have had the first
 pub record MayAdvance (v : View) (key old new : ℕ) : Type 0 where
   pub advance : Advance
@@ -95,26 +69,6 @@ pub record NamesRoot (v : View) (number : ℕ) : Type 0 where
   pub named : number ≡ entry.number
 
 module _ (face : ℕ → ℕ → List (ℕ × ℕ) → List ℕ) where
-  -- what is so of the seat of a pass: it has one lane, which is taken, and all words of its records, and knows its table
-  pub record IsPassSeat (lane : ℕ) (me : Sat) : Type 0 where
-    pub live : me.0.live ≡ true
-    pub no_slot : me.1 ≡ []
-    pub held : Held
-    pub only : HoldsOnly me.0 held
-    pub named : held.lane ≡ lane
-    pub taken : held.state ≡ 1
-    pub long : length held.words ≡ block_size me.0.shape
-    pub exists : lane < me.0.shape.workers
-    pub knows : KnowsTable face me.0
-
-  -- what is so of the seat of a lead: it hands out the lanes from the next one on, knows its table, and has the number of the root's newest record
-  pub record IsLeadSeat (next root : ℕ) (me : Sat) : Type 0 where
-    pub live : me.0.live ≡ true
-    pub no_slot : me.1 ≡ []
-    pub hands_out : me.0.spare ≡ Some next
-    pub knows : KnowsTable face me.0
-    pub names_root : NamesRoot me.0 root
-
   -- the answer says whether the leaf's word was the old one
   pub record TriedLeaf (v : View) (key old new : ℕ) (done : Bool) (w : View) : Type 0 where
     pub found : ℕ

@@ -27,7 +27,8 @@ pub struct Lead<A: Monoid, B: Monoid> {
 
 impl<A: Monoid, B: Monoid> Model for Lead<A, B> {
     ghost use Rattle.aug_core.specs.Faces.{face};
-    ghost use Rattle.aug_words.specs.Seats.{Known, IsLeadSeat};
+    ghost use Rattle.aug_words.specs.Seats.{Known};
+    ghost use Rattle.aug_words.specs.inside.SeatState.{IsLeadSeat};
 
     ghost Value = { Known };
 

@@ -31,7 +31,8 @@ pub struct WordPass<'r, A: Monoid, B: Monoid> {
 
 impl<'r, A: Monoid, B: Monoid> Model for WordPass<'r, A, B> {
     ghost use Rattle.aug_core.specs.Faces.{face};
-    ghost use Rattle.aug_words.specs.Seats.{Known, SitsAt, IsPassSeat};
+    ghost use Rattle.aug_words.specs.Seats.{Known};
+    ghost use Rattle.aug_words.specs.inside.SeatState.{SitsAt, IsPassSeat};
 
     ghost Value = { Known };
 

@@ -1,6 +1,6 @@
 use Rattle.std.proofs.Common.{arith, sym, subst, ◌≡◌, ◌+◌, ℕ, set}
 use Rattle.aug_core.specs.Faces.{face}
-use Rattle.aug_words.specs.Builds.{nodes_from, IsBuilt}
+use Rattle.aug_words.specs.inside.Builds.{nodes_from, IsBuilt}
 use Rattle.aug_words.proofs.Builds.{rises, next_node, node_shared}
 use Rattle.aug_words.proofs.building.Building.put_empty.Goals as goal
 

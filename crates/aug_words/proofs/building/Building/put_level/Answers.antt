@@ -1,7 +1,7 @@
 use Rattle.std.proofs.Common.{arith, ap, ◌∙◌, subst, ◌≡◌, ◌<◌, ◌+◌, ◌-◌, ◌^◌, ℕ}
 use Rattle.std.proofs.lemmas.Nat.{one_shl}
 use Rattle.aug_core.specs.Faces.{face}
-use Rattle.aug_words.specs.Builds.{nodes_from, IsBuilt}
+use Rattle.aug_words.specs.inside.Builds.{nodes_from, IsBuilt}
 use Rattle.aug_words.proofs.Builds.{next_level}
 use Rattle.aug_words.proofs.building.Building.put_level.Goals as goal
 

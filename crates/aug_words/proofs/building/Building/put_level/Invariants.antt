@@ -1,6 +1,6 @@
 use Rattle.std.proofs.Common.{◌≡◌, ◌≤◌, ◌+◌, ◌-◌, ◌^◌}
 use Rattle.aug_core.specs.Faces.{face}
-use Rattle.aug_words.specs.Builds.{nodes_from, next_own, IsBuilt}
+use Rattle.aug_words.specs.inside.Builds.{nodes_from, next_own, IsBuilt}
 use Rattle.aug_words.proofs.building.Building.put_level.Given as goal
 
 abbrev pub invariant-loop-place : goal.invariant-loop-place

@@ -1,7 +1,7 @@
 use Rattle.std.proofs.Common.{arith, refl, ap, subst, ◌∙◌, ◌≡◌, ◌+◌, ◌-◌, ◌*◌, ◌<◌, ℕ, List, [], ◌∷◌}
 use Rattle.aug_core.specs.Places.{record_start}
 use Rattle.aug_core.specs.Faces.{face}
-use Rattle.aug_words.specs.Builds.{WritesFive}
+use Rattle.aug_words.specs.inside.Builds.{WritesFive}
 use Rattle.aug_core.proofs.FaceLemmas.{face_is}
 use Rattle.aug_words.proofs.Builds.{rises, shared_more}
 use Rattle.aug_words.proofs.building.Building.put_shared.Goals as goal

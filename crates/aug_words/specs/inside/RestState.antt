@@ -1,0 +1,11 @@
+-- What the fields of a table at rest keep.
+use Rattle.std.specs.Prelude.{◌≡◌, ℕ}
+use Rattle.aug_core.specs.Layout.{IsLayout}
+use Rattle.aug_core.specs.Places.{Shape, record_start, word_count}
+
+-- a table at rest has all words of its layout and no slot, and its records begin at this word
+pub record IsRest (words slots : ℕ) (layout : Shape) (records : ℕ) : Type 0 where
+  pub laid_out : IsLayout layout
+  pub wide : words ≡ word_count layout
+  pub no_slots : slots ≡ 0
+  pub records_are : records ≡ record_start layout 0

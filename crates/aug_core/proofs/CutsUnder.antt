@@ -9,7 +9,7 @@ use Rattle.aug_core.specs.Book.{Book, history_of}
 use Rattle.aug_core.specs.Opening.{serial_entry}
 use Rattle.aug_core.specs.declared.view.Entry.{Entry}
 use Rattle.aug_core.proofs.Sizes.{twice}
-use Rattle.aug_core.specs.Shows.{above, toward, Shows}
+use Rattle.aug_core.specs.inside.Shows.{above, toward, Shows}
 use Rattle.aug_core.specs.Cuts.{Cut}
 use Rattle.aug_core.specs.EntryCuts.{entry_of, cut_under, IsWord}
 use Rattle.aug_core.proofs.CutLists.{read}

@@ -2,7 +2,7 @@
 use Rattle.std.proofs.Common.{◌≡◌, ℕ, zero, suc, ◌+◌, ◌-◌, ◌*◌, ◌<◌, ◌≤◌, List, ◌++◌, length, get_or, set, length-set, get_or-set_same, get_or-set_other, sym, ap, ◌∙◌, subst, arith}
 use Rattle.aug_core.specs.Places.{record_start}
 use Rattle.aug_core.specs.Lanes.{first_record, IsOfLane, block_start, block_size}
-use Rattle.aug_core.specs.Refreshes.{SaysLoaded}
+use Rattle.aug_core.specs.inside.Refreshes.{SaysLoaded}
 use Rattle.aug_core.specs.Told.{HoldsOnly, held_word, on_first, with_word, storing, IsFilled}
 use Rattle.aug_core.specs.declared.view.Held.{Held}
 use Rattle.aug_core.specs.declared.view.View.{View}

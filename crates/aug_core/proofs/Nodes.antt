@@ -12,7 +12,8 @@ use Rattle.aug_core.specs.Book.{Book, history_of, At, IsNewest, Continues, Floor
 use Rattle.aug_core.specs.Opening.{Opening}
 use Rattle.aug_core.specs.Rule.{Lists, NamesNewest, HoldsLane, Kept}
 use Rattle.aug_core.specs.Kinds.{try_node}
-use Rattle.aug_core.specs.Told.{HoldsOnly, HasTakenLane, MayStore, held_word, on_first, with_published, seeing, publishing, IsFilled, tried_node}
+use Rattle.aug_core.specs.Told.{HoldsOnly, MayStore, held_word, on_first, with_published, seeing, publishing, IsFilled, tried_node}
+use Rattle.aug_core.specs.inside.LaneStates.{HasTakenLane}
 use Rattle.aug_core.specs.declared.step.StepTaken.{StepTaken}
 use Rattle.aug_core.specs.declared.view.Entry.{Entry}
 use Rattle.aug_core.specs.declared.view.Held.{Held}

@@ -4,7 +4,7 @@ use Rattle.std.proofs.lemmas.Bool.{cases_lt}
 use Rattle.aug_core.specs.Places.{Shape}
 use Rattle.aug_core.specs.Tree.{place_count, IsInner, left_of, right_of}
 use Rattle.aug_core.specs.Book.{Book, history_of, At, Continues, IsFresh, IsBook}
-use Rattle.aug_core.specs.Refreshes.{HasEntry, HasNewest, NewestCovers, IsLoaded, Published, Refreshed}
+use Rattle.aug_core.specs.inside.Refreshes.{HasEntry, HasNewest, NewestCovers, IsLoaded, Published, Refreshed}
 use Rattle.aug_core.specs.declared.view.Entry.{Entry}
 use Rattle.aug_core.proofs.Sizes.{twice}
 use Rattle.aug_core.proofs.Books.{no_shorter, one_entry, same_index, newest_is_last, there_is, second_covers}

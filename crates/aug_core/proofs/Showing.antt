@@ -7,8 +7,8 @@ use Rattle.aug_core.specs.Tree.{IsInner, left_of, right_of}
 use Rattle.aug_core.specs.Book.{Book, history_of, At, Continues, IsBook}
 use Rattle.aug_core.specs.declared.view.Entry.{Entry}
 use Rattle.aug_core.proofs.Sizes.{twice, some_leaf}
-use Rattle.aug_core.specs.Refreshes.{NewestCovers}
-use Rattle.aug_core.specs.Shows.{above, toward, Shows, NewestShows}
+use Rattle.aug_core.specs.inside.Refreshes.{NewestCovers}
+use Rattle.aug_core.specs.inside.Shows.{above, toward, Shows, NewestShows}
 
 -- ---- where the places above a key lie
 

@@ -9,7 +9,8 @@ use Rattle.aug_core.specs.Lanes.{first_record, IsOfLane, block_start}
 use Rattle.aug_core.specs.Opening.{Opening}
 use Rattle.aug_core.specs.Rule.{Lists, HoldsLane, Kept}
 use Rattle.aug_core.specs.Kinds.{store_record_word}
-use Rattle.aug_core.specs.Told.{on_first, with_word, HoldsOnly, HasTakenLane, MayStore, storing, stored_record}
+use Rattle.aug_core.specs.Told.{on_first, with_word, HoldsOnly, MayStore, storing, stored_record}
+use Rattle.aug_core.specs.inside.LaneStates.{HasTakenLane}
 use Rattle.aug_core.specs.declared.step.StepTaken.{StepTaken}
 use Rattle.aug_core.specs.declared.view.Held.{Held}
 use Rattle.aug_core.specs.declared.view.View.{View}

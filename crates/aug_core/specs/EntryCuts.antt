@@ -1,7 +1,7 @@
 -- The cut that an entry of the book shows: the serials that its leaves had reached, and their weights.
 use Rattle.std.specs.Prelude.{◌≡◌, ℕ, ◌+◌, ◌-◌, ◌*◌, ◌^◌, ◌<◌, ◌≤◌, [], ◌∷◌, ◌++◌, length, slice_index_or, zero, suc}
 use Rattle.aug_core.specs.Places.{Shape}
-use Rattle.aug_core.specs.Tree.{left_of, right_of, root_place}
+use Rattle.aug_core.specs.Tree.{left_of, right_of}
 use Rattle.aug_core.specs.Book.{Book, history_of}
 use Rattle.aug_core.specs.Opening.{serial_entry}
 use Rattle.aug_core.specs.Cuts.{Cut}
@@ -15,10 +15,6 @@ entry_of book q i = slice_index_or (history_of book q) i (serial_entry 0 0 0)
 abbrev pub cut_under : Shape → Book → ℕ → ℕ → ℕ → Cut
 cut_under s book zero q i = (i, (entry_of book q i).weight) ∷ []
 cut_under s book (suc level) q i = cut_under s book level (left_of s q) (entry_of book q i).left ++ cut_under s book level (right_of s q) (entry_of book q i).right
-
--- the cut of an entry of the root
-abbrev pub root_cut : Shape → Book → ℕ → Cut
-root_cut s book i = cut_under s book s.bits (root_place s) i
 
 -- the word of the leaf or the node at a level, counted from 0, and a place on that level
 abbrev pub word_at : Shape → ℕ → ℕ → ℕ

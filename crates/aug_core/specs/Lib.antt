@@ -13,5 +13,4 @@ pub mod Rule
 pub mod Told
 pub mod Cuts
 pub mod EntryCuts
-pub mod Shows
-pub mod Refreshes
+pub mod inside

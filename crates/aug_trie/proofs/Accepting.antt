@@ -9,8 +9,9 @@ use Rattle.aug_core.specs.Book.{Continues, IsBook}
 use Rattle.aug_core.specs.Counts.{change, changes_of}
 use Rattle.aug_core.specs.Told.{KnowsTable, LoadsNode, made_by, new_serial}
 use Rattle.aug_core.specs.Cuts.{serial_of, IsAtMost}
-use Rattle.aug_core.specs.EntryCuts.{root_cut, IsPartOfCut}
-use Rattle.aug_core.specs.Shows.{NewestShows}
+use Rattle.aug_core.specs.inside.RootCuts.{root_cut}
+use Rattle.aug_core.specs.EntryCuts.{IsPartOfCut}
+use Rattle.aug_core.specs.inside.Shows.{NewestShows}
 use Rattle.aug_core.specs.declared.view.Advance.{Advance}
 use Rattle.aug_core.specs.declared.view.Change.{Change}
 use Rattle.aug_core.specs.declared.view.View.{View}

@@ -7,7 +7,7 @@ use Rattle.aug_monoid.specs.Laws.{IsMonoid}
 use Rattle.aug_core.specs.Places.{Shape, record_start}
 use Rattle.aug_core.specs.Faces.{face}
 use Rattle.aug_core.specs.Tree.{place_count, IsInner, left_of, right_of}
-use Rattle.aug_core.specs.Refreshes.{HasNewest, SaysLoaded}
+use Rattle.aug_core.specs.inside.Refreshes.{HasNewest, SaysLoaded}
 use Rattle.aug_core.specs.Told.{HasSeen, KnowsTable, MayStore, IsFilled, TriesNode, storing}
 use Rattle.aug_core.specs.declared.view.View.{View}
 use Rattle.aug_core.proofs.FaceLemmas.{left_in, right_in}

@@ -3,8 +3,8 @@ use Rattle.std.proofs.Common.{◌≡◌, ℕ, zero, suc, add-one, ◌+◌, ◌-�
 use Rattle.aug_core.specs.Places.{Shape}
 use Rattle.aug_core.specs.Tree.{IsInner, left_of}
 use Rattle.aug_core.specs.Book.{IsBook}
-use Rattle.aug_core.specs.Refreshes.{NewestCovers, Refreshed}
-use Rattle.aug_core.specs.Shows.{above, Lifts}
+use Rattle.aug_core.specs.inside.Refreshes.{NewestCovers, Refreshed}
+use Rattle.aug_core.specs.inside.Shows.{above, Lifts}
 use Rattle.aug_core.specs.declared.view.View.{View}
 use Rattle.aug_core.proofs.Refreshing.{covers_second}
 use Rattle.aug_core.proofs.Showing.{above_inner}

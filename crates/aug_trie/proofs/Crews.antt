@@ -13,7 +13,7 @@ use Rattle.aug_core.specs.Layout.{IsLayout}
 use Rattle.aug_core.specs.Lanes.{first_record, lane_records}
 use Rattle.aug_core.specs.Tree.{root_place}
 use Rattle.aug_core.specs.Cuts.{Cut, opening_cut}
-use Rattle.aug_core.specs.EntryCuts.{root_cut}
+use Rattle.aug_core.specs.inside.RootCuts.{root_cut}
 use Rattle.aug_core.specs.Opening.{Opening, opening_book}
 use Rattle.aug_core.specs.Rule.{newcomer}
 use Rattle.aug_core.specs.Told.{HoldsOnly, KnowsTable, LoadsNode, finishing, taking_back, handed_out, handing_out, taking}

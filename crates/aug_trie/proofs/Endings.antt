@@ -40,7 +40,7 @@ use Rattle.aug_trie.proofs.CutLemmas.{set_of_cut-opening, pairs_of_cut-opening}
 use Rattle.aug_trie.proofs.TallyLemmas.{sizes}
 use Rattle.aug_trie.proofs.Histories.{root_some, first_cut, last_is}
 use Rattle.aug_core.proofs.EntryCuts.{root_rises}
-use Rattle.aug_core.specs.EntryCuts.{root_cut}
+use Rattle.aug_core.specs.inside.RootCuts.{root_cut}
 
 -- ---- the words at rest, in terms of what the lead knows
 

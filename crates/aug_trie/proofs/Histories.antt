@@ -12,11 +12,12 @@ use Rattle.aug_model.proofs.Pairs.{length-keys_of}
 use Rattle.aug_model.proofs.Ranges.{rises_from}
 use Rattle.aug_core.proofs.Books.{no_shorter}
 use Rattle.aug_core.proofs.Openings.{is_book, inner_history}
-use Rattle.aug_core.specs.Shows.{above, NewestShows, ShowsAtMost}
+use Rattle.aug_core.specs.inside.Shows.{above, NewestShows, ShowsAtMost}
 use Rattle.aug_core.proofs.Showing.{above_root}
 use Rattle.aug_core.specs.Cuts.{Cut, shown_of, serial_of, opening_cut, IsAtMost}
 use Rattle.aug_trie.specs.History.{Begins, IsHistory, last_cut}
-use Rattle.aug_core.specs.EntryCuts.{entry_of, root_cut}
+use Rattle.aug_core.specs.EntryCuts.{entry_of}
+use Rattle.aug_core.specs.inside.RootCuts.{root_cut}
 use Rattle.aug_core.specs.Told.{KnowsTable, opening_of}
 use Rattle.aug_trie.specs.inside.Knows.{root_history, root_numbers}
 use Rattle.aug_trie.proofs.Pieces.{begins_at}

@@ -3,8 +3,8 @@ use Rattle.std.proofs.Common.{◌≡◌, ℕ, zero, suc, ◌+◌, ◌-◌, ◌*�
 use Rattle.aug_core.specs.Places.{Shape}
 use Rattle.aug_core.specs.Tree.{left_of}
 use Rattle.aug_core.specs.Book.{Book, Continues, IsBook}
-use Rattle.aug_core.specs.Shows.{above, Lifts}
-use Rattle.aug_core.specs.Refreshes.{NewestCovers}
+use Rattle.aug_core.specs.inside.Shows.{above, Lifts}
+use Rattle.aug_core.specs.inside.Refreshes.{NewestCovers}
 use Rattle.aug_core.specs.declared.view.View.{View}
 use Rattle.aug_core.proofs.Showing.{first_children, later_children, shows_up}
 use Rattle.aug_trie.specs.inside.Goes.{TookBetween, part_steps}

@@ -3,7 +3,7 @@ use Rattle.std.proofs.Common.{◌≡◌, ◌≢◌, ◌↔◌, ℕ, ◌+◌, ◌
 use Rattle.std.proofs.lemmas.Bool.{cases_eq, false≢true}
 use Rattle.aug_core.specs.Tree.{IsInner}
 use Rattle.aug_core.specs.Lanes.{first_record, IsOfLane, lane_records}
-use Rattle.aug_core.specs.Refreshes.{SaysLoaded, Published}
+use Rattle.aug_core.specs.inside.Refreshes.{SaysLoaded, Published}
 use Rattle.aug_core.specs.Told.{own_lane, storing, KnowsTable, IsFilled, TriesNode}
 use Rattle.aug_core.specs.declared.view.Held.{Held}
 use Rattle.aug_core.specs.declared.view.View.{View}

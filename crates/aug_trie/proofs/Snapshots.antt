@@ -8,7 +8,8 @@ use Rattle.aug_core.specs.Tree.{IsInner, root_place}
 use Rattle.aug_core.specs.Lanes.{first_record, lane_records}
 use Rattle.aug_core.specs.Book.{Book, history_of, At, IsBook}
 use Rattle.aug_core.specs.Counts.{changes_of}
-use Rattle.aug_core.specs.EntryCuts.{root_cut, entry_of}
+use Rattle.aug_core.specs.inside.RootCuts.{root_cut}
+use Rattle.aug_core.specs.EntryCuts.{entry_of}
 use Rattle.aug_core.specs.Told.{LoadsNode, opening_of}
 use Rattle.aug_core.specs.declared.view.Change.{Change}
 use Rattle.aug_core.specs.declared.view.Entry.{Entry}

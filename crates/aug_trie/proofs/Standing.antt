@@ -8,8 +8,9 @@ use Rattle.aug_core.specs.Book.{Book, history_of, At, IsPassed, IsBook}
 use Rattle.aug_core.specs.Counts.{change, Stands, AreCounted}
 use Rattle.aug_core.specs.Opening.{Opening, opening_serial}
 use Rattle.aug_core.specs.Cuts.{Cut, shown_of, serial_of, weight_at, IsAtMost}
-use Rattle.aug_core.specs.EntryCuts.{entry_of, root_cut}
-use Rattle.aug_core.specs.Shows.{above, NewestShows}
+use Rattle.aug_core.specs.EntryCuts.{entry_of}
+use Rattle.aug_core.specs.inside.RootCuts.{root_cut}
+use Rattle.aug_core.specs.inside.Shows.{above, NewestShows}
 use Rattle.aug_core.specs.declared.view.Change.{Change}
 use Rattle.aug_core.specs.declared.view.View.{View}
 use Rattle.aug_core.proofs.CutsUnder.{reached, shows_reached}

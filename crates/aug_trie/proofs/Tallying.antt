@@ -15,13 +15,14 @@ use Rattle.aug_core.specs.declared.view.Held.{Held}
 use Rattle.aug_core.specs.declared.view.View.{View}
 use Rattle.aug_core.proofs.Books.{at_below, no_shorter}
 use Rattle.aug_core.proofs.Moves.{St}
-use Rattle.aug_core.specs.Shows.{above}
+use Rattle.aug_core.specs.inside.Shows.{above}
 use Rattle.aug_core.proofs.Showing.{shows_leaf, above_root}
 use Rattle.aug_core.specs.Cuts.{Cut, serial_of, weight_at, opening_cut, IsAtMost}
 use Rattle.aug_trie.specs.History.{last_cut}
 use Rattle.aug_trie.specs.Knowledge.{StandsIn}
 use Rattle.aug_trie.specs.Tallies.{times, Tallies, Weighs, TalliesWithLost}
-use Rattle.aug_core.specs.EntryCuts.{entry_of, root_cut}
+use Rattle.aug_core.specs.EntryCuts.{entry_of}
+use Rattle.aug_core.specs.inside.RootCuts.{root_cut}
 use Rattle.aug_core.specs.Told.{KnowsTable, opening_of}
 use Rattle.aug_trie.specs.inside.Knows.{knows}
 use Rattle.aug_core.proofs.CutsUnder.{root_word, cut_long, reached}

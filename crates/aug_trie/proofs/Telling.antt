@@ -7,7 +7,7 @@ use Rattle.aug_monoid.proofs.FoldLemmas.{fold_of-append, fold_of-one, of_word-fo
 use Rattle.aug_core.specs.Tree.{IsInner}
 use Rattle.aug_core.specs.Faces.{face}
 use Rattle.aug_core.specs.Book.{At}
-use Rattle.aug_core.specs.Refreshes.{HasEntry}
+use Rattle.aug_core.specs.inside.Refreshes.{HasEntry}
 use Rattle.aug_core.specs.Told.{HasSeen, KnowsTable, stepping}
 use Rattle.aug_core.specs.declared.step.StepTaken.{StepTaken}
 use Rattle.aug_core.specs.declared.view.View.{View}

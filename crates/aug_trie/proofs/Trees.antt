@@ -21,7 +21,8 @@ use Rattle.aug_core.specs.Tree.{IsInner, root_place}
 use Rattle.aug_core.specs.Book.{Book, history_of, Continues, IsBook}
 use Rattle.aug_core.specs.Counts.{changes_of}
 use Rattle.aug_core.specs.Cuts.{Cut, serial_of, weight_at, set_of_cut}
-use Rattle.aug_core.specs.EntryCuts.{entry_of, root_cut}
+use Rattle.aug_core.specs.EntryCuts.{entry_of}
+use Rattle.aug_core.specs.inside.RootCuts.{root_cut}
 use Rattle.aug_core.specs.Opening.{serial_entry}
 use Rattle.aug_core.specs.Told.{KnowsTable, opening_of}
 use Rattle.aug_core.specs.declared.view.Entry.{Entry}

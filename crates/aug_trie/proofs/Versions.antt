@@ -20,7 +20,8 @@ use Rattle.aug_core.specs.Places.{Shape, record_count}
 use Rattle.aug_core.specs.Tree.{IsInner, root_place, left_of, right_of}
 use Rattle.aug_core.specs.Book.{Book, history_of, At, IsBook}
 use Rattle.aug_core.specs.Cuts.{Cut, pairs_of_cut}
-use Rattle.aug_core.specs.EntryCuts.{entry_of, root_cut, IsPartOfCut}
+use Rattle.aug_core.specs.EntryCuts.{entry_of, IsPartOfCut}
+use Rattle.aug_core.specs.inside.RootCuts.{root_cut}
 use Rattle.aug_core.specs.Told.{KnowsTable}
 use Rattle.aug_core.specs.declared.view.Entry.{Entry}
 use Rattle.aug_core.specs.declared.view.View.{View}

@@ -8,7 +8,7 @@ use Rattle.aug_core.specs.Places.{Shape}
 use Rattle.aug_core.specs.Tree.{place_count, IsInner, left_of, right_of}
 use Rattle.aug_core.specs.Faces.{face}
 use Rattle.aug_core.specs.Book.{At, Continues, IsBook}
-use Rattle.aug_core.specs.Refreshes.{HasEntry, HasNewest, SaysLoaded, Published}
+use Rattle.aug_core.specs.inside.Refreshes.{HasEntry, HasNewest, SaysLoaded, Published}
 use Rattle.aug_core.specs.Told.{KnowsTable, LoadsLeaf, LoadsNode}
 use Rattle.aug_core.specs.declared.view.View.{View}
 use Rattle.aug_core.proofs.Sizes.{twice}

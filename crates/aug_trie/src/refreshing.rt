@@ -3,7 +3,7 @@ ghost use Rattle.std.specs.Prelude.{◌≡◌, ℕ, ◌+◌, ◌^◌, ◌<◌, [
 ghost use Rattle.aug_core.specs.Faces.{face};
 ghost use Rattle.aug_core.specs.Tree.{place_count, IsInner};
 ghost use Rattle.aug_core.specs.Told.{KnowsTable};
-ghost use Rattle.aug_core.specs.Refreshes.{HasNewest, SaysLoaded, Published};
+ghost use Rattle.aug_core.specs.inside.Refreshes.{HasNewest, SaysLoaded, Published};
 ghost use Rattle.aug_trie.specs.inside.Goes.{Goes, Took, HasLeaves, HasRoom, IsFree};
 ghost use Rattle.aug_trie.specs.inside.Points.{QuietStep, TryOver};
 

@@ -2,7 +2,7 @@
 use Rattle.std.specs.Prelude.{◌≡◌, ℕ, ◌+◌, ◌*◌, ◌^◌, ◌<◌, ◌≤◌, ⊤, true, false, List, [], ◌∷◌, ◌++◌, length}
 use Rattle.aug_core.specs.Book.{Book, At, IsPassed}
 use Rattle.aug_core.specs.Kinds.{load_leaf}
-use Rattle.aug_core.specs.Shows.{NewestShows, ShowsAtMost}
+use Rattle.aug_core.specs.inside.Shows.{NewestShows, ShowsAtMost}
 use Rattle.aug_core.specs.Told.{made_by, new_serial}
 use Rattle.aug_core.specs.declared.step.StepTaken.{StepTaken}
 use Rattle.aug_core.specs.declared.view.Advance.{Advance}

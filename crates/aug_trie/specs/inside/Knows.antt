@@ -6,7 +6,7 @@ use Rattle.aug_core.specs.Tree.{root_place}
 use Rattle.aug_core.specs.Book.{Book, history_of}
 use Rattle.aug_core.specs.Counts.{changes_of}
 use Rattle.aug_core.specs.Cuts.{Cut}
-use Rattle.aug_core.specs.EntryCuts.{root_cut}
+use Rattle.aug_core.specs.inside.RootCuts.{root_cut}
 use Rattle.aug_core.specs.declared.view.View.{View}
 use Rattle.aug_trie.specs.Knowledge.{Knowledge, IsKnowledge}
 

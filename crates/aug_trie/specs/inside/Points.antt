@@ -4,7 +4,7 @@ use Rattle.aug_monoid.specs.Parts.{Parts}
 use Rattle.aug_core.specs.Places.{record_start}
 use Rattle.aug_core.specs.Tree.{IsInner, left_of, right_of}
 use Rattle.aug_core.specs.Book.{At, Continues}
-use Rattle.aug_core.specs.Refreshes.{HasNewest, SaysLoaded}
+use Rattle.aug_core.specs.inside.Refreshes.{HasNewest, SaysLoaded}
 use Rattle.aug_core.specs.Told.{KnowsTable, own_lane, storing}
 use Rattle.aug_core.specs.declared.step.StepTaken.{StepTaken}
 use Rattle.aug_core.specs.declared.view.Entry.{Entry}

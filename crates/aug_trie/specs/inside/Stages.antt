@@ -3,8 +3,8 @@ use Rattle.std.specs.Prelude.{◌≡◌, ℕ, suc, ◌+◌, ◌-◌, ◌*◌, �
 use Rattle.aug_core.specs.Tree.{left_of}
 use Rattle.aug_core.specs.Book.{history_of}
 use Rattle.aug_core.specs.Counts.{changes_of}
-use Rattle.aug_core.specs.Shows.{above, Lifts}
-use Rattle.aug_core.specs.Refreshes.{NewestCovers}
+use Rattle.aug_core.specs.inside.Shows.{above, Lifts}
+use Rattle.aug_core.specs.inside.Refreshes.{NewestCovers}
 use Rattle.aug_core.specs.Told.{own_lane, KnowsTable, BeginsAtLeaf}
 use Rattle.aug_core.specs.declared.view.View.{View}
 use Rattle.aug_trie.specs.inside.Goes.{Goes, Took, TookBetween, HasRoom, part_steps}

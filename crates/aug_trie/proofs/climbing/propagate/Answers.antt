@@ -1,7 +1,7 @@
 use Rattle.std.proofs.Common.{ap, subst, sym, refl, ◌∙◌, ◌≡◌, ◌+◌, ◌/◌, ℕ, suc, add-one}
 use Rattle.aug_core.specs.Faces.{face}
 use Rattle.aug_core.specs.Places.{Shape}
-use Rattle.aug_core.specs.Shows.{above}
+use Rattle.aug_core.specs.inside.Shows.{above}
 use Rattle.aug_core.specs.declared.view.View.{View}
 use Rattle.aug_trie.specs.inside.Goes.{HasLeaves, HasRoom}
 use Rattle.aug_trie.specs.inside.Stages.{IsCovered}

@@ -1,6 +1,6 @@
 use Rattle.std.proofs.Common.{◌≡◌}
 use Rattle.aug_core.specs.Faces.{face}
-use Rattle.aug_core.specs.Shows.{above}
+use Rattle.aug_core.specs.inside.Shows.{above}
 use Rattle.aug_trie.specs.inside.Stages.{HasRisen}
 use Rattle.aug_trie.proofs.climbing.propagate.Given as goal
 

@@ -2,7 +2,7 @@ use Rattle.std.proofs.Common.{arith, ap, subst, sym, ◌∙◌, ◌≡◌, ◌-�
 use Rattle.aug_core.specs.Faces.{face}
 use Rattle.aug_core.specs.Places.{Shape}
 use Rattle.aug_core.specs.Tree.{left_of}
-use Rattle.aug_core.specs.Refreshes.{HasNewest}
+use Rattle.aug_core.specs.inside.Refreshes.{HasNewest}
 use Rattle.aug_core.specs.declared.view.View.{View}
 use Rattle.aug_trie.specs.inside.Points.{TryAt}
 use Rattle.aug_trie.specs.declared.points.Point.{Point}

@@ -3,7 +3,7 @@ use Rattle.aug_monoid.proofs.BoundLaws.{laws_of}
 use Rattle.aug_core.specs.Faces.{face}
 use Rattle.aug_core.specs.Places.{Shape}
 use Rattle.aug_core.specs.Tree.{left_of, right_of}
-use Rattle.aug_core.specs.Refreshes.{HasNewest, SaysLoaded, Published}
+use Rattle.aug_core.specs.inside.Refreshes.{HasNewest, SaysLoaded, Published}
 use Rattle.aug_core.specs.declared.view.View.{View}
 use Rattle.aug_core.proofs.Sizes.{twice}
 use Rattle.aug_core.proofs.Refreshing.{has_entry}

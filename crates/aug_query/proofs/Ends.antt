@@ -4,7 +4,8 @@ use Rattle.std.proofs.lemmas.List.{append-nil}
 use Rattle.aug_model.specs.Keys.{SetFacts, list_of}
 use Rattle.aug_model.specs.Queries.{range_of, first_of, last_of}
 use Rattle.aug_model.specs.declared.summary.Summary.{Summary}
-use Rattle.aug_query.specs.Tree.{IsNodeOf, below_node, first_key, middle_key, end_key}
+use Rattle.aug_query.specs.Tree.{IsNodeOf, below_node, first_key, end_key}
+use Rattle.aug_query.specs.inside.NodePlaces.{middle_key}
 use Rattle.aug_model.proofs.Ranges.{no_members, range_of_one}
 use Rattle.aug_query.proofs.Orders.{last_append, first_append}
 use Rattle.aug_query.proofs.Nodes.{members_rise, counts, leaf_is, left_covers, right_covers, node_cut}

@@ -7,7 +7,8 @@ use Rattle.aug_model.specs.Keys.{SetFacts, list_of, pairs_of}
 use Rattle.aug_model.specs.Queries.{range_of, rank_of, weight_in}
 use Rattle.aug_model.proofs.Pairs.{length-pairs_of}
 use Rattle.aug_model.specs.declared.summary.Summary.{Summary}
-use Rattle.aug_query.specs.Tree.{IsNodeOf, Stands, middle_key, first_key, end_key, below_node}
+use Rattle.aug_query.specs.Tree.{IsNodeOf, first_key, end_key, below_node}
+use Rattle.aug_query.specs.inside.NodePlaces.{Stands, middle_key}
 use Rattle.aug_model.proofs.Ranges.{Rises, AllBelow, rises_from, all_below_from, range_whole, count_cut, range_cut}
 use Rattle.aug_query.proofs.Orders.{rank_cut, rank_few}
 

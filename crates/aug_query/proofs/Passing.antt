@@ -2,7 +2,8 @@
 use Rattle.std.proofs.Common.{◌≡◌, ℕ, ◌+◌, ◌<◌, ◌≤◌, List, ◌++◌, length, filter, ltb, Option, Some, None, ap, ◌∙◌, arith}
 use Rattle.std.proofs.lemmas.List.{append-nil}
 use Rattle.aug_model.specs.Queries.{rank_of, range_of, before_of, after_of, first_of, last_of}
-use Rattle.aug_query.specs.Tree.{first_key, middle_key, end_key}
+use Rattle.aug_query.specs.Tree.{first_key, end_key}
+use Rattle.aug_query.specs.inside.NodePlaces.{middle_key}
 use Rattle.aug_model.proofs.Ranges.{Rises, AllBelow, below_is, above_is, range_cut, range_none, range_whole, range_clipped, no_members}
 use Rattle.aug_query.proofs.Orders.{rank_cut, rank_past, last_append, first_append}
 

@@ -1,2 +1,3 @@
 pub mod FakeTree
 pub mod Tree
+pub mod inside

@@ -1,5 +1,5 @@
 -- What a tree of a set of keys is: its nodes, each with the summary of the members that it covers, and the calls that walk it.
-use Rattle.std.specs.Prelude.{◌≡◌, ℕ, ◌+◌, ◌-◌, ◌*◌, ◌^◌, ◌≤◌, List, All}
+use Rattle.std.specs.Prelude.{◌≡◌, ℕ, ◌+◌, ◌*◌, ◌^◌, ◌≤◌, List, All}
 use Rattle.aug_model.specs.Keys.{IsKeySet, SetFacts, list_of, pairs_of}
 use Rattle.aug_model.specs.Queries.{range_of, weight_in}
 use Rattle.aug_monoid.specs.Weighted.{FitsPair}
@@ -13,18 +13,9 @@ first_key level place = place * 2 ^ level
 abbrev pub end_key : ℕ → ℕ → ℕ
 end_key level place = (place + 1) * 2 ^ level
 
--- the least key that its right child covers
-abbrev pub middle_key : ℕ → ℕ → ℕ
-middle_key level place = (2 * place + 1) * 2 ^ (level - 1)
-
 -- the members that it covers
 abbrev pub below_node : List ℕ → ℕ → ℕ → List ℕ
 below_node keys level place = range_of keys (first_key level place) (end_key level place)
-
--- a level and a place of a tree of at most 16 bits
-pub record Stands (level place : ℕ) : Type 0 where
-  pub few_levels : level ≤ 16
-  pub few_keys : end_key level place ≤ 2 ^ 16
 
 -- a tree is of a set of keys of 1 to 16 bits, with weights of 32 bits
 pub record IsTreeSet (set : SetFacts) : Type 0 where

@@ -37,7 +37,8 @@ pub struct FakeTree<A: Monoid, B: Monoid> {
 impl<A: Monoid, B: Monoid> Model for FakeTree<A, B> {
     ghost use Rattle.std.specs.Prelude.{map};
     ghost use Rattle.aug_model.specs.Folds.{summary_of};
-    ghost use Rattle.aug_query.specs.FakeTree.{Asked, HoldsTree};
+    ghost use Rattle.aug_query.specs.FakeTree.{Asked};
+    ghost use Rattle.aug_query.specs.inside.Rows.{HoldsTree};
 
     ghost Value = { Asked };
 

@@ -2,7 +2,8 @@ ghost use Rattle.std.specs.Prelude.{◌≡◌, ℕ, ◌+◌, ◌-◌, ◌*◌, �
 ghost use Rattle.aug_model.specs.Folds.{summary_of};
 ghost use Rattle.aug_model.specs.Keys.{list_of};
 ghost use Rattle.aug_model.specs.Queries.{range_of, weighted_range_of};
-ghost use Rattle.aug_query.specs.Tree.{WalksAtMost, sum_of, first_key, middle_key, end_key};
+ghost use Rattle.aug_query.specs.Tree.{WalksAtMost, sum_of, first_key, end_key};
+ghost use Rattle.aug_query.specs.inside.NodePlaces.{middle_key};
 
 use crate::Tree;
 use crate::summaries::{joined, of_none};

@@ -2,7 +2,7 @@
 ghost use Rattle.std.specs.Prelude.{◌≡◌, ◌^◌, ◌<◌, [], length, IfOk};
 ghost use Rattle.std.specs.List.{All};
 ghost use Rattle.aug_model.specs.Folds.{summary_of};
-ghost use Rattle.aug_query.specs.FakeTree.{HasWeights, IsRow, JoinsPairs};
+ghost use Rattle.aug_query.specs.inside.Rows.{HasWeights, IsRow, JoinsPairs};
 ghost use Rattle.aug_query.specs.Tree.{IsTreeSet};
 
 use crate::summaries::{joined, of_none, of_one};

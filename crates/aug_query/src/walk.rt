@@ -2,7 +2,8 @@
 ghost use Rattle.std.specs.Prelude.{◌≡◌, ℕ, ◌+◌, ◌-◌, ◌*◌, ◌^◌, ◌<◌, ◌≤◌};
 ghost use Rattle.aug_model.specs.Keys.{list_of};
 ghost use Rattle.aug_model.specs.Queries.{rank_of};
-ghost use Rattle.aug_query.specs.Tree.{IsTreeSet, Stands, Walks, first_key, middle_key, end_key};
+ghost use Rattle.aug_query.specs.Tree.{IsTreeSet, Walks, first_key, end_key};
+ghost use Rattle.aug_query.specs.inside.NodePlaces.{Stands, middle_key};
 
 use crate::Tree;
 use aug_monoid::Monoid;

@@ -4,7 +4,8 @@ use Rattle.aug_model.specs.Folds.{summary_of}
 use Rattle.aug_model.proofs.Pairs.{pairs_of-append}
 use Rattle.aug_model.specs.Keys.{list_of, pairs_of}
 use Rattle.aug_model.specs.Queries.{weight_in, range_of, rank_of}
-use Rattle.aug_query.specs.Tree.{sum_of, first_key, middle_key, end_key}
+use Rattle.aug_query.specs.Tree.{sum_of, first_key, end_key}
+use Rattle.aug_query.specs.inside.NodePlaces.{middle_key}
 use Rattle.aug_model.proofs.Ranges.{range_cut, range_none}
 use Rattle.aug_query.proofs.Nodes.{of_set, counts, stands, members_rise, right_covers, middle_high}
 use Rattle.aug_query.proofs.Cover.{range_fits, range_is_few, begins_alike, rest_alike}

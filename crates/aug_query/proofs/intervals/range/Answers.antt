@@ -4,7 +4,8 @@ use Rattle.aug_model.specs.Folds.{summary_of}
 use Rattle.aug_model.proofs.Pairs.{pairs_of-append, range-again}
 use Rattle.aug_model.specs.Keys.{list_of, pairs_of}
 use Rattle.aug_model.specs.Queries.{weight_in, range_of}
-use Rattle.aug_query.specs.Tree.{sum_of, first_key, middle_key, end_key}
+use Rattle.aug_query.specs.Tree.{sum_of, first_key, end_key}
+use Rattle.aug_query.specs.inside.NodePlaces.{middle_key}
 use Rattle.aug_model.proofs.Ranges.{rises_from, all_below_from, range_cut, range_none}
 use Rattle.aug_query.proofs.Nodes.{of_set, counts, few_keys, left_low, left_high, right_low, right_high, node_width, wrapped_width}
 use Rattle.aug_query.proofs.Cover.{range_fits, range_is_few, inner_alike, clipped}

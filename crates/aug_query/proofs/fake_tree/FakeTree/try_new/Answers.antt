@@ -2,7 +2,7 @@ use Rattle.std.proofs.Common.{◌≡◌, ◌+◌, [], ◌∷◌, refl, ap, sym, 
 use Rattle.std.proofs.Math.ListN.{get_or-map}
 use Rattle.std.proofs.lemmas.List.{map-append, length-map}
 use Rattle.aug_model.specs.Folds.{summary_of}
-use Rattle.aug_query.specs.FakeTree.{IsRow, HoldsTree}
+use Rattle.aug_query.specs.inside.Rows.{IsRow, HoldsTree}
 use Rattle.aug_query.specs.Tree.{IsTreeSet}
 use Rattle.aug_query.proofs.Placed.{pushed_each, row_counts_few, row_above}
 use Rattle.aug_query.proofs.fake_tree.FakeTree.try_new.Goals as goal

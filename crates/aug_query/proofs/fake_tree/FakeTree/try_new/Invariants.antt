@@ -1,6 +1,6 @@
 use Rattle.std.proofs.Common.{ℕ, ◌≡◌, ◌+◌, ◌<◌, List, length, get_or, map}
 use Rattle.aug_model.specs.Folds.{summary_of}
-use Rattle.aug_query.specs.FakeTree.{IsRow}
+use Rattle.aug_query.specs.inside.Rows.{IsRow}
 use Rattle.aug_query.proofs.fake_tree.FakeTree.try_new.Given as goal
 
 abbrev pub invariant-loop-level : goal.invariant-loop-level

@@ -1,0 +1,12 @@
+-- Levels and places of nodes, and where a node's children meet.
+use Rattle.std.specs.Prelude.{ℕ, ◌+◌, ◌-◌, ◌*◌, ◌^◌, ◌≤◌}
+use Rattle.aug_query.specs.Tree.{end_key}
+
+-- the least key that the right child of the node at a level and a place covers
+abbrev pub middle_key : ℕ → ℕ → ℕ
+middle_key level place = (2 * place + 1) * 2 ^ (level - 1)
+
+-- a level and a place of a tree of at most 16 bits
+pub record Stands (level place : ℕ) : Type 0 where
+  pub few_levels : level ≤ 16
+  pub few_keys : end_key level place ≤ 2 ^ 16

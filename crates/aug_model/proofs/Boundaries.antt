@@ -8,7 +8,7 @@ use Rattle.std.proofs.lemmas.List.Edits.{length-insert, get_or-insert_below, get
 use Rattle.std.proofs.lemmas.Bool.{lt-ltb, le-ltb, le-leb, lt-leb, eq-eqb, ne_eqb, cases_lt, cases_order, and_from, and_left, and_right, not_from_true, not_from_false}
 use Rattle.aug_model.specs.Keys.{IsKeySet, keys_of, with_pair, without_pair}
 use Rattle.aug_model.specs.Queries.{rank_of, select_of, last_of, first_of, before_of, after_of, weighted_range_of}
-use Rattle.aug_model.specs.Boundary.{IsBoundary, StandsAt, WouldStandAt}
+use Rattle.aug_model.specs.inside.Boundary.{IsBoundary, StandsAt, WouldStandAt}
 use Rattle.aug_model.proofs.Filters.{PassesBetween, filter-front, filter-back, find-at, filter-between_pairs, filter-all_pairs, filter-but_pairs}
 use Rattle.aug_model.proofs.Pairs.{length-keys_of, keys_of-take, keys_of-between, last-keys_of}
 use Rattle.aug_model.proofs.Rising.{rises, length-le-bound}

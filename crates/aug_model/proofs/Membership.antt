@@ -4,7 +4,7 @@ use Rattle.std.proofs.lemmas.Bool.{eq-eqb, ne_eqb, cases_lt}
 use Rattle.std.proofs.lemmas.Bool.Decides.{Decides-eqb}
 use Rattle.std.proofs.lemmas.List.{get_or_default}
 use Rattle.std.proofs.lemmas.List.Folds.{list_any_at, list_any_none, Any-from_list_any}
-use Rattle.aug_model.specs.Boundary.{StandsAt, WouldStandAt}
+use Rattle.aug_model.specs.inside.Boundary.{StandsAt, WouldStandAt}
 use Rattle.aug_model.specs.Keys.{is_member}
 
 -- a key that stands at a place is a member

@@ -6,9 +6,9 @@ use Rattle.std.proofs.lemmas.List.Edits.{length-remove, get_or-remove_below, get
 use Rattle.std.proofs.Math.Pow.{pow_mono}
 use Rattle.std.proofs.lemmas.List.Elements.{All-append, All-cons, All-take, All-drop, All-set}
 use Rattle.aug_monoid.specs.Weighted.{FitsPair}
-use Rattle.aug_model.specs.Boundary.{StandsAt, WouldStandAt}
+use Rattle.aug_model.specs.inside.Boundary.{StandsAt, WouldStandAt}
 use Rattle.aug_model.specs.Keys.{IsKeySet, keys_of}
-use Rattle.aug_model.specs.Stored.{IsStored}
+use Rattle.aug_model.specs.inside.Stored.{IsStored}
 use Rattle.aug_model.proofs.Boundaries.{IsKeySet-few, IsKeySet-insert, length-absent}
 use Rattle.aug_model.proofs.Rising.{rises}
 use Rattle.aug_model.proofs.Pairs.{length-keys_of, keys_of-set, keys_of-insert, keys_of-remove}

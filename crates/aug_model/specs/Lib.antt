@@ -1,5 +1,4 @@
-pub mod Boundary
 pub mod Folds
 pub mod Keys
 pub mod Queries
-pub mod Stored
+pub mod inside

@@ -8,7 +8,7 @@ use denote.RattleType.{RattleType}
 use Rattle.std.specs.declared.clone.Clone as clone
 use Rattle.std.specs.declared.cmp.Eq as eq
 use Rattle.std.specs.declared.cmp.PartialEq as partial_eq
-use Rattle.aug_monoid.specs.Laws.{IsMonoid}
+use Rattle.aug_monoid.specs.inside.Laws.{IsMonoid}
 use Rattle.aug_monoid.specs.declared.monoid.Monoid.{Ghosts}
 use Rattle.aug_monoid.specs.contracts.monoid.Monoid.TheBound.{Met}
 

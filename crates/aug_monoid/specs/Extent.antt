@@ -1,5 +1,5 @@
 -- The least and the greatest key of two folds, together, and the word that stands for them.
-use Rattle.std.specs.Prelude.{◌≡◌, ◌⊎◌, ℕ, ◌+◌, ◌*◌, ◌/◌, ◌%◌, ◌^◌, ◌<◌, ◌≤◌, min, max, Option, Some, None, nat_le, if◌then◌else◌}
+use Rattle.std.specs.Prelude.{ℕ, ◌+◌, ◌*◌, ◌/◌, ◌%◌, ◌^◌, ◌<◌, ◌≤◌, min, max, Option, Some, None, nat_le, if◌then◌else◌}
 use Rattle.aug_monoid.specs.Parts.{Parts}
 
 -- there are no bounds, or they are two keys of 32 bits and the least is no greater than the greatest
@@ -25,15 +25,6 @@ bounds_of least greatest = if nat_le least greatest then Some (least, greatest) 
 -- the two halves of a word, and none where the upper half is greater than the lower
 abbrev pub bounds_of_word : ℕ → Option (ℕ × ℕ)
 bounds_of_word w = bounds_of (w / 2 ^ 32) (w % 2 ^ 32)
-
--- the two numbers that a program holds for bounds: for none the greatest of 32 bits and 0, which min and max pass over
-abbrev pub held_bounds : Option (ℕ × ℕ) → ℕ × ℕ
-held_bounds None = (4294967295, 0)
-held_bounds (Some b) = b
-
--- they are bounds, or those for none
-abbrev pub AreHeld : ℕ → ℕ → Type 0
-AreHeld least greatest = (least ≤ greatest) ⊎ ((least ≡ 4294967295) × (greatest ≡ 0))
 
 -- the least and the greatest of the keys, or none
 abbrev pub extent_parts : Parts (Option (ℕ × ℕ))

@@ -2,7 +2,7 @@
 ghost use Rattle.std.specs.Prelude.{◌≡◌, ◌^◌, ◌<◌, ◌↔◌, IsTrue, refl};
 ghost use Rattle.std.proofs.Common.{lit<};
 ghost use Rattle.aug_monoid.specs.Count.{count_parts};
-ghost use Rattle.aug_monoid.specs.WrappingLaws.{wrapped_sum-fits, wrapped_sum-assoc, wrapped_sum-zero_left, wrapped_sum-zero_right};
+ghost use Rattle.aug_monoid.specs.inside.WrappingLaws.{wrapped_sum-fits, wrapped_sum-assoc, wrapped_sum-zero_left, wrapped_sum-zero_right};
 
 use crate::Monoid;
 use std::marker::Model;

@@ -1,7 +1,7 @@
 //! The least and the greatest of the keys, together.
 ghost use Rattle.std.specs.Prelude.{◌≡◌, ◌↔◌, ◌≤◌, IsTrue, IfSome, None, Some, refl};
 ghost use Rattle.aug_monoid.specs.Extent.{IsBoundsOrNone, extent_parts};
-ghost use Rattle.aug_monoid.specs.ExtentLaws.{one_key-is_bounds, spanned_by-is_bounds, spanned_by-none_right, spanned_by-assoc, bounds_of_word-is_bounds, word_of_bounds-fits, bounds_of_word-word_of_bounds};
+ghost use Rattle.aug_monoid.specs.inside.ExtentLaws.{one_key-is_bounds, spanned_by-is_bounds, spanned_by-none_right, spanned_by-assoc, bounds_of_word-is_bounds, word_of_bounds-fits, bounds_of_word-word_of_bounds};
 
 use crate::Monoid;
 use crate::key_word::NO_KEY;
@@ -20,8 +20,9 @@ pub struct Extent {
 
 impl Model for Extent {
     ghost use Rattle.std.specs.Prelude.{ℕ, Option};
-    ghost use Rattle.aug_monoid.specs.Extent.{bounds_of, held_bounds, AreHeld};
-    ghost use Rattle.aug_monoid.specs.ExtentLaws.{held_bounds-bounds_of};
+    ghost use Rattle.aug_monoid.specs.Extent.{bounds_of};
+    ghost use Rattle.aug_monoid.specs.inside.HeldBounds.{held_bounds, AreHeld};
+    ghost use Rattle.aug_monoid.specs.inside.ExtentLaws.{held_bounds-bounds_of};
 
     ghost Value = { Option (ℕ × ℕ) };
 

@@ -2,8 +2,8 @@
 ghost use Rattle.std.specs.Prelude.{◌≡◌, ◌↔◌, ◌^◌, ◌<◌, IsTrue, refl};
 ghost use Rattle.aug_monoid.specs.KeyWord.{IsKeyOrNone};
 ghost use Rattle.aug_monoid.specs.Greatest.{greatest_parts};
-ghost use Rattle.aug_monoid.specs.KeyWordLaws.{key_of_word-is_key, word_of_key-fits, key_of_word-word_of_key};
-ghost use Rattle.aug_monoid.specs.GreatestLaws.{greater_of-is_key, greater_of-none_right, greater_of-assoc};
+ghost use Rattle.aug_monoid.specs.inside.KeyWordLaws.{key_of_word-is_key, word_of_key-fits, key_of_word-word_of_key};
+ghost use Rattle.aug_monoid.specs.inside.GreatestLaws.{greater_of-is_key, greater_of-none_right, greater_of-assoc};
 
 use crate::Monoid;
 use crate::key_word::{key_of, word_of};

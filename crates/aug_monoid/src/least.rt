@@ -2,8 +2,8 @@
 ghost use Rattle.std.specs.Prelude.{◌≡◌, ◌↔◌, ◌^◌, ◌<◌, IsTrue, refl};
 ghost use Rattle.aug_monoid.specs.KeyWord.{IsKeyOrNone};
 ghost use Rattle.aug_monoid.specs.Least.{least_parts};
-ghost use Rattle.aug_monoid.specs.KeyWordLaws.{key_of_word-is_key, word_of_key-fits, key_of_word-word_of_key};
-ghost use Rattle.aug_monoid.specs.LeastLaws.{smaller_of-is_key, smaller_of-none_right, smaller_of-assoc};
+ghost use Rattle.aug_monoid.specs.inside.KeyWordLaws.{key_of_word-is_key, word_of_key-fits, key_of_word-word_of_key};
+ghost use Rattle.aug_monoid.specs.inside.LeastLaws.{smaller_of-is_key, smaller_of-none_right, smaller_of-assoc};
 
 use crate::Monoid;
 use crate::key_word::{key_of, word_of};

@@ -2,7 +2,7 @@
 ghost use Rattle.std.specs.Prelude.{◌≡◌, ◌↔◌, Option, IsTrue, None, Some, refl};
 ghost use Rattle.std.specs.Option.{option_or};
 ghost use Rattle.aug_monoid.specs.KeyWord.{IsKeyOrNone, word_of_key, key_of_word};
-ghost use Rattle.aug_monoid.specs.KeyWordLaws.{key_of_word-is_key, word_of_key-fits, key_of_word-word_of_key};
+ghost use Rattle.aug_monoid.specs.inside.KeyWordLaws.{key_of_word-is_key, word_of_key-fits, key_of_word-word_of_key};
 
 use aug_monoid::Monoid;
 use std::marker::Model;

@@ -3,7 +3,7 @@ use Rattle.std.proofs.Common.{◌≡◌, ℕ, zero, suc, add-one, ◌+◌, ◌-�
 use Rattle.std.proofs.lemmas.Bool.{cases_eq}
 use Rattle.std.proofs.lemmas.List.{append-nil}
 use Rattle.aug_monoid.specs.Parts.{Parts}
-use Rattle.aug_monoid.specs.Laws.{IsMonoid}
+use Rattle.aug_monoid.specs.inside.Laws.{IsMonoid}
 use Rattle.aug_core.specs.Places.{Shape, record_start}
 use Rattle.aug_core.specs.Faces.{face}
 use Rattle.aug_core.specs.Tree.{place_count, IsInner, left_of, right_of}

@@ -1,7 +1,7 @@
 -- What a child's part says, and what the words of two parts are.
 use Rattle.std.proofs.Common.{◌≡◌, ℕ, ◌+◌, ◌^◌, ◌<◌, ◌≤◌, List, [], ◌∷◌, ◌++◌, All, get_or, length-append, sym, refl, ap, ◌∙◌, subst, arith}
 use Rattle.aug_monoid.specs.Parts.{Parts}
-use Rattle.aug_monoid.specs.Laws.{IsMonoid}
+use Rattle.aug_monoid.specs.inside.Laws.{IsMonoid}
 use Rattle.aug_monoid.specs.Weighted.{FitsPair}
 use Rattle.aug_monoid.proofs.FoldLemmas.{fold_of-append, fold_of-one, of_word-fold_of}
 use Rattle.aug_core.specs.Tree.{IsInner}

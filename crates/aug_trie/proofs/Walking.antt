@@ -2,7 +2,7 @@
 use Rattle.std.proofs.Common.{◌≡◌, ℕ, zero, suc, ◌+◌, ◌*◌, ◌%◌, ◌^◌, ◌<◌, ◌≤◌, ◌&&◌, Bool, true, false, eqb, eq-eqb, ne_eqb, leb, ltb, le-leb, lt-ltb, if◌then◌else◌, Option, Some, None, unwrap_or, List, [], ◌∷◌, length, get_or, sym, refl, ap, ◌∙◌, subst, ⊎_elim, arith}
 use Rattle.std.proofs.lemmas.Bool.{cases_eq}
 use Rattle.aug_monoid.specs.Parts.{Parts}
-use Rattle.aug_monoid.specs.Laws.{IsMonoid}
+use Rattle.aug_monoid.specs.inside.Laws.{IsMonoid}
 use Rattle.aug_monoid.proofs.FoldLemmas.{of_word-fold_of}
 use Rattle.aug_model.specs.Folds.{summary_of}
 use Rattle.aug_model.specs.Queries.{range_of, weighted_range_of, weight_of, weight_in}

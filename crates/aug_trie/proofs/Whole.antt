@@ -3,7 +3,7 @@ use Rattle.std.proofs.Common.{◌≡◌, ℕ, zero, suc, ◌+◌, ◌-◌, ◌*�
 use Rattle.std.proofs.lemmas.Bool.{cases_lt}
 use Rattle.std.proofs.Math.Nat.{two-pow-succ}
 use Rattle.aug_monoid.specs.Parts.{Parts}
-use Rattle.aug_monoid.specs.Laws.{IsMonoid}
+use Rattle.aug_monoid.specs.inside.Laws.{IsMonoid}
 use Rattle.aug_core.specs.Places.{Shape}
 use Rattle.aug_core.specs.Tree.{place_count, IsInner, left_of, right_of}
 use Rattle.aug_core.specs.Faces.{face}

@@ -6,7 +6,7 @@ use Rattle.std.proofs.lemmas.List.Elements.{All-filter, All-contains}
 use Rattle.std.proofs.lemmas.List.Folds.{list_any_at, list_any-append}
 use Rattle.std.specs.List.Sorted.{IsStrictlyIncreasing}
 use Rattle.aug_monoid.specs.Fold.{fold_of}
-use Rattle.aug_monoid.specs.Laws.{IsMonoid}
+use Rattle.aug_monoid.specs.inside.Laws.{IsMonoid}
 use Rattle.aug_monoid.specs.Parts.{Parts}
 use Rattle.aug_monoid.proofs.FoldLemmas.{fold_of-append, fold_of-is_proper, fold_of-one}
 use Rattle.aug_monoid.specs.Weighted.{FitsPair}

@@ -2,7 +2,8 @@
 use Rattle.std.specs.Prelude.{◌≡◌, ℕ, ◌+◌, ◌*◌, ◌/◌, ◌%◌, ◌^◌, ◌<◌, ◌≤◌, min, max, Bool, true, false, Option, Some, None, nat_le, if◌then◌else◌, refl}
 use Rattle.std.proofs.Common.{arith, inl, inr}
 use Rattle.std.proofs.lemmas.Bool.{le-leb, leb-true}
-use Rattle.aug_monoid.specs.Extent.{IsBoundsOrNone, spanned_by, word_of_bounds, bounds_of, bounds_of_word, held_bounds, AreHeld}
+use Rattle.aug_monoid.specs.Extent.{IsBoundsOrNone, spanned_by, word_of_bounds, bounds_of, bounds_of_word}
+use Rattle.aug_monoid.specs.inside.HeldBounds.{held_bounds, AreHeld}
 
 -- one key is its own least and greatest
 pub one_key-is_bounds : (k : ℕ) → k < 2 ^ 32 → IsBoundsOrNone (Some (k, k))

@@ -1,6 +1,6 @@
 //! What a plain set answers to the rows of one lane: the tests hold the shared trie to it.
 ghost use Rattle.std.specs.Prelude.{◌≡◌, ◌^◌, ◌≤◌, All, IfOk, IsTrue, true};
-ghost use Rattle.aug_script.specs.Script.{KeepsLimits, is_in_bounds};
+ghost use Rattle.aug_script.specs.Script.{is_in_bounds};
 
 use crate::answer::put_reply;
 use aug_model::{KeySet, ModelError};

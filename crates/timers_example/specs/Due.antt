@@ -1,5 +1,5 @@
 -- What a snapshot of the wheel says of the timers before a tick.
-use Rattle.std.specs.Prelude.{ℕ, ◌+◌, ◌==◌, Bool, List, unwrap_or}
+use Rattle.std.specs.Prelude.{ℕ, ◌+◌, ◌==◌, Bool, unwrap_or}
 use Rattle.aug_monoid.specs.Fold.{fold_of}
 use Rattle.aug_monoid.specs.Sum.{sum_parts}
 use Rattle.aug_model.specs.Keys.{SetFacts, list_of}

@@ -111,7 +111,12 @@ fn add(totals: &mut Each<Total>, rans: Each<Ran>)
 }
 
 // Prints an engine's line.
-fn print_figures(out: &impl Print, workload: Workload, threads: u32, total: &Total) -> io::Result<()> {
+fn print_figures(
+    out: &impl Print,
+    workload: Workload,
+    threads: u32,
+    total: &Total,
+) -> io::Result<()> {
     let (name, letter) = (total.engine.name(), workload.letter());
     let (speed, slow) = (total.speed(), total.speed_with_openings());
     let (opening, unchanged) = (total.opening(), total.unchanged());

@@ -388,11 +388,14 @@ class Measure(Folder):
 
     def test_counts_instructions_of_each_operation(self):
         out, err, status = self.run_script("tools/measure", "counts")
-        operations = ["new", "dup", "put", "rank", "select", "range"]
-        lines = [f"{name} {operation} {len(operation)}" for name in ("trie", "checked", "unchecked") for operation in operations]
+        updates, queries = ["new", "dup", "put"], ["has", "rank", "select", "before", "after", "range"]
+        named = [("trie", updates + queries + ["size"]), ("updated", queries + ["size"])]
+        lines = [f"{name} {operation} {len(operation)}" for name, operations in named for operation in operations]
+        lines.append("trie keys 4")
+        lines += [f"{name} {operation} {len(operation)}" for name in ("checked", "unchecked") for operation in updates + queries]
         self.assertEqual((out.splitlines(), err, status), (lines, "", 0))
         called = self.read("called").splitlines()
-        self.assertEqual(len(called), 36)
+        self.assertEqual(len(called), 2 * len(lines))
         self.assertTrue(called[0].endswith(" new 8000 --bits 16 --gap 1"), called[0])
         self.assertTrue(called[-1].endswith(" none 8000 16 1"), called[-1])
 
@@ -401,7 +404,7 @@ class Measure(Folder):
             os.symlink(shutil.which(name), os.path.join(self.folder, "bin", name))
         os.remove(os.path.join(self.folder, "bin/rustc"))
         out, err, status = self.run_script("tools/measure", "counts", path=os.path.join(self.folder, "bin"))
-        self.assertEqual([line.split()[0] for line in out.splitlines()], ["trie"] * 6)
+        self.assertEqual([line.split()[0] for line in out.splitlines()], ["trie"] * 10 + ["updated"] * 7 + ["trie"])
         self.assertEqual((err, status), ("tools/measure: no rustc, so plain Rust is left out\n", 0))
 
 

@@ -54,6 +54,7 @@ class Measuring:
         for line, why in [
             ("count new 32769", "there are not so many absent keys to take"),
             ("count rank 1 --bits 3 --gap 4", "the gap is 0, or wider than a key"),
+            ("count put 1 --updates 65536", "a round has 65536 updates"),
         ]:
             self.assertEqual(self.run_on(line), (b"", f"augbench: {why}\n".encode(), 1))
 
@@ -86,6 +87,14 @@ class Measuring:
             # Of the members 0, 2 .. 14 the sum, and how many are between 11 * i and 5 - 11 * i, modulo 16, for each i below 16.
             ("count select 8 --bits 4", "8 operations, 56 in all"),
             ("count range 16 --bits 4", "16 operations, 36 in all"),
+            # The greatest members below those keys come to 98 and the least above them to 112; a key that has none counts as -1.
+            ("count before 16 --bits 4", "16 operations, 97 in all"),
+            ("count after 16 --bits 4", "16 operations, 110 in all"),
+            ("count has 16 --bits 4", "16 operations, 8 in all"),
+            ("count size 5 --bits 4", "5 operations, 40 in all"),
+            ("count keys 5 --bits 4", "5 operations, 40 in all"),
+            # Puts of members before them leave the keys as they are.
+            ("count rank 16 --bits 4 --updates 20", "16 operations, 64 in all"),
         ]:
             self.assertEqual(self.run_on(line), (f"{wanted}\n".encode(), b"", 0))
 

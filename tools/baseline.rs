@@ -204,6 +204,78 @@ impl Trie {
         Some(2 * key + u64::from(index >= left))
     }
 
+    /// Whether a key is a member of a snapshot.
+    #[inline(never)]
+    fn has(&self, mut number: u64, key: u64) -> bool {
+        for level in (0..self.bits).rev() {
+            let record = self.record(number);
+            number = if key >> level & 1 == 0 { self.load(record + LEFT) } else { self.load(record + RIGHT) };
+        }
+        number >> 32 & 1 == 1
+    }
+
+    /// How many members there are below a word at a level.
+    #[inline(always)]
+    fn count(&self, level: usize, word: u64) -> u64 {
+        if level == 0 { word >> 32 & 1 } else { self.load(self.record(word) + COUNT) }
+    }
+
+    /// The greatest member of a snapshot below a key.
+    #[inline(never)]
+    fn before(&self, mut number: u64, key: u64) -> Option<u64> {
+        let mut found = None;
+        for level in (0..self.bits).rev() {
+            let record = self.record(number);
+            if key >> level & 1 == 0 {
+                number = self.load(record + LEFT);
+            } else {
+                let left = self.load(record + LEFT);
+                if self.count(level, left) > 0 {
+                    found = Some((level, left));
+                }
+                number = self.load(record + RIGHT);
+            }
+        }
+        let (top, mut word) = found?;
+        let mut place = (key >> top) - 1;
+        for level in (0..top).rev() {
+            let record = self.record(word);
+            let right = self.load(record + RIGHT);
+            let side = u64::from(self.count(level, right) > 0);
+            word = if side == 1 { right } else { self.load(record + LEFT) };
+            place = 2 * place + side;
+        }
+        Some(place)
+    }
+
+    /// The least member of a snapshot above a key.
+    #[inline(never)]
+    fn after(&self, mut number: u64, key: u64) -> Option<u64> {
+        let mut found = None;
+        for level in (0..self.bits).rev() {
+            let record = self.record(number);
+            if key >> level & 1 == 1 {
+                number = self.load(record + RIGHT);
+            } else {
+                let right = self.load(record + RIGHT);
+                if self.count(level, right) > 0 {
+                    found = Some((level, right));
+                }
+                number = self.load(record + LEFT);
+            }
+        }
+        let (top, mut word) = found?;
+        let mut place = (key >> top) + 1;
+        for level in (0..top).rev() {
+            let record = self.record(word);
+            let left = self.load(record + LEFT);
+            let side = u64::from(self.count(level, left) == 0);
+            word = if side == 0 { left } else { self.load(record + RIGHT) };
+            place = 2 * place + side;
+        }
+        Some(place)
+    }
+
     /// What the members of a snapshot from `from` on and below `to` come to.
     #[inline(never)]
     fn range(&self, number: u64, from: u64, to: u64) -> Summary {
@@ -254,6 +326,9 @@ fn main() {
         "new" => (0..times).for_each(|i| sum += u64::from(trie.insert(multiple(i) + 1))),
         "dup" => (0..times).for_each(|i| sum += u64::from(trie.insert(multiple(i)))),
         "put" => (0..times).for_each(|i| sum += u64::from(trie.put(multiple(i), u64::from(i)) == 2)),
+        "has" => (0..times).for_each(|i| sum += u64::from(trie.has(now, spread(i, universe)))),
+        "before" => (0..times).for_each(|i| sum = sum.wrapping_add(trie.before(now, spread(i, universe)).unwrap_or(u64::MAX))),
+        "after" => (0..times).for_each(|i| sum = sum.wrapping_add(trie.after(now, spread(i, universe)).unwrap_or(u64::MAX))),
         "rank" => (0..times).for_each(|i| sum += trie.rank(now, spread(i, universe))),
         "select" => (0..times).for_each(|i| sum += trie.select(now, spread(i, members)).unwrap_or(u64::MAX)),
         "range" => (0..times).for_each(|i| {

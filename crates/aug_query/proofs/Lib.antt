@@ -1,9 +1,13 @@
 pub mod Orders
 pub mod Nodes
-pub mod Steps
+pub mod Descending
+pub mod Ways
 pub mod Descents
+pub mod Choosing
 pub mod Ends
 pub mod Passing
+pub mod Beside
+pub mod Inside
 pub mod Placed
 pub mod Cover
 pub mod Listed

@@ -1,33 +1,29 @@
 //! Queries on a tree of a set of keys with weights, by descent from its top (after Fatourou and Ruppert 2024).
 //!
-//! A query goes down by the counts that the nodes carry. Only `keys` and `pairs` take memory. If keys have `bits`
-//! bits, a query makes at most this many calls of `top`, `left` and `right`: `size` 1; `has`, `weight` and `rank`
-//! `bits + 1`; `select` `2 * bits + 1`; `before` and `after` `3 * bits`; `range` `4 * bits - 1`; `keys` and `pairs`,
-//! which visit each of `n` members, `2 * bits * n + 1`.
+//! Each query is written once, over [`Descend`], in [`descent`]: it goes down by the counts of the nodes, and loads no more than it needs.
+//! The functions here ask a [`Tree`], whose nodes are loaded whole; they go the same way. Only `keys` and `pairs` take memory. If keys
+//! have `bits` bits, a query makes at most this many calls of `top`, `left` and `right` of a tree: `size` 1; `has`, `weight` and
+//! `rank` `bits + 1`; `select` `2 * bits + 1`; `before` and `after` `3 * bits`; `range` `4 * bits - 1`; `keys` and `pairs`, which visit
+//! each of `n` members, `2 * bits * n + 1`.
 #![tactic(auto)]
 
 mod calls;
-mod counts;
+mod descend;
+pub mod descent;
 mod fake_tree;
-mod intervals;
-mod listing;
-mod membership;
-mod neighbours;
+mod loaded;
+mod node_walk;
 mod noted;
-mod positions;
+mod queries;
 mod rows;
 mod summaries;
+mod toward;
 mod tree;
-mod walk;
-mod weights;
 
 pub use calls::Calls;
-pub use counts::{rank, size};
+pub use descend::Descend;
 pub use fake_tree::{FakeNode, FakeTree};
-pub use intervals::range;
-pub use listing::{keys, pairs};
-pub use membership::has;
-pub use neighbours::{after, before};
-pub use positions::select;
+pub use loaded::Loaded;
+pub use node_walk::NodeWalk;
+pub use queries::{after, before, has, keys, pairs, range, rank, select, size, weight};
 pub use tree::Tree;
-pub use weights::weight;

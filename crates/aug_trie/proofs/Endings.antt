@@ -31,6 +31,7 @@ use Rattle.aug_trie.specs.Knowledge.{insertion, removal, inserts_of, removals_of
 use Rattle.aug_core.specs.declared.view.Change.{Change}
 use Rattle.aug_trie.specs.inside.Knows.{knows}
 use Rattle.aug_trie.specs.inside.CrewState.{crew_facts, HoldsCrew}
+use Rattle.aug_query.specs.Descend.{nothing_loaded}
 use Rattle.aug_trie.specs.Ended.{EndedFacts, word_in}
 use Rattle.aug_trie.specs.Crew.{Ends}
 use Rattle.aug_trie.specs.Tallies.{TalliesWithLost}
@@ -81,15 +82,15 @@ module _ (face : ℕ → ℕ → List (ℕ × ℕ) → List ℕ) (v : View) (bac
   removals_exact : removals ≡ removals_of (changes_of v.held)
   removals_exact = let fit = changes_fit in let le : removals_of (changes_of v.held) ≤ length (changes_of v.held) = filter_shorter (λ (z : Change). eqb (z.serial % 2) removal) (changes_of v.held) in c.removals_are ∙ mod-eq_of_lt (omega arith)
 
-  pub ends_so : (table : TableId) (ended : EndedFacts) → ended.bits ≡ v.shape.bits → ended.members ≡ pairs_of_cut (last_cut (knows v).history) → ended.inserts ≡ inserts → ended.removals ≡ removals → ended.missing ≡ c.handed - back → ended.calls ≡ 0
+  pub ends_so : (table : TableId) (ended : EndedFacts) → ended.bits ≡ v.shape.bits → ended.members ≡ pairs_of_cut (last_cut (knows v).history) → ended.inserts ≡ inserts → ended.removals ≡ removals → ended.missing ≡ c.handed - back → ended.loaded ≡ nothing_loaded
       → Ends (crew_facts (record { table = table; view = v })) ended
-  ends_so table ended bits members ins rem miss calls = let spare : unwrap_or v.spare 0 ≡ c.handed = ap (λ (z : Option ℕ). unwrap_or z 0) c.is_crew.hands_out in record {
+  ends_so table ended bits members ins rem miss loads = let spare : unwrap_or v.spare 0 ≡ c.handed = ap (λ (z : Option ℕ). unwrap_or z 0) c.is_crew.hands_out in record {
     bits = bits;
     members = members;
     inserts = ins ∙ inserts_exact;
     removals = rem ∙ removals_exact;
     missing = let few = back_few in let is = back_exact in omega arith;
-    no_calls = calls;
+    no_loads = loads;
     is_history = c.is_crew.knowledge.is_history;
     tallies = subst (λ (z : ℕ). TalliesWithLost v.shape.updates z (opening_cut v.shape.bits v.members) (last_cut (knows v).history) (knows v).history (changes_of v.held)) (ap (λ (z : ℕ). c.handed - z) (sym back_exact) ∙ sym miss)
         (tallies_at_end face s id c.handed v r at c.is_crew.hands_out c.is_crew.knows_table c.is_crew.knowledge.stands (length v.held) refl);

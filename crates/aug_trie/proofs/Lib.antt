@@ -21,6 +21,8 @@ pub mod Looking
 pub mod Trees
 pub mod Passing
 pub mod Snapshots
+pub mod Asking
+pub mod SnapshotWalks
 pub mod Rounds
 pub mod Crews
 pub mod Rising
@@ -28,6 +30,7 @@ pub mod CutLemmas
 pub mod TallyLemmas
 pub mod Versions
 pub mod Endings
+pub mod EndedWalks
 pub mod Ranking
 pub mod Advancing
 pub mod Ascending

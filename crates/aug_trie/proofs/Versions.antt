@@ -188,12 +188,6 @@ module _ {A B : Type 0} (parts_a : Parts A) (parts_b : Parts B) where
     pub inside_of : word < record_count rest.shape
     inside_of = at.0.inside
 
-    pub left_version : IsVersion both rest list (level - 1) (2 * place) (word_in rest word 0)
-    left_version = at.1
-
-    pub right_version : IsVersion both rest list (level - 1) (2 * place + 1) (word_in rest word 1)
-    right_version = at.2
-
     says : (field : ℕ) → field < 5 → word_in rest word field ≡ get_or (both (word_in rest word 0) (word_in rest word 1) here) field 0
     says field low = at.0.says field low ∙ ap (λ (z : ℕ). get_or (both (word_in rest word 0) (word_in rest word 1) (covered list z place)) field 0) (sym up)
 

@@ -47,7 +47,7 @@ weight_of-range (p ∷ ps) k a b from to = ⊎_elim
     either false other rest = rest
 
 -- a serial says how many pairs its leaf has
-pairs_counted : (key word : ℕ) → length (leaf_pairs key word) ≡ serial_in_word word % 2
+pub pairs_counted : (key word : ℕ) → length (leaf_pairs key word) ≡ serial_in_word word % 2
 pairs_counted key word = counted (serial_in_word word % 2) (omega arith)
   where
     counted : (n : ℕ) → n < 2 → length {A = ℕ × ℕ} (if eqb n 1 then (key, weight_in_word word) ∷ [] else []) ≡ n

@@ -10,6 +10,7 @@ use Rattle.aug_trie.specs.Round.{RoundFacts, root_of}
 use Rattle.aug_trie.specs.Pass.{PassFacts}
 use Rattle.aug_trie.specs.Tallies.{TalliesWithLost}
 use Rattle.aug_trie.specs.Ended.{EndedFacts}
+use Rattle.aug_query.specs.Descend.{nothing_loaded}
 
 -- a crew: its round, what it knows, its atomic steps, and how many passes it handed out and took back
 pub record CrewFacts : Type 0 where
@@ -67,6 +68,6 @@ pub record Ends (crew : CrewFacts) (ended : EndedFacts) : Type 0 where
   pub inserts : ended.inserts ≡ inserts_of crew.knows.accepted
   pub removals : ended.removals ≡ removals_of crew.knows.accepted
   pub missing : ended.missing + crew.back ≡ crew.handed
-  pub no_calls : ended.calls ≡ 0
+  pub no_loads : ended.loaded ≡ nothing_loaded
   pub is_history : IsHistory crew.round.bits crew.round.members crew.knows.history
   pub tallies : TalliesWithLost crew.round.updates ended.missing (opening_cut crew.round.bits crew.round.members) (last_cut crew.knows.history) crew.knows.history crew.knows.accepted

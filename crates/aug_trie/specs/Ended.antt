@@ -1,22 +1,24 @@
 -- What contracts see of a trie at rest and of the nodes of its tree, and what a query keeps of it.
-use Rattle.std.specs.Prelude.{◌≡◌, ℕ, zero, suc, ◌+◌, ◌*◌, ◌%◌, ◌<◌, List, [], slice_index}
+use Rattle.std.specs.Prelude.{◌≡◌, ℕ, zero, suc, ◌+◌, ◌*◌, ◌%◌, ◌^◌, ◌<◌, ◌≤◌, List, [], slice_index}
 use Rattle.aug_model.specs.Keys.{SetFacts}
 use Rattle.aug_words.specs.Rests.{AtRest}
 use Rattle.aug_core.specs.Places.{record_start, record_count}
 use Rattle.aug_model.specs.Queries.{weighted_range_of, weight_in}
-use Rattle.aug_query.specs.Tree.{first_key, end_key, IsNodeOf}
+use Rattle.aug_query.specs.Descend.{nothing_loaded}
+use Rattle.aug_query.specs.Tree.{first_key, end_key, IsTreeSet, IsNodeOf}
+use Rattle.aug_query.specs.declared.loaded.Loaded.{Loaded}
 use Rattle.aug_model.specs.declared.summary.Summary.{Summary}
 use Rattle.aug_trie.specs.LeafWords.{serial_in_word, weight_in_word, leaf_pairs}
 use Rattle.aug_trie.specs.declared.ended_tree.EndedNode.{EndedNode}
 
--- a trie at rest: its bits and members with their weights, what the round that ended it came to, how often queries called it, and the words and the root's record that its members are read from
+-- a trie at rest: its bits and members with their weights, what the round that ended it came to, how much queries loaded of it, and the words and the root's record that its members are read from
 pub record EndedFacts : Type 0 where
   pub bits : ℕ
   pub members : List (ℕ × ℕ)
   pub inserts : ℕ
   pub removals : ℕ
   pub missing : ℕ
-  pub calls : ℕ
+  pub loaded : Loaded
   pub rest : AtRest
   pub root : ℕ
 
@@ -31,7 +33,7 @@ pub record IsEmptyTrie (bits : ℕ) (ended : EndedFacts) : Type 0 where
   pub no_inserts : ended.inserts ≡ 0
   pub no_removals : ended.removals ≡ 0
   pub none_missing : ended.missing ≡ 0
-  pub no_calls : ended.calls ≡ 0
+  pub no_loads : ended.loaded ≡ nothing_loaded
 
 -- a word of the record with a number, its five words counted from 0
 abbrev pub word_in : AtRest → ℕ → ℕ → ℕ
@@ -58,9 +60,17 @@ module _ (face : ℕ → ℕ → List (ℕ × ℕ) → List ℕ) where
   IsVersion rest pairs (suc level) place word = IsRecordOf rest (covered pairs (suc level) place) word
       × IsVersion rest pairs level (2 * place) (word_in rest word 0) × IsVersion rest pairs level (2 * place + 1) (word_in rest word 1)
 
--- a walk changes nothing of the trie but how often it was called
+module _ (face : ℕ → ℕ → List (ℕ × ℕ) → List ℕ) where
+  -- the word names the node at a level and a place of the trie's tree
+  pub record NamesEnded (ended : EndedFacts) (level place word : ℕ) : Type 0 where
+    pub is_tree_set : IsTreeSet (set_of_ended ended)
+    pub level_fits : level ≤ ended.bits
+    pub place_fits : end_key level place ≤ 2 ^ ended.bits
+    pub is_version : IsVersion face ended.rest ended.members level place word
+
+-- a walk changes nothing of the trie but how much was loaded of it
 abbrev pub KeepsEnded : EndedFacts → EndedFacts → Type 0
-KeepsEnded old new = new ≡ record old { calls = new.calls }
+KeepsEnded old new = new ≡ record old { loaded = new.loaded }
 
 module _ {A B : Type 0} (face : ℕ → ℕ → List (ℕ × ℕ) → List ℕ) (summary_of : List (ℕ × ℕ) → Summary A B) where
   -- the node is one of the trie's tree: its word names the version below it, it tells the summary of the members that it covers, and a leaf the weight of its key

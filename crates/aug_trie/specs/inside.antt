@@ -11,6 +11,7 @@ pub mod NamedCuts
 pub mod PassState
 pub mod Points
 pub mod RoundState
+pub mod SnapshotWalk
+pub mod SnapshotWalkLaws
 pub mod Stages
 pub mod ViewLaws
-pub mod ViewWalks

@@ -3,6 +3,7 @@ ghost use Rattle.std.specs.Prelude.{◌≡◌, ◌⊎◌, ◌↔◌, ◌^◌, le
 ghost use Rattle.aug_core.specs.Faces.{face};
 ghost use Rattle.aug_core.specs.Layout.{IsOutside};
 ghost use Rattle.aug_core.specs.Cuts.{pairs_of_cut};
+ghost use Rattle.aug_query.specs.Descend.{nothing_loaded};
 ghost use Rattle.aug_words.specs.Seats.{AreTogether};
 ghost use Rattle.aug_words.specs.Rests.{EndWith};
 ghost use Rattle.aug_trie.specs.History.{last_cut};
@@ -12,13 +13,13 @@ ghost use Rattle.aug_trie.specs.Ended.{IsEmptyTrie};
 use crate::error::BeginError;
 use aug_core::{Layout, RecordField};
 use aug_monoid::Monoid;
-use aug_query::Calls;
+use aug_query::Loaded;
 use aug_words::{Lead, Rest, Words, WordsError};
 use std::alloc::Global;
 use std::marker::{Model, PhantomData};
 
-/// A trie at rest: a set of keys with weights that no round works on. It is a `Tree`, so all queries of `aug_query`
-/// answer over it.
+/// A trie at rest: a set of keys with weights that no round works on. It is a `Descend`, and a `Tree` too, so all queries of
+/// `aug_query` answer over it.
 #[derive(Drop)]
 pub struct Ended<A: Monoid, B: Monoid> {
     // The words of the round that ended, and the record of the root that its crew knew last: the set is that of this version.
@@ -29,7 +30,7 @@ pub struct Ended<A: Monoid, B: Monoid> {
     pub(crate) inserts: u32,
     pub(crate) removals: u32,
     pub(crate) missing: u32,
-    pub(crate) calls: Calls,
+    pub(crate) loaded: Loaded,
     pub(crate) sums: PhantomData<(A, B)>,
 }
 
@@ -40,7 +41,7 @@ impl<A: Monoid, B: Monoid> Model for Ended<A, B> {
 
     ghost Value = { EndedFacts };
 
-    ghost view = { λ e. record { bits = e.bits; members = pairs_below e.rest e.bits 0 e.root; inserts = e.inserts; removals = e.removals; missing = e.missing; calls = e.calls.made; rest = e.rest; root = e.root } };
+    ghost view = { λ e. record { bits = e.bits; members = pairs_below e.rest e.bits 0 e.root; inserts = e.inserts; removals = e.removals; missing = e.missing; loaded = e.loaded; rest = e.rest; root = e.root } };
 
     ghost invariant = { λ e. HoldsVersion (face A.parts B.parts) e.rest e.root e.bits };
 }
@@ -71,7 +72,7 @@ impl<A: Monoid, B: Monoid> Ended<A, B> {
         ensures no_inserts { result.inserts ≡ 0 }
         ensures no_removals { result.removals ≡ 0 }
         ensures none_missing { result.missing ≡ 0 }
-        ensures no_calls { result.calls ≡ 0 }
+        ensures no_loads { result.loaded ≡ nothing_loaded }
         ensures rule { EndWith (face A.parts B.parts) words.opening lead.view result.rest.words }
     {
         let root = lead.root();
@@ -83,7 +84,7 @@ impl<A: Monoid, B: Monoid> Ended<A, B> {
             inserts: 0,
             removals: 0,
             missing: 0,
-            calls: Calls::new(),
+            loaded: Loaded::nothing(),
             sums: PhantomData,
         }
     }

@@ -1,9 +1,8 @@
 //! A trie at rest as a tree that queries walk.
-ghost use Rattle.std.specs.Prelude.{◌≡◌, ◌+◌, ◌*◌, ◌^◌, ◌≤◌};
+ghost use Rattle.std.specs.Prelude.{◌≡◌};
 ghost use Rattle.aug_core.specs.Faces.{face};
 ghost use Rattle.aug_model.specs.Folds.{summary_of};
-ghost use Rattle.aug_query.specs.Tree.{IsTreeSet};
-ghost use Rattle.aug_trie.specs.Ended.{set_of_ended, HasEndedNode, IsVersion, covered};
+ghost use Rattle.aug_trie.specs.Ended.{HasEndedNode, IsVersion, NamesEnded, covered};
 
 use crate::ended::Ended;
 use crate::leaf_words::leaf_weight;
@@ -25,7 +24,7 @@ pub struct EndedNode<A, B> {
 
 impl<A: Monoid, B: Monoid> Ended<A, B> {
     // What the node at a level and a place tells, of which this is the word.
-    fn summary_of_word(&self, level: u32, place: u32, word: u64) -> Summary<A, B>
+    pub(crate) fn summary_of_word(&self, level: u32, place: u32, word: u64) -> Summary<A, B>
         requires version { IsVersion (face A.parts B.parts) self.now.rest self.now.members level place word }
         ensures { result ≡ summary_of A.parts B.parts (covered self.now.members level place) }
     {
@@ -44,10 +43,7 @@ impl<A: Monoid, B: Monoid> Ended<A, B> {
 
     // The node at a level and a place, of which this is the word.
     fn node(&self, level: u32, place: u32, word: u64) -> EndedNode<A, B>
-        requires version { IsVersion (face A.parts B.parts) self.now.rest self.now.members level place word }
-        requires set { IsTreeSet (set_of_ended self.now) }
-        requires level { level ≤ self.now.bits }
-        requires place { (place + 1) * 2 ^ level ≤ 2 ^ self.now.bits }
+        requires { NamesEnded (face A.parts B.parts) self.now level place word }
         ensures node { HasEndedNode (face A.parts B.parts) (summary_of A.parts B.parts) self.now result }
         ensures level { result.level ≡ level }
         ensures place { result.place ≡ place }
@@ -72,7 +68,7 @@ impl<A: Monoid, B: Monoid> Tree<A, B> for Ended<A, B> {
 
     ghost set_of = { λ e. set_of_ended e };
 
-    ghost calls_of = { λ e. e.calls };
+    ghost calls_of = { λ e. e.loaded.nodes.made };
 
     ghost HasNode = { λ e n. HasEndedNode (face A.parts B.parts) (summary_of A.parts B.parts) e n };
 
@@ -99,19 +95,19 @@ impl<A: Monoid, B: Monoid> Tree<A, B> for Ended<A, B> {
     }
 
     fn top(&mut self) -> EndedNode<A, B> {
-        self.calls = self.calls.one_more();
+        self.loaded.one_node();
         self.node(self.bits, 0, self.root)
     }
 
     fn left(&mut self, node: &EndedNode<A, B>) -> EndedNode<A, B> {
-        self.calls = self.calls.one_more();
-        let word = self.rest.record_word(node.word, RecordField::Left);
+        self.loaded.one_node();
+        let word = self.left_word(node.level - 1, node.place, node.word);
         self.node(node.level - 1, 2 * node.place, word)
     }
 
     fn right(&mut self, node: &EndedNode<A, B>) -> EndedNode<A, B> {
-        self.calls = self.calls.one_more();
-        let word = self.rest.record_word(node.word, RecordField::Right);
+        self.loaded.one_node();
+        let word = self.right_word(node.level - 1, node.place, node.word);
         self.node(node.level - 1, 2 * node.place + 1, word)
     }
 

@@ -32,7 +32,7 @@ pub(crate) fn leaf_summary<A: Monoid, B: Monoid>(key: u32, word: u64) -> Summary
 
 // What the node at a level and a place of a snapshot's tree tells, of which this is the word: three steps at most.
 #[inline(always)]
-fn summary_at<A: Monoid, B: Monoid>(
+pub(crate) fn summary_at<A: Monoid, B: Monoid>(
     pass: &mut WordPass<A, B>,
     snapshot: Snapshot,
     level: u32,

@@ -1,5 +1,5 @@
 //! The queries on a snapshot of a pass. Only `keys` and `pairs` take memory.
-ghost use Rattle.std.specs.Prelude.{◌≡◌, ℕ, ◌+◌, ◌-◌, ◌*◌, ◌<◌, ◌≤◌, length, IfOk, vec_capacity};
+ghost use Rattle.std.specs.Prelude.{◌≡◌, ◌+◌, ◌-◌, ◌*◌, length, IfOk, vec_capacity};
 ghost use Rattle.aug_model.specs.Folds.{summary_of};
 ghost use Rattle.aug_model.specs.Keys.{is_member, list_of};
 ghost use Rattle.aug_model.specs.Queries.{rank_of, select_of, before_of, after_of, weight_of, weighted_range_of};
@@ -7,12 +7,12 @@ ghost use Rattle.aug_trie.specs.Snapshot.{HasSnapshot, set_at};
 ghost use Rattle.aug_trie.specs.Node.{Reads};
 
 use crate::pass::Pass;
-use crate::ranks::rank_at;
 use crate::snapshot::Snapshot;
+use crate::snapshot_walk::SnapshotWalk;
 use crate::view::View;
 use aug_model::Summary;
 use aug_monoid::Monoid;
-use aug_query::Calls;
+use aug_query::{Calls, descent};
 use std::alloc::{AllocError, Global};
 
 impl<'r, A: Monoid, B: Monoid> Pass<'r, A, B> {
@@ -37,55 +37,47 @@ impl<'r, A: Monoid, B: Monoid> Pass<'r, A, B> {
     pub fn has(&mut self, s: Snapshot, k: u32) -> bool
         requires { HasSnapshot self.old s.number }
         ensures answer { result ≡ is_member (list_of (set_at self.old s)) k }
-        ensures reads { Reads (summary_of A.parts B.parts) (4 * ((set_at self.old s).bits + 1)) self.old self.new }
+        ensures reads { Reads (summary_of A.parts B.parts) ((set_at self.old s).bits + 2) self.old self.new }
     {
-        let mut view = View {
-            pass: self,
-            snapshot: s,
-            calls: Calls::new(),
-        };
-        view.has(k)
+        let mut walk = SnapshotWalk::over(self.words.take(), s, self.bits);
+        let found = descent::has(&mut walk, k);
+        self.words = walk.into_words();
+        found
     }
 
     /// The weight of `k`, if it is a member.
     pub fn weight(&mut self, s: Snapshot, k: u32) -> Option<u32>
         requires { HasSnapshot self.old s.number }
         ensures answer { result ≡ weight_of (set_at self.old s).pairs k }
-        ensures reads { Reads (summary_of A.parts B.parts) (4 * ((set_at self.old s).bits + 1)) self.old self.new }
+        ensures reads { Reads (summary_of A.parts B.parts) ((set_at self.old s).bits + 2) self.old self.new }
     {
-        let mut view = View {
-            pass: self,
-            snapshot: s,
-            calls: Calls::new(),
-        };
-        view.weight(k)
+        let mut walk = SnapshotWalk::over(self.words.take(), s, self.bits);
+        let weight = descent::weight(&mut walk, k);
+        self.words = walk.into_words();
+        weight
     }
 
     /// How many members there are.
     pub fn size(&mut self, s: Snapshot) -> u32
         requires { HasSnapshot self.old s.number }
         ensures answer { result ≡ length (list_of (set_at self.old s)) }
-        ensures reads { Reads (summary_of A.parts B.parts) 4 self.old self.new }
+        ensures reads { Reads (summary_of A.parts B.parts) 2 self.old self.new }
     {
-        let mut view = View {
-            pass: self,
-            snapshot: s,
-            calls: Calls::new(),
-        };
-        view.size()
+        let mut walk = SnapshotWalk::over(self.words.take(), s, self.bits);
+        let size = descent::size(&mut walk);
+        self.words = walk.into_words();
+        size
     }
 
     /// How many members are below `k`.
     pub fn rank(&mut self, s: Snapshot, k: u32) -> u32
         requires { HasSnapshot self.old s.number }
         ensures answer { result ≡ rank_of (list_of (set_at self.old s)) k }
-        ensures reads { Reads (summary_of A.parts B.parts) (4 * ((set_at self.old s).bits + 1)) self.old self.new }
+        ensures reads { Reads (summary_of A.parts B.parts) (3 * (set_at self.old s).bits + 2) self.old self.new }
     {
-        let Some(mut words) = self.words.take() else {
-            unreachable!()
-        };
-        let below = rank_at(&mut words, s, self.leaves, self.bits, k);
-        self.words = Some(words);
+        let mut walk = SnapshotWalk::over(self.words.take(), s, self.bits);
+        let below = descent::rank(&mut walk, k);
+        self.words = walk.into_words();
         below
     }
 
@@ -93,56 +85,48 @@ impl<'r, A: Monoid, B: Monoid> Pass<'r, A, B> {
     pub fn select(&mut self, s: Snapshot, i: u32) -> Option<u32>
         requires { HasSnapshot self.old s.number }
         ensures answer { result ≡ select_of (list_of (set_at self.old s)) i }
-        ensures reads { Reads (summary_of A.parts B.parts) (4 * (2 * (set_at self.old s).bits + 1)) self.old self.new }
+        ensures reads { Reads (summary_of A.parts B.parts) (3 * (set_at self.old s).bits + 2) self.old self.new }
     {
-        let mut view = View {
-            pass: self,
-            snapshot: s,
-            calls: Calls::new(),
-        };
-        view.select(i)
+        let mut walk = SnapshotWalk::over(self.words.take(), s, self.bits);
+        let found = descent::select(&mut walk, i);
+        self.words = walk.into_words();
+        found
     }
 
     /// The greatest member below `k`, if there is one.
     pub fn before(&mut self, s: Snapshot, k: u32) -> Option<u32>
         requires { HasSnapshot self.old s.number }
         ensures answer { result ≡ before_of (list_of (set_at self.old s)) k }
-        ensures reads { Reads (summary_of A.parts B.parts) (4 * (3 * (set_at self.old s).bits)) self.old self.new }
+        ensures reads { Reads (summary_of A.parts B.parts) (6 * (set_at self.old s).bits + 1) self.old self.new }
     {
-        let mut view = View {
-            pass: self,
-            snapshot: s,
-            calls: Calls::new(),
-        };
-        view.before(k)
+        let mut walk = SnapshotWalk::over(self.words.take(), s, self.bits);
+        let found = descent::before(&mut walk, k);
+        self.words = walk.into_words();
+        found
     }
 
     /// The least member above `k`, if there is one.
     pub fn after(&mut self, s: Snapshot, k: u32) -> Option<u32>
         requires { HasSnapshot self.old s.number }
         ensures answer { result ≡ after_of (list_of (set_at self.old s)) k }
-        ensures reads { Reads (summary_of A.parts B.parts) (4 * (3 * (set_at self.old s).bits)) self.old self.new }
+        ensures reads { Reads (summary_of A.parts B.parts) (6 * (set_at self.old s).bits + 1) self.old self.new }
     {
-        let mut view = View {
-            pass: self,
-            snapshot: s,
-            calls: Calls::new(),
-        };
-        view.after(k)
+        let mut walk = SnapshotWalk::over(self.words.take(), s, self.bits);
+        let found = descent::after(&mut walk, k);
+        self.words = walk.into_words();
+        found
     }
 
     /// The number and the folds of the members from `a` on that are below `b`, with their weights.
     pub fn range(&mut self, s: Snapshot, a: u32, b: u32) -> Summary<A, B>
         requires { HasSnapshot self.old s.number }
         ensures answer { result ≡ summary_of A.parts B.parts (weighted_range_of (set_at self.old s).pairs a b) }
-        ensures reads { Reads (summary_of A.parts B.parts) (4 * (4 * (set_at self.old s).bits - 1)) self.old self.new }
+        ensures reads { Reads (summary_of A.parts B.parts) (10 * (set_at self.old s).bits - 1) self.old self.new }
     {
-        let mut view = View {
-            pass: self,
-            snapshot: s,
-            calls: Calls::new(),
-        };
-        view.range(a, b)
+        let mut walk = SnapshotWalk::over(self.words.take(), s, self.bits);
+        let total = descent::range(&mut walk, a, b);
+        self.words = walk.into_words();
+        total
     }
 
     /// The members, rising. Room for all of them is made at the beginning, and only that can be refused.
@@ -150,14 +134,12 @@ impl<'r, A: Monoid, B: Monoid> Pass<'r, A, B> {
         requires { HasSnapshot self.old s.number }
         ensures answer { IfOk result (λ list. list.items ≡ list_of (set_at self.old s)) }
         ensures room { IfOk result (λ list. vec_capacity list ≡ length (list_of (set_at self.old s))) }
-        ensures reads { Reads (summary_of A.parts B.parts) (4 * (2 * (set_at self.old s).bits * length (list_of (set_at self.old s)) + 1)) self.old self.new }
+        ensures reads { Reads (summary_of A.parts B.parts) (3 * (set_at self.old s).bits * length (list_of (set_at self.old s)) + 2) self.old self.new }
     {
-        let mut view = View {
-            pass: self,
-            snapshot: s,
-            calls: Calls::new(),
-        };
-        view.keys(alloc)
+        let mut walk = SnapshotWalk::over(self.words.take(), s, self.bits);
+        let list = descent::keys(alloc, &mut walk);
+        self.words = walk.into_words();
+        list
     }
 
     /// The members with their weights, rising. Room for all of them is made at the beginning, and only that can be refused.
@@ -165,13 +147,11 @@ impl<'r, A: Monoid, B: Monoid> Pass<'r, A, B> {
         requires { HasSnapshot self.old s.number }
         ensures answer { IfOk result (λ list. list.items ≡ (set_at self.old s).pairs) }
         ensures room { IfOk result (λ list. vec_capacity list ≡ length (set_at self.old s).pairs) }
-        ensures reads { Reads (summary_of A.parts B.parts) (4 * (2 * (set_at self.old s).bits * length (set_at self.old s).pairs + 1)) self.old self.new }
+        ensures reads { Reads (summary_of A.parts B.parts) (3 * (set_at self.old s).bits * length (set_at self.old s).pairs + 2) self.old self.new }
     {
-        let mut view = View {
-            pass: self,
-            snapshot: s,
-            calls: Calls::new(),
-        };
-        view.pairs(alloc)
+        let mut walk = SnapshotWalk::over(self.words.take(), s, self.bits);
+        let list = descent::pairs(alloc, &mut walk);
+        self.words = walk.into_words();
+        list
     }
 }

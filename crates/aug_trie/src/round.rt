@@ -46,7 +46,7 @@ impl<A: Monoid, B: Monoid> Round<A, B> {
         updates: u32,
     ) -> Result<(Round<A, B>, Crew<A, B>), (Ended<A, B>, BeginError)>
         ensures begun { IfOk result (λ t. BeginsRound ended ended.bits workers updates t.0 t.1) }
-        ensures same { IfErr result (λ e. e.0 ≡ record ended { calls = e.0.calls }) }
+        ensures same { IfErr result (λ e. e.0 ≡ record ended { loaded = e.0.loaded }) }
         ensures not_walked { IfErr result (λ e. e.1 ≢ BeginError.OutOfMemory → e.0 ≡ ended) }
         ensures bad_workers { IsErrOf result (ended, BeginError.BadWorkers)
             ↔ IsRefused LayoutError.BadWorkers (shape_of ended.bits workers updates (length ended.members)) }
@@ -78,7 +78,7 @@ impl<A: Monoid, B: Monoid> Round<A, B> {
         updates: u32,
     ) -> Result<(Round<A, B>, Crew<A, B>), (Ended<A, B>, BeginError)>
         ensures begun { IfOk result (λ t. BeginsRound ended bits workers updates t.0 t.1) }
-        ensures same { IfErr result (λ e. e.0 ≡ record ended { calls = e.0.calls }) }
+        ensures same { IfErr result (λ e. e.0 ≡ record ended { loaded = e.0.loaded }) }
         ensures not_walked { IfErr result (λ e. e.1 ≢ BeginError.OutOfMemory → e.0 ≡ ended) }
         ensures bad_bits { IsErrOf result (ended, BeginError.BadBits) ↔ IsOutside 1 16 bits }
         ensures narrower { IsErrOf result (ended, BeginError.Narrower) ↔ IsWithin 1 16 bits × (bits < ended.bits) }

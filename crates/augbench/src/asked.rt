@@ -27,6 +27,8 @@ pub(crate) struct Counting {
     pub(crate) bits: u32,
     /// The members at the opening are the multiples of `2^gap`.
     pub(crate) gap: u32,
+    /// How many puts of members are made before them.
+    pub(crate) updates: u32,
 }
 
 /// The kinds of operations that are counted.
@@ -40,10 +42,20 @@ pub(crate) enum Operation {
     Duplicate,
     /// Puts of keys that are there.
     Put,
+    /// Whether keys are members of one snapshot.
+    Has,
     /// Ranks on one snapshot.
     Rank,
     /// Selections on one snapshot.
     Select,
+    /// The greatest members below keys in one snapshot.
+    Before,
+    /// The least members above keys in one snapshot.
+    After,
     /// Ranges on one snapshot.
     Range,
+    /// The size of one snapshot, again and again.
+    Size,
+    /// The list of all members of one snapshot, again and again.
+    Keys,
 }

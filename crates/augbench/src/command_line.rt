@@ -49,6 +49,11 @@ fn check<'a>(alloc: Global) -> Result<Command<'a>, AllocError> {
         )
 }
 
+// The words for the kinds of operations that are counted.
+const OPERATIONS: [&str; 12] = [
+    "none", "new", "dup", "put", "has", "rank", "select", "before", "after", "range", "size", "keys",
+];
+
 fn count<'a>(alloc: Global) -> Result<Command<'a>, AllocError> {
     Command::new(alloc, "count")
         .about(
@@ -58,7 +63,7 @@ fn count<'a>(alloc: Global) -> Result<Command<'a>, AllocError> {
             Arg::new(alloc, "OP")
                 .required(true)
                 .action(ArgAction::Set)
-                .value_parser(["none", "new", "dup", "put", "rank", "select", "range"].as_slice())
+                .value_parser(OPERATIONS.as_slice())
                 .help(
                     "Nothing, inserts of absent or of present keys, puts of present keys, or queries on one snapshot",
                 ),
@@ -67,7 +72,16 @@ fn count<'a>(alloc: Global) -> Result<Command<'a>, AllocError> {
         .arg(option(alloc, "bits", "H", 16, "16").help("Keys are below 2^H"))?
         .arg(option(alloc, "gap", "G", 16, "1").help(
             "The members at the opening are the multiples of 2^G",
-        ))
+        ))?
+        .arg(
+            Arg::new(alloc, "updates")
+                .long("updates")
+                .action(ArgAction::Set)
+                .value_name("U")
+                .value_parser(value_parser!(u32).range(0..=65_536))
+                .default_value("0")
+                .help("How many puts of members are made before them"),
+        )
 }
 
 fn workload<'a>(alloc: Global) -> Arg<'a> {
@@ -122,9 +136,14 @@ fn counting_of(alloc: Global, found: &ArgMatches<'_>) -> Result<Asked, Stop> {
         Some("new") => Operation::New,
         Some("dup") => Operation::Duplicate,
         Some("put") => Operation::Put,
+        Some("has") => Operation::Has,
         Some("rank") => Operation::Rank,
         Some("select") => Operation::Select,
+        Some("before") => Operation::Before,
+        Some("after") => Operation::After,
         Some("range") => Operation::Range,
+        Some("size") => Operation::Size,
+        Some("keys") => Operation::Keys,
         _ => Operation::Nothing,
     };
     Ok(Asked::Count(Counting {
@@ -132,6 +151,7 @@ fn counting_of(alloc: Global, found: &ArgMatches<'_>) -> Result<Asked, Stop> {
         times: number_of(alloc, found, "N")?,
         bits: number_of(alloc, found, "bits")?,
         gap: number_of(alloc, found, "gap")?,
+        updates: number_of(alloc, found, "updates")?,
     }))
 }
 

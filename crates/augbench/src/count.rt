@@ -8,7 +8,7 @@ use crate::trie::{Hand, Trie};
 use anyhow::ensure;
 use aug_model::Outcome;
 use aug_trie::Round;
-use std::alloc::Global;
+use std::alloc::{AllocError, Global};
 
 // How many updates a pass has.
 const UPDATES: u32 = 65_536;
@@ -20,10 +20,11 @@ pub(crate) fn count(alloc: Global, asked: Counting) -> anyhow::Result<u64> {
         times,
         bits,
         gap,
+        updates,
     } = asked;
     ensure!(1 <= bits && bits <= 16, "a key has 1 to 16 bits");
     ensure!(gap <= 16, "a gap has 1 to 16 bits");
-    ensure!(times <= UPDATES, "a round has 65536 updates");
+    ensure!(times <= UPDATES && updates <= UPDATES - times, "a round has 65536 updates");
     let (universe, step) = (1u32 << bits, 1u32 << gap);
     let members = universe / step;
     ensure!(1 < step && 0 < members, "the gap is 0, or wider than a key");
@@ -37,14 +38,20 @@ pub(crate) fn count(alloc: Global, asked: Counting) -> anyhow::Result<u64> {
         Err((_, cause)) => return Err(cause.into()),
     };
     let mut pass = crew.pass(&table)?;
+    puts(&mut pass, updates, members, step);
     let sum = match operation {
         Operation::Nothing => 0,
         Operation::New => inserts(&mut pass, times, members, step, 1),
         Operation::Duplicate => inserts(&mut pass, times, members, step, 0),
         Operation::Put => puts(&mut pass, times, members, step),
+        Operation::Has => memberships(&mut pass, times, universe),
         Operation::Rank => ranks(&mut pass, times, universe),
         Operation::Select => selects(&mut pass, times, members),
+        Operation::Before => befores(&mut pass, times, universe),
+        Operation::After => afters(&mut pass, times, universe),
         Operation::Range => ranges(&mut pass, times, universe),
+        Operation::Size => sizes(&mut pass, times),
+        Operation::Keys => lists(alloc, &mut pass, times)?,
     };
     crew.back(pass);
     let _trie = table.end(crew);
@@ -99,7 +106,8 @@ fn puts(pass: &mut Hand, times: u32, members: u32, step: u32) -> u64
     requires fits { members * step ≤ 2 ^ pass.old.round.bits }
     requires small { members * step ≤ 65536 }
     requires budget { pass.old.spent + times ≤ pass.old.round.updates }
-    ensures { pass.new.round ≡ pass.old.round }
+    ensures round { pass.new.round ≡ pass.old.round }
+    ensures spent { pass.new.spent ≤ pass.old.spent + times }
 {
     let mut replaced = 0u64;
     for i in 0..times {
@@ -107,6 +115,20 @@ fn puts(pass: &mut Hand, times: u32, members: u32, step: u32) -> u64
         replaced = replaced.wrapping_add(u64::from(pass.put(key, i) == Outcome::Replaced));
     }
     replaced
+}
+
+// How many of some keys, in a spread order, are members of one snapshot.
+#[inline(never)]
+fn memberships(pass: &mut Hand, times: u32, universe: u32) -> u64
+    requires { 0 < universe }
+    ensures { pass.new.round ≡ pass.old.round }
+{
+    let mut sum = 0u64;
+    let now = pass.snapshot();
+    for i in 0..times {
+        sum = sum.wrapping_add(u64::from(pass.has(now, spread(i, universe))));
+    }
+    sum
 }
 
 // The sum of the ranks of keys in a spread order on one snapshot.
@@ -137,6 +159,34 @@ fn selects(pass: &mut Hand, times: u32, members: u32) -> u64
     sum
 }
 
+// The sum of the greatest members below keys in a spread order, in one snapshot.
+#[inline(never)]
+fn befores(pass: &mut Hand, times: u32, universe: u32) -> u64
+    requires { 0 < universe }
+    ensures { pass.new.round ≡ pass.old.round }
+{
+    let mut sum = 0u64;
+    let now = pass.snapshot();
+    for i in 0..times {
+        sum = sum.wrapping_add(Answer::Found(pass.before(now, spread(i, universe))).digest());
+    }
+    sum
+}
+
+// The sum of the least members above keys in a spread order, in one snapshot.
+#[inline(never)]
+fn afters(pass: &mut Hand, times: u32, universe: u32) -> u64
+    requires { 0 < universe }
+    ensures { pass.new.round ≡ pass.old.round }
+{
+    let mut sum = 0u64;
+    let now = pass.snapshot();
+    for i in 0..times {
+        sum = sum.wrapping_add(Answer::Found(pass.after(now, spread(i, universe))).digest());
+    }
+    sum
+}
+
 // The sum of how many members ranges have whose ends come in a spread order, on one snapshot.
 #[inline(never)]
 fn ranges(pass: &mut Hand, times: u32, universe: u32) -> u64
@@ -151,6 +201,33 @@ fn ranges(pass: &mut Hand, times: u32, universe: u32) -> u64
         sum = sum.wrapping_add(u64::from(range.count));
     }
     sum
+}
+
+// The sum of the size of one snapshot, asked so many times.
+#[inline(never)]
+fn sizes(pass: &mut Hand, times: u32) -> u64
+    ensures { pass.new.round ≡ pass.old.round }
+{
+    let mut sum = 0u64;
+    let now = pass.snapshot();
+    for _ in 0..times {
+        sum = sum.wrapping_add(u64::from(pass.size(now)));
+    }
+    sum
+}
+
+// The sum of the lengths of the list of all members of one snapshot, made so many times.
+#[inline(never)]
+fn lists(alloc: Global, pass: &mut Hand, times: u32) -> Result<u64, AllocError>
+    ensures { pass.new.round ≡ pass.old.round }
+{
+    let mut sum = 0u64;
+    let now = pass.snapshot();
+    for _ in 0..times {
+        let keys = pass.keys(alloc, now)?;
+        sum = sum.wrapping_add(keys.len() as u64);
+    }
+    Ok(sum)
 }
 
 // A number below a power of two: each comes once before the first comes again.

@@ -277,16 +277,23 @@ fn counts_operations_of_each_kind(rt: HostRuntime) -> Result<(), Fail> {
         (Operation::New, 8, 8),
         (Operation::Duplicate, 16, 0),
         (Operation::Put, 16, 16),
+        (Operation::Has, 16, 8),
         (Operation::Rank, 16, 64),
         (Operation::Select, 8, 56),
+        // the greatest even keys below all keys come to 98, and one key has none; the least above to 112, and two have none
+        (Operation::Before, 16, 97),
+        (Operation::After, 16, 110),
         // how many even keys are between 11 * i and 5 - 11 * i, modulo 16
         (Operation::Range, 16, 36),
+        (Operation::Size, 16, 128),
+        (Operation::Keys, 3, 24),
     ] {
         let asked = Counting {
             operation,
             times,
             bits: 4,
             gap: 1,
+            updates: 5,
         };
         assert_eq!(rt; count(rt.alloc(), asked)?, sum);
     }
@@ -295,6 +302,7 @@ fn counts_operations_of_each_kind(rt: HostRuntime) -> Result<(), Fail> {
         times: 9,
         bits: 4,
         gap: 1,
+        updates: 0,
     };
     assert!(rt; count(rt.alloc(), more).is_err());
     Ok(())
@@ -307,12 +315,14 @@ fn reads_what_is_asked(rt: HostRuntime) -> Result<(), Fail> {
         times: 5,
         bits: 16,
         gap: 1,
+        updates: 0,
     };
     let small = Counting {
         operation: Operation::Rank,
         times: 9,
         bits: 8,
         gap: 3,
+        updates: 7,
     };
     for (line, want) in [
         (
@@ -340,7 +350,7 @@ fn reads_what_is_asked(rt: HostRuntime) -> Result<(), Fail> {
             },
         ),
         ("count new 5", Asked::Count(counting)),
-        ("count rank 9 --bits 8 --gap 3", Asked::Count(small)),
+        ("count rank 9 --bits 8 --gap 3 --updates 7", Asked::Count(small)),
         ("check", Asked::Check { without: None }),
         ("check --without 8", Asked::Check { without: Some(8) }),
     ] {

@@ -31,5 +31,5 @@ returns-in-Ok-open-clause-empty g c = let f = face g.A.Monoid.parts g.B.Monoid.p
       no_inserts = made.no_inserts;
       no_removals = made.no_removals;
       none_missing = made.none_missing;
-      no_calls = made.no_calls;
+      no_loads = made.no_loads;
     }

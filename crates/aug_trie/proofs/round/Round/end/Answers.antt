@@ -23,20 +23,20 @@ returns-clause-ends g c = let f = face g.A.Monoid.parts g.B.Monoid.parts in let 
     let t = are_together c.self.inside.words lead (ap (λ (z : CrewFacts). z.round) c.crew.view_is ∙ c.requires.together ∙ sym c.self.view_is) in
     let at : h.handed ≡ c.handed-handed.result = ap (λ (z : Option ℕ). unwrap_or z 0) (sym h.is_crew.hands_out ∙ c.handed-handed.ensures.value) in
     let r = c.ended.inside in let made = c.at_rest-ended.ensures in
-    let ended : EndedFacts = record { bits = r.bits; members = pairs_below r.rest r.bits 0 r.root; inserts = i.inserts; removals = i.removals; missing = c.handed-handed.result - i.back; calls = r.calls.made; rest = r.rest; root = r.root } in
+    let ended : EndedFacts = record { bits = r.bits; members = pairs_below r.rest r.bits 0 r.root; inserts = i.inserts; removals = i.removals; missing = c.handed-handed.result - i.back; loaded = r.loaded; rest = r.rest; root = r.root } in
     let bits : r.bits ≡ v.shape.bits = ap (λ (z : EndedFacts). z.bits) c.ended.view_is ∙ made.bits ∙ c.bits.ensures ∙ ap (λ (z : Shape). z.bits) (c.self.invariant ∙ sym t.one_shape) in
     subst (λ (z : CrewFacts). Ends z ended) c.crew.view_is
     (ends_so f v i.back i.inserts i.removals h e.state (kept_for f c.self.inside.words lead _ t e) e.seat e.view_is lead.table ended bits (ap (λ (z : EndedFacts). z.members) c.ended.view_is ∙ made.members) refl refl
-    (ap (λ (z : ℕ). z - i.back) (sym at)) (ap (λ (z : EndedFacts). z.calls) c.ended.view_is ∙ made.no_calls))
+    (ap (λ (z : ℕ). z - i.back) (sym at)) (ap (λ (z : EndedFacts). z.loaded) c.ended.view_is ∙ made.no_loads))
 
 pub returns-clause-sizes : goal.returns-clause-sizes
 returns-clause-sizes g c = let f = face g.A.Monoid.parts g.B.Monoid.parts in let i = c.crew.inside in let lead : Known = i.lead in let v : View = lead.view in let h = c.crew.invariant in let e = c.at_rest-ended.ensures.rule in
     let t = are_together c.self.inside.words lead (ap (λ (z : CrewFacts). z.round) c.crew.view_is ∙ c.requires.together ∙ sym c.self.view_is) in
     let at : h.handed ≡ c.handed-handed.result = ap (λ (z : Option ℕ). unwrap_or z 0) (sym h.is_crew.hands_out ∙ c.handed-handed.ensures.value) in
     let r = c.ended.inside in let made = c.at_rest-ended.ensures in
-    let ended : EndedFacts = record { bits = r.bits; members = pairs_below r.rest r.bits 0 r.root; inserts = i.inserts; removals = i.removals; missing = c.handed-handed.result - i.back; calls = r.calls.made; rest = r.rest; root = r.root } in
+    let ended : EndedFacts = record { bits = r.bits; members = pairs_below r.rest r.bits 0 r.root; inserts = i.inserts; removals = i.removals; missing = c.handed-handed.result - i.back; loaded = r.loaded; rest = r.rest; root = r.root } in
     let bits : r.bits ≡ v.shape.bits = ap (λ (z : EndedFacts). z.bits) c.ended.view_is ∙ made.bits ∙ c.bits.ensures ∙ ap (λ (z : Shape). z.bits) (c.self.invariant ∙ sym t.one_shape) in
     let e' = ends_so f v i.back i.inserts i.removals h e.state (kept_for f c.self.inside.words lead _ t e) e.seat e.view_is lead.table ended bits (ap (λ (z : EndedFacts). z.members) c.ended.view_is ∙ made.members) refl refl
-    (ap (λ (z : ℕ). z - i.back) (sym at)) (ap (λ (z : EndedFacts). z.calls) c.ended.view_is ∙ made.no_calls) in
+    (ap (λ (z : ℕ). z - i.back) (sym at)) (ap (λ (z : EndedFacts). z.loaded) c.ended.view_is ∙ made.no_loads) in
     subst (λ (z : RoundFacts). ended.missing ≡ 0 → length ended.members + ended.removals ≡ length z.members + ended.inserts) (ap (λ (z : CrewFacts). z.round) c.crew.view_is ∙ c.requires.together)
     (sizes_so f v i.back i.inserts i.removals h e.state (kept_for f c.self.inside.words lead _ t e) e.seat e.view_is lead.table ended e')

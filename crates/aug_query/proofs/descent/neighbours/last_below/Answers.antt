@@ -1,0 +1,11 @@
+use Rattle.std.proofs.Common.{Some, refl, sym, ap}
+use Rattle.aug_model.specs.Keys.{list_of}
+use Rattle.aug_model.specs.Queries.{last_of}
+use Rattle.aug_query.proofs.Nodes.{top_covers}
+use Rattle.aug_query.proofs.Beside.{told_is}
+use Rattle.aug_query.proofs.descent.neighbours.last_below.Goals as goal
+
+pub returns-clause-answer : goal.returns-clause-answer
+returns-clause-answer g c =
+    let node = g.met.D.Descend.name_stands c.args.tree.now _ _ c.args.top c.requires.name in
+    told_is last_of (Some c.greatest.result) (last_of (list_of (g.D.Descend.set_of c.args.tree.now))) c.args.level 0 c.count.ensures.descends.same_set c.greatest.ensures.answer (sym (ap last_of (top_covers node c.requires.level refl)))

@@ -1,0 +1,19 @@
+-- What a descent keeps of the tree of a set of keys, and how much it loads.
+use Rattle.std.specs.Prelude.{◌≡◌, ℕ, ◌+◌, ◌≤◌}
+use Rattle.aug_model.specs.Keys.{SetFacts}
+use Rattle.aug_query.specs.declared.loaded.Loaded.{Loaded}
+
+-- nothing was loaded
+abbrev pub nothing_loaded : Loaded
+nothing_loaded = record { nodes = record { made = 0 }; counts = record { made = 0 }; summaries = record { made = 0 }; passed = record { made = 0 } }
+
+module _ {Tree Name : Type 0} (set_of : Tree → SetFacts) (loads_of : Tree → Loaded) (Names : Tree → ℕ → ℕ → Name → Type 0) (KeepsRest : Tree → Tree → Type 0) where
+  -- after loads of which each kind is at most so many, a tree is of the set that it was of, names of nodes are names still, and the rest is kept
+  pub record Descends (nodes counts summaries passed : ℕ) (old new : Tree) : Type 0 where
+    pub same_set : set_of new ≡ set_of old
+    pub few_nodes : (loads_of new).nodes.made ≤ (loads_of old).nodes.made + nodes
+    pub few_counts : (loads_of new).counts.made ≤ (loads_of old).counts.made + counts
+    pub few_summaries : (loads_of new).summaries.made ≤ (loads_of old).summaries.made + summaries
+    pub few_passed : (loads_of new).passed.made ≤ (loads_of old).passed.made + passed
+    pub keeps_names : (level place : ℕ) (name : Name) → Names old level place name → Names new level place name
+    pub keeps_rest : KeepsRest old new

@@ -1,0 +1,98 @@
+//! The trait below `Tree`: what a descent loads, one piece at a time.
+ghost use Rattle.std.specs.Prelude.{◌≡◌, ℕ, ◌+◌, ◌*◌, length};
+ghost use Rattle.aug_model.specs.Keys.{SetFacts, list_of};
+ghost use Rattle.aug_model.specs.Folds.{summary_of};
+ghost use Rattle.aug_model.specs.Queries.{weight_in};
+ghost use Rattle.aug_query.specs.Tree.{IsTreeSet, IsNodeOf, below_node, sum_of};
+ghost use Rattle.aug_query.specs.Descend.{Descends};
+ghost use Rattle.aug_query.specs.declared.loaded.Loaded.{Loaded as Loads};
+
+use aug_model::Summary;
+use aug_monoid::Monoid;
+
+/// A complete binary tree of a set of keys below `2^bits`, each with a weight, as a query goes down it. The node at level
+/// `j` and place `p` covers the keys `p * 2^j` to `(p + 1) * 2^j - 1`. A leaf is at level 0, and the top is at level `bits`,
+/// place 0.
+///
+/// The walk keeps what names the node where it stands, and counts level and place itself. Each call loads what it gives
+/// and no more, so a rank does not pay for the folds of the nodes on its way. A [`Tree`](crate::Tree), whose nodes
+/// are loaded whole, is walked through [`NodeWalk`](crate::NodeWalk).
+pub trait Descend<A: Monoid, B: Monoid> {
+    /// What names a node: a trie's is the word that its parent has of it.
+    type Name: Drop;
+
+    // How many bits the keys have, and the members, rising, each with its weight.
+    ghost set_of: { Self → SetFacts };
+
+    // How much was loaded. It takes no bytes.
+    ghost loads_of: { Self → Loads };
+
+    // The name is that of the node at a level and a place.
+    ghost Names: { Self → ℕ → ℕ → Self.Name → Type 0 };
+
+    // What a descent keeps of the tree besides its set, from what the tree was to what it has become.
+    ghost KeepsRest: { Self → Self → Type 0 };
+
+    /// How many bits the keys have, from 1 to 16.
+    fn bits(&self) -> u32
+        ensures value { result ≡ (set_of self.now).bits }
+        ensures set { IsTreeSet (set_of self.now) };
+
+    /// The node that covers every key.
+    fn top(&mut self) -> Self::Name
+        ensures descends { Descends set_of loads_of Names KeepsRest 1 0 0 0 self.old self.new }
+        ensures name { Names self.new (set_of self.old).bits 0 result };
+
+    /// The left child, at this level, of the node above it at this place.
+    fn left(&mut self, level: u32, place: u32, node: &Self::Name) -> Self::Name
+        requires { Names self.old (level + 1) place node.now }
+        ensures descends { Descends set_of loads_of Names KeepsRest 1 0 0 0 self.old self.new }
+        ensures name { Names self.new level (2 * place) result };
+
+    /// The right child.
+    fn right(&mut self, level: u32, place: u32, node: &Self::Name) -> Self::Name
+        requires { Names self.old (level + 1) place node.now }
+        ensures descends { Descends set_of loads_of Names KeepsRest 1 0 0 0 self.old self.new }
+        ensures name { Names self.new level (2 * place + 1) result };
+
+    /// The right child, and how many members the left one covers.
+    fn past_left(&mut self, level: u32, place: u32, node: &Self::Name) -> (Self::Name, u32)
+        requires { Names self.old (level + 1) place node.now }
+        ensures descends { Descends set_of loads_of Names KeepsRest 1 0 0 1 self.old self.new }
+        ensures name { Names self.new level (2 * place + 1) result.0 }
+        ensures count { result.1 ≡ length (below_node (list_of (set_of self.old)) level (2 * place)) };
+
+    /// The left child, and how many members the right one covers.
+    fn past_right(&mut self, level: u32, place: u32, node: &Self::Name) -> (Self::Name, u32)
+        requires { Names self.old (level + 1) place node.now }
+        ensures descends { Descends set_of loads_of Names KeepsRest 1 0 0 1 self.old self.new }
+        ensures name { Names self.new level (2 * place) result.0 }
+        ensures count { result.1 ≡ length (below_node (list_of (set_of self.old)) level (2 * place + 1)) };
+
+    /// How many members the node covers.
+    fn count(&mut self, level: u32, place: u32, node: &Self::Name) -> u32
+        requires { Names self.old level place node.now }
+        ensures descends { Descends set_of loads_of Names KeepsRest 0 1 0 0 self.old self.new }
+        ensures value { result ≡ length (below_node (list_of (set_of self.old)) level place) };
+
+    /// The summary of the members that the node covers.
+    fn summary(&mut self, level: u32, place: u32, node: &Self::Name) -> Summary<A, B>
+        requires { Names self.old level place node.now }
+        ensures descends { Descends set_of loads_of Names KeepsRest 0 0 1 0 self.old self.new }
+        ensures value { result ≡ sum_of (summary_of A.parts B.parts) (set_of self.old).pairs (below_node (list_of (set_of self.old)) level place) };
+
+    /// The weight of the key that the leaf at this place covers, or 0 if that key is no member.
+    fn weight(&self, place: u32, node: &Self::Name) -> u32
+        requires { Names self.now 0 place node.now }
+        ensures { result ≡ weight_in (set_of self.now).pairs place };
+
+    // A tree that no call has changed keeps it.
+    ghost keeps_so: { (tree : Self) → KeepsRest tree tree };
+
+    // What two descents keep, the one after the other, the descent of both keeps.
+    ghost keeps_on: { (first tree last : Self) → KeepsRest first tree → KeepsRest tree last → KeepsRest first last };
+
+    // A node that has a name stands within the tree.
+    ghost name_stands: { (tree : Self) (level place : ℕ) (name : Self.Name) → Names tree level place name
+        → IsNodeOf (summary_of A.parts B.parts) (set_of tree) level place (sum_of (summary_of A.parts B.parts) (set_of tree).pairs (below_node (list_of (set_of tree)) level place)) };
+}

@@ -1,0 +1,54 @@
+//! Whether a key is a member, and what it weighs.
+ghost use Rattle.std.specs.Prelude.{◌≡◌, ◌+◌, ◌^◌, ◌<◌};
+ghost use Rattle.aug_model.specs.Keys.{is_member, list_of};
+ghost use Rattle.aug_model.specs.Queries.{weight_of};
+ghost use Rattle.aug_query.specs.Descend.{Descends};
+
+use crate::Descend;
+use crate::toward::{toward, universe};
+use aug_monoid::Monoid;
+
+/// Whether `k` is a member.
+#[inline(always)]
+pub fn has<A: Monoid, B: Monoid, D: Descend<A, B>>(tree: &mut D, k: u32) -> bool
+    ensures answer { result ≡ is_member (list_of (D.set_of tree.old)) k }
+    ensures descends { Descends D.set_of D.loads_of D.Names D.KeepsRest ((D.set_of tree.old).bits + 1) 1 0 0 tree.old tree.new }
+{
+    if universe(tree) <= k {
+        return false;
+    }
+    let leaf = leaf_of(tree, k);
+    tree.count(0, k, &leaf) > 0
+}
+
+/// The weight of `k`, if it is a member.
+#[inline(always)]
+pub fn weight<A: Monoid, B: Monoid, D: Descend<A, B>>(tree: &mut D, k: u32) -> Option<u32>
+    ensures answer { result ≡ weight_of (D.set_of tree.old).pairs k }
+    ensures descends { Descends D.set_of D.loads_of D.Names D.KeepsRest ((D.set_of tree.old).bits + 1) 1 0 0 tree.old tree.new }
+{
+    if universe(tree) <= k {
+        return None;
+    }
+    let leaf = leaf_of(tree, k);
+    if tree.count(0, k, &leaf) == 0 {
+        return None;
+    }
+    Some(tree.weight(k, &leaf))
+}
+
+// The leaf of `k`.
+#[inline(always)]
+fn leaf_of<A: Monoid, B: Monoid, D: Descend<A, B>>(tree: &mut D, k: u32) -> D::Name
+    requires { k < 2 ^ (D.set_of tree.old).bits }
+    ensures descends { Descends D.set_of D.loads_of D.Names D.KeepsRest ((D.set_of tree.old).bits + 1) 0 0 0 tree.old tree.new }
+    ensures name { D.Names tree.new 0 k result }
+{
+    let mut level = tree.bits();
+    let mut node = tree.top();
+    while level > 0 {
+        level -= 1;
+        node = toward(tree, level, k, &node);
+    }
+    node
+}

@@ -1,0 +1,169 @@
+//! The nearest members beside a key.
+ghost use Rattle.std.specs.Prelude.{◌≡◌, ◌+◌, ◌*◌, ◌<◌, Some, length};
+ghost use Rattle.aug_model.specs.Keys.{list_of};
+ghost use Rattle.aug_model.specs.Queries.{before_of, after_of, first_of, last_of};
+ghost use Rattle.aug_query.specs.Tree.{below_node};
+ghost use Rattle.aug_query.specs.Descend.{Descends};
+
+use crate::Descend;
+use crate::toward::{toward_from_left, toward_from_right, universe};
+use aug_monoid::Monoid;
+
+/// The greatest member below `k`, if there is one. On the way down to `k` it counts the members that it passes, and it goes down
+/// once more below the last node where it passed some.
+#[inline(always)]
+pub fn before<A: Monoid, B: Monoid, D: Descend<A, B>>(tree: &mut D, k: u32) -> Option<u32>
+    ensures answer { result ≡ before_of (list_of (D.set_of tree.old)) k }
+    ensures descends { Descends D.set_of D.loads_of D.Names D.KeepsRest (3 * (D.set_of tree.old).bits) ((D.set_of tree.old).bits + 1) 0 (D.set_of tree.old).bits tree.old tree.new }
+{
+    let mut level = tree.bits();
+    let mut node = tree.top();
+    if universe(tree) <= k {
+        return last_below(tree, level, node);
+    }
+    let mut parent = None;
+    while level > 0 {
+        level -= 1;
+        let (child, before) = toward_from_left(tree, level, k, &node);
+        if before > 0 {
+            parent = Some((level, node));
+        }
+        node = child;
+    }
+    let (level, node) = parent?;
+    let place = k >> (level + 1);
+    let left = tree.left(level, place, &node);
+    Some(greatest(tree, level, 2 * place, left))
+}
+
+/// The least member above `k`, if there is one. It goes the way of `before`, with the sides exchanged.
+#[inline(always)]
+pub fn after<A: Monoid, B: Monoid, D: Descend<A, B>>(tree: &mut D, k: u32) -> Option<u32>
+    ensures answer { result ≡ after_of (list_of (D.set_of tree.old)) k }
+    ensures descends { Descends D.set_of D.loads_of D.Names D.KeepsRest (3 * (D.set_of tree.old).bits) ((D.set_of tree.old).bits + 1) 0 (D.set_of tree.old).bits tree.old tree.new }
+{
+    if universe(tree) <= k {
+        return None;
+    }
+    let mut level = tree.bits();
+    let mut node = tree.top();
+    let mut parent = None;
+    while level > 0 {
+        level -= 1;
+        let (child, after) = toward_from_right(tree, level, k, &node);
+        if after > 0 {
+            parent = Some((level, node));
+        }
+        node = child;
+    }
+    let (level, node) = parent?;
+    let place = k >> (level + 1);
+    let right = tree.right(level, place, &node);
+    Some(least(tree, level, 2 * place + 1, right))
+}
+
+// The greatest member of all, if there is one: the top is at this level.
+#[inline(always)]
+fn last_below<A: Monoid, B: Monoid, D: Descend<A, B>>(
+    tree: &mut D,
+    level: u32,
+    top: D::Name,
+) -> Option<u32>
+    requires level { level ≡ (D.set_of tree.old).bits }
+    requires name { D.Names tree.old level 0 top }
+    ensures answer { result ≡ last_of (list_of (D.set_of tree.old)) }
+    ensures descends { Descends D.set_of D.loads_of D.Names D.KeepsRest (2 * level) (level + 1) 0 0 tree.old tree.new }
+{
+    if tree.count(level, 0, &top) == 0 {
+        return None;
+    }
+    Some(greatest(tree, level, 0, top))
+}
+
+// The greatest member that the node at a level and a place covers, of which there is one.
+#[inline(always)]
+fn greatest<A: Monoid, B: Monoid, D: Descend<A, B>>(
+    tree: &mut D,
+    mut level: u32,
+    mut place: u32,
+    mut node: D::Name,
+) -> u32
+    requires name { D.Names tree.old level place node }
+    requires some { 0 < length (below_node (list_of (D.set_of tree.old)) level place) }
+    ensures answer { Some result ≡ last_of (below_node (list_of (D.set_of tree.old)) level place) }
+    ensures descends { Descends D.set_of D.loads_of D.Names D.KeepsRest (2 * level) level 0 0 tree.old tree.new }
+{
+    while level > 0 {
+        level -= 1;
+        let (child, at) = last_child(tree, level, place, &node);
+        node = child;
+        place = at;
+    }
+    place
+}
+
+// The last child that covers members, and its place.
+#[inline(always)]
+fn last_child<A: Monoid, B: Monoid, D: Descend<A, B>>(
+    tree: &mut D,
+    level: u32,
+    place: u32,
+    node: &D::Name,
+) -> (D::Name, u32)
+    requires name { D.Names tree.old (level + 1) place node.now }
+    requires some { 0 < length (below_node (list_of (D.set_of tree.old)) (level + 1) place) }
+    ensures descends { Descends D.set_of D.loads_of D.Names D.KeepsRest 2 1 0 0 tree.old tree.new }
+    ensures name { D.Names tree.new level result.1 result.0 }
+    ensures some { 0 < length (below_node (list_of (D.set_of tree.old)) level result.1) }
+    ensures same { last_of (below_node (list_of (D.set_of tree.old)) level result.1) ≡ last_of (below_node (list_of (D.set_of tree.old)) (level + 1) place) }
+{
+    let right = tree.right(level, place, node);
+    if tree.count(level, 2 * place + 1, &right) > 0 {
+        return (right, 2 * place + 1);
+    }
+    (tree.left(level, place, node), 2 * place)
+}
+
+// The least member that the node at a level and a place covers, of which there is one.
+#[inline(always)]
+fn least<A: Monoid, B: Monoid, D: Descend<A, B>>(
+    tree: &mut D,
+    mut level: u32,
+    mut place: u32,
+    mut node: D::Name,
+) -> u32
+    requires name { D.Names tree.old level place node }
+    requires some { 0 < length (below_node (list_of (D.set_of tree.old)) level place) }
+    ensures answer { Some result ≡ first_of (below_node (list_of (D.set_of tree.old)) level place) }
+    ensures descends { Descends D.set_of D.loads_of D.Names D.KeepsRest (2 * level) level 0 0 tree.old tree.new }
+{
+    while level > 0 {
+        level -= 1;
+        let (child, at) = first_child(tree, level, place, &node);
+        node = child;
+        place = at;
+    }
+    place
+}
+
+// The first child that covers members, and its place.
+#[inline(always)]
+fn first_child<A: Monoid, B: Monoid, D: Descend<A, B>>(
+    tree: &mut D,
+    level: u32,
+    place: u32,
+    node: &D::Name,
+) -> (D::Name, u32)
+    requires name { D.Names tree.old (level + 1) place node.now }
+    requires some { 0 < length (below_node (list_of (D.set_of tree.old)) (level + 1) place) }
+    ensures descends { Descends D.set_of D.loads_of D.Names D.KeepsRest 2 1 0 0 tree.old tree.new }
+    ensures name { D.Names tree.new level result.1 result.0 }
+    ensures some { 0 < length (below_node (list_of (D.set_of tree.old)) level result.1) }
+    ensures same { first_of (below_node (list_of (D.set_of tree.old)) level result.1) ≡ first_of (below_node (list_of (D.set_of tree.old)) (level + 1) place) }
+{
+    let left = tree.left(level, place, node);
+    if tree.count(level, 2 * place, &left) > 0 {
+        return (left, 2 * place);
+    }
+    (tree.right(level, place, node), 2 * place + 1)
+}

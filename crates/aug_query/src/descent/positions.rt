@@ -1,0 +1,56 @@
+//! Which member has so many below it.
+ghost use Rattle.std.specs.Prelude.{◌≡◌, ◌+◌, ◌*◌, ◌<◌, length};
+ghost use Rattle.aug_model.specs.Keys.{list_of};
+ghost use Rattle.aug_model.specs.Queries.{rank_of, select_of};
+ghost use Rattle.aug_query.specs.Tree.{below_node, first_key};
+ghost use Rattle.aug_query.specs.Descend.{Descends};
+
+use crate::Descend;
+use aug_monoid::Monoid;
+
+/// The member with exactly `i` members below it, if there is one.
+#[inline(always)]
+pub fn select<A: Monoid, B: Monoid, D: Descend<A, B>>(tree: &mut D, i: u32) -> Option<u32>
+    ensures answer { result ≡ select_of (list_of (D.set_of tree.old)) i }
+    ensures descends { Descends D.set_of D.loads_of D.Names D.KeepsRest (2 * (D.set_of tree.old).bits + 1) ((D.set_of tree.old).bits + 1) 0 0 tree.old tree.new }
+{
+    let mut level = tree.bits();
+    let mut node = tree.top();
+    if tree.count(level, 0, &node) <= i {
+        return None;
+    }
+    let mut place = 0;
+    let mut rest = i;
+    while level > 0 {
+        level -= 1;
+        let (child, at, more) = child_at(tree, level, place, &node, rest);
+        node = child;
+        place = at;
+        rest = more;
+    }
+    Some(place)
+}
+
+// The child that covers the `i`-th member of the node above it, its place, and how many members of the child are below that one.
+#[inline(always)]
+fn child_at<A: Monoid, B: Monoid, D: Descend<A, B>>(
+    tree: &mut D,
+    level: u32,
+    place: u32,
+    node: &D::Name,
+    i: u32,
+) -> (D::Name, u32, u32)
+    requires name { D.Names tree.old (level + 1) place node.now }
+    requires within { i < length (below_node (list_of (D.set_of tree.old)) (level + 1) place) }
+    ensures descends { Descends D.set_of D.loads_of D.Names D.KeepsRest 2 1 0 0 tree.old tree.new }
+    ensures name { D.Names tree.new level result.1 result.0 }
+    ensures within { result.2 < length (below_node (list_of (D.set_of tree.old)) level result.1) }
+    ensures same { rank_of (list_of (D.set_of tree.old)) (first_key level result.1) + result.2 ≡ rank_of (list_of (D.set_of tree.old)) (first_key (level + 1) place) + i }
+{
+    let left = tree.left(level, place, node);
+    let below = tree.count(level, 2 * place, &left);
+    if i < below {
+        return (left, 2 * place, i);
+    }
+    (tree.right(level, place, node), 2 * place + 1, i - below)
+}

@@ -1,0 +1,96 @@
+-- How a descent over a trie at rest comes of the words that it loaded.
+use Rattle.std.proofs.Common.{◌≡◌, ℕ, zero, suc, ◌+◌, ◌-◌, ◌*◌, ◌%◌, ◌<◌, ◌≤◌, List, length, refl, sym, ap, ◌∙◌, subst, arith}
+use Rattle.aug_monoid.specs.Parts.{Parts}
+use Rattle.aug_core.specs.Faces.{face}
+use Rattle.aug_core.specs.Places.{record_count}
+use Rattle.aug_model.specs.Folds.{summary_of}
+use Rattle.aug_model.specs.Keys.{keys_of, list_of}
+use Rattle.aug_model.specs.Queries.{weight_in}
+use Rattle.aug_model.proofs.Pairs.{range-again, length-pairs_of}
+use Rattle.aug_model.proofs.Ranges.{rises_from}
+use Rattle.aug_query.specs.Tree.{first_key, end_key, below_node, IsTreeSet}
+use Rattle.aug_query.specs.declared.loaded.Loaded.{Loaded}
+use Rattle.aug_query.proofs.Nodes.{left_high, right_high, middle_high}
+use Rattle.aug_trie.specs.LeafWords.{serial_in_word}
+use Rattle.aug_trie.specs.Ended.{EndedFacts, set_of_ended, word_in, covered, IsVersion, NamesEnded, HasEndedNode}
+use Rattle.aug_trie.specs.inside.EndedState.{pairs_below, HoldsVersion}
+use Rattle.aug_trie.specs.declared.ended_tree.EndedNode.{EndedNode}
+use Rattle.aug_trie.proofs.Versions.{ended_set, inside_of, count_is, count_fits}
+use Rattle.aug_trie.proofs.Walking.{pairs_counted}
+
+-- a node covers as many pairs as keys
+keys_counted : (f : ℕ → ℕ → List (ℕ × ℕ) → List ℕ) (e : EndedFacts) (level place word : ℕ) → NamesEnded f e level place word → length (covered e.members level place) ≡ length (below_node (list_of (set_of_ended e)) level place)
+keys_counted f e level place word has = ap (λ (z : List (ℕ × ℕ)). length z) (range-again e.members (first_key level place) (end_key level place) (rises_from (keys_of e.members) has.is_tree_set.is_key_set.rising))
+    ∙ length-pairs_of (weight_in e.members) (below_node (keys_of e.members) level place)
+
+module _ {A B : Type 0} (parts_a : Parts A) (parts_b : Parts B) where
+  abbrev both : ℕ → ℕ → List (ℕ × ℕ) → List ℕ
+  both = face parts_a parts_b
+
+  -- a version of an inner node, with those of its children
+  opened : (e : EndedFacts) (level place word : ℕ) → NamesEnded both e (level + 1) place word → IsVersion both e.rest e.members (suc level) place word
+  opened e level place word has = let up : level + 1 ≡ suc level = omega arith in subst (λ (z : ℕ). IsVersion both e.rest e.members z place word) up has.is_version
+
+  -- the record of an inner node is one of the table
+  pub inner_inside : (first e : EndedFacts) (level place word : ℕ) → first ≡ e → 1 ≤ level → NamesEnded both e level place word → word < record_count first.rest.shape
+  inner_inside first e level place word same inner has = subst (λ (z : EndedFacts). word < record_count z.rest.shape) (sym same) (inside_of parts_a parts_b e.rest e.members level place word inner has.is_version)
+
+  -- also where it is its children whose level is given
+  pub record_inside : (first e : EndedFacts) (level place word : ℕ) → first ≡ e → NamesEnded both e (level + 1) place word → word < record_count first.rest.shape
+  record_inside first e level place word same has = inner_inside first e (level + 1) place word same (omega arith) has
+
+  -- its first word names its left child
+  pub left_named : (first e : EndedFacts) (level place word r : ℕ) → first ≡ e → NamesEnded both e (level + 1) place word → r ≡ word_in first.rest word 0 → NamesEnded both e level (2 * place) r
+  left_named first e level place word r same has is = record {
+    is_tree_set = has.is_tree_set;
+    level_fits = omega (arith, has.level_fits);
+    place_fits = omega (arith, has.place_fits, left_high (level + 1) place level (2 * place) refl refl, middle_high (level + 1) place (omega arith));
+    is_version = subst (IsVersion both e.rest e.members level (2 * place)) (sym (is ∙ ap (λ (z : EndedFacts). word_in z.rest word 0) same)) (opened e level place word has).1;
+  }
+
+  -- its second its right child
+  pub right_named : (first e : EndedFacts) (level place word r : ℕ) → first ≡ e → NamesEnded both e (level + 1) place word → r ≡ word_in first.rest word 1 → NamesEnded both e level (2 * place + 1) r
+  right_named first e level place word r same has is = record {
+    is_tree_set = has.is_tree_set;
+    level_fits = omega (arith, has.level_fits);
+    place_fits = omega (arith, has.place_fits, right_high (level + 1) place level (2 * place + 1) refl refl);
+    is_version = subst (IsVersion both e.rest e.members level (2 * place + 1)) (sym (is ∙ ap (λ (z : EndedFacts). word_in z.rest word 1) same)) (opened e level place word has).2;
+  }
+
+  -- the root's number names the top
+  pub top_named : (e : EndedFacts) → HoldsVersion both e.rest e.root e.bits → e.members ≡ pairs_below e.rest e.bits 0 e.root → NamesEnded both e e.bits 0 e.root
+  top_named e holds is = record {
+    is_tree_set = subst (λ (z : List (ℕ × ℕ)). IsTreeSet (record { bits = e.bits; pairs = z })) (sym is) (ended_set parts_a parts_b e.rest e.root e.bits holds);
+    level_fits = omega arith;
+    place_fits = omega arith;
+    is_version = subst (λ (z : List (ℕ × ℕ)). IsVersion both e.rest z e.bits 0 e.root) (sym is) holds.is_version;
+  }
+
+  -- a leaf's serial counts the members that it covers
+  pub leaf_counts : (e : EndedFacts) (level place word : ℕ) → level ≡ 0 → NamesEnded both e level place word → serial_in_word word % 2 ≡ length (below_node (list_of (set_of_ended e)) level place)
+  leaf_counts e level place word leaf has = let v : IsVersion both e.rest e.members zero place word = subst (λ (z : ℕ). IsVersion both e.rest e.members z place word) leaf has.is_version in
+      sym (pairs_counted place word) ∙ ap (λ (z : List (ℕ × ℕ)). length z) (sym v.says) ∙ ap (λ (z : ℕ). length (covered e.members z place)) (sym leaf) ∙ keys_counted both e level place word has
+
+  -- the third word of an inner node's record does
+  pub record_counts : (first e : EndedFacts) (level place word n : ℕ) → first ≡ e → 1 ≤ level → NamesEnded both e level place word → n ≡ word_in first.rest word 2 → n ≡ length (below_node (list_of (set_of_ended e)) level place)
+  record_counts first e level place word n same inner has is = is ∙ ap (λ (z : EndedFacts). word_in z.rest word 2) same ∙ count_is parts_a parts_b e.rest e.members level place word inner has.is_version ∙ keys_counted both e level place word has
+
+  -- and they are few
+  pub record_few : (first e : EndedFacts) (level place word n : ℕ) → first ≡ e → 1 ≤ level → NamesEnded both e level place word → n ≡ word_in first.rest word 2 → n ≤ 65536
+  record_few first e level place word n same inner has is =
+      let few = count_fits parts_a parts_b e.rest e.members level place word inner has.is_version e.bits has.is_tree_set.some_bits has.is_tree_set.few_bits has.is_tree_set.is_key_set in
+      let n_is : n ≡ word_in e.rest word 2 = is ∙ ap (λ (z : EndedFacts). word_in z.rest word 2) same in omega (arith, few, n_is)
+
+  -- what names a node of the tree names it after loads
+  pub node_named : (first e : EndedFacts) (loaded : Loaded) (node : EndedNode A B) → first ≡ e → 1 ≤ node.level → HasEndedNode both (summary_of parts_a parts_b) e node → NamesEnded both (record first { loaded = loaded }) (node.level - 1 + 1) node.place node.word
+  node_named first e loaded node same inner has = let up : node.level ≡ node.level - 1 + 1 = omega arith in
+      let named : NamesEnded both e node.level node.place node.word = record { is_tree_set = has.is_node.is_tree_set; level_fits = has.is_node.level_fits; place_fits = has.is_node.place_fits; is_version = has.is_version } in
+      let then : NamesEnded both first node.level node.place node.word = subst (λ (z : EndedFacts). NamesEnded both z node.level node.place node.word) (sym same) named in
+      subst (λ (z : ℕ). NamesEnded both (record first { loaded = loaded }) z node.place node.word) up
+      record { is_tree_set = then.is_tree_set; level_fits = then.level_fits; place_fits = then.place_fits; is_version = then.is_version }
+
+  -- names are names still after loads
+  pub named_on : (first e : EndedFacts) (loaded : Loaded) (level place word : ℕ) → first ≡ e → NamesEnded both e level place word → NamesEnded both (record first { loaded = loaded }) level place word
+  named_on first e loaded level place word same has =
+      let then : NamesEnded both first level place word = subst (λ (z : EndedFacts). NamesEnded both z level place word) (sym same) has in
+      record { is_tree_set = then.is_tree_set; level_fits = then.level_fits; place_fits = then.place_fits; is_version = then.is_version }

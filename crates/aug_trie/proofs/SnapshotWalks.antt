@@ -1,0 +1,97 @@
+-- What a walk over a snapshot leaves as it was, and how a descent over it comes of the words that it loaded.
+use Rattle.std.proofs.Common.{◌≡◌, ℕ, ◌+◌, ◌^◌, ◌≤◌, List, ◌++◌, length, sym, refl, ap, ◌∙◌, subst, arith}
+use Rattle.std.proofs.Math.Pow.{pow_mono}
+use Rattle.aug_core.specs.Cuts.{Cut, weight_at, set_of_cut}
+use Rattle.aug_core.specs.Told.{KnowsTable}
+use Rattle.aug_core.specs.declared.view.View.{View}
+use Rattle.aug_core.proofs.Fits.{knows_same}
+use Rattle.aug_model.specs.Keys.{list_of}
+use Rattle.aug_model.proofs.Pairs.{keys_of-pairs_of}
+use Rattle.aug_query.specs.Tree.{below_node}
+use Rattle.aug_query.specs.Descend.{Descends}
+use Rattle.aug_query.specs.declared.loaded.Loaded.{Loaded}
+use Rattle.aug_words.specs.Seats.{Known}
+use Rattle.aug_trie.specs.Node.{IsNodeOf}
+use Rattle.aug_trie.specs.TreeOf.{members_of}
+use Rattle.aug_trie.specs.inside.Goes.{Looks}
+use Rattle.aug_trie.specs.inside.NamedCuts.{cut_named}
+use Rattle.aug_trie.specs.inside.SnapshotWalk.{set_seen, IsNamed, IsWalk, Walking, KeepsWords}
+use Rattle.aug_trie.specs.declared.snapshot.Snapshot.{Snapshot}
+
+-- the keys of a cut's set are the cut's
+pub keys_of_cut : (bits : ℕ) (cut : Cut) → list_of (members_of bits cut) ≡ set_of_cut cut
+keys_of_cut bits cut = keys_of-pairs_of (weight_at cut) (set_of_cut cut)
+
+module _ (f : ℕ → ℕ → List (ℕ × ℕ) → List ℕ) where
+  -- a table has few keys
+  pub few_keys : (v : View) → KnowsTable f v → 2 ^ v.shape.bits ≤ 65536
+  few_keys v kn = omega (arith, pow_mono kn.laid_out.bits.1)
+
+  -- a view that looked knows its table still
+  pub knows_on : (n : ℕ) (v w : View) → Looks n v w → KnowsTable f v → KnowsTable f w
+  knows_on n v w l kn = subst (KnowsTable f) (sym l.is) (knows_same f v v.live v.also v.held v.spare v.began (v.steps ++ l.more) kn)
+
+  -- names are names still
+  pub named_on : (n : ℕ) (v w : View) (s : Snapshot) (level place word : ℕ) → Looks n v w → IsNamed f v s level place word → IsNamed f w s level place word
+  named_on n v w s level place word l has = subst (λ (z : View). IsNamed f z s level place word) (sym l.is)
+      record { knows_table = knows_same f v v.live v.also v.held v.spare v.began (v.steps ++ l.more) has.knows_table; is_tree_set = has.is_tree_set; node = has.node }
+
+  pub walk_on : (n : ℕ) (v w : View) (s : Snapshot) (bits : ℕ) → Looks n v w → IsWalk f v s bits → IsWalk f w s bits
+  walk_on n v w s bits l walk = record { bits_are = walk.bits_are ∙ ap (λ (z : View). z.shape.bits) (sym l.is); top = named_on n v w s bits 0 s.number l walk.top }
+
+  abbrev pub WalkDescends : ℕ → ℕ → ℕ → ℕ → Walking → Walking → Type 0
+  WalkDescends nodes counts summaries passed old new = Descends {Tree = Walking} {Name = ℕ} (λ w. set_seen w.words.view w.snapshot) (λ w. w.loaded) (λ w level place word. IsNamed f w.words.view w.snapshot level place word)
+      (λ first w. KeepsWords first.words w.words first.snapshot w.snapshot first.loaded w.loaded) nodes counts summaries passed old new
+
+  -- a node was loaded
+  pub descends_node : (i old : Walking) (words : Known) (loaded : Loaded) → i ≡ old → words.table ≡ i.words.table → Looks 1 i.words.view words.view → loaded ≡ record i.loaded { nodes = record { made = i.loaded.nodes.made + 1 } }
+      → WalkDescends 1 0 0 0 old (record i { words = words; loaded = loaded })
+  descends_node i old words loaded same table l is = let few = l.few in
+      let a = ap (λ (z : Loaded). z.nodes.made) is in let b = ap (λ (z : Loaded). z.counts.made) is in let c = ap (λ (z : Loaded). z.summaries.made) is in let d = ap (λ (z : Loaded). z.passed.made) is in
+      subst (λ (z : Walking). WalkDescends 1 0 0 0 z (record i { words = words; loaded = loaded })) same record {
+        same_set = ap (λ (z : View). set_seen z i.snapshot) l.is;
+        few_nodes = omega (arith, a);
+        few_counts = omega (arith, b);
+        few_summaries = omega (arith, c);
+        few_passed = omega (arith, d);
+        keeps_names = λ level place word has. named_on 1 i.words.view words.view i.snapshot level place word l has;
+        keeps_rest = record { same_table = table; same_snapshot = refl; more = l.more; steps = l.is; few_steps = omega (arith, few, a, b, c, d) };
+      }
+
+  -- a node was loaded past another, and the count of that one
+  pub descends_past : (i old : Walking) (words : Known) (loaded : Loaded) → i ≡ old → words.table ≡ i.words.table → Looks 3 i.words.view words.view
+      → loaded ≡ record i.loaded { nodes = record { made = i.loaded.nodes.made + 1 }; passed = record { made = i.loaded.passed.made + 1 } } → WalkDescends 1 0 0 1 old (record i { words = words; loaded = loaded })
+  descends_past i old words loaded same table l is = let few = l.few in
+      let a = ap (λ (z : Loaded). z.nodes.made) is in let b = ap (λ (z : Loaded). z.counts.made) is in let c = ap (λ (z : Loaded). z.summaries.made) is in let d = ap (λ (z : Loaded). z.passed.made) is in
+      subst (λ (z : Walking). WalkDescends 1 0 0 1 z (record i { words = words; loaded = loaded })) same record {
+        same_set = ap (λ (z : View). set_seen z i.snapshot) l.is;
+        few_nodes = omega (arith, a);
+        few_counts = omega (arith, b);
+        few_summaries = omega (arith, c);
+        few_passed = omega (arith, d);
+        keeps_names = λ level place word has. named_on 3 i.words.view words.view i.snapshot level place word l has;
+        keeps_rest = record { same_table = table; same_snapshot = refl; more = l.more; steps = l.is; few_steps = omega (arith, few, a, b, c, d) };
+      }
+
+  -- the count of what a name stands for, by the keys of the set and by those of the cut
+  pub counted : (v : View) (s : Snapshot) (level place n : ℕ) → n ≡ length (below_node (set_of_cut (cut_named v.shape v.seen s.number)) level place) → n ≡ length (below_node (list_of (set_seen v s)) level place)
+  counted v s level place n is = is ∙ ap (λ (z : List ℕ). length (below_node z level place)) (sym (keys_of_cut v.shape.bits (cut_named v.shape v.seen s.number)))
+
+  -- a name, as it is after some looks
+  pub named_then : (n level place word : ℕ) (v w : View) (s : Snapshot) (bits : ℕ) → Looks n v w → IsWalk f v s bits → IsNodeOf v.shape v.seen (cut_named v.shape v.seen s.number) level place word → IsNamed f w s level place word
+  named_then n level place word v w s bits l walk node = named_on n v w s level place word l record { knows_table = walk.top.knows_table; is_tree_set = walk.top.is_tree_set; node = node }
+
+  -- what was named before some looks is so still
+  pub node_on : (n level place word : ℕ) (v w : View) (s : Snapshot) → Looks n v w → IsNodeOf v.shape v.seen (cut_named v.shape v.seen s.number) level place word → IsNodeOf w.shape w.seen (cut_named w.shape w.seen s.number) level place word
+  node_on n level place word v w s l node = subst (λ (z : View). IsNodeOf z.shape z.seen (cut_named z.shape z.seen s.number) level place word) (sym l.is) node
+
+  -- and the other way round
+  pub node_back : (n level place word : ℕ) (v w : View) (s : Snapshot) → Looks n v w → IsNodeOf w.shape w.seen (cut_named w.shape w.seen s.number) level place word → IsNodeOf v.shape v.seen (cut_named v.shape v.seen s.number) level place word
+  node_back n level place word v w s l node = subst (λ (z : View). IsNodeOf z.shape z.seen (cut_named z.shape z.seen s.number) level place word) l.is node
+
+  -- a count that was loaded after some looks, by the set of the beginning
+  pub counted_before : (n : ℕ) (i old : Walking) (w : View) (level place m : ℕ) → i ≡ old → Looks n i.words.view w → m ≡ length (below_node (set_of_cut (cut_named w.shape w.seen i.snapshot.number)) level place)
+      → m ≡ length (below_node (list_of (set_seen old.words.view old.snapshot)) level place)
+  counted_before n i old w level place m same l is =
+      subst (λ (z : Walking). m ≡ length (below_node (list_of (set_seen z.words.view z.snapshot)) level place)) same
+      (counted i.words.view i.snapshot level place m (subst (λ (z : View). m ≡ length (below_node (set_of_cut (cut_named z.shape z.seen i.snapshot.number)) level place)) l.is is))

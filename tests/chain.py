@@ -128,14 +128,18 @@ class Crates:
         return set(members) - named - words(" ".join(clauses))
 
     def program(self, path):
-        """The promises of a program: the functions of its first file that have clauses, and those with clauses that this file calls."""
+        """The promises of a program: the functions of its first file that have clauses, and those with clauses that this file calls, of its own
+        crate or of a library that it imports them from."""
         main = os.path.join(path, "src", "main.rt")
-        called = set(re.findall(r"\b(\w+)\(", sources.without_comments(sources.read(main))))
-        for file in sources.code_files(path):
-            text = sources.read(file)
-            for function in sources.functions(text, FUNCTION):
-                if function.clauses and (file == main or function.name in called):
-                    yield Promise(function.name, self.names_of_call(function, sources.Part("", "", text), file), True)
+        code = sources.without_comments(sources.read(main))
+        called = set(re.findall(r"\b(\w+)\(", code))
+        imported = [(self.paths.get(use.split("::")[0]), called & words(use)) for use in USE.findall(code)]
+        for crate, names in [(path, called), *((crate, names) for crate, names in imported if crate and names)]:
+            for file in sources.code_files(crate):
+                text = sources.read(file)
+                for function in sources.functions(text, FUNCTION):
+                    if function.clauses and (file == main or function.name in names):
+                        yield Promise(function.name, self.names_of_call(function, sources.Part("", "", text), file), True)
 
     # What a name rests on
 

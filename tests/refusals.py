@@ -171,7 +171,7 @@ PLANTED = [
 
 def test_itself(texts, places):
     """What goes wrong with each planted line, and with each place that is taken away from the list."""
-    path = "crates/augtrie/src/run.rt"
+    path = "crates/aug_run/src/scripts/run.rt"
     head = "{\n    let bytes = match read_all"
     others = [place for place in places if place.file != path]
     wrong = []

@@ -361,6 +361,7 @@ pub fn hidden() -> u32 {
         self.assert_told("one: put of Shelf is there and not listed", shelf, inner, f"    pub fn put(&mut self) {{}}\n\n{inner}")
         self.assert_told("one: more of Lends is there and not listed", shelf, "    /// What it is.\n", "    fn more(&self);\n\n    /// What it is.\n")
         self.assert_told("one: hidden is there and not listed", "crates/one/src/lib.rt", "pub use shelf::count;", "pub use shelf::{count, hidden};")
+        self.assert_told("one: hidden is there and not listed", "crates/one/src/lib.rt", "pub use shelf::count;", "pub use shelf::count;\npub use shelf::deep::hidden;")
 
     def test_listed_call_that_is_gone(self):
         shelf, list_ = "crates/one/src/shelf.rt", "docs/surface.md"
@@ -569,6 +570,15 @@ Modules of `one`: `Books` (without `AreSteps`).
         self.assertEqual(status, 0)
         self.assertIn("one: size of Shelf\n    one: Books.ShelfFacts, Books.kept, Books.size_of\n    types of one: Shelf\n", said)
         self.assertIn("    behind views, one: Kept.facts_of\n", said)
+
+    def test_call_of_a_library_that_a_program_makes(self):
+        count = "ghost use Rattle.one.specs.Steps.{IsStep};\n\npub fn count() -> u32\n    ensures { IsStep result }\n{\n    0\n}\n"
+        self.write("crates/one/src/count.rt", count)
+        for code, is_made in ("use one::{Shelf, count};\n\nfn main() {\n    count();\n}\n", True), ("use one::count;\n\nfn main() {}\n", False):
+            self.write("crates/two/src/main.rt", code)
+            said, status = self.check(words=["--list"])
+            self.assertEqual(status, 0)
+            self.assertEqual("two: count (the program)\n    one: Steps.IsStep\n" in said, is_made)
 
     def test_other_words_are_refused(self):
         with contextlib.redirect_stderr(io.StringIO()):

@@ -46,7 +46,7 @@ def exported(crate):
     root = os.path.join(crate, "src", "lib.rt")
     if not os.path.exists(root):
         return None
-    uses = re.findall(r"^pub use \w+::(?:\{([^}]*)\}|(\w+));", read(root), re.M)
+    uses = re.findall(r"^pub use (?:\w+::)+(?:\{([^}]*)\}|(\w+));", read(root), re.M)
     return set(re.findall(r"\w+", " ".join(many + one + " " for many, one in uses)))
 
 

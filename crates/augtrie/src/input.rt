@@ -1,22 +1,11 @@
-//! Where a script comes from.
+//! The input of the process: standard input, or a file in its place.
 ghost use Rattle.std.specs.Prelude.{◌≡◌, ℕ, ◌+◌, ◌-◌, ◌^◌, ◌<◌, ◌≤◌, Option, None, List, length, IfOk, OnOk, is_ok, if◌then◌else◌};
 ghost use Rattle.std.specs.Io.KnownBytes.{ReadConsumes};
 
+use aug_run::Input;
 use aug_script::{Fault, Source};
 use std::fs::File;
 use std::io::Read;
-
-/// Standard input, or a file in its place once one was opened.
-pub trait Input: Source {
-    // The bytes of the file at a path, where they are known.
-    ghost file_bytes: { Self → List ℕ → Option (List ℕ) } = { λ _ _. None };
-
-    /// Opens the file at `path`, from which is read from now on.
-    fn open(&mut self, path: &str) -> Result<(), Fault>
-        requires { Self.Source.fault_count self.old < 2 ^ 64 - 1 }
-        ensures bytes { OnOk result (Self.Source.remaining self.new ≡ file_bytes self.old path.now) }
-        ensures counted { Self.Source.fault_count self.new ≡ Self.Source.fault_count self.old + (if is_ok result then 0 else 1) };
-}
 
 /// The input of the process.
 #[derive(Drop)]

@@ -1,0 +1,72 @@
+use Rattle.std.proofs.Common.{refl, ap, if◌then◌else◌, length}
+use Rattle.aug_model.specs.Keys.{is_member, keys_of}
+use Rattle.aug_model.specs.Queries.{rank_of, select_of, before_of, after_of, weight_of, weighted_range_of}
+use Rattle.aug_trie.specs.Knowledge.{insertion, removal}
+use Rattle.aug_script.specs.Replies.{span_of}
+use Rattle.aug_script.specs.declared.reply.Reply.TheVariants as reply
+use Rattle.aug_run.proofs.Answering.{accepted, refused, put, asked}
+use Rattle.aug_run.proofs.lanes.answer.answer.Goals as goal
+
+pub returns-then-insert-clause-answers : goal.returns-then-insert-clause-answers
+returns-then-insert-clause-answers c =
+    rw c.in-Insert.is (accepted _ _ _ c.args.held.now c.requires.held insertion c.in-Insert.key c.in-Insert.key reply.New reply.Old c.insert.ensures.keeps c.if-insert.ensures.accepted)
+
+pub returns-else-insert-clause-answers : goal.returns-else-insert-clause-answers
+returns-else-insert-clause-answers c =
+    rw c.in-Insert.is (refused _ _ _ c.args.held.now c.requires.held insertion c.in-Insert.key c.in-Insert.key reply.New reply.Old c.insert.ensures.keeps c.if-insert.ensures.refused)
+
+pub returns-in-Put-clause-answers : goal.returns-in-Put-clause-answers
+returns-in-Put-clause-answers c =
+    rw c.in-Put.is (put _ _ _ c.args.held.now c.requires.held c.in-Put.key c.in-Put.weight c.put.result c.put_reply.result c.put.ensures.keeps c.put.ensures.puts c.put_reply.ensures)
+
+pub returns-then-remove-clause-answers : goal.returns-then-remove-clause-answers
+returns-then-remove-clause-answers c =
+    rw c.in-Remove.is (accepted _ _ _ c.args.held.now c.requires.held removal c.in-Remove.key 0 reply.Gone reply.Absent c.remove.ensures.keeps c.if-remove.ensures.accepted)
+
+pub returns-else-remove-clause-answers : goal.returns-else-remove-clause-answers
+returns-else-remove-clause-answers c =
+    rw c.in-Remove.is (refused _ _ _ c.args.held.now c.requires.held removal c.in-Remove.key 0 reply.Gone reply.Absent c.remove.ensures.keeps c.if-remove.ensures.refused)
+
+pub returns-in-Look-clause-answers : goal.returns-in-Look-clause-answers
+returns-in-Look-clause-answers c = rw c.in-Look.is (record { looked = refl; takes = c.snapshot.ensures.takes })
+
+pub returns-then-has-clause-answers : goal.returns-then-has-clause-answers
+returns-then-has-clause-answers c =
+    rw c.in-Has.is (asked _ _ _ c.args.held.now c.requires.held (λ pairs. if is_member (keys_of pairs) c.in-Has.key then reply.Yes else reply.No) reply.Yes c.has.ensures.reads.stays
+    (ap (λ b. if b then reply.Yes else reply.No) c.if-has.ensures.answer))
+
+pub returns-else-has-clause-answers : goal.returns-else-has-clause-answers
+returns-else-has-clause-answers c =
+    rw c.in-Has.is (asked _ _ _ c.args.held.now c.requires.held (λ pairs. if is_member (keys_of pairs) c.in-Has.key then reply.Yes else reply.No) reply.No c.has.ensures.reads.stays
+    (ap (λ b. if b then reply.Yes else reply.No) c.if-has.ensures.answer))
+
+pub returns-in-Weight-clause-answers : goal.returns-in-Weight-clause-answers
+returns-in-Weight-clause-answers c =
+    rw c.in-Weight.is (asked _ _ _ c.args.held.now c.requires.held (λ pairs. reply.Found (weight_of pairs c.in-Weight.key)) (reply.Found c.weight.result) c.weight.ensures.reads.stays (ap reply.Found c.weight.ensures.answer))
+
+pub returns-in-Size-clause-answers : goal.returns-in-Size-clause-answers
+returns-in-Size-clause-answers c =
+    rw c.in-Size.is (asked _ _ _ c.args.held.now c.requires.held (λ pairs. reply.Number (length (keys_of pairs))) (reply.Number c.size.result) c.size.ensures.reads.stays (ap reply.Number c.size.ensures.answer))
+
+pub returns-in-Rank-clause-answers : goal.returns-in-Rank-clause-answers
+returns-in-Rank-clause-answers c =
+    rw c.in-Rank.is (asked _ _ _ c.args.held.now c.requires.held (λ pairs. reply.Number (rank_of (keys_of pairs) c.in-Rank.key)) (reply.Number c.rank.result) c.rank.ensures.reads.stays (ap reply.Number c.rank.ensures.answer))
+
+pub returns-in-Select-clause-answers : goal.returns-in-Select-clause-answers
+returns-in-Select-clause-answers c =
+    rw c.in-Select.is (asked _ _ _ c.args.held.now c.requires.held (λ pairs. reply.Found (select_of (keys_of pairs) c.in-Select.index)) (reply.Found c.select.result) c.select.ensures.reads.stays (ap reply.Found c.select.ensures.answer))
+
+pub returns-in-Before-clause-answers : goal.returns-in-Before-clause-answers
+returns-in-Before-clause-answers c =
+    rw c.in-Before.is (asked _ _ _ c.args.held.now c.requires.held (λ pairs. reply.Found (before_of (keys_of pairs) c.in-Before.key)) (reply.Found c.before-in-Before.result) c.before-in-Before.ensures.reads.stays
+    (ap reply.Found c.before-in-Before.ensures.answer))
+
+pub returns-in-After-clause-answers : goal.returns-in-After-clause-answers
+returns-in-After-clause-answers c =
+    rw c.in-After.is (asked _ _ _ c.args.held.now c.requires.held (λ pairs. reply.Found (after_of (keys_of pairs) c.in-After.key)) (reply.Found c.after.result) c.after.ensures.reads.stays
+    (ap reply.Found c.after.ensures.answer))
+
+pub returns-in-Range-clause-answers : goal.returns-in-Range-clause-answers
+returns-in-Range-clause-answers c =
+    rw c.in-Range.is (asked _ _ _ c.args.held.now c.requires.held (λ pairs. reply.Span (span_of (weighted_range_of pairs c.in-Range.from c.in-Range.to))) (reply.Span c.range.result) c.range.ensures.reads.stays
+    (ap reply.Span c.range.ensures.answer))

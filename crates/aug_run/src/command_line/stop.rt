@@ -1,0 +1,91 @@
+//! Why the command line ends the program before a script is read.
+ghost use Rattle.std.specs.Prelude.{◌≡◌, ◌+◌, ◌-◌, ◌^◌, ◌<◌, ◌↔◌, IsErr, OnOk, OnErr, is_ok, if◌then◌else◌};
+ghost use Rattle.std.specs.Io.KnownBytes.{Appends};
+
+use crate::fault_line::fault_line;
+use aug_script::{Fault, Sink, send};
+use std::alloc::AllocError;
+use std::error::Error;
+use std::fmt;
+
+/// Why the command line ends the program.
+#[derive(Debug, Drop)]
+pub enum Stop {
+    /// 1: help was asked for. It has the parser's text.
+    Help(String),
+    /// 2: the words are wrong. It has the parser's text.
+    Usage(String),
+    /// 3: the limits ask for more words than a table may have.
+    TooLarge,
+    /// 4: memory was refused.
+    OutOfMemory,
+}
+
+impl From<AllocError> for Stop {
+    ghost use Rattle.aug_run.specs.declared.command_line.stop.Stop.TheVariants.{OutOfMemory};
+
+    ghost from_gives = { λ _ s. s ≡ OutOfMemory };
+
+    fn from(_: AllocError) -> Stop {
+        Stop::OutOfMemory
+    }
+}
+
+impl Stop {
+    ghost use Rattle.aug_script.specs.Devices.{AppendsBeginning, FinishesLast};
+    ghost use Rattle.aug_run.specs.Faults.{stop_line, stop_status, stop_text};
+
+    /// The status that the program ends with: 0, 2 or 4.
+    pub fn status(&self) -> u8
+        ensures { result ≡ stop_status self.now }
+    {
+        match self {
+            Stop::Help(_) => 0,
+            Stop::Usage(_) | Stop::TooLarge => 2,
+            Stop::OutOfMemory => 4,
+        }
+    }
+
+    /// The parser's text, or the fault's name.
+    pub fn text(&self) -> &str
+        ensures { result.now ≡ stop_text self.now }
+    {
+        match self {
+            Stop::Help(text) | Stop::Usage(text) => text.as_str(),
+            Stop::TooLarge => "TooLarge",
+            Stop::OutOfMemory => "memory",
+        }
+    }
+
+    /// Writes the parser's text as it is, or the fault's line, and then calls `finish` once. The first fault of
+    /// the sink ends it. It takes no memory.
+    pub fn write_line<S: Sink>(&self, sink: &mut S) -> Result<(), Fault>
+        requires { S.fault_count sink.old < 2 ^ 64 - 1 }
+        ensures ok { OnOk result (Appends (S.contents sink.old) (S.contents sink.new) (stop_line self.now)) }
+        ensures err { OnErr result (AppendsBeginning (S.contents sink.old) (S.contents sink.new) (stop_line self.now)) }
+        ensures finished { OnOk result (S.finish_count sink.new ≡ S.finish_count sink.old + 1) }
+        ensures last { FinishesLast (S.contents sink.old) (S.contents sink.new) (S.finish_count sink.old) (S.finish_count sink.new) (stop_line self.now) }
+        ensures rose { IsErr result ↔ (S.fault_count sink.old < S.fault_count sink.new) }
+        ensures counted { S.fault_count sink.new ≡ S.fault_count sink.old + (if is_ok result then 0 else 1) }
+    {
+        match self {
+            Stop::Help(text) | Stop::Usage(text) => send(text.as_bytes(), sink),
+            Stop::TooLarge | Stop::OutOfMemory => {
+                send(fault_line(self.text()).as_str().as_bytes(), sink)
+            }
+        }
+    }
+}
+
+impl fmt::Display for Stop {
+    ghost use Rattle.std.specs.Prelude.{Some};
+    ghost use Rattle.aug_run.specs.Faults.{stop_text};
+
+    ghost output = { λ stop. Some (stop_text stop) };
+
+    fn fmt<W: fmt::Write>(&self, f: &mut fmt::Formatter<W>) -> fmt::Result {
+        f.write_str(self.text())
+    }
+}
+
+impl Error for Stop {}

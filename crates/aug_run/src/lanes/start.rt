@@ -1,0 +1,58 @@
+//! Starts the thread of one lane.
+ghost use Rattle.std.specs.Prelude.{◌≡◌, ◌≤◌, [], length, vec_capacity, IfOk};
+ghost use Rattle.aug_script.specs.Script.{KeepsLimits};
+ghost use Rattle.aug_run.specs.inside.Rounds.{WasHandedOut};
+ghost use Rattle.aug_run.specs.inside.Workers.{bounds_of, opening_of, rows_of, IsDone};
+
+use crate::gate::Gate;
+use crate::lanes::work::{Done, Job, work};
+use crate::trie::Table;
+use aug_script::Row;
+use std::alloc::AllocError;
+use std::thread::{Promise, PromisedHandle, Scope};
+
+/// What the worker of a lane of a round owes.
+#[derive(Clone, Copy)]
+pub(crate) struct LaneOf<'a, 'b> {
+    pub(crate) lane: u32,
+    pub(crate) rows: &'b [Row],
+    pub(crate) round: &'a Table,
+}
+
+impl<'a, 'b> Promise<Done<'a>> for LaneOf<'a, 'b> {
+    ghost kept_by = { λ p d. IsDone p.round.now p.rows.now p.lane d };
+}
+
+/// Starts the thread of one job. Where none can be made, the job is dropped.
+pub(crate) fn start<'s, 'a: 's, 'b: 's, 'c: 's, E, G: Gate>(
+    scope: &Scope<'s, E>,
+    round: &'a Table,
+    rows: &'b [Row],
+    gate: &'c G,
+    job: Job,
+) -> Result<PromisedHandle<Done<'a>, LaneOf<'a, 'b>>, AllocError>
+    requires here { job.half.round ≡ round.now }
+    requires handed_out { WasHandedOut (opening_of round.now) job.half.knows }
+    requires unspent { job.half.spent ≡ 0 }
+    requires kept { KeepsLimits (bounds_of round.now) rows.now }
+    requires empty { job.replies.items ≡ [] }
+    requires room { length (rows_of job.lane rows.now) ≤ vec_capacity job.replies }
+    ensures lane { IfOk result (λ h. h.promise.lane ≡ job.lane) }
+    ensures rows { IfOk result (λ h. h.promise.rows.now ≡ rows.now) }
+    ensures round { IfOk result (λ h. h.promise.round.now ≡ round.now) }
+{
+    let Job {
+        lane,
+        half,
+        replies,
+    } = job;
+    let promise = LaneOf { lane, rows, round };
+    let child = scope.spawn_with(
+        promise,
+        move || -> Done
+            requires { (half.round ≡ round.now) × WasHandedOut (opening_of round.now) half.knows × (half.spent ≡ 0) × KeepsLimits (bounds_of round.now) rows.now × (replies.items ≡ []) × (length (rows_of lane rows.now) ≤ vec_capacity replies) }
+            ensures { IsDone round.entry.now rows.entry.now lane result }
+        { work(lane, rows, round, half, replies, gate) },
+    )?;
+    Ok(child)
+}

@@ -1,0 +1,114 @@
+//! The program over devices: which stream each text goes to, and the status that the program ends with.
+ghost use Rattle.std.specs.Prelude.{◌≡◌, ◌≢◌, ◌-◌, ◌^◌, ◌<◌, ◌↔◌, Err, IfErr, IfOk, IfSome, MatchBool, OnOk, option_map, string_bytes};
+ghost use Rattle.aug_run.specs.Faults.{run_error_line, run_error_status, stop_line, stop_status};
+ghost use Rattle.aug_run.specs.Program.{FailsBy, Shows, is_help, script_bytes};
+ghost use Rattle.aug_run.specs.Runs.{RunsWhole};
+ghost use Rattle.aug_run.specs.declared.scripts.run_error.RunError.{RunError};
+
+use crate::command_line::options::Options;
+use crate::command_line::stop::Stop;
+use crate::input::Input;
+use crate::scripts::run::run;
+use crate::scripts::run_error::RunError;
+use aug_script::Sink;
+use std::alloc::Global;
+use std::sync::Wait;
+use std::thread::Threads;
+
+/// Does what the command line asks for, and answers the status that the program ends with. What the command line
+/// stops at is shown before the input is touched. Reports and the text of help go to `output`, the line of a fault
+/// to `errors`; a failure to write such a line, or the text of help, changes no status.
+pub fn carry_out<R: Threads + Wait, I: Input, O: Sink, E: Sink>(
+    rt: &R,
+    alloc: Global,
+    asked: Result<Options, Stop>,
+    input: &mut I,
+    output: &mut O,
+    errors: &mut E,
+) -> u8
+    requires input { I.Source.fault_count input.old < 2 ^ 64 - 1 }
+    requires output { O.fault_count output.old < 2 ^ 64 - 1 }
+    requires errors { E.fault_count errors.old < 2 ^ 64 - 1 }
+
+    // Where the command line stops the program.
+    ensures status { IfErr asked (λ stop. result ≡ stop_status stop) }
+    ensures unread { IfErr asked (λ stop. input.new ≡ input.old) }
+    ensures help { IfErr asked (λ stop. MatchBool (is_help stop)
+        (Shows (O.contents output.old) (O.contents output.new) (O.finish_count output.old) (O.finish_count output.new) (O.fault_count output.old) (O.fault_count output.new) (stop_line stop))
+        (output.new ≡ output.old)) }
+    ensures usage { IfErr asked (λ stop. MatchBool (is_help stop)
+        (errors.new ≡ errors.old)
+        (Shows (E.contents errors.old) (E.contents errors.new) (E.finish_count errors.old) (E.finish_count errors.new) (E.fault_count errors.old) (E.fault_count errors.new) (stop_line stop))) }
+
+    // Where a script is run.
+    ensures done { IfOk asked (λ options. result ≡ 0 → (errors.new ≡ errors.old) × IfSome (script_bytes (I.Source.remaining input.old) (I.file_bytes input.old) (option_map string_bytes options.file))
+        (RunsWhole options.limits (O.contents output.old) (O.contents output.new) (O.finish_count output.old) (O.finish_count output.new))) }
+    ensures failed { IfOk asked (λ options. result ≢ 0 → (error : RunError) × (result ≡ run_error_status error)
+        × Shows (E.contents errors.old) (E.contents errors.new) (E.finish_count errors.old) (E.finish_count errors.new) (E.fault_count errors.old) (E.fault_count errors.new) (run_error_line error)
+        × FailsBy options.limits (O.contents output.old) (O.contents output.new) (O.finish_count output.old) (O.finish_count output.new) (script_bytes (I.Source.remaining input.old) (I.file_bytes input.old) (option_map string_bytes options.file)) error
+        × (error ≢ RunError.Output → error ≢ RunError.OutOfMemory → output.new ≡ output.old)
+        × (error ≡ RunError.Input ↔ (I.Source.fault_count input.old < I.Source.fault_count input.new))
+        × (error ≡ RunError.Output ↔ (O.fault_count output.old < O.fault_count output.new))) }
+{
+    match asked {
+        Ok(options) => match run_script(rt, alloc, &options, input, output) {
+            Ok(()) => 0,
+            Err(error) => show_error(&error, errors),
+        },
+        Err(stop) => show_stop(&stop, output, errors),
+    }
+}
+
+// Runs the script of the file, or without one that of standard input.
+fn run_script<R: Threads + Wait, I: Input, O: Sink>(
+    rt: &R,
+    alloc: Global,
+    options: &Options,
+    input: &mut I,
+    output: &mut O,
+) -> Result<(), RunError>
+    requires input { I.Source.fault_count input.old < 2 ^ 64 - 1 }
+    requires output { O.fault_count output.old < 2 ^ 64 - 1 }
+    ensures ok { OnOk result (IfSome (script_bytes (I.Source.remaining input.old) (I.file_bytes input.old) (option_map string_bytes options.now.file))
+        (RunsWhole options.now.limits (O.contents output.old) (O.contents output.new) (O.finish_count output.old) (O.finish_count output.new))) }
+    ensures err { IfErr result (FailsBy options.now.limits (O.contents output.old) (O.contents output.new) (O.finish_count output.old) (O.finish_count output.new) (script_bytes (I.Source.remaining input.old) (I.file_bytes input.old) (option_map string_bytes options.now.file))) }
+    ensures input { result ≡ Err RunError.Input ↔ (I.Source.fault_count input.old < I.Source.fault_count input.new) }
+    ensures output { result ≡ Err RunError.Output ↔ (O.fault_count output.old < O.fault_count output.new) }
+    ensures nothing { IfErr result (λ error. error ≢ RunError.Output → error ≢ RunError.OutOfMemory → output.new ≡ output.old) }
+{
+    if let Some(path) = &options.file {
+        if input.open(path.as_str()).is_err() {
+            return Err(RunError::Input);
+        }
+    }
+    run(rt, alloc, input, output, &options.limits)
+}
+
+// Shows why the command line ends the program: help goes to the output, all else to the errors.
+fn show_stop<O: Sink, E: Sink>(stop: &Stop, output: &mut O, errors: &mut E) -> u8
+    requires output { O.fault_count output.old < 2 ^ 64 - 1 }
+    requires errors { E.fault_count errors.old < 2 ^ 64 - 1 }
+    ensures status { result ≡ stop_status stop.now }
+    ensures help { MatchBool (is_help stop.now)
+        (Shows (O.contents output.old) (O.contents output.new) (O.finish_count output.old) (O.finish_count output.new) (O.fault_count output.old) (O.fault_count output.new) (stop_line stop.now))
+        (output.new ≡ output.old) }
+    ensures usage { MatchBool (is_help stop.now)
+        (errors.new ≡ errors.old)
+        (Shows (E.contents errors.old) (E.contents errors.new) (E.finish_count errors.old) (E.finish_count errors.new) (E.fault_count errors.old) (E.fault_count errors.new) (stop_line stop.now)) }
+{
+    let _ = match stop {
+        Stop::Help(_) => stop.write_line(output),
+        _ => stop.write_line(errors),
+    };
+    stop.status()
+}
+
+// Shows why the script was not run to its end.
+fn show_error<E: Sink>(error: &RunError, errors: &mut E) -> u8
+    requires { E.fault_count errors.old < 2 ^ 64 - 1 }
+    ensures status { result ≡ run_error_status error.now }
+    ensures shown { Shows (E.contents errors.old) (E.contents errors.new) (E.finish_count errors.old) (E.finish_count errors.new) (E.fault_count errors.old) (E.fault_count errors.new) (run_error_line error.now) }
+{
+    let _ = error.write_line(errors);
+    error.status()
+}

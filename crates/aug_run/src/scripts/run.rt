@@ -1,0 +1,121 @@
+//! A whole script, from its bytes to its printed reports.
+ghost use Rattle.std.specs.Prelude.{◌≡◌, ◌≢◌, ℕ, ◌-◌, ◌^◌, ◌<◌, ◌≤◌, ◌↔◌, ◌⊎◌, All, Err, IfErr, IfOk, IfSome, OnErr, OnOk, Some, [], length, take};
+ghost use Rattle.aug_script.specs.Script.{IsRunnable, NeverNarrows};
+ghost use Rattle.aug_run.specs.Runs.{HasFault, Prints, PrintsInPart, RunsInPart, RunsOutOfMemory, RunsWhole, script_limit};
+ghost use Rattle.aug_script.specs.declared.script_error.ScriptError.{ScriptError};
+
+use crate::gate::Open;
+use crate::round::run_round;
+use crate::scripts::read_all::{ReadError, read_all};
+use crate::scripts::run_error::RunError;
+use crate::trie::Trie;
+use aug_script::{Limits, PrintError, Script, ScriptError, ScriptRound, Sink, Source, print};
+use aug_trie::{BeginError, Ended};
+use std::alloc::{AllocError, Global};
+use std::sync::Wait;
+use std::thread::Threads;
+
+/// Reads the whole script, judges every row, and then runs round after round, each with a worker thread for every lane;
+/// its report is written before the next round begins. Nothing is written unless the whole script was read and has no
+/// fault. What the bytes come to is told of a source and a sink that tell theirs.
+pub fn run<R: Threads + Wait, S: Source, W: Sink>(
+    rt: &R,
+    alloc: Global,
+    source: &mut S,
+    sink: &mut W,
+    limits: &Limits,
+) -> Result<(), RunError>
+    requires source { S.fault_count source.old < 2 ^ 64 - 1 }
+    requires sink { W.fault_count sink.old < 2 ^ 64 - 1 }
+    ensures ok { OnOk result (IfSome (S.remaining source.old) (RunsWhole limits.now (W.contents sink.old) (W.contents sink.new) (W.finish_count sink.old) (W.finish_count sink.new))) }
+    ensures script { (fault : ScriptError) → result ≡ Err (RunError.Script fault) → IfSome (S.remaining source.old) (HasFault limits.now fault) }
+    ensures named { result ≢ Err (RunError.Script ScriptError.OutOfMemory) }
+    ensures long { result ≡ Err RunError.TooLong → IfSome (S.remaining source.old) (λ bytes. script_limit < length bytes) }
+    ensures input { result ≡ Err RunError.Input ↔ (S.fault_count source.old < S.fault_count source.new) }
+    ensures output { result ≡ Err RunError.Output ↔ (W.fault_count sink.old < W.fault_count sink.new) }
+    ensures part { result ≡ Err RunError.Output → IfSome (S.remaining source.old) (RunsInPart limits.now (W.contents sink.old) (W.contents sink.new) (W.finish_count sink.old) (W.finish_count sink.new)) }
+    ensures memory { result ≡ Err RunError.OutOfMemory → RunsOutOfMemory limits.now (W.contents sink.old) (W.contents sink.new) (W.finish_count sink.old) (W.finish_count sink.new) (S.remaining source.old) }
+    ensures nothing { IfErr result (λ error. error ≢ RunError.Output → error ≢ RunError.OutOfMemory → sink.new ≡ sink.old) }
+{
+    let bytes = match read_all(alloc, source) {
+        Ok(bytes) => bytes,
+        Err(ReadError::Input) => return Err(RunError::Input),
+        Err(ReadError::OutOfMemory) => return Err(RunError::OutOfMemory),
+        Err(ReadError::TooLong) => return Err(RunError::TooLong),
+    };
+    run_bytes(rt, alloc, bytes.as_slice(), sink, limits)
+}
+
+/// The same for the bytes of a script.
+fn run_bytes<R: Threads + Wait, W: Sink>(
+    rt: &R,
+    alloc: Global,
+    bytes: &[u8],
+    sink: &mut W,
+    limits: &Limits,
+) -> Result<(), RunError>
+    requires fits { length bytes.now ≤ script_limit }
+    requires sink { W.fault_count sink.old < 2 ^ 64 - 1 }
+    ensures ok { OnOk result (RunsWhole limits.now (W.contents sink.old) (W.contents sink.new) (W.finish_count sink.old) (W.finish_count sink.new) bytes.now) }
+    ensures script { (fault : ScriptError) → result ≡ Err (RunError.Script fault) → HasFault limits.now fault bytes.now }
+    ensures named { result ≢ Err (RunError.Script ScriptError.OutOfMemory) }
+    ensures fits { (result ≢ Err RunError.TooLong) × (result ≢ Err RunError.Input) }
+    ensures output { result ≡ Err RunError.Output ↔ (W.fault_count sink.old < W.fault_count sink.new) }
+    ensures part { result ≡ Err RunError.Output → RunsInPart limits.now (W.contents sink.old) (W.contents sink.new) (W.finish_count sink.old) (W.finish_count sink.new) bytes.now }
+    ensures memory { result ≡ Err RunError.OutOfMemory → RunsOutOfMemory limits.now (W.contents sink.old) (W.contents sink.new) (W.finish_count sink.old) (W.finish_count sink.new) (Some bytes.now) }
+    ensures nothing { IfErr result (λ error. error ≢ RunError.Output → error ≢ RunError.OutOfMemory → sink.new ≡ sink.old) }
+{
+    let script = match Script::read(alloc, bytes, limits) {
+        Ok(script) => script,
+        Err(ScriptError::OutOfMemory) => return Err(RunError::OutOfMemory),
+        Err(fault) => return Err(RunError::Script(fault)),
+    };
+    run_rounds(rt, alloc, script.rounds(), sink, limits)
+}
+
+/// Runs rounds one after the other, each with its own bits, over a set that is empty at first, and writes each report before the
+/// next round.
+fn run_rounds<R: Threads + Wait, W: Sink>(
+    rt: &R,
+    alloc: Global,
+    rounds: &[ScriptRound],
+    sink: &mut W,
+    limits: &Limits,
+) -> Result<(), RunError>
+    requires kept { All (IsRunnable limits.now) rounds.now }
+    requires never_narrows { NeverNarrows rounds.now }
+    requires sink { W.fault_count sink.old < 2 ^ 64 - 1 }
+    ensures ok { OnOk result (Prints limits.now rounds.now (W.contents sink.old) (W.contents sink.new) (W.finish_count sink.old) (W.finish_count sink.new)) }
+    ensures named { OnErr result ((result ≡ Err RunError.Output) ⊎ (result ≡ Err RunError.OutOfMemory)) }
+    ensures memory { result ≡ Err RunError.OutOfMemory → (count : ℕ) × Prints limits.now (take count rounds.now) (W.contents sink.old) (W.contents sink.new) (W.finish_count sink.old) (W.finish_count sink.new) }
+    ensures output { result ≡ Err RunError.Output ↔ (W.fault_count sink.old < W.fault_count sink.new) }
+    ensures part { result ≡ Err RunError.Output → (count : ℕ) × PrintsInPart limits.now (take count rounds.now) (W.contents sink.old) (W.contents sink.new) (W.finish_count sink.old) (W.finish_count sink.new) }
+{
+    let Ok(empty) = empty_trie(alloc, limits) else {
+        return Err(RunError::OutOfMemory);
+    };
+    let mut ended = empty;
+    let mut number = 1;
+    for round in rounds {
+        let (next, report) = run_round(rt, alloc, ended, limits, number, round, &Open)?;
+        ended = next;
+        match print(alloc, &report, sink) {
+            Ok(()) => number += 1,
+            Err(PrintError::Output) => return Err(RunError::Output),
+            Err(PrintError::OutOfMemory) => return Err(RunError::OutOfMemory),
+        }
+    }
+    Ok(())
+}
+
+// The trie that the first round begins with. It is refused for want of memory alone.
+fn empty_trie(alloc: Global, limits: &Limits) -> Result<Trie, AllocError>
+    ensures bits { IfOk result (λ t. t.bits ≡ limits.now.bits) }
+    ensures empty { IfOk result (λ t. t.members ≡ []) }
+{
+    match Ended::empty(alloc, limits.bits()) {
+        Ok(ended) => Ok(ended),
+        Err(BeginError::OutOfMemory) => Err(AllocError),
+        Err(_) => unreachable!(),
+    }
+}

@@ -1,0 +1,207 @@
+//! What no clause says of the gate: that it is told of each row of each lane, when it is told, and that the lanes run at the same time.
+use crate::rounds::report_of;
+use aug_run::Gate;
+use aug_script::Reply;
+use std::alloc::{AllocError, Global};
+use std::process::Abort;
+use std::sync::atomic::AtomicU64;
+use std::sync::atomic::Ordering::SeqCst;
+use std::test::Fail;
+use std::thread;
+
+// A count that lanes raise and wait for, for so many looks at most. Once one has waited in vain, none waits any more.
+#[derive(Drop)]
+struct Meeting {
+    count: AtomicU64,
+    missed: AtomicU64,
+}
+
+const LOOKS: u64 = 5_000_000;
+
+impl Meeting {
+    fn new() -> Meeting {
+        Meeting {
+            count: AtomicU64::new(0),
+            missed: AtomicU64::new(0),
+        }
+    }
+
+    fn raise(&self) {
+        self.count.fetch_add(1, SeqCst);
+    }
+
+    fn wait_for(&self, count: u64) {
+        for _ in 0..LOOKS {
+            if self.count.load(SeqCst) >= count || self.missed.load(SeqCst) > 0 {
+                return;
+            }
+            thread::yield_now();
+        }
+        self.missed.fetch_add(1, SeqCst);
+    }
+
+    // How often a lane waited in vain.
+    fn missed(&self) -> u64 {
+        self.missed.load(SeqCst)
+    }
+}
+
+// So many lanes, which have their rows in turn, wait for each other before each of them.
+#[derive(Drop)]
+struct MeetEachTime {
+    lanes: u64,
+    meeting: Meeting,
+}
+
+impl Gate for MeetEachTime {
+    fn before(&self, lane: u32, row: u64) {
+        let others = self.lanes.wrapping_sub(1).wrapping_sub(u64::from(lane));
+        let last_row_of_turn = row.wrapping_add(others);
+        self.meeting.raise();
+        self.meeting.wait_for(last_row_of_turn);
+    }
+
+    fn after(&self, _lane: u32, _row: u64) {}
+}
+
+// Three rows for each of so many lanes, in turn.
+fn looks_in_turn(alloc: Global, lanes: u32) -> Result<String, AllocError> {
+    let mut text = String::new(alloc);
+    for _ in 0..3u32 {
+        for lane in 0..lanes {
+            writeln!(text, "{lane},look")?;
+        }
+    }
+    Ok(text)
+}
+
+#[test]
+fn the_lanes_run_at_the_same_time(rt: HostRuntime) -> Result<(), Fail> {
+    for lanes in [2u32, 64] {
+        let gate = MeetEachTime {
+            lanes: u64::from(lanes),
+            meeting: Meeting::new(),
+        };
+        let text = looks_in_turn(rt.alloc(), lanes)?;
+        let run = report_of(&rt, rt.alloc(), lanes, text.as_str(), &gate)?;
+        assert!(rt; run.is_some());
+        assert_eq!(rt; gate.meeting.missed(), 0);
+    }
+    Ok(())
+}
+
+// What it is told of each lane, three digits for each call: twice the row's number before it, and one more after it.
+#[derive(Drop)]
+struct Told {
+    lanes: Vec<AtomicU64>,
+}
+
+impl Told {
+    fn of_no_row(alloc: Global, lanes: u32) -> Result<Told, AllocError> {
+        let mut told = Vec::new(alloc);
+        for _ in 0..lanes {
+            told.push(AtomicU64::new(0))?;
+        }
+        Ok(Told { lanes: told })
+    }
+
+    fn note(&self, lane: u32, number: u64) {
+        if let Some(calls) = self.lanes.get(lane as usize) {
+            let before = calls.load(SeqCst);
+            calls.store(before.wrapping_mul(1_000).wrapping_add(number), SeqCst);
+        }
+    }
+
+    fn of_lane(&self, lane: u32) -> Option<u64> {
+        let calls = self.lanes.get(lane as usize)?;
+        Some(calls.load(SeqCst))
+    }
+}
+
+impl Gate for Told {
+    fn before(&self, lane: u32, row: u64) {
+        self.note(lane, row.wrapping_mul(2));
+    }
+
+    fn after(&self, lane: u32, row: u64) {
+        self.note(lane, row.wrapping_mul(2).wrapping_add(1));
+    }
+}
+
+#[test]
+fn the_gate_is_told_of_each_row(rt: HostRuntime) -> Result<(), Fail> {
+    let gate = Told::of_no_row(rt.alloc(), 4)?;
+    let run = report_of(&rt, rt.alloc(), 4, "3,insert,1\n3,look\n3,size\n", &gate)?;
+    assert!(rt; run.is_some());
+    for lane in 0..3u32 {
+        assert_eq!(rt; gate.of_lane(lane), Some(0));
+    }
+    assert_eq!(rt; gate.of_lane(3), Some(2_003_004_005_006_007));
+    Ok(())
+}
+
+#[test]
+fn the_gate_is_told_of_each_lane(rt: HostRuntime) -> Result<(), Fail> {
+    let gate = Told::of_no_row(rt.alloc(), 64)?;
+    let text = looks_in_turn(rt.alloc(), 64)?;
+    let run = report_of(&rt, rt.alloc(), 64, text.as_str(), &gate)?;
+    assert!(rt; run.is_some());
+    // The rows of lane 0 are 1, 65 and 129, and a lane's are one more each than those of the lane before it.
+    let mut calls = 2_003_130_131_258_259u64;
+    for lane in 0..64u32 {
+        assert_eq!(rt; gate.of_lane(lane), Some(calls), "{lane}");
+        calls = calls.wrapping_add(2_002_002_002_002_002);
+    }
+    Ok(())
+}
+
+// Lane 1 waits before its last row for the end of lane 0's first. Lane 0 begins once lane 1 waits there, and goes on from its first row
+// once that row of lane 1 is over.
+#[derive(Drop)]
+struct InOrder {
+    meeting: Meeting,
+}
+
+impl Gate for InOrder {
+    fn before(&self, _lane: u32, row: u64) {
+        match row {
+            1 => self.meeting.wait_for(1),
+            3 => {
+                self.meeting.raise();
+                self.meeting.wait_for(2);
+            }
+            4 => self.meeting.raise(),
+            _ => {}
+        }
+    }
+
+    fn after(&self, _lane: u32, row: u64) {
+        if row == 2 {
+            self.meeting.raise();
+            self.meeting.wait_for(3);
+        }
+    }
+}
+
+#[test]
+fn a_row_runs_between_its_two_calls(rt: HostRuntime) -> Result<(), Fail> {
+    let gate = InOrder {
+        meeting: Meeting::new(),
+    };
+    let text = "0,look\n0,insert,5\n1,insert,5\n1,has,5\n1,look\n1,has,5\n";
+    let run = report_of(&rt, rt.alloc(), 2, text, &gate)?;
+    let report = run.expect(&rt, "a report");
+    assert_eq!(rt; gate.meeting.missed(), 0);
+    // Lane 1 took its first snapshot before lane 0 put the key in.
+    let expected = [
+        Reply::Looked,
+        Reply::New,
+        Reply::Old,
+        Reply::No,
+        Reply::Looked,
+        Reply::Yes,
+    ];
+    let replies = report.rows.as_slice().iter().map(|line| line.1);
+    assert!(rt; replies.eq(expected));
+    Ok(())
+}

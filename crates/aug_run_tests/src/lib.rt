@@ -1,0 +1,25 @@
+//! The tests of `aug_run`: scripts, rounds and words, what they come to, and what happens if a device or memory fails.
+#![tactic(auto)]
+
+#[cfg(test)]
+mod gates;
+#[cfg(test)]
+mod known_bytes;
+#[cfg(test)]
+mod plain;
+#[cfg(test)]
+mod programs;
+#[cfg(test)]
+mod reading;
+#[cfg(test)]
+mod rounds;
+#[cfg(test)]
+mod run_errors;
+#[cfg(test)]
+mod scripts;
+#[cfg(test)]
+mod stops;
+#[cfg(test)]
+mod test_input;
+#[cfg(test)]
+mod words;

@@ -1,0 +1,129 @@
+//! The program over devices that are in memory.
+use crate::test_input::TestInput;
+use aug_run::{Stop, carry_out, options};
+use aug_script::MemorySink;
+use std::alloc::{AllocError, Global};
+use std::sync::Wait;
+use std::test::Fail;
+use std::thread::Threads;
+
+// What the program left: its status, its output and its errors, and how often a file was asked for.
+#[derive(Drop)]
+struct Left {
+    status: u8,
+    output: MemorySink,
+    errors: MemorySink,
+    opened: u64,
+}
+
+// Standard input looks, and the file `a.csv` asks for the size. Each sink fails at the call with its number.
+fn run_line<R: Threads + Wait>(
+    rt: &R,
+    alloc: Global,
+    line: &str,
+    output_fault: Option<u64>,
+    errors_fault: Option<u64>,
+) -> Result<Left, AllocError> {
+    let mut words = Vec::new(alloc);
+    for word in line.split_whitespace() {
+        words.push(String::from_str(alloc, word)?)?;
+    }
+    let asked = options(alloc, words.as_slice());
+    let mut input = TestInput::new(b"0,look\n", "a.csv", b"0,size\n");
+    let mut output = MemorySink::new(alloc, 7, output_fault);
+    let mut errors = MemorySink::new(alloc, 7, errors_fault);
+    let status = carry_out(rt, alloc, asked, &mut input, &mut output, &mut errors);
+    let opened = input.opened;
+    Ok(Left {
+        status,
+        output,
+        errors,
+        opened,
+    })
+}
+
+#[test]
+fn help_goes_to_the_output(rt: HostRuntime) -> Result<(), Fail> {
+    let left = run_line(&rt, rt.alloc(), "--help a.csv", None, None)?;
+    assert_eq!(rt; left.status, 0);
+    assert!(rt; left.output.out.starts_with(b"Runs a script"));
+    assert_eq!(rt; (left.output.finished, left.errors.calls), (1, 0));
+    assert_eq!(rt; left.opened, 0);
+    Ok(())
+}
+
+#[test]
+fn wrong_words_are_told_before_the_file_is_opened(rt: HostRuntime) -> Result<(), Fail> {
+    let left = run_line(&rt, rt.alloc(), "--bits 17 a.csv", None, None)?;
+    assert_eq!(rt; left.status, 2);
+    assert!(rt; left.errors.out.starts_with(b"error: invalid value '17'"));
+    assert_eq!(rt; (left.output.calls, left.errors.finished), (0, 1));
+    assert_eq!(rt; left.opened, 0);
+    Ok(())
+}
+
+#[test]
+fn a_script_comes_from_standard_input_or_the_file(rt: HostRuntime) -> Result<(), Fail> {
+    for (line, text, opened) in [
+        ("", "1 0 look = ok\n1 end size=0 in=0 out=0\n", 0),
+        ("a.csv", "1 0 size = 0\n1 end size=0 in=0 out=0\n", 1),
+    ] {
+        let left = run_line(&rt, rt.alloc(), line, None, None)?;
+        assert_eq!(rt; left.status, 0);
+        assert_eq!(rt; left.output.out.as_slice(), text.as_bytes());
+        assert_eq!(rt; (left.output.finished, left.errors.calls), (1, 0));
+        assert_eq!(rt; left.opened, opened);
+    }
+    Ok(())
+}
+
+#[test]
+fn a_file_that_is_not_there_is_a_fault_of_the_input(rt: HostRuntime) -> Result<(), Fail> {
+    let left = run_line(&rt, rt.alloc(), "b.csv", None, None)?;
+    assert_eq!(rt; left.status, 3);
+    assert_eq!(rt; left.errors.out.as_slice(), b"augtrie: input\n".as_slice());
+    assert_eq!(rt; left.output.calls, 0);
+    Ok(())
+}
+
+#[test]
+fn a_report_that_cannot_be_written_is_told(rt: HostRuntime) -> Result<(), Fail> {
+    let left = run_line(&rt, rt.alloc(), "", Some(1), None)?;
+    assert_eq!(rt; left.status, 3);
+    assert_eq!(rt; left.output.out.as_slice(), b"1 0 loo".as_slice());
+    assert_eq!(rt; left.errors.out.as_slice(), b"augtrie: output\n".as_slice());
+    Ok(())
+}
+
+#[test]
+fn a_text_that_cannot_be_written_changes_no_status(rt: HostRuntime) -> Result<(), Fail> {
+    for (line, status) in [("--help", 0), ("--bits 17", 2), ("b.csv", 3)] {
+        let left = run_line(&rt, rt.alloc(), line, Some(0), Some(0))?;
+        assert_eq!(rt; left.status, status);
+        assert!(rt; left.output.out.is_empty() && left.errors.out.is_empty());
+    }
+    Ok(())
+}
+
+#[test]
+fn limits_and_memory_have_lines_of_their_own(rt: HostRuntime) {
+    for (stop, status, line) in [
+        (Stop::TooLarge, 2, "augtrie: TooLarge\n"),
+        (Stop::OutOfMemory, 4, "augtrie: memory\n"),
+    ] {
+        let mut input = TestInput::new(b"0,look", "a.csv", b"");
+        let mut output = MemorySink::new(rt.alloc(), 7, None);
+        let mut errors = MemorySink::new(rt.alloc(), 7, None);
+        let found = carry_out(
+            &rt,
+            rt.alloc(),
+            Err(stop),
+            &mut input,
+            &mut output,
+            &mut errors,
+        );
+        assert_eq!(rt; found, status);
+        assert_eq!(rt; errors.out.as_slice(), line.as_bytes());
+        assert_eq!(rt; output.calls, 0);
+    }
+}

@@ -1,6 +1,0 @@
-use Rattle.std.specs.Prelude.{length, take}
-use Rattle.augtrie.specs.inside.Workers.{AreCounted}
-use Rattle.augtrie.proofs.jobs.count_rows.Given as goal
-
-abbrev pub invariant-loop-row : goal.invariant-loop-row
-invariant-loop-row l = AreCounted (length l.initial.counts) (take l.row-index l.rows) l.counts

@@ -52,16 +52,6 @@ ranks_few {set = set} is k =
 pub top_rank : (keys : List ℕ) (k level bits : ℕ) → level ≡ bits → k < 2 ^ bits → 0 ≡ rank_of keys (first_key level (k / 2 ^ level))
 top_rank keys k level bits e h = sym (rank_none keys _ (top_first level (k / 2 ^ level) (sym (top_place k level bits e h))))
 
--- what is before a node and what was counted one level down make what is before the node there
-pub down_rank : {set other : SetFacts} (k level below before : ℕ) → other ≡ set → 1 ≤ level → below ≡ rank_of (list_of set) (first_key level (k / 2 ^ level))
-    → rank_of (list_of other) (first_key (level - 1) (k / 2 ^ (level - 1))) ≡ rank_of (list_of other) (first_key (level - 1 + 1) (k / 2 ^ (level - 1 + 1))) + before
-    → below + before ≡ rank_of (list_of set) (first_key (level - 1) (k / 2 ^ (level - 1)))
-down_rank {set = set} k level below before same some is step =
-    let again : level - 1 + 1 ≡ level = omega arith in
-    let top = ap (λ s. rank_of (list_of s) (first_key (level - 1 + 1) (k / 2 ^ (level - 1 + 1)))) same ∙ ap (λ l. rank_of (list_of set) (first_key l (k / 2 ^ l))) again in
-    let low = ap (λ s. rank_of (list_of s) (first_key (level - 1) (k / 2 ^ (level - 1)))) same in
-    omega (arith, top, low, is, step)
-
 -- a node above leaves begins at the key, or one before it
 pair_first : (k level : ℕ) → level ≡ 1 → first_key level (k / 2 ^ level) + k % 2 ≡ k
 pair_first k level e = ap (λ l. first_key l (k / 2 ^ l) + k % 2) e ∙ omega arith

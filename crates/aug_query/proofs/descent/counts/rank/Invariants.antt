@@ -7,11 +7,10 @@ use Rattle.aug_query.proofs.descent.counts.rank.Given as goal
 
 abbrev pub invariant-loop-level : goal.invariant-loop-level
 invariant-loop-level g l = record {
-  some : 1 ≤ l.level;
-  most : l.level ≤ (g.D.Descend.set_of l.fn.tree).bits;
-  node : g.D.Descend.Names l.tree l.level (l.k / 2 ^ l.level) l.node;
-  below : l.below ≡ rank_of (list_of (g.D.Descend.set_of l.fn.tree)) (first_key l.level (l.k / 2 ^ l.level));
-  walk : Descends g.D.Descend.set_of g.D.Descend.loads_of g.D.Descend.Names g.D.Descend.KeepsRest ((g.D.Descend.set_of l.fn.tree).bits + 1 - l.level) 0 0 ((g.D.Descend.set_of l.fn.tree).bits - l.level) l.fn.tree l.tree;
+  most : l.level + 1 ≤ (g.D.Descend.set_of l.fn.tree).bits;
+  node : g.D.Descend.Names l.tree (l.level + 1) (l.k / 2 ^ (l.level + 1)) l.node;
+  below : l.below ≡ rank_of (list_of (g.D.Descend.set_of l.fn.tree)) (first_key (l.level + 1) (l.k / 2 ^ (l.level + 1)));
+  walk : Descends g.D.Descend.set_of g.D.Descend.loads_of g.D.Descend.Names g.D.Descend.KeepsRest ((g.D.Descend.set_of l.fn.tree).bits - l.level) 0 0 ((g.D.Descend.set_of l.fn.tree).bits - (l.level + 1)) l.fn.tree l.tree;
 }
 
 abbrev pub decreases-loop-level : goal.decreases-loop-level

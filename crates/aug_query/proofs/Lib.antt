@@ -8,6 +8,7 @@ pub mod Ends
 pub mod Passing
 pub mod Beside
 pub mod Inside
+pub mod Batches
 pub mod Placed
 pub mod Cover
 pub mod Listed

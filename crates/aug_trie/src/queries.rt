@@ -1,5 +1,6 @@
 //! The queries on a snapshot of a pass. Only `keys` and `pairs` take memory.
-ghost use Rattle.std.specs.Prelude.{◌≡◌, ◌+◌, ◌-◌, ◌*◌, length, IfOk, vec_capacity};
+ghost use Rattle.std.specs.Prelude.{◌≡◌, ◌+◌, ◌-◌, ◌*◌, ◌≤◌, ◌++◌, length, map, IfOk, vec_len, vec_capacity};
+ghost use Rattle.std.specs.List.Sorted.{IsNonDecreasing};
 ghost use Rattle.aug_model.specs.Folds.{summary_of};
 ghost use Rattle.aug_model.specs.Keys.{is_member, list_of};
 ghost use Rattle.aug_model.specs.Queries.{rank_of, select_of, before_of, after_of, weight_of, weighted_range_of};
@@ -153,5 +154,49 @@ impl<'r, A: Monoid, B: Monoid> Pass<'r, A, B> {
         let list = descent::pairs(alloc, &mut walk);
         self.words = walk.into_words();
         list
+    }
+
+    /// How many members are below each of `keys`, put at the end of `out`, which has room for that. No key is below the one
+    /// before it. What the ways to them share is walked once.
+    pub fn ranks(&mut self, s: Snapshot, keys: &[u32], out: &mut Vec<u32>)
+        requires snapshot { HasSnapshot self.old s.number }
+        requires rising { IsNonDecreasing keys.now }
+        requires room { vec_len out.old + length keys.now ≤ vec_capacity out.old }
+        ensures answer { out.new.items ≡ out.old.items ++ map (λ k. rank_of (list_of (set_at self.old s)) k) keys.now }
+        ensures room { vec_capacity out.new ≡ vec_capacity out.old }
+        ensures reads { Reads (summary_of A.parts B.parts) (3 * (length keys.now * (set_at self.old s).bits) + length keys.now + 1) self.old self.new }
+    {
+        let mut walk = SnapshotWalk::over(self.words.take(), s, self.bits);
+        descent::ranks(&mut walk, keys, out);
+        self.words = walk.into_words();
+    }
+
+    /// Whether each of `keys` is a member, put at the end of `out`, which has room for that. No key is below the one before it.
+    pub fn memberships(&mut self, s: Snapshot, keys: &[u32], out: &mut Vec<bool>)
+        requires snapshot { HasSnapshot self.old s.number }
+        requires rising { IsNonDecreasing keys.now }
+        requires room { vec_len out.old + length keys.now ≤ vec_capacity out.old }
+        ensures answer { out.new.items ≡ out.old.items ++ map (λ k. is_member (list_of (set_at self.old s)) k) keys.now }
+        ensures room { vec_capacity out.new ≡ vec_capacity out.old }
+        ensures reads { Reads (summary_of A.parts B.parts) (length keys.now * (set_at self.old s).bits + 2 * length keys.now) self.old self.new }
+    {
+        let mut walk = SnapshotWalk::over(self.words.take(), s, self.bits);
+        descent::memberships(&mut walk, keys, out);
+        self.words = walk.into_words();
+    }
+
+    /// The weight of each of `keys`, if it is a member, put at the end of `out`, which has room for that. No key is below the
+    /// one before it.
+    pub fn weights(&mut self, s: Snapshot, keys: &[u32], out: &mut Vec<Option<u32>>)
+        requires snapshot { HasSnapshot self.old s.number }
+        requires rising { IsNonDecreasing keys.now }
+        requires room { vec_len out.old + length keys.now ≤ vec_capacity out.old }
+        ensures answer { out.new.items ≡ out.old.items ++ map (λ k. weight_of (set_at self.old s).pairs k) keys.now }
+        ensures room { vec_capacity out.new ≡ vec_capacity out.old }
+        ensures reads { Reads (summary_of A.parts B.parts) (length keys.now * (set_at self.old s).bits + 2 * length keys.now) self.old self.new }
+    {
+        let mut walk = SnapshotWalk::over(self.words.take(), s, self.bits);
+        descent::weights(&mut walk, keys, out);
+        self.words = walk.into_words();
     }
 }

@@ -184,3 +184,29 @@ fn each_query_answers(rt: HostRuntime) -> Result<(), BeginError> {
     assert_eq!(rt; rank, 2);
     Ok(())
 }
+
+#[test]
+fn batches_answer_as_the_single_queries(rt: HostRuntime) -> Result<(), BeginError> {
+    let (round, mut crew) = opened(rt.alloc(), 4, 1, 2)?;
+    let mut pass = next_pass(&mut crew, &round).expect(&rt, "a lane");
+    assert!(rt; insert(&mut pass, 4, 9) && insert(&mut pass, 4, 5));
+    let s = pass.snapshot();
+    let keys = [4, 5, 5, 9, 10, 16];
+    assert!(rt; keys.is_sorted());
+    let mut below = Vec::with_capacity(rt.alloc(), 6)?;
+    pass.ranks(s, &keys, &mut below);
+    assert_eq!(rt; below.as_slice(), [0, 0, 0, 1, 2, 2].as_slice());
+    let mut there = Vec::with_capacity(rt.alloc(), 6)?;
+    pass.memberships(s, &keys, &mut there);
+    assert_eq!(rt;
+        there.as_slice(),
+        [false, true, true, true, false, false].as_slice()
+    );
+    let mut weighed = Vec::with_capacity(rt.alloc(), 6)?;
+    pass.weights(s, &keys, &mut weighed);
+    assert_eq!(rt;
+        weighed.as_slice(),
+        [None, Some(5), Some(5), Some(9), None, None].as_slice()
+    );
+    Ok(())
+}

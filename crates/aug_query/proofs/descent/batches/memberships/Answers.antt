@@ -1,0 +1,10 @@
+use Rattle.std.proofs.Common.{◌++◌, is_some, ap, ◌∙◌}
+use Rattle.aug_model.specs.Keys.{is_member, list_of}
+use Rattle.aug_model.specs.Queries.{weight_of}
+use Rattle.aug_query.proofs.Batches.{has_weight, same_maps}
+use Rattle.aug_query.proofs.descent.batches.memberships.Goals as goal
+
+pub returns-clause-answer : goal.returns-clause-answer
+returns-clause-answer g c =
+    let set = g.D.Descend.set_of c.args.tree.now in
+    c.tell_all.ensures.answer ∙ ap (λ xs. c.args.out.now.items ++ xs) (same_maps (λ k. is_some (weight_of set.pairs k)) (λ k. is_member (list_of set) k) (has_weight set.pairs) c.args.keys.now)

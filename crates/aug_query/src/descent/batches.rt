@@ -1,0 +1,231 @@
+//! The same query of many keys. What their ways share is walked once.
+ghost use Rattle.std.specs.Prelude.{◌≡◌, ℕ, ◌+◌, ◌-◌, ◌*◌, ◌^◌, ◌≤◌, ◌++◌, min, length, map, replicate, Option, is_some, vec_len, vec_capacity};
+ghost use Rattle.std.specs.List.Sorted.{IsNonDecreasing};
+ghost use Rattle.aug_model.specs.Keys.{is_member, list_of};
+ghost use Rattle.aug_model.specs.Queries.{rank_of, weight_of};
+ghost use Rattle.aug_query.specs.Tree.{first_key, end_key};
+ghost use Rattle.aug_query.specs.Descend.{Descends};
+ghost use Rattle.aug_query.specs.inside.Batches.{AreBetween, nodes_below, leaves_below};
+ghost use Rattle.aug_query.specs.inside.NodePlaces.{Stands};
+
+use crate::Descend;
+use crate::toward::universe;
+use aug_monoid::Monoid;
+
+/// Puts how many members are below each of `keys` at the end of `out`, which has room for that. No key is below the one
+/// before it.
+pub fn ranks<A: Monoid, B: Monoid, D: Descend<A, B>>(tree: &mut D, keys: &[u32], out: &mut Vec<u32>)
+    requires rising { IsNonDecreasing keys.now }
+    requires room { vec_len out.old + length keys.now ≤ vec_capacity out.old }
+    ensures answer { out.new.items ≡ out.old.items ++ map (λ k. rank_of (list_of (D.set_of tree.old)) k) keys.now }
+    ensures room { vec_capacity out.new ≡ vec_capacity out.old }
+    ensures descends { Descends D.set_of D.loads_of D.Names D.KeepsRest (length keys.now * ((D.set_of tree.old).bits + 1)) (min (length keys.now) 1) 0 (length keys.now * (D.set_of tree.old).bits) tree.old tree.new }
+    ensures once { Descends D.set_of D.loads_of D.Names D.KeepsRest (2 * 2 ^ (D.set_of tree.old).bits - 1) 1 0 (2 * 2 ^ (D.set_of tree.old).bits - 2) tree.old tree.new }
+{
+    if keys.is_empty() {
+        return;
+    }
+    let (within, past) = cut(keys, universe(tree));
+    let bits = tree.bits();
+    let top = tree.top();
+    rank_each(tree, bits, 0, &top, 0, within, out);
+    if !past.is_empty() {
+        let size = tree.count(bits, 0, &top);
+        repeat(size, past.len(), out);
+    }
+}
+
+/// Puts whether each of `keys` is a member at the end of `out`, which has room for that. No key is below the one before it.
+pub fn memberships<A: Monoid, B: Monoid, D: Descend<A, B>>(
+    tree: &mut D,
+    keys: &[u32],
+    out: &mut Vec<bool>,
+)
+    requires rising { IsNonDecreasing keys.now }
+    requires room { vec_len out.old + length keys.now ≤ vec_capacity out.old }
+    ensures answer { out.new.items ≡ out.old.items ++ map (λ k. is_member (list_of (D.set_of tree.old)) k) keys.now }
+    ensures room { vec_capacity out.new ≡ vec_capacity out.old }
+    ensures descends { Descends D.set_of D.loads_of D.Names D.KeepsRest (length keys.now * ((D.set_of tree.old).bits + 1)) (length keys.now) 0 0 tree.old tree.new }
+    ensures once { Descends D.set_of D.loads_of D.Names D.KeepsRest (2 * 2 ^ (D.set_of tree.old).bits - 1) (2 ^ (D.set_of tree.old).bits) 0 0 tree.old tree.new }
+{
+    tell_all(tree, keys, out);
+}
+
+/// Puts the weight of each of `keys`, if it is a member, at the end of `out`, which has room for that. No key is below the
+/// one before it.
+pub fn weights<A: Monoid, B: Monoid, D: Descend<A, B>>(
+    tree: &mut D,
+    keys: &[u32],
+    out: &mut Vec<Option<u32>>,
+)
+    requires rising { IsNonDecreasing keys.now }
+    requires room { vec_len out.old + length keys.now ≤ vec_capacity out.old }
+    ensures answer { out.new.items ≡ out.old.items ++ map (λ k. weight_of (D.set_of tree.old).pairs k) keys.now }
+    ensures room { vec_capacity out.new ≡ vec_capacity out.old }
+    ensures descends { Descends D.set_of D.loads_of D.Names D.KeepsRest (length keys.now * ((D.set_of tree.old).bits + 1)) (length keys.now) 0 0 tree.old tree.new }
+    ensures once { Descends D.set_of D.loads_of D.Names D.KeepsRest (2 * 2 ^ (D.set_of tree.old).bits - 1) (2 ^ (D.set_of tree.old).bits) 0 0 tree.old tree.new }
+{
+    tell_all(tree, keys, out);
+}
+
+// What is told of a key.
+trait Told: Copy {
+    // What is told of one with this weight, if it is a member.
+    ghost told_of: { Option ℕ → Self };
+
+    // That.
+    fn of_weight(weight: Option<u32>) -> Self
+        ensures { result ≡ told_of weight };
+}
+
+impl Told for bool {
+    ghost told_of = { λ weight. is_some weight };
+
+    fn of_weight(weight: Option<u32>) -> bool {
+        weight.is_some()
+    }
+}
+
+impl Told for Option<u32> {
+    ghost told_of = { λ weight. weight };
+
+    fn of_weight(weight: Option<u32>) -> Option<u32> {
+        weight
+    }
+}
+
+// Puts what is told of each key at the end of `out`.
+fn tell_all<A: Monoid, B: Monoid, D: Descend<A, B>, T: Told>(
+    tree: &mut D,
+    keys: &[u32],
+    out: &mut Vec<T>,
+)
+    requires rising { IsNonDecreasing keys.now }
+    requires room { vec_len out.old + length keys.now ≤ vec_capacity out.old }
+    ensures answer { out.new.items ≡ out.old.items ++ map (λ k. T.told_of (weight_of (D.set_of tree.old).pairs k)) keys.now }
+    ensures room { vec_capacity out.new ≡ vec_capacity out.old }
+    ensures descends { Descends D.set_of D.loads_of D.Names D.KeepsRest (length keys.now * ((D.set_of tree.old).bits + 1)) (length keys.now) 0 0 tree.old tree.new }
+    ensures once { Descends D.set_of D.loads_of D.Names D.KeepsRest (2 * 2 ^ (D.set_of tree.old).bits - 1) (2 ^ (D.set_of tree.old).bits) 0 0 tree.old tree.new }
+{
+    let (within, past) = cut(keys, universe(tree));
+    if !within.is_empty() {
+        let bits = tree.bits();
+        let top = tree.top();
+        tell_each(tree, bits, 0, &top, within, out);
+    }
+    repeat(T::of_weight(None), past.len(), out);
+}
+
+// The same of keys that the node at a level and a place covers.
+fn tell_each<A: Monoid, B: Monoid, D: Descend<A, B>, T: Told>(
+    tree: &mut D,
+    level: u32,
+    place: u32,
+    node: &D::Name,
+    keys: &[u32],
+    out: &mut Vec<T>,
+)
+    requires name { D.Names tree.old level place node.now }
+    requires keys { AreBetween (first_key level place) (end_key level place) keys.now }
+    requires some { 1 ≤ length keys.now }
+    requires room { vec_len out.old + length keys.now ≤ vec_capacity out.old }
+    ensures answer { out.new.items ≡ out.old.items ++ map (λ k. T.told_of (weight_of (D.set_of tree.old).pairs k)) keys.now }
+    ensures length { vec_len out.new ≡ vec_len out.old + length keys.now }
+    ensures room { vec_capacity out.new ≡ vec_capacity out.old }
+    ensures descends { Descends D.set_of D.loads_of D.Names D.KeepsRest (nodes_below level (length keys.now)) (leaves_below level (length keys.now)) 0 0 tree.old tree.new }
+{
+    if level == 0 {
+        let weight = if tree.count(0, place, node) == 0 {
+            None
+        } else {
+            Some(tree.weight(place, node))
+        };
+        repeat(T::of_weight(weight), keys.len(), out);
+        return;
+    }
+    let (low, high) = halves(level, place, keys);
+    if !low.is_empty() {
+        let left = tree.left(level - 1, place, node);
+        tell_each(tree, level - 1, 2 * place, &left, low, out);
+    }
+    if !high.is_empty() {
+        let right = tree.right(level - 1, place, node);
+        tell_each(tree, level - 1, 2 * place + 1, &right, high, out);
+    }
+}
+
+// Puts the ranks of keys that the node at a level and a place covers at the end of `out`. So many members are before the node.
+fn rank_each<A: Monoid, B: Monoid, D: Descend<A, B>>(
+    tree: &mut D,
+    level: u32,
+    place: u32,
+    node: &D::Name,
+    before: u32,
+    keys: &[u32],
+    out: &mut Vec<u32>,
+)
+    requires name { D.Names tree.old level place node.now }
+    requires before { before ≡ rank_of (list_of (D.set_of tree.old)) (first_key level place) }
+    requires keys { AreBetween (first_key level place) (end_key level place) keys.now }
+    requires room { vec_len out.old + length keys.now ≤ vec_capacity out.old }
+    ensures answer { out.new.items ≡ out.old.items ++ map (λ k. rank_of (list_of (D.set_of tree.old)) k) keys.now }
+    ensures length { vec_len out.new ≡ vec_len out.old + length keys.now }
+    ensures room { vec_capacity out.new ≡ vec_capacity out.old }
+    ensures descends { Descends D.set_of D.loads_of D.Names D.KeepsRest (nodes_below level (length keys.now)) 0 0 (nodes_below level (length keys.now)) tree.old tree.new }
+{
+    if level == 0 {
+        repeat(before, keys.len(), out);
+        return;
+    }
+    let (low, high) = halves(level, place, keys);
+    if !low.is_empty() {
+        let left = tree.left(level - 1, place, node);
+        rank_each(tree, level - 1, 2 * place, &left, before, low, out);
+    }
+    if !high.is_empty() {
+        let (right, count) = tree.past_left(level - 1, place, node);
+        rank_each(
+            tree,
+            level - 1,
+            2 * place + 1,
+            &right,
+            before + count,
+            high,
+            out,
+        );
+    }
+}
+
+// The keys that the left child covers, and those that the right one does, of some that a node above leaves covers.
+fn halves(level: u32, place: u32, keys: &[u32]) -> (&[u32], &[u32])
+    requires inner { 1 ≤ level }
+    requires stands { Stands level place }
+    requires keys { AreBetween (first_key level place) (end_key level place) keys.now }
+    ensures both { keys.now ≡ result.0.now ++ result.1.now }
+    ensures low { AreBetween (first_key (level - 1) (2 * place)) (end_key (level - 1) (2 * place)) result.0.now }
+    ensures high { AreBetween (first_key (level - 1) (2 * place + 1)) (end_key (level - 1) (2 * place + 1)) result.1.now }
+{
+    cut(keys, (2 * place + 1) << (level - 1))
+}
+
+// The keys below `k`, and those from it on.
+fn cut(keys: &[u32], k: u32) -> (&[u32], &[u32])
+    requires { IsNonDecreasing keys.now }
+    ensures both { keys.now ≡ result.0.now ++ result.1.now }
+    ensures low { AreBetween 0 k result.0.now }
+    ensures high { AreBetween k (2 ^ 32) result.1.now }
+{
+    keys.split_at(keys.partition_point(|&key| key < k))
+}
+
+// Puts `value` at the end of `out` so many times.
+fn repeat<X: Copy>(value: X, times: usize, out: &mut Vec<X>)
+    requires { vec_len out.old + times ≤ vec_capacity out.old }
+    ensures items { out.new.items ≡ out.old.items ++ replicate times value }
+    ensures length { vec_len out.new ≡ vec_len out.old + times }
+    ensures room { vec_capacity out.new ≡ vec_capacity out.old }
+{
+    for _ in 0..times {
+        out.push_reserved(value);
+    }
+}

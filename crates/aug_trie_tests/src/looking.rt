@@ -193,16 +193,16 @@ fn batches_answer_as_the_single_queries(rt: HostRuntime) -> Result<(), BeginErro
     let s = pass.snapshot();
     let keys = [4, 5, 5, 9, 10, 16];
     assert!(rt; keys.is_sorted());
-    let mut below = Vec::with_capacity(rt.alloc(), 6)?;
+    let mut below = Vec::with_capacity(rt.alloc(), 6).expect(&rt, "memory");
     pass.ranks(s, &keys, &mut below);
     assert_eq!(rt; below.as_slice(), [0, 0, 0, 1, 2, 2].as_slice());
-    let mut there = Vec::with_capacity(rt.alloc(), 6)?;
+    let mut there = Vec::with_capacity(rt.alloc(), 6).expect(&rt, "memory");
     pass.memberships(s, &keys, &mut there);
     assert_eq!(rt;
         there.as_slice(),
         [false, true, true, true, false, false].as_slice()
     );
-    let mut weighed = Vec::with_capacity(rt.alloc(), 6)?;
+    let mut weighed = Vec::with_capacity(rt.alloc(), 6).expect(&rt, "memory");
     pass.weights(s, &keys, &mut weighed);
     assert_eq!(rt;
         weighed.as_slice(),

@@ -1,5 +1,6 @@
 pub mod Orders
 pub mod Nodes
+pub mod Steps
 pub mod Descending
 pub mod Ways
 pub mod Descents

@@ -51,7 +51,8 @@ fn check<'a>(alloc: Global) -> Result<Command<'a>, AllocError> {
 
 // The words for the kinds of operations that are counted.
 const OPERATIONS: [&str; 12] = [
-    "none", "new", "dup", "put", "has", "rank", "select", "before", "after", "range", "size", "keys",
+    "none", "new", "dup", "put", "has", "rank", "select", "before", "after", "range", "size",
+    "keys",
 ];
 
 fn count<'a>(alloc: Global) -> Result<Command<'a>, AllocError> {

@@ -24,7 +24,10 @@ pub(crate) fn count(alloc: Global, asked: Counting) -> anyhow::Result<u64> {
     } = asked;
     ensure!(1 <= bits && bits <= 16, "a key has 1 to 16 bits");
     ensure!(gap <= 16, "a gap has 1 to 16 bits");
-    ensure!(times <= UPDATES && updates <= UPDATES - times, "a round has 65536 updates");
+    ensure!(
+        times <= UPDATES && updates <= UPDATES - times,
+        "a round has 65536 updates"
+    );
     let (universe, step) = (1u32 << bits, 1u32 << gap);
     let members = universe / step;
     ensure!(1 < step && 0 < members, "the gap is 0, or wider than a key");

@@ -350,7 +350,10 @@ fn reads_what_is_asked(rt: HostRuntime) -> Result<(), Fail> {
             },
         ),
         ("count new 5", Asked::Count(counting)),
-        ("count rank 9 --bits 8 --gap 3 --updates 7", Asked::Count(small)),
+        (
+            "count rank 9 --bits 8 --gap 3 --updates 7",
+            Asked::Count(small),
+        ),
         ("check", Asked::Check { without: None }),
         ("check --without 8", Asked::Check { without: Some(8) }),
     ] {

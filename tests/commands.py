@@ -56,7 +56,7 @@ sys.exit(sys.argv[1] == os.environ.get("FAILS"))
 
 # Stands in for the compiler of Rust: it makes the file behind -o.
 COMPILER = r"""#!/bin/bash
-while (($#)); do if [[ $1 == -o ]]; then : >"$2"; fi; shift; done
+while (($#)); do if [[ $1 == -o ]]; then printf '#!/bin/bash\necho plain "${@:2}"\n' >"$2" && chmod +x "$2"; fi; shift; done
 """
 
 # Stands in for valgrind: the program executes 1,000 instructions, and for each operation as many as the length of the operation's name.
@@ -364,10 +364,21 @@ class Measure(Folder):
         out, err, status = self.run_script("tools/measure", str(first), SECONDS_EACH="3")
         self.assertEqual((err, status), ("", 0))
         lines = out.splitlines()
-        self.assertEqual([line.split(" on ")[0] for line in lines], [f"trie {name} {count} 3" for name in "UCMPQS" for count in (1, 2, 4)])
+        engines = {name: ["trie", "plain"] if name in "UMQ" else ["trie"] for name in "UCMPQS"}
+        names = [f"{engine} {name} {count} 3" for name in engines for count in (1, 2, 4) for engine in engines[name]]
+        self.assertEqual([line.split(" on ")[0] for line in lines], names)
         self.assertEqual(lines[0].split(" on ")[1], f"{first}")
         if first + 1 in more:
-            self.assertEqual(lines[1].split(" on ")[1], f"{first} {first + 1}")
+            self.assertEqual(lines[2].split(" on ")[1], f"{first} {first + 1}")
+
+    def test_measures_the_named_workloads_without_rustc(self):
+        for name in ["env", "bash", "mktemp", "rm", "cc", "as", "ld", "dirname", "python3"]:
+            os.symlink(shutil.which(name), os.path.join(self.folder, "bin", name))
+        os.remove(os.path.join(self.folder, "bin/rustc"))
+        first = str(min(os.sched_getaffinity(0)))
+        out, err, status = self.run_script("tools/measure", first, path=os.path.join(self.folder, "bin"), WORKLOADS="Q M", SECONDS_EACH="3")
+        self.assertEqual([line.split(" on ")[0] for line in out.splitlines()], [f"trie {name} {count} 3" for name in "QM" for count in (1, 2, 4)])
+        self.assertEqual((err, status), ("tools/measure: no rustc, so plain Rust is left out\n", 0))
 
     def test_program_that_fails_ends_it(self):
         first = min(os.sched_getaffinity(0))

@@ -42,11 +42,12 @@ def files(top, pattern):
 
 
 def exported(crate):
-    """The names that a library gives out, or none where the crate is a program, all of whose public items count."""
+    """The names that a library gives out, itself or by its public modules, or none where the crate is a program, all of whose public items count."""
     root = os.path.join(crate, "src", "lib.rt")
     if not os.path.exists(root):
         return None
-    uses = re.findall(r"^pub use (?:\w+::)+(?:\{([^}]*)\}|(\w+));", read(root), re.M)
+    modules = [os.path.join(crate, "src", f"{name}.rt") for name in re.findall(r"^pub mod (\w+);", read(root), re.M)]
+    uses = [it for path in (root, *modules) for it in re.findall(r"^pub use (?:\w+::)+(?:\{([^}]*)\}|(\w+));", read(path), re.M)]
     return set(re.findall(r"\w+", " ".join(many + one + " " for many, one in uses)))
 
 
@@ -56,7 +57,7 @@ def signature_and_contract(lines):
     said = lines[:1]
     for line in lines[1:]:
         is_body = said[-1].endswith(("{", ";")) and not any(map(CLAUSE.match, said))
-        if is_body or line and not line.startswith((indent + " ", indent + ")")):
+        if is_body or line and not line.startswith((indent + " ", indent + ")", indent + "where")):
             break
         said.append(line)
     return said
@@ -102,7 +103,7 @@ def parts(text):
     """The parts of a file that have public calls, and how a call's line begins there."""
     for head, body in re.findall(r"^impl\b([^{]*)\{$(.*?)^\}", text, re.M | re.S):
         if " for " not in head:
-            yield Part(re.sub(r"^<[^>]*>|<.*", "", head.strip()).strip(), head, body), "    pub "
+            yield Part(re.sub(r"^<(?:[^<>]|<[^<>]*>)*>|<.*", "", head.strip()).strip(), head, body), "    pub "
     for name, head, body in re.findall(r"^pub trait (\w+)([^{]*)\{$(.*?)^\}", text, re.M | re.S):
         yield Part(name, head, body), "    "
     yield Part("", "", text), "pub "

@@ -1,9 +1,11 @@
-//! The trie's algorithm in plain Rust, to compare counts of instructions with: the same words, double refresh, records of five words and
-//! descents, without proofs. `tools/measure counts` builds it with `rustc`, once as it is and once with `--cfg unchecked`, without checks of
-//! bounds. `baseline OP N BITS GAP` does what `augbench count OP N --bits BITS --gap GAP` does, and prints the same line.
+//! The trie's algorithm in plain Rust, to compare with: the same words, double refresh, records of five words and descents, without
+//! proofs. `tools/measure` builds it with `rustc`, once as it is and once with `--cfg unchecked`, without checks of bounds.
+//! `baseline OP N BITS GAP` does what `augbench count OP N --bits BITS --gap GAP` does, and prints the same line.
+//! `baseline run WORKLOAD THREADS SECONDS` runs rounds of `augbench`'s workloads U, M and Q, and prints a line as it does.
 
-use std::sync::atomic::AtomicU64;
 use std::sync::atomic::Ordering::SeqCst;
+use std::sync::atomic::{AtomicBool, AtomicU64};
+use std::time::Instant;
 
 /// The words of a record: the numbers of the children, how many members are below, the sum of their weights, and their extent.
 const LEFT: usize = 0;
@@ -47,31 +49,45 @@ impl Summary {
 struct Trie {
     words: Vec<AtomicU64>,
     bits: usize,
-    /// The number of the next record that was not used.
+}
+
+/// A thread of the trie.
+struct Pass<'t> {
+    trie: &'t Trie,
+    /// The number of its next record that was not used.
     next: u64,
 }
 
 impl Trie {
-    /// Of no key, with room for this many updates.
-    fn new(bits: usize, updates: usize) -> Trie {
+    /// Of these leaf words, with room for this many updates: first a record a level for the nodes that cover no member, then one for each
+    /// other node, level by level, and then the updates' records. It gives the number of the first of these.
+    fn open(bits: usize, leaf: impl Fn(u64) -> u64, updates: usize) -> (Trie, u64) {
         let leaves = 1 << bits;
         let nodes = leaves - 1;
-        let records = bits + updates * bits;
-        let mut words: Vec<AtomicU64> = (0..leaves + nodes + records * RECORD).map(|_| AtomicU64::new(0)).collect();
-        let (mut first, mut width) = (leaves, leaves / 2);
-        for level in 0..bits {
-            for place in first..first + width {
-                *words[place].get_mut() = level as u64;
-            }
-            let record = leaves + nodes + level * RECORD;
-            *words[record + EXTENT].get_mut() = NO_EXTENT;
-            if level > 0 {
-                *words[record + LEFT].get_mut() = level as u64 - 1;
-                *words[record + RIGHT].get_mut() = level as u64 - 1;
-            }
-            (first, width) = (first + width, width / 2);
+        let records = bits + nodes + updates * bits;
+        let words: Vec<AtomicU64> = (0..leaves + nodes + records * RECORD).map(|_| AtomicU64::new(0)).collect();
+        let trie = Trie { words, bits };
+        for key in 0..leaves {
+            trie.word(key).store(leaf(key as u64), SeqCst);
         }
-        Trie { words, bits, next: bits as u64 }
+        let (mut below, mut first, mut width, mut next) = (0, leaves, leaves / 2, bits as u64);
+        for level in 0..bits {
+            let shared = level as u64;
+            let under = if level > 0 { shared - 1 } else { 0 };
+            trie.fill(shared, under, under, NOTHING);
+            for place in 0..width {
+                let (one, other) = (trie.load(below + 2 * place), trie.load(below + 2 * place + 1));
+                let summary = trie.joined(level, one, other, (place << (level + 1)) as u64);
+                let number = if summary.count > 0 { next } else { shared };
+                if summary.count > 0 {
+                    trie.fill(next, one, other, summary);
+                    next += 1;
+                }
+                trie.word(first + place).store(number, SeqCst);
+            }
+            (below, first, width) = (first, first + width, width / 2);
+        }
+        (trie, next)
     }
 
     #[inline(always)]
@@ -98,62 +114,25 @@ impl Trie {
         Summary { count: self.load(record + COUNT), sum: self.load(record + SUM), extent: self.load(record + EXTENT) }
     }
 
-    /// Puts a key in, if it is absent.
-    #[inline(never)]
-    fn insert(&mut self, key: u64) -> bool {
-        let word = self.load(key as usize);
-        let absent = word >> 32 & 1 == 0;
-        let new = ((word >> 32) + 1) << 32 | key;
-        let accepted = absent && self.word(key as usize).compare_exchange(word, new, SeqCst, SeqCst).is_ok();
-        self.climb(key);
-        accepted
-    }
-
-    /// Puts a key in with a weight, or gives it the weight.
-    #[inline(never)]
-    fn put(&mut self, key: u64, weight: u64) -> u64 {
-        let word = self.load(key as usize);
-        let serial = word >> 32;
-        let new = (serial + 1 + (serial & 1)) << 32 | weight;
-        let accepted = self.word(key as usize).compare_exchange(word, new, SeqCst, SeqCst).is_ok();
-        self.climb(key);
-        if accepted { 1 + (serial & 1) } else { 0 }
-    }
-
-    /// Brings a key's leaf to the root: at each node of its path, two tries at most.
+    /// What two children come to, of nodes one level above `level`.
     #[inline(always)]
-    fn climb(&mut self, key: u64) {
-        let leaves = 1usize << self.bits;
-        let mut place = key as usize;
-        for level in 0..self.bits {
-            let left = place & !1;
-            let node = leaves + place / 2;
-            let first = (key as usize >> (level + 1)) << (level + 1);
-            if !self.refresh(level, left, node, first as u64) {
-                self.refresh(level, left, node, first as u64);
-            }
-            self.next += 1;
-            place = node;
-        }
-    }
-
-    /// Tries once to put a record of the two children, from `left` on, into a node's word.
-    #[inline(always)]
-    fn refresh(&self, level: usize, left: usize, node: usize, first: u64) -> bool {
-        let old = self.load(node);
-        let (one, other) = (self.load(left), self.load(left + 1));
-        let summary = if level == 0 {
+    fn joined(&self, level: usize, one: u64, other: u64, first: u64) -> Summary {
+        if level == 0 {
             Summary::of_leaf(first, one).join(Summary::of_leaf(first + 1, other))
         } else {
             self.summary(one).join(self.summary(other))
-        };
-        let record = self.record(self.next);
-        self.word(record + LEFT).store(one, SeqCst);
-        self.word(record + RIGHT).store(other, SeqCst);
+        }
+    }
+
+    /// Fills a record.
+    #[inline(always)]
+    fn fill(&self, number: u64, left: u64, right: u64, summary: Summary) {
+        let record = self.record(number);
+        self.word(record + LEFT).store(left, SeqCst);
+        self.word(record + RIGHT).store(right, SeqCst);
         self.word(record + COUNT).store(summary.count, SeqCst);
         self.word(record + SUM).store(summary.sum, SeqCst);
         self.word(record + EXTENT).store(summary.extent, SeqCst);
-        self.word(node).compare_exchange(old, self.next, SeqCst, SeqCst).is_ok()
     }
 
     /// The root's record: a snapshot.
@@ -303,6 +282,213 @@ impl Trie {
     }
 }
 
+impl Pass<'_> {
+    /// Puts a key in, if it is absent.
+    #[inline(never)]
+    fn insert(&mut self, key: u64) -> bool {
+        self.turn(key, 0)
+    }
+
+    /// Takes a key out, if it is there.
+    #[inline(never)]
+    fn remove(&mut self, key: u64) -> bool {
+        self.turn(key, 1)
+    }
+
+    /// Changes a key whose serial has this parity.
+    #[inline(always)]
+    fn turn(&mut self, key: u64, parity: u64) -> bool {
+        let word = self.trie.load(key as usize);
+        let fits = word >> 32 & 1 == parity;
+        let new = ((word >> 32) + 1) << 32 | key;
+        let accepted = fits && self.trie.word(key as usize).compare_exchange(word, new, SeqCst, SeqCst).is_ok();
+        self.climb(key);
+        accepted
+    }
+
+    /// Puts a key in with a weight, or gives it the weight.
+    #[inline(never)]
+    fn put(&mut self, key: u64, weight: u64) -> u64 {
+        let word = self.trie.load(key as usize);
+        let serial = word >> 32;
+        let new = (serial + 1 + (serial & 1)) << 32 | weight;
+        let accepted = self.trie.word(key as usize).compare_exchange(word, new, SeqCst, SeqCst).is_ok();
+        self.climb(key);
+        if accepted { 1 + (serial & 1) } else { 0 }
+    }
+
+    /// Brings a key's leaf to the root: at each node of its path, two tries at most.
+    #[inline(always)]
+    fn climb(&mut self, key: u64) {
+        let leaves = 1usize << self.trie.bits;
+        let mut place = key as usize;
+        for level in 0..self.trie.bits {
+            let left = place & !1;
+            let node = leaves + place / 2;
+            let first = (key as usize >> (level + 1)) << (level + 1);
+            if !self.refresh(level, left, node, first as u64) {
+                self.refresh(level, left, node, first as u64);
+            }
+            self.next += 1;
+            place = node;
+        }
+    }
+
+    /// Tries once to put a record of the two children, from `left` on, into a node's word.
+    #[inline(always)]
+    fn refresh(&self, level: usize, left: usize, node: usize, first: u64) -> bool {
+        let old = self.trie.load(node);
+        let (one, other) = (self.trie.load(left), self.trie.load(left + 1));
+        let summary = self.trie.joined(level, one, other, first);
+        self.trie.fill(self.next, one, other, summary);
+        self.trie.word(node).compare_exchange(old, self.next, SeqCst, SeqCst).is_ok()
+    }
+}
+
+/// How many updates a thread makes in a round.
+const UPDATES: u64 = 4096;
+
+/// Draws keys.
+struct Random(u64);
+
+impl Random {
+    /// The next key.
+    #[inline(always)]
+    fn key(&mut self) -> u64 {
+        self.0 = self.0.wrapping_add(0x9e37_79b9_7f4a_7c15);
+        let mut z = self.0;
+        z = (z ^ z >> 30).wrapping_mul(0xbf58_476d_1ce4_e5b9);
+        z = (z ^ z >> 27).wrapping_mul(0x94d0_49bb_1331_11eb);
+        (z ^ z >> 31) & 0xffff
+    }
+}
+
+/// An operation of a workload, with its keys.
+#[derive(Clone, Copy)]
+enum Operation {
+    Insert(u64),
+    Remove(u64),
+    Rank(u64),
+    Select(u64),
+    Range(u64, u64),
+}
+
+/// The operation with this number.
+#[inline(always)]
+fn drawn(workload: u8, number: u64, random: &mut Random) -> Operation {
+    let update = |number: u64, key| if number % 2 == 0 { Operation::Insert(key) } else { Operation::Remove(key) };
+    let place = match workload {
+        b'U' => return update(number, random.key()),
+        b'M' if number % 10 == 9 => return update(number / 10, random.key()),
+        b'M' => number % 10,
+        _ => number,
+    };
+    let one = random.key();
+    match place % 3 {
+        0 => Operation::Rank(one),
+        1 => Operation::Select(one / 2),
+        _ => {
+            let two = random.key();
+            Operation::Range(one.min(two), one.max(two))
+        }
+    }
+}
+
+/// Makes an operation, and gives a number that its answer tells.
+#[inline(always)]
+fn made(pass: &mut Pass, operation: Operation) -> u64 {
+    let trie = pass.trie;
+    match operation {
+        Operation::Insert(key) => u64::from(pass.insert(key)),
+        Operation::Remove(key) => u64::from(pass.remove(key)),
+        Operation::Rank(key) => trie.rank(trie.snapshot(), key),
+        Operation::Select(index) => trie.select(trie.snapshot(), index).unwrap_or(u64::MAX),
+        Operation::Range(from, to) => {
+            let all = trie.range(trie.snapshot(), from, to);
+            all.sum.wrapping_add(all.count).wrapping_mul(3).wrapping_add(all.extent)
+        }
+    }
+}
+
+/// What the threads of a round share beside the trie. Each word has a line of the cache for itself.
+#[derive(Default)]
+struct Course {
+    arrived: Line,
+    over: Over,
+    ended: Line,
+}
+
+#[derive(Default)]
+#[repr(align(128))]
+struct Line(AtomicU64);
+
+#[derive(Default)]
+#[repr(align(128))]
+struct Over(AtomicBool);
+
+/// Makes operations, two at a time, until a thread of the round has made all of its own: how many it made, and a number that their answers tell.
+fn stint(mut pass: Pass, workload: u8, seed: u64, course: &Course, threads: u64, start: Instant) -> (u64, u64, u64) {
+    let mut random = Random(seed);
+    let (mut count, mut sum) = (0, 0u64);
+    if workload == b'Q' {
+        for number in 0..UPDATES {
+            made(&mut pass, drawn(b'U', number, &mut random));
+        }
+    }
+    course.arrived.0.fetch_add(1, SeqCst);
+    while course.arrived.0.load(SeqCst) < threads {
+        std::thread::yield_now();
+    }
+    let began = start.elapsed().as_nanos() as u64;
+    let operations = if workload == b'U' { UPDATES } else { 10 * UPDATES };
+    for pair in 0..operations / 2 {
+        if course.over.0.load(SeqCst) {
+            return (count, sum, began);
+        }
+        let (one, two) = (drawn(workload, 2 * pair, &mut random), drawn(workload, 2 * pair + 1, &mut random));
+        let both = made(&mut pass, one).wrapping_add(made(&mut pass, two));
+        if course.over.0.load(SeqCst) {
+            return (count, sum, began);
+        }
+        (count, sum) = (count + 2, sum.wrapping_add(both));
+    }
+    let now = start.elapsed().as_nanos() as u64;
+    let _ = course.ended.0.compare_exchange(0, now, SeqCst, SeqCst);
+    course.over.0.store(true, SeqCst);
+    (count, sum, began)
+}
+
+/// Runs rounds of a workload until they took so many seconds, each from the set that the one before left.
+fn run(workload: u8, threads: u64, seconds: u64) {
+    let mut leaves: Vec<u64> = (0..65_536).map(|key| if key % 2 == 0 { 1 << 32 | key } else { 0 }).collect();
+    let (mut time, mut count, mut sum, mut round) = (0, 0, 0u64, 0);
+    while time < seconds * 1_000_000_000 {
+        let (trie, first) = Trie::open(16, |key| leaves[key as usize], (threads * UPDATES) as usize);
+        let (course, start) = (Course::default(), Instant::now());
+        let laps: Vec<(u64, u64, u64)> = std::thread::scope(|scope| {
+            let (trie, course) = (&trie, &course);
+            let started: Vec<_> = (0..threads)
+                .map(|lane| {
+                    let pass = Pass { trie, next: first + lane * UPDATES * 16 };
+                    scope.spawn(move || stint(pass, workload, round * 64 + lane, course, threads, start))
+                })
+                .collect();
+            started.into_iter().map(|thread| thread.join().expect("a thread")).collect()
+        });
+        let began = laps.iter().map(|lap| lap.2).max().expect("a lap");
+        time += course.ended.0.load(SeqCst) - began;
+        for lap in laps {
+            (count, sum) = (count + lap.0, sum.wrapping_add(lap.1));
+        }
+        for key in 0..65_536 {
+            leaves[key] = trie.load(key);
+        }
+        round += 1;
+    }
+    let speed = count as f64 * 1000.0 / time as f64;
+    println!("plain {} {threads} mops={speed:.2} rounds={round} told={sum}", workload as char);
+}
+
 /// A number below a power of two: each comes once before the first comes again.
 #[inline(always)]
 fn spread(i: u32, below: u32) -> u64 {
@@ -312,20 +498,24 @@ fn spread(i: u32, below: u32) -> u64 {
 fn main() {
     let words: Vec<String> = std::env::args().skip(1).collect();
     let number = |i: usize| -> u32 { words[i].parse().expect("a number") };
+    if words[0] == "run" {
+        return run(words[1].as_bytes()[0], u64::from(number(2)), u64::from(number(3)));
+    }
     let (times, bits, step) = (number(1), number(2) as usize, 1u32 << number(3));
     let (universe, members) = (1u32 << bits, (1u32 << bits) / step);
-    let mut trie = Trie::new(bits, 131_072);
+    let (trie, first) = Trie::open(bits, |_| 0, 131_072);
+    let mut pass = Pass { trie: &trie, next: first };
     for i in 0..members {
-        trie.insert(spread(i, members) * u64::from(step));
+        pass.insert(spread(i, members) * u64::from(step));
     }
     let now = trie.snapshot();
     let multiple = |i: u32| spread(i, members) * u64::from(step);
     let mut sum = 0u64;
     match words[0].as_str() {
         "none" => {}
-        "new" => (0..times).for_each(|i| sum += u64::from(trie.insert(multiple(i) + 1))),
-        "dup" => (0..times).for_each(|i| sum += u64::from(trie.insert(multiple(i)))),
-        "put" => (0..times).for_each(|i| sum += u64::from(trie.put(multiple(i), u64::from(i)) == 2)),
+        "new" => (0..times).for_each(|i| sum += u64::from(pass.insert(multiple(i) + 1))),
+        "dup" => (0..times).for_each(|i| sum += u64::from(pass.insert(multiple(i)))),
+        "put" => (0..times).for_each(|i| sum += u64::from(pass.put(multiple(i), u64::from(i)) == 2)),
         "has" => (0..times).for_each(|i| sum += u64::from(trie.has(now, spread(i, universe)))),
         "before" => (0..times).for_each(|i| sum = sum.wrapping_add(trie.before(now, spread(i, universe)).unwrap_or(u64::MAX))),
         "after" => (0..times).for_each(|i| sum = sum.wrapping_add(trie.after(now, spread(i, universe)).unwrap_or(u64::MAX))),

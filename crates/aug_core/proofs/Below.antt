@@ -3,14 +3,14 @@ use Rattle.std.proofs.Common.{◌≡◌, ℕ, zero, suc, ◌+◌, ◌-◌, ◌*�
 use Rattle.std.proofs.Math.Nat.{two-pow-succ, add-mul, mul-add, min-eq_left, min-eq_right}
 use Rattle.std.proofs.lemmas.Bool.{cases_lt}
 use Rattle.aug_core.specs.Places.{own_records, opening_count}
-use Rattle.aug_core.specs.Tree.{IsInner, left_of, right_of}
+use Rattle.aug_core.specs.Addresses.{IsInner, left_of, right_of, IsWord}
 use Rattle.aug_core.specs.Opening.{opening_leaf_word, Opening, members_below, pairs_below, has_members, own_before, number_at, opening_pairs, opening_number}
 use Rattle.aug_model.specs.Keys.{is_member, keys_of, pairs_of}
 use Rattle.aug_model.specs.Queries.{range_of, weight_in}
 use Rattle.aug_model.proofs.Pairs.{range-again, pairs_of-append}
 use Rattle.aug_model.proofs.Ranges.{Rises, range_cut, range_of_key, range_le, count_cut}
 use Rattle.aug_core.proofs.Sizes.{own_more}
-use Rattle.aug_core.proofs.Levels.{OnLevel, level_is, leaf_level, above}
+use Rattle.aug_core.proofs.Levels.{level_is, leaf_level, above}
 
 -- ---- the own records of a level
 
@@ -66,10 +66,10 @@ number_low o rises few l p up room = ⊎_elim
     (λ none. let e = number_shared o l p none in omega arith) (true_or_false (has_members o (suc l) p))
 
 module _ (o : Opening) where
-  pub pairs_are : (q l p : ℕ) → OnLevel o.shape q l p → opening_pairs o q ≡ pairs_below o l p
+  pub pairs_are : (q l p : ℕ) → IsWord o.shape l p q → opening_pairs o q ≡ pairs_below o l p
   pairs_are q l p a = let e = level_is o.shape q l p a in λ i. pairs_below o (e.0 i) (e.1 i)
 
-  pub number_is : (q l p : ℕ) → OnLevel o.shape q l p → opening_number o q ≡ number_at o l p
+  pub number_is : (q l p : ℕ) → IsWord o.shape l p q → opening_number o q ≡ number_at o l p
   number_is q l p a = let e = level_is o.shape q l p a in λ i. number_at o (e.0 i) (e.1 i)
 
   -- the members below a node are those below its children
@@ -113,4 +113,4 @@ module _ (o : Opening) where
   number_of_leaf q low = number_is q 0 q (leaf_level o.shape q low)
 
   pub number_below : Rises (keys_of o.members) → length (keys_of o.members) ≤ o.shape.members → (q : ℕ) → IsInner o.shape q → opening_number o q < opening_count o.shape
-  number_below rises few q inner = let t = above o.shape q inner in subst (λ (z : ℕ). z < opening_count o.shape) (sym (number_is q (suc t.level) t.place t.here)) (number_low o rises few t.level t.place t.here.few t.here.room)
+  number_below rises few q inner = let t = above o.shape q inner in subst (λ (z : ℕ). z < opening_count o.shape) (sym (number_is q (suc t.level) t.place t.here)) (number_low o rises few t.level t.place t.here.level_fits t.here.place_fits)

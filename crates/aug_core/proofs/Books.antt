@@ -5,7 +5,7 @@ use mathlib.Core.Option.{some, some-injective, some-ne-none}
 use lib.ListN.{get_elem?}
 use Rattle.atomic_table.proofs.Lists.{at_longer, at_last}
 use Rattle.aug_core.specs.Places.{Shape, opening_count, record_count}
-use Rattle.aug_core.specs.Tree.{place_count, IsInner, left_of, right_of}
+use Rattle.aug_core.specs.Addresses.{place_count, IsInner, left_of, right_of}
 use Rattle.aug_core.specs.Book.{Book, history_of, At, IsNewest, ContinuesAt, Continues, GoesOnFromBoth, StandsOver, IsSerial, IsBook, IsFresh}
 use Rattle.aug_core.specs.declared.view.Entry.{Entry}
 

@@ -4,52 +4,16 @@ use Rattle.std.proofs.lemmas.Bool.{cases_lt}
 use Rattle.std.proofs.lemmas.List.{get_or_append_left, get_or-append_right}
 use Rattle.std.proofs.Math.Nat.{two-pow-succ, pow-le-pow_right, mul_assoc, mul_comm}
 use Rattle.aug_core.specs.Places.{Shape}
-use Rattle.aug_core.specs.Tree.{IsInner, left_of, right_of, root_place}
+use Rattle.aug_core.specs.Addresses.{IsInner, left_of, right_of, root_place, IsWord}
 use Rattle.aug_core.specs.Book.{Book, history_of}
 use Rattle.aug_core.specs.Opening.{serial_entry}
 use Rattle.aug_core.specs.declared.view.Entry.{Entry}
 use Rattle.aug_core.proofs.Sizes.{twice}
 use Rattle.aug_core.specs.inside.Shows.{above, toward, Shows}
 use Rattle.aug_core.specs.Cuts.{Cut}
-use Rattle.aug_core.specs.EntryCuts.{entry_of, cut_under, IsWord}
+use Rattle.aug_core.specs.EntryCuts.{entry_of, cut_under}
 use Rattle.aug_core.proofs.CutLists.{read}
-
--- ---- words, levels and places
-
--- the last level has the root alone
-pub root_word : (s : Shape) → IsWord s s.bits 0 (root_place s)
-root_word s = let e : s.bits - s.bits ≡ 0 = omega arith in record {
-  level_fits = omega arith;
-  place_fits = let p : 2 ^ (s.bits - s.bits) ≡ 2 ^ 0 = ap (λ (z : ℕ). 2 ^ z) e in omega arith;
-  is = let p : 2 ^ (s.bits - s.bits + 1) ≡ 2 ^ (0 + 1) = ap (λ (z : ℕ). 2 ^ (z + 1)) e in omega arith;
-}
-
-module _ (s : Shape) (level place q : ℕ) (w : IsWord s (suc level) place q) where
-  abbrev d : ℕ
-  d = s.bits - suc level
-
-  pow_up : (2 ^ (s.bits - suc level + 1) ≡ 2 * 2 ^ d) × (2 ^ (s.bits - level) ≡ 2 * 2 ^ d) × (2 ^ (s.bits - level + 1) ≡ 4 * 2 ^ d) × (2 * 2 ^ d ≤ 2 ^ s.bits)
-  pow_up = let fits = w.level_fits in let e : s.bits - level ≡ d + 1 = omega arith in let t = twice d in let t' = twice (d + 1) in
-      let a : 2 ^ (s.bits - level) ≡ 2 ^ (d + 1) = ap (λ (z : ℕ). 2 ^ z) e in
-      let b : 2 ^ (s.bits - level + 1) ≡ 2 ^ (d + 1 + 1) = ap (λ (z : ℕ). 2 ^ (z + 1)) e in
-      let c : 2 ^ (d + 1) ≤ 2 ^ s.bits = pow-le-pow_right (omega arith) (omega arith) in
-      (omega arith, omega arith, omega arith, omega arith)
-
-  pub inner_word : IsInner s q
-  inner_word = let p = pow_up in let p0 = p.0 in let p3 = p.3 in let is = w.is in let low = w.place_fits in let t = twice s.bits in record { past_leaves = omega arith; inside = omega arith }
-
-  pub left_word : IsWord s level (2 * place) (left_of s q)
-  left_word = let p = pow_up in let p0 = p.0 in let p1 = p.1 in let p2 = p.2 in let p3 = p.3 in let is = w.is in let low = w.place_fits in let fits = w.level_fits in let t = twice s.bits in
-      record { level_fits = omega arith; place_fits = omega arith; is = omega arith }
-
-  pub right_word : IsWord s level (2 * place + 1) (right_of s q)
-  right_word = let p = pow_up in let p0 = p.0 in let p1 = p.1 in let p2 = p.2 in let p3 = p.3 in let is = w.is in let low = w.place_fits in let fits = w.level_fits in let t = twice s.bits in
-      record { level_fits = omega arith; place_fits = omega arith; is = omega arith }
-
--- a place of the lowest level is a key
-pub leaf_word : (s : Shape) (place q : ℕ) → IsWord s 0 place q → (q ≡ place) × (q < 2 ^ s.bits)
-leaf_word s place q w = let is = w.is in let low = w.place_fits in let e : s.bits - 0 ≡ s.bits = omega arith in
-    let a : 2 ^ (s.bits - 0 + 1) ≡ 2 ^ (s.bits + 1) = ap (λ (z : ℕ). 2 ^ (z + 1)) e in let b : 2 ^ (s.bits - 0) ≡ 2 ^ s.bits = ap (λ (z : ℕ). 2 ^ z) e in (omega arith, omega arith)
+use Rattle.aug_core.proofs.Levels.{inner_word, left_word, right_word, leaf_word}
 
 -- where the keys of a node's children begin
 pub halves : (level place : ℕ) → (2 * place * 2 ^ level ≡ place * 2 ^ suc level) × ((2 * place + 1) * 2 ^ level ≡ place * 2 ^ suc level + 2 ^ level) × (2 ^ suc level ≡ 2 ^ level + 2 ^ level)

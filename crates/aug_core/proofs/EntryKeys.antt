@@ -5,7 +5,7 @@ use Rattle.std.proofs.lemmas.Bool.{cases_lt}
 use Rattle.std.proofs.lemmas.List.Elements.{All-nil, All-cons, All-append}
 use Rattle.aug_monoid.specs.Weighted.{FitsPair}
 use Rattle.aug_core.specs.Places.{Shape}
-use Rattle.aug_core.specs.Tree.{place_count, IsInner, left_of, right_of}
+use Rattle.aug_core.specs.Addresses.{place_count, IsInner, left_of, right_of}
 use Rattle.aug_core.specs.Book.{Book, At, IsBook}
 use Rattle.aug_core.specs.declared.view.Entry.{Entry}
 use Rattle.aug_core.proofs.Sizes.{twice, some_leaf}

@@ -100,22 +100,7 @@ module _ (v : View) (number : ℕ) (five : List ℕ) (lane : Held) (only : Holds
   -- a record that says what was loaded may be published
   pub is_filled : (face : ℕ → ℕ → List (ℕ × ℕ) → List ℕ) (q old : ℕ) → SaysLoaded face v.shape v.seen q old five → IsFilled face (filled_view v number five) q old number
   is_filled face q old says = let l = says.is_loaded in record {
-    index = l.index;
-    from = l.from;
-    left_index = l.left_index;
-    right_index = l.right_index;
-    left = l.left;
-    right = l.right;
-    loaded = l.loaded;
-    numbered = l.numbered;
-    left_at = l.left_at;
-    right_at = l.right_at;
-    left_shown = l.left_shown;
-    right_shown = l.right_shown;
-    left_later = l.left_later;
-    right_later = l.right_later;
-    left_known = l.left_known;
-    right_known = l.right_known;
+    is_loaded = l;
     full = λ h only k small. five_held h only k small ∙ ap (λ (z : List ℕ). get_or z k 0) says.five_are
-        ∙ (λ i. get_or (face (sym l.left_named i) (sym l.right_named i) (l.left.pairs ++ l.right.pairs)) k 0);
+        ∙ (λ i. get_or (face (sym says.left_named i) (sym says.right_named i) (l.left.pairs ++ l.right.pairs)) k 0);
   }

@@ -4,7 +4,7 @@ use mathlib.Core.Option.{none, some}
 use lib.ListN.{get_elem?}
 use Rattle.atomic_table.specs.Table.{step, keeps, Allows}
 use Rattle.aug_core.specs.Places.{Shape, record_start}
-use Rattle.aug_core.specs.Tree.{IsInner}
+use Rattle.aug_core.specs.Addresses.{IsInner}
 use Rattle.aug_core.specs.Lanes.{first_record, IsOfLane}
 use Rattle.aug_core.specs.Book.{At, IsFresh, SerialsFit, IsBook}
 use Rattle.aug_core.specs.Opening.{Opening}

@@ -7,7 +7,7 @@ use lib.ListN.{get_elem?}
 use Rattle.atomic_table.specs.Table.{State, Me}
 use Rattle.atomic_table.proofs.Lists.{at_set}
 use Rattle.aug_core.specs.Places.{Shape, lane_place, record_start, opening_count}
-use Rattle.aug_core.specs.Tree.{place_count, IsInner}
+use Rattle.aug_core.specs.Addresses.{place_count, IsInner}
 use Rattle.aug_core.specs.Lanes.{IsOfLane, block_start, block_size}
 use Rattle.aug_core.specs.Book.{Book, history_of, At, IsNewest, Continues, FloorsCover, IsFresh, IsBook}
 use Rattle.aug_core.specs.Opening.{Opening}

@@ -6,7 +6,7 @@ use prog.Atomic.{either}
 use Rattle.atomic_table.specs.Table.{step, keeps, Allows}
 use Rattle.atomic_table.proofs.Lists.{exchanged}
 use Rattle.aug_core.specs.Places.{Shape}
-use Rattle.aug_core.specs.Tree.{IsInner, left_of, right_of}
+use Rattle.aug_core.specs.Addresses.{IsInner, left_of, right_of}
 use Rattle.aug_core.specs.Lanes.{first_record, IsOfLane}
 use Rattle.aug_core.specs.Book.{Book, history_of, At, IsNewest, Continues, FloorsCover, IsFresh, SerialsFit, IsBook}
 use Rattle.aug_core.specs.Opening.{Opening}
@@ -43,11 +43,11 @@ module _ (face : ℕ → ℕ → List (ℕ × ℕ) → List ℕ) (o : Opening) w
     know : Continues r.book v.seen
     know = (r.each_view id v at).saw
 
-    left_at : At r.book (left_of o.shape q) c.left_index c.left
-    left_at = subst (λ (z : Shape). At r.book (left_of z q) c.left_index c.left) shaped (know (left_of v.shape q) c.left_index c.left c.left_at)
+    left_at : At r.book (left_of o.shape q) c.is_loaded.left_index c.is_loaded.left
+    left_at = subst (λ (z : Shape). At r.book (left_of z q) c.is_loaded.left_index c.is_loaded.left) shaped (know (left_of v.shape q) c.is_loaded.left_index c.is_loaded.left c.is_loaded.left_at)
 
-    right_at : At r.book (right_of o.shape q) c.right_index c.right
-    right_at = subst (λ (z : Shape). At r.book (right_of z q) c.right_index c.right) shaped (know (right_of v.shape q) c.right_index c.right c.right_at)
+    right_at : At r.book (right_of o.shape q) c.is_loaded.right_index c.is_loaded.right
+    right_at = subst (λ (z : Shape). At r.book (right_of z q) c.is_loaded.right_index c.is_loaded.right) shaped (know (right_of v.shape q) c.is_loaded.right_index c.is_loaded.right c.is_loaded.right_at)
 
     pub left_newest : NamesNewest s.words r.book (left_of o.shape q)
     left_newest = r.tree.newest (left_of o.shape q) (let past = inner.past_leaves in let low = inner.inside in let t = twice o.shape.bits in omega arith)
@@ -59,10 +59,10 @@ module _ (face : ℕ → ℕ → List (ℕ × ℕ) → List ℕ) (o : Opening) w
     node_newest = r.tree.newest q inner.inside
 
     abbrev pairs : List (ℕ × ℕ)
-    pairs = c.left.pairs ++ c.right.pairs
+    pairs = c.is_loaded.left.pairs ++ c.is_loaded.right.pairs
 
     abbrev pub entry : Entry
-    entry = record { number = number; word = number; left = c.left_index; right = c.right_index; left_floor = left_newest.index; right_floor = right_newest.index; weight = 0; passed = false; pairs = pairs; words = face c.left.word c.right.word pairs }
+    entry = record { number = number; word = number; left = c.is_loaded.left_index; right = c.is_loaded.right_index; left_floor = left_newest.index; right_floor = right_newest.index; weight = 0; passed = false; pairs = pairs; words = face c.is_loaded.left.word c.is_loaded.right.word pairs }
 
     abbrev pub longer_book : Book
     longer_book = book' face o s r id v at q inner.inside entry
@@ -80,15 +80,15 @@ module _ (face : ℕ → ℕ → List (ℕ × ℕ) → List ℕ) (o : Opening) w
     fresh p i e low t is = unpublished (subst (Lists h.published) is (mine.published p i e low t (subst (IsOfLane o.shape h.lane) (sym is) of_lane)))
 
     -- where the word is the one that was loaded, the newest entry is the one that was loaded
-    top_is : get_or s.words q 0 ≡ old → node_newest.entry ≡ c.from
-    top_is hit = let t = node_newest in let one = one_index face o.shape r.book r.tree.is_book q t.index c.index t.entry c.from inner t.newest.at (know q c.index c.from c.loaded) (sym (r.tree.is_book.named q t.index t.entry inner t.newest.at) ∙ sym t.word ∙ hit ∙ c.numbered) in
-        one_entry r.book q c.index t.entry c.from (subst (λ (z : ℕ). At r.book q z t.entry) one t.newest.at) (know q c.index c.from c.loaded)
+    top_is : get_or s.words q 0 ≡ old → node_newest.entry ≡ c.is_loaded.from
+    top_is hit = let t = node_newest in let one = one_index face o.shape r.book r.tree.is_book q t.index c.is_loaded.index t.entry c.is_loaded.from inner t.newest.at (know q c.is_loaded.index c.is_loaded.from c.is_loaded.loaded) (sym (r.tree.is_book.named q t.index t.entry inner t.newest.at) ∙ sym t.word ∙ hit ∙ c.is_loaded.numbered) in
+        one_entry r.book q c.is_loaded.index t.entry c.is_loaded.from (subst (λ (z : ℕ). At r.book q z t.entry) one t.newest.at) (know q c.is_loaded.index c.is_loaded.from c.is_loaded.loaded)
 
     pub is_book' : get_or s.words q 0 ≡ old → IsBook face o.shape longer_book
     is_book' hit = let e = sym (top_is hit) in let t = node_newest in grows r.book q ib entry face o.shape r.tree.is_book inner t.index t.entry t.newest refl (record_inside o.shape h.lane number mine.exists of_lane) (let from = of_lane.from_first in omega arith) fresh
-        record { left_child = c.left; right_child = c.right; left_at = left_at; right_at = right_at; left_shown = c.left_shown; right_shown = c.right_shown; pairs_of_both = refl; words_say = refl }
-        (subst (λ (z : Entry). z.left ≤ c.left_index) e c.left_later) (subst (λ (z : Entry). z.right ≤ c.right_index) e c.right_later)
-        (subst (λ (z : Entry). z.left_floor ≤ c.left_index) e c.left_known) (subst (λ (z : Entry). z.right_floor ≤ c.right_index) e c.right_known)
+        record { left_child = c.is_loaded.left; right_child = c.is_loaded.right; left_at = left_at; right_at = right_at; left_shown = c.is_loaded.left_shown; right_shown = c.is_loaded.right_shown; pairs_of_both = refl; words_say = refl }
+        (subst (λ (z : Entry). z.left ≤ c.is_loaded.left_index) e c.is_loaded.left_later) (subst (λ (z : Entry). z.right ≤ c.is_loaded.right_index) e c.is_loaded.right_later)
+        (subst (λ (z : Entry). z.left_floor ≤ c.is_loaded.left_index) e c.is_loaded.left_known) (subst (λ (z : Entry). z.right_floor ≤ c.is_loaded.right_index) e c.is_loaded.right_known)
         ((left_newest.entry, left_newest.newest.at), (right_newest.entry, right_newest.newest.at))
 
     floors : (seen : Book) → Continues r.book seen → IsInner o.shape q → FloorsCover o.shape seen q entry

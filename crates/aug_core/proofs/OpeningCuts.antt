@@ -3,7 +3,7 @@ use Rattle.std.proofs.Common.{true, false, ◌≡◌, ℕ, zero, suc, ◌+◌, �
 use Rattle.std.specs.List.{range_with_len}
 use Rattle.std.proofs.lemmas.List.{map-append}
 use Rattle.std.proofs.Math.Nat.{pow-le-pow_right}
-use Rattle.aug_core.specs.Tree.{IsInner, left_of, right_of, root_place}
+use Rattle.aug_core.specs.Addresses.{IsInner, left_of, right_of, root_place, IsWord}
 use Rattle.aug_core.specs.Opening.{Opening, opening_serial, opening_index, opening_entry, opening_book, serial_entry}
 use Rattle.aug_core.specs.declared.view.Entry.{Entry}
 use Rattle.aug_core.proofs.Sizes.{twice}
@@ -12,9 +12,10 @@ use Rattle.aug_model.specs.Keys.{is_member, keys_of}
 use Rattle.aug_model.specs.Queries.{weight_in}
 use Rattle.aug_core.specs.Book.{history_of}
 use Rattle.aug_core.specs.Cuts.{opening_cut}
-use Rattle.aug_core.specs.EntryCuts.{entry_of, cut_under, IsWord}
+use Rattle.aug_core.specs.EntryCuts.{entry_of, cut_under}
 use Rattle.aug_core.proofs.CutLists.{read, range_split}
-use Rattle.aug_core.proofs.CutsUnder.{root_word, inner_word, left_word, right_word, leaf_word, halves}
+use Rattle.aug_core.proofs.Levels.{root_word, inner_word, left_word, right_word, leaf_word}
+use Rattle.aug_core.proofs.CutsUnder.{halves}
 
 module _ (face : ℕ → ℕ → List (ℕ × ℕ) → List ℕ) (o : Opening) where
   abbrev serial_at_first : ℕ → ℕ × ℕ

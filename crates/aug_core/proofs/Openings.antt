@@ -6,7 +6,7 @@ use mathlib.Core.Option.{some, some-injective, some-ne-none}
 use lib.ListN.{get_elem?}
 use Rattle.atomic_table.specs.Table.{opening}
 use Rattle.aug_core.specs.Places.{opening_count, lane_place, record_start, word_count}
-use Rattle.aug_core.specs.Tree.{place_count, IsInner, left_of, right_of}
+use Rattle.aug_core.specs.Addresses.{place_count, IsInner, left_of, right_of}
 use Rattle.aug_core.specs.Lanes.{block_size}
 use Rattle.aug_core.specs.Book.{Book, history_of, At, IsNewest, StandsOver, IsSerial, SerialsFit, IsBook, word_of_leaf}
 use Rattle.aug_model.specs.Keys.{is_member, keys_of, IsKeySet}

@@ -2,9 +2,9 @@
 use Rattle.std.proofs.Common.{◌≡◌, ◌≢◌, ℕ, ◌+◌, ◌-◌, ◌^◌, ◌<◌, ◌≤◌, Bool, true, false, List, length, sym, refl, ap, ◌∙◌, subst, ⊎_elim, arith}
 use Rattle.std.proofs.lemmas.Bool.{cases_lt}
 use Rattle.aug_core.specs.Places.{Shape}
-use Rattle.aug_core.specs.Tree.{place_count, IsInner, left_of, right_of}
-use Rattle.aug_core.specs.Book.{Book, history_of, At, Continues, IsFresh, IsBook}
-use Rattle.aug_core.specs.inside.Refreshes.{HasEntry, HasNewest, NewestCovers, IsLoaded, Published, Refreshed}
+use Rattle.aug_core.specs.Addresses.{place_count, IsInner, left_of, right_of}
+use Rattle.aug_core.specs.Book.{Book, history_of, At, Continues, IsFresh, IsBook, IsLoaded}
+use Rattle.aug_core.specs.inside.Refreshes.{HasEntry, HasNewest, NewestCovers, Published, Refreshed}
 use Rattle.aug_core.specs.declared.view.Entry.{Entry}
 use Rattle.aug_core.proofs.Sizes.{twice}
 use Rattle.aug_core.proofs.Books.{no_shorter, one_entry, same_index, newest_is_last, there_is, second_covers}
@@ -40,7 +40,7 @@ module _ (face : ℕ → ℕ → List (ℕ × ℕ) → List ℕ) (s : Shape) whe
     right_at = c23 (right_of s q) at_right.index at_right.entry at_right.newest.at
 
     -- then they were loaded in the order that a record of them may be published in
-    abbrev pub is_loaded : IsBook face s book0 → IsLoaded s book q old left_word right_word
+    abbrev pub is_loaded : IsBook face s book0 → IsLoaded s book q old
     is_loaded b = let o = b.over q at_node.index e inner at_node.newest.at in let fl = b.floors q at_node.index e inner at_node.newest.at in record {
       index = at_node.index;
       from = e;
@@ -52,8 +52,6 @@ module _ (face : ℕ → ℕ → List (ℕ × ℕ) → List ℕ) (s : Shape) whe
       numbered = sym at_node.named ∙ b.named q at_node.index e inner at_node.newest.at;
       left_at = left_at;
       right_at = right_at;
-      left_named = at_left.named;
-      right_named = at_right.named;
       left_shown = at_left.shown;
       right_shown = at_right.shown;
       left_later = newest_is_last book1 (left_of s q) at_left.index e.left at_left.entry o.left_child at_left.newest (c01 (left_of s q) e.left o.left_child o.left_at);

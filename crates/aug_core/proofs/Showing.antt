@@ -3,7 +3,7 @@ use Rattle.std.proofs.Common.{◌≡◌, ◌≢◌, ℕ, zero, suc, ◌+◌, ◌
 use Rattle.std.proofs.lemmas.Bool.{cases_eq}
 use Rattle.std.proofs.Math.Nat.{two-pow-succ}
 use Rattle.aug_core.specs.Places.{Shape}
-use Rattle.aug_core.specs.Tree.{IsInner, left_of, right_of}
+use Rattle.aug_core.specs.Addresses.{IsInner, left_of, right_of}
 use Rattle.aug_core.specs.Book.{Book, history_of, At, Continues, IsBook}
 use Rattle.aug_core.specs.declared.view.Entry.{Entry}
 use Rattle.aug_core.proofs.Sizes.{twice, some_leaf}

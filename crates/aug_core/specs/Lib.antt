@@ -1,7 +1,7 @@
 pub mod Places
 pub mod Layout
 pub mod Names
-pub mod Tree
+pub mod Addresses
 pub mod Lanes
 pub mod Faces
 pub mod Fields

@@ -3,8 +3,8 @@ use Rattle.std.specs.Prelude.{◌≡◌, ℕ, ◌+◌, ◌<◌, ◌≤◌, List,
 use mathlib.Core.Option.{some}
 use lib.ListN.{get_elem?}
 use Rattle.atomic_table.specs.Table.{State}
-use Rattle.aug_core.specs.Places.{Shape, lane_place, record_start, word_count}
-use Rattle.aug_core.specs.Tree.{place_count, IsInner}
+use Rattle.aug_core.specs.Places.{Shape, lane_place, record_start, word_count, record_words}
+use Rattle.aug_core.specs.Addresses.{place_count, IsInner}
 use Rattle.aug_core.specs.Lanes.{IsOfLane, block_start, block_size}
 use Rattle.aug_core.specs.Book.{Book, At, IsNewest, Continues, IsFresh, IsBook}
 use Rattle.aug_core.specs.Opening.{Opening, IsIdle, shared_words, opening_book}
@@ -69,11 +69,11 @@ pub record KeepsTree (face : ℕ → ℕ → List (ℕ × ℕ) → List ℕ) (o 
   -- the word of a leaf or a node is the one that names its newest entry
   pub newest : (q : ℕ) → q < place_count o.shape → NamesNewest words book q
   -- the words of a published record are those of its entry, and never change
-  pub written : (q i k : ℕ) (e : Entry) → IsInner o.shape q → At book q i e → k < 5 → slice_index words (record_start o.shape e.number + k) ≡ slice_index e.words k
+  pub written : (q i k : ℕ) (e : Entry) → IsInner o.shape q → At book q i e → k < record_words → slice_index words (record_start o.shape e.number + k) ≡ slice_index e.words k
   -- the words of a level's empty record are those, also where no node opens with it
-  pub shared : (level k : ℕ) → level < o.shape.bits → k < 5 → slice_index words (record_start o.shape level + k) ≡ slice_index (shared_words face level) k
+  pub shared : (level k : ℕ) → level < o.shape.bits → k < record_words → slice_index words (record_start o.shape level + k) ≡ slice_index (shared_words face level) k
   -- the words of an own opening record that no node opens with are zeros
-  pub idle : (number k : ℕ) → IsIdle o number → k < 5 → slice_index words (record_start o.shape number + k) ≡ 0
+  pub idle : (number k : ℕ) → IsIdle o number → k < record_words → slice_index words (record_start o.shape number + k) ≡ 0
 
 -- the lanes' words, and the records of the lanes that are free
 pub record KeepsLanes (o : Opening) (words : List ℕ) (book : Book) : Type 0 where

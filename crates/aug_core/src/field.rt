@@ -1,6 +1,7 @@
 //! The five words of a record.
 ghost use Rattle.std.specs.Prelude.{◌≡◌, ◌<◌};
 ghost use Rattle.aug_core.specs.Fields.{field_offset};
+ghost use Rattle.aug_core.specs.Places.{record_words};
 
 /// The five words of a record, in their order.
 #[derive(Clone, Copy, Debug, PartialEq, Eq)]
@@ -22,7 +23,7 @@ impl RecordField {
     #[inline(always)]
     pub fn offset(self) -> usize
         ensures value { result ≡ field_offset self }
-        ensures small { result < 5 }
+        ensures small { result < record_words }
     {
         match self {
             RecordField::Left => 0,

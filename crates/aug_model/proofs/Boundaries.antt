@@ -8,7 +8,7 @@ use Rattle.std.proofs.lemmas.List.Edits.{length-insert, get_or-insert_below, get
 use Rattle.std.proofs.lemmas.Bool.{lt-ltb, le-ltb, le-leb, lt-leb, eq-eqb, ne_eqb, cases_lt, cases_order, and_from, and_left, and_right, not_from_true, not_from_false}
 use Rattle.aug_model.specs.Keys.{IsKeySet, keys_of, with_pair, without_pair}
 use Rattle.aug_model.specs.Queries.{rank_of, select_of, last_of, first_of, before_of, after_of, weighted_range_of}
-use Rattle.aug_model.specs.inside.Boundary.{IsBoundary, StandsAt, WouldStandAt}
+use Rattle.aug_model.specs.inside.Boundary.{IsBoundary, IsKeyAt, WouldStandAt}
 use Rattle.aug_model.proofs.Filters.{PassesBetween, filter-front, filter-back, find-at, filter-between_pairs, filter-all_pairs, filter-but_pairs}
 use Rattle.aug_model.proofs.Pairs.{length-keys_of, keys_of-take, keys_of-between, last-keys_of}
 use Rattle.aug_model.proofs.Rising.{rises, length-le-bound}
@@ -49,7 +49,7 @@ pub filter-above_boundary : (xs : List ℕ) (k place : ℕ) → IsBoundary xs (k
 filter-above_boundary xs k place boundary =
     filter-from_boundary xs (k + 1) place boundary (λ x. nat_lt k x) (λ x lt. le-ltb _ _ (omega arith)) (λ x le. lt-ltb _ _ (omega arith)) ∙ sym (take_rest xs place)
 
-module _ (xs : List ℕ) (k place : ℕ) (up : IsStrictlyIncreasing xs) (there : StandsAt xs k place) where
+module _ (xs : List ℕ) (k place : ℕ) (up : IsStrictlyIncreasing xs) (there : IsKeyAt xs k place) where
   -- a key is below k exactly before the place of k, and above it exactly behind
   below-at_place : (j : ℕ) → j < length xs → j < place → slice_index xs j < k
   below-at_place j l lt = omega (arith, there.is, rises xs up j place lt there.within)
@@ -164,7 +164,7 @@ module _ (ps : List (ℕ × ℕ)) (k place : ℕ) where
 
 module _ (ps : List (ℕ × ℕ)) (k w place : ℕ) where
   -- a pair written over at a place
-  pub with_pair-member : IsStrictlyIncreasing (keys_of ps) → StandsAt (keys_of ps) k place → with_pair ps k w ≡ set ps place (k, w)
+  pub with_pair-member : IsStrictlyIncreasing (keys_of ps) → IsKeyAt (keys_of ps) k place → with_pair ps k w ≡ set ps place (k, w)
   with_pair-member up there =
       let long = length-keys_of ps in
       rw (filter-between_pairs (λ x. nat_lt x k) ps 0 place (passes_below (keys_of ps) k place up there), filter-between_pairs (λ x. nat_lt k x) ps (suc place) (length (keys_of ps) - suc place) (passes_above (keys_of ps) k place up there), long, take_rest ps (suc place))
@@ -177,7 +177,7 @@ module _ (ps : List (ℕ × ℕ)) (k w place : ℕ) where
       rw (filter-between_pairs (λ x. nat_lt x k) ps 0 place (passes_below_gap (keys_of ps) k place gap), filter-between_pairs (λ x. nat_lt k x) ps place (length (keys_of ps) - place) (passes_above_gap (keys_of ps) k place gap), long, take_rest ps place)
 
 module _ (ps : List (ℕ × ℕ)) (k place : ℕ) where
-  pub without_pair-member : IsStrictlyIncreasing (keys_of ps) → StandsAt (keys_of ps) k place → without_pair ps k ≡ remove ps place
+  pub without_pair-member : IsStrictlyIncreasing (keys_of ps) → IsKeyAt (keys_of ps) k place → without_pair ps k ≡ remove ps place
   without_pair-member up there = filter-but_pairs (λ x. not (x == k)) ps place there.within (not_from_true _ (eq-eqb _ _ there.is)) (other (keys_of ps) k place up there)
 
   pub without_pair-absent : WouldStandAt (keys_of ps) k place → without_pair ps k ≡ ps

@@ -4,11 +4,11 @@ use Rattle.std.proofs.lemmas.Bool.{eq-eqb, ne_eqb, cases_lt}
 use Rattle.std.proofs.lemmas.Bool.Decides.{Decides-eqb}
 use Rattle.std.proofs.lemmas.List.{get_or_default}
 use Rattle.std.proofs.lemmas.List.Folds.{list_any_at, list_any_none, Any-from_list_any}
-use Rattle.aug_model.specs.inside.Boundary.{StandsAt, WouldStandAt}
+use Rattle.aug_model.specs.inside.Boundary.{IsKeyAt, WouldStandAt}
 use Rattle.aug_model.specs.Keys.{is_member}
 
 -- a key that stands at a place is a member
-pub is_member-stands : (keys : List ℕ) (k place : ℕ) → StandsAt keys k place → is_member keys k ≡ true
+pub is_member-stands : (keys : List ℕ) (k place : ℕ) → IsKeyAt keys k place → is_member keys k ≡ true
 is_member-stands keys k place there = list_any_at (λ x. x == k) keys place 0 there.within (eq-eqb _ _ there.is)
 
 -- and one that would stand between its neighbours is none
@@ -22,7 +22,7 @@ is_member-absent keys k place gap =
     ]))
 
 -- whether a key was found is whether it is a member
-pub is_member-found : (keys : List ℕ) (k : ℕ) (r : Result ℕ ℕ) → IfOk r (StandsAt keys k) → IfErr r (WouldStandAt keys k) → is_ok r ≡ is_member keys k
+pub is_member-found : (keys : List ℕ) (k : ℕ) (r : Result ℕ ℕ) → IfOk r (IsKeyAt keys k) → IfErr r (WouldStandAt keys k) → is_ok r ≡ is_member keys k
 is_member-found keys k (Ok place) there absent = sym (is_member-stands keys k place there)
 is_member-found keys k (Err place) there absent = sym (is_member-absent keys k place absent)
 

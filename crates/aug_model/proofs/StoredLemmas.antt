@@ -6,7 +6,7 @@ use Rattle.std.proofs.lemmas.List.Edits.{length-remove, get_or-remove_below, get
 use Rattle.std.proofs.Math.Pow.{pow_mono}
 use Rattle.std.proofs.lemmas.List.Elements.{All-append, All-cons, All-take, All-drop, All-set}
 use Rattle.aug_monoid.specs.Weighted.{FitsPair}
-use Rattle.aug_model.specs.inside.Boundary.{StandsAt, WouldStandAt}
+use Rattle.aug_model.specs.inside.Boundary.{IsKeyAt, WouldStandAt}
 use Rattle.aug_model.specs.Keys.{IsKeySet, keys_of}
 use Rattle.aug_model.specs.inside.Stored.{IsStored}
 use Rattle.aug_model.proofs.Boundaries.{IsKeySet-few, IsKeySet-insert, length-absent}
@@ -25,7 +25,7 @@ length-fits bits ps capacity h =
 
 module _ (ps : List (ℕ × ℕ)) (k w place : ℕ) (fits : FitsPair (k, w)) where
   -- a weight that is written over leaves the keys
-  pub set-stored : (bits capacity : ℕ) → StandsAt (keys_of ps) k place → IsStored bits ps capacity → IsStored bits (set ps place (k, w)) capacity
+  pub set-stored : (bits capacity : ℕ) → IsKeyAt (keys_of ps) k place → IsStored bits ps capacity → IsStored bits (set ps place (k, w)) capacity
   set-stored bits capacity there h = record {
     set = subst (IsKeySet bits) (sym (keys_of-set ps place k w there)) h.set;
     fit = All-set FitsPair ps place (k, w) fits h.fit;

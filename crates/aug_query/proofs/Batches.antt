@@ -15,7 +15,7 @@ use Rattle.aug_query.specs.Tree.{IsTreeSet, first_key, end_key, below_node}
 use Rattle.aug_query.specs.Descend.{Descends}
 use Rattle.aug_query.specs.declared.loaded.Loaded.{Loaded}
 use Rattle.aug_query.specs.inside.Batches.{AreBetween, nodes_below, leaves_below}
-use Rattle.aug_query.specs.inside.NodePlaces.{Stands, middle_key}
+use Rattle.aug_query.specs.inside.NodePlaces.{IsPlace, middle_key}
 use Rattle.aug_query.proofs.Nodes.{leaf_low, left_low, right_high, middle_high, wrapped}
 use Rattle.aug_query.proofs.Descending.{further, rank_before_right}
 
@@ -46,11 +46,11 @@ one_down : (level : ℕ) → 1 ≤ level → level - 1 + 1 ≡ level
 one_down level inner = omega arith
 
 -- where a slice is cut
-cuts : (level place k : ℕ) → Stands level place → 1 ≤ level → k ≡ (2 * place + 1) * 2 ^ (level - 1) % 4294967296 → k ≡ middle_key level place
+cuts : (level place k : ℕ) → IsPlace level place → 1 ≤ level → k ≡ (2 * place + 1) * 2 ^ (level - 1) % 4294967296 → k ≡ middle_key level place
 cuts level place k at inner cut = cut ∙ wrapped level place level place refl refl (omega (arith, middle_high level place inner, at.few_keys))
 
 -- the keys of a node that are before the middle
-pub low_half_of : (level place k : ℕ) (keys low high : List ℕ) → Stands level place → 1 ≤ level → keys ≡ low ++ high → AreBetween (first_key level place) (end_key level place) keys → k ≡ (2 * place + 1) * 2 ^ (level - 1) % 4294967296
+pub low_half_of : (level place k : ℕ) (keys low high : List ℕ) → IsPlace level place → 1 ≤ level → keys ≡ low ++ high → AreBetween (first_key level place) (end_key level place) keys → k ≡ (2 * place + 1) * 2 ^ (level - 1) % 4294967296
     → AreBetween 0 k low → AreBetween (first_key (level - 1) (2 * place)) (end_key (level - 1) (2 * place)) low
 low_half_of level place k keys low high at inner is whole cut part = record {
   rising = part.rising;
@@ -59,7 +59,7 @@ low_half_of level place k keys low high at inner is whole cut part = record {
 }
 
 -- and those from the middle on
-pub high_half_of : (level place k last : ℕ) (keys low high : List ℕ) → Stands level place → 1 ≤ level → keys ≡ low ++ high → AreBetween (first_key level place) (end_key level place) keys → k ≡ (2 * place + 1) * 2 ^ (level - 1) % 4294967296
+pub high_half_of : (level place k last : ℕ) (keys low high : List ℕ) → IsPlace level place → 1 ≤ level → keys ≡ low ++ high → AreBetween (first_key level place) (end_key level place) keys → k ≡ (2 * place + 1) * 2 ^ (level - 1) % 4294967296
     → AreBetween k last high → AreBetween (first_key (level - 1) (2 * place + 1)) (end_key (level - 1) (2 * place + 1)) high
 high_half_of level place k last keys low high at inner is whole cut part = record {
   rising = part.rising;
@@ -86,7 +86,7 @@ pub leaf_values : {X : Type 0} (f : ℕ → X) (x : X) (level place : ℕ) (keys
 leaf_values f x level place keys leaf between is = same_values f x keys (λ j d l. is ∙ ap f (leaf_low level place (get_or keys j d) leaf (between.from_first j d l) (between.below_end j d l)))
 
 -- the places of a node's children are few
-pub child_few : (level place : ℕ) → Stands level place → 1 ≤ level → 2 * place + 1 < 2 ^ 16
+pub child_few : (level place : ℕ) → IsPlace level place → 1 ≤ level → 2 * place + 1 < 2 ^ 16
 child_few level place at inner =
     let high = right_high level place (level - 1) (2 * place + 1) (one_down level inner) refl in
     let wide : (2 * place + 1 + 1) * 1 ≤ (2 * place + 1 + 1) * 2 ^ (level - 1) = mul-le-mul_left (2 * place + 1 + 1) (pow_pos (level - 1)) in

@@ -125,10 +125,14 @@ module _ {X : Type 0} (item : ℕ → ℕ → X) where
       let one = leaf_below_one set level place n is e all some in
       pushed ∙ ap (λ x. old ++ x ∷ []) (told ∙ ap (item place) weighs) ∙ ap (λ xs. old ++ items item set.pairs xs) (sym one)
 
+  -- the items of all members, behind what stood there
+  pub listed_after : (set other : SetFacts) (level : ℕ) (old new : List X) → IsTreeSet set → level ≡ set.bits → other ≡ set → new ≡ old ++ items item other.pairs (below_node (list_of other) level 0) → new ≡ old ++ items item set.pairs (list_of set)
+  listed_after set other level old new is e same all =
+      listed_of set other level 0 old new same all ∙ ap (λ ks. old ++ items item set.pairs ks) (whole_below set level is e)
+
   -- those of the top, put into an empty list, are those of all members
   pub listed_whole : (set other : SetFacts) (level : ℕ) (old new : List X) → IsTreeSet set → level ≡ set.bits → other ≡ set → old ≡ [] → new ≡ old ++ items item other.pairs (below_node (list_of other) level 0) → new ≡ items item set.pairs (list_of set)
-  listed_whole set other level old new is e same empty all =
-      listed_of set other level 0 old new same all ∙ ap (λ xs. xs ++ items item set.pairs (below_node (list_of set) level 0)) empty ∙ ap (items item set.pairs) (whole_below set level is e)
+  listed_whole set other level old new is e same empty all = listed_after set other level old new is e same all ∙ ap (λ xs. xs ++ items item set.pairs (list_of set)) empty
 
 -- the nodes of a descent into a left child that covers all that its node does, and the left child itself
 nodes_for_one : (level l n low : ℕ) → l + 1 ≡ level → low ≡ n → 0 < n → 1 + 0 + 2 * l * low ≤ 2 * level * n

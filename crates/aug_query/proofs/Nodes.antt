@@ -8,7 +8,7 @@ use Rattle.aug_model.specs.Queries.{range_of, rank_of, weight_in}
 use Rattle.aug_model.proofs.Pairs.{length-pairs_of}
 use Rattle.aug_model.specs.declared.summary.Summary.{Summary}
 use Rattle.aug_query.specs.Tree.{IsNodeOf, first_key, end_key, below_node}
-use Rattle.aug_query.specs.inside.NodePlaces.{Stands, middle_key}
+use Rattle.aug_query.specs.inside.NodePlaces.{IsPlace, middle_key}
 use Rattle.aug_model.proofs.Ranges.{Rises, AllBelow, rises_from, all_below_from, range_whole, count_cut, range_cut}
 use Rattle.aug_query.proofs.Orders.{rank_cut, rank_few}
 
@@ -125,7 +125,7 @@ module _ {A B : Type 0} {sum : List (ℕ × ℕ) → Summary A B} {set : SetFact
   few_keys = le_trans node.place_fits (pow_mono node.is_tree_set.few_bits)
 
   -- a node stands in a tree of at most 16 bits
-  pub stands : Stands level place
+  pub stands : IsPlace level place
   stands = record { few_levels = le_trans node.level_fits node.is_tree_set.few_bits; few_keys = few_keys }
 
   -- a rank fits a u32

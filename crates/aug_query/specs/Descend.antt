@@ -7,6 +7,19 @@ use Rattle.aug_query.specs.declared.loaded.Loaded.{Loaded}
 abbrev pub nothing_loaded : Loaded
 nothing_loaded = record { nodes = record { made = 0 }; counts = record { made = 0 }; summaries = record { made = 0 }; passed = record { made = 0 } }
 
+-- one node more, and so for each other kind of load
+abbrev pub one_more_node : Loaded → Loaded
+one_more_node l = record l { nodes = record { made = l.nodes.made + 1 } }
+
+abbrev pub one_more_past : Loaded → Loaded
+one_more_past l = record l { nodes = record { made = l.nodes.made + 1 }; passed = record { made = l.passed.made + 1 } }
+
+abbrev pub one_more_count : Loaded → Loaded
+one_more_count l = record l { counts = record { made = l.counts.made + 1 } }
+
+abbrev pub one_more_summary : Loaded → Loaded
+one_more_summary l = record l { summaries = record { made = l.summaries.made + 1 } }
+
 module _ {Tree Name : Type 0} (set_of : Tree → SetFacts) (loads_of : Tree → Loaded) (Names : Tree → ℕ → ℕ → Name → Type 0) (KeepsRest : Tree → Tree → Type 0) where
   -- after loads of which each kind is at most so many, a tree is of the set that it was of, names of nodes are names still, and the rest is kept
   pub record Descends (nodes counts summaries passed : ℕ) (old new : Tree) : Type 0 where

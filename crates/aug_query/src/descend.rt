@@ -4,7 +4,7 @@ ghost use Rattle.aug_model.specs.Keys.{SetFacts, list_of};
 ghost use Rattle.aug_model.specs.Folds.{summary_of};
 ghost use Rattle.aug_model.specs.Queries.{weight_in};
 ghost use Rattle.aug_query.specs.Tree.{IsTreeSet, IsNodeOf, below_node, sum_of};
-ghost use Rattle.aug_query.specs.Descend.{Descends};
+ghost use Rattle.aug_query.specs.Descend.{Descends, one_more_node, one_more_past, one_more_count, one_more_summary};
 ghost use Rattle.aug_query.specs.declared.loaded.Loaded.{Loaded as Loads};
 
 use aug_model::Summary;
@@ -41,24 +41,28 @@ pub trait Descend<A: Monoid, B: Monoid> {
     /// The node that covers every key.
     fn top(&mut self) -> Self::Name
         ensures descends { Descends set_of loads_of Names KeepsRest 1 0 0 0 self.old self.new }
+        ensures notes { loads_of self.new ≡ one_more_node (loads_of self.old) }
         ensures name { Names self.new (set_of self.old).bits 0 result };
 
     /// The left child, at this level, of the node above it at this place.
     fn left(&mut self, level: u32, place: u32, node: &Self::Name) -> Self::Name
         requires { Names self.old (level + 1) place node.now }
         ensures descends { Descends set_of loads_of Names KeepsRest 1 0 0 0 self.old self.new }
+        ensures notes { loads_of self.new ≡ one_more_node (loads_of self.old) }
         ensures name { Names self.new level (2 * place) result };
 
     /// The right child.
     fn right(&mut self, level: u32, place: u32, node: &Self::Name) -> Self::Name
         requires { Names self.old (level + 1) place node.now }
         ensures descends { Descends set_of loads_of Names KeepsRest 1 0 0 0 self.old self.new }
+        ensures notes { loads_of self.new ≡ one_more_node (loads_of self.old) }
         ensures name { Names self.new level (2 * place + 1) result };
 
     /// The right child, and how many members the left one covers.
     fn past_left(&mut self, level: u32, place: u32, node: &Self::Name) -> (Self::Name, u32)
         requires { Names self.old (level + 1) place node.now }
         ensures descends { Descends set_of loads_of Names KeepsRest 1 0 0 1 self.old self.new }
+        ensures notes { loads_of self.new ≡ one_more_past (loads_of self.old) }
         ensures name { Names self.new level (2 * place + 1) result.0 }
         ensures count { result.1 ≡ length (below_node (list_of (set_of self.old)) level (2 * place)) };
 
@@ -66,6 +70,7 @@ pub trait Descend<A: Monoid, B: Monoid> {
     fn past_right(&mut self, level: u32, place: u32, node: &Self::Name) -> (Self::Name, u32)
         requires { Names self.old (level + 1) place node.now }
         ensures descends { Descends set_of loads_of Names KeepsRest 1 0 0 1 self.old self.new }
+        ensures notes { loads_of self.new ≡ one_more_past (loads_of self.old) }
         ensures name { Names self.new level (2 * place) result.0 }
         ensures count { result.1 ≡ length (below_node (list_of (set_of self.old)) level (2 * place + 1)) };
 
@@ -73,12 +78,14 @@ pub trait Descend<A: Monoid, B: Monoid> {
     fn count(&mut self, level: u32, place: u32, node: &Self::Name) -> u32
         requires { Names self.old level place node.now }
         ensures descends { Descends set_of loads_of Names KeepsRest 0 1 0 0 self.old self.new }
+        ensures notes { loads_of self.new ≡ one_more_count (loads_of self.old) }
         ensures value { result ≡ length (below_node (list_of (set_of self.old)) level place) };
 
     /// The summary of the members that the node covers.
     fn summary(&mut self, level: u32, place: u32, node: &Self::Name) -> Summary<A, B>
         requires { Names self.old level place node.now }
         ensures descends { Descends set_of loads_of Names KeepsRest 0 0 1 0 self.old self.new }
+        ensures notes { loads_of self.new ≡ one_more_summary (loads_of self.old) }
         ensures value { result ≡ sum_of (summary_of A.parts B.parts) (set_of self.old).pairs (below_node (list_of (set_of self.old)) level place) };
 
     /// The weight of the key that the leaf at this place covers, or 0 if that key is no member.

@@ -18,7 +18,7 @@ mod positions;
 pub use batches::{memberships, ranks, weights};
 pub use counts::{rank, size};
 pub use intervals::range;
-pub use listing::{keys, pairs};
+pub use listing::{keys, pairs, pairs_into};
 pub use members::{has, weight};
 pub use neighbours::{after, before};
 pub use positions::select;

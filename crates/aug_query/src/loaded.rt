@@ -1,6 +1,6 @@
 //! How much a descent loaded, as contracts alone know it.
-ghost use Rattle.std.specs.Prelude.{◌≡◌, ◌+◌};
-ghost use Rattle.aug_query.specs.Descend.{nothing_loaded};
+ghost use Rattle.std.specs.Prelude.{◌≡◌};
+ghost use Rattle.aug_query.specs.Descend.{nothing_loaded, one_more_node, one_more_past, one_more_count, one_more_summary};
 
 use crate::Calls;
 
@@ -32,14 +32,14 @@ impl Loaded {
 
     /// One more node.
     pub fn one_node(&mut self)
-        ensures { self.new ≡ record self.old { nodes = record { made = self.old.nodes.made + 1 } } }
+        ensures { self.new ≡ one_more_node self.old }
     {
         self.nodes = self.nodes.one_more();
     }
 
     /// One more node, beside one whose members were counted.
     pub fn one_past(&mut self)
-        ensures { self.new ≡ record self.old { nodes = record { made = self.old.nodes.made + 1 }; passed = record { made = self.old.passed.made + 1 } } }
+        ensures { self.new ≡ one_more_past self.old }
     {
         self.nodes = self.nodes.one_more();
         self.passed = self.passed.one_more();
@@ -47,14 +47,14 @@ impl Loaded {
 
     /// One more count.
     pub fn one_count(&mut self)
-        ensures { self.new ≡ record self.old { counts = record { made = self.old.counts.made + 1 } } }
+        ensures { self.new ≡ one_more_count self.old }
     {
         self.counts = self.counts.one_more();
     }
 
     /// One more summary.
     pub fn one_summary(&mut self)
-        ensures { self.new ≡ record self.old { summaries = record { made = self.old.summaries.made + 1 } } }
+        ensures { self.new ≡ one_more_summary self.old }
     {
         self.summaries = self.summaries.one_more();
     }

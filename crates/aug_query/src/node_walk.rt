@@ -31,16 +31,16 @@ impl<A: Monoid, B: Monoid, T: Tree<A, B>> Drop for NodeWalk<'_, A, B, T> {
 impl<A: Monoid, B: Monoid, T: Tree<A, B>> Descend<A, B> for NodeWalk<'_, A, B, T> {
     type Name = T::Node;
 
-    ghost use Rattle.aug_query.specs.NodeWalk.{IsNode, KeepsTree};
+    ghost use Rattle.aug_query.specs.NodeWalk.{NamesNode, KeepsWalk};
     ghost use Rattle.aug_query.specs.inside.NodeWalkLaws.{kept_so, kept_on, stands};
 
     ghost set_of = { λ w. T.set_of w.tree.now };
 
     ghost loads_of = { λ w. w.loaded };
 
-    ghost Names = { λ w level place node. IsNode T.HasNode T.level_of T.place_of w.tree.now level place node };
+    ghost Names = { λ w level place node. NamesNode T.HasNode T.level_of T.place_of w.tree.now level place node };
 
-    ghost KeepsRest = { λ first w. KeepsTree T.calls_of T.HasNode T.KeepsRest first.tree w.tree first.loaded w.loaded };
+    ghost KeepsRest = { λ first w. KeepsWalk T.calls_of T.HasNode T.KeepsRest first.tree w.tree first.loaded w.loaded };
 
     ghost keeps_so = { λ w. kept_so T.keeps_so w.tree w.loaded };
 

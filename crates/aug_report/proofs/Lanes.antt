@@ -10,12 +10,12 @@ use Rattle.aug_model.specs.declared.outcome.Outcome.TheVariants as outcome
 use Rattle.aug_model.proofs.Pairs.{keys_of-pairs_of}
 use Rattle.aug_core.specs.Counts.{change}
 use Rattle.aug_core.specs.Cuts.{Cut, shown_of, serial_of, weight_at, set_of_cut, pairs_of_cut, IsAtMost}
-use Rattle.aug_trie.specs.History.{Begins, last_cut, IsHistory}
+use Rattle.aug_trie.specs.History.{IsPrefix, last_cut, IsHistory}
 use Rattle.aug_core.specs.declared.view.Change.{Change}
 use Rattle.aug_trie.specs.Knowledge.{Knowledge, StandsIn, insertion, removal, inserts_of, removals_of}
 use Rattle.aug_trie.specs.Updates.{AcceptedUpdate, RefusedUpdate, ReplacedUpdate, RefusedPut, PutsIn}
 use Rattle.aug_trie.specs.Tallies.{Tallies}
-use Rattle.aug_report.specs.AllowedReport.{Lane, Looks, Asks, AnswersPut, reply_to_put, Answers, AnswersAll}
+use Rattle.aug_report.specs.AllowedReport.{Lane, LaneLooks, Asks, AnswersPut, reply_to_put, Answers, AnswersAll}
 use Rattle.aug_script.specs.Replies.{Sets, span_of, reply_to, sets_after, replies_of, sets_of, is_insertion, is_removal, count_of}
 use Rattle.aug_script.specs.declared.reply.Reply.{Reply}
 use Rattle.aug_script.specs.declared.reply.Reply.TheVariants as reply
@@ -35,7 +35,7 @@ one_if b = if b then 1 else 0
 -- what was known once and what is known now, and the changes in between
 pub record Goes (old new : Knowledge) : Type 0 where
   pub more : List Change
-  pub goes_on : Begins old.history new.history
+  pub goes_on : IsPrefix old.history new.history
   pub adds : new.accepted ≡ old.accepted ++ more
   pub past : AllPast (last_cut old.history) more
   pub shows : AllShow (last_cut new.history) more
@@ -77,7 +77,7 @@ stands_weighs cut k n w stands last = elim stands [
   | inr shown ↦ ap (λ (z : ℕ × ℕ). z.1) shown
 ]
 
-abbrev goes_nowhere : (old new : Knowledge) → Begins old.history new.history → new.accepted ≡ old.accepted → Goes old new
+abbrev goes_nowhere : (old new : Knowledge) → IsPrefix old.history new.history → new.accepted ≡ old.accepted → Goes old new
 goes_nowhere old new goes_on same = record {
   more = [];
   goes_on = goes_on;
@@ -252,7 +252,7 @@ module _ (k : ℕ) (old new : Lane) where
           sets_are (without_pair (pairs_of_cut before) k) (pairs-without_key before after k (λ j _. ap (λ (d : Cut). shown_of d j) same) even);
     }
 
-step_look : (r : Reply) (old new : Lane) → Looks r old new → Step verb.Look r old new
+step_look : (r : Reply) (old new : Lane) → LaneLooks r old new → Step verb.Look r old new
 step_look r old new looks = record {
   goes = goes_nowhere old.knows new.knows looks.takes.goes_on looks.takes.same_changes;
   inserts = rw looks.looked refl;
@@ -324,7 +324,7 @@ changes-append p xs ys = counted-append p xs ys
 module _ (bits : ℕ) (members : List (ℕ × ℕ)) (history : List Cut) (is_history : IsHistory bits members history) where
   -- one row and then the rest
   story_more : (line : Row × Reply) (lines : List (Row × Reply)) (old next new : Lane)
-      → 0 < length old.knows.history → Begins new.knows.history history
+      → 0 < length old.knows.history → IsPrefix new.knows.history history
       → Step line.0.verb line.1 old next → Story history lines next new → Story history (line ∷ lines) old new
   unfolding replies_of sets_of
   story_more line lines old next new some within first rest =
@@ -355,7 +355,7 @@ module _ (bits : ℕ) (members : List (ℕ × ℕ)) (history : List Cut) (is_his
         closes = λ t. rest.closes (back t) ∙ ap (λ (s : Sets). (sets_of s (map (λ l. l.0) lines)).live) (first.leads (only t));
       }
 
-  story_none : (old new : Lane) → new ≡ old → 0 < length old.knows.history → Begins new.knows.history history → Story history [] old new
+  story_none : (old new : Lane) → new ≡ old → 0 < length old.knows.history → IsPrefix new.knows.history history → Story history [] old new
   unfolding replies_of sets_of
   story_none old new stays some within =
       let old_within = begins_on old.knows.history new.knows.history history (begins-same old.knows.history new.knows.history (ap (λ (l : Lane). l.knows.history) stays)) within in
@@ -368,7 +368,7 @@ module _ (bits : ℕ) (members : List (ℕ × ℕ)) (history : List Cut) (is_his
         closes = λ t. ap pairs_of_cut (sym (same_cut (last_cut old.knows.history) (last_cut history) le.same_keys (tally_nothing (last_cut old.knows.history) (last_cut history) le t)));
       }
 
-  pub story : (lines : List (Row × Reply)) (old new : Lane) → AnswersAll lines old new → 0 < length old.knows.history → Begins new.knows.history history → Story history lines old new
+  pub story : (lines : List (Row × Reply)) (old new : Lane) → AnswersAll lines old new → 0 < length old.knows.history → IsPrefix new.knows.history history → Story history lines old new
   unfolding AnswersAll
   story [] old new runs some within = story_none old new runs some within
   story (line ∷ lines) old new runs some within =

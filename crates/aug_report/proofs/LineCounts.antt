@@ -11,7 +11,7 @@ use Rattle.aug_script.specs.Replies.{is_insertion, is_removal, count_of}
 use Rattle.aug_script.specs.declared.reply.Reply.{Reply}
 use Rattle.aug_script.specs.declared.report.Report.{Report}
 use Rattle.aug_script.specs.declared.row.Row.{Row}
-use Rattle.aug_report.specs.AllowedReport.{Lane, AllowedReport, lines_of, changes_of}
+use Rattle.aug_report.specs.AllowedReport.{Lane, AllowedReport, lines_of, all_accepted}
 use Rattle.aug_trie.proofs.CutLemmas.{set_of_cut-opening}
 use Rattle.aug_trie.proofs.Pieces.{begins_refl}
 use Rattle.aug_trie.proofs.TallyLemmas.{counted, counted-append, sizes}
@@ -24,7 +24,7 @@ pub sizes_add_up : (bits workers : ℕ) (members : List (ℕ × ℕ)) (report : 
     → report.size + report.removals ≡ length members + report.inserts
 sizes_add_up bits workers members report closing is_set allowed =
     let le = opening-at_most bits members allowed.history allowed.is_history allowed.history allowed.is_history.opens (begins_refl allowed.history) in
-    let sum = sizes (opening_cut bits members) (last_cut allowed.history) (changes_of allowed.lanes) le allowed.tallies in
+    let sum = sizes (opening_cut bits members) (last_cut allowed.history) (all_accepted allowed.lanes) le allowed.tallies in
     let opened = ap (λ (l : List ℕ). length l) (set_of_cut-opening bits members is_set) ∙ length-keys_of members in
     let closed = ap (λ (l : List (ℕ × ℕ)). length l) allowed.closes ∙ length-pairs_of (weight_at (last_cut allowed.history)) (set_of_cut (last_cut allowed.history)) in
     omega (arith, sum, opened, allowed.size, allowed.inserts, allowed.removals, closed)
@@ -45,10 +45,10 @@ total-same : (f g : ℕ → ℕ) (n : ℕ) → ((i : ℕ) → i < n → f i ≡ 
 total-same f g zero same = refl
 total-same f g (suc n) same = omega (arith, total-same f g n (λ i l. same i (omega arith)), same n (omega arith))
 
-changes-total : (p : ℕ → ℕ → Bool) (lanes : List Lane) (d : Lane) → counted p (changes_of lanes) ≡ total (λ i. counted p (get_or lanes i d).knows.accepted) (length lanes)
+changes-total : (p : ℕ → ℕ → Bool) (lanes : List Lane) (d : Lane) → counted p (all_accepted lanes) ≡ total (λ i. counted p (get_or lanes i d).knows.accepted) (length lanes)
 changes-total p [] d = refl
 changes-total p (lane ∷ lanes) d =
-    omega (arith, counted-append p lane.knows.accepted (changes_of lanes), changes-total p lanes d, total-front (λ i. counted p (get_or (lane ∷ lanes) i d).knows.accepted) (length lanes))
+    omega (arith, counted-append p lane.knows.accepted (all_accepted lanes), changes-total p lanes d, total-front (λ i. counted p (get_or (lane ∷ lanes) i d).knows.accepted) (length lanes))
 
 -- the lines whose reply passes a test
 abbrev lines_with : (Reply → Bool) → List (Row × Reply) → ℕ
@@ -114,7 +114,7 @@ totals_count bits workers members report closing allowed = (
         let changes : (get_or allowed.lanes i nobody).knows.accepted ≡ told.goes.more = told.goes.adds ∙ ap (λ l. l ++ told.goes.more) ran.opens.no_change in
         (ap inserts_of changes ∙ told.inserts, ap removals_of changes ∙ told.removals)
 
-    by_lanes : (test : Reply → Bool) (p : ℕ → ℕ → Bool) (n : ℕ) → n ≡ counted p (changes_of allowed.lanes)
+    by_lanes : (test : Reply → Bool) (p : ℕ → ℕ → Bool) (n : ℕ) → n ≡ counted p (all_accepted allowed.lanes)
         → ((i : ℕ) → i < workers → counted p (get_or allowed.lanes i nobody).knows.accepted ≡ lines_with test (lines_of i report.rows)) → n ≡ count_of test (map (λ line. line.1) report.rows)
     by_lanes test p n is each =
         let sum = changes-total p allowed.lanes nobody in

@@ -7,7 +7,7 @@ use Rattle.aug_model.specs.declared.outcome.Outcome.TheVariants as outcome
 use Rattle.aug_model.specs.Keys.{is_member, keys_of}
 use Rattle.aug_core.specs.Cuts.{Cut, serial_of, pairs_of_cut, opening_cut}
 use Rattle.aug_core.specs.declared.view.Change.{Change}
-use Rattle.aug_trie.specs.History.{Begins, IsHistory, last_cut}
+use Rattle.aug_trie.specs.History.{IsPrefix, IsHistory, last_cut}
 use Rattle.aug_trie.specs.Knowledge.{inserts_of, removals_of}
 use Rattle.aug_trie.specs.Updates.{PutsIn}
 use Rattle.aug_script.specs.declared.reply.Reply.{Reply}
@@ -16,7 +16,7 @@ use Rattle.aug_script.specs.declared.report.Report.{Report}
 use Rattle.aug_script.specs.declared.row.Row.{Row}
 use Rattle.aug_script.specs.declared.verb.Verb.{Verb}
 use Rattle.aug_script.specs.declared.verb.Verb.TheVariants as verb
-use Rattle.aug_report.specs.AllowedReport.{Lane, Answers, AnswersAll, AllowedReport, lines_of, changes_of, reply_to_put}
+use Rattle.aug_report.specs.AllowedReport.{Lane, Answers, AnswersAll, AllowedReport, lines_of, all_accepted, reply_to_put}
 use Rattle.aug_trie.proofs.CutLemmas.{serial_rises}
 use Rattle.aug_trie.proofs.Pieces.{begins_refl, begins_on}
 use Rattle.aug_trie.proofs.TallyLemmas.{counted-cons}
@@ -77,7 +77,7 @@ not_lost (verb.Range x y) r old new a still lost = omega (arith, ap is_lost (sym
 module _ (bits : ℕ) (members : List (ℕ × ℕ)) (history : List Cut) (is_history : IsHistory bits members history)
     (no_more : (k : ℕ) → serial_of (last_cut history) k ≤ serial_of (opening_cut bits members) k) where
   -- no cut in between shows more
-  still_between : (old new : Lane) → Begins (opening_cut bits members ∷ []) old.knows.history → Begins old.knows.history new.knows.history → Begins new.knows.history history → Still old new
+  still_between : (old new : Lane) → IsPrefix (opening_cut bits members ∷ []) old.knows.history → IsPrefix old.knows.history new.knows.history → IsPrefix new.knows.history history → Still old new
   still_between old new opens goes_on within k =
       let some = opens-some bits members history is_history old.knows.history opens in
       let longer = begins-length old.knows.history new.knows.history goes_on in
@@ -85,7 +85,7 @@ module _ (bits : ℕ) (members : List (ℕ × ℕ)) (history : List Cut) (is_his
       let high = last-at_most_final bits members history is_history new.knows.history (omega (arith, some, longer)) within in
       omega (arith, no_more k, serial_rises (opening_cut bits members) (last_cut old.knows.history) k low, serial_rises (last_cut new.knows.history) (last_cut history) k high)
 
-  none_lost : (lines : List (Row × Reply)) (old new : Lane) → AnswersAll lines old new → Begins (opening_cut bits members ∷ []) old.knows.history → Begins new.knows.history history → All NotLost lines
+  none_lost : (lines : List (Row × Reply)) (old new : Lane) → AnswersAll lines old new → IsPrefix (opening_cut bits members ∷ []) old.knows.history → IsPrefix new.knows.history history → All NotLost lines
   unfolding AnswersAll
   none_lost [] old new runs opens within = All-nil NotLost
   none_lost (line ∷ lines) old new runs opens within =
@@ -115,7 +115,7 @@ of_all_lanes P workers (line ∷ lines) below each =
 pub lost_has_cause : (bits workers : ℕ) (members : List (ℕ × ℕ)) (report : Report) (closing : List (ℕ × ℕ)) → AllowedReport bits workers members report closing
     → report.inserts ≡ 0 → report.removals ≡ 0 → All NotLost report.rows
 lost_has_cause bits workers members report closing allowed none_in none_out =
-    let nothing : changes_of allowed.lanes ≡ [] = no_changes (changes_of allowed.lanes) (sym allowed.inserts ∙ none_in) (sym allowed.removals ∙ none_out) in
+    let nothing : all_accepted allowed.lanes ≡ [] = no_changes (all_accepted allowed.lanes) (sym allowed.inserts ∙ none_in) (sym allowed.removals ∙ none_out) in
     let tallies = rw nothing at allowed.tallies in
     let le = opening-at_most bits members allowed.history allowed.is_history allowed.history allowed.is_history.opens (begins_refl allowed.history) in
     let same = tally_nothing (opening_cut bits members) (last_cut allowed.history) le tallies in

@@ -10,7 +10,7 @@ use Rattle.aug_trie.specs.History.{last_cut, IsHistory}
 use Rattle.aug_core.specs.declared.view.Change.{Change}
 use Rattle.aug_trie.specs.Knowledge.{inserts_of, removals_of}
 use Rattle.aug_trie.specs.Tallies.{Tallies}
-use Rattle.aug_report.specs.AllowedReport.{Lane, AnswersAll, RunsLane, AllowedReport, lines_of, changes_of}
+use Rattle.aug_report.specs.AllowedReport.{Lane, AnswersAll, RunsLane, AllowedReport, lines_of, all_accepted}
 use Rattle.aug_report.specs.InTurn.{IsInTurn}
 use Rattle.aug_script.specs.Replies.{Sets, replies_of, sets_of, opening_sets, report_of, count_of, is_insertion, is_removal}
 use Rattle.aug_script.specs.declared.reply.Reply.{Reply}
@@ -37,12 +37,12 @@ lines-none lane other (line ∷ lines) apart all =
     (lines-none lane other lines apart (All-tail (λ (l : Row × Reply). l.0.lane ≡ lane) line lines all))
 
 -- the changes of all lanes are those of the one that had any
-changes-none : (lanes : List Lane) (default : Lane) → ((j : ℕ) → j < length lanes → (get_or lanes j default).knows.accepted ≡ []) → changes_of lanes ≡ []
+changes-none : (lanes : List Lane) (default : Lane) → ((j : ℕ) → j < length lanes → (get_or lanes j default).knows.accepted ≡ []) → all_accepted lanes ≡ []
 changes-none [] default none = refl
 changes-none (lane ∷ lanes) default none = rw (none 0 (omega arith)) (changes-none lanes default (λ j below. none (suc j) (omega arith)))
 
 changes-one : (lanes : List Lane) (lane : ℕ) (default : Lane) → lane < length lanes → ((j : ℕ) → j < length lanes → (j ≡ lane → ⊥) → (get_or lanes j default).knows.accepted ≡ [])
-    → changes_of lanes ≡ (get_or lanes lane default).knows.accepted
+    → all_accepted lanes ≡ (get_or lanes lane default).knows.accepted
 changes-one [] lane default below others = absurd (omega (arith, below))
 changes-one (first ∷ lanes) zero default below others =
     ap (λ l. first.knows.accepted ++ l) (changes-none lanes default (λ j b. others (suc j) (omega arith) (λ e. omega (arith, e)))) ∙ append-nil first.knows.accepted
@@ -110,7 +110,7 @@ one_report bits workers members report closing is_set allowed lane exists all =
     let end = get_or allowed.lanes lane no_lane in
     let ran = allowed.runs lane no_lane exists in
     let mine = rw (lines-all lane report.rows all) at ran in
-    let changes : changes_of allowed.lanes ≡ end.knows.accepted = changes-one allowed.lanes lane no_lane (omega (arith, allowed.one_each, exists))
+    let changes : all_accepted allowed.lanes ≡ end.knows.accepted = changes-one allowed.lanes lane no_lane (omega (arith, allowed.one_each, exists))
     (λ j below apart. idle (opening_cut bits members) allowed.history (get_or allowed.lanes j no_lane)
     (rw (lines-none lane j report.rows apart all) at (allowed.runs j no_lane (omega (arith, allowed.one_each, below))))) in
     let tallies = rw changes at allowed.tallies in

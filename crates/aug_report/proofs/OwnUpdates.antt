@@ -15,7 +15,7 @@ use Rattle.aug_script.specs.declared.report.Report.{Report}
 use Rattle.aug_script.specs.declared.row.Row.{Row}
 use Rattle.aug_script.specs.declared.verb.Verb.TheVariants as verb
 use Rattle.aug_report.specs.AllowedReport.{AllowedReport, AllowedReports}
-use Rattle.aug_report.specs.Theorems.{row_at, report_with, insertion_line, round_of}
+use Rattle.aug_report.specs.Theorems.{row_at, report_with, insertion_line, round_with}
 use Rattle.aug_trie.proofs.Pieces.{begins_refl}
 use Rattle.aug_report.proofs.Histories.{last-rises, opens-some}
 use Rattle.aug_report.proofs.OneKey.{empty_set}
@@ -113,7 +113,7 @@ one_key_set : (bits k : ℕ) → k < 2 ^ bits → IsKeySet bits (k ∷ [])
 one_key_set bits k fits = record { rising = λ i below. absurd (omega (arith, below)); below = All-cons (λ j. j < 2 ^ bits) k [] fits (All-nil (λ j. j < 2 ^ bits)) }
 
 pub next_round_goes_on : (k bits workers number size inserts removals size' inserts' removals' : ℕ) → 0 < workers → k < 2 ^ bits
-    → AllowedReports workers number [] (round_of bits (row_at 1 0 (verb.Insert k)) ∷ round_of bits (row_at 2 0 (verb.Has k)) ∷ [])
+    → AllowedReports workers number [] (round_with bits (row_at 1 0 (verb.Insert k)) ∷ round_with bits (row_at 2 0 (verb.Has k)) ∷ [])
     (report_with number (insertion_line k reply.New) size inserts removals ∷ report_with (number + 1) ((row_at 2 0 (verb.Has k), reply.No) ∷ []) size' inserts' removals' ∷ []) → ⊥
 unfolding AllowedReports replies_of sets_of
 next_round_goes_on k bits workers number size inserts removals size' inserts' removals' some fits allowed =

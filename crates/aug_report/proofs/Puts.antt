@@ -11,7 +11,7 @@ use Rattle.aug_model.specs.declared.outcome.Outcome.TheVariants as outcome
 use Rattle.aug_core.specs.Counts.{change}
 use Rattle.aug_core.specs.Cuts.{Cut, serial_of, weight_at, set_of_cut, pairs_of_cut, opening_cut}
 use Rattle.aug_core.specs.declared.view.Change.{Change}
-use Rattle.aug_trie.specs.History.{Begins, last_cut}
+use Rattle.aug_trie.specs.History.{IsPrefix, last_cut}
 use Rattle.aug_trie.specs.Knowledge.{StandsIn}
 use Rattle.aug_trie.specs.Tallies.{Tallies, Weighs}
 use Rattle.aug_trie.specs.Updates.{PutsIn}
@@ -19,7 +19,7 @@ use Rattle.aug_script.specs.declared.reply.Reply.{Reply}
 use Rattle.aug_script.specs.declared.reply.Reply.TheVariants as reply
 use Rattle.aug_script.specs.declared.verb.Verb.{Verb}
 use Rattle.aug_script.specs.declared.verb.Verb.TheVariants as verb
-use Rattle.aug_report.specs.AllowedReport.{Lane, Answers, AnswersAll, RunsLane, AllowedReport, changes_of, reply_to_put}
+use Rattle.aug_report.specs.AllowedReport.{Lane, Answers, AnswersAll, RunsLane, AllowedReport, all_accepted, reply_to_put}
 use Rattle.aug_report.specs.Theorems.{row_at, report_with, put_and_query}
 use Rattle.aug_trie.proofs.CutLemmas.{serial-opening, serial_rises, is_member-set_of_cut}
 use Rattle.aug_trie.proofs.Pieces.{begins_on, either_begins}
@@ -30,7 +30,7 @@ use Rattle.aug_report.proofs.Lanes.{there_if_odd}
 use Rattle.aug_report.proofs.TwoInsertions.{nobody, two_lanes, serial-absent}
 
 -- the last cut of a beginning stands in the whole
-last_within : (front whole : List Cut) → 0 < length front → Begins front whole → last_cut front ≡ get_or whole (length front - 1) []
+last_within : (front whole : List Cut) → 0 < length front → IsPrefix front whole → last_cut front ≡ get_or whole (length front - 1) []
 last_within front whole some b = sym (front_reads [] whole front b.0 b.1 (length front - 1) (omega arith))
 
 -- tells the replies to a put apart
@@ -107,8 +107,8 @@ only c x (suc i, below, is) = absurd (omega (arith, below))
 record Saw (opening : Cut) (history : List Cut) (about : List (ℕ × ℕ) → Reply) (said : Reply) (end : Lane) : Type 0 where
   seen : List Cut
   some : 0 < length seen
-  opens : Begins (opening ∷ []) seen
-  within : Begins seen history
+  opens : IsPrefix (opening ∷ []) seen
+  within : IsPrefix seen history
   says : said ≡ about (pairs_of_cut (last_cut seen))
   none : end.knows.accepted ≡ []
 
@@ -127,7 +127,7 @@ saw opening history asked about said end asks ran =
       seen = mid.knows.history;
       some = begins-length (opening ∷ []) mid.knows.history opens;
       opens = opens;
-      within = subst (λ (l : Lane). Begins l.knows.history history) same ran.of_history;
+      within = subst (λ (l : Lane). IsPrefix l.knows.history history) same ran.of_history;
       says = asked'.0 ∙ ap (λ (c : Cut). about (pairs_of_cut c)) looks.takes.is_last;
       none = ap (λ (l : Lane). l.knows.accepted) same ∙ looks.takes.same_changes ∙ ran.opens.no_change;
     }
@@ -176,7 +176,7 @@ module _ (k w bits number size inserts removals : ℕ) (members closing : List (
       let set = was_set opening allowed.history k w 1 0 end (allowed.runs 0 nobody (omega arith)) in
       let view = saw opening allowed.history (verb.Has k) (λ pairs. yes_or_no (is_member (keys_of pairs) k)) reply.No (get_or allowed.lanes 1 nobody) (λ old new asks. (asks.answers, asks.stays)) (allowed.runs 1 nobody (omega arith)) in
       let cut = last_cut view.seen in
-      let changes : changes_of allowed.lanes ≡ change k set.number 0 ∷ change k (set.number + 1) w ∷ [] = two_lanes allowed.lanes allowed.one_each ∙ rw (set.two, view.none) refl in
+      let changes : all_accepted allowed.lanes ≡ change k set.number 0 ∷ change k (set.number + 1) w ∷ [] = two_lanes allowed.lanes allowed.one_each ∙ rw (set.two, view.none) refl in
       let tallies = rw changes at allowed.tallies in
       let opened : serial_of (opening_cut bits members) k ≡ 1 = serial-opening bits members k fits ∙ rw there refl in
       let within = (allowed.runs 0 nobody (omega arith)).of_history in
@@ -216,15 +216,15 @@ module _ (k w bits number size inserts removals : ℕ) (members closing : List (
       let opening = opening_cut bits members in
       let put = was_put opening allowed.history k w 1 0 (get_or allowed.lanes 0 nobody) (allowed.runs 0 nobody (omega arith)) in
       let view = saw opening allowed.history (verb.Weight k) (λ pairs. reply.Found (weight_of pairs k)) (reply.Found (Some v)) (get_or allowed.lanes 1 nobody) (λ old new asks. (asks.answers, asks.stays)) (allowed.runs 1 nobody (omega arith)) in
-      let changes : changes_of allowed.lanes ≡ change k put.number w ∷ [] = two_lanes allowed.lanes allowed.one_each ∙ rw (put.one, view.none) refl in
+      let changes : all_accepted allowed.lanes ≡ change k put.number w ∷ [] = two_lanes allowed.lanes allowed.one_each ∙ rw (put.one, view.none) refl in
       let said : Some v ≡ (if is_member (set_of_cut (last_cut view.seen)) k then Some (weight_at (last_cut view.seen) k) else None) = ap found view.says ∙ weight_of-pairs (weight_at (last_cut view.seen)) (set_of_cut (last_cut view.seen)) k in
       elim (cases_Bool (is_member (set_of_cut (last_cut view.seen)) k)) [
         | inl t ↦
             let is : v ≡ weight_at (last_cut view.seen) k = ap (λ o. unwrap_or o 0) said ∙ rw t refl in
             let is_odd = eqb-true (serial_of (last_cut view.seen) k % 2) 1 (sym (is_member-set_of_cut (last_cut view.seen) k) ∙ t) in
             let long = begins-length view.seen allowed.history view.within in
-            let there = All-get_or (Weighs (opening_cut bits members) (changes_of allowed.lanes)) allowed.history (length view.seen - 1) [] (omega (arith, long, view.some)) allowed.weigh in
-            let weighs = subst (λ (c : Cut). Weighs (opening_cut bits members) (changes_of allowed.lanes) c) (sym (last_within view.seen allowed.history view.some view.within)) there in
+            let there = All-get_or (Weighs (opening_cut bits members) (all_accepted allowed.lanes)) allowed.history (length view.seen - 1) [] (omega (arith, long, view.some)) allowed.weigh in
+            let weighs = subst (λ (c : Cut). Weighs (opening_cut bits members) (all_accepted allowed.lanes) c) (sym (last_within view.seen allowed.history view.some view.within)) there in
             let one = subst (λ (l : List Change). Contains l (change k (serial_of (last_cut view.seen) k) (weight_at (last_cut view.seen) k))) changes (weighs k (omega (arith, is_odd, serial-absent bits members k absent))) in
             apart (is ∙ ap (λ (c : Change). c.weight) (only (change k put.number w) (change k (serial_of (last_cut view.seen) k) (weight_at (last_cut view.seen) k)) one))
         | inr f ↦

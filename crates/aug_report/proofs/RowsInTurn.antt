@@ -19,7 +19,7 @@ use Rattle.aug_script.specs.declared.reply.Reply.{Reply}
 use Rattle.aug_script.specs.declared.row.Row.{Row}
 use Rattle.aug_script.specs.declared.verb.Verb.{Verb}
 use Rattle.aug_script.specs.declared.verb.Verb.TheVariants as verb
-use Rattle.aug_report.specs.AllowedReport.{Lane, Answers, AnswersAll, RunsLane, AllowedReport, lines_of, changes_of}
+use Rattle.aug_report.specs.AllowedReport.{Lane, Answers, AnswersAll, RunsLane, AllowedReport, lines_of, all_accepted}
 use Rattle.aug_trie.proofs.CutLemmas.{length-opening, serial_rises, pairs_of_cut-opening}
 use Rattle.aug_trie.proofs.Pieces.{begins_refl, begins_on}
 use Rattle.aug_report.proofs.Advances.{ChangesOne}
@@ -364,7 +364,7 @@ module _ (bits number : ℕ) (members : List (ℕ × ℕ)) (rows : List Row) (is
       } in
       let tallies : Tallies (opening_cut bits members) (last_cut ran.end.knows.history) ran.end.knows.accepted = rw ran.adds ran.tallies in
       let told = alone bits members ran.end.knows.history ran.is_history is_set lines ran.end lane tallies in
-      let changes : changes_of (ran.end ∷ []) ≡ ran.end.knows.accepted = append-nil ran.end.knows.accepted in
+      let changes : all_accepted (ran.end ∷ []) ≡ ran.end.knows.accepted = append-nil ran.end.knows.accepted in
       let closes : (sets_of (opening_sets members) rows).live ≡ pairs_of_cut (last_cut ran.end.knows.history) = sym (told.closes ∙ ap (λ (r : List Row). (sets_of (opening_sets members) r).live) (rows_back (opening_sets members) rows)) in
       record {
         history = ran.end.knows.history;

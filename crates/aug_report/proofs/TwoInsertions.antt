@@ -13,7 +13,7 @@ use Rattle.aug_script.specs.declared.reply.Reply.{Reply}
 use Rattle.aug_script.specs.declared.reply.Reply.TheVariants as reply
 use Rattle.aug_script.specs.declared.row.Row.{Row}
 use Rattle.aug_script.specs.declared.verb.Verb.TheVariants as verb
-use Rattle.aug_report.specs.AllowedReport.{Lane, AnswersAll, RunsLane, AllowedReport, lines_of, changes_of}
+use Rattle.aug_report.specs.AllowedReport.{Lane, AnswersAll, RunsLane, AllowedReport, lines_of, all_accepted}
 use Rattle.aug_report.specs.Theorems.{row_at, report_with, two_insertions}
 use Rattle.aug_trie.proofs.CutLemmas.{serial-opening, length-opening, serial_past, serial_rises}
 use Rattle.aug_trie.proofs.TallyLemmas.{counted-cons, exactly, times_first, none_high, once_between}
@@ -179,7 +179,7 @@ was_old opening history k number lane end ran =
 abbrev pub nobody : Lane
 nobody = record { knows = record { history = []; accepted = [] }; held = [] }
 
-pub two_lanes : (lanes : List Lane) → length lanes ≡ 2 → changes_of lanes ≡ (get_or lanes 0 nobody).knows.accepted ++ ((get_or lanes 1 nobody).knows.accepted ++ [])
+pub two_lanes : (lanes : List Lane) → length lanes ≡ 2 → all_accepted lanes ≡ (get_or lanes 0 nobody).knows.accepted ++ ((get_or lanes 1 nobody).knows.accepted ++ [])
 two_lanes [] two = absurd (omega (arith, two))
 two_lanes (a ∷ []) two = absurd (omega (arith, two))
 two_lanes (a ∷ b ∷ []) two = refl
@@ -223,7 +223,7 @@ pub both_new : (bits k number size inserts removals : ℕ) (members closing : Li
 both_new bits k number size inserts removals members closing absent allowed =
     let a = was_new (opening_cut bits members) allowed.history k 1 0 (get_or allowed.lanes 0 nobody) (allowed.runs 0 nobody (omega arith)) in
     let b = was_new (opening_cut bits members) allowed.history k 2 1 (get_or allowed.lanes 1 nobody) (allowed.runs 1 nobody (omega arith)) in
-    let changes : changes_of allowed.lanes ≡ twice k a.number b.number = two_lanes allowed.lanes allowed.one_each ∙ rw (a.one, b.one) refl in
+    let changes : all_accepted allowed.lanes ≡ twice k a.number b.number = two_lanes allowed.lanes allowed.one_each ∙ rw (a.one, b.one) refl in
     two_accepted (opening_cut bits members) (last_cut allowed.history) k a.number b.number (serial-absent bits members k absent) a.is_odd b.is_odd (rw changes at allowed.tallies)
 
 -- both refused: refused
@@ -234,7 +234,7 @@ both_old bits k number size inserts removals members closing absent allowed =
     let ran = allowed.runs 0 nobody (omega arith) in
     let a = was_old (opening_cut bits members) allowed.history k 1 0 end ran in
     let b = was_old (opening_cut bits members) allowed.history k 2 1 (get_or allowed.lanes 1 nobody) (allowed.runs 1 nobody (omega arith)) in
-    let changes : changes_of allowed.lanes ≡ [] = two_lanes allowed.lanes allowed.one_each ∙ rw (a.none, b.none) refl in
+    let changes : all_accepted allowed.lanes ≡ [] = two_lanes allowed.lanes allowed.one_each ∙ rw (a.none, b.none) refl in
     let some = opens-some bits members allowed.history allowed.is_history ran.start.knows.history ran.opens.sees_opening in
     let told = story bits members allowed.history allowed.is_history ((row_at 1 0 (verb.Insert k), reply.Old) ∷ []) ran.start end ran.runs some ran.of_history in
     let longer = begins-length ran.start.knows.history end.knows.history told.goes.goes_on in

@@ -1,14 +1,12 @@
 -- Which reports a round may have, whatever the order in which its lanes ran.
-use Rattle.std.specs.Prelude.{◌≡◌, ℕ, ◌+◌, ◌<◌, ◌⊎◌, ⊤, List, [], ◌∷◌, length, map, filter, flat_map, All, slice_index_or, ◌==◌, if◌then◌else◌}
-use Rattle.aug_model.specs.Queries.{rank_of, select_of, before_of, after_of, weight_of, weighted_range_of}
+use Rattle.std.specs.Prelude.{◌≡◌, ℕ, ◌+◌, ◌<◌, ◌⊎◌, ⊤, List, [], ◌∷◌, length, map, filter, flat_map, All, slice_index_or, ◌==◌}
 use Rattle.aug_model.specs.declared.outcome.Outcome.{Outcome}
 use Rattle.aug_model.specs.declared.outcome.Outcome.TheVariants as outcome
 use Rattle.aug_core.specs.Cuts.{Cut, opening_cut, pairs_of_cut}
-use Rattle.aug_trie.specs.History.{Begins, IsHistory, last_cut}
+use Rattle.aug_trie.specs.History.{IsPrefix, IsHistory, last_cut}
 use Rattle.aug_core.specs.declared.view.Change.{Change}
 use Rattle.aug_trie.specs.Knowledge.{removal, insertion, Knowledge, inserts_of, removals_of}
-use Rattle.aug_model.specs.Keys.{is_member, keys_of}
-use Rattle.aug_script.specs.Replies.{span_of}
+use Rattle.aug_script.specs.Replies.{query_reply}
 use Rattle.aug_trie.specs.Tallies.{Tallies, Weighs}
 use Rattle.aug_trie.specs.Updates.{AcceptedUpdate, RefusedUpdate, PutsIn, TakesSnapshot}
 use Rattle.aug_script.specs.declared.reply.Reply.{Reply}
@@ -43,7 +41,7 @@ pub record AnswersPut (key weight : ℕ) (answer : Reply) (old new : Lane) : Typ
   pub holds_still : new.held ≡ old.held
 
 -- the lane takes a new snapshot, which it holds from then on
-pub record Looks (answer : Reply) (old new : Lane) : Type 0 where
+pub record LaneLooks (answer : Reply) (old new : Lane) : Type 0 where
   pub looked : answer ≡ reply.Looked
   pub takes : TakesSnapshot old.knows new.knows new.held
 
@@ -57,15 +55,8 @@ abbrev pub Answers : Verb → Reply → Lane → Lane → Type 0
 Answers (verb.Insert k) = AnswersUpdate insertion k k reply.New reply.Old
 Answers (verb.Put k w) = AnswersPut k w
 Answers (verb.Remove k) = AnswersUpdate removal k 0 reply.Gone reply.Absent
-Answers verb.Look = Looks
-Answers (verb.Has k) = Asks (λ pairs. if is_member (keys_of pairs) k then reply.Yes else reply.No)
-Answers (verb.Weight k) = Asks (λ pairs. reply.Found (weight_of pairs k))
-Answers verb.Size = Asks (λ pairs. reply.Number (length (keys_of pairs)))
-Answers (verb.Rank k) = Asks (λ pairs. reply.Number (rank_of (keys_of pairs) k))
-Answers (verb.Select i) = Asks (λ pairs. reply.Found (select_of (keys_of pairs) i))
-Answers (verb.Before k) = Asks (λ pairs. reply.Found (before_of (keys_of pairs) k))
-Answers (verb.After k) = Asks (λ pairs. reply.Found (after_of (keys_of pairs) k))
-Answers (verb.Range a b) = Asks (λ pairs. reply.Span (span_of (weighted_range_of pairs a b)))
+Answers verb.Look = LaneLooks
+Answers query = Asks (λ pairs. query_reply pairs query)
 
 -- what a lane goes through as it answers its rows, one after another
 unfoldable pub AnswersAll : List (Row × Reply) → Lane → Lane → Type 0
@@ -74,7 +65,7 @@ AnswersAll (line ∷ lines) old new = (next : Lane) × Answers line.0.verb line.
 
 -- a lane that has taken its opening snapshot, and done nothing else
 pub record Opens (opening : Cut) (lane : Lane) : Type 0 where
-  pub sees_opening : Begins (opening ∷ []) lane.knows.history
+  pub sees_opening : IsPrefix (opening ∷ []) lane.knows.history
   pub no_change : lane.knows.accepted ≡ []
   pub holds_last : lane.held ≡ last_cut lane.knows.history
 
@@ -83,15 +74,15 @@ pub record RunsLane (opening : Cut) (history : List Cut) (lines : List (Row × R
   pub start : Lane
   pub opens : Opens opening start
   pub runs : AnswersAll lines start end
-  pub of_history : Begins end.knows.history history
+  pub of_history : IsPrefix end.knows.history history
 
 -- the lines of a lane, in order
 abbrev pub lines_of : ℕ → List (Row × Reply) → List (Row × Reply)
 lines_of lane lines = filter (λ line. line.0.lane == lane) lines
 
 -- all that the lanes had accepted
-abbrev pub changes_of : List Lane → List Change
-changes_of lanes = flat_map (λ lane. lane.knows.accepted) lanes
+abbrev pub all_accepted : List Lane → List Change
+all_accepted lanes = flat_map (λ lane. lane.knows.accepted) lanes
 
 -- a round with keys of so many bits that opened with one set and closed with another may have this report: there are one history and an end for each
 -- lane that tell how each row came to its reply, the changes of all lanes are all that happened, and each cut of the history shows
@@ -103,12 +94,12 @@ pub record AllowedReport (bits workers : ℕ) (members : List (ℕ × ℕ)) (rep
   pub one_each : length lanes ≡ workers
   pub of_lanes : All (λ line. line.0.lane < workers) report.rows
   pub runs : (lane : ℕ) (default : Lane) → lane < workers → RunsLane (opening_cut bits members) history (lines_of lane report.rows) (slice_index_or lanes lane default)
-  pub tallies : Tallies (opening_cut bits members) (last_cut history) (changes_of lanes)
-  pub weigh : All (Weighs (opening_cut bits members) (changes_of lanes)) history
+  pub tallies : Tallies (opening_cut bits members) (last_cut history) (all_accepted lanes)
+  pub weigh : All (Weighs (opening_cut bits members) (all_accepted lanes)) history
   pub closes : closing ≡ pairs_of_cut (last_cut history)
   pub size : report.size ≡ length closing
-  pub inserts : report.inserts ≡ inserts_of (changes_of lanes)
-  pub removals : report.removals ≡ removals_of (changes_of lanes)
+  pub inserts : report.inserts ≡ inserts_of (all_accepted lanes)
+  pub removals : report.removals ≡ removals_of (all_accepted lanes)
 
 -- the report is of the round with this number and these rows, in their order
 pub record IsReportOf (number : ℕ) (rows : List Row) (report : Report) : Type 0 where

@@ -104,13 +104,13 @@ OldHasCause = (k bits workers number size inserts removals : ℕ) (members closi
     → is_member (keys_of members) k ≡ false
     → AllowedReport bits workers members (report_with number (insertion_line k reply.Old) size inserts removals) closing → ⊥
 
-abbrev pub round_of : ℕ → Row → ScriptRound
-round_of bits row = record { bits = bits; rows = row ∷ [] }
+abbrev pub round_with : ℕ → Row → ScriptRound
+round_with bits row = record { bits = bits; rows = row ∷ [] }
 
 -- a key is put in, and the next round does not have it: no reports have that
 abbrev pub NextRoundGoesOn : Type 0
 NextRoundGoesOn = (k bits workers number size inserts removals size' inserts' removals' : ℕ) → 0 < workers → k < 2 ^ bits
-    → AllowedReports workers number [] (round_of bits (row_at 1 0 (verb.Insert k)) ∷ round_of bits (row_at 2 0 (verb.Has k)) ∷ [])
+    → AllowedReports workers number [] (round_with bits (row_at 1 0 (verb.Insert k)) ∷ round_with bits (row_at 2 0 (verb.Has k)) ∷ [])
     (report_with number (insertion_line k reply.New) size inserts removals ∷ report_with (number + 1) ((row_at 2 0 (verb.Has k), reply.No) ∷ []) size' inserts' removals' ∷ []) → ⊥
 
 -- one lane puts a weight on a key, with this reply, and another looks and asks something

@@ -10,7 +10,7 @@ use Rattle.aug_trie.specs.Passes.{HandedBack}
 use Rattle.aug_report.specs.AllowedReport.{Lane, AnswersAll, lines_of}
 use Rattle.aug_run.specs.inside.Returns.{AreAnswered, AreInOrder, RanLanes, WentBack}
 use Rattle.aug_run.specs.inside.Rounds.{BacksAll}
-use Rattle.aug_run.specs.inside.Workers.{RunsTo, opening_of, rows_of}
+use Rattle.aug_run.specs.inside.Workers.{RunsTo, opening_cut_of, rows_of}
 use Rattle.aug_script.specs.declared.reply.Reply.{Reply}
 use Rattle.aug_script.specs.declared.row.Row.{Row}
 
@@ -28,7 +28,7 @@ went_none round rows knows = record { ends = []; one_each = refl; runs = λ lane
 
 -- one more pass came back, of the next lane
 pub went_more : (round : RoundFacts) (rows : List Row) (all : List (List Reply)) (replies : List Reply) (end : Lane) (old mid new : Knowledge) → WentBack round rows all old mid
-    → RunsTo (opening_of round) (rows_of (length all) rows) replies end → HandedBack mid end.knows new → WentBack round rows (all ++ replies ∷ []) old new
+    → RunsTo (opening_cut_of round) (rows_of (length all) rows) replies end → HandedBack mid end.knows new → WentBack round rows (all ++ replies ∷ []) old new
 went_more round rows all replies end old mid new went runs back =
     let n = length all in
     let longer = length-append went.ends (end ∷ []) in
@@ -47,7 +47,7 @@ went_more round rows all replies end old mid new went runs back =
 
 -- the same, as the code keeps the replies of a lane
 pub went_on : {I : Type 0} (f : I → List Reply) (round : RoundFacts) (rows : List Row) (lanes lanes' : List I) (it : I) (replies : List Reply) (n : ℕ) (end : Lane) (old mid new : Knowledge)
-    → lanes' ≡ lanes ++ it ∷ [] → f it ≡ replies → length lanes ≡ n → WentBack round rows (map f lanes) old mid → RunsTo (opening_of round) (rows_of n rows) replies end → HandedBack mid end.knows new
+    → lanes' ≡ lanes ++ it ∷ [] → f it ≡ replies → length lanes ≡ n → WentBack round rows (map f lanes) old mid → RunsTo (opening_cut_of round) (rows_of n rows) replies end → HandedBack mid end.knows new
     → WentBack round rows (map f lanes') old new
 went_on f round rows lanes lanes' it replies n end old mid new is given long went runs back =
     let number : n ≡ length (map f lanes) = sym (length-map lanes f ∙ long) in

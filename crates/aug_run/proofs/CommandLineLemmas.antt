@@ -27,7 +27,7 @@ use Rattle.clap.proofs.OnLiterals.{clap_on_literals}
 use Rattle.clap.proofs.SimpleLemmas.{ready_simple, simple_groups}
 use Rattle.clap.proofs.WalkLemmas.{one_text-rows}
 use Rattle.aug_run.proofs.OptionReads.{IsOwn, TakesOne, option_reads}
-use Rattle.aug_run.specs.CommandLine.{IsStopFor, bits_rule, file_rule, number_of, number_rule, program, updates_rule, workers_rule}
+use Rattle.aug_run.specs.CommandLine.{IsStopFor, bits_rule, file_rule, number_given, number_rule, program, updates_rule, workers_rule}
 use Rattle.aug_run.specs.inside.FoundNumbers.{FindsNumber, FindsNumbers}
 
 pub program_is_simple : is_simple program ≡ true
@@ -163,7 +163,7 @@ numbers_found c m p is = record {
 pub record IsNumberFound (name : Text) (found : Found) (most value : ℕ) : Type 0 where
   pub least : 1 ≤ value
   pub greatest : value ≤ most
-  pub number : number_of name (rows_of found) ≡ Some value
+  pub number : number_given name (rows_of found) ≡ Some value
 
 -- what `u32::from_str` gives
 abbrev pub Gives : List ℕ → Result ℕ ParseIntError → Type 0

@@ -5,14 +5,14 @@ use Rattle.std.proofs.lemmas.List.{length-set, length-replicate, length-take-le,
 use Rattle.std.proofs.lemmas.List.Elements.{All-get_or}
 use Rattle.std.proofs.lemmas.List.Filters.{length-filter_more}
 use Rattle.aug_trie.proofs.Counting.{filter_shorter}
-use Rattle.aug_run.specs.inside.Workers.{AreCounted}
+use Rattle.aug_run.specs.inside.Workers.{AreRowCounts}
 use Rattle.aug_script.specs.declared.row.Row.{Row}
 use Rattle.aug_run.proofs.Working.{no_row}
 
-pub counted_none : (counts : List ℕ) → ((lane : ℕ) → get_or counts lane 0 ≡ 0) → AreCounted (length counts) [] counts
+pub counted_none : (counts : List ℕ) → ((lane : ℕ) → get_or counts lane 0 ≡ 0) → AreRowCounts (length counts) [] counts
 counted_none counts zero = record { one_each = refl; counted = λ lane low. zero lane }
 
-module _ (rows : List Row) (workers i : ℕ) (low : i < length rows) (counts : List ℕ) (was : AreCounted workers (take i rows) counts) (lanes : All (λ row. row.lane < workers) rows) where
+module _ (rows : List Row) (workers i : ℕ) (low : i < length rows) (counts : List ℕ) (was : AreRowCounts workers (take i rows) counts) (lanes : All (λ row. row.lane < workers) rows) where
   pub lane_fits : (get_or rows i no_row).lane < length counts
   lane_fits = omega (arith, was.one_each, All-get_or (λ row. row.lane < workers) rows i no_row low lanes)
 
@@ -22,7 +22,7 @@ module _ (rows : List Row) (workers i : ℕ) (low : i < length rows) (counts : L
       let lane = (get_or rows i no_row).lane in
       omega (arith, was.counted lane (All-get_or (λ row. row.lane < workers) rows i no_row low lanes), filter_shorter (λ row. row.lane == lane) (take i rows), length-take-le i rows (omega arith))
 
-  pub counted_more : (counts' : List ℕ) → counts' ≡ set counts (get_or rows i no_row).lane (get_or counts (get_or rows i no_row).lane 0 + 1) → AreCounted workers (take (i + 1) rows) counts'
+  pub counted_more : (counts' : List ℕ) → counts' ≡ set counts (get_or rows i no_row).lane (get_or counts (get_or rows i no_row).lane 0 + 1) → AreRowCounts workers (take (i + 1) rows) counts'
   counted_more counts' is =
       let own = (get_or rows i no_row).lane in
       let n = get_or counts own 0 + 1 in
@@ -45,7 +45,7 @@ module _ (rows : List Row) (workers i : ℕ) (low : i < length rows) (counts : L
       one_if : Bool → ℕ
       one_if b = cond b 1 0
 
-pub counted_all : (rows : List Row) (workers i : ℕ) (counts : List ℕ) → length rows ≤ i → AreCounted workers (take i rows) counts → AreCounted workers rows counts
+pub counted_all : (rows : List Row) (workers i : ℕ) (counts : List ℕ) → length rows ≤ i → AreRowCounts workers (take i rows) counts → AreRowCounts workers rows counts
 counted_all rows workers i counts past counted = rw (take_all i rows past) at counted
 
 pub zeros : (n lane : ℕ) → get_or (replicate {A = ℕ} n 0) lane 0 ≡ 0

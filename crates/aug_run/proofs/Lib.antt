@@ -1,5 +1,6 @@
 pub mod CommandLineLemmas
 pub mod OptionReads
+pub mod Failing
 pub mod Printing
 pub mod Rounds
 pub mod Answering

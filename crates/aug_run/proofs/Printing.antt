@@ -1,13 +1,12 @@
 -- The reports of a script's rounds, and how many of them were printed.
 use Rattle.std.proofs.Common.{◌≡◌, ℕ, suc, ◌+◌, ◌<◌, List, [], ◌∷◌, ◌++◌, length, map, take, get_or, refl, sym, ap, ◌∙◌, arith, subst, All, length-append}
-use Rattle.std.specs.Prelude.{Option}
 use Rattle.std.specs.Io.KnownBytes.{Appends}
 use Rattle.std.specs.List.{concat}
 use Rattle.std.proofs.KnownBytes.{Appends-nil, Appends-trans}
 use Rattle.std.proofs.lemmas.List.{append-nil, map-append, take_more, length-take-le}
 use Rattle.std.proofs.lemmas.List.Elements.{All-head, All-tail}
 use Rattle.std.proofs.lemmas.List.Folds.{concat-append}
-use Rattle.aug_script.specs.Devices.{AppendsBeginning, FinishesLast}
+use Rattle.aug_script.specs.Devices.{SinkState, Writes, WritesBeginning}
 use Rattle.aug_script.specs.Limits.{Bounds}
 use Rattle.aug_script.specs.Replies.{report_of}
 use Rattle.aug_script.specs.ReportText.{report_text}
@@ -80,22 +79,25 @@ texts_of-push reports report =
     ∙ ap (λ (last : List ℕ). texts_of reports ++ last) (append-nil (report_text report))
 
 -- the first rounds were printed, and closed with this set
-pub record Printed (limits : Bounds) (rounds : List ScriptRound) (count : ℕ) (closing : List (ℕ × ℕ)) (before after : Option (List ℕ)) (calls calls' : ℕ) : Type 0 where
+pub record Printed (limits : Bounds) (rounds : List ScriptRound) (count : ℕ) (closing : List (ℕ × ℕ)) (old new : SinkState) : Type 0 where
   pub reports : List Report
   pub chain : Chain limits.workers 1 [] (take count rounds) reports closing
-  pub wrote : Appends before after (texts_of reports)
-  pub finished : calls' ≡ calls + length reports
+  pub wrote : Writes old new (texts_of reports) (length reports)
 
 module _ (limits : Bounds) (rounds : List ScriptRound) where
   -- no round was printed yet
-  pub printed_none : (known : Option (List ℕ)) (calls : ℕ) → Printed limits rounds 0 [] known known calls calls
+  pub printed_none : (state : SinkState) → Printed limits rounds 0 [] state state
   unfolding Chain
-  printed_none known calls = record { reports = []; chain = refl; wrote = Appends-nil known; finished = omega arith }
+  printed_none state =
+      record { reports = []; chain = refl; wrote = record { bytes = Appends-nil state.bytes; finished = omega arith; no_fault = refl } }
 
-  module _ (count : ℕ) (closing : List (ℕ × ℕ)) (before between : Option (List ℕ)) (calls calls' : ℕ) (done : Printed limits rounds count closing before between calls calls') where
-    pub prints_first : Prints limits (take count rounds) before between calls calls'
-    prints_first = let long = chain_long limits.workers 1 [] closing (take count rounds) done.reports done.chain in let f = done.finished in
-        record { reports = done.reports; may_have = may_have limits closing (take count rounds) done.reports done.chain; wrote = done.wrote; finished = omega arith }
+  module _ (count : ℕ) (closing : List (ℕ × ℕ)) (old between : SinkState) (done : Printed limits rounds count closing old between) where
+    pub prints_first : Prints limits (take count rounds) old between
+    prints_first = let long = chain_long limits.workers 1 [] closing (take count rounds) done.reports done.chain in record {
+      reports = done.reports;
+      may_have = may_have limits closing (take count rounds) done.reports done.chain;
+      wrote = subst (λ (n : ℕ). Writes old between (texts_of done.reports) n) long done.wrote;
+    }
 
     module _ (round d : ScriptRound) (report : Report) (next : List (ℕ × ℕ)) (below : count < length rounds) (round_is : round ≡ get_or rounds count d) (of_rows : IsReportOf (count + 1) round.rows report)
         (allowed : AllowedReport round.bits limits.workers closing report next) (turn : IsInTurn limits.workers (count + 1) closing round.rows report next) where
@@ -106,24 +108,26 @@ module _ (limits : Bounds) (rounds : List ScriptRound) where
           (chain_more limits.workers 1 (count + 1) [] closing next (take count rounds) round done.reports report done.chain (omega arith) of_rows allowed turn)
 
       -- one more was printed
-      pub printed_more : (after : Option (List ℕ)) (calls'' : ℕ) → Appends between after (report_text report) → calls'' ≡ calls' + 1 → Printed limits rounds (count + 1) next before after calls calls''
-      printed_more after calls'' wrote once = record {
+      pub printed_more : (new : SinkState) → Writes between new (report_text report) 1 → Printed limits rounds (count + 1) next old new
+      printed_more new wrote = record {
         reports = done.reports ++ report ∷ [];
         chain = more;
-        wrote = subst (Appends before after) (sym (texts_of-push done.reports report)) (Appends-trans before between after _ _ done.wrote wrote);
-        finished = let f = done.finished in let long = length-append done.reports (report ∷ []) in omega arith;
+        wrote = record {
+          bytes = subst (Appends old.bytes new.bytes) (sym (texts_of-push done.reports report))
+              (Appends-trans old.bytes between.bytes new.bytes _ _ done.wrote.bytes wrote.bytes);
+          finished = omega (arith, done.wrote.finished, wrote.finished, length-append done.reports (report ∷ []));
+          no_fault = wrote.no_fault ∙ done.wrote.no_fault;
+        };
       }
 
       -- of one more a beginning was
-      pub prints_in_part : (after : Option (List ℕ)) (calls'' : ℕ) → AppendsBeginning between after (report_text report) → FinishesLast between after calls' calls'' (report_text report) → PrintsInPart limits (take (count + 1) rounds) before after calls calls''
-      prints_in_part after calls'' wrote last = record {
+      pub prints_in_part : (new : SinkState) → WritesBeginning between new (report_text report)
+          → PrintsInPart limits (take (count + 1) rounds) old new
+      prints_in_part new wrote = record {
         reports = done.reports;
         broken = report;
         may_have = may_have limits next (take (count + 1) rounds) (done.reports ++ report ∷ []) more;
         between = between;
-        calls_between = calls';
         wrote = done.wrote;
-        finished = done.finished;
         in_part = wrote;
-        last = last;
       }

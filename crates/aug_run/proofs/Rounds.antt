@@ -2,11 +2,11 @@
 use Rattle.std.proofs.Common.{◌≡◌, ℕ, zero, suc, ◌<◌, List, [], ◌∷◌, ◌++◌, length, get_or, refl, ap, sym, ◌∙◌, arith, All, append_assoc, subst}
 use Rattle.std.proofs.lemmas.List.{append-nil}
 use Rattle.aug_core.specs.Cuts.{Cut, opening_cut, pairs_of_cut}
-use Rattle.aug_trie.specs.History.{Begins, IsHistory, last_cut}
+use Rattle.aug_trie.specs.History.{IsPrefix, IsHistory, last_cut}
 use Rattle.aug_core.specs.declared.view.Change.{Change}
 use Rattle.aug_trie.specs.Knowledge.{Knowledge, inserts_of, removals_of}
 use Rattle.aug_trie.specs.Tallies.{Tallies, TalliesWithLost, Weighs}
-use Rattle.aug_report.specs.AllowedReport.{AllowedReport, Lane, Opens, AnswersAll, changes_of, lines_of}
+use Rattle.aug_report.specs.AllowedReport.{AllowedReport, Lane, Opens, AnswersAll, all_accepted, lines_of}
 use Rattle.aug_run.specs.inside.Rounds.{BacksAll, Started}
 use Rattle.aug_script.specs.declared.report.Report.{Report}
 use Rattle.aug_report.proofs.Histories.{begins-same}
@@ -14,18 +14,18 @@ use Rattle.aug_trie.proofs.Pieces.{begins_on}
 use Rattle.aug_trie.proofs.Tallying.{none_lost_tallies}
 use Rattle.aug_trie.proofs.TallyLemmas.{none_lost_weighs}
 
-backs_begin : (lanes : List Lane) (old new : Knowledge) → BacksAll lanes old new → Begins old.history new.history
+backs_begin : (lanes : List Lane) (old new : Knowledge) → BacksAll lanes old new → IsPrefix old.history new.history
 unfolding BacksAll
 backs_begin [] old new backs = begins-same old.history new.history (ap (λ (k : Knowledge). k.history) backs)
 backs_begin (lane ∷ lanes) old new backs = begins_on old.history backs.0.history new.history backs.1.goes_on (backs_begin lanes backs.0 new backs.2)
 
-backs_add : (lanes : List Lane) (old new : Knowledge) → BacksAll lanes old new → new.accepted ≡ old.accepted ++ changes_of lanes
+backs_add : (lanes : List Lane) (old new : Knowledge) → BacksAll lanes old new → new.accepted ≡ old.accepted ++ all_accepted lanes
 unfolding BacksAll
 backs_add [] old new backs = ap (λ (k : Knowledge). k.accepted) backs ∙ sym (append-nil old.accepted)
 backs_add (lane ∷ lanes) old new backs =
-    backs_add lanes backs.0 new backs.2 ∙ ap (λ l. l ++ changes_of lanes) backs.1.changes_of_both ∙ append_assoc old.accepted lane.knows.accepted (changes_of lanes)
+    backs_add lanes backs.0 new backs.2 ∙ ap (λ l. l ++ all_accepted lanes) backs.1.changes_of_both ∙ append_assoc old.accepted lane.knows.accepted (all_accepted lanes)
 
-backs_know : (lanes : List Lane) (old new : Knowledge) → BacksAll lanes old new → (i : ℕ) (d : Lane) → i < length lanes → Begins (get_or lanes i d).knows.history new.history
+backs_know : (lanes : List Lane) (old new : Knowledge) → BacksAll lanes old new → (i : ℕ) (d : Lane) → i < length lanes → IsPrefix (get_or lanes i d).knows.history new.history
 unfolding BacksAll
 backs_know [] old new backs i d below = absurd (omega arith)
 backs_know (lane ∷ lanes) old new backs zero d below = begins_on lane.knows.history backs.0.history new.history backs.1.takes_up (backs_begin lanes backs.0 new backs.2)
@@ -51,7 +51,7 @@ pub round_allowed : (bits workers updates : ℕ) (members : List (ℕ × ℕ)) (
     → report.size ≡ length (pairs_of_cut (last_cut final.history)) → report.inserts ≡ inserts_of final.accepted → report.removals ≡ removals_of final.accepted
     → AllowedReport bits workers members report (pairs_of_cut (last_cut final.history))
 round_allowed bits workers updates members report crew final lanes one_each of_lanes ran nothing backs is_history tallies size inserts removals =
-    let changes : final.accepted ≡ changes_of lanes = backs_add lanes crew final backs ∙ ap (λ l. l ++ changes_of lanes) nothing in
+    let changes : final.accepted ≡ all_accepted lanes = backs_add lanes crew final backs ∙ ap (λ l. l ++ all_accepted lanes) nothing in
     record {
       history = final.history;
       is_history = is_history;

@@ -5,10 +5,10 @@ use Rattle.std.proofs.lemmas.List.Filters.{length-filter_more}
 use Rattle.aug_trie.specs.Round.{RoundFacts}
 use Rattle.aug_trie.specs.Pass.{PassFacts}
 use Rattle.aug_trie.specs.Snapshot.{HasSnapshot}
-use Rattle.aug_trie.specs.declared.snapshot.Snapshot.{Snapshot}
+use Rattle.aug_trie.specs.declared.queries.snapshot.Snapshot.{Snapshot}
 use Rattle.aug_report.specs.AllowedReport.{Lane, Answers}
 use Rattle.aug_script.specs.Script.{is_update, updates_of}
-use Rattle.aug_run.specs.inside.Workers.{AnswersRows, lane_of, rows_of}
+use Rattle.aug_run.specs.inside.Workers.{AnswersRows, lane_at, rows_of}
 use Rattle.aug_script.specs.declared.reply.Reply.{Reply}
 use Rattle.aug_script.specs.declared.row.Row.{Row}
 use Rattle.aug_script.specs.declared.verb.Verb.TheVariants as verb
@@ -23,7 +23,7 @@ no_row = record { row = 0; lane = 0; verb = verb.Insert 0 }
 pub record Worked (round : RoundFacts) (lane : ℕ) (rows : List Row) (start : Lane) (i : ℕ) (pass : PassFacts) (held : Snapshot) (replies : List Reply) (len capacity : ℕ) : Type 0 where
   pub here : pass.round ≡ round
   pub has : HasSnapshot pass held.number
-  pub answered : AnswersRows (rows_of lane (take i rows)) replies start (lane_of pass held)
+  pub answered : AnswersRows (rows_of lane (take i rows)) replies start (lane_at pass held)
   pub spent : pass.spent ≡ updates_of lane (take i rows)
   pub long : len ≡ length (rows_of lane (take i rows))
   pub room : length (rows_of lane rows) ≤ capacity
@@ -39,9 +39,9 @@ one_if b = cond b 1 0
 
 module _ (round : RoundFacts) (lane : ℕ) (rows : List Row) where
   pub worked_none : (pass : PassFacts) (held : Snapshot) (replies : List Reply) (len capacity : ℕ) → pass.round ≡ round → HasSnapshot pass held.number → replies ≡ [] → pass.spent ≡ 0 → len ≡ 0
-      → length (rows_of lane rows) ≤ capacity → Worked round lane rows (lane_of pass held) 0 pass held replies len capacity
+      → length (rows_of lane rows) ≤ capacity → Worked round lane rows (lane_at pass held) 0 pass held replies len capacity
   worked_none pass held replies len capacity here has empty unspent none room =
-      record { here = here; has = has; answered = rw empty (answers_none (lane_of pass held)); spent = unspent; long = none; room = room }
+      record { here = here; has = has; answered = rw empty (answers_none (lane_at pass held)); spent = unspent; long = none; room = room }
 
   module _ (start : Lane) (i : ℕ) (low : i < length rows) (pass : PassFacts) (held : Snapshot) (replies : List Reply) (len capacity : ℕ) (was : Worked round lane rows start i pass held replies len capacity) where
     module _ (own : (get_or rows i no_row).lane ≡ lane) where
@@ -60,7 +60,7 @@ module _ (round : RoundFacts) (lane : ℕ) (rows : List Row) where
 
       -- and then it ran one row more
       pub worked_more : (pass' : PassFacts) (held' : Snapshot) (reply : Reply) (replies' : List Reply) (len' capacity' : ℕ)
-          → Answers (get_or rows i no_row).verb reply (lane_of pass held) (lane_of pass' held') → HasSnapshot pass' held'.number → pass'.round ≡ pass.round
+          → Answers (get_or rows i no_row).verb reply (lane_at pass held) (lane_at pass' held') → HasSnapshot pass' held'.number → pass'.round ≡ pass.round
           → pass'.spent ≡ pass.spent + (if is_update (get_or rows i no_row).verb then 1 else 0)
           → replies' ≡ replies ++ reply ∷ [] → len' ≡ len + 1 → capacity ≤ capacity' → Worked round lane rows start (i + 1) pass' held' replies' len' capacity'
       worked_more pass' held' reply replies' len' capacity' answers has same more is one wide =
@@ -70,7 +70,7 @@ module _ (round : RoundFacts) (lane : ℕ) (rows : List Row) where
           record {
             here = same ∙ was.here;
             has = has;
-            answered = rw (filter_keeps (is_of lane) rows i no_row low is_own, is) (answers_more (rows_of lane (take i rows)) replies (get_or rows i no_row) reply start (lane_of pass held) (lane_of pass' held') was.answered answers);
+            answered = rw (filter_keeps (is_of lane) rows i no_row low is_own, is) (answers_more (rows_of lane (take i rows)) replies (get_or rows i no_row) reply start (lane_at pass held) (lane_at pass' held') was.answered answers);
             spent = omega (arith, was.spent, more, counted, update);
             long = omega (arith, was.long, one, row, ap one_if is_own);
             room = omega (arith, was.room, wide);
@@ -93,5 +93,5 @@ module _ (round : RoundFacts) (lane : ℕ) (rows : List Row) where
         }
 
   -- and where all rows were passed, it ran all of its lane
-  pub worked_all : (start : Lane) (i : ℕ) (pass : PassFacts) (held : Snapshot) (replies : List Reply) (len capacity : ℕ) → length rows ≤ i → Worked round lane rows start i pass held replies len capacity → AnswersRows (rows_of lane rows) replies start (lane_of pass held)
-  worked_all start i pass held replies len capacity past was = subst (λ (l : List Row). AnswersRows (rows_of lane l) replies start (lane_of pass held)) (take_all i rows past) was.answered
+  pub worked_all : (start : Lane) (i : ℕ) (pass : PassFacts) (held : Snapshot) (replies : List Reply) (len capacity : ℕ) → length rows ≤ i → Worked round lane rows start i pass held replies len capacity → AnswersRows (rows_of lane rows) replies start (lane_at pass held)
+  worked_all start i pass held replies len capacity past was = subst (λ (l : List Row). AnswersRows (rows_of lane l) replies start (lane_at pass held)) (take_all i rows past) was.answered

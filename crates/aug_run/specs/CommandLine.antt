@@ -45,14 +45,14 @@ abbrev pub program : App
 program = with_rule (with_rule (with_rule (with_rule (bare_program (codes "augtrie")) bits_rule) workers_rule) updates_rule) file_rule
 
 -- the number that was found for the option of this name
-abbrev pub number_of : Text → List Row → Option ℕ
-number_of name rows = option_map (λ text. digits_value 10 (without_leading_plus text)) (one_of name rows)
+abbrev pub number_given : Text → List Row → Option ℕ
+number_given name rows = option_map (λ text. digits_value 10 (without_leading_plus text)) (one_of name rows)
 
 -- what was found, as options
 pub record IsReadFrom (rows : List Row) (options : Options) : Type 0 where
-  pub bits : number_of (codes "bits") rows ≡ Some options.limits.bits
-  pub workers : number_of (codes "workers") rows ≡ Some options.limits.workers
-  pub updates : number_of (codes "updates") rows ≡ Some options.limits.updates
+  pub bits : number_given (codes "bits") rows ≡ Some options.limits.bits
+  pub workers : number_given (codes "workers") rows ≡ Some options.limits.workers
+  pub updates : number_given (codes "updates") rows ≡ Some options.limits.updates
   pub file : option_map string_bytes options.file ≡ first_of (codes "FILE") rows
 
 -- these are the options that the words ask for, or leave to the defaults
@@ -75,9 +75,9 @@ pub record AsksTooMuch (rows : List Row) : Type 0 where
   pub bits : ℕ
   pub workers : ℕ
   pub updates : ℕ
-  pub found_bits : number_of (codes "bits") rows ≡ Some bits
-  pub found_workers : number_of (codes "workers") rows ≡ Some workers
-  pub found_updates : number_of (codes "updates") rows ≡ Some updates
+  pub found_bits : number_given (codes "bits") rows ≡ Some bits
+  pub found_workers : number_given (codes "workers") rows ≡ Some workers
+  pub found_updates : number_given (codes "updates") rows ≡ Some updates
   pub too_large : IsRefused TooLarge (shape_of bits workers updates (2 ^ bits))
 
 -- keys below 2 ^ 4, one lane with 64 updates, and no file

@@ -14,16 +14,8 @@ fault_line text = codes "augtrie: " ++ text ++ codes "\n"
 
 -- 1 for a script's fault, but 4 for memory
 abbrev pub script_status : ScriptError → ℕ
-script_status (script.BadCsv row) = 1
-script_status (script.BadLane row) = 1
-script_status (script.BadVerb row) = 1
-script_status (script.BadArity row) = 1
-script_status (script.BadNumber row) = 1
-script_status (script.OutOfRange row) = 1
-script_status (script.TooManyUpdates row) = 1
 script_status script.OutOfMemory = 4
-script_status (script.BadPlace row) = 1
-script_status (script.TooWide row) = 1
+script_status fault = 1
 
 -- what went wrong in a run
 abbrev pub run_error_text : RunError → List ℕ
@@ -56,12 +48,10 @@ stop_text stop.OutOfMemory = codes "memory"
 abbrev pub stop_line : Stop → List ℕ
 stop_line (stop.Help text) = string_bytes text
 stop_line (stop.Usage text) = string_bytes text
-stop_line stop.TooLarge = fault_line (stop_text stop.TooLarge)
-stop_line stop.OutOfMemory = fault_line (stop_text stop.OutOfMemory)
+stop_line other = fault_line (stop_text other)
 
--- 0 for help that was asked for, 2 for words that are wrong, 4 for memory
+-- 0 for help that was asked for, 4 for memory, 2 for words that are wrong
 abbrev pub stop_status : Stop → ℕ
 stop_status (stop.Help text) = 0
-stop_status (stop.Usage text) = 2
-stop_status stop.TooLarge = 2
 stop_status stop.OutOfMemory = 4
+stop_status other = 2

@@ -1,8 +1,7 @@
 -- What a run of a whole script comes to.
-use Rattle.std.specs.Prelude.{◌≡◌, ℕ, ◌+◌, ◌<◌, ◌≤◌, ◌⊎◌, List, [], ◌∷◌, ◌++◌, length, map, take, All, Option, Ok, Err, IfSome}
-use Rattle.std.specs.Io.KnownBytes.{Appends}
+use Rattle.std.specs.Prelude.{◌≡◌, ℕ, ◌+◌, ◌<◌, ◌≤◌, ◌⊎◌, List, [], ◌∷◌, ◌++◌, length, map, take, All, Option, Result, Ok, IfSome}
 use Rattle.std.specs.List.{concat}
-use Rattle.aug_script.specs.Devices.{AppendsBeginning, FinishesLast}
+use Rattle.aug_script.specs.Devices.{SinkState, Writes, WritesBeginning}
 use Rattle.aug_script.specs.Limits.{Bounds}
 use Rattle.aug_script.specs.Replies.{opening_sets, report_of, sets_of}
 use Rattle.aug_script.specs.ReportText.{report_text}
@@ -36,54 +35,40 @@ pub record MayHave (limits : Bounds) (rounds : List ScriptRound) (reports : List
   pub allowed : AllowedReports limits.workers 1 [] rounds reports
   pub in_turn : All (OfOneLane limits.workers) rounds → reports ≡ reports_of 1 [] rounds
 
--- reports that these rounds may have went out whole behind what had gone out before, and `finish` was called once for each
-pub record Prints (limits : Bounds) (rounds : List ScriptRound) (before after : Option (List ℕ)) (calls calls' : ℕ) : Type 0 where
+-- reports that these rounds may have went out whole, and `finish` was called once for each
+pub record Prints (limits : Bounds) (rounds : List ScriptRound) (old new : SinkState) : Type 0 where
   pub reports : List Report
   pub may_have : MayHave limits rounds reports
-  pub wrote : Appends before after (texts_of reports)
-  pub finished : calls' ≡ calls + length rounds
+  pub wrote : Writes old new (texts_of reports) (length rounds)
 
--- the same, but of the last report a beginning went out; where `finish` was called once more, it was behind all of it
-pub record PrintsInPart (limits : Bounds) (rounds : List ScriptRound) (before after : Option (List ℕ)) (calls calls' : ℕ) : Type 0 where
+-- the same, but of the last report a beginning went out
+pub record PrintsInPart (limits : Bounds) (rounds : List ScriptRound) (old new : SinkState) : Type 0 where
   pub reports : List Report
   pub broken : Report
   pub may_have : MayHave limits rounds (reports ++ broken ∷ [])
-  pub between : Option (List ℕ)
-  pub calls_between : ℕ
-  pub wrote : Appends before between (texts_of reports)
-  pub finished : calls_between ≡ calls + length reports
-  pub in_part : AppendsBeginning between after (report_text broken)
-  pub last : FinishesLast between after calls_between calls' (report_text broken)
+  pub between : SinkState
+  pub wrote : Writes old between (texts_of reports) (length reports)
+  pub in_part : WritesBeginning between new (report_text broken)
+
+-- the bytes are no more than a script may have, and read as these rounds or as this fault
+pub record ReadsAs (limits : Bounds) (bytes : List ℕ) (read : Result (List ScriptRound) ScriptError) : Type 0 where
+  pub fits : length bytes ≤ script_limit
+  pub reads : rounds_of limits bytes ≡ read
 
 -- the bytes are a script without a fault, and reports that its rounds may have were printed
-pub record RunsWhole (limits : Bounds) (before after : Option (List ℕ)) (calls calls' : ℕ) (bytes : List ℕ) : Type 0 where
-  pub fits : length bytes ≤ script_limit
-  pub rounds : List ScriptRound
-  pub read : rounds_of limits bytes ≡ Ok rounds
-  pub prints : Prints limits rounds before after calls calls'
+abbrev pub RunsWhole : Bounds → SinkState → SinkState → List ℕ → Type 0
+RunsWhole limits old new bytes = (rounds : List ScriptRound) × ReadsAs limits bytes (Ok rounds) × Prints limits rounds old new
 
 -- the same, but the whole reports of the first rounds alone went out
-pub record RunsFirst (limits : Bounds) (before after : Option (List ℕ)) (calls calls' : ℕ) (bytes : List ℕ) : Type 0 where
-  pub fits : length bytes ≤ script_limit
-  pub rounds : List ScriptRound
-  pub read : rounds_of limits bytes ≡ Ok rounds
-  pub count : ℕ
-  pub prints : Prints limits (take count rounds) before after calls calls'
+abbrev pub RunsFirst : Bounds → SinkState → SinkState → List ℕ → Type 0
+RunsFirst limits old new bytes =
+    (rounds : List ScriptRound) × (count : ℕ) × ReadsAs limits bytes (Ok rounds) × Prints limits (take count rounds) old new
 
 -- the same, but of the last report that went out a beginning did
-pub record RunsInPart (limits : Bounds) (before after : Option (List ℕ)) (calls calls' : ℕ) (bytes : List ℕ) : Type 0 where
-  pub fits : length bytes ≤ script_limit
-  pub rounds : List ScriptRound
-  pub read : rounds_of limits bytes ≡ Ok rounds
-  pub count : ℕ
-  pub prints : PrintsInPart limits (take count rounds) before after calls calls'
+abbrev pub RunsInPart : Bounds → SinkState → SinkState → List ℕ → Type 0
+RunsInPart limits old new bytes =
+    (rounds : List ScriptRound) × (count : ℕ) × ReadsAs limits bytes (Ok rounds) × PrintsInPart limits (take count rounds) old new
 
 -- memory was refused: nothing went out, or the whole reports of the first rounds, where the bytes are known
-abbrev pub RunsOutOfMemory : Bounds → Option (List ℕ) → Option (List ℕ) → ℕ → ℕ → Option (List ℕ) → Type 0
-RunsOutOfMemory limits before after calls calls' bytes =
-    ((after ≡ before) × (calls' ≡ calls)) ⊎ IfSome bytes (RunsFirst limits before after calls calls')
-
--- the bytes are a script with this fault
-pub record HasFault (limits : Bounds) (fault : ScriptError) (bytes : List ℕ) : Type 0 where
-  pub fits : length bytes ≤ script_limit
-  pub read : rounds_of limits bytes ≡ Err fault
+abbrev pub RunsOutOfMemory : Bounds → SinkState → SinkState → Option (List ℕ) → Type 0
+RunsOutOfMemory limits old new bytes = (new ≡ old) ⊎ IfSome bytes (RunsFirst limits old new)

@@ -1,7 +1,7 @@
 //! The program over devices: which stream each text goes to, and the status that the program ends with.
 ghost use Rattle.std.specs.Prelude.{◌≡◌, ◌≢◌, ◌-◌, ◌^◌, ◌<◌, ◌↔◌, Err, IfErr, IfOk, IfSome, MatchBool, OnOk, option_map, string_bytes};
 ghost use Rattle.aug_run.specs.Faults.{run_error_line, run_error_status, stop_line, stop_status};
-ghost use Rattle.aug_run.specs.Program.{FailsBy, Shows, is_help, script_bytes};
+ghost use Rattle.aug_run.specs.Program.{FailsBy, ShowsText, is_help, script_bytes};
 ghost use Rattle.aug_run.specs.Runs.{RunsWhole};
 ghost use Rattle.aug_run.specs.declared.scripts.run_error.RunError.{RunError};
 
@@ -27,28 +27,28 @@ pub fn carry_out<R: Threads + Wait, I: Input, O: Sink, E: Sink>(
     errors: &mut E,
 ) -> u8
     requires input { I.Source.fault_count input.old < 2 ^ 64 - 1 }
-    requires output { O.fault_count output.old < 2 ^ 64 - 1 }
-    requires errors { E.fault_count errors.old < 2 ^ 64 - 1 }
+    requires output { (O.state output.old).faults < 2 ^ 64 - 1 }
+    requires errors { (E.state errors.old).faults < 2 ^ 64 - 1 }
 
     // Where the command line stops the program.
     ensures status { IfErr asked (λ stop. result ≡ stop_status stop) }
     ensures unread { IfErr asked (λ stop. input.new ≡ input.old) }
     ensures help { IfErr asked (λ stop. MatchBool (is_help stop)
-        (Shows (O.contents output.old) (O.contents output.new) (O.finish_count output.old) (O.finish_count output.new) (O.fault_count output.old) (O.fault_count output.new) (stop_line stop))
+        (ShowsText (O.state output.old) (O.state output.new) (stop_line stop))
         (output.new ≡ output.old)) }
     ensures usage { IfErr asked (λ stop. MatchBool (is_help stop)
         (errors.new ≡ errors.old)
-        (Shows (E.contents errors.old) (E.contents errors.new) (E.finish_count errors.old) (E.finish_count errors.new) (E.fault_count errors.old) (E.fault_count errors.new) (stop_line stop))) }
+        (ShowsText (E.state errors.old) (E.state errors.new) (stop_line stop))) }
 
     // Where a script is run.
     ensures done { IfOk asked (λ options. result ≡ 0 → (errors.new ≡ errors.old) × IfSome (script_bytes (I.Source.remaining input.old) (I.file_bytes input.old) (option_map string_bytes options.file))
-        (RunsWhole options.limits (O.contents output.old) (O.contents output.new) (O.finish_count output.old) (O.finish_count output.new))) }
+        (RunsWhole options.limits (O.state output.old) (O.state output.new))) }
     ensures failed { IfOk asked (λ options. result ≢ 0 → (error : RunError) × (result ≡ run_error_status error)
-        × Shows (E.contents errors.old) (E.contents errors.new) (E.finish_count errors.old) (E.finish_count errors.new) (E.fault_count errors.old) (E.fault_count errors.new) (run_error_line error)
-        × FailsBy options.limits (O.contents output.old) (O.contents output.new) (O.finish_count output.old) (O.finish_count output.new) (script_bytes (I.Source.remaining input.old) (I.file_bytes input.old) (option_map string_bytes options.file)) error
+        × ShowsText (E.state errors.old) (E.state errors.new) (run_error_line error)
+        × FailsBy options.limits (O.state output.old) (O.state output.new) (script_bytes (I.Source.remaining input.old) (I.file_bytes input.old) (option_map string_bytes options.file)) error
         × (error ≢ RunError.Output → error ≢ RunError.OutOfMemory → output.new ≡ output.old)
         × (error ≡ RunError.Input ↔ (I.Source.fault_count input.old < I.Source.fault_count input.new))
-        × (error ≡ RunError.Output ↔ (O.fault_count output.old < O.fault_count output.new))) }
+        × (error ≡ RunError.Output ↔ ((O.state output.old).faults < (O.state output.new).faults))) }
 {
     match asked {
         Ok(options) => match run_script(rt, alloc, &options, input, output) {
@@ -68,12 +68,12 @@ fn run_script<R: Threads + Wait, I: Input, O: Sink>(
     output: &mut O,
 ) -> Result<(), RunError>
     requires input { I.Source.fault_count input.old < 2 ^ 64 - 1 }
-    requires output { O.fault_count output.old < 2 ^ 64 - 1 }
+    requires output { (O.state output.old).faults < 2 ^ 64 - 1 }
     ensures ok { OnOk result (IfSome (script_bytes (I.Source.remaining input.old) (I.file_bytes input.old) (option_map string_bytes options.now.file))
-        (RunsWhole options.now.limits (O.contents output.old) (O.contents output.new) (O.finish_count output.old) (O.finish_count output.new))) }
-    ensures err { IfErr result (FailsBy options.now.limits (O.contents output.old) (O.contents output.new) (O.finish_count output.old) (O.finish_count output.new) (script_bytes (I.Source.remaining input.old) (I.file_bytes input.old) (option_map string_bytes options.now.file))) }
+        (RunsWhole options.now.limits (O.state output.old) (O.state output.new))) }
+    ensures err { IfErr result (FailsBy options.now.limits (O.state output.old) (O.state output.new) (script_bytes (I.Source.remaining input.old) (I.file_bytes input.old) (option_map string_bytes options.now.file))) }
     ensures input { result ≡ Err RunError.Input ↔ (I.Source.fault_count input.old < I.Source.fault_count input.new) }
-    ensures output { result ≡ Err RunError.Output ↔ (O.fault_count output.old < O.fault_count output.new) }
+    ensures output { result ≡ Err RunError.Output ↔ ((O.state output.old).faults < (O.state output.new).faults) }
     ensures nothing { IfErr result (λ error. error ≢ RunError.Output → error ≢ RunError.OutOfMemory → output.new ≡ output.old) }
 {
     if let Some(path) = &options.file {
@@ -86,15 +86,15 @@ fn run_script<R: Threads + Wait, I: Input, O: Sink>(
 
 // Shows why the command line ends the program: help goes to the output, all else to the errors.
 fn show_stop<O: Sink, E: Sink>(stop: &Stop, output: &mut O, errors: &mut E) -> u8
-    requires output { O.fault_count output.old < 2 ^ 64 - 1 }
-    requires errors { E.fault_count errors.old < 2 ^ 64 - 1 }
+    requires output { (O.state output.old).faults < 2 ^ 64 - 1 }
+    requires errors { (E.state errors.old).faults < 2 ^ 64 - 1 }
     ensures status { result ≡ stop_status stop.now }
     ensures help { MatchBool (is_help stop.now)
-        (Shows (O.contents output.old) (O.contents output.new) (O.finish_count output.old) (O.finish_count output.new) (O.fault_count output.old) (O.fault_count output.new) (stop_line stop.now))
+        (ShowsText (O.state output.old) (O.state output.new) (stop_line stop.now))
         (output.new ≡ output.old) }
     ensures usage { MatchBool (is_help stop.now)
         (errors.new ≡ errors.old)
-        (Shows (E.contents errors.old) (E.contents errors.new) (E.finish_count errors.old) (E.finish_count errors.new) (E.fault_count errors.old) (E.fault_count errors.new) (stop_line stop.now)) }
+        (ShowsText (E.state errors.old) (E.state errors.new) (stop_line stop.now)) }
 {
     let _ = match stop {
         Stop::Help(_) => stop.write_line(output),
@@ -105,9 +105,9 @@ fn show_stop<O: Sink, E: Sink>(stop: &Stop, output: &mut O, errors: &mut E) -> u
 
 // Shows why the script was not run to its end.
 fn show_error<E: Sink>(error: &RunError, errors: &mut E) -> u8
-    requires { E.fault_count errors.old < 2 ^ 64 - 1 }
+    requires { (E.state errors.old).faults < 2 ^ 64 - 1 }
     ensures status { result ≡ run_error_status error.now }
-    ensures shown { Shows (E.contents errors.old) (E.contents errors.new) (E.finish_count errors.old) (E.finish_count errors.new) (E.fault_count errors.old) (E.fault_count errors.new) (run_error_line error.now) }
+    ensures shown { ShowsText (E.state errors.old) (E.state errors.new) (run_error_line error.now) }
 {
     let _ = error.write_line(errors);
     error.status()

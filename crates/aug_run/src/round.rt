@@ -4,10 +4,10 @@ ghost use Rattle.aug_model.specs.Keys.{IsKeySet, keys_of};
 ghost use Rattle.aug_trie.specs.Crew.{BeginsRound};
 ghost use Rattle.aug_report.specs.AllowedReport.{AllowedReport, IsReportOf};
 ghost use Rattle.aug_report.specs.InTurn.{IsInTurn};
-ghost use Rattle.aug_run.specs.inside.Returns.{HasBegun, RanLanes};
+ghost use Rattle.aug_run.specs.inside.Returns.{IsFreshCrew, RanLanes};
 ghost use Rattle.aug_script.specs.Limits.{IsBounds, bounds_at};
 ghost use Rattle.aug_script.specs.Script.{KeepsLimits};
-ghost use Rattle.aug_run.specs.inside.Workers.{bounds_of};
+ghost use Rattle.aug_run.specs.inside.Workers.{limits_of};
 ghost use Rattle.aug_run.specs.declared.scripts.run_error.RunError.{RunError};
 
 use crate::gate::Gate;
@@ -33,9 +33,9 @@ fn run_lanes<'r, R: Threads + Wait, G: Gate>(
     rows: &'r [Row],
     gate: &'r G,
 ) -> Result<Vec<(Row, Reply)>, AllocError>
-    requires begun { HasBegun round.now crew.old }
+    requires begun { IsFreshCrew round.now crew.old }
     requires workers { workers ≡ round.now.workers }
-    requires kept { KeepsLimits (bounds_of round.now) rows.now }
+    requires kept { KeepsLimits (limits_of round.now) rows.now }
     ensures ran { IfOk result (λ lines. RanLanes round.now rows.now lines.items crew.new) }
 {
     let jobs = jobs(alloc, crew, round, workers, rows)?;
@@ -93,7 +93,7 @@ fn begin(
 ) -> Result<(Table, Hands), AllocError>
     requires wider { ended.bits ≤ bits }
     requires bounds { IsBounds (bounds_at limits.now bits) }
-    ensures begun { IfOk result (λ t. BeginsRound ended bits limits.now.workers limits.now.updates t.0 t.1) }
+    ensures begun { IfOk result (λ t. BeginsRound ended.members bits limits.now.workers limits.now.updates t.0 t.1) }
     ensures keys { IsKeySet ended.bits (keys_of ended.members) }
 {
     match Round::begin_wider(alloc, ended, bits, limits.workers(), limits.updates()) {

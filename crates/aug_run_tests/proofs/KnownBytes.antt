@@ -1,6 +1,7 @@
 -- What goes out for a script whose bytes are written out: the definitions compute it.
-use Rattle.std.proofs.Common.{◌≡◌, ◌∙◌, ℕ, List, [], ◌∷◌, All, Ok, Some, ap, arith, codes, refl, subst, sym}
+use Rattle.std.proofs.Common.{◌≡◌, ◌∙◌, ℕ, List, [], ◌∷◌, All, Ok, Option, Some, ap, arith, codes, refl, subst, sym}
 use Rattle.std.proofs.lemmas.List.Elements.{All-cons, All-nil}
+use Rattle.aug_script.specs.Devices.{SinkState}
 use Rattle.aug_script.specs.Limits.{Bounds}
 use Rattle.aug_script.specs.Script.{rounds_of}
 use Rattle.aug_script.specs.declared.row.Row.{Row}
@@ -49,12 +50,17 @@ one_lane =
     let all : All Is known_rows = All-cons Is insert_row (look_row ∷ size_row ∷ []) refl later in
     All-cons (OfOneLane 1) (record { bits = 4; rows = known_rows }) [] (0, omega arith, all) (All-nil (OfOneLane 1))
 
+abbrev sink : Option (List ℕ) → ℕ → ℕ → SinkState
+sink bytes finishes faults = record { bytes = bytes; finishes = finishes; faults = faults }
+
 -- a run of this script that went well put out this text
-pub known_output : (limits : Bounds) (output : List ℕ) (calls calls' : ℕ) → limits ≡ known_limits → RunsWhole limits (Some []) (Some output) calls calls' known_script → output ≡ known_text
-known_output limits output calls calls' is ran =
-    let runs = subst (λ (l : Bounds). RunsWhole l (Some []) (Some output) calls calls' known_script) is ran in
-    let read : Ok runs.rounds ≡ Ok known_rounds = sym runs.read ∙ rounds_are in
-    let same : runs.rounds ≡ known_rounds = cc in
-    let one : All (OfOneLane 1) runs.rounds = subst (λ (rounds : List ScriptRound). All (OfOneLane 1) rounds) (sym same) one_lane in
-    let reports : runs.prints.reports ≡ reports_of 1 [] known_rounds = runs.prints.may_have.in_turn one ∙ ap (λ (rounds : List ScriptRound). reports_of 1 [] rounds) same in
-    runs.prints.wrote ∙ ap (λ reports. texts_of reports) reports ∙ text_is
+pub known_output : (limits : Bounds) (output : List ℕ) (finishes finishes' faults faults' : ℕ) → limits ≡ known_limits
+    → RunsWhole limits (sink (Some []) finishes faults) (sink (Some output) finishes' faults') known_script → output ≡ known_text
+known_output limits output finishes finishes' faults faults' is ran =
+    let runs = subst (λ (l : Bounds). RunsWhole l (sink (Some []) finishes faults) (sink (Some output) finishes' faults') known_script) is ran in
+    let read : Ok runs.0 ≡ Ok known_rounds = sym runs.1.reads ∙ rounds_are in
+    let same : runs.0 ≡ known_rounds = cc in
+    let one : All (OfOneLane 1) runs.0 = subst (λ (rounds : List ScriptRound). All (OfOneLane 1) rounds) (sym same) one_lane in
+    let reports : runs.2.reports ≡ reports_of 1 [] known_rounds = runs.2.may_have.in_turn one
+    ∙ ap (λ (rounds : List ScriptRound). reports_of 1 [] rounds) same in
+    runs.2.wrote.bytes ∙ ap (λ reports. texts_of reports) reports ∙ text_is

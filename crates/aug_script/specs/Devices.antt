@@ -1,13 +1,23 @@
--- What calls do to the bytes of a device.
+-- What calls do to a sink.
 use Rattle.std.specs.Prelude.{◌≡◌, ℕ, ◌+◌, ◌≤◌, ◌⊎◌, Option, List, length, take}
 use Rattle.std.specs.Io.KnownBytes.{Appends}
 
--- known bytes grow by a beginning of bs
-pub record AppendsBeginning (old new : Option (List ℕ)) (bs : List ℕ) : Type 0 where
-  pub count : ℕ
-  pub within : count ≤ length bs
-  pub bytes : Appends old new (take count bs)
+-- what a sink did so far: the bytes that went out, where they are known, how often `finish` was called, and how many calls failed
+pub record SinkState : Type 0 where
+  pub bytes : Option (List ℕ)
+  pub finishes : ℕ
+  pub faults : ℕ
 
--- `finish` was not called, or it was called once, when all of bs had gone out
-abbrev pub FinishesLast : Option (List ℕ) → Option (List ℕ) → ℕ → ℕ → List ℕ → Type 0
-FinishesLast old new calls calls' bs = (calls' ≡ calls) ⊎ ((calls' ≡ calls + 1) × Appends old new bs)
+-- all of a text went out, with so many calls of `finish` and no fault
+pub record Writes (old new : SinkState) (text : List ℕ) (finishes : ℕ) : Type 0 where
+  pub bytes : Appends old.bytes new.bytes text
+  pub finished : new.finishes ≡ old.finishes + finishes
+  pub no_fault : new.faults ≡ old.faults
+
+-- a beginning of a text went out, and then there was one fault; `finish` was not called, or once, behind all of the text
+pub record WritesBeginning (old new : SinkState) (text : List ℕ) : Type 0 where
+  pub count : ℕ
+  pub within : count ≤ length text
+  pub bytes : Appends old.bytes new.bytes (take count text)
+  pub last : (new.finishes ≡ old.finishes) ⊎ ((new.finishes ≡ old.finishes + 1) × (count ≡ length text))
+  pub one_fault : new.faults ≡ old.faults + 1

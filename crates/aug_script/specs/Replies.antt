@@ -26,20 +26,24 @@ pub record Sets : Type 0 where
 abbrev pub span_of : List (ℕ × ℕ) → Summary Sum Extent
 span_of pairs = summary_of sum_parts extent_parts pairs
 
+-- what a query is answered from a set; the other verbs ask nothing of it
+abbrev pub query_reply : List (ℕ × ℕ) → Verb → Reply
+query_reply pairs (verb.Has k) = if is_member (keys_of pairs) k then reply.Yes else reply.No
+query_reply pairs (verb.Weight k) = reply.Found (weight_of pairs k)
+query_reply pairs verb.Size = reply.Number (length (keys_of pairs))
+query_reply pairs (verb.Rank k) = reply.Number (rank_of (keys_of pairs) k)
+query_reply pairs (verb.Select i) = reply.Found (select_of (keys_of pairs) i)
+query_reply pairs (verb.Before k) = reply.Found (before_of (keys_of pairs) k)
+query_reply pairs (verb.After k) = reply.Found (after_of (keys_of pairs) k)
+query_reply pairs (verb.Range a b) = reply.Span (span_of (weighted_range_of pairs a b))
+query_reply pairs other = reply.Looked
+
 -- what a verb is answered; where one lane runs alone, no `put` is lost
 abbrev pub reply_to : Sets → Verb → Reply
 reply_to sets (verb.Insert k) = if is_member (keys_of sets.live) k then reply.Old else reply.New
 reply_to sets (verb.Put k w) = if is_member (keys_of sets.live) k then reply.Set else reply.New
 reply_to sets (verb.Remove k) = if is_member (keys_of sets.live) k then reply.Gone else reply.Absent
-reply_to sets verb.Look = reply.Looked
-reply_to sets (verb.Has k) = if is_member (keys_of sets.held) k then reply.Yes else reply.No
-reply_to sets (verb.Weight k) = reply.Found (weight_of sets.held k)
-reply_to sets verb.Size = reply.Number (length (keys_of sets.held))
-reply_to sets (verb.Rank k) = reply.Number (rank_of (keys_of sets.held) k)
-reply_to sets (verb.Select i) = reply.Found (select_of (keys_of sets.held) i)
-reply_to sets (verb.Before k) = reply.Found (before_of (keys_of sets.held) k)
-reply_to sets (verb.After k) = reply.Found (after_of (keys_of sets.held) k)
-reply_to sets (verb.Range a b) = reply.Span (span_of (weighted_range_of sets.held a b))
+reply_to sets other = query_reply sets.held other
 
 -- the sets after a verb: an inserted key weighs itself, a member that is inserted keeps its weight, and a query leaves all
 abbrev pub sets_after : Sets → Verb → Sets

@@ -1,6 +1,7 @@
 //! Where a script comes from and where reports go.
 ghost use Rattle.std.specs.Prelude.{◌≡◌, ℕ, ◌+◌, ◌-◌, ◌^◌, ◌<◌, ◌≤◌, Option, None, List, length, IfOk, is_ok, if◌then◌else◌};
 ghost use Rattle.std.specs.Io.KnownBytes.{Keeps, ReadConsumes, WriteAppends};
+ghost use Rattle.aug_script.specs.Devices.{SinkState};
 
 use thiserror::Error;
 
@@ -31,32 +32,26 @@ pub trait Source {
 
 /// Where bytes go.
 pub trait Sink {
-    // The bytes that went out, where they are known.
-    ghost contents: { Self → Option (List ℕ) } = { λ _. None };
-
-    // How often a call answered `Fault` so far.
-    ghost fault_count: { Self → ℕ };
-
-    // How often `finish` was called so far.
-    ghost finish_count: { Self → ℕ };
+    // What it did so far: what went out, the calls of `finish`, and the calls that answered `Fault`.
+    ghost state: { Self → SinkState };
 
     /// Writes some bytes from the front of `piece`, and answers how many: at least one, where it has any.
     fn write_some(&mut self, piece: &[u8]) -> Result<usize, Fault>
-        requires { fault_count self.old < 2 ^ 64 - 1 }
+        requires { (state self.old).faults < 2 ^ 64 - 1 }
         ensures bound { IfOk result (λ n. n ≤ length piece.now) }
         ensures some { IfOk result (λ n. 0 < length piece.now → 0 < n) }
-        ensures bytes { WriteAppends (contents self.old) (contents self.new) result piece.now }
-        ensures counted { fault_count self.new ≡ fault_count self.old + (if is_ok result then 0 else 1) }
-        ensures unfinished { finish_count self.new ≡ finish_count self.old };
+        ensures bytes { WriteAppends (state self.old).bytes (state self.new).bytes result piece.now }
+        ensures counted { (state self.new).faults ≡ (state self.old).faults + (if is_ok result then 0 else 1) }
+        ensures unfinished { (state self.new).finishes ≡ (state self.old).finishes };
 
     /// Hands on what was written, as a flush does.
     fn finish(&mut self) -> Result<(), Fault>
-        requires { fault_count self.old < 2 ^ 64 - 1 }
-        ensures bytes { Keeps (contents self.old) (contents self.new) }
-        ensures counted { fault_count self.new ≡ fault_count self.old + (if is_ok result then 0 else 1) }
-        ensures finished { finish_count self.new ≡ finish_count self.old + 1 };
+        requires { (state self.old).faults < 2 ^ 64 - 1 }
+        ensures bytes { Keeps (state self.old).bytes (state self.new).bytes }
+        ensures counted { (state self.new).faults ≡ (state self.old).faults + (if is_ok result then 0 else 1) }
+        ensures finished { (state self.new).finishes ≡ (state self.old).finishes + 1 };
 
     /// How often a call answered `Fault` so far.
     fn faults(&self) -> u64
-        ensures { result ≡ fault_count self.now };
+        ensures { result ≡ (state self.now).faults };
 }

@@ -106,11 +106,7 @@ impl MemorySink {
 }
 
 impl Sink for MemorySink {
-    ghost contents = { λ s. Some s.out.items };
-
-    ghost fault_count = { λ s. s.faults };
-
-    ghost finish_count = { λ s. s.finishes.calls };
+    ghost state = { λ s. record { bytes = Some s.out.items; finishes = s.finishes.calls; faults = s.faults } };
 
     fn write_some(&mut self, piece: &[u8]) -> Result<usize, Fault> {
         let count = piece.len().min(self.piece.max(1));

@@ -1,6 +1,5 @@
-ghost use Rattle.std.specs.Prelude.{◌≡◌, ◌+◌, ◌-◌, ◌^◌, ◌<◌, ◌↔◌, ◌⊎◌, IsErrOf, OnOk};
-ghost use Rattle.std.specs.Io.KnownBytes.{Appends};
-ghost use Rattle.aug_script.specs.Devices.{AppendsBeginning, FinishesLast};
+ghost use Rattle.std.specs.Prelude.{◌≡◌, ◌-◌, ◌^◌, ◌<◌, IsErrOf, OnOk};
+ghost use Rattle.aug_script.specs.Devices.{Writes, WritesBeginning};
 ghost use Rattle.aug_script.specs.ReportText.{report_text};
 
 use crate::{Fault, Report, Sink, send};
@@ -31,14 +30,10 @@ impl From<AllocError> for PrintError {
 
 /// Makes the report's whole text, gives it to the sink, and then calls `finish` once.
 pub fn print<S: Sink>(alloc: Global, report: &Report, sink: &mut S) -> Result<(), PrintError>
-    requires { S.fault_count sink.old < 2 ^ 64 - 1 }
-    ensures ok { OnOk result (Appends (S.contents sink.old) (S.contents sink.new) (report_text report.now)) }
-    ensures output { IsErrOf result PrintError.Output ↔ (S.fault_count sink.old < S.fault_count sink.new) }
-    ensures beginning { IsErrOf result PrintError.Output → AppendsBeginning (S.contents sink.old) (S.contents sink.new) (report_text report.now) }
-    ensures finished { OnOk result (S.finish_count sink.new ≡ S.finish_count sink.old + 1) }
-    ensures last { FinishesLast (S.contents sink.old) (S.contents sink.new) (S.finish_count sink.old) (S.finish_count sink.new) (report_text report.now) }
+    requires { (S.state sink.old).faults < 2 ^ 64 - 1 }
+    ensures ok { OnOk result (Writes (S.state sink.old) (S.state sink.new) (report_text report.now) 1) }
+    ensures output { IsErrOf result PrintError.Output → WritesBeginning (S.state sink.old) (S.state sink.new) (report_text report.now) }
     ensures memory { IsErrOf result PrintError.OutOfMemory → sink.new ≡ sink.old }
-    ensures counted { (S.fault_count sink.new ≡ S.fault_count sink.old) ⊎ (S.fault_count sink.new ≡ S.fault_count sink.old + 1) }
 {
     let text = report.text(alloc)?;
     match send(text.as_str().as_bytes(), sink) {

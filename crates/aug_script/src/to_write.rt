@@ -17,9 +17,7 @@ pub struct ToWrite<W> {
 impl<W: Write> ToWrite<W> {
     /// A sink over `writer` that has had no fault.
     pub fn new(writer: W) -> ToWrite<W>
-        ensures bytes { ⟦<ToWrite<W> as Sink>⟧.contents result ≡ W.contents writer }
-        ensures none { ⟦<ToWrite<W> as Sink>⟧.fault_count result ≡ 0 }
-        ensures unfinished { ⟦<ToWrite<W> as Sink>⟧.finish_count result ≡ 0 }
+        ensures { ⟦<ToWrite<W> as Sink>⟧.state result ≡ record { bytes = W.contents writer; finishes = 0; faults = 0 } }
     {
         ToWrite {
             writer,
@@ -30,7 +28,7 @@ impl<W: Write> ToWrite<W> {
 
     /// The writer, with all that it took.
     pub fn into_inner(self) -> W
-        ensures { W.contents result ≡ ⟦<ToWrite<W> as Sink>⟧.contents self }
+        ensures { W.contents result ≡ (⟦<ToWrite<W> as Sink>⟧.state self).bytes }
     {
         self.writer
     }
@@ -46,11 +44,7 @@ impl<W: Write> ToWrite<W> {
 }
 
 impl<W: Write> Sink for ToWrite<W> {
-    ghost contents = { λ s. W.contents s.writer };
-
-    ghost fault_count = { λ s. s.faults };
-
-    ghost finish_count = { λ s. s.finishes.calls };
+    ghost state = { λ s. record { bytes = W.contents s.writer; finishes = s.finishes.calls; faults = s.faults } };
 
     fn write_some(&mut self, piece: &[u8]) -> Result<usize, Fault> {
         match self.writer.write(piece) {

@@ -4,7 +4,7 @@ use Rattle.std.proofs.lemmas.Bool.{eqb-true, eqb-false, false≢true}
 use Rattle.std.proofs.lemmas.List.{append-nil}
 use Rattle.std.proofs.lemmas.List.Elements.{All-nil, All-cons, All-append, All-weaker}
 use Rattle.aug_core.specs.Places.{Shape}
-use Rattle.aug_core.specs.Tree.{root_place}
+use Rattle.aug_core.specs.Addresses.{root_place}
 use Rattle.aug_core.specs.Book.{Continues, IsBook}
 use Rattle.aug_core.specs.Counts.{change, changes_of}
 use Rattle.aug_core.specs.Told.{KnowsTable, LoadsNode, made_by, new_serial}
@@ -20,22 +20,22 @@ use Rattle.aug_model.specs.declared.outcome.Outcome.{Outcome}
 use Rattle.aug_model.specs.declared.outcome.Outcome.TheVariants.{Accepted, Replaced, Refused}
 use Rattle.aug_trie.specs.inside.Goes.{Goes}
 use Rattle.aug_trie.specs.inside.Climbing.{WentUp, Stayed, Updated}
-use Rattle.aug_trie.specs.History.{Begins, last_cut}
+use Rattle.aug_trie.specs.History.{IsPrefix, last_cut}
 use Rattle.aug_trie.specs.Knowledge.{StandsIn, insertion, removal}
 use Rattle.aug_trie.specs.LeafWords.{serial_in_word}
 use Rattle.aug_trie.specs.Requests.{advance_from, in_the_way}
 use Rattle.aug_trie.specs.Updates.{AcceptedUpdate, RefusedUpdate, ReplacedUpdate, RefusedPut, ComesTo, TakesSnapshot}
 use Rattle.aug_trie.specs.inside.Knows.{root_history, knows, KnowsRound}
-use Rattle.aug_trie.specs.declared.request.Request.{Request}
-use Rattle.aug_trie.specs.declared.request.Request.TheVariants.{Insert, Remove, Put}
+use Rattle.aug_trie.specs.declared.updates.request.Request.{Request}
+use Rattle.aug_trie.specs.declared.updates.request.Request.TheVariants.{Insert, Remove, Put}
 use Rattle.aug_trie.proofs.Histories.{history_on, last_is, last_shown, shown_last, last_rises, root_some, some_bits, is_history}
 use Rattle.aug_trie.proofs.Requesting.{made_one, made_two, one_more, two_more, insert_stands, remove_stands}
 use Rattle.aug_trie.proofs.Standing.{at_least, stands_later, stands_last, never_shows}
 
 module _ (face : ℕ → ℕ → List (ℕ × ℕ) → List ℕ) where
   -- a later view's history goes on
-  pub knows_on : (v w : View) → KnowsTable face v → w.shape ≡ v.shape → Continues w.seen v.seen → Begins (knows v).history (knows w).history
-  knows_on v w kn shaped later = subst (λ (z : Shape). Begins (root_history v.shape v.seen) (root_history z w.seen)) (sym shaped) (history_on face v.shape v.seen kn.book w.seen later)
+  pub knows_on : (v w : View) → KnowsTable face v → w.shape ≡ v.shape → Continues w.seen v.seen → IsPrefix (knows v).history (knows w).history
+  knows_on v w kn shaped later = subst (λ (z : Shape). IsPrefix (root_history v.shape v.seen) (root_history z w.seen)) (sym shaped) (history_on face v.shape v.seen kn.book w.seen later)
 
   -- and its last cut rises
   pub knows_more : (v w : View) → KnowsTable face v → KnowsTable face w → w.shape ≡ v.shape → Continues w.seen v.seen → IsAtMost (last_cut (knows v).history) (last_cut (knows w).history)

@@ -6,7 +6,7 @@ use Rattle.aug_monoid.specs.Parts.{Parts}
 use Rattle.aug_monoid.specs.inside.Laws.{IsMonoid}
 use Rattle.aug_core.specs.Places.{Shape, record_start}
 use Rattle.aug_core.specs.Faces.{face}
-use Rattle.aug_core.specs.Tree.{place_count, IsInner, left_of, right_of}
+use Rattle.aug_core.specs.Addresses.{place_count, IsInner, left_of, right_of}
 use Rattle.aug_core.specs.inside.Refreshes.{HasNewest, SaysLoaded}
 use Rattle.aug_core.specs.Told.{HasSeen, KnowsTable, MayStore, IsFilled, TriesNode, storing}
 use Rattle.aug_core.specs.declared.view.View.{View}
@@ -16,10 +16,10 @@ use Rattle.aug_core.proofs.Sizes.{twice}
 use Rattle.aug_words.specs.Seats.{LoadsRecordWord}
 use Rattle.aug_trie.specs.inside.Goes.{HasRoom, Took, Goes, IsPartOf, part_steps, Looks}
 use Rattle.aug_trie.specs.inside.Points.{Says, stored, child_at, field_after, five_over, IsOverLeaves, AfterLeft, AfterRight, AfterWords, AfterStores, TryAt, TryOver}
-use Rattle.aug_trie.specs.declared.points.Reading.{Reading}
-use Rattle.aug_trie.specs.declared.points.Filling.{Filling}
-use Rattle.aug_trie.specs.declared.points.Point.{Point}
-use Rattle.aug_trie.specs.declared.points.Point.TheVariants.{Node, Left, Right, Part, Record}
+use Rattle.aug_trie.specs.declared.turns.points.Reading.{Reading}
+use Rattle.aug_trie.specs.declared.turns.points.Filling.{Filling}
+use Rattle.aug_trie.specs.declared.turns.points.Point.{Point}
+use Rattle.aug_trie.specs.declared.turns.points.Point.TheVariants.{Node, Left, Right, Part, Record}
 use Rattle.aug_trie.proofs.Going.{took_none, took_one, took_on, may_store_room, goes_self, goes_on, goes_storing, room_on}
 use Rattle.aug_trie.proofs.Looking.{goes_looking}
 use Rattle.aug_trie.proofs.Ranking.{looks_on, looks_one, seen_looking, says_looking}

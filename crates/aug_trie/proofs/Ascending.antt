@@ -1,7 +1,7 @@
 -- From a leaf to the root, level by level.
 use Rattle.std.proofs.Common.{◌≡◌, ℕ, zero, suc, add-one, ◌+◌, ◌-◌, ◌*◌, ◌/◌, ◌^◌, ◌<◌, ◌≤◌, Bool, true, false, if◌then◌else◌, ne_eqb, List, [], sym, refl, ap, ◌∙◌, subst, arith}
 use Rattle.aug_core.specs.Places.{Shape}
-use Rattle.aug_core.specs.Tree.{IsInner, left_of}
+use Rattle.aug_core.specs.Addresses.{IsInner, left_of}
 use Rattle.aug_core.specs.Book.{IsBook}
 use Rattle.aug_core.specs.inside.Refreshes.{NewestCovers, Refreshed}
 use Rattle.aug_core.specs.inside.Shows.{above, Lifts}
@@ -11,9 +11,9 @@ use Rattle.aug_core.proofs.Showing.{above_inner}
 use Rattle.aug_trie.specs.inside.Goes.{Goes, Took, TookBetween, HasRoom, part_steps}
 use Rattle.aug_trie.specs.inside.Points.{TryAt, TryOver, point_turns}
 use Rattle.aug_trie.specs.inside.Stages.{Missed, IsTry, IsCovered, HasRisen, MayRise, IsAtNode, IsOnWay, IsPastTry, part_above, ascent_turns}
-use Rattle.aug_trie.specs.declared.points.Point.{Point}
-use Rattle.aug_trie.specs.declared.points.Point.TheVariants.{Node, Left, Right, Part, Record}
-use Rattle.aug_trie.specs.declared.ascents.Ascent.{Ascent}
+use Rattle.aug_trie.specs.declared.turns.points.Point.{Point}
+use Rattle.aug_trie.specs.declared.turns.points.Point.TheVariants.{Node, Left, Right, Part, Record}
+use Rattle.aug_trie.specs.declared.turns.ascents.Ascent.{Ascent}
 use Rattle.aug_trie.proofs.Going.{goes_on, goes_more, goes_self, took_none, took_on, room_left, room_again}
 use Rattle.aug_trie.proofs.Levels.{lifts_none, place_is, cost_first, cost_later, took_level, lifts_level}
 use Rattle.aug_trie.proofs.Advancing.{goes_at}

@@ -6,7 +6,7 @@ use Rattle.aug_model.specs.Folds.{summary_of}
 use Rattle.aug_core.specs.Counts.{changes_of}
 use Rattle.aug_core.specs.Faces.{face}
 use Rattle.aug_words.specs.Seats.{Known}
-use Rattle.aug_trie.specs.Node.{IsNodeOf, Reads}
+use Rattle.aug_trie.specs.Node.{IsNodeAt, Reads}
 use Rattle.aug_trie.specs.Pass.{PassFacts}
 use Rattle.aug_trie.specs.Snapshot.{HasSnapshot, set_at}
 use Rattle.aug_trie.specs.inside.Counted.{HasCounts}
@@ -14,7 +14,7 @@ use Rattle.aug_trie.specs.inside.Goes.{Looks}
 use Rattle.aug_trie.specs.inside.NamedCuts.{cut_named}
 use Rattle.aug_trie.specs.inside.PassState.{pass_facts, known_in, HoldsPass}
 use Rattle.aug_trie.specs.inside.SnapshotWalk.{set_seen, HasWalk, Walking}
-use Rattle.aug_trie.specs.declared.snapshot.Snapshot.{Snapshot}
+use Rattle.aug_trie.specs.declared.queries.snapshot.Snapshot.{Snapshot}
 use Rattle.aug_trie.proofs.Passing.{pass_told}
 use Rattle.aug_trie.proofs.SnapshotWalks.{WalkDescends}
 use Rattle.aug_trie.proofs.Trees.{named_set, top_is, reads_by, still_by}
@@ -40,7 +40,7 @@ module _ {A B : Type 0} (parts_a : Parts A) (parts_b : Parts B) where
           top = record {
             knows_table = p.knows_table;
             is_tree_set = named_set f k.view s.number p.knows_table;
-            node = subst (λ (z : ℕ). IsNodeOf k.view.shape k.view.seen (cut_named k.view.shape k.view.seen s.number) z 0 s.number) (sym p.bits_are) top;
+            node = subst (λ (z : ℕ). IsNodeAt k.view.shape k.view.seen (cut_named k.view.shape k.view.seen s.number) z 0 s.number) (sym p.bits_are) top;
           };
         };
       }

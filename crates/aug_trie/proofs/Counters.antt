@@ -13,8 +13,8 @@ use Rattle.aug_model.specs.declared.outcome.Outcome.TheVariants.{Accepted, Repla
 use Rattle.aug_trie.specs.inside.Climbing.{WentUp, Stayed, Updated}
 use Rattle.aug_trie.specs.LeafWords.{serial_in_word}
 use Rattle.aug_trie.specs.Requests.{advance_from}
-use Rattle.aug_trie.specs.declared.request.Request.{Request}
-use Rattle.aug_trie.specs.declared.request.Request.TheVariants.{Insert, Remove, Put}
+use Rattle.aug_trie.specs.declared.updates.request.Request.{Request}
+use Rattle.aug_trie.specs.declared.updates.request.Request.TheVariants.{Insert, Remove, Put}
 use Rattle.aug_trie.proofs.Requesting.{made_one, made_two}
 use Rattle.aug_trie.specs.inside.PassState.{IsPass}
 use Rattle.aug_trie.specs.inside.Goes.{Goes}

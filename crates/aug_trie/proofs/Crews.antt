@@ -11,7 +11,7 @@ use Rattle.aug_core.specs.declared.view.Held.{Held}
 use Rattle.aug_core.proofs.PlaceLemmas.{keys-within}
 use Rattle.aug_core.specs.Layout.{IsLayout}
 use Rattle.aug_core.specs.Lanes.{first_record, lane_records}
-use Rattle.aug_core.specs.Tree.{root_place}
+use Rattle.aug_core.specs.Addresses.{root_place}
 use Rattle.aug_core.specs.Cuts.{Cut, opening_cut}
 use Rattle.aug_core.specs.inside.RootCuts.{root_cut}
 use Rattle.aug_core.specs.Opening.{Opening, opening_book}

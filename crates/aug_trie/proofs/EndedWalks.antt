@@ -13,8 +13,8 @@ use Rattle.aug_query.specs.declared.loaded.Loaded.{Loaded}
 use Rattle.aug_query.proofs.Nodes.{left_high, right_high, middle_high}
 use Rattle.aug_trie.specs.LeafWords.{serial_in_word}
 use Rattle.aug_trie.specs.Ended.{EndedFacts, set_of_ended, word_in, covered, IsVersion, NamesEnded, HasEndedNode}
-use Rattle.aug_trie.specs.inside.EndedState.{pairs_below, HoldsVersion}
-use Rattle.aug_trie.specs.declared.ended_tree.EndedNode.{EndedNode}
+use Rattle.aug_trie.specs.inside.EndedState.{pairs_at_rest, HoldsVersion}
+use Rattle.aug_trie.specs.declared.rounds.ended_tree.EndedNode.{EndedNode}
 use Rattle.aug_trie.proofs.Versions.{ended_set, inside_of, count_is, count_fits}
 use Rattle.aug_trie.proofs.Walking.{pairs_counted}
 
@@ -58,7 +58,7 @@ module _ {A B : Type 0} (parts_a : Parts A) (parts_b : Parts B) where
   }
 
   -- the root's number names the top
-  pub top_named : (e : EndedFacts) → HoldsVersion both e.rest e.root e.bits → e.members ≡ pairs_below e.rest e.bits 0 e.root → NamesEnded both e e.bits 0 e.root
+  pub top_named : (e : EndedFacts) → HoldsVersion both e.rest e.root e.bits → e.members ≡ pairs_at_rest e.rest e.bits 0 e.root → NamesEnded both e e.bits 0 e.root
   top_named e holds is = record {
     is_tree_set = subst (λ (z : List (ℕ × ℕ)). IsTreeSet (record { bits = e.bits; pairs = z })) (sym is) (ended_set parts_a parts_b e.rest e.root e.bits holds);
     level_fits = omega arith;

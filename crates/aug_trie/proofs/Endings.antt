@@ -11,7 +11,7 @@ use Rattle.aug_model.specs.Keys.{IsKeySet, keys_of}
 use Rattle.aug_model.proofs.Pairs.{length-keys_of, length-pairs_of}
 use Rattle.aug_core.specs.Places.{Shape, shape_of, own_records}
 use Rattle.aug_core.specs.Layout.{IsLayout, IsWithin}
-use Rattle.aug_core.specs.Tree.{IsInner, root_place}
+use Rattle.aug_core.specs.Addresses.{IsInner, root_place}
 use Rattle.aug_core.specs.Book.{At, history_of}
 use Rattle.aug_core.specs.Counts.{changes_of}
 use Rattle.aug_core.specs.Cuts.{Cut, weight_at, set_of_cut, pairs_of_cut, opening_cut, IsAtMost}

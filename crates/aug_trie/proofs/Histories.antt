@@ -2,7 +2,7 @@
 use Rattle.std.proofs.Common.{◌≡◌, ℕ, ◌+◌, ◌-◌, ◌^◌, ◌<◌, ◌≤◌, List, [], ◌∷◌, length, get_or, sym, ap, ◌∙◌, subst, arith}
 use Rattle.std.proofs.lemmas.List.FromFn.{length-map-range_with_len, get_or-map-range_with_len}
 use Rattle.aug_core.specs.Places.{Shape}
-use Rattle.aug_core.specs.Tree.{root_place}
+use Rattle.aug_core.specs.Addresses.{root_place}
 use Rattle.aug_core.specs.Book.{Book, history_of, Continues, IsBook}
 use Rattle.aug_core.specs.Opening.{opening_book}
 use Rattle.aug_core.specs.declared.view.Entry.{Entry}
@@ -15,13 +15,14 @@ use Rattle.aug_core.proofs.Openings.{is_book, inner_history}
 use Rattle.aug_core.specs.inside.Shows.{above, NewestShows, ShowsAtMost}
 use Rattle.aug_core.proofs.Showing.{above_root}
 use Rattle.aug_core.specs.Cuts.{Cut, shown_of, serial_of, opening_cut, IsAtMost}
-use Rattle.aug_trie.specs.History.{Begins, IsHistory, last_cut}
+use Rattle.aug_trie.specs.History.{IsPrefix, IsHistory, last_cut}
 use Rattle.aug_core.specs.EntryCuts.{entry_of}
 use Rattle.aug_core.specs.inside.RootCuts.{root_cut}
 use Rattle.aug_core.specs.Told.{KnowsTable, opening_of}
 use Rattle.aug_trie.specs.inside.Knows.{root_history, root_numbers}
 use Rattle.aug_trie.proofs.Pieces.{begins_at}
-use Rattle.aug_core.proofs.CutsUnder.{root_word, reached, shown_is, serial_is, shows_reached}
+use Rattle.aug_core.proofs.Levels.{root_word}
+use Rattle.aug_core.proofs.CutsUnder.{reached, shown_is, serial_is, shows_reached}
 use Rattle.aug_core.proofs.EntryCuts.{Has, reached_shows, root_rises, cut_later}
 use Rattle.aug_core.proofs.OpeningCuts.{root_inner, opening_first}
 use Rattle.std.proofs.lemmas.List.{length-map}
@@ -63,7 +64,7 @@ module _ (face : ℕ → ℕ → List (ℕ × ℕ) → List ℕ) (s : Shape) (bo
       let is = ap (λ (z : Cut). serial_of z key) (last_is s book i (omega arith)) ∙ root_serial s book key i low in omega arith
 
   -- a later book's history begins with the earlier one's
-  pub history_on : (later : Book) → Continues later book → Begins (root_history s book) (root_history s later)
+  pub history_on : (later : Book) → Continues later book → IsPrefix (root_history s book) (root_history s later)
   history_on later grows = let l = history_long s book in let m = history_long s later in let le = no_shorter later book grows (root_place s) in
       begins_at (root_history s book) (root_history s later) [] (omega arith)
       (λ i low. let h : Has book (root_place s) i = omega arith in let h' : Has later (root_place s) i = omega arith in

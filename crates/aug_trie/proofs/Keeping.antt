@@ -1,16 +1,16 @@
 -- Snapshots and nodes stay what they are as the book grows.
 use Rattle.std.proofs.Common.{ℕ, List, ◌++◌, sym, ap, ◌∙◌, arith}
 use Rattle.aug_core.specs.Places.{Shape}
-use Rattle.aug_core.specs.Tree.{root_place}
+use Rattle.aug_core.specs.Addresses.{root_place}
 use Rattle.aug_core.specs.Book.{Book, history_of, Continues, IsBook}
 use Rattle.aug_core.specs.Cuts.{Cut}
 use Rattle.aug_core.specs.EntryCuts.{IsPartOfCut}
 use Rattle.aug_core.specs.declared.view.Entry.{Entry}
 use Rattle.aug_core.proofs.Books.{at_below, no_shorter}
-use Rattle.aug_core.proofs.CutsUnder.{root_word}
+use Rattle.aug_core.proofs.Levels.{root_word}
 use Rattle.aug_core.proofs.EntryCuts.{entry_later, cut_later}
 use Rattle.aug_trie.specs.inside.NamedCuts.{IsSnapshotOf}
-use Rattle.aug_trie.specs.Node.{IsNodeOf}
+use Rattle.aug_trie.specs.Node.{IsNodeAt}
 
 module _ (face : ℕ → ℕ → List (ℕ × ℕ) → List ℕ) (s : Shape) (book later : Book) (b : IsBook face s book) (grows : Continues later book) where
   pub part_later : (cut : Cut) (level place q i : ℕ) → IsPartOfCut s book cut level place q i → IsPartOfCut s later cut level place q i
@@ -23,7 +23,7 @@ module _ (face : ℕ → ℕ → List (ℕ × ℕ) → List ℕ) (s : Shape) (bo
     from = p.from;
   }
 
-  pub node_later : (cut : Cut) (level place word : ℕ) → IsNodeOf s book cut level place word → IsNodeOf s later cut level place word
+  pub node_later : (cut : Cut) (level place word : ℕ) → IsNodeAt s book cut level place word → IsNodeAt s later cut level place word
   node_later cut level place word t = record {
     q = t.q;
     index = t.index;

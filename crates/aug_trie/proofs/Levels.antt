@@ -1,7 +1,7 @@
 -- One level of a propagation.
 use Rattle.std.proofs.Common.{◌≡◌, ℕ, zero, suc, ◌+◌, ◌-◌, ◌*◌, ◌/◌, ◌^◌, ◌<◌, ◌≤◌, Bool, if◌then◌else◌, List, lt-ltb, le-ltb, ap, arith}
 use Rattle.aug_core.specs.Places.{Shape}
-use Rattle.aug_core.specs.Tree.{left_of}
+use Rattle.aug_core.specs.Addresses.{left_of}
 use Rattle.aug_core.specs.Book.{Book, Continues, IsBook}
 use Rattle.aug_core.specs.inside.Shows.{above, Lifts}
 use Rattle.aug_core.specs.inside.Refreshes.{NewestCovers}

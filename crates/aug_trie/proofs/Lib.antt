@@ -23,7 +23,7 @@ pub mod Passing
 pub mod Snapshots
 pub mod Asking
 pub mod SnapshotWalks
-pub mod Rounds
+pub mod RoundLemmas
 pub mod Crews
 pub mod Rising
 pub mod CutLemmas

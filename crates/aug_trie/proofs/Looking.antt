@@ -14,7 +14,7 @@ use Rattle.aug_core.specs.declared.view.View.{View}
 use Rattle.aug_core.proofs.Books.{fresh_now}
 use Rattle.aug_core.proofs.Fits.{knows_same}
 use Rattle.aug_trie.specs.LeafWords.{weight_in_word, leaf_pairs}
-use Rattle.aug_trie.specs.Node.{IsNodeOf}
+use Rattle.aug_trie.specs.Node.{IsNodeAt}
 use Rattle.aug_trie.specs.inside.Goes.{Goes, Looks}
 use Rattle.aug_trie.specs.TreeOf.{IsTreeOf}
 use Rattle.aug_trie.specs.inside.Points.{Says}
@@ -33,31 +33,31 @@ goes_looking f most v w l kn = subst (Goes f 0 [] v) (sym l.is) record {
   still_free = λ n _ f. record { lane = f.lane; only = f.only; from_first = f.from_first; unpublished = f.unpublished; long = f.long };
 }
 
-module _ {A B : Type 0} (parts_a : Parts A) (parts_b : Parts B) (v : View) (kn : KnowsTable (face parts_a parts_b) v) (cut : Cut) (level place word : ℕ) (t : IsNodeOf v.shape v.seen cut level place word) where
+module _ {A B : Type 0} (parts_a : Parts A) (parts_b : Parts B) (v : View) (kn : KnowsTable (face parts_a parts_b) v) (cut : Cut) (level place word : ℕ) (t : IsNodeAt v.shape v.seen cut level place word) where
   -- what a leaf's word tells
   pub leaf_tells : (told : Summary A B) → level ≡ 0 → told ≡ summary_of parts_a parts_b (leaf_pairs place word) → IsTreeOf (summary_of parts_a parts_b) v.shape.bits cut level place told
   leaf_tells told low is = subst (λ (z : ℕ). IsTreeOf (summary_of parts_a parts_b) v.shape.bits cut z place told) (sym low)
-      (leaf_told parts_a parts_b v kn.book cut place word (subst (λ (z : ℕ). IsNodeOf v.shape v.seen cut z place word) low t) told is)
+      (leaf_told parts_a parts_b v kn.book cut place word (subst (λ (z : ℕ). IsNodeAt v.shape v.seen cut z place word) low t) told is)
 
   -- and what its key weighs
   pub leaf_weighs : level ≡ 0 → weight_in_word word ≡ weight_in (pairs_of_cut cut) place
-  leaf_weighs low = leaf_weight parts_a parts_b v kn.book cut place word (subst (λ (z : ℕ). IsNodeOf v.shape v.seen cut z place word) low t)
+  leaf_weighs low = leaf_weight parts_a parts_b v kn.book cut place word (subst (λ (z : ℕ). IsNodeAt v.shape v.seen cut z place word) low t)
 
   module _ (inner : 1 ≤ level) where
     one_up : level ≡ suc (level - 1)
     one_up = omega arith
 
-    below : IsNodeOf v.shape v.seen cut (suc (level - 1)) place word
-    below = subst (λ (z : ℕ). IsNodeOf v.shape v.seen cut z place word) one_up t
+    below : IsNodeAt v.shape v.seen cut (suc (level - 1)) place word
+    below = subst (λ (z : ℕ). IsNodeAt v.shape v.seen cut z place word) one_up t
 
     -- the record of an inner node may be read
     pub record_seen : HasSeen v word
     record_seen = node_seen parts_a parts_b v kn.book cut (level - 1) place word below
 
-    pub left_is : (r : ℕ) → Says v word 0 r → IsNodeOf v.shape v.seen cut (level - 1) (2 * place) r
+    pub left_is : (r : ℕ) → Says v word 0 r → IsNodeAt v.shape v.seen cut (level - 1) (2 * place) r
     left_is = left_node parts_a parts_b v kn.book cut (level - 1) place word below
 
-    pub right_is : (r : ℕ) → Says v word 1 r → IsNodeOf v.shape v.seen cut (level - 1) (2 * place + 1) r
+    pub right_is : (r : ℕ) → Says v word 1 r → IsNodeAt v.shape v.seen cut (level - 1) (2 * place + 1) r
     right_is = right_node parts_a parts_b v kn.book cut (level - 1) place word below
 
     pub count_fits : (n : ℕ) → 2 ^ v.shape.bits ≤ 65536 → Says v word 2 n → n ≤ 65536

@@ -15,7 +15,7 @@ use Rattle.aug_model.specs.declared.outcome.Outcome.{Outcome}
 use Rattle.aug_model.specs.declared.outcome.Outcome.TheVariants.{Accepted, Replaced, Refused}
 use Rattle.aug_trie.specs.inside.Climbing.{Updated, CameTo}
 use Rattle.aug_trie.specs.Requests.{advance_from}
-use Rattle.aug_trie.specs.declared.request.Request.{Request}
+use Rattle.aug_trie.specs.declared.updates.request.Request.{Request}
 use Rattle.aug_trie.specs.inside.Knows.{KnowsRound}
 use Rattle.aug_trie.specs.Pass.{PassFacts, GoesOn, StepsOf}
 use Rattle.aug_trie.specs.inside.PassState.{pass_facts, known_in, IsPass, HoldsPass}

@@ -1,7 +1,7 @@
 -- A record of the own lane is filled and published.
 use Rattle.std.proofs.Common.{◌≡◌, ◌≢◌, ◌↔◌, ℕ, ◌+◌, ◌≤◌, Bool, true, false, IsTrue, List, [], get_or, sym, refl, ap, ◌∙◌, subst, ⊎_elim, arith}
 use Rattle.std.proofs.lemmas.Bool.{cases_eq, false≢true}
-use Rattle.aug_core.specs.Tree.{IsInner}
+use Rattle.aug_core.specs.Addresses.{IsInner}
 use Rattle.aug_core.specs.Lanes.{first_record, IsOfLane, lane_records}
 use Rattle.aug_core.specs.inside.Refreshes.{SaysLoaded, Published}
 use Rattle.aug_core.specs.Told.{own_lane, storing, KnowsTable, IsFilled, TriesNode}

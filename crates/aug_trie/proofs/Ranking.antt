@@ -14,11 +14,11 @@ use Rattle.aug_core.specs.Book.{At}
 use Rattle.aug_core.specs.Cuts.{Cut, weight_at, set_of_cut}
 use Rattle.aug_core.specs.Faces.{face}
 use Rattle.aug_core.specs.Told.{HasSeen, KnowsTable, stepping}
-use Rattle.aug_core.specs.Tree.{IsInner}
+use Rattle.aug_core.specs.Addresses.{IsInner}
 use Rattle.aug_core.specs.declared.step.StepTaken.{StepTaken}
 use Rattle.aug_core.specs.declared.view.View.{View}
 use Rattle.aug_trie.specs.LeafWords.{serial_in_word}
-use Rattle.aug_trie.specs.Node.{IsNodeOf}
+use Rattle.aug_trie.specs.Node.{IsNodeAt}
 use Rattle.aug_trie.specs.inside.Goes.{HasLeaves, Looks}
 use Rattle.aug_trie.specs.inside.NamedCuts.{cut_named}
 use Rattle.aug_trie.specs.TreeOf.{members_of}
@@ -39,18 +39,18 @@ module _ {A B : Type 0} (parts_a : Parts A) (parts_b : Parts B) (v : View) (kn :
   abbrev list : List ℕ
   list = set_of_cut cut
 
-  module _ (level word : ℕ) (t : IsNodeOf v.shape v.seen cut (level + 1) (k / 2 ^ (level + 1)) word) where
-    above : IsNodeOf v.shape v.seen cut (suc level) (k / 2 ^ suc level) word
-    above = subst (λ (z : ℕ). IsNodeOf v.shape v.seen cut z (k / 2 ^ z) word) (add-one level) t
+  module _ (level word : ℕ) (t : IsNodeAt v.shape v.seen cut (level + 1) (k / 2 ^ (level + 1)) word) where
+    above : IsNodeAt v.shape v.seen cut (suc level) (k / 2 ^ suc level) word
+    above = subst (λ (z : ℕ). IsNodeAt v.shape v.seen cut z (k / 2 ^ z) word) (add-one level) t
 
     -- the record of the node above may be read
     pub above_seen : HasSeen v word
     above_seen = node_seen parts_a parts_b v kn.book cut level (k / 2 ^ suc level) word above
 
-    left : (r : ℕ) → Says v word 0 r → IsNodeOf v.shape v.seen cut level (2 * (k / 2 ^ suc level)) r
+    left : (r : ℕ) → Says v word 0 r → IsNodeAt v.shape v.seen cut level (2 * (k / 2 ^ suc level)) r
     left = left_node parts_a parts_b v kn.book cut level (k / 2 ^ suc level) word above
 
-    right : (r : ℕ) → Says v word 1 r → IsNodeOf v.shape v.seen cut level (2 * (k / 2 ^ suc level) + 1) r
+    right : (r : ℕ) → Says v word 1 r → IsNodeAt v.shape v.seen cut level (2 * (k / 2 ^ suc level) + 1) r
     right = right_node parts_a parts_b v kn.book cut level (k / 2 ^ suc level) word above
 
     left_first : first_key level (2 * (k / 2 ^ suc level)) ≡ first_key (level + 1) (k / 2 ^ (level + 1))
@@ -61,8 +61,8 @@ module _ {A B : Type 0} (parts_a : Parts A) (parts_b : Parts B) (v : View) (kn :
       low_place : 2 * (k / 2 ^ suc level) ≡ k / 2 ^ level
       low_place = let half = half_place k level in omega arith
 
-      pub low_node : (r : ℕ) → Says v word 0 r → IsNodeOf v.shape v.seen cut level (k / 2 ^ level) r
-      low_node r says = subst (λ (z : ℕ). IsNodeOf v.shape v.seen cut level z r) low_place (left r says)
+      pub low_node : (r : ℕ) → Says v word 0 r → IsNodeAt v.shape v.seen cut level (k / 2 ^ level) r
+      low_node r says = subst (λ (z : ℕ). IsNodeAt v.shape v.seen cut level z r) low_place (left r says)
 
       pub low_rank : rank_of list (first_key level (k / 2 ^ level)) ≡ rank_of list (first_key (level + 1) (k / 2 ^ (level + 1)))
       low_rank = ap (rank_of list) (ap (first_key level) (sym low_place) ∙ left_first)
@@ -72,8 +72,8 @@ module _ {A B : Type 0} (parts_a : Parts A) (parts_b : Parts B) (v : View) (kn :
       high_place : 2 * (k / 2 ^ suc level) + 1 ≡ k / 2 ^ level
       high_place = let half = half_place k level in omega arith
 
-      pub high_node : (r : ℕ) → Says v word 1 r → IsNodeOf v.shape v.seen cut level (k / 2 ^ level) r
-      high_node r says = subst (λ (z : ℕ). IsNodeOf v.shape v.seen cut level z r) high_place (right r says)
+      pub high_node : (r : ℕ) → Says v word 1 r → IsNodeAt v.shape v.seen cut level (k / 2 ^ level) r
+      high_node r says = subst (λ (z : ℕ). IsNodeAt v.shape v.seen cut level z r) high_place (right r says)
 
       -- the lesser half is a node whose record may be read where it is no leaf
       pub low_seen : (r : ℕ) → Says v word 0 r → 1 ≤ level → HasSeen v r
@@ -90,7 +90,7 @@ module _ {A B : Type 0} (parts_a : Parts A) (parts_b : Parts B) (v : View) (kn :
 
   -- ---- the last step
 
-  module _ (word : ℕ) (t : IsNodeOf v.shape v.seen cut 1 (k / 2 ^ 1) word) where
+  module _ (word : ℕ) (t : IsNodeAt v.shape v.seen cut 1 (k / 2 ^ 1) word) where
     -- a key that is a left child has no more members below it than its parent
     last_low : k % 2 ≡ 0 → rank_of list (first_key 1 (k / 2 ^ 1)) ≡ rank_of list k
     last_low low = ap (rank_of list) (let e : k / 2 ^ 1 * 2 ^ 1 ≡ k = omega arith in e)
@@ -105,12 +105,12 @@ module _ {A B : Type 0} (parts_a : Parts A) (parts_b : Parts B) (v : View) (kn :
         omega (arith, cut_there, ap (rank_of list) from, ap (rank_of list) to, count)
 
   -- the end of a descent, at the node above the leaf
-  module _ (level word below : ℕ) (last : level ≡ 0) (t : IsNodeOf v.shape v.seen cut (level + 1) (k / 2 ^ (level + 1)) word) (counted : below ≡ rank_of list (first_key (level + 1) (k / 2 ^ (level + 1)))) where
+  module _ (level word below : ℕ) (last : level ≡ 0) (t : IsNodeAt v.shape v.seen cut (level + 1) (k / 2 ^ (level + 1)) word) (counted : below ≡ rank_of list (first_key (level + 1) (k / 2 ^ (level + 1)))) where
     one : level + 1 ≡ 1
     one = omega arith
 
-    end_node : IsNodeOf v.shape v.seen cut 1 (k / 2 ^ 1) word
-    end_node = subst (λ (z : ℕ). IsNodeOf v.shape v.seen cut z (k / 2 ^ z) word) one t
+    end_node : IsNodeAt v.shape v.seen cut 1 (k / 2 ^ 1) word
+    end_node = subst (λ (z : ℕ). IsNodeAt v.shape v.seen cut z (k / 2 ^ z) word) one t
 
     end_counted : below ≡ rank_of list (first_key 1 (k / 2 ^ 1))
     end_counted = subst (λ (z : ℕ). below ≡ rank_of list (first_key z (k / 2 ^ z))) one counted

@@ -10,8 +10,8 @@ use Rattle.aug_model.specs.declared.outcome.Outcome.TheVariants.{Accepted, Repla
 use Rattle.aug_trie.specs.LeafWords.{serial_in_word, weight_in_word}
 use Rattle.aug_trie.specs.inside.Climbing.{FitsRequest}
 use Rattle.aug_trie.specs.Requests.{goes_from, in_the_way, advance_from, outcome_by}
-use Rattle.aug_trie.specs.declared.request.Request.{Request}
-use Rattle.aug_trie.specs.declared.request.Request.TheVariants.{Insert, Remove, Put}
+use Rattle.aug_trie.specs.declared.updates.request.Request.{Request}
+use Rattle.aug_trie.specs.declared.updates.request.Request.TheVariants.{Insert, Remove, Put}
 
 -- a word is that of its serial and its weight
 pub leaf_again : (word : ℕ) → word ≡ word_of_leaf (serial_in_word word) (weight_in_word word)

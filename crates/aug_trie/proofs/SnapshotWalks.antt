@@ -1,5 +1,5 @@
 -- What a walk over a snapshot leaves as it was, and how a descent over it comes of the words that it loaded.
-use Rattle.std.proofs.Common.{◌≡◌, ℕ, ◌+◌, ◌^◌, ◌≤◌, List, ◌++◌, length, sym, refl, ap, ◌∙◌, subst, arith}
+use Rattle.std.proofs.Common.{◌≡◌, ℕ, ◌+◌, ◌*◌, ◌^◌, ◌≤◌, List, ◌++◌, length, sym, refl, ap, ◌∙◌, subst, arith}
 use Rattle.std.proofs.Math.Pow.{pow_mono}
 use Rattle.aug_core.specs.Cuts.{Cut, weight_at, set_of_cut}
 use Rattle.aug_core.specs.Told.{KnowsTable}
@@ -8,15 +8,15 @@ use Rattle.aug_core.proofs.Fits.{knows_same}
 use Rattle.aug_model.specs.Keys.{list_of}
 use Rattle.aug_model.proofs.Pairs.{keys_of-pairs_of}
 use Rattle.aug_query.specs.Tree.{below_node}
-use Rattle.aug_query.specs.Descend.{Descends}
+use Rattle.aug_query.specs.Descend.{Descends, one_more_node, one_more_past, one_more_count, one_more_summary}
 use Rattle.aug_query.specs.declared.loaded.Loaded.{Loaded}
 use Rattle.aug_words.specs.Seats.{Known}
-use Rattle.aug_trie.specs.Node.{IsNodeOf}
+use Rattle.aug_trie.specs.Node.{IsNodeAt}
 use Rattle.aug_trie.specs.TreeOf.{members_of}
 use Rattle.aug_trie.specs.inside.Goes.{Looks}
 use Rattle.aug_trie.specs.inside.NamedCuts.{cut_named}
 use Rattle.aug_trie.specs.inside.SnapshotWalk.{set_seen, IsNamed, IsWalk, Walking, KeepsWords}
-use Rattle.aug_trie.specs.declared.snapshot.Snapshot.{Snapshot}
+use Rattle.aug_trie.specs.declared.queries.snapshot.Snapshot.{Snapshot}
 
 -- the keys of a cut's set are the cut's
 pub keys_of_cut : (bits : ℕ) (cut : Cut) → list_of (members_of bits cut) ≡ set_of_cut cut
@@ -43,51 +43,60 @@ module _ (f : ℕ → ℕ → List (ℕ × ℕ) → List ℕ) where
   WalkDescends nodes counts summaries passed old new = Descends {Tree = Walking} {Name = ℕ} (λ w. set_seen w.words.view w.snapshot) (λ w. w.loaded) (λ w level place word. IsNamed f w.words.view w.snapshot level place word)
       (λ first w. KeepsWords first.words w.words first.snapshot w.snapshot first.loaded w.loaded) nodes counts summaries passed old new
 
-  -- a node was loaded
-  pub descends_node : (i old : Walking) (words : Known) (loaded : Loaded) → i ≡ old → words.table ≡ i.words.table → Looks 1 i.words.view words.view → loaded ≡ record i.loaded { nodes = record { made = i.loaded.nodes.made + 1 } }
-      → WalkDescends 1 0 0 0 old (record i { words = words; loaded = loaded })
-  descends_node i old words loaded same table l is = let few = l.few in
-      let a = ap (λ (z : Loaded). z.nodes.made) is in let b = ap (λ (z : Loaded). z.counts.made) is in let c = ap (λ (z : Loaded). z.summaries.made) is in let d = ap (λ (z : Loaded). z.passed.made) is in
-      subst (λ (z : Walking). WalkDescends 1 0 0 0 z (record i { words = words; loaded = loaded })) same record {
+  -- what was loaded, by its kind
+  descends_by : (n nodes counts summaries passed : ℕ) (i old : Walking) (words : Known) (loaded : Loaded) → i ≡ old → words.table ≡ i.words.table → Looks n i.words.view words.view
+      → n ≤ nodes + counts + 3 * summaries + 2 * passed
+      → (loaded.nodes.made ≡ i.loaded.nodes.made + nodes) × (loaded.counts.made ≡ i.loaded.counts.made + counts) × (loaded.summaries.made ≡ i.loaded.summaries.made + summaries) × (loaded.passed.made ≡ i.loaded.passed.made + passed)
+      → WalkDescends nodes counts summaries passed old (record i { words = words; loaded = loaded })
+  descends_by n nodes counts summaries passed i old words loaded same table l most is = let few = l.few in let a = is.0 in let b = is.1 in let c = is.2 in let d = is.3 in
+      subst (λ (z : Walking). WalkDescends nodes counts summaries passed z (record i { words = words; loaded = loaded })) same record {
         same_set = ap (λ (z : View). set_seen z i.snapshot) l.is;
-        few_nodes = omega (arith, a);
-        few_counts = omega (arith, b);
-        few_summaries = omega (arith, c);
-        few_passed = omega (arith, d);
-        keeps_names = λ level place word has. named_on 1 i.words.view words.view i.snapshot level place word l has;
-        keeps_rest = record { same_table = table; same_snapshot = refl; more = l.more; steps = l.is; few_steps = omega (arith, few, a, b, c, d) };
+        few_nodes = omega arith;
+        few_counts = omega arith;
+        few_summaries = omega arith;
+        few_passed = omega arith;
+        keeps_names = λ level place word has. named_on n i.words.view words.view i.snapshot level place word l has;
+        keeps_rest = record { same_table = table; same_snapshot = refl; more = l.more; steps = l.is; few_steps = omega arith };
       }
 
+  none : (n : ℕ) → n ≡ n + 0
+  none n = omega arith
+
+  -- a node was loaded
+  pub descends_node : (i old : Walking) (words : Known) (loaded : Loaded) → i ≡ old → words.table ≡ i.words.table → Looks 1 i.words.view words.view → loaded ≡ one_more_node i.loaded
+      → WalkDescends 1 0 0 0 old (record i { words = words; loaded = loaded })
+  descends_node i old words loaded same table l is = descends_by 1 1 0 0 0 i old words loaded same table l (omega arith) (ap (λ (z : Loaded). z.nodes.made) is, ap (λ (z : Loaded). z.counts.made) is ∙ none _, ap (λ (z : Loaded). z.summaries.made) is ∙ none _, ap (λ (z : Loaded). z.passed.made) is ∙ none _)
+
   -- a node was loaded past another, and the count of that one
-  pub descends_past : (i old : Walking) (words : Known) (loaded : Loaded) → i ≡ old → words.table ≡ i.words.table → Looks 3 i.words.view words.view
-      → loaded ≡ record i.loaded { nodes = record { made = i.loaded.nodes.made + 1 }; passed = record { made = i.loaded.passed.made + 1 } } → WalkDescends 1 0 0 1 old (record i { words = words; loaded = loaded })
-  descends_past i old words loaded same table l is = let few = l.few in
-      let a = ap (λ (z : Loaded). z.nodes.made) is in let b = ap (λ (z : Loaded). z.counts.made) is in let c = ap (λ (z : Loaded). z.summaries.made) is in let d = ap (λ (z : Loaded). z.passed.made) is in
-      subst (λ (z : Walking). WalkDescends 1 0 0 1 z (record i { words = words; loaded = loaded })) same record {
-        same_set = ap (λ (z : View). set_seen z i.snapshot) l.is;
-        few_nodes = omega (arith, a);
-        few_counts = omega (arith, b);
-        few_summaries = omega (arith, c);
-        few_passed = omega (arith, d);
-        keeps_names = λ level place word has. named_on 3 i.words.view words.view i.snapshot level place word l has;
-        keeps_rest = record { same_table = table; same_snapshot = refl; more = l.more; steps = l.is; few_steps = omega (arith, few, a, b, c, d) };
-      }
+  pub descends_past : (i old : Walking) (words : Known) (loaded : Loaded) → i ≡ old → words.table ≡ i.words.table → Looks 3 i.words.view words.view → loaded ≡ one_more_past i.loaded
+      → WalkDescends 1 0 0 1 old (record i { words = words; loaded = loaded })
+  descends_past i old words loaded same table l is = descends_by 3 1 0 0 1 i old words loaded same table l (omega arith) (ap (λ (z : Loaded). z.nodes.made) is, ap (λ (z : Loaded). z.counts.made) is ∙ none _, ap (λ (z : Loaded). z.summaries.made) is ∙ none _, ap (λ (z : Loaded). z.passed.made) is)
+
+  -- the members of a node were counted
+  pub descends_count : (i old : Walking) (words : Known) (loaded : Loaded) → i ≡ old → words.table ≡ i.words.table → Looks 1 i.words.view words.view → loaded ≡ one_more_count i.loaded
+      → WalkDescends 0 1 0 0 old (record i { words = words; loaded = loaded })
+  descends_count i old words loaded same table l is = descends_by 1 0 1 0 0 i old words loaded same table l (omega arith) (ap (λ (z : Loaded). z.nodes.made) is ∙ none _, ap (λ (z : Loaded). z.counts.made) is, ap (λ (z : Loaded). z.summaries.made) is ∙ none _, ap (λ (z : Loaded). z.passed.made) is ∙ none _)
+
+  -- a whole summary was loaded
+  pub descends_summary : (i old : Walking) (words : Known) (loaded : Loaded) → i ≡ old → words.table ≡ i.words.table → Looks 3 i.words.view words.view → loaded ≡ one_more_summary i.loaded
+      → WalkDescends 0 0 1 0 old (record i { words = words; loaded = loaded })
+  descends_summary i old words loaded same table l is = descends_by 3 0 0 1 0 i old words loaded same table l (omega arith) (ap (λ (z : Loaded). z.nodes.made) is ∙ none _, ap (λ (z : Loaded). z.counts.made) is ∙ none _, ap (λ (z : Loaded). z.summaries.made) is, ap (λ (z : Loaded). z.passed.made) is ∙ none _)
 
   -- the count of what a name stands for, by the keys of the set and by those of the cut
   pub counted : (v : View) (s : Snapshot) (level place n : ℕ) → n ≡ length (below_node (set_of_cut (cut_named v.shape v.seen s.number)) level place) → n ≡ length (below_node (list_of (set_seen v s)) level place)
   counted v s level place n is = is ∙ ap (λ (z : List ℕ). length (below_node z level place)) (sym (keys_of_cut v.shape.bits (cut_named v.shape v.seen s.number)))
 
   -- a name, as it is after some looks
-  pub named_then : (n level place word : ℕ) (v w : View) (s : Snapshot) (bits : ℕ) → Looks n v w → IsWalk f v s bits → IsNodeOf v.shape v.seen (cut_named v.shape v.seen s.number) level place word → IsNamed f w s level place word
+  pub named_then : (n level place word : ℕ) (v w : View) (s : Snapshot) (bits : ℕ) → Looks n v w → IsWalk f v s bits → IsNodeAt v.shape v.seen (cut_named v.shape v.seen s.number) level place word → IsNamed f w s level place word
   named_then n level place word v w s bits l walk node = named_on n v w s level place word l record { knows_table = walk.top.knows_table; is_tree_set = walk.top.is_tree_set; node = node }
 
   -- what was named before some looks is so still
-  pub node_on : (n level place word : ℕ) (v w : View) (s : Snapshot) → Looks n v w → IsNodeOf v.shape v.seen (cut_named v.shape v.seen s.number) level place word → IsNodeOf w.shape w.seen (cut_named w.shape w.seen s.number) level place word
-  node_on n level place word v w s l node = subst (λ (z : View). IsNodeOf z.shape z.seen (cut_named z.shape z.seen s.number) level place word) (sym l.is) node
+  pub node_on : (n level place word : ℕ) (v w : View) (s : Snapshot) → Looks n v w → IsNodeAt v.shape v.seen (cut_named v.shape v.seen s.number) level place word → IsNodeAt w.shape w.seen (cut_named w.shape w.seen s.number) level place word
+  node_on n level place word v w s l node = subst (λ (z : View). IsNodeAt z.shape z.seen (cut_named z.shape z.seen s.number) level place word) (sym l.is) node
 
   -- and the other way round
-  pub node_back : (n level place word : ℕ) (v w : View) (s : Snapshot) → Looks n v w → IsNodeOf w.shape w.seen (cut_named w.shape w.seen s.number) level place word → IsNodeOf v.shape v.seen (cut_named v.shape v.seen s.number) level place word
-  node_back n level place word v w s l node = subst (λ (z : View). IsNodeOf z.shape z.seen (cut_named z.shape z.seen s.number) level place word) l.is node
+  pub node_back : (n level place word : ℕ) (v w : View) (s : Snapshot) → Looks n v w → IsNodeAt w.shape w.seen (cut_named w.shape w.seen s.number) level place word → IsNodeAt v.shape v.seen (cut_named v.shape v.seen s.number) level place word
+  node_back n level place word v w s l node = subst (λ (z : View). IsNodeAt z.shape z.seen (cut_named z.shape z.seen s.number) level place word) l.is node
 
   -- a count that was loaded after some looks, by the set of the beginning
   pub counted_before : (n : ℕ) (i old : Walking) (w : View) (level place m : ℕ) → i ≡ old → Looks n i.words.view w → m ≡ length (below_node (set_of_cut (cut_named w.shape w.seen i.snapshot.number)) level place)

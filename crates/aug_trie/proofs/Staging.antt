@@ -19,10 +19,10 @@ use Rattle.aug_trie.specs.LeafWords.{serial_in_word}
 use Rattle.aug_trie.specs.inside.Points.{OneStep, QuietStep}
 use Rattle.aug_trie.specs.Requests.{goes_from, advance_from, word_after, outcome_by}
 use Rattle.aug_trie.specs.inside.Stages.{HasRisen, IsOnWay, HasBegun, IsRising, StageAt, ascent_turns}
-use Rattle.aug_trie.specs.declared.request.Request.{Request}
-use Rattle.aug_trie.specs.declared.points.Point.TheVariants.{Node}
-use Rattle.aug_trie.specs.declared.ascents.Ascent.{Ascent}
-use Rattle.aug_trie.specs.declared.stages.Stage.TheVariants.{Leaf, Change, Up}
+use Rattle.aug_trie.specs.declared.updates.request.Request.{Request}
+use Rattle.aug_trie.specs.declared.turns.points.Point.TheVariants.{Node}
+use Rattle.aug_trie.specs.declared.turns.ascents.Ascent.{Ascent}
+use Rattle.aug_trie.specs.declared.turns.stages.Stage.TheVariants.{Leaf, Change, Up}
 use Rattle.aug_trie.proofs.Going.{may_change, room_on, goes_after}
 use Rattle.aug_trie.proofs.Requesting.{from_word}
 use Rattle.aug_trie.proofs.Updating.{goes_begun, goes_leaf, advances, serial_few, told, may_rise, refused_at_once, updated}

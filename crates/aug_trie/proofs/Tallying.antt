@@ -5,7 +5,7 @@ use Rattle.std.proofs.lemmas.List.{length-map, append-nil}
 use Rattle.std.proofs.lemmas.List.Elements.{All-from_get_or}
 use mathlib.Core.Option.{some, some-injective}
 use lib.ListN.{get_elem?}
-use Rattle.aug_core.specs.Tree.{root_place}
+use Rattle.aug_core.specs.Addresses.{root_place}
 use Rattle.aug_core.specs.Book.{history_of}
 use Rattle.aug_core.specs.Counts.{change, changes_of, StandsAt, Stands}
 use Rattle.aug_core.specs.Rule.{Kept}
@@ -25,7 +25,8 @@ use Rattle.aug_core.specs.EntryCuts.{entry_of}
 use Rattle.aug_core.specs.inside.RootCuts.{root_cut}
 use Rattle.aug_core.specs.Told.{KnowsTable, opening_of}
 use Rattle.aug_trie.specs.inside.Knows.{knows}
-use Rattle.aug_core.proofs.CutsUnder.{root_word, cut_long, reached}
+use Rattle.aug_core.proofs.Levels.{root_word}
+use Rattle.aug_core.proofs.CutsUnder.{cut_long, reached}
 use Rattle.aug_core.proofs.EntryCuts.{Has, entry_at, entry_is, reached_shows, root_rises, cut_later}
 use Rattle.aug_core.proofs.CutLists.{read}
 use Rattle.aug_trie.proofs.CutLemmas.{serial_past, serial_rises, serial-opening}

@@ -4,7 +4,7 @@ use Rattle.aug_monoid.specs.Parts.{Parts}
 use Rattle.aug_monoid.specs.inside.Laws.{IsMonoid}
 use Rattle.aug_monoid.specs.Weighted.{FitsPair}
 use Rattle.aug_monoid.proofs.FoldLemmas.{fold_of-append, fold_of-one, of_word-fold_of}
-use Rattle.aug_core.specs.Tree.{IsInner}
+use Rattle.aug_core.specs.Addresses.{IsInner}
 use Rattle.aug_core.specs.Faces.{face}
 use Rattle.aug_core.specs.Book.{At}
 use Rattle.aug_core.specs.inside.Refreshes.{HasEntry}

@@ -17,7 +17,7 @@ use Rattle.aug_monoid.specs.Weighted.{FitsPair}
 use Rattle.aug_query.specs.Tree.{IsTreeSet}
 use Rattle.aug_core.specs.Faces.{face}
 use Rattle.aug_core.specs.Places.{Shape}
-use Rattle.aug_core.specs.Tree.{IsInner, root_place}
+use Rattle.aug_core.specs.Addresses.{IsInner, root_place}
 use Rattle.aug_core.specs.Book.{Book, history_of, Continues, IsBook}
 use Rattle.aug_core.specs.Counts.{changes_of}
 use Rattle.aug_core.specs.Cuts.{Cut, serial_of, weight_at, set_of_cut}
@@ -28,7 +28,8 @@ use Rattle.aug_core.specs.Told.{KnowsTable, opening_of}
 use Rattle.aug_core.specs.declared.view.Entry.{Entry}
 use Rattle.aug_core.specs.declared.view.View.{View}
 use Rattle.aug_core.proofs.Books.{no_shorter}
-use Rattle.aug_core.proofs.CutsUnder.{root_word, cut_long, reached, shown_is}
+use Rattle.aug_core.proofs.Levels.{root_word}
+use Rattle.aug_core.proofs.CutsUnder.{cut_long, reached, shown_is}
 use Rattle.aug_core.proofs.EntryCuts.{entry_at, cut_later}
 use Rattle.aug_core.proofs.OpeningCuts.{root_inner}
 use Rattle.aug_words.specs.Seats.{Known}
@@ -36,12 +37,12 @@ use Rattle.aug_trie.specs.inside.Counted.{HasCounts}
 use Rattle.aug_trie.specs.LeafWords.{weight_in_word}
 use Rattle.aug_trie.specs.inside.PassState.{pass_facts, IsPass, HoldsPass}
 use Rattle.aug_trie.specs.Snapshot.{HasSnapshot, first_place}
-use Rattle.aug_trie.specs.Node.{IsNodeOf, HasNode, Keeps, Reads}
+use Rattle.aug_trie.specs.Node.{IsNodeAt, HasNode, Keeps, Reads}
 use Rattle.aug_trie.specs.inside.Knows.{root_history, root_numbers}
 use Rattle.aug_trie.specs.inside.NamedCuts.{HasNamed, cut_named}
 use Rattle.aug_trie.specs.inside.Goes.{Looks}
 use Rattle.aug_trie.specs.TreeOf.{members_of, IsTreeOf}
-use Rattle.aug_trie.specs.declared.node.Node.{Node}
+use Rattle.aug_trie.specs.declared.queries.node.Node.{Node}
 use Rattle.aug_trie.proofs.Counters.{counted_still}
 use Rattle.aug_trie.proofs.Histories.{some_bits, history_long, numbers_long}
 use Rattle.aug_trie.proofs.Keeping.{node_later}
@@ -109,7 +110,7 @@ module _ {A B : Type 0} (parts_a : Parts A) (parts_b : Parts B) where
 
   -- the top of a snapshot's tree
   pub top_is : (known : Known) (left number : ℕ) → KnowsTable both known.view → HasSnapshot (pass_facts known left) number
-      → IsNodeOf known.view.shape known.view.seen (cut_named known.view.shape known.view.seen number) known.view.shape.bits 0 number
+      → IsNodeAt known.view.shape known.view.seen (cut_named known.view.shape known.view.seen number) known.view.shape.bits 0 number
   top_is known left number kn has = let v : View = known.view in let t = named_there v.shape v.seen number has in
       top_node parts_a parts_b v kn.book (cut_named v.shape v.seen number) number (inner_root v kn) record {
         index = first_place (root_numbers v.shape v.seen) number;
@@ -121,7 +122,7 @@ module _ {A B : Type 0} (parts_a : Parts A) (parts_b : Parts B) where
 
   -- what a load tells of a node makes it a node of the pass
   pub has_node : (known : Known) (left : ℕ) (node : Node A B) → KnowsTable both known.view → HasSnapshot (pass_facts known left) node.snapshot.number
-      → IsNodeOf known.view.shape known.view.seen (cut_named known.view.shape known.view.seen node.snapshot.number) node.level node.place node.word
+      → IsNodeAt known.view.shape known.view.seen (cut_named known.view.shape known.view.seen node.snapshot.number) node.level node.place node.word
       → IsTreeOf (summary_of parts_a parts_b) known.view.shape.bits (cut_named known.view.shape known.view.seen node.snapshot.number) node.level node.place node.summary
       → HasNode (summary_of parts_a parts_b) (pass_facts known left) node
   has_node known left node kn has named tells = record { of_pass = has; is_tree_set = named_set both known.view node.snapshot.number kn; named = named; tells = tells; weighs = leaf_weighs parts_a parts_b known.view kn (cut_named known.view.shape known.view.seen node.snapshot.number) node.level node.place node.word named }
@@ -158,7 +159,7 @@ module _ {A B : Type 0} (parts_a : Parts A) (parts_b : Parts B) where
     node_on node has = let number = node.snapshot.number in let both_same : (new.view.shape, cut_named new.view.shape later number) ≡ (s, cut_named s book number) = λ i. (shaped i, cut_on number has.of_pass i) in record {
       of_pass = snapshot_on number has.of_pass;
       is_tree_set = subst (λ (z : Shape × Cut). IsTreeSet (members_of z.0.bits z.1)) (sym both_same) has.is_tree_set;
-      named = subst (λ (z : Shape × Cut). IsNodeOf z.0 later z.1 node.level node.place node.word) (sym both_same) (node_later both s book later kn.book grows (cut_named s book number) node.level node.place node.word has.named);
+      named = subst (λ (z : Shape × Cut). IsNodeAt z.0 later z.1 node.level node.place node.word) (sym both_same) (node_later both s book later kn.book grows (cut_named s book number) node.level node.place node.word has.named);
       tells = subst (λ (z : Shape × Cut). IsTreeOf (summary_of parts_a parts_b) z.0.bits z.1 node.level node.place node.summary) (sym both_same) has.tells;
       weighs = λ level. subst (λ (z : Shape × Cut). weight_in_word node.word ≡ weight_in (members_of z.0.bits z.1).pairs node.place) (sym both_same) (has.weighs level);
     }

@@ -5,7 +5,7 @@ use Rattle.aug_monoid.specs.Parts.{Parts}
 use Rattle.aug_model.specs.Folds.{summary_of}
 use Rattle.aug_core.specs.Faces.{face}
 use Rattle.aug_core.specs.Places.{Shape}
-use Rattle.aug_core.specs.Tree.{left_of}
+use Rattle.aug_core.specs.Addresses.{left_of}
 use Rattle.aug_core.specs.Counts.{changes_of}
 use Rattle.aug_core.specs.Kinds.{load_leaf, try_leaf}
 use Rattle.aug_core.specs.Told.{own_lane, KnowsTable}
@@ -21,15 +21,15 @@ use Rattle.aug_trie.specs.inside.RoundState.{round_of}
 use Rattle.aug_trie.specs.Node.{Keeps}
 use Rattle.aug_trie.specs.inside.Points.{OneStep, TryAt, point_turns}
 use Rattle.aug_trie.specs.Requests.{word_after, goes_from}
-use Rattle.aug_trie.specs.declared.request.Request.{Request}
+use Rattle.aug_trie.specs.declared.updates.request.Request.{Request}
 use Rattle.aug_trie.specs.inside.Stages.{IsOnWay, HasBegun, StageAt, part_above, ascent_turns, stage_turns, MayTry, IsRising}
 use Rattle.aug_trie.specs.inside.ClimbState.{climb_facts, began_facts, start_facts}
 use Rattle.aug_trie.specs.Climb.{StepsOnce, TurnsOn, Finishes}
-use Rattle.aug_trie.specs.declared.points.Point.{Point}
-use Rattle.aug_trie.specs.declared.points.Point.TheVariants.{Node, Left, Right, Part, Record}
-use Rattle.aug_trie.specs.declared.ascents.Ascent.{Ascent}
-use Rattle.aug_trie.specs.declared.stages.Stage.{Stage}
-use Rattle.aug_trie.specs.declared.stages.Stage.TheVariants.{Leaf, Change, Up}
+use Rattle.aug_trie.specs.declared.turns.points.Point.{Point}
+use Rattle.aug_trie.specs.declared.turns.points.Point.TheVariants.{Node, Left, Right, Part, Record}
+use Rattle.aug_trie.specs.declared.turns.ascents.Ascent.{Ascent}
+use Rattle.aug_trie.specs.declared.turns.stages.Stage.{Stage}
+use Rattle.aug_trie.specs.declared.turns.stages.Stage.TheVariants.{Leaf, Change, Up}
 use Rattle.aug_trie.proofs.Accepting.{knows_on, comes_to}
 use Rattle.aug_trie.proofs.Advancing.{goes_at}
 use Rattle.aug_trie.proofs.Ascending.{part_is}

@@ -24,7 +24,7 @@ use Rattle.aug_trie.specs.inside.Climbing.{WentUp, Stayed, CameTo, Updated, Fits
 use Rattle.aug_trie.specs.LeafWords.{serial_in_word, weight_in_word}
 use Rattle.aug_trie.specs.Requests.{goes_from, advance_from, word_after, outcome_by}
 use Rattle.aug_trie.specs.inside.Stages.{MayRise, HasRisen}
-use Rattle.aug_trie.specs.declared.request.Request.{Request}
+use Rattle.aug_trie.specs.declared.updates.request.Request.{Request}
 use Rattle.aug_trie.proofs.Going.{room_on, goes_on, goes_after, goes_beginning, goes_seeing, goes_changing}
 use Rattle.aug_trie.proofs.LeafWords.{serial_of_leaf, weight_of_leaf}
 use Rattle.aug_trie.proofs.Requesting.{is_advance, from_word, outcome_is, serial_is, weight_is, way_found, way_next}

@@ -17,7 +17,7 @@ use Rattle.aug_query.specs.Tree.{first_key, end_key, below_node, sum_of, IsTreeS
 use Rattle.aug_query.proofs.Nodes.{node_cut, left_covers, right_covers}
 use Rattle.aug_core.specs.Faces.{face}
 use Rattle.aug_core.specs.Places.{Shape, record_count}
-use Rattle.aug_core.specs.Tree.{IsInner, root_place, left_of, right_of}
+use Rattle.aug_core.specs.Addresses.{IsInner, root_place, left_of, right_of}
 use Rattle.aug_core.specs.Book.{Book, history_of, At, IsBook}
 use Rattle.aug_core.specs.Cuts.{Cut, pairs_of_cut}
 use Rattle.aug_core.specs.EntryCuts.{entry_of, IsPartOfCut}
@@ -26,7 +26,7 @@ use Rattle.aug_core.specs.Told.{KnowsTable}
 use Rattle.aug_core.specs.declared.view.Entry.{Entry}
 use Rattle.aug_core.specs.declared.view.View.{View}
 use Rattle.aug_core.proofs.Books.{at_below}
-use Rattle.aug_core.proofs.CutsUnder.{inner_word, leaf_word}
+use Rattle.aug_core.proofs.Levels.{inner_word, leaf_word}
 use Rattle.aug_core.proofs.EntryCuts.{entry_at, entry_is, root_part, left_part, right_part, part_words, part_pairs}
 use Rattle.aug_core.proofs.FaceLemmas.{left_in, right_in, count_in, a_in, b_in}
 use Rattle.aug_core.proofs.PlaceLemmas.{keys-within}
@@ -36,7 +36,7 @@ use Rattle.aug_trie.specs.History.{last_cut}
 use Rattle.aug_trie.specs.inside.Knows.{knows}
 use Rattle.aug_trie.specs.LeafWords.{serial_in_word, weight_in_word, leaf_pairs}
 use Rattle.aug_trie.specs.Ended.{word_in, covered, IsLeafOf, IsVersion}
-use Rattle.aug_trie.specs.inside.EndedState.{pairs_below, HoldsVersion}
+use Rattle.aug_trie.specs.inside.EndedState.{pairs_at_rest, HoldsVersion}
 use Rattle.aug_trie.proofs.Counting.{filter_shorter}
 use Rattle.aug_trie.proofs.Histories.{last_is}
 use Rattle.aug_trie.proofs.LeafWords.{serial_of_entry, weight_of_entry, pairs_of_serial}
@@ -128,7 +128,7 @@ module _ {A B : Type 0} (parts_a : Parts A) (parts_b : Parts B) where
 
   module _ (rest : AtRest) (list : List (ℕ × ℕ)) (rises : Rises (keys_of list)) where
     -- a version shows the members that it covers
-    shows : (level place word : ℕ) → IsVersion both rest list level place word → pairs_below rest level place word ≡ covered list level place
+    shows : (level place word : ℕ) → IsVersion both rest list level place word → pairs_at_rest rest level place word ≡ covered list level place
     shows zero place word v = sym v.says
     shows (suc level) place word v = let a = shows level (2 * place) (word_in rest word 0) v.1 in let b = shows level (2 * place + 1) (word_in rest word 1) v.2 in
         (λ k. a k ++ b k) ∙ covered_cut list rises level place
@@ -161,7 +161,7 @@ module _ {A B : Type 0} (parts_a : Parts A) (parts_b : Parts B) where
         (version_at v.shape v.seen kn.book rest.words (subst (ShowSeen v.shape v.seen) (sym same) seen) last v.shape.bits 0 (root_place v.shape) n.index
         (subst (λ (z : Cut). IsPartOfCut v.shape v.seen z v.shape.bits 0 (root_place v.shape) n.index) (sym is_last) (root_part both v.shape v.seen kn.book n.index there))))
 
-    pub members_are : pairs_below rest v.shape.bits 0 number ≡ pairs_of_cut last
+    pub members_are : pairs_at_rest rest v.shape.bits 0 number ≡ pairs_of_cut last
     members_are = let rises = rises_from (keys_of (pairs_of_cut last)) set_is.is_key_set.rising in
         shows rest (pairs_of_cut last) rises v.shape.bits 0 number version ∙ covered_whole (pairs_of_cut last) rises v.shape.bits set_is.is_key_set
 
@@ -222,7 +222,7 @@ module _ {A B : Type 0} (parts_a : Parts A) (parts_b : Parts B) where
   -- a trie at rest
   module _ (rest : AtRest) (root bits : ℕ) (h : HoldsVersion both rest root bits) where
     abbrev members : List (ℕ × ℕ)
-    members = pairs_below rest bits 0 root
+    members = pairs_at_rest rest bits 0 root
 
     pub some_bits : 1 ≤ bits
     some_bits = let some = h.laid_out.bits.0 in let is = h.bits_are in omega arith

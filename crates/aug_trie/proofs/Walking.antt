@@ -8,7 +8,7 @@ use Rattle.aug_model.specs.Folds.{summary_of}
 use Rattle.aug_model.specs.Queries.{range_of, weighted_range_of, weight_of, weight_in}
 use Rattle.aug_model.proofs.Pairs.{range-pairs_of, length-pairs_of}
 use Rattle.aug_model.specs.declared.summary.Summary.{Summary}
-use Rattle.aug_core.specs.Tree.{root_place, left_of, right_of, IsInner}
+use Rattle.aug_core.specs.Addresses.{root_place, left_of, right_of, IsInner}
 use Rattle.aug_core.specs.Faces.{face}
 use Rattle.aug_core.specs.Book.{At, IsSerial, IsBook}
 use Rattle.aug_core.specs.Cuts.{Cut, weight_at, set_of_cut, pairs_of_cut}
@@ -17,13 +17,13 @@ use Rattle.aug_core.specs.Told.{HasSeen}
 use Rattle.aug_core.specs.declared.view.Entry.{Entry}
 use Rattle.aug_core.specs.declared.view.View.{View}
 use Rattle.aug_core.proofs.Books.{at_below}
-use Rattle.aug_core.proofs.CutsUnder.{inner_word, leaf_word}
+use Rattle.aug_core.proofs.Levels.{inner_word, leaf_word}
 use Rattle.aug_core.proofs.EntryCuts.{entry_at, entry_is, root_part, left_part, right_part, part_words, part_pairs, part_fits}
 use Rattle.aug_core.proofs.EntryKeys.{are_small}
 use Rattle.aug_core.proofs.FaceLemmas.{left_in, right_in, count_in, a_in, b_in}
 use Rattle.aug_trie.specs.LeafWords.{serial_in_word, weight_in_word, leaf_pairs}
 use Rattle.aug_trie.specs.inside.NamedCuts.{IsSnapshotOf}
-use Rattle.aug_trie.specs.Node.{IsNodeOf}
+use Rattle.aug_trie.specs.Node.{IsNodeAt}
 use Rattle.aug_trie.specs.TreeOf.{IsTreeOf}
 use Rattle.aug_trie.specs.inside.Points.{Says}
 use Rattle.aug_trie.proofs.LeafWords.{serial_of_entry, weight_of_entry, pairs_of_serial}
@@ -70,7 +70,7 @@ module _ {A B : Type 0} (parts_a : Parts A) (parts_b : Parts B) where
 
   module _ (v : View) (b : IsBook both v.shape v.seen) (cut : Cut) where
     -- the top of a snapshot's tree
-    pub top_node : (number : ℕ) → IsInner v.shape (root_place v.shape) → IsSnapshotOf v.shape v.seen number cut → IsNodeOf v.shape v.seen cut v.shape.bits 0 number
+    pub top_node : (number : ℕ) → IsInner v.shape (root_place v.shape) → IsSnapshotOf v.shape v.seen number cut → IsNodeAt v.shape v.seen cut v.shape.bits 0 number
     top_node number inner t = record {
       q = root_place v.shape;
       index = t.index;
@@ -79,14 +79,14 @@ module _ {A B : Type 0} (parts_a : Parts A) (parts_b : Parts B) where
     }
 
     -- whatever is told of a node's keys is told of the cut's tree
-    tree_is : (level place word : ℕ) (t : IsNodeOf v.shape v.seen cut level place word) (told : Summary A B) → told ≡ summary_of parts_a parts_b (entry_of v.seen t.q t.index).pairs → IsTreeOf (summary_of parts_a parts_b) v.shape.bits cut level place told
+    tree_is : (level place word : ℕ) (t : IsNodeAt v.shape v.seen cut level place word) (told : Summary A B) → told ≡ summary_of parts_a parts_b (entry_of v.seen t.q t.index).pairs → IsTreeOf (summary_of parts_a parts_b) v.shape.bits cut level place told
     tree_is level place word t told is = record {
       level_fits = t.part.word.level_fits;
       place_fits = part_fits both v.shape v.seen b cut level place t.q t.index t.part;
       tells = is ∙ ap (summary_of parts_a parts_b) (part_pairs both v.shape v.seen b cut level place t.q t.index t.part);
     }
 
-    module _ (level place word : ℕ) (t : IsNodeOf v.shape v.seen cut (suc level) place word) where
+    module _ (level place word : ℕ) (t : IsNodeAt v.shape v.seen cut (suc level) place word) where
       abbrev entry : Entry
       entry = entry_of v.seen t.q t.index
 
@@ -113,7 +113,7 @@ module _ {A B : Type 0} (parts_a : Parts A) (parts_b : Parts B) where
       over field = ap (λ (z : List ℕ). get_or z field 0) (words ∙ ap (both (entry_of v.seen (left_of v.shape t.q) entry.left).word (entry_of v.seen (right_of v.shape t.q) entry.right).word) (sym (part_pairs both v.shape v.seen b cut (suc level) place t.q t.index t.part)))
 
       -- its first word names its left child
-      pub left_node : (r : ℕ) → Says v word 0 r → IsNodeOf v.shape v.seen cut level (2 * place) r
+      pub left_node : (r : ℕ) → Says v word 0 r → IsNodeAt v.shape v.seen cut level (2 * place) r
       left_node r says = record {
         q = left_of v.shape t.q;
         index = entry.left;
@@ -122,7 +122,7 @@ module _ {A B : Type 0} (parts_a : Parts A) (parts_b : Parts B) where
       }
 
       -- its second its right child
-      pub right_node : (r : ℕ) → Says v word 1 r → IsNodeOf v.shape v.seen cut level (2 * place + 1) r
+      pub right_node : (r : ℕ) → Says v word 1 r → IsNodeAt v.shape v.seen cut level (2 * place + 1) r
       right_node r says = record {
         q = right_of v.shape t.q;
         index = entry.right;
@@ -149,7 +149,7 @@ module _ {A B : Type 0} (parts_a : Parts A) (parts_b : Parts B) where
           tree_is (suc level) place word t (record { count = n; a = parts_a.from_word x; b = parts_b.from_word y }) (λ i. record { count = count i; a = fold_a i; b = fold_b i })
 
     -- a leaf's word has its serial, which says whether its key is there, and its weight
-    module _ (key word : ℕ) (t : IsNodeOf v.shape v.seen cut 0 key word) where
+    module _ (key word : ℕ) (t : IsNodeAt v.shape v.seen cut 0 key word) where
       abbrev leaf : Entry
       leaf = entry_of v.seen t.q t.index
 

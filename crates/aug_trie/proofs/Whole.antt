@@ -5,7 +5,7 @@ use Rattle.std.proofs.Math.Nat.{two-pow-succ}
 use Rattle.aug_monoid.specs.Parts.{Parts}
 use Rattle.aug_monoid.specs.inside.Laws.{IsMonoid}
 use Rattle.aug_core.specs.Places.{Shape}
-use Rattle.aug_core.specs.Tree.{place_count, IsInner, left_of, right_of}
+use Rattle.aug_core.specs.Addresses.{place_count, IsInner, left_of, right_of}
 use Rattle.aug_core.specs.Faces.{face}
 use Rattle.aug_core.specs.Book.{At, Continues, IsBook}
 use Rattle.aug_core.specs.inside.Refreshes.{HasEntry, HasNewest, SaysLoaded, Published}
@@ -56,6 +56,8 @@ module _ {A B : Type 0} (parts_a : Parts A) (parts_b : Parts B) where
         let p = part_l.of at_left.index at_left.entry l_at at_left.named in let p' = part_r.of at_right.index at_right.entry r_at at_right.named in
         subst (λ (z : Shape). SaysLoaded both z w4.seen q old (ln ∷ rn ∷ (m + k) ∷ xa ∷ xb ∷ [])) (sym s4) record {
           is_loaded = is_loaded both s w0.seen w1.seen w2.seen w4.seen q old ln rn inner g1.later g2.later (λ p i e z. g4.later p i e (g3.later p i e z)) at_node at_left at_right (book_at both s w0 s0 g0.knows_table);
+          left_named = at_left.named;
+          right_named = at_right.named;
           five_are = (λ i. ln ∷ rn ∷ (m + k) ∷ ea i ∷ eb i ∷ [])
               ∙ words_are parts_a parts_b laws_a laws_b ln rn m k x x' y y' at_left.entry.pairs at_right.entry.pairs small_l small_r p p';
         }

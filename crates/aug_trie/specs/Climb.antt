@@ -3,12 +3,12 @@ use Rattle.std.specs.Prelude.{◌≡◌, ℕ, ◌+◌, ◌*◌, ◌<◌, ◌≤�
 use Rattle.aug_core.specs.Kinds.{load_leaf, try_leaf}
 use Rattle.aug_core.specs.declared.step.StepTaken.{StepTaken}
 use Rattle.aug_model.specs.declared.outcome.Outcome.{Outcome}
-use Rattle.aug_trie.specs.History.{Begins}
+use Rattle.aug_trie.specs.History.{IsPrefix}
 use Rattle.aug_trie.specs.Updates.{ComesTo}
 use Rattle.aug_trie.specs.Pass.{PassFacts, GoesOn, StepsOf}
 use Rattle.aug_trie.specs.Requests.{word_after, goes_from}
 use Rattle.aug_trie.specs.LeafWords.{serial_in_word}
-use Rattle.aug_trie.specs.declared.request.Request.{Request}
+use Rattle.aug_trie.specs.declared.updates.request.Request.{Request}
 
 -- an update by turns: its pass as it was at the start and as it is now, what it was asked to do, its key, and how many turns are left at most
 pub record ClimbFacts : Type 0 where
@@ -32,7 +32,7 @@ pub record StepsOnce (old new : PassFacts) : Type 0 where
   pub lane : new.lane ≡ old.lane
   pub taken : StepTaken
   pub steps : new.steps ≡ old.steps ++ taken ∷ []
-  pub goes_on : Begins old.knows.history new.knows.history
+  pub goes_on : IsPrefix old.knows.history new.knows.history
 
 -- a turn after which there is more to do. The first turn loads the key's leaf. The second, where the serial that was found lets the update go on, exchanges the word found for the one that the request makes of it
 pub record TurnsOn (old new : ClimbFacts) : Type 0 where

@@ -20,15 +20,15 @@ pub record CrewFacts : Type 0 where
   pub handed : ℕ
   pub back : ℕ
 
--- a round of keys of so many bits over the set of a trie at rest, and its crew, which knows the opening cut alone and handed nothing out
-pub record BeginsRound (ended : EndedFacts) (bits workers updates : ℕ) (round : RoundFacts) (crew : CrewFacts) : Type 0 where
+-- a round of keys of so many bits over a set with these members, and its crew, which knows the opening cut alone and handed nothing out
+pub record BeginsRound (members : List (ℕ × ℕ)) (bits workers updates : ℕ) (round : RoundFacts) (crew : CrewFacts) : Type 0 where
   pub bits_are : round.bits ≡ bits
-  pub members : round.members ≡ ended.members
+  pub members_are : round.members ≡ members
   pub workers_are : round.workers ≡ workers
   pub updates_are : round.updates ≡ updates
-  pub room : round.room ≡ length ended.members
+  pub room : round.room ≡ length members
   pub together : crew.round ≡ round
-  pub opening : crew.knows ≡ record { history = opening_cut bits ended.members ∷ []; accepted = [] }
+  pub opening : crew.knows ≡ record { history = opening_cut bits members ∷ []; accepted = [] }
   pub none_out : crew.handed ≡ 0
   pub none_back : crew.back ≡ 0
 

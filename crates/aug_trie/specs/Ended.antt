@@ -2,14 +2,14 @@
 use Rattle.std.specs.Prelude.{◌≡◌, ℕ, zero, suc, ◌+◌, ◌*◌, ◌%◌, ◌^◌, ◌<◌, ◌≤◌, List, [], slice_index}
 use Rattle.aug_model.specs.Keys.{SetFacts}
 use Rattle.aug_words.specs.Rests.{AtRest}
-use Rattle.aug_core.specs.Places.{record_start, record_count}
+use Rattle.aug_core.specs.Places.{record_start, record_count, record_words}
 use Rattle.aug_model.specs.Queries.{weighted_range_of, weight_in}
 use Rattle.aug_query.specs.Descend.{nothing_loaded}
 use Rattle.aug_query.specs.Tree.{first_key, end_key, IsTreeSet, IsNodeOf}
 use Rattle.aug_query.specs.declared.loaded.Loaded.{Loaded}
 use Rattle.aug_model.specs.declared.summary.Summary.{Summary}
 use Rattle.aug_trie.specs.LeafWords.{serial_in_word, weight_in_word, leaf_pairs}
-use Rattle.aug_trie.specs.declared.ended_tree.EndedNode.{EndedNode}
+use Rattle.aug_trie.specs.declared.rounds.ended_tree.EndedNode.{EndedNode}
 
 -- a trie at rest: its bits and members with their weights, what the round that ended it came to, how much queries loaded of it, and the words and the root's record that its members are read from
 pub record EndedFacts : Type 0 where
@@ -52,7 +52,7 @@ module _ (face : ℕ → ℕ → List (ℕ × ℕ) → List ℕ) where
   -- the record is one of the table, and its words are those of a node with these members below it
   pub record IsRecordOf (rest : AtRest) (members : List (ℕ × ℕ)) (number : ℕ) : Type 0 where
     pub inside : number < record_count rest.shape
-    pub says : (field : ℕ) → field < 5 → word_in rest number field ≡ slice_index (face (word_in rest number 0) (word_in rest number 1) members) field
+    pub says : (field : ℕ) → field < record_words → word_in rest number field ≡ slice_index (face (word_in rest number 0) (word_in rest number 1) members) field
 
   -- the word names a version of the tree of a set, at a level and a place: down to the leaves every record tells of the set's members that it covers
   abbrev pub IsVersion : AtRest → List (ℕ × ℕ) → ℕ → ℕ → ℕ → Type 0

@@ -7,16 +7,16 @@ use Rattle.aug_core.specs.EntryCuts.{entry_of, IsPartOfCut}
 use Rattle.aug_model.specs.declared.summary.Summary.{Summary}
 use Rattle.aug_model.specs.Queries.{weight_in}
 use Rattle.aug_query.specs.Tree.{IsTreeSet}
-use Rattle.aug_trie.specs.History.{Begins}
+use Rattle.aug_trie.specs.History.{IsPrefix}
 use Rattle.aug_trie.specs.LeafWords.{weight_in_word}
 use Rattle.aug_trie.specs.TreeOf.{IsTreeOf}
 use Rattle.aug_trie.specs.Pass.{PassFacts}
 use Rattle.aug_trie.specs.Snapshot.{HasSnapshot, snapshot_cut, set_at}
-use Rattle.aug_trie.specs.declared.node.Node.{Node}
-use Rattle.aug_trie.specs.declared.snapshot.Snapshot.{Snapshot}
+use Rattle.aug_trie.specs.declared.queries.node.Node.{Node}
+use Rattle.aug_trie.specs.declared.queries.snapshot.Snapshot.{Snapshot}
 
 -- the word names an entry that stands below the cut, at the level and the place
-pub record IsNodeOf (s : Shape) (book : Book) (cut : Cut) (level place word : ℕ) : Type 0 where
+pub record IsNodeAt (s : Shape) (book : Book) (cut : Cut) (level place word : ℕ) : Type 0 where
   pub q : ℕ
   pub index : ℕ
   pub part : IsPartOfCut s book cut level place q index
@@ -27,7 +27,7 @@ module _ {A B : Type 0} (summary_of : List (ℕ × ℕ) → Summary A B) where
   pub record HasNode (pass : PassFacts) (node : Node A B) : Type 0 where
     pub of_pass : HasSnapshot pass node.snapshot.number
     pub is_tree_set : IsTreeSet (set_at pass node.snapshot)
-    pub named : IsNodeOf pass.words.shape pass.words.book (snapshot_cut pass node.snapshot.number) node.level node.place node.word
+    pub named : IsNodeAt pass.words.shape pass.words.book (snapshot_cut pass node.snapshot.number) node.level node.place node.word
     pub tells : IsTreeOf summary_of pass.round.bits (snapshot_cut pass node.snapshot.number) node.level node.place node.summary
     pub weighs : node.level ≡ 0 → weight_in_word node.word ≡ weight_in (set_at pass node.snapshot).pairs node.place
 
@@ -45,7 +45,7 @@ module _ {A B : Type 0} (summary_of : List (ℕ × ℕ) → Summary A B) where
     pub knows : new.knows ≡ old.knows
     pub numbers : new.numbers ≡ old.numbers
     pub spent : new.spent ≡ old.spent
-    pub steps_stay : Begins old.steps new.steps
+    pub steps_stay : IsPrefix old.steps new.steps
     pub keeps : Keeps old new
 
   -- and it made at most so many

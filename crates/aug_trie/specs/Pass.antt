@@ -11,10 +11,10 @@ use Rattle.aug_core.specs.declared.step.StepKind.{StepKind}
 use Rattle.aug_core.specs.declared.step.StepKind.TheVariants.{LoadLeaf, TryLeaf, LoadNode, TryNode, LoadRecordWord, StoreRecordWord, TakeLane, FinishLane}
 use Rattle.aug_trie.specs.LeafWords.{serial_in_word}
 use Rattle.aug_trie.specs.Requests.{goes_from, in_the_way, word_after, outcome_by}
-use Rattle.aug_trie.specs.History.{Begins, last_cut}
+use Rattle.aug_trie.specs.History.{IsPrefix, last_cut}
 use Rattle.aug_trie.specs.Knowledge.{Knowledge, IsKnowledge}
 use Rattle.aug_trie.specs.Round.{RoundFacts}
-use Rattle.aug_trie.specs.declared.request.Request.{Request}
+use Rattle.aug_trie.specs.declared.updates.request.Request.{Request}
 
 -- the words that the nodes of a pass's snapshots are read from: how they are laid out, and what they said. A caller hands this on as it is, and never looks into it
 pub record WordsSeen : Type 0 where
@@ -38,7 +38,7 @@ pub record GoesOn (updates steps : ℕ) (old new : PassFacts) : Type 0 where
   pub lane : new.lane ≡ old.lane
   pub spent : new.spent ≡ old.spent + updates
   pub step_count : length new.steps ≡ length old.steps + steps
-  pub steps_stay : Begins old.steps new.steps
+  pub steps_stay : IsPrefix old.steps new.steps
   pub knowledge : IsKnowledge new.round.bits new.round.members new.knows
   pub named : length new.numbers ≡ length new.knows.history
 

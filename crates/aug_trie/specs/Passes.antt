@@ -1,18 +1,18 @@
 -- How knowledge goes from a crew to a pass and back.
 use Rattle.std.specs.Prelude.{◌≡◌, ◌⊎◌, [], ◌++◌}
-use Rattle.aug_trie.specs.History.{Begins}
+use Rattle.aug_trie.specs.History.{IsPrefix}
 use Rattle.aug_trie.specs.Knowledge.{Knowledge}
 
 -- a new pass knows the history that its crew then knows, and no accepted change
 pub record HandedOut (old new pass : Knowledge) : Type 0 where
-  pub goes_on : Begins old.history new.history
+  pub goes_on : IsPrefix old.history new.history
   pub same_changes : new.accepted ≡ old.accepted
   pub same_history : pass.history ≡ new.history
   pub no_change : pass.accepted ≡ []
 
 -- the crew's and the pass's history are of one piece, and the crew then knows both, and the changes of both
 pub record HandedBack (old pass new : Knowledge) : Type 0 where
-  pub one_piece : Begins old.history pass.history ⊎ Begins pass.history old.history
-  pub goes_on : Begins old.history new.history
-  pub takes_up : Begins pass.history new.history
+  pub one_piece : IsPrefix old.history pass.history ⊎ IsPrefix pass.history old.history
+  pub goes_on : IsPrefix old.history new.history
+  pub takes_up : IsPrefix pass.history new.history
   pub changes_of_both : new.accepted ≡ old.accepted ++ pass.accepted

@@ -5,7 +5,7 @@ use Rattle.aug_core.specs.Cuts.{Cut}
 use Rattle.aug_model.specs.Keys.{SetFacts}
 use Rattle.aug_trie.specs.Pass.{PassFacts}
 use Rattle.aug_trie.specs.TreeOf.{members_of}
-use Rattle.aug_trie.specs.declared.snapshot.Snapshot.{Snapshot}
+use Rattle.aug_trie.specs.declared.queries.snapshot.Snapshot.{Snapshot}
 
 -- where a number first stands in a list: past its end where it does not
 abbrev pub first_place : List ℕ → ℕ → ℕ

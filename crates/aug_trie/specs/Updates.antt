@@ -2,17 +2,17 @@
 use Rattle.std.specs.Prelude.{◌≡◌, ◌≢◌, ℕ, ◌+◌, ◌%◌, ◌<◌, ◌≤◌, [], ◌∷◌, ◌++◌, All}
 use Rattle.aug_core.specs.Counts.{change}
 use Rattle.aug_core.specs.Cuts.{Cut, serial_of}
-use Rattle.aug_trie.specs.History.{Begins, last_cut}
+use Rattle.aug_trie.specs.History.{IsPrefix, last_cut}
 use Rattle.aug_trie.specs.Knowledge.{Knowledge, StandsIn, insertion, removal}
 use Rattle.aug_model.specs.declared.outcome.Outcome.{Outcome}
 use Rattle.aug_model.specs.declared.outcome.Outcome.TheVariants as outcome
-use Rattle.aug_trie.specs.declared.request.Request.{Request}
-use Rattle.aug_trie.specs.declared.request.Request.TheVariants as request
+use Rattle.aug_trie.specs.declared.updates.request.Request.{Request}
+use Rattle.aug_trie.specs.declared.updates.request.Request.TheVariants as request
 
 -- an accepted update of the key: its serial is new, it shows now with its weight, and it is one more accepted change. An insertion's
 -- weight is the key, a removal's 0
 pub record AcceptedUpdate (parity key weight : ℕ) (old new : Knowledge) : Type 0 where
-  pub goes_on : Begins old.history new.history
+  pub goes_on : IsPrefix old.history new.history
   pub number : ℕ
   pub suits : number % 2 ≡ parity
   pub is_new : serial_of (last_cut old.history) key < number
@@ -21,7 +21,7 @@ pub record AcceptedUpdate (parity key weight : ℕ) (old new : Knowledge) : Type
 
 -- a refused update of the key: between then and now the key had a serial that stood in its way
 pub record RefusedUpdate (parity key : ℕ) (old new : Knowledge) : Type 0 where
-  pub goes_on : Begins old.history new.history
+  pub goes_on : IsPrefix old.history new.history
   pub number : ℕ
   pub suits : number % 2 ≡ parity
   pub not_past : serial_of (last_cut old.history) key ≤ number
@@ -31,7 +31,7 @@ pub record RefusedUpdate (parity key : ℕ) (old new : Knowledge) : Type 0 where
 -- a replacement of the weight of the key: a removal and the insertion behind it are new, the insertion shows now with its weight, no cut ever
 -- shows the removal, and both are accepted changes
 pub record ReplacedUpdate (key weight : ℕ) (old new : Knowledge) : Type 0 where
-  pub goes_on : Begins old.history new.history
+  pub goes_on : IsPrefix old.history new.history
   pub number : ℕ
   pub suits : (number + 1) % 2 ≡ insertion
   pub is_new : serial_of (last_cut old.history) key < number
@@ -41,7 +41,7 @@ pub record ReplacedUpdate (key weight : ℕ) (old new : Knowledge) : Type 0 wher
 
 -- a put that was refused: another change of the key came between then and now
 pub record RefusedPut (key : ℕ) (old new : Knowledge) : Type 0 where
-  pub goes_on : Begins old.history new.history
+  pub goes_on : IsPrefix old.history new.history
   pub number : ℕ
   pub is_new : serial_of (last_cut old.history) key < number
   pub shows : number ≤ serial_of (last_cut new.history) key
@@ -65,6 +65,6 @@ ComesTo (request.Put weight) key done old new = PutsIn key weight done old new
 
 -- a snapshot is the last cut of the history as it is known then
 pub record TakesSnapshot (old new : Knowledge) (snapshot : Cut) : Type 0 where
-  pub goes_on : Begins old.history new.history
+  pub goes_on : IsPrefix old.history new.history
   pub same_changes : new.accepted ≡ old.accepted
   pub is_last : snapshot ≡ last_cut new.history

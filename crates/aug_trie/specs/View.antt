@@ -4,7 +4,7 @@ use Rattle.std.specs.Borrow.{MutBor}
 use Rattle.aug_model.specs.declared.summary.Summary.{Summary}
 use Rattle.aug_trie.specs.Pass.{PassFacts}
 use Rattle.aug_trie.specs.Node.{Stays}
-use Rattle.aug_trie.specs.declared.snapshot.Snapshot.{Snapshot}
+use Rattle.aug_trie.specs.declared.queries.snapshot.Snapshot.{Snapshot}
 
 module _ {A B : Type 0} (summary_of : List (ℕ × ℕ) → Summary A B) where
   -- the view is of the same pass and snapshot, and the pass made at most four steps for each call since, which told it nothing new

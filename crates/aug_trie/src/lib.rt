@@ -1,41 +1,21 @@
 //! A set of keys with weights that threads share. Passes update it by double refresh, and look at it by snapshots.
 #![tactic(auto)]
 
-mod ascents;
-mod climbing;
-mod crew;
-mod ended;
-mod ended_tree;
-mod ended_walk;
 mod error;
-mod half;
-mod leaf_words;
-mod node;
-mod nodes;
-mod parts;
-mod pass;
-mod points;
 mod queries;
-mod record_words;
-mod refreshing;
-mod request;
-mod round;
-mod snapshot;
-mod snapshot_walk;
-mod stages;
+mod rounds;
 mod turns;
 mod updates;
-mod view;
-mod walks;
 
-pub use crew::Crew;
-pub use ended::Ended;
-pub use ended_tree::EndedNode;
 pub use error::{BeginError, CrewError};
-pub use half::PassHalf;
-pub use node::Node;
-pub use pass::Pass;
-pub use round::Round;
-pub use snapshot::Snapshot;
-pub use turns::{Climb, Turn};
-pub use view::View;
+pub use queries::node::Node;
+pub use queries::snapshot::Snapshot;
+pub use queries::view::View;
+pub use rounds::crew::Crew;
+pub use rounds::ended::Ended;
+pub use rounds::ended_tree::EndedNode;
+pub use rounds::half::PassHalf;
+pub use rounds::members::Members;
+pub use rounds::pass::Pass;
+pub use rounds::round::Round;
+pub use turns::climb::{Climb, Turn};

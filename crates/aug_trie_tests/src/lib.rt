@@ -16,6 +16,8 @@ mod filling;
 #[cfg(test)]
 mod latest;
 #[cfg(test)]
+mod listing;
+#[cfg(test)]
 mod looking;
 #[cfg(test)]
 mod putting;

@@ -30,7 +30,7 @@ fn a_round_with_no_members_asks_6_times_for_memory(rt: HostRuntime) -> Result<()
 }
 
 // Asks each query that makes no list.
-fn assert_answers(rt: &impl Abort, pass: &mut Pass<Sum, Extent>, s: Snapshot)
+pub(super) fn assert_answers(rt: &impl Abort, pass: &mut Pass<Sum, Extent>, s: Snapshot)
     requires { HasSnapshot pass.old s.number }
     ensures round { pass.new.round ≡ pass.old.round }
 {
@@ -42,7 +42,7 @@ fn assert_answers(rt: &impl Abort, pass: &mut Pass<Sum, Extent>, s: Snapshot)
 }
 
 // A round of 4 bits whose passes update, look and come back, the one by way of a half: the trie after it, of 5, which weighs 70, and 9.
-fn played(rt: &impl Abort, alloc: Global) -> Result<Trie, BeginError> {
+pub(super) fn played(rt: &impl Abort, alloc: Global) -> Result<Trie, BeginError> {
     let (round, mut crew) = opened(alloc, 4, 2, 5)?;
     let first = next_pass(&mut crew, &round).expect(rt, "lane 0");
     let (mut first, outcome, _) = to_the_end(first.start_insert(9)).expect(rt, "an end");

@@ -15,20 +15,20 @@ use Rattle.aug_model.specs.Queries.{range_of, weight_in}
 use Rattle.aug_model.proofs.Membership.{is_member-iff_Contains}
 use Rattle.aug_model.proofs.Pairs.{key_at, length-keys_of, keys_of-range, weight_at_place, weight_fits, weight-none}
 use Rattle.aug_model.proofs.Ranges.{Rises, rises_from, all_below_from, count_few, range_le, range_of_key}
-use Rattle.aug_core.specs.Places.{Shape, own_records, lane_place, record_start, word_count}
-use Rattle.aug_core.specs.Tree.{place_count, IsInner, left_of, right_of, level_start, level_of, place_on}
+use Rattle.aug_core.specs.Places.{Shape, own_records, lane_place, record_start, word_count, level_start}
+use Rattle.aug_core.specs.Addresses.{place_count, IsInner, left_of, right_of, level_of, place_on, IsWord}
 use Rattle.aug_core.specs.Lanes.{block_start, block_size}
 use Rattle.aug_core.specs.Opening.{Opening, opening_leaf_word, members_below, pairs_below, has_members, own_before, number_at, opening_pairs, opening_number, opening_words, shared_words}
 use Rattle.aug_core.specs.Faces.{face}
 use Rattle.aug_core.proofs.FaceLemmas.{face_is}
 use Rattle.aug_core.proofs.Sizes.{twice, own_more}
-use Rattle.aug_core.proofs.Levels.{OnLevel, halves, no_wider, level_rises, over_children, above, inner_level}
+use Rattle.aug_core.proofs.Levels.{level_rises, room_above, above, inner_word, left_word, right_word}
 use Rattle.aug_core.proofs.Below.{own_room, own_rises, number_own, number_shared, number_low, number_below, number_is, pairs_are, below_both, true_or_false, pairs_over, pairs_of_leaf, number_of_leaf}
 use Rattle.aug_core.specs.Rule.{Kept, newcomer}
 use Rattle.atomic_table.specs.Table.{opening}
 use Rattle.aug_core.proofs.Openings.{opens}
 use Rattle.aug_words.specs.declared.building.Plan.{Plan}
-use Rattle.aug_words.specs.inside.Builds.{WritesFive, MarksMembers, IsMarked, nodes_from, next_own, IsOwn, HasRecord, IsReady, IsBuilt, IsNextNode}
+use Rattle.aug_words.specs.inside.Builds.{WritesFive, MarksMembers, IsMarked, next_own, IsOwn, HasRecord, IsReady, IsBuilt, IsNextNode}
 
 -- ---- the members below a place
 
@@ -95,12 +95,12 @@ pub own_same : (o : Opening) (l p : ℕ) → has_members o l p ≡ false → own
 own_same o l p none = ap (λ (z : Bool). own_before o l p + (if z then 1 else 0)) none ∙ (let e : own_before o l p + 0 ≡ own_before o l p = omega arith in e)
 
 -- a node's own record has a greater number than those of all nodes before it
-pub number_rises : (o : Opening) → Rises (keys_of o.members) → length (keys_of o.members) ≤ o.shape.members → (q r l p k n : ℕ) → OnLevel o.shape q (suc l) p → OnLevel o.shape r (suc k) n → q < r → has_members o (suc k) n ≡ true → number_at o (suc l) p < number_at o (suc k) n
-number_rises o up fit q r l p k n a b lt has = let e = number_own o k n has in let low_a = a.few in let low_b = b.few in ⊎_elim
-    (λ own. let f = number_own o l p own in let room = own_room o up fit (suc l) p a.room own in ⊎_elim
+pub number_rises : (o : Opening) → Rises (keys_of o.members) → length (keys_of o.members) ≤ o.shape.members → (q r l p k n : ℕ) → IsWord o.shape (suc l) p q → IsWord o.shape (suc k) n r → q < r → has_members o (suc k) n ≡ true → number_at o (suc l) p < number_at o (suc k) n
+number_rises o up fit q r l p k n a b lt has = let e = number_own o k n has in let low_a = a.level_fits in let low_b = b.level_fits in ⊎_elim
+    (λ own. let f = number_own o l p own in let room = own_room o up fit (suc l) p a.place_fits own in ⊎_elim
     (λ (below : l < k). let u = own_rises o.shape.bits o.shape.members (suc l) k (omega arith) in let m = own_more o.shape.bits o.shape.members l in omega arith)
     (λ (level : k ≤ l). ⊎_elim
-    (λ (higher : k < l). let w = level_rises o.shape (suc k) (suc l) (omega arith) low_a in let x = a.is in let y = b.is in let z = b.room in absurd (omega arith))
+    (λ (higher : k < l). let w = level_rises o.shape (suc k) (suc l) (omega arith) low_a in let x = a.is in let y = b.is in let z = b.place_fits in absurd (omega arith))
     (λ (lower : l ≤ k). let same : l ≡ k = omega arith in let x = a.is in let y = b.is in let g : level_start o.shape (suc l) ≡ level_start o.shape (suc k) = ap (λ (z : ℕ). level_start o.shape (suc z)) same in
     let before = own_later o (suc l) (suc p) n (omega arith) in let step = own_after o (suc l) p own in let h : own_before o (suc l) n ≡ own_before o (suc k) n = ap (λ (z : ℕ). own_before o (suc z) n) same in
     let i : own_records o.shape.bits o.shape.members l ≡ own_records o.shape.bits o.shape.members k = ap (own_records o.shape.bits o.shape.members) same in omega arith) (cases_lt k l)) (cases_lt l k))
@@ -172,11 +172,11 @@ has_by_children o up l p least x y few leaf node ex ey =
 
 module _ (face : ℕ → ℕ → List (ℕ × ℕ) → List ℕ) (o : Opening) (up : Rises (keys_of o.members)) where
   -- the record that a level's nodes share is that of each with no members below
-  pub shared_is : (q l p : ℕ) → OnLevel o.shape q (suc l) p → has_members o (suc l) p ≡ false → shared_words face l ≡ opening_words face o q
-  shared_is q l p a none = let c = over_children o.shape q l p a in let zero_all = no_keys o (suc l) p none in
+  pub shared_is : (q l p : ℕ) → IsWord o.shape (suc l) p q → has_members o (suc l) p ≡ false → shared_words face l ≡ opening_words face o q
+  shared_is q l p a none = let zero_all = no_keys o (suc l) p none in
       let split = ap length (below_both o up l p) in let sum = length-append (members_below o l (2 * p)) (members_below o l (2 * p + 1)) in
-      let left = number_is o (left_of o.shape q) l (2 * p) c.0 ∙ number_none o up l (2 * p) (omega arith) in
-      let right = number_is o (right_of o.shape q) l (2 * p + 1) c.1 ∙ number_none o up l (2 * p + 1) (omega arith) in
+      let left = number_is o (left_of o.shape q) l (2 * p) (left_word o.shape l p q a) ∙ number_none o up l (2 * p) (omega arith) in
+      let right = number_is o (right_of o.shape q) l (2 * p + 1) (right_word o.shape l p q a) ∙ number_none o up l (2 * p + 1) (omega arith) in
       let pairs = pairs_are o q (suc l) p a ∙ no_pairs (pairs_below o (suc l) p) (count_same o (suc l) p ∙ zero_all) in
       λ i. face (sym left i) (sym right i) (sym pairs i)
 
@@ -199,15 +199,15 @@ module _ (face : ℕ → ℕ → List (ℕ × ℕ) → List ℕ) (o : Opening) (
       }
 
   -- a node with no members below has the record that its level shares
-  pub node_shared : (q l p : ℕ) (words : List ℕ) → OnLevel o.shape q (suc l) p → has_members o (suc l) p ≡ false → IsBuilt face o o.shape.bits q words → IsBuilt face o o.shape.bits (q + 1) (set words q l)
-  node_shared q l p words a none built = let e : opening_number o q ≡ l = number_is o q (suc l) p a ∙ number_shared o l p none in node_more q l words (inner_level o.shape q l p a) (sym e) built
-      (λ k small. ap (λ (z : ℕ). get_or words (record_start o.shape z + k) 0) e ∙ built.shared l (let up = a.few in omega arith) k small ∙ ap (λ (z : List ℕ). get_or z k 0) (shared_is q l p a none))
+  pub node_shared : (q l p : ℕ) (words : List ℕ) → IsWord o.shape (suc l) p q → has_members o (suc l) p ≡ false → IsBuilt face o o.shape.bits q words → IsBuilt face o o.shape.bits (q + 1) (set words q l)
+  node_shared q l p words a none built = let e : opening_number o q ≡ l = number_is o q (suc l) p a ∙ number_shared o l p none in node_more q l words (inner_word o.shape l p q a) (sym e) built
+      (λ k small. ap (λ (z : ℕ). get_or words (record_start o.shape z + k) 0) e ∙ built.shared l (let up = a.level_fits in omega arith) k small ∙ ap (λ (z : List ℕ). get_or z k 0) (shared_is q l p a none))
 
   -- a node with members below has one of its own
-  pub node_own : length (keys_of o.members) ≤ o.shape.members → (q l p n : ℕ) (old mid five : List ℕ) → OnLevel o.shape q (suc l) p → has_members o (suc l) p ≡ true → IsBuilt face o o.shape.bits q old → n ≡ number_at o (suc l) p
+  pub node_own : length (keys_of o.members) ≤ o.shape.members → (q l p n : ℕ) (old mid five : List ℕ) → IsWord o.shape (suc l) p q → has_members o (suc l) p ≡ true → IsBuilt face o o.shape.bits q old → n ≡ number_at o (suc l) p
       → WritesFive old mid (record_start o.shape n) five → five ≡ opening_words face o q → IsBuilt face o o.shape.bits (q + 1) (set mid q n)
-  node_own fit q l p n old mid five a has built is writes words = let inner = inner_level o.shape q l p a in let inside = inner.inside in let t = twice o.shape.bits in let past = inner.past_leaves in
-      let e : opening_number o q ≡ n = number_is o q (suc l) p a ∙ sym is in let low = number_low o up fit l p a.few a.room in let own = number_own o l p has in
+  node_own fit q l p n old mid five a has built is writes words = let inner = inner_word o.shape l p q a in let inside = inner.inside in let t = twice o.shape.bits in let past = inner.past_leaves in
+      let e : opening_number o q ≡ n = number_is o q (suc l) p a ∙ sym is in let low = number_low o up fit l p a.level_fits a.place_fits in let own = number_own o l p has in
       node_more q n mid inner (sym e) record {
         long = writes.long ∙ built.long;
         named = λ r before. writes.before r (omega arith) ∙ built.named r before;
@@ -347,14 +347,14 @@ leaf_not o up q x low is none = pairs_of_leaf o up q low ∙ not_there (is_membe
     not_there false e = refl
 
 -- the node at a place on a level, the lowest level of nodes counted as 0
-pub node_here : (s : Shape) (level place : ℕ) → level < s.bits → place < 2 ^ (s.bits - 1 - level) → OnLevel s (nodes_from s level + place) (suc level) place
-node_here s level place few room = let h = halves s level (omega arith) in let w = no_wider s level in let e : s.bits - 1 - level ≡ s.bits - suc level = omega arith in let f = ap (λ (z : ℕ). 2 ^ z) e in
-    record { few = omega arith; room = omega arith; is = omega arith }
+pub node_here : (s : Shape) (level place : ℕ) → level < s.bits → place < 2 ^ (s.bits - 1 - level) → IsWord s (suc level) place (level_start s (suc level) + place)
+node_here s level place few room = let e : s.bits - 1 - level ≡ s.bits - suc level = omega arith in let f : 2 ^ (s.bits - 1 - level) ≡ 2 ^ (s.bits - suc level) = ap (λ (z : ℕ). 2 ^ z) e in
+    record { level_fits = omega arith; place_fits = omega arith; is = refl }
 
 -- the next node, in the numbers of the code: where it lies, and its children, which are ready
 pub record NextNode (face : ℕ → ℕ → List (ℕ × ℕ) → List ℕ) (p : Plan) (level place node : ℕ) (words : List ℕ) : Type 0 where
-  pub is : node ≡ nodes_from p.key.shape level + place
-  pub on : OnLevel p.key.shape node (suc level) place
+  pub is : node ≡ level_start p.key.shape (suc level) + place
+  pub on : IsWord p.key.shape (suc level) place node
   pub inner : IsInner p.key.shape node
   pub past : p.leaves ≤ node
   pub inside : node < length words
@@ -367,10 +367,10 @@ pub record NextNode (face : ℕ → ℕ → List (ℕ × ℕ) → List ℕ) (p :
 
 pub next_node : (face : ℕ → ℕ → List (ℕ × ℕ) → List ℕ) (p : Plan) (level first place : ℕ) (words : List ℕ) → IsNextNode face p.key level first place words → NextNode face p level place (first + place) words
 next_node face p level first place words n =
-    let o : Opening = p.key in let s : Shape = o.shape in let node : ℕ = first + place in let done : ℕ = nodes_from s level + place in
-    let begins = n.begins in let is : node ≡ done = omega arith in let on = subst (λ (z : ℕ). OnLevel s z (suc level) place) (sym is) (node_here s level place n.up n.room) in
-    let inner = inner_level s node level place on in let past = inner.past_leaves in let inside = inner.inside in let t = twice s.bits in let long = n.built.long in let leaves = p.leaves_are in
-    let left_at : 2 * (node - p.leaves) ≡ left_of s node = omega arith in let right_at : 2 * (node - p.leaves) + 1 ≡ right_of s node = omega arith in let children = over_children s node level place on in record {
+    let o : Opening = p.key in let s : Shape = o.shape in let node : ℕ = first + place in let done : ℕ = level_start s (suc level) + place in
+    let begins = n.begins in let is : node ≡ done = omega arith in let on = subst (λ (z : ℕ). IsWord s (suc level) place z) (sym is) (node_here s level place n.up n.room) in
+    let inner = inner_word s level place node on in let past = inner.past_leaves in let inside = inner.inside in let t = twice s.bits in let long = n.built.long in let leaves = p.leaves_are in
+    let left_at : 2 * (node - p.leaves) ≡ left_of s node = omega arith in let right_at : 2 * (node - p.leaves) + 1 ≡ right_of s node = omega arith in record {
       is = is;
       on = on;
       inner = inner;
@@ -380,8 +380,8 @@ next_node face p level first place words n =
       right_at = right_at;
       left_ready = built_ready face o s.bits done (2 * (node - p.leaves)) words n.built (omega arith) (omega arith);
       right_ready = built_ready face o s.bits done (2 * (node - p.leaves) + 1) words n.built (omega arith) (omega arith);
-      left_number = ap (opening_number o) left_at ∙ number_is o (left_of s node) level (2 * place) children.0;
-      right_number = ap (opening_number o) right_at ∙ number_is o (right_of s node) level (2 * place + 1) children.1;
+      left_number = ap (opening_number o) left_at ∙ number_is o (left_of s node) level (2 * place) (left_word s level place node on);
+      right_number = ap (opening_number o) right_at ∙ number_is o (right_of s node) level (2 * place + 1) (right_word s level place node on);
     }
 
 -- there are no more keys than members that the table is laid out for
@@ -389,21 +389,22 @@ pub few_keys : (p : Plan) → length (keys_of p.key.members) ≤ p.key.shape.mem
 few_keys p = let fit = p.fit in let long = length-keys_of p.key.members in omega arith
 
 -- a node's own record is one of the table's
-pub own_inside : (p : Plan) (level place node next : ℕ) (words : List ℕ) → OnLevel p.key.shape node (suc level) place → IsOwn p.key level place → next ≡ next_own p.key level place → length words ≡ word_count p.key.shape
+pub own_inside : (p : Plan) (level place node next : ℕ) (words : List ℕ) → IsWord p.key.shape (suc level) place node → IsOwn p.key level place → next ≡ next_own p.key level place → length words ≡ word_count p.key.shape
     → (p.records + 5 * next + 5 ≤ length words) × (length words ≤ 2 ^ 26)
 own_inside p level place node next words on own is long =
-    let low = number_low p.key (rises p.key p.key_set) (few_keys p) level place on.few on.room in let number = number_own p.key level place own in let begin = p.records_are in let most = p.laid_out.words in (omega arith, omega arith)
+    let low = number_low p.key (rises p.key p.key_set) (few_keys p) level place on.level_fits on.place_fits in let number = number_own p.key level place own in let begin = p.records_are in let most = p.laid_out.words in (omega arith, omega arith)
 
 -- the next level begins behind
-pub next_level : (s : Shape) (level : ℕ) → level < s.bits → nodes_from s level + 2 ^ (s.bits - 1 - level) ≡ nodes_from s (level + 1)
-next_level s level few = let h = halves s level (omega arith) in let w = no_wider s level in let e : s.bits - 1 - level ≡ s.bits - suc level = omega arith in let f = ap (λ (z : ℕ). 2 ^ z) e in
-    let g : s.bits - (level + 1) ≡ s.bits - suc level = omega arith in let k = ap (λ (z : ℕ). 2 ^ z) g in omega arith
+pub next_level : (s : Shape) (level : ℕ) → level < s.bits → level_start s (suc level) + 2 ^ (s.bits - 1 - level) ≡ level_start s (suc (level + 1))
+next_level s level few = let r = room_above s level (omega arith) in let r0 = r.0 in let r1 = r.1 in let r3 = r.3 in
+    let e : s.bits - 1 - level ≡ s.bits - suc level = omega arith in let f : 2 ^ (s.bits - 1 - level) ≡ 2 ^ (s.bits - suc level) = ap (λ (z : ℕ). 2 ^ z) e in
+    let g : suc s.bits - suc (level + 1) ≡ s.bits - suc level = omega arith in let k : 2 ^ (suc s.bits - suc (level + 1)) ≡ 2 ^ (s.bits - suc level) = ap (λ (z : ℕ). 2 ^ z) g in omega arith
 
-pub first_nodes : (s : Shape) → nodes_from s 0 ≡ 2 ^ s.bits
-first_nodes s = let g : s.bits - 0 ≡ s.bits = omega arith in let k = ap (λ (z : ℕ). 2 ^ z) g in omega arith
+pub first_nodes : (s : Shape) → level_start s (suc 0) ≡ 2 ^ s.bits
+first_nodes s = let g : suc s.bits - suc 0 ≡ s.bits = omega arith in let k : 2 ^ (suc s.bits - suc 0) ≡ 2 ^ s.bits = ap (λ (z : ℕ). 2 ^ z) g in omega arith
 
-pub last_nodes : (s : Shape) → nodes_from s s.bits ≡ place_count s
-last_nodes s = let g : s.bits - s.bits ≡ 0 = omega arith in let k : 2 ^ (s.bits - s.bits) ≡ 1 = ap (λ (z : ℕ). 2 ^ z) g in let t = twice s.bits in omega arith
+pub last_nodes : (s : Shape) → level_start s (suc s.bits) ≡ place_count s
+last_nodes s = let g : suc s.bits - suc s.bits ≡ 0 = omega arith in let k : 2 ^ (suc s.bits - suc s.bits) ≡ 1 = ap (λ (z : ℕ). 2 ^ z) g in let t = twice s.bits in omega arith
 
 -- the next own record, behind a node without members below and behind one with some
 pub next_same : (o : Opening) (l p : ℕ) → has_members o (suc l) p ≡ false → next_own o l p ≡ next_own o l (p + 1)

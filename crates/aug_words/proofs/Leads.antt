@@ -3,7 +3,7 @@ use Rattle.std.proofs.Common.{◌≡◌, ℕ, ◌+◌, ◌<◌, ◌≤◌, List,
 use Rattle.std.specs.Prelude.{unwrap_or}
 use Rattle.std.proofs.lemmas.List.{length-replicate}
 use Rattle.aug_core.specs.Lanes.{IsOfLane, block_size}
-use Rattle.aug_core.specs.Tree.{IsInner, root_place}
+use Rattle.aug_core.specs.Addresses.{IsInner, root_place}
 use Rattle.aug_core.specs.Places.{word_count}
 use Rattle.aug_core.specs.Book.{Continues, IsNewest, GoesOnFromBoth}
 use Rattle.aug_core.specs.Kinds.{take_lane}
@@ -27,7 +27,7 @@ use mathlib.Core.Option.{some}
 use lib.ListN.{get_elem?}
 use Rattle.aug_words.specs.Leads.{HandsLaneOut}
 use Rattle.aug_words.specs.inside.SeatState.{Sat, SitsAt, IsPassSeat, IsLeadSeat, IsStore}
-use Rattle.aug_words.specs.Seats.{HandsOut}
+use Rattle.aug_words.specs.Seats.{IsNextLane}
 
 -- a table has a word
 pub some_words : (table : TableId) (opening : Opening) (layout : Shape) (lanes records : ℕ) → IsStore table opening layout lanes records → 0 < table.words
@@ -96,7 +96,7 @@ module _ (face : ℕ → ℕ → List (ℕ × ℕ) → List ℕ) (next root : �
   }
 
 -- a lead that may hand a lane out may do so after it loaded a node
-pub may_hand_out : (face : ℕ → ℕ → List (ℕ × ℕ) → List ℕ) (old new : View) (q found lane next : ℕ) → LoadsNode face old q found new → HandsOut old lane → new.spare ≡ Some next → next < new.shape.workers
+pub may_hand_out : (face : ℕ → ℕ → List (ℕ × ℕ) → List ℕ) (old new : View) (q found lane next : ℕ) → LoadsNode face old q found new → IsNextLane old lane → new.spare ≡ Some next → next < new.shape.workers
 may_hand_out face old new q found lane next did room spare =
     let same : Some next ≡ Some lane = sym spare ∙ ap (λ (z : View). z.spare) did.stepped ∙ room.next in let one : next ≡ lane = cc same in
     let shaped = ap (λ (z : View). z.shape) did.stepped in subst (λ (z : Shape). next < z.workers) (sym shaped) (let low = room.exists in omega arith)

@@ -1,6 +1,6 @@
 -- What it does to what is known that a lane is handed out, and that it is taken back.
 use Rattle.std.specs.Prelude.{◌≡◌, ℕ, List}
-use Rattle.aug_core.specs.Tree.{root_place}
+use Rattle.aug_core.specs.Addresses.{root_place}
 use Rattle.aug_core.specs.Book.{GoesOnFromBoth}
 use Rattle.aug_core.specs.Told.{LoadsNode, handing_out, handed_out, taking, finishing, taking_back, own_lane_place}
 use Rattle.aug_core.specs.declared.view.View.{View}

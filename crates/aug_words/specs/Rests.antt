@@ -3,8 +3,8 @@ use Rattle.std.specs.Prelude.{◌≡◌, ℕ, ◌+◌, ◌<◌, List, slice_inde
 use mathlib.Core.Option.{some}
 use lib.ListN.{get_elem?}
 use Rattle.atomic_table.specs.Table.{State}
-use Rattle.aug_core.specs.Places.{Shape, lane_place, record_start}
-use Rattle.aug_core.specs.Tree.{IsInner}
+use Rattle.aug_core.specs.Places.{Shape, lane_place, record_start, record_words}
+use Rattle.aug_core.specs.Addresses.{IsInner}
 use Rattle.aug_core.specs.Lanes.{IsOfLane}
 use Rattle.aug_core.specs.Book.{At}
 use Rattle.aug_core.specs.Opening.{Opening, IsIdle, opening_number, opening_words, shared_words}
@@ -31,14 +31,14 @@ module _ (face : ℕ → ℕ → List (ℕ × ℕ) → List ℕ) (o : Opening) (
   -- what a reader of the words is told
   pub record ShowAll : Type 0 where
     -- the words of a node's opening record, its own one or the empty one of its level, say what was there below it at the opening
-    pub opening_records : (q field : ℕ) → IsInner o.shape q → field < 5 → slice_index words (record_start o.shape (opening_number o q) + field) ≡ slice_index (opening_words face o q) field
+    pub opening_records : (q field : ℕ) → IsInner o.shape q → field < record_words → slice_index words (record_start o.shape (opening_number o q) + field) ≡ slice_index (opening_words face o q) field
     -- so do those of each level's empty record, also where no node opened with it: it counts nothing
-    pub shared_records : (level field : ℕ) → level < o.shape.bits → field < 5 → slice_index words (record_start o.shape level + field) ≡ slice_index (shared_words face level) field
+    pub shared_records : (level field : ℕ) → level < o.shape.bits → field < record_words → slice_index words (record_start o.shape level + field) ≡ slice_index (shared_words face level) field
     -- and those of an own opening record that no node opened with are zeros
-    pub idle_records : (number field : ℕ) → IsIdle o number → field < 5 → slice_index words (record_start o.shape number + field) ≡ 0
+    pub idle_records : (number field : ℕ) → IsIdle o number → field < record_words → slice_index words (record_start o.shape number + field) ≡ 0
     -- the words of every record that the view has seen are its entry's
-    pub seen_records : (q i field : ℕ) (e : Entry) → IsInner o.shape q → At v.seen q i e → field < 5 → slice_index words (record_start o.shape e.number + field) ≡ slice_index e.words field
+    pub seen_records : (q i field : ℕ) (e : Entry) → IsInner o.shape q → At v.seen q i e → field < record_words → slice_index words (record_start o.shape e.number + field) ≡ slice_index e.words field
     -- a lane of the view is as the view has it
     pub lanes : (a : ℕ) (h : Held) → get_elem? v.held a ≡ some h → slice_index words (lane_place o.shape h.lane) ≡ h.state
     -- and so is each word of its records
-    pub records : (a number field : ℕ) (h : Held) → get_elem? v.held a ≡ some h → IsOfLane o.shape h.lane number → field < 5 → slice_index words (record_start o.shape number + field) ≡ held_word o.shape h number field
+    pub records : (a number field : ℕ) (h : Held) → get_elem? v.held a ≡ some h → IsOfLane o.shape h.lane number → field < record_words → slice_index words (record_start o.shape number + field) ≡ held_word o.shape h number field

@@ -4,7 +4,7 @@ use mathlib.Core.Option.{some}
 use lib.ListN.{get_elem?}
 use Rattle.atomic_table.specs.Seated.{TableId}
 use Rattle.aug_core.specs.Places.{record_start}
-use Rattle.aug_core.specs.Tree.{root_place, IsInner}
+use Rattle.aug_core.specs.Addresses.{root_place, IsInner}
 use Rattle.aug_core.specs.Lanes.{IsOfLane}
 use Rattle.aug_core.specs.Book.{At, IsNewest}
 use Rattle.aug_core.specs.Opening.{Opening}
@@ -37,7 +37,7 @@ pub record IsOfLead (lead pass : Known) : Type 0 where
   pub one_shape : pass.view.shape ≡ lead.view.shape
 
 -- the view hands lanes out, and this is the next one
-pub record HandsOut (v : View) (lane : ℕ) : Type 0 where
+pub record IsNextLane (v : View) (lane : ℕ) : Type 0 where
   pub next : v.spare ≡ Some lane
   pub exists : lane < v.shape.workers
 

@@ -1,11 +1,11 @@
 //! The seat that hands lanes out and takes passes back.
 ghost use Rattle.std.specs.Prelude.{◌≡◌, ◌<◌, ℕ, [], true};
 ghost use Rattle.aug_core.specs.Faces.{face};
-ghost use Rattle.aug_core.specs.Tree.{root_place};
+ghost use Rattle.aug_core.specs.Addresses.{root_place};
 ghost use Rattle.aug_core.specs.Told.{LoadsNode, KnowsTable, taking, finishing, own_lane_place};
 ghost use Rattle.aug_core.specs.inside.LaneStates.{MayTake, HasTakenLane};
 ghost use Rattle.aug_words.specs.Leads.{HandsLaneOut, TakesLaneBack};
-ghost use Rattle.aug_words.specs.Seats.{AreTogether, IsOfLead, HandsOut, NamesRoot};
+ghost use Rattle.aug_words.specs.Seats.{AreTogether, IsOfLead, IsNextLane, NamesRoot};
 
 use crate::half::WordHalf;
 use crate::pass::WordPass;
@@ -110,7 +110,7 @@ impl<A: Monoid, B: Monoid> Lead<A, B> {
     /// takes the lane. There is no refusal.
     pub fn split<'r>(&mut self, words: &'r Words<A, B>) -> WordPass<'r, A, B>
         requires together { AreTogether words.now self.old }
-        requires room { (lane : ℕ) × HandsOut self.old.view lane }
+        requires room { (lane : ℕ) × IsNextLane self.old.view lane }
         ensures table { self.new.table ≡ self.old.table }
         ensures pass_table { result.table ≡ self.old.table }
         ensures hands_out { HandsLaneOut (face A.parts B.parts) self.old.view self.new.view result.view }

@@ -1,9 +1,9 @@
 //! What one thread knows of a table, and its steps.
 ghost use Rattle.std.specs.Prelude.{◌≡◌, ◌^◌, ◌<◌, ◌≤◌, ◌+◌, ◌*◌, ℕ, length};
 ghost use Rattle.aug_core.specs.Lanes.{block_size};
-ghost use Rattle.aug_core.specs.Places.{record_start};
+ghost use Rattle.aug_core.specs.Places.{record_start, record_words};
 ghost use Rattle.aug_core.specs.Faces.{face};
-ghost use Rattle.aug_core.specs.Tree.{IsInner};
+ghost use Rattle.aug_core.specs.Addresses.{IsInner};
 ghost use Rattle.aug_core.specs.Fields.{field_offset};
 ghost use Rattle.aug_core.specs.Told.{HoldsOnly, MayStore, MayChange, KnowsTable, LoadsLeaf, BeginsAtLeaf, LoadsNode, IsFilled, storing};
 ghost use Rattle.aug_core.specs.declared.view.Held.{Held};
@@ -44,8 +44,8 @@ impl<'r, A: Monoid, B: Monoid> Model for WordPass<'r, A, B> {
 // The place of a word of a record.
 #[inline(always)]
 fn record_word(records: usize, number: u64, field: usize) -> usize
-    requires { records + 5 * number + field < 2 ^ 60 }
-    ensures { result ≡ records + 5 * number + field }
+    requires { records + record_words * number + field < 2 ^ 60 }
+    ensures { result ≡ records + record_words * number + field }
 {
     records + 5 * number as usize + field
 }

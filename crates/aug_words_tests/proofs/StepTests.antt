@@ -1,7 +1,7 @@
 -- What the test of two passes on one node needs: a table of 1 bit has the leaves 0 and 1, and the node 2 over them.
 use Rattle.std.proofs.Common.{◌≡◌, ◌≢◌, ℕ, Bool, true, false, ◌+◌, ◌*◌, ◌/◌, ◌%◌, ◌^◌, ◌<◌, ◌≤◌, eqb, eq-eqb, ne_eqb, if◌then◌else◌, List, [], ◌∷◌, ◌++◌, length, get_or, refl, sym, ap, ◌∙◌, subst, arith}
 use Rattle.aug_core.specs.Places.{Shape, shape_of, own_records}
-use Rattle.aug_core.specs.Tree.{IsInner}
+use Rattle.aug_core.specs.Addresses.{IsInner}
 use Rattle.aug_core.specs.Lanes.{IsOfLane, block_size}
 use Rattle.aug_core.specs.Book.{IsSerial, IsBook}
 use Rattle.aug_core.specs.inside.Refreshes.{HasNewest, SaysLoaded}
@@ -133,6 +133,8 @@ module _ (face : ℕ → ℕ → List (ℕ × ℕ) → List ℕ) (v v1 v2 v3 : V
     says : SaysLoaded face small v3.seen 2 from five
     says = record {
       is_loaded = is_loaded face small v1.seen v2.seen v3.seen v3.seen 2 from (get_or five 0 0) (get_or five 1 0) node_inner at_left.sees.later at_right.sees.later (λ q i e p. p) has_node has_left has_right book1;
+      left_named = has_left.named;
+      right_named = has_right.named;
       five_are = are ∙ (λ i. face (sym first i) (sym second i) (sym below_left i ++ sym below_right i));
     }
 

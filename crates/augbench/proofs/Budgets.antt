@@ -2,10 +2,10 @@
 use Rattle.std.proofs.Common.{ℕ, ◌≤◌, arith}
 use Rattle.augbench.specs.declared.workload.Workload.{Workload}
 use Rattle.augbench.specs.declared.workload.Workload.TheVariants.{Updates, Changes, Mixed, Puts, Queries, Batches}
-use Rattle.augbench.specs.Workloads.{updates_of}
+use Rattle.augbench.specs.Workloads.{changes_among}
 
 -- no more than all of them
-pub few_updates : (w : Workload) (n : ℕ) → updates_of w n ≤ n
+pub few_updates : (w : Workload) (n : ℕ) → changes_among w n ≤ n
 few_updates Updates n = omega arith
 few_updates Changes n = omega arith
 few_updates Mixed n = omega arith

@@ -1,7 +1,7 @@
 -- What stands in a list that another one is emptied into.
 use Rattle.std.proofs.Common.{◌≡◌, ◌∙◌, ℕ, ◌+◌, List, [], ◌∷◌, ◌++◌, map, ap, sym, add-one}
 use Rattle.std.proofs.lemmas.List.{map-append, append_assoc}
-use Rattle.augbench.specs.Lanes.{lane_of, lanes_of}
+use Rattle.augbench.specs.Threads.{lane_of, lanes_of}
 use Rattle.augbench.specs.declared.keys.Lane.{Lane}
 
 -- if an element goes over as what has its value, then the values and the rest stay the same list

@@ -1,7 +1,7 @@
 -- What threads did in a round: counts of operations, and the sum of the numbers that stand for their answers, modulo 2^64.
 use Rattle.std.specs.Prelude.{ℕ, ◌+◌, ◌%◌, ◌^◌, Bool, if◌then◌else◌}
 use Rattle.augbench.specs.Answers.{digest_of, has_changed}
-use Rattle.augbench.specs.Workloads.{is_update}
+use Rattle.augbench.specs.Workloads.{is_change}
 use Rattle.augbench.specs.declared.lap.Lap.{Lap}
 use Rattle.augbench.specs.declared.operation.Answer.{Answer}
 use Rattle.augbench.specs.declared.workload.Kind.{Kind}
@@ -19,8 +19,8 @@ abbrev pub counted : Kind → Answer → Lap → Lap
 counted kind answer lap = record {
   operations = (lap.operations + 1) % 2 ^ 64;
   sum = (lap.sum + digest_of answer) % 2 ^ 64;
-  updates = (lap.updates + once (is_update kind)) % 2 ^ 64;
-  idle = (lap.idle + (if has_changed answer then 0 else once (is_update kind))) % 2 ^ 64;
+  updates = (lap.updates + once (is_change kind)) % 2 ^ 64;
+  idle = (lap.idle + (if has_changed answer then 0 else once (is_change kind))) % 2 ^ 64;
 }
 
 -- both together

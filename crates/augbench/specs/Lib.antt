@@ -1,5 +1,5 @@
 pub mod Answers
-pub mod Lanes
+pub mod Threads
 pub mod Laps
 pub mod Totals
 pub mod Workloads

@@ -49,5 +49,5 @@ added ran total = record {
 }
 
 -- as many operations, with answers of the same sum
-abbrev pub agrees : Lap → Lap → Bool
-agrees a b = (a.sum == b.sum) && (a.operations == b.operations)
+abbrev pub same_answers : Lap → Lap → Bool
+same_answers a b = (a.sum == b.sum) && (a.operations == b.operations)

@@ -30,23 +30,23 @@ action_of Queries n = query_at n
 action_of Batches n = if n % 10 == 9 then update_in Any (n / 10) else record { kind = Ranks; pool = Any }
 
 -- the operation changes the set
-abbrev pub is_update : Kind → Bool
-is_update Insert = true
-is_update Remove = true
-is_update Put = true
-is_update Rank = false
-is_update Select = false
-is_update Range = false
-is_update Ranks = false
+abbrev pub is_change : Kind → Bool
+is_change Insert = true
+is_change Remove = true
+is_change Put = true
+is_change Rank = false
+is_change Select = false
+is_change Range = false
+is_change Ranks = false
 
 -- the number of updates among the first operations of a thread
-abbrev pub updates_of : Workload → ℕ → ℕ
-updates_of Updates n = n
-updates_of Changes n = n
-updates_of Mixed n = n / 10
-updates_of Puts n = n / 10
-updates_of Queries n = 0
-updates_of Batches n = n / 10
+abbrev pub changes_among : Workload → ℕ → ℕ
+changes_among Updates n = n
+changes_among Changes n = n
+changes_among Mixed n = n / 10
+changes_among Puts n = n / 10
+changes_among Queries n = 0
+changes_among Batches n = n / 10
 
 -- the workload has updates
 abbrev pub is_updated : Workload → Bool

@@ -1,6 +1,6 @@
 //! The same operations on all engines.
 ghost use Rattle.std.specs.Prelude.{◌≡◌, ◌≢◌, codes, if◌then◌else◌, IfOk};
-ghost use Rattle.augbench.specs.Totals.{AreOfEach, agrees};
+ghost use Rattle.augbench.specs.Totals.{AreOfEach, same_answers};
 
 use crate::course::Length;
 use crate::each::Each;
@@ -85,7 +85,7 @@ fn join(one: Each<Ran>, other: Each<Ran>) -> Each<Ran>
 fn print_verdict(out: &impl Print, workload: Workload, trie: &Ran, other: &Ran) -> io::Result<bool>
     requires trie { trie.now.engine ≡ Engine.Trie }
     requires other { other.now.engine ≢ Engine.Trie }
-    ensures { IfOk result (λ same. same ≡ agrees trie.now.lap other.now.lap) }
+    ensures { IfOk result (λ same. same ≡ same_answers trie.now.lap other.now.lap) }
 {
     let same = has_same_answers(trie, other);
     let (letter, name) = (workload.letter(), other.engine.name());
@@ -98,7 +98,7 @@ fn print_verdict(out: &impl Print, workload: Workload, trie: &Ran, other: &Ran) 
 pub(crate) fn has_same_answers(trie: &Ran, other: &Ran) -> bool
     requires trie { trie.now.engine ≡ Engine.Trie }
     requires other { other.now.engine ≢ Engine.Trie }
-    ensures { result ≡ agrees trie.now.lap other.now.lap }
+    ensures { result ≡ same_answers trie.now.lap other.now.lap }
 {
     trie.lap.sum == other.lap.sum && trie.lap.operations == other.lap.operations
 }

@@ -1,6 +1,6 @@
 //! Rounds of two plain sets: readers read one without a lock, and writers change the other, one after another, and then swap them.
 ghost use Rattle.std.specs.Prelude.{◌≡◌, ◌^◌, ◌<◌, ◌≤◌, true, IfOk};
-ghost use Rattle.augbench.specs.Workloads.{is_update, updates_of};
+ghost use Rattle.augbench.specs.Workloads.{is_change, changes_among};
 
 use crate::course::Course;
 use crate::engine::Engine;
@@ -22,7 +22,7 @@ use std::{io, thread};
 #[derive(Drop)]
 pub(crate) struct Edit {
     operation: Operation,
-    ghost update: { is_update operation.kind ≡ true },
+    ghost update: { is_change operation.kind ≡ true },
     ghost one: { operation.one < 65536 },
     ghost two: { operation.two < 65536 },
 }
@@ -103,7 +103,7 @@ fn work<R: Wait, C: Clock>(
     lane: Lane,
     course: &Course,
 ) -> io::Result<Option<Lap>>
-    requires { updates_of course.now.workload course.now.length.operations ≤ 2 ^ 64 }
+    requires { changes_among course.now.workload course.now.length.operations ≤ 2 ^ 64 }
 {
     let reader = writer.lock(rt).handle()?;
     let mut seat = CopiesSeat {

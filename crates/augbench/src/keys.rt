@@ -1,6 +1,6 @@
 //! The keys of operations.
 ghost use Rattle.std.specs.Prelude.{◌≡◌, ◌+◌, ◌*◌, ◌%◌, ◌<◌, ◌≤◌};
-ghost use Rattle.augbench.specs.Lanes.{lane_of};
+ghost use Rattle.augbench.specs.Threads.{lane_of};
 
 use crate::operation::Operation;
 use crate::workload::{Action, Kind, Pool};

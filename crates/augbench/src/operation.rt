@@ -1,7 +1,7 @@
 //! An operation with its keys, and its answer.
 ghost use Rattle.std.specs.Prelude.{◌≡◌, ◌+◌, ◌<◌, ◌≤◌, ℕ, true, if◌then◌else◌};
 ghost use Rattle.augbench.specs.Answers.{digest_of, span_digest, has_changed, IsAnswerTo};
-ghost use Rattle.augbench.specs.Workloads.{is_update};
+ghost use Rattle.augbench.specs.Workloads.{is_change};
 
 use crate::workload::Kind;
 use aug_model::Outcome;
@@ -105,10 +105,10 @@ pub(crate) trait Seat {
     fn act(&mut self, operation: Operation) -> Answer
         requires one { operation.one < 65536 }
         requires two { operation.two < 65536 }
-        requires budget { is_update operation.kind ≡ true → 0 < left_of self.old }
+        requires budget { is_change operation.kind ≡ true → 0 < left_of self.old }
         ensures answers { IsAnswerTo operation.kind result }
         ensures keeps { Keeps self.old self.new }
-        ensures left { left_of self.old ≤ left_of self.new + (if is_update operation.kind then 1 else 0) };
+        ensures left { left_of self.old ≤ left_of self.new + (if is_change operation.kind then 1 else 0) };
 
     // A seat that nobody used keeps it.
     ghost keeps_so: { (seat : Self) → Keeps seat seat };

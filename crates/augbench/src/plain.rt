@@ -1,7 +1,7 @@
 //! What one thread asks of a plain set, once it has it.
 ghost use Rattle.std.specs.Prelude.{◌≡◌, ◌<◌, true, false};
 ghost use Rattle.augbench.specs.Answers.{IsAnswerTo};
-ghost use Rattle.augbench.specs.Workloads.{is_update};
+ghost use Rattle.augbench.specs.Workloads.{is_change};
 
 use crate::fenwick::FenwickSet;
 use crate::keys::{UNIVERSE, of_batch};
@@ -24,7 +24,7 @@ pub(crate) fn half_full(alloc: Global, without: Option<u32>) -> Result<FenwickSe
 /// Makes an update.
 #[inline(always)]
 pub(crate) fn change(set: &mut FenwickSet, operation: Operation) -> Answer
-    requires kind { is_update operation.kind ≡ true }
+    requires kind { is_change operation.kind ≡ true }
     requires one { operation.one < 65536 }
     requires two { operation.two < 65536 }
     ensures { IsAnswerTo operation.kind result }
@@ -41,7 +41,7 @@ pub(crate) fn change(set: &mut FenwickSet, operation: Operation) -> Answer
 /// Answers a query.
 #[inline(always)]
 pub(crate) fn ask(set: &FenwickSet, operation: Operation) -> Answer
-    requires kind { is_update operation.kind ≡ false }
+    requires kind { is_change operation.kind ≡ false }
     requires one { operation.one < 65536 }
     requires two { operation.two < 65536 }
     ensures { IsAnswerTo operation.kind result }
@@ -58,7 +58,7 @@ pub(crate) fn ask(set: &FenwickSet, operation: Operation) -> Answer
 
 /// What an update of this set will answer.
 pub(crate) fn foreseen(set: &FenwickSet, operation: Operation) -> Answer
-    requires kind { is_update operation.kind ≡ true }
+    requires kind { is_change operation.kind ≡ true }
     requires one { operation.one < 65536 }
     ensures { IsAnswerTo operation.kind result }
 {
@@ -74,7 +74,7 @@ pub(crate) fn foreseen(set: &FenwickSet, operation: Operation) -> Answer
 
 /// An answer to a query that found no set.
 pub(crate) fn no_answer(kind: Kind) -> Answer
-    requires { is_update kind ≡ false }
+    requires { is_change kind ≡ false }
     ensures { IsAnswerTo kind result }
 {
     match kind {

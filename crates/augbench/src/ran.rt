@@ -1,6 +1,6 @@
 //! What a round is to do, and what it came to.
 ghost use Rattle.std.specs.Prelude.{◌≡◌, IfOk};
-ghost use Rattle.augbench.specs.Lanes.{lanes_of};
+ghost use Rattle.augbench.specs.Threads.{lanes_of};
 ghost use Rattle.augbench.specs.Laps.{joined};
 
 use crate::course::{Course, Length};

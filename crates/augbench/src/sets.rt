@@ -1,7 +1,7 @@
 //! The sets of all engines, and a round of each.
 ghost use Rattle.std.specs.Prelude.{◌≡◌, ◌≤◌, IfOk};
 ghost use Rattle.augbench.specs.Totals.{AreOfEach};
-ghost use Rattle.augbench.specs.Workloads.{updates_of};
+ghost use Rattle.augbench.specs.Workloads.{changes_among};
 
 use crate::copies::{Copies, copies, copies_round};
 use crate::course::Length;
@@ -61,7 +61,7 @@ pub(crate) fn round_of_each<R: Threads + Wait + Sync, C: Clock + Sync>(
     pace: Pace,
 ) -> anyhow::Result<(Trie, Each<Ran>)>
     requires bits { trie.bits ≡ 16 }
-    requires budget { updates_of plan.workload plan.length.operations ≤ UPDATES }
+    requires budget { changes_among plan.workload plan.length.operations ≤ UPDATES }
     ensures bits { IfOk result (λ both. both.0.bits ≡ 16) }
     ensures engines { IfOk result (λ both. AreOfEach both.1) }
 {

@@ -1,6 +1,6 @@
 //! What one thread does in a round.
 ghost use Rattle.std.specs.Prelude.{◌+◌, ◌≤◌};
-ghost use Rattle.augbench.specs.Workloads.{updates_of};
+ghost use Rattle.augbench.specs.Workloads.{changes_among};
 
 use crate::course::Course;
 use crate::keys::{Keys, Lane};
@@ -23,7 +23,7 @@ pub(crate) fn run<C: Clock, S: Seat>(
     course: &Course,
 ) -> io::Result<Option<Lap>>
     requires stirs { UPDATES ≤ S.left_of seat.old }
-    requires budget { updates_of course.now.workload course.now.length.operations ≤ S.left_of seat.old }
+    requires budget { changes_among course.now.workload course.now.length.operations ≤ S.left_of seat.old }
     ensures { S.Keeps seat.old seat.new }
 {
     let mut keys = Keys::new(lane);

@@ -1,7 +1,7 @@
 //! Rounds of the trie.
 ghost use Rattle.std.specs.Prelude.{◌≡◌, ◌≤◌, All, IfOk, map};
-ghost use Rattle.augbench.specs.Lanes.{lanes_of};
-ghost use Rattle.augbench.specs.Workloads.{updates_of};
+ghost use Rattle.augbench.specs.Threads.{lanes_of};
+ghost use Rattle.augbench.specs.Workloads.{changes_among};
 
 use crate::course::{Course, nanoseconds};
 use crate::engine::Engine;
@@ -58,7 +58,7 @@ pub(crate) fn trie_round<R: Threads + Sync, C: Clock + Sync>(
     plan: Plan,
 ) -> anyhow::Result<(Trie, Ran)>
     requires bits { trie.bits ≡ 16 }
-    requires budget { updates_of plan.workload plan.length.operations ≤ UPDATES }
+    requires budget { changes_among plan.workload plan.length.operations ≤ UPDATES }
     ensures bits { IfOk result (λ both. both.0.bits ≡ 16) }
     ensures engine { IfOk result (λ both. both.1.engine ≡ Engine.Trie) }
 {
@@ -88,7 +88,7 @@ fn race<R: Threads + Sync, C: Clock + Sync>(
     requires together { crew.old.round ≡ table.now }
     requires bits { table.now.bits ≡ 16 }
     requires updates { table.now.updates ≡ UPDATES }
-    requires budget { updates_of plan.workload plan.length.operations ≤ UPDATES }
+    requires budget { changes_among plan.workload plan.length.operations ≤ UPDATES }
     ensures round { IfOk result (λ ran. crew.new.round ≡ table.now) }
     ensures engine { IfOk result (λ ran. ran.engine ≡ Engine.Trie) }
 {
@@ -135,7 +135,7 @@ fn in_threads<R: Threads + Sync, C: Clock + Sync>(
 ) -> Result<Vec<Done>, AllocError>
     requires bits { table.now.bits ≡ 16 }
     requires updates { table.now.updates ≡ UPDATES }
-    requires budget { updates_of course.now.workload course.now.length.operations ≤ UPDATES }
+    requires budget { changes_among course.now.workload course.now.length.operations ≤ UPDATES }
     requires ready { All (λ job. (job.half.round ≡ table.now) × (job.half.spent ≡ 0)) jobs.items }
     ensures { IfOk result (λ done. All (λ one. one.half.round ≡ table.now) done.items) }
 {
@@ -147,7 +147,7 @@ fn work<C: Clock>(clock: &C, table: &Table, job: Job, course: &Course) -> Done
     requires here { job.half.round ≡ table.now }
     requires bits { table.now.bits ≡ 16 }
     requires updates { table.now.updates ≡ UPDATES }
-    requires budget { updates_of course.now.workload course.now.length.operations ≤ UPDATES }
+    requires budget { changes_among course.now.workload course.now.length.operations ≤ UPDATES }
     requires unspent { job.half.spent ≡ 0 }
     ensures { result.half.round ≡ table.now }
 {

@@ -1,6 +1,6 @@
 //! The workloads, and which operation comes when.
 ghost use Rattle.std.specs.Prelude.{◌≡◌, ◌+◌, ◌≤◌, if◌then◌else◌};
-ghost use Rattle.augbench.specs.Workloads.{action_of, update_in, weighing_at, query_at, is_update, updates_of, is_updated};
+ghost use Rattle.augbench.specs.Workloads.{action_of, update_in, weighing_at, query_at, is_change, changes_among, is_updated};
 
 /// How many updates a thread of the trie makes in a round.
 pub(crate) const UPDATES: u32 = 4096;
@@ -69,7 +69,7 @@ impl Kind {
     /// Whether the operation changes the set.
     #[inline(always)]
     pub(crate) fn is_update(self) -> bool
-        ensures { result ≡ is_update self }
+        ensures { result ≡ is_change self }
     {
         matches!(self, Kind::Insert | Kind::Remove | Kind::Put)
     }
@@ -101,8 +101,8 @@ impl Workload {
     /// How many operations a thread of the trie makes in a round: those among which 4,096 are updates, and as many queries where
     /// none is.
     pub(crate) fn operations(self) -> u64
-        ensures all { updates_of self result ≡ (if is_updated self then UPDATES else 0) }
-        ensures few { updates_of self result ≤ UPDATES }
+        ensures all { changes_among self result ≡ (if is_updated self then UPDATES else 0) }
+        ensures few { changes_among self result ≤ UPDATES }
     {
         match self {
             Workload::Updates | Workload::Changes => u64::from(UPDATES),
@@ -114,7 +114,7 @@ impl Workload {
     #[inline(always)]
     pub(crate) fn action(self, number: u64) -> Action
         ensures is { result ≡ action_of self number }
-        ensures counts { updates_of self (number + 1) ≡ updates_of self number + (if is_update result.kind then 1 else 0) }
+        ensures counts { changes_among self (number + 1) ≡ changes_among self number + (if is_change result.kind then 1 else 0) }
     {
         match self {
             Workload::Updates => update(number, Pool::Any),

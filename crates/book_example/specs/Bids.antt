@@ -17,6 +17,6 @@ agrees_on set None None = length (bids_from set 0) == 0
 agrees_on set (Some best) None = false
 agrees_on set None (Some bounds) = false
 
--- the best bid that the set shows agrees with the bounds of its bids
-abbrev pub agrees : SetFacts → Bool
-agrees set = agrees_on set (before_of (list_of set) 2000) (fold_of extent_parts (bids_from set 0))
+-- the best bid that the set shows bids_agree with the bounds of its bids
+abbrev pub bids_agree : SetFacts → Bool
+bids_agree set = agrees_on set (before_of (list_of set) 2000) (fold_of extent_parts (bids_from set 0))

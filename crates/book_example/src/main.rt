@@ -3,7 +3,7 @@
 
 ghost use Rattle.std.specs.Prelude.{◌≡◌, ◌+◌, ◌≤◌, IfOk};
 ghost use Rattle.aug_trie.specs.Snapshot.{HasSnapshot, set_at};
-ghost use Rattle.book_example.specs.Bids.{agrees};
+ghost use Rattle.book_example.specs.Bids.{bids_agree};
 
 use aug_monoid::{Extent, Sum};
 use aug_query::{after, before, range, weight};
@@ -48,7 +48,7 @@ fn trade(book: &Book, half: Half, lowest: u32) -> Half
 fn agrees(pass: &mut Pass<Sum, Extent>, now: Snapshot) -> bool
     requires snapshot { HasSnapshot pass.old now.number }
     ensures round { pass.new.round ≡ pass.old.round }
-    ensures agrees { result ≡ agrees (set_at pass.old now) }
+    ensures agrees { result ≡ bids_agree (set_at pass.old now) }
 {
     let bids = pass.range(now, 0, MIDDLE);
     match (pass.before(now, MIDDLE), bids.b.bounds()) {

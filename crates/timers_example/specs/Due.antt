@@ -10,5 +10,5 @@ abbrev pub due_before : SetFacts → ℕ → ℕ
 due_before set tick = fold_of sum_parts (weighted_range_of set.pairs 0 tick)
 
 -- between a tick and the next one with timers none is due
-abbrev pub agrees : SetFacts → ℕ → Bool
-agrees set tick = due_before set (unwrap_or (after_of (list_of set) tick) 1024) == due_before set (tick + 1)
+abbrev pub none_due_between : SetFacts → ℕ → Bool
+none_due_between set tick = due_before set (unwrap_or (after_of (list_of set) tick) 1024) == due_before set (tick + 1)

@@ -3,7 +3,7 @@
 
 ghost use Rattle.std.specs.Prelude.{◌≡◌, ◌+◌, ◌^◌, ◌<◌, ◌≤◌, IfOk};
 ghost use Rattle.aug_trie.specs.Snapshot.{HasSnapshot, set_at};
-ghost use Rattle.timers_example.specs.Due.{agrees};
+ghost use Rattle.timers_example.specs.Due.{none_due_between};
 
 use aug_monoid::{Nothing, Sum};
 use aug_query::{after, range};
@@ -57,7 +57,7 @@ fn agrees(pass: &mut Pass<Sum, Nothing>, now: Snapshot, tick: u32) -> bool
     requires tick { tick < 1024 }
     requires snapshot { HasSnapshot pass.old now.number }
     ensures round { pass.new.round ≡ pass.old.round }
-    ensures agrees { result ≡ agrees (set_at pass.old now) tick }
+    ensures agrees { result ≡ none_due_between (set_at pass.old now) tick }
 {
     let due = pass.range(now, 0, tick + 1).a.value();
     let next = pass.after(now, tick).unwrap_or(1024);

@@ -1,8 +1,8 @@
 -- One try to bring a node up to its children: what was loaded for it, what its record says, and what it left.
 use Rattle.std.specs.Prelude.{◌≡◌, ◌≢◌, ℕ, ◌+◌, ◌≤◌, Bool, false, IsTrue, List, ◌++◌, length, slice_index}
 use Rattle.aug_core.specs.Places.{Shape}
-use Rattle.aug_core.specs.Tree.{left_of, right_of}
-use Rattle.aug_core.specs.Book.{Book, history_of, At, IsNewest}
+use Rattle.aug_core.specs.Addresses.{left_of, right_of}
+use Rattle.aug_core.specs.Book.{Book, history_of, At, IsNewest, IsLoaded}
 use Rattle.aug_core.specs.declared.view.Entry.{Entry}
 
 -- an entry of the leaf or the node is named by the word
@@ -28,30 +28,11 @@ pub record NewestCovers (s : Shape) (seen book : Book) (q : ℕ) : Type 0 where
   pub left : length (history_of seen (left_of s q)) ≤ entry.left + 1
   pub right : length (history_of seen (right_of s q)) ≤ entry.right + 1
 
--- what was loaded of a node and then of its children: no child before the one that the node's entry stands over, or before the newest one as that came
-pub record IsLoaded (s : Shape) (book : Book) (q old left_word right_word : ℕ) : Type 0 where
-  pub index : ℕ
-  pub from : Entry
-  pub left_index : ℕ
-  pub right_index : ℕ
-  pub left : Entry
-  pub right : Entry
-  pub loaded : At book q index from
-  pub numbered : old ≡ from.number
-  pub left_at : At book (left_of s q) left_index left
-  pub right_at : At book (right_of s q) right_index right
-  pub left_named : left.word ≡ left_word
-  pub right_named : right.word ≡ right_word
-  pub left_shown : left.passed ≡ false
-  pub right_shown : right.passed ≡ false
-  pub left_later : from.left ≤ left_index
-  pub right_later : from.right ≤ right_index
-  pub left_known : from.left_floor ≤ left_index
-  pub right_known : from.right_floor ≤ right_index
-
 -- five words that say what was loaded
 pub record SaysLoaded (face : ℕ → ℕ → List (ℕ × ℕ) → List ℕ) (s : Shape) (book : Book) (q old : ℕ) (five : List ℕ) : Type 0 where
-  pub is_loaded : IsLoaded s book q old (slice_index five 0) (slice_index five 1)
+  pub is_loaded : IsLoaded s book q old
+  pub left_named : is_loaded.left.word ≡ slice_index five 0
+  pub right_named : is_loaded.right.word ≡ slice_index five 1
   pub five_are : five ≡ face (slice_index five 0) (slice_index five 1) (is_loaded.left.pairs ++ is_loaded.right.pairs)
 
 -- the node's newest entry stands over children of these words, if it was published, and else is another than was loaded

@@ -1,7 +1,7 @@
 -- The cut that an entry of the root shows.
 use Rattle.std.specs.Prelude.{ℕ}
 use Rattle.aug_core.specs.Places.{Shape}
-use Rattle.aug_core.specs.Tree.{root_place}
+use Rattle.aug_core.specs.Addresses.{root_place}
 use Rattle.aug_core.specs.Book.{Book}
 use Rattle.aug_core.specs.Cuts.{Cut}
 use Rattle.aug_core.specs.EntryCuts.{cut_under}

@@ -8,7 +8,7 @@ pub record IsBoundary (keys : List ℕ) (k place : ℕ) : Type 0 where
   pub back : (i : ℕ) → place ≤ i → i < length keys → k ≤ slice_index keys i
 
 -- the key k stands at the place
-pub record StandsAt (keys : List ℕ) (k place : ℕ) : Type 0 where
+pub record IsKeyAt (keys : List ℕ) (k place : ℕ) : Type 0 where
   pub within : place < length keys
   pub is : slice_index keys place ≡ k
 

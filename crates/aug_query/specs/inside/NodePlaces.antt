@@ -7,6 +7,6 @@ abbrev pub middle_key : ℕ → ℕ → ℕ
 middle_key level place = (2 * place + 1) * 2 ^ (level - 1)
 
 -- a level and a place of a tree of at most 16 bits
-pub record Stands (level place : ℕ) : Type 0 where
+pub record IsPlace (level place : ℕ) : Type 0 where
   pub few_levels : level ≤ 16
   pub few_keys : end_key level place ≤ 2 ^ 16

@@ -6,7 +6,7 @@ ghost use Rattle.aug_model.specs.Queries.{rank_of, weight_of};
 ghost use Rattle.aug_query.specs.Tree.{first_key, end_key};
 ghost use Rattle.aug_query.specs.Descend.{Descends};
 ghost use Rattle.aug_query.specs.inside.Batches.{AreBetween, nodes_below, leaves_below};
-ghost use Rattle.aug_query.specs.inside.NodePlaces.{Stands};
+ghost use Rattle.aug_query.specs.inside.NodePlaces.{IsPlace};
 
 use crate::Descend;
 use crate::toward::universe;
@@ -199,7 +199,7 @@ fn rank_each<A: Monoid, B: Monoid, D: Descend<A, B>>(
 // The keys that the left child covers, and those that the right one does, of some that a node above leaves covers.
 fn halves(level: u32, place: u32, keys: &[u32]) -> (&[u32], &[u32])
     requires inner { 1 ≤ level }
-    requires stands { Stands level place }
+    requires stands { IsPlace level place }
     requires keys { AreBetween (first_key level place) (end_key level place) keys.now }
     ensures both { keys.now ≡ result.0.now ++ result.1.now }
     ensures low { AreBetween (first_key (level - 1) (2 * place)) (end_key (level - 1) (2 * place)) result.0.now }

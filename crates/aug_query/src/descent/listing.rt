@@ -34,6 +34,19 @@ pub fn pairs<A: Monoid, B: Monoid, D: Descend<A, B>>(
     list(alloc, tree)
 }
 
+/// Puts the members, rising, each with its weight, at the end of `list`, which has room for them.
+pub fn pairs_into<A: Monoid, B: Monoid, D: Descend<A, B>>(tree: &mut D, list: &mut Vec<(u32, u32)>)
+    requires room { vec_len list.old + length (D.set_of tree.old).pairs ≤ vec_capacity list.old }
+    ensures answer { list.new.items ≡ list.old.items ++ (D.set_of tree.old).pairs }
+    ensures room { vec_capacity list.new ≡ vec_capacity list.old }
+    ensures descends { Descends D.set_of D.loads_of D.Names D.KeepsRest (2 * (D.set_of tree.old).bits * length (D.set_of tree.old).pairs + 1) ((D.set_of tree.old).bits * length (D.set_of tree.old).pairs + 1) 0 0 tree.old tree.new }
+{
+    let bits = tree.bits();
+    let top = tree.top();
+    let count = tree.count(bits, 0, &top);
+    list_members(tree, bits, 0, &top, count, list);
+}
+
 // What a list has of each member.
 trait Item: Copy {
     // What it has of a key that weighs so much.

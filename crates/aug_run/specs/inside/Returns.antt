@@ -5,14 +5,14 @@ use Rattle.aug_trie.specs.Round.{RoundFacts}
 use Rattle.aug_trie.specs.Knowledge.{Knowledge}
 use Rattle.aug_report.specs.AllowedReport.{Lane, AnswersAll, lines_of}
 use Rattle.aug_run.specs.inside.Rounds.{BacksAll, Started}
-use Rattle.aug_run.specs.inside.Workers.{RunsTo, opening_of, rows_of}
+use Rattle.aug_run.specs.inside.Workers.{RunsTo, opening_cut_of, rows_of}
 use Rattle.aug_script.specs.declared.reply.Reply.{Reply}
 use Rattle.aug_script.specs.declared.row.Row.{Row}
 
 -- a crew that knows the opening cut alone, and has handed nothing out
-pub record HasBegun (round : RoundFacts) (crew : CrewFacts) : Type 0 where
+pub record IsFreshCrew (round : RoundFacts) (crew : CrewFacts) : Type 0 where
   pub together : crew.round ≡ round
-  pub opening : crew.knows ≡ record { history = opening_of round ∷ []; accepted = [] }
+  pub opening : crew.knows ≡ record { history = opening_cut_of round ∷ []; accepted = [] }
   pub none_out : crew.handed ≡ 0
   pub none_back : crew.back ≡ 0
 
@@ -30,7 +30,7 @@ pub record AreInOrder (rows : List Row) (replies : List (List Reply)) (lines : L
 pub record WentBack (round : RoundFacts) (rows : List Row) (replies : List (List Reply)) (old new : Knowledge) : Type 0 where
   pub ends : List Lane
   pub one_each : length ends ≡ length replies
-  pub runs : (lane : ℕ) (default : Lane) → lane < length ends → RunsTo (opening_of round) (rows_of lane rows) (slice_index_or replies lane []) (slice_index_or ends lane default)
+  pub runs : (lane : ℕ) (default : Lane) → lane < length ends → RunsTo (opening_cut_of round) (rows_of lane rows) (slice_index_or replies lane []) (slice_index_or ends lane default)
   pub backs : BacksAll ends old new
 
 -- all lanes ran their lines, and all passes are back at the crew
@@ -38,7 +38,7 @@ pub record RanLanes (round : RoundFacts) (rows : List Row) (lines : List (Row ×
   pub rows_are : map (λ line. line.0) lines ≡ rows
   pub ends : List Lane
   pub one_each : length ends ≡ round.workers
-  pub runs : (lane : ℕ) (default : Lane) → lane < round.workers → (start : Lane) × Started (opening_of round) start × AnswersAll (lines_of lane lines) start (slice_index_or ends lane default)
+  pub runs : (lane : ℕ) (default : Lane) → lane < round.workers → (start : Lane) × Started (opening_cut_of round) start × AnswersAll (lines_of lane lines) start (slice_index_or ends lane default)
   pub before : Knowledge
   pub no_change : before.accepted ≡ []
   pub backs : BacksAll ends before crew.knows

@@ -1,7 +1,7 @@
 -- The way of the lanes of a round, from the crew and back.
 use Rattle.std.specs.Prelude.{◌≡◌, List, [], ◌∷◌}
 use Rattle.aug_core.specs.Cuts.{Cut}
-use Rattle.aug_trie.specs.History.{Begins}
+use Rattle.aug_trie.specs.History.{IsPrefix}
 use Rattle.aug_trie.specs.Knowledge.{Knowledge}
 use Rattle.aug_trie.specs.Passes.{HandedBack, HandedOut}
 use Rattle.aug_trie.specs.Updates.{TakesSnapshot}
@@ -11,7 +11,7 @@ use Rattle.aug_report.specs.AllowedReport.{Lane}
 pub record WasHandedOut (opening : Cut) (pass : Knowledge) : Type 0 where
   pub crew_old : Knowledge
   pub crew_new : Knowledge
-  pub knew_opening : Begins (opening ∷ []) crew_old.history
+  pub knew_opening : IsPrefix (opening ∷ []) crew_old.history
   pub out : HandedOut crew_old crew_new pass
 
 -- the pass of a lane was handed out so, and took an opening snapshot

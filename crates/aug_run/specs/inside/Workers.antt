@@ -4,7 +4,7 @@ use Rattle.aug_core.specs.Cuts.{Cut, opening_cut}
 use Rattle.aug_trie.specs.Round.{RoundFacts}
 use Rattle.aug_trie.specs.Pass.{PassFacts}
 use Rattle.aug_trie.specs.Snapshot.{snapshot_cut}
-use Rattle.aug_trie.specs.declared.snapshot.Snapshot.{Snapshot}
+use Rattle.aug_trie.specs.declared.queries.snapshot.Snapshot.{Snapshot}
 use Rattle.aug_report.specs.AllowedReport.{Lane, AnswersAll}
 use Rattle.aug_script.specs.Limits.{Bounds}
 use Rattle.aug_run.specs.inside.Rounds.{WasHandedOut, Started}
@@ -14,16 +14,16 @@ use Rattle.aug_run.specs.declared.lanes.work.Done.{Done}
 use Rattle.aug_run.specs.declared.lanes.work.Job.{Job}
 
 -- the limits that a round was begun with
-abbrev pub bounds_of : RoundFacts → Bounds
-bounds_of round = record { bits = round.bits; workers = round.workers; updates = round.updates }
+abbrev pub limits_of : RoundFacts → Bounds
+limits_of round = record { bits = round.bits; workers = round.workers; updates = round.updates }
 
 -- the cut that a round opened with
-abbrev pub opening_of : RoundFacts → Cut
-opening_of round = opening_cut round.bits round.members
+abbrev pub opening_cut_of : RoundFacts → Cut
+opening_cut_of round = opening_cut round.bits round.members
 
 -- a lane whose pass knows this much, and that holds this snapshot
-abbrev pub lane_of : PassFacts → Snapshot → Lane
-lane_of pass held = record { knows = pass.knows; held = snapshot_cut pass held.number }
+abbrev pub lane_at : PassFacts → Snapshot → Lane
+lane_at pass held = record { knows = pass.knows; held = snapshot_cut pass held.number }
 
 -- the rows of a lane, in order
 abbrev pub rows_of : ℕ → List Row → List Row
@@ -43,10 +43,10 @@ pub record RunsTo (opening : Cut) (rows : List Row) (replies : List Reply) (end 
   pub answered : AnswersRows rows replies start end
 
 -- the worker of this lane may begin, and has room for its replies
-pub record IsReady (round : RoundFacts) (rows : List Row) (lane : ℕ) (job : Job) : Type 0 where
+pub record MayBegin (round : RoundFacts) (rows : List Row) (lane : ℕ) (job : Job) : Type 0 where
   pub lane_is : job.lane ≡ lane
   pub here : job.half.round ≡ round
-  pub handed_out : WasHandedOut (opening_of round) job.half.knows
+  pub handed_out : WasHandedOut (opening_cut_of round) job.half.knows
   pub unspent : job.half.spent ≡ 0
   pub empty : job.replies.items ≡ []
   pub room : length (rows_of lane rows) ≤ vec_capacity job.replies
@@ -55,15 +55,15 @@ pub record IsReady (round : RoundFacts) (rows : List Row) (lane : ℕ) (job : Jo
 pub record IsDone (round : RoundFacts) (rows : List Row) (lane : ℕ) (done : Done) : Type 0 where
   pub here : done.pass.round ≡ round
   pub held : Cut
-  pub runs : RunsTo (opening_of round) (rows_of lane rows) done.replies.items (record { knows = done.pass.knows; held = held })
+  pub runs : RunsTo (opening_cut_of round) (rows_of lane rows) done.replies.items (record { knows = done.pass.knows; held = held })
 
 abbrev pub AllReady : RoundFacts → List Row → List Job → Type 0
-AllReady round rows jobs = (k : ℕ) (d : Job) → k < length jobs → IsReady round rows k (slice_index_or jobs k d)
+AllReady round rows jobs = (k : ℕ) (d : Job) → k < length jobs → MayBegin round rows k (slice_index_or jobs k d)
 
 abbrev pub AllDone : RoundFacts → List Row → List Done → Type 0
 AllDone round rows all = (k : ℕ) (d : Done) → k < length all → IsDone round rows k (slice_index_or all k d)
 
 -- how many rows each lane has
-pub record AreCounted (workers : ℕ) (rows : List Row) (counts : List ℕ) : Type 0 where
+pub record AreRowCounts (workers : ℕ) (rows : List Row) (counts : List ℕ) : Type 0 where
   pub one_each : length counts ≡ workers
   pub counted : (lane : ℕ) → lane < workers → slice_index counts lane ≡ length (rows_of lane rows)

@@ -1,6 +1,5 @@
 //! Why the command line ends the program before a script is read.
-ghost use Rattle.std.specs.Prelude.{◌≡◌, ◌+◌, ◌-◌, ◌^◌, ◌<◌, ◌↔◌, IsErr, OnOk, OnErr, is_ok, if◌then◌else◌};
-ghost use Rattle.std.specs.Io.KnownBytes.{Appends};
+ghost use Rattle.std.specs.Prelude.{◌≡◌, ◌-◌, ◌^◌, ◌<◌, OnOk, OnErr};
 
 use crate::fault_line::fault_line;
 use aug_script::{Fault, Sink, send};
@@ -32,7 +31,7 @@ impl From<AllocError> for Stop {
 }
 
 impl Stop {
-    ghost use Rattle.aug_script.specs.Devices.{AppendsBeginning, FinishesLast};
+    ghost use Rattle.aug_script.specs.Devices.{Writes, WritesBeginning};
     ghost use Rattle.aug_run.specs.Faults.{stop_line, stop_status, stop_text};
 
     /// The status that the program ends with: 0, 2 or 4.
@@ -60,13 +59,9 @@ impl Stop {
     /// Writes the parser's text as it is, or the fault's line, and then calls `finish` once. The first fault of
     /// the sink ends it. It takes no memory.
     pub fn write_line<S: Sink>(&self, sink: &mut S) -> Result<(), Fault>
-        requires { S.fault_count sink.old < 2 ^ 64 - 1 }
-        ensures ok { OnOk result (Appends (S.contents sink.old) (S.contents sink.new) (stop_line self.now)) }
-        ensures err { OnErr result (AppendsBeginning (S.contents sink.old) (S.contents sink.new) (stop_line self.now)) }
-        ensures finished { OnOk result (S.finish_count sink.new ≡ S.finish_count sink.old + 1) }
-        ensures last { FinishesLast (S.contents sink.old) (S.contents sink.new) (S.finish_count sink.old) (S.finish_count sink.new) (stop_line self.now) }
-        ensures rose { IsErr result ↔ (S.fault_count sink.old < S.fault_count sink.new) }
-        ensures counted { S.fault_count sink.new ≡ S.fault_count sink.old + (if is_ok result then 0 else 1) }
+        requires { (S.state sink.old).faults < 2 ^ 64 - 1 }
+        ensures ok { OnOk result (Writes (S.state sink.old) (S.state sink.new) (stop_line self.now) 1) }
+        ensures err { OnErr result (WritesBeginning (S.state sink.old) (S.state sink.new) (stop_line self.now)) }
     {
         match self {
             Stop::Help(text) | Stop::Usage(text) => send(text.as_bytes(), sink),

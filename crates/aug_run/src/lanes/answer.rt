@@ -3,7 +3,7 @@ ghost use Rattle.std.specs.Prelude.{◌≡◌, ◌+◌, ◌<◌, IsTrue, if◌th
 ghost use Rattle.aug_trie.specs.Snapshot.{HasSnapshot};
 ghost use Rattle.aug_report.specs.AllowedReport.{Answers, reply_to_put};
 ghost use Rattle.aug_script.specs.Script.{is_in_bounds, is_update};
-ghost use Rattle.aug_run.specs.inside.Workers.{lane_of};
+ghost use Rattle.aug_run.specs.inside.Workers.{lane_at};
 
 use crate::trie::Hand;
 use aug_model::Outcome;
@@ -15,7 +15,7 @@ pub(crate) fn answer(pass: &mut Hand, held: &mut Snapshot, verb: Verb) -> Reply
     requires held { HasSnapshot pass.old held.old.number }
     requires in_bounds { IsTrue (is_in_bounds pass.old.round.bits verb) }
     requires budget { IsTrue (is_update verb) → pass.old.spent < pass.old.round.updates }
-    ensures answers { Answers verb result (lane_of pass.old held.old) (lane_of pass.new held.new) }
+    ensures answers { Answers verb result (lane_at pass.old held.old) (lane_at pass.new held.new) }
     ensures held { HasSnapshot pass.new held.new.number }
     ensures round { pass.new.round ≡ pass.old.round }
     ensures spent { pass.new.spent ≡ pass.old.spent + (if is_update verb then 1 else 0) }

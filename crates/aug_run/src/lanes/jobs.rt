@@ -1,7 +1,7 @@
 //! What each worker begins with.
 ghost use Rattle.std.specs.Prelude.{◌≡◌, ℕ, ◌<◌, [], ◌∷◌, length, All, slice_index, vec_len, IfOk};
-ghost use Rattle.aug_trie.specs.History.{Begins};
-ghost use Rattle.aug_run.specs.inside.Workers.{opening_of, AllReady, AreCounted};
+ghost use Rattle.aug_trie.specs.History.{IsPrefix};
+ghost use Rattle.aug_run.specs.inside.Workers.{opening_cut_of, AllReady, AreRowCounts};
 
 use crate::lanes::work::Job;
 use crate::trie::{Hands, Table};
@@ -12,7 +12,7 @@ use std::alloc::{AllocError, Global};
 fn count_rows(rows: &[Row], counts: &mut [usize])
     requires zero { (lane : ℕ) → slice_index counts.old lane ≡ 0 }
     requires lanes { All (λ row. row.lane < length counts.old) rows.now }
-    ensures { AreCounted (length counts.old) rows.now counts.new }
+    ensures { AreRowCounts (length counts.old) rows.now counts.new }
 {
     for row in rows {
         counts[row.lane as usize] += 1;
@@ -22,7 +22,7 @@ fn count_rows(rows: &[Row], counts: &mut [usize])
 // How many rows each lane has.
 fn row_counts(alloc: Global, workers: u32, rows: &[Row]) -> Result<Vec<usize>, AllocError>
     requires { All (λ row. row.lane < workers) rows.now }
-    ensures { IfOk result (λ counts. AreCounted workers rows.now counts.items) }
+    ensures { IfOk result (λ counts. AreRowCounts workers rows.now counts.items) }
 {
     let mut counts = vec![in alloc; 0usize; workers as usize]?;
     count_rows(rows, &mut counts);
@@ -41,7 +41,7 @@ pub(crate) fn jobs(
     requires none_out { crew.old.handed ≡ 0 }
     requires workers { workers ≡ round.now.workers }
     requires lanes { All (λ row. row.lane < workers) rows.now }
-    requires opening { Begins (opening_of round.now ∷ []) crew.old.knows.history }
+    requires opening { IsPrefix (opening_cut_of round.now ∷ []) crew.old.knows.history }
     ensures len { IfOk result (λ jobs. vec_len jobs ≡ workers) }
     ensures each { IfOk result (λ jobs. AllReady round.now rows.now jobs.items) }
     ensures handed { IfOk result (λ jobs. crew.new.handed ≡ workers) }

@@ -1,8 +1,7 @@
 //! Starts the thread of one lane.
-ghost use Rattle.std.specs.Prelude.{◌≡◌, ◌≤◌, [], length, vec_capacity, IfOk};
+ghost use Rattle.std.specs.Prelude.{◌≡◌, IfOk};
 ghost use Rattle.aug_script.specs.Script.{KeepsLimits};
-ghost use Rattle.aug_run.specs.inside.Rounds.{WasHandedOut};
-ghost use Rattle.aug_run.specs.inside.Workers.{bounds_of, opening_of, rows_of, IsDone};
+ghost use Rattle.aug_run.specs.inside.Workers.{limits_of, IsDone, MayBegin};
 
 use crate::gate::Gate;
 use crate::lanes::work::{Done, Job, work};
@@ -31,28 +30,23 @@ pub(crate) fn start<'s, 'a: 's, 'b: 's, 'c: 's, E, G: Gate>(
     gate: &'c G,
     job: Job,
 ) -> Result<PromisedHandle<Done<'a>, LaneOf<'a, 'b>>, AllocError>
-    requires here { job.half.round ≡ round.now }
-    requires handed_out { WasHandedOut (opening_of round.now) job.half.knows }
-    requires unspent { job.half.spent ≡ 0 }
-    requires kept { KeepsLimits (bounds_of round.now) rows.now }
-    requires empty { job.replies.items ≡ [] }
-    requires room { length (rows_of job.lane rows.now) ≤ vec_capacity job.replies }
+    requires kept { KeepsLimits (limits_of round.now) rows.now }
+    requires ready { MayBegin round.now rows.now job.lane job }
     ensures lane { IfOk result (λ h. h.promise.lane ≡ job.lane) }
     ensures rows { IfOk result (λ h. h.promise.rows.now ≡ rows.now) }
     ensures round { IfOk result (λ h. h.promise.round.now ≡ round.now) }
 {
-    let Job {
-        lane,
-        half,
-        replies,
-    } = job;
-    let promise = LaneOf { lane, rows, round };
+    let promise = LaneOf {
+        lane: job.lane,
+        rows,
+        round,
+    };
     let child = scope.spawn_with(
         promise,
         move || -> Done
-            requires { (half.round ≡ round.now) × WasHandedOut (opening_of round.now) half.knows × (half.spent ≡ 0) × KeepsLimits (bounds_of round.now) rows.now × (replies.items ≡ []) × (length (rows_of lane rows.now) ≤ vec_capacity replies) }
-            ensures { IsDone round.entry.now rows.entry.now lane result }
-        { work(lane, rows, round, half, replies, gate) },
+            requires { KeepsLimits (limits_of round.now) rows.now × MayBegin round.now rows.now job.lane job }
+            ensures { IsDone round.entry.now rows.entry.now job.lane result }
+        { work(job, rows, round, gate) },
     )?;
     Ok(child)
 }

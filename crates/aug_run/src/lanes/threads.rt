@@ -2,7 +2,7 @@
 ghost use Rattle.std.specs.Prelude.{◌≡◌, ◌≤◌, vec_len, vec_capacity, IfOk};
 ghost use Rattle.aug_script.specs.Script.{KeepsLimits};
 ghost use Rattle.aug_run.specs.inside.Threads.{AllPromised};
-ghost use Rattle.aug_run.specs.inside.Workers.{bounds_of, AllReady, AllDone};
+ghost use Rattle.aug_run.specs.inside.Workers.{limits_of, AllReady, AllDone};
 
 use crate::gate::Gate;
 use crate::lanes::start::{LaneOf, start};
@@ -26,7 +26,7 @@ fn start_all<'s, 'a: 's, 'b: 's, 'c: 's, E, G: Gate>(
     Vec<PromisedHandle<Done<'a>, LaneOf<'a, 'b>>>,
     Vec<PromisedHandle<Done<'a>, LaneOf<'a, 'b>>>,
 >
-    requires kept { KeepsLimits (bounds_of round.now) rows.now }
+    requires kept { KeepsLimits (limits_of round.now) rows.now }
     requires ready { AllReady round.now rows.now jobs.items }
     requires empty { vec_len started ≡ 0 }
     requires room { vec_len jobs ≤ vec_capacity started }
@@ -72,7 +72,7 @@ fn in_scope<'s, 'a: 's, 'b: 's, 'c: 's, E, R: Threads, G: Gate>(
     gate: &'c G,
     jobs: Vec<Job>,
 ) -> Result<Vec<Done<'a>>, AllocError>
-    requires kept { KeepsLimits (bounds_of round.now) rows.now }
+    requires kept { KeepsLimits (limits_of round.now) rows.now }
     requires ready { AllReady round.now rows.now jobs.items }
     ensures len { IfOk result (λ v. vec_len v ≡ vec_len jobs) }
     ensures each { IfOk result (λ v. AllDone round.now rows.now v.items) }
@@ -99,7 +99,7 @@ pub(crate) fn in_threads<'r, R: Threads + Wait, G: Gate>(
     gate: &'r G,
     jobs: Vec<Job>,
 ) -> Result<Vec<Done<'r>>, AllocError>
-    requires kept { KeepsLimits (bounds_of round.now) rows.now }
+    requires kept { KeepsLimits (limits_of round.now) rows.now }
     requires ready { AllReady round.now rows.now jobs.items }
     ensures len { IfOk result (λ v. vec_len v ≡ vec_len jobs) }
     ensures each { IfOk result (λ v. AllDone round.now rows.now v.items) }
@@ -108,7 +108,7 @@ pub(crate) fn in_threads<'r, R: Threads + Wait, G: Gate>(
         thread::scope_env(),
         rt,
         |scope| -> Result<Vec<Done>, AllocError>
-            requires { KeepsLimits (bounds_of round.now) rows.now × AllReady round.now rows.now jobs.items }
+            requires { KeepsLimits (limits_of round.now) rows.now × AllReady round.now rows.now jobs.items }
             ensures { IfOk result (λ v. (vec_len v ≡ vec_len jobs) × AllDone round.entry.now rows.entry.now v.items) }
         { in_scope(rt, scope, alloc, round, rows, gate, jobs) },
     )

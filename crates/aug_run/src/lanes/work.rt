@@ -1,8 +1,6 @@
 //! What one worker does.
-ghost use Rattle.std.specs.Prelude.{◌≡◌, ◌≤◌, [], length, vec_capacity};
 ghost use Rattle.aug_script.specs.Script.{KeepsLimits};
-ghost use Rattle.aug_run.specs.inside.Rounds.{WasHandedOut};
-ghost use Rattle.aug_run.specs.inside.Workers.{bounds_of, opening_of, rows_of, IsDone};
+ghost use Rattle.aug_run.specs.inside.Workers.{limits_of, IsDone, MayBegin};
 
 use crate::gate::Gate;
 use crate::lanes::answer::answer;
@@ -25,22 +23,16 @@ pub(crate) struct Done<'r> {
 }
 
 /// Takes an opening snapshot, and then runs the rows of the lane in order.
-pub(crate) fn work<'r, G: Gate>(
-    lane: u32,
-    rows: &[Row],
-    round: &'r Table,
-    half: Half,
-    mut replies: Vec<Reply>,
-    gate: &G,
-) -> Done<'r>
-    requires here { half.round ≡ round.now }
-    requires handed_out { WasHandedOut (opening_of round.now) half.knows }
-    requires unspent { half.spent ≡ 0 }
-    requires kept { KeepsLimits (bounds_of round.now) rows.now }
-    requires empty { replies.items ≡ [] }
-    requires room { length (rows_of lane rows.now) ≤ vec_capacity replies }
-    ensures { IsDone round.now rows.now lane result }
+pub(crate) fn work<'r, G: Gate>(job: Job, rows: &[Row], round: &'r Table, gate: &G) -> Done<'r>
+    requires kept { KeepsLimits (limits_of round.now) rows.now }
+    requires ready { MayBegin round.now rows.now job.lane job }
+    ensures { IsDone round.now rows.now job.lane result }
 {
+    let Job {
+        lane,
+        half,
+        mut replies,
+    } = job;
     let mut pass = round.pass(half);
     let mut held = pass.snapshot();
     for row in rows {

@@ -1,8 +1,8 @@
 //! A whole script, from its bytes to its printed reports.
 ghost use Rattle.std.specs.Prelude.{◌≡◌, ◌≢◌, ℕ, ◌-◌, ◌^◌, ◌<◌, ◌≤◌, ◌↔◌, ◌⊎◌, All, Err, IfErr, IfOk, IfSome, OnErr, OnOk, Some, [], length, take};
 ghost use Rattle.aug_script.specs.Script.{IsRunnable, NeverNarrows};
-ghost use Rattle.aug_run.specs.Runs.{HasFault, Prints, PrintsInPart, RunsInPart, RunsOutOfMemory, RunsWhole, script_limit};
-ghost use Rattle.aug_script.specs.declared.script_error.ScriptError.{ScriptError};
+ghost use Rattle.aug_run.specs.Program.{FailsBy};
+ghost use Rattle.aug_run.specs.Runs.{Prints, PrintsInPart, RunsWhole, script_limit};
 
 use crate::gate::Open;
 use crate::round::run_round;
@@ -26,15 +26,12 @@ pub fn run<R: Threads + Wait, S: Source, W: Sink>(
     limits: &Limits,
 ) -> Result<(), RunError>
     requires source { S.fault_count source.old < 2 ^ 64 - 1 }
-    requires sink { W.fault_count sink.old < 2 ^ 64 - 1 }
-    ensures ok { OnOk result (IfSome (S.remaining source.old) (RunsWhole limits.now (W.contents sink.old) (W.contents sink.new) (W.finish_count sink.old) (W.finish_count sink.new))) }
-    ensures script { (fault : ScriptError) → result ≡ Err (RunError.Script fault) → IfSome (S.remaining source.old) (HasFault limits.now fault) }
+    requires sink { (W.state sink.old).faults < 2 ^ 64 - 1 }
+    ensures ok { OnOk result (IfSome (S.remaining source.old) (RunsWhole limits.now (W.state sink.old) (W.state sink.new))) }
+    ensures err { IfErr result (FailsBy limits.now (W.state sink.old) (W.state sink.new) (S.remaining source.old)) }
     ensures named { result ≢ Err (RunError.Script ScriptError.OutOfMemory) }
-    ensures long { result ≡ Err RunError.TooLong → IfSome (S.remaining source.old) (λ bytes. script_limit < length bytes) }
     ensures input { result ≡ Err RunError.Input ↔ (S.fault_count source.old < S.fault_count source.new) }
-    ensures output { result ≡ Err RunError.Output ↔ (W.fault_count sink.old < W.fault_count sink.new) }
-    ensures part { result ≡ Err RunError.Output → IfSome (S.remaining source.old) (RunsInPart limits.now (W.contents sink.old) (W.contents sink.new) (W.finish_count sink.old) (W.finish_count sink.new)) }
-    ensures memory { result ≡ Err RunError.OutOfMemory → RunsOutOfMemory limits.now (W.contents sink.old) (W.contents sink.new) (W.finish_count sink.old) (W.finish_count sink.new) (S.remaining source.old) }
+    ensures output { result ≡ Err RunError.Output ↔ ((W.state sink.old).faults < (W.state sink.new).faults) }
     ensures nothing { IfErr result (λ error. error ≢ RunError.Output → error ≢ RunError.OutOfMemory → sink.new ≡ sink.old) }
 {
     let bytes = match read_all(alloc, source) {
@@ -55,14 +52,12 @@ fn run_bytes<R: Threads + Wait, W: Sink>(
     limits: &Limits,
 ) -> Result<(), RunError>
     requires fits { length bytes.now ≤ script_limit }
-    requires sink { W.fault_count sink.old < 2 ^ 64 - 1 }
-    ensures ok { OnOk result (RunsWhole limits.now (W.contents sink.old) (W.contents sink.new) (W.finish_count sink.old) (W.finish_count sink.new) bytes.now) }
-    ensures script { (fault : ScriptError) → result ≡ Err (RunError.Script fault) → HasFault limits.now fault bytes.now }
+    requires sink { (W.state sink.old).faults < 2 ^ 64 - 1 }
+    ensures ok { OnOk result (RunsWhole limits.now (W.state sink.old) (W.state sink.new) bytes.now) }
+    ensures err { IfErr result (FailsBy limits.now (W.state sink.old) (W.state sink.new) (Some bytes.now)) }
     ensures named { result ≢ Err (RunError.Script ScriptError.OutOfMemory) }
     ensures fits { (result ≢ Err RunError.TooLong) × (result ≢ Err RunError.Input) }
-    ensures output { result ≡ Err RunError.Output ↔ (W.fault_count sink.old < W.fault_count sink.new) }
-    ensures part { result ≡ Err RunError.Output → RunsInPart limits.now (W.contents sink.old) (W.contents sink.new) (W.finish_count sink.old) (W.finish_count sink.new) bytes.now }
-    ensures memory { result ≡ Err RunError.OutOfMemory → RunsOutOfMemory limits.now (W.contents sink.old) (W.contents sink.new) (W.finish_count sink.old) (W.finish_count sink.new) (Some bytes.now) }
+    ensures output { result ≡ Err RunError.Output ↔ ((W.state sink.old).faults < (W.state sink.new).faults) }
     ensures nothing { IfErr result (λ error. error ≢ RunError.Output → error ≢ RunError.OutOfMemory → sink.new ≡ sink.old) }
 {
     let script = match Script::read(alloc, bytes, limits) {
@@ -84,12 +79,12 @@ fn run_rounds<R: Threads + Wait, W: Sink>(
 ) -> Result<(), RunError>
     requires kept { All (IsRunnable limits.now) rounds.now }
     requires never_narrows { NeverNarrows rounds.now }
-    requires sink { W.fault_count sink.old < 2 ^ 64 - 1 }
-    ensures ok { OnOk result (Prints limits.now rounds.now (W.contents sink.old) (W.contents sink.new) (W.finish_count sink.old) (W.finish_count sink.new)) }
+    requires sink { (W.state sink.old).faults < 2 ^ 64 - 1 }
+    ensures ok { OnOk result (Prints limits.now rounds.now (W.state sink.old) (W.state sink.new)) }
     ensures named { OnErr result ((result ≡ Err RunError.Output) ⊎ (result ≡ Err RunError.OutOfMemory)) }
-    ensures memory { result ≡ Err RunError.OutOfMemory → (count : ℕ) × Prints limits.now (take count rounds.now) (W.contents sink.old) (W.contents sink.new) (W.finish_count sink.old) (W.finish_count sink.new) }
-    ensures output { result ≡ Err RunError.Output ↔ (W.fault_count sink.old < W.fault_count sink.new) }
-    ensures part { result ≡ Err RunError.Output → (count : ℕ) × PrintsInPart limits.now (take count rounds.now) (W.contents sink.old) (W.contents sink.new) (W.finish_count sink.old) (W.finish_count sink.new) }
+    ensures memory { result ≡ Err RunError.OutOfMemory → (count : ℕ) × Prints limits.now (take count rounds.now) (W.state sink.old) (W.state sink.new) }
+    ensures output { result ≡ Err RunError.Output ↔ ((W.state sink.old).faults < (W.state sink.new).faults) }
+    ensures part { result ≡ Err RunError.Output → (count : ℕ) × PrintsInPart limits.now (take count rounds.now) (W.state sink.old) (W.state sink.new) }
 {
     let Ok(empty) = empty_trie(alloc, limits) else {
         return Err(RunError::OutOfMemory);

@@ -1,6 +1,5 @@
 //! Why a script was not run to its end.
-ghost use Rattle.std.specs.Prelude.{◌≡◌, ◌+◌, ◌-◌, ◌^◌, ◌<◌, ◌≤◌, ◌↔◌, IsErr, OnOk, OnErr, is_ok, length, if◌then◌else◌};
-ghost use Rattle.std.specs.Io.KnownBytes.{Appends};
+ghost use Rattle.std.specs.Prelude.{◌≡◌, ◌-◌, ◌^◌, ◌<◌, OnOk, OnErr};
 
 use crate::fault_line::fault_line;
 use aug_script::{Fault, FaultText, ScriptError, Sink, send};
@@ -34,7 +33,7 @@ impl From<AllocError> for RunError {
 }
 
 impl RunError {
-    ghost use Rattle.aug_script.specs.Devices.{AppendsBeginning, FinishesLast};
+    ghost use Rattle.aug_script.specs.Devices.{Writes, WritesBeginning};
     ghost use Rattle.aug_run.specs.Faults.{run_error_line, run_error_status, run_error_text};
 
     /// The status that the program ends with: 1, 3 or 4.
@@ -64,13 +63,9 @@ impl RunError {
     /// Writes the fault's line, and then calls `finish` once. The first fault of the sink ends it. It takes no
     /// memory.
     pub fn write_line<S: Sink>(&self, sink: &mut S) -> Result<(), Fault>
-        requires { S.fault_count sink.old < 2 ^ 64 - 1 }
-        ensures ok { OnOk result (Appends (S.contents sink.old) (S.contents sink.new) (run_error_line self.now)) }
-        ensures err { OnErr result (AppendsBeginning (S.contents sink.old) (S.contents sink.new) (run_error_line self.now)) }
-        ensures finished { OnOk result (S.finish_count sink.new ≡ S.finish_count sink.old + 1) }
-        ensures last { FinishesLast (S.contents sink.old) (S.contents sink.new) (S.finish_count sink.old) (S.finish_count sink.new) (run_error_line self.now) }
-        ensures rose { IsErr result ↔ (S.fault_count sink.old < S.fault_count sink.new) }
-        ensures counted { S.fault_count sink.new ≡ S.fault_count sink.old + (if is_ok result then 0 else 1) }
+        requires { (S.state sink.old).faults < 2 ^ 64 - 1 }
+        ensures ok { OnOk result (Writes (S.state sink.old) (S.state sink.new) (run_error_line self.now) 1) }
+        ensures err { OnErr result (WritesBeginning (S.state sink.old) (S.state sink.new) (run_error_line self.now)) }
     {
         let line = fault_line(self.text().as_str());
         send(line.as_str().as_bytes(), sink)

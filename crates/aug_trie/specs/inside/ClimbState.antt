@@ -11,9 +11,9 @@ use Rattle.aug_trie.specs.inside.RoundState.{round_of}
 use Rattle.aug_trie.specs.inside.PassState.{pass_facts}
 use Rattle.aug_trie.specs.inside.Stages.{StageAt, stage_turns}
 use Rattle.aug_trie.specs.Climb.{ClimbFacts}
-use Rattle.aug_trie.specs.declared.request.Request.{Request}
-use Rattle.aug_trie.specs.declared.stages.Stage.{Stage}
-use Rattle.aug_trie.specs.declared.stages.Stage.TheVariants.{Leaf, Change, Up}
+use Rattle.aug_trie.specs.declared.updates.request.Request.{Request}
+use Rattle.aug_trie.specs.declared.turns.stages.Stage.{Stage}
+use Rattle.aug_trie.specs.declared.turns.stages.Stage.TheVariants.{Leaf, Change, Up}
 
 -- a pass as it was when the update began that it is in
 abbrev pub began_facts : Known → ℕ → PassFacts

@@ -14,8 +14,8 @@ use Rattle.aug_trie.specs.inside.Goes.{Goes}
 use Rattle.aug_trie.specs.Pass.{TryNoLeaf, Tried}
 use Rattle.aug_trie.specs.LeafWords.{serial_in_word}
 use Rattle.aug_trie.specs.Requests.{goes_from, in_the_way, advance_from}
-use Rattle.aug_trie.specs.declared.request.Request.{Request}
-use Rattle.aug_trie.specs.declared.request.Request.TheVariants.{Insert, Remove, Put}
+use Rattle.aug_trie.specs.declared.updates.request.Request.{Request}
+use Rattle.aug_trie.specs.declared.updates.request.Request.TheVariants.{Insert, Remove, Put}
 
 -- the weight that a put brings fits a leaf's word
 abbrev pub FitsRequest : Request → Type 0

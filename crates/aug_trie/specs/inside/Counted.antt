@@ -4,8 +4,8 @@ use Rattle.aug_core.specs.declared.view.Change.{Change}
 use Rattle.aug_model.specs.declared.outcome.Outcome.{Outcome}
 use Rattle.aug_model.specs.declared.outcome.Outcome.TheVariants.{Accepted, Replaced, Refused}
 use Rattle.aug_trie.specs.Knowledge.{inserts_of, removals_of}
-use Rattle.aug_trie.specs.declared.request.Request.{Request}
-use Rattle.aug_trie.specs.declared.request.Request.TheVariants.{Insert, Remove, Put}
+use Rattle.aug_trie.specs.declared.updates.request.Request.{Request}
+use Rattle.aug_trie.specs.declared.updates.request.Request.TheVariants.{Insert, Remove, Put}
 
 -- so many of the changes are insertions, and so many removals
 pub record HasCounts (changes : List Change) (inserts removals : ℕ) : Type 0 where

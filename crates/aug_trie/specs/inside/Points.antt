@@ -1,8 +1,8 @@
 -- One try at a node, step by step: what was done of it at each point.
 use Rattle.std.specs.Prelude.{◌≡◌, ℕ, zero, suc, ◌+◌, ◌-◌, ◌*◌, ◌^◌, ◌<◌, ◌≤◌, Bool, nat_lt, if◌then◌else◌, List, [], ◌∷◌, ◌++◌, length, slice_index}
 use Rattle.aug_monoid.specs.Parts.{Parts}
-use Rattle.aug_core.specs.Places.{record_start}
-use Rattle.aug_core.specs.Tree.{IsInner, left_of, right_of}
+use Rattle.aug_core.specs.Places.{record_start, record_words}
+use Rattle.aug_core.specs.Addresses.{IsInner, left_of, right_of}
 use Rattle.aug_core.specs.Book.{At, Continues}
 use Rattle.aug_core.specs.inside.Refreshes.{HasNewest, SaysLoaded}
 use Rattle.aug_core.specs.Told.{KnowsTable, own_lane, storing}
@@ -11,12 +11,12 @@ use Rattle.aug_core.specs.declared.view.Entry.{Entry}
 use Rattle.aug_core.specs.declared.view.View.{View}
 use Rattle.aug_trie.specs.inside.Goes.{Goes, Took, HasRoom, Tries, IsPart, part_steps, Looks}
 use Rattle.aug_trie.specs.LeafWords.{leaf_pairs}
-use Rattle.aug_trie.specs.declared.points.Reading.{Reading}
-use Rattle.aug_trie.specs.declared.points.Filling.{Filling}
-use Rattle.aug_trie.specs.declared.points.Point.{Point}
-use Rattle.aug_trie.specs.declared.points.Point.TheVariants.{Node, Left, Right, Part, Record}
-use Rattle.aug_trie.specs.declared.points.Advanced.{Advanced}
-use Rattle.aug_trie.specs.declared.points.Advanced.TheVariants.{To, Tried}
+use Rattle.aug_trie.specs.declared.turns.points.Reading.{Reading}
+use Rattle.aug_trie.specs.declared.turns.points.Filling.{Filling}
+use Rattle.aug_trie.specs.declared.turns.points.Point.{Point}
+use Rattle.aug_trie.specs.declared.turns.points.Point.TheVariants.{Node, Left, Right, Part, Record}
+use Rattle.aug_trie.specs.declared.turns.points.Advanced.{Advanced}
+use Rattle.aug_trie.specs.declared.turns.points.Advanced.TheVariants.{To, Tried}
 
 -- the view made one step more; what it saw grows, and its lane and table are the same
 pub record OneStep (v w : View) : Type 0 where
@@ -108,8 +108,8 @@ module _ (face : ℕ → ℕ → List (ℕ × ℕ) → List ℕ) (v : View) (q :
     pub goes : Goes face 0 [] third told
     pub took : Took third told (2 * part_steps v.shape (left_of v.shape q))
     pub says : SaysLoaded face told.shape told.seen q r.from r.five
-    pub few : r.count ≤ 5
-    pub five : length r.five ≡ 5
+    pub few : r.count ≤ record_words
+    pub five : length r.five ≡ record_words
     pub stands : w ≡ stored told number r.five r.count
 
   -- what was done at a point

@@ -7,10 +7,10 @@ use Rattle.aug_model.specs.Keys.{SetFacts}
 use Rattle.aug_query.specs.Tree.{IsTreeSet}
 use Rattle.aug_query.specs.declared.loaded.Loaded.{Loaded}
 use Rattle.aug_words.specs.Seats.{Known}
-use Rattle.aug_trie.specs.Node.{IsNodeOf}
+use Rattle.aug_trie.specs.Node.{IsNodeAt}
 use Rattle.aug_trie.specs.TreeOf.{members_of}
 use Rattle.aug_trie.specs.inside.NamedCuts.{cut_named}
-use Rattle.aug_trie.specs.declared.snapshot.Snapshot.{Snapshot}
+use Rattle.aug_trie.specs.declared.queries.snapshot.Snapshot.{Snapshot}
 
 -- the set that a snapshot shows in what a pass has seen
 abbrev pub set_seen : View → Snapshot → SetFacts
@@ -21,7 +21,7 @@ module _ (face : ℕ → ℕ → List (ℕ × ℕ) → List ℕ) where
   pub record IsNamed (v : View) (s : Snapshot) (level place word : ℕ) : Type 0 where
     pub knows_table : KnowsTable face v
     pub is_tree_set : IsTreeSet (set_seen v s)
-    pub node : IsNodeOf v.shape v.seen (cut_named v.shape v.seen s.number) level place word
+    pub node : IsNodeAt v.shape v.seen (cut_named v.shape v.seen s.number) level place word
 
   -- what a walk goes by: the bits of its keys, and the root
   pub record IsWalk (v : View) (s : Snapshot) (bits : ℕ) : Type 0 where

@@ -10,7 +10,7 @@ use Rattle.aug_query.specs.declared.loaded.Loaded.{Loaded}
 use Rattle.aug_query.proofs.Placed.{row_in_keys}
 use Rattle.aug_words.specs.Seats.{Known}
 use Rattle.aug_trie.specs.inside.SnapshotWalk.{set_seen, IsNamed, KeepsWords}
-use Rattle.aug_trie.specs.declared.snapshot.Snapshot.{Snapshot}
+use Rattle.aug_trie.specs.declared.queries.snapshot.Snapshot.{Snapshot}
 
 pub kept_so : (p : Known) (s : Snapshot) (l : Loaded) → KeepsWords p p s s l l
 kept_so p s l = record {

@@ -1,6 +1,6 @@
 -- An update, step by step: what was done of it at each stage.
 use Rattle.std.specs.Prelude.{◌≡◌, ℕ, suc, ◌+◌, ◌-◌, ◌*◌, ◌^◌, ◌<◌, ◌≤◌, ◌==◌, Bool, false, true, if◌then◌else◌, List, [], length, Option, Some, None, ◌∷◌, ◌++◌}
-use Rattle.aug_core.specs.Tree.{left_of}
+use Rattle.aug_core.specs.Addresses.{left_of}
 use Rattle.aug_core.specs.Book.{history_of}
 use Rattle.aug_core.specs.Counts.{changes_of}
 use Rattle.aug_core.specs.inside.Shows.{above, Lifts}
@@ -14,12 +14,12 @@ use Rattle.aug_trie.specs.inside.PassState.{IsPass}
 use Rattle.aug_trie.specs.LeafWords.{serial_in_word}
 use Rattle.aug_trie.specs.Requests.{goes_from}
 use Rattle.aug_trie.specs.inside.Points.{TryAt, TryOver, point_turns}
-use Rattle.aug_trie.specs.declared.request.Request.{Request}
-use Rattle.aug_trie.specs.declared.ascents.Ascent.{Ascent}
-use Rattle.aug_trie.specs.declared.stages.Stage.{Stage}
-use Rattle.aug_trie.specs.declared.stages.Stage.TheVariants.{Leaf, Change, Up}
-use Rattle.aug_trie.specs.declared.stages.Next.{Next}
-use Rattle.aug_trie.specs.declared.stages.Next.TheVariants.{More, Done}
+use Rattle.aug_trie.specs.declared.updates.request.Request.{Request}
+use Rattle.aug_trie.specs.declared.turns.ascents.Ascent.{Ascent}
+use Rattle.aug_trie.specs.declared.turns.stages.Stage.{Stage}
+use Rattle.aug_trie.specs.declared.turns.stages.Stage.TheVariants.{Leaf, Change, Up}
+use Rattle.aug_trie.specs.declared.turns.stages.Next.{Next}
+use Rattle.aug_trie.specs.declared.turns.stages.Next.TheVariants.{More, Done}
 use Rattle.aug_core.specs.Kinds.{load_leaf}
 use Rattle.aug_core.specs.declared.step.StepTaken.{StepTaken}
 

@@ -7,7 +7,7 @@ use Rattle.aug_model.specs.declared.summary.Summary.{Summary}
 use Rattle.aug_trie.specs.Pass.{PassFacts}
 use Rattle.aug_trie.specs.Node.{HasNode, Stays}
 use Rattle.aug_trie.specs.Snapshot.{set_at}
-use Rattle.aug_trie.specs.declared.node.Node.{Node}
+use Rattle.aug_trie.specs.declared.queries.node.Node.{Node}
 use Rattle.aug_model.specs.Queries.{weight_in}
 use Rattle.aug_model.specs.Keys.{list_of}
 use Rattle.aug_model.proofs.Pairs.{range-again}
@@ -15,7 +15,7 @@ use Rattle.aug_model.proofs.Ranges.{rises_from}
 use Rattle.aug_query.specs.Tree.{IsNodeOf, sum_of, below_node, first_key, end_key}
 use Rattle.aug_trie.specs.LeafWords.{weight_in_word}
 use Rattle.aug_trie.specs.View.{KeepsPass}
-use Rattle.aug_trie.specs.declared.snapshot.Snapshot.{Snapshot}
+use Rattle.aug_trie.specs.declared.queries.snapshot.Snapshot.{Snapshot}
 
 module _ {A B : Type 0} (summary_of : List (ℕ × ℕ) → Summary A B) where
   stays_so : (p : PassFacts) → Stays summary_of p p

@@ -10,7 +10,7 @@ returns-clause-allowed g c =
     let report : Report = record { number = c.args.number; rows = c.from_vec.result; size = c.size.result; inserts = c.inserts.result; removals = c.removals.result } in
     let ran = rw c.as_slice-rows.ensures at c.in_ok-lines.ensures.ran in
     allowed c.args.round.now.bits c.args.limits.now.workers c.args.ended.members c.in_ok-table.table c.run_lanes.new.crew c.end-ended.result c.args.round.now.rows report
-    begun.bits_are begun.members begun.workers_are (rw c.from_vec.ensures ran) c.end-ended.ensures.ends c.requires.kept.lanes c.size.ensures c.inserts.ensures c.removals.ensures
+    begun.bits_are begun.members_are begun.workers_are (rw c.from_vec.ensures ran) c.end-ended.ensures.ends c.requires.kept.lanes c.size.ensures c.inserts.ensures c.removals.ensures
 
 pub returns-clause-alone : goal.returns-clause-alone
 returns-clause-alone g c =
@@ -18,5 +18,5 @@ returns-clause-alone g c =
     let report : Report = record { number = c.args.number; rows = c.from_vec.result; size = c.size.result; inserts = c.inserts.result; removals = c.removals.result } in
     let ran = rw c.as_slice-rows.ensures at c.in_ok-lines.ensures.ran in
     in_turn c.args.round.now.bits c.args.limits.now.workers c.args.ended.members c.in_ok-table.table c.run_lanes.new.crew c.end-ended.result c.args.round.now.rows report
-    begun.bits_are begun.members begun.workers_are (rw c.from_vec.ensures ran) c.end-ended.ensures.ends c.requires.kept.lanes c.size.ensures c.inserts.ensures c.removals.ensures
+    begun.bits_are begun.members_are begun.workers_are (rw c.from_vec.ensures ran) c.end-ended.ensures.ends c.requires.kept.lanes c.size.ensures c.inserts.ensures c.removals.ensures
     (is_wider c.args.ended.bits c.args.round.now.bits (keys_of c.args.ended.members) c.requires.wider c.in_ok-table.ensures.keys)

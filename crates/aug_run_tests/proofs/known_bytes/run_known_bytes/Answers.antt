@@ -6,4 +6,4 @@ pub returns : goal.returns
 returns g c = λ done.
     let limits : c.in_ok-limits.limits ≡ record { bits = 4; workers = 1; updates = 64 } = search rules in
     let ran = rw (c.new-input.ensures.standard, c.new-output.ensures.bytes) at (c.carry_out-status.ensures.done done).1 in
-    known_output c.in_ok-limits.limits _ _ _ limits ran
+    known_output c.in_ok-limits.limits _ _ _ _ _ limits ran

@@ -7,7 +7,9 @@ loop-taken-preserved g c =
     let before = c.loop-taken.invariant in
     record {
       within = length-piece _ _ _ before.within c.in_ok-taken.ensures.bound;
-      bytes = Appends-piece _ _ _ c.args.bytes.now _ _ before.bytes c.in_ok-taken.ensures.bytes;
-      unfinished = search rules;
-      no_fault = search rules;
+      wrote = record {
+        bytes = Appends-piece _ _ _ c.args.bytes.now _ _ before.wrote.bytes c.in_ok-taken.ensures.bytes;
+        finished = search rules;
+        no_fault = search rules;
+      };
     }

@@ -2,7 +2,7 @@ use Rattle.std.proofs.Common.{◌≡◌, ◌+◌, ◌∙◌, refl, ap, vec_len, 
 use Rattle.std.proofs.lemmas.List.{get_or_read}
 use Rattle.aug_trie.specs.Pass.{PassFacts}
 use Rattle.aug_trie.proofs.Pieces.{begins_on}
-use Rattle.aug_run.specs.inside.Workers.{IsReady, opening_of}
+use Rattle.aug_run.specs.inside.Workers.{MayBegin, opening_cut_of}
 use Rattle.aug_run.specs.declared.lanes.work.Job.{Job}
 use Rattle.aug_run.proofs.Passing.{push_one}
 use Rattle.aug_run.proofs.lanes.jobs.jobs.Goals as goal
@@ -16,7 +16,7 @@ loop-lane-preserved c =
     let counted = c.in_ok-counts.ensures.counted n c.loop-lane-test.true in
     let read : c.index.result.now ≡ slice_index c.in_ok-counts.counts.items n = get_or_read c.in_ok-counts.counts.items n _ (omega (arith, c.in_ok-counts.ensures.one_each, c.loop-lane-test.true)) c.index.ensures 0 in
     let job : Job = record { lane = n; half = c.into_half.result; replies = c.in_ok-replies.replies } in
-    let ready : IsReady T R n job = record {
+    let ready : MayBegin T R n job = record {
       lane_is = refl;
       here = ap (λ (p : PassFacts). p.round) half ∙ hands.pass_round ∙ was.2;
       handed_out = record { crew_old = c.loop-lane.crew.knows; crew_new = c.pass.new.self.knows; knew_opening = was.6; out = rw half hands.knows };
@@ -26,10 +26,10 @@ loop-lane-preserved c =
     } in
     let grown : vec_len c.push_reserved.new.self ≡ vec_len c.loop-lane.jobs + 1 = c.push_reserved.ensures.len in (
       omega (arith, grown, was.0),
-      push_one (IsReady T R) n _ _ _ job (omega (arith, was.0)) refl c.push_reserved.ensures.items was.1 ready,
+      push_one (MayBegin T R) n _ _ _ job (omega (arith, was.0)) refl c.push_reserved.ensures.items was.1 ready,
       hands.round ∙ was.2,
       omega (arith, hands.one_more, was.3),
       hands.same_back ∙ was.4,
       hands.knows.same_changes ∙ was.5,
-      begins_on (opening_of T ∷ []) c.loop-lane.crew.knows.history c.pass.new.self.knows.history was.6 hands.knows.goes_on,
+      begins_on (opening_cut_of T ∷ []) c.loop-lane.crew.knows.history c.pass.new.self.knows.history was.6 hands.knows.goes_on,
     )

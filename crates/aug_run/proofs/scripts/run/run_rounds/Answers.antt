@@ -1,4 +1,4 @@
-use Rattle.std.proofs.Common.{◌≡◌, ◌∙◌, ◌+◌, ℕ, List, [], take, get_or, arith, ap, sym, subst, refl, inl, inr, Err}
+use Rattle.std.proofs.Common.{◌≡◌, ◌∙◌, ◌+◌, ℕ, List, [], take, get_or, arith, ap, sym, subst, refl, Err}
 use Rattle.std.proofs.lemmas.List.{take_all, get_or_default}
 use Rattle.aug_script.specs.Limits.{bounds_at}
 use Rattle.aug_script.specs.Script.{KeepsLimits}
@@ -10,14 +10,15 @@ use Rattle.aug_run.proofs.Printing.{Printed, printed_none, prints_first, printed
 use Rattle.aug_run.proofs.scripts.run.run_rounds.Goals as goal
 
 pub returns-in_default-clause-memory : goal.returns-in_default-clause-memory
-returns-in_default-clause-memory g c same = (0, prints_first c.args.limits.now c.args.rounds.now 0 [] _ _ _ _ (printed_none c.args.limits.now c.args.rounds.now _ _))
+returns-in_default-clause-memory g c same =
+    (0, prints_first c.args.limits.now c.args.rounds.now 0 [] _ _ (printed_none c.args.limits.now c.args.rounds.now _))
 
 pub loop-round-init : goal.loop-round-init
 loop-round-init g c = record {
   number = refl;
-  printed = let sink = c.args.sink.now in let known = g.W.Sink.contents sink in let calls = g.W.Sink.finish_count sink in
-      subst (λ (z : List (ℕ × ℕ)). Printed c.args.limits.now c.args.rounds.now 0 z known known calls calls) (sym c.in-Ok.ensures.empty) (printed_none c.args.limits.now c.args.rounds.now known calls);
-  no_fault = refl;
+  printed = let state = g.W.Sink.state c.args.sink.now in
+      subst (λ (z : List (ℕ × ℕ)). Printed c.args.limits.now c.args.rounds.now 0 z state state) (sym c.in-Ok.ensures.empty)
+      (printed_none c.args.limits.now c.args.rounds.now state);
   bits = λ j d from below. omega (arith, c.in-Ok.ensures.bits, (c.requires.kept j d below).wider);
 }
 
@@ -27,20 +28,21 @@ run_round-requires-clause-kept g c _ _ =
     subst (λ (round : ScriptRound). KeepsLimits (bounds_at c.args.limits.now round.bits) round.rows) (sym c.round-item.is) runnable.keeps
 
 pub returns-in_err-next-clause-memory : goal.returns-in_err-next-clause-memory
-returns-in_err-next-clause-memory g c same = (c.loop-round.round-index, prints_first c.args.limits.now c.args.rounds.now c.loop-round.round-index c.loop-round.ended.members _ _ _ _ c.loop-round.invariant.printed)
+returns-in_err-next-clause-memory g c same = let i = c.loop-round.round-index in
+    (i, prints_first c.args.limits.now c.args.rounds.now i c.loop-round.ended.members _ _ c.loop-round.invariant.printed)
 
 pub returns-in-Err-OutOfMemory-clause-memory : goal.returns-in-Err-OutOfMemory-clause-memory
 returns-in-Err-OutOfMemory-clause-memory g c same = let i = c.loop-round.round-index in let kept = c.in-Err-OutOfMemory.ensures.memory (λ j. Err (c.in-Err-OutOfMemory.field-0-is j)) in
-    (i, rw kept (prints_first c.args.limits.now c.args.rounds.now i c.loop-round.ended.members _ _ _ _ c.loop-round.invariant.printed))
+    (i, rw kept (prints_first c.args.limits.now c.args.rounds.now i c.loop-round.ended.members _ _ c.loop-round.invariant.printed))
 
 pub returns-in-Err-Output-clause-part : goal.returns-in-Err-Output-clause-part
 returns-in-Err-Output-clause-part g c same =
     let limits = c.args.limits.now in let rounds = c.args.rounds.now in let i = c.loop-round.round-index in let inv = c.loop-round.invariant in let ran = c.in_ok-next.ensures in
     let round = c.round-item.result in let closing = c.loop-round.ended.members in let report = c.in_ok-next.report in let next = c.in_ok-next.next.members in (
       i + 1,
-      prints_in_part limits rounds i closing _ _ _ _ inv.printed round round report next c.loop-round-test.true c.round-item.is
+      prints_in_part limits rounds i closing _ _ inv.printed round round report next c.loop-round-test.true c.round-item.is
           (subst (λ (z : ℕ). IsReportOf z round.rows report) inv.number ran.report) ran.allowed (subst (λ (z : ℕ). IsInTurn limits.workers z closing round.rows report next) inv.number ran.alone)
-          _ _ (c.in-Err-Output.ensures.beginning (λ j. Err (c.in-Err-Output.field-0-is j))) c.in-Err-Output.ensures.last,
+          _ (c.in-Err-Output.ensures.output (λ j. Err (c.in-Err-Output.field-0-is j))),
     )
 
 pub loop-round-preserved : goal.loop-round-preserved
@@ -49,13 +51,9 @@ loop-round-preserved g c =
     let round = c.round-item.result in let closing = c.loop-round.ended.members in let report = c.in_ok-next.report in let next = c.in_ok-next.next.members in
     record {
       number = omega (arith, inv.number);
-      printed = printed_more limits rounds i closing _ _ _ _ inv.printed round round report next c.loop-round-test.true c.round-item.is
+      printed = printed_more limits rounds i closing _ _ inv.printed round round report next c.loop-round-test.true c.round-item.is
           (subst (λ (z : ℕ). IsReportOf z round.rows report) inv.number ran.report) ran.allowed (subst (λ (z : ℕ). IsInTurn limits.workers z closing round.rows report next) inv.number ran.alone)
-          _ _ c.in-Ok-print.ensures.ok c.in-Ok-print.ensures.finished;
-      no_fault = elim c.in-Ok-print.ensures.counted [
-        | inl same ↦ same ∙ inv.no_fault
-        | inr more ↦ let bad = c.in-Ok-print.ensures.output.1 (omega (arith, more)) in cc
-      ];
+          _ c.in-Ok-print.ensures.ok;
       bits = λ j d from below.
           let here : round.bits ≡ (get_or rounds i d).bits = ap (λ (r : ScriptRound). r.bits) (c.round-item.is ∙ get_or_default rounds i round d c.loop-round-test.true) in
           omega (arith, ran.bits, here, c.requires.never_narrows i j d (omega arith) below);
@@ -64,5 +62,6 @@ loop-round-preserved g c =
 pub returns-clause-ok : goal.returns-clause-ok
 returns-clause-ok g c = let limits = c.args.limits.now in let rounds = c.args.rounds.now in let i = c.loop-round.round-index in
     let all : take i rounds ≡ rounds = take_all i rounds c.loop-round-test.false in
-    let before = g.W.Sink.contents c.args.sink.now in let after = g.W.Sink.contents c.loop-round.sink in let calls = g.W.Sink.finish_count c.args.sink.now in let calls' = g.W.Sink.finish_count c.loop-round.sink in
-    subst (λ (z : List ScriptRound). Prints limits z before after calls calls') all (prints_first limits rounds i c.loop-round.ended.members before after calls calls' c.loop-round.invariant.printed)
+    let old = g.W.Sink.state c.args.sink.now in let new = g.W.Sink.state c.loop-round.sink in
+    subst (λ (z : List ScriptRound). Prints limits z old new) all
+    (prints_first limits rounds i c.loop-round.ended.members old new c.loop-round.invariant.printed)

@@ -7,7 +7,6 @@ use Rattle.aug_run.proofs.scripts.run.run_rounds.Given as goal
 abbrev pub invariant-loop-round : goal.invariant-loop-round
 invariant-loop-round g l = record {
   number : l.number ≡ l.round-index + 1;
-  printed : Printed l.limits l.rounds l.round-index l.ended.members (g.W.Sink.contents l.initial.sink) (g.W.Sink.contents l.sink) (g.W.Sink.finish_count l.initial.sink) (g.W.Sink.finish_count l.sink);
-  no_fault : g.W.Sink.fault_count l.sink ≡ g.W.Sink.fault_count l.initial.sink;
+  printed : Printed l.limits l.rounds l.round-index l.ended.members (g.W.Sink.state l.initial.sink) (g.W.Sink.state l.sink);
   bits : (j : ℕ) (d : ScriptRound) → l.round-index ≤ j → j < length l.rounds → l.ended.bits ≤ (get_or l.rounds j d).bits;
 }

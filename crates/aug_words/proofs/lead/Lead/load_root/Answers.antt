@@ -1,6 +1,6 @@
 use Rattle.std.proofs.Common.{ap, subst, sym, ◌∙◌, ◌≡◌, ℕ}
 use Rattle.aug_core.specs.Faces.{face}
-use Rattle.aug_core.specs.Tree.{IsInner, root_place}
+use Rattle.aug_core.specs.Addresses.{IsInner, root_place}
 use Rattle.aug_core.specs.Told.{LoadsNode}
 use Rattle.aug_core.proofs.Loads.{loads_node}
 use Rattle.aug_core.specs.declared.view.View.{View}

@@ -1,6 +1,6 @@
 use Rattle.std.proofs.Common.{arith, subst, sym}
 use Rattle.aug_core.specs.Faces.{face}
-use Rattle.aug_core.specs.Tree.{IsInner}
+use Rattle.aug_core.specs.Addresses.{IsInner}
 use Rattle.aug_core.specs.Told.{MayStore, IsFilled}
 use Rattle.aug_core.proofs.Nodes.{tries_node}
 use Rattle.aug_words.specs.Seats.{Known}

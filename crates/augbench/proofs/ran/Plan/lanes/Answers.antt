@@ -1,5 +1,5 @@
 use Rattle.std.proofs.Common.{◌∙◌, ap, ◌++◌, ◌∷◌, []}
-use Rattle.augbench.specs.Lanes.{lanes_of}
+use Rattle.augbench.specs.Threads.{lanes_of}
 use Rattle.augbench.proofs.Queues.{one_more_lane}
 use Rattle.augbench.proofs.ran.Plan.lanes.Goals as goal
 

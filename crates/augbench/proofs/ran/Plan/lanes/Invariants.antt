@@ -1,5 +1,5 @@
 use Rattle.std.proofs.Common.{◌≡◌}
-use Rattle.augbench.specs.Lanes.{lanes_of}
+use Rattle.augbench.specs.Threads.{lanes_of}
 use Rattle.augbench.proofs.ran.Plan.lanes.Given as goal
 
 abbrev pub invariant-loop-number : goal.invariant-loop-number

@@ -1,0 +1,65 @@
+//! The library as it is: see `augtrie.h`, which says what its callers owe.
+use core::ffi::c_void;
+
+/// A handle. All zeros before it is opened.
+#[derive(Debug)]
+#[repr(C)]
+pub struct Handle {
+    tag: u64,
+    at: *mut c_void,
+}
+
+impl Handle {
+    pub const CLOSED: Handle = Handle { tag: 0, at: core::ptr::null_mut() };
+}
+
+/// What the members of an interval come to. Of no members, the least and the greatest are 0.
+#[repr(C)]
+#[derive(Debug, Default, Clone, Copy, PartialEq, Eq)]
+pub struct Span {
+    /// The sum of their weights, modulo 2^64.
+    pub sum: u64,
+    /// How many they are.
+    pub count: u32,
+    /// The least key.
+    pub least: u32,
+    /// The greatest key.
+    pub greatest: u32,
+}
+
+/// What a round came to. A weight that was replaced counts as an insertion and a removal.
+#[repr(C)]
+#[derive(Debug, Default, Clone, Copy, PartialEq, Eq)]
+pub struct Report {
+    /// How many members the set has.
+    pub size: u32,
+    /// How many keys were put in, by the lanes that came back.
+    pub inserts: u32,
+    /// How many keys these took out.
+    pub removals: u32,
+    /// How many lanes were dropped.
+    pub missing: u32,
+}
+
+unsafe extern "C" {
+    pub fn aug_open(trie: &mut Handle, bits: u32, number: u32) -> i64;
+    pub fn aug_begin(trie: &mut Handle, bits: u32, lanes: u32, updates: u32) -> i64;
+    pub fn aug_open_lane(trie: &mut Handle, lane: &mut Handle) -> i64;
+    pub fn aug_give_back(trie: &mut Handle, lane: &mut Handle) -> i64;
+    pub fn aug_end(trie: &mut Handle, report: &mut Report) -> i64;
+    pub fn aug_close(trie: &mut Handle) -> i64;
+    pub fn aug_insert(lane: &mut Handle, key: u32) -> i64;
+    pub fn aug_remove(lane: &mut Handle, key: u32) -> i64;
+    pub fn aug_put(lane: &mut Handle, key: u32, weight: u32) -> i64;
+    pub fn aug_budget(lane: &mut Handle) -> i64;
+    pub fn aug_look(lane: &mut Handle) -> i64;
+    pub fn aug_has(lane: &mut Handle, key: u32) -> i64;
+    pub fn aug_weight(lane: &mut Handle, key: u32) -> i64;
+    pub fn aug_size(lane: &mut Handle) -> i64;
+    pub fn aug_rank(lane: &mut Handle, key: u32) -> i64;
+    pub fn aug_select(lane: &mut Handle, index: u32) -> i64;
+    pub fn aug_before(lane: &mut Handle, key: u32) -> i64;
+    pub fn aug_after(lane: &mut Handle, key: u32) -> i64;
+    pub fn aug_range(lane: &mut Handle, from: u32, to: u32, span: &mut Span) -> i64;
+    pub fn aug_drop_lane(lane: &mut Handle) -> i64;
+}

@@ -1,0 +1,91 @@
+use crate::ffi::{self, Handle, Span};
+use crate::lane::Lane;
+use std::cell::RefCell;
+use std::ops::Range;
+
+/// The set as a lane saw it at one moment. It borrows its lane, so no update of that lane runs meanwhile. All answers of one
+/// snapshot agree with one another.
+#[derive(Debug)]
+pub struct Snapshot<'lane> {
+    // The library's calls want the lane to themselves, and queries take `&self`.
+    lane: RefCell<&'lane mut Lane>,
+}
+
+impl<'lane> Snapshot<'lane> {
+    pub(crate) fn of(lane: &'lane mut Lane) -> Snapshot<'lane> {
+        Snapshot { lane: RefCell::new(lane) }
+    }
+
+    fn ask(&self, query: impl FnOnce(&mut Handle) -> i64) -> Option<u32> {
+        u32::try_from(query(&mut self.lane.borrow_mut().0)).ok()
+    }
+
+    /// Whether the key is a member.
+    pub fn has(&self, key: u32) -> bool {
+        self.ask(|lane| unsafe { ffi::aug_has(lane, key) }) == Some(1)
+    }
+
+    /// The weight of the key, if it is a member.
+    pub fn weight(&self, key: u32) -> Option<u32> {
+        self.ask(|lane| unsafe { ffi::aug_weight(lane, key) })
+    }
+
+    /// How many members there are.
+    pub fn len(&self) -> u32 {
+        self.ask(|lane| unsafe { ffi::aug_size(lane) }).unwrap_or(0)
+    }
+
+    /// Whether there is no member.
+    pub fn is_empty(&self) -> bool {
+        self.len() == 0
+    }
+
+    /// How many members are below the key.
+    pub fn rank(&self, key: u32) -> u32 {
+        self.ask(|lane| unsafe { ffi::aug_rank(lane, key) }).unwrap_or(0)
+    }
+
+    /// The member with exactly `index` members below it.
+    pub fn select(&self, index: u32) -> Option<u32> {
+        self.ask(|lane| unsafe { ffi::aug_select(lane, index) })
+    }
+
+    /// The greatest member below the key.
+    pub fn before(&self, key: u32) -> Option<u32> {
+        self.ask(|lane| unsafe { ffi::aug_before(lane, key) })
+    }
+
+    /// The least member above the key.
+    pub fn after(&self, key: u32) -> Option<u32> {
+        self.ask(|lane| unsafe { ffi::aug_after(lane, key) })
+    }
+
+    /// What the members in an interval come to.
+    pub fn range(&self, keys: Range<u32>) -> Span {
+        let mut span = Span::default();
+        self.ask(|lane| unsafe { ffi::aug_range(lane, keys.start, keys.end, &mut span) });
+        span
+    }
+
+    /// The members, rising.
+    pub fn keys(&self) -> Keys<'_, 'lane> {
+        Keys { snapshot: self, next: if self.has(0) { Some(0) } else { self.after(0) } }
+    }
+}
+
+/// The members of a snapshot, rising.
+#[derive(Debug)]
+pub struct Keys<'a, 'lane> {
+    snapshot: &'a Snapshot<'lane>,
+    next: Option<u32>,
+}
+
+impl Iterator for Keys<'_, '_> {
+    type Item = u32;
+
+    fn next(&mut self) -> Option<u32> {
+        let key = self.next?;
+        self.next = self.snapshot.after(key);
+        Some(key)
+    }
+}

@@ -1,0 +1,118 @@
+-- What the calls on a lane do to it, and what they answer.
+use Rattle.std.specs.Prelude.{◌≡◌, ℕ, ◌+◌, ◌^◌, ◌<◌, ◌≤◌, ◌↔◌, ℤ, pos, Bool, true, false, Option, Some, None, Result, Ok, Err, IfOk, IfErr, IsErrOf, List}
+use Rattle.std.specs.Bool.{OnTrue, OnFalse}
+use Rattle.aug_monoid.specs.Sum.{sum_parts}
+use Rattle.aug_monoid.specs.Extent.{extent_parts}
+use Rattle.aug_monoid.specs.declared.sum.Sum.{Sum}
+use Rattle.aug_monoid.specs.declared.extent.Extent.{Extent}
+use Rattle.aug_model.specs.Folds.{summary_of}
+use Rattle.aug_model.specs.Keys.{SetFacts}
+use Rattle.aug_model.specs.declared.summary.Summary.{Summary}
+use Rattle.aug_model.specs.declared.outcome.Outcome.{Outcome}
+use Rattle.aug_model.specs.declared.outcome.Outcome.TheVariants.{Accepted, Replaced, Refused}
+use Rattle.aug_trie.specs.Updates.{AcceptedUpdate, RefusedUpdate, PutsIn, TakesSnapshot}
+use Rattle.aug_trie.specs.Pass.{GoesOn}
+use Rattle.aug_trie.specs.Node.{Keeps, Stays}
+use Rattle.aug_trie.specs.Snapshot.{set_at, snapshot_cut}
+use Rattle.aug_lane.specs.declared.error.LaneError.{LaneError}
+use Rattle.aug_lane.specs.declared.error.LaneError.TheVariants.{BadKey, Spent}
+use Rattle.aug_lane.specs.declared.lane.Lane.{Lane}
+use Rattle.aug_c.specs.declared.span.Span.{Span}
+use Rattle.aug_c.specs.Codes.{none, bad_key, spent}
+
+-- the number of the keys, the sum of their weights, and the least and the greatest of them
+abbrev pub span_of : List (ℕ × ℕ) → Summary Sum Extent
+span_of pairs = summary_of sum_parts extent_parts pairs
+
+-- the set that a lane's queries are answered from
+abbrev pub shown : Lane Sum Extent → SetFacts
+shown lane = set_at lane.half lane.held
+
+-- what an update answers: 1 if it changed the key, 0 if the set had it so
+abbrev pub update_code : Result Bool LaneError → ℤ
+update_code (Ok true) = pos 1
+update_code (Ok false) = pos 0
+update_code (Err BadKey) = bad_key
+update_code (Err Spent) = spent
+
+-- what a put answers: 1 if it put the key in, 2 if it gave a member the weight, 0 if another change came in between
+abbrev pub put_code : Result Outcome LaneError → ℤ
+put_code (Ok Accepted) = pos 1
+put_code (Ok Replaced) = pos 2
+put_code (Ok Refused) = pos 0
+put_code (Err BadKey) = bad_key
+put_code (Err Spent) = spent
+
+-- a number if there is one
+abbrev pub found : Option ℕ → ℤ
+found (Some n) = pos n
+found None = none
+
+-- 1 or 0
+abbrev pub truth : Bool → ℤ
+truth true = pos 1
+truth false = pos 0
+
+-- why an update is refused, and that it then changes nothing; else it is one update more, and keeps all snapshots. The lane looks at the same
+-- snapshot as before
+pub record MakesUpdate {T : Type 0} (key : ℕ) (old new : Lane Sum Extent) (answer : Result T LaneError) : Type 0 where
+  pub bad_key : IsErrOf answer BadKey ↔ (2 ^ old.half.round.bits ≤ key)
+  pub spent : IsErrOf answer Spent ↔ ((key < 2 ^ old.half.round.bits) × (old.half.spent ≡ old.half.round.updates))
+  pub same : IfErr answer (λ _. new ≡ old)
+  pub goes_on : IfOk answer (λ _. (steps : ℕ) × GoesOn 1 steps old.half new.half)
+  pub keeps : IfOk answer (λ _. Keeps span_of old.half new.half)
+  pub held : new.held ≡ old.held
+  pub round : new.round ≡ old.round
+
+-- an insertion or a removal
+pub record Updates (parity key weight : ℕ) (old new : Lane Sum Extent) (code : ℤ) : Type 0 where
+  pub answer : Result Bool LaneError
+  pub says : code ≡ update_code answer
+  pub makes : MakesUpdate key old new answer
+  pub accepted : IfOk answer (λ done. OnTrue done (AcceptedUpdate parity key weight old.half.knows new.half.knows))
+  pub refused : IfOk answer (λ done. OnFalse done (RefusedUpdate parity key old.half.knows new.half.knows))
+
+-- a put of a weight
+pub record Puts (key weight : ℕ) (old new : Lane Sum Extent) (code : ℤ) : Type 0 where
+  pub answer : Result Outcome LaneError
+  pub says : code ≡ put_code answer
+  pub makes : MakesUpdate key old new answer
+  pub puts : IfOk answer (λ done. PutsIn key weight done old.half.knows new.half.knows)
+
+-- a new snapshot
+pub record Looks (old new : Lane Sum Extent) (code : ℤ) : Type 0 where
+  pub says : code ≡ pos 0
+  pub takes : TakesSnapshot old.half.knows new.half.knows (snapshot_cut new.half new.held.number)
+  pub goes_on : GoesOn 0 1 old.half new.half
+  pub keeps : Keeps span_of old.half new.half
+  pub round : new.round ≡ old.round
+
+-- a query answers by the snapshot alone, and changes nothing that a later one could see
+pub record Asks (told : SetFacts → ℤ) (old new : Lane Sum Extent) (code : ℤ) : Type 0 where
+  pub says : code ≡ told (shown old)
+  pub stays : Stays span_of old.half new.half
+  pub held : new.held ≡ old.held
+  pub round : new.round ≡ old.round
+
+-- how many updates are left
+pub record HasLeft (old new : Lane Sum Extent) (code : ℤ) : Type 0 where
+  pub left : ℕ
+  pub says : code ≡ pos left
+  pub adds_up : left + old.half.spent ≡ old.half.round.updates
+  pub same : new ≡ old
+
+-- the bounds of some keys: 0 where there are none
+abbrev pub least_of : Option (ℕ × ℕ) → ℕ
+least_of (Some bounds) = bounds.0
+least_of None = 0
+
+abbrev pub greatest_of : Option (ℕ × ℕ) → ℕ
+greatest_of (Some bounds) = bounds.1
+greatest_of None = 0
+
+-- a range is told by a span
+pub record IsSpan (told : Summary Sum Extent) (span : Span) : Type 0 where
+  pub count : span.count ≡ told.count
+  pub sum : span.sum ≡ told.a
+  pub least : span.least ≡ least_of told.b
+  pub greatest : span.greatest ≡ greatest_of told.b

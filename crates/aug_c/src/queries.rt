@@ -1,0 +1,185 @@
+//! The queries of a lane, answered from its last snapshot.
+ghost use Rattle.std.specs.Prelude.{◌≡◌, pos, length, Some, None, IsSome, IsNone};
+ghost use Rattle.aug_model.specs.Keys.{is_member, list_of};
+ghost use Rattle.aug_model.specs.Queries.{rank_of, select_of, before_of, after_of, weight_of, weighted_range_of};
+ghost use Rattle.aug_monoid.specs.declared.sum.Sum.{Sum};
+ghost use Rattle.aug_monoid.specs.declared.extent.Extent.{Extent};
+ghost use Rattle.aug_lane.specs.declared.lane.Lane.{Lane};
+ghost use Rattle.aug_c.specs.Codes.{closed};
+ghost use Rattle.aug_c.specs.Handles.{lane_of, On};
+ghost use Rattle.aug_c.specs.LaneCalls.{found as number_of, truth, span_of, shown, Asks, IsSpan};
+
+use crate::codes::{CLOSED, NONE};
+use crate::lane_handle::LaneHandle;
+use crate::span::Span;
+use aug_model::Summary;
+use aug_monoid::{Extent, Sum};
+use std::alloc::Global;
+
+#[inline(always)]
+fn found(answer: Option<u32>) -> i64
+    ensures { result ≡ number_of answer }
+{
+    match answer {
+        Some(number) => i64::from(number),
+        None => NONE,
+    }
+}
+
+#[inline(always)]
+fn bit(answer: bool) -> i64
+    ensures { result ≡ truth answer }
+{
+    if answer { 1 } else { 0 }
+}
+
+fn span(told: Summary<Sum, Extent>) -> Span
+    ensures { IsSpan told result }
+{
+    let (least, greatest) = match told.b.bounds() {
+        Some(bounds) => bounds,
+        None => (0, 0),
+    };
+    Span {
+        sum: told.a.value(),
+        count: told.count,
+        least,
+        greatest,
+    }
+}
+
+/// Whether the snapshot has the key, 1 or 0.
+#[unsafe(no_mangle)]
+pub extern "C" fn aug_has(alloc: Global, lane: &mut LaneHandle, key: u32) -> i64
+    ensures asks { On (Asks (λ set. truth (is_member (list_of set) key))) (lane_of lane.old) (lane_of lane.new) result }
+    ensures foreign { IsNone lane.old.held.value → lane.new ≡ lane.old }
+{
+    let Some((slot, old)) = lane.lend(alloc) else {
+        return CLOSED;
+    };
+    let (new, answer) = old.has(key);
+    lane.give(slot, new);
+    bit(answer)
+}
+
+/// The weight of a member of the snapshot.
+#[unsafe(no_mangle)]
+pub extern "C" fn aug_weight(alloc: Global, lane: &mut LaneHandle, key: u32) -> i64
+    ensures asks { On (Asks (λ set. number_of (weight_of set.pairs key))) (lane_of lane.old) (lane_of lane.new) result }
+    ensures foreign { IsNone lane.old.held.value → lane.new ≡ lane.old }
+{
+    let Some((slot, old)) = lane.lend(alloc) else {
+        return CLOSED;
+    };
+    let (new, answer) = old.weight(key);
+    lane.give(slot, new);
+    found(answer)
+}
+
+/// How many members the snapshot has.
+#[unsafe(no_mangle)]
+pub extern "C" fn aug_size(alloc: Global, lane: &mut LaneHandle) -> i64
+    ensures asks { On (Asks (λ set. pos (length (list_of set)))) (lane_of lane.old) (lane_of lane.new) result }
+    ensures foreign { IsNone lane.old.held.value → lane.new ≡ lane.old }
+{
+    let Some((slot, old)) = lane.lend(alloc) else {
+        return CLOSED;
+    };
+    let (new, answer) = old.size();
+    lane.give(slot, new);
+    i64::from(answer)
+}
+
+/// How many members of the snapshot are below the key.
+#[unsafe(no_mangle)]
+pub extern "C" fn aug_rank(alloc: Global, lane: &mut LaneHandle, key: u32) -> i64
+    ensures asks { On (Asks (λ set. pos (rank_of (list_of set) key))) (lane_of lane.old) (lane_of lane.new) result }
+    ensures foreign { IsNone lane.old.held.value → lane.new ≡ lane.old }
+{
+    let Some((slot, old)) = lane.lend(alloc) else {
+        return CLOSED;
+    };
+    let (new, answer) = old.rank(key);
+    lane.give(slot, new);
+    i64::from(answer)
+}
+
+/// The member of the snapshot with exactly `index` members below it.
+#[unsafe(no_mangle)]
+pub extern "C" fn aug_select(alloc: Global, lane: &mut LaneHandle, index: u32) -> i64
+    ensures asks { On (Asks (λ set. number_of (select_of (list_of set) index))) (lane_of lane.old) (lane_of lane.new) result }
+    ensures foreign { IsNone lane.old.held.value → lane.new ≡ lane.old }
+{
+    let Some((slot, old)) = lane.lend(alloc) else {
+        return CLOSED;
+    };
+    let (new, answer) = old.select(index);
+    lane.give(slot, new);
+    found(answer)
+}
+
+/// The greatest member of the snapshot below the key.
+#[unsafe(no_mangle)]
+pub extern "C" fn aug_before(alloc: Global, lane: &mut LaneHandle, key: u32) -> i64
+    ensures asks { On (Asks (λ set. number_of (before_of (list_of set) key))) (lane_of lane.old) (lane_of lane.new) result }
+    ensures foreign { IsNone lane.old.held.value → lane.new ≡ lane.old }
+{
+    let Some((slot, old)) = lane.lend(alloc) else {
+        return CLOSED;
+    };
+    let (new, answer) = old.before(key);
+    lane.give(slot, new);
+    found(answer)
+}
+
+/// The least member of the snapshot above the key.
+#[unsafe(no_mangle)]
+pub extern "C" fn aug_after(alloc: Global, lane: &mut LaneHandle, key: u32) -> i64
+    ensures asks { On (Asks (λ set. number_of (after_of (list_of set) key))) (lane_of lane.old) (lane_of lane.new) result }
+    ensures foreign { IsNone lane.old.held.value → lane.new ≡ lane.old }
+{
+    let Some((slot, old)) = lane.lend(alloc) else {
+        return CLOSED;
+    };
+    let (new, answer) = old.after(key);
+    lane.give(slot, new);
+    found(answer)
+}
+
+/// What the members of the snapshot from `from` on that are below `to` come to. Answers how many they are.
+#[unsafe(no_mangle)]
+pub extern "C" fn aug_range(
+    alloc: Global,
+    lane: &mut LaneHandle,
+    from: u32,
+    to: u32,
+    out: &mut Span,
+) -> i64
+    ensures asks { On (Asks (λ set. pos (length (weighted_range_of set.pairs from to)))) (lane_of lane.old) (lane_of lane.new) result }
+    ensures closed { IsNone (lane_of lane.old) → out.new ≡ out.old }
+    ensures foreign { IsNone lane.old.held.value → lane.new ≡ lane.old }
+    ensures span { (old : Lane Sum Extent) → lane_of lane.old ≡ Some old → IsSpan (span_of (weighted_range_of (shown old).pairs from to)) out.new }
+{
+    let Some((slot, old)) = lane.lend(alloc) else {
+        return CLOSED;
+    };
+    let (new, answer) = old.range(from, to);
+    lane.give(slot, new);
+    let count = answer.count;
+    *out = span(answer);
+    i64::from(count)
+}
+
+/// Drops a lane. What it changed stays changed.
+#[unsafe(no_mangle)]
+pub extern "C" fn aug_drop_lane(alloc: Global, lane: &mut LaneHandle) -> i64
+    ensures open { IsSome lane.old.held.value → result ≡ pos 0 }
+    ensures closed { IsNone lane.old.held.value → result ≡ closed }
+    ensures gone { lane.new.held.value ≡ None }
+    ensures foreign { IsNone lane.old.held.value → lane.new ≡ lane.old }
+{
+    match lane.take(alloc) {
+        Some(_) => 0,
+        None => CLOSED,
+    }
+}

@@ -1,0 +1,107 @@
+//! The handle of a trie as C holds it.
+ghost use Rattle.std.specs.Prelude.{◌≡◌, ◌≢◌, ◌↔◌, Some, None, IsSome, IfSome, IfNone, true};
+ghost use Rattle.aug_c.specs.TrieHolding.{Content, content_coded};
+
+use crate::loose::Loose;
+use crate::stage::Stage;
+use std::alloc::Global;
+use std::marker::Model;
+
+// What an open handle begins with, so that another piece of memory is hardly taken for one.
+const OPEN: u64 = 0x6569_7274_5f67_7561;
+
+/// What a trie's handle owns: the trie, and the stamp of its newest round.
+#[derive(Drop)]
+pub struct TrieSlot {
+    pub(crate) stage: Option<Stage>,
+    pub(crate) stamp: u64,
+}
+
+/// A box as C holds it.
+#[repr(C)]
+#[derive(Drop)]
+pub struct TrieHeld {
+    at: *mut u8,
+    pub(crate) ghost value: { Content } by { content_coded },
+}
+
+impl Model for TrieHeld {
+    ghost use Rattle.aug_c.specs.TrieHolding.{held_owns};
+
+    ghost also_owns = { λ h. held_owns h.value h.at };
+}
+
+/// A handle. C has it zeroed before it is opened, and gives it to one call at a time.
+#[repr(C)]
+#[derive(Drop)]
+pub struct TrieHandle {
+    pub(crate) tag: u64,
+    pub(crate) held: TrieHeld,
+    pub(crate) ghost agrees: { (tag ≡ 7307497714527728993) ↔ IsSome held.value },
+}
+
+impl TrieHeld {
+    fn empty() -> TrieHeld
+        ensures { result.value ≡ None }
+    {
+        TrieHeld {
+            at: std::ptr::null_mut(),
+        }
+    }
+
+    fn of(b: Loose<TrieSlot, Global>) -> TrieHeld
+        ensures { result.value ≡ Some b.value }
+    {
+        let Loose { at, alloc: _ } = b;
+        TrieHeld { at: at as *mut u8 }
+    }
+
+    fn into_loose(self, alloc: Global) -> Loose<TrieSlot, Global>
+        requires { IsSome self.value }
+        ensures { self.value ≡ Some result.value }
+    {
+        let TrieHeld { at } = self;
+        let at = at as *mut TrieSlot;
+        Loose { at, alloc }
+    }
+}
+
+impl TrieHandle {
+    /// Whether it is open.
+    pub(crate) fn is_open(&self) -> bool
+        ensures { (result ≡ true) ↔ IsSome self.now.held.value }
+    {
+        self.tag == OPEN
+    }
+
+    /// Takes out what it owns, and leaves it closed. Memory that is no open handle stays as it is.
+    #[inline(always)]
+    pub(crate) fn take(&mut self, alloc: Global) -> Option<Box<TrieSlot, Global>>
+        ensures some { IfSome result (λ slot. self.old.held.value ≡ Some slot.value) }
+        ensures none { IfNone result (self.old.held.value ≡ None) }
+        ensures closed { self.new.held.value ≡ None }
+        ensures foreign { IfNone result (self.new ≡ self.old) }
+    {
+        if self.tag != OPEN {
+            return None;
+        }
+        let TrieHandle { tag: _, held } = std::mem::replace(
+            self,
+            TrieHandle {
+                tag: 0,
+                held: TrieHeld::empty(),
+            },
+        );
+        Some(held.into_loose(alloc).into_box())
+    }
+
+    /// Puts a box in, which it owns from then on.
+    pub(crate) fn put(&mut self, slot: Box<TrieSlot, Global>)
+        ensures { self.new.held.value ≡ Some slot.value }
+    {
+        *self = TrieHandle {
+            tag: OPEN,
+            held: TrieHeld::of(Loose::of(slot)),
+        };
+    }
+}

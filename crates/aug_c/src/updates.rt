@@ -1,0 +1,107 @@
+//! The updates of a lane.
+ghost use Rattle.std.specs.Prelude.{◌≡◌, IsNone};
+ghost use Rattle.aug_trie.specs.Knowledge.{insertion, removal};
+ghost use Rattle.aug_c.specs.Handles.{lane_of, On};
+ghost use Rattle.aug_c.specs.LaneCalls.{update_code, put_code, Updates, Puts, Looks, HasLeft};
+
+use crate::codes::{BAD_KEY, CLOSED, SPENT};
+use crate::lane_handle::LaneHandle;
+use aug_lane::LaneError;
+use aug_model::Outcome;
+use std::alloc::Global;
+
+#[inline(always)]
+fn code_of(answer: Result<bool, LaneError>) -> i64
+    ensures { result ≡ update_code answer }
+{
+    match answer {
+        Ok(true) => 1,
+        Ok(false) => 0,
+        Err(LaneError::BadKey) => BAD_KEY,
+        Err(LaneError::Spent) => SPENT,
+    }
+}
+
+#[inline(always)]
+fn code_of_put(answer: Result<Outcome, LaneError>) -> i64
+    ensures { result ≡ put_code answer }
+{
+    match answer {
+        Ok(Outcome::Accepted) => 1,
+        Ok(Outcome::Replaced) => 2,
+        Ok(Outcome::Refused) => 0,
+        Err(LaneError::BadKey) => BAD_KEY,
+        Err(LaneError::Spent) => SPENT,
+    }
+}
+
+/// Puts a key in, with the key itself as its weight: 1 if it was not there, 0 if it was.
+#[unsafe(no_mangle)]
+pub extern "C" fn aug_insert(alloc: Global, lane: &mut LaneHandle, key: u32) -> i64
+    ensures updates { On (Updates insertion key key) (lane_of lane.old) (lane_of lane.new) result }
+    ensures foreign { IsNone lane.old.held.value → lane.new ≡ lane.old }
+{
+    let Some((slot, old)) = lane.lend(alloc) else {
+        return CLOSED;
+    };
+    let (new, answer) = old.insert(key);
+    lane.give(slot, new);
+    code_of(answer)
+}
+
+/// Takes a key out: 1 if it was there, 0 if it was not.
+#[unsafe(no_mangle)]
+pub extern "C" fn aug_remove(alloc: Global, lane: &mut LaneHandle, key: u32) -> i64
+    ensures updates { On (Updates removal key 0) (lane_of lane.old) (lane_of lane.new) result }
+    ensures foreign { IsNone lane.old.held.value → lane.new ≡ lane.old }
+{
+    let Some((slot, old)) = lane.lend(alloc) else {
+        return CLOSED;
+    };
+    let (new, answer) = old.remove(key);
+    lane.give(slot, new);
+    code_of(answer)
+}
+
+/// Puts a key in with a weight, or gives a member this weight: 1 if it was not there, 2 if it was, 0 if another change of the
+/// key came in between and nothing was stored.
+#[unsafe(no_mangle)]
+pub extern "C" fn aug_put(alloc: Global, lane: &mut LaneHandle, key: u32, weight: u32) -> i64
+    ensures puts { On (Puts key weight) (lane_of lane.old) (lane_of lane.new) result }
+    ensures foreign { IsNone lane.old.held.value → lane.new ≡ lane.old }
+{
+    let Some((slot, old)) = lane.lend(alloc) else {
+        return CLOSED;
+    };
+    let (new, answer) = old.put(key, weight);
+    lane.give(slot, new);
+    code_of_put(answer)
+}
+
+/// Takes a new snapshot, which the queries are answered from.
+#[unsafe(no_mangle)]
+pub extern "C" fn aug_look(alloc: Global, lane: &mut LaneHandle) -> i64
+    ensures looks { On Looks (lane_of lane.old) (lane_of lane.new) result }
+    ensures foreign { IsNone lane.old.held.value → lane.new ≡ lane.old }
+{
+    let Some((slot, old)) = lane.lend(alloc) else {
+        return CLOSED;
+    };
+    let new = old.look();
+    lane.give(slot, new);
+    0
+}
+
+/// How many updates the lane has left.
+#[unsafe(no_mangle)]
+pub extern "C" fn aug_budget(alloc: Global, lane: &mut LaneHandle) -> i64
+    ensures left { On HasLeft (lane_of lane.old) (lane_of lane.new) result }
+    ensures foreign { IsNone lane.old.held.value → lane.new ≡ lane.old }
+{
+    let Some((slot, old)) = lane.lend(alloc) else {
+        return CLOSED;
+    };
+    let left = old.budget();
+    lane.give(slot, old);
+    i64::from(left)
+}

@@ -1,0 +1,42 @@
+-- The tree over the leaves and the inner nodes, by their words. The children of the node at a word q lie side by side.
+use Rattle.std.specs.Prelude.{◌≡◌, ℕ, zero, suc, ◌+◌, ◌-◌, ◌*◌, ◌^◌, ◌<◌, ◌≤◌, nat_lt, if◌then◌else◌}
+use Rattle.aug_core.specs.Places.{Shape, level_start, node_place}
+
+-- how many words the leaves and the inner nodes have
+abbrev pub place_count : Shape → ℕ
+place_count s = 2 ^ (s.bits + 1) - 1
+
+-- the word is an inner node's
+pub record IsInner (s : Shape) (q : ℕ) : Type 0 where
+  pub past_leaves : 2 ^ s.bits ≤ q
+  pub inside : q < place_count s
+
+-- the word of the left child of an inner node
+abbrev pub left_of : Shape → ℕ → ℕ
+left_of s q = 2 * (q - 2 ^ s.bits)
+
+-- the word of the right child of an inner node
+abbrev pub right_of : Shape → ℕ → ℕ
+right_of s q = 2 * (q - 2 ^ s.bits) + 1
+
+-- the word of the root
+abbrev pub root_place : Shape → ℕ
+root_place s = 2 ^ (s.bits + 1) - 2
+
+-- the word is that of the leaf or the inner node at the place on the level
+pub record IsWord (s : Shape) (level place q : ℕ) : Type 0 where
+  pub level_fits : level ≤ s.bits
+  pub place_fits : place < 2 ^ (s.bits - level)
+  pub is : q ≡ node_place s level place
+
+-- the last level up to this one that begins no later than the word
+abbrev pub level_up_to : Shape → ℕ → ℕ → ℕ
+level_up_to s zero q = 0
+level_up_to s (suc level) q = if nat_lt q (level_start s (suc level)) then level_up_to s level q else suc level
+
+-- the level of a leaf or an inner node, and its place on it
+abbrev pub level_of : Shape → ℕ → ℕ
+level_of s q = level_up_to s s.bits q
+
+abbrev pub place_on : Shape → ℕ → ℕ
+place_on s q = q - level_start s (level_of s q)

@@ -1,0 +1,13 @@
+//! Lanes and rounds of the shared trie as values that borrow nothing: they can be kept in a struct, handed to a thread, or
+//! called from C.
+#![tactic(auto)]
+
+mod batches;
+mod error;
+mod lane;
+mod queries;
+mod running;
+
+pub use error::{LaneError, OpenError};
+pub use lane::{Lane, Table};
+pub use running::Running;

@@ -1,0 +1,225 @@
+//! A round with its crew.
+ghost use Rattle.std.specs.Prelude.{◌≡◌, ◌≢◌, ◌⊎◌, ◌↔◌, ◌+◌, ◌^◌, ◌<◌, ◌≤◌, length, IfOk, IfErr, IsOk, IsErr, IsErrOf};
+ghost use Rattle.std.specs.Arc.{arc_value};
+ghost use Rattle.aug_core.specs.Layout.{IsWithin, IsOutside, IsRefused};
+ghost use Rattle.aug_core.specs.Places.{shape_of};
+ghost use Rattle.aug_trie.specs.Crew.{BeginsRound, TakesBack, Ends};
+ghost use Rattle.aug_lane.specs.Rounds.{OpensLane};
+
+use crate::error::OpenError;
+use crate::lane::{Lane, Table};
+use aug_core::LayoutError;
+use aug_monoid::Monoid;
+use aug_trie::{BeginError, Crew, Ended, Round};
+use std::alloc::Global;
+use std::sync::Arc;
+
+/// A round with its crew, as one value that borrows nothing. It opens its lanes, takes them back, and ends.
+#[derive(Drop)]
+pub struct Running<A: Monoid, B: Monoid> {
+    pub(crate) round: Table<A, B>,
+    pub(crate) crew: Crew<A, B>,
+    // How many lanes there are, and how many keys there may be.
+    pub(crate) workers: u32,
+    pub(crate) keys: u32,
+    pub(crate) ghost together: { crew.round ≡ arc_value round },
+    pub(crate) ghost workers_are: { workers ≡ crew.round.workers },
+    pub(crate) ghost keys_are: { keys ≡ 2 ^ crew.round.bits },
+}
+
+impl<A: Monoid, B: Monoid> Running<A, B> {
+    /// Begins a round with the trie's own bits, as `begin_wider` does. These are never refused, and stay also if memory is refused.
+    pub fn begin(
+        alloc: Global,
+        rest: Ended<A, B>,
+        workers: u32,
+        updates: u32,
+    ) -> Result<Running<A, B>, (Ended<A, B>, BeginError)>
+        ensures begun { IfOk result (λ r. BeginsRound rest.members rest.bits workers updates (arc_value r.round) r.crew) }
+        ensures set { IfErr result (λ e. (e.0.members ≡ rest.members) × (e.0.bits ≡ rest.bits)) }
+        ensures same { IfErr result (λ e. e.1 ≢ BeginError.OutOfMemory → e.0 ≡ rest) }
+        ensures bad_workers { IsErrOf result (rest, BeginError.BadWorkers)
+            ↔ IsRefused LayoutError.BadWorkers (shape_of rest.bits workers updates (length rest.members)) }
+        ensures bad_updates { IsErrOf result (rest, BeginError.BadUpdates)
+            ↔ IsRefused LayoutError.BadUpdates (shape_of rest.bits workers updates (length rest.members)) }
+        ensures too_large { IsErrOf result (rest, BeginError.TooLarge)
+            ↔ IsRefused LayoutError.TooLarge (shape_of rest.bits workers updates (length rest.members)) }
+        ensures good_bits { IfErr result (λ e. e.1 ≢ BeginError.BadBits) }
+        ensures not_narrower { IfErr result (λ e. e.1 ≢ BeginError.Narrower) }
+    {
+        let keys = rest.universe();
+        match Round::begin(alloc, rest, workers, updates) {
+            Ok((round, crew)) => match Running::share(alloc, round, crew, workers, keys) {
+                Ok(running) => Ok(running),
+                Err((round, crew)) => Err((round.end(crew), BeginError::OutOfMemory)),
+            },
+            Err(refused) => Err(refused),
+        }
+    }
+
+    /// Begins a round over the set of a trie at rest, for keys of `bits` bits, with `workers` lanes of `updates` updates.
+    ///
+    /// Refused as `Round::begin_wider` refuses, and with `OutOfMemory` also if memory to share the round is refused. After a
+    /// refusal the trie has the same set; it is the same trie, unless memory was refused. Then it may have forgotten what
+    /// the round before came to, and have the bits that were asked for.
+    pub fn begin_wider(
+        alloc: Global,
+        rest: Ended<A, B>,
+        bits: u32,
+        workers: u32,
+        updates: u32,
+    ) -> Result<Running<A, B>, (Ended<A, B>, BeginError)>
+        ensures begun { IfOk result (λ r. BeginsRound rest.members bits workers updates (arc_value r.round) r.crew) }
+        ensures set { IfErr result (λ e. (e.0.members ≡ rest.members) × ((e.0.bits ≡ rest.bits) ⊎ (e.0.bits ≡ bits))) }
+        ensures same { IfErr result (λ e. e.1 ≢ BeginError.OutOfMemory → e.0 ≡ rest) }
+        ensures bad_bits { IsErrOf result (rest, BeginError.BadBits) ↔ IsOutside 1 16 bits }
+        ensures narrower { IsErrOf result (rest, BeginError.Narrower) ↔ IsWithin 1 16 bits × (bits < rest.bits) }
+        ensures bad_workers { IsErrOf result (rest, BeginError.BadWorkers)
+            ↔ (rest.bits ≤ bits) × IsRefused LayoutError.BadWorkers (shape_of bits workers updates (length rest.members)) }
+        ensures bad_updates { IsErrOf result (rest, BeginError.BadUpdates)
+            ↔ (rest.bits ≤ bits) × IsRefused LayoutError.BadUpdates (shape_of bits workers updates (length rest.members)) }
+        ensures too_large { IsErrOf result (rest, BeginError.TooLarge)
+            ↔ (rest.bits ≤ bits) × IsRefused LayoutError.TooLarge (shape_of bits workers updates (length rest.members)) }
+    {
+        match Round::begin_wider(alloc, rest, bits, workers, updates) {
+            Ok((round, crew)) => match Running::share(alloc, round, crew, workers, 1 << bits) {
+                Ok(running) => Ok(running),
+                Err((round, crew)) => Err((round.end(crew), BeginError::OutOfMemory)),
+            },
+            Err(refused) => Err(refused),
+        }
+    }
+
+    // Makes one value of a round and its crew. If memory for that is refused, the same two come back.
+    fn share(
+        alloc: Global,
+        round: Round<A, B>,
+        crew: Crew<A, B>,
+        workers: u32,
+        keys: u32,
+    ) -> Result<Running<A, B>, (Round<A, B>, Crew<A, B>)>
+        requires together { crew.round ≡ round }
+        requires workers { workers ≡ round.workers }
+        requires keys { keys ≡ 2 ^ round.bits }
+        ensures shared { IfOk result (λ r. (arc_value r.round ≡ round) × (r.crew ≡ crew)) }
+        ensures same { IfErr result (λ e. (e.0 ≡ round) × (e.1 ≡ crew)) }
+    {
+        match Arc::new(alloc, round) {
+            Ok(round) => Ok(Running {
+                round,
+                crew,
+                workers,
+                keys,
+            }),
+            Err(refused) => Err((refused.value, crew)),
+        }
+    }
+
+    /// Opens the next lane, 0 first, with a first snapshot.
+    ///
+    /// Refused with `NoLane` once all lanes were opened, and with `TooShared` if the round is shared as often as can be
+    /// counted. Then nothing changes.
+    pub fn open(self) -> (Running<A, B>, Result<Lane<A, B>, OpenError>)
+        ensures opens { IfOk result.1 (λ lane. OpensLane self.crew result.0.crew lane.half lane.held.number) }
+        ensures of_round { IfOk result.1 (λ lane. arc_value lane.round ≡ arc_value self.round) }
+        ensures no_lane { IsErrOf result.1 OpenError.NoLane ↔ (self.crew.handed ≡ self.crew.round.workers) }
+        ensures same { IfErr result.1 (λ _. result.0 ≡ self) }
+        ensures round { result.0.round ≡ self.round }
+    {
+        if self.crew.handed() == self.workers {
+            return (self, Err(OpenError::NoLane));
+        }
+        let Ok(shared) = Arc::try_clone(&self.round) else {
+            return (self, Err(OpenError::TooShared));
+        };
+        let Running {
+            round,
+            mut crew,
+            workers,
+            keys,
+        } = self;
+        let Ok(mut pass) = crew.pass(&shared) else {
+            unreachable!()
+        };
+        let held = pass.snapshot();
+        let left = pass.budget();
+        let half = pass.into_half();
+        let lane = Lane {
+            round: shared,
+            half,
+            held,
+            keys,
+            left,
+        };
+        let running = Running {
+            round,
+            crew,
+            workers,
+            keys,
+        };
+        (running, Ok(lane))
+    }
+
+    /// Takes a lane of this round back, and learns what it knows. It is not opened again.
+    pub fn back(self, lane: Lane<A, B>) -> Running<A, B>
+        requires of_crew { lane.half.round ≡ self.crew.round }
+        ensures back { TakesBack self.crew result.crew lane.half }
+        ensures round { result.round ≡ self.round }
+    {
+        let Running {
+            round,
+            mut crew,
+            workers,
+            keys,
+        } = self;
+        let Lane {
+            round: shared,
+            half,
+            ..
+        } = lane;
+        crew.back(shared.pass(half));
+        Running {
+            round,
+            crew,
+            workers,
+            keys,
+        }
+    }
+
+    /// Ends the round, once no lane is out any more: each came back or was dropped. Else the same round comes back. The set is
+    /// that of the last version of the root that the crew knows.
+    pub fn end(self) -> Result<Ended<A, B>, Running<A, B>>
+        ensures ends { IfOk result (λ rest. Ends self.crew rest) }
+        ensures same { IfErr result (λ same. (same.round ≡ self.round) × (same.crew ≡ self.crew)) }
+    {
+        let Running {
+            round,
+            crew,
+            workers,
+            keys,
+        } = self;
+        match Arc::try_unwrap(round) {
+            Ok(round) => Ok(round.end(crew)),
+            Err(round) => Err(Running {
+                round,
+                crew,
+                workers,
+                keys,
+            }),
+        }
+    }
+
+    /// How many lanes were opened.
+    pub fn opened(&self) -> u32
+        ensures { result ≡ self.now.crew.handed }
+    {
+        self.crew.handed()
+    }
+
+    /// How many keys there are: `2^bits`. The keys are the numbers below it.
+    pub fn universe(&self) -> u32
+        ensures { result ≡ 2 ^ self.now.crew.round.bits }
+    {
+        self.keys
+    }
+}

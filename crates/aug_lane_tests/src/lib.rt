@@ -1,0 +1,8 @@
+//! The tests of `aug_lane`: what no clause says, as that rounds begin, lanes get on with their updates, and refused memory
+//! leaves the set as it was.
+#![tactic(auto)]
+
+#[cfg(test)]
+mod refused;
+#[cfg(test)]
+mod rounds;

@@ -1,0 +1,4 @@
+pub mod Errors
+pub mod Carrying
+pub mod Handles
+pub mod inside

@@ -1,0 +1,39 @@
+-- What lies on the desk.
+use Rattle.std.specs.Prelude.{◌≡◌, ℕ, ◌+◌, ◌<◌, ◌≤◌, ◌^◌, List, length, All}
+use Rattle.aug_core.specs.Layout.{IsLayout}
+use Rattle.aug_core.specs.Places.{shape_of}
+use Rattle.aug_model.specs.Keys.{SetFacts}
+use Rattle.aug_trie.specs.Round.{RoundFacts}
+use Rattle.aug_trie.specs.Crew.{CrewFacts}
+use Rattle.aug_live.specs.declared.counts.LiveCounts.{LiveCounts}
+use Rattle.aug_live.specs.inside.Lanes.{KnownFacts}
+use Rattle.aug_live.specs.inside.Rolls.{IsOf, IsReady}
+
+-- the counts of the rounds so far, at a set with so many members
+pub record AreCounts (counts : LiveCounts) (members : ℕ) : Type 0 where
+  pub some : 0 < counts.rounds
+  pub sizes : members + counts.removals ≡ counts.opened + counts.inserts
+
+-- a round goes on: its crew handed a pass to each lane, and knows what lies there
+pub record IsWorking (handles updates : ℕ) (counts : LiveCounts) (round : RoundFacts) (crew : CrewFacts) (ports : List KnownFacts) (count : ℕ) : Type 0 where
+  pub together : crew.round ≡ round
+  pub all_out : crew.handed ≡ count
+  pub none_back : crew.back ≡ 0
+  pub of_round : All (IsOf round counts.rounds) ports
+  pub lanes : count ≤ handles
+  pub counted : AreCounts counts (length round.members)
+  pub few_inserts : counts.inserts + 2 ^ 32 ≤ 2 ^ 64
+  pub few_removals : counts.removals + 2 ^ 32 ≤ 2 ^ 64
+  pub laid_out : IsLayout (shape_of round.bits handles updates (2 ^ round.bits))
+
+-- a set at rest: what lay in each lane is carried into it
+pub record IsResting (handles updates : ℕ) (counts : LiveCounts) (set : SetFacts) (ports : List KnownFacts) (count : ℕ) : Type 0 where
+  pub ready : All (IsReady set.bits counts.rounds set.pairs) ports
+  pub lanes : count ≤ handles
+  pub counted : AreCounts counts (length set.pairs)
+  pub few : length set.pairs ≤ 2 ^ set.bits
+  pub laid_out : IsLayout (shape_of set.bits handles updates (2 ^ set.bits))
+
+pub record RestFacts : Type 0 where
+  pub set : SetFacts
+  pub counts : LiveCounts

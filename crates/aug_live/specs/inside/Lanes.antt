@@ -1,0 +1,107 @@
+-- What lies in a lane, what the passes of its lock know, and the rule between them.
+use Rattle.std.specs.Prelude.{◌≡◌, ◌≢◌, ℕ, ◌+◌, ◌<◌, ◌≤◌, List, [], Option, Some, None, unwrap_or, Bool, false}
+use mathlib.Core.Option.{some}
+use lib.ListN.{get_elem?}
+use Rattle.aug_trie.specs.Pass.{PassFacts}
+use Rattle.aug_live.specs.Carrying.{Carried}
+use Rattle.aug_live.specs.Handles.{HandleFacts, Follows}
+
+-- a pass that there is not
+abbrev pub no_half : PassFacts
+no_half = record {
+  round = record {
+    table = record { words = 0; slots = 0; views_name = 0; atom = 0; block = 0; offset = 0; slot_names = [] };
+    bits = 0;
+    members = [];
+    workers = 0;
+    updates = 0;
+    room = 0;
+  };
+  lane = 0;
+  knows = record { history = []; accepted = [] };
+  numbers = [];
+  spent = 0;
+  steps = [];
+  words = record { shape = record { bits = 0; workers = 0; updates = 0; members = 0 }; book = [] };
+}
+
+abbrev pub half_of : Option PassFacts → PassFacts
+half_of half = unwrap_or half no_half
+
+abbrev pub nothing_known : HandleFacts
+nothing_known = record { era = 0; half = no_half }
+
+-- a lane: whether a pass of its round lies in it, and not only what the last one knew, and where it stands
+pub record LaneFacts : Type 0 where
+  pub works : Bool
+  pub at : HandleFacts
+
+-- a pass of a lane's lock: whose it is (1 the roller's, 2 the handle's, 0 the first one's, which makes both), and where the lane stood when it put it back
+pub record KnownFacts : Type 0 where
+  pub kind : ℕ
+  pub works : Bool
+  pub at : HandleFacts
+
+-- a pass that knows nothing yet
+abbrev pub newcomer : KnownFacts
+newcomer = record { kind = 0; works = false; at = nothing_known }
+
+-- what a pass knows that put a lane back
+abbrev pub known_of : ℕ → LaneFacts → KnownFacts
+known_of kind lane = record { kind = kind; works = lane.works; at = lane.at }
+
+-- a pass becomes the roller's, or the handle's
+abbrev pub as_kind : ℕ → KnownFacts → KnownFacts
+as_kind kind v = record { kind = kind; works = v.works; at = v.at }
+
+-- the roller knows the lane's round, and whether it has a pass; where it has none, it knows what the last one knew
+pub record Rolls (lane : LaneFacts) (v : KnownFacts) : Type 0 where
+  pub era : lane.at.era ≡ v.at.era
+  pub round : lane.at.half.round ≡ v.at.half.round
+  pub works : lane.works ≡ v.works
+  pub half : lane.works ≡ false → lane.at.half ≡ v.at.half
+
+-- what a pass knows of the lane that it takes: the roller its round, the handle that it follows on what it left
+pub record Knows (v : KnownFacts) (lane : LaneFacts) : Type 0 where
+  pub rolls : v.kind ≢ 2 → 0 < v.at.era → Rolls lane v
+  pub follows : v.kind ≢ 1 → 0 < v.at.era → Follows v.at lane.at
+
+pub record Ties (lane : LaneFacts) (views : List KnownFacts) : Type 0 where
+  pub kinds : (j : ℕ) (v : KnownFacts) → get_elem? views j ≡ some v → v.kind ≤ 2
+  pub pairs : (i j : ℕ) (v w : KnownFacts) → i ≢ j → get_elem? views i ≡ some v → get_elem? views j ≡ some w → v.kind + w.kind ≡ 3
+  pub known : (j : ℕ) (v : KnownFacts) → get_elem? views j ≡ some v → Knows v lane
+
+-- who puts a lane back knows it
+abbrev pub turned : KnownFacts → LaneFacts → LaneFacts → KnownFacts → Type 0
+turned v old new w = w ≡ known_of v.kind new
+
+-- what a handle makes of a lane: nothing if no pass lies in it, and else it leaves a pass of the same round
+pub record Worked (old new : LaneFacts) : Type 0 where
+  pub era : new.at.era ≡ old.at.era
+  pub round : new.at.half.round ≡ old.at.half.round
+  pub works : new.works ≡ old.works
+  pub at_rest : old.works ≡ false → new.at.half ≡ old.at.half
+
+-- the roller takes the pass out, and leaves what it knew
+pub record Rested (old new : LaneFacts) : Type 0 where
+  pub at : new.at ≡ old.at
+  pub at_rest : new.works ≡ false
+
+-- the roller puts a pass of the next round in, into whose set all is carried that the last one knew
+pub record Begun (old new : LaneFacts) : Type 0 where
+  pub era : new.at.era ≡ old.at.era + 1
+  pub carried : Carried old.at.half new.at.half.round.members
+  pub bits : new.at.half.round.bits ≡ old.at.half.round.bits
+
+-- a lane whose lock a pass has: what that pass knew before, and the lane as it took it
+pub record OutFacts : Type 0 where
+  pub known : KnownFacts
+  pub taken : LaneFacts
+
+abbrev pub taken_by : Option LaneFacts → LaneFacts
+taken_by taken = unwrap_or taken record { works = false; at = nothing_known }
+
+-- what a handle's end of its lane tells of it
+abbrev pub handle_by : Option KnownFacts → HandleFacts
+handle_by None = nothing_known
+handle_by (Some v) = v.at

@@ -1,0 +1,35 @@
+//! Why an update or a look was not made.
+ghost use Rattle.std.specs.Prelude.{◌≡◌};
+
+use std::error::Error;
+use std::fmt;
+
+/// Why an update or a look was not made. The set is then as it was.
+#[derive(Clone, Copy, Debug, PartialEq, Eq)]
+pub enum LiveError {
+    /// Refusal 1: memory for the next round was refused. The trie is at rest, and the next call tries again.
+    OutOfMemory,
+
+    /// Refusal 2: the trie was closed.
+    Closed,
+
+    /// Refusal 3: more than 2^64 - 2^32 rounds were begun, or keys put in or taken out. No machine gets there.
+    Exhausted,
+}
+
+impl fmt::Display for LiveError {
+    ghost use Rattle.std.specs.Prelude.{Some};
+    ghost use Rattle.aug_live.specs.Errors.{live_text};
+
+    ghost output = { λ cause. Some (live_text cause) };
+
+    fn fmt<W: fmt::Write>(&self, f: &mut fmt::Formatter<W>) -> fmt::Result {
+        f.write_str(match self {
+            LiveError::OutOfMemory => "OutOfMemory",
+            LiveError::Closed => "Closed",
+            LiveError::Exhausted => "Exhausted",
+        })
+    }
+}
+
+impl Error for LiveError {}

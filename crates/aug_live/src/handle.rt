@@ -1,0 +1,187 @@
+//! The end of a lane that a thread works with.
+ghost use Rattle.std.specs.Prelude.{◌≡◌, ℕ, ◌^◌, ◌<◌, IfOk, IfErr};
+ghost use Rattle.std.specs.Bool.{OnTrue, OnFalse};
+ghost use Rattle.aug_trie.specs.Knowledge.{insertion, removal};
+ghost use Rattle.aug_trie.specs.Updates.{AcceptedUpdate, RefusedUpdate, PutsIn, TakesSnapshot};
+ghost use Rattle.aug_trie.specs.Snapshot.{snapshot_cut};
+ghost use Rattle.aug_live.specs.Handles.{Follows, Makes, handle_of};
+ghost use Rattle.aug_live.specs.inside.Changes.{ChangesTo};
+
+use crate::desk::Place;
+use crate::end::End;
+use crate::error::LiveError;
+use crate::lane::Lane;
+use crate::look::Look;
+use crate::update::Update;
+use crate::work::Work;
+use aug_model::Outcome;
+use aug_monoid::Monoid;
+use std::alloc::Global;
+use std::marker::Model;
+use std::sync::{Arc, Mutex, Wait};
+
+/// The desk under its lock: nothing once the trie was closed.
+pub(crate) type Desk<A, B> = Mutex<Option<Place<A, B>>>;
+
+/// What a thread updates a trie with, and looks at it. It may go to another thread, and has a lane of its own. A handle that is
+/// dropped leaves its lane behind, and holds nobody up.
+///
+/// A call waits for a roll-over and for nothing else: it then goes on in the next round. Where its own updates of the round are
+/// spent, it rolls the round over itself, which waits for the update that another handle is in, and for each look.
+#[derive(Drop)]
+pub struct Handle<A: Monoid, B: Monoid> {
+    // An update takes it out and puts it back.
+    pub(crate) end: Option<End<A, B>>,
+    pub(crate) bits: u32,
+    pub(crate) desk: Arc<Desk<A, B>, Global>,
+}
+
+impl<A: Monoid, B: Monoid> Model for Handle<A, B> {
+    ghost use Rattle.aug_live.specs.Handles.{HandleFacts};
+    ghost use Rattle.aug_live.specs.inside.Lanes.{handle_by};
+    ghost use Rattle.aug_live.specs.inside.Looks.{HoldsHandle};
+
+    ghost Value = { HandleFacts };
+
+    ghost view = { λ h. handle_by h.end };
+
+    ghost invariant = { λ h. HoldsHandle h.end h.bits };
+}
+
+impl<A: Monoid, B: Monoid> Handle<A, B> {
+    /// Puts a key in, with the key itself as its weight. True if this call put it in. False if it was a member already, or somebody
+    /// else put it in meanwhile; then its weight stays.
+    pub fn insert<R: Wait>(&mut self, rt: &R, k: u32) -> Result<bool, LiveError>
+        requires key { k < 2 ^ self.old.half.round.bits }
+        ensures made { IfOk result (λ done. Makes 1 (λ a b. OnTrue done (AcceptedUpdate insertion k k a.knows b.knows) × OnFalse done (RefusedUpdate insertion k a.knows b.knows)) self.old self.new) }
+        ensures not_made { IfErr result (λ _. Follows self.old self.new) }
+    {
+        match self.update(rt, k, Update::Insert)? {
+            Outcome::Accepted => Ok(true),
+            _ => Ok(false),
+        }
+    }
+
+    /// Takes a key out. True if this call took it out. False if it was no member, or somebody else took it out meanwhile.
+    pub fn remove<R: Wait>(&mut self, rt: &R, k: u32) -> Result<bool, LiveError>
+        requires key { k < 2 ^ self.old.half.round.bits }
+        ensures made { IfOk result (λ done. Makes 1 (λ a b. OnTrue done (AcceptedUpdate removal k 0 a.knows b.knows) × OnFalse done (RefusedUpdate removal k a.knows b.knows)) self.old self.new) }
+        ensures not_made { IfErr result (λ _. Follows self.old self.new) }
+    {
+        match self.update(rt, k, Update::Remove)? {
+            Outcome::Accepted => Ok(true),
+            _ => Ok(false),
+        }
+    }
+
+    /// Puts a key in with a weight, or gives a member this weight, as `Pass::put` does.
+    pub fn put<R: Wait>(&mut self, rt: &R, k: u32, weight: u32) -> Result<Outcome, LiveError>
+        requires key { k < 2 ^ self.old.half.round.bits }
+        ensures made { IfOk result (λ done. Makes 1 (λ a b. PutsIn k weight done a.knows b.knows) self.old self.new) }
+        ensures not_made { IfErr result (λ _. Follows self.old self.new) }
+    {
+        self.update(rt, k, Update::Put(weight))
+    }
+
+    /// Takes a snapshot to ask. The look has the handle, and `Look::done` gives it back; after a refusal it comes back at once. As long
+    /// as the look is there it holds its lane: updates and looks of others go on, and a roll-over waits for it.
+    pub fn look<R: Wait>(self, rt: &R) -> Result<Look<A, B>, (Handle<A, B>, LiveError)>
+        ensures looks { IfOk result (λ look. Makes 0 (λ a b. TakesSnapshot a.knows b.knows (snapshot_cut b look.snapshot.number)) self (handle_of look)) }
+        ensures not_made { IfErr result (λ e. Follows self e.0) }
+    {
+        let mut handle = self;
+        for _ in rt.forever() {
+            let era = match handle.try_look(rt) {
+                Ok(look) => return Ok(look),
+                Err((same, era)) => {
+                    handle = same;
+                    era
+                }
+            };
+            if let Err(cause) = handle.past(rt, era) {
+                return Err((handle, cause));
+            }
+        }
+        unreachable!()
+    }
+
+    /// How many keys there are: `2^bits`. The keys are the numbers below it.
+    pub fn universe(&self) -> u32
+        ensures { result ≡ 2 ^ self.now.half.round.bits }
+    {
+        1 << self.bits
+    }
+
+    // Makes an update, and rolls the round over where it must.
+    fn update<R: Wait>(&mut self, rt: &R, k: u32, update: Update) -> Result<Outcome, LiveError>
+        requires key { k < 2 ^ self.old.half.round.bits }
+        ensures made { IfOk result (λ done. Makes 1 (ChangesTo update k done) self.old self.new) }
+        ensures not_made { IfErr result (λ _. Follows self.old self.new) }
+    {
+        for _ in rt.forever() {
+            let era = match self.try_update(rt, k, update) {
+                Ok(done) => return Ok(done),
+                Err(era) => era,
+            };
+            if let Err(cause) = self.past(rt, era) {
+                return Err(cause);
+            }
+        }
+        unreachable!()
+    }
+
+    // Makes an update, unless the round has to roll over first. Then the answer is that round.
+    fn try_update<R: Wait>(&mut self, rt: &R, k: u32, update: Update) -> Result<Outcome, u64>
+        requires key { k < 2 ^ self.old.half.round.bits }
+        ensures made { IfOk result (λ done. Makes 1 (ChangesTo update k done) self.old self.new) }
+        ensures not_made { IfErr result (λ _. Follows self.old self.new) }
+    {
+        let Some(end) = self.end.take() else {
+            unreachable!()
+        };
+        let (out, lane) = end.take_to_work(rt);
+        let (lane, done) = lane.update(k, update);
+        self.end = Some(out.put(lane));
+        done
+    }
+
+    // Takes a snapshot, unless the next round has to begin first. Then the answer is the last one.
+    fn try_look<R: Wait>(self, rt: &R) -> Result<Look<A, B>, (Handle<A, B>, u64)>
+        ensures looks { IfOk result (λ look. Makes 0 (λ a b. TakesSnapshot a.knows b.knows (snapshot_cut b look.snapshot.number)) self (handle_of look)) }
+        ensures at_rest { IfErr result (λ e. Follows self e.0) }
+    {
+        let Handle { end, bits, desk } = self;
+        let Some(end) = end else { unreachable!() };
+        let (out, lane) = end.take_to_work(rt);
+        if lane.work.is_none() {
+            let era = lane.era;
+            let end = Some(out.put(lane));
+            return Err((Handle { end, bits, desk }, era));
+        }
+        let (work, Lane { era, .. }) = lane.into_work();
+        let Work { round, half } = work;
+        let mut pass = round.pass(half);
+        let snapshot = pass.snapshot();
+        let half = Some(pass.into_half());
+        Ok(Look {
+            out,
+            era,
+            round,
+            half,
+            snapshot,
+            bits,
+            desk,
+        })
+    }
+
+    // Rolls the round of this era over, unless somebody else did.
+    fn past<R: Wait>(&self, rt: &R, era: u64) -> Result<(), LiveError> {
+        let mut guard = self.desk.lock(rt);
+        let Some(place) = guard.take() else {
+            return Err(LiveError::Closed);
+        };
+        let (place, rolled) = place.past(rt, era);
+        *guard = Some(place);
+        rolled
+    }
+}

@@ -1,0 +1,24 @@
+//! A shared trie whose rounds roll over by themselves: threads update it and look at it for as long as they like.
+#![tactic(auto)]
+
+mod counts;
+mod desk;
+mod end;
+mod error;
+mod handle;
+mod known;
+mod lane;
+mod live;
+mod look;
+mod queries;
+mod rolling;
+mod seen;
+mod tie;
+mod update;
+mod work;
+
+pub use counts::LiveCounts;
+pub use error::LiveError;
+pub use handle::Handle;
+pub use live::Live;
+pub use look::Look;

@@ -1,0 +1,215 @@
+//! A shared trie whose rounds roll over.
+ghost use Rattle.std.specs.Prelude.{◌≡◌, ◌⊎◌, ◌↔◌, ℕ, ◌+◌, ◌<◌, ◌≤◌, ◌^◌, [], All, IsErrOf, IfOk, IfErr, length, vec_len, vec_capacity};
+ghost use Rattle.std.specs.Arc.{arc_value};
+ghost use Rattle.aug_core.specs.Layout.{IsRefused, IsLayout};
+ghost use Rattle.aug_core.specs.Places.{shape_of};
+ghost use Rattle.aug_trie.specs.Crew.{BeginsRound};
+ghost use Rattle.aug_live.specs.Handles.{IsNew};
+ghost use Rattle.aug_live.specs.inside.Rolls.{IsOf, IsFirst};
+
+use crate::counts::LiveCounts;
+use crate::desk::{Place, Working};
+use crate::end::End;
+use crate::error::LiveError;
+use crate::handle::{Desk, Handle};
+use crate::rolling::{next_round, share};
+use aug_core::{Layout, LayoutError};
+use aug_monoid::Monoid;
+use aug_trie::{BeginError, Crew, Members, Round};
+use std::alloc::{AllocError, Global};
+use std::marker::Model;
+use std::sync::{Arc, Mutex, Wait};
+use std::thread::yield_now;
+
+/// A shared trie whose rounds roll over by themselves. Threads work with its handles.
+#[derive(Drop)]
+pub struct Live<A: Monoid, B: Monoid> {
+    desk: Arc<Desk<A, B>, Global>,
+}
+
+impl<A: Monoid, B: Monoid> Model for Live<A, B> {
+    ghost Value = { Unit {0} };
+
+    ghost view = { λ _. tt };
+}
+
+// What it takes to open a trie: the lanes, and room for the ends.
+#[derive(Drop)]
+struct Room<A: Monoid, B: Monoid> {
+    firsts: Vec<End<A, B>>,
+    ports: Vec<End<A, B>>,
+    room: Vec<End<A, B>>,
+    handles: Vec<Handle<A, B>>,
+    list: Vec<(u32, u32)>,
+    desk: Arc<Desk<A, B>, Global>,
+}
+
+impl<A: Monoid, B: Monoid> Live<A, B> {
+    /// Opens a trie over a set, for so many handles, each with so many updates a round.
+    ///
+    /// Refused with `BadWorkers`, `BadUpdates` and `TooLarge` as `Layout::new` refuses these numbers for the full set of its
+    /// bits, so that no later round is refused for them, and then with `OutOfMemory`. After a refusal the same set comes back.
+    pub fn open<R: Wait>(
+        rt: &R,
+        alloc: Global,
+        set: Members,
+        handles: u32,
+        updates: u32,
+    ) -> Result<(Live<A, B>, Vec<Handle<A, B>>), (Members, BeginError)>
+        ensures handles { IfOk result (λ t. vec_len t.1 ≡ handles) }
+        ensures new { IfOk result (λ t. All (IsNew set updates) t.1.items) }
+        ensures same { IfErr result (λ e. e.0 ≡ set) }
+        ensures bad_workers { IsErrOf result (set, BeginError.BadWorkers) ↔ IsRefused LayoutError.BadWorkers (shape_of set.bits handles updates (2 ^ set.bits)) }
+        ensures bad_updates { IsErrOf result (set, BeginError.BadUpdates) ↔ IsRefused LayoutError.BadUpdates (shape_of set.bits handles updates (2 ^ set.bits)) }
+        ensures too_large { IsErrOf result (set, BeginError.TooLarge) ↔ IsRefused LayoutError.TooLarge (shape_of set.bits handles updates (2 ^ set.bits)) }
+    {
+        let bits = set.bits();
+        let universe = set.universe();
+        if let Err(cause) = Layout::new(bits, handles, updates, universe) {
+            return Err((set, BeginError::from(cause)));
+        }
+        let opened = set.size();
+        let Ok(room) = Room::new(alloc, handles, universe) else {
+            return Err((set, BeginError::OutOfMemory));
+        };
+        let Room {
+            firsts,
+            ports,
+            room,
+            handles: ends,
+            list,
+            desk,
+        } = room;
+        let (round, mut crew, list) = match next_round(alloc, set, handles, updates, list) {
+            Ok(begun) => begun,
+            Err(set) => return Err((set, BeginError::OutOfMemory)),
+        };
+        let (ports, ends) = open_lanes(rt, bits, &round, &mut crew, &desk, firsts, ports, ends);
+        let working = Working {
+            alloc,
+            handles,
+            updates,
+            counts: LiveCounts {
+                rounds: 1,
+                opened,
+                inserts: 0,
+                removals: 0,
+            },
+            round,
+            crew,
+            ports,
+            room,
+            list,
+        };
+        place(rt, &desk, working);
+        Ok((Live { desk }, ends))
+    }
+
+    /// Rolls the round over now, as in a quiet hour. It waits for the update or look that each handle is in.
+    pub fn roll<R: Wait>(&self, rt: &R) -> Result<(), LiveError> {
+        let mut guard = self.desk.lock(rt);
+        let Some(place) = guard.take() else {
+            return Err(LiveError::Closed);
+        };
+        let (place, rolled) = place.next(rt);
+        *guard = Some(place);
+        rolled
+    }
+
+    /// Gives the set back, and what the rounds came to. It waits for the update or look that each handle is in. From then on
+    /// handles answer `Closed`.
+    pub fn close<R: Wait>(self, rt: &R) -> (Members, LiveCounts)
+        ensures sizes { length result.0.pairs + result.1.removals ≡ result.1.opened + result.1.inserts }
+    {
+        for _ in rt.forever() {
+            let place = self.desk.lock(rt).take();
+            if let Some(place) = place {
+                return place.stop(rt).into_set();
+            }
+            yield_now();
+        }
+        unreachable!()
+    }
+}
+
+impl<A: Monoid, B: Monoid> Room<A, B> {
+    // Lanes for so many handles, and room for what is to come.
+    fn new(alloc: Global, handles: u32, universe: u32) -> Result<Room<A, B>, AllocError>
+        ensures firsts { IfOk result (λ r. All (λ v. v.kind ≡ 0) r.firsts.items × (vec_len r.firsts ≡ handles)) }
+        ensures ports { IfOk result (λ r. (r.ports.items ≡ []) × (handles ≤ vec_capacity r.ports)) }
+        ensures room { IfOk result (λ r. (r.room.items ≡ []) × (handles ≤ vec_capacity r.room)) }
+        ensures handles { IfOk result (λ r. (r.handles.items ≡ []) × (handles ≤ vec_capacity r.handles)) }
+        ensures list { IfOk result (λ r. (r.list.items ≡ []) × (universe ≤ vec_capacity r.list)) }
+    {
+        let count = handles as usize;
+        Ok(Room {
+            firsts: first_ends(alloc, handles)?,
+            ports: Vec::with_capacity(alloc, count)?,
+            room: Vec::with_capacity(alloc, count)?,
+            handles: Vec::with_capacity(alloc, count)?,
+            list: Vec::with_capacity(alloc, universe as usize)?,
+            desk: Arc::new(alloc, Mutex::new(None))?,
+        })
+    }
+}
+
+// The first ends of so many new lanes.
+fn first_ends<A: Monoid, B: Monoid>(
+    alloc: Global,
+    handles: u32,
+) -> Result<Vec<End<A, B>>, AllocError>
+    ensures { IfOk result (λ ends. All (λ v. v.kind ≡ 0) ends.items × (vec_len ends ≡ handles)) }
+{
+    let mut ends = Vec::with_capacity(alloc, handles as usize)?;
+    for lane in 0..handles {
+        let _lane = lane;
+        ends.push_reserved(End::new(alloc)?);
+    }
+    Ok(ends)
+}
+
+// Puts a pass into each lane, and makes its handle.
+fn open_lanes<R: Wait, A: Monoid, B: Monoid>(
+    rt: &R,
+    bits: u32,
+    round: &Arc<Round<A, B>, Global>,
+    crew: &mut Crew<A, B>,
+    desk: &Arc<Desk<A, B>, Global>,
+    firsts: Vec<End<A, B>>,
+    mut ports: Vec<End<A, B>>,
+    mut handles: Vec<Handle<A, B>>,
+) -> (Vec<End<A, B>>, Vec<Handle<A, B>>)
+    requires firsts { All (λ v. v.kind ≡ 0) firsts.items }
+    requires bits { (bits ≤ 16) × ((arc_value round.now).bits ≡ bits) }
+    requires together { crew.old.round ≡ arc_value round.now }
+    requires none_out { crew.old.handed ≡ 0 }
+    requires lanes { vec_len firsts ≤ (arc_value round.now).workers }
+    requires ports { (ports.items ≡ []) × (vec_len firsts ≤ vec_capacity ports) }
+    requires handles { (handles.items ≡ []) × (vec_len firsts ≤ vec_capacity handles) }
+    ensures of_round { All (IsOf (arc_value round.now) 1) result.0.items }
+    ensures starts { All (IsFirst (arc_value round.now)) result.1.items }
+    ensures len { (vec_len result.0 ≡ vec_len firsts) × (vec_len result.1 ≡ vec_len firsts) }
+    ensures round { crew.new.round ≡ arc_value round.now }
+    ensures handed { crew.new.handed ≡ vec_len firsts }
+    ensures back { crew.new.back ≡ crew.old.back }
+{
+    for first in firsts {
+        let (port, mine) = first.open(rt, round, crew);
+        ports.push_reserved(port);
+        handles.push_reserved(Handle {
+            end: Some(mine),
+            bits,
+            desk: share(rt, desk),
+        });
+    }
+    (ports, handles)
+}
+
+// Puts a round on the desk.
+fn place<R: Wait, A: Monoid, B: Monoid>(
+    rt: &R,
+    desk: &Arc<Desk<A, B>, Global>,
+    working: Working<A, B>,
+) {
+    *desk.lock(rt) = Some(Place::On(working));
+}

@@ -1,0 +1,42 @@
+//! The rule of a lane's lock.
+ghost use Rattle.aug_live.specs.inside.Lanes.{Knows, turned, as_kind};
+
+use crate::known::Known;
+use crate::lane::Lane;
+use atomic_table::Split;
+use aug_monoid::Monoid;
+use ruled_lock::{Lesson, LockRule, Outcome};
+
+/// The rule of a lane's lock: the roller's pass knows the round that the lane is of, and the handle's pass what it left there.
+pub(crate) struct Tie;
+
+impl<A: Monoid, B: Monoid> LockRule<Lane<A, B>, Known<A, B>> for Tie {
+    ghost use Rattle.aug_live.specs.inside.Lanes.{Ties, newcomer};
+
+    ghost holds = { Ties };
+
+    ghost first = { newcomer };
+}
+
+/// What a pass learns that takes the lane.
+pub(crate) struct Learn;
+
+impl<A: Monoid, B: Monoid> Lesson<Lane<A, B>, Known<A, B>> for Learn {
+    ghost fact = { Knows };
+}
+
+/// What a pass knows that puts the lane back.
+pub(crate) struct Turn;
+
+impl<A: Monoid, B: Monoid> Outcome<Lane<A, B>, Known<A, B>> for Turn {
+    ghost then = { turned };
+}
+
+/// The first pass becomes the roller's, and makes the handle's.
+pub(crate) struct Parts;
+
+impl<A: Monoid, B: Monoid> Split<Known<A, B>> for Parts {
+    ghost left = { as_kind 1 };
+
+    ghost right = { as_kind 2 };
+}

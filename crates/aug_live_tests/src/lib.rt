@@ -1,0 +1,10 @@
+//! The tests of `aug_live`: what no clause says, as that rounds roll over, also while threads work, and that nothing is lost where
+//! memory is refused.
+#![tactic(auto)]
+
+#[cfg(test)]
+mod opening;
+#[cfg(test)]
+mod refused;
+#[cfg(test)]
+mod rolling;

@@ -1,0 +1,114 @@
+//! Memory refused: nothing is lost, and a later call succeeds.
+
+use super::opening::{Hand, Trie, insert, listed, no_keys, opened, remove};
+use aug_live::{Live, LiveError};
+use aug_trie::BeginError;
+use std::alloc::Global;
+use std::process::Abort;
+use std::sync::Wait;
+
+// Puts a key in, again if memory for the next round was refused.
+fn put_in<R: Wait + Abort>(rt: &R, hand: &mut Hand, k: u32) -> bool {
+    match insert(rt, hand, k) {
+        Ok(done) => done,
+        Err(cause) => {
+            assert_eq!(rt; cause, LiveError::OutOfMemory);
+            insert(rt, hand, k).expect(rt, "a second refusal")
+        }
+    }
+}
+
+// Takes a key out, again if memory for the next round was refused.
+fn take_out<R: Wait + Abort>(rt: &R, hand: &mut Hand, k: u32) -> bool {
+    match remove(rt, hand, k) {
+        Ok(done) => done,
+        Err(cause) => {
+            assert_eq!(rt; cause, LiveError::OutOfMemory);
+            remove(rt, hand, k).expect(rt, "a second refusal")
+        }
+    }
+}
+
+// How many members a look shows, again if memory for the next round was refused.
+fn seen<R: Wait + Abort>(rt: &R, hand: Hand) -> (Hand, u32) {
+    let hand = match hand.look(rt) {
+        Ok(mut look) => {
+            let size = look.size();
+            return (look.done(), size);
+        }
+        Err((hand, cause)) => {
+            assert_eq!(rt; cause, LiveError::OutOfMemory);
+            hand
+        }
+    };
+    let Ok(mut look) = hand.look(rt) else {
+        panic!(rt; "a second refusal");
+    };
+    let size = look.size();
+    (look.done(), size)
+}
+
+// Opens a trie with one handle, again if memory was refused.
+fn opened_again<R: Wait + Abort>(rt: &R, alloc: Global) -> Result<(Trie, Hand), BeginError> {
+    let set = match no_keys(alloc, 4) {
+        Ok(set) => set,
+        Err(_) => no_keys(alloc, 4)?,
+    };
+    let set = match Live::open(rt, alloc, set, 1, 2) {
+        Ok((live, mut hands)) => return Ok((live, hands.pop().expect(rt, "a handle"))),
+        Err((set, cause)) => {
+            assert_eq!(rt;
+                (set.bits(), set.size(), cause),
+                (4, 0, BeginError::OutOfMemory)
+            );
+            set
+        }
+    };
+    match Live::open(rt, alloc, set, 1, 2) {
+        Ok((live, mut hands)) => Ok((live, hands.pop().expect(rt, "a handle"))),
+        Err((_, cause)) => Err(cause),
+    }
+}
+
+// Passes whichever request for memory is refused.
+#[test]
+fn refused_memory_loses_nothing_of_a_live_trie(rt: HostRuntime) -> Result<(), BeginError> {
+    let (live, mut hand) = opened_again(&rt, rt.alloc())?;
+    for k in 0..5 {
+        assert_eq!(rt; put_in(&rt, &mut hand, k), true);
+    }
+    assert_eq!(rt; take_out(&rt, &mut hand, 2), true);
+    let (mut hand, size) = seen(&rt, hand);
+    assert_eq!(rt; size, 4);
+    assert_eq!(rt; put_in(&rt, &mut hand, 4), false);
+    let rolled = live.roll(&rt);
+    if rolled == Err(LiveError::OutOfMemory) {
+        assert_eq!(rt; live.roll(&rt), Ok(()));
+    }
+    let (set, counts) = live.close(&rt);
+    assert_eq!(rt; (set.size(), counts.inserts, counts.removals), (4, 5, 1));
+    Ok(())
+}
+
+#[test]
+fn a_closed_trie_answers_so(rt: HostRuntime) -> Result<(), BeginError> {
+    let (live, mut hands) = opened(&rt, rt.alloc(), 4, 2, 5)?;
+    let mut hand = hands.pop().expect(&rt, "a handle");
+    assert_eq!(rt; insert(&rt, &mut hand, 9), Ok(true));
+    let (hand, list) = listed(&rt, rt.alloc(), hand);
+    assert_eq!(rt; list.as_slice(), [(9, 9)].as_slice());
+    let mut hand = hand;
+    assert_eq!(rt; live.close(&rt).0.size(), 1);
+    assert_eq!(rt; insert(&rt, &mut hand, 8), Err(LiveError::Closed));
+    assert_eq!(rt; remove(&rt, &mut hand, 9), Err(LiveError::Closed));
+    match hand.look(&rt) {
+        Ok(look) => {
+            drop(look.done());
+            panic!(rt; "a look of a closed trie");
+        }
+        Err((_, cause)) => {
+            assert_eq!(rt; cause, LiveError::Closed);
+        }
+    }
+    Ok(())
+}

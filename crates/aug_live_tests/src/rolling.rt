@@ -1,0 +1,191 @@
+//! Threads that update and look while rounds roll over.
+
+use super::opening::{Hand, insert, opened, remove};
+use aug_live::LiveError;
+use aug_model::KeySet;
+use aug_trie::BeginError;
+use std::alloc::Global;
+use std::process::Abort;
+use std::sync::Wait;
+use std::thread;
+use std::thread::Threads;
+
+// A thread's handle, its own keys, which leave this remainder divided by 4, and the seed of what it does.
+#[derive(Drop)]
+struct Job {
+    hand: Hand,
+    model: KeySet,
+    lane: u32,
+    steps: u32,
+}
+
+// What a thread did: how many keys it put in and took out, and whether all that it saw was right.
+#[derive(Drop)]
+struct Did {
+    inserts: u64,
+    removals: u64,
+    right: bool,
+    closed: bool,
+}
+
+// The next number from a seed.
+fn next(seed: u64) -> u64 {
+    seed.wrapping_mul(6_364_136_223_846_793_005)
+        .wrapping_add(1_442_695_040_888_963_407)
+}
+
+// Whether a new look shows each own key as the model has it, for some keys.
+fn looks_right<R: Wait>(rt: &R, hand: Hand, model: &KeySet, lane: u32) -> (Hand, bool) {
+    match hand.look(rt) {
+        Ok(mut look) => {
+            let mut right = true;
+            for i in 0..16 {
+                let k = 4 * i + lane % 4;
+                right &= look.has(k) == model.has(k);
+            }
+            (look.done(), right)
+        }
+        Err((hand, cause)) => (hand, cause == LiveError::Closed),
+    }
+}
+
+// Makes one update of an own key, and says whether its answer is the model's.
+fn step<R: Wait>(rt: &R, job: &mut Job, did: &mut Did, seed: u64) -> bool {
+    let k = 4 * ((seed >> 33) as u32 % 16) + job.lane % 4;
+    if k >= 1 << job.model.bits() {
+        return false;
+    }
+    if (seed >> 40) % 2 == 0 {
+        return match insert(rt, &mut job.hand, k) {
+            Ok(done) => {
+                did.inserts = did.inserts.saturating_add(u64::from(done));
+                done == job.model.insert(k)
+            }
+            Err(cause) => did.is_over(cause),
+        };
+    }
+    match remove(rt, &mut job.hand, k) {
+        Ok(done) => {
+            did.removals = did.removals.saturating_add(u64::from(done));
+            done == job.model.remove(k)
+        }
+        Err(cause) => did.is_over(cause),
+    }
+}
+
+impl Did {
+    // Notes that the trie was closed, which is the one refusal that may come.
+    fn is_over(&mut self, cause: LiveError) -> bool {
+        self.closed = true;
+        cause == LiveError::Closed
+    }
+}
+
+// Makes a job's updates, with a look after each few.
+fn work<R: Wait>(rt: &R, job: Job) -> Did {
+    let mut job = job;
+    let mut did = Did {
+        inserts: 0,
+        removals: 0,
+        right: true,
+        closed: false,
+    };
+    let mut seed = next(u64::from(job.lane));
+    for i in 0..job.steps {
+        seed = next(seed);
+        did.right &= step(rt, &mut job, &mut did, seed);
+        if did.closed {
+            return did;
+        }
+        if i % 64 == 0 {
+            let Job {
+                hand,
+                model,
+                lane,
+                steps,
+            } = job;
+            let (hand, right) = looks_right(rt, hand, &model, lane);
+            did.right &= right;
+            job = Job {
+                hand,
+                model,
+                lane,
+                steps,
+            };
+        }
+    }
+    did
+}
+
+// A job for each handle.
+fn jobs(rt: &impl Abort, alloc: Global, hands: Vec<Hand>, steps: u32) -> Vec<Job> {
+    let mut jobs = Vec::new(alloc);
+    let mut lane = 0;
+    for hand in hands {
+        let model = KeySet::try_new(alloc, 6).expect(rt, "memory");
+        let job = Job {
+            hand,
+            model,
+            lane,
+            steps,
+        };
+        jobs.push(job).expect(rt, "memory");
+        lane = if lane < 3 { lane + 1 } else { 0 };
+    }
+    jobs
+}
+
+#[test]
+fn four_threads_see_their_own_updates_in_every_round(rt: HostRuntime) -> Result<(), BeginError> {
+    let (live, hands) = opened(&rt, rt.alloc(), 6, 4, 1000)?;
+    let r = &rt;
+    let jobs = jobs(r, rt.alloc(), hands, 50_000);
+    let done = thread::map_vec(r, jobs, &|job| work(r, job)).expect(r, "memory");
+    let mut sum = 0u64;
+    let mut inserts = 0u64;
+    for did in done {
+        assert!(rt; did.right && !did.closed);
+        inserts = inserts.saturating_add(did.inserts);
+        sum = sum.saturating_add(did.inserts).saturating_sub(did.removals);
+    }
+    let (set, counts) = live.close(r);
+    assert_eq!(rt; u64::from(set.size()), sum);
+    assert_eq!(rt; counts.inserts, inserts);
+    assert!(rt; counts.rounds >= 50);
+    Ok(())
+}
+
+#[test]
+fn a_thread_with_few_updates_rolls_over_an_idle_one(rt: HostRuntime) -> Result<(), BeginError> {
+    let (live, mut hands) = opened(&rt, rt.alloc(), 6, 4, 1)?;
+    let idle = hands.pop();
+    drop(hands.pop());
+    let r = &rt;
+    let jobs = jobs(r, rt.alloc(), hands, 200);
+    let done = thread::map_vec(r, jobs, &|job| work(r, job)).expect(r, "memory");
+    for did in done {
+        assert!(rt; did.right && !did.closed);
+    }
+    drop(idle);
+    assert!(rt; live.close(r).1.rounds >= 200);
+    Ok(())
+}
+
+#[test]
+fn a_trie_is_closed_while_others_work(rt: HostRuntime) -> Result<(), BeginError> {
+    let (live, hands) = opened(&rt, rt.alloc(), 6, 4, 500)?;
+    let r = &rt;
+    let jobs = jobs(r, rt.alloc(), hands, 5_000_000);
+    let (done, closed) = thread::join(
+        r,
+        || thread::map_vec(r, jobs, &|job| work(r, job)),
+        move || live.close(r),
+    );
+    let mut sum = 0u64;
+    for did in done.expect(r, "memory") {
+        assert!(rt; did.right && did.closed);
+        sum = sum.saturating_add(did.inserts).saturating_sub(did.removals);
+    }
+    assert_eq!(rt; u64::from(closed.0.size()), sum);
+    Ok(())
+}

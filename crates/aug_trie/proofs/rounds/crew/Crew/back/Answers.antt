@@ -1,0 +1,39 @@
+use Rattle.std.proofs.Common.{Option, ap, subst, sym, refl, ◌∙◌, ◌≡◌, ◌+◌, ◌%◌, ℕ}
+use Rattle.atomic_table.specs.Seated.{TableId}
+use Rattle.aug_core.specs.Faces.{face}
+use Rattle.aug_core.specs.Places.{shape_of}
+use Rattle.aug_core.specs.Counts.{changes_of}
+use Rattle.aug_core.specs.Told.{own_lane_place}
+use Rattle.aug_core.specs.declared.view.View.{View}
+use Rattle.aug_words.specs.Seats.{Known}
+use Rattle.aug_trie.specs.inside.Counted.{HasCounts}
+use Rattle.aug_trie.specs.Round.{RoundFacts}
+use Rattle.aug_trie.specs.Pass.{PassFacts}
+use Rattle.aug_trie.specs.inside.RoundState.{round_of}
+use Rattle.aug_trie.specs.inside.PassState.{pass_facts, known_in}
+use Rattle.aug_trie.specs.Crew.{CrewFacts, TakesBack}
+use Rattle.aug_trie.specs.inside.CrewState.{crew_facts}
+use Rattle.aug_trie.proofs.Passing.{pass_told}
+use Rattle.aug_trie.proofs.Crews.{back_crew, takes_back_is}
+use Rattle.aug_trie.proofs.rounds.crew.Crew.back.Goals as goal
+
+pub invariant_of-self : goal.invariant_of-self
+invariant_of-self g c = let f = face g.A.Monoid.parts g.B.Monoid.parts in let i = c.self.inside in let k : Known = i.lead in let v : View = k.view in let j = c.pass.inside in let pk : Known = c.in-Some.words in let p : View = pk.view in let new : Known = c.join.new.self in let w : View = new.view in
+    let h = c.join.ensures.takes_back in let holds = c.self.invariant in let place : ℕ = own_lane_place p in
+    let told = pass_told f j.words pk j.leaves j.bits j.next j.left c.args.pass c.pass.invariant.0 c.in-Some.is c.pass.view_is in let is = told.0 in let facts = told.1 in let free = is.room.is_free in
+    let round : round_of pk.table p ≡ round_of k.table v = ap (λ (z : PassFacts). z.round) facts ∙ c.requires.of_crew ∙ ap (λ (z : CrewFacts). z.round) (sym c.self.view_is) in
+    let shape : p.shape ≡ v.shape = ap (λ (z : RoundFacts). shape_of z.bits z.workers z.updates z.room) round in
+    let counts : HasCounts (changes_of p.held) j.inserts j.removals = subst (λ (z : Option Known). HasCounts (changes_of (known_in z).view.held) j.inserts j.removals) c.in-Some.is c.pass.invariant.1 in
+    back_crew f v p w place h.found i.back i.inserts i.removals j.inserts j.removals holds free.lane free.only shape is.knows_table is.knowledge counts h.loaded
+    ((i.back + 1) % 4294967296) ((i.inserts + j.inserts) % 4294967296) ((i.removals + j.removals) % 4294967296) refl refl refl
+
+pub returns : goal.returns
+returns g c = let f = face g.A.Monoid.parts g.B.Monoid.parts in let i = c.self.inside in let k : Known = i.lead in let v : View = k.view in let j = c.pass.inside in let pk : Known = c.in-Some.words in let p : View = pk.view in let new : Known = c.join.new.self in let w : View = new.view in
+    let h = c.join.ensures.takes_back in let holds = c.self.invariant in let place : ℕ = own_lane_place p in
+    let told = pass_told f j.words pk j.leaves j.bits j.next j.left c.args.pass c.pass.invariant.0 c.in-Some.is c.pass.view_is in let is = told.0 in let facts = told.1 in let free = is.room.is_free in
+    let round : round_of pk.table p ≡ round_of k.table v = ap (λ (z : PassFacts). z.round) facts ∙ c.requires.of_crew ∙ ap (λ (z : CrewFacts). z.round) (sym c.self.view_is) in
+    let shape : p.shape ≡ v.shape = ap (λ (z : RoundFacts). shape_of z.bits z.workers z.updates z.room) round in
+    let counts : HasCounts (changes_of p.held) j.inserts j.removals = subst (λ (z : Option Known). HasCounts (changes_of (known_in z).view.held) j.inserts j.removals) c.in-Some.is c.pass.invariant.1 in
+    let back = takes_back_is f v p w place h.found i.back i.inserts i.removals j.inserts j.removals holds free.lane free.only shape is.knows_table is.knowledge counts h.loaded k.table pk.table j.left in
+    let joined : TakesBack (crew_facts k) (crew_facts new) (pass_facts pk j.left) = subst (λ (z : TableId). TakesBack (crew_facts k) (crew_facts (record { table = z; view = w })) (pass_facts pk j.left)) (sym c.join.ensures.table) back in
+    subst (λ (z : CrewFacts). TakesBack z (crew_facts new) c.args.pass) c.self.view_is (subst (λ (z : PassFacts). TakesBack (crew_facts k) (crew_facts new) z) facts joined)

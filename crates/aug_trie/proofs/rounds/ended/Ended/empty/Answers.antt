@@ -1,0 +1,35 @@
+use Rattle.std.proofs.Common.{◌≡◌, ◌<◌, ◌≤◌, ◌∙◌, inl, inr, ℕ, List, ap, sym, subst, arith, rules, refl, ⊎_elim, length}
+use Rattle.std.proofs.lemmas.Bool.{cases_lt, false≢true}
+use Rattle.aug_core.specs.Cuts.{Cut, pairs_of_cut, opening_cut}
+use Rattle.aug_core.specs.Faces.{face}
+use Rattle.aug_core.specs.Layout.{IsLayout}
+use Rattle.aug_core.specs.Opening.{Opening}
+use Rattle.aug_core.specs.Places.{shape_of}
+use Rattle.aug_core.specs.declared.view.View.{View}
+use Rattle.aug_trie.specs.History.{last_cut}
+use Rattle.aug_trie.specs.inside.Knows.{knows}
+use Rattle.aug_trie.proofs.Crews.{begins_history}
+use Rattle.aug_trie.proofs.Endings.{smallest, none_shown, no_keys, none_fit}
+use Rattle.aug_trie.proofs.rounds.ended.Ended.empty.Goals as goal
+
+pub returns-in_default-clause-bad_bits : goal.returns-in_default-clause-bad_bits
+returns-in_default-clause-bad_bits g c = (
+  λ _. ⊎_elim (λ (low : c.args.bits < 1). inl low) (λ (some : 1 ≤ c.args.bits). ⊎_elim (λ (high : 16 < c.args.bits). inr high) (λ (few : c.args.bits ≤ 16).
+      absurd (false≢true (c.in_default.ensures.ok.1 (smallest c.args.bits (some, few))))) (cases_lt 16 c.args.bits)) (cases_lt c.args.bits 1),
+  λ _. refl,
+)
+
+pub returns-in-Ok-open-clause-empty : goal.returns-in-Ok-open-clause-empty
+returns-in-Ok-open-clause-empty g c = let f = face g.A.Monoid.parts g.B.Monoid.parts in let o : Opening = c.in-Ok-open.words.opening in let opened = c.in-Ok-open.ensures.opening in let made = c.at_rest.ensures in
+    let shape : o.shape ≡ shape_of c.args.bits 1 1 0 = opened.0 ∙ c.in-Ok.ensures.layout in
+    let laid : IsLayout (shape_of c.args.bits 1 1 0) = search rules in
+    let first = begins_history f o (subst IsLayout (sym shape) laid) (no_keys o.shape.bits o.members opened.1) (none_fit o.members opened.1) (let long = ap (λ (z : List (ℕ × ℕ)). length z) opened.1 in omega arith) in
+    record {
+      bits_are = made.bits;
+      no_members = made.members ∙ ap (λ (z : View). pairs_of_cut (last_cut (knows z).history)) c.in-Ok-open.ensures.lead ∙ ap (λ (z : List Cut). pairs_of_cut (last_cut z)) first
+          ∙ ap (λ (z : List (ℕ × ℕ)). pairs_of_cut (opening_cut o.shape.bits z)) opened.1 ∙ none_shown o.shape.bits;
+      no_inserts = made.no_inserts;
+      no_removals = made.no_removals;
+      none_missing = made.none_missing;
+      no_loads = made.no_loads;
+    }

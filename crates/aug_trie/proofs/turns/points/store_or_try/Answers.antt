@@ -1,0 +1,20 @@
+use Rattle.std.proofs.Common.{arith, refl}
+use Rattle.aug_trie.proofs.Advancing.{may_store_word, may_try, try_over, record_on}
+use Rattle.aug_trie.proofs.turns.points.store_or_try.Goals as goal
+
+pub store_record_word-requires : goal.store_record_word-requires
+store_record_word-requires g c = may_store_word g.A.Monoid.parts g.B.Monoid.parts c.requires.begun.0 c.args.node c.args.number c.args.filling c.args.pass.now.view c.requires.begun.1
+
+pub try_node-requires-clause-own : goal.try_node-requires-clause-own
+try_node-requires-clause-own g c = may_store_word g.A.Monoid.parts g.B.Monoid.parts c.requires.begun.0 c.args.node c.args.number c.args.filling c.args.pass.now.view c.requires.begun.1
+
+pub try_node-requires-clause-filled : goal.try_node-requires-clause-filled
+try_node-requires-clause-filled g c = may_try g.A.Monoid.parts g.B.Monoid.parts c.requires.begun.0 c.args.node c.args.number c.args.filling c.args.pass.now.view c.requires.begun.1 c.if-count-eq5.true
+
+pub returns-then-count-eq5-clause-on : goal.returns-then-count-eq5-clause-on
+returns-then-count-eq5-clause-on g c = λ v t. let told = c.try_node.ensures.view in
+    try_over g.A.Monoid.parts g.B.Monoid.parts v c.args.node c.args.number c.args.filling c.args.pass.now.view t c.if-count-eq5.true c.try_node.new.self.view told.found c.try_node.result told.decided told.told
+
+pub returns-clause-on : goal.returns-clause-on
+returns-clause-on g c = λ v t. let few = t.is_at.few in let not = c.if-count-eq5.false in
+    record_on g.A.Monoid.parts g.B.Monoid.parts v c.args.node c.args.number c.args.filling c.args.pass.now.view t c.store_record_word.new.self.view _ _ refl c.field_at.ensures (omega arith) c.store_record_word.ensures.view

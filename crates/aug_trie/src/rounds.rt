@@ -1,0 +1,10 @@
+//! Rounds, their passes and crews, and the trie at rest.
+
+pub(crate) mod crew;
+pub(crate) mod ended;
+pub(crate) mod ended_tree;
+pub(crate) mod ended_walk;
+pub(crate) mod half;
+pub(crate) mod members;
+pub(crate) mod pass;
+pub(crate) mod round;

@@ -1,0 +1,60 @@
+//! The set of a trie at rest as a list.
+ghost use Rattle.std.specs.Prelude.{◌≡◌, ◌^◌, length};
+ghost use Rattle.aug_model.specs.Keys.{IsKeySet, keys_of};
+ghost use Rattle.aug_core.specs.Layout.{IsWithin};
+
+use std::marker::Model;
+
+/// The set of a trie at rest as a list, which `Ended::into_members` gives. It needs 8 bytes a member, and none of the
+/// trie's table. `Round::begin_over` begins a round over it.
+#[derive(Drop)]
+pub struct Members {
+    pub(crate) bits: u32,
+    // The keys, rising, each with its weight.
+    pub(crate) pairs: Vec<(u32, u32)>,
+}
+
+impl Model for Members {
+    ghost use Rattle.std.specs.Prelude.{All};
+    ghost use Rattle.aug_model.specs.Keys.{IsKeySet, SetFacts, keys_of};
+    ghost use Rattle.aug_core.specs.Layout.{IsWithin};
+    ghost use Rattle.aug_monoid.specs.Weighted.{FitsPair};
+
+    ghost Value = { SetFacts };
+
+    ghost view = { λ m. record { bits = m.bits; pairs = m.pairs.items } };
+
+    ghost invariant = { λ m. IsWithin 1 16 m.bits × IsKeySet m.bits (keys_of m.pairs.items) × All FitsPair m.pairs.items };
+}
+
+impl Members {
+    /// How many bits a key has.
+    pub fn bits(&self) -> u32
+        ensures { result ≡ self.now.bits }
+    {
+        self.bits
+    }
+
+    /// How many keys there are: `2^bits`. The keys are the numbers below it. The bits are 1 to 16, and the members rise.
+    pub fn universe(&self) -> u32
+        ensures value { result ≡ 2 ^ self.now.bits }
+        ensures bits { IsWithin 1 16 self.now.bits }
+        ensures keys { IsKeySet self.now.bits (keys_of self.now.pairs) }
+    {
+        1 << self.bits
+    }
+
+    /// How many members there are.
+    pub fn size(&self) -> u32
+        ensures { result ≡ length self.now.pairs }
+    {
+        self.pairs.len() as u32
+    }
+
+    /// The keys, rising, each with its weight.
+    pub fn as_slice(&self) -> &[(u32, u32)]
+        ensures { result.now ≡ self.now.pairs }
+    {
+        self.pairs.as_slice()
+    }
+}

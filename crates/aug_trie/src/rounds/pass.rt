@@ -1,0 +1,171 @@
+//! A pass of a round: it updates the set and looks at it.
+ghost use Rattle.std.specs.Prelude.{◌≡◌, ℕ, ◌+◌, ◌*◌, ◌^◌, ◌<◌, ◌≤◌, [], ◌∷◌, ◌++◌};
+ghost use Rattle.std.specs.Bool.{OnTrue, OnFalse};
+ghost use Rattle.aug_trie.specs.Knowledge.{IsKnowledge, insertion, removal, inserts_of, removals_of};
+ghost use Rattle.aug_trie.specs.Updates.{AcceptedUpdate, RefusedUpdate, ComesTo, PutsIn, TakesSnapshot};
+ghost use Rattle.aug_model.specs.Folds.{summary_of};
+ghost use Rattle.aug_trie.specs.Node.{Keeps};
+ghost use Rattle.aug_trie.specs.inside.Climbing.{FitsRequest};
+ghost use Rattle.aug_trie.specs.Requests.{answered};
+ghost use Rattle.aug_core.specs.Kinds.{load_node};
+ghost use Rattle.aug_trie.specs.Round.{root_of};
+ghost use Rattle.aug_trie.specs.Pass.{GoesOn, StepsOf};
+ghost use Rattle.aug_trie.specs.Snapshot.{HasSnapshot, snapshot_cut};
+
+use crate::queries::snapshot::Snapshot;
+use crate::updates::request::{Request, insertions_by, removals_by};
+use crate::updates::update::update;
+use aug_model::Outcome;
+use aug_monoid::Monoid;
+use aug_words::WordPass;
+use std::marker::Model;
+
+/// A pass of a round, with a lane of its own. It may go to another thread. None of its calls waits, and only `keys`
+/// and `pairs` take memory.
+#[derive(Drop)]
+pub struct Pass<'r, A: Monoid, B: Monoid> {
+    // What it knows of the words. An update takes it out and puts it back, so that its steps can keep it in registers.
+    pub(crate) words: Option<WordPass<'r, A, B>>,
+    pub(crate) leaves: usize,
+    pub(crate) bits: u32,
+    // The first record of its lane that no update has used.
+    pub(crate) next: u64,
+    // How many updates are left.
+    pub(crate) left: u32,
+    // How many keys it put in, and how many it took out, a replaced one on either side.
+    pub(crate) inserts: u32,
+    pub(crate) removals: u32,
+}
+
+impl<'r, A: Monoid, B: Monoid> Model for Pass<'r, A, B> {
+    ghost use Rattle.aug_core.specs.Faces.{face};
+    ghost use Rattle.aug_core.specs.Counts.{changes_of};
+    ghost use Rattle.aug_trie.specs.inside.Counted.{HasCounts};
+    ghost use Rattle.aug_trie.specs.Pass.{PassFacts};
+    ghost use Rattle.aug_trie.specs.inside.PassState.{pass_facts, known_in, HoldsPass};
+
+    ghost Value = { PassFacts };
+
+    ghost view = { λ p. pass_facts (known_in p.words) p.left };
+
+    ghost invariant = { λ p. HoldsPass (face A.parts B.parts) p.words p.leaves p.bits p.next p.left × HasCounts (changes_of (known_in p.words).view.held) p.inserts p.removals };
+}
+
+impl<'r, A: Monoid, B: Monoid> Pass<'r, A, B> {
+    /// Puts a key in, with the key itself as its weight. True if this call put it in. False if it was a member already,
+    /// or somebody else put it in meanwhile; then its weight stays.
+    #[inline(never)]
+    pub fn insert(&mut self, k: u32) -> bool
+        requires key { k < 2 ^ self.old.round.bits }
+        requires budget { self.old.spent < self.old.round.updates }
+        ensures accepted { OnTrue result (AcceptedUpdate insertion k k self.old.knows self.new.knows) }
+        ensures refused { OnFalse result (RefusedUpdate insertion k self.old.knows self.new.knows) }
+        ensures goes_on { (steps : ℕ) × GoesOn 1 steps self.old self.new }
+        ensures keeps { Keeps (summary_of A.parts B.parts) self.old self.new }
+        ensures steps { StepsOf Request.Insert k (answered result) self.old self.new }
+    {
+        matches!(self.update(k, Request::Insert), Outcome::Accepted)
+    }
+
+    /// Takes a key out. True if this call took it out. False if it was no member, or somebody else took it out meanwhile.
+    #[inline(never)]
+    pub fn remove(&mut self, k: u32) -> bool
+        requires key { k < 2 ^ self.old.round.bits }
+        requires budget { self.old.spent < self.old.round.updates }
+        ensures accepted { OnTrue result (AcceptedUpdate removal k 0 self.old.knows self.new.knows) }
+        ensures refused { OnFalse result (RefusedUpdate removal k self.old.knows self.new.knows) }
+        ensures goes_on { (steps : ℕ) × GoesOn 1 steps self.old self.new }
+        ensures keeps { Keeps (summary_of A.parts B.parts) self.old self.new }
+        ensures steps { StepsOf Request.Remove k (answered result) self.old self.new }
+    {
+        matches!(self.update(k, Request::Remove), Outcome::Accepted)
+    }
+
+    /// Puts a key in with a weight, or gives a member this weight, also if it has it already.
+    ///
+    /// `Accepted` if this call put the key in. `Replaced` if the key was a member, and this call gave it the weight. That
+    /// counts as a removal and an insertion, and no snapshot of anybody shows the key gone between them. `Refused` if
+    /// another change of the key came in meanwhile; then nothing is stored.
+    #[inline(never)]
+    pub fn put(&mut self, k: u32, weight: u32) -> Outcome
+        requires key { k < 2 ^ self.old.round.bits }
+        requires budget { self.old.spent < self.old.round.updates }
+        ensures puts { PutsIn k weight result self.old.knows self.new.knows }
+        ensures goes_on { (steps : ℕ) × GoesOn 1 steps self.old self.new }
+        ensures keeps { Keeps (summary_of A.parts B.parts) self.old self.new }
+        ensures steps { StepsOf (Request.Put weight) k result self.old self.new }
+    {
+        self.update(k, Request::Put(weight))
+    }
+
+    // Makes an update of a key.
+    #[inline(always)]
+    fn update(&mut self, k: u32, request: Request) -> Outcome
+        requires key { k < 2 ^ self.old.round.bits }
+        requires budget { self.old.spent < self.old.round.updates }
+        requires fits { FitsRequest request }
+        ensures comes_to { ComesTo request k result self.old.knows self.new.knows }
+        ensures goes_on { (steps : ℕ) × GoesOn 1 steps self.old self.new }
+        ensures keeps { Keeps (summary_of A.parts B.parts) self.old self.new }
+        ensures steps { StepsOf request k result self.old self.new }
+    {
+        let Some(words) = self.words.take() else {
+            unreachable!()
+        };
+        let (words, outcome) = update(words, self.leaves, self.bits, k, self.next, request);
+        self.words = Some(words);
+        self.next += u64::from(self.bits);
+        self.left -= 1;
+        self.inserts += insertions_by(request, outcome);
+        self.removals += removals_by(request, outcome);
+        outcome
+    }
+
+    /// Takes a snapshot, by one load of the root's word. It shows every change that the pass knows.
+    pub fn snapshot(&mut self) -> Snapshot
+        ensures takes { TakesSnapshot self.old.knows self.new.knows (snapshot_cut self.new result.number) }
+        ensures known { HasSnapshot self.new result.number }
+        ensures goes_on { GoesOn 0 1 self.old self.new }
+        ensures step { self.new.steps ≡ self.old.steps ++ load_node (root_of self.old.round) result.number ∷ [] }
+        ensures keeps { Keeps (summary_of A.parts B.parts) self.old self.new }
+    {
+        let Some(mut words) = self.words.take() else {
+            unreachable!()
+        };
+        let number = words.load_node(2 * self.leaves - 2);
+        self.words = Some(words);
+        Snapshot { number }
+    }
+
+    /// How many updates are left.
+    pub fn budget(&self) -> u32
+        ensures { result + self.now.spent ≡ self.now.round.updates }
+    {
+        self.left
+    }
+
+    /// The lane of the pass, counted from 0.
+    pub fn lane(&self) -> u32
+        ensures lane { result ≡ self.now.lane }
+        ensures knowledge { IsKnowledge self.now.round.bits self.now.round.members self.now.knows }
+    {
+        match &self.words {
+            Some(words) => words.lane(),
+            None => unreachable!(),
+        }
+    }
+
+    /// How many keys this pass put in. A weight that `put` replaced counts here and as a removal.
+    pub fn inserts(&self) -> u32
+        ensures { result ≡ inserts_of self.now.knows.accepted }
+    {
+        self.inserts
+    }
+
+    /// How many keys this pass took out. A weight that `put` replaced counts here and as an insertion.
+    pub fn removals(&self) -> u32
+        ensures { result ≡ removals_of self.now.knows.accepted }
+    {
+        self.removals
+    }
+}

@@ -1,0 +1,215 @@
+//! A round: the table that its passes work on.
+ghost use Rattle.std.specs.Prelude.{◌≡◌, ◌≢◌, ◌↔◌, ◌+◌, ◌^◌, ◌<◌, ◌≤◌, length, All, IsErrOf, IfOk, IfErr};
+ghost use Rattle.aug_monoid.specs.Weighted.{FitsPair};
+ghost use Rattle.aug_model.specs.Keys.{IsKeySet, keys_of};
+ghost use Rattle.aug_core.specs.Layout.{IsWithin, IsOutside, IsRefused};
+ghost use Rattle.aug_core.specs.Places.{shape_of};
+ghost use Rattle.aug_trie.specs.Crew.{BeginsRound, Ends};
+
+use crate::error::BeginError;
+use crate::rounds::crew::Crew;
+use crate::rounds::ended::Ended;
+use crate::rounds::half::PassHalf;
+use crate::rounds::members::Members;
+use crate::rounds::pass::Pass;
+use aug_core::{Layout, LayoutError};
+use aug_monoid::Monoid;
+use aug_query::pairs;
+use aug_words::{Words, WordsError};
+use std::alloc::Global;
+use std::marker::Model;
+
+/// A round: the table that the passes of its crew work on until the round ends.
+#[derive(Drop)]
+pub struct Round<A: Monoid, B: Monoid> {
+    pub(crate) words: Words<A, B>,
+    pub(crate) layout: Layout,
+}
+
+impl<A: Monoid, B: Monoid> Model for Round<A, B> {
+    ghost use Rattle.std.specs.Prelude.{◌≡◌};
+    ghost use Rattle.aug_trie.specs.Round.{RoundFacts};
+    ghost use Rattle.aug_trie.specs.inside.RoundState.{store_round};
+
+    ghost Value = { RoundFacts };
+
+    ghost view = { λ r. store_round r.words };
+
+    ghost invariant = { λ r. r.layout ≡ r.words.opening.shape };
+}
+
+impl<A: Monoid, B: Monoid> Round<A, B> {
+    /// Begins a round as `begin_wider` does, with the trie's own bits. These are never refused.
+    pub fn begin(
+        alloc: Global,
+        ended: Ended<A, B>,
+        workers: u32,
+        updates: u32,
+    ) -> Result<(Round<A, B>, Crew<A, B>), (Ended<A, B>, BeginError)>
+        ensures begun { IfOk result (λ t. BeginsRound ended.members ended.bits workers updates t.0 t.1) }
+        ensures same { IfErr result (λ e. e.0 ≡ record ended { loaded = e.0.loaded }) }
+        ensures not_walked { IfErr result (λ e. e.1 ≢ BeginError.OutOfMemory → e.0 ≡ ended) }
+        ensures bad_workers { IsErrOf result (ended, BeginError.BadWorkers)
+            ↔ IsRefused LayoutError.BadWorkers (shape_of ended.bits workers updates (length ended.members)) }
+        ensures bad_updates { IsErrOf result (ended, BeginError.BadUpdates)
+            ↔ IsRefused LayoutError.BadUpdates (shape_of ended.bits workers updates (length ended.members)) }
+        ensures too_large { IsErrOf result (ended, BeginError.TooLarge)
+            ↔ IsRefused LayoutError.TooLarge (shape_of ended.bits workers updates (length ended.members)) }
+        ensures good_bits { IfErr result (λ e. e.1 ≢ BeginError.BadBits) }
+        ensures not_narrower { IfErr result (λ e. e.1 ≢ BeginError.Narrower) }
+        ensures keys { IsKeySet ended.bits (keys_of ended.members) }
+        ensures fit { All FitsPair ended.members }
+    {
+        let bits = ended.bits;
+        Round::begin_wider(alloc, ended, bits, workers, updates)
+    }
+
+    /// Begins a round over the set of a trie at rest, each member with its weight. Keys are below `2^bits`, with at least
+    /// as many bits as the trie's. There may be `workers` passes, each with `updates` updates. All memory of the round
+    /// is taken here, and that of the round before is given back.
+    ///
+    /// Refused, in this order, with `BadBits`, `Narrower`, `BadWorkers`, `BadUpdates` and `TooLarge`, as `Layout::new`
+    /// refuses these numbers with the size of the set, and then with `OutOfMemory`. After a refusal the same trie comes
+    /// back, with its own bits.
+    pub fn begin_wider(
+        alloc: Global,
+        ended: Ended<A, B>,
+        bits: u32,
+        workers: u32,
+        updates: u32,
+    ) -> Result<(Round<A, B>, Crew<A, B>), (Ended<A, B>, BeginError)>
+        ensures begun { IfOk result (λ t. BeginsRound ended.members bits workers updates t.0 t.1) }
+        ensures same { IfErr result (λ e. e.0 ≡ record ended { loaded = e.0.loaded }) }
+        ensures not_walked { IfErr result (λ e. e.1 ≢ BeginError.OutOfMemory → e.0 ≡ ended) }
+        ensures bad_bits { IsErrOf result (ended, BeginError.BadBits) ↔ IsOutside 1 16 bits }
+        ensures narrower { IsErrOf result (ended, BeginError.Narrower) ↔ IsWithin 1 16 bits × (bits < ended.bits) }
+        ensures bad_workers { IsErrOf result (ended, BeginError.BadWorkers)
+            ↔ (ended.bits ≤ bits) × IsRefused LayoutError.BadWorkers (shape_of bits workers updates (length ended.members)) }
+        ensures bad_updates { IsErrOf result (ended, BeginError.BadUpdates)
+            ↔ (ended.bits ≤ bits) × IsRefused LayoutError.BadUpdates (shape_of bits workers updates (length ended.members)) }
+        ensures too_large { IsErrOf result (ended, BeginError.TooLarge)
+            ↔ (ended.bits ≤ bits) × IsRefused LayoutError.TooLarge (shape_of bits workers updates (length ended.members)) }
+        ensures keys { IsKeySet ended.bits (keys_of ended.members) }
+        ensures fit { All FitsPair ended.members }
+    {
+        let mut ended = ended;
+        if (1..ended.bits).contains(&bits) {
+            return Err((ended, BeginError::Narrower));
+        }
+        let layout = match Layout::new(bits, workers, updates, ended.size()) {
+            Ok(layout) => layout,
+            Err(cause) => return Err((ended, BeginError::from(cause))),
+        };
+        let Ok(members) = pairs(alloc, &mut ended) else {
+            return Err((ended, BeginError::OutOfMemory));
+        };
+        match Round::over(alloc, layout, members.as_slice()) {
+            Ok(begun) => Ok(begun),
+            Err(WordsError::OutOfMemory) => Err((ended, BeginError::OutOfMemory)),
+        }
+    }
+
+    /// Begins a round as `begin_wider` does, over a set that was listed: its trie's memory was given back before, so the most
+    /// that is held meanwhile is the new table, a list of its words and the list of members.
+    ///
+    /// Refused as `begin_wider` refuses. After a refusal the same list comes back.
+    pub fn begin_over(
+        alloc: Global,
+        members: Members,
+        bits: u32,
+        workers: u32,
+        updates: u32,
+    ) -> Result<(Round<A, B>, Crew<A, B>), (Members, BeginError)>
+        ensures begun { IfOk result (λ t. BeginsRound members.pairs bits workers updates t.0 t.1) }
+        ensures same { IfErr result (λ e. e.0 ≡ members) }
+        ensures bad_bits { IsErrOf result (members, BeginError.BadBits) ↔ IsOutside 1 16 bits }
+        ensures narrower { IsErrOf result (members, BeginError.Narrower) ↔ IsWithin 1 16 bits × (bits < members.bits) }
+        ensures bad_workers { IsErrOf result (members, BeginError.BadWorkers)
+            ↔ (members.bits ≤ bits) × IsRefused LayoutError.BadWorkers (shape_of bits workers updates (length members.pairs)) }
+        ensures bad_updates { IsErrOf result (members, BeginError.BadUpdates)
+            ↔ (members.bits ≤ bits) × IsRefused LayoutError.BadUpdates (shape_of bits workers updates (length members.pairs)) }
+        ensures too_large { IsErrOf result (members, BeginError.TooLarge)
+            ↔ (members.bits ≤ bits) × IsRefused LayoutError.TooLarge (shape_of bits workers updates (length members.pairs)) }
+    {
+        if (1..members.bits()).contains(&bits) {
+            return Err((members, BeginError::Narrower));
+        }
+        let layout = match Layout::new(bits, workers, updates, members.size()) {
+            Ok(layout) => layout,
+            Err(cause) => return Err((members, BeginError::from(cause))),
+        };
+        match Round::over(alloc, layout, members.as_slice()) {
+            Ok(begun) => Ok(begun),
+            Err(WordsError::OutOfMemory) => Err((members, BeginError::OutOfMemory)),
+        }
+    }
+
+    // The round of a layout over a set with these members.
+    fn over(
+        alloc: Global,
+        layout: Layout,
+        members: &[(u32, u32)],
+    ) -> Result<(Round<A, B>, Crew<A, B>), WordsError>
+        requires keys { IsKeySet layout.bits (keys_of members.now) }
+        requires fit { All FitsPair members.now }
+        requires room { layout.members ≡ length members.now }
+        ensures { IfOk result (λ t. BeginsRound members.now layout.bits layout.workers layout.updates t.0 t.1) }
+    {
+        let (words, lead) = Words::open(alloc, &layout, members)?;
+        let crew = Crew {
+            lead,
+            back: 0,
+            inserts: 0,
+            removals: 0,
+        };
+        Ok((Round { words, layout }, crew))
+    }
+
+    /// Ends the round, also if passes did not come back. The set is that of the last version of the root that the crew
+    /// knows. The call makes no step, takes no memory and has no refusal.
+    pub fn end(self, crew: Crew<A, B>) -> Ended<A, B>
+        requires together { crew.round ≡ self }
+        ensures ends { Ends crew result }
+        ensures sizes { result.missing ≡ 0 → length result.members + result.removals ≡ length self.members + result.inserts }
+        ensures few { length result.members ≤ 2 ^ result.bits }
+    {
+        let Round { words, layout } = self;
+        let Crew {
+            lead,
+            back,
+            inserts,
+            removals,
+        } = crew;
+        let handed = lead.handed();
+        let mut ended = Ended::at_rest(words, lead, layout.bits());
+        ended.inserts = inserts;
+        ended.removals = removals;
+        ended.missing = handed - back;
+        ended
+    }
+
+    /// The pass of a half that was taken from a pass of this round.
+    pub fn pass<'r>(&'r self, half: PassHalf<A, B>) -> Pass<'r, A, B>
+        requires { half.round ≡ self.now }
+        ensures { result ≡ half }
+    {
+        let PassHalf {
+            words,
+            leaves,
+            bits,
+            next,
+            left,
+            inserts,
+            removals,
+        } = half;
+        Pass {
+            words: Some(self.words.pass(words)),
+            leaves,
+            bits,
+            next,
+            left,
+            inserts,
+            removals,
+        }
+    }
+}

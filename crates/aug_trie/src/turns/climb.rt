@@ -1,0 +1,216 @@
+//! Updates by single turns.
+ghost use Rattle.std.specs.Prelude.{◌≡◌, ℕ, ◌+◌, ◌-◌, ◌*◌, ◌^◌, ◌<◌, ◌≤◌};
+ghost use Rattle.aug_model.specs.Folds.{summary_of};
+ghost use Rattle.aug_model.specs.declared.outcome.Outcome.{Outcome as Told};
+ghost use Rattle.aug_trie.specs.Pass.{PassFacts};
+ghost use Rattle.aug_trie.specs.Node.{Keeps};
+ghost use Rattle.aug_trie.specs.inside.Points.{point_turns};
+ghost use Rattle.aug_trie.specs.inside.Climbing.{FitsRequest};
+ghost use Rattle.aug_trie.specs.inside.Stages.{ascent_turns, part_above};
+ghost use Rattle.aug_trie.specs.Climb.{ClimbFacts, BeginsClimb, TurnsOn, Finishes};
+
+use crate::rounds::pass::Pass;
+use crate::turns::ascents::Ascent;
+use crate::turns::points::Point;
+use crate::turns::stages::{Next, Stage, next_stage};
+use crate::updates::request::{Request, insertions_by, removals_by};
+use aug_model::Outcome;
+use aug_monoid::Monoid;
+use aug_words::WordPass;
+use std::marker::Model;
+
+/// An update that is made turn by turn, one atomic step each. It holds its pass meanwhile. If it is dropped, the pass is
+/// given up with its lane. That harms no other pass, and the change may be shown or not.
+#[derive(Drop)]
+pub struct Climb<'r, A: Monoid, B: Monoid> {
+    pub(crate) words: WordPass<'r, A, B>,
+    pub(crate) leaves: usize,
+    pub(crate) bits: u32,
+    // The first record of the update, and how many updates were left before it.
+    pub(crate) next: u64,
+    pub(crate) left: u32,
+    pub(crate) inserts: u32,
+    pub(crate) removals: u32,
+    pub(crate) key: u32,
+    pub(crate) request: Request,
+    pub(crate) stage: Stage,
+}
+
+impl<'r, A: Monoid, B: Monoid> Model for Climb<'r, A, B> {
+    ghost use Rattle.aug_core.specs.Faces.{face};
+    ghost use Rattle.aug_trie.specs.Climb.{ClimbFacts};
+    ghost use Rattle.aug_trie.specs.inside.ClimbState.{climb_facts, HoldsClimb};
+
+    ghost Value = { ClimbFacts };
+
+    ghost view = { λ c. climb_facts c.words c.bits c.left c.key c.request c.stage };
+
+    ghost invariant = { λ c. HoldsClimb (face A.parts B.parts) c.words.view c.leaves c.bits c.next c.left c.inserts c.removals c.key c.request c.stage };
+}
+
+/// The result of a turn.
+#[derive(Drop)]
+pub enum Turn<'r, A: Monoid, B: Monoid> {
+    /// There is more to do.
+    More(Climb<'r, A, B>),
+    /// The update is done: its pass, and its outcome. Only a put can be `Replaced`.
+    Done(Pass<'r, A, B>, Outcome),
+}
+
+impl<'r, A: Monoid, B: Monoid> Pass<'r, A, B> {
+    /// Begins to put a key in, with the key itself as its weight, turn by turn. No step is made yet.
+    pub fn start_insert(self, k: u32) -> Climb<'r, A, B>
+        requires key { k < 2 ^ self.round.bits }
+        requires budget { self.spent < self.round.updates }
+        ensures { BeginsClimb Request.Insert k self.entry result }
+    {
+        start(self, k, Request::Insert)
+    }
+
+    /// Begins to take a key out, turn by turn. No step is made yet.
+    pub fn start_remove(self, k: u32) -> Climb<'r, A, B>
+        requires key { k < 2 ^ self.round.bits }
+        requires budget { self.spent < self.round.updates }
+        ensures { BeginsClimb Request.Remove k self.entry result }
+    {
+        start(self, k, Request::Remove)
+    }
+
+    /// Begins to put a key in with a weight, as `put`, turn by turn. No step is made yet.
+    pub fn start_put(self, k: u32, weight: u32) -> Climb<'r, A, B>
+        requires key { k < 2 ^ self.round.bits }
+        requires budget { self.spent < self.round.updates }
+        ensures { BeginsClimb (Request.Put weight) k self.entry result }
+    {
+        start(self, k, Request::Put(weight))
+    }
+}
+
+// Begins an update.
+fn start<'r, A: Monoid, B: Monoid>(
+    pass: Pass<'r, A, B>,
+    key: u32,
+    request: Request,
+) -> Climb<'r, A, B>
+    requires key { key < 2 ^ pass.round.bits }
+    requires budget { pass.spent < pass.round.updates }
+    requires fits { FitsRequest request }
+    ensures { BeginsClimb request key pass.entry result }
+{
+    let Pass {
+        words,
+        leaves,
+        bits,
+        next,
+        left,
+        inserts,
+        removals,
+    } = pass;
+    let Some(words) = words else { unreachable!() };
+    Climb {
+        words,
+        leaves,
+        bits,
+        next,
+        left,
+        inserts,
+        removals,
+        key,
+        request,
+        stage: Stage::Leaf,
+    }
+}
+
+impl<'r, A: Monoid, B: Monoid> Climb<'r, A, B> {
+    /// Makes one atomic step.
+    pub fn turn(self) -> Turn<'r, A, B>
+        ensures more { (climb : ClimbFacts) → result ≡ Turn.More climb → TurnsOn self.entry climb }
+        ensures done { (pass : PassFacts) (outcome : Told) → result ≡ Turn.Done pass outcome → Finishes outcome self.entry pass }
+        ensures keeps { (pass : PassFacts) (outcome : Told) → result ≡ Turn.Done pass outcome → Keeps (summary_of A.parts B.parts) self.entry.start pass }
+    {
+        let Climb {
+            mut words,
+            leaves,
+            bits,
+            next,
+            left,
+            inserts,
+            removals,
+            key,
+            request,
+            stage,
+        } = self;
+        match next_stage(&mut words, leaves, bits, next, key, request, stage) {
+            Next::More(stage) => Turn::More(Climb {
+                words,
+                leaves,
+                bits,
+                next,
+                left,
+                inserts,
+                removals,
+                key,
+                request,
+                stage,
+            }),
+            Next::Done(outcome) => {
+                let pass = Pass {
+                    words: Some(words),
+                    leaves,
+                    bits,
+                    next: next + u64::from(bits),
+                    left: left - 1,
+                    inserts: inserts + insertions_by(request, outcome),
+                    removals: removals + removals_by(request, outcome),
+                };
+                Turn::Done(pass, outcome)
+            }
+        }
+    }
+
+    /// How many turns there are still to come at most: `30 * bits - 10` at the start, and always at least 1.
+    pub fn turns_left(&self) -> u32
+        ensures turns { result ≡ self.now.left }
+        ensures some { 1 ≤ result }
+    {
+        match self.stage {
+            Stage::Leaf => 30 * self.bits - 10,
+            Stage::Change(_) => 30 * self.bits - 11,
+            Stage::Up(_, ascent) => ascent_left(self.bits, ascent),
+        }
+    }
+}
+
+// How many steps a try at a node has, whose children are leaves at level 0.
+#[inline(always)]
+fn try_steps(level: u32) -> u32
+    ensures { result ≡ 9 + 2 * part_above level }
+{
+    if level == 0 { 9 } else { 15 }
+}
+
+// The most turns of an update that is on its way.
+fn ascent_left(bits: u32, ascent: Ascent) -> u32
+    requires bits { bits ≤ 16 }
+    requires level { ascent.level < bits }
+    requires some { 1 ≤ point_turns (part_above ascent.level) ascent.point }
+    ensures { result ≡ ascent_turns bits ascent }
+{
+    let whole = try_steps(ascent.level);
+    let again = if ascent.second { 0 } else { whole };
+    (bits - 1 - ascent.level) * 30 + again + point_left(whole, ascent.point)
+}
+
+// The turns of a try of so many steps that is at a point.
+fn point_left(whole: u32, point: Point) -> u32
+    requires whole { (part : ℕ) × (whole ≡ 9 + 2 * part) × (whole ≤ 15) × (1 ≤ point_turns part point) }
+    ensures { (part : ℕ) → whole ≡ 9 + 2 * part → result ≡ point_turns part point }
+{
+    match point {
+        Point::Node => whole,
+        Point::Left(_) => whole - 1,
+        Point::Right(_, _) => whole - 2,
+        Point::Part(reading) => 12 - reading.count as u32,
+        Point::Record(filling) => 6 - filling.count as u32,
+    }
+}

@@ -1,0 +1,104 @@
+//! What a child tells the node above it.
+ghost use Rattle.std.specs.Prelude.{◌≡◌, ℕ, ◌<◌, ◌^◌, []};
+ghost use Rattle.aug_core.specs.Faces.{face};
+ghost use Rattle.aug_core.specs.Addresses.{place_count, IsInner};
+ghost use Rattle.aug_core.specs.Told.{KnowsTable};
+ghost use Rattle.aug_core.specs.inside.Refreshes.{HasEntry};
+ghost use Rattle.aug_trie.specs.LeafWords.{leaf_pairs};
+ghost use Rattle.aug_trie.specs.inside.Goes.{IsPart, IsPartOf, Goes, Took, HasLeaves, part_steps};
+
+use crate::updates::leaf_words::{leaf_serial, leaf_weight};
+use aug_core::RecordField;
+use aug_monoid::Monoid;
+use aug_words::WordPass;
+
+// How many keys there are below a child, and the folds of these with their weights.
+#[derive(Clone, Copy)]
+pub(crate) struct Part<A, B> {
+    pub(crate) count: u64,
+    pub(crate) a: A,
+    pub(crate) b: B,
+}
+
+// What a leaf with this word tells.
+#[inline(always)]
+pub(crate) fn leaf_part<A: Monoid, B: Monoid>(leaf: usize, word: u64) -> Part<A, B>
+    requires { leaf < 2 ^ 32 }
+    ensures { IsPart A.parts B.parts result.count result.a result.b (leaf_pairs leaf word) }
+{
+    if leaf_serial(word) % 2 == 1 {
+        let weight = leaf_weight(word);
+        Part {
+            count: 1,
+            a: A::of_key(leaf as u32, weight),
+            b: B::of_key(leaf as u32, weight),
+        }
+    } else {
+        Part {
+            count: 0,
+            a: A::unit(),
+            b: B::unit(),
+        }
+    }
+}
+
+// What these words of a record tell.
+#[inline(always)]
+pub(crate) fn part_of_words<A: Monoid, B: Monoid>(count: u64, a: u64, b: u64) -> Part<A, B>
+    ensures count { result.count ≡ count }
+    ensures a { result.a ≡ A.parts.from_word a }
+    ensures b { result.b ≡ B.parts.from_word b }
+{
+    Part {
+        count,
+        a: A::from_word(a),
+        b: B::from_word(b),
+    }
+}
+
+// What the record of an inner node tells: three steps.
+#[inline(always)]
+fn node_part<A: Monoid, B: Monoid>(
+    pass: &mut WordPass<A, B>,
+    leaves: usize,
+    node: usize,
+    number: u64,
+) -> Part<A, B>
+    requires leaves { HasLeaves pass.old.view.shape leaves }
+    requires knows { KnowsTable (face A.parts B.parts) pass.old.view }
+    requires inner { IsInner pass.old.view.shape node }
+    requires named { HasEntry pass.old.view.seen node number }
+    ensures table { pass.new.table ≡ pass.old.table }
+    ensures goes { Goes (face A.parts B.parts) 0 [] pass.old.view pass.new.view }
+    ensures took { Took pass.old.view pass.new.view 3 }
+    ensures part { IsPartOf A.parts B.parts pass.old.view node number result.count result.a result.b }
+{
+    let count = pass.load_record_word(number, RecordField::Count);
+    let a = pass.load_record_word(number, RecordField::A);
+    let b = pass.load_record_word(number, RecordField::B);
+    part_of_words(count, a, b)
+}
+
+// What the leaf or node at a place tells, of which this word was loaded.
+#[inline(always)]
+pub(crate) fn any_part<A: Monoid, B: Monoid>(
+    pass: &mut WordPass<A, B>,
+    leaves: usize,
+    place: usize,
+    word: u64,
+) -> Part<A, B>
+    requires leaves { HasLeaves pass.old.view.shape leaves }
+    requires knows { KnowsTable (face A.parts B.parts) pass.old.view }
+    requires place { place < place_count pass.old.view.shape }
+    requires named { HasEntry pass.old.view.seen place word }
+    ensures table { pass.new.table ≡ pass.old.table }
+    ensures goes { Goes (face A.parts B.parts) 0 [] pass.old.view pass.new.view }
+    ensures took { Took pass.old.view pass.new.view (part_steps pass.old.view.shape place) }
+    ensures part { IsPartOf A.parts B.parts pass.old.view place word result.count result.a result.b }
+{
+    if place < leaves {
+        leaf_part(place, word)
+    } else {
+        node_part(pass, leaves, place, word)
+    }
+}

@@ -1,0 +1,104 @@
+//! One try to bring a node up to its children.
+ghost use Rattle.std.specs.Prelude.{◌≡◌, ℕ, ◌+◌, ◌^◌, ◌<◌, [], ◌∷◌, slice_index, false};
+ghost use Rattle.aug_core.specs.Faces.{face};
+ghost use Rattle.aug_core.specs.Addresses.{place_count, IsInner};
+ghost use Rattle.aug_core.specs.Told.{KnowsTable};
+ghost use Rattle.aug_core.specs.inside.Refreshes.{HasNewest, SaysLoaded, Published};
+ghost use Rattle.aug_trie.specs.inside.Goes.{Goes, Took, HasLeaves, HasRoom, IsFree};
+ghost use Rattle.aug_trie.specs.inside.Points.{QuietStep, TryOver};
+
+use crate::updates::parts::{Part, any_part};
+use aug_core::RecordField;
+use aug_monoid::Monoid;
+use aug_words::WordPass;
+
+// Loads the word of a leaf or a node: one step.
+#[inline(always)]
+pub(crate) fn look<A: Monoid, B: Monoid>(
+    pass: &mut WordPass<A, B>,
+    leaves: usize,
+    place: usize,
+) -> u64
+    requires leaves { HasLeaves pass.old.view.shape leaves }
+    requires knows { KnowsTable (face A.parts B.parts) pass.old.view }
+    requires place { place < place_count pass.old.view.shape }
+    ensures table { pass.new.table ≡ pass.old.table }
+    ensures goes { Goes (face A.parts B.parts) 0 [] pass.old.view pass.new.view }
+    ensures took { Took pass.old.view pass.new.view 1 }
+    ensures step { QuietStep pass.old.view pass.new.view }
+    ensures newest { HasNewest pass.new.view.seen place result }
+{
+    if place < leaves {
+        pass.load_leaf(place)
+    } else {
+        pass.load_node(place)
+    }
+}
+
+// The words of a record over two children with these words, of which these parts were told.
+#[inline(always)]
+pub(crate) fn five_words<A: Monoid, B: Monoid>(
+    left: u64,
+    right: u64,
+    l: Part<A, B>,
+    r: Part<A, B>,
+) -> [u64; 5]
+    requires few { l.count + r.count < 2 ^ 64 }
+    ensures { result ≡ left ∷ right ∷ (l.count + r.count) ∷ A.parts.to_word (A.parts.join l.a r.a) ∷ B.parts.to_word (B.parts.join l.b r.b) ∷ [] }
+{
+    let count = l.count + r.count;
+    let a = l.a.join(r.a).to_word();
+    let b = l.b.join(r.b).to_word();
+    [left, right, count, a, b]
+}
+
+// Fills an own record and tries to publish it: six steps.
+#[inline(always)]
+fn publish<A: Monoid, B: Monoid>(
+    pass: &mut WordPass<A, B>,
+    node: usize,
+    from: u64,
+    number: u64,
+    five: [u64; 5],
+) -> bool
+    requires inner { IsInner pass.old.view.shape node }
+    requires knows { KnowsTable (face A.parts B.parts) pass.old.view }
+    requires room { HasRoom pass.old.view number 1 }
+    requires loaded { SaysLoaded (face A.parts B.parts) pass.old.view.shape pass.old.view.seen node from five }
+    ensures table { pass.new.table ≡ pass.old.table }
+    ensures goes { Goes (face A.parts B.parts) (number + 1) [] pass.old.view pass.new.view }
+    ensures took { Took pass.old.view pass.new.view 6 }
+    ensures published { Published pass.old.view.shape node from (slice_index five 0) (slice_index five 1) result pass.new.view.seen }
+    ensures again { result ≡ false → IsFree pass.new.view number }
+{
+    pass.store_record_word(number, RecordField::Left, five[0]);
+    pass.store_record_word(number, RecordField::Right, five[1]);
+    pass.store_record_word(number, RecordField::Count, five[2]);
+    pass.store_record_word(number, RecordField::A, five[3]);
+    pass.store_record_word(number, RecordField::B, five[4]);
+    pass.try_node(node, from, number)
+}
+
+// One try at a node: 9 steps where its children are leaves, else 15. True if the record was published.
+#[inline(always)]
+pub(crate) fn refresh<A: Monoid, B: Monoid>(
+    pass: &mut WordPass<A, B>,
+    leaves: usize,
+    node: usize,
+    number: u64,
+) -> bool
+    requires leaves { HasLeaves pass.old.view.shape leaves }
+    requires inner { IsInner pass.old.view.shape node }
+    requires knows { KnowsTable (face A.parts B.parts) pass.old.view }
+    requires room { HasRoom pass.old.view number 1 }
+    ensures table { pass.new.table ≡ pass.old.table }
+    ensures over { TryOver (face A.parts B.parts) pass.old.view node number result pass.new.view }
+{
+    let from = look(pass, leaves, node);
+    let child = 2 * (node - leaves);
+    let left = look(pass, leaves, child);
+    let right = look(pass, leaves, child + 1);
+    let l = any_part(pass, leaves, child, left);
+    let r = any_part(pass, leaves, child + 1, right);
+    publish(pass, node, from, number, five_words(left, right, l, r))
+}

@@ -1,0 +1,11 @@
+use Rattle.std.proofs.Common.{rules, eqb, ◌≡◌}
+use prog.Atomic.{either}
+use Rattle.ruled_lock.proofs.LockKeeps.{tries, tries_again, not_free}
+use Rattle.ruled_lock.proofs.lock.RuledLock.acquire.Goals as goal
+
+pub compare_exchange-requires : goal.compare_exchange-requires
+compare_exchange-requires g c = (search rules, search rules, tries g.P.LockRule.holds g.M.Lesson.fact _ _ _ (λ n. either (eqb n 0) 1 n) 0 1 not_free c.requires.free.0 c.requires.free.1 c.requires.rule)
+
+pub swap-requires : goal.swap-requires
+swap-requires g c = let same : c.loop.pass.me ≡ c.args.pass.now.me = search rules in let id : c.loop.pass.id ≡ c.args.pass.now.id = search rules in
+    (search rules, search rules, tries_again g.P.LockRule.holds g.M.Lesson.fact _ _ _ _ _ id same c.requires.free.0 c.requires.free.1 c.requires.rule)

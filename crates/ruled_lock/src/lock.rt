@@ -1,0 +1,124 @@
+//! The lock.
+ghost use Rattle.std.specs.Prelude.{◌≡◌, ◌<◌, [], ◌∷◌, IfOk, IfSome, IsSome, None, Some};
+ghost use Rattle.ruled_lock.specs.Locks.{client_of, IsSamePass, IsFree, Holds, Learns, TurnsAt, Forks};
+
+use crate::holding::Holding;
+use crate::plays::{Cut, Give, Try};
+use crate::rule::{Lesson, LockRule, Outcome};
+use atomic_table::{Seat, Split, Table, TableRule};
+use std::alloc::{AllocError, Global};
+use std::marker::PhantomData;
+use std::sync::Wait;
+
+pub struct Locked<P> {
+    rule: PhantomData<P>,
+}
+
+impl<T, V, P: LockRule<T, V>> TableRule<Option<T>, Holding<T, V>, ()> for Locked<P> {
+    ghost use Rattle.ruled_lock.specs.Locks.{IsLocked, idle};
+
+    ghost holds = { λ _. IsLocked P.holds };
+
+    ghost first = { λ _. idle P.first };
+}
+
+/// A pass of a lock. It has no bytes, and its view is what the caller's rule sees of it.
+pub type Pass<T, V> = Seat<Option<T>, Holding<T, V>>;
+
+/// A value that one thread at a time has, under a rule of the caller's.
+pub struct RuledLock<T, V, P: LockRule<T, V>> {
+    // The word is 0 where the value is at home, 1 where a pass holds it, and 2 where one does and a thread may sleep.
+    pub table: Table<Option<T>, Holding<T, V>, (), Locked<P>, Global>,
+    ghost counts: { (table.shared.table_id.words ≡ 1) × (table.shared.table_id.slots ≡ 1) },
+}
+
+impl<T: Drop, V, P: LockRule<T, V>> Drop for RuledLock<T, V, P> {
+    fn drop(self) {
+        let RuledLock { table } = self;
+        drop(table);
+    }
+}
+
+impl<T, V, P: LockRule<T, V>> RuledLock<T, V, P> {
+    /// A lock of this value, and its first pass.
+    pub fn new(alloc: Global, value: T) -> Result<(RuledLock<T, V, P>, Pass<T, V>), AllocError>
+    where
+        T: Drop,
+        requires rule { P.holds value (P.first ∷ []) }
+        ensures { IfOk result (λ l. (l.1.table_id ≡ l.0.table.shared.table_id) × (l.1.id ≡ 0) × IsFree l.1 × (client_of l.1 ≡ P.first)) }
+    {
+        let mut slots = Vec::with_capacity(alloc, 1)?;
+        slots.push_reserved(Some(value));
+        match Table::new(alloc, &[0], slots, &()) {
+            Ok((table, pass)) => Ok((RuledLock { table }, pass)),
+            Err(_) => Err(AllocError),
+        }
+    }
+
+    /// Cuts a view in two: one more pass.
+    pub fn another<M: Split<V>>(&self, pass: &mut Pass<T, V>) -> Pass<T, V>
+        requires lock { pass.old.table_id ≡ self.now.table.shared.table_id }
+        requires rule { Forks P.holds pass.old.id (client_of pass.old) (M.left (client_of pass.old)) (M.right (client_of pass.old)) }
+        ensures same { IsSamePass pass.old pass.new }
+        ensures free { IsFree pass.old → IsFree pass.new }
+        ensures left { client_of pass.new ≡ M.left (client_of pass.old) }
+        ensures new { (result.table_id ≡ pass.old.table_id) × IsFree result × (client_of result ≡ M.right (client_of pass.old)) }
+    {
+        self.table.shared.split_seat::<Cut<M>>(pass)
+    }
+
+    /// Takes the value out, and waits while another pass has it.
+    pub fn take<M: Lesson<T, V>, R: Wait>(&self, rt: &R, pass: &mut Pass<T, V>) -> T
+        requires lock { pass.old.table_id ≡ self.now.table.shared.table_id }
+        requires free { IsFree pass.old }
+        requires rule { Learns P.holds pass.old.id (client_of pass.old) M.fact }
+        ensures same { IsSamePass pass.old pass.new }
+        ensures view { client_of pass.new ≡ client_of pass.old }
+        ensures holds { Holds result None pass.new }
+        ensures fact { M.fact (client_of pass.old) result }
+    {
+        self.acquire::<M, R>(rt, pass);
+        match self.table.shared.exchange(pass, 0, None) {
+            Some(value) => value,
+            None => unreachable!(),
+        }
+    }
+
+    // Takes the slot, and waits while another pass has it.
+    fn acquire<M: Lesson<T, V>, R: Wait>(&self, rt: &R, pass: &mut Pass<T, V>)
+        requires lock { pass.old.table_id ≡ self.now.table.shared.table_id }
+        requires free { IsFree pass.old }
+        requires rule { Learns P.holds pass.old.id (client_of pass.old) M.fact }
+        ensures same { IsSamePass pass.old pass.new }
+        ensures view { client_of pass.new ≡ client_of pass.old }
+        ensures holds { (t : T) × Holds t (Some t) pass.new × M.fact (client_of pass.old) t }
+    {
+        if self.table.shared.compare_exchange::<Try<M>>(pass, 0, 0, 1) == 0 {
+            return;
+        }
+        for _ in rt.forever() {
+            if self.table.shared.swap::<Try<M>>(pass, 0, 2) == 0 {
+                return;
+            }
+            self.table.shared.park(rt, 0, 2);
+        }
+        unreachable!()
+    }
+
+    /// Puts a value back, in the place of the one that was taken.
+    pub fn put<M: Outcome<T, V>>(&self, pass: &mut Pass<T, V>, value: T)
+        requires lock { pass.old.table_id ≡ self.now.table.shared.table_id }
+        requires holds { (t : T) × Holds t None pass.old × TurnsAt P.holds pass.old.id (client_of pass.old) t value M.then }
+        ensures same { IsSamePass pass.old pass.new }
+        ensures free { IsFree pass.new }
+        ensures then { IfSome pass.old.me.0.taken (λ t. M.then (client_of pass.old) t value (client_of pass.new)) }
+    {
+        match self.table.shared.exchange(pass, 0, Some(value)) {
+            Some(_) => unreachable!(),
+            None => {}
+        }
+        if self.table.shared.swap::<Give<M>>(pass, 0, 0) == 2 {
+            self.table.shared.wake_one(0);
+        }
+    }
+}

@@ -2,12 +2,16 @@
 """Installs the library for other languages below a folder of its own, as both compilers of the toolchain build it, and runs the tests and
 examples of bindings/ over it, and those in C under valgrind as well.
 
-usage: tests/library.py [--names]
+usage: tests/library.py [--names | --after-ci]
 
---names builds nothing: it compares the names of the calls and the codes alone. Without it the libraries are proved first where that was not done yet. It says what it leaves out where a C compiler, cargo or valgrind is missing. The last line is 'N passed, M failed', and the exit status is 0 where none
-failed. It needs Python 3.8 or later and the toolchain.
+What is not proved yet is proved first. --after-ci is for a tree in which `rt ci` has just run: the library is proved once for both compilers, over
+the libraries below it as that run left them, which `rt lib` would prove again. --names builds nothing, and compares the names of the calls and
+the codes alone. It says what it leaves out where a C compiler, cargo or valgrind is missing. The last line is 'N passed, M failed', and the exit
+status is 0 where none failed. It needs Python 3.8 or later and the toolchain.
 """
 
+import importlib.machinery
+import importlib.util
 import os
 import re
 import shutil
@@ -49,6 +53,11 @@ def said_by(*words, status=0, **how):
     return ran.stdout
 
 
+def runs(tool):
+    """Whether a tool is there and runs."""
+    return bool(shutil.which(tool)) and subprocess.run([tool, "--version"], stdin=subprocess.DEVNULL, stdout=subprocess.DEVNULL, stderr=subprocess.DEVNULL).returncode == 0
+
+
 class Names(unittest.TestCase):
     """The calls have the same names everywhere."""
 
@@ -79,14 +88,38 @@ class Names(unittest.TestCase):
         self.assertEqual({int(code) for code in re.findall(r"(-\d+):", python)} | {-1}, want)
 
 
+def archives(folder):
+    """The archive of each compiler, by the compiler's name, built over the libraries that `rt ci` left, from one proof."""
+    loader = importlib.machinery.SourceFileLoader("rt", os.path.realpath(shutil.which("rt")))
+    rt = importlib.util.module_from_spec(importlib.util.spec_from_loader("rt", loader))
+    loader.exec_module(rt)
+    crate = next(it for it in rt.rtlib.crates_below(TOP) if it.name == "aug_c")
+    words = crate.words(["--jobs", str(min(os.cpu_count() or 1, 4))], keeps=False)
+    checked = os.path.join(folder, "checked")
+    said = said_by(rt.rtlib.RATTLE, "check", *words, "-o", checked, cwd=crate.folder, timeout=3000)
+    assert said.splitlines()[-1].startswith("logic=proved "), said
+    for flag in ("--logic-built", "--jobs"):
+        at = words.index(flag)
+        del words[at : at + 2]
+    words += ["--crate-checked", checked, "--toolchain", f"{rt.KIT}/toolchain"]
+    made = {backend: os.path.join(folder, f"{backend}.a") for backend in BACKENDS}
+    for backend, archive in made.items():
+        said_by(rt.rtlib.RATTLE, "build", *words, "--backend", backend, "-o", archive, cwd=crate.folder)
+    return made
+
+
 class Installed:
     """The library as one compiler builds it."""
+
+    # The archives, if they are built already.
+    archives = {}
 
     @classmethod
     def setUpClass(cls):
         cls.folder = tempfile.mkdtemp()
         cls.addClassCleanup(shutil.rmtree, cls.folder, True)
-        said_by(os.path.join(TOP, "tools", "install"), cls.folder, cls.backend, timeout=3000)
+        words = ["--archive", cls.archives[cls.backend], cls.folder] if cls.archives else [cls.folder, cls.backend]
+        said_by(os.path.join(TOP, "tools", "install"), *words, timeout=3000)
 
     def compiled(self, *source, words=()):
         program = os.path.join(self.folder, os.path.basename(source[-1]).partition(".")[0])
@@ -145,26 +178,26 @@ class Crate:
 
 
 def main(words):
-    classes, parts = [Names], []
     if words == ["--names"]:
         print("library.py: the library is not built, and what runs over it is left out: tests/library.py alone runs all")
-        return run_classes("library.py", classes)
-    if words:
-        print("usage: tests/library.py [--names]", file=sys.stderr)
+        return run_classes("library.py", [Names])
+    if words not in ([], ["--after-ci"]):
+        print("usage: tests/library.py [--names | --after-ci]", file=sys.stderr)
         return 2
-    if shutil.which(CC) and shutil.which("ar"):
+    parts = []
+    if runs(CC) and runs("ar"):
         parts.append(Installed)
         for tool, part in (("valgrind", Checked), ("cargo", Crate)):
-            if shutil.which(tool):
+            if runs(tool):
                 parts.append(part)
             else:
                 print(f"library.py: no {tool}: its tests are left out")
     else:
         print(f"library.py: no C compiler {CC}, or no ar: the library is not built, and what runs over it is left out")
-    if parts:
-        for backend in BACKENDS:
-            classes.append(type(f"By_{backend}", (*parts, unittest.TestCase), {"backend": backend}))
-    return run_classes("library.py", classes)
+    with tempfile.TemporaryDirectory() as folder:
+        made = archives(folder) if parts and words else {}
+        given = [{"backend": backend, "archives": made} for backend in BACKENDS if parts]
+        return run_classes("library.py", [Names, *(type(f"By_{it['backend']}", (*parts, unittest.TestCase), it) for it in given)])
 
 
 if __name__ == "__main__":

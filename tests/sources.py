@@ -92,7 +92,7 @@ def functions(text, start):
     """The functions of a text whose line begins so."""
     lines = text.splitlines()
     for number, line in enumerate(lines):
-        name = re.match(start + r"fn (\w+)", line)
+        name = re.match(start + r'(?:extern "C" )?fn (\w+)', line)
         if name:
             said = signature_and_contract(lines[number:])
             first = next((at for at, line in enumerate(said) if CLAUSE.match(line)), len(said))
@@ -109,14 +109,15 @@ def parts(text):
     yield Part("", "", text), "pub "
 
 
-def calls(crate):
-    """The public calls of a crate: those of its types and traits, and its functions."""
+def calls(crate, exports=False):
+    """The public calls of a crate: those of its types and traits, and its functions. What it exports to C is among them if it is asked for."""
     names = exported(crate)
     found = []
     for path in files(crate, "src/**/*.rt"):
         for part, start in parts(read(path)):
             for call in functions(part.body, start):
-                if names is None or (part.owner or call.name) in names:
+                is_export = 'extern "C"' in call.signature
+                if exports if is_export else names is None or (part.owner or call.name) in names:
                     name = f"{call.name} of {part.owner}" if part.owner else call.name
                     found.append(Call(name, call, part, path))
     return found

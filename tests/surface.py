@@ -63,7 +63,7 @@ def laws(crate):
 def wrong_calls(text, crates):
     """What is wrong with the table of calls, and how many calls it lists."""
     paths = {os.path.basename(path): path for path in crates}
-    there = {crate: calls(path) for crate, path in paths.items()}
+    there = {crate: calls(path, exports=True) for crate, path in paths.items()}
     wrong, listed, crate = [], collections.defaultdict(list), ""
     for cells in rows(text, "Crate"):
         crate = cells[0].strip("`") or crate

@@ -69,6 +69,21 @@ opened_at handles updates counts set round first crew ports count laid b of_roun
       laid_out = subst (λ (z : ℕ). IsLayout (shape_of z handles updates (2 ^ z))) (sym b.bits_are) laid;
     }
 
+-- another list of ends of the same lanes
+pub renewed : (handles updates : ℕ) (counts : LiveCounts) (round : RoundFacts) (crew : CrewFacts) (ports new : List KnownFacts) (count count' : ℕ)
+    → IsWorking handles updates counts round crew ports count → All (IsOf round counts.rounds) new → count' ≡ count → IsWorking handles updates counts round crew new count'
+renewed handles updates counts round crew ports new count count' w all same = let lanes = w.lanes in record {
+  together = w.together;
+  all_out = w.all_out ∙ sym same;
+  none_back = w.none_back;
+  of_round = all;
+  lanes = omega arith;
+  counted = w.counted;
+  few_inserts = w.few_inserts;
+  few_removals = w.few_removals;
+  laid_out = w.laid_out;
+}
+
 -- each handle of the first round is new
 pub all_new : (set : SetFacts) (handles updates : ℕ) (round : RoundFacts) (first : CrewFacts) (ends : List HandleFacts) → BeginsRound set.pairs set.bits handles updates round first → All (IsFirst round) ends → All (IsNew set updates) ends
 all_new set handles updates round first ends b all k d low = let f = all k d low in record {

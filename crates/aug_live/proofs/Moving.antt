@@ -1,7 +1,8 @@
 -- A fact of each element, from the list that is taken apart to the list that grows; and what went back to a crew.
 use Rattle.std.proofs.Common.{◌≡◌, ℕ, zero, suc, ◌+◌, ◌<◌, List, [], ◌∷◌, ◌++◌, get_or, sym, ap, ◌∙◌, subst, arith}
-use Rattle.std.specs.Prelude.{All}
-use Rattle.std.proofs.lemmas.List.Elements.{All-append}
+use Rattle.std.specs.Prelude.{All, take, drop}
+use Rattle.std.specs.List.{insert, remove}
+use Rattle.std.proofs.lemmas.List.Elements.{All-append, All-take, All-drop}
 use Rattle.aug_core.specs.Cuts.{Cut}
 use Rattle.aug_trie.specs.History.{IsPrefix, IsHistory}
 use Rattle.aug_trie.specs.Round.{RoundFacts}
@@ -25,6 +26,12 @@ module _ {A : Type 0} (P : A → Type 0) where
 
   pub one_more : (xs ys : List A) (x : A) → ys ≡ xs ++ x ∷ [] → All P xs → P x → All P ys
   one_more xs ys x is all this = subst (All P) (sym is) (All-append P xs (x ∷ []) all (one x this))
+
+  -- a fact of each element, where one is taken out and another is put in its place
+  pub put_in : (xs : List A) (i : ℕ) (x : A) → All P xs → P x → All P (insert (remove xs i) i x)
+  put_in xs i x all this =
+      let rest = All-append P (take i xs) (drop (suc i) xs) (All-take P i xs all) (All-drop P (suc i) xs all) in
+      All-append P (take i (remove xs i)) (x ∷ drop i (remove xs i)) (All-take P i (remove xs i) rest) (All-append P (x ∷ []) (drop i (remove xs i)) (one x this) (All-drop P i (remove xs i) rest))
 
 -- what is in a history is in each later one
 back_on : (round : RoundFacts) (era : ℕ) (h h' : List Cut) (v : KnownFacts) → IsPrefix h h' → IsBackIn round era h v → IsBackIn round era h' v

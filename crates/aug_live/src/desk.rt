@@ -1,5 +1,6 @@
 //! The desk: the roller's ends of all lanes, and the round that goes on or the set at rest.
-ghost use Rattle.std.specs.Prelude.{◌≡◌, ◌+◌, ◌≤◌, [], length, IfOk, IfErr, vec_capacity};
+ghost use Rattle.std.specs.Prelude.{◌≡◌, ◌+◌, ◌≤◌, [], length, IfOk, IfErr, IfSome, vec_capacity};
+ghost use Rattle.aug_live.specs.inside.Rolls.{IsHandleEnd};
 
 use crate::counts::LiveCounts;
 use crate::end::End;
@@ -21,6 +22,7 @@ pub(crate) struct Working<A: Monoid, B: Monoid> {
     pub(crate) handles: u32,
     pub(crate) updates: u32,
     pub(crate) counts: LiveCounts,
+    pub(crate) bits: u32,
     pub(crate) round: Arc<Round<A, B>, Global>,
     pub(crate) crew: Crew<A, B>,
     pub(crate) ports: Vec<End<A, B>>,
@@ -39,7 +41,8 @@ impl<A: Monoid, B: Monoid> Model for Working<A, B> {
     ghost view = { λ _. tt };
 
     ghost invariant = { λ w. IsWorking w.handles w.updates w.counts (arc_value w.round) w.crew w.ports.items (vec_len w.ports)
-        × (w.room.items ≡ []) × (vec_len w.ports ≤ vec_capacity w.room) × (w.list.items ≡ []) × (2 ^ (arc_value w.round).bits ≤ vec_capacity w.list) };
+        × (w.room.items ≡ []) × (vec_len w.ports ≤ vec_capacity w.room) × (w.list.items ≡ []) × (2 ^ (arc_value w.round).bits ≤ vec_capacity w.list)
+        × ((arc_value w.round).bits ≡ w.bits) };
 }
 
 /// A trie at rest: its set, and the roller's ends of all lanes, in which no pass lies.
@@ -86,6 +89,7 @@ impl<A: Monoid, B: Monoid> Working<A, B> {
             ports,
             room,
             list,
+            ..
         } = self;
         let (ended, ports) = finish(rt, counts.rounds, round, crew, ports, room);
         let inserts = counts.inserts + u64::from(ended.inserts());
@@ -103,6 +107,50 @@ impl<A: Monoid, B: Monoid> Working<A, B> {
             set: ended.into_members_in(list),
             ports,
         }
+    }
+
+    /// Gives a lane to a new handle, whose end it answers with the bits of its keys, unless there is no such lane.
+    pub(crate) fn renew<R: Wait>(
+        self,
+        rt: &R,
+        lane: usize,
+        first: End<A, B>,
+    ) -> (Working<A, B>, Option<(End<A, B>, u32)>)
+        requires first { first.kind ≡ 0 }
+        ensures handle { IfSome result.1 (λ h. IsHandleEnd h.1 h.0) }
+    {
+        if lane >= self.ports.len() {
+            return (self, None);
+        }
+        let Working {
+            alloc,
+            handles,
+            updates,
+            counts,
+            bits,
+            round,
+            crew,
+            mut ports,
+            room,
+            list,
+        } = self;
+        let (port, end) = ports.remove(lane).renew(rt, first);
+        let Ok(()) = ports.insert(lane, port) else {
+            unreachable!()
+        };
+        let working = Working {
+            alloc,
+            handles,
+            updates,
+            counts,
+            bits,
+            round,
+            crew,
+            ports,
+            room,
+            list,
+        };
+        (working, Some((end, bits)))
     }
 }
 
@@ -152,6 +200,7 @@ impl<A: Monoid, B: Monoid> Resting<A, B> {
             };
             return Err((resting, LiveError::Exhausted));
         }
+        let bits = set.bits();
         let Ok(room) = NextRoom::new(alloc, set.universe(), ports.len()) else {
             let resting = Resting {
                 alloc,
@@ -189,6 +238,7 @@ impl<A: Monoid, B: Monoid> Resting<A, B> {
                 inserts: counts.inserts,
                 removals: counts.removals,
             },
+            bits,
             round,
             crew,
             ports,
@@ -221,6 +271,30 @@ impl<A: Monoid, B: Monoid> Place<A, B> {
         match self.stop(rt).begin(rt) {
             Ok(working) => (Place::On(working), Ok(())),
             Err((resting, cause)) => (Place::Rest(resting), Err(cause)),
+        }
+    }
+
+    /// Gives a lane to a new handle. If the trie is at rest the next round begins first.
+    pub(crate) fn renew<R: Wait>(
+        self,
+        rt: &R,
+        lane: usize,
+        first: End<A, B>,
+    ) -> (Place<A, B>, Result<(End<A, B>, u32), LiveError>)
+        requires first { first.kind ≡ 0 }
+        ensures handle { IfOk result.1 (λ h. IsHandleEnd h.1 h.0) }
+    {
+        let working = match self {
+            Place::On(working) => working,
+            Place::Rest(resting) => match resting.begin(rt) {
+                Ok(working) => working,
+                Err((resting, cause)) => return (Place::Rest(resting), Err(cause)),
+            },
+        };
+        let (working, end) = working.renew(rt, lane, first);
+        match end {
+            Some(end) => (Place::On(working), Ok(end)),
+            None => (Place::On(working), Err(LiveError::NoLane)),
         }
     }
 

@@ -15,6 +15,12 @@ pub enum LiveError {
 
     /// Refusal 3: more than 2^64 - 2^32 rounds were begun, or keys put in or taken out. No machine gets there.
     Exhausted,
+
+    /// Refusal 4: the lane of the handle was given to a newer one.
+    Replaced,
+
+    /// Refusal 5: there is no lane of this number.
+    NoLane,
 }
 
 impl fmt::Display for LiveError {
@@ -28,6 +34,8 @@ impl fmt::Display for LiveError {
             LiveError::OutOfMemory => "OutOfMemory",
             LiveError::Closed => "Closed",
             LiveError::Exhausted => "Exhausted",
+            LiveError::Replaced => "Replaced",
+            LiveError::NoLane => "NoLane",
         })
     }
 }

@@ -10,7 +10,7 @@ ghost use Rattle.aug_live.specs.inside.Changes.{ChangesTo};
 use crate::desk::Place;
 use crate::end::End;
 use crate::error::LiveError;
-use crate::lane::Lane;
+use crate::lane::{Lane, Missed};
 use crate::look::Look;
 use crate::update::Update;
 use crate::work::Work;
@@ -24,7 +24,7 @@ use std::sync::{Arc, Mutex, Wait};
 pub(crate) type Desk<A, B> = Mutex<Option<Place<A, B>>>;
 
 /// What a thread updates a trie with, and looks at it. It may go to another thread, and has a lane of its own. A handle that is
-/// dropped leaves its lane behind, and holds nobody up.
+/// dropped leaves its lane behind, and holds nobody up; `Live::handle` gives the lane to a new one.
 ///
 /// A call waits for a roll-over and for nothing else: it then goes on in the next round. Where its own updates of the round are
 /// spent, it rolls the round over itself, which waits for the update that another handle is in, and for each look.
@@ -91,14 +91,14 @@ impl<A: Monoid, B: Monoid> Handle<A, B> {
     {
         let mut handle = self;
         for _ in rt.forever() {
-            let era = match handle.try_look(rt) {
+            let missed = match handle.try_look(rt) {
                 Ok(look) => return Ok(look),
-                Err((same, era)) => {
+                Err((same, missed)) => {
                     handle = same;
-                    era
+                    missed
                 }
             };
-            if let Err(cause) = handle.past(rt, era) {
+            if let Err(cause) = handle.past(rt, missed) {
                 return Err((handle, cause));
             }
         }
@@ -119,19 +119,19 @@ impl<A: Monoid, B: Monoid> Handle<A, B> {
         ensures not_made { IfErr result (λ _. Follows self.old self.new) }
     {
         for _ in rt.forever() {
-            let era = match self.try_update(rt, k, update) {
+            let missed = match self.try_update(rt, k, update) {
                 Ok(done) => return Ok(done),
-                Err(era) => era,
+                Err(missed) => missed,
             };
-            if let Err(cause) = self.past(rt, era) {
+            if let Err(cause) = self.past(rt, missed) {
                 return Err(cause);
             }
         }
         unreachable!()
     }
 
-    // Makes an update, unless the round has to roll over first. Then the answer is that round.
-    fn try_update<R: Wait>(&mut self, rt: &R, k: u32, update: Update) -> Result<Outcome, u64>
+    // Makes an update, unless the round has to roll over first, or a newer handle has the lane.
+    fn try_update<R: Wait>(&mut self, rt: &R, k: u32, update: Update) -> Result<Outcome, Missed>
         requires key { k < 2 ^ self.old.half.round.bits }
         ensures made { IfOk result (λ done. Makes 1 (ChangesTo update k done) self.old self.new) }
         ensures not_made { IfErr result (λ _. Follows self.old self.new) }
@@ -145,8 +145,8 @@ impl<A: Monoid, B: Monoid> Handle<A, B> {
         done
     }
 
-    // Takes a snapshot, unless the next round has to begin first. Then the answer is the last one.
-    fn try_look<R: Wait>(self, rt: &R) -> Result<Look<A, B>, (Handle<A, B>, u64)>
+    // Takes a snapshot, unless the next round has to begin first, or a newer handle has the lane.
+    fn try_look<R: Wait>(self, rt: &R) -> Result<Look<A, B>, (Handle<A, B>, Missed)>
         ensures looks { IfOk result (λ look. Makes 0 (λ a b. TakesSnapshot a.knows b.knows (snapshot_cut b look.snapshot.number)) self (handle_of look)) }
         ensures at_rest { IfErr result (λ e. Follows self e.0) }
     {
@@ -154,9 +154,9 @@ impl<A: Monoid, B: Monoid> Handle<A, B> {
         let Some(end) = end else { unreachable!() };
         let (out, lane) = end.take_to_work(rt);
         if lane.work.is_none() {
-            let era = lane.era;
+            let missed = lane.missed();
             let end = Some(out.put(lane));
-            return Err((Handle { end, bits, desk }, era));
+            return Err((Handle { end, bits, desk }, missed));
         }
         let (work, Lane { era, .. }) = lane.into_work();
         let Work { round, half } = work;
@@ -174,8 +174,11 @@ impl<A: Monoid, B: Monoid> Handle<A, B> {
         })
     }
 
-    // Rolls the round of this era over, unless somebody else did.
-    fn past<R: Wait>(&self, rt: &R, era: u64) -> Result<(), LiveError> {
+    // Rolls the round that was missed over, unless somebody else did.
+    fn past<R: Wait>(&self, rt: &R, missed: Missed) -> Result<(), LiveError> {
+        let Missed::Round(era) = missed else {
+            return Err(LiveError::Replaced);
+        };
         let mut guard = self.desk.lock(rt);
         let Some(place) = guard.take() else {
             return Err(LiveError::Closed);

@@ -13,12 +13,20 @@ use aug_trie::PassHalf;
 use std::marker::Model;
 
 /// What lies in a lane: the number of its round, counted from 1, what its last pass knew, and that pass, unless the trie is at
-/// rest.
+/// rest or the lane was given to a newer handle.
 #[derive(Drop)]
 pub(crate) struct Lane<A: Monoid, B: Monoid> {
     pub(crate) era: u64,
     pub(crate) last: Seen<Option<PassHalf<A, B>>>,
     pub(crate) work: Option<Work<A, B>>,
+    pub(crate) is_given_on: bool,
+}
+
+/// Why a lane makes no update and no look: its round has to roll over, or the lane was given to a newer handle.
+#[derive(Drop)]
+pub(crate) enum Missed {
+    Round(u64),
+    Replaced,
 }
 
 impl<A: Monoid, B: Monoid> Model for Lane<A, B> {
@@ -41,6 +49,7 @@ impl<A: Monoid, B: Monoid> Lane<A, B> {
             era: 0,
             last: Seen::of(&none),
             work: None,
+            is_given_on: false,
         }
     }
 
@@ -56,6 +65,7 @@ impl<A: Monoid, B: Monoid> Lane<A, B> {
             era,
             last,
             work: Some(Work { round, half }),
+            is_given_on: false,
         }
     }
 
@@ -65,32 +75,70 @@ impl<A: Monoid, B: Monoid> Lane<A, B> {
         ensures work { result.0 ≡ self.at.half }
         ensures rest { result.1 ≡ record { works = false; at = self.at } }
     {
-        let Lane { era, last, work } = self;
+        let Lane {
+            era,
+            last,
+            work,
+            ..
+        } = self;
         let Some(work) = work else { unreachable!() };
         let rest = Lane {
             era,
             last,
             work: None,
+            is_given_on: false,
         };
         (work, rest)
     }
 
-    /// Makes an update of a key, unless the updates are spent or no pass lies in the lane. Then the answer is the lane's round.
-    pub(crate) fn update(self, k: u32, update: Update) -> (Lane<A, B>, Result<Outcome, u64>)
+    /// A lane without a pass, as its handle finds it once a newer one has its place.
+    pub(crate) fn given_on(self) -> Lane<A, B>
+        ensures { result ≡ self }
+    {
+        let Lane {
+            era,
+            last,
+            work,
+            ..
+        } = self;
+        Lane {
+            era,
+            last,
+            work,
+            is_given_on: true,
+        }
+    }
+
+    /// Why no pass lies in the lane, or its updates are spent.
+    pub(crate) fn missed(&self) -> Missed {
+        if self.is_given_on {
+            Missed::Replaced
+        } else {
+            Missed::Round(self.era)
+        }
+    }
+
+    /// Makes an update of a key, unless the updates are spent or no pass lies in the lane.
+    pub(crate) fn update(self, k: u32, update: Update) -> (Lane<A, B>, Result<Outcome, Missed>)
         requires { k < 2 ^ self.at.half.round.bits }
         ensures made { IfOk result.1 (λ done. Makes 1 (ChangesTo update k done) self.at result.0.at) }
         ensures same { IfErr result.1 (λ _. result.0.at ≡ self.at) }
         ensures worked { Worked self result.0 }
     {
         if self.work.is_none() {
-            let era = self.era;
-            return (self, Err(era));
+            let missed = self.missed();
+            return (self, Err(missed));
         }
         let (work, Lane { era, last, .. }) = self.into_work();
         let (work, done) = work.update(k, update);
         let Some(done) = done else {
-            let work = Some(work);
-            return (Lane { era, last, work }, Err(era));
+            let lane = Lane {
+                era,
+                last,
+                work: Some(work),
+                is_given_on: false,
+            };
+            return (lane, Err(Missed::Round(era)));
         };
         (Lane::working(era, work), Ok(done))
     }

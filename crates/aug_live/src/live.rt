@@ -95,6 +95,7 @@ impl<A: Monoid, B: Monoid> Live<A, B> {
                 inserts: 0,
                 removals: 0,
             },
+            bits,
             round,
             crew,
             ports,
@@ -114,6 +115,36 @@ impl<A: Monoid, B: Monoid> Live<A, B> {
         let (place, rolled) = place.next(rt);
         *guard = Some(place);
         rolled
+    }
+
+    /// Gives a lane to a new handle, if its own was dropped or is in a thread that ended. Lanes are numbered from 0, in the order of
+    /// the handles that `open` gave. The new handle goes on where the old one left the lane. If the old one is still there, it answers
+    /// `Replaced` from then on, and the call waits for the update or look that it is in. No round ends for it.
+    ///
+    /// Refused with `NoLane` and with `OutOfMemory`, and as `roll` is if the trie is at rest. After a refusal all is as it was.
+    pub fn handle<R: Wait>(
+        &self,
+        rt: &R,
+        alloc: Global,
+        lane: u32,
+    ) -> Result<Handle<A, B>, LiveError>
+        ensures bits { IfOk result (λ h. h.half.round.bits ≤ 16) }
+    {
+        let Ok(first) = End::new(alloc) else {
+            return Err(LiveError::OutOfMemory);
+        };
+        let mut guard = self.desk.lock(rt);
+        let Some(place) = guard.take() else {
+            return Err(LiveError::Closed);
+        };
+        let (place, renewed) = place.renew(rt, lane as usize, first);
+        *guard = Some(place);
+        let (end, bits) = renewed?;
+        Ok(Handle {
+            end: Some(end),
+            bits,
+            desk: share(rt, &self.desk),
+        })
     }
 
     /// Gives the set back, and what the rounds came to. It waits for the update or look that each handle is in. From then on

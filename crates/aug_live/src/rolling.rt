@@ -1,5 +1,5 @@
 //! The end of a round whose passes lie in the lanes, and the beginning of the next.
-ghost use Rattle.std.specs.Prelude.{◌≡◌, ℕ, ◌+◌, ◌<◌, ◌≤◌, ◌^◌, [], All, IfOk, IfErr, vec_len, vec_capacity, length};
+ghost use Rattle.std.specs.Prelude.{◌≡◌, ℕ, true, ◌+◌, ◌<◌, ◌≤◌, ◌^◌, [], All, IfOk, IfErr, vec_len, vec_capacity, length};
 ghost use Rattle.std.specs.Arc.{arc_value};
 ghost use Rattle.aug_model.specs.Keys.{IsKeySet, keys_of};
 ghost use Rattle.aug_core.specs.Layout.{IsLayout};
@@ -157,6 +157,24 @@ impl<A: Monoid, B: Monoid> End<A, B> {
         let (out, _) = self.take_to_roll(rt);
         let work = Work::start(rt, round, crew);
         out.begin(Lane::working(era + 1, work))
+    }
+
+    /// Moves the pass of the lane to a new lane, whose first end this is, and cuts that into the roller's end and a new handle's. The old
+    /// handle finds its lane given on.
+    pub(crate) fn renew<R: Wait>(self, rt: &R, first: End<A, B>) -> (End<A, B>, End<A, B>)
+        requires roller { self.kind ≡ 1 }
+        requires works { self.works ≡ true }
+        requires some { 0 < self.at.era }
+        requires first { first.kind ≡ 0 }
+        ensures port { IsOf self.at.half.round self.at.era result.0 }
+        ensures handle { (result.1.kind ≡ 2) × (result.1.at ≡ result.0.at) }
+    {
+        let (out, lane) = self.take_to_roll(rt);
+        let (work, lane) = lane.into_work();
+        let era = lane.era;
+        drop(out.rest(lane.given_on()));
+        let (out, _) = first.take(rt);
+        out.open(Lane::working(era, work)).fork(rt)
     }
 
     /// Puts a pass of the first round in, and cuts the end into the roller's and the handle's.

@@ -7,4 +7,6 @@ mod opening;
 #[cfg(test)]
 mod refused;
 #[cfg(test)]
+mod renewing;
+#[cfg(test)]
 mod rolling;

@@ -225,6 +225,8 @@ fn a_refusal_is_printed_by_its_name(rt: HostRuntime) -> Result<(), BeginError> {
         (LiveError::OutOfMemory, "OutOfMemory"),
         (LiveError::Closed, "Closed"),
         (LiveError::Exhausted, "Exhausted"),
+        (LiveError::Replaced, "Replaced"),
+        (LiveError::NoLane, "NoLane"),
     ] {
         let text = format!(in rt.alloc(); "{cause}").expect(&rt, "memory");
         assert_eq!(rt; text.as_str(), name);

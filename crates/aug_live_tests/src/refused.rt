@@ -48,6 +48,14 @@ fn seen<R: Wait + Abort>(rt: &R, hand: Hand) -> (Hand, u32) {
     (look.done(), size)
 }
 
+// A new handle for the one lane, again if memory was refused.
+fn renewed<R: Wait + Abort>(rt: &R, alloc: Global, live: &Trie) -> Hand {
+    if let Ok(hand) = live.handle(rt, alloc, 0) {
+        return hand;
+    }
+    live.handle(rt, alloc, 0).expect(rt, "a second refusal")
+}
+
 // Opens a trie with one handle, again if memory was refused.
 fn opened_again<R: Wait + Abort>(rt: &R, alloc: Global) -> Result<(Trie, Hand), BeginError> {
     let set = match no_keys(alloc, 4) {
@@ -78,8 +86,10 @@ fn refused_memory_loses_nothing_of_a_live_trie(rt: HostRuntime) -> Result<(), Be
         assert_eq!(rt; put_in(&rt, &mut hand, k), true);
     }
     assert_eq!(rt; take_out(&rt, &mut hand, 2), true);
-    let (mut hand, size) = seen(&rt, hand);
+    let (hand, size) = seen(&rt, hand);
     assert_eq!(rt; size, 4);
+    drop(hand);
+    let mut hand = renewed(&rt, rt.alloc(), &live);
     assert_eq!(rt; put_in(&rt, &mut hand, 4), false);
     let rolled = live.roll(&rt);
     if rolled == Err(LiveError::OutOfMemory) {

@@ -12,7 +12,7 @@ use std::thread::Threads;
 
 // A thread's handle, its own keys, which leave this remainder divided by 4, and the seed of what it does.
 #[derive(Drop)]
-struct Job {
+pub(super) struct Job {
     hand: Hand,
     model: KeySet,
     lane: u32,
@@ -21,11 +21,11 @@ struct Job {
 
 // What a thread did: how many keys it put in and took out, and whether all that it saw was right.
 #[derive(Drop)]
-struct Did {
-    inserts: u64,
-    removals: u64,
-    right: bool,
-    closed: bool,
+pub(super) struct Did {
+    pub(super) inserts: u64,
+    pub(super) removals: u64,
+    pub(super) right: bool,
+    pub(super) closed: bool,
 }
 
 // The next number from a seed.
@@ -82,7 +82,7 @@ impl Did {
 }
 
 // Makes a job's updates, with a look after each few.
-fn work<R: Wait>(rt: &R, job: Job) -> Did {
+pub(super) fn work<R: Wait>(rt: &R, job: Job) -> Did {
     let mut job = job;
     let mut did = Did {
         inserts: 0,
@@ -118,7 +118,7 @@ fn work<R: Wait>(rt: &R, job: Job) -> Did {
 }
 
 // A job for each handle.
-fn jobs(rt: &impl Abort, alloc: Global, hands: Vec<Hand>, steps: u32) -> Vec<Job> {
+pub(super) fn jobs(rt: &impl Abort, alloc: Global, hands: Vec<Hand>, steps: u32) -> Vec<Job> {
     let mut jobs = Vec::new(alloc);
     let mut lane = 0;
     for hand in hands {
@@ -139,7 +139,7 @@ fn jobs(rt: &impl Abort, alloc: Global, hands: Vec<Hand>, steps: u32) -> Vec<Job
 fn four_threads_see_their_own_updates_in_every_round(rt: HostRuntime) -> Result<(), BeginError> {
     let (live, hands) = opened(&rt, rt.alloc(), 6, 4, 1000)?;
     let r = &rt;
-    let jobs = jobs(r, rt.alloc(), hands, 50_000);
+    let jobs = jobs(r, rt.alloc(), hands, 200_000);
     let done = thread::map_vec(r, jobs, &|job| work(r, job)).expect(r, "memory");
     let mut sum = 0u64;
     let mut inserts = 0u64;
@@ -151,7 +151,7 @@ fn four_threads_see_their_own_updates_in_every_round(rt: HostRuntime) -> Result<
     let (set, counts) = live.close(r);
     assert_eq!(rt; u64::from(set.size()), sum);
     assert_eq!(rt; counts.inserts, inserts);
-    assert!(rt; counts.rounds >= 50);
+    assert!(rt; counts.rounds >= 200);
     Ok(())
 }
 

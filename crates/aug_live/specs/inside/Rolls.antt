@@ -1,5 +1,5 @@
 -- How a round ends whose passes lie in the lanes, and how the next begins.
-use Rattle.std.specs.Prelude.{◌≡◌, ℕ, List, [], true, false}
+use Rattle.std.specs.Prelude.{◌≡◌, ℕ, ◌<◌, ◌≤◌, List, [], true, false}
 use Rattle.aug_core.specs.Cuts.{Cut}
 use Rattle.aug_trie.specs.History.{IsPrefix}
 use Rattle.aug_trie.specs.Pass.{PassFacts}
@@ -42,6 +42,13 @@ pub record Starts (round : RoundFacts) (v : KnownFacts) : Type 0 where
   pub kind : v.kind ≡ 2
   pub era_is : v.at.era ≡ 1
   pub fresh : IsFresh round v.at.half
+
+-- a handle's end of a lane in which a pass lies, of a round with these bits
+pub record IsHandleEnd (bits : ℕ) (v : KnownFacts) : Type 0 where
+  pub kind : v.kind ≡ 2
+  pub some_era : 0 < v.at.era
+  pub bits_are : v.at.half.round.bits ≡ bits
+  pub few_bits : bits ≤ 16
 
 -- and its handle is where that pass stands
 pub record IsFirst (round : RoundFacts) (handle : HandleFacts) : Type 0 where

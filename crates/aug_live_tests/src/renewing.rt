@@ -1,0 +1,116 @@
+//! Lanes that are given to new handles.
+
+use super::opening::{Trie, insert, listed, opened, remove};
+use super::rolling::{jobs, work};
+use aug_live::LiveError;
+use aug_trie::BeginError;
+use std::alloc::Global;
+use std::sync::Wait;
+use std::thread;
+
+#[test]
+fn a_new_handle_goes_on_where_a_dropped_one_ended(rt: HostRuntime) -> Result<(), BeginError> {
+    let (live, mut hands) = opened(&rt, rt.alloc(), 6, 2, 3)?;
+    let mut hand = hands.pop().expect(&rt, "a handle");
+    for k in 0..8 {
+        assert_eq!(rt; insert(&rt, &mut hand, k), Ok(true));
+    }
+    drop(hand);
+    let Ok(hand) = live.handle(&rt, rt.alloc(), 1) else {
+        panic!(rt; "no handle");
+    };
+    assert_eq!(rt; hand.universe(), 64);
+    let (mut hand, list) = listed(&rt, rt.alloc(), hand);
+    assert_eq!(rt; list.len(), 8);
+    assert_eq!(rt; insert(&rt, &mut hand, 0), Ok(false));
+    for k in 8..16 {
+        assert_eq!(rt; insert(&rt, &mut hand, k), Ok(true));
+    }
+    assert_eq!(rt; live.roll(&rt), Ok(()));
+    assert_eq!(rt; remove(&rt, &mut hand, 0), Ok(true));
+    let (set, counts) = live.close(&rt);
+    assert_eq!(rt; (set.size(), counts.inserts, counts.removals), (15, 16, 1));
+    Ok(())
+}
+
+#[test]
+fn the_old_handle_of_a_lane_that_was_given_on_is_refused(
+    rt: HostRuntime,
+) -> Result<(), BeginError> {
+    let (live, mut hands) = opened(&rt, rt.alloc(), 6, 1, 3)?;
+    let mut old = hands.pop().expect(&rt, "a handle");
+    assert_eq!(rt; insert(&rt, &mut old, 5), Ok(true));
+    let Ok(mut new) = live.handle(&rt, rt.alloc(), 0) else {
+        panic!(rt; "no handle");
+    };
+    assert_eq!(rt; insert(&rt, &mut old, 6), Err(LiveError::Replaced));
+    assert_eq!(rt; live.roll(&rt), Ok(()));
+    assert_eq!(rt; remove(&rt, &mut old, 5), Err(LiveError::Replaced));
+    match old.look(&rt) {
+        Ok(look) => {
+            drop(look.done());
+            panic!(rt; "a look of a lane that was given on");
+        }
+        Err((_, cause)) => {
+            assert_eq!(rt; cause, LiveError::Replaced);
+        }
+    }
+    assert_eq!(rt; remove(&rt, &mut new, 5), Ok(true));
+    assert_eq!(rt; live.close(&rt).0.size(), 0);
+    Ok(())
+}
+
+#[test]
+fn there_are_as_many_lanes_as_handles(rt: HostRuntime) -> Result<(), BeginError> {
+    let (live, hands) = opened(&rt, rt.alloc(), 6, 3, 3)?;
+    for lane in [3, 4, u32::MAX] {
+        let refused = live.handle(&rt, rt.alloc(), lane);
+        assert_eq!(rt; refused.err(), Some(LiveError::NoLane));
+    }
+    drop(hands);
+    for lane in 0..3 {
+        let Ok(mut hand) = live.handle(&rt, rt.alloc(), lane) else {
+            panic!(rt; "no handle");
+        };
+        assert_eq!(rt; insert(&rt, &mut hand, lane), Ok(true));
+    }
+    assert_eq!(rt; live.close(&rt).0.size(), 3);
+    Ok(())
+}
+
+// Puts key 3 in and takes it out so many times in turn, each time with a new handle for the lane 3. Whether all was right.
+fn renew_often<R: Wait>(rt: &R, alloc: Global, live: &Trie, times: u32) -> bool {
+    let mut right = true;
+    for number in 0..times {
+        let Ok(mut hand) = live.handle(rt, alloc, 3) else {
+            return false;
+        };
+        right &= if number % 2 == 0 {
+            insert(rt, &mut hand, 3) == Ok(true)
+        } else {
+            remove(rt, &mut hand, 3) == Ok(true)
+        };
+    }
+    right
+}
+
+#[test]
+fn handles_are_dropped_and_made_anew_while_others_work(rt: HostRuntime) -> Result<(), BeginError> {
+    let (live, mut hands) = opened(&rt, rt.alloc(), 6, 4, 1000)?;
+    drop(hands.pop());
+    let (r, alloc, trie) = (&rt, rt.alloc(), &live);
+    let jobs = jobs(r, alloc, hands, 50_000);
+    let (done, right) = thread::join(
+        r,
+        || thread::map_vec(r, jobs, &|job| work(r, job)),
+        || renew_often(r, alloc, trie, 1001),
+    );
+    assert!(rt; right);
+    let mut sum = 1u64;
+    for did in done.expect(r, "memory") {
+        assert!(rt; did.right && !did.closed);
+        sum = sum.saturating_add(did.inserts).saturating_sub(did.removals);
+    }
+    assert_eq!(rt; u64::from(live.close(r).0.size()), sum);
+    Ok(())
+}

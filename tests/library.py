@@ -10,8 +10,6 @@ the codes alone. It says what it leaves out where a C compiler, cargo or valgrin
 status is 0 where none failed. It needs Python 3.8 or later and the toolchain.
 """
 
-import importlib.machinery
-import importlib.util
 import os
 import re
 import shutil
@@ -20,6 +18,7 @@ import sys
 import tempfile
 import unittest
 
+import kit
 from programs import run_classes
 
 TOP = os.path.dirname(os.path.dirname(os.path.abspath(__file__)))
@@ -90,10 +89,8 @@ class Names(unittest.TestCase):
 
 def archives(folder):
     """The archive of each compiler, by the compiler's name, built over the libraries that `rt ci` left, from one proof."""
-    loader = importlib.machinery.SourceFileLoader("rt", os.path.realpath(shutil.which("rt")))
-    rt = importlib.util.module_from_spec(importlib.util.spec_from_loader("rt", loader))
-    loader.exec_module(rt)
-    crate = next(it for it in rt.rtlib.crates_below(TOP) if it.name == "aug_c")
+    rt = kit.loaded()
+    crate = kit.crates(rt, TOP)["aug_c"]
     words = crate.words(["--jobs", str(min(os.cpu_count() or 1, 4))], keeps=False)
     checked = os.path.join(folder, "checked")
     said = said_by(rt.rtlib.RATTLE, "check", *words, "-o", checked, cwd=crate.folder, timeout=3000)

@@ -13,12 +13,14 @@ import subprocess
 import sys
 import unittest
 
+import edits
 import programs
 import promises
 import refused
 import surface
 from folders import InFolder
 from refusing import TESTS, Refusing, compile_c
+from types import SimpleNamespace
 from terms import free_names
 
 TOP = os.path.dirname(TESTS)
@@ -594,6 +596,43 @@ Modules of `one`: `Books` (without `AreSteps`).
             ("f {x = e} (x : A) {0} \"let y\" 2 .0", ["f", "e", "A"]),
         ]:
             self.assertEqual(free_names(text), names, text)
+
+
+class Edits(InFolder):
+    """tests/edits.py tells which edits cannot be applied, and which the compiler does not take."""
+
+    # Stands in for the compiler: it takes no crate in which the word stands.
+    COMPILER = "#!/bin/sh\nif grep -rq nonsense src; then echo 'src/lib.rt:1:1: error: no such word'; exit 1; fi\n"
+
+    def run_edits(self, *new, names=()):
+        self.write("one/src/lib.rt", "fn nothing() {}\n")
+        rows = [self.write(f"one/must-fail/{number}.edit", f"file: src/lib.rt\nold: nothing\nnew: {text}\n") for number, text in enumerate(new)]
+        crate = SimpleNamespace(name="one", folder=os.path.join(self.folder, "one"), words=lambda flags: flags)
+        rtlib = SimpleNamespace(PARTS=["src", "proofs"], RATTLE=self.write("rattle", self.COMPILER, 0o755), crates_below=lambda top: [crate])
+        read = lambda edit, folder: ({}, "it cannot be applied") if "odd" in open(edit).read() else ({"src/lib.rt": open(edit).read()}, None)
+        rt = SimpleNamespace(rtlib=rtlib, edits_of=lambda crate: (rows, []), read_edit=read)
+        return quietly(edits.main, list(names), rt, self.folder)
+
+    def test_edits_that_are_taken(self):
+        self.assertEqual(self.run_edits("something", "anything", names=["one"]), (0, "2 passed, 0 failed\n"))
+
+    def test_edit_that_the_compiler_does_not_take(self):
+        status, said = self.run_edits("something", "nonsense")
+        self.assertEqual((status, said.splitlines()[-1]), (1, "1 passed, 1 failed"))
+        self.assertIn("1.edit: src/lib.rt:1:1: error: no such word", said)
+
+    def test_edit_that_cannot_be_applied(self):
+        status, said = self.run_edits("odd")
+        self.assertEqual((status, said.splitlines()[-1]), (1, "0 passed, 1 failed"))
+        self.assertIn("it cannot be applied", said)
+
+    def test_no_edit(self):
+        self.assertEqual(self.run_edits()[0], 1)
+
+    def test_crate_that_is_not_there(self):
+        with contextlib.redirect_stderr(io.StringIO()) as said:
+            self.assertEqual(self.run_edits("something", names=["two"])[0], 2)
+        self.assertIn("crates.txt has no two", said.getvalue())
 
 
 class Gate(InFolder):

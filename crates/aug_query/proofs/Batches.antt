@@ -1,9 +1,9 @@
 -- Batches of queries: slices of their keys, and what the two halves of a slice load.
-use Rattle.std.proofs.Common.{add-one, min, ◌≡◌, ℕ, ◌+◌, ◌-◌, ◌*◌, ◌%◌, ◌^◌, ◌<◌, ◌≤◌, ◌==◌, Bool, true, false, eqb, ◌||◌, if◌then◌else◌, nat_lt, List, [], ◌∷◌, ◌++◌, length, map, replicate, get_or, Some, is_some, refl, ap, sym, ◌∙◌, subst, arith, append_assoc, take, drop, length-append, length-take, length-drop, get_or-take, get_or-drop, get_or-append-add}
+use Rattle.std.proofs.Common.{zero, suc, add-one, min, ◌≡◌, ℕ, ◌+◌, ◌-◌, ◌*◌, ◌/◌, ◌%◌, ◌^◌, ◌<◌, ◌≤◌, ◌==◌, Bool, true, false, eqb, ◌||◌, if◌then◌else◌, nat_lt, List, [], ◌∷◌, ◌++◌, length, map, replicate, get_or, Some, is_some, refl, ap, sym, ◌∙◌, subst, arith, append_assoc, take, drop, length-append, length-take, length-drop, get_or-take, get_or-drop, get_or-append-add}
 use Rattle.std.specs.List.{All}
 use Rattle.std.specs.List.Sorted.{IsNonDecreasing, IsPartitionPoint}
 use Rattle.std.proofs.lemmas.Bool.{eqb-true, eqb-false, ltb-true, ltb-false}
-use Rattle.std.proofs.Math.Nat.{pow-suc, mul_comm, le-min, min-le_left, min-le_right, mul-le-mul_left}
+use Rattle.std.proofs.Math.Nat.{div-eq_of_lt-le, pow-suc, mul_comm, le-min, min-le_left, min-le_right, mul-le-mul_left}
 use Rattle.std.proofs.lemmas.Nat.{pow_pos}
 use Rattle.std.proofs.lemmas.List.{append-nil, get_or_append_left, map-append}
 use Rattle.std.proofs.lemmas.List.Elements.{All-head, All-tail}
@@ -85,6 +85,10 @@ has_weight (p ∷ ps) k = either (eqb p.0 k) (has_weight ps k)
 pub leaf_values : {X : Type 0} (f : ℕ → X) (x : X) (level place : ℕ) (keys : List ℕ) → level ≡ 0 → AreBetween (first_key level place) (end_key level place) keys → x ≡ f place → replicate (length keys) x ≡ map f keys
 leaf_values f x level place keys leaf between is = same_values f x keys (λ j d l. is ∙ ap f (leaf_low level place (get_or keys j d) leaf (between.from_first j d l) (between.below_end j d l)))
 
+-- the node that covers the one key of a slice is at that key's place
+pub key_place_of : (level place : ℕ) (keys : List ℕ) → AreBetween (first_key level place) (end_key level place) keys → length keys ≡ 1 → get_or keys 0 0 / 2 ^ level ≡ place
+key_place_of level place keys between one = let some : 0 < length keys = omega (arith, one) in div-eq_of_lt-le (2 ^ level) (between.from_first 0 0 some) (between.below_end 0 0 some)
+
 -- the places of a node's children are few
 pub child_few : (level place : ℕ) → IsPlace level place → 1 ≤ level → 2 * place + 1 < 2 ^ 16
 child_few level place at inner =
@@ -152,6 +156,14 @@ both_leaves level n a b inner e =
 -- a leaf is one
 pub one_leaf : (level n : ℕ) → 1 ≤ n → 1 ≤ leaves_below level n
 one_leaf level n more = le-min more (pow_pos level)
+
+-- as many nodes as a node is above its leaves are on the way to one of its keys
+pub way_few : (level n : ℕ) → n ≡ 1 → level ≤ nodes_below level n
+way_few level n one = le-min (omega (arith, ap (λ m. level * m) one)) (omega (arith, wide level))
+  where
+    wide : (l : ℕ) → l + 2 ≤ 2 * 2 ^ l
+    wide zero = omega arith
+    wide (suc l) = let half = pow-suc 2 l in omega (arith, half, wide l)
 
 -- two parts of a slice are the whole of it
 pub part_lengths : (level : ℕ) (keys low high : List ℕ) → keys ≡ low ++ high → (length keys ≡ length low + length high) × (level * length keys ≡ level * length low + level * length high)

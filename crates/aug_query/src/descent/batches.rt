@@ -1,5 +1,5 @@
 //! The same query of many keys. What their ways share is walked once.
-ghost use Rattle.std.specs.Prelude.{◌≡◌, ℕ, ◌+◌, ◌-◌, ◌*◌, ◌^◌, ◌≤◌, ◌++◌, min, length, map, replicate, Option, is_some, vec_len, vec_capacity};
+ghost use Rattle.std.specs.Prelude.{◌≡◌, ℕ, ◌+◌, ◌-◌, ◌*◌, ◌/◌, ◌^◌, ◌≤◌, ◌++◌, min, length, map, replicate, Option, is_some, vec_len, vec_capacity};
 ghost use Rattle.std.specs.List.Sorted.{IsNonDecreasing};
 ghost use Rattle.aug_model.specs.Keys.{is_member, list_of};
 ghost use Rattle.aug_model.specs.Queries.{rank_of, weight_of};
@@ -8,8 +8,9 @@ ghost use Rattle.aug_query.specs.Descend.{Descends};
 ghost use Rattle.aug_query.specs.inside.Batches.{AreBetween, nodes_below, leaves_below};
 ghost use Rattle.aug_query.specs.inside.NodePlaces.{IsPlace};
 
+use super::counts::toward_counting;
 use crate::Descend;
-use crate::toward::universe;
+use crate::toward::{toward, universe};
 use aug_monoid::Monoid;
 
 /// Puts how many members are below each of `keys` at the end of `out`, which has room for that. No key is below the one
@@ -135,12 +136,13 @@ fn tell_each<A: Monoid, B: Monoid, D: Descend<A, B>, T: Told>(
     ensures descends { Descends D.set_of D.loads_of D.Names D.KeepsRest (nodes_below level (length keys.now)) (leaves_below level (length keys.now)) 0 0 tree.old tree.new }
 {
     if level == 0 {
-        let weight = if tree.count(0, place, node) == 0 {
-            None
-        } else {
-            Some(tree.weight(place, node))
-        };
-        repeat(T::of_weight(weight), keys.len(), out);
+        let told = tell_leaf(tree, place, node);
+        repeat(told, keys.len(), out);
+        return;
+    }
+    if keys.len() == 1 {
+        let told = tell_one(tree, level, keys[0], node);
+        out.push_reserved(told);
         return;
     }
     let (low, high) = halves(level, place, keys);
@@ -152,6 +154,45 @@ fn tell_each<A: Monoid, B: Monoid, D: Descend<A, B>, T: Told>(
         let right = tree.right(level - 1, place, node);
         tell_each(tree, level - 1, 2 * place + 1, &right, high, out);
     }
+}
+
+// What is told of one key, by the node at a level that covers it.
+fn tell_one<A: Monoid, B: Monoid, D: Descend<A, B>, T: Told>(
+    tree: &mut D,
+    level: u32,
+    k: u32,
+    node: &D::Name,
+) -> T
+    requires inner { 1 ≤ level }
+    requires name { D.Names tree.old level (k / 2 ^ level) node.now }
+    ensures answer { result ≡ T.told_of (weight_of (D.set_of tree.old).pairs k) }
+    ensures descends { Descends D.set_of D.loads_of D.Names D.KeepsRest level 1 0 0 tree.old tree.new }
+{
+    let mut lower = level - 1;
+    let mut child = toward(tree, lower, k, node);
+    while lower > 0 {
+        lower -= 1;
+        child = toward(tree, lower, k, &child);
+    }
+    tell_leaf(tree, k, &child)
+}
+
+// What is told of the key of a leaf.
+fn tell_leaf<A: Monoid, B: Monoid, D: Descend<A, B>, T: Told>(
+    tree: &mut D,
+    k: u32,
+    leaf: &D::Name,
+) -> T
+    requires { D.Names tree.old 0 k leaf.now }
+    ensures answer { result ≡ T.told_of (weight_of (D.set_of tree.old).pairs k) }
+    ensures descends { Descends D.set_of D.loads_of D.Names D.KeepsRest 0 1 0 0 tree.old tree.new }
+{
+    let weight = if tree.count(0, k, leaf) == 0 {
+        None
+    } else {
+        Some(tree.weight(k, leaf))
+    };
+    T::of_weight(weight)
 }
 
 // Puts the ranks of keys that the node at a level and a place covers at the end of `out`. So many members are before the node.
@@ -177,6 +218,11 @@ fn rank_each<A: Monoid, B: Monoid, D: Descend<A, B>>(
         repeat(before, keys.len(), out);
         return;
     }
+    if keys.len() == 1 {
+        let rank = rank_one(tree, level, keys[0], node, before);
+        out.push_reserved(rank);
+        return;
+    }
     let (low, high) = halves(level, place, keys);
     if !low.is_empty() {
         let left = tree.left(level - 1, place, node);
@@ -194,6 +240,31 @@ fn rank_each<A: Monoid, B: Monoid, D: Descend<A, B>>(
             out,
         );
     }
+}
+
+// The rank of one key, by the node at a level that covers it. So many members are before the node.
+fn rank_one<A: Monoid, B: Monoid, D: Descend<A, B>>(
+    tree: &mut D,
+    level: u32,
+    k: u32,
+    node: &D::Name,
+    before: u32,
+) -> u32
+    requires inner { 1 ≤ level }
+    requires name { D.Names tree.old level (k / 2 ^ level) node.now }
+    requires before { before ≡ rank_of (list_of (D.set_of tree.old)) (first_key level (k / 2 ^ level)) }
+    ensures answer { result ≡ rank_of (list_of (D.set_of tree.old)) k }
+    ensures descends { Descends D.set_of D.loads_of D.Names D.KeepsRest level 0 0 level tree.old tree.new }
+{
+    let mut lower = level - 1;
+    let (mut child, mut below) = toward_counting(tree, lower, k, node, before);
+    while lower > 0 {
+        lower -= 1;
+        let (next, more) = toward_counting(tree, lower, k, &child, below);
+        child = next;
+        below = more;
+    }
+    below
 }
 
 // The keys that the left child covers, and those that the right one does, of some that a node above leaves covers.

@@ -48,7 +48,7 @@ pub fn rank<A: Monoid, B: Monoid, D: Descend<A, B>>(tree: &mut D, k: u32) -> u32
 // The child, at this level, that covers `k`, of the node above it that does, and how many members come before that child, of which so
 // many come before the node.
 #[inline(always)]
-fn toward_counting<A: Monoid, B: Monoid, D: Descend<A, B>>(
+pub(super) fn toward_counting<A: Monoid, B: Monoid, D: Descend<A, B>>(
     tree: &mut D,
     level: u32,
     k: u32,

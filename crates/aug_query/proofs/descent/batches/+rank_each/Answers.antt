@@ -4,9 +4,9 @@ use Rattle.aug_model.specs.Queries.{rank_of}
 use Rattle.aug_query.specs.Tree.{first_key}
 use Rattle.aug_query.specs.Descend.{Descends}
 use Rattle.aug_query.proofs.Nodes.{stands, leaf_first}
-use Rattle.aug_query.proofs.Descending.{still}
+use Rattle.aug_query.proofs.Descending.{still, within}
 use Rattle.aug_query.proofs.Ways.{ranks_few}
-use Rattle.aug_query.proofs.Batches.{nodes_from, part_lengths, leaf_values, child_few, one_part, no_part, none_left, some_left, both_parts, child_ranked, parts_ranked, left_before, right_before}
+use Rattle.aug_query.proofs.Batches.{nodes_from, part_lengths, leaf_values, key_place_of, way_few, child_few, one_part, no_part, none_left, some_left, both_parts, child_ranked, parts_ranked, left_before, right_before}
 use Rattle.aug_query.proofs.descent.batches.+rank_each.Goals as goal
 use Rattle.aug_query.proofs.descent.batches.+rank_each.Goals.{then-not-is_empty, else-not-is_empty}
 
@@ -15,6 +15,21 @@ returns-then-level-eq0-clause-answer g t c =
     let keys = list_of (g.D.Descend.set_of c.args.tree.now) in
     let before = c.requires.before ∙ ap (rank_of keys) (leaf_first c.args.level c.args.place c.if-level-eq0.true) in
     c.repeat.ensures.items ∙ ap (λ xs. c.args.out.now.items ++ xs) (leaf_values (λ k. rank_of keys k) c.args.before c.args.level c.args.place c.args.keys.now c.if-level-eq0.true c.requires.keys before)
+
+pub rank_one-rank-requires-clause-name : goal.rank_one-rank-requires-clause-name
+rank_one-rank-requires-clause-name g t c =
+    let place = key_place_of c.args.level c.args.place c.args.keys.now c.requires.keys c.if-keys-eq1.true in
+    subst (λ p. g.D.Descend.Names c.args.tree.now c.args.level p c.args.node.now) (sym place) c.requires.name
+
+pub rank_one-rank-requires-clause-before : goal.rank_one-rank-requires-clause-before
+rank_one-rank-requires-clause-before g t c =
+    let place = key_place_of c.args.level c.args.place c.args.keys.now c.requires.keys c.if-keys-eq1.true in
+    c.requires.before ∙ ap (λ p. rank_of (list_of (g.D.Descend.set_of c.args.tree.now)) (first_key c.args.level p)) (sym place)
+
+pub returns-then-keys-eq1-clause-descends : goal.returns-then-keys-eq1-clause-descends
+returns-then-keys-eq1-clause-descends g t c =
+    let few = way_few c.args.level (length c.args.keys.now) c.if-keys-eq1.true in
+    within c.rank_one-rank.ensures.descends few (omega arith) (omega arith) few
 
 pub halves-requires-clause-stands : goal.halves-requires-clause-stands
 halves-requires-clause-stands g t c =

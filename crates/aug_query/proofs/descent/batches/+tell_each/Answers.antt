@@ -1,29 +1,31 @@
-use Rattle.std.proofs.Common.{◌-◌, ◌≡◌, ℕ, ◌*◌, ◌≤◌, ◌++◌, length, map, refl, ap, sym, ◌∙◌, subst, arith}
+use Rattle.std.proofs.Common.{◌-◌, ◌≡◌, ℕ, ◌≤◌, ◌++◌, length, map, refl, ap, sym, ◌∙◌, subst, arith}
 use Rattle.aug_model.specs.Keys.{SetFacts}
 use Rattle.aug_model.specs.Queries.{weight_of}
 use Rattle.aug_query.specs.Descend.{Descends}
 use Rattle.aug_query.specs.inside.Batches.{leaves_below}
 use Rattle.aug_query.proofs.Nodes.{stands}
 use Rattle.aug_query.proofs.Descending.{still, within}
-use Rattle.aug_query.proofs.Ways.{leaf_weighs, leaf_weighs_none}
-use Rattle.aug_query.proofs.Batches.{nodes_from, one_leaf, leaf_values, child_few, one_part, no_part, none_left, some_left, both_parts, child_told, parts_told}
+use Rattle.aug_query.proofs.Batches.{nodes_from, one_leaf, leaf_values, key_place_of, way_few, child_few, one_part, no_part, none_left, some_left, both_parts, child_told, parts_told}
 use Rattle.aug_query.proofs.descent.batches.+tell_each.Goals as goal
-use Rattle.aug_query.proofs.descent.batches.+tell_each.Goals.{then-not-is_empty, else-not-is_empty, then-count-eq0, else-count-eq0}
+use Rattle.aug_query.proofs.descent.batches.+tell_each.Goals.{then-not-is_empty, else-not-is_empty}
 
 pub returns-then-level-eq0-clause-answer : goal.returns-then-level-eq0-clause-answer
 returns-then-level-eq0-clause-answer g t c =
     let set = g.D.Descend.set_of c.args.tree.now in
-    let name = subst (λ l. g.D.Descend.Names c.args.tree.now l c.args.place c.args.node.now) c.if-level-eq0.true c.requires.name in
-    let node = g.met.D.Descend.name_stands c.args.tree.now 0 c.args.place c.args.node.now name in
-    let weighs : c.if-count-eq0.weight ≡ weight_of set.pairs c.args.place = elim c.if-count-eq0.branch [
-      | then-count-eq0 w ↦ w.weight-is ∙ leaf_weighs_none c.args.place c.count.result (λ _. refl) node refl c.count.ensures.value w.if-count-eq0.true
-      | else-count-eq0 w ↦ w.weight-is ∙ leaf_weighs c.args.place c.count.result (λ _. refl) node refl c.count.ensures.value _ w.weight.result (omega (arith, w.if-count-eq0.false)) c.count.ensures.descends.same_set w.weight.ensures
-    ] in
-    let told = c.of_weight.ensures ∙ ap g.T.Told.told_of weighs in
-    c.repeat.ensures.items ∙ ap (λ xs. c.args.out.now.items ++ xs) (leaf_values (λ k. g.T.Told.told_of (weight_of set.pairs k)) c.of_weight.result c.args.level c.args.place c.args.keys.now c.if-level-eq0.true c.requires.keys told)
+    c.repeat.ensures.items ∙ ap (λ xs. c.args.out.now.items ++ xs) (leaf_values (λ k. g.T.Told.told_of (weight_of set.pairs k)) c.tell_leaf-told.result c.args.level c.args.place c.args.keys.now c.if-level-eq0.true c.requires.keys c.tell_leaf-told.ensures.answer)
 
 pub returns-then-level-eq0-clause-descends : goal.returns-then-level-eq0-clause-descends
-returns-then-level-eq0-clause-descends g t c = within c.count.ensures.descends (omega arith) (one_leaf c.args.level (length c.args.keys.now) c.requires.some) (omega arith) (omega arith)
+returns-then-level-eq0-clause-descends g t c = within c.tell_leaf-told.ensures.descends (omega arith) (one_leaf c.args.level (length c.args.keys.now) c.requires.some) (omega arith) (omega arith)
+
+pub tell_one-told-requires-clause-name : goal.tell_one-told-requires-clause-name
+tell_one-told-requires-clause-name g t c =
+    let place = key_place_of c.args.level c.args.place c.args.keys.now c.requires.keys c.if-keys-eq1.true in
+    subst (λ p. g.D.Descend.Names c.args.tree.now c.args.level p c.args.node.now) (sym place) c.requires.name
+
+pub returns-then-keys-eq1-clause-descends : goal.returns-then-keys-eq1-clause-descends
+returns-then-keys-eq1-clause-descends g t c =
+    let way = way_few c.args.level (length c.args.keys.now) c.if-keys-eq1.true in
+    within c.tell_one-told.ensures.descends way (one_leaf c.args.level (length c.args.keys.now) c.requires.some) (omega arith) (omega arith)
 
 pub halves-requires-clause-stands : goal.halves-requires-clause-stands
 halves-requires-clause-stands g t c =

@@ -3,7 +3,7 @@ ghost use Rattle.std.specs.Prelude.{◌≡◌, ◌+◌, ◌*◌, ◌%◌, ◌<�
 ghost use Rattle.augbench.specs.Threads.{lane_of};
 
 use crate::operation::Operation;
-use crate::workload::{Action, Kind, Pool};
+use crate::workload::{Action, BATCH, Kind, Pool};
 use rand_core::{Rng, SeedableRng};
 use rand_xoshiro::SplitMix64;
 
@@ -12,6 +12,9 @@ pub(crate) const BITS: u32 = 16;
 
 /// How many keys there are.
 pub(crate) const UNIVERSE: u32 = 65_536;
+
+// How far the keys of a batch lie apart.
+const GAP: u32 = UNIVERSE / BATCH;
 
 /// The most threads of a round.
 pub(crate) const LANES: u32 = 64;
@@ -118,10 +121,11 @@ impl Keys {
     }
 }
 
-/// A key of a batch, which the batch's one drawn key gives.
+/// A key of a batch, which the batch's one drawn key gives. The keys of a batch rise by equal steps.
 #[inline(always)]
 pub(crate) fn of_batch(drawn: u32, number: u32) -> u32
-    ensures { result < UNIVERSE }
+    ensures is { result ≡ number % BATCH * GAP + drawn % GAP }
+    ensures within { result < UNIVERSE }
 {
-    drawn.wrapping_add(number.wrapping_mul(40_503)) % UNIVERSE
+    number % BATCH * GAP + drawn % GAP
 }

@@ -10,7 +10,7 @@ use crate::lap::Lap;
 use crate::ran::{Plan, Ran, join_all};
 use crate::stint::run;
 use crate::trie::{Half, Hands, Table, Trie};
-use crate::trie_seat::TrieSeat;
+use crate::trie_seat::{Batch, TrieSeat};
 use crate::workload::UPDATES;
 use aug_trie::Round;
 use std::alloc::{AllocError, Global};
@@ -23,6 +23,7 @@ use std::{io, thread};
 struct Job {
     half: Half,
     lane: Lane,
+    batch: Batch,
 }
 
 // What a thread gives back.
@@ -120,7 +121,8 @@ fn jobs(
     let mut jobs = Vec::new(alloc);
     for lane in lanes {
         let half = crew.pass(table)?.into_half();
-        jobs.push(Job { half, lane })?;
+        let batch = Batch::new(alloc)?;
+        jobs.push(Job { half, lane, batch })?;
     }
     Ok(jobs)
 }
@@ -151,9 +153,10 @@ fn work<C: Clock>(clock: &C, table: &Table, job: Job, course: &Course) -> Done
     requires unspent { job.half.spent ≡ 0 }
     ensures { result.half.round ≡ table.now }
 {
-    let Job { half, lane } = job;
+    let Job { half, lane, batch } = job;
     let mut seat = TrieSeat {
         pass: table.pass(half),
+        batch,
     };
     let lap = run(clock, &mut seat, lane, course);
     Done {

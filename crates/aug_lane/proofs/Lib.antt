@@ -1,3 +1,4 @@
 pub mod Opened
 pub mod Kept
 pub mod Reading
+pub mod Turns

@@ -1,3 +1,4 @@
 pub mod Errors
 pub mod Rounds
 pub mod Told
+pub mod InTurn

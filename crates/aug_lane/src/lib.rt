@@ -8,6 +8,7 @@ mod lane;
 mod many;
 mod queries;
 mod running;
+mod updating;
 
 pub use error::{LaneError, OpenError};
 pub use lane::{Lane, Table};

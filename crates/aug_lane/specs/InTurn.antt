@@ -1,0 +1,59 @@
+-- What a lane does that makes one update after another.
+use Rattle.std.specs.Prelude.{◌≡◌, ℕ, ◌+◌, List, [], ◌∷◌, length}
+use Rattle.std.specs.List.{zip}
+use Rattle.aug_model.specs.declared.outcome.Outcome.{Outcome}
+use Rattle.aug_model.specs.declared.outcome.Outcome.TheVariants.{Accepted, Replaced, Refused}
+use Rattle.aug_model.specs.declared.summary.Summary.{Summary}
+use Rattle.aug_trie.specs.Updates.{ComesTo}
+use Rattle.aug_trie.specs.Pass.{PassFacts, GoesOn, StepsOf}
+use Rattle.aug_trie.specs.Node.{Keeps}
+use Rattle.aug_trie.specs.declared.updates.request.Request.{Request}
+use Rattle.aug_trie.specs.declared.updates.request.Request.TheVariants as request
+
+-- each of some things is done in turn, one step for each, and comes to the outcome with its index
+abbrev pub InTurn : {X S : Type 0} → (X → Outcome → S → S → Type 0) → List X → List Outcome → S → S → Type 0
+InTurn does [] [] old new = new ≡ old
+InTurn does [] (done ∷ more) old new = ⊥
+InTurn does (x ∷ xs) [] old new = ⊥
+InTurn {X} {S} does (x ∷ xs) (done ∷ more) old new = (next : S) × does x done old next × InTurn does xs more next new
+
+-- 1 if the set was changed
+abbrev pub change_by : Outcome → ℕ
+change_by Accepted = 1
+change_by Replaced = 1
+change_by Refused = 0
+
+-- how many of the outcomes are of a change
+abbrev pub changes : List Outcome → ℕ
+changes [] = 0
+changes (done ∷ more) = change_by done + changes more
+
+module _ {A B : Type 0} (summary_of : List (ℕ × ℕ) → Summary A B) where
+  -- one update of a key, all that the contract of a single one says
+  pub record OneUpdate (asked : Request) (key : ℕ) (done : Outcome) (old new : PassFacts) : Type 0 where
+    pub comes_to : ComesTo asked key done old.knows new.knows
+    pub goes_on : (steps : ℕ) × GoesOn 1 steps old new
+    pub keeps : Keeps summary_of old new
+    pub steps : StepsOf asked key done old new
+
+  -- so many updates, one after another, of which so many changed the set
+  pub record Updates {X : Type 0} (does : X → Outcome → PassFacts → PassFacts → Type 0) (asked : List X) (changed : ℕ) (old new : PassFacts) : Type 0 where
+    pub done : List Outcome
+    pub in_turn : InTurn does asked done old new
+    pub counts : changed ≡ changes done
+    pub round : new.round ≡ old.round
+    pub lane : new.lane ≡ old.lane
+    pub spent : new.spent ≡ old.spent + length asked
+    pub keeps : Keeps summary_of old new
+
+  -- the keys are put in, each with itself as its weight
+  abbrev pub Inserts : List ℕ → ℕ → PassFacts → PassFacts → Type 0
+  Inserts keys changed old new = Updates (λ key done. OneUpdate request.Insert key done) keys changed old new
+
+  -- the keys are taken out
+  abbrev pub Removes : List ℕ → ℕ → PassFacts → PassFacts → Type 0
+  Removes keys changed old new = Updates (λ key done. OneUpdate request.Remove key done) keys changed old new
+
+  -- the keys are put in with the weights that have their indices
+  abbrev pub Puts : List ℕ → List ℕ → ℕ → PassFacts → PassFacts → Type 0
+  Puts keys weights changed old new = Updates (λ pair done. OneUpdate (request.Put pair.1) pair.0 done) (zip keys weights) changed old new

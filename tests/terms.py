@@ -6,7 +6,7 @@ TOKEN = re.compile(r'"(?:[^"\\]|\\.)*"|[(){}\[\];,]|[^\s(){}\[\];,"]+')
 CLOSING = {"(": ")", "{": "}", "[": "]"}
 
 # Words of the language, which no import brings.
-BUILT_IN = frozenset("→ × ⊥ λ : = | ↦ . _ ? Type Unit tt absurd record let in where elim as unfolding".split())
+BUILT_IN = frozenset("→ × ⊥ ¬ λ : = | ↦ . _ ? Type Unit tt absurd record let in where elim as unfolding".split())
 
 
 def grouped(text):

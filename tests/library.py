@@ -27,7 +27,7 @@ BACKENDS = ["llvm", "rattle"]
 CC = os.environ.get("CC", "cc")
 
 # The fewest tests that each part must have run in one folder.
-LEAST_PYTHON, LEAST_RUST = 6, 5
+LEAST_PYTHON, LEAST_RUST = 7, 6
 
 # What the examples print.
 PRINTED = {
@@ -132,6 +132,10 @@ class Installed:
         said = said_by(self.compiled("c", "tests", "refused.c", words=["-Wl,--wrap=malloc"]))
         self.assertGreaterEqual(int(re.search(r"^ok: (\d+) refused$", said, re.M)[1]), 10)
 
+    def test_c_many_keys(self):
+        said = said_by(self.compiled("c", "tests", "many.c"))
+        self.assertGreaterEqual(int(re.fullmatch(r"ok: (\d+) answers\n", said)[1]), 30)
+
     def test_c_timers(self):
         self.assertEqual(said_by(self.compiled("c", "examples", "timers.c")).splitlines(), PRINTED["timers"])
 
@@ -152,7 +156,7 @@ class Checked:
     """What valgrind says of the C programs."""
 
     def test_c_under_valgrind(self):
-        for name in ("threads", "refused"):
+        for name in ("threads", "refused", "many"):
             words = ["-g", "-Wl,--wrap=malloc"] if name == "refused" else ["-g"]
             program = self.compiled("c", "tests", f"{name}.c", words=words)
             said_by("valgrind", "-q", "--error-exitcode=9", "--leak-check=full", program)

@@ -34,7 +34,8 @@
  *   - Keep a trie's handle on its thread.                                      Not noticed.
  *   - Give each trie of the program a number of its own in aug_open.           Not noticed. With it, a lane that is given to
  *                                                                              the wrong round is answered AUG_OTHER_ROUND.
- *   - Pass arrays that are as long as you say. A null handle is answered AUG_CLOSED by the functions in this header.
+ *   - Pass arrays that are as long as you say, and an `out` that overlaps with nothing else that you pass. A null handle is answered
+ *     AUG_CLOSED by the functions in this header, and a null array AUG_NO_ROOM.
  *   - One allocator behind malloc and free. No call from a signal handler, or from a forked child of a process with threads.
  * A handle that is zeroed, closed, of the other kind, or memory that does not begin with an open handle's mark is
  * answered AUG_CLOSED. That is proved, as is all that the calls answer.
@@ -134,6 +135,17 @@ int64_t aug_remove(aug_lane *lane, uint32_t key);
    changed the key meanwhile and nothing was stored, or as aug_insert. */
 int64_t aug_put(aug_lane *lane, uint32_t key, uint32_t weight);
 
+/* Puts n keys in, each by an update of its own, in their order. Answers how many were not there, or AUG_CLOSED; or AUG_BAD_KEY if one of
+   them is no key of the trie, and AUG_SPENT if the lane has fewer updates left than n. After such an answer no update was made. */
+int64_t aug_insert_all(aug_lane *lane, const uint32_t *keys, size_t n);
+
+/* Takes n keys out. Answers how many were there, or as aug_insert_all. */
+int64_t aug_remove_all(aug_lane *lane, const uint32_t *keys, size_t n);
+
+/* Puts n keys in, each with the weight that has its index, or gives a member this weight. Answers how many of the updates changed the
+   set, or as aug_insert_all; or AUG_NO_ROOM if there are not as many weights as keys. */
+int64_t aug_put_all(aug_lane *lane, const uint32_t *keys, size_t n, const uint32_t *weights, size_t weight_count);
+
 /* How many updates the lane has left, or AUG_CLOSED. */
 int64_t aug_budget(aug_lane *lane);
 
@@ -161,6 +173,13 @@ int64_t aug_before(aug_lane *lane, uint32_t key);
 /* The least member above the key, or AUG_NONE, AUG_CLOSED. */
 int64_t aug_after(aug_lane *lane, uint32_t key);
 
+/* Writes how many members are below each of n keys to the place of `out` with its index. The keys stand in any order. Answers 0, or
+   AUG_CLOSED; or AUG_NO_ROOM if `out` has fewer places than n. Then nothing is written. `out` may not overlap with the keys or the lane. */
+int64_t aug_rank_all(aug_lane *lane, const uint32_t *keys, size_t n, uint32_t *out, size_t room);
+
+/* The same of whether the snapshot has each key, 1 or 0. */
+int64_t aug_has_all(aug_lane *lane, const uint32_t *keys, size_t n, uint8_t *out, size_t room);
+
 /* What the members from `from` on that are below `to` come to. Answers how many they are, or AUG_CLOSED. */
 int64_t aug_range(aug_lane *lane, uint32_t from, uint32_t to, aug_span *span);
 
@@ -178,6 +197,9 @@ static inline int64_t aug_close_(aug_trie *t) { return t ? aug_close(t) : AUG_CL
 static inline int64_t aug_insert_(aug_lane *l, uint32_t k) { return l ? aug_insert(l, k) : AUG_CLOSED; }
 static inline int64_t aug_remove_(aug_lane *l, uint32_t k) { return l ? aug_remove(l, k) : AUG_CLOSED; }
 static inline int64_t aug_put_(aug_lane *l, uint32_t k, uint32_t w) { return l ? aug_put(l, k, w) : AUG_CLOSED; }
+static inline int64_t aug_insert_all_(aug_lane *l, const uint32_t *k, size_t n) { return !l ? AUG_CLOSED : k ? aug_insert_all(l, k, n) : AUG_NO_ROOM; }
+static inline int64_t aug_remove_all_(aug_lane *l, const uint32_t *k, size_t n) { return !l ? AUG_CLOSED : k ? aug_remove_all(l, k, n) : AUG_NO_ROOM; }
+static inline int64_t aug_put_all_(aug_lane *l, const uint32_t *k, size_t n, const uint32_t *w, size_t m) { return !l ? AUG_CLOSED : k && w ? aug_put_all(l, k, n, w, m) : AUG_NO_ROOM; }
 static inline int64_t aug_budget_(aug_lane *l) { return l ? aug_budget(l) : AUG_CLOSED; }
 static inline int64_t aug_look_(aug_lane *l) { return l ? aug_look(l) : AUG_CLOSED; }
 static inline int64_t aug_has_(aug_lane *l, uint32_t k) { return l ? aug_has(l, k) : AUG_CLOSED; }
@@ -187,6 +209,8 @@ static inline int64_t aug_rank_(aug_lane *l, uint32_t k) { return l ? aug_rank(l
 static inline int64_t aug_select_(aug_lane *l, uint32_t i) { return l ? aug_select(l, i) : AUG_CLOSED; }
 static inline int64_t aug_before_(aug_lane *l, uint32_t k) { return l ? aug_before(l, k) : AUG_CLOSED; }
 static inline int64_t aug_after_(aug_lane *l, uint32_t k) { return l ? aug_after(l, k) : AUG_CLOSED; }
+static inline int64_t aug_rank_all_(aug_lane *l, const uint32_t *k, size_t n, uint32_t *o, size_t m) { return !l ? AUG_CLOSED : k && o ? aug_rank_all(l, k, n, o, m) : AUG_NO_ROOM; }
+static inline int64_t aug_has_all_(aug_lane *l, const uint32_t *k, size_t n, uint8_t *o, size_t m) { return !l ? AUG_CLOSED : k && o ? aug_has_all(l, k, n, o, m) : AUG_NO_ROOM; }
 static inline int64_t aug_range_(aug_lane *l, uint32_t a, uint32_t b, aug_span *s) { return l && s ? aug_range(l, a, b, s) : AUG_CLOSED; }
 static inline int64_t aug_drop_lane_(aug_lane *l) { return l ? aug_drop_lane(l) : AUG_CLOSED; }
 #define aug_open aug_open_
@@ -198,6 +222,9 @@ static inline int64_t aug_drop_lane_(aug_lane *l) { return l ? aug_drop_lane(l) 
 #define aug_insert aug_insert_
 #define aug_remove aug_remove_
 #define aug_put aug_put_
+#define aug_insert_all aug_insert_all_
+#define aug_remove_all aug_remove_all_
+#define aug_put_all aug_put_all_
 #define aug_budget aug_budget_
 #define aug_look aug_look_
 #define aug_has aug_has_
@@ -207,6 +234,8 @@ static inline int64_t aug_drop_lane_(aug_lane *l) { return l ? aug_drop_lane(l) 
 #define aug_select aug_select_
 #define aug_before aug_before_
 #define aug_after aug_after_
+#define aug_rank_all aug_rank_all_
+#define aug_has_all aug_has_all_
 #define aug_range aug_range_
 #define aug_drop_lane aug_drop_lane_
 #endif

@@ -12,6 +12,7 @@
 `AUGTRIE_LIB` names the shared library; else it is `libaugtrie.so` beside this file, or where the system looks.
 """
 
+import array
 import ctypes
 import itertools
 import os
@@ -116,13 +117,15 @@ def _library():
     beside = os.path.join(os.path.dirname(os.path.abspath(__file__)), "libaugtrie.so")
     path = os.environ.get("AUGTRIE_LIB") or (beside if os.path.exists(beside) else "libaugtrie.so")
     library = ctypes.CDLL(path)
-    handle, u32 = ctypes.POINTER(_Handle), ctypes.c_uint32
+    handle, u32, many, length = ctypes.POINTER(_Handle), ctypes.c_uint32, ctypes.POINTER(ctypes.c_uint32), ctypes.c_size_t
     types = {
         "open": [handle, u32, u32], "begin": [handle, u32, u32, u32], "open_lane": [handle, handle], "give_back": [handle, handle],
         "end": [handle, ctypes.POINTER(Report)], "close": [handle], "insert": [handle, u32], "remove": [handle, u32],
         "put": [handle, u32, u32], "budget": [handle], "look": [handle], "has": [handle, u32], "weight": [handle, u32], "size": [handle],
         "rank": [handle, u32], "select": [handle, u32], "before": [handle, u32], "after": [handle, u32],
         "range": [handle, u32, u32, ctypes.POINTER(Span)], "drop_lane": [handle],
+        "insert_all": [handle, many, length], "remove_all": [handle, many, length], "put_all": [handle, many, length, many, length],
+        "rank_all": [handle, many, length, many, length], "has_all": [handle, many, length, ctypes.POINTER(ctypes.c_uint8), length],
     }
     for name, arguments in types.items():
         call = getattr(library, f"aug_{name}")
@@ -146,6 +149,15 @@ def _number(value, what):
     if not 0 <= value < 1 << 32:
         raise BadKey(f"{what} is not a number of 32 bits: {value}")
     return value
+
+
+def _numbers(values, what):
+    """Numbers of 32 bits as the library takes them, and how many they are."""
+    try:
+        held = array.array("I", values)
+    except OverflowError as error:
+        raise BadKey(f"{what} is not a number of 32 bits") from error
+    return (ctypes.c_uint32 * len(held))(*held), len(held)
 
 
 class Snapshot:
@@ -192,6 +204,20 @@ class Snapshot:
         """How many members are below a key."""
         return _answer(self._ask("rank", _number(key, "a key")))
 
+    def rank_all(self, keys):
+        """How many members are below each of some keys, as a list. The keys stand in any order."""
+        asked, count = _numbers(keys, "a key")
+        ranks = (ctypes.c_uint32 * count)()
+        _answer(self._ask("rank_all", asked, count, ranks, count))
+        return list(ranks)
+
+    def has_all(self, keys):
+        """Whether each of some keys is a member, as a list."""
+        asked, count = _numbers(keys, "a key")
+        bits = (ctypes.c_uint8 * count)()
+        _answer(self._ask("has_all", asked, count, bits, count))
+        return [bit == 1 for bit in bits]
+
     def before(self, key):
         """The greatest member below a key, or None."""
         return self._found("before", _number(key, "a key"))
@@ -230,6 +256,20 @@ class Lane:
         """Puts a key in with a weight, or gives a member this weight: 'accepted', 'replaced', or 'refused' if another lane came between."""
         done = _answer(self._call("put", _number(key, "a key"), _number(weight, "a weight")))
         return ("refused", "accepted", "replaced")[done]
+
+    def add_all(self, keys):
+        """Puts keys in, each by an update of its own: how many were not there. If one is no key of the trie, or fewer updates are left
+        than there are keys, none is made."""
+        return _answer(self._call("insert_all", *_numbers(keys, "a key")))
+
+    def discard_all(self, keys):
+        """Takes keys out: how many were there. Refused as `add_all` is."""
+        return _answer(self._call("remove_all", *_numbers(keys, "a key")))
+
+    def put_all(self, keys, weights):
+        """Puts keys in, each with the weight that has its index, or gives members these weights: how many updates changed the set.
+        Refused as `add_all` is, and with NoRoom if there are not as many weights as keys."""
+        return _answer(self._call("put_all", *_numbers(keys, "a key"), *_numbers(weights, "a weight")))
 
     @property
     def budget(self):

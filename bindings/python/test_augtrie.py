@@ -26,6 +26,27 @@ def raises(kind, call, *arguments, **named):
 
 
 @test
+def many_keys_go_in_one_call():
+    with Trie(bits=4) as trie:
+        with trie.round(lanes=1, updates=9) as lanes:
+            lane = lanes[0]
+            assert lane.add_all([5, 5, 7, 1]) == 3
+            assert lane.discard_all(range(7, 10, 2)) == 1
+            assert lane.put_all([1, 2], [30, 40]) == 2
+            assert raises(augtrie.BadKey, lane.add_all, [3, 16]) and raises(augtrie.BadKey, lane.add_all, [-1])
+            assert raises(augtrie.Spent, lane.discard_all, [1, 2])
+            assert raises(augtrie.NoRoom, lane.put_all, [1], [])
+            assert lane.add_all([]) == 0 and lane.budget == 1
+            now = lane.look()
+            assert now.rank_all([16, 0, 2]) == [3, 0, 1] and now.rank_all([]) == []
+            assert now.has_all([5, 7, 99]) == [True, False, False]
+            assert list(now) == [1, 2, 5] and now.weight(1) == 30
+            lane.look()
+            assert raises(augtrie.Closed, now.rank_all, [1])
+        assert trie.report.size == 3
+
+
+@test
 def a_set_answers_as_a_sorted_list():
     rng = random.Random(1)
     with Trie(bits=10) as trie:

@@ -51,6 +51,9 @@ unsafe extern "C" {
     pub fn aug_insert(lane: &mut Handle, key: u32) -> i64;
     pub fn aug_remove(lane: &mut Handle, key: u32) -> i64;
     pub fn aug_put(lane: &mut Handle, key: u32, weight: u32) -> i64;
+    pub fn aug_insert_all(lane: &mut Handle, keys: *const u32, n: usize) -> i64;
+    pub fn aug_remove_all(lane: &mut Handle, keys: *const u32, n: usize) -> i64;
+    pub fn aug_put_all(lane: &mut Handle, keys: *const u32, n: usize, weights: *const u32, weight_count: usize) -> i64;
     pub fn aug_budget(lane: &mut Handle) -> i64;
     pub fn aug_look(lane: &mut Handle) -> i64;
     pub fn aug_has(lane: &mut Handle, key: u32) -> i64;
@@ -60,6 +63,8 @@ unsafe extern "C" {
     pub fn aug_select(lane: &mut Handle, index: u32) -> i64;
     pub fn aug_before(lane: &mut Handle, key: u32) -> i64;
     pub fn aug_after(lane: &mut Handle, key: u32) -> i64;
+    pub fn aug_rank_all(lane: &mut Handle, keys: *const u32, n: usize, out: *mut u32, room: usize) -> i64;
+    pub fn aug_has_all(lane: &mut Handle, keys: *const u32, n: usize, out: *mut u8, room: usize) -> i64;
     pub fn aug_range(lane: &mut Handle, from: u32, to: u32, span: &mut Span) -> i64;
     pub fn aug_drop_lane(lane: &mut Handle) -> i64;
 }

@@ -40,6 +40,23 @@ impl Lane {
         })
     }
 
+    /// Puts keys in, each by an update of its own, in their order. How many were not there. If one of them is no key of the trie, or fewer
+    /// updates are left than there are keys, none is made.
+    pub fn insert_all(&mut self, keys: &[u32]) -> Result<u32, Error> {
+        number(unsafe { ffi::aug_insert_all(&mut self.0, keys.as_ptr(), keys.len()) })
+    }
+
+    /// Takes keys out. How many were there. Refused as `insert_all` is.
+    pub fn remove_all(&mut self, keys: &[u32]) -> Result<u32, Error> {
+        number(unsafe { ffi::aug_remove_all(&mut self.0, keys.as_ptr(), keys.len()) })
+    }
+
+    /// Puts keys in, each with the weight that has its index, or gives members these weights. How many updates changed the set. Refused
+    /// as `insert_all` is, and with `NoRoom` if there are not as many weights as keys.
+    pub fn put_all(&mut self, keys: &[u32], weights: &[u32]) -> Result<u32, Error> {
+        number(unsafe { ffi::aug_put_all(&mut self.0, keys.as_ptr(), keys.len(), weights.as_ptr(), weights.len()) })
+    }
+
     /// How many updates are left.
     pub fn budget(&mut self) -> u32 {
         number(unsafe { ffi::aug_budget(&mut self.0) }).unwrap_or(0)

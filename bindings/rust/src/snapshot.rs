@@ -60,6 +60,20 @@ impl<'lane> Snapshot<'lane> {
         self.ask(|lane| unsafe { ffi::aug_after(lane, key) })
     }
 
+    /// How many members are below each key. The keys stand in any order.
+    pub fn rank_all(&self, keys: &[u32]) -> Vec<u32> {
+        let mut ranks = vec![0; keys.len()];
+        self.ask(|lane| unsafe { ffi::aug_rank_all(lane, keys.as_ptr(), keys.len(), ranks.as_mut_ptr(), ranks.len()) });
+        ranks
+    }
+
+    /// Whether each key is a member.
+    pub fn has_all(&self, keys: &[u32]) -> Vec<bool> {
+        let mut bits = vec![0; keys.len()];
+        self.ask(|lane| unsafe { ffi::aug_has_all(lane, keys.as_ptr(), keys.len(), bits.as_mut_ptr(), bits.len()) });
+        bits.into_iter().map(|bit: u8| bit == 1).collect()
+    }
+
     /// What the members in an interval come to.
     pub fn range(&self, keys: Range<u32>) -> Span {
         let mut span = Span::default();

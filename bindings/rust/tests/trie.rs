@@ -66,6 +66,29 @@ fn four_threads_work_at_once() -> Result<(), Error> {
 }
 
 #[test]
+fn many_keys_go_in_one_call() -> Result<(), Error> {
+    let mut trie = Trie::new(4)?;
+    let ((), report) = trie.round(1, 9, |lanes| {
+        let lane = &mut lanes[0];
+        assert_eq!(lane.insert_all(&[5, 5, 7, 1]), Ok(3));
+        assert_eq!(lane.remove_all(&[7, 9]), Ok(1));
+        assert_eq!(lane.put_all(&[1, 2], &[30, 40]), Ok(2));
+        assert_eq!(lane.insert_all(&[3, 16]), Err(Error::BadKey));
+        assert_eq!(lane.remove_all(&[1, 2]), Err(Error::Spent));
+        assert_eq!(lane.put_all(&[1], &[]), Err(Error::NoRoom));
+        assert_eq!(lane.insert_all(&[]), Ok(0));
+        assert_eq!(lane.budget(), 1);
+        let now = lane.look();
+        assert_eq!(now.rank_all(&[16, 0, 2, u32::MAX]), [3, 0, 1, 3]);
+        assert_eq!(now.has_all(&[5, 7, 99]), [true, false, false]);
+        assert!(now.rank_all(&[]).is_empty());
+        assert_eq!(now.weight(1), Some(30));
+    })?;
+    assert_eq!((report.size, report.missing), (3, 0));
+    Ok(())
+}
+
+#[test]
 fn refusals_have_names() -> Result<(), Error> {
     assert_eq!(Trie::new(17).map(drop), Err(Error::BadBits));
     let mut trie = Trie::new(4)?;

@@ -1,5 +1,5 @@
 -- What the calls on a lane do to it, and what they answer.
-use Rattle.std.specs.Prelude.{◌≡◌, ℕ, ◌+◌, ◌^◌, ◌<◌, ◌≤◌, ◌↔◌, ℤ, pos, Bool, true, false, Option, Some, None, Result, Ok, Err, IfOk, IfErr, IsErrOf, List}
+use Rattle.std.specs.Prelude.{◌≡◌, ℕ, ◌+◌, ◌^◌, ◌<◌, ◌≤◌, ◌↔◌, ℤ, pos, Bool, true, false, Option, Some, None, Result, Ok, Err, IfOk, IfErr, IsErrOf, List, length, All}
 use Rattle.std.specs.Bool.{OnTrue, OnFalse}
 use Rattle.aug_monoid.specs.Sum.{sum_parts}
 use Rattle.aug_monoid.specs.Extent.{extent_parts}
@@ -11,7 +11,7 @@ use Rattle.aug_model.specs.declared.summary.Summary.{Summary}
 use Rattle.aug_model.specs.declared.outcome.Outcome.{Outcome}
 use Rattle.aug_model.specs.declared.outcome.Outcome.TheVariants.{Accepted, Replaced, Refused}
 use Rattle.aug_trie.specs.Updates.{AcceptedUpdate, RefusedUpdate, PutsIn, TakesSnapshot}
-use Rattle.aug_trie.specs.Pass.{GoesOn}
+use Rattle.aug_trie.specs.Pass.{PassFacts, GoesOn}
 use Rattle.aug_trie.specs.Node.{Keeps, Stays}
 use Rattle.aug_trie.specs.Snapshot.{set_at, snapshot_cut}
 use Rattle.aug_lane.specs.declared.error.LaneError.{LaneError}
@@ -42,6 +42,12 @@ put_code (Ok Replaced) = pos 2
 put_code (Ok Refused) = pos 0
 put_code (Err BadKey) = bad_key
 put_code (Err Spent) = spent
+
+-- what many updates in one call answer: how many changed the set
+abbrev pub all_code : Result ℕ LaneError → ℤ
+all_code (Ok changed) = pos changed
+all_code (Err BadKey) = bad_key
+all_code (Err Spent) = spent
 
 -- a number if there is one
 abbrev pub found : Option ℕ → ℤ
@@ -78,6 +84,18 @@ pub record Puts (key weight : ℕ) (old new : Lane Sum Extent) (code : ℤ) : Ty
   pub says : code ≡ put_code answer
   pub makes : MakesUpdate key old new answer
   pub puts : IfOk answer (λ done. PutsIn key weight done old.half.knows new.half.knows)
+
+-- an update for each of many keys, in turn. Why all are refused, and that they then change nothing; else they are made one after another, and so many of
+-- them changed the set. The lane looks at the same snapshot as before
+pub record UpdatesAll (keys : List ℕ) (makes : ℕ → PassFacts → PassFacts → Type 0) (old new : Lane Sum Extent) (code : ℤ) : Type 0 where
+  pub answer : Result ℕ LaneError
+  pub says : code ≡ all_code answer
+  pub bad_key : IsErrOf answer BadKey ↔ (¬ All (λ k. k < 2 ^ old.half.round.bits) keys)
+  pub spent : IsErrOf answer Spent ↔ (All (λ k. k < 2 ^ old.half.round.bits) keys × (old.half.round.updates < old.half.spent + length keys))
+  pub same : IfErr answer (λ _. new ≡ old)
+  pub updates : IfOk answer (λ changed. makes changed old.half new.half)
+  pub held : new.held ≡ old.held
+  pub round : new.round ≡ old.round
 
 -- a new snapshot
 pub record Looks (old new : Lane Sum Extent) (code : ℤ) : Type 0 where

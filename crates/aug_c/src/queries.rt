@@ -1,15 +1,16 @@
 //! The queries of a lane, answered from its last snapshot.
-ghost use Rattle.std.specs.Prelude.{◌≡◌, pos, length, Some, None, IsSome, IsNone};
+ghost use Rattle.std.specs.Prelude.{◌≡◌, ◌<◌, ◌≤◌, ◌++◌, pos, length, map, drop, Some, None, IsSome, IsNone};
 ghost use Rattle.aug_model.specs.Keys.{is_member, list_of};
 ghost use Rattle.aug_model.specs.Queries.{rank_of, select_of, before_of, after_of, weight_of, weighted_range_of};
 ghost use Rattle.aug_monoid.specs.declared.sum.Sum.{Sum};
 ghost use Rattle.aug_monoid.specs.declared.extent.Extent.{Extent};
 ghost use Rattle.aug_lane.specs.declared.lane.Lane.{Lane};
-ghost use Rattle.aug_c.specs.Codes.{closed};
+ghost use Rattle.aug_lane.specs.Told.{bit_of};
+ghost use Rattle.aug_c.specs.Codes.{closed, no_room};
 ghost use Rattle.aug_c.specs.Handles.{lane_of, On};
 ghost use Rattle.aug_c.specs.LaneCalls.{found as number_of, truth, span_of, shown, Asks, IsSpan};
 
-use crate::codes::{CLOSED, NONE};
+use crate::codes::{CLOSED, NO_ROOM, NONE};
 use crate::lane_handle::LaneHandle;
 use crate::span::Span;
 use aug_model::Summary;
@@ -182,4 +183,56 @@ pub extern "C" fn aug_drop_lane(alloc: Global, lane: &mut LaneHandle) -> i64
         Some(_) => 0,
         None => CLOSED,
     }
+}
+
+/// Writes how many members of the snapshot are below each key to the place with its index. The keys stand in any order.
+#[unsafe(no_mangle)]
+pub extern "C" fn aug_rank_all(
+    alloc: Global,
+    lane: &mut LaneHandle,
+    keys: &[u32],
+    out: &mut [u32],
+) -> i64
+    ensures room { length out.old < length keys.now → (result ≡ no_room) × (lane.new ≡ lane.old) × (out.new ≡ out.old) }
+    ensures asks { length keys.now ≤ length out.old → On (Asks (λ _. pos 0)) (lane_of lane.old) (lane_of lane.new) result }
+    ensures closed { IsNone (lane_of lane.old) → out.new ≡ out.old }
+    ensures foreign { IsNone lane.old.held.value → lane.new ≡ lane.old }
+    ensures told { (old : Lane Sum Extent) → lane_of lane.old ≡ Some old → length keys.now ≤ length out.old
+        → out.new ≡ map (λ k. rank_of (list_of (shown old)) k) keys.now ++ drop (length keys.now) out.old }
+{
+    if out.len() < keys.len() {
+        return NO_ROOM;
+    }
+    let Some((slot, old)) = lane.lend(alloc) else {
+        return CLOSED;
+    };
+    let new = old.rank_all(keys, out);
+    lane.give(slot, new);
+    0
+}
+
+/// Writes whether the snapshot has each key, 1 or 0, to the place with its index. The keys stand in any order.
+#[unsafe(no_mangle)]
+pub extern "C" fn aug_has_all(
+    alloc: Global,
+    lane: &mut LaneHandle,
+    keys: &[u32],
+    out: &mut [u8],
+) -> i64
+    ensures room { length out.old < length keys.now → (result ≡ no_room) × (lane.new ≡ lane.old) × (out.new ≡ out.old) }
+    ensures asks { length keys.now ≤ length out.old → On (Asks (λ _. pos 0)) (lane_of lane.old) (lane_of lane.new) result }
+    ensures closed { IsNone (lane_of lane.old) → out.new ≡ out.old }
+    ensures foreign { IsNone lane.old.held.value → lane.new ≡ lane.old }
+    ensures told { (old : Lane Sum Extent) → lane_of lane.old ≡ Some old → length keys.now ≤ length out.old
+        → out.new ≡ map (λ k. bit_of (is_member (list_of (shown old)) k)) keys.now ++ drop (length keys.now) out.old }
+{
+    if out.len() < keys.len() {
+        return NO_ROOM;
+    }
+    let Some((slot, old)) = lane.lend(alloc) else {
+        return CLOSED;
+    };
+    let new = old.has_all(keys, out);
+    lane.give(slot, new);
+    0
 }

@@ -1,10 +1,12 @@
 //! The updates of a lane.
-ghost use Rattle.std.specs.Prelude.{◌≡◌, IsNone};
+ghost use Rattle.std.specs.Prelude.{◌≡◌, ◌≢◌, length, IsNone};
 ghost use Rattle.aug_trie.specs.Knowledge.{insertion, removal};
+ghost use Rattle.aug_lane.specs.InTurn.{Inserts, Removes, Puts as PutsAll};
+ghost use Rattle.aug_c.specs.Codes.{no_room};
 ghost use Rattle.aug_c.specs.Handles.{lane_of, On};
-ghost use Rattle.aug_c.specs.LaneCalls.{update_code, put_code, Updates, Puts, Looks, HasLeft};
+ghost use Rattle.aug_c.specs.LaneCalls.{span_of, update_code, put_code, all_code, Updates, Puts, UpdatesAll, Looks, HasLeft};
 
-use crate::codes::{BAD_KEY, CLOSED, SPENT};
+use crate::codes::{BAD_KEY, CLOSED, NO_ROOM, SPENT};
 use crate::lane_handle::LaneHandle;
 use aug_lane::LaneError;
 use aug_model::Outcome;
@@ -30,6 +32,17 @@ fn code_of_put(answer: Result<Outcome, LaneError>) -> i64
         Ok(Outcome::Accepted) => 1,
         Ok(Outcome::Replaced) => 2,
         Ok(Outcome::Refused) => 0,
+        Err(LaneError::BadKey) => BAD_KEY,
+        Err(LaneError::Spent) => SPENT,
+    }
+}
+
+#[inline(always)]
+fn code_of_all(answer: Result<u32, LaneError>) -> i64
+    ensures { result ≡ all_code answer }
+{
+    match answer {
+        Ok(changed) => i64::from(changed),
         Err(LaneError::BadKey) => BAD_KEY,
         Err(LaneError::Spent) => SPENT,
     }
@@ -104,4 +117,56 @@ pub extern "C" fn aug_budget(alloc: Global, lane: &mut LaneHandle) -> i64
     let left = old.budget();
     lane.give(slot, old);
     i64::from(left)
+}
+
+/// Puts each key in, in their order, with itself as its weight: one update for each. Answers how many changed the set.
+#[unsafe(no_mangle)]
+pub extern "C" fn aug_insert_all(alloc: Global, lane: &mut LaneHandle, keys: &[u32]) -> i64
+    ensures updates { On (UpdatesAll keys.now (Inserts span_of keys.now)) (lane_of lane.old) (lane_of lane.new) result }
+    ensures foreign { IsNone lane.old.held.value → lane.new ≡ lane.old }
+{
+    let Some((slot, old)) = lane.lend(alloc) else {
+        return CLOSED;
+    };
+    let (new, answer) = old.insert_all(keys);
+    lane.give(slot, new);
+    code_of_all(answer)
+}
+
+/// Takes each key out, in their order: one update for each. Answers how many changed the set.
+#[unsafe(no_mangle)]
+pub extern "C" fn aug_remove_all(alloc: Global, lane: &mut LaneHandle, keys: &[u32]) -> i64
+    ensures updates { On (UpdatesAll keys.now (Removes span_of keys.now)) (lane_of lane.old) (lane_of lane.new) result }
+    ensures foreign { IsNone lane.old.held.value → lane.new ≡ lane.old }
+{
+    let Some((slot, old)) = lane.lend(alloc) else {
+        return CLOSED;
+    };
+    let (new, answer) = old.remove_all(keys);
+    lane.give(slot, new);
+    code_of_all(answer)
+}
+
+/// Puts each key in with the weight that has its index, or gives a member this weight, in their order: one update for each.
+/// Answers how many changed the set.
+#[unsafe(no_mangle)]
+pub extern "C" fn aug_put_all(
+    alloc: Global,
+    lane: &mut LaneHandle,
+    keys: &[u32],
+    weights: &[u32],
+) -> i64
+    ensures room { length weights.now ≢ length keys.now → (result ≡ no_room) × (lane.new ≡ lane.old) }
+    ensures updates { length weights.now ≡ length keys.now → On (UpdatesAll keys.now (PutsAll span_of keys.now weights.now)) (lane_of lane.old) (lane_of lane.new) result }
+    ensures foreign { IsNone lane.old.held.value → lane.new ≡ lane.old }
+{
+    if weights.len() != keys.len() {
+        return NO_ROOM;
+    }
+    let Some((slot, old)) = lane.lend(alloc) else {
+        return CLOSED;
+    };
+    let (new, answer) = old.put_all(keys, weights);
+    lane.give(slot, new);
+    code_of_all(answer)
 }

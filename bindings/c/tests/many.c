@@ -1,0 +1,62 @@
+/* Calls over many keys: each answer, and each array or handle that is refused. */
+#include "augtrie.h"
+
+#include <stdio.h>
+#include <stdlib.h>
+
+#define WANT(call, want) do { \
+    int64_t got_ = (call); \
+    if (got_ != (want)) { \
+        fprintf(stderr, "%s:%d: %s is %lld, and should be %lld\n", __FILE__, __LINE__, #call, (long long)got_, (long long)(want)); \
+        exit(1); \
+    } \
+    wanted++; \
+} while (0)
+
+static unsigned wanted;
+
+int main(void) {
+    aug_trie trie = {0};
+    aug_lane lane = {0};
+    aug_report report = {0};
+    const uint32_t in[] = {5, 5, 7, 1}, out[] = {7, 9}, put[] = {1, 2}, weights[] = {30, 40}, bad[] = {3, 16}, asked[] = {16, 0, 2};
+    uint32_t ranks[4] = {9, 9, 9, 9};
+    uint8_t bits[4] = {9, 9, 9, 9};
+
+    WANT(aug_insert_all(&lane, in, 4), AUG_CLOSED);
+    WANT(aug_rank_all(&lane, asked, 3, ranks, 4), AUG_CLOSED);
+    WANT(aug_has_all(NULL, asked, 3, bits, 4), AUG_CLOSED);
+    WANT(ranks[0], 9);
+    WANT(aug_open(&trie, 4, 1), 0);
+    WANT(aug_begin(&trie, 4, 1, 9), 0);
+    WANT(aug_open_lane(&trie, &lane), 0);
+
+    WANT(aug_insert_all(&lane, in, 4), 3);
+    WANT(aug_remove_all(&lane, out, 2), 1);
+    WANT(aug_put_all(&lane, put, 2, weights, 2), 2);
+    WANT(aug_insert_all(&lane, bad, 2), AUG_BAD_KEY);
+    WANT(aug_remove_all(&lane, put, 2), AUG_SPENT);
+    WANT(aug_put_all(&lane, put, 1, weights, 2), AUG_NO_ROOM);
+    WANT(aug_put_all(&lane, put, 1, NULL, 1), AUG_NO_ROOM);
+    WANT(aug_insert_all(&lane, NULL, 1), AUG_NO_ROOM);
+    WANT(aug_insert_all(&lane, in, 0), 0);
+    WANT(aug_budget(&lane), 1);
+
+    WANT(aug_look(&lane), 0);
+    WANT(aug_rank_all(&lane, asked, 3, ranks, 2), AUG_NO_ROOM);
+    WANT(aug_rank_all(&lane, asked, 3, NULL, 3), AUG_NO_ROOM);
+    WANT(ranks[0], 9);
+    WANT(aug_rank_all(&lane, asked, 3, ranks, 4), 0);
+    WANT(ranks[0] == 3 && ranks[1] == 0 && ranks[2] == 1 && ranks[3] == 9, 1);
+    WANT(aug_has_all(&lane, in, 3, bits, 3), 0);
+    WANT(bits[0] == 1 && bits[1] == 1 && bits[2] == 0 && bits[3] == 9, 1);
+    WANT(aug_weight(&lane, 1), 30);
+
+    WANT(aug_give_back(&trie, &lane), 0);
+    WANT(aug_has_all(&lane, in, 3, bits, 3), AUG_CLOSED);
+    WANT(aug_end(&trie, &report), 0);
+    WANT(report.size, 3);
+    WANT(aug_close(&trie), 0);
+    printf("ok: %u answers\n", wanted);
+    return 0;
+}

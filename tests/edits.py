@@ -3,7 +3,7 @@ contract, and fails the gate. Nothing is proved here: whether the prover refuses
 
 usage: python3 tests/edits.py [CRATE ..]
 
-The libraries below a crate have to be built (`rt lib`). An edit takes two to eight seconds of a processor, a tenth of what the prover takes. The
+The libraries below a crate have to be built (`rt lib`). An edit takes some two to ten seconds of a processor. The
 last line is 'N passed, M failed', and the exit status is 0 where none failed. It needs Python 3.8 or later and the toolchain.
 """
 

@@ -9,6 +9,7 @@ ghost use Rattle.aug_query.specs.inside.Batches.{AreBetween, nodes_below, leaves
 ghost use Rattle.aug_query.specs.inside.NodePlaces.{IsPlace};
 
 use super::counts::toward_counting;
+use super::members::weight_of_leaf;
 use crate::Descend;
 use crate::toward::{toward, universe};
 use aug_monoid::Monoid;
@@ -136,7 +137,7 @@ fn tell_each<A: Monoid, B: Monoid, D: Descend<A, B>, T: Told>(
     ensures descends { Descends D.set_of D.loads_of D.Names D.KeepsRest (nodes_below level (length keys.now)) (leaves_below level (length keys.now)) 0 0 tree.old tree.new }
 {
     if level == 0 {
-        let told = tell_leaf(tree, place, node);
+        let told = T::of_weight(weight_of_leaf(tree, place, node));
         repeat(told, keys.len(), out);
         return;
     }
@@ -174,25 +175,7 @@ fn tell_one<A: Monoid, B: Monoid, D: Descend<A, B>, T: Told>(
         lower -= 1;
         child = toward(tree, lower, k, &child);
     }
-    tell_leaf(tree, k, &child)
-}
-
-// What is told of the key of a leaf.
-fn tell_leaf<A: Monoid, B: Monoid, D: Descend<A, B>, T: Told>(
-    tree: &mut D,
-    k: u32,
-    leaf: &D::Name,
-) -> T
-    requires { D.Names tree.old 0 k leaf.now }
-    ensures answer { result ≡ T.told_of (weight_of (D.set_of tree.old).pairs k) }
-    ensures descends { Descends D.set_of D.loads_of D.Names D.KeepsRest 0 1 0 0 tree.old tree.new }
-{
-    let weight = if tree.count(0, k, leaf) == 0 {
-        None
-    } else {
-        Some(tree.weight(k, leaf))
-    };
-    T::of_weight(weight)
+    T::of_weight(weight_of_leaf(tree, k, &child))
 }
 
 // Puts the ranks of keys that the node at a level and a place covers at the end of `out`. So many members are before the node.

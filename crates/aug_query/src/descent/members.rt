@@ -31,10 +31,24 @@ pub fn weight<A: Monoid, B: Monoid, D: Descend<A, B>>(tree: &mut D, k: u32) -> O
         return None;
     }
     let leaf = leaf_of(tree, k);
-    if tree.count(0, k, &leaf) == 0 {
+    weight_of_leaf(tree, k, &leaf)
+}
+
+// The weight of the key of a leaf, if it is a member.
+#[inline(always)]
+pub(super) fn weight_of_leaf<A: Monoid, B: Monoid, D: Descend<A, B>>(
+    tree: &mut D,
+    k: u32,
+    leaf: &D::Name,
+) -> Option<u32>
+    requires { D.Names tree.old 0 k leaf.now }
+    ensures answer { result ≡ weight_of (D.set_of tree.old).pairs k }
+    ensures descends { Descends D.set_of D.loads_of D.Names D.KeepsRest 0 1 0 0 tree.old tree.new }
+{
+    if tree.count(0, k, leaf) == 0 {
         return None;
     }
-    Some(tree.weight(k, &leaf))
+    Some(tree.weight(k, leaf))
 }
 
 // The leaf of `k`.

@@ -12,10 +12,10 @@ use Rattle.aug_query.proofs.descent.batches.+tell_each.Goals.{then-not-is_empty,
 pub returns-then-level-eq0-clause-answer : goal.returns-then-level-eq0-clause-answer
 returns-then-level-eq0-clause-answer g t c =
     let set = g.D.Descend.set_of c.args.tree.now in
-    c.repeat.ensures.items ∙ ap (λ xs. c.args.out.now.items ++ xs) (leaf_values (λ k. g.T.Told.told_of (weight_of set.pairs k)) c.tell_leaf-told.result c.args.level c.args.place c.args.keys.now c.if-level-eq0.true c.requires.keys c.tell_leaf-told.ensures.answer)
+    c.repeat.ensures.items ∙ ap (λ xs. c.args.out.now.items ++ xs) (leaf_values (λ k. g.T.Told.told_of (weight_of set.pairs k)) c.of_weight-told.result c.args.level c.args.place c.args.keys.now c.if-level-eq0.true c.requires.keys (c.of_weight-told.ensures ∙ ap g.T.Told.told_of c.weight_of_leaf.ensures.answer))
 
 pub returns-then-level-eq0-clause-descends : goal.returns-then-level-eq0-clause-descends
-returns-then-level-eq0-clause-descends g t c = within c.tell_leaf-told.ensures.descends (omega arith) (one_leaf c.args.level (length c.args.keys.now) c.requires.some) (omega arith) (omega arith)
+returns-then-level-eq0-clause-descends g t c = within c.weight_of_leaf.ensures.descends (omega arith) (one_leaf c.args.level (length c.args.keys.now) c.requires.some) (omega arith) (omega arith)
 
 pub tell_one-told-requires-clause-name : goal.tell_one-told-requires-clause-name
 tell_one-told-requires-clause-name g t c =

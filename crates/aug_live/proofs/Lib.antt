@@ -4,3 +4,4 @@ pub mod Moving
 pub mod Asked
 pub mod Beginning
 pub mod Desks
+pub mod Planning

@@ -7,7 +7,7 @@ use lib.ListN.{get_elem?}
 use Rattle.atomic_table.proofs.Lists.{at_set}
 use Rattle.ruled_lock.specs.Locks.{Learns, Forks}
 use Rattle.aug_live.specs.Handles.{Follows}
-use Rattle.aug_live.specs.inside.Lanes.{LaneFacts, KnownFacts, newcomer, known_of, as_kind, Knows, Ties, turned, Worked, Rested, Begun}
+use Rattle.aug_live.specs.inside.Lanes.{LaneFacts, KnownFacts, newcomer, known_of, as_kind, Knows, Ties, turned, Worked}
 use Rattle.aug_live.proofs.Carries.{follows_self, follows_on}
 
 -- an element of a list with one more at its end, with its place
@@ -90,19 +90,11 @@ module _ (id : ℕ) (v : KnownFacts) (old new : LaneFacts) (views : List KnownFa
     follows = λ other. absurd (other one);
   })
 
-  -- the roller takes the pass out
-  pub roller_rests : v.kind ≡ 1 → Rested old new → Goal
-  roller_rests one rested = turns (λ j x sum k. let two : x.kind ≡ 2 = omega arith in record {
+  -- the roller leaves a lane that follows on what it took
+  pub roller_leaves : v.kind ≡ 1 → Follows old.at new.at → Goal
+  roller_leaves one left = turns (λ j x sum k. let two : x.kind ≡ 2 = omega arith in record {
     rolls = λ other. absurd (other two);
-    follows = λ other some. subst (Follows x.at) (sym rested.at) (k.follows other some);
-  })
-
-  -- the roller puts a pass of the next round in
-  pub roller_begins : v.kind ≡ 1 → Begun old new → Goal
-  roller_begins one begun = turns (λ j x sum k. let two : x.kind ≡ 2 = omega arith in record {
-    rolls = λ other. absurd (other two);
-    follows = λ other some. follows_on x.at old.at new.at (k.follows other some)
-        (let next = begun.era in record { not_later = omega arith; same = λ e. absurd (omega arith); carried = λ _. begun.carried; bits = begun.bits });
+    follows = λ other some. follows_on x.at old.at new.at (k.follows other some) left;
   })
 
   -- there is one pass alone, and it may put anything in

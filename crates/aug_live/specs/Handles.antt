@@ -1,6 +1,7 @@
 -- What contracts see of a handle and of a look, and what their calls do.
-use Rattle.std.specs.Prelude.{◌≡◌, ℕ, ◌<◌, ◌≤◌, List, []}
+use Rattle.std.specs.Prelude.{◌≡◌, ◌⊎◌, ℕ, ◌<◌, ◌≤◌, List, []}
 use Rattle.aug_model.specs.Keys.{SetFacts}
+use Rattle.aug_trie.specs.History.{IsPrefix}
 use Rattle.aug_trie.specs.Pass.{PassFacts, GoesOn}
 use Rattle.aug_trie.specs.Snapshot.{set_at, snapshot_cut}
 use Rattle.aug_trie.specs.Updates.{TakesSnapshot}
@@ -14,10 +15,16 @@ pub record HandleFacts : Type 0 where
   pub era : ℕ
   pub half : PassFacts
 
--- from what a handle knew to where its lane stands later: in the same round with the same pass, or in a later round, into whose set all is carried that the handle knew
+-- from a pass to a later one of its round, on a spare lane: it knows all that the first one knew
+pub record Continues (old new : PassFacts) : Type 0 where
+  pub round : new.round ≡ old.round
+  pub goes_on : IsPrefix old.knows.history new.knows.history
+
+-- from what a handle knew to where its lane stands later: in the same round with the same pass or a later one, or in a later round, into whose set all is carried
+-- that the handle knew
 pub record Follows (old new : HandleFacts) : Type 0 where
   pub not_later : old.era ≤ new.era
-  pub same : old.era ≡ new.era → new.half ≡ old.half
+  pub same : old.era ≡ new.era → (new.half ≡ old.half) ⊎ Continues old.half new.half
   pub carried : old.era < new.era → Carried old.half new.half.round.members
   pub bits : new.half.round.bits ≡ old.half.round.bits
 

@@ -1,4 +1,5 @@
 pub mod Errors
 pub mod Carrying
 pub mod Handles
+pub mod Plans
 pub mod inside

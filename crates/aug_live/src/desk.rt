@@ -5,6 +5,7 @@ ghost use Rattle.aug_live.specs.inside.Rolls.{IsHandleEnd};
 use crate::counts::LiveCounts;
 use crate::end::End;
 use crate::error::LiveError;
+use crate::plan::Plan;
 use crate::rolling::{deal, finish, next_round};
 use aug_monoid::Monoid;
 use aug_trie::{Crew, Members, Round};
@@ -19,8 +20,7 @@ const MOST: u64 = u64::MAX - u32::MAX as u64;
 #[derive(Drop)]
 pub(crate) struct Working<A: Monoid, B: Monoid> {
     pub(crate) alloc: Global,
-    pub(crate) handles: u32,
-    pub(crate) updates: u32,
+    pub(crate) plan: Plan,
     pub(crate) counts: LiveCounts,
     pub(crate) bits: u32,
     pub(crate) round: Arc<Round<A, B>, Global>,
@@ -40,7 +40,7 @@ impl<A: Monoid, B: Monoid> Model for Working<A, B> {
 
     ghost view = { λ _. tt };
 
-    ghost invariant = { λ w. IsWorking w.handles w.updates w.counts (arc_value w.round) w.crew w.ports.items (vec_len w.ports)
+    ghost invariant = { λ w. IsWorking w.plan.lanes w.plan.updates w.counts (arc_value w.round) w.crew w.ports.items (vec_len w.ports)
         × (w.room.items ≡ []) × (vec_len w.ports ≤ vec_capacity w.room) × (w.list.items ≡ []) × (2 ^ (arc_value w.round).bits ≤ vec_capacity w.list)
         × ((arc_value w.round).bits ≡ w.bits) };
 }
@@ -49,8 +49,7 @@ impl<A: Monoid, B: Monoid> Model for Working<A, B> {
 #[derive(Drop)]
 pub(crate) struct Resting<A: Monoid, B: Monoid> {
     pub(crate) alloc: Global,
-    pub(crate) handles: u32,
-    pub(crate) updates: u32,
+    pub(crate) plan: Plan,
     pub(crate) counts: LiveCounts,
     pub(crate) set: Members,
     pub(crate) ports: Vec<End<A, B>>,
@@ -64,7 +63,7 @@ impl<A: Monoid, B: Monoid> Model for Resting<A, B> {
 
     ghost view = { λ r. record { set = r.set; counts = r.counts } };
 
-    ghost invariant = { λ r. IsResting r.handles r.updates r.counts r.set r.ports.items (vec_len r.ports) };
+    ghost invariant = { λ r. IsResting r.plan.lanes r.plan.updates r.counts r.set r.ports.items (vec_len r.ports) };
 }
 
 /// What lies on the desk.
@@ -81,8 +80,7 @@ impl<A: Monoid, B: Monoid> Working<A, B> {
     pub(crate) fn stop<R: Wait>(self, rt: &R) -> Resting<A, B> {
         let Working {
             alloc,
-            handles,
-            updates,
+            plan,
             counts,
             round,
             crew,
@@ -96,8 +94,7 @@ impl<A: Monoid, B: Monoid> Working<A, B> {
         let removals = counts.removals + u64::from(ended.removals());
         Resting {
             alloc,
-            handles,
-            updates,
+            plan,
             counts: LiveCounts {
                 rounds: counts.rounds,
                 opened: counts.opened,
@@ -109,48 +106,37 @@ impl<A: Monoid, B: Monoid> Working<A, B> {
         }
     }
 
-    /// Gives a lane to a new handle, whose end it answers with the bits of its keys, unless there is no such lane.
-    pub(crate) fn renew<R: Wait>(
-        self,
-        rt: &R,
-        lane: usize,
-        first: End<A, B>,
-    ) -> (Working<A, B>, Option<(End<A, B>, u32)>)
-        requires first { first.kind ≡ 0 }
-        ensures handle { IfSome result.1 (λ h. IsHandleEnd h.1 h.0) }
-    {
-        if lane >= self.ports.len() {
-            return (self, None);
+    /// Whether the round of this era is over, or goes on with a spare lane in the place of the one with this number.
+    fn goes_on<R: Wait>(&mut self, rt: &R, era: u64, lane: usize) -> bool {
+        if self.counts.rounds != era {
+            return true;
         }
-        let Working {
-            alloc,
-            handles,
-            updates,
-            counts,
-            bits,
-            round,
-            crew,
-            mut ports,
-            room,
-            list,
-        } = self;
-        let (port, end) = ports.remove(lane).renew(rt, first);
-        let Ok(()) = ports.insert(lane, port) else {
+        if self.crew.handed() == self.plan.lanes || lane >= self.ports.len() {
+            return false;
+        }
+        let port = self
+            .ports
+            .remove(lane)
+            .replace(rt, &self.round, &mut self.crew);
+        let Ok(()) = self.ports.insert(lane, port) else {
             unreachable!()
         };
-        let working = Working {
-            alloc,
-            handles,
-            updates,
-            counts,
-            bits,
-            round,
-            crew,
-            ports,
-            room,
-            list,
+        true
+    }
+
+    /// Gives a lane to a new handle, whose end it answers with the bits of its keys, unless there is no such lane.
+    fn renew<R: Wait>(&mut self, rt: &R, lane: usize, first: End<A, B>) -> Option<(End<A, B>, u32)>
+        requires first { first.kind ≡ 0 }
+        ensures handle { IfSome result (λ h. IsHandleEnd h.1 h.0) }
+    {
+        if lane >= self.ports.len() {
+            return None;
+        }
+        let (port, end) = self.ports.remove(lane).renew(rt, first);
+        let Ok(()) = self.ports.insert(lane, port) else {
+            unreachable!()
         };
-        (working, Some((end, bits)))
+        Some((end, self.bits))
     }
 }
 
@@ -181,45 +167,28 @@ impl<A: Monoid, B: Monoid> Resting<A, B> {
     pub(crate) fn begin<R: Wait>(self, rt: &R) -> Result<Working<A, B>, (Resting<A, B>, LiveError)>
         ensures same { IfErr result (λ e. e.0 ≡ self) }
     {
-        let Resting {
-            alloc,
-            handles,
-            updates,
-            counts,
-            set,
-            ports,
-        } = self;
+        let counts = self.counts;
         if counts.rounds == u64::MAX || counts.inserts > MOST || counts.removals > MOST {
-            let resting = Resting {
-                alloc,
-                handles,
-                updates,
-                counts,
-                set,
-                ports,
-            };
-            return Err((resting, LiveError::Exhausted));
+            return Err((self, LiveError::Exhausted));
         }
-        let bits = set.bits();
-        let Ok(room) = NextRoom::new(alloc, set.universe(), ports.len()) else {
-            let resting = Resting {
-                alloc,
-                handles,
-                updates,
-                counts,
-                set,
-                ports,
-            };
-            return Err((resting, LiveError::OutOfMemory));
+        let bits = self.set.bits();
+        let Ok(room) = NextRoom::new(self.alloc, self.set.universe(), self.ports.len()) else {
+            return Err((self, LiveError::OutOfMemory));
         };
         let NextRoom { list, next, room } = room;
-        let (round, mut crew, list) = match next_round(alloc, set, handles, updates, list) {
+        let Resting {
+            alloc,
+            plan,
+            set,
+            ports,
+            ..
+        } = self;
+        let (round, mut crew, list) = match next_round(alloc, set, plan, list) {
             Ok(begun) => begun,
             Err(set) => {
                 let resting = Resting {
                     alloc,
-                    handles,
-                    updates,
+                    plan,
                     counts,
                     set,
                     ports,
@@ -230,8 +199,7 @@ impl<A: Monoid, B: Monoid> Resting<A, B> {
         let ports = deal(rt, counts.rounds, &round, &mut crew, ports, next);
         Ok(Working {
             alloc,
-            handles,
-            updates,
+            plan,
             counts: LiveCounts {
                 rounds: counts.rounds + 1,
                 opened: counts.opened,
@@ -258,11 +226,21 @@ impl<A: Monoid, B: Monoid> Resting<A, B> {
 }
 
 impl<A: Monoid, B: Monoid> Place<A, B> {
-    /// Rolls the round over, if it is still that of this era or the trie is at rest.
-    pub(crate) fn past<R: Wait>(self, rt: &R, era: u64) -> (Place<A, B>, Result<(), LiveError>) {
-        match self {
-            Place::On(working) if working.counts.rounds != era => (Place::On(working), Ok(())),
-            place => place.next(rt),
+    /// Sees to it that a lane which was spent, or in which no pass lay, in this era has a pass: that of a newer round, a spare lane of the
+    /// same, or one of the next, which then begins.
+    pub(crate) fn past<R: Wait>(
+        self,
+        rt: &R,
+        era: u64,
+        lane: usize,
+    ) -> (Place<A, B>, Result<(), LiveError>) {
+        let Place::On(mut working) = self else {
+            return self.next(rt);
+        };
+        if working.goes_on(rt, era, lane) {
+            (Place::On(working), Ok(()))
+        } else {
+            Place::On(working).next(rt)
         }
     }
 
@@ -284,15 +262,14 @@ impl<A: Monoid, B: Monoid> Place<A, B> {
         requires first { first.kind ≡ 0 }
         ensures handle { IfOk result.1 (λ h. IsHandleEnd h.1 h.0) }
     {
-        let working = match self {
+        let mut working = match self {
             Place::On(working) => working,
             Place::Rest(resting) => match resting.begin(rt) {
                 Ok(working) => working,
                 Err((resting, cause)) => return (Place::Rest(resting), Err(cause)),
             },
         };
-        let (working, end) = working.renew(rt, lane, first);
-        match end {
+        match working.renew(rt, lane, first) {
             Some(end) => (Place::On(working), Ok(end)),
             None => (Place::On(working), Err(LiveError::NoLane)),
         }

@@ -1,7 +1,7 @@
 //! The ends of a lane: a pass of its lock each.
 ghost use Rattle.std.specs.Prelude.{◌≡◌, ◌<◌, IfOk};
 ghost use Rattle.aug_live.specs.Handles.{Follows};
-ghost use Rattle.aug_live.specs.inside.Lanes.{Knows, Rolls, Worked, Rested, Begun, known_of, as_kind};
+ghost use Rattle.aug_live.specs.inside.Lanes.{Knows, Rolls, Worked, known_of, as_kind};
 
 use crate::known::Known;
 use crate::lane::Lane;
@@ -134,21 +134,10 @@ impl<A: Monoid, B: Monoid> Out<A, B> {
         End { lock, pass }
     }
 
-    /// Puts the lane back without its pass.
-    pub(crate) fn rest(self, lane: Lane<A, B>) -> End<A, B>
+    /// Puts the lane back as the roller leaves it.
+    pub(crate) fn leave(self, lane: Lane<A, B>) -> End<A, B>
         requires roller { self.known.kind ≡ 1 }
-        requires rested { Rested self.taken lane }
-        ensures { result ≡ known_of 1 lane }
-    {
-        let Out { lock, mut pass } = self;
-        lock.put::<Turn>(&mut pass, lane);
-        End { lock, pass }
-    }
-
-    /// Puts the lane of the next round in.
-    pub(crate) fn begin(self, lane: Lane<A, B>) -> End<A, B>
-        requires roller { self.known.kind ≡ 1 }
-        requires begun { Begun self.taken lane }
+        requires follows { Follows self.taken.at lane.at }
         ensures { result ≡ known_of 1 lane }
     {
         let Out { lock, mut pass } = self;

@@ -33,6 +33,8 @@ pub struct Handle<A: Monoid, B: Monoid> {
     // An update takes it out and puts it back.
     pub(crate) end: Option<End<A, B>>,
     pub(crate) bits: u32,
+    // The number of its lane, counted from 0.
+    pub(crate) lane: usize,
     pub(crate) desk: Arc<Desk<A, B>, Global>,
 }
 
@@ -150,13 +152,24 @@ impl<A: Monoid, B: Monoid> Handle<A, B> {
         ensures looks { IfOk result (λ look. Makes 0 (λ a b. TakesSnapshot a.knows b.knows (snapshot_cut b look.snapshot.number)) self (handle_of look)) }
         ensures at_rest { IfErr result (λ e. Follows self e.0) }
     {
-        let Handle { end, bits, desk } = self;
+        let Handle {
+            end,
+            bits,
+            lane: number,
+            desk,
+        } = self;
         let Some(end) = end else { unreachable!() };
         let (out, lane) = end.take_to_work(rt);
         if lane.work.is_none() {
             let missed = lane.missed();
             let end = Some(out.put(lane));
-            return Err((Handle { end, bits, desk }, missed));
+            let handle = Handle {
+                end,
+                bits,
+                lane: number,
+                desk,
+            };
+            return Err((handle, missed));
         }
         let (work, Lane { era, .. }) = lane.into_work();
         let Work { round, half } = work;
@@ -170,11 +183,12 @@ impl<A: Monoid, B: Monoid> Handle<A, B> {
             half,
             snapshot,
             bits,
+            lane: number,
             desk,
         })
     }
 
-    // Rolls the round that was missed over, unless somebody else did.
+    // Goes past what was missed: to the next round, or to a spare lane of this one.
     fn past<R: Wait>(&self, rt: &R, missed: Missed) -> Result<(), LiveError> {
         let Missed::Round(era) = missed else {
             return Err(LiveError::Replaced);
@@ -183,7 +197,7 @@ impl<A: Monoid, B: Monoid> Handle<A, B> {
         let Some(place) = guard.take() else {
             return Err(LiveError::Closed);
         };
-        let (place, rolled) = place.past(rt, era);
+        let (place, rolled) = place.past(rt, era, self.lane);
         *guard = Some(place);
         rolled
     }

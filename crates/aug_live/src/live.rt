@@ -1,10 +1,11 @@
 //! A shared trie whose rounds roll over.
 ghost use Rattle.std.specs.Prelude.{◌≡◌, ◌⊎◌, ◌↔◌, ℕ, ◌+◌, ◌<◌, ◌≤◌, ◌^◌, [], All, IsErrOf, IfOk, IfErr, length, vec_len, vec_capacity};
 ghost use Rattle.std.specs.Arc.{arc_value};
-ghost use Rattle.aug_core.specs.Layout.{IsRefused, IsLayout};
+ghost use Rattle.aug_core.specs.Layout.{IsRefused, IsLayout, IsWithin, IsOutside};
 ghost use Rattle.aug_core.specs.Places.{shape_of};
 ghost use Rattle.aug_trie.specs.Crew.{BeginsRound};
 ghost use Rattle.aug_live.specs.Handles.{IsNew};
+ghost use Rattle.aug_live.specs.Plans.{Fits, least_plan};
 ghost use Rattle.aug_live.specs.inside.Rolls.{IsOf, IsFirst};
 
 use crate::counts::LiveCounts;
@@ -12,6 +13,7 @@ use crate::desk::{Place, Working};
 use crate::end::End;
 use crate::error::LiveError;
 use crate::handle::{Desk, Handle};
+use crate::plan::Plan;
 use crate::rolling::{next_round, share};
 use aug_core::{Layout, LayoutError};
 use aug_monoid::Monoid;
@@ -45,27 +47,28 @@ struct Room<A: Monoid, B: Monoid> {
 }
 
 impl<A: Monoid, B: Monoid> Live<A, B> {
-    /// Opens a trie over a set, for so many handles, each with so many updates a round.
+    /// Opens a trie over a set, for so many handles, with a plan of its rounds that has a lane for each.
     ///
-    /// Refused with `BadWorkers`, `BadUpdates` and `TooLarge` as `Layout::new` refuses these numbers for the full set of its
-    /// bits, so that no later round is refused for them, and then with `OutOfMemory`. After a refusal the same set comes back.
-    pub fn open<R: Wait>(
+    /// Refused with `BadWorkers`, `BadUpdates` and `TooLarge` as `Layout::new` refuses the plan for the full set of its
+    /// bits, so that no later round is refused for it, and then with `OutOfMemory`. After a refusal the same set comes back.
+    pub fn open_with<R: Wait>(
         rt: &R,
         alloc: Global,
         set: Members,
         handles: u32,
-        updates: u32,
+        plan: Plan,
     ) -> Result<(Live<A, B>, Vec<Handle<A, B>>), (Members, BeginError)>
+        requires lanes { handles ≤ plan.lanes }
         ensures handles { IfOk result (λ t. vec_len t.1 ≡ handles) }
-        ensures new { IfOk result (λ t. All (IsNew set updates) t.1.items) }
+        ensures new { IfOk result (λ t. All (IsNew set plan.updates) t.1.items) }
         ensures same { IfErr result (λ e. e.0 ≡ set) }
-        ensures bad_workers { IsErrOf result (set, BeginError.BadWorkers) ↔ IsRefused LayoutError.BadWorkers (shape_of set.bits handles updates (2 ^ set.bits)) }
-        ensures bad_updates { IsErrOf result (set, BeginError.BadUpdates) ↔ IsRefused LayoutError.BadUpdates (shape_of set.bits handles updates (2 ^ set.bits)) }
-        ensures too_large { IsErrOf result (set, BeginError.TooLarge) ↔ IsRefused LayoutError.TooLarge (shape_of set.bits handles updates (2 ^ set.bits)) }
+        ensures bad_workers { IsErrOf result (set, BeginError.BadWorkers) ↔ IsRefused LayoutError.BadWorkers (shape_of set.bits plan.lanes plan.updates (2 ^ set.bits)) }
+        ensures bad_updates { IsErrOf result (set, BeginError.BadUpdates) ↔ IsRefused LayoutError.BadUpdates (shape_of set.bits plan.lanes plan.updates (2 ^ set.bits)) }
+        ensures too_large { IsErrOf result (set, BeginError.TooLarge) ↔ IsRefused LayoutError.TooLarge (shape_of set.bits plan.lanes plan.updates (2 ^ set.bits)) }
     {
         let bits = set.bits();
         let universe = set.universe();
-        if let Err(cause) = Layout::new(bits, handles, updates, universe) {
+        if let Err(cause) = Layout::new(bits, plan.lanes, plan.updates, universe) {
             return Err((set, BeginError::from(cause)));
         }
         let opened = set.size();
@@ -80,15 +83,14 @@ impl<A: Monoid, B: Monoid> Live<A, B> {
             list,
             desk,
         } = room;
-        let (round, mut crew, list) = match next_round(alloc, set, handles, updates, list) {
+        let (round, mut crew, list) = match next_round(alloc, set, plan, list) {
             Ok(begun) => begun,
             Err(set) => return Err((set, BeginError::OutOfMemory)),
         };
         let (ports, ends) = open_lanes(rt, bits, &round, &mut crew, &desk, firsts, ports, ends);
         let working = Working {
             alloc,
-            handles,
-            updates,
+            plan,
             counts: LiveCounts {
                 rounds: 1,
                 opened,
@@ -104,6 +106,33 @@ impl<A: Monoid, B: Monoid> Live<A, B> {
         };
         place(rt, &desk, working);
         Ok((Live { desk }, ends))
+    }
+
+    /// Opens a trie over a set, for so many handles, whose rounds have a table of at most so many bytes: `Plan::new` works their lanes
+    /// and updates out. While a round rolls over there may be two tables, and a list of the members.
+    ///
+    /// Refused with `BadWorkers` for no handle and for more than 64, with `TooLarge` if a table with one update of each handle takes more
+    /// bytes, and with `OutOfMemory`. After a refusal the same set comes back.
+    pub fn open<R: Wait>(
+        rt: &R,
+        alloc: Global,
+        set: Members,
+        handles: u32,
+        memory: u64,
+    ) -> Result<(Live<A, B>, Vec<Handle<A, B>>), (Members, BeginError)>
+        ensures handles { IfOk result (λ t. vec_len t.1 ≡ handles) }
+        ensures new { IfOk result (λ t. (plan : Plan) × Fits set.bits memory plan × All (IsNew set plan.updates) t.1.items) }
+        ensures same { IfErr result (λ e. e.0 ≡ set) }
+        ensures bad_workers { IsErrOf result (set, BeginError.BadWorkers) ↔ IsOutside 1 64 handles }
+        ensures too_large { IsErrOf result (set, BeginError.TooLarge) ↔ (IsWithin 1 64 handles × (Fits set.bits memory (least_plan handles) → ⊥)) }
+    {
+        if !(1..=64).contains(&handles) {
+            return Err((set, BeginError::BadWorkers));
+        }
+        let Some(plan) = Plan::new(set.bits(), handles, memory) else {
+            return Err((set, BeginError::TooLarge));
+        };
+        Self::open_with(rt, alloc, set, handles, plan)
     }
 
     /// Rolls the round over now, as in a quiet hour. It waits for the update or look that each handle is in.
@@ -130,6 +159,7 @@ impl<A: Monoid, B: Monoid> Live<A, B> {
     ) -> Result<Handle<A, B>, LiveError>
         ensures bits { IfOk result (λ h. h.half.round.bits ≤ 16) }
     {
+        let lane = lane as usize;
         let Ok(first) = End::new(alloc) else {
             return Err(LiveError::OutOfMemory);
         };
@@ -137,12 +167,13 @@ impl<A: Monoid, B: Monoid> Live<A, B> {
         let Some(place) = guard.take() else {
             return Err(LiveError::Closed);
         };
-        let (place, renewed) = place.renew(rt, lane as usize, first);
+        let (place, renewed) = place.renew(rt, lane, first);
         *guard = Some(place);
         let (end, bits) = renewed?;
         Ok(Handle {
             end: Some(end),
             bits,
+            lane,
             desk: share(rt, &self.desk),
         })
     }
@@ -226,10 +257,12 @@ fn open_lanes<R: Wait, A: Monoid, B: Monoid>(
 {
     for first in firsts {
         let (port, mine) = first.open(rt, round, crew);
+        let lane = ports.len();
         ports.push_reserved(port);
         handles.push_reserved(Handle {
             end: Some(mine),
             bits,
+            lane,
             desk: share(rt, desk),
         });
     }

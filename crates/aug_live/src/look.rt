@@ -23,6 +23,7 @@ pub struct Look<A: Monoid, B: Monoid> {
     pub(crate) half: Option<PassHalf<A, B>>,
     pub(crate) snapshot: Snapshot,
     pub(crate) bits: u32,
+    pub(crate) lane: usize,
     pub(crate) desk: Arc<Desk<A, B>, Global>,
 }
 
@@ -63,6 +64,7 @@ impl<A: Monoid, B: Monoid> Look<A, B> {
             half,
             snapshot: _,
             bits,
+            lane,
             desk,
         } = self;
         let Some(half) = half else { unreachable!() };
@@ -70,6 +72,7 @@ impl<A: Monoid, B: Monoid> Look<A, B> {
         Handle {
             end: Some(end),
             bits,
+            lane,
             desk,
         }
     }

@@ -11,6 +11,7 @@ ghost use Rattle.aug_live.specs.inside.Rolls.{IsOf, IsBackIn, IsReady, Starts};
 
 use crate::end::End;
 use crate::lane::Lane;
+use crate::plan::Plan;
 use crate::work::Work;
 use aug_monoid::Monoid;
 use aug_trie::{BeginError, Crew, Ended, Members, Round};
@@ -24,16 +25,15 @@ use std::thread::yield_now;
 fn begun<A: Monoid, B: Monoid>(
     alloc: Global,
     set: Members,
-    handles: u32,
-    updates: u32,
+    plan: Plan,
 ) -> Result<(Round<A, B>, Crew<A, B>), Members>
-    requires laid_out { IsLayout (shape_of set.bits handles updates (2 ^ set.bits)) }
+    requires laid_out { IsLayout (shape_of set.bits plan.lanes plan.updates (2 ^ set.bits)) }
     requires few { length set.pairs ≤ 2 ^ set.bits }
-    ensures begun { IfOk result (λ t. BeginsRound set.pairs set.bits handles updates t.0 t.1) }
+    ensures begun { IfOk result (λ t. BeginsRound set.pairs set.bits plan.lanes plan.updates t.0 t.1) }
     ensures same { IfErr result (λ e. e ≡ set) }
 {
     let bits = set.bits();
-    match Round::begin_over(alloc, set, bits, handles, updates) {
+    match Round::begin_over(alloc, set, bits, plan.lanes, plan.updates) {
         Ok(begun) => Ok(begun),
         Err((old, cause)) => match cause {
             BeginError::OutOfMemory => Err(old),
@@ -50,32 +50,31 @@ fn taken_back<A: Monoid, B: Monoid>(
     list: Vec<(u32, u32)>,
 ) -> Members
     requires keys { IsKeySet set.value.bits (keys_of set.value.pairs) }
-    requires begun { (handles updates : ℕ) × BeginsRound set.value.pairs set.value.bits handles updates round crew }
+    requires begun { (lanes updates : ℕ) × BeginsRound set.value.pairs set.value.bits lanes updates round crew }
     requires list { (list.items ≡ []) × (2 ^ set.value.bits ≤ vec_capacity list) }
     ensures { result ≡ set.value }
 {
     round.end(crew).into_members_in(list)
 }
 
-/// Begins a round over a set as `Live` does, for all its handles. After a refusal, which is for want of memory, the same set
+/// Begins a round over a set of a plan, as `Live` does. After a refusal, which is for want of memory, the same set
 /// comes back.
 pub(crate) fn next_round<A: Monoid, B: Monoid>(
     alloc: Global,
     set: Members,
-    handles: u32,
-    updates: u32,
+    plan: Plan,
     list: Vec<(u32, u32)>,
 ) -> Result<(Arc<Round<A, B>, Global>, Crew<A, B>, Vec<(u32, u32)>), Members>
-    requires laid_out { IsLayout (shape_of set.bits handles updates (2 ^ set.bits)) }
+    requires laid_out { IsLayout (shape_of set.bits plan.lanes plan.updates (2 ^ set.bits)) }
     requires few { length set.pairs ≤ 2 ^ set.bits }
     requires list { (list.items ≡ []) × (2 ^ set.bits ≤ vec_capacity list) }
-    ensures begun { IfOk result (λ t. BeginsRound set.pairs set.bits handles updates (arc_value t.0) t.1) }
+    ensures begun { IfOk result (λ t. BeginsRound set.pairs set.bits plan.lanes plan.updates (arc_value t.0) t.1) }
     ensures list { IfOk result (λ t. t.2 ≡ list) }
     ensures same { IfErr result (λ e. e ≡ set) }
 {
     let _universe = set.universe();
     let old = Snapshot::of(&set);
-    let (round, crew) = begun(alloc, set, handles, updates)?;
+    let (round, crew) = begun(alloc, set, plan)?;
     match Arc::new(alloc, round) {
         Ok(round) => Ok((round, crew, list)),
         Err(failed) => {
@@ -133,7 +132,32 @@ impl<A: Monoid, B: Monoid> End<A, B> {
         } = work;
         crew.back(round.pass(half));
         drop(theirs);
-        out.rest(lane)
+        out.leave(lane)
+    }
+
+    /// Gives the pass of the lane back to its crew, and puts the next one of the round in.
+    pub(crate) fn replace<R: Wait>(
+        self,
+        rt: &R,
+        round: &Arc<Round<A, B>, Global>,
+        crew: &mut Crew<A, B>,
+    ) -> End<A, B>
+        requires of_round { IsOf (arc_value round.now) self.at.era self }
+        requires some { 0 < self.at.era }
+        requires together { crew.old.round ≡ arc_value round.now }
+        requires lane_left { crew.old.handed < (arc_value round.now).workers }
+        ensures of_round { IsOf (arc_value round.now) self.at.era result }
+        ensures round { crew.new.round ≡ crew.old.round }
+        ensures handed { crew.new.handed ≡ crew.old.handed + 1 }
+        ensures back { crew.new.back ≡ crew.old.back + 1 }
+    {
+        let (out, lane) = self.take_to_roll(rt);
+        let era = lane.era;
+        let (work, _) = lane.into_work();
+        let Work { half, .. } = work;
+        crew.back(round.pass(half));
+        let work = Work::start(rt, round, crew);
+        out.leave(Lane::working(era, work))
     }
 
     // Puts a pass of the next round in.
@@ -156,7 +180,7 @@ impl<A: Monoid, B: Monoid> End<A, B> {
     {
         let (out, _) = self.take_to_roll(rt);
         let work = Work::start(rt, round, crew);
-        out.begin(Lane::working(era + 1, work))
+        out.leave(Lane::working(era + 1, work))
     }
 
     /// Moves the pass of the lane to a new lane, whose first end this is, and cuts that into the roller's end and a new handle's. The old
@@ -172,7 +196,7 @@ impl<A: Monoid, B: Monoid> End<A, B> {
         let (out, lane) = self.take_to_roll(rt);
         let (work, lane) = lane.into_work();
         let era = lane.era;
-        drop(out.rest(lane.given_on()));
+        drop(out.leave(lane.given_on()));
         let (out, _) = first.take(rt);
         out.open(Lane::working(era, work)).fork(rt)
     }
@@ -211,14 +235,13 @@ fn take_back<R: Wait, A: Monoid, B: Monoid>(
     requires of_round { All (IsOf round.now era) ports.items }
     requires some { 0 < era }
     requires together { crew.old.round ≡ round.now }
-    requires none_back { crew.old.back ≡ 0 }
     requires empty { back.items ≡ [] }
     requires room { vec_len ports ≤ vec_capacity back }
     ensures back { All (IsBackIn round.now era crew.new.knows.history) result.items }
     ensures len { vec_len result ≡ vec_len ports }
     ensures round { crew.new.round ≡ round.now }
     ensures handed { crew.new.handed ≡ crew.old.handed }
-    ensures counted { crew.new.back ≡ vec_len ports }
+    ensures counted { crew.new.back ≡ crew.old.back + vec_len ports }
 {
     for port in ports {
         back.push_reserved(port.give_back(rt, round, crew));
@@ -238,8 +261,7 @@ pub(crate) fn finish<R: Wait, A: Monoid, B: Monoid>(
     requires of_round { All (IsOf (arc_value round) era) ports.items }
     requires some { 0 < era }
     requires together { crew.round ≡ arc_value round }
-    requires all_out { crew.handed ≡ vec_len ports }
-    requires none_back { crew.back ≡ 0 }
+    requires all_out { crew.handed ≡ vec_len ports + crew.back }
     requires empty { room.items ≡ [] }
     requires room { vec_len ports ≤ vec_capacity room }
     ensures ready { All (IsReady result.0.bits era result.0.members) result.1.items }

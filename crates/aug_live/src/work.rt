@@ -1,5 +1,6 @@
 //! A pass beside its round.
 ghost use Rattle.std.specs.Prelude.{◌≡◌, ℕ, ◌+◌, ◌^◌, ◌<◌, IfSome, IfNone};
+ghost use Rattle.aug_trie.specs.History.{IsPrefix};
 ghost use Rattle.aug_trie.specs.Pass.{GoesOn};
 ghost use Rattle.aug_trie.specs.Requests.{answered};
 ghost use Rattle.std.specs.Arc.{arc_value};
@@ -35,7 +36,7 @@ impl<A: Monoid, B: Monoid> Model for Work<A, B> {
 }
 
 impl<A: Monoid, B: Monoid> Work<A, B> {
-    /// The next pass of a crew.
+    /// The next pass of a crew, which knows all that the crew does.
     pub(crate) fn start<R: Wait>(
         rt: &R,
         round: &Arc<Round<A, B>, Global>,
@@ -44,6 +45,7 @@ impl<A: Monoid, B: Monoid> Work<A, B> {
         requires together { crew.old.round ≡ arc_value round.now }
         requires lane_left { crew.old.handed < (arc_value round.now).workers }
         ensures fresh { IsFresh (arc_value round.now) result }
+        ensures knows { IsPrefix crew.old.knows.history result.knows.history }
         ensures round { crew.new.round ≡ crew.old.round }
         ensures handed { crew.new.handed ≡ crew.old.handed + 1 }
         ensures back { crew.new.back ≡ crew.old.back }

@@ -14,25 +14,25 @@ pub record AreCounts (counts : LiveCounts) (members : ℕ) : Type 0 where
   pub some : 0 < counts.rounds
   pub sizes : members + counts.removals ≡ counts.opened + counts.inserts
 
--- a round goes on: its crew handed a pass to each lane, and knows what lies there
-pub record IsWorking (handles updates : ℕ) (counts : LiveCounts) (round : RoundFacts) (crew : CrewFacts) (ports : List KnownFacts) (count : ℕ) : Type 0 where
+-- a round of so many lanes goes on: the passes that its crew handed out lie in those of the handles, or came back
+pub record IsWorking (lanes updates : ℕ) (counts : LiveCounts) (round : RoundFacts) (crew : CrewFacts) (ports : List KnownFacts) (count : ℕ) : Type 0 where
   pub together : crew.round ≡ round
-  pub all_out : crew.handed ≡ count
-  pub none_back : crew.back ≡ 0
+  pub workers : round.workers ≡ lanes
+  pub all_out : crew.handed ≡ count + crew.back
+  pub within : crew.handed ≤ lanes
   pub of_round : All (IsOf round counts.rounds) ports
-  pub lanes : count ≤ handles
   pub counted : AreCounts counts (length round.members)
   pub few_inserts : counts.inserts + 2 ^ 32 ≤ 2 ^ 64
   pub few_removals : counts.removals + 2 ^ 32 ≤ 2 ^ 64
-  pub laid_out : IsLayout (shape_of round.bits handles updates (2 ^ round.bits))
+  pub laid_out : IsLayout (shape_of round.bits lanes updates (2 ^ round.bits))
 
 -- a set at rest: what lay in each lane is carried into it
-pub record IsResting (handles updates : ℕ) (counts : LiveCounts) (set : SetFacts) (ports : List KnownFacts) (count : ℕ) : Type 0 where
+pub record IsResting (lanes updates : ℕ) (counts : LiveCounts) (set : SetFacts) (ports : List KnownFacts) (count : ℕ) : Type 0 where
   pub ready : All (IsReady set.bits counts.rounds set.pairs) ports
-  pub lanes : count ≤ handles
+  pub enough : count ≤ lanes
   pub counted : AreCounts counts (length set.pairs)
   pub few : length set.pairs ≤ 2 ^ set.bits
-  pub laid_out : IsLayout (shape_of set.bits handles updates (2 ^ set.bits))
+  pub laid_out : IsLayout (shape_of set.bits lanes updates (2 ^ set.bits))
 
 pub record RestFacts : Type 0 where
   pub set : SetFacts

@@ -3,7 +3,6 @@ use Rattle.std.specs.Prelude.{◌≡◌, ◌≢◌, ℕ, ◌+◌, ◌<◌, ◌�
 use mathlib.Core.Option.{some}
 use lib.ListN.{get_elem?}
 use Rattle.aug_trie.specs.Pass.{PassFacts}
-use Rattle.aug_live.specs.Carrying.{Carried}
 use Rattle.aug_live.specs.Handles.{HandleFacts, Follows}
 
 -- a pass that there is not
@@ -81,17 +80,6 @@ pub record Worked (old new : LaneFacts) : Type 0 where
   pub round : new.at.half.round ≡ old.at.half.round
   pub works : new.works ≡ old.works
   pub at_rest : old.works ≡ false → new.at.half ≡ old.at.half
-
--- the roller takes the pass out, and leaves what it knew
-pub record Rested (old new : LaneFacts) : Type 0 where
-  pub at : new.at ≡ old.at
-  pub at_rest : new.works ≡ false
-
--- the roller puts a pass of the next round in, into whose set all is carried that the last one knew
-pub record Begun (old new : LaneFacts) : Type 0 where
-  pub era : new.at.era ≡ old.at.era + 1
-  pub carried : Carried old.at.half new.at.half.round.members
-  pub bits : new.at.half.round.bits ≡ old.at.half.round.bits
 
 -- a lane whose lock a pass has: what that pass knew before, and the lane as it took it
 pub record OutFacts : Type 0 where

@@ -12,4 +12,4 @@ invariant-loop-port g l =
     × (l.crew.round ≡ l.round)
     × (into_iter_len first ≤ vec_capacity l.back)
     × (l.crew.handed ≡ l.initial.crew.handed)
-    × (l.crew.back ≡ n)
+    × (l.crew.back ≡ l.initial.crew.back + n)

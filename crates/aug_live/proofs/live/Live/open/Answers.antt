@@ -1,11 +1,9 @@
-use Rattle.std.proofs.Common.{arith}
-use Rattle.aug_model.proofs.Boundaries.{IsKeySet-few}
-use Rattle.aug_model.proofs.Pairs.{length-keys_of}
-use Rattle.aug_live.proofs.Desks.{all_new}
+use Rattle.aug_live.proofs.Planning.{same_bits, not_large}
 use Rattle.aug_live.proofs.live.Live.open.Goals as goal
 
-pub next_round-requires-clause-few : goal.next_round-requires-clause-few
-next_round-requires-clause-few g c = omega (arith, IsKeySet-few _ _ c.universe-universe.ensures.keys, length-keys_of c.args.set.pairs)
-
-pub returns-clause-new : goal.returns-clause-new
-returns-clause-new g c = all_new c.args.set c.args.handles c.args.updates _ _ _ c.in-Ok-next_round.ensures.begun c.open_lanes-ports.ensures.starts
+pub returns-clause-too_large : goal.returns-clause-too_large
+returns-clause-too_large g c =
+    let fits = c.in-Some.ensures.fits in (
+      λ refused. absurd (not_large c.args.set.bits c.bits.result c.args.memory c.in-Some.plan c.bits.ensures fits.1 (c.open_with.ensures.too_large.0 refused)),
+      λ none. absurd (none.1 (same_bits c.args.set.bits c.bits.result c.args.memory _ c.bits.ensures fits.2)),
+    )

@@ -1,0 +1,70 @@
+//! How the rounds of a trie are laid out.
+ghost use Rattle.std.specs.Prelude.{◌*◌, ◌^◌, ◌≤◌, IfSome, IfNone};
+ghost use Rattle.aug_live.specs.Plans.{Fits, least_plan};
+
+use aug_core::Layout;
+
+// Where there are more lanes than handles, each has at least so many updates.
+const LEAST_UPDATES: u64 = 256;
+
+const MOST_LANES: u32 = 64;
+
+const MOST_UPDATES: u64 = 65_536;
+
+const MOST_WORDS: u64 = 1 << 26;
+
+const WORDS_PER_RECORD: u64 = 5;
+
+/// How the rounds of a trie are laid out: how many lanes each has, and how many updates each lane. The lanes that no handle begins
+/// with are spare: a handle that made its updates goes on with one of them, and the round rolls over once none is left.
+#[derive(Clone, Copy, Debug, PartialEq, Eq)]
+pub struct Plan {
+    /// The lanes of a round.
+    pub lanes: u32,
+    /// The updates of a lane in a round.
+    pub updates: u32,
+}
+
+impl Plan {
+    /// The plan of a round for so many handles, whose table for the full set of so many bits takes at most so many bytes: up to 64
+    /// lanes, of 256 updates or more, and fewer lanes only where that many do not fit. None if not even one update of each
+    /// handle fits, or the numbers are none of a table.
+    pub fn new(bits: u32, handles: u32, memory: u64) -> Option<Plan>
+        ensures fits { IfSome result (λ plan. (handles ≤ plan.lanes) × Fits bits memory plan × Fits bits memory (least_plan handles)) }
+        ensures none { IfNone result (Fits bits memory (least_plan handles) → ⊥) }
+    {
+        let least = Plan {
+            lanes: handles,
+            updates: 1,
+        };
+        let words = least.words_within(bits, memory)?;
+        let room = (memory / 8).min(MOST_WORDS) - words;
+        let record_words = WORDS_PER_RECORD * u64::from(bits);
+        let calls = room.saturating_sub(u64::from(MOST_LANES)) / record_words + u64::from(handles);
+        let lanes = ((calls / LEAST_UPDATES).min(u64::from(MOST_LANES)) as u32).max(handles);
+        let updates = (calls / u64::from(lanes)).min(MOST_UPDATES) as u32;
+        let plan = Plan { lanes, updates };
+        match plan.words_within(bits, memory) {
+            Some(_) => Some(plan),
+            None => Some(least),
+        }
+    }
+
+    // The words of a table for the full set, unless they take more bytes than that.
+    fn words_within(&self, bits: u32, memory: u64) -> Option<u64>
+        ensures fits { IfSome result (λ words. Fits bits memory self.now × (8 * words ≤ memory) × (words ≤ 2 ^ 26)) }
+        ensures none { IfNone result (Fits bits memory self.now → ⊥) }
+    {
+        if bits > 16 {
+            return None;
+        }
+        let Ok(layout) = Layout::new(bits, self.lanes, self.updates, 1 << bits) else {
+            return None;
+        };
+        let words = layout.words();
+        if 8 * words > memory {
+            return None;
+        }
+        Some(words)
+    }
+}

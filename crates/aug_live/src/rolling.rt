@@ -154,8 +154,8 @@ impl<A: Monoid, B: Monoid> End<A, B> {
         let (out, lane) = self.take_to_roll(rt);
         let era = lane.era;
         let (work, _) = lane.into_work();
-        let Work { half, .. } = work;
-        crew.back(round.pass(half));
+        let Work { half: spent, .. } = work;
+        crew.back(round.pass(spent));
         let work = Work::start(rt, round, crew);
         out.leave(Lane::working(era, work))
     }

@@ -10,3 +10,5 @@ mod refused;
 mod renewing;
 #[cfg(test)]
 mod rolling;
+#[cfg(test)]
+mod sparing;

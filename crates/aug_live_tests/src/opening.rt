@@ -1,6 +1,6 @@
 //! One thread: opening, each call of a handle and of a look, rolling over, closing.
 
-use aug_live::{Handle, Live, LiveError};
+use aug_live::{Handle, Live, LiveError, Plan};
 use aug_model::Outcome;
 use aug_monoid::{Extent, Sum};
 use aug_trie::{BeginError, Ended, Members};
@@ -21,7 +21,7 @@ pub(super) fn no_keys(alloc: Global, bits: u32) -> Result<Members, BeginError> {
     }
 }
 
-// A trie over the empty set of keys of so many bits.
+// A trie over the empty set of keys of so many bits, with no spare lane.
 pub(super) fn opened<R: Wait>(
     rt: &R,
     alloc: Global,
@@ -29,7 +29,23 @@ pub(super) fn opened<R: Wait>(
     handles: u32,
     updates: u32,
 ) -> Result<(Trie, Vec<Hand>), BeginError> {
-    match Live::open(rt, alloc, no_keys(alloc, bits)?, handles, updates) {
+    opened_with(rt, alloc, bits, handles, 0, updates)
+}
+
+// A trie over the empty set of keys of so many bits, with so many spare lanes.
+pub(super) fn opened_with<R: Wait>(
+    rt: &R,
+    alloc: Global,
+    bits: u32,
+    handles: u32,
+    spare: u32,
+    updates: u32,
+) -> Result<(Trie, Vec<Hand>), BeginError> {
+    let plan = Plan {
+        lanes: handles.saturating_add(spare),
+        updates,
+    };
+    match Live::open_with(rt, alloc, no_keys(alloc, bits)?, handles, plan) {
         Ok(opened) => Ok(opened),
         Err((_, cause)) => Err(cause),
     }
@@ -187,7 +203,7 @@ fn a_trie_opens_over_the_set_that_another_closed_with(rt: HostRuntime) -> Result
         assert_eq!(rt; put(&rt, &mut hand, 3 * k, k), Ok(Outcome::Accepted));
     }
     let (set, _) = live.close(&rt);
-    let Ok((live, mut hands)) = Live::<Sum, Extent>::open(&rt, rt.alloc(), set, 3, 4) else {
+    let Ok((live, mut hands)) = Live::<Sum, Extent>::open(&rt, rt.alloc(), set, 3, 1 << 20) else {
         panic!(rt; "not opened");
     };
     assert_eq!(rt; hands.len(), 3);

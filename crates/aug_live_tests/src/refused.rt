@@ -1,7 +1,7 @@
 //! Memory refused: nothing is lost, and a later call succeeds.
 
 use super::opening::{Hand, Trie, insert, listed, no_keys, opened, remove};
-use aug_live::{Live, LiveError};
+use aug_live::{Live, LiveError, Plan};
 use aug_trie::BeginError;
 use std::alloc::Global;
 use std::process::Abort;
@@ -62,7 +62,11 @@ fn opened_again<R: Wait + Abort>(rt: &R, alloc: Global) -> Result<(Trie, Hand), 
         Ok(set) => set,
         Err(_) => no_keys(alloc, 4)?,
     };
-    let set = match Live::open(rt, alloc, set, 1, 2) {
+    let plan = Plan {
+        lanes: 1,
+        updates: 2,
+    };
+    let set = match Live::open_with(rt, alloc, set, 1, plan) {
         Ok((live, mut hands)) => return Ok((live, hands.pop().expect(rt, "a handle"))),
         Err((set, cause)) => {
             assert_eq!(rt;
@@ -72,7 +76,7 @@ fn opened_again<R: Wait + Abort>(rt: &R, alloc: Global) -> Result<(Trie, Hand), 
             set
         }
     };
-    match Live::open(rt, alloc, set, 1, 2) {
+    match Live::open_with(rt, alloc, set, 1, plan) {
         Ok((live, mut hands)) => Ok((live, hands.pop().expect(rt, "a handle"))),
         Err((_, cause)) => Err(cause),
     }

@@ -26,8 +26,9 @@ pub(crate) type Desk<A, B> = Mutex<Option<Place<A, B>>>;
 /// What a thread updates a trie with, and looks at it. It may go to another thread, and has a lane of its own. A handle that is
 /// dropped leaves its lane behind, and holds nobody up; `Live::handle` gives the lane to a new one.
 ///
-/// A call waits for a roll-over and for nothing else: it then goes on in the next round. Where its own updates of the round are
-/// spent, it rolls the round over itself, which waits for the update that another handle is in, and for each look.
+/// A call waits for a roll-over and for nothing else: it then goes on in the next round. Where the updates of its lane are spent, it takes a
+/// spare lane of the round, and waits for nobody but a handle that does the same. Where no spare lane is left it rolls the round over
+/// itself, which waits for the update that another handle is in, and for each look.
 #[derive(Drop)]
 pub struct Handle<A: Monoid, B: Monoid> {
     // An update takes it out and puts it back.

@@ -109,7 +109,7 @@ impl<A: Monoid, B: Monoid> Live<A, B> {
     }
 
     /// Opens a trie over a set, for so many handles, whose rounds have a table of at most so many bytes: `Plan::new` works their lanes
-    /// and updates out. While a round rolls over there may be two tables, and a list of the members.
+    /// and updates out. While a round begins, a list of the table's words takes as much again.
     ///
     /// Refused with `BadWorkers` for no handle and for more than 64, with `TooLarge` if a table with one update of each handle takes more
     /// bytes, and with `OutOfMemory`. After a refusal the same set comes back.

@@ -1,8 +1,9 @@
 """What the promises of the crates rest on: from the clauses of public calls to the definitions that a reader has to believe.
 
 A clause rests on the definitions that it names, and on the types and traits of its call's signature; a definition on what it names; a type
-with a `Model` on that model's `Value`, and one without on its fields; a trait on its ghost members. What the `view` of a model names is told
-apart: contracts see a value of this type and never the fields, so how it comes of these is no part of a promise.
+with a `Model` on that model's `Value`, and one without on its fields; each type on what it owns beside these, by its `also_owns`; a trait on its
+ghost members. What the `view` of a model names is told apart: contracts see a value of this type and never the fields, so how it comes of
+these is no part of a promise. What a library exports to C is among its public calls.
 """
 
 import collections
@@ -97,7 +98,7 @@ class Crates:
         path = self.paths[crate]
         given = sources.exported(path)
         public = {type_.name for type_, it in self.types.items() if type_.crate == crate and it.is_public}
-        for call in sources.calls(path):
+        for call in sources.calls(path, exports=True):
             yield Promise(call.name, self.names_of_call(call.function, call.part, call.path), False)
         for impl in sources.impls(path):
             if impl.trait != "Model" and impl.type in (public if given is None else given):
@@ -165,10 +166,11 @@ class Crates:
             self.unknown.add(f"there is no type {name.name} in {name.crate}")
             return set()
         has_value = type_.model and "Value" in sources.ghosts(type_.model.part.body)
-        return self.model_names(type_, "Value") if has_value else self.member_names(type_)
+        seen = self.model_names(type_, "Value") if has_value else self.member_names(type_)
+        return seen | self.model_names(type_, "also_owns")
 
     def model_names(self, type_, member):
-        """What a member of the model of a type names, or none where it has none."""
+        """What a member of the model of a type names, or none where it has no such member."""
         if not type_.model:
             return set()
         body, path = type_.model.part.body, type_.model.path

@@ -20,8 +20,8 @@ from chain import Crates
 from sources import TOP, read
 from specs import Other, Rust, Spec
 
-# The crate of the program, and that of the library.
-PROGRAM, LIBRARY = "augtrie", "aug_trie"
+# The crate of the program, that of the library, and that of the exports to C.
+PROGRAM, LIBRARY, EXPORTS = "augtrie", "aug_trie", "aug_c"
 
 # How many public calls and impls, modules and definitions there are at least.
 LEAST = 200, 80, 600
@@ -78,7 +78,8 @@ class Promises:
         crates = sorted({crate for crate, _ in self.crates.modules})
         chain = {crate: self.modules_text(self.in_chain, crate) for crate in crates}
         found = {f"of {crate}": filled(f"Modules of `{crate}`: {said}.", "") for crate, said in chain.items() if said}
-        for what, names in ("behind the program", self.names_of(PROGRAM, True)), ("behind the library", self.names_of(LIBRARY)):
+        parts = ("behind the program", self.names_of(PROGRAM, True)), ("behind the library", self.names_of(LIBRARY))
+        for what, names in (*parts, ("behind the exports", self.names_of(EXPORTS))):
             modules = by_module(self.crates.chain(names))
             if modules:
                 found[what] = bullets(crates, lambda crate: self.modules_text(modules, crate))
@@ -167,8 +168,9 @@ class Promises:
         self.list_sums()
 
     def list_sums(self):
-        program, library = self.names_of(PROGRAM, True), self.names_of(LIBRARY)
-        for what, names in (f"the program {PROGRAM}", program), (f"the library {LIBRARY}", library), ("both", program | library):
+        program, library, exports = self.names_of(PROGRAM, True), self.names_of(LIBRARY), self.names_of(EXPORTS)
+        parts = (f"the program {PROGRAM}", program), (f"the library {LIBRARY}", library), (f"the exports of {EXPORTS}", exports)
+        for what, names in (*parts, ("all", program | library | exports)):
             chain = self.crates.chain(names)
             print(f"\n{what}: {self.lines(chain)}")
             for crate in self.crates.paths:

@@ -573,6 +573,25 @@ Modules of `one`: `Books` (without `AreSteps`).
         self.assertIn("one: size of Shelf\n    one: Books.ShelfFacts, Books.kept, Books.size_of\n    types of one: Shelf\n", said)
         self.assertIn("    behind views, one: Kept.facts_of\n", said)
 
+    def test_call_that_is_exported_to_c(self):
+        export = 'pub extern "C" fn steps() -> u32\n    ensures { IsStep result }\n{\n    0\n}\n\nimpl Shelf {\n    pub fn'
+        said, status = self.check(self.SHELF, "impl Shelf {\n    pub fn", export, ["--list"])
+        self.assertEqual(status, 0)
+        self.assertIn("one: steps\n    one: Steps.IsStep\n", said)
+
+    def test_what_a_type_owns(self):
+        view = "ghost view = { λ shelf. facts_of shelf.books };"
+        said, status = self.check(self.SHELF, view, view + "\n\n    ghost also_owns = { λ shelf. facts_of shelf.books };", ["--list"])
+        self.assertEqual(status, 0)
+        self.assertIn("one: size of Shelf\n    one: Books.ShelfFacts, Books.kept, Books.size_of, Kept.facts_of\n    types of one: Shelf\n", said)
+
+    def test_contracts_of_a_type_that_a_definition_names(self):
+        self.write("crates/one/src/pile.rt", "pub struct Pile {\n    height: u32,\n}\n")
+        row = "use Rattle.one.specs.contracts.pile.Pile.{the_row as length}"
+        changed = self.BOOKS, "use Rattle.std.specs.Prelude.{ℕ, List, length}", f"use Rattle.std.specs.Prelude.{{ℕ, List}}\n{row}"
+        self.assertEqual(self.check(*changed), ("5 passed, 0 failed\n", 0))
+        self.assertIn("    types of one: Pile, Shelf\n", self.check(*changed, ["--list"])[0])
+
     def test_call_of_a_library_that_a_program_makes(self):
         count = "ghost use Rattle.one.specs.Steps.{IsStep};\n\npub fn count() -> u32\n    ensures { IsStep result }\n{\n    0\n}\n"
         self.write("crates/one/src/count.rt", count)

@@ -30,7 +30,7 @@ def target(path, name, crates):
     crate, kind, rest = parts[1], parts[2], parts[3:]
     if kind != "specs":
         return Other(f"{crate} {kind}", ".".join([*rest, name]))
-    if rest[0] == "declared":
+    if rest[0] in ("declared", "contracts"):
         return Rust(crate, rest[-2] if rest[-1] in ("TheVariants", "TheConstants") else rest[-1])
     return Spec(crate, ".".join(rest), name)
 

@@ -4,7 +4,7 @@ whatever it likes for want of memory: whoever adds such an answer says in the li
 
 usage: tests/refusals.py
 
-A place is an `AllocError`, `AllocFailed` or `OutOfMemory` that stands as a value, in code that is no test: an answer that is passed on
+A place is an `AllocError`, `AllocFailed`, `OutOfMemory` or `NO_MEMORY` that stands as a value, in code that is no test: an answer that is passed on
 by `?` is none. It is told by its file, its function and all that it stands in, so that a place whose condition changes is a new one.
 A body that asks for more memory than there can be is not seen here, but by the sweeps of tests/outside.py.
 tests/refusals.txt has three lines for each: the file and the function, the place, and why. The last line of the output is
@@ -22,7 +22,7 @@ TOP = os.path.dirname(TESTS)
 LIST = os.path.join(TESTS, "refusals.txt")
 
 # What stands for want of memory; `started` is what `start_all` answers where the start of a thread was refused.
-WANT = re.compile(r"\b(AllocError|AllocFailed|OutOfMemory|Err\(started\))(?!\w)")
+WANT = re.compile(r"\b(AllocError|AllocFailed|OutOfMemory|NO_MEMORY|Err\(started\))(?!\w)")
 
 # Comments, texts and characters.
 NO_CODE = re.compile(r"""//[^\n]*|"(?:\\.|[^"\\])*"|'(?:\\.[^']*|[^'\\])'""", re.DOTALL)
@@ -38,12 +38,15 @@ Place = collections.namedtuple("Place", "file function code")
 
 
 def end_of_part(code, begin):
-    """The end of the part that begins there: behind its `;`, or behind the brace that closes it where no `;` is to follow."""
+    """The end of the part that begins there: behind its `;`, or the `,` of a ghost field, or behind the brace that closes it where neither is to
+    follow, or before the one that closes what it stands in."""
     depth = 0
     needs_end = code.startswith(("ghost", "use"), begin)
     for at in range(begin, len(code)):
         depth += {"{": 1, "}": -1}.get(code[at], 0)
-        if depth == 0 and (code[at] == ";" or code[at] == "}" and not needs_end):
+        if depth < 0:
+            return at
+        if depth == 0 and (code[at] == ";" or code[at] == ("," if needs_end else "}")):
             return at + 1
     return len(code)
 
@@ -59,11 +62,11 @@ def code_of(text):
 
 
 def is_value(code, found):
-    """Whether what was found is a value, and no type, pattern or side of a comparison."""
+    """Whether what was found is a value, and no type, pattern, name of a constant or side of a comparison."""
     before, after = code[: found.start()], code[found.end() :]
     is_type = re.match(r"\s*,?\s*>|\s*<", after) or (re.search(r"[^:]:\s*$", before) and after.startswith(")"))
     is_pattern = re.match(r"[^;,{}]*?=>|[\s)]*=[^=]", after)
-    return not (is_type or is_pattern or re.search(r"[!=]=\s*(\w+::)*$", before))
+    return not (is_type or is_pattern or re.search(r"[!=]=\s*(\w+::)*$|\bconst\s*$", before))
 
 
 DEPTH = {"(": 1, "[": 1, ")": -1, "]": -1}
@@ -160,8 +163,12 @@ PLANTED = [
     ("let fault = Fault { cause: AllocError };", True),
     ("if bits == 2 { return Err(started); }", True),
     ("return Err(std::alloc::AllocError.into());", True),
+    ("return NO_MEMORY;", True),
+    ("struct Held { ghost value: { u32 }, at: u32 } fn no() { return Err(AllocError); }", True),
+    ("struct Held { at: u32, ghost value: { u32 } } fn no() { return Err(AllocError); }", True),
     ("// return Err(AllocError);", False),
     ('let text = "AllocError";', False),
+    ("const NO_MEMORY: i64 = -5;", False),
     ("let done: Result<u32, AllocError> = work(bits);", False),
     ("if error == Stop::OutOfMemory { stop(); }", False),
     ("if let Err(Stop::OutOfMemory) = done { stop(); }", False),

@@ -27,7 +27,7 @@ Usage: augbench <WORKLOAD> <THREADS> <SECONDS>
 # A number with three places behind its point, as in what is measured.
 NUMBER = r"(\d+\.\d{3})"
 
-ENGINES = ["trie", "mutex", "rwlock", "left_right"]
+ENGINES = ["trie", "mutex", "rwlock", "left_right", "live"]
 
 # Operations of two rounds of each workload.
 OPERATIONS = {"U": 8192, "C": 8192, "M": 81920, "P": 81920, "Q": 81920, "S": 81920}
@@ -45,7 +45,7 @@ class Measuring:
         self.assertEqual((errors, status), (b"", 0))
 
     def test_wrong_words_have_a_text_and_a_status(self):
-        for line in ["", "U", "V 1 1", "U 0 1", "U 65 1", "U 1 601", "bench U 0", "check --without 65536", "count one 1", "count rank 0", "check U"]:
+        for line in ["", "U", "V 1 1", "U 0 1", "U 65 1", "U 1 601", "bench U 0", "check --without 65536", "count one 1", "count rank 0", "check U", "roll 4", "roll 65 1"]:
             output, errors, status = self.run_on(line)
             self.assertEqual((output, status), (b"", 2), line)
             self.assertTrue(errors.startswith(b"error: "), errors)
@@ -55,6 +55,8 @@ class Measuring:
             ("count new 32769", "there are not so many absent keys to take"),
             ("count rank 1 --bits 3 --gap 4", "the gap is 0, or wider than a key"),
             ("count put 1 --updates 65536", "a round has 65536 updates"),
+            ("count live_new 32769", "there are not so many absent keys to take"),
+            ("count roll 1 --updates 1", "a handle makes no updates before them"),
         ]:
             self.assertEqual(self.run_on(line), (b"", f"augbench: {why}\n".encode(), 1))
 
@@ -95,6 +97,11 @@ class Measuring:
             ("count keys 5 --bits 4", "5 operations, 40 in all"),
             # Puts of members before them leave the keys as they are.
             ("count rank 16 --bits 4 --updates 20", "16 operations, 64 in all"),
+            ("count live 5", "5 operations, 0 in all"),
+            # A handle has 24,576 updates a round.
+            ("count live_new 32768", "32768 operations, 32768 in all"),
+            ("count live_new 8 --bits 4", "8 operations, 8 in all"),
+            ("count roll 3", "3 operations, 3 in all"),
         ]:
             self.assertEqual(self.run_on(line), (f"{wanted}\n".encode(), b"", 0))
 
@@ -113,7 +120,7 @@ class Measuring:
                 self.assertTrue(match, line)
                 self.check_figures(workload, line.startswith("trie"), *map(float, match.groups()))
             # Each engine has its rounds for a second.
-            self.assertGreaterEqual(took, 4)
+            self.assertGreaterEqual(took, len(ENGINES))
 
     def check_figures(self, workload, is_trie, speed, with_openings, opening, unchanged):
         """Holds the figures of an engine to one another: openings take time of the trie alone, and not every workload has idle updates."""
@@ -126,6 +133,20 @@ class Measuring:
             self.assertEqual(unchanged, 0)
         else:
             self.assertTrue(0.1 < unchanged < 0.7, unchanged)
+
+    def test_measures_roll_overs(self):
+        for threads in 1, 4:
+            output, errors, status = self.run_on(f"roll {threads} 1")
+            self.assertEqual((errors, status), (b"", 0))
+            match = re.fullmatch(
+                f"live U {threads} mops={NUMBER} rolls=(\\d+) mean_ms={NUMBER} longest_ms={NUMBER} share={NUMBER}\n", output.decode()
+            )
+            self.assertTrue(match, output)
+            speed, rolls, mean, longest, share = map(float, match.groups())
+            # No more than 98,304 updates are made between two of them, so they come as often as that demands.
+            self.assertGreaterEqual((rolls + 1) * 98304, 0.99 * speed * 1e6)
+            self.assertTrue(rolls > 0 and 0 < mean <= longest, output)
+            self.assertTrue(0 < share < 1, output)
 
     def test_an_output_that_takes_nothing_is_told(self):
         with open("/dev/full", "wb") as full:

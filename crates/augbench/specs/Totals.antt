@@ -1,7 +1,7 @@
 -- What the rounds of the engines came to.
 use Rattle.std.specs.Prelude.{◌≡◌, ◌≤◌, ℕ, ◌+◌, ◌-◌, ◌^◌, ◌==◌, ◌&&◌, Bool, min}
 use Rattle.augbench.specs.declared.engine.Engine.{Engine}
-use Rattle.augbench.specs.declared.engine.Engine.TheVariants.{Trie, Mutex, RwLock, LeftRight}
+use Rattle.augbench.specs.declared.engine.Engine.TheVariants.{Trie, Mutex, RwLock, LeftRight, Live}
 use Rattle.augbench.specs.declared.lap.Lap.{Lap}
 use Rattle.augbench.specs.declared.ran.Ran.{Ran}
 use Rattle.augbench.specs.declared.each.Each.{Each}
@@ -13,6 +13,7 @@ pub record AreOfEach (rans : Each Ran) : Type 0 where
   pub mutex : rans.mutex.engine ≡ Mutex
   pub rwlock : rans.rwlock.engine ≡ RwLock
   pub left_right : rans.left_right.engine ≡ LeftRight
+  pub live : rans.live.engine ≡ Live
 
 -- what each engine's rounds came to
 pub record TotalsOfEach (totals : Each Total) : Type 0 where
@@ -20,6 +21,7 @@ pub record TotalsOfEach (totals : Each Total) : Type 0 where
   pub mutex : totals.mutex.engine ≡ Mutex
   pub rwlock : totals.rwlock.engine ≡ RwLock
   pub left_right : totals.left_right.engine ≡ LeftRight
+  pub live : totals.live.engine ≡ Live
 
 -- each engine's rounds took at least so many nanoseconds
 pub record LastFor (time : ℕ) (totals : Each Total) : Type 0 where
@@ -27,6 +29,7 @@ pub record LastFor (time : ℕ) (totals : Each Total) : Type 0 where
   pub mutex : time ≤ totals.mutex.time
   pub rwlock : time ≤ totals.rwlock.time
   pub left_right : time ≤ totals.left_right.time
+  pub live : time ≤ totals.live.time
 
 -- the sum of two counts, or the greatest number
 abbrev pub capped : ℕ → ℕ → ℕ

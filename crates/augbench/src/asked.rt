@@ -11,9 +11,14 @@ pub(crate) enum Asked {
     },
     /// Makes operations of one kind, for a counter of instructions.
     Count(Counting),
-    /// Compares all engines. The plain sets open without this key, if there is one.
+    /// Compares all engines. All but the trie open without this key, if there is one.
     Check {
         without: Option<u32>,
+    },
+    /// Measures how long roll-overs take.
+    Roll {
+        threads: u32,
+        seconds: u32,
     },
 }
 
@@ -58,4 +63,10 @@ pub(crate) enum Operation {
     Size,
     /// The list of all members of one snapshot, again and again.
     Keys,
+    /// None, of a trie whose rounds roll over: what its opening takes.
+    Live,
+    /// Inserts of keys that are not there, by a handle.
+    LiveNew,
+    /// Roll-overs.
+    Roll,
 }

@@ -18,21 +18,25 @@ use std::sync::Wait;
 use std::thread::Threads;
 use std::time::Clock;
 
-/// Runs two rounds of each workload on all engines in one thread, and prints of each plain set whether it answered as the trie
-/// did. It is an error if one did not. The plain sets open without this key, if there is one: then they differ.
+// How many updates a handle makes in a round: so few that `live` rolls over some fifty times.
+const FEW_UPDATES: u32 = 1_000;
+
+/// Runs two rounds of each workload on all engines in one thread, and prints of each other one whether it answered as the trie
+/// did. It is an error if one did not. The others open without this key, if there is one: then they differ.
 pub(crate) fn check<R: Threads + Wait + Clock + Sync + Print>(
     rt: &R,
     alloc: Global,
     without: Option<u32>,
 ) -> anyhow::Result<()> {
-    let sets = Sets::open(rt, alloc, without)?;
-    let (mut trie, mut agree) = (half_full(alloc)?, true);
+    let sets = Sets::open(rt, alloc, without, 1, FEW_UPDATES)?;
+    let (mut trie, mut agree) = (half_full(alloc, None)?, true);
     for workload in Workload::ALL {
         let (back, rans) = rounds(rt, alloc, trie, &sets, workload)?;
         trie = back;
         agree &= print_verdict(rt, workload, &rans.trie, &rans.mutex)?;
         agree &= print_verdict(rt, workload, &rans.trie, &rans.rwlock)?;
         agree &= print_verdict(rt, workload, &rans.trie, &rans.left_right)?;
+        agree &= print_verdict(rt, workload, &rans.trie, &rans.live)?;
     }
     ensure!(agree, "the engines differ");
     Ok(())
@@ -78,10 +82,11 @@ fn join(one: Each<Ran>, other: Each<Ran>) -> Each<Ran>
         mutex: one.mutex.join(other.mutex),
         rwlock: one.rwlock.join(other.rwlock),
         left_right: one.left_right.join(other.left_right),
+        live: one.live.join(other.live),
     }
 }
 
-// Prints whether a plain set answered as the trie did.
+// Prints whether another engine answered as the trie did.
 fn print_verdict(out: &impl Print, workload: Workload, trie: &Ran, other: &Ran) -> io::Result<bool>
     requires trie { trie.now.engine ≡ Engine.Trie }
     requires other { other.now.engine ≢ Engine.Trie }

@@ -1,4 +1,4 @@
-//! The command line: `WORKLOAD THREADS SECONDS`, `count OP N` or `check`.
+//! The command line: `WORKLOAD THREADS SECONDS`, `count OP N`, `check` or `roll THREADS SECONDS`.
 
 use crate::asked::{Asked, Counting, Operation};
 use crate::stop::Stop;
@@ -33,7 +33,17 @@ fn command<'a>(alloc: Global) -> Result<Command<'a>, AllocError> {
         .arg(number(alloc, "THREADS", 1, 64).help("How many threads there are"))?
         .arg(number(alloc, "SECONDS", 1, 600).help("For how many seconds each engine is measured"))?
         .subcommand(count(alloc)?)?
-        .subcommand(check(alloc)?)
+        .subcommand(check(alloc)?)?
+        .subcommand(roll(alloc)?)
+}
+
+fn roll<'a>(alloc: Global) -> Result<Command<'a>, AllocError> {
+    Command::new(alloc, "roll")
+        .about(
+            "Measures how long a roll-over stops all threads, and how often one comes while they only update",
+        )
+        .arg(number(alloc, "THREADS", 1, 64).help("How many threads there are"))?
+        .arg(number(alloc, "SECONDS", 1, 600).help("For how many seconds they update"))
 }
 
 fn check<'a>(alloc: Global) -> Result<Command<'a>, AllocError> {
@@ -45,14 +55,16 @@ fn check<'a>(alloc: Global) -> Result<Command<'a>, AllocError> {
                 .action(ArgAction::Set)
                 .value_name("KEY")
                 .value_parser(value_parser!(u32).range(0..=65_535))
-                .help("Opens the plain sets without this key, so that they differ if it is even"),
+                .help(
+                    "Opens all engines but the trie without this key, so that they differ if it is even",
+                ),
         )
 }
 
 // The words for the kinds of operations that are counted.
-const OPERATIONS: [&str; 12] = [
+const OPERATIONS: [&str; 15] = [
     "none", "new", "dup", "put", "has", "rank", "select", "before", "after", "range", "size",
-    "keys",
+    "keys", "live", "live_new", "roll",
 ];
 
 fn count<'a>(alloc: Global) -> Result<Command<'a>, AllocError> {
@@ -66,7 +78,7 @@ fn count<'a>(alloc: Global) -> Result<Command<'a>, AllocError> {
                 .action(ArgAction::Set)
                 .value_parser(OPERATIONS.as_slice())
                 .help(
-                    "Nothing, inserts of absent or of present keys, puts of present keys, or queries on one snapshot",
+                    "Nothing, inserts of absent or of present keys, puts of present keys, or queries on one snapshot; where rounds roll over, nothing, inserts of absent keys, or roll-overs",
                 ),
         )?
         .arg(number(alloc, "N", 1, 65_536).help("How many of them"))?
@@ -126,6 +138,10 @@ fn asked_of(alloc: Global, matches: &ArgMatches<'_>) -> Result<Asked, Stop> {
             seconds: number_of(alloc, matches, "SECONDS")?,
         }),
         Some(("count", found)) => counting_of(alloc, found),
+        Some(("roll", found)) => Ok(Asked::Roll {
+            threads: number_of(alloc, found, "THREADS")?,
+            seconds: number_of(alloc, found, "SECONDS")?,
+        }),
         Some((_, found)) => Ok(Asked::Check {
             without: found.get_one("without"),
         }),
@@ -145,6 +161,9 @@ fn counting_of(alloc: Global, found: &ArgMatches<'_>) -> Result<Asked, Stop> {
         Some("range") => Operation::Range,
         Some("size") => Operation::Size,
         Some("keys") => Operation::Keys,
+        Some("live") => Operation::Live,
+        Some("live_new") => Operation::LiveNew,
+        Some("roll") => Operation::Roll,
         _ => Operation::Nothing,
     };
     Ok(Asked::Count(Counting {

@@ -3,18 +3,20 @@ ghost use Rattle.std.specs.Prelude.{◌≡◌, ◌+◌, ◌*◌, ◌^◌, ◌<�
 ghost use Rattle.aug_trie.specs.Snapshot.{HasSnapshot};
 
 use crate::asked::{Counting, Operation};
+use crate::count_live::count_live;
 use crate::operation::Answer;
 use crate::trie::{Hand, Trie};
 use anyhow::ensure;
 use aug_model::Outcome;
 use aug_trie::Round;
 use std::alloc::{AllocError, Global};
+use std::sync::Wait;
 
 // How many updates a pass has.
 const UPDATES: u32 = 65_536;
 
 /// Opens a trie, makes operations of one kind, and gives the sum of their answers.
-pub(crate) fn count(alloc: Global, asked: Counting) -> anyhow::Result<u64> {
+pub(crate) fn count<R: Wait>(rt: &R, alloc: Global, asked: Counting) -> anyhow::Result<u64> {
     let Counting {
         operation,
         times,
@@ -32,10 +34,42 @@ pub(crate) fn count(alloc: Global, asked: Counting) -> anyhow::Result<u64> {
     let members = universe / step;
     ensure!(1 < step && 0 < members, "the gap is 0, or wider than a key");
     ensure!(
-        operation != Operation::New || times <= members,
+        !matches!(operation, Operation::New | Operation::LiveNew) || times <= members,
         "there are not so many absent keys to take"
     );
     let trie = opening(alloc, bits, members, step)?;
+    match operation {
+        Operation::Live | Operation::LiveNew | Operation::Roll => {
+            ensure!(updates == 0, "a handle makes no updates before them");
+            count_live(rt, alloc, trie, operation, times, members, step)
+        }
+        _ => count_trie(alloc, trie, asked, members, step),
+    }
+}
+
+// Makes operations of one kind on a trie whose members are the multiples of the step, and gives the sum of their answers.
+fn count_trie(
+    alloc: Global,
+    trie: Trie,
+    asked: Counting,
+    members: u32,
+    step: u32,
+) -> anyhow::Result<u64>
+    requires some { 0 < members }
+    requires step { 1 < step }
+    requires fits { members * step ≤ 2 ^ trie.bits }
+    requires small { members * step ≤ 65536 }
+    requires budget { asked.updates + asked.times ≤ UPDATES }
+    requires bits { asked.bits ≤ 16 }
+{
+    let Counting {
+        operation,
+        times,
+        bits,
+        updates,
+        ..
+    } = asked;
+    let universe = 1u32 << bits;
     let (table, mut crew) = match Round::begin(alloc, trie, 1, UPDATES) {
         Ok(begun) => begun,
         Err((_, cause)) => return Err(cause.into()),
@@ -43,7 +77,6 @@ pub(crate) fn count(alloc: Global, asked: Counting) -> anyhow::Result<u64> {
     let mut pass = crew.pass(&table)?;
     puts(&mut pass, updates, members, step);
     let sum = match operation {
-        Operation::Nothing => 0,
         Operation::New => inserts(&mut pass, times, members, step, 1),
         Operation::Duplicate => inserts(&mut pass, times, members, step, 0),
         Operation::Put => puts(&mut pass, times, members, step),
@@ -55,6 +88,7 @@ pub(crate) fn count(alloc: Global, asked: Counting) -> anyhow::Result<u64> {
         Operation::Range => ranges(&mut pass, times, universe),
         Operation::Size => sizes(&mut pass, times),
         Operation::Keys => lists(alloc, &mut pass, times)?,
+        _ => 0,
     };
     crew.back(pass);
     let _trie = table.end(crew);
@@ -233,10 +267,10 @@ fn lists(alloc: Global, pass: &mut Hand, times: u32) -> Result<u64, AllocError>
     Ok(sum)
 }
 
-// A number below a power of two: each comes once before the first comes again.
+/// A number below a power of two: each comes once before the first comes again.
 #[inline(always)]
 #[tactic(auto, using(std::proofs::lemmas::Nat::and_le_r))]
-fn spread(i: u32, below: u32) -> u32
+pub(crate) fn spread(i: u32, below: u32) -> u32
     requires { 0 < below }
     ensures { result < below }
 {

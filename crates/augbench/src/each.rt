@@ -7,4 +7,5 @@ pub(crate) struct Each<T> {
     pub(crate) mutex: T,
     pub(crate) rwlock: T,
     pub(crate) left_right: T,
+    pub(crate) live: T,
 }

@@ -11,6 +11,8 @@ pub(crate) enum Engine {
     RwLock,
     /// Two plain sets: readers read one without a lock, and a writer changes the other.
     LeftRight,
+    /// The shared trie with rounds that roll over by themselves.
+    Live,
 }
 
 impl Engine {
@@ -21,6 +23,7 @@ impl Engine {
             Engine::Mutex => "mutex",
             Engine::RwLock => "rwlock",
             Engine::LeftRight => "left_right",
+            Engine::Live => "live",
         }
     }
 }

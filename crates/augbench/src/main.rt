@@ -1,4 +1,5 @@
-//! `augbench` measures the shared trie beside what one would use instead: a plain set behind a lock, or two copies of it.
+//! `augbench` measures the shared trie, also with rounds that roll over, beside what one would use instead: a plain set behind a lock, or two
+//! copies of it.
 #![tactic(auto)]
 
 mod asked;
@@ -6,15 +7,19 @@ mod check;
 mod command_line;
 mod copies;
 mod count;
+mod count_live;
 mod course;
 mod each;
 mod engine;
 mod fenwick;
 mod keys;
 mod lap;
+mod live_round;
+mod live_seat;
 mod locked;
 mod measure;
 mod operation;
+mod pauses;
 mod plain;
 mod ran;
 mod sets;
@@ -85,10 +90,11 @@ fn carry_out<R: Threads + Wait + Clock + Sync + Print>(
             seconds,
         } => measure::measure(rt, alloc, workload, threads, seconds),
         Asked::Count(counting) => {
-            let (times, sum) = (counting.times, count::count(alloc, counting)?);
+            let (times, sum) = (counting.times, count::count(rt, alloc, counting)?);
             println!(rt; "{times} operations, {sum} in all")?;
             Ok(())
         }
         Asked::Check { without } => check::check(rt, alloc, without),
+        Asked::Roll { threads, seconds } => pauses::measure_pauses(rt, alloc, threads, seconds),
     }
 }

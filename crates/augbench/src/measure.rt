@@ -5,6 +5,7 @@ ghost use Rattle.augbench.specs.Totals.{AreOfEach, TotalsOfEach, LastFor};
 use crate::course::Length;
 use crate::each::Each;
 use crate::engine::Engine;
+use crate::live_round::updates_of;
 use crate::ran::{Plan, Ran};
 use crate::sets::{Pace, Sets, round_of_each};
 use crate::total::Total;
@@ -27,14 +28,15 @@ pub(crate) fn measure<R: Threads + Wait + Clock + Sync + Print>(
     threads: u32,
     seconds: u32,
 ) -> anyhow::Result<()> {
-    let trie = half_full(alloc)?;
-    let sets = Sets::open(rt, alloc, None)?;
+    let trie = half_full(alloc, None)?;
+    let sets = Sets::open(rt, alloc, None, threads, updates_of(threads))?;
     let time = u64::from(seconds) * 1_000_000_000;
     let totals = rounds(rt, rt, alloc, trie, &sets, workload, threads, time)?;
     print_figures(rt, workload, threads, &totals.trie)?;
     print_figures(rt, workload, threads, &totals.mutex)?;
     print_figures(rt, workload, threads, &totals.rwlock)?;
     print_figures(rt, workload, threads, &totals.left_right)?;
+    print_figures(rt, workload, threads, &totals.live)?;
     Ok(())
 }
 
@@ -85,6 +87,7 @@ fn no_totals() -> Each<Total>
         mutex: Total::new(Engine::Mutex),
         rwlock: Total::new(Engine::RwLock),
         left_right: Total::new(Engine::LeftRight),
+        live: Total::new(Engine::Live),
     }
 }
 
@@ -96,6 +99,7 @@ fn has_lasted(totals: &Each<Total>, time: u64) -> bool
         && totals.mutex.time >= time
         && totals.rwlock.time >= time
         && totals.left_right.time >= time
+        && totals.live.time >= time
 }
 
 // Counts a round of each.
@@ -108,6 +112,7 @@ fn add(totals: &mut Each<Total>, rans: Each<Ran>)
     totals.mutex.add(rans.mutex);
     totals.rwlock.add(rans.rwlock);
     totals.left_right.add(rans.left_right);
+    totals.live.add(rans.live);
 }
 
 // Prints an engine's line.

@@ -72,12 +72,13 @@ pub(crate) fn foreseen(set: &FenwickSet, operation: Operation) -> Answer
     }
 }
 
-/// An answer to a query that found no set.
+/// An answer of an operation that found no set.
 pub(crate) fn no_answer(kind: Kind) -> Answer
-    requires { is_change kind ≡ false }
     ensures { IsAnswerTo kind result }
 {
     match kind {
+        Kind::Insert | Kind::Remove => Answer::Changed(false),
+        Kind::Put => Answer::Came(Outcome::Refused),
         Kind::Rank => Answer::Count(0),
         Kind::Select => Answer::Found(None),
         Kind::Range => Answer::Told(Span {
@@ -86,7 +87,6 @@ pub(crate) fn no_answer(kind: Kind) -> Answer
             ends: None,
         }),
         Kind::Ranks => Answer::Sum(0),
-        _ => unreachable!(),
     }
 }
 

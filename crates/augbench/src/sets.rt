@@ -6,26 +6,29 @@ ghost use Rattle.augbench.specs.Workloads.{changes_among};
 use crate::copies::{Copies, copies, copies_round};
 use crate::course::Length;
 use crate::each::Each;
+use crate::live_round::{Rolling, live_round};
 use crate::locked::{Locked, Shared, mutex_round, rwlock_round};
 use crate::plain::half_full;
 use crate::ran::{Plan, Ran};
 use crate::trie::Trie;
+use crate::trie_round;
 use crate::trie_round::trie_round;
 use crate::workload::UPDATES;
-use std::alloc::{AllocError, Global};
+use std::alloc::Global;
 use std::sync::{Mutex, RwLock, Wait};
 use std::thread::Threads;
 use std::time::Clock;
 
-/// The plain sets.
+/// The sets beside the trie.
 #[derive(Drop)]
 pub(crate) struct Sets<'t, R: Wait> {
     mutex: Locked,
     rwlock: Shared,
     left_right: Copies<'t, R>,
+    live: Rolling,
 }
 
-/// How long the rounds of the plain sets are.
+/// How long the rounds of the other engines are.
 #[derive(Clone, Copy, Debug, PartialEq, Eq)]
 pub(crate) enum Pace {
     /// As many operations as the trie's.
@@ -35,17 +38,27 @@ pub(crate) enum Pace {
 }
 
 impl<'t, R: Wait> Sets<'t, R> {
-    /// Sets of every second key, but without this one.
+    /// Sets of every second key, but without this one. Those whose rounds roll over have so many handles, each with so many updates a
+    /// round.
     pub(crate) fn open(
         rt: &'t R,
         alloc: Global,
         without: Option<u32>,
-    ) -> Result<Sets<'t, R>, AllocError> {
+        threads: u32,
+        updates: u32,
+    ) -> anyhow::Result<Sets<'t, R>> {
         let (first, second) = (half_full(alloc, without)?, half_full(alloc, without)?);
         Ok(Sets {
             mutex: Mutex::new(half_full(alloc, without)?),
             rwlock: RwLock::new(half_full(alloc, without)?),
             left_right: copies(rt, alloc, first, second)?,
+            live: Rolling::open(
+                rt,
+                alloc,
+                trie_round::half_full(alloc, without)?,
+                threads,
+                updates,
+            )?,
         })
     }
 }
@@ -78,6 +91,7 @@ pub(crate) fn round_of_each<R: Threads + Wait + Sync, C: Clock + Sync>(
         mutex: mutex_round(rt, clock, alloc, &sets.mutex, rest)?,
         rwlock: rwlock_round(rt, clock, alloc, &sets.rwlock, rest)?,
         left_right: copies_round(rt, clock, alloc, &sets.left_right, rest)?,
+        live: live_round(rt, clock, alloc, &sets.live, rest)?,
     };
     Ok((trie, rans))
 }

@@ -114,8 +114,8 @@ fn threads_draw_keys_of_their_own(rt: HostRuntime) -> Result<(), Fail> {
 #[test]
 fn several_threads_run_each_workload(rt: HostRuntime) -> Result<(), Fail> {
     let alloc = rt.alloc();
-    let sets = Sets::open(&rt, alloc, None)?;
-    let mut trie = trie_round::half_full(alloc)?;
+    let sets = Sets::open(&rt, alloc, None, 3, 100)?;
+    let mut trie = trie_round::half_full(alloc, None)?;
     // Changes come first, while all odd keys are absent.
     for (workload, changes, updates) in [
         (Workload::Changes, true, true),
@@ -136,7 +136,13 @@ fn several_threads_run_each_workload(rt: HostRuntime) -> Result<(), Fail> {
         };
         let (back, rans) = round_of_each(&rt, &rt, alloc, trie, &sets, plan, Pace::SameOperations)?;
         trie = back;
-        for ran in [rans.trie, rans.mutex, rans.rwlock, rans.left_right] {
+        for ran in [
+            rans.trie,
+            rans.mutex,
+            rans.rwlock,
+            rans.left_right,
+            rans.live,
+        ] {
             assert!(rt; ran.lap.operations >= 640);
             assert!(rt; ran.time > 0);
             assert_eq!(rt;
@@ -295,7 +301,7 @@ fn counts_operations_of_each_kind(rt: HostRuntime) -> Result<(), Fail> {
             gap: 1,
             updates: 5,
         };
-        assert_eq!(rt; count(rt.alloc(), asked)?, sum);
+        assert_eq!(rt; count(&rt, rt.alloc(), asked)?, sum);
     }
     let more = Counting {
         operation: Operation::New,
@@ -304,7 +310,7 @@ fn counts_operations_of_each_kind(rt: HostRuntime) -> Result<(), Fail> {
         gap: 1,
         updates: 0,
     };
-    assert!(rt; count(rt.alloc(), more).is_err());
+    assert!(rt; count(&rt, rt.alloc(), more).is_err());
     Ok(())
 }
 
@@ -356,6 +362,13 @@ fn reads_what_is_asked(rt: HostRuntime) -> Result<(), Fail> {
         ),
         ("check", Asked::Check { without: None }),
         ("check --without 8", Asked::Check { without: Some(8) }),
+        (
+            "roll 4 2",
+            Asked::Roll {
+                threads: 4,
+                seconds: 2,
+            },
+        ),
     ] {
         let found = asked_by(rt.alloc(), line)?.ok().ok_or("refused")?;
         assert_eq!(rt; found, want, "in {line}");

@@ -22,7 +22,7 @@ pub(crate) struct Total {
 
 /// A number of thousandths, printed with three places behind its point.
 #[derive(Clone, Copy, Debug)]
-pub(crate) struct Thousandths(u64);
+pub(crate) struct Thousandths(pub(crate) u64);
 
 impl Total {
     /// Of no round.

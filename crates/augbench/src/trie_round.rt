@@ -33,8 +33,8 @@ struct Done {
     lap: io::Result<Option<Lap>>,
 }
 
-/// The trie of every second key.
-pub(crate) fn half_full(alloc: Global) -> anyhow::Result<Trie>
+/// The trie of every second key, but without this one.
+pub(crate) fn half_full(alloc: Global, without: Option<u32>) -> anyhow::Result<Trie>
     ensures { IfOk result (λ trie. trie.bits ≡ 16) }
 {
     let empty = Trie::empty(alloc, BITS)?;
@@ -44,7 +44,9 @@ pub(crate) fn half_full(alloc: Global) -> anyhow::Result<Trie>
     };
     let mut pass = crew.pass(&table)?;
     for i in 0..UNIVERSE / 2 {
-        pass.insert(2 * i);
+        if without != Some(2 * i) {
+            pass.insert(2 * i);
+        }
     }
     crew.back(pass);
     Ok(table.end(crew))

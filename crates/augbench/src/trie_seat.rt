@@ -16,8 +16,8 @@ use std::alloc::{AllocError, Global};
 /// Room for the keys of a batch and their ranks, so that no operation takes memory.
 #[derive(Drop)]
 pub(crate) struct Batch {
-    keys: Vec<u32>,
-    ranks: Vec<u32>,
+    pub(crate) keys: Vec<u32>,
+    pub(crate) ranks: Vec<u32>,
     ghost room: { (BATCH ≤ vec_capacity keys) × (BATCH ≤ vec_capacity ranks) },
 }
 
@@ -90,8 +90,8 @@ fn ranks(pass: &mut Hand, now: Snapshot, drawn: u32, batch: &mut Batch) -> u64
     sum_of(&batch.ranks)
 }
 
-// Puts the keys of a batch, rising, in place of what was there.
-fn fill(keys: &mut Vec<u32>, drawn: u32)
+/// Puts the keys of a batch, rising, in place of what was there.
+pub(crate) fn fill(keys: &mut Vec<u32>, drawn: u32)
     requires { BATCH ≤ vec_capacity keys.old }
     ensures rising { IsNonDecreasing keys.new.items }
     ensures length { vec_len keys.new ≡ BATCH }
@@ -103,8 +103,8 @@ fn fill(keys: &mut Vec<u32>, drawn: u32)
     }
 }
 
-// The sum of some ranks.
-fn sum_of(ranks: &[u32]) -> u64 {
+/// The sum of some ranks.
+pub(crate) fn sum_of(ranks: &[u32]) -> u64 {
     let mut sum = 0u64;
     for &rank in ranks {
         sum = sum.wrapping_add(u64::from(rank));
@@ -112,9 +112,9 @@ fn sum_of(ranks: &[u32]) -> u64 {
     sum
 }
 
-// The totals of a range.
+/// The totals of a range.
 #[inline(always)]
-fn span(summary: Summary<Sum, Extent>) -> Span {
+pub(crate) fn span(summary: Summary<Sum, Extent>) -> Span {
     Span {
         count: summary.count,
         sum: summary.a.value(),

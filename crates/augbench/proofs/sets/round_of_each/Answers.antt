@@ -9,4 +9,5 @@ returns-clause-engines g c = record {
   mutex = c.in_ok-mutex_round.ensures;
   rwlock = c.in_ok-rwlock_round.ensures;
   left_right = c.in_ok-copies_round.ensures;
+  live = c.in_ok-live_round.ensures;
 }

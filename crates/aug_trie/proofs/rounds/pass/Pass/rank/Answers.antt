@@ -1,6 +1,7 @@
 use Rattle.std.proofs.Common.{ℕ, ◌+◌, ◌*◌, Option, sym, ap, ◌∙◌, subst, arith}
 use Rattle.aug_model.specs.Folds.{summary_of}
-use Rattle.aug_model.specs.Keys.{SetFacts}
+use Rattle.aug_model.specs.Keys.{SetFacts, list_of}
+use Rattle.aug_model.specs.Queries.{rank_of}
 use Rattle.aug_core.specs.Counts.{changes_of}
 use Rattle.aug_core.specs.Faces.{face}
 use Rattle.aug_words.specs.Seats.{Known}
@@ -29,3 +30,9 @@ returns-clause-reads g c = let i = c.self.inside in let b : ℕ = c.over-walk.re
     subst (λ (z : Option Known). Reads (summary_of g.A.Monoid.parts g.B.Monoid.parts) (3 * c.args.self.now.round.bits + 2) c.args.self.now (pass_facts (known_in z) i.left)) (sym c.into_words.ensures)
     (reads_of g.A.Monoid.parts g.B.Monoid.parts i.words c.over-walk.result c.rank-below.new.tree i.left (b + 1) (1) (0) (b) (3 * c.args.self.now.round.bits + 2) c.args.self.now there c.self.view_is c.rank-below.ensures.descends
     (omega (arith, ap (λ (z : SetFacts). z.bits) same)))
+
+pub returns-clause-answer : goal.returns-clause-answer
+returns-clause-answer g c = let i = c.self.inside in
+    let there = sym c.take.ensures.value ∙ c.over-walk.ensures.words in
+    let same = same_set i.words c.over-walk.result c.args.s i.left c.args.self.now there c.over-walk.ensures.snapshot c.self.view_is in
+    c.rank-below.ensures.answer ∙ ap (λ (z : SetFacts). rank_of (list_of z) c.args.k) same

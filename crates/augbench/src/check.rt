@@ -18,8 +18,8 @@ use std::sync::Wait;
 use std::thread::Threads;
 use std::time::Clock;
 
-// How many updates a handle makes in a round: so few that `live` rolls over some fifty times.
-const FEW_UPDATES: u32 = 1_000;
+// How many bytes the table of a round of `live` may take: so few that it rolls over some fifty times.
+const SMALL_TABLE: u64 = 4 << 20;
 
 /// Runs two rounds of each workload on all engines in one thread, and prints of each other one whether it answered as the trie
 /// did. It is an error if one did not. The others open without this key, if there is one: then they differ.
@@ -28,7 +28,7 @@ pub(crate) fn check<R: Threads + Wait + Clock + Sync + Print>(
     alloc: Global,
     without: Option<u32>,
 ) -> anyhow::Result<()> {
-    let sets = Sets::open(rt, alloc, without, 1, FEW_UPDATES)?;
+    let sets = Sets::open(rt, alloc, without, 1, SMALL_TABLE)?;
     let (mut trie, mut agree) = (half_full(alloc, None)?, true);
     for workload in Workload::ALL {
         let (back, rans) = rounds(rt, alloc, trie, &sets, workload)?;

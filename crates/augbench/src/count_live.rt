@@ -3,7 +3,7 @@ ghost use Rattle.std.specs.Prelude.{◌≡◌, ◌+◌, ◌*◌, ◌^◌, ◌<�
 
 use crate::asked::Operation;
 use crate::count::spread;
-use crate::live_round::{members, updates_of};
+use crate::live_round::{TABLE, members};
 use crate::trie::Trie;
 use anyhow::bail;
 use aug_live::{Handle, Live, LiveError};
@@ -31,7 +31,7 @@ pub(crate) fn count_live<R: Wait>(
     requires small { members_are * step ≤ 65536 }
 {
     let set = members(alloc, trie)?;
-    let (live, handles) = match Live::open(rt, alloc, set, HANDLES, updates_of(HANDLES)) {
+    let (live, handles) = match Live::open(rt, alloc, set, HANDLES, TABLE) {
         Ok(opened) => opened,
         Err((_, cause)) => return Err(cause.into()),
     };

@@ -20,9 +20,8 @@ use std::thread::Threads;
 use std::time::{Clock, Instant};
 use std::{io, thread};
 
-// How many updates all handles together make in a round, if none of them may make more than a pass: for them a table of 16 bits
-// has 64 MiB.
-const ALL_UPDATES: u32 = 98_304;
+/// How many bytes the table of a round may take where nothing else is said.
+pub(crate) const TABLE: u64 = 64 << 20;
 
 /// A trie whose rounds roll over, and the handles of its threads.
 #[derive(Drop)]
@@ -46,11 +45,6 @@ struct Done {
     lap: io::Result<Option<Lap>>,
 }
 
-/// How many updates a handle makes in a round if there are so many.
-pub(crate) fn updates_of(threads: u32) -> u32 {
-    (ALL_UPDATES / threads.max(1)).clamp(1, 65_536)
-}
-
 /// The set of a trie. It is an error if memory for it was refused.
 pub(crate) fn members(alloc: Global, trie: Trie) -> Result<Members, AllocError>
     ensures { IfOk result (λ set. set.bits ≡ trie.bits) }
@@ -62,18 +56,18 @@ pub(crate) fn members(alloc: Global, trie: Trie) -> Result<Members, AllocError>
 }
 
 impl Rolling {
-    /// Opens it over the set of a trie, for so many threads, each with so many updates a round.
+    /// Opens it over the set of a trie, for so many threads. The table of a round takes at most so many bytes.
     pub(crate) fn open<R: Wait>(
         rt: &R,
         alloc: Global,
         trie: Trie,
         threads: u32,
-        updates: u32,
+        table: u64,
     ) -> anyhow::Result<Rolling>
         requires { trie.bits ≡ 16 }
     {
         let set = members(alloc, trie)?;
-        let (live, handles) = match Live::open(rt, alloc, set, threads, updates) {
+        let (live, handles) = match Live::open(rt, alloc, set, threads, table) {
             Ok(opened) => opened,
             Err((_, cause)) => return Err(cause.into()),
         };

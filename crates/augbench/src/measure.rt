@@ -5,7 +5,7 @@ ghost use Rattle.augbench.specs.Totals.{AreOfEach, TotalsOfEach, LastFor};
 use crate::course::Length;
 use crate::each::Each;
 use crate::engine::Engine;
-use crate::live_round::updates_of;
+use crate::live_round::TABLE;
 use crate::ran::{Plan, Ran};
 use crate::sets::{Pace, Sets, round_of_each};
 use crate::total::Total;
@@ -29,7 +29,7 @@ pub(crate) fn measure<R: Threads + Wait + Clock + Sync + Print>(
     seconds: u32,
 ) -> anyhow::Result<()> {
     let trie = half_full(alloc, None)?;
-    let sets = Sets::open(rt, alloc, None, threads, updates_of(threads))?;
+    let sets = Sets::open(rt, alloc, None, threads, TABLE)?;
     let time = u64::from(seconds) * 1_000_000_000;
     let totals = rounds(rt, rt, alloc, trie, &sets, workload, threads, time)?;
     print_figures(rt, workload, threads, &totals.trie)?;

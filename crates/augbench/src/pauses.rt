@@ -1,7 +1,7 @@
 //! How long a roll-over stops everybody, and which part of all time that is where threads only update.
 
 use crate::course::Length;
-use crate::live_round::{Rolling, live_round, updates_of};
+use crate::live_round::{Rolling, TABLE, live_round};
 use crate::ran::Plan;
 use crate::total::Thousandths;
 use crate::trie_round::half_full;
@@ -15,6 +15,9 @@ use std::time::Clock;
 
 // How many roll-overs are timed.
 const TIMED: u64 = 50;
+
+// How many updates a thread makes before each. With four threads no round of 64 MiB is at its end after so many.
+const BETWEEN: u64 = 8_192;
 
 /// What roll-overs took.
 #[derive(Clone, Copy, Debug)]
@@ -86,13 +89,7 @@ pub(crate) fn at_work<R: Threads + Wait + Sync, C: Clock + Sync>(
     threads: u32,
     time: u64,
 ) -> anyhow::Result<Pauses> {
-    let set = Rolling::open(
-        rt,
-        alloc,
-        half_full(alloc, None)?,
-        threads,
-        updates_of(threads),
-    )?;
+    let set = Rolling::open(rt, alloc, half_full(alloc, None)?, threads, TABLE)?;
     let ran = live_round(rt, clock, alloc, &set, updating(threads, u64::MAX, time, 0))?;
     let counts = set.close(rt);
     Ok(Pauses {
@@ -105,7 +102,7 @@ pub(crate) fn at_work<R: Threads + Wait + Sync, C: Clock + Sync>(
     })
 }
 
-// Times roll-overs, each after a round in which one of the threads made all its updates and the others went beside it.
+// Times roll-overs, each after the threads made some updates of its round.
 pub(crate) fn time_rolls<R: Threads + Wait + Sync, C: Clock + Sync>(
     rt: &R,
     clock: &C,
@@ -113,10 +110,9 @@ pub(crate) fn time_rolls<R: Threads + Wait + Sync, C: Clock + Sync>(
     threads: u32,
     pauses: &mut Pauses,
 ) -> anyhow::Result<()> {
-    let updates = updates_of(threads);
-    let set = Rolling::open(rt, alloc, half_full(alloc, None)?, threads, updates)?;
+    let set = Rolling::open(rt, alloc, half_full(alloc, None)?, threads, TABLE)?;
     for round in 0..TIMED {
-        let plan = updating(threads, u64::from(updates), u64::MAX, round);
+        let plan = updating(threads, BETWEEN, u64::MAX, round);
         live_round(rt, clock, alloc, &set, plan)?;
         pauses.add(set.roll(rt, clock)?);
     }

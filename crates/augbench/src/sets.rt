@@ -38,14 +38,14 @@ pub(crate) enum Pace {
 }
 
 impl<'t, R: Wait> Sets<'t, R> {
-    /// Sets of every second key, but without this one. Those whose rounds roll over have so many handles, each with so many updates a
-    /// round.
+    /// Sets of every second key, but without this one. The one whose rounds roll over has so many handles, and tables of at most so many
+    /// bytes.
     pub(crate) fn open(
         rt: &'t R,
         alloc: Global,
         without: Option<u32>,
         threads: u32,
-        updates: u32,
+        table: u64,
     ) -> anyhow::Result<Sets<'t, R>> {
         let (first, second) = (half_full(alloc, without)?, half_full(alloc, without)?);
         Ok(Sets {
@@ -57,7 +57,7 @@ impl<'t, R: Wait> Sets<'t, R> {
                 alloc,
                 trie_round::half_full(alloc, without)?,
                 threads,
-                updates,
+                table,
             )?,
         })
     }

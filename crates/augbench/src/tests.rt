@@ -114,7 +114,7 @@ fn threads_draw_keys_of_their_own(rt: HostRuntime) -> Result<(), Fail> {
 #[test]
 fn several_threads_run_each_workload(rt: HostRuntime) -> Result<(), Fail> {
     let alloc = rt.alloc();
-    let sets = Sets::open(&rt, alloc, None, 3, 100)?;
+    let sets = Sets::open(&rt, alloc, None, 3, 4 << 20)?;
     let mut trie = trie_round::half_full(alloc, None)?;
     // Changes come first, while all odd keys are absent.
     for (workload, changes, updates) in [

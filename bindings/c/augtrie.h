@@ -180,10 +180,15 @@ int64_t aug_rank_all(aug_lane *lane, const uint32_t *keys, size_t n, uint32_t *o
 /* The same of whether the snapshot has each key, 1 or 0. */
 int64_t aug_has_all(aug_lane *lane, const uint32_t *keys, size_t n, uint8_t *out, size_t room);
 
+/* Writes the least members from `from` on, rising, as many as there are, and at most `room`. Answers how many, or AUG_CLOSED. To list all
+   members, begin with 0, and go on from the last one plus 1 as long as the answer is `room`. `out` may not overlap with the lane. */
+int64_t aug_keys(aug_lane *lane, uint32_t from, uint32_t *out, size_t room);
+
 /* What the members from `from` on that are below `to` come to. Answers how many they are, or AUG_CLOSED. */
 int64_t aug_range(aug_lane *lane, uint32_t from, uint32_t to, aug_span *span);
 
-/* Drops a lane: what it changed stays changed, and the round's report counts it as missing. Answers 0 or AUG_CLOSED. */
+/* Drops a lane, which the round's report counts as missing. What it changed before the round last opened a lane or took one back is in the set
+   that the round ends with. What it changed since then is lost, though snapshots of other lanes may have shown it. Answers 0 or AUG_CLOSED. */
 int64_t aug_drop_lane(aug_lane *lane);
 
 /* ---- Tests for null. Define AUGTRIE_NO_NULL_TESTS to call the library as it is. ---- */
@@ -211,6 +216,7 @@ static inline int64_t aug_before_(aug_lane *l, uint32_t k) { return l ? aug_befo
 static inline int64_t aug_after_(aug_lane *l, uint32_t k) { return l ? aug_after(l, k) : AUG_CLOSED; }
 static inline int64_t aug_rank_all_(aug_lane *l, const uint32_t *k, size_t n, uint32_t *o, size_t m) { return !l ? AUG_CLOSED : k && o ? aug_rank_all(l, k, n, o, m) : AUG_NO_ROOM; }
 static inline int64_t aug_has_all_(aug_lane *l, const uint32_t *k, size_t n, uint8_t *o, size_t m) { return !l ? AUG_CLOSED : k && o ? aug_has_all(l, k, n, o, m) : AUG_NO_ROOM; }
+static inline int64_t aug_keys_(aug_lane *l, uint32_t a, uint32_t *o, size_t m) { return !l ? AUG_CLOSED : o ? aug_keys(l, a, o, m) : AUG_NO_ROOM; }
 static inline int64_t aug_range_(aug_lane *l, uint32_t a, uint32_t b, aug_span *s) { return l && s ? aug_range(l, a, b, s) : AUG_CLOSED; }
 static inline int64_t aug_drop_lane_(aug_lane *l) { return l ? aug_drop_lane(l) : AUG_CLOSED; }
 #define aug_open aug_open_
@@ -236,6 +242,7 @@ static inline int64_t aug_drop_lane_(aug_lane *l) { return l ? aug_drop_lane(l) 
 #define aug_after aug_after_
 #define aug_rank_all aug_rank_all_
 #define aug_has_all aug_has_all_
+#define aug_keys aug_keys_
 #define aug_range aug_range_
 #define aug_drop_lane aug_drop_lane_
 #endif

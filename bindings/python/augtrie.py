@@ -125,7 +125,7 @@ def _library():
         "rank": [handle, u32], "select": [handle, u32], "before": [handle, u32], "after": [handle, u32],
         "range": [handle, u32, u32, ctypes.POINTER(Span)], "drop_lane": [handle],
         "insert_all": [handle, many, length], "remove_all": [handle, many, length], "put_all": [handle, many, length, many, length],
-        "rank_all": [handle, many, length, many, length], "has_all": [handle, many, length, ctypes.POINTER(ctypes.c_uint8), length],
+        "keys": [handle, u32, many, length], "rank_all": [handle, many, length, many, length], "has_all": [handle, many, length, ctypes.POINTER(ctypes.c_uint8), length],
     }
     for name, arguments in types.items():
         call = getattr(library, f"aug_{name}")
@@ -135,6 +135,9 @@ def _library():
 
 _LIB = _library()
 _NUMBERS = itertools.count(1)
+
+# How many members one call of the library lists for an iteration.
+_KEYS = 256
 
 
 def _answer(code):
@@ -182,10 +185,12 @@ class Snapshot:
         return _answer(self._ask("size"))
 
     def __iter__(self):
-        key = 0 if 0 in self else self.after(0)
-        while key is not None:
-            yield key
-            key = self.after(key)
+        start, count = 0, _KEYS
+        while count == _KEYS:
+            held = (ctypes.c_uint32 * _KEYS)()
+            count = _answer(self._ask("keys", start, held, _KEYS))
+            yield from held[:count]
+            start = held[count - 1] + 1
 
     def __getitem__(self, index):
         """The member at a place, as in a sorted list: also from the end, and slices as lists."""

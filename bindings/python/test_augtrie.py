@@ -47,6 +47,21 @@ def many_keys_go_in_one_call():
 
 
 @test
+def members_are_listed_over_many_calls():
+    for count in (0, 1, 255, 256, 257, 512, 700):
+        with Trie(bits=10) as trie, trie.round(lanes=1, updates=1024) as lanes:
+            want = [1023 - key for key in range(count)][::-1]
+            lanes[0].add_all(want)
+            now = lanes[0].look()
+            assert list(now) == want and list(zip(now, range(3))) == list(zip(want, range(3)))
+            rest = iter(now)
+            if count > 256:
+                assert next(rest) == want[0]
+                lanes[0].look()
+                assert raises(augtrie.Closed, list, rest)
+
+
+@test
 def a_set_answers_as_a_sorted_list():
     rng = random.Random(1)
     with Trie(bits=10) as trie:

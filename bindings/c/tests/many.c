@@ -51,9 +51,19 @@ int main(void) {
     WANT(aug_has_all(&lane, in, 3, bits, 3), 0);
     WANT(bits[0] == 1 && bits[1] == 1 && bits[2] == 0 && bits[3] == 9, 1);
     WANT(aug_weight(&lane, 1), 30);
+    WANT(aug_keys(&lane, 2, ranks, 1), 1);
+    WANT(ranks[0] == 2 && ranks[1] == 0, 1);
+    WANT(aug_keys(&lane, 2, ranks, 4), 2);
+    WANT(ranks[0] == 2 && ranks[1] == 5 && ranks[2] == 1 && ranks[3] == 9, 1);
+    WANT(aug_keys(&lane, 6, ranks, 4), 0);
+    WANT(aug_keys(&lane, 4000000000u, ranks, 4), 0);
+    WANT(aug_keys(&lane, 0, NULL, 4), AUG_NO_ROOM);
+    WANT(aug_keys(&lane, 0, ranks, 0), 0);
 
     WANT(aug_give_back(&trie, &lane), 0);
     WANT(aug_has_all(&lane, in, 3, bits, 3), AUG_CLOSED);
+    WANT(aug_keys(&lane, 0, ranks, 4), AUG_CLOSED);
+    WANT(ranks[0], 2);
     WANT(aug_end(&trie, &report), 0);
     WANT(report.size, 3);
     WANT(aug_close(&trie), 0);

@@ -65,6 +65,7 @@ unsafe extern "C" {
     pub fn aug_after(lane: &mut Handle, key: u32) -> i64;
     pub fn aug_rank_all(lane: &mut Handle, keys: *const u32, n: usize, out: *mut u32, room: usize) -> i64;
     pub fn aug_has_all(lane: &mut Handle, keys: *const u32, n: usize, out: *mut u8, room: usize) -> i64;
+    pub fn aug_keys(lane: &mut Handle, from: u32, out: *mut u32, room: usize) -> i64;
     pub fn aug_range(lane: &mut Handle, from: u32, to: u32, span: &mut Span) -> i64;
     pub fn aug_drop_lane(lane: &mut Handle) -> i64;
 }

@@ -81,25 +81,46 @@ impl<'lane> Snapshot<'lane> {
         span
     }
 
+    /// The least members from `from` on, rising, as many as there are places. How many these are.
+    pub fn keys_from(&self, from: u32, out: &mut [u32]) -> usize {
+        self.ask(|lane| unsafe { ffi::aug_keys(lane, from, out.as_mut_ptr(), out.len()) }).unwrap_or(0) as usize
+    }
+
     /// The members, rising.
     pub fn keys(&self) -> Keys<'_, 'lane> {
-        Keys { snapshot: self, next: if self.has(0) { Some(0) } else { self.after(0) } }
+        let mut keys = Keys { snapshot: self, held: [0; KEYS], next: 0, count: 0 };
+        keys.fill(0);
+        keys
     }
 }
+
+// How many members one call of the library lists for an iterator.
+const KEYS: usize = 64;
 
 /// The members of a snapshot, rising.
 #[derive(Debug)]
 pub struct Keys<'a, 'lane> {
     snapshot: &'a Snapshot<'lane>,
-    next: Option<u32>,
+    held: [u32; KEYS],
+    next: usize,
+    count: usize,
+}
+
+impl Keys<'_, '_> {
+    fn fill(&mut self, from: u32) {
+        (self.next, self.count) = (0, self.snapshot.keys_from(from, &mut self.held));
+    }
 }
 
 impl Iterator for Keys<'_, '_> {
     type Item = u32;
 
     fn next(&mut self) -> Option<u32> {
-        let key = self.next?;
-        self.next = self.snapshot.after(key);
+        if self.next == KEYS {
+            self.fill(self.held[KEYS - 1] + 1);
+        }
+        let key = *self.held[..self.count].get(self.next)?;
+        self.next += 1;
         Some(key)
     }
 }

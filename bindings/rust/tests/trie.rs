@@ -89,6 +89,25 @@ fn many_keys_go_in_one_call() -> Result<(), Error> {
 }
 
 #[test]
+fn members_are_listed_over_many_calls() -> Result<(), Error> {
+    for count in [0, 1, 63, 64, 65, 128, 200] {
+        let mut trie = Trie::new(8)?;
+        trie.round(1, 256, |lanes| {
+            let want: Vec<u32> = (256 - count..256).collect();
+            assert_eq!(lanes[0].insert_all(&want), Ok(count));
+            let now = lanes[0].look();
+            assert_eq!(now.keys().collect::<Vec<_>>(), want);
+            let mut some = [999; 2];
+            assert_eq!(now.keys_from(255, &mut some) as u32, count.min(1));
+            assert_eq!(some, if count == 0 { [999, 999] } else { [255, 999] });
+            assert_eq!(now.keys_from(256, &mut some), 0);
+            assert_eq!(now.keys_from(0, &mut []), 0);
+        })?;
+    }
+    Ok(())
+}
+
+#[test]
 fn refusals_have_names() -> Result<(), Error> {
     assert_eq!(Trie::new(17).map(drop), Err(Error::BadBits));
     let mut trie = Trie::new(4)?;

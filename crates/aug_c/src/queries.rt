@@ -1,11 +1,11 @@
 //! The queries of a lane, answered from its last snapshot.
-ghost use Rattle.std.specs.Prelude.{◌≡◌, ◌<◌, ◌≤◌, ◌++◌, pos, length, map, drop, Some, None, IsSome, IsNone};
+ghost use Rattle.std.specs.Prelude.{◌≡◌, ◌<◌, ◌≤◌, ◌++◌, pos, length, map, take, drop, min, Some, None, IsSome, IsNone};
 ghost use Rattle.aug_model.specs.Keys.{is_member, list_of};
 ghost use Rattle.aug_model.specs.Queries.{rank_of, select_of, before_of, after_of, weight_of, weighted_range_of};
 ghost use Rattle.aug_monoid.specs.declared.sum.Sum.{Sum};
 ghost use Rattle.aug_monoid.specs.declared.extent.Extent.{Extent};
 ghost use Rattle.aug_lane.specs.declared.lane.Lane.{Lane};
-ghost use Rattle.aug_lane.specs.Told.{bit_of};
+ghost use Rattle.aug_lane.specs.Told.{bit_of, from_of};
 ghost use Rattle.aug_c.specs.Codes.{closed, no_room};
 ghost use Rattle.aug_c.specs.Handles.{lane_of, On};
 ghost use Rattle.aug_c.specs.LaneCalls.{found as number_of, truth, span_of, shown, Asks, IsSpan};
@@ -171,7 +171,7 @@ pub extern "C" fn aug_range(
     i64::from(count)
 }
 
-/// Drops a lane. What it changed stays changed.
+/// Drops a lane. What it changed is in the set that the round ends with if the round opened a lane or took one back after that.
 #[unsafe(no_mangle)]
 pub extern "C" fn aug_drop_lane(alloc: Global, lane: &mut LaneHandle) -> i64
     ensures open { IsSome lane.old.held.value → result ≡ pos 0 }
@@ -185,7 +185,8 @@ pub extern "C" fn aug_drop_lane(alloc: Global, lane: &mut LaneHandle) -> i64
     }
 }
 
-/// Writes how many members of the snapshot are below each key to the place with its index. The keys stand in any order.
+/// Writes how many members of the snapshot are below each key to the place with its index. The keys stand in any order, and
+/// each is a walk of its own.
 #[unsafe(no_mangle)]
 pub extern "C" fn aug_rank_all(
     alloc: Global,
@@ -211,7 +212,8 @@ pub extern "C" fn aug_rank_all(
     0
 }
 
-/// Writes whether the snapshot has each key, 1 or 0, to the place with its index. The keys stand in any order.
+/// Writes whether the snapshot has each key, 1 or 0, to the place with its index. The keys stand in any order, and each is a
+/// walk of its own.
 #[unsafe(no_mangle)]
 pub extern "C" fn aug_has_all(
     alloc: Global,
@@ -235,4 +237,21 @@ pub extern "C" fn aug_has_all(
     let new = old.has_all(keys, out);
     lane.give(slot, new);
     0
+}
+
+/// Writes the least members of the snapshot from `from` on, rising, as many as `out` has places for. Answers how many.
+#[unsafe(no_mangle)]
+pub extern "C" fn aug_keys(alloc: Global, lane: &mut LaneHandle, from: u32, out: &mut [u32]) -> i64
+    ensures asks { On (Asks (λ set. pos (min (length out.old) (length (from_of (list_of set) from))))) (lane_of lane.old) (lane_of lane.new) result }
+    ensures closed { IsNone (lane_of lane.old) → out.new ≡ out.old }
+    ensures foreign { IsNone lane.old.held.value → lane.new ≡ lane.old }
+    ensures told { (old : Lane Sum Extent) → lane_of lane.old ≡ Some old
+        → out.new ≡ take (length out.old) (from_of (list_of (shown old)) from) ++ drop (length (from_of (list_of (shown old)) from)) out.old }
+{
+    let Some((slot, old)) = lane.lend(alloc) else {
+        return CLOSED;
+    };
+    let (new, count) = old.keys_from(from, out);
+    lane.give(slot, new);
+    i64::from(count)
 }

@@ -1,6 +1,6 @@
 -- A round that ends as it began has the set that it was opened with.
-use Rattle.std.proofs.Common.{◌≡◌, ◌≤◌, ◌∙◌, ℕ, List, [], ◌∷◌, ap}
-use Rattle.aug_core.specs.Cuts.{opening_cut, pairs_of_cut}
+use Rattle.std.proofs.Common.{◌≡◌, ◌≤◌, ◌∙◌, ℕ, List, ap}
+use Rattle.aug_core.specs.Cuts.{pairs_of_cut}
 use Rattle.aug_model.specs.Keys.{IsKeySet, keys_of}
 use Rattle.aug_model.proofs.Rising.{is_wider}
 use Rattle.aug_trie.specs.History.{last_cut}

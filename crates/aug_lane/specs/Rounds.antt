@@ -1,5 +1,5 @@
 -- How a round is shared with its lanes.
-use Rattle.std.specs.Prelude.{◌≡◌, ℕ, ◌+◌}
+use Rattle.std.specs.Prelude.{ℕ}
 use Rattle.aug_trie.specs.Updates.{TakesSnapshot}
 use Rattle.aug_trie.specs.Snapshot.{snapshot_cut}
 use Rattle.aug_trie.specs.Pass.{PassFacts, GoesOn}

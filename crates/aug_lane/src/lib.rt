@@ -5,6 +5,7 @@
 mod batches;
 mod error;
 mod lane;
+mod listing;
 mod many;
 mod queries;
 mod running;

@@ -18,8 +18,9 @@ fn bit(answer: bool) -> u8
 }
 
 impl<A: Monoid, B: Monoid> Lane<A, B> {
-    /// Writes how many members are below each of `asked` to the place with its index. The keys stand in any order. What `out`
-    /// has behind them stays.
+    /// Writes how many members are below each of `asked` to the place with its index. The keys stand in any order, and each is a
+    /// walk of its own; `ranks` asks for keys that do not fall, and walks once over what their ways share. What `out` has behind
+    /// them stays.
     pub fn rank_all(self, asked: &[u32], out: &mut [u32]) -> Lane<A, B>
         requires room { length asked.now ≤ length out.old }
         ensures answer { out.new ≡ map (λ k. rank_of (list_of (set_at self.half self.held)) k) asked.now ++ drop (length asked.now) out.old }
@@ -37,7 +38,8 @@ impl<A: Monoid, B: Monoid> Lane<A, B> {
     }
 
     /// Writes 1 for each of `asked` that is a member, and 0 for each other, to the place with its index. The keys stand in any
-    /// order. What `out` has behind them stays.
+    /// order, and each is a walk of its own; `memberships` walks once over what the ways of keys share that do not fall. What
+    /// `out` has behind them stays.
     pub fn has_all(self, asked: &[u32], out: &mut [u8]) -> Lane<A, B>
         requires room { length asked.now ≤ length out.old }
         ensures answer { out.new ≡ map (λ k. bit_of (is_member (list_of (set_at self.half self.held)) k)) asked.now ++ drop (length asked.now) out.old }

@@ -56,3 +56,25 @@ fn many_answers_stand_where_their_keys_do(rt: HostRuntime) -> Result<(), BeginEr
     drop(lane);
     Ok(())
 }
+
+#[test]
+fn members_are_listed_from_any_key_on(rt: HostRuntime) -> Result<(), BeginError> {
+    let round = begun(rt.alloc(), Ended::empty(rt.alloc(), 4)?, 1, 9)?;
+    let (_, lane) = round.open();
+    let (lane, _) = lane.expect(&rt, "lane 0").insert_all(&[5, 0, 7, 15]);
+    let mut some = [9, 9, 9];
+    let (lane, count) = lane.keys_from(0, &mut some);
+    assert_eq!(rt; (count, some), (0, [9, 9, 9]));
+    let (lane, count) = lane.look().keys_from(0, &mut some);
+    assert_eq!(rt; (count, some), (3, [0, 5, 7]));
+    let (lane, count) = lane.keys_from(6, &mut some);
+    assert_eq!(rt; (count, some), (2, [7, 15, 7]));
+    let (lane, count) = lane.keys_from(16, &mut some);
+    assert_eq!(rt; (count, some), (0, [7, 15, 7]));
+    let (lane, count) = lane.keys_from(u32::MAX, &mut some);
+    assert_eq!(rt; (count, some), (0, [7, 15, 7]));
+    let (lane, count) = lane.keys_from(5, &mut []);
+    assert_eq!(rt; count, 0);
+    drop(lane);
+    Ok(())
+}

@@ -1,8 +1,8 @@
 //! Rounds that do not begin for want of memory.
 
-use super::rounds::{Trie, Work, begun};
+use super::rounds::{Trie, Work, back, begun};
 use aug_lane::Running;
-use aug_query::keys;
+use aug_query::{keys, pairs};
 use aug_trie::{BeginError, Ended};
 use std::alloc::Global;
 use std::process::Abort;
@@ -55,5 +55,71 @@ fn refused_memory_leaves_the_set(rt: HostRuntime) -> Result<(), BeginError> {
         Err(_) => keys(rt.alloc(), &mut ended).expect(&rt, "memory"),
     };
     assert_eq!(rt; list.len(), size as usize);
+    Ok(())
+}
+
+// A trie of 4 bits with the members 5 and 9, of which 9 weighs 70.
+fn five_and_nine(alloc: Global) -> Result<Trie, BeginError> {
+    let round = begun(alloc, Ended::empty(alloc, 4)?, 1, 2)?;
+    let (round, lane) = round.open();
+    let Ok(lane) = lane else {
+        return Err(BeginError::OutOfMemory);
+    };
+    let (lane, _) = lane.insert(5);
+    let (lane, _) = lane.put(9, 70);
+    match back(round, lane).end() {
+        Ok(ended) => Ok(ended),
+        Err(_) => Err(BeginError::OutOfMemory),
+    }
+}
+
+// The members of a trie at rest with their weights, which are asked for again where memory was refused.
+fn listed(rt: &impl Abort, alloc: Global, ended: &mut Trie) -> Vec<(u32, u32)> {
+    match pairs(alloc, ended) {
+        Ok(list) => list,
+        Err(_) => pairs(alloc, ended).expect(rt, "memory"),
+    }
+}
+
+// A round of more bits, which is begun again where memory was refused: the trie that came back has the same set then, and its own bits or
+// those that were asked for.
+fn again_wider(rt: &impl Abort, alloc: Global, trie: Trie) -> Result<Work, BeginError> {
+    let mut trie = match Running::begin_wider(alloc, trie, 6, 1, 1) {
+        Ok(round) => return Ok(round),
+        Err((trie, cause)) => {
+            assert_eq!(rt; cause, BeginError::OutOfMemory);
+            trie
+        }
+    };
+    assert!(rt; trie.bits() == 4 || trie.bits() == 6);
+    let list = listed(rt, alloc, &mut trie);
+    assert_eq!(rt; list.as_slice(), [(5, 5), (9, 70)].as_slice());
+    match Running::begin_wider(alloc, trie, 6, 1, 1) {
+        Ok(round) => Ok(round),
+        Err((_, cause)) => Err(cause),
+    }
+}
+
+// Passes whichever request for memory is refused.
+#[test]
+fn refused_memory_leaves_the_narrower_set(rt: HostRuntime) -> Result<(), BeginError> {
+    let trie = match five_and_nine(rt.alloc()) {
+        Ok(trie) => trie,
+        Err(cause) => {
+            assert_eq!(rt; cause, BeginError::OutOfMemory);
+            five_and_nine(rt.alloc())?
+        }
+    };
+    let round = again_wider(&rt, rt.alloc(), trie)?;
+    let (round, lane) = round.open();
+    let (lane, done) = lane.expect(&rt, "lane 0").insert(63);
+    assert_eq!(rt; done, Ok(true));
+    let Ok(mut ended) = back(round, lane).end() else {
+        assert!(rt; false);
+        return Ok(());
+    };
+    assert_eq!(rt; (ended.bits(), ended.inserts()), (6, 1));
+    let list = listed(&rt, rt.alloc(), &mut ended);
+    assert_eq!(rt; list.as_slice(), [(5, 5), (9, 70), (63, 63)].as_slice());
     Ok(())
 }

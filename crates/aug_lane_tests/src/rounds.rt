@@ -55,6 +55,28 @@ fn a_round_ends_once_its_lanes_are_dropped(rt: HostRuntime) -> Result<(), BeginE
     Ok(())
 }
 
+// What a dropped lane changed is in the set at the end if the round took a lane back after that, and else it is not.
+#[test]
+fn a_dropped_lane_leaves_what_the_round_saw(rt: HostRuntime) -> Result<(), BeginError> {
+    let round = begun(rt.alloc(), Ended::empty(rt.alloc(), 4)?, 3, 2)?;
+    let (round, first) = round.open();
+    let (round, second) = round.open();
+    let (round, third) = round.open();
+    let (first, _) = first.expect(&rt, "lane 0").insert(5);
+    drop(first);
+    let round = back(round, second.expect(&rt, "lane 1"));
+    let (third, _) = third.expect(&rt, "lane 2").insert(9);
+    drop(third);
+    let Ok(mut ended) = round.end() else {
+        assert!(rt; false);
+        return Ok(());
+    };
+    assert_eq!(rt; (ended.missing(), ended.inserts()), (2, 0));
+    let list = keys(rt.alloc(), &mut ended).expect(&rt, "memory");
+    assert_eq!(rt; list.as_slice(), [5].as_slice());
+    Ok(())
+}
+
 #[test]
 fn each_lane_is_opened_once(rt: HostRuntime) -> Result<(), BeginError> {
     let round = begun(rt.alloc(), Ended::empty(rt.alloc(), 4)?, 1, 2)?;

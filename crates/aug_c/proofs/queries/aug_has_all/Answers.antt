@@ -1,4 +1,4 @@
-use Rattle.std.proofs.Common.{rules, ◌≡◌, pos, refl}
+use Rattle.std.proofs.Common.{rules, pos, refl}
 use Rattle.aug_model.specs.Keys.{SetFacts}
 use Rattle.aug_c.specs.Handles.{lane_of}
 use Rattle.aug_c.specs.LaneCalls.{Asks}

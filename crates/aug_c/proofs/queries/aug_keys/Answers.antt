@@ -1,0 +1,13 @@
+use Rattle.std.proofs.Common.{rules, ◌≡◌, ◌∙◌, w64, to_z, of_z, pos, length, min}
+use Rattle.aug_model.specs.Keys.{SetFacts, list_of}
+use Rattle.aug_lane.specs.Told.{from_of}
+use Rattle.aug_c.specs.Handles.{lane_of}
+use Rattle.aug_c.specs.LaneCalls.{Asks, shown}
+use Rattle.aug_c.proofs.Calls.{on_some}
+use Rattle.aug_c.proofs.queries.aug_keys.Goals as goal
+
+pub returns-clause-asks : goal.returns-clause-asks
+returns-clause-asks c = let e = c.keys_from-new.ensures in let told = λ (set : SetFacts). pos (min (length c.args.out.now) (length (from_of (list_of set) c.args.from))) in
+    let code : to_z w64 (of_z w64 c.from.result) ≡ c.from.result = search rules in let says : c.from.result ≡ told (shown c.in-Some.old) = search rules in
+    on_some (Asks told) (lane_of c.args.lane.now) (lane_of c.give.new.self) (to_z w64 (of_z w64 c.from.result)) c.in-Some.old c.keys_from-new.result.0 (search rules) (search rules)
+    (record { says = code ∙ says; stays = e.reads.stays; held = e.held; round = e.round })

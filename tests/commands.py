@@ -64,7 +64,7 @@ VALGRIND = r"""#!/bin/bash
 shift 2
 if [[ $2 == count ]]; then shift; fi
 all=1000
-if [[ $2 != none ]]; then all=$((1000 + $3 * ${#2})); fi
+if [[ $2 != none && $2 != live ]]; then all=$((1000 + $3 * ${#2})); fi
 echo "${1##*/} $*" >>"$ROOM/called"
 echo "==1== Collected : $all" >&2
 """
@@ -402,20 +402,21 @@ class Measure(Folder):
         updates, queries = ["new", "dup", "put"], ["has", "rank", "select", "before", "after", "range"]
         named = [("trie", updates + queries + ["size"]), ("updated", queries + ["size"])]
         lines = [f"{name} {operation} {len(operation)}" for name, operations in named for operation in operations]
-        lines.append("trie keys 4")
+        lines += ["trie keys 4", "live live_new 8", "live roll 4"]
         lines += [f"{name} {operation} {len(operation)}" for name in ("checked", "unchecked") for operation in updates + queries]
         self.assertEqual((out.splitlines(), err, status), (lines, "", 0))
         called = self.read("called").splitlines()
         self.assertEqual(len(called), 2 * len(lines))
         self.assertTrue(called[0].endswith(" new 8000 --bits 16 --gap 1"), called[0])
         self.assertTrue(called[-1].endswith(" none 8000 16 1"), called[-1])
+        self.assertEqual(sum(" live 8000 --bits 16 --gap 1" in line for line in called), 1)
 
     def test_counts_without_rustc_leave_plain_rust_out(self):
         for name in ["env", "bash", "mktemp", "rm", "awk", "dirname"]:
             os.symlink(shutil.which(name), os.path.join(self.folder, "bin", name))
         os.remove(os.path.join(self.folder, "bin/rustc"))
         out, err, status = self.run_script("tools/measure", "counts", path=os.path.join(self.folder, "bin"))
-        self.assertEqual([line.split()[0] for line in out.splitlines()], ["trie"] * 10 + ["updated"] * 7 + ["trie"])
+        self.assertEqual([line.split()[0] for line in out.splitlines()], ["trie"] * 10 + ["updated"] * 7 + ["trie"] + ["live"] * 2)
         self.assertEqual((err, status), ("tools/measure: no rustc, so plain Rust is left out\n", 0))
 
 

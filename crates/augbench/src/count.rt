@@ -102,7 +102,9 @@ fn opening(alloc: Global, bits: u32, members: u32, step: u32) -> anyhow::Result<
     requires step { 0 < step }
     requires fits { members * step ≤ 2 ^ bits }
     requires small { members * step ≤ 65536 }
-    ensures { IfOk result (λ trie. trie.bits ≡ bits) }
+    ensures bits { IfOk result (λ trie. trie.bits ≡ bits) }
+    ensures fits { IfOk result (λ trie. members * step ≤ 2 ^ trie.bits) }
+    ensures small { IfOk result (λ _. members * step ≤ 65536) }
 {
     let empty = Trie::empty(alloc, bits)?;
     let (table, mut crew) = match Round::begin(alloc, empty, 1, UPDATES) {

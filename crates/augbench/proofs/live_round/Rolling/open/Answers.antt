@@ -8,7 +8,7 @@ pub loop-handle-init : goal.loop-handle-init
 loop-handle-init g c =
     let bits = c.in_ok-set.ensures ∙ c.requires in
     let P = λ (handle : HandleFacts). handle.half.round.bits ≡ 16 in
-    All-same P _ _ c.into_iter-handle-iterator.ensures.into_iter_gives (All-weaker _ P (λ handle new. new.bits ∙ bits) _ c.in-Ok.ensures.new.2)
+    All-same P _ _ c.into_iter-handle-iterator.ensures.into_iter_gives.0 (All-weaker _ P (λ handle new. new.bits ∙ bits) _ c.in-Ok.ensures.new.2)
 
 pub loop-handle-preserved : goal.loop-handle-preserved
 loop-handle-preserved g c = All-rest (λ (handle : HandleFacts). handle.half.round.bits ≡ 16) _ _ _ c.in-Some.ensures.steps.0 c.loop-handle.invariant

@@ -33,10 +33,7 @@ pub(crate) fn check<R: Threads + Wait + Clock + Sync + Print>(
     for workload in Workload::ALL {
         let (back, rans) = rounds(rt, alloc, trie, &sets, workload)?;
         trie = back;
-        agree &= print_verdict(rt, workload, &rans.trie, &rans.mutex)?;
-        agree &= print_verdict(rt, workload, &rans.trie, &rans.rwlock)?;
-        agree &= print_verdict(rt, workload, &rans.trie, &rans.left_right)?;
-        agree &= print_verdict(rt, workload, &rans.trie, &rans.live)?;
+        agree &= print_verdicts(rt, workload, &rans)?;
     }
     ensure!(agree, "the engines differ");
     Ok(())
@@ -84,6 +81,17 @@ fn join(one: Each<Ran>, other: Each<Ran>) -> Each<Ran>
         left_right: one.left_right.join(other.left_right),
         live: one.live.join(other.live),
     }
+}
+
+// Prints of each other engine whether it answered as the trie did, and says whether all did.
+fn print_verdicts(out: &impl Print, workload: Workload, rans: &Each<Ran>) -> io::Result<bool>
+    requires { AreOfEach rans.now }
+{
+    let mut agree = print_verdict(out, workload, &rans.trie, &rans.mutex)?;
+    agree &= print_verdict(out, workload, &rans.trie, &rans.rwlock)?;
+    agree &= print_verdict(out, workload, &rans.trie, &rans.left_right)?;
+    agree &= print_verdict(out, workload, &rans.trie, &rans.live)?;
+    Ok(agree)
 }
 
 // Prints whether another engine answered as the trie did.

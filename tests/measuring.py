@@ -98,7 +98,7 @@ class Measuring:
             # Puts of members before them leave the keys as they are.
             ("count rank 16 --bits 4 --updates 20", "16 operations, 64 in all"),
             ("count live 5", "5 operations, 0 in all"),
-            # A handle has 24,576 updates a round.
+            # A lane has 1,548 updates a round.
             ("count live_new 32768", "32768 operations, 32768 in all"),
             ("count live_new 8 --bits 4", "8 operations, 8 in all"),
             ("count roll 3", "3 operations, 3 in all"),
@@ -143,8 +143,8 @@ class Measuring:
             )
             self.assertTrue(match, output)
             speed, rolls, mean, longest, share = map(float, match.groups())
-            # No more than 98,304 updates are made between two of them, so they come as often as that demands.
-            self.assertGreaterEqual((rolls + 1) * 98304, 0.99 * speed * 1e6)
+            # No more than 99,072 updates are made between two of them, so they come as often as that demands.
+            self.assertGreaterEqual((rolls + 1) * 99072, 0.99 * speed * 1e6)
             self.assertTrue(rolls > 0 and 0 < mean <= longest, output)
             self.assertTrue(0 < share < 1, output)
 

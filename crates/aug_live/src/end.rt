@@ -100,6 +100,7 @@ impl<A: Monoid, B: Monoid> End<A, B> {
     }
 
     /// Takes it for the handle, and waits while the roller has it.
+    #[inline(always)]
     pub(crate) fn take_to_work<R: Wait>(self, rt: &R) -> (Out<A, B>, Lane<A, B>)
         requires handle { self.kind ≡ 2 }
         requires some { 0 < self.at.era }
@@ -111,6 +112,7 @@ impl<A: Monoid, B: Monoid> End<A, B> {
     }
 
     /// Takes what lies in the lane, and waits while another end has it.
+    #[inline(always)]
     pub(crate) fn take<R: Wait>(self, rt: &R) -> (Out<A, B>, Lane<A, B>)
         ensures known { result.0.known ≡ self }
         ensures taken { result.0.taken ≡ result.1 }
@@ -124,6 +126,7 @@ impl<A: Monoid, B: Monoid> End<A, B> {
 
 impl<A: Monoid, B: Monoid> Out<A, B> {
     /// Puts the lane back, with what the handle made of it.
+    #[inline(always)]
     pub(crate) fn put(self, lane: Lane<A, B>) -> End<A, B>
         requires handle { self.known.kind ≡ 2 }
         requires worked { Worked self.taken lane }

@@ -134,6 +134,7 @@ impl<A: Monoid, B: Monoid> Handle<A, B> {
     }
 
     // Makes an update, unless the round has to roll over first, or a newer handle has the lane.
+    #[inline(always)]
     fn try_update<R: Wait>(&mut self, rt: &R, k: u32, update: Update) -> Result<Outcome, Missed>
         requires key { k < 2 ^ self.old.half.round.bits }
         ensures made { IfOk result (λ done. Makes 1 (ChangesTo update k done) self.old self.new) }

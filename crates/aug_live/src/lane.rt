@@ -54,6 +54,7 @@ impl<A: Monoid, B: Monoid> Lane<A, B> {
     }
 
     /// A lane with a pass of a round.
+    #[inline(always)]
     pub(crate) fn working(era: u64, work: Work<A, B>) -> Lane<A, B>
         ensures { result ≡ record { works = true; at = record { era = era; half = work } } }
     {
@@ -70,6 +71,7 @@ impl<A: Monoid, B: Monoid> Lane<A, B> {
     }
 
     /// Takes the pass out, and leaves what it knew.
+    #[inline(always)]
     pub(crate) fn into_work(self) -> (Work<A, B>, Lane<A, B>)
         requires { self.works ≡ true }
         ensures work { result.0 ≡ self.at.half }
@@ -119,6 +121,7 @@ impl<A: Monoid, B: Monoid> Lane<A, B> {
     }
 
     /// Makes an update of a key, unless the updates are spent or no pass lies in the lane.
+    #[inline(always)]
     pub(crate) fn update(self, k: u32, update: Update) -> (Lane<A, B>, Result<Outcome, Missed>)
         requires { k < 2 ^ self.at.half.round.bits }
         ensures made { IfOk result.1 (λ done. Makes 1 (ChangesTo update k done) self.at result.0.at) }

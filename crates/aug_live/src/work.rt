@@ -61,6 +61,7 @@ impl<A: Monoid, B: Monoid> Work<A, B> {
     }
 
     /// Makes an update of a key, unless the updates of the pass are spent.
+    #[inline(always)]
     pub(crate) fn update(self, k: u32, update: Update) -> (Work<A, B>, Option<Outcome>)
         requires { k < 2 ^ self.round.bits }
         ensures made { IfSome result.1 (λ done. ChangesTo update k done self result.0) }

@@ -111,8 +111,9 @@ fn a_plan_uses_the_memory_that_there_is(rt: HostRuntime) {
             .saturating_mul(8);
             assert_eq!(rt; Plan::new(bits, handles, least.saturating_sub(1)), None);
             assert!(rt; Plan::new(bits, handles, least).is_some());
-            for shift in 10..40 {
-                let memory = 1u64 << shift;
+            let mut memory = 1024u64;
+            for _ in 0..30 {
+                memory = memory.saturating_mul(2);
                 match Plan::new(bits, handles, memory) {
                     None => assert!(rt; memory < least),
                     Some(plan) => {
@@ -139,7 +140,7 @@ fn a_plan_uses_the_memory_that_there_is(rt: HostRuntime) {
         plan,
         Some(Plan {
             lanes: 64,
-            updates: 1540
+            updates: 1548
         })
     );
 }

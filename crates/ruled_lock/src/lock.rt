@@ -68,6 +68,7 @@ impl<T, V, P: LockRule<T, V>> RuledLock<T, V, P> {
     }
 
     /// Takes the value out, and waits while another pass has it.
+    #[inline(always)]
     pub fn take<M: Lesson<T, V>, R: Wait>(&self, rt: &R, pass: &mut Pass<T, V>) -> T
         requires lock { pass.old.table_id ≡ self.now.table.shared.table_id }
         requires free { IsFree pass.old }
@@ -106,6 +107,7 @@ impl<T, V, P: LockRule<T, V>> RuledLock<T, V, P> {
     }
 
     /// Puts a value back, in the place of the one that was taken.
+    #[inline(always)]
     pub fn put<M: Outcome<T, V>>(&self, pass: &mut Pass<T, V>, value: T)
         requires lock { pass.old.table_id ≡ self.now.table.shared.table_id }
         requires holds { (t : T) × Holds t None pass.old × TurnsAt P.holds pass.old.id (client_of pass.old) t value M.then }

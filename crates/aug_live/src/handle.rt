@@ -116,6 +116,7 @@ impl<A: Monoid, B: Monoid> Handle<A, B> {
     }
 
     // Makes an update, and rolls the round over where it must.
+    #[inline(always)]
     fn update<R: Wait>(&mut self, rt: &R, k: u32, update: Update) -> Result<Outcome, LiveError>
         requires key { k < 2 ^ self.old.half.round.bits }
         ensures made { IfOk result (λ done. Makes 1 (ChangesTo update k done) self.old self.new) }

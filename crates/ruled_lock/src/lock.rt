@@ -86,6 +86,7 @@ impl<T, V, P: LockRule<T, V>> RuledLock<T, V, P> {
     }
 
     // Takes the slot, and waits while another pass has it.
+    #[inline(always)]
     fn acquire<M: Lesson<T, V>, R: Wait>(&self, rt: &R, pass: &mut Pass<T, V>)
         requires lock { pass.old.table_id ≡ self.now.table.shared.table_id }
         requires free { IsFree pass.old }

@@ -11,7 +11,7 @@ loop-handle-init g c =
     let New = λ (handle : HandleFacts). IsNew c.in_ok-set.set opened.0.updates handle in
     let P = λ (handle : HandleFacts). handle.half.round.bits ≡ 16 in
     All-same P _ _ c.into_iter-handle-iterator.ensures.into_iter_gives.0
-        (All-weaker New P (λ handle (new : IsNew c.in_ok-set.set opened.0.updates handle). new.bits ∙ bits) _ opened.2)
+    (All-weaker New P (λ handle (new : IsNew c.in_ok-set.set opened.0.updates handle). new.bits ∙ bits) _ opened.2)
 
 pub loop-handle-preserved : goal.loop-handle-preserved
 loop-handle-preserved g c = All-rest (λ (handle : HandleFacts). handle.half.round.bits ≡ 16) _ _ _ c.in-Some.ensures.steps.0 c.loop-handle.invariant

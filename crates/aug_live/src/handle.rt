@@ -54,6 +54,7 @@ impl<A: Monoid, B: Monoid> Model for Handle<A, B> {
 impl<A: Monoid, B: Monoid> Handle<A, B> {
     /// Puts a key in, with the key itself as its weight. True if this call put it in. False if it was a member already, or somebody
     /// else put it in meanwhile; then its weight stays.
+    #[inline(always)]
     pub fn insert<R: Wait>(&mut self, rt: &R, k: u32) -> Result<bool, LiveError>
         requires key { k < 2 ^ self.old.half.round.bits }
         ensures made { IfOk result (λ done. Makes 1 (λ a b. OnTrue done (AcceptedUpdate insertion k k a.knows b.knows) × OnFalse done (RefusedUpdate insertion k a.knows b.knows)) self.old self.new) }
@@ -66,6 +67,7 @@ impl<A: Monoid, B: Monoid> Handle<A, B> {
     }
 
     /// Takes a key out. True if this call took it out. False if it was no member, or somebody else took it out meanwhile.
+    #[inline(always)]
     pub fn remove<R: Wait>(&mut self, rt: &R, k: u32) -> Result<bool, LiveError>
         requires key { k < 2 ^ self.old.half.round.bits }
         ensures made { IfOk result (λ done. Makes 1 (λ a b. OnTrue done (AcceptedUpdate removal k 0 a.knows b.knows) × OnFalse done (RefusedUpdate removal k a.knows b.knows)) self.old self.new) }
@@ -78,6 +80,7 @@ impl<A: Monoid, B: Monoid> Handle<A, B> {
     }
 
     /// Puts a key in with a weight, or gives a member this weight, as `Pass::put` does.
+    #[inline(always)]
     pub fn put<R: Wait>(&mut self, rt: &R, k: u32, weight: u32) -> Result<Outcome, LiveError>
         requires key { k < 2 ^ self.old.half.round.bits }
         ensures made { IfOk result (λ done. Makes 1 (λ a b. PutsIn k weight done a.knows b.knows) self.old self.new) }

@@ -4,6 +4,9 @@ A clause rests on the definitions that it names, and on the types and traits of 
 with a `Model` on that model's `Value`, and one without on its fields; each type on what it owns beside these, by its `also_owns`; a trait on its
 ghost members. What the `view` of a model names is told apart: contracts see a value of this type and never the fields, so how it comes of
 these is no part of a promise. What a library exports to C is among its public calls.
+
+What is opaque ends the chain: a definition, or a ghost member of a trait, of which callers never learn what it says. One call gives it and
+another asks for it, and whatever it says, a caller has what the clauses and laws around it say.
 """
 
 import collections
@@ -14,12 +17,14 @@ import sources
 from specs import Rust, Spec, imports, meaning, modules
 from terms import free_names
 
-# A promise of a crate: the name of its call, as in `a of T`, or of an impl, as in `A for T`; what its clauses name; and whether it is one that
-# a program makes to its user.
-Promise = collections.namedtuple("Promise", "name names is_program")
+# A promise of a crate: the name of its call, as in `a of T`, or of an impl, as in `A for T`; what its clauses name; what those name that say
+# what is so afterwards; and whether it is one that a program makes to its user.
+Promise = collections.namedtuple("Promise", "name names given is_program")
 
 # Names that a clause has of Rust and of the language: parameters of types, and the variants that each file has.
 OF_RUST = re.compile(r"[A-Z]|Self|Some|None|Ok|Err")
+# A ghost member of a trait whose comment says that it is opaque.
+OPAQUE = re.compile(r"^    // Opaque: .*\n(?:    //.*\n)*    ghost (\w+):", re.M)
 USE = re.compile(r"^(?:pub(?:\([^)]*\))? )?use ([^;]+);", re.M)
 FUNCTION = r"(?:pub(?:\([^)]*\))? )?"
 
@@ -86,11 +91,14 @@ class Crates:
                 self.unknown.add(f"{os.path.relpath(path, self.top)} names {head}, which nothing brings")
         return found
 
-    def names_of_call(self, function, part, path):
-        """What the signature and the clauses of a function name."""
+    def names_of_call(self, function, part, path, kinds=("requires", "ensures")):
+        """What the signature and the clauses of these kinds of a function name."""
         uses, found = uses_of(path, part.body if part.owner else ""), self.types_in(f"{function.signature} {part.head} {part.owner}", path)
         bound = {"self", "result", *re.findall(r"(\w+): ", function.signature)}
-        return found.union(*(self.names_in(clause.text, uses, path, bound) for clause in function.clauses))
+        return found.union(*(self.names_in(clause.text, uses, path, bound) for clause in function.clauses if clause.kind in kinds))
+
+    def promise(self, name, function, part, path, is_program=False):
+        return Promise(name, *(self.names_of_call(function, part, path, kinds) for kinds in (("requires", "ensures"), ("ensures",))), is_program)
 
     # Promises
 
@@ -99,21 +107,21 @@ class Crates:
         given = sources.exported(path)
         public = {type_.name for type_, it in self.types.items() if type_.crate == crate and it.is_public}
         for call in sources.calls(path, exports=True):
-            yield Promise(call.name, self.names_of_call(call.function, call.part, call.path), False)
+            yield self.promise(call.name, call.function, call.part, call.path)
         for impl in sources.impls(path):
             if impl.trait != "Model" and impl.type in (public if given is None else given):
                 names = self.names_of_impl(impl)
                 if names - {Rust(crate, impl.type)}:
-                    yield Promise(f"{impl.trait} for {impl.type}", names, False)
+                    yield Promise(f"{impl.trait} for {impl.type}", names, names, False)
         if given is None:
             yield from self.program(path)
 
     def names_of_impl(self, impl):
-        """What an impl of a trait says of a type: its ghost members, but for the proofs of laws, and clauses of its own."""
+        """What an impl of a trait says of a type: its ghost members, but for the opaque ones and the proofs of laws, and clauses of its own."""
         uses, found = uses_of(impl.path, impl.part.body), self.types_in(impl.type, impl.path)
-        laws = self.laws(impl.trait)
+        untold = self.laws(impl.trait) | self.opaque_members(impl.trait)
         for name, texts in sources.ghosts(impl.part.body).items():
-            if name not in laws:
+            if name not in untold:
                 found |= self.names_in(texts[0], uses, impl.path)
         for function in sources.functions(impl.part.body, "    "):
             if function.clauses:
@@ -128,6 +136,10 @@ class Crates:
         named = {word for name, said in members.items() for word in words(" ".join(said)) if word != name}
         return set(members) - named - words(" ".join(clauses))
 
+    def opaque_members(self, trait):
+        paths = {it.path for type_, it in self.types.items() if type_.name == trait and it.kind == "trait"}
+        return {name for path in paths for name in OPAQUE.findall(sources.read(path))}
+
     def program(self, path):
         """The promises of a program: the functions of its first file that have clauses, and those with clauses that this file calls, of its own
         crate or of a library that it imports them from."""
@@ -140,7 +152,7 @@ class Crates:
                 text = sources.read(file)
                 for function in sources.functions(text, FUNCTION):
                     if function.clauses and (file == main or function.name in names):
-                        yield Promise(function.name, self.names_of_call(function, sources.Part("", "", text), file), True)
+                        yield self.promise(function.name, function, sources.Part("", "", text), file, is_program=True)
 
     # What a name rests on
 
@@ -187,14 +199,22 @@ class Crates:
         return self.types_in(plain, type_.path).union(*(self.names_in(text, uses, type_.path, bound) for text in said))
 
     def chain(self, names):
-        """All that some names rest on, and they themselves."""
+        """All that some names rest on, and they themselves, but for what is opaque."""
         found, left = set(), list(names)
         while left:
             name = left.pop()
-            if name not in found:
+            if name not in found and not self.is_opaque(name):
                 found.add(name)
                 left += self.rests_on(name)
         return found
+
+    def is_opaque(self, name):
+        module = self.modules.get((name.crate, name.module)) if isinstance(name, Spec) else None
+        return bool(module and name.name in module.definitions and module.definitions[name.name].is_opaque)
+
+    def opaque(self, names):
+        """The opaque definitions at which the chain of some names ends."""
+        return {it for it in set(names).union(*map(self.rests_on, self.chain(names))) if self.is_opaque(it)}
 
     def behind_views(self, chain):
         """What the views of the types of a chain add to it."""

@@ -1,7 +1,7 @@
 #!/usr/bin/env python3
 """Works out which definitions the promises of the crates rest on, from the clauses of their public calls (tests/chain.py says how), and
 compares docs/definitions.md with that: its lists of modules, and which modules its parts have paragraphs of. What is in a folder
-specs/inside/ must be behind no clause, and no module outside of it may import it.
+specs/inside/ must be behind no clause, and no module outside of it may import it, but for what is opaque. What is opaque must be given by a call.
 
 usage: tests/promises.py [--list | --write]
 
@@ -84,6 +84,9 @@ class Promises:
             if modules:
                 found[what] = bullets(crates, lambda crate: self.modules_text(modules, crate))
         found["that are not in the chain"] = bullets(crates, self.rest_text)
+        opaque = self.crates.opaque({name for _, it in self.all for name in it.names})
+        if opaque:
+            found["with opaque definitions"] = bullets(crates, lambda crate: opaque_text(opaque, crate))
         return found
 
     def names_of(self, crate, of_program=False):
@@ -117,7 +120,8 @@ class Promises:
 
     def wrong_imports(self, exceptions):
         """Which modules import what is inside, and should not."""
-        found = {key for key, it in self.crates.modules.items() if not is_inside(key[1]) and any(map(INSIDE.match, it.uses))}
+        is_wrong = lambda path, names: INSIDE.match(path) and not all(map(self.crates.is_opaque, names))
+        found = {key for key, it in self.crates.modules.items() if not is_inside(key[1]) and any(is_wrong(*use) for use in it.uses)}
         wrong = [f"{name} of {crate} imports a module from inside" for crate, name in sorted(found - set(exceptions))]
         unneeded = sorted(set(exceptions) - found)
         return wrong + [f"{name} of {crate} is excepted, and imports no module from inside" for crate, name in unneeded]
@@ -130,6 +134,13 @@ class Promises:
             call = next(f"{it.name} ({owner})" for owner, it in self.all if of & self.crates.chain(it.names))
             wrong.append(f"{name} of {crate} is inside, and {call} rests on its {', '.join(sorted(it.name for it in of))}")
         return wrong
+
+    def wrong_opaque(self):
+        """Which opaque definitions no call gives."""
+        given = self.crates.opaque({name for _, it in self.all for name in it.given})
+        marked = {Spec(*key, name) for key, it in self.crates.modules.items() for name in it.definitions} - {None}
+        never = sorted(f"{it.name} ({it.module} of {it.crate})" for it in marked - given if self.crates.is_opaque(it))
+        return [f"{it} is opaque, and no call gives it" for it in never]
 
     def counts(self):
         return len(self.all), len(self.crates.modules), sum(len(it.definitions) for it in self.crates.modules.values())
@@ -169,10 +180,10 @@ class Promises:
 
     def list_sums(self):
         program, library, exports = self.names_of(PROGRAM, True), self.names_of(LIBRARY), self.names_of(EXPORTS)
-        parts = (f"the program {PROGRAM}", program), (f"the library {LIBRARY}", library), (f"the exports of {EXPORTS}", exports)
-        for what, names in (*parts, ("all", program | library | exports)):
+        parts = (f"the program {PROGRAM}", program), (f"the library {LIBRARY}", library), ("the program and the library", program | library)
+        for what, names in (*parts, (f"the exports of {EXPORTS}", exports), ("all", program | library | exports)):
             chain = self.crates.chain(names)
-            print(f"\n{what}: {self.lines(chain)}")
+            print(f"\n{what}: {self.lines(chain)}; opaque beside these: {self.lines(self.crates.opaque(names))}")
             for crate in self.crates.paths:
                 own = {name for name in chain if isinstance(name, Spec) and name.crate == crate}
                 if own:
@@ -182,6 +193,11 @@ class Promises:
 
 def is_inside(module):
     return module.partition(".")[0] == "inside"
+
+
+def opaque_text(names, crate):
+    """The opaque definitions of a crate, each with its module."""
+    return ", ".join(f"`{it.name}` (`{it.module}`)" for it in sorted(names) if it.crate == crate)
 
 
 def bullets(crates, text):
@@ -196,7 +212,7 @@ def filled(text, indent):
 def check(promises, text, least, exceptions):
     """Prints what is wrong. The exit status."""
     wrong = [f"docs/definitions.md: {it}" for it in promises.wrong_lists(text) + promises.wrong_paragraphs(text)]
-    wrong += promises.wrong_imports(exceptions) + promises.wrong_clauses() + sorted(promises.crates.unknown)
+    wrong += promises.wrong_imports(exceptions) + promises.wrong_clauses() + promises.wrong_opaque() + sorted(promises.crates.unknown)
     counts = promises.counts()
     for what, count, most in zip(("public calls and impls", "modules", "definitions"), counts, least):
         if count < most:

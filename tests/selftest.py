@@ -561,6 +561,35 @@ Modules of `one`: `Books` (without `AreSteps`).
         self.assertIn("inside.Deep of one is inside, and size of Shelf (one) rests on its deep\n", said)
         self.assertEqual(status, 1)
 
+    def test_what_is_opaque_ends_the_chain(self):
+        marked = self.BOOKS, "-- those of some", "-- opaque: those of some"
+        said, status = self.check(*marked)
+        self.assertEqual(status, 1)
+        self.assertIn("docs/definitions.md: there is no list of the modules with opaque definitions\n", said)
+        self.assertIn("Modules of `one`: `Books` (without `AreSteps`, `kept`).\n", said)
+        self.assertIn("one: size of Shelf\n    one: Books.ShelfFacts, Books.size_of\n", self.check(*marked, ["--list"])[0])
+
+    def test_import_of_what_is_opaque(self):
+        deep = "crates/one/specs/inside/Deep.antt"
+        brought = f"use Rattle.std.specs.Prelude.{{ℕ, List}}\n{self.IMPORT.replace('{deep}', '{deep as length}')}"
+        for mark, wrong in ("", True), ("-- opaque: nought\n", False):
+            self.check(self.BOOKS, "use Rattle.std.specs.Prelude.{ℕ, List, length}\n", brought)
+            self.write(deep, self.TEXTS[deep].replace("abbrev", f"{mark}abbrev"))
+            _, said = quietly(promises.main, (), self.folder, (1, 4, 7), {})
+            self.assertEqual("Books of one imports a module from inside\n" in said, wrong, said)
+            self.assertEqual("inside.Deep of one is inside, and size of Shelf (one) rests on its deep\n" in said, wrong, said)
+        self.assertIn("there is no list of the modules with opaque definitions\n", said)
+
+    def test_opaque_definition_that_no_call_gives(self):
+        self.assert_told("AreSteps (Books of one) is opaque, and no call gives it", self.BOOKS, "-- a step is one", "-- opaque: a step is one")
+
+    def test_opaque_member_of_a_trait(self):
+        for mark, is_there in ("", True), ("Opaque: ", False):
+            trait = f"pub trait Lends {{\n    // {mark}a step.\n    ghost is_step: {{ ℕ → Type 0 }};\n\n    fn lend(&self) -> u32\n        ensures {{ is_step result }};\n}}\n\nimpl Lends for Shelf {{\n    ghost is_step = {{ λ n. IsStep n }};\n}}\n"
+            said, status = self.check(self.SHELF, "pub struct Shelf {", f"{trait}\npub struct Shelf {{", ["--list"])
+            self.assertEqual(status, 0)
+            self.assertEqual("one: Lends for Shelf\n    one: Books.ShelfFacts, Steps.IsStep\n" in said, is_there, said)
+
     def test_name_that_nothing_brings(self):
         self.assert_told("Books.kept of one names more, which nothing brings", self.BOOKS, "kept f books = books", "kept f books = more")
         self.assert_told("crates/one/src/shelf.rt names more, which nothing brings", self.SHELF, "size_of self.now", "size_of more")

@@ -8,8 +8,11 @@ from sources import files, read
 from terms import CLOSING, FreeNames, grouped
 
 # A definition: the numbers of its lines of code and of its lines of comment, the heads of the modules around it and the comments above it and
-# above them among these; and what each name that it rests on means, as in `meaning`.
-Definition = collections.namedtuple("Definition", "code comment names")
+# above them among these; what each name that it rests on means, as in `meaning`; and whether it is opaque to callers.
+Definition = collections.namedtuple("Definition", "code comment names is_opaque")
+
+# How the comment above a definition begins that callers only hand on from one call to another.
+OPAQUE = "-- opaque: "
 
 # What a name may mean: a definition of specs, a type of Rust code, or what is not looked into, of a library or of proofs.
 Spec = collections.namedtuple("Spec", "crate module name")
@@ -63,13 +66,13 @@ def is_comment(line):
 
 
 class Module:
-    """A module of specs, whose definitions are in `definitions` by their names, and whose imports in `uses`."""
+    """A module of specs, whose definitions are in `definitions` by their names, and whose imports in `uses`, each a path and what it brings."""
 
     def __init__(self, path, crate, name, crates):
         self.path, self.crate, self.name, self.crates = path, crate, name, crates
         text = read(path)
         self.lines = text.splitlines()
-        self.uses = [use[0] for use in USE.findall(text)]
+        self.uses = [(path, [target(path, it.partition(" as ")[0].strip(), crates) for it in items.split(",")]) for path, items, _ in USE.findall(text)]
         self.scope = imports(text, crates)
         self.constructors = set()
         found = list(self.items())
@@ -122,7 +125,8 @@ class Module:
         comment = {it for line in [start, *around] for it in self.comment_above(line)} | {it for it in shown if is_comment(self.lines[it])}
         code = {it for it in shown if self.lines[it].strip()} - comment
         means = {it: meaning(it, self.scope, self.crates) for it in names.found}
-        return Definition(frozenset(code), frozenset(comment), means)
+        is_opaque = any(self.lines[it].lstrip().startswith(OPAQUE) for it in self.comment_above(start))
+        return Definition(frozenset(code), frozenset(comment), means, is_opaque)
 
     def comment_above(self, line):
         """The numbers of the lines of the comment right above a line."""

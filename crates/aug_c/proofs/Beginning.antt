@@ -5,7 +5,6 @@ use Rattle.std.specs.Arc.{arc_value}
 use Rattle.aug_monoid.specs.declared.sum.Sum.{Sum}
 use Rattle.aug_monoid.specs.declared.extent.Extent.{Extent}
 use Rattle.aug_core.specs.Layout.{IsOutside, IsWithin, IsRefused}
-use Rattle.aug_core.specs.Places.{shape_of}
 use Rattle.aug_core.specs.declared.layout.LayoutError.TheVariants as layout
 use Rattle.aug_trie.specs.Crew.{BeginsRound}
 use Rattle.aug_trie.specs.Ended.{EndedFacts}
@@ -48,33 +47,33 @@ module _ (old : EndedFacts) (bits workers updates : ℕ) where
   pub begins_ok : (round : Running Sum Extent) → BeginsRound old.members bits workers updates (arc_value round.round) round.crew
       → (ok round ≡ err old BadBits) ↔ (IsOutside 1 16 bits)
       → (ok round ≡ err old Narrower) ↔ (IsWithin 1 16 bits × (bits < old.bits))
-      → (ok round ≡ err old BadWorkers) ↔ ((old.bits ≤ bits) × IsRefused layout.BadWorkers (shape_of bits workers updates (length old.members)))
-      → (ok round ≡ err old BadUpdates) ↔ ((old.bits ≤ bits) × IsRefused layout.BadUpdates (shape_of bits workers updates (length old.members)))
-      → (ok round ≡ err old TooLarge) ↔ ((old.bits ≤ bits) × IsRefused layout.TooLarge (shape_of bits workers updates (length old.members)))
+      → (ok round ≡ err old BadWorkers) ↔ ((old.bits ≤ bits) × IsRefused layout.BadWorkers bits workers updates (length old.members))
+      → (ok round ≡ err old BadUpdates) ↔ ((old.bits ≤ bits) × IsRefused layout.BadUpdates bits workers updates (length old.members))
+      → (ok round ≡ err old TooLarge) ↔ ((old.bits ≤ bits) × IsRefused layout.TooLarge bits workers updates (length old.members))
       → Begins old bits workers updates (Working round) (pos 0)
   begins_ok round begun a b c d e = record {
     begun = λ _. (round, refl, begun);
     refused = λ n. absurd (n refl);
     bad_bits = never round BadBits (IsOutside 1 16 bits) codes.bad_bits 5 refl refl a;
     narrower = never round Narrower (IsWithin 1 16 bits × (bits < old.bits)) codes.narrower 16 refl refl b;
-    bad_workers = never round BadWorkers ((old.bits ≤ bits) × IsRefused layout.BadWorkers (shape_of bits workers updates (length old.members))) codes.bad_workers 6 refl refl c;
-    bad_updates = never round BadUpdates ((old.bits ≤ bits) × IsRefused layout.BadUpdates (shape_of bits workers updates (length old.members))) codes.bad_updates 7 refl refl d;
-    too_large = never round TooLarge ((old.bits ≤ bits) × IsRefused layout.TooLarge (shape_of bits workers updates (length old.members))) codes.too_large 8 refl refl e;
+    bad_workers = never round BadWorkers ((old.bits ≤ bits) × IsRefused layout.BadWorkers bits workers updates (length old.members)) codes.bad_workers 6 refl refl c;
+    bad_updates = never round BadUpdates ((old.bits ≤ bits) × IsRefused layout.BadUpdates bits workers updates (length old.members)) codes.bad_updates 7 refl refl d;
+    too_large = never round TooLarge ((old.bits ≤ bits) × IsRefused layout.TooLarge bits workers updates (length old.members)) codes.too_large 8 refl refl e;
   }
 
   pub begins_err : (rest : EndedFacts) (cause : BeginError) → (rest.members ≡ old.members) × ((rest.bits ≡ old.bits) ⊎ (rest.bits ≡ bits)) → (cause ≢ OutOfMemory → rest ≡ old)
       → (err rest cause ≡ err old BadBits) ↔ (IsOutside 1 16 bits)
       → (err rest cause ≡ err old Narrower) ↔ (IsWithin 1 16 bits × (bits < old.bits))
-      → (err rest cause ≡ err old BadWorkers) ↔ ((old.bits ≤ bits) × IsRefused layout.BadWorkers (shape_of bits workers updates (length old.members)))
-      → (err rest cause ≡ err old BadUpdates) ↔ ((old.bits ≤ bits) × IsRefused layout.BadUpdates (shape_of bits workers updates (length old.members)))
-      → (err rest cause ≡ err old TooLarge) ↔ ((old.bits ≤ bits) × IsRefused layout.TooLarge (shape_of bits workers updates (length old.members)))
+      → (err rest cause ≡ err old BadWorkers) ↔ ((old.bits ≤ bits) × IsRefused layout.BadWorkers bits workers updates (length old.members))
+      → (err rest cause ≡ err old BadUpdates) ↔ ((old.bits ≤ bits) × IsRefused layout.BadUpdates bits workers updates (length old.members))
+      → (err rest cause ≡ err old TooLarge) ↔ ((old.bits ≤ bits) × IsRefused layout.TooLarge bits workers updates (length old.members))
       → Begins old bits workers updates (Resting rest) (begin_code cause)
   begins_err rest cause set same a b c d e = record {
     begun = λ z. absurd (not_zero cause z);
     refused = λ n. (rest, refl, set.0, set.1, λ m. same (λ z. m (ap begin_code z)));
     bad_bits = coded rest cause BadBits (IsOutside 1 16 bits) codes.bad_bits same (λ z. let m : nat_abs codes.bad_bits ≡ nat_abs codes.no_memory = ap (λ (k : BeginError). nat_abs (begin_code k)) z in absurd (omega (arith, m))) refl (is_bad_bits cause) a;
     narrower = coded rest cause Narrower (IsWithin 1 16 bits × (bits < old.bits)) codes.narrower same (λ z. let m : nat_abs codes.narrower ≡ nat_abs codes.no_memory = ap (λ (k : BeginError). nat_abs (begin_code k)) z in absurd (omega (arith, m))) refl (is_narrower cause) b;
-    bad_workers = coded rest cause BadWorkers ((old.bits ≤ bits) × IsRefused layout.BadWorkers (shape_of bits workers updates (length old.members))) codes.bad_workers same (λ z. let m : nat_abs codes.bad_workers ≡ nat_abs codes.no_memory = ap (λ (k : BeginError). nat_abs (begin_code k)) z in absurd (omega (arith, m))) refl (is_bad_workers cause) c;
-    bad_updates = coded rest cause BadUpdates ((old.bits ≤ bits) × IsRefused layout.BadUpdates (shape_of bits workers updates (length old.members))) codes.bad_updates same (λ z. let m : nat_abs codes.bad_updates ≡ nat_abs codes.no_memory = ap (λ (k : BeginError). nat_abs (begin_code k)) z in absurd (omega (arith, m))) refl (is_bad_updates cause) d;
-    too_large = coded rest cause TooLarge ((old.bits ≤ bits) × IsRefused layout.TooLarge (shape_of bits workers updates (length old.members))) codes.too_large same (λ z. let m : nat_abs codes.too_large ≡ nat_abs codes.no_memory = ap (λ (k : BeginError). nat_abs (begin_code k)) z in absurd (omega (arith, m))) refl (is_too_large cause) e;
+    bad_workers = coded rest cause BadWorkers ((old.bits ≤ bits) × IsRefused layout.BadWorkers bits workers updates (length old.members)) codes.bad_workers same (λ z. let m : nat_abs codes.bad_workers ≡ nat_abs codes.no_memory = ap (λ (k : BeginError). nat_abs (begin_code k)) z in absurd (omega (arith, m))) refl (is_bad_workers cause) c;
+    bad_updates = coded rest cause BadUpdates ((old.bits ≤ bits) × IsRefused layout.BadUpdates bits workers updates (length old.members)) codes.bad_updates same (λ z. let m : nat_abs codes.bad_updates ≡ nat_abs codes.no_memory = ap (λ (k : BeginError). nat_abs (begin_code k)) z in absurd (omega (arith, m))) refl (is_bad_updates cause) d;
+    too_large = coded rest cause TooLarge ((old.bits ≤ bits) × IsRefused layout.TooLarge bits workers updates (length old.members)) codes.too_large same (λ z. let m : nat_abs codes.too_large ≡ nat_abs codes.no_memory = ap (λ (k : BeginError). nat_abs (begin_code k)) z in absurd (omega (arith, m))) refl (is_too_large cause) e;
   }

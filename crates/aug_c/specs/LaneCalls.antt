@@ -10,7 +10,8 @@ use Rattle.aug_model.specs.Keys.{SetFacts}
 use Rattle.aug_model.specs.declared.summary.Summary.{Summary}
 use Rattle.aug_model.specs.declared.outcome.Outcome.{Outcome}
 use Rattle.aug_model.specs.declared.outcome.Outcome.TheVariants.{Accepted, Replaced, Refused}
-use Rattle.aug_trie.specs.Updates.{AcceptedUpdate, RefusedUpdate, PutsIn, TakesSnapshot}
+use Rattle.aug_trie.specs.declared.updates.request.Request.TheVariants as request
+use Rattle.aug_trie.specs.Updates.{AcceptedUpdate, RefusedUpdate, ComesTo, TakesSnapshot}
 use Rattle.aug_trie.specs.Pass.{PassFacts, GoesOn}
 use Rattle.aug_trie.specs.Node.{Keeps, Stays}
 use Rattle.aug_trie.specs.Snapshot.{set_at, snapshot_cut}
@@ -83,7 +84,7 @@ pub record Puts (key weight : ℕ) (old new : Lane Sum Extent) (code : ℤ) : Ty
   pub answer : Result Outcome LaneError
   pub says : code ≡ put_code answer
   pub makes : MakesUpdate key old new answer
-  pub puts : IfOk answer (λ done. PutsIn key weight done old.half.knows new.half.knows)
+  pub puts : IfOk answer (λ done. ComesTo (request.Put weight) key done old.half.knows new.half.knows)
 
 -- an update for each of many keys, in turn. Why all are refused, and that they then change nothing; else they are made one after another, and so many of
 -- them changed the set. The lane looks at the same snapshot as before

@@ -4,7 +4,6 @@ use Rattle.std.specs.Arc.{arc_value}
 use Rattle.aug_monoid.specs.declared.sum.Sum.{Sum}
 use Rattle.aug_monoid.specs.declared.extent.Extent.{Extent}
 use Rattle.aug_core.specs.Layout.{IsOutside, IsWithin, IsRefused}
-use Rattle.aug_core.specs.Places.{shape_of}
 use Rattle.aug_core.specs.declared.layout.LayoutError.TheVariants as layout
 use Rattle.aug_trie.specs.Crew.{BeginsRound, TakesBack, Ends}
 use Rattle.aug_trie.specs.Ended.{EndedFacts, IsEmptyTrie}
@@ -42,9 +41,9 @@ pub record Begins (old : EndedFacts) (bits workers updates : ℕ) (new : Stage) 
   pub refused : code ≢ pos 0 → (rest : EndedFacts) × (new ≡ Resting rest) × (rest.members ≡ old.members) × ((rest.bits ≡ old.bits) ⊎ (rest.bits ≡ bits)) × (code ≢ codes.no_memory → rest ≡ old)
   pub bad_bits : (code ≡ codes.bad_bits) ↔ IsOutside 1 16 bits
   pub narrower : (code ≡ codes.narrower) ↔ (IsWithin 1 16 bits × (bits < old.bits))
-  pub bad_workers : (code ≡ codes.bad_workers) ↔ ((old.bits ≤ bits) × IsRefused layout.BadWorkers (shape_of bits workers updates (length old.members)))
-  pub bad_updates : (code ≡ codes.bad_updates) ↔ ((old.bits ≤ bits) × IsRefused layout.BadUpdates (shape_of bits workers updates (length old.members)))
-  pub too_large : (code ≡ codes.too_large) ↔ ((old.bits ≤ bits) × IsRefused layout.TooLarge (shape_of bits workers updates (length old.members)))
+  pub bad_workers : (code ≡ codes.bad_workers) ↔ ((old.bits ≤ bits) × IsRefused layout.BadWorkers bits workers updates (length old.members))
+  pub bad_updates : (code ≡ codes.bad_updates) ↔ ((old.bits ≤ bits) × IsRefused layout.BadUpdates bits workers updates (length old.members))
+  pub too_large : (code ≡ codes.too_large) ↔ ((old.bits ≤ bits) × IsRefused layout.TooLarge bits workers updates (length old.members))
 
 -- what begins over which trie: over one in a round nothing
 abbrev pub BeginsOn : (bits workers updates : ℕ) → Stage → Stage → ℤ → Type 0

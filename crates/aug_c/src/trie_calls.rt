@@ -35,7 +35,7 @@ fn code_of(cause: BeginError) -> i64
     }
 }
 
-/// Opens the empty trie for keys of so many bits. The number is the caller's own, and tells its tries apart.
+/// Opens the empty trie for keys below `2^bits`. `number` is the caller's own, another one for each of its tries.
 #[unsafe(no_mangle)]
 pub extern "C" fn aug_open(alloc: Global, trie: &mut TrieHandle, bits: u32, number: u32) -> i64
     ensures open { IsSome trie.old.held.value → (result ≡ is_open) × (trie.new ≡ trie.old) }
@@ -71,7 +71,7 @@ fn begin(alloc: Global, stage: Stage, bits: u32, workers: u32, updates: u32) -> 
     }
 }
 
-/// Begins a round over keys of so many bits, with so many lanes of so many updates each.
+/// Begins a round over keys below `2^bits`, with `workers` lanes of `updates` updates each.
 #[unsafe(no_mangle)]
 pub extern "C" fn aug_begin(
     alloc: Global,

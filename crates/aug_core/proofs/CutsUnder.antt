@@ -11,7 +11,7 @@ use Rattle.aug_core.specs.declared.view.Entry.{Entry}
 use Rattle.aug_core.proofs.Sizes.{twice}
 use Rattle.aug_core.specs.inside.Shows.{above, toward, Shows}
 use Rattle.aug_core.specs.Cuts.{Cut}
-use Rattle.aug_core.specs.EntryCuts.{entry_of, cut_under}
+use Rattle.aug_core.specs.inside.EntryCuts.{entry_of, cut_under}
 use Rattle.aug_core.proofs.CutLists.{read}
 use Rattle.aug_core.proofs.Levels.{inner_word, left_word, right_word, leaf_word}
 

@@ -7,7 +7,7 @@ use Rattle.atomic_table.specs.Table.{step, keeps, Allows}
 use Rattle.atomic_table.proofs.Lists.{exchanged}
 use Rattle.aug_core.specs.Places.{Shape}
 use Rattle.aug_core.specs.Addresses.{IsInner, left_of, right_of}
-use Rattle.aug_core.specs.Lanes.{first_record, IsOfLane}
+use Rattle.aug_core.specs.Lanes.{first_record, IsOfLane, word_of_state}
 use Rattle.aug_core.specs.Book.{Book, history_of, At, IsNewest, Continues, FloorsCover, IsFresh, SerialsFit, IsBook}
 use Rattle.aug_core.specs.Opening.{Opening}
 use Rattle.aug_core.specs.Rule.{Lists, NamesNewest, HoldsLane, Kept}
@@ -17,6 +17,7 @@ use Rattle.aug_core.specs.inside.LaneStates.{HasTakenLane}
 use Rattle.aug_core.specs.declared.step.StepTaken.{StepTaken}
 use Rattle.aug_core.specs.declared.view.Entry.{Entry}
 use Rattle.aug_core.specs.declared.view.Held.{Held}
+use Rattle.aug_core.specs.declared.view.LaneState.TheVariants.{Taken}
 use Rattle.aug_core.specs.declared.view.View.{View}
 use Rattle.aug_core.proofs.Sizes.{twice, in_block, record_inside}
 use Rattle.aug_core.proofs.Books.{no_shorter, one_entry, one_index, grown_at, at_grown, newest_here, there, grows}
@@ -31,7 +32,7 @@ lists_more : (l : List ℕ) (x n : ℕ) → Lists l n → Lists (x ∷ l) n
 lists_more l x n t = (suc t.0, t.1)
 
 module _ (face : ℕ → ℕ → List (ℕ × ℕ) → List ℕ) (o : Opening) where
-  module _ (s : St) (r : Kept face o s) (id : ℕ) (v : View) (at : get_elem? s.views id ≡ some v) (shaped : v.shape ≡ o.shape) (h : Held) (only : HoldsOnly v h) (taken : h.state ≡ 1) (number : ℕ)
+  module _ (s : St) (r : Kept face o s) (id : ℕ) (v : View) (at : get_elem? s.views id ≡ some v) (shaped : v.shape ≡ o.shape) (h : Held) (only : HoldsOnly v h) (taken : h.state ≡ Taken) (number : ℕ)
       (of_lane : IsOfLane o.shape h.lane number) (unpublished : Lists h.published number → ⊥) (q : ℕ) (inner : IsInner o.shape q) (old : ℕ) (c : IsFilled face v q old number) where
     held : get_elem? v.held 0 ≡ some h
     held = subst (λ (z : List Held). get_elem? z 0 ≡ some h) (sym only) refl
@@ -97,7 +98,7 @@ module _ (face : ℕ → ℕ → List (ℕ × ℕ) → List ℕ) (o : Opening) w
 
     pub moved : get_or s.words q 0 ≡ old → MayMove face o s r id v words' longer_book
     moved hit = tree_moves face o s r id v at q inner.inside entry (is_book' hit) refl
-        (λ _. record { index = 0; held = h; at = held; of_lane = of_lane; some_state = let st = mine.state in omega (arith, taken) })
+        (λ _. record { index = 0; held = h; at = held; of_lane = of_lane; some_state = let st = mine.state ∙ ap word_of_state taken in omega arith })
         (λ _ k small. let b = in_block o.shape h.lane number k of_lane small in ap (λ (z : ℕ). get_or s.words z 0) b.0 ∙ mine.exact (5 * (number - first_record o.shape h.lane) + k) b.1 ∙ full k small) floors
 
     abbrev pub lane' : Held

@@ -12,7 +12,7 @@ use Rattle.aug_model.specs.Keys.{is_member, keys_of}
 use Rattle.aug_model.specs.Queries.{weight_in}
 use Rattle.aug_core.specs.Book.{history_of}
 use Rattle.aug_core.specs.Cuts.{opening_cut}
-use Rattle.aug_core.specs.EntryCuts.{entry_of, cut_under}
+use Rattle.aug_core.specs.inside.EntryCuts.{entry_of, cut_under}
 use Rattle.aug_core.proofs.CutLists.{read, range_split}
 use Rattle.aug_core.proofs.Levels.{root_word, inner_word, left_word, right_word, leaf_word}
 use Rattle.aug_core.proofs.CutsUnder.{halves}

@@ -6,7 +6,7 @@ use prog.Atomic.{either}
 use Rattle.atomic_table.specs.Table.{Act, Valid, carried_after, step, keeps, stepped, Allows}
 use Rattle.atomic_table.proofs.Lists.{exchanged}
 use Rattle.aug_core.specs.Places.{Shape, lane_place}
-use Rattle.aug_core.specs.Lanes.{block_start}
+use Rattle.aug_core.specs.Lanes.{block_start, word_of_state}
 use Rattle.aug_core.specs.Opening.{Opening}
 use Rattle.aug_core.specs.Rule.{HoldsLane, Kept}
 use Rattle.aug_core.specs.Kinds.{take_lane, finish_lane}
@@ -14,17 +14,19 @@ use Rattle.aug_core.specs.Told.{on_first, in_state, own_lane, own_lane_place, ta
 use Rattle.aug_core.specs.inside.LaneStates.{MayTake, HasTakenLane}
 use Rattle.aug_core.specs.declared.step.StepTaken.{StepTaken}
 use Rattle.aug_core.specs.declared.view.Held.{Held}
+use Rattle.aug_core.specs.declared.view.LaneState.{LaneState}
+use Rattle.aug_core.specs.declared.view.LaneState.TheVariants.{Taken, Ended}
 use Rattle.aug_core.specs.declared.view.View.{View}
 use Rattle.aug_core.proofs.Moves.{Sat, St, IsOwnWord, own_moves, moves_on, knows_keeping}
 use Rattle.aug_core.proofs.Stores.{alone, one_lane}
 
 module _ (face : ℕ → ℕ → List (ℕ × ℕ) → List ℕ) (o : Opening) where
-  module _ (s : St) (r : Kept face o s) (id : ℕ) (v : View) (at : get_elem? s.views id ≡ some v) (h : Held) (only : v.held ≡ h ∷ []) (state : ℕ) (some_state : 0 < state) (last_state : state ≤ 2) (steps : List StepTaken) where
+  module _ (s : St) (r : Kept face o s) (id : ℕ) (v : View) (at : get_elem? s.views id ≡ some v) (h : Held) (only : v.held ≡ h ∷ []) (state : LaneState) (some_state : 0 < word_of_state state) (last_state : word_of_state state ≤ word_of_state Ended) (steps : List StepTaken) where
     abbrev place : ℕ
     place = lane_place o.shape h.lane
 
     abbrev after : List ℕ
-    after = set s.words place state
+    after = set s.words place (word_of_state state)
 
     abbrev lane' : Held
     lane' = in_state state h
@@ -35,10 +37,10 @@ module _ (face : ℕ → ℕ → List (ℕ × ℕ) → List ℕ) (o : Opening) w
     mine : HoldsLane o.shape s.words r.book h
     mine = (r.each_view id v at).holds 0 h held
 
-    pub found_state : get_or s.words place 0 ≡ h.state
+    pub found_state : get_or s.words place 0 ≡ word_of_state h.state
     found_state = mine.state
 
-    own : IsOwnWord face o s r id v at 0 h held mine.exists place state
+    own : IsOwnWord face o s r id v at 0 h held mine.exists place (word_of_state state)
     own = let low = mine.exists in record {
       past_nodes = λ q low is. omega arith;
       past_lanes = λ m low other is. other (omega arith);
@@ -48,13 +50,13 @@ module _ (face : ℕ → ℕ → List (ℕ × ℕ) → List ℕ) (o : Opening) w
     }
 
     stays : (j : ℕ) → j ≢ place → get_or after j 0 ≡ get_or s.words j 0
-    stays j ne = get_or-set_other s.words place j state 0 ne
+    stays j ne = get_or-set_other s.words place j (word_of_state state) 0 ne
 
-    now : get_or after place 0 ≡ state
-    now = let low = mine.exists in let wide = r.tree.wide in get_or-set_same s.words place state 0 (omega arith)
+    now : get_or after place 0 ≡ word_of_state state
+    now = let low = mine.exists in let wide = r.tree.wide in get_or-set_same s.words place (word_of_state state) 0 (omega arith)
 
     pub restates : Kept face o record { words = after; homes = s.homes; views = set s.views id record v { held = lane' ∷ []; steps = steps } }
-    restates = let low = mine.exists in let moved = own_moves face o s r id v at 0 h held mine.exists place state own state now some_state last_state in
+    restates = let low = mine.exists in let moved = own_moves face o s r id v at 0 h held mine.exists place (word_of_state state) own (word_of_state state) now some_state last_state in
         moves_on face o s r id v after r.book moved at record v { held = lane' ∷ []; steps = steps } (one_lane v h lane' v.seen steps only refl refl)
         (knows_keeping face o s r id v after r.book moved at (lane' ∷ []) steps (λ a g p. subst (HoldsLane o.shape after r.book) (alone lane' g a p).1 record {
           exists = mine.exists;
@@ -74,16 +76,16 @@ module _ (face : ℕ → ℕ → List (ℕ × ℕ) → List ℕ) (o : Opening) w
       let v : View = me.0 in let h : Held = may.lane in let kn = r.each_view id v at in let shaped : v.shape ≡ o.shape = kn.shaped live in
       let is' : place ≡ lane_place o.shape h.lane = is ∙ ap (λ (z : Shape). lane_place z (own_lane v.held)) shaped ∙ ap (λ (z : List Held). lane_place o.shape (own_lane z)) may.only in
       let steps : List StepTaken = v.steps ++ take_lane place 0 ∷ [] in
-      let found : get_or s.words place 0 ≡ 0 = ap (λ (z : ℕ). get_or s.words z 0) is' ∙ found_state s r id v at h may.only 1 (omega arith) (omega arith) steps ∙ may.free in
-      let held : on_first (in_state 1) v.held ≡ in_state 1 h ∷ [] = ap (on_first (in_state 1)) may.only in
+      let found : get_or s.words place 0 ≡ 0 = ap (λ (z : ℕ). get_or s.words z 0) is' ∙ found_state s r id v at h may.only Taken (omega arith) (omega arith) steps ∙ ap word_of_state may.free in
+      let held : on_first (in_state Taken) v.held ≡ in_state Taken h ∷ [] = ap (on_first (in_state Taken)) may.only in
       exchanged (get_or s.words place 0) 0 1 (Did s place id me (took_lane (step n place 0 1 none) me))
       (λ _. (
         taking v place,
         keeps,
         tt,
         subst (λ (z : List Held). Kept face o record { words = set s.words place 1; homes = s.homes; views = set s.views id record v { held = z; steps = steps } }) (sym held)
-            (subst (λ (z : ℕ). Kept face o record { words = set s.words z 1; homes = s.homes; views = set s.views id record v { held = in_state 1 h ∷ []; steps = steps } }) (sym is')
-            (restates s r id v at h may.only 1 (omega arith) (omega arith) steps)),
+            (subst (λ (z : ℕ). Kept face o record { words = set s.words z 1; homes = s.homes; views = set s.views id record v { held = in_state Taken h ∷ []; steps = steps } }) (sym is')
+            (restates s r id v at h may.only Taken (omega arith) (omega arith) steps)),
         (empty, found, refl),
       ))
       (λ miss. absurd (miss found))
@@ -94,12 +96,12 @@ module _ (face : ℕ → ℕ → List (ℕ × ℕ) → List ℕ) (o : Opening) w
       let v : View = me.0 in let h : Held = may.lane in let kn = r.each_view id v at in let shaped : v.shape ≡ o.shape = kn.shaped live in
       let is' : place ≡ lane_place o.shape h.lane = is ∙ ap (λ (z : Shape). lane_place z (own_lane v.held)) shaped ∙ ap (λ (z : List Held). lane_place o.shape (own_lane z)) may.only in
       let steps : List StepTaken = v.steps ++ finish_lane place ∷ [] in
-      let held : on_first (in_state 2) v.held ≡ in_state 2 h ∷ [] = ap (on_first (in_state 2)) may.only in (
+      let held : on_first (in_state Ended) v.held ≡ in_state Ended h ∷ [] = ap (on_first (in_state Ended)) may.only in (
         finishing v place,
         keeps,
         tt,
         subst (λ (z : List Held). Kept face o record { words = set s.words place 2; homes = s.homes; views = set s.views id record v { held = z; steps = steps } }) (sym held)
-            (subst (λ (z : ℕ). Kept face o record { words = set s.words z 2; homes = s.homes; views = set s.views id record v { held = in_state 2 h ∷ []; steps = steps } }) (sym is')
-            (restates s r id v at h may.only 2 (omega arith) (omega arith) steps)),
+            (subst (λ (z : ℕ). Kept face o record { words = set s.words z 2; homes = s.homes; views = set s.views id record v { held = in_state Ended h ∷ []; steps = steps } }) (sym is')
+            (restates s r id v at h may.only Ended (omega arith) (omega arith) steps)),
         (empty, refl),
       )

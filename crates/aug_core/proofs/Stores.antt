@@ -5,7 +5,7 @@ use mathlib.Core.Option.{none, some, some-injective, some-ne-none}
 use lib.ListN.{get_elem?}
 use Rattle.atomic_table.specs.Table.{step, keeps, Allows}
 use Rattle.aug_core.specs.Places.{Shape, lane_place, record_start}
-use Rattle.aug_core.specs.Lanes.{first_record, IsOfLane, block_start}
+use Rattle.aug_core.specs.Lanes.{first_record, IsOfLane, block_start, word_of_state}
 use Rattle.aug_core.specs.Opening.{Opening}
 use Rattle.aug_core.specs.Rule.{Lists, HoldsLane, Kept}
 use Rattle.aug_core.specs.Kinds.{store_record_word}
@@ -13,6 +13,7 @@ use Rattle.aug_core.specs.Told.{on_first, with_word, HoldsOnly, MayStore, storin
 use Rattle.aug_core.specs.inside.LaneStates.{HasTakenLane}
 use Rattle.aug_core.specs.declared.step.StepTaken.{StepTaken}
 use Rattle.aug_core.specs.declared.view.Held.{Held}
+use Rattle.aug_core.specs.declared.view.LaneState.TheVariants.{Taken}
 use Rattle.aug_core.specs.declared.view.View.{View}
 use Rattle.aug_core.proofs.Sizes.{in_block, block_inside, blocks_apart}
 use Rattle.aug_core.proofs.Views.{Repeats}
@@ -37,11 +38,11 @@ one_lane v h h' seen steps only same equal = record {
 pub one_held : (v : View) (h g : Held) → HoldsOnly v h → HoldsOnly v g → h ≡ g
 one_held v h g a b = some-injective h g (ap (λ (z : List Held). get_elem? z 0) (sym a ∙ b))
 
-pub is_taken : (v : View) (h : Held) → HoldsOnly v h → HasTakenLane v → h.state ≡ 1
+pub is_taken : (v : View) (h : Held) → HoldsOnly v h → HasTakenLane v → h.state ≡ Taken
 is_taken v h only has = ap (λ (z : Held). z.state) (one_held v h has.lane only has.only) ∙ has.taken
 
 module _ (face : ℕ → ℕ → List (ℕ × ℕ) → List ℕ) (o : Opening) where
-  module _ (s : St) (r : Kept face o s) (id : ℕ) (v : View) (at : get_elem? s.views id ≡ some v) (h : Held) (only : v.held ≡ h ∷ []) (taken : h.state ≡ 1) (number field x : ℕ)
+  module _ (s : St) (r : Kept face o s) (id : ℕ) (v : View) (at : get_elem? s.views id ≡ some v) (h : Held) (only : v.held ≡ h ∷ []) (taken : h.state ≡ Taken) (number field x : ℕ)
       (of_lane : IsOfLane o.shape h.lane number) (unpublished : Lists h.published number → ⊥) (small : field < 5) (steps : List StepTaken) where
     abbrev offset : ℕ
     offset = 5 * (number - first_record o.shape h.lane) + field
@@ -75,12 +76,12 @@ module _ (face : ℕ → ℕ → List (ℕ × ℕ) → List ℕ) (o : Opening) w
     stays j ne = get_or-set_other s.words place j x 0 ne
 
     state_stays : get_or after (lane_place o.shape h.lane) 0 ≡ 1
-    state_stays = let low = mine.exists in stays (lane_place o.shape h.lane) (λ is. omega arith) ∙ mine.state ∙ taken
+    state_stays = let low = mine.exists in stays (lane_place o.shape h.lane) (λ is. omega arith) ∙ mine.state ∙ ap word_of_state taken
 
     holds_it : HoldsLane o.shape after r.book lane'
     holds_it = let b = in_block o.shape h.lane number field of_lane small in record {
       exists = mine.exists;
-      state = state_stays ∙ sym taken;
+      state = state_stays ∙ sym (ap word_of_state taken);
       long = length-set h.words offset x ∙ mine.long;
       exact = λ k small'. let long = mine.long in let inside = block_inside o.shape h.lane offset mine.exists b.1 in let wide = r.tree.wide in ⊎_elim
           (λ (same : k ≡ offset). subst (λ (z : ℕ). get_or after z 0 ≡ get_or (set h.words offset x) k 0) (let e = b.0 in let is : place ≡ block_start o.shape h.lane + k = omega arith in is)

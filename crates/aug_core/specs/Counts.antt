@@ -4,11 +4,13 @@ use Rattle.std.specs.List.{sum}
 use mathlib.Core.Option.{some}
 use lib.ListN.{get_elem?}
 use Rattle.aug_core.specs.Places.{lane_place}
+use Rattle.aug_core.specs.Lanes.{word_of_state}
 use Rattle.aug_core.specs.Book.{Book, history_of, At}
 use Rattle.aug_core.specs.Opening.{Opening, opening_serial}
 use Rattle.aug_core.specs.declared.view.Change.{Change}
 use Rattle.aug_core.specs.declared.view.Entry.{Entry}
 use Rattle.aug_core.specs.declared.view.Held.{Held}
+use Rattle.aug_core.specs.declared.view.LaneState.TheVariants.{Free}
 use Rattle.aug_core.specs.declared.view.View.{View}
 
 abbrev pub change : ℕ → ℕ → ℕ → Change
@@ -52,5 +54,5 @@ pub record AreTallied (o : Opening) (words : List ℕ) (book : Book) (views : Li
   pub long : length tally ≡ o.shape.workers
   pub each : (i a : ℕ) (v : View) (h : Held) → get_elem? views i ≡ some v → get_elem? v.held a ≡ some h → length h.changes ≡ slice_index tally h.lane
   pub few : (lane : ℕ) → lane < o.shape.workers → slice_index tally lane ≤ 2 * o.shape.updates
-  pub free : (lane : ℕ) → lane < o.shape.workers → slice_index words (lane_place o.shape lane) ≡ 0 → slice_index tally lane ≡ 0
+  pub free : (lane : ℕ) → lane < o.shape.workers → slice_index words (lane_place o.shape lane) ≡ word_of_state Free → slice_index tally lane ≡ 0
   pub enough : (key : ℕ) → key < 2 ^ o.shape.bits → length (history_of book key) ≤ opening_serial o.members key + 1 + sum tally

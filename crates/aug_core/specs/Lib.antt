@@ -12,5 +12,4 @@ pub mod Counts
 pub mod Rule
 pub mod Told
 pub mod Cuts
-pub mod EntryCuts
 pub mod inside

@@ -5,13 +5,14 @@ use lib.ListN.{get_elem?}
 use Rattle.atomic_table.specs.Table.{State}
 use Rattle.aug_core.specs.Places.{Shape, lane_place, record_start, word_count, record_words}
 use Rattle.aug_core.specs.Addresses.{place_count, IsInner}
-use Rattle.aug_core.specs.Lanes.{IsOfLane, block_start, block_size}
+use Rattle.aug_core.specs.Lanes.{IsOfLane, block_start, block_size, word_of_state}
 use Rattle.aug_core.specs.Book.{Book, At, IsNewest, Continues, IsFresh, IsBook}
 use Rattle.aug_core.specs.Opening.{Opening, IsIdle, shared_words, opening_book}
 use Rattle.aug_core.specs.Counts.{AreCounted, AreTallied}
 use Rattle.aug_core.specs.declared.view.Beginning.{Beginning}
 use Rattle.aug_core.specs.declared.view.Entry.{Entry}
 use Rattle.aug_core.specs.declared.view.Held.{Held}
+use Rattle.aug_core.specs.declared.view.LaneState.TheVariants.{Free, Ended}
 use Rattle.aug_core.specs.declared.view.View.{View}
 
 -- the number stands in the list
@@ -35,7 +36,7 @@ pub record HoldsLane (s : Shape) (words : List ℕ) (book : Book) (h : Held) : T
   -- it is one of the table's
   pub exists : h.lane < s.workers
   -- its word is as the view has it
-  pub state : slice_index words (lane_place s h.lane) ≡ h.state
+  pub state : slice_index words (lane_place s h.lane) ≡ word_of_state h.state
   -- the view has all words of its records, which nobody else writes
   pub long : length h.words ≡ block_size s
   pub exact : BlockIs s words h.lane h.words
@@ -57,7 +58,7 @@ pub record Knows (o : Opening) (words : List ℕ) (book : Book) (v : View) : Typ
   -- each lane that it holds is as it has it
   pub holds : (a : ℕ) (h : Held) → get_elem? v.held a ≡ some h → HoldsLane o.shape words book h
   -- the lanes that it may still hand out are free
-  pub spares : (n lane : ℕ) → v.spare ≡ Some n → n ≤ lane → lane < o.shape.workers → slice_index words (lane_place o.shape lane) ≡ 0
+  pub spares : (n lane : ℕ) → v.spare ≡ Some n → n ≤ lane → lane < o.shape.workers → slice_index words (lane_place o.shape lane) ≡ word_of_state Free
 
 -- the words of the leaves, of the nodes and of the published records are as the book says
 pub record KeepsTree (face : ℕ → ℕ → List (ℕ × ℕ) → List ℕ) (o : Opening) (words : List ℕ) (book : Book) : Type 0 where
@@ -77,12 +78,12 @@ pub record KeepsTree (face : ℕ → ℕ → List (ℕ × ℕ) → List ℕ) (o 
 
 -- the lanes' words, and the records of the lanes that are free
 pub record KeepsLanes (o : Opening) (words : List ℕ) (book : Book) : Type 0 where
-  -- a lane is free, 0, taken, 1, or ended, 2
-  pub states : (lane : ℕ) → lane < o.shape.workers → slice_index words (lane_place o.shape lane) ≤ 2
+  -- a lane is free, taken or ended
+  pub states : (lane : ℕ) → lane < o.shape.workers → slice_index words (lane_place o.shape lane) ≤ word_of_state Ended
   -- the records of a free lane are blank
-  pub blank : (lane : ℕ) → lane < o.shape.workers → slice_index words (lane_place o.shape lane) ≡ 0 → BlockIs o.shape words lane (replicate (block_size o.shape) 0)
+  pub blank : (lane : ℕ) → lane < o.shape.workers → slice_index words (lane_place o.shape lane) ≡ word_of_state Free → BlockIs o.shape words lane (replicate (block_size o.shape) 0)
   -- and none of them was published
-  pub unused : (lane q i : ℕ) (e : Entry) → lane < o.shape.workers → slice_index words (lane_place o.shape lane) ≡ 0 → IsInner o.shape q → At book q i e → IsOfLane o.shape lane e.number → ⊥
+  pub unused : (lane q i : ℕ) (e : Entry) → lane < o.shape.workers → slice_index words (lane_place o.shape lane) ≡ word_of_state Free → IsInner o.shape q → At book q i e → IsOfLane o.shape lane e.number → ⊥
 
 -- which view holds which lane
 pub record AreApart (views : List View) : Type 0 where

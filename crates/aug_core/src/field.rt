@@ -6,7 +6,7 @@ ghost use Rattle.aug_core.specs.Places.{record_words};
 /// The five words of a record, in their order.
 #[derive(Clone, Copy, Debug, PartialEq, Eq)]
 pub enum RecordField {
-    /// The word that names the left child's version: its record's number, or its serial where the child is a leaf.
+    /// The word that names the left child's version: its record's number, or the leaf's word if the child is a leaf.
     Left,
     /// The word that names the right child's version.
     Right,

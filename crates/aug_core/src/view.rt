@@ -17,7 +17,7 @@ pub struct Entry {
     pub left_floor: u64,
     /// Where the right child's newest entry stood as this one came.
     pub right_floor: u64,
-    /// What the key of a leaf weighs there; 0 where it is not there, and for a node.
+    /// What the key of a leaf weighs there; 0 if it is no member, and for a node.
     pub weight: u64,
     /// Whether the leaf went past this serial in the very step that brought it, so that no word ever named it.
     pub passed: bool,
@@ -41,15 +41,25 @@ pub struct Advance {
     pub weight: u64,
     /// Whether the key goes out and comes in again in the one step.
     pub replaces: bool,
-    /// What the key weighs afterwards; 0 where it is not there.
+    /// What the key weighs afterwards; 0 if it is no member.
     pub new_weight: u64,
+}
+
+/// How far a lane has come.
+pub enum LaneState {
+    /// Nobody took it yet.
+    Free,
+    /// A pass took it.
+    Taken,
+    /// Its pass came back.
+    Ended,
 }
 
 /// A lane that a view holds.
 pub struct Held {
     pub lane: u64,
-    /// What the lane's word holds: 0 while it is free, 1 once it is taken, 2 once it is ended.
-    pub state: u64,
+    /// What the lane's word says.
+    pub state: LaneState,
     /// The words of the lane's records, which only its holder writes.
     pub words: LinkedList<u64>,
     /// The numbers of the lane's records that were published.
@@ -82,7 +92,7 @@ pub struct View {
     pub also: LinkedList<LinkedList<Entry>>,
     /// The lanes that the seat holds: that of a pass, and those of the passes that were joined into a lead.
     pub held: LinkedList<Held>,
-    /// The first lane that was not handed out, where the seat is the one that hands lanes out.
+    /// The first lane that was not handed out, if the seat is the one that hands lanes out.
     pub spare: Option<u64>,
     /// Where the update began that the seat is in, or was in last.
     pub began: Beginning,

@@ -19,8 +19,8 @@ module _ {A B : Type 0} (summary_of : List (ℕ × ℕ) → Summary A B) where
   pub kept : (half pass new out : PassFacts) (round : RoundFacts) (held : Snapshot) (keys left : ℕ) → Keeping half round held keys left → 1 ≤ left
       → pass ≡ half → (steps : ℕ) × GoesOn 1 steps pass new → Keeps summary_of pass new → out ≡ new → Keeping out round held keys (left - 1)
   kept half pass new out round held keys left k some is went keeps leaves =
-      let g = went.1 in let same : new.round ≡ half.round = g.round ∙ ap (λ (z : PassFacts). z.round) is in
-      let spent : new.spent ≡ half.spent + 1 = g.spent ∙ ap (λ (z : PassFacts). z.spent + 1) is in
+      let g = went.1 in let same : new.round ≡ half.round = ap (λ (z : PassFacts). z.round) g.same ∙ ap (λ (z : PassFacts). z.round) is in
+      let spent : new.spent ≡ half.spent + 1 = ap (λ (z : PassFacts). z.spent) g.same ∙ ap (λ (z : PassFacts). z.spent + 1) is in
       let updates : new.round.updates ≡ half.round.updates = ap (λ (z : RoundFacts). z.updates) same in
       let had : HasSnapshot pass held.number = subst (λ (z : PassFacts). HasSnapshot z held.number) (sym is) k.shows in
       subst (λ (z : PassFacts). Keeping z round held keys (left - 1)) (sym leaves) (record {

@@ -14,8 +14,8 @@ module _ (old bits workers updates : ℕ) (members : List (ℕ × ℕ)) (round :
     (begins : BeginsRound members bits workers updates round crew) (is : same ≡ crew) (ends : Ends same rest) where
   pub set_stays : IsKeySet old (keys_of members) → old ≤ bits → rest.members ≡ members
   set_stays set wide =
-      ends.members ∙ ap (λ (z : CrewFacts). pairs_of_cut (last_cut z.knows.history)) is ∙ ap (λ (z : Knowledge). pairs_of_cut (last_cut z.history)) begins.opening
+      ends.members ∙ ap (λ (z : CrewFacts). pairs_of_cut (last_cut z.knows.history)) is ∙ ap (λ (z : CrewFacts). pairs_of_cut (last_cut z.knows.history)) begins.crew_is
       ∙ pairs_of_cut-opening bits members (is_wider old bits (keys_of members) wide set)
 
   pub bits_are : rest.bits ≡ bits
-  bits_are = ends.bits ∙ ap (λ (z : CrewFacts). z.round.bits) is ∙ ap (λ (z : RoundFacts). z.bits) begins.together ∙ begins.bits_are
+  bits_are = ends.bits ∙ ap (λ (z : CrewFacts). z.round.bits) is ∙ ap (λ (z : CrewFacts). z.round.bits) begins.crew_is ∙ ap (λ (z : RoundFacts). z.bits) begins.round_is

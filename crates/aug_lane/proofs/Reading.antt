@@ -23,18 +23,14 @@ module _ {A B : Type 0} (summary_of : List (ℕ × ℕ) → Summary A B) where
 
   pub reads_none : (p : PassFacts) → Reads summary_of 0 p p
   reads_none p = record {
-    stays = record { round = refl; lane = refl; knows = refl; numbers = refl; spent = refl; steps_stay = begins_refl p.steps; keeps = keeps_self p };
+    stays = record { same = refl; steps_stay = begins_refl p.steps; keeps = keeps_self p };
     few_steps = omega arith;
   }
 
   pub reads_more : (i most : ℕ) (p q r : PassFacts) → Reads summary_of (i * most) p q → Reads summary_of most q r → Reads summary_of ((i + 1) * most) p r
   reads_more i most p q r a b = let s = a.stays in let t = b.stays in let e = a.few_steps in let f = b.few_steps in record {
     stays = record {
-      round = t.round ∙ s.round;
-      lane = t.lane ∙ s.lane;
-      knows = t.knows ∙ s.knows;
-      numbers = t.numbers ∙ s.numbers;
-      spent = t.spent ∙ s.spent;
+      same = t.same ∙ ap (λ (z : PassFacts). record z { steps = r.steps; words = r.words }) s.same;
       steps_stay = begins_on p.steps q.steps r.steps s.steps_stay t.steps_stay;
       keeps = keeps_on p q r s.keeps t.keeps;
     };

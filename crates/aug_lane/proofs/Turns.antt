@@ -35,14 +35,14 @@ module _ {A B X : Type 0} (summary_of : List (ℕ × ℕ) → Summary A B) (does
       → does x done q r → (steps : ℕ) × GoesOn 1 steps q r → Keeps summary_of q r → Updates summary_of does (take (i + 1) xs) (changed + change_by done) p r
   updates_more xs i changed x done p q r within d is went step goes keeps =
       let all : take i xs ++ x ∷ [] ≡ take (i + 1) xs = ap (λ z. take i xs ++ z ∷ []) is ∙ sym (take_more xs i d within) in
-      let g = goes.1 in let spent = went.spent in let now = g.spent in let long : length (take i xs ++ x ∷ []) ≡ length (take i xs) + 1 = length-append (take i xs) (x ∷ []) in
+      let g = goes.1 in let spent = went.spent in let now = ap (λ (z : PassFacts). z.spent) g.same in let long : length (take i xs ++ x ∷ []) ≡ length (take i xs) + 1 = length-append (take i xs) (x ∷ []) in
       let counts = went.counts in let more = changes-more went.done done in
       subst (λ zs. Updates summary_of does zs (changed + change_by done) p r) all (record {
         done = went.done ++ done ∷ [];
         in_turn = in_turn-more does (take i xs) went.done x done p q r went.in_turn step;
         counts = omega (arith, counts, more);
-        round = g.round ∙ went.round;
-        lane = g.lane ∙ went.lane;
+        round = ap (λ (z : PassFacts). z.round) g.same ∙ went.round;
+        lane = ap (λ (z : PassFacts). z.lane) g.same ∙ went.lane;
         spent = omega (arith, spent, now, long);
         keeps = keeps_on summary_of p q r went.keeps keeps;
       })

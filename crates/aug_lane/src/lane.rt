@@ -1,15 +1,14 @@
 //! A pass together with its round, which no lifetime ties to a caller.
-ghost use Rattle.std.specs.Prelude.{◌≡◌, ◌↔◌, ℕ, ◌+◌, ◌*◌, ◌^◌, ◌<◌, ◌≤◌, ◌++◌, [], ◌∷◌, IfOk, IfErr, IsErrOf};
+ghost use Rattle.std.specs.Prelude.{if◌then◌else◌, ◌≡◌, ◌↔◌, ℕ, ◌+◌, ◌*◌, ◌^◌, ◌<◌, ◌≤◌, ◌++◌, [], ◌∷◌, IfOk, IfErr, IsErrOf};
 ghost use Rattle.std.specs.Bool.{OnTrue, OnFalse};
 ghost use Rattle.std.specs.Arc.{arc_value};
 ghost use Rattle.aug_core.specs.Kinds.{load_node};
 ghost use Rattle.aug_model.specs.Folds.{summary_of};
 ghost use Rattle.aug_trie.specs.Knowledge.{IsKnowledge, insertion, removal, inserts_of, removals_of};
-ghost use Rattle.aug_trie.specs.Updates.{AcceptedUpdate, RefusedUpdate, PutsIn, TakesSnapshot};
+ghost use Rattle.aug_trie.specs.Updates.{AcceptedUpdate, RefusedUpdate, ComesTo, TakesSnapshot};
 ghost use Rattle.aug_trie.specs.Round.{root_of};
 ghost use Rattle.aug_trie.specs.Pass.{GoesOn, StepsOf};
 ghost use Rattle.aug_trie.specs.Node.{Keeps};
-ghost use Rattle.aug_trie.specs.Requests.{answered};
 ghost use Rattle.aug_trie.specs.Snapshot.{HasSnapshot, snapshot_cut};
 ghost use Rattle.aug_trie.specs.declared.updates.request.Request.TheVariants as request;
 
@@ -53,7 +52,7 @@ impl<A: Monoid, B: Monoid> Lane<A, B> {
         ensures refused { IfOk result.1 (λ done. OnFalse done (RefusedUpdate insertion key self.half.knows result.0.half.knows)) }
         ensures goes_on { IfOk result.1 (λ _. (steps : ℕ) × GoesOn 1 steps self.half result.0.half) }
         ensures keeps { IfOk result.1 (λ _. Keeps (summary_of A.parts B.parts) self.half result.0.half) }
-        ensures steps { IfOk result.1 (λ done. StepsOf request.Insert key (answered done) self.half result.0.half) }
+        ensures steps { IfOk result.1 (λ done. StepsOf request.Insert key (if done then Outcome.Accepted else Outcome.Refused) self.half result.0.half) }
         ensures held { result.0.held ≡ self.held }
         ensures round { result.0.round ≡ self.round }
     {
@@ -94,7 +93,7 @@ impl<A: Monoid, B: Monoid> Lane<A, B> {
         ensures refused { IfOk result.1 (λ done. OnFalse done (RefusedUpdate removal key self.half.knows result.0.half.knows)) }
         ensures goes_on { IfOk result.1 (λ _. (steps : ℕ) × GoesOn 1 steps self.half result.0.half) }
         ensures keeps { IfOk result.1 (λ _. Keeps (summary_of A.parts B.parts) self.half result.0.half) }
-        ensures steps { IfOk result.1 (λ done. StepsOf request.Remove key (answered done) self.half result.0.half) }
+        ensures steps { IfOk result.1 (λ done. StepsOf request.Remove key (if done then Outcome.Accepted else Outcome.Refused) self.half result.0.half) }
         ensures held { result.0.held ≡ self.held }
         ensures round { result.0.round ≡ self.round }
     {
@@ -131,7 +130,7 @@ impl<A: Monoid, B: Monoid> Lane<A, B> {
         ensures bad_key { IsErrOf result.1 LaneError.BadKey ↔ (2 ^ self.half.round.bits ≤ key) }
         ensures spent { IsErrOf result.1 LaneError.Spent ↔ (key < 2 ^ self.half.round.bits) × (self.half.spent ≡ self.half.round.updates) }
         ensures same { IfErr result.1 (λ _. result.0 ≡ self) }
-        ensures puts { IfOk result.1 (λ done. PutsIn key weight done self.half.knows result.0.half.knows) }
+        ensures puts { IfOk result.1 (λ done. ComesTo (request.Put weight) key done self.half.knows result.0.half.knows) }
         ensures goes_on { IfOk result.1 (λ _. (steps : ℕ) × GoesOn 1 steps self.half result.0.half) }
         ensures keeps { IfOk result.1 (λ _. Keeps (summary_of A.parts B.parts) self.half result.0.half) }
         ensures steps { IfOk result.1 (λ done. StepsOf (request.Put weight) key done self.half result.0.half) }

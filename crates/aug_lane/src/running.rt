@@ -2,7 +2,6 @@
 ghost use Rattle.std.specs.Prelude.{◌≡◌, ◌≢◌, ◌⊎◌, ◌↔◌, ◌+◌, ◌^◌, ◌<◌, ◌≤◌, length, IfOk, IfErr, IsOk, IsErr, IsErrOf};
 ghost use Rattle.std.specs.Arc.{arc_value};
 ghost use Rattle.aug_core.specs.Layout.{IsWithin, IsOutside, IsRefused};
-ghost use Rattle.aug_core.specs.Places.{shape_of};
 ghost use Rattle.aug_trie.specs.Crew.{BeginsRound, TakesBack, Ends};
 ghost use Rattle.aug_lane.specs.Rounds.{OpensLane};
 
@@ -39,11 +38,11 @@ impl<A: Monoid, B: Monoid> Running<A, B> {
         ensures set { IfErr result (λ e. (e.0.members ≡ rest.members) × (e.0.bits ≡ rest.bits)) }
         ensures same { IfErr result (λ e. e.1 ≢ BeginError.OutOfMemory → e.0 ≡ rest) }
         ensures bad_workers { IsErrOf result (rest, BeginError.BadWorkers)
-            ↔ IsRefused LayoutError.BadWorkers (shape_of rest.bits workers updates (length rest.members)) }
+            ↔ IsRefused LayoutError.BadWorkers rest.bits workers updates (length rest.members) }
         ensures bad_updates { IsErrOf result (rest, BeginError.BadUpdates)
-            ↔ IsRefused LayoutError.BadUpdates (shape_of rest.bits workers updates (length rest.members)) }
+            ↔ IsRefused LayoutError.BadUpdates rest.bits workers updates (length rest.members) }
         ensures too_large { IsErrOf result (rest, BeginError.TooLarge)
-            ↔ IsRefused LayoutError.TooLarge (shape_of rest.bits workers updates (length rest.members)) }
+            ↔ IsRefused LayoutError.TooLarge rest.bits workers updates (length rest.members) }
         ensures good_bits { IfErr result (λ e. e.1 ≢ BeginError.BadBits) }
         ensures not_narrower { IfErr result (λ e. e.1 ≢ BeginError.Narrower) }
     {
@@ -75,11 +74,11 @@ impl<A: Monoid, B: Monoid> Running<A, B> {
         ensures bad_bits { IsErrOf result (rest, BeginError.BadBits) ↔ IsOutside 1 16 bits }
         ensures narrower { IsErrOf result (rest, BeginError.Narrower) ↔ IsWithin 1 16 bits × (bits < rest.bits) }
         ensures bad_workers { IsErrOf result (rest, BeginError.BadWorkers)
-            ↔ (rest.bits ≤ bits) × IsRefused LayoutError.BadWorkers (shape_of bits workers updates (length rest.members)) }
+            ↔ (rest.bits ≤ bits) × IsRefused LayoutError.BadWorkers bits workers updates (length rest.members) }
         ensures bad_updates { IsErrOf result (rest, BeginError.BadUpdates)
-            ↔ (rest.bits ≤ bits) × IsRefused LayoutError.BadUpdates (shape_of bits workers updates (length rest.members)) }
+            ↔ (rest.bits ≤ bits) × IsRefused LayoutError.BadUpdates bits workers updates (length rest.members) }
         ensures too_large { IsErrOf result (rest, BeginError.TooLarge)
-            ↔ (rest.bits ≤ bits) × IsRefused LayoutError.TooLarge (shape_of bits workers updates (length rest.members)) }
+            ↔ (rest.bits ≤ bits) × IsRefused LayoutError.TooLarge bits workers updates (length rest.members) }
     {
         match Round::begin_wider(alloc, rest, bits, workers, updates) {
             Ok((round, crew)) => match Running::share(alloc, round, crew, workers, 1 << bits) {

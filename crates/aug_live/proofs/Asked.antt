@@ -32,8 +32,8 @@ module _ {A B : Type 0} (sum : List (ℕ × ℕ) → Summary A B) (out : OutFact
     taken_round = h.taken_round;
     pass = after;
     there = refl;
-    round_is = r.stays.round ∙ ap (λ (p : PassFacts). p.round) same ∙ h.round_is;
-    bits_are = ap (λ (z : RoundFacts). z.bits) r.stays.round ∙ ap (λ (p : PassFacts). p.round.bits) same ∙ h.bits_are;
+    round_is = ap (λ (p : PassFacts). p.round) r.stays.same ∙ ap (λ (p : PassFacts). p.round) same ∙ h.round_is;
+    bits_are = ap (λ (p : PassFacts). p.round.bits) r.stays.same ∙ ap (λ (p : PassFacts). p.round.bits) same ∙ h.bits_are;
     few_bits = h.few_bits;
     has = r.stays.keeps.snapshots s (look_has out era round half s bits pass h there);
   }

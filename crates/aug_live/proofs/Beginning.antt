@@ -30,24 +30,24 @@ outside_none first last n within (inr high) = omega (arith, within.1)
 -- no refusal but that for want of memory, where the set has the bits of the round
 pub never_refused : (old bits workers updates members : ℕ) (cause : BeginError) → bits ≡ old → IsLayout (shape_of old workers updates (2 ^ old)) → members ≤ 2 ^ old
     → (cause ≡ begin.BadBits → IsOutside 1 16 bits) → (cause ≡ begin.Narrower → bits < old)
-    → (cause ≡ begin.BadWorkers → IsRefused layout.BadWorkers (shape_of bits workers updates members))
-    → (cause ≡ begin.BadUpdates → IsRefused layout.BadUpdates (shape_of bits workers updates members))
-    → (cause ≡ begin.TooLarge → IsRefused layout.TooLarge (shape_of bits workers updates members))
+    → (cause ≡ begin.BadWorkers → IsRefused layout.BadWorkers bits workers updates members)
+    → (cause ≡ begin.BadUpdates → IsRefused layout.BadUpdates bits workers updates members)
+    → (cause ≡ begin.TooLarge → IsRefused layout.TooLarge bits workers updates members)
     → (cause ≡ begin.OutOfMemory → ⊥) → ⊥
 never_refused old bits workers updates members begin.BadWorkers same laid few bad_bits narrower bad_workers bad_updates too_large memory = outside_none 1 64 workers laid.workers (bad_workers refl).1
 never_refused old bits workers updates members begin.BadUpdates same laid few bad_bits narrower bad_workers bad_updates too_large memory = outside_none 1 65536 updates laid.updates (bad_updates refl).2
 never_refused old bits workers updates members begin.TooLarge same laid few bad_bits narrower bad_workers bad_updates too_large memory =
-    let large = subst (λ (z : ℕ). IsRefused layout.TooLarge (shape_of z workers updates members)) same (too_large refl) in omega (arith, laid.words, large.3, words_more old workers updates members (2 ^ old) few)
+    let large = subst (λ (z : ℕ). IsRefused layout.TooLarge z workers updates members) same (too_large refl) in omega (arith, laid.words, large.3, words_more old workers updates members (2 ^ old) few)
 never_refused old bits workers updates members begin.OutOfMemory same laid few bad_bits narrower bad_workers bad_updates too_large memory = memory refl
 never_refused old bits workers updates members begin.BadBits same laid few bad_bits narrower bad_workers bad_updates too_large memory = outside_none 1 16 old laid.bits (subst (IsOutside 1 16) same (bad_bits refl))
 never_refused old bits workers updates members begin.Narrower same laid few bad_bits narrower bad_workers bad_updates too_large memory = let less = narrower refl in omega arith
 
 module _ (set : SetFacts) (round : RoundFacts) (crew : CrewFacts) (ended : EndedFacts) (workers updates : ℕ) (keys : IsKeySet set.bits (keys_of set.pairs)) (begun : BeginsRound set.pairs set.bits workers updates round crew) (ends : Ends crew ended) where
   same_bits : ended.bits ≡ set.bits
-  same_bits = ends.bits ∙ ap (λ (z : RoundFacts). z.bits) begun.together ∙ begun.bits_are
+  same_bits = ends.bits ∙ ap (λ (z : CrewFacts). z.round.bits) begun.crew_is ∙ ap (λ (z : RoundFacts). z.bits) begun.round_is
 
   same_pairs : ended.members ≡ set.pairs
-  same_pairs = ends.members ∙ ap (λ (z : Knowledge). pairs_of_cut (last_cut z.history)) begun.opening ∙ pairs_of_cut-opening set.bits set.pairs keys
+  same_pairs = ends.members ∙ ap (λ (z : CrewFacts). pairs_of_cut (last_cut z.knows.history)) begun.crew_is ∙ pairs_of_cut-opening set.bits set.pairs keys
 
   -- a round in which nobody worked gives the set back
   pub gives_back : set_of_ended ended ≡ set

@@ -33,7 +33,7 @@ stopped lanes updates counts new round crew ports back count count' ended set w 
 -- what lies in the lanes is ready for a round over the set
 pub ready_for : (lanes updates : ℕ) (counts : LiveCounts) (set : SetFacts) (round : RoundFacts) (crew : CrewFacts) (ports : List KnownFacts) (count : ℕ)
     → IsResting lanes updates counts set ports count → BeginsRound set.pairs set.bits lanes updates round crew → All (IsReady round.bits counts.rounds round.members) ports
-ready_for lanes updates counts set round crew ports count r b = subst (λ (z : ℕ × List (ℕ × ℕ)). All (IsReady z.0 counts.rounds z.1) ports) (λ i. (sym b.bits_are i, sym b.members_are i)) r.ready
+ready_for lanes updates counts set round crew ports count r b = subst (λ (z : ℕ × List (ℕ × ℕ)). All (IsReady z.0 counts.rounds z.1) ports) (λ i. let back = sym b.round_is in ((back i).bits, (back i).members)) r.ready
 
 pub begun_on : (lanes updates : ℕ) (counts new : LiveCounts) (set : SetFacts) (round : RoundFacts) (first crew : CrewFacts) (old ports : List KnownFacts) (count count' : ℕ)
     → IsResting lanes updates counts set old count → BeginsRound set.pairs set.bits lanes updates round first → All (IsOf round (counts.rounds + 1)) ports → count' ≡ count
@@ -41,17 +41,17 @@ pub begun_on : (lanes updates : ℕ) (counts new : LiveCounts) (set : SetFacts) 
     → new.rounds ≡ counts.rounds + 1 → new.opened ≡ counts.opened → new.inserts ≡ counts.inserts → new.removals ≡ counts.removals
     → counts.inserts + 2 ^ 32 ≤ 2 ^ 64 → counts.removals + 2 ^ 32 ≤ 2 ^ 64 → IsWorking lanes updates new round crew ports count'
 begun_on lanes updates counts new set round first crew old ports count count' r b of_round len together handed back rounds opened inserts removals few_inserts few_removals =
-    let long : length round.members ≡ length set.pairs = ap (λ (z : List (ℕ × ℕ)). length z) b.members_are in
-    let enough = r.enough in let sum = r.counted.sizes in let none = b.none_back in record {
+    let long : length round.members ≡ length set.pairs = ap (λ (z : RoundFacts). length z.members) b.round_is in
+    let enough = r.enough in let sum = r.counted.sizes in let none : first.back ≡ 0 = ap (λ (z : CrewFacts). z.back) b.crew_is in record {
       together = together;
-      workers = b.workers_are;
+      workers = ap (λ (z : RoundFacts). z.workers) b.round_is;
       all_out = omega arith;
       within = omega arith;
       of_round = subst (λ (z : ℕ). All (IsOf round z) ports) (sym rounds) of_round;
       counted = record { some = omega arith; sizes = omega arith };
       few_inserts = omega arith;
       few_removals = omega arith;
-      laid_out = subst (λ (z : ℕ). IsLayout (shape_of z lanes updates (2 ^ z))) (sym b.bits_are) r.laid_out;
+      laid_out = subst (λ (z : ℕ). IsLayout (shape_of z lanes updates (2 ^ z))) (sym (ap (λ (z : RoundFacts). z.bits) b.round_is)) r.laid_out;
     }
 
 pub opened_at : (lanes updates : ℕ) (counts : LiveCounts) (set : SetFacts) (round : RoundFacts) (first crew : CrewFacts) (ports : List KnownFacts) (count : ℕ)
@@ -59,16 +59,16 @@ pub opened_at : (lanes updates : ℕ) (counts : LiveCounts) (set : SetFacts) (ro
     → crew.round ≡ round → crew.handed ≡ count → crew.back ≡ first.back
     → counts.rounds ≡ 1 → counts.opened ≡ length set.pairs → counts.inserts ≡ 0 → counts.removals ≡ 0 → IsWorking lanes updates counts round crew ports count
 opened_at lanes updates counts set round first crew ports count laid b of_round len together handed back rounds opened inserts removals =
-    let long : length round.members ≡ length set.pairs = ap (λ (z : List (ℕ × ℕ)). length z) b.members_are in let none = b.none_back in record {
+    let long : length round.members ≡ length set.pairs = ap (λ (z : RoundFacts). length z.members) b.round_is in let none : first.back ≡ 0 = ap (λ (z : CrewFacts). z.back) b.crew_is in record {
       together = together;
-      workers = b.workers_are;
+      workers = ap (λ (z : RoundFacts). z.workers) b.round_is;
       all_out = omega arith;
       within = omega arith;
       of_round = subst (λ (z : ℕ). All (IsOf round z) ports) (sym rounds) of_round;
       counted = record { some = omega arith; sizes = omega arith };
       few_inserts = omega arith;
       few_removals = omega arith;
-      laid_out = subst (λ (z : ℕ). IsLayout (shape_of z lanes updates (2 ^ z))) (sym b.bits_are) laid;
+      laid_out = subst (λ (z : ℕ). IsLayout (shape_of z lanes updates (2 ^ z))) (sym (ap (λ (z : RoundFacts). z.bits) b.round_is)) laid;
     }
 
 -- other ends of the same lanes, as the crew took so many passes back and handed as many out
@@ -96,9 +96,9 @@ all_of_round round era ports rest new at port all out back this = subst (All (Is
 pub all_new : (set : SetFacts) (lanes updates : ℕ) (round : RoundFacts) (first : CrewFacts) (ends : List HandleFacts) → BeginsRound set.pairs set.bits lanes updates round first → All (IsFirst round) ends → All (IsNew set updates) ends
 all_new set lanes updates round first ends b all k d low = let f = all k d low in record {
   era = f.era_is;
-  bits = ap (λ (z : RoundFacts). z.bits) f.fresh.round_is ∙ b.bits_are;
-  members = ap (λ (z : RoundFacts). z.members) f.fresh.round_is ∙ b.members_are;
-  updates_are = ap (λ (z : RoundFacts). z.updates) f.fresh.round_is ∙ b.updates_are;
+  bits = ap (λ (z : RoundFacts). z.bits) f.fresh.round_is ∙ ap (λ (z : RoundFacts). z.bits) b.round_is;
+  members = ap (λ (z : RoundFacts). z.members) f.fresh.round_is ∙ ap (λ (z : RoundFacts). z.members) b.round_is;
+  updates_are = ap (λ (z : RoundFacts). z.updates) f.fresh.round_is ∙ ap (λ (z : RoundFacts). z.updates) b.round_is;
   none_spent = f.fresh.none_spent;
   none_accepted = f.fresh.none_accepted;
 }

@@ -71,7 +71,7 @@ impl<A: Monoid, B: Monoid> Model for Resting<A, B> {
 pub(crate) enum Place<A: Monoid, B: Monoid> {
     /// A round that goes on.
     On(Working<A, B>),
-    /// A trie at rest, where no next round could be begun.
+    /// A trie at rest: no next round could be begun.
     Rest(Resting<A, B>),
 }
 

@@ -2,7 +2,8 @@
 ghost use Rattle.std.specs.Prelude.{◌≡◌, ℕ, ◌^◌, ◌<◌, IfOk, IfErr};
 ghost use Rattle.std.specs.Bool.{OnTrue, OnFalse};
 ghost use Rattle.aug_trie.specs.Knowledge.{insertion, removal};
-ghost use Rattle.aug_trie.specs.Updates.{AcceptedUpdate, RefusedUpdate, PutsIn, TakesSnapshot};
+ghost use Rattle.aug_trie.specs.declared.updates.request.Request.TheVariants as request;
+ghost use Rattle.aug_trie.specs.Updates.{AcceptedUpdate, RefusedUpdate, ComesTo, TakesSnapshot};
 ghost use Rattle.aug_trie.specs.Snapshot.{snapshot_cut};
 ghost use Rattle.aug_live.specs.Handles.{Follows, Makes, handle_of};
 ghost use Rattle.aug_live.specs.inside.Changes.{ChangesTo};
@@ -83,7 +84,7 @@ impl<A: Monoid, B: Monoid> Handle<A, B> {
     #[inline(always)]
     pub fn put<R: Wait>(&mut self, rt: &R, k: u32, weight: u32) -> Result<Outcome, LiveError>
         requires key { k < 2 ^ self.old.half.round.bits }
-        ensures made { IfOk result (λ done. Makes 1 (λ a b. PutsIn k weight done a.knows b.knows) self.old self.new) }
+        ensures made { IfOk result (λ done. Makes 1 (λ a b. ComesTo (request.Put weight) k done a.knows b.knows) self.old self.new) }
         ensures not_made { IfErr result (λ _. Follows self.old self.new) }
     {
         self.update(rt, k, Update::Put(weight))

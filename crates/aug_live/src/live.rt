@@ -2,7 +2,6 @@
 ghost use Rattle.std.specs.Prelude.{◌≡◌, ◌⊎◌, ◌↔◌, ℕ, ◌+◌, ◌<◌, ◌≤◌, ◌^◌, [], All, IsErrOf, IfOk, IfErr, length, vec_len, vec_capacity};
 ghost use Rattle.std.specs.Arc.{arc_value};
 ghost use Rattle.aug_core.specs.Layout.{IsRefused, IsLayout, IsWithin, IsOutside};
-ghost use Rattle.aug_core.specs.Places.{shape_of};
 ghost use Rattle.aug_trie.specs.Crew.{BeginsRound};
 ghost use Rattle.aug_live.specs.Handles.{IsNew};
 ghost use Rattle.aug_live.specs.Plans.{Fits, least_plan};
@@ -47,7 +46,7 @@ struct Room<A: Monoid, B: Monoid> {
 }
 
 impl<A: Monoid, B: Monoid> Live<A, B> {
-    /// Opens a trie over a set, for so many handles, with a plan of its rounds that has a lane for each.
+    /// Opens a trie over a set, for `handles` handles, with a plan of its rounds that has a lane for each.
     ///
     /// Refused with `BadWorkers`, `BadUpdates` and `TooLarge` as `Layout::new` refuses the plan for the full set of its
     /// bits, so that no later round is refused for it, and then with `OutOfMemory`. After a refusal the same set comes back.
@@ -62,9 +61,9 @@ impl<A: Monoid, B: Monoid> Live<A, B> {
         ensures handles { IfOk result (λ t. vec_len t.1 ≡ handles) }
         ensures new { IfOk result (λ t. All (IsNew set plan.updates) t.1.items) }
         ensures same { IfErr result (λ e. e.0 ≡ set) }
-        ensures bad_workers { IsErrOf result (set, BeginError.BadWorkers) ↔ IsRefused LayoutError.BadWorkers (shape_of set.bits plan.lanes plan.updates (2 ^ set.bits)) }
-        ensures bad_updates { IsErrOf result (set, BeginError.BadUpdates) ↔ IsRefused LayoutError.BadUpdates (shape_of set.bits plan.lanes plan.updates (2 ^ set.bits)) }
-        ensures too_large { IsErrOf result (set, BeginError.TooLarge) ↔ IsRefused LayoutError.TooLarge (shape_of set.bits plan.lanes plan.updates (2 ^ set.bits)) }
+        ensures bad_workers { IsErrOf result (set, BeginError.BadWorkers) ↔ IsRefused LayoutError.BadWorkers set.bits plan.lanes plan.updates (2 ^ set.bits) }
+        ensures bad_updates { IsErrOf result (set, BeginError.BadUpdates) ↔ IsRefused LayoutError.BadUpdates set.bits plan.lanes plan.updates (2 ^ set.bits) }
+        ensures too_large { IsErrOf result (set, BeginError.TooLarge) ↔ IsRefused LayoutError.TooLarge set.bits plan.lanes plan.updates (2 ^ set.bits) }
     {
         let bits = set.bits();
         let universe = set.universe();
@@ -108,7 +107,7 @@ impl<A: Monoid, B: Monoid> Live<A, B> {
         Ok((Live { desk }, ends))
     }
 
-    /// Opens a trie over a set, for so many handles, whose rounds have a table of at most so many bytes: `Plan::new` works their lanes
+    /// Opens a trie over a set, for `handles` handles, whose rounds have a table of at most `memory` bytes: `Plan::new` works their lanes
     /// and updates out. While a round begins, a list of the table's words takes as much again.
     ///
     /// Refused with `BadWorkers` for no handle and for more than 64, with `TooLarge` if a table with one update of each handle takes more

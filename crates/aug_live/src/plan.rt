@@ -26,9 +26,9 @@ pub struct Plan {
 }
 
 impl Plan {
-    /// The plan of a round for so many handles, whose table for the full set of so many bits takes at most so many bytes: up to 64
-    /// lanes, of 256 updates or more, and fewer lanes only where that many do not fit. None if not even one update of each
-    /// handle fits, or the numbers are none of a table.
+    /// The plan of a round for `handles` handles, whose table for the full set of `bits` bits takes at most `memory` bytes: up to 64
+    /// lanes, of 256 updates or more, and fewer lanes only if that many do not fit. None if not even one update of each
+    /// handle fits, or if no table has these numbers.
     pub fn new(bits: u32, handles: u32, memory: u64) -> Option<Plan>
         ensures fits { IfSome result (λ plan. (handles ≤ plan.lanes) × Fits bits memory plan × Fits bits memory (least_plan handles)) }
         ensures none { IfNone result (Fits bits memory (least_plan handles) → ⊥) }

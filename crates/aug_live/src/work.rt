@@ -1,8 +1,7 @@
 //! A pass beside its round.
-ghost use Rattle.std.specs.Prelude.{◌≡◌, ℕ, ◌+◌, ◌^◌, ◌<◌, IfSome, IfNone};
+ghost use Rattle.std.specs.Prelude.{if◌then◌else◌, ◌≡◌, ℕ, ◌+◌, ◌^◌, ◌<◌, IfSome, IfNone};
 ghost use Rattle.aug_trie.specs.History.{IsPrefix};
 ghost use Rattle.aug_trie.specs.Pass.{GoesOn};
-ghost use Rattle.aug_trie.specs.Requests.{answered};
 ghost use Rattle.std.specs.Arc.{arc_value};
 ghost use Rattle.aug_live.specs.inside.Changes.{ChangesTo};
 ghost use Rattle.aug_live.specs.inside.Rolls.{IsFresh};
@@ -110,7 +109,7 @@ fn make<'r, A: Monoid, B: Monoid>(
 
 // What an update comes to that was accepted, or was not.
 fn accepted_if(done: bool) -> Outcome
-    ensures { result ≡ answered done }
+    ensures { result ≡ (if done then Outcome.Accepted else Outcome.Refused) }
 {
     if done {
         Outcome::Accepted

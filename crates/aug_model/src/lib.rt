@@ -1,12 +1,14 @@
 //! Summaries of sets of keys with weights, and a plain set that answers every query from the list of its members.
 #![tactic(auto)]
 
+mod calls;
 mod key_set;
 mod model_error;
 mod outcome;
 mod places;
 mod summary;
 
+pub use calls::Calls;
 pub use key_set::KeySet;
 pub use model_error::ModelError;
 pub use outcome::Outcome;

@@ -27,7 +27,7 @@ pub trait Descend<A: Monoid, B: Monoid> {
     // How much was loaded. It takes no bytes.
     ghost loads_of: { Self → Loads };
 
-    // The name is that of the node at a level and a place.
+    // Opaque: the name is that of the node at a level and a place. What that comes to, a law and the calls say.
     ghost Names: { Self → ℕ → ℕ → Self.Name → Type 0 };
 
     // What a descent keeps of the tree besides its set, from what the tree was to what it has become.

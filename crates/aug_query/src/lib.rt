@@ -7,7 +7,6 @@
 //! each of `n` members, `2 * bits * n + 1`.
 #![tactic(auto)]
 
-mod calls;
 mod descend;
 pub mod descent;
 mod fake_tree;
@@ -20,7 +19,7 @@ mod summaries;
 mod toward;
 mod tree;
 
-pub use calls::Calls;
+pub use aug_model::Calls;
 pub use descend::Descend;
 pub use fake_tree::{FakeNode, FakeTree};
 pub use loaded::Loaded;

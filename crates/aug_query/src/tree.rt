@@ -25,7 +25,7 @@ pub trait Tree<A: Monoid, B: Monoid> {
     // How often `top`, `left` and `right` have been called. It takes no bytes.
     ghost calls_of: { Self → ℕ };
 
-    // The node is one of this tree.
+    // Opaque: the node is one of this tree. What that comes to, two laws say.
     ghost HasNode: { Self → Self.Node → Type 0 };
 
     // What a walk keeps of the tree besides its set, from what the tree was to what it has become.

@@ -13,10 +13,14 @@ use Rattle.aug_core.specs.Cuts.{Cut, shown_of, serial_of, weight_at, set_of_cut,
 use Rattle.aug_trie.specs.History.{IsPrefix, last_cut, IsHistory}
 use Rattle.aug_core.specs.declared.view.Change.{Change}
 use Rattle.aug_trie.specs.Knowledge.{Knowledge, StandsIn, insertion, removal, inserts_of, removals_of}
-use Rattle.aug_trie.specs.Updates.{AcceptedUpdate, RefusedUpdate, ReplacedUpdate, RefusedPut, PutsIn}
+use Rattle.aug_trie.specs.Updates.{AcceptedUpdate, RefusedUpdate, ReplacedUpdate, RefusedPut, ComesTo}
+use Rattle.aug_trie.specs.declared.updates.request.Request.TheVariants as request
 use Rattle.aug_trie.specs.Tallies.{Tallies}
-use Rattle.aug_report.specs.AllowedReport.{Lane, LaneLooks, Asks, AnswersPut, reply_to_put, Answers, AnswersAll}
-use Rattle.aug_script.specs.Replies.{Sets, span_of, reply_to, sets_after, replies_of, sets_of, is_insertion, is_removal, count_of}
+use Rattle.aug_report.specs.AllowedReport.{Lane, AnswersPut, reply_to_put, Answers, AnswersAll}
+use Rattle.aug_monoid.specs.Extent.{extent_parts}
+use Rattle.aug_monoid.specs.Sum.{sum_parts}
+use Rattle.aug_model.specs.Folds.{summary_of}
+use Rattle.aug_script.specs.Replies.{Sets, reply_to, sets_after, replies_of, sets_of, is_insertion, is_removal, count_of}
 use Rattle.aug_script.specs.declared.reply.Reply.{Reply}
 use Rattle.aug_script.specs.declared.reply.Reply.TheVariants as reply
 use Rattle.aug_script.specs.declared.row.Row.{Row}
@@ -155,9 +159,9 @@ module _ (k : ℕ) (old new : Lane) where
   goes_out : (first last : ℕ) → ChangesOne before after k first last → last % 2 ≡ 0 → pairs_of_cut after ≡ without_pair (pairs_of_cut before) k
   goes_out first last one suits = pairs-without_key before after k one.others (not_odd (serial_of after k) (ap (λ n. n % 2) one.reached ∙ suits))
 
-  -- the number of a refused update is the key's serial, where nothing happened meanwhile
-  stood : (parity : ℕ) (update : RefusedUpdate parity k old.knows new.knows) → after ≡ before → update.number ≡ serial_of before k
-  stood parity update same = omega (arith, update.not_past, update.shows, ap (λ (d : Cut). serial_of d k) same)
+  -- the key's serial stood in the way of a refused update, where nothing happened meanwhile
+  stood : (parity : ℕ) (update : RefusedUpdate parity k old.knows new.knows) → after ≡ before → serial_of before k % 2 ≡ parity
+  stood parity update same = elim update.stood [ inl suits ↦ suits | inr rises ↦ absurd (omega (arith, rises, ap (λ (d : Cut). serial_of d k) same)) ]
 
   -- what an accepted insertion, with this weight, says of the set
   put_in : (w : ℕ) (update : AcceptedUpdate insertion k w old.knows new.knows) → Happened old new (change k update.number w ∷ []) → There false × (pairs_of_cut after ≡ with_pair (pairs_of_cut before) k w)
@@ -173,7 +177,7 @@ module _ (k : ℕ) (old new : Lane) where
 
   -- where nothing happened meanwhile, no put was refused
   never_lost : RefusedPut k old.knows new.knows → Happened old new [] → ⊥
-  never_lost update h = omega (arith, update.is_new, update.shows, ap (λ (d : Cut). serial_of d k) (same_last old new h))
+  never_lost update h = omega (arith, update.rises, ap (λ (d : Cut). serial_of d k) (same_last old new h))
 
   -- what an accepted removal says
   taken_out : (update : AcceptedUpdate removal k 0 old.knows new.knows) → Happened old new (change k update.number 0 ∷ []) → There true × (pairs_of_cut after ≡ without_pair (pairs_of_cut before) k)
@@ -236,8 +240,8 @@ module _ (k : ℕ) (old new : Lane) where
       goes = goes_nowhere old.knows new.knows update.goes_on update.same_changes;
       inserts = rw is refl;
       removals = rw is refl;
-      replies = λ h. rw (is, there_odd update.number update.suits (stood insertion update (same_last old new h))) refl;
-      leads = λ h. rw (there_odd update.number update.suits (stood insertion update (same_last old new h))) (sets_are (pairs_of_cut before) (ap pairs_of_cut (same_last old new h)));
+      replies = λ h. rw (is, there_odd (serial_of before k) (stood insertion update (same_last old new h)) refl) refl;
+      leads = λ h. rw (there_odd (serial_of before k) (stood insertion update (same_last old new h)) refl) (sets_are (pairs_of_cut before) (ap pairs_of_cut (same_last old new h)));
     }
 
     step_absent : r ≡ reply.Absent → RefusedUpdate removal k old.knows new.knows → Step (verb.Remove k) r old new
@@ -245,34 +249,34 @@ module _ (k : ℕ) (old new : Lane) where
       goes = goes_nowhere old.knows new.knows update.goes_on update.same_changes;
       inserts = rw is refl;
       removals = rw is refl;
-      replies = λ h. rw (is, there_even update.number update.suits (stood removal update (same_last old new h))) refl;
+      replies = λ h. rw (is, there_even (serial_of before k) (stood removal update (same_last old new h)) refl) refl;
       leads = λ h.
           let same = same_last old new h in
-          let even = not_odd (serial_of after k) (omega (arith, update.suits, stood removal update same, ap (λ (d : Cut). serial_of d k) same)) in
+          let even = not_odd (serial_of after k) (omega (arith, stood removal update same, ap (λ (d : Cut). serial_of d k) same)) in
           sets_are (without_pair (pairs_of_cut before) k) (pairs-without_key before after k (λ j _. ap (λ (d : Cut). shown_of d j) same) even);
     }
 
-step_look : (r : Reply) (old new : Lane) → LaneLooks r old new → Step verb.Look r old new
+step_look : (r : Reply) (old new : Lane) → Answers verb.Look r old new → Step verb.Look r old new
 step_look r old new looks = record {
-  goes = goes_nowhere old.knows new.knows looks.takes.goes_on looks.takes.same_changes;
-  inserts = rw looks.looked refl;
-  removals = rw looks.looked refl;
-  replies = λ h. looks.looked;
+  goes = goes_nowhere old.knows new.knows looks.1.goes_on looks.1.same_changes;
+  inserts = rw looks.0 refl;
+  removals = rw looks.0 refl;
+  replies = λ h. looks.0;
   leads = λ h.
       let same = same_last old new h in
-      let held = looks.takes.is_last ∙ same in
+      let held = looks.1.is_last ∙ same in
       λ i. record { live = pairs_of_cut (same i); held = pairs_of_cut (held i) };
 }
 
 step_asks : (v : Verb) (about : List (ℕ × ℕ) → Reply) → ((s : Sets) → reply_to s v ≡ about s.held) → ((s : Sets) → sets_after s v ≡ s)
     → ((pairs : List (ℕ × ℕ)) → is_insertion (about pairs) ≡ false) → ((pairs : List (ℕ × ℕ)) → is_removal (about pairs) ≡ false)
-    → (r : Reply) (old new : Lane) → Asks about r old new → Step v r old new
+    → (r : Reply) (old new : Lane) → (r ≡ about (pairs_of_cut old.held)) × (new ≡ old) → Step v r old new
 step_asks v about says keeps no_insertion no_removal r old new asks = record {
-  goes = goes_nowhere old.knows new.knows (begins-same old.knows.history new.knows.history (ap (λ (l : Lane). l.knows.history) asks.stays)) (ap (λ (l : Lane). l.knows.accepted) asks.stays);
-  inserts = sym (ap one_if (ap is_insertion asks.answers ∙ no_insertion (pairs_of_cut old.held)));
-  removals = sym (ap one_if (ap is_removal asks.answers ∙ no_removal (pairs_of_cut old.held)));
-  replies = λ h. asks.answers ∙ sym (says (sets_of_lane old));
-  leads = λ h. ap sets_of_lane asks.stays ∙ sym (keeps (sets_of_lane old));
+  goes = goes_nowhere old.knows new.knows (begins-same old.knows.history new.knows.history (ap (λ (l : Lane). l.knows.history) asks.1)) (ap (λ (l : Lane). l.knows.accepted) asks.1);
+  inserts = sym (ap one_if (ap is_insertion asks.0 ∙ no_insertion (pairs_of_cut old.held)));
+  removals = sym (ap one_if (ap is_removal asks.0 ∙ no_removal (pairs_of_cut old.held)));
+  replies = λ h. asks.0 ∙ sym (says (sets_of_lane old));
+  leads = λ h. ap sets_of_lane asks.1 ∙ sym (keeps (sets_of_lane old));
 }
 
 yes_no : (test : Reply → Bool) → test reply.Yes ≡ false → test reply.No ≡ false → (b : Bool) → test (if b then reply.Yes else reply.No) ≡ false
@@ -283,7 +287,7 @@ yes_no test t f false = f
 step_puts : (k w : ℕ) (r : Reply) (old new : Lane) → AnswersPut k w r old new → Step (verb.Put k w) r old new
 step_puts k w r old new a = by_outcome a.outcome a.puts a.answers
   where
-    by_outcome : (done : Outcome) → PutsIn k w done old.knows new.knows → r ≡ reply_to_put done → Step (verb.Put k w) r old new
+    by_outcome : (done : Outcome) → ComesTo (request.Put w) k done old.knows new.knows → r ≡ reply_to_put done → Step (verb.Put k w) r old new
     by_outcome outcome.Accepted puts is = step_put k old new r a.holds_still w is puts
     by_outcome outcome.Replaced puts is = step_set k old new r a.holds_still w is puts
     by_outcome outcome.Refused puts is = step_lost k old new r a.holds_still w is puts
@@ -301,7 +305,7 @@ step (verb.Rank k) r old new a = step_asks (verb.Rank k) (λ pairs. reply.Number
 step (verb.Select i) r old new a = step_asks (verb.Select i) (λ pairs. reply.Found (select_of (keys_of pairs) i)) (λ s. refl) (λ s. refl) (λ pairs. refl) (λ pairs. refl) r old new a
 step (verb.Before k) r old new a = step_asks (verb.Before k) (λ pairs. reply.Found (before_of (keys_of pairs) k)) (λ s. refl) (λ s. refl) (λ pairs. refl) (λ pairs. refl) r old new a
 step (verb.After k) r old new a = step_asks (verb.After k) (λ pairs. reply.Found (after_of (keys_of pairs) k)) (λ s. refl) (λ s. refl) (λ pairs. refl) (λ pairs. refl) r old new a
-step (verb.Range a b) r old new x = step_asks (verb.Range a b) (λ pairs. reply.Span (span_of (weighted_range_of pairs a b))) (λ s. refl) (λ s. refl) (λ pairs. refl) (λ pairs. refl) r old new x
+step (verb.Range a b) r old new x = step_asks (verb.Range a b) (λ pairs. reply.Span (summary_of sum_parts extent_parts (weighted_range_of pairs a b))) (λ s. refl) (λ s. refl) (λ pairs. refl) (λ pairs. refl) r old new x
 
 -- what the rows of a lane tell: the changes that they made, and, where these are all that happened from then on, their replies and the last set
 pub record Story (history : List Cut) (lines : List (Row × Reply)) (old new : Lane) : Type 0 where

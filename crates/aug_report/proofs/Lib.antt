@@ -3,6 +3,7 @@ pub mod Advances
 pub mod SetChanges
 pub mod Lanes
 pub mod OneLane
+pub mod OneList
 pub mod Tallied
 pub mod OneKey
 pub mod TwoInsertions

@@ -9,7 +9,8 @@ use Rattle.aug_core.specs.Cuts.{Cut, serial_of, pairs_of_cut, opening_cut}
 use Rattle.aug_core.specs.declared.view.Change.{Change}
 use Rattle.aug_trie.specs.History.{IsPrefix, IsHistory, last_cut}
 use Rattle.aug_trie.specs.Knowledge.{inserts_of, removals_of}
-use Rattle.aug_trie.specs.Updates.{PutsIn}
+use Rattle.aug_trie.specs.Updates.{ComesTo}
+use Rattle.aug_trie.specs.declared.updates.request.Request.TheVariants as request
 use Rattle.aug_script.specs.declared.reply.Reply.{Reply}
 use Rattle.aug_script.specs.declared.reply.Reply.TheVariants as reply
 use Rattle.aug_script.specs.declared.report.Report.{Report}
@@ -60,19 +61,19 @@ not_lost (verb.Insert k) r old new a still lost = elim a.outcome [ inl h ↦ ome
 not_lost (verb.Remove k) r old new a still lost = elim a.outcome [ inl h ↦ omega (arith, ap is_lost (sym h.0 ∙ lost)) | inr h ↦ omega (arith, ap is_lost (sym h.0 ∙ lost)) ]
 not_lost (verb.Put k w) r old new a still lost = by_outcome a.outcome a.puts a.answers
   where
-    by_outcome : (done : Outcome) → PutsIn k w done old.knows new.knows → r ≡ reply_to_put done → ⊥
+    by_outcome : (done : Outcome) → ComesTo (request.Put w) k done old.knows new.knows → r ≡ reply_to_put done → ⊥
     by_outcome outcome.Accepted puts is = omega (arith, ap is_lost (sym is ∙ lost))
     by_outcome outcome.Replaced puts is = omega (arith, ap is_lost (sym is ∙ lost))
-    by_outcome outcome.Refused puts is = omega (arith, puts.is_new, puts.shows, still k)
-not_lost verb.Look r old new a still lost = omega (arith, ap is_lost (sym a.looked ∙ lost))
-not_lost (verb.Has k) r old new a still lost = omega (arith, ap is_lost (sym a.answers ∙ lost), never (is_member (keys_of (pairs_of_cut old.held)) k))
-not_lost (verb.Weight k) r old new a still lost = omega (arith, ap is_lost (sym a.answers ∙ lost))
-not_lost verb.Size r old new a still lost = omega (arith, ap is_lost (sym a.answers ∙ lost))
-not_lost (verb.Rank k) r old new a still lost = omega (arith, ap is_lost (sym a.answers ∙ lost))
-not_lost (verb.Select i) r old new a still lost = omega (arith, ap is_lost (sym a.answers ∙ lost))
-not_lost (verb.Before k) r old new a still lost = omega (arith, ap is_lost (sym a.answers ∙ lost))
-not_lost (verb.After k) r old new a still lost = omega (arith, ap is_lost (sym a.answers ∙ lost))
-not_lost (verb.Range x y) r old new a still lost = omega (arith, ap is_lost (sym a.answers ∙ lost))
+    by_outcome outcome.Refused puts is = omega (arith, puts.rises, still k)
+not_lost verb.Look r old new a still lost = omega (arith, ap is_lost (sym a.0 ∙ lost))
+not_lost (verb.Has k) r old new a still lost = omega (arith, ap is_lost (sym a.0 ∙ lost), never (is_member (keys_of (pairs_of_cut old.held)) k))
+not_lost (verb.Weight k) r old new a still lost = omega (arith, ap is_lost (sym a.0 ∙ lost))
+not_lost verb.Size r old new a still lost = omega (arith, ap is_lost (sym a.0 ∙ lost))
+not_lost (verb.Rank k) r old new a still lost = omega (arith, ap is_lost (sym a.0 ∙ lost))
+not_lost (verb.Select i) r old new a still lost = omega (arith, ap is_lost (sym a.0 ∙ lost))
+not_lost (verb.Before k) r old new a still lost = omega (arith, ap is_lost (sym a.0 ∙ lost))
+not_lost (verb.After k) r old new a still lost = omega (arith, ap is_lost (sym a.0 ∙ lost))
+not_lost (verb.Range x y) r old new a still lost = omega (arith, ap is_lost (sym a.0 ∙ lost))
 
 module _ (bits : ℕ) (members : List (ℕ × ℕ)) (history : List Cut) (is_history : IsHistory bits members history)
     (no_more : (k : ℕ) → serial_of (last_cut history) k ≤ serial_of (opening_cut bits members) k) where

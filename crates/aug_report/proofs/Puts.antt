@@ -14,7 +14,8 @@ use Rattle.aug_core.specs.declared.view.Change.{Change}
 use Rattle.aug_trie.specs.History.{IsPrefix, last_cut}
 use Rattle.aug_trie.specs.Knowledge.{StandsIn}
 use Rattle.aug_trie.specs.Tallies.{Tallies, Weighs}
-use Rattle.aug_trie.specs.Updates.{PutsIn}
+use Rattle.aug_trie.specs.Updates.{ComesTo}
+use Rattle.aug_trie.specs.declared.updates.request.Request.TheVariants as request
 use Rattle.aug_script.specs.declared.reply.Reply.{Reply}
 use Rattle.aug_script.specs.declared.reply.Reply.TheVariants as reply
 use Rattle.aug_script.specs.declared.verb.Verb.{Verb}
@@ -58,7 +59,7 @@ was_set : (opening : Cut) (history : List Cut) (k w number lane : ℕ) (end : La
 unfolding AnswersAll
 was_set opening history k w number lane end ran = by_outcome ran.runs.1.outcome ran.runs.1.puts ran.runs.1.answers
   where
-    by_outcome : (done : Outcome) → PutsIn k w done ran.start.knows ran.runs.0.knows → reply.Set ≡ reply_to_put done → WasSet k w end
+    by_outcome : (done : Outcome) → ComesTo (request.Put w) k done ran.start.knows ran.runs.0.knows → reply.Set ≡ reply_to_put done → WasSet k w end
     by_outcome outcome.Accepted puts is = absurd (omega (arith, ap put_reply is))
     by_outcome outcome.Refused puts is = absurd (omega (arith, ap put_reply is))
     by_outcome outcome.Replaced puts is =
@@ -81,7 +82,7 @@ was_put : (opening : Cut) (history : List Cut) (k w number lane : ℕ) (end : La
 unfolding AnswersAll
 was_put opening history k w number lane end ran = by_outcome ran.runs.1.outcome ran.runs.1.puts ran.runs.1.answers
   where
-    by_outcome : (done : Outcome) → PutsIn k w done ran.start.knows ran.runs.0.knows → reply.New ≡ reply_to_put done → WasPut k w end
+    by_outcome : (done : Outcome) → ComesTo (request.Put w) k done ran.start.knows ran.runs.0.knows → reply.New ≡ reply_to_put done → WasPut k w end
     by_outcome outcome.Replaced puts is = absurd (omega (arith, ap put_reply is))
     by_outcome outcome.Refused puts is = absurd (omega (arith, ap put_reply is))
     by_outcome outcome.Accepted puts is =
@@ -122,14 +123,14 @@ saw opening history asked about said end asks ran =
     let last = ran.runs.2.0 in
     let asked' = asks mid last ran.runs.2.1 in
     let same : end ≡ mid = ran.runs.2.2 ∙ asked'.1 in
-    let opens = begins_on (opening ∷ []) ran.start.knows.history mid.knows.history ran.opens.sees_opening looks.takes.goes_on in
+    let opens = begins_on (opening ∷ []) ran.start.knows.history mid.knows.history ran.opens.sees_opening looks.1.goes_on in
     record {
       seen = mid.knows.history;
       some = begins-length (opening ∷ []) mid.knows.history opens;
       opens = opens;
       within = subst (λ (l : Lane). IsPrefix l.knows.history history) same ran.of_history;
-      says = asked'.0 ∙ ap (λ (c : Cut). about (pairs_of_cut c)) looks.takes.is_last;
-      none = ap (λ (l : Lane). l.knows.accepted) same ∙ looks.takes.same_changes ∙ ran.opens.no_change;
+      says = asked'.0 ∙ ap (λ (c : Cut). about (pairs_of_cut c)) looks.1.is_last;
+      none = ap (λ (l : Lane). l.knows.accepted) same ∙ looks.1.same_changes ∙ ran.opens.no_change;
     }
 
 abbrev yes_or_no : Bool → Reply
@@ -174,7 +175,7 @@ module _ (k w bits number size inserts removals : ℕ) (members closing : List (
       let opening = opening_cut bits members in
       let end = get_or allowed.lanes 0 nobody in
       let set = was_set opening allowed.history k w 1 0 end (allowed.runs 0 nobody (omega arith)) in
-      let view = saw opening allowed.history (verb.Has k) (λ pairs. yes_or_no (is_member (keys_of pairs) k)) reply.No (get_or allowed.lanes 1 nobody) (λ old new asks. (asks.answers, asks.stays)) (allowed.runs 1 nobody (omega arith)) in
+      let view = saw opening allowed.history (verb.Has k) (λ pairs. yes_or_no (is_member (keys_of pairs) k)) reply.No (get_or allowed.lanes 1 nobody) (λ old new asks. asks) (allowed.runs 1 nobody (omega arith)) in
       let cut = last_cut view.seen in
       let changes : all_accepted allowed.lanes ≡ change k set.number 0 ∷ change k (set.number + 1) w ∷ [] = two_lanes allowed.lanes allowed.one_each ∙ rw (set.two, view.none) refl in
       let tallies = rw changes at allowed.tallies in
@@ -215,7 +216,7 @@ module _ (k w bits number size inserts removals : ℕ) (members closing : List (
   weights_were_put v absent apart allowed =
       let opening = opening_cut bits members in
       let put = was_put opening allowed.history k w 1 0 (get_or allowed.lanes 0 nobody) (allowed.runs 0 nobody (omega arith)) in
-      let view = saw opening allowed.history (verb.Weight k) (λ pairs. reply.Found (weight_of pairs k)) (reply.Found (Some v)) (get_or allowed.lanes 1 nobody) (λ old new asks. (asks.answers, asks.stays)) (allowed.runs 1 nobody (omega arith)) in
+      let view = saw opening allowed.history (verb.Weight k) (λ pairs. reply.Found (weight_of pairs k)) (reply.Found (Some v)) (get_or allowed.lanes 1 nobody) (λ old new asks. asks) (allowed.runs 1 nobody (omega arith)) in
       let changes : all_accepted allowed.lanes ≡ change k put.number w ∷ [] = two_lanes allowed.lanes allowed.one_each ∙ rw (put.one, view.none) refl in
       let said : Some v ≡ (if is_member (set_of_cut (last_cut view.seen)) k then Some (weight_at (last_cut view.seen) k) else None) = ap found view.says ∙ weight_of-pairs (weight_at (last_cut view.seen)) (set_of_cut (last_cut view.seen)) k in
       elim (cases_Bool (is_member (set_of_cut (last_cut view.seen)) k)) [

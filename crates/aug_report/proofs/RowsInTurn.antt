@@ -205,10 +205,7 @@ module _ (bits : ℕ) (members : List (ℕ × ℕ)) (old : Lane) (is_history : I
     refused : (parity : ℕ) → serial_of (last_cut old.knows.history) k % 2 ≡ parity → RefusedUpdate parity k old.knows old.knows
     refused parity suits = record {
       goes_on = begins_refl old.knows.history;
-      number = serial_of (last_cut old.knows.history) k;
-      suits = suits;
-      not_past = omega arith;
-      shows = omega arith;
+      stood = inl suits;
       same_changes = refl;
     }
 
@@ -246,7 +243,7 @@ module _ (bits : ℕ) (members : List (ℕ × ℕ)) (old : Lane) (is_history : I
 
   look_alone : Answered bits members verb.Look old
   look_alone = answered_still bits members verb.Look old (record { knows = old.knows; held = last_cut old.knows.history }) refl
-      (record { looked = refl; takes = record { goes_on = begins_refl old.knows.history; same_changes = refl; is_last = refl } }) is_history weigh
+      (refl, record { goes_on = begins_refl old.knows.history; same_changes = refl; is_last = refl }) is_history weigh
 
   asks_alone : (v : Verb) → Answers v (reply_to (sets_of_lane old) v) old old → Answered bits members v old
   asks_alone v answers = answered_still bits members v old old refl answers is_history weigh
@@ -256,14 +253,14 @@ module _ (bits : ℕ) (members : List (ℕ × ℕ)) (old : Lane) (is_history : I
   answer_alone (verb.Put k w) fits = put_alone k (ltb-true k (2 ^ bits) fits) w
   answer_alone (verb.Remove k) fits = remove_alone k (ltb-true k (2 ^ bits) fits)
   answer_alone verb.Look fits = look_alone
-  answer_alone (verb.Has k) fits = asks_alone (verb.Has k) (record { answers = refl; stays = refl })
-  answer_alone (verb.Weight k) fits = asks_alone (verb.Weight k) (record { answers = refl; stays = refl })
-  answer_alone verb.Size fits = asks_alone verb.Size (record { answers = refl; stays = refl })
-  answer_alone (verb.Rank k) fits = asks_alone (verb.Rank k) (record { answers = refl; stays = refl })
-  answer_alone (verb.Select i) fits = asks_alone (verb.Select i) (record { answers = refl; stays = refl })
-  answer_alone (verb.Before k) fits = asks_alone (verb.Before k) (record { answers = refl; stays = refl })
-  answer_alone (verb.After k) fits = asks_alone (verb.After k) (record { answers = refl; stays = refl })
-  answer_alone (verb.Range a b) fits = asks_alone (verb.Range a b) (record { answers = refl; stays = refl })
+  answer_alone (verb.Has k) fits = asks_alone (verb.Has k) (refl, refl)
+  answer_alone (verb.Weight k) fits = asks_alone (verb.Weight k) (refl, refl)
+  answer_alone verb.Size fits = asks_alone verb.Size (refl, refl)
+  answer_alone (verb.Rank k) fits = asks_alone (verb.Rank k) (refl, refl)
+  answer_alone (verb.Select i) fits = asks_alone (verb.Select i) (refl, refl)
+  answer_alone (verb.Before k) fits = asks_alone (verb.Before k) (refl, refl)
+  answer_alone (verb.After k) fits = asks_alone (verb.After k) (refl, refl)
+  answer_alone (verb.Range a b) fits = asks_alone (verb.Range a b) (refl, refl)
 
 -- a lane that ran its rows as it does alone
 record RanAlone (bits : ℕ) (members : List (ℕ × ℕ)) (old : Lane) (rows : List Row) : Type 0 where

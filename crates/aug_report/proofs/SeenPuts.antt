@@ -59,8 +59,8 @@ module _ (k w bits : ℕ) (is_key : k < 2 ^ bits) where
     opens = opens_early bits k is_key;
     runs = (
       looks,
-      record { looked = refl; takes = record { goes_on = (key_at bits k is_key 1 w ∷ [], refl); same_changes = refl; is_last = refl } },
-      (looks, record { answers = rw (pairs-key bits k is_key 1 w refl, eq-eqb k k refl) refl; stays = refl }, refl),
+      (refl, record { goes_on = (key_at bits k is_key 1 w ∷ [], refl); same_changes = refl; is_last = refl }),
+      (looks, (rw (pairs-key bits k is_key 1 w refl, eq-eqb k k refl) refl, refl), refl),
     );
     of_history = ([], refl);
   }

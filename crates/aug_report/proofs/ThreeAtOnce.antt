@@ -1,5 +1,5 @@
 -- The root goes from serial 0 of a key to serial 3 at once.
-use Rattle.std.proofs.Common.{◌≡◌, ℕ, zero, suc, ◌%◌, ◌^◌, ◌<◌, ◌≤◌, List, [], ◌∷◌, get_or, refl, sym, inl, inr, arith}
+use Rattle.std.proofs.Common.{◌≡◌, ℕ, zero, suc, ◌%◌, ◌^◌, ◌<◌, ◌≤◌, List, [], ◌∷◌, get_or, refl, ap, sym, inl, inr, arith}
 use Rattle.std.proofs.lemmas.Bool.{eq-eqb}
 use Rattle.std.proofs.lemmas.List.Elements.{All-from_get_or}
 use Rattle.aug_core.specs.Counts.{change}
@@ -80,10 +80,10 @@ module _ (bits k : ℕ) (is_key : k < 2 ^ bits) where
     opens = opens_early bits k is_key;
     runs = (
       early bits k is_key,
-      record { outcome = inr (refl, record { goes_on = ([], refl); number = 0; suits = refl; not_past = omega (arith, empty-serial bits k); shows = omega arith; same_changes = refl }); holds_still = refl },
+      record { outcome = inr (refl, record { goes_on = ([], refl); stood = inl (ap (λ (n : ℕ). n % 2) (empty-serial bits k)); same_changes = refl }); holds_still = refl },
       (
         ends [],
-        record { outcome = inr (refl, record { goes_on = (at 3 k ∷ [], refl); number = 1; suits = refl; not_past = omega (arith, empty-serial bits k); shows = omega (arith, serial-key bits k is_key 3 k); same_changes = refl }); holds_still = refl },
+        record { outcome = inr (refl, record { goes_on = (at 3 k ∷ [], refl); stood = inr (omega (arith, empty-serial bits k, serial-key bits k is_key 3 k)); same_changes = refl }); holds_still = refl },
         refl,
       ),
     );
@@ -95,7 +95,7 @@ module _ (bits k : ℕ) (is_key : k < 2 ^ bits) where
   looks = record {
     start = late;
     opens = record { sees_opening = (at 3 k ∷ [], refl); no_change = refl; holds_last = refl };
-    runs = (late, record { answers = rw (pairs-key bits k is_key 3 k refl, eq-eqb k k refl) refl; stays = refl }, refl);
+    runs = (late, (rw (pairs-key bits k is_key 3 k refl, eq-eqb k k refl) refl, refl), refl);
     of_history = ([], refl);
   }
 

@@ -17,7 +17,7 @@ use Rattle.aug_report.specs.AllowedReport.{Lane, AnswersAll, RunsLane, AllowedRe
 use Rattle.aug_report.specs.Theorems.{row_at, report_with, two_insertions}
 use Rattle.aug_trie.proofs.CutLemmas.{serial-opening, length-opening, serial_past, serial_rises}
 use Rattle.aug_trie.proofs.TallyLemmas.{counted-cons, exactly, times_first, none_high, once_between}
-use Rattle.aug_report.proofs.Histories.{opens-some, begins-length, last-at_most_final}
+use Rattle.aug_report.proofs.Histories.{opens-some, begins-length, last-rises, last-at_most_final}
 use Rattle.aug_report.proofs.Lanes.{story}
 use Rattle.aug_report.proofs.OneKey.{empty-serial, shown-key, serial-key, pairs-key, two_cuts, two_history, two_weigh, first_change, early, opens_early}
 use Rattle.aug_report.proofs.Tallied.{one_tallies}
@@ -74,10 +74,7 @@ module _ (bits k : ℕ) (is_key : k < 2 ^ bits) where
           refl,
           record {
             goes_on = (set (opening_cut bits []) k (1, k) ∷ [], refl);
-            number = 1;
-            suits = refl;
-            not_past = omega (arith, empty-serial bits k);
-            shows = omega (arith, serial-key bits k is_key 1 k);
+            stood = inr (omega (arith, empty-serial bits k, serial-key bits k is_key 1 k));
             same_changes = refl;
           },
         );
@@ -149,7 +146,6 @@ record WasOld (k : ℕ) (end : Lane) : Type 0 where
   number : ℕ
   is_odd : number % 2 ≡ 1
   seen : number ≤ serial_of (last_cut end.knows.history) k
-  none : end.knows.accepted ≡ []
 
 was_new : (opening : Cut) (history : List Cut) (k number lane : ℕ) (end : Lane) → RunsLane opening history ((row_at number lane (verb.Insert k), reply.New) ∷ []) end → WasNew k end
 unfolding AnswersAll
@@ -163,17 +159,24 @@ was_new opening history k number lane end ran =
       | inr h ↦ absurd (new≢old h.0)
     ]
 
-was_old : (opening : Cut) (history : List Cut) (k number lane : ℕ) (end : Lane) → RunsLane opening history ((row_at number lane (verb.Insert k), reply.Old) ∷ []) end → WasOld k end
+was_old : (opening : Cut) (history : List Cut) (k number lane : ℕ) (end : Lane) (ran : RunsLane opening history ((row_at number lane (verb.Insert k), reply.Old) ∷ []) end)
+    → serial_of (last_cut ran.start.knows.history) k ≤ serial_of (last_cut end.knows.history) k → WasOld k end
 unfolding AnswersAll
-was_old opening history k number lane end ran =
+was_old opening history k number lane end ran up =
     elim ran.runs.1.outcome [
       | inl h ↦ absurd (new≢old (sym h.0))
-      | inr h ↦ record {
-        number = h.1.number;
-        is_odd = h.1.suits;
-        seen = omega (arith, h.1.shows, ap (λ (l : Lane). serial_of (last_cut l.knows.history) k) ran.runs.2);
-        none = ap (λ (l : Lane). l.knows.accepted) ran.runs.2 ∙ h.1.same_changes ∙ ran.opens.no_change;
-      }
+      | inr h ↦ (elim h.1.stood [
+        | inl suits ↦ record { number = serial_of (last_cut ran.start.knows.history) k; is_odd = suits; seen = up }
+        | inr rises ↦ record { number = 1; is_odd = refl; seen = omega (arith, rises, ap (λ (l : Lane). serial_of (last_cut l.knows.history) k) ran.runs.2) }
+      ])
+    ]
+
+old_none : (opening : Cut) (history : List Cut) (k number lane : ℕ) (end : Lane) → RunsLane opening history ((row_at number lane (verb.Insert k), reply.Old) ∷ []) end → end.knows.accepted ≡ []
+unfolding AnswersAll
+old_none opening history k number lane end ran =
+    elim ran.runs.1.outcome [
+      | inl h ↦ absurd (new≢old (sym h.0))
+      | inr h ↦ ap (λ (l : Lane). l.knows.accepted) ran.runs.2 ∙ h.1.same_changes ∙ ran.opens.no_change
     ]
 
 abbrev pub nobody : Lane
@@ -232,12 +235,15 @@ pub both_old : (bits k number size inserts removals : ℕ) (members closing : Li
 both_old bits k number size inserts removals members closing absent allowed =
     let end = get_or allowed.lanes 0 nobody in
     let ran = allowed.runs 0 nobody (omega arith) in
-    let a = was_old (opening_cut bits members) allowed.history k 1 0 end ran in
-    let b = was_old (opening_cut bits members) allowed.history k 2 1 (get_or allowed.lanes 1 nobody) (allowed.runs 1 nobody (omega arith)) in
-    let changes : all_accepted allowed.lanes ≡ [] = two_lanes allowed.lanes allowed.one_each ∙ rw (a.none, b.none) refl in
+    let a_none = old_none (opening_cut bits members) allowed.history k 1 0 end ran in
+    let b_none = old_none (opening_cut bits members) allowed.history k 2 1 (get_or allowed.lanes 1 nobody) (allowed.runs 1 nobody (omega arith)) in
+    let changes : all_accepted allowed.lanes ≡ [] = two_lanes allowed.lanes allowed.one_each ∙ rw (a_none, b_none) refl in
     let some = opens-some bits members allowed.history allowed.is_history ran.start.knows.history ran.opens.sees_opening in
     let told = story bits members allowed.history allowed.is_history ((row_at 1 0 (verb.Insert k), reply.Old) ∷ []) ran.start end ran.runs some ran.of_history in
     let longer = begins-length ran.start.knows.history end.knows.history told.goes.goes_on in
+    let rises = serial_rises (last_cut ran.start.knows.history) (last_cut end.knows.history) k
+    (last-rises bits members allowed.history allowed.is_history ran.start.knows.history end.knows.history some told.goes.goes_on ran.of_history) in
+    let a = was_old (opening_cut bits members) allowed.history k 1 0 end ran rises in
     let up = last-at_most_final bits members allowed.history allowed.is_history end.knows.history (omega (arith, some, longer)) ran.of_history in
     let tallies = rw changes at allowed.tallies in
     omega (arith, once_between (opening_cut bits members) (last_cut allowed.history) [] tallies k a.number (omega (arith, serial-absent bits members k absent, a.is_odd)) (omega (arith, a.seen, serial_rises (last_cut end.knows.history) (last_cut allowed.history) k up)))

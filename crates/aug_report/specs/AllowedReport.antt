@@ -8,7 +8,8 @@ use Rattle.aug_core.specs.declared.view.Change.{Change}
 use Rattle.aug_trie.specs.Knowledge.{removal, insertion, Knowledge, inserts_of, removals_of}
 use Rattle.aug_script.specs.Replies.{query_reply}
 use Rattle.aug_trie.specs.Tallies.{Tallies, Weighs}
-use Rattle.aug_trie.specs.Updates.{AcceptedUpdate, RefusedUpdate, PutsIn, TakesSnapshot}
+use Rattle.aug_trie.specs.Updates.{AcceptedUpdate, RefusedUpdate, ComesTo, TakesSnapshot}
+use Rattle.aug_trie.specs.declared.updates.request.Request.TheVariants as request
 use Rattle.aug_script.specs.declared.reply.Reply.{Reply}
 use Rattle.aug_script.specs.declared.reply.Reply.TheVariants as reply
 use Rattle.aug_script.specs.declared.report.Report.{Report}
@@ -36,27 +37,18 @@ reply_to_put outcome.Refused = reply.Lost
 -- a put is answered with what it came to
 pub record AnswersPut (key weight : ℕ) (answer : Reply) (old new : Lane) : Type 0 where
   pub outcome : Outcome
-  pub puts : PutsIn key weight outcome old.knows new.knows
+  pub puts : ComesTo (request.Put weight) key outcome old.knows new.knows
   pub answers : answer ≡ reply_to_put outcome
   pub holds_still : new.held ≡ old.held
 
--- the lane takes a new snapshot, which it holds from then on
-pub record LaneLooks (answer : Reply) (old new : Lane) : Type 0 where
-  pub looked : answer ≡ reply.Looked
-  pub takes : TakesSnapshot old.knows new.knows new.held
-
--- a query is answered from the set of the snapshot that the lane holds, and changes nothing
-pub record Asks (about : List (ℕ × ℕ) → Reply) (answer : Reply) (old new : Lane) : Type 0 where
-  pub answers : answer ≡ about (pairs_of_cut old.held)
-  pub stays : new ≡ old
-
--- what a lane goes through as it answers a verb: an inserted key weighs itself
+-- what a lane goes through as it answers a verb: an inserted key weighs itself, a look takes a new snapshot, which the lane holds from then on, and a
+-- query is answered from the set of the snapshot that the lane holds, and changes nothing
 abbrev pub Answers : Verb → Reply → Lane → Lane → Type 0
-Answers (verb.Insert k) = AnswersUpdate insertion k k reply.New reply.Old
-Answers (verb.Put k w) = AnswersPut k w
-Answers (verb.Remove k) = AnswersUpdate removal k 0 reply.Gone reply.Absent
-Answers verb.Look = LaneLooks
-Answers query = Asks (λ pairs. query_reply pairs query)
+Answers (verb.Insert k) answer old new = AnswersUpdate insertion k k reply.New reply.Old answer old new
+Answers (verb.Put k w) answer old new = AnswersPut k w answer old new
+Answers (verb.Remove k) answer old new = AnswersUpdate removal k 0 reply.Gone reply.Absent answer old new
+Answers verb.Look answer old new = (answer ≡ reply.Looked) × TakesSnapshot old.knows new.knows new.held
+Answers query answer old new = (answer ≡ query_reply (pairs_of_cut old.held) query) × (new ≡ old)
 
 -- what a lane goes through as it answers its rows, one after another
 unfoldable pub AnswersAll : List (Row × Reply) → Lane → Lane → Type 0
@@ -109,8 +101,7 @@ pub record IsReportOf (number : ℕ) (rows : List Row) (report : Report) : Type 
 -- rounds, the first with this number, may have these reports: each opens with the set that the one before closed with, with its own bits
 unfoldable pub AllowedReports : ℕ → ℕ → List (ℕ × ℕ) → List ScriptRound → List Report → Type 0
 AllowedReports workers number members [] [] = ⊤
-AllowedReports workers number members [] (report ∷ reports) = ⊥
-AllowedReports workers number members (round ∷ rounds) [] = ⊥
 AllowedReports workers number members (round ∷ rounds) (report ∷ reports) =
     (closing : List (ℕ × ℕ)) × IsReportOf number round.rows report × AllowedReport round.bits workers members report closing
     × AllowedReports workers (number + 1) closing rounds reports
+AllowedReports workers number members rounds reports = ⊥

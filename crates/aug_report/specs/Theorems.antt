@@ -1,8 +1,9 @@
 -- Theorems over the definitions of a round's report.
-use Rattle.std.specs.Prelude.{◌≡◌, ◌≢◌, ℕ, ◌+◌, ◌^◌, ◌<◌, true, false, List, [], ◌∷◌, length, map, All, Some}
+use Rattle.std.specs.Prelude.{◌≡◌, ◌≢◌, ℕ, ◌+◌, ◌^◌, ◌<◌, ◌≤◌, true, false, List, [], ◌∷◌, length, map, take, All, Some, Ok}
 use Rattle.aug_model.specs.Keys.{IsKeySet, is_member, keys_of}
+use Rattle.aug_script.specs.Limits.{Bounds, IsBounds}
 use Rattle.aug_script.specs.Replies.{count_of, is_insertion, is_removal, opening_sets, report_of, sets_of}
-use Rattle.aug_script.specs.Script.{is_in_bounds}
+use Rattle.aug_script.specs.Script.{NeverNarrows, is_in_bounds, rounds_of}
 use Rattle.aug_script.specs.declared.reply.Reply.{Reply}
 use Rattle.aug_script.specs.declared.reply.Reply.TheVariants as reply
 use Rattle.aug_script.specs.declared.report.Report.{Report}
@@ -15,7 +16,7 @@ use Rattle.aug_trie.specs.History.{IsHistory}
 use Rattle.aug_trie.specs.Knowledge.{IsKnowledge, Knowledge, StandsIn}
 use Rattle.aug_trie.specs.Updates.{TakesSnapshot}
 use Rattle.aug_report.specs.AllowedReport.{AllowedReport, AllowedReports}
-use Rattle.aug_report.specs.InTurn.{IsInTurn}
+use Rattle.aug_report.specs.InTurn.{IsInTurn, OfOneLane, reports_of}
 
 abbrev pub row_at : ℕ → ℕ → Verb → Row
 row_at number lane asked = record { row = number; lane = lane; verb = asked }
@@ -49,6 +50,19 @@ abbrev pub HasOneReport : Type 0
 HasOneReport = (bits workers : ℕ) (members : List (ℕ × ℕ)) (report : Report) (closing : List (ℕ × ℕ)) → IsKeySet bits (keys_of members)
     → AllowedReport bits workers members report closing → IsInTurn workers report.number members (map (λ line. line.0) report.rows) report closing
 
+-- where each round's rows are of one lane, their reports are those of the rows run in turn, round after round. The set that the first round begins with
+-- has keys of no more bits than any round
+abbrev pub HasOneList : Type 0
+HasOneList = (bits workers number : ℕ) (members : List (ℕ × ℕ)) (rounds : List ScriptRound) (reports : List Report) → IsKeySet bits (keys_of members)
+    → All (λ round. bits ≤ round.bits) rounds → NeverNarrows rounds → All (OfOneLane workers) rounds
+    → AllowedReports workers number members rounds reports → reports ≡ reports_of number members rounds
+
+-- so it is of the rounds that the bytes of a script read as, or of the first of them
+abbrev pub ScriptHasOneList : Type 0
+ScriptHasOneList = (limits : Bounds) (bytes : List ℕ) (rounds : List ScriptRound) (count : ℕ) (reports : List Report) → IsBounds limits
+    → rounds_of limits bytes ≡ Ok rounds → All (OfOneLane limits.workers) (take count rounds)
+    → AllowedReports limits.workers 1 [] (take count rounds) reports → reports ≡ reports_of 1 [] (take count rounds)
+
 -- three lanes put a key in, take it out and put it in again; a fourth is refused twice, and a fifth begins once all is over
 abbrev pub three_changes : ℕ → List (Row × Reply)
 three_changes k =
@@ -75,14 +89,14 @@ InTurnIsAllowed = (bits number : ℕ) (members : List (ℕ × ℕ)) (rows : List
     → All (λ row. is_in_bounds bits row.verb ≡ true) rows → All (λ row. row.lane ≡ 0) rows
     → AllowedReport bits 1 members (report_of number members rows) (sets_of (opening_sets members) rows).live
 
--- a lane that is alone
-abbrev OfOneLane : List (Row × Reply) → Type 0
-OfOneLane lines = (bits workers number size inserts removals : ℕ) (members closing : List (ℕ × ℕ)) → 0 < workers → IsKeySet bits (keys_of members)
+-- a lane that is alone never has these lines
+abbrev NeverAlone : List (Row × Reply) → Type 0
+NeverAlone lines = (bits workers number size inserts removals : ℕ) (members closing : List (ℕ × ℕ)) → 0 < workers → IsKeySet bits (keys_of members)
     → AllowedReport bits workers members (report_with number lines size inserts removals) closing → ⊥
 
 -- a lane inserts a key, looks, and does not see it: no report has that
 abbrev pub SeesItsInsertion : Type 0
-SeesItsInsertion = (k : ℕ) → OfOneLane ((row_at 1 0 (verb.Insert k), reply.New) ∷ (row_at 2 0 verb.Look, reply.Looked) ∷ (row_at 3 0 (verb.Has k), reply.No) ∷ [])
+SeesItsInsertion = (k : ℕ) → NeverAlone ((row_at 1 0 (verb.Insert k), reply.New) ∷ (row_at 2 0 verb.Look, reply.Looked) ∷ (row_at 3 0 (verb.Has k), reply.No) ∷ [])
 
 -- a snapshot shows all that was accepted before, or a later change of the key
 abbrev pub SnapshotsShowAccepted : Type 0

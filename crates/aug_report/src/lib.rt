@@ -4,5 +4,5 @@
 mod theorems;
 
 pub use theorems::{
-    causes, one_lane, own_updates, rounds, three_at_once, totals, two_insertions, weights,
+    causes, one_lane, one_list, own_updates, rounds, three_at_once, totals, two_insertions, weights,
 };

@@ -1,5 +1,5 @@
 //! Theorems over the definitions, each a clause of a function that does nothing.
-ghost use Rattle.aug_report.specs.Theorems.{HasOneReport, InTurnIsAllowed, LostHasCause, NewChanges, NextRoundGoesOn, NotBothNew, NotBothOld, OldHasCause, OneOfTwoIsNew, SeesItsInsertion, SetKeepsTheKey, SizesAddUp, SnapshotsShowAccepted, ThreeAtOnce, TotalsCountLines, WeightIsSeen, WeightsWerePut};
+ghost use Rattle.aug_report.specs.Theorems.{HasOneList, HasOneReport, InTurnIsAllowed, LostHasCause, NewChanges, NextRoundGoesOn, NotBothNew, NotBothOld, OldHasCause, OneOfTwoIsNew, ScriptHasOneList, SeesItsInsertion, SetKeepsTheKey, SizesAddUp, SnapshotsShowAccepted, ThreeAtOnce, TotalsCountLines, WeightIsSeen, WeightsWerePut};
 
 /// Of two lanes that insert one key into a set without it, one has `new` and the other `old`, whichever it is.
 pub fn two_insertions()
@@ -12,6 +12,12 @@ pub fn two_insertions()
 pub fn one_lane()
     ensures one_report { HasOneReport }
     ensures allowed { InTurnIsAllowed }
+{}
+
+/// Rounds of one lane each have one list of reports, that of their rows run in turn. So a script of one lane prints one text.
+pub fn one_list()
+    ensures reports { HasOneList }
+    ensures of_a_script { ScriptHasOneList }
 {}
 
 /// Three changes of a key may show at once: its serial goes from 0 to 3, and no snapshot has 1 or 2.

@@ -22,9 +22,9 @@ outside_none first last n within (inr high) = omega (arith, within.1)
 -- no refusal but that for want of memory, where the trie has no more bits than the round
 pub never_refused : (old bits workers updates members : ℕ) (cause : BeginError) → old ≤ bits → IsLayout (shape_of bits workers updates (2 ^ bits)) → members ≤ 2 ^ bits
     → (cause ≡ begin.BadBits → IsOutside 1 16 bits) → (cause ≡ begin.Narrower → bits < old)
-    → (cause ≡ begin.BadWorkers → IsRefused layout.BadWorkers (shape_of bits workers updates members))
-    → (cause ≡ begin.BadUpdates → IsRefused layout.BadUpdates (shape_of bits workers updates members))
-    → (cause ≡ begin.TooLarge → IsRefused layout.TooLarge (shape_of bits workers updates members))
+    → (cause ≡ begin.BadWorkers → IsRefused layout.BadWorkers bits workers updates members)
+    → (cause ≡ begin.BadUpdates → IsRefused layout.BadUpdates bits workers updates members)
+    → (cause ≡ begin.TooLarge → IsRefused layout.TooLarge bits workers updates members)
     → (cause ≡ begin.OutOfMemory → ⊥) → ⊥
 never_refused old bits workers updates members begin.BadWorkers wider laid few bad_bits narrower bad_workers bad_updates too_large memory = outside_none 1 64 workers laid.workers (bad_workers refl).1
 never_refused old bits workers updates members begin.BadUpdates wider laid few bad_bits narrower bad_workers bad_updates too_large memory = outside_none 1 65536 updates laid.updates (bad_updates refl).2

@@ -14,7 +14,7 @@ use Rattle.clap.specs.Facts.{args_of, least_values, unwrap_or_range}
 use Rattle.clap.specs.Simple.{IsSimple, IsSimpleArg, is_ready, is_ready_leaf}
 use Rattle.clap.specs.Faults.{has_free_rules}
 use Rattle.std.specs.List.{list_all}
-use Rattle.clap.specs.Words.{App, IsAmong, Kinds, Rule, Text, app_of, is_simple, is_simple_and_free, items_of, found_of, one_text, rows_of, rule_of, without_minus, ReadsOne}
+use Rattle.clap.specs.Words.{App, IsAmong, ReadsOne, Row, Rule, Text, app_of, fault_of, found_of, is_simple, is_simple_and_free, items_of, matches_of, new_rule, one_text, rows_of, rule_of, without_minus}
 use Rattle.clap.specs.declared.error.kind.ErrorKind.{ErrorKind}
 use Rattle.clap.specs.declared.error.kind.ErrorKind.TheVariants as kind
 use Rattle.std.specs.declared.num.ParseIntError.{ParseIntError}
@@ -27,8 +27,9 @@ use Rattle.clap.proofs.OnLiterals.{clap_on_literals}
 use Rattle.clap.proofs.SimpleLemmas.{ready_simple, simple_groups}
 use Rattle.clap.proofs.WalkLemmas.{one_text-rows}
 use Rattle.aug_run.proofs.OptionReads.{IsOwn, TakesOne, option_reads}
-use Rattle.aug_run.specs.CommandLine.{IsStopFor, bits_rule, file_rule, number_given, number_rule, program, updates_rule, workers_rule}
+use Rattle.aug_run.specs.CommandLine.{AsksTooMuch, IsStopFor, number_given, number_rule, program}
 use Rattle.aug_run.specs.inside.FoundNumbers.{FindsNumber, FindsNumbers}
+use Rattle.aug_run.specs.inside.Stops.{StopsReading, TellsOf}
 
 pub program_is_simple : is_simple program ≡ true
 unfolding clap_on_literals
@@ -57,7 +58,11 @@ command_plain c is =
 
 -- the rules of the arguments, place by place
 abbrev rules : List Rule
-rules = bits_rule ∷ workers_rule ∷ updates_rule ∷ file_rule ∷ []
+rules = program.top.rules
+
+-- the rule of the word without `--`
+abbrev file_rule : Rule
+file_rule = new_rule (codes "FILE")
 
 command_rules : (c : Command) → app_of c ≡ program → map rule_of (args_of c) ≡ rules
 command_rules c is = ap (λ (a : App). a.top.rules) is
@@ -200,17 +205,20 @@ number_is name found most r finds reads fits value is =
     let same : Some read.0 ≡ Some value = sym read.1 ∙ is in
     subst (IsNumberFound name found most) (ap (λ (o : Option ℕ). unwrap_or o 0) same) read.2
 
--- what an error of one of these kinds, or of memory, comes to
-pub stop_among : (kinds : Kinds) (k : ErrorKind) (s : Stop) → (k ≡ kind.OutOfMemory) ⊎ IsAmong k kinds → IsStopFor (k ∷ []) s
-    → (k ≡ kind.OutOfMemory → s ≡ stop.OutOfMemory) → IsStopFor kinds s
-stop_among kinds k (stop.Help text) (inl memory) told out = let bad : stop.Help text ≡ stop.OutOfMemory = out memory in cc
-stop_among kinds k (stop.Help text) (inr among) (inl help) out = subst (λ (x : ErrorKind). IsAmong x kinds) (sym help) among
-stop_among kinds k (stop.Help text) (inr among) (inr none) out = absurd none
-stop_among kinds k (stop.Usage text) (inl memory) told out = let bad : stop.Usage text ≡ stop.OutOfMemory = out memory in cc
-stop_among kinds k (stop.Usage text) (inr among) told out = (told.0, subst (λ (x : ErrorKind). IsAmong x kinds) (sym (only told.1)) among, told.2)
-  where
-    only : (told.0 ≡ k) ⊎ ⊥ → told.0 ≡ k
-    only (inl e) = e
-    only (inr none) = absurd none
-stop_among kinds k stop.TooLarge of told out = cc
-stop_among kinds k stop.OutOfMemory of told out = tt
+-- what an answer to an error of the parser is to the words
+pub tells_of_words : (words : List Text) (k : ErrorKind) (s : Stop) → (k ≡ kind.OutOfMemory) ⊎ IsAmong k (fault_of program words) → TellsOf k s
+    → (k ≡ kind.OutOfMemory → s ≡ stop.OutOfMemory) → IsStopFor words s
+tells_of_words words k (stop.Help text) (inl memory) told out = let bad : stop.Help text ≡ stop.OutOfMemory = out memory in cc
+tells_of_words words k (stop.Help text) (inr among) told out = subst (λ (x : ErrorKind). IsAmong x (fault_of program words)) told among
+tells_of_words words k (stop.Usage text) (inl memory) told out = let bad : stop.Usage text ≡ stop.OutOfMemory = out memory in cc
+tells_of_words words k (stop.Usage text) (inr among) told out = (k, among, told)
+tells_of_words words k stop.TooLarge of told out = absurd told
+tells_of_words words k stop.OutOfMemory of told out = tt
+
+-- and what an answer to what the parser found is
+pub stops_words : (words : List Text) (rows : List Row) (s : Stop) → fault_of program words ≡ [] → rows ≡ matches_of program words → StopsReading rows s
+    → IsStopFor words s
+stops_words words rows (stop.Help text) right found none = absurd none
+stops_words words rows (stop.Usage text) right found none = absurd none
+stops_words words rows stop.TooLarge right found asks = (right, subst AsksTooMuch found asks)
+stops_words words rows stop.OutOfMemory right found _ = tt

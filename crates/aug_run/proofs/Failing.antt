@@ -1,12 +1,14 @@
 -- Why a run failed, from what its parts say.
-use Rattle.std.proofs.Common.{◌≡◌, ℕ, ◌≤◌, List, length, take, Option, Some, None, Result, Ok, Err, refl, subst, inl, inr}
+use Rattle.std.proofs.Common.{◌≡◌, ℕ, ◌≤◌, List, [], ◌∷◌, length, Option, Some, None, Result, Ok, Err, refl, subst, inl, inr}
 use Rattle.std.specs.Prelude.{◌⊎◌, IfErr, IfSome, OnErr}
-use Rattle.aug_script.specs.Devices.{SinkState}
+use Rattle.aug_script.specs.Devices.{SinkState, WritesBeginning}
 use Rattle.aug_script.specs.Limits.{Bounds}
+use Rattle.aug_script.specs.ReportText.{report_text}
 use Rattle.aug_script.specs.Script.{rounds_of}
+use Rattle.aug_script.specs.declared.report.Report.{Report}
 use Rattle.aug_script.specs.declared.script_round.ScriptRound.{ScriptRound}
 use Rattle.aug_run.specs.Program.{FailsBy}
-use Rattle.aug_run.specs.Runs.{Prints, PrintsInPart, script_limit}
+use Rattle.aug_run.specs.Runs.{Prints, script_limit}
 use Rattle.aug_run.specs.declared.scripts.run_error.RunError.{RunError}
 use Rattle.aug_run.specs.declared.scripts.run_error.RunError.TheVariants as run
 
@@ -30,14 +32,15 @@ module _ (limits : Bounds) (old new : SinkState) (bytes : List ℕ) where
   pub rounds_failed : {T : Type 0} (rounds : List ScriptRound) (result : Result T RunError) → length bytes ≤ script_limit
       → rounds_of limits bytes ≡ Ok rounds
       → OnErr result ((result ≡ Err run.Output) ⊎ (result ≡ Err run.OutOfMemory))
-      → (result ≡ Err run.OutOfMemory → (count : ℕ) × Prints limits (take count rounds) old new)
-      → (result ≡ Err run.Output → (count : ℕ) × PrintsInPart limits (take count rounds) old new)
+      → (result ≡ Err run.OutOfMemory → (reports : List Report) × Prints limits rounds reports [] old new)
+      → (result ≡ Err run.Output → (reports : List Report) × (broken : Report) × (between : SinkState)
+      × Prints limits rounds reports (broken ∷ []) old between × WritesBeginning between new (report_text broken))
       → IfErr result (FailsBy limits old new (Some bytes))
   rounds_failed rounds (Ok x) fits reads named memory part = tt
   rounds_failed rounds (Err run.OutOfMemory) fits reads named memory part =
-      let first = memory refl in inr (rounds, first.0, record { fits = fits; reads = reads }, first.1)
+      let first = memory refl in inr (rounds, (fits, reads), first.0, first.1)
   rounds_failed rounds (Err run.Output) fits reads named memory part =
-      let broken = part refl in (rounds, broken.0, record { fits = fits; reads = reads }, broken.1)
+      let broken = part refl in (rounds, (fits, reads), broken.0, broken.1, broken.2, broken.3, broken.4)
   rounds_failed rounds (Err (run.Script fault)) fits reads named memory part = elim named [ inl e ↦ cc | inr e ↦ cc ]
   rounds_failed rounds (Err run.Input) fits reads named memory part = elim named [ inl e ↦ cc | inr e ↦ cc ]
   rounds_failed rounds (Err run.TooLong) fits reads named memory part = elim named [ inl e ↦ cc | inr e ↦ cc ]

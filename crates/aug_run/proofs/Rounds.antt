@@ -37,8 +37,8 @@ opens_of opening start s =
     record {
       sees_opening = begins_on (opening ∷ []) h.crew_old.history start.knows.history h.knew_opening
           (begins_on h.crew_old.history h.crew_new.history start.knows.history h.out.goes_on
-          (begins_on h.crew_new.history s.pass.history start.knows.history (begins-same h.crew_new.history s.pass.history h.out.same_history) s.takes.goes_on));
-      no_change = s.takes.same_changes ∙ h.out.no_change;
+          (begins_on h.crew_new.history s.pass.history start.knows.history (begins-same h.crew_new.history s.pass.history (ap (λ (k : Knowledge). k.history) h.out.pass_knows)) s.takes.goes_on));
+      no_change = s.takes.same_changes ∙ ap (λ (k : Knowledge). k.accepted) h.out.pass_knows;
       holds_last = s.takes.is_last;
     }
 

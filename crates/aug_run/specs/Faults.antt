@@ -1,7 +1,6 @@
 -- What a fault of the program is called, and the status that the program then ends with.
 use Rattle.std.specs.Prelude.{ℕ, List, ◌++◌, codes, string_bytes}
 use Rattle.aug_script.specs.FaultText.{script_text}
-use Rattle.aug_script.specs.declared.script_error.ScriptError.{ScriptError}
 use Rattle.aug_script.specs.declared.script_error.ScriptError.TheVariants as script
 use Rattle.aug_run.specs.declared.scripts.run_error.RunError.{RunError}
 use Rattle.aug_run.specs.declared.scripts.run_error.RunError.TheVariants as run
@@ -12,46 +11,19 @@ use Rattle.aug_run.specs.declared.command_line.stop.Stop.TheVariants as stop
 abbrev pub fault_line : List ℕ → List ℕ
 fault_line text = codes "augtrie: " ++ text ++ codes "\n"
 
--- 1 for a script's fault, but 4 for memory
-abbrev pub script_status : ScriptError → ℕ
-script_status script.OutOfMemory = 4
-script_status fault = 1
+-- the status that a run's fault ends with, 1 for the script, 3 for what could not be read or written, 4 for memory, and what is wrong
+abbrev pub run_ending : RunError → ℕ × List ℕ
+run_ending (run.Script script.OutOfMemory) = (4, codes "memory")
+run_ending (run.Script fault) = (1, script_text fault)
+run_ending run.Input = (3, codes "input")
+run_ending run.Output = (3, codes "output")
+run_ending run.OutOfMemory = (4, codes "memory")
+run_ending run.TooLong = (1, codes "script too long")
 
--- what went wrong in a run
-abbrev pub run_error_text : RunError → List ℕ
-run_error_text (run.Script error) = script_text error
-run_error_text run.Input = codes "input"
-run_error_text run.Output = codes "output"
-run_error_text run.OutOfMemory = codes "memory"
-run_error_text run.TooLong = codes "script too long"
-
--- its line
-abbrev pub run_error_line : RunError → List ℕ
-run_error_line error = fault_line (run_error_text error)
-
--- 1 for the script, 3 for what could not be read or written, 4 for memory
-abbrev pub run_error_status : RunError → ℕ
-run_error_status (run.Script error) = script_status error
-run_error_status run.Input = 3
-run_error_status run.Output = 3
-run_error_status run.OutOfMemory = 4
-run_error_status run.TooLong = 1
-
--- why the command line stops the program: the parser's own text, or a fault
-abbrev pub stop_text : Stop → List ℕ
-stop_text (stop.Help text) = string_bytes text
-stop_text (stop.Usage text) = string_bytes text
-stop_text stop.TooLarge = codes "TooLarge"
-stop_text stop.OutOfMemory = codes "memory"
-
--- what is written then: the parser's text as it is, or the fault's line
-abbrev pub stop_line : Stop → List ℕ
-stop_line (stop.Help text) = string_bytes text
-stop_line (stop.Usage text) = string_bytes text
-stop_line other = fault_line (stop_text other)
-
--- 0 for help that was asked for, 4 for memory, 2 for words that are wrong
-abbrev pub stop_status : Stop → ℕ
-stop_status (stop.Help text) = 0
-stop_status stop.OutOfMemory = 4
-stop_status other = 2
+-- the status where the command line ends the program, 0 for help that was asked for, 2 for words that are wrong, 4 for memory, and what is written
+-- then: the parser's text as it is, or what `shown` makes of the fault's name
+abbrev pub stop_ending : (List ℕ → List ℕ) → Stop → ℕ × List ℕ
+stop_ending shown (stop.Help text) = (0, string_bytes text)
+stop_ending shown (stop.Usage text) = (2, string_bytes text)
+stop_ending shown stop.TooLarge = (2, shown (codes "TooLarge"))
+stop_ending shown stop.OutOfMemory = (4, shown (codes "memory"))

@@ -2,5 +2,6 @@
 pub mod FoundNumbers
 pub mod Returns
 pub mod Rounds
+pub mod Stops
 pub mod Threads
 pub mod Workers

@@ -1,7 +1,8 @@
 //! The program over devices: which stream each text goes to, and the status that the program ends with.
-ghost use Rattle.std.specs.Prelude.{◌≡◌, ◌≢◌, ◌-◌, ◌^◌, ◌<◌, ◌↔◌, Err, IfErr, IfOk, IfSome, MatchBool, OnOk, option_map, string_bytes};
-ghost use Rattle.aug_run.specs.Faults.{run_error_line, run_error_status, stop_line, stop_status};
-ghost use Rattle.aug_run.specs.Program.{FailsBy, ShowsText, is_help, script_bytes};
+ghost use Rattle.std.specs.Prelude.{◌≡◌, ◌≢◌, ◌==◌, ◌-◌, ◌^◌, ◌<◌, ◌↔◌, Err, IfErr, IfOk, IfSome, MatchBool, OnOk, string_bytes};
+ghost use Rattle.std.specs.Option.{option_map_or};
+ghost use Rattle.aug_run.specs.Faults.{fault_line, run_ending, stop_ending};
+ghost use Rattle.aug_run.specs.Program.{FailsBy, ShowsText};
 ghost use Rattle.aug_run.specs.Runs.{RunsWhole};
 ghost use Rattle.aug_run.specs.declared.scripts.run_error.RunError.{RunError};
 
@@ -31,21 +32,21 @@ pub fn carry_out<R: Threads + Wait, I: Input, O: Sink, E: Sink>(
     requires errors { (E.state errors.old).faults < 2 ^ 64 - 1 }
 
     // Where the command line stops the program.
-    ensures status { IfErr asked (λ stop. result ≡ stop_status stop) }
+    ensures status { IfErr asked (λ stop. result ≡ (stop_ending fault_line stop).0) }
     ensures unread { IfErr asked (λ stop. input.new ≡ input.old) }
-    ensures help { IfErr asked (λ stop. MatchBool (is_help stop)
-        (ShowsText (O.state output.old) (O.state output.new) (stop_line stop))
+    ensures help { IfErr asked (λ stop. MatchBool (result == 0)
+        (ShowsText (O.state output.old) (O.state output.new) (stop_ending fault_line stop).1)
         (output.new ≡ output.old)) }
-    ensures usage { IfErr asked (λ stop. MatchBool (is_help stop)
+    ensures usage { IfErr asked (λ stop. MatchBool (result == 0)
         (errors.new ≡ errors.old)
-        (ShowsText (E.state errors.old) (E.state errors.new) (stop_line stop))) }
+        (ShowsText (E.state errors.old) (E.state errors.new) (stop_ending fault_line stop).1)) }
 
     // Where a script is run.
-    ensures done { IfOk asked (λ options. result ≡ 0 → (errors.new ≡ errors.old) × IfSome (script_bytes (I.Source.remaining input.old) (I.file_bytes input.old) (option_map string_bytes options.file))
+    ensures done { IfOk asked (λ options. result ≡ 0 → (errors.new ≡ errors.old) × IfSome (option_map_or (λ path. I.file_bytes input.old (string_bytes path)) options.file (I.Source.remaining input.old))
         (RunsWhole options.limits (O.state output.old) (O.state output.new))) }
-    ensures failed { IfOk asked (λ options. result ≢ 0 → (error : RunError) × (result ≡ run_error_status error)
-        × ShowsText (E.state errors.old) (E.state errors.new) (run_error_line error)
-        × FailsBy options.limits (O.state output.old) (O.state output.new) (script_bytes (I.Source.remaining input.old) (I.file_bytes input.old) (option_map string_bytes options.file)) error
+    ensures failed { IfOk asked (λ options. result ≢ 0 → (error : RunError) × (result ≡ (run_ending error).0)
+        × ShowsText (E.state errors.old) (E.state errors.new) (fault_line (run_ending error).1)
+        × FailsBy options.limits (O.state output.old) (O.state output.new) (option_map_or (λ path. I.file_bytes input.old (string_bytes path)) options.file (I.Source.remaining input.old)) error
         × (error ≢ RunError.Output → error ≢ RunError.OutOfMemory → output.new ≡ output.old)
         × (error ≡ RunError.Input ↔ (I.Source.fault_count input.old < I.Source.fault_count input.new))
         × (error ≡ RunError.Output ↔ ((O.state output.old).faults < (O.state output.new).faults))) }
@@ -69,9 +70,9 @@ fn run_script<R: Threads + Wait, I: Input, O: Sink>(
 ) -> Result<(), RunError>
     requires input { I.Source.fault_count input.old < 2 ^ 64 - 1 }
     requires output { (O.state output.old).faults < 2 ^ 64 - 1 }
-    ensures ok { OnOk result (IfSome (script_bytes (I.Source.remaining input.old) (I.file_bytes input.old) (option_map string_bytes options.now.file))
+    ensures ok { OnOk result (IfSome (option_map_or (λ path. I.file_bytes input.old (string_bytes path)) options.now.file (I.Source.remaining input.old))
         (RunsWhole options.now.limits (O.state output.old) (O.state output.new))) }
-    ensures err { IfErr result (FailsBy options.now.limits (O.state output.old) (O.state output.new) (script_bytes (I.Source.remaining input.old) (I.file_bytes input.old) (option_map string_bytes options.now.file))) }
+    ensures err { IfErr result (FailsBy options.now.limits (O.state output.old) (O.state output.new) (option_map_or (λ path. I.file_bytes input.old (string_bytes path)) options.now.file (I.Source.remaining input.old))) }
     ensures input { result ≡ Err RunError.Input ↔ (I.Source.fault_count input.old < I.Source.fault_count input.new) }
     ensures output { result ≡ Err RunError.Output ↔ ((O.state output.old).faults < (O.state output.new).faults) }
     ensures nothing { IfErr result (λ error. error ≢ RunError.Output → error ≢ RunError.OutOfMemory → output.new ≡ output.old) }
@@ -88,13 +89,13 @@ fn run_script<R: Threads + Wait, I: Input, O: Sink>(
 fn show_stop<O: Sink, E: Sink>(stop: &Stop, output: &mut O, errors: &mut E) -> u8
     requires output { (O.state output.old).faults < 2 ^ 64 - 1 }
     requires errors { (E.state errors.old).faults < 2 ^ 64 - 1 }
-    ensures status { result ≡ stop_status stop.now }
-    ensures help { MatchBool (is_help stop.now)
-        (ShowsText (O.state output.old) (O.state output.new) (stop_line stop.now))
+    ensures status { result ≡ (stop_ending fault_line stop.now).0 }
+    ensures help { MatchBool (result == 0)
+        (ShowsText (O.state output.old) (O.state output.new) (stop_ending fault_line stop.now).1)
         (output.new ≡ output.old) }
-    ensures usage { MatchBool (is_help stop.now)
+    ensures usage { MatchBool (result == 0)
         (errors.new ≡ errors.old)
-        (ShowsText (E.state errors.old) (E.state errors.new) (stop_line stop.now)) }
+        (ShowsText (E.state errors.old) (E.state errors.new) (stop_ending fault_line stop.now).1) }
 {
     let _ = match stop {
         Stop::Help(_) => stop.write_line(output),
@@ -106,8 +107,8 @@ fn show_stop<O: Sink, E: Sink>(stop: &Stop, output: &mut O, errors: &mut E) -> u
 // Shows why the script was not run to its end.
 fn show_error<E: Sink>(error: &RunError, errors: &mut E) -> u8
     requires { (E.state errors.old).faults < 2 ^ 64 - 1 }
-    ensures status { result ≡ run_error_status error.now }
-    ensures shown { ShowsText (E.state errors.old) (E.state errors.new) (run_error_line error.now) }
+    ensures status { result ≡ (run_ending error.now).0 }
+    ensures shown { ShowsText (E.state errors.old) (E.state errors.new) (fault_line (run_ending error.now).1) }
 {
     let _ = error.write_line(errors);
     error.status()

@@ -1,14 +1,17 @@
 -- What goes out for a script whose bytes are written out: the definitions compute it.
-use Rattle.std.proofs.Common.{◌≡◌, ◌∙◌, ℕ, List, [], ◌∷◌, All, Ok, Option, Some, ap, arith, codes, refl, subst, sym}
+use Rattle.std.proofs.Common.{◌≡◌, ◌∙◌, ℕ, List, [], ◌∷◌, ◌++◌, All, Ok, Option, Some, ap, arith, codes, length, length-append, refl, subst, sym, take}
+use Rattle.std.proofs.lemmas.List.{append-nil, take_all}
 use Rattle.std.proofs.lemmas.List.Elements.{All-cons, All-nil}
 use Rattle.aug_script.specs.Devices.{SinkState}
-use Rattle.aug_script.specs.Limits.{Bounds}
+use Rattle.aug_script.specs.Limits.{Bounds, IsBounds}
 use Rattle.aug_script.specs.Script.{rounds_of}
 use Rattle.aug_script.specs.declared.row.Row.{Row}
 use Rattle.aug_script.specs.declared.script_round.ScriptRound.{ScriptRound}
 use Rattle.aug_script.specs.declared.verb.Verb.TheVariants as verb
 use Rattle.aug_script.proofs.OnLiterals.{script_on_literals}
-use Rattle.aug_run.specs.Runs.{OfOneLane, RunsWhole, reports_of, texts_of}
+use Rattle.aug_report.specs.InTurn.{OfOneLane, reports_of}
+use Rattle.aug_report.specs.Theorems.{ScriptHasOneList}
+use Rattle.aug_run.specs.Runs.{RunsWhole, texts_of}
 
 abbrev known_limits : Bounds
 known_limits = record { bits = 4; workers = 1; updates = 64 }
@@ -54,13 +57,13 @@ abbrev sink : Option (List ℕ) → ℕ → ℕ → SinkState
 sink bytes finishes faults = record { bytes = bytes; finishes = finishes; faults = faults }
 
 -- a run of this script that went well put out this text
-pub known_output : (limits : Bounds) (output : List ℕ) (finishes finishes' faults faults' : ℕ) → limits ≡ known_limits
+pub known_output : ScriptHasOneList → IsBounds known_limits → (limits : Bounds) (output : List ℕ) (finishes finishes' faults faults' : ℕ) → limits ≡ known_limits
     → RunsWhole limits (sink (Some []) finishes faults) (sink (Some output) finishes' faults') known_script → output ≡ known_text
-known_output limits output finishes finishes' faults faults' is ran =
+known_output one_list bounds limits output finishes finishes' faults faults' is ran =
     let runs = subst (λ (l : Bounds). RunsWhole l (sink (Some []) finishes faults) (sink (Some output) finishes' faults') known_script) is ran in
-    let read : Ok runs.0 ≡ Ok known_rounds = sym runs.1.reads ∙ rounds_are in
+    let read : Ok runs.0 ≡ Ok known_rounds = sym runs.1.1 ∙ rounds_are in
     let same : runs.0 ≡ known_rounds = cc in
-    let one : All (OfOneLane 1) runs.0 = subst (λ (rounds : List ScriptRound). All (OfOneLane 1) rounds) (sym same) one_lane in
-    let reports : runs.2.reports ≡ reports_of 1 [] known_rounds = runs.2.may_have.in_turn one
-    ∙ ap (λ (rounds : List ScriptRound). reports_of 1 [] rounds) same in
-    runs.2.wrote.bytes ∙ ap (λ reports. texts_of reports) reports ∙ text_is
+    let rounds : take (length (runs.2 ++ [])) runs.0 ≡ known_rounds = take_all (length (runs.2 ++ [])) runs.0 (omega (arith, runs.4, length-append runs.2 [])) ∙ same in
+    let may_have = rw (rounds, append-nil runs.2) at runs.3.may_have in
+    let reports : runs.2 ≡ reports_of 1 [] known_rounds = one_list known_limits known_script known_rounds 1 runs.2 bounds rounds_are one_lane may_have in
+    runs.3.wrote.bytes ∙ ap (λ reports. texts_of reports) reports ∙ text_is

@@ -8,4 +8,5 @@ mod ReaderLemmas
 pub mod RecordLemmas
 pub mod Rows
 pub mod Runnable
+pub mod TableWords
 pub mod Updates

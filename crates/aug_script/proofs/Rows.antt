@@ -1,7 +1,8 @@
 -- What is read of a script, one record at a time.
 use Rattle.std.proofs.Common.{◌≡◌, ℕ, ◌+◌, List, [], ◌∷◌, Result, Ok, Err, refl, sym, ap, ◌∙◌}
 use Rattle.aug_script.specs.Limits.{Bounds}
-use Rattle.aug_script.specs.Script.{Progress, item_of, read_from, then_read, with_item}
+use Rattle.std.specs.Result.{result_flatten, result_map_both}
+use Rattle.aug_script.specs.Script.{Progress, item_of, read_from, with_item}
 use Rattle.aug_script.specs.declared.item.Item.{Item}
 use Rattle.aug_script.specs.declared.item.Item.TheVariants as item
 use Rattle.aug_script.specs.declared.script_error.ScriptError.{ScriptError}
@@ -18,7 +19,7 @@ module _ (limits : Bounds) (read : Progress) (total : Result Progress ScriptErro
       → item_of limits read fields ≡ Ok next → read_from limits read records ≡ total → read_from limits (with_item read next) rest ≡ total
   unfolding read_from
   read_from-item records rest fields next is good all =
-      sym (ap (λ (r : Result Item ScriptError). then_read r (λ later. read_from limits (with_item read later) rest)) good)
+      sym (ap (λ (r : Result Item ScriptError). result_flatten (result_map_both (λ later. read_from limits (with_item read later) rest) (λ fault. fault) r)) good)
       ∙ sym (ap (read_from limits read) is) ∙ all
 
   -- a record that has a fault
@@ -27,7 +28,7 @@ module _ (limits : Bounds) (read : Progress) (total : Result Progress ScriptErro
   unfolding read_from
   read_from-fault records rest fields fault is bad all =
       sym all ∙ ap (read_from limits read) is
-      ∙ ap (λ (r : Result Item ScriptError). then_read r (λ next. read_from limits (with_item read next) rest)) bad
+      ∙ ap (λ (r : Result Item ScriptError). result_flatten (result_map_both (λ next. read_from limits (with_item read next) rest) (λ fault. fault) r)) bad
 
   -- no record is left
   pub read_from-none : (records : List (List (List ℕ))) → records ≡ [] → read_from limits read records ≡ total → total ≡ Ok read

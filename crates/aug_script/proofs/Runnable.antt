@@ -5,7 +5,9 @@ use Rattle.std.proofs.lemmas.List.{append-nil}
 use Rattle.std.proofs.Math.ListN.{get_or-append, length-append}
 use Rattle.std.proofs.Math.Seq.{get_or-append_seam}
 use Rattle.std.specs.List.{list_all}
-use Rattle.std.specs.Prelude.{⊤}
+use Rattle.std.specs.Prelude.{⊤, find}
+use Rattle.std.specs.Result.{result_flatten, result_map_both}
+use Rattle.std.specs.Str.{bytes_eq}
 use Rattle.std.proofs.lemmas.Bool.{and_parts, cases_lt, eqb-true, leb-false, leb-true, ltb-true, not-false}
 use Rattle.csv.specs.Machine.{Read, next_record}
 use Rattle.csv.specs.Reading.{default_config, is_bom, records_from, records_next, strip_bom}
@@ -16,14 +18,14 @@ use Rattle.aug_script.proofs.Rows.{next-with_item}
 use Rattle.aug_script.proofs.Updates.{updates_of-push}
 use Rattle.aug_script.proofs.LimitTests.{bounds_pass}
 use Rattle.aug_script.specs.Limits.{Bounds, IsBounds, bounds_at, is_bounds}
-use Rattle.aug_script.specs.Script.{IsRunnable, KeepsLimits, NeverNarrows, Progress, are_printable, arity_of, bounded_row, end_of_round, growth, growth_to, is_end, is_grow, is_in_bounds, is_number, is_star, is_update, item_of, nothing_read, number_of, open_round, read_from, records_of, rounds_read, starred_row, then_read, updates_of, verb_of, with_item, word_of, worded_row}
+use Rattle.aug_script.specs.Script.{IsRunnable, KeepsLimits, NeverNarrows, Progress, are_printable, bounded_item, is_in_bounds, is_number, is_star, is_update, item_of, item_written, items_with, named_item, open_round, read_from, records_of, rounds_of, rounds_read, updates_of, with_item}
+use Rattle.aug_script.specs.inside.Items.{nothing_read}
 use Rattle.aug_script.specs.declared.item.Item.{Item}
 use Rattle.aug_script.specs.declared.item.Item.TheVariants as item
 use Rattle.aug_script.specs.declared.row.Row.{Row}
 use Rattle.aug_script.specs.declared.script_error.ScriptError.{ScriptError}
-use Rattle.aug_script.specs.declared.script_error.ScriptError.TheVariants.{BadCsv, BadLane, BadVerb, BadArity, BadNumber, OutOfRange, TooManyUpdates, BadPlace, TooWide}
+use Rattle.aug_script.specs.declared.script_error.ScriptError.TheVariants.{BadCsv, BadLane, BadArity, BadNumber, OutOfRange, TooManyUpdates, BadPlace, TooWide}
 use Rattle.aug_script.specs.declared.script_round.ScriptRound.{ScriptRound}
-use Rattle.aug_script.specs.declared.verb.Word.{Word}
 
 -- a test that stands before an item lets it through
 passed : (b : Bool) (fault : ScriptError) (rest : Result Item ScriptError) (next : Item)
@@ -49,11 +51,14 @@ MayFollow limits read (item.Row row) = MayCome limits read row
 MayFollow limits read item.End = ⊤
 MayFollow limits read (item.Grow bits) = MayGrow limits read bits
 
-bounded_row-may_follow : (limits : Bounds) (read : Progress) (row : Row) (next : Item)
-    → bounded_row limits read row ≡ Ok next → MayFollow limits read next
-bounded_row-may_follow limits read row next e =
-    let range = passed (not (nat_lt row.lane limits.workers && is_in_bounds read.bits row.verb)) (OutOfRange row.row) _ next e in
-    let room = passed (is_update row.verb && nat_le limits.updates (updates_of row.lane read.rows)) (TooManyUpdates row.row) (Ok (item.Row row)) next range.1 in
+none_left : (rows : List Row) → (length rows == 0) ≡ true → rows ≡ []
+none_left [] is = refl
+none_left (row ∷ rows) is = absurd (omega (arith, eqb-true (length (row ∷ rows)) 0 is))
+
+bounded_item-may_follow : (limits : Bounds) (read : Progress) (given next : Item) → bounded_item limits read given ≡ Ok next → MayFollow limits read next
+bounded_item-may_follow limits read (item.Row row) next e =
+    let range = passed (not (nat_lt row.lane limits.workers && is_in_bounds read.bits row.verb)) (OutOfRange read.next) _ next e in
+    let room = passed (is_update row.verb && nat_le limits.updates (updates_of row.lane read.rows)) (TooManyUpdates read.next) (Ok (item.Row row)) next range.1 in
     let within = and_parts (nat_lt row.lane limits.workers) (is_in_bounds read.bits row.verb) (not-false _ range.0) in
     let same : item.Row row ≡ next = cc (room.1) in
     subst (MayFollow limits read) same (record {
@@ -61,28 +66,10 @@ bounded_row-may_follow limits read row next e =
       in_bounds = within.1;
       room = λ update. leb-false limits.updates (updates_of row.lane read.rows) (rw update at room.0);
     })
-
-worded_row-may_follow : (limits : Bounds) (read : Progress) (lane : ℕ) (arguments : List (List ℕ)) (word : Option Word) (next : Item)
-    → worded_row limits read lane arguments word ≡ Ok next → MayFollow limits read next
-worded_row-may_follow limits read lane arguments None next e = cc
-worded_row-may_follow limits read lane arguments (Some word) next e =
-    let arity = passed (not (length arguments == arity_of word)) (BadArity read.next) _ next e in
-    let numbers = passed (not (list_all is_number arguments)) (BadNumber read.next) _ next arity.1 in
-    bounded_row-may_follow limits read (record { row = read.next; lane = lane; verb = verb_of word arguments }) next numbers.1
-
-end_of_round-may_follow : (limits : Bounds) (read : Progress) (arguments : List (List ℕ)) (next : Item)
-    → end_of_round read.next arguments ≡ Ok next → MayFollow limits read next
-end_of_round-may_follow limits read arguments next e =
-    let arity = passed (not (length arguments == 0)) (BadArity read.next) (Ok item.End) next e in
-    let same : item.End ≡ next = cc (arity.1) in
+bounded_item-may_follow limits read item.End next e =
+    let same : item.End ≡ next = cc in
     subst (MayFollow limits read) same tt
-
-none_left : (rows : List Row) → (length rows == 0) ≡ true → rows ≡ []
-none_left [] is = refl
-none_left (row ∷ rows) is = absurd (omega (arith, eqb-true (length (row ∷ rows)) 0 is))
-
-growth_to-may_follow : (limits : Bounds) (read : Progress) (bits : ℕ) (next : Item) → growth_to limits read bits ≡ Ok next → MayFollow limits read next
-growth_to-may_follow limits read bits next e =
+bounded_item-may_follow limits read (item.Grow bits) next e =
     let range = passed (not (nat_le read.bits bits && nat_le bits 16)) (OutOfRange read.next) _ next e in
     let place = passed (not (length read.rows == 0)) (BadPlace read.next) _ next range.1 in
     let table = passed (not (is_bounds (bounds_at limits bits))) (TooWide read.next) (Ok (item.Grow bits)) next place.1 in
@@ -93,41 +80,22 @@ growth_to-may_follow limits read bits next e =
       bounds = bounds_pass (bounds_at limits bits) (not-false _ table.0);
     })
 
-growth-may_follow : (limits : Bounds) (read : Progress) (arguments : List (List ℕ)) (next : Item) → growth limits read arguments ≡ Ok next → MayFollow limits read next
-growth-may_follow limits read arguments next e =
-    let arity = passed (not (length arguments == 1)) (BadArity read.next) _ next e in
+named_item-may_follow : (limits : Bounds) (read : Progress) (arguments : List (List ℕ)) (named : Option Item) (next : Item)
+    → named_item limits read arguments named ≡ Ok next → MayFollow limits read next
+named_item-may_follow limits read arguments None next e = cc
+named_item-may_follow limits read arguments (Some given) next e =
+    let arity = passed (not (length arguments == length (item_written given).1)) (BadArity read.next) _ next e in
     let numbers = passed (not (list_all is_number arguments)) (BadNumber read.next) _ next arity.1 in
-    growth_to-may_follow limits read (number_of (slice_index_or arguments 0 [])) next numbers.1
-
-starred_row-may_follow : (limits : Bounds) (read : Progress) (arguments : List (List ℕ)) (verb : List ℕ) (next : Item)
-    → starred_row limits read arguments verb ≡ Ok next → MayFollow limits read next
-starred_row-may_follow limits read arguments verb next e =
-    let grows : (grow : Bool) → (if grow then growth limits read arguments else Err (BadVerb read.next)) ≡ Ok next → MayFollow limits read next =
-    elim [
-      | true ↦ λ is. growth-may_follow limits read arguments next is
-      | false ↦ λ is. cc
-    ] in
-    let ends : (end : Bool) → (if end then end_of_round read.next arguments else if is_grow verb then growth limits read arguments else Err (BadVerb read.next)) ≡ Ok next → MayFollow limits read next =
-    elim [
-      | true ↦ λ is. end_of_round-may_follow limits read arguments next is
-      | false ↦ λ is. grows (is_grow verb) is
-    ] in
-    ends (is_end verb) e
+    bounded_item-may_follow limits read given next numbers.1
 
 item_of-may_follow : (limits : Bounds) (read : Progress) (fields : List (List ℕ)) (next : Item)
     → item_of limits read fields ≡ Ok next → MayFollow limits read next
 item_of-may_follow limits read fields next e =
     let first = slice_index_or fields 0 [] in
-    let second = slice_index_or fields 1 [] in
+    let named = find (λ given. bytes_eq (slice_index_or fields 1 []) (item_written given).0) (items_with read.next fields) in
     let printable = passed (not (are_printable fields)) (BadCsv read.next) _ next e in
-    let lane = passed (not (is_number first || is_star first)) (BadLane read.next) _ next printable.1 in
-    let go : (star : Bool) → (if star then starred_row limits read (drop 2 fields) second else worded_row limits read (number_of first) (drop 2 fields) (word_of second)) ≡ Ok next
-    → MayFollow limits read next =
-    elim [
-      | true ↦ λ starred. starred_row-may_follow limits read (drop 2 fields) second next starred
-      | false ↦ λ worded. worded_row-may_follow limits read (number_of first) (drop 2 fields) (word_of second) next worded
-    ] in
-    go (is_star first) lane.1
+    let lane = passed (not (is_number first || is_star first)) (BadLane read.next) (named_item limits read (drop 2 fields) named) next printable.1 in
+    named_item-may_follow limits read (drop 2 fields) named next lane.1
 
 -- one more row is one more update of its lane, where it is one
 one_more-update : (updates : ℕ) (lane : ℕ) (rows : List Row) (row : Row) → updates_of lane rows ≤ updates
@@ -227,7 +195,7 @@ read_from-sound limits [] before read sound e =
     subst (λ (r : Progress). IsSound limits r × (r.next ≡ before.next + 0)) same (sound, omega arith)
 read_from-sound limits (fields ∷ rest) before read sound e =
     let go : (r : Result Item ScriptError) → item_of limits before fields ≡ r
-    → then_read r (λ next. read_from limits (with_item before next) rest) ≡ Ok read → IsSound limits read × (read.next ≡ before.next + length (fields ∷ rest)) =
+    → result_flatten (result_map_both (λ next. read_from limits (with_item before next) rest) (λ fault. fault) r) ≡ Ok read → IsSound limits read × (read.next ≡ before.next + length (fields ∷ rest)) =
     elim [
       | Ok next ↦ λ is more.
           let later = read_from-sound limits rest (with_item before next) read (sound-item limits before next sound (item_of-may_follow limits before fields next is)) more in
@@ -296,3 +264,11 @@ rounds_are_runnable limits bytes read bounds is =
       }
     ] in
     go (length read.rows == 0)
+
+-- so can the rounds that the bytes read as
+pub runnable_rounds : (limits : Bounds) (bytes : List ℕ) (rounds : List ScriptRound) → IsBounds limits → rounds_of limits bytes ≡ Ok rounds → AreRunnable limits bytes rounds
+runnable_rounds limits bytes rounds bounds is = go (read_from limits (nothing_read limits.bits) (records_of bytes)) refl is
+  where
+    go : (r : Result Progress ScriptError) → read_from limits (nothing_read limits.bits) (records_of bytes) ≡ r → result_map_both rounds_read (λ (fault : ScriptError). fault) r ≡ Ok rounds → AreRunnable limits bytes rounds
+    go (Ok read) reads same = let ends : rounds_read read ≡ rounds = cc in subst (AreRunnable limits bytes) ends (rounds_are_runnable limits bytes read bounds reads)
+    go (Err fault) reads same = cc

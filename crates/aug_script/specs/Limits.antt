@@ -1,7 +1,7 @@
 -- What a script may ask for.
-use Rattle.std.specs.Prelude.{ℕ, ◌^◌, ◌&&◌, nat_le, Bool}
+use Rattle.std.specs.Prelude.{ℕ, ◌+◌, ◌-◌, ◌*◌, ◌^◌, ◌&&◌, nat_le, Bool}
 use Rattle.aug_core.specs.Layout.{IsLayout}
-use Rattle.aug_core.specs.Places.{shape_of, word_count}
+use Rattle.aug_core.specs.Places.{shape_of}
 
 -- keys below 2 ^ bits, lanes below workers, and so many updates a lane and round
 pub record Bounds : Type 0 where
@@ -17,9 +17,10 @@ IsBounds b = IsLayout (shape_of b.bits b.workers b.updates (2 ^ b.bits))
 abbrev pub is_within : ℕ → ℕ → ℕ → Bool
 is_within first last n = nat_le first n && nat_le n last
 
--- the words of the table for a round that opens with every key
+-- the words of the table for a round that opens with every key: one for each leaf, node and lane, and 5 for each record, of which each level and each
+-- node has one, and each update one on each level
 abbrev pub words_of : Bounds → ℕ
-words_of b = word_count (shape_of b.bits b.workers b.updates (2 ^ b.bits))
+words_of b = 2 ^ (b.bits + 1) - 1 + b.workers + 5 * (b.bits + (2 ^ b.bits - 1) + b.workers * b.updates * b.bits)
 
 -- limits that a script can have, as a test
 abbrev pub is_bounds : Bounds → Bool

@@ -3,10 +3,7 @@ use Rattle.std.specs.Prelude.{ℕ, if◌then◌else◌, Bool, true, false, List,
 use Rattle.std.specs.List.{zip}
 use Rattle.aug_monoid.specs.Extent.{extent_parts}
 use Rattle.aug_monoid.specs.Sum.{sum_parts}
-use Rattle.aug_monoid.specs.declared.extent.Extent.{Extent}
-use Rattle.aug_monoid.specs.declared.sum.Sum.{Sum}
 use Rattle.aug_model.specs.Folds.{summary_of}
-use Rattle.aug_model.specs.declared.summary.Summary.{Summary}
 use Rattle.aug_model.specs.Keys.{is_member, keys_of, with_pair, without_pair}
 use Rattle.aug_model.specs.Queries.{after_of, before_of, rank_of, select_of, weight_of, weighted_range_of}
 use Rattle.aug_script.specs.declared.reply.Reply.{Reply}
@@ -22,11 +19,8 @@ pub record Sets : Type 0 where
   pub live : List (ℕ × ℕ)
   pub held : List (ℕ × ℕ)
 
--- the number of the keys, the sum of their weights in a word of 64 bits, and the least and the greatest of them
-abbrev pub span_of : List (ℕ × ℕ) → Summary Sum Extent
-span_of pairs = summary_of sum_parts extent_parts pairs
-
--- what a query is answered from a set; the other verbs ask nothing of it
+-- what a query is answered from a set: a range by the number of its keys, the sum of their weights in a word of 64 bits, and the least and the greatest
+-- of them; the other verbs ask nothing of it
 abbrev pub query_reply : List (ℕ × ℕ) → Verb → Reply
 query_reply pairs (verb.Has k) = if is_member (keys_of pairs) k then reply.Yes else reply.No
 query_reply pairs (verb.Weight k) = reply.Found (weight_of pairs k)
@@ -35,7 +29,7 @@ query_reply pairs (verb.Rank k) = reply.Number (rank_of (keys_of pairs) k)
 query_reply pairs (verb.Select i) = reply.Found (select_of (keys_of pairs) i)
 query_reply pairs (verb.Before k) = reply.Found (before_of (keys_of pairs) k)
 query_reply pairs (verb.After k) = reply.Found (after_of (keys_of pairs) k)
-query_reply pairs (verb.Range a b) = reply.Span (span_of (weighted_range_of pairs a b))
+query_reply pairs (verb.Range a b) = reply.Span (summary_of sum_parts extent_parts (weighted_range_of pairs a b))
 query_reply pairs other = reply.Looked
 
 -- what a verb is answered; where one lane runs alone, no `put` is lost

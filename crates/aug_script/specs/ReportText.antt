@@ -3,27 +3,16 @@ use Rattle.std.specs.Prelude.{ℕ, List, ◌++◌, map, codes, Option, Some, Non
 use Rattle.std.specs.Fmt.{decimal}
 use Rattle.std.specs.List.{concat}
 use Rattle.aug_monoid.specs.declared.extent.Extent.{Extent}
+use Rattle.aug_script.specs.Script.{written}
 use Rattle.aug_script.specs.declared.reply.Reply.{Reply}
 use Rattle.aug_script.specs.declared.reply.Reply.TheVariants as reply
 use Rattle.aug_script.specs.declared.report.Report.{Report}
 use Rattle.aug_script.specs.declared.row.Row.{Row}
 use Rattle.aug_script.specs.declared.verb.Verb.{Verb}
-use Rattle.aug_script.specs.declared.verb.Verb.TheVariants as verb
 
 -- a verb with its arguments, parted by blanks
 abbrev pub verb_text : Verb → List ℕ
-verb_text (verb.Insert k) = codes "insert " ++ decimal k
-verb_text (verb.Put k w) = codes "put " ++ decimal k ++ codes " " ++ decimal w
-verb_text (verb.Remove k) = codes "remove " ++ decimal k
-verb_text verb.Look = codes "look"
-verb_text (verb.Has k) = codes "has " ++ decimal k
-verb_text (verb.Weight k) = codes "weight " ++ decimal k
-verb_text verb.Size = codes "size"
-verb_text (verb.Rank k) = codes "rank " ++ decimal k
-verb_text (verb.Select i) = codes "select " ++ decimal i
-verb_text (verb.Before k) = codes "before " ++ decimal k
-verb_text (verb.After k) = codes "after " ++ decimal k
-verb_text (verb.Range a b) = codes "range " ++ decimal a ++ codes " " ++ decimal b
+verb_text asked = (written asked).0 ++ concat (map (λ n. codes " " ++ decimal n) (written asked).1)
 
 -- the least and the greatest of some keys, or `- -` where there are none
 abbrev pub extent_text : Extent → List ℕ

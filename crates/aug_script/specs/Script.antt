@@ -1,8 +1,9 @@
 -- How a script reads: its records are those of `csv`, and each is a row, the end of a round or more bits for the keys, or has the first
 -- fault of a table.
-use Rattle.std.specs.Prelude.{◌≡◌, ℕ, ◌+◌, ◌^◌, ◌<◌, ◌≤◌, ◌==◌, ◌&&◌, ◌||◌, not, nat_lt, nat_le, true, false, Bool, if◌then◌else◌, List, [], ◌∷◌, ◌++◌, length, drop, filter, slice_index_or, All, codes, Option, Some, None, Result, Ok, Err}
+use Rattle.std.specs.Prelude.{◌≡◌, ℕ, ◌+◌, ◌^◌, ◌<◌, ◌≤◌, ◌==◌, ◌&&◌, ◌||◌, not, nat_lt, nat_le, true, false, Bool, if◌then◌else◌, List, [], ◌∷◌, ◌++◌, length, drop, map, filter, find, slice_index_or, All, codes, Option, Some, None, Result, Ok, Err}
 use Rattle.std.specs.Char.{is_ascii_digit}
 use Rattle.std.specs.List.{list_all}
+use Rattle.std.specs.Result.{result_flatten, result_map_both}
 use Rattle.std.specs.Str.{bytes_eq}
 use Rattle.std.specs.Str.Parse.{digits_value}
 use Rattle.csv.specs.Reading.{default_config, strip_bom, records}
@@ -15,8 +16,6 @@ use Rattle.aug_script.specs.declared.script_error.ScriptError.TheVariants.{BadCs
 use Rattle.aug_script.specs.declared.script_round.ScriptRound.{ScriptRound}
 use Rattle.aug_script.specs.declared.verb.Verb.{Verb}
 use Rattle.aug_script.specs.declared.verb.Verb.TheVariants as verb
-use Rattle.aug_script.specs.declared.verb.Word.{Word}
-use Rattle.aug_script.specs.declared.verb.Word.TheVariants as word
 
 -- the records of a script's bytes, each a list of fields: a comma parts fields, and blank lines are no records
 abbrev pub records_of : List ℕ → List (List (List ℕ))
@@ -30,84 +29,42 @@ are_printable fields = list_all (λ field. list_all (λ b. nat_le 32 b && nat_le
 abbrev pub is_number : List ℕ → Bool
 is_number field = nat_le 1 (length field) && nat_le (length field) 9 && list_all is_ascii_digit field
 
--- the number that a field's digits write
-abbrev pub number_of : List ℕ → ℕ
-number_of field = digits_value 10 field
+-- the number that the digits of the field at this place write, or 0 where it is no number
+abbrev pub number_at : List (List ℕ) → ℕ → ℕ
+number_at fields place = if is_number (slice_index_or fields place []) then digits_value 10 (slice_index_or fields place []) else 0
 
 -- the field is `*`
 abbrev pub is_star : List ℕ → Bool
 is_star field = bytes_eq field (codes "*")
 
--- the field is `end`
-abbrev pub is_end : List ℕ → Bool
-is_end field = bytes_eq field (codes "end")
+-- how a verb is written, in scripts and in reports: its word and its arguments
+abbrev pub written : Verb → List ℕ × List ℕ
+written (verb.Insert key) = (codes "insert", key ∷ [])
+written (verb.Put key weight) = (codes "put", key ∷ weight ∷ [])
+written (verb.Remove key) = (codes "remove", key ∷ [])
+written verb.Look = (codes "look", [])
+written (verb.Has key) = (codes "has", key ∷ [])
+written (verb.Weight key) = (codes "weight", key ∷ [])
+written verb.Size = (codes "size", [])
+written (verb.Rank key) = (codes "rank", key ∷ [])
+written (verb.Select index) = (codes "select", index ∷ [])
+written (verb.Before key) = (codes "before", key ∷ [])
+written (verb.After key) = (codes "after", key ∷ [])
+written (verb.Range a b) = (codes "range", a ∷ b ∷ [])
 
--- the field is `grow`
-abbrev pub is_grow : List ℕ → Bool
-is_grow field = bytes_eq field (codes "grow")
-
--- the verb's word that a field is, if it is one
-abbrev pub word_of : List ℕ → Option Word
-word_of field =
-    if bytes_eq field (codes "insert") then Some word.Insert
-    else if bytes_eq field (codes "put") then Some word.Put
-    else if bytes_eq field (codes "remove") then Some word.Remove
-    else if bytes_eq field (codes "look") then Some word.Look
-    else if bytes_eq field (codes "has") then Some word.Has
-    else if bytes_eq field (codes "weight") then Some word.Weight
-    else if bytes_eq field (codes "size") then Some word.Size
-    else if bytes_eq field (codes "rank") then Some word.Rank
-    else if bytes_eq field (codes "select") then Some word.Select
-    else if bytes_eq field (codes "before") then Some word.Before
-    else if bytes_eq field (codes "after") then Some word.After
-    else if bytes_eq field (codes "range") then Some word.Range
-    else None
-
--- how many arguments a verb has
-abbrev pub arity_of : Word → ℕ
-arity_of word.Insert = 1
-arity_of word.Put = 2
-arity_of word.Remove = 1
-arity_of word.Look = 0
-arity_of word.Has = 1
-arity_of word.Weight = 1
-arity_of word.Size = 0
-arity_of word.Rank = 1
-arity_of word.Select = 1
-arity_of word.Before = 1
-arity_of word.After = 1
-arity_of word.Range = 2
-
--- the verb of a word with these arguments
-abbrev pub verb_of : Word → List (List ℕ) → Verb
-verb_of word.Insert arguments = verb.Insert (number_of (slice_index_or arguments 0 []))
-verb_of word.Put arguments = verb.Put (number_of (slice_index_or arguments 0 [])) (number_of (slice_index_or arguments 1 []))
-verb_of word.Remove arguments = verb.Remove (number_of (slice_index_or arguments 0 []))
-verb_of word.Look arguments = verb.Look
-verb_of word.Has arguments = verb.Has (number_of (slice_index_or arguments 0 []))
-verb_of word.Weight arguments = verb.Weight (number_of (slice_index_or arguments 0 []))
-verb_of word.Size arguments = verb.Size
-verb_of word.Rank arguments = verb.Rank (number_of (slice_index_or arguments 0 []))
-verb_of word.Select arguments = verb.Select (number_of (slice_index_or arguments 0 []))
-verb_of word.Before arguments = verb.Before (number_of (slice_index_or arguments 0 []))
-verb_of word.After arguments = verb.After (number_of (slice_index_or arguments 0 []))
-verb_of word.Range arguments = verb.Range (number_of (slice_index_or arguments 0 [])) (number_of (slice_index_or arguments 1 []))
+-- every verb, with its arguments from these two numbers
+abbrev pub verbs_with : ℕ → ℕ → List Verb
+verbs_with a b = verb.Insert a ∷ verb.Put a b ∷ verb.Remove a ∷ verb.Look ∷ verb.Has a ∷ verb.Weight a ∷ verb.Size ∷ verb.Rank a ∷ verb.Select a ∷ verb.Before a ∷ verb.After a ∷ verb.Range a b ∷ []
 
 -- the verb's arguments are within its bounds: keys of updates, of `has` and of `weight` below 2 ^ bits, arguments of other queries at
 -- most 2 ^ bits, and a weight is any number
 abbrev pub is_in_bounds : ℕ → Verb → Bool
-is_in_bounds bits (verb.Insert k) = nat_lt k (2 ^ bits)
-is_in_bounds bits (verb.Put k w) = nat_lt k (2 ^ bits)
-is_in_bounds bits (verb.Remove k) = nat_lt k (2 ^ bits)
-is_in_bounds bits verb.Look = true
-is_in_bounds bits (verb.Has k) = nat_lt k (2 ^ bits)
-is_in_bounds bits (verb.Weight k) = nat_lt k (2 ^ bits)
-is_in_bounds bits verb.Size = true
-is_in_bounds bits (verb.Rank k) = nat_le k (2 ^ bits)
-is_in_bounds bits (verb.Select i) = nat_le i (2 ^ bits)
-is_in_bounds bits (verb.Before k) = nat_le k (2 ^ bits)
-is_in_bounds bits (verb.After k) = nat_le k (2 ^ bits)
-is_in_bounds bits (verb.Range a b) = nat_le a (2 ^ bits) && nat_le b (2 ^ bits)
+is_in_bounds bits (verb.Insert key) = nat_lt key (2 ^ bits)
+is_in_bounds bits (verb.Put key weight) = nat_lt key (2 ^ bits)
+is_in_bounds bits (verb.Remove key) = nat_lt key (2 ^ bits)
+is_in_bounds bits (verb.Has key) = nat_lt key (2 ^ bits)
+is_in_bounds bits (verb.Weight key) = nat_lt key (2 ^ bits)
+is_in_bounds bits query = list_all (λ n. nat_le n (2 ^ bits)) (written query).1
 
 -- the verb is `insert`, `put` or `remove`
 abbrev pub is_update : Verb → Bool
@@ -128,10 +85,6 @@ pub record Progress : Type 0 where
   pub rows : List Row
   pub closed : List ScriptRound
 
--- nothing was read yet, and keys have so many bits
-abbrev pub nothing_read : ℕ → Progress
-nothing_read bits = record { next = 1; bits = bits; rows = []; closed = [] }
-
 -- the round that is open
 abbrev pub open_round : Progress → ScriptRound
 open_round read = record { bits = read.bits; rows = read.rows }
@@ -147,77 +100,58 @@ with_item read (item.Grow bits) = record { next = read.next + 1; bits = bits; ro
 abbrev pub rounds_read : Progress → List ScriptRound
 rounds_read read = read.closed ++ (if length read.rows == 0 then [] else open_round read ∷ [])
 
--- the row, or its first fault, once its lane and verb are known
-abbrev pub bounded_row : Bounds → Progress → Row → Result Item ScriptError
-bounded_row limits read row =
-    if not (nat_lt row.lane limits.workers && is_in_bounds read.bits row.verb) then Err (OutOfRange row.row)
-    else if is_update row.verb && nat_le limits.updates (updates_of row.lane read.rows) then Err (TooManyUpdates row.row)
+-- how an item is written behind its lane: its word and its arguments
+abbrev pub item_written : Item → List ℕ × List ℕ
+item_written (item.Row row) = written row.verb
+item_written item.End = (codes "end", [])
+item_written (item.Grow bits) = (codes "grow", bits ∷ [])
+
+-- the items that a record with this number may be read as: behind `*` the end of a round and new bits, and else the rows of its lane
+abbrev pub items_with : ℕ → List (List ℕ) → List Item
+items_with number fields =
+    if is_star (slice_index_or fields 0 []) then item.End ∷ item.Grow (number_at fields 2) ∷ []
+    else map (λ asked. item.Row (record { row = number; lane = number_at fields 0; verb = asked })) (verbs_with (number_at fields 2) (number_at fields 3))
+
+-- the item once its arguments are known, or the first fault of its bounds. For a row they are those of its lane and its arguments, and then
+-- how many updates of its lane the open round may have. Bits never fall and are at most 16, no row of the open round came before, and a
+-- round with these bits that opens with every key has a table
+abbrev pub bounded_item : Bounds → Progress → Item → Result Item ScriptError
+bounded_item limits read (item.Row row) =
+    if not (nat_lt row.lane limits.workers && is_in_bounds read.bits row.verb) then Err (OutOfRange read.next)
+    else if is_update row.verb && nat_le limits.updates (updates_of row.lane read.rows) then Err (TooManyUpdates read.next)
     else Ok (item.Row row)
-
--- the same once its lane and its verb's word are known
-abbrev pub worded_row : Bounds → Progress → ℕ → List (List ℕ) → Option Word → Result Item ScriptError
-worded_row limits read lane arguments None = Err (BadVerb read.next)
-worded_row limits read lane arguments (Some word) =
-    if not (length arguments == arity_of word) then Err (BadArity read.next)
-    else if not (list_all is_number arguments) then Err (BadNumber read.next)
-    else bounded_row limits read (record { row = read.next; lane = lane; verb = verb_of word arguments })
-
--- the end of a round, or the fault of a row with this number and the verb `end`
-abbrev pub end_of_round : ℕ → List (List ℕ) → Result Item ScriptError
-end_of_round number arguments = if not (length arguments == 0) then Err (BadArity number) else Ok item.End
-
--- keys have so many bits from now on, or the first fault of that: bits never fall and are at most 16, no row of the open round came
--- before, and a round with these bits that opens with every key has a table
-abbrev pub growth_to : Bounds → Progress → ℕ → Result Item ScriptError
-growth_to limits read bits =
+bounded_item limits read item.End = Ok item.End
+bounded_item limits read (item.Grow bits) =
     if not (nat_le read.bits bits && nat_le bits 16) then Err (OutOfRange read.next)
     else if not (length read.rows == 0) then Err (BadPlace read.next)
     else if not (is_bounds (bounds_at limits bits)) then Err (TooWide read.next)
     else Ok (item.Grow bits)
 
--- the same for a row with the verb `grow`
-abbrev pub growth : Bounds → Progress → List (List ℕ) → Result Item ScriptError
-growth limits read arguments =
-    if not (length arguments == 1) then Err (BadArity read.next)
+-- the item that the record's word names, if it names one, or the first fault of these arguments and of the item's bounds
+abbrev pub named_item : Bounds → Progress → List (List ℕ) → Option Item → Result Item ScriptError
+named_item limits read arguments None = Err (BadVerb read.next)
+named_item limits read arguments (Some next) =
+    if not (length arguments == length (item_written next).1) then Err (BadArity read.next)
     else if not (list_all is_number arguments) then Err (BadNumber read.next)
-    else growth_to limits read (number_of (slice_index_or arguments 0 []))
-
--- what a row whose lane is `*` is read as, by its verb, or its first fault
-abbrev pub starred_row : Bounds → Progress → List (List ℕ) → List ℕ → Result Item ScriptError
-starred_row limits read arguments verb =
-    if is_end verb then end_of_round read.next arguments
-    else if is_grow verb then growth limits read arguments
-    else Err (BadVerb read.next)
+    else bounded_item limits read next
 
 -- what the record that comes next is read as, or its first fault
 abbrev pub item_of : Bounds → Progress → List (List ℕ) → Result Item ScriptError
 item_of limits read fields =
-    let first = slice_index_or fields 0 [] in
-    let second = slice_index_or fields 1 [] in
+    let lane = slice_index_or fields 0 [] in
     if not (are_printable fields) then Err (BadCsv read.next)
-    else if not (is_number first || is_star first) then Err (BadLane read.next)
-    else if is_star first then starred_row limits read (drop 2 fields) second
-    else worded_row limits read (number_of first) (drop 2 fields) (word_of second)
-
--- a fault, or what the item leads on to
-abbrev pub then_read : Result Item ScriptError → (Item → Result Progress ScriptError) → Result Progress ScriptError
-then_read (Ok next) more = more next
-then_read (Err fault) more = Err fault
+    else if not (is_number lane || is_star lane) then Err (BadLane read.next)
+    else named_item limits read (drop 2 fields) (find (λ next. bytes_eq (slice_index_or fields 1 []) (item_written next).0) (items_with read.next fields))
 
 -- what was read once these records were too, or the first faulty row's fault
 unfoldable pub read_from : Bounds → Progress → List (List (List ℕ)) → Result Progress ScriptError
 read_from limits read [] = Ok read
 read_from limits read (fields ∷ rest) =
-    then_read (item_of limits read fields) (λ next. read_from limits (with_item read next) rest)
-
--- the rounds of what was read, or its fault
-abbrev pub rounds_or_fault : Result Progress ScriptError → Result (List ScriptRound) ScriptError
-rounds_or_fault (Ok read) = Ok (rounds_read read)
-rounds_or_fault (Err fault) = Err fault
+    result_flatten (result_map_both (λ next. read_from limits (with_item read next) rest) (λ fault. fault) (item_of limits read fields))
 
 -- the rounds of a script's bytes, or the first faulty row's fault
 abbrev pub rounds_of : Bounds → List ℕ → Result (List ScriptRound) ScriptError
-rounds_of limits bytes = rounds_or_fault (read_from limits (nothing_read limits.bits) (records_of bytes))
+rounds_of limits bytes = result_map_both rounds_read (λ fault. fault) (read_from limits (record { next = 1; bits = limits.bits; rows = []; closed = [] }) (records_of bytes))
 
 -- rows can be run under the limits
 pub record KeepsLimits (limits : Bounds) (rows : List Row) : Type 0 where

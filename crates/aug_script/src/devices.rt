@@ -35,7 +35,7 @@ pub trait Sink {
     // What it did so far: what went out, the calls of `finish`, and the calls that answered `Fault`.
     ghost state: { Self → SinkState };
 
-    /// Writes some bytes from the front of `piece`, and answers how many: at least one, where it has any.
+    /// Writes some bytes from the front of `piece`, and answers how many: at least one, if it has any.
     fn write_some(&mut self, piece: &[u8]) -> Result<usize, Fault>
         requires { (state self.old).faults < 2 ^ 64 - 1 }
         ensures bound { IfOk result (λ n. n ≤ length piece.now) }

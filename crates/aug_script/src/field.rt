@@ -1,8 +1,9 @@
 //! The numbers of a script.
-ghost use Rattle.std.specs.Prelude.{◌≡◌, ◌&&◌, nat_le, IsTrue};
+ghost use Rattle.std.specs.Prelude.{◌≡◌, ◌&&◌, ◌||◌, nat_le, IsTrue};
 ghost use Rattle.std.specs.Char.{is_ascii_digit};
 ghost use Rattle.std.specs.List.{list_all};
-ghost use Rattle.aug_script.specs.Script.{is_end as is_end_field, is_grow as is_grow_field, is_number as is_number_field, number_of, is_star as is_star_field};
+ghost use Rattle.std.specs.Str.Parse.{digits_value};
+ghost use Rattle.aug_script.specs.Script.{is_number as is_number_field, is_star as is_star_field};
 
 fn are_digits(field: &[u8]) -> bool
     ensures { result ≡ list_all is_ascii_digit field.now }
@@ -20,7 +21,7 @@ pub(crate) fn is_number(field: &[u8]) -> bool
 /// The number that 1 to 9 decimal digits write.
 pub(crate) fn number(field: &[u8]) -> u32
     requires { IsTrue (is_number_field field.now) }
-    ensures { result ≡ number_of field.now }
+    ensures { result ≡ digits_value 10 field.now }
 {
     let mut value = 0;
     for b in field {
@@ -36,18 +37,11 @@ pub(crate) fn is_star(field: &[u8]) -> bool
     field == b"*".as_slice()
 }
 
-/// Whether a field is `end`.
-pub(crate) fn is_end(field: &[u8]) -> bool
-    ensures { result ≡ is_end_field field.now }
+/// Whether a field is the number of a lane, or `*`.
+pub(crate) fn is_lane(field: &[u8]) -> bool
+    ensures { result ≡ (is_number_field field.now || is_star_field field.now) }
 {
-    field == b"end".as_slice()
-}
-
-/// Whether a field is `grow`.
-pub(crate) fn is_grow(field: &[u8]) -> bool
-    ensures { result ≡ is_grow_field field.now }
-{
-    field == b"grow".as_slice()
+    is_number(field) || is_star(field)
 }
 
 /// Whether every byte of a field is from 32 to 126.

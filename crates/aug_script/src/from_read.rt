@@ -22,7 +22,7 @@ impl<R: Read> FromRead<R> {
         FromRead { reader, faults: 0 }
     }
 
-    /// The reader, which goes on where the source stopped.
+    /// The reader, which goes on from where the source stopped.
     pub fn into_inner(self) -> R
         ensures { R.remaining result ≡ ⟦<FromRead<R> as Source>⟧.remaining self }
     {

@@ -1,7 +1,6 @@
 ghost use Rattle.std.specs.Prelude.{◌≡◌, ◌^◌, ◌↔◌, IfOk, IsErrOf, IsOk};
 ghost use Rattle.std.specs.Result.{is_ok};
 ghost use Rattle.aug_core.specs.Layout.{IsRefused};
-ghost use Rattle.aug_core.specs.Places.{shape_of};
 ghost use Rattle.aug_script.specs.Limits.{Bounds, IsBounds, bounds_at, is_bounds};
 
 use aug_core::{Layout, LayoutError};
@@ -37,10 +36,10 @@ impl Limits {
         ensures test { is_ok result ≡ is_bounds (record { bits = bits; workers = workers; updates = updates }) }
 
         // One cause each, and the first that is met.
-        ensures bad_bits { IsErrOf result LayoutError.BadBits ↔ IsRefused LayoutError.BadBits (shape_of bits workers updates (2 ^ bits)) }
-        ensures bad_workers { IsErrOf result LayoutError.BadWorkers ↔ IsRefused LayoutError.BadWorkers (shape_of bits workers updates (2 ^ bits)) }
-        ensures bad_updates { IsErrOf result LayoutError.BadUpdates ↔ IsRefused LayoutError.BadUpdates (shape_of bits workers updates (2 ^ bits)) }
-        ensures too_large { IsErrOf result LayoutError.TooLarge ↔ IsRefused LayoutError.TooLarge (shape_of bits workers updates (2 ^ bits)) }
+        ensures bad_bits { IsErrOf result LayoutError.BadBits ↔ IsRefused LayoutError.BadBits bits workers updates (2 ^ bits) }
+        ensures bad_workers { IsErrOf result LayoutError.BadWorkers ↔ IsRefused LayoutError.BadWorkers bits workers updates (2 ^ bits) }
+        ensures bad_updates { IsErrOf result LayoutError.BadUpdates ↔ IsRefused LayoutError.BadUpdates bits workers updates (2 ^ bits) }
+        ensures too_large { IsErrOf result LayoutError.TooLarge ↔ IsRefused LayoutError.TooLarge bits workers updates (2 ^ bits) }
     {
         let members = if bits <= 16 { 1 << bits } else { 0 };
         Layout::new(bits, workers, updates, members)?;
@@ -75,7 +74,7 @@ impl Limits {
         self.updates
     }
 
-    /// Whether a round of so many bits that opens with every key has a table too, with these workers and updates.
+    /// Whether a round of `bits` bits that opens with every key has a table too, with these workers and updates.
     pub(crate) fn has_table(&self, bits: u32) -> bool
         ensures { result ≡ is_bounds (bounds_at self.now bits) }
     {

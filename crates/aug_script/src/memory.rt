@@ -2,7 +2,8 @@
 ghost use Rattle.std.specs.Prelude.{◌+◌, ◌-◌, ◌^◌, ◌<◌, ◌≤◌, ◌≡◌, [], Some, length, IfOk, is_ok, if◌then◌else◌};
 ghost use Rattle.std.specs.Io.KnownBytes.{Keeps, ReadConsumes, WriteAppends};
 
-use crate::{Fault, Finishes, Sink, Source};
+use crate::{Fault, Sink, Source};
+use aug_model::Calls;
 use std::alloc::Global;
 
 /// Gives the bytes that it was made of.
@@ -74,7 +75,7 @@ pub struct MemorySink {
     /// How many of them were `finish`.
     pub finished: u64,
     faults: u64,
-    finishes: Finishes,
+    finishes: Calls,
 }
 
 impl MemorySink {
@@ -82,7 +83,7 @@ impl MemorySink {
     pub fn new(alloc: Global, piece: usize, fault_at: Option<u64>) -> MemorySink
         ensures bytes { result.out.items ≡ [] }
         ensures how { (result.piece ≡ piece) × (result.fault_at ≡ fault_at) }
-        ensures none { (result.calls ≡ 0) × (result.faults ≡ 0) × (result.finished ≡ 0) × (result.finishes.calls ≡ 0) }
+        ensures none { (result.calls ≡ 0) × (result.faults ≡ 0) × (result.finished ≡ 0) × (result.finishes.made ≡ 0) }
     {
         MemorySink {
             out: Vec::new(alloc),
@@ -91,7 +92,7 @@ impl MemorySink {
             calls: 0,
             finished: 0,
             faults: 0,
-            finishes: Finishes::new(),
+            finishes: Calls::new(),
         }
     }
 
@@ -106,7 +107,7 @@ impl MemorySink {
 }
 
 impl Sink for MemorySink {
-    ghost state = { λ s. record { bytes = Some s.out.items; finishes = s.finishes.calls; faults = s.faults } };
+    ghost state = { λ s. record { bytes = Some s.out.items; finishes = s.finishes.made; faults = s.faults } };
 
     fn write_some(&mut self, piece: &[u8]) -> Result<usize, Fault> {
         let count = piece.len().min(self.piece.max(1));

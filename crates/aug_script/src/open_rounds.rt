@@ -1,7 +1,7 @@
 //! The rounds of a script while it is read.
 ghost use Rattle.std.specs.Prelude.{◌≡◌, ◌+◌, ◌-◌, ◌^◌, ◌<◌, ◌≤◌, ◌==◌, IfOk, OnOk, length};
-ghost use Rattle.aug_script.specs.inside.Items.{CanTake};
-ghost use Rattle.aug_script.specs.Script.{nothing_read, rounds_read, updates_of, with_item};
+ghost use Rattle.aug_script.specs.inside.Items.{CanTake, nothing_read};
+ghost use Rattle.aug_script.specs.Script.{rounds_read, updates_of, with_item};
 ghost use Rattle.aug_script.specs.declared.item.Item.TheVariants as item;
 
 use crate::{Item, Listed, Row, ScriptRound};
@@ -36,7 +36,7 @@ impl Model for OpenRounds {
 }
 
 impl OpenRounds {
-    /// No rounds yet, and keys of so many bits.
+    /// No rounds yet, and keys of `bits` bits.
     pub(crate) fn new(alloc: Global, bits: u32) -> OpenRounds
         requires { bits ≤ 16 }
         ensures { result ≡ nothing_read bits }
@@ -134,7 +134,7 @@ impl OpenRounds {
         self.next += 1;
     }
 
-    /// All rounds, the open one as the last where it has rows.
+    /// All rounds. The open one is the last if it has rows.
     pub(crate) fn into_rounds(self) -> Result<Vec<ScriptRound>, AllocError>
         ensures { IfOk result (λ rounds. rounds.items ≡ rounds_read self) }
     {

@@ -1,7 +1,8 @@
 //! Scripts read from their bytes.
 ghost use Rattle.std.specs.Prelude.{◌≡◌, ◌≢◌, ◌+◌, ◌≤◌, All, Ok, Err, IfOk, IfErr, length};
 ghost use Rattle.aug_script.specs.Limits.{IsBounds};
-ghost use Rattle.aug_script.specs.Script.{IsRunnable, NeverNarrows, nothing_read, read_from, records_of, rounds_of};
+ghost use Rattle.aug_script.specs.Script.{IsRunnable, NeverNarrows, read_from, records_of, rounds_of};
+ghost use Rattle.aug_script.specs.inside.Items.{nothing_read};
 
 use crate::judge::judge;
 use crate::open_rounds::OpenRounds;

@@ -2,7 +2,8 @@
 ghost use Rattle.std.specs.Prelude.{◌≡◌, ◌+◌, ◌-◌, ◌^◌, ◌<◌, ◌≤◌, length, IfOk, is_ok, if◌then◌else◌};
 ghost use Rattle.std.specs.Io.KnownBytes.{Keeps, WriteAppends};
 
-use crate::{Fault, Finishes, Sink};
+use crate::{Fault, Sink};
+use aug_model::Calls;
 use std::io::Write;
 
 /// A sink that hands its bytes to a writer. Each call of the writer that fails is a fault, also one that was
@@ -11,7 +12,7 @@ use std::io::Write;
 pub struct ToWrite<W> {
     writer: W,
     faults: u64,
-    finishes: Finishes,
+    finishes: Calls,
 }
 
 impl<W: Write> ToWrite<W> {
@@ -22,7 +23,7 @@ impl<W: Write> ToWrite<W> {
         ToWrite {
             writer,
             faults: 0,
-            finishes: Finishes::new(),
+            finishes: Calls::new(),
         }
     }
 
@@ -44,7 +45,7 @@ impl<W: Write> ToWrite<W> {
 }
 
 impl<W: Write> Sink for ToWrite<W> {
-    ghost state = { λ s. record { bytes = W.contents s.writer; finishes = s.finishes.calls; faults = s.faults } };
+    ghost state = { λ s. record { bytes = W.contents s.writer; finishes = s.finishes.made; faults = s.faults } };
 
     fn write_some(&mut self, piece: &[u8]) -> Result<usize, Fault> {
         match self.writer.write(piece) {

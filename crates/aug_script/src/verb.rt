@@ -34,54 +34,39 @@ pub enum Verb {
     Range(u32, u32),
 }
 
-/// The word that names a verb in a script.
-#[derive(Clone, Copy, Debug, PartialEq, Eq)]
-pub(crate) enum Word {
-    Insert,
-    Put,
-    Remove,
-    Look,
-    Has,
-    Weight,
-    Size,
-    Rank,
-    Select,
-    Before,
-    After,
-    Range,
-}
+impl Verb {
+    ghost use Rattle.std.specs.Prelude.{find, length};
+    ghost use Rattle.std.specs.Str.{bytes_eq};
+    ghost use Rattle.aug_script.specs.Script.{is_in_bounds as is_in_bounds_of, is_update as is_update_of, verbs_with, written};
 
-impl Word {
-    ghost use Rattle.aug_script.specs.Script.{word_of, arity_of};
-
-    /// The verb's word that a field is, if it is one.
-    pub(crate) fn from_field(field: &[u8]) -> Option<Word>
-        ensures { result ≡ word_of field.now }
+    /// The verb that a word names, with its arguments from these two numbers, if it names one.
+    pub(crate) fn named(word: &[u8], a: u32, b: u32) -> Option<Verb>
+        ensures { result ≡ find (λ asked. bytes_eq word.now (written asked).0) (verbs_with a b) }
     {
-        if field == b"insert".as_slice() {
-            Some(Word::Insert)
-        } else if field == b"put".as_slice() {
-            Some(Word::Put)
-        } else if field == b"remove".as_slice() {
-            Some(Word::Remove)
-        } else if field == b"look".as_slice() {
-            Some(Word::Look)
-        } else if field == b"has".as_slice() {
-            Some(Word::Has)
-        } else if field == b"weight".as_slice() {
-            Some(Word::Weight)
-        } else if field == b"size".as_slice() {
-            Some(Word::Size)
-        } else if field == b"rank".as_slice() {
-            Some(Word::Rank)
-        } else if field == b"select".as_slice() {
-            Some(Word::Select)
-        } else if field == b"before".as_slice() {
-            Some(Word::Before)
-        } else if field == b"after".as_slice() {
-            Some(Word::After)
-        } else if field == b"range".as_slice() {
-            Some(Word::Range)
+        if word == b"insert".as_slice() {
+            Some(Verb::Insert(a))
+        } else if word == b"put".as_slice() {
+            Some(Verb::Put(a, b))
+        } else if word == b"remove".as_slice() {
+            Some(Verb::Remove(a))
+        } else if word == b"look".as_slice() {
+            Some(Verb::Look)
+        } else if word == b"has".as_slice() {
+            Some(Verb::Has(a))
+        } else if word == b"weight".as_slice() {
+            Some(Verb::Weight(a))
+        } else if word == b"size".as_slice() {
+            Some(Verb::Size)
+        } else if word == b"rank".as_slice() {
+            Some(Verb::Rank(a))
+        } else if word == b"select".as_slice() {
+            Some(Verb::Select(a))
+        } else if word == b"before".as_slice() {
+            Some(Verb::Before(a))
+        } else if word == b"after".as_slice() {
+            Some(Verb::After(a))
+        } else if word == b"range".as_slice() {
+            Some(Verb::Range(a, b))
         } else {
             None
         }
@@ -89,19 +74,15 @@ impl Word {
 
     /// How many arguments the verb has.
     pub(crate) fn arity(self) -> usize
-        ensures { result ≡ arity_of self }
+        ensures { result ≡ length (written self).1 }
     {
         match self {
-            Word::Look | Word::Size => 0,
-            Word::Insert | Word::Remove | Word::Has | Word::Weight => 1,
-            Word::Rank | Word::Select | Word::Before | Word::After => 1,
-            Word::Put | Word::Range => 2,
+            Verb::Look | Verb::Size => 0,
+            Verb::Insert(_) | Verb::Remove(_) | Verb::Has(_) | Verb::Weight(_) => 1,
+            Verb::Rank(_) | Verb::Select(_) | Verb::Before(_) | Verb::After(_) => 1,
+            Verb::Put(_, _) | Verb::Range(_, _) => 2,
         }
     }
-}
-
-impl Verb {
-    ghost use Rattle.aug_script.specs.Script.{is_in_bounds as is_in_bounds_of, is_update as is_update_of};
 
     /// Whether the arguments are within their bounds, for keys of so many bits.
     pub(crate) fn is_in_bounds(self, bits: u32) -> bool

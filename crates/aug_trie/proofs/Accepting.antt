@@ -1,6 +1,6 @@
 -- What the steps and updates of a pass do to what it knows.
-use Rattle.std.proofs.Common.{◌≡◌, ◌≢◌, ℕ, ◌+◌, ◌%◌, ◌^◌, ◌<◌, ◌≤◌, Bool, true, false, List, [], ◌∷◌, ◌++◌, All, sym, refl, ap, ◌∙◌, subst, inl, arith}
-use Rattle.std.proofs.lemmas.Bool.{eqb-true, eqb-false, false≢true}
+use Rattle.std.proofs.Common.{◌≡◌, ◌≢◌, ℕ, ◌+◌, ◌%◌, ◌^◌, ◌<◌, ◌≤◌, Bool, true, false, List, [], ◌∷◌, ◌++◌, All, sym, refl, ap, ◌∙◌, subst, inl, inr, ⊎_elim, arith}
+use Rattle.std.proofs.lemmas.Bool.{cases_lt, eqb-true, eqb-false, false≢true}
 use Rattle.std.proofs.lemmas.List.{append-nil}
 use Rattle.std.proofs.lemmas.List.Elements.{All-nil, All-cons, All-append, All-weaker}
 use Rattle.aug_core.specs.Places.{Shape}
@@ -10,7 +10,7 @@ use Rattle.aug_core.specs.Counts.{change, changes_of}
 use Rattle.aug_core.specs.Told.{KnowsTable, LoadsNode, made_by, new_serial}
 use Rattle.aug_core.specs.Cuts.{serial_of, IsAtMost}
 use Rattle.aug_core.specs.inside.RootCuts.{root_cut}
-use Rattle.aug_core.specs.EntryCuts.{IsPartOfCut}
+use Rattle.aug_core.specs.inside.EntryCuts.{IsPartOfCut}
 use Rattle.aug_core.specs.inside.Shows.{NewestShows}
 use Rattle.aug_core.specs.declared.view.Advance.{Advance}
 use Rattle.aug_core.specs.declared.view.Change.{Change}
@@ -19,11 +19,11 @@ use Rattle.aug_core.proofs.EntryCuts.{root_part}
 use Rattle.aug_model.specs.declared.outcome.Outcome.{Outcome}
 use Rattle.aug_model.specs.declared.outcome.Outcome.TheVariants.{Accepted, Replaced, Refused}
 use Rattle.aug_trie.specs.inside.Goes.{Goes}
-use Rattle.aug_trie.specs.inside.Climbing.{WentUp, Stayed, Updated}
+use Rattle.aug_trie.specs.inside.Climbing.{WentUp, Stayed, Updated, advance_from}
 use Rattle.aug_trie.specs.History.{IsPrefix, last_cut}
 use Rattle.aug_trie.specs.Knowledge.{StandsIn, insertion, removal}
 use Rattle.aug_trie.specs.LeafWords.{serial_in_word}
-use Rattle.aug_trie.specs.Requests.{advance_from, in_the_way}
+use Rattle.aug_trie.specs.Requests.{in_the_way}
 use Rattle.aug_trie.specs.Updates.{AcceptedUpdate, RefusedUpdate, ReplacedUpdate, RefusedPut, ComesTo, TakesSnapshot}
 use Rattle.aug_trie.specs.inside.Knows.{root_history, knows, KnowsRound}
 use Rattle.aug_trie.specs.declared.updates.request.Request.{Request}
@@ -111,19 +111,16 @@ module _ (face : ℕ → ℕ → List (ℕ × ℕ) → List ℕ) where
     refused_is : (kind found : ℕ) (s : Stayed face used v key request w found) → in_the_way request found % 2 ≡ kind → found ≤ in_the_way request found → RefusedUpdate kind key (knows v) (knows w)
     refused_is kind found s suits le = record {
       goes_on = knows_on v w kn s.goes.shaped s.goes.later;
-      number = in_the_way request found;
-      suits = suits;
-      not_past = let below = refused_number found s in omega arith;
-      shows = shown_number found s;
+      stood = let before = serial_of (last_cut (knows v).history) key in let below = refused_number found s in let shown = shown_number found s in
+          ⊎_elim (λ (less : before < in_the_way request found). inr (omega arith))
+          (λ (more : in_the_way request found ≤ before). let same : before ≡ in_the_way request found = omega arith in inl (ap (λ n. n % 2) same ∙ suits)) (cases_lt before (in_the_way request found));
       same_changes = s.goes.changes ∙ append-nil (changes_of v.held);
     }
 
     refused_put : (found : ℕ) (s : Stayed face used v key request w found) → in_the_way request found ≡ found + 1 → RefusedPut key (knows v) (knows w)
     refused_put found s next = record {
       goes_on = knows_on v w kn s.goes.shaped s.goes.later;
-      number = in_the_way request found;
-      is_new = let below = refused_number found s in omega arith;
-      shows = shown_number found s;
+      rises = let below = refused_number found s in let shown = shown_number found s in omega arith;
       same_changes = s.goes.changes ∙ append-nil (changes_of v.held);
     }
 

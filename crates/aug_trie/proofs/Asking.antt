@@ -6,7 +6,8 @@ use Rattle.aug_model.specs.Folds.{summary_of}
 use Rattle.aug_core.specs.Counts.{changes_of}
 use Rattle.aug_core.specs.Faces.{face}
 use Rattle.aug_words.specs.Seats.{Known}
-use Rattle.aug_trie.specs.Node.{IsNodeAt, Reads}
+use Rattle.aug_trie.specs.Node.{Reads}
+use Rattle.aug_trie.specs.inside.NodeWords.{IsNodeAt}
 use Rattle.aug_trie.specs.Pass.{PassFacts}
 use Rattle.aug_trie.specs.Snapshot.{HasSnapshot, set_at}
 use Rattle.aug_trie.specs.inside.Counted.{HasCounts}

@@ -10,9 +10,8 @@ use Rattle.aug_core.specs.declared.view.View.{View}
 use Rattle.aug_trie.specs.inside.Counted.{HasCounts, insertions_by, removals_by}
 use Rattle.aug_model.specs.declared.outcome.Outcome.{Outcome}
 use Rattle.aug_model.specs.declared.outcome.Outcome.TheVariants.{Accepted, Replaced, Refused}
-use Rattle.aug_trie.specs.inside.Climbing.{WentUp, Stayed, Updated}
+use Rattle.aug_trie.specs.inside.Climbing.{WentUp, Stayed, Updated, advance_from}
 use Rattle.aug_trie.specs.LeafWords.{serial_in_word}
-use Rattle.aug_trie.specs.Requests.{advance_from}
 use Rattle.aug_trie.specs.declared.updates.request.Request.{Request}
 use Rattle.aug_trie.specs.declared.updates.request.Request.TheVariants.{Insert, Remove, Put}
 use Rattle.aug_trie.proofs.Requesting.{made_one, made_two}

@@ -1,5 +1,5 @@
 -- A crew as its round begins, and as it hands passes out.
-use Rattle.std.proofs.Common.{◌≡◌, ℕ, ◌+◌, ◌*◌, ◌%◌, ◌^◌, ◌<◌, ◌≤◌, List, [], ◌∷◌, All, length, sym, refl, ap, ◌∙◌, subst, arith}
+use Rattle.std.proofs.Common.{◌≡◌, ℕ, ◌+◌, ◌-◌, ◌*◌, ◌%◌, ◌^◌, ◌<◌, ◌≤◌, List, [], ◌∷◌, All, length, sym, refl, ap, ◌∙◌, subst, arith}
 use Rattle.std.specs.Prelude.{unwrap_or, Some, map, Option, option_map}
 use Rattle.std.specs.List.{range_with_len}
 use Rattle.aug_monoid.specs.Weighted.{FitsPair}
@@ -25,12 +25,13 @@ use Rattle.atomic_table.specs.Seated.{TableId}
 use Rattle.aug_trie.specs.inside.Counted.{HasCounts}
 use Rattle.aug_trie.specs.inside.Goes.{HasLeaves}
 use Rattle.aug_trie.specs.inside.Knows.{knows, root_history, KnowsRound}
+use Rattle.aug_trie.specs.Pass.{PassFacts}
 use Rattle.aug_trie.specs.inside.PassState.{IsPass, pass_facts}
 use Rattle.aug_trie.specs.inside.CrewState.{IsCrew, crew_facts, HoldsCrew}
 use Rattle.aug_trie.specs.inside.RoundState.{round_of}
 use Rattle.aug_trie.specs.Passes.{HandedBack}
 use Rattle.aug_trie.specs.Knowledge.{inserts_of, removals_of}
-use Rattle.aug_trie.specs.Crew.{HandsOut, TakesBack}
+use Rattle.aug_trie.specs.Crew.{CrewFacts, HandsOut, TakesBack}
 use Rattle.aug_trie.proofs.Counters.{counted_none, is_insertion, is_removal}
 use Rattle.aug_trie.proofs.Counting.{hits-append}
 use Rattle.aug_trie.proofs.Handing.{crew_begins, handed_out_is, handed_back_is, crew_after, pass_table, pass_begins, crew_out}
@@ -102,15 +103,15 @@ module _ (face : ℕ → ℕ → List (ℕ × ℕ) → List ℕ) where
     pub hands_out_is : (table : TableId) (left : ℕ) → c.handed < old.shape.workers → left ≡ old.shape.updates → KnowsRound pass → HandsOut (crew_facts (record { table = table; view = old })) (crew_facts (record { table = table; view = new })) (pass_facts (record { table = table; view = pass }) left)
     hands_out_is table left low full known = let out = c.is_crew.hands_out in let at : unwrap_or old.spare 0 ≡ c.handed = ap (λ (z : Option ℕ). unwrap_or z 0) out in record {
       knows = handed_out_is face old b r c.is_crew.knows_table l place;
-      round = λ i. round_of table (record old { shape = same_shape i; members = same_members i });
-      pass_round = λ i. round_of table (record old { shape = same_shape i; members = same_members i });
-      next_lane = ap (λ (z : Option ℕ). unwrap_or z 0) same_spare;
+      crew_is = let one_more : unwrap_or new.spare 0 ≡ unwrap_or old.spare 0 + 1 = ap (λ (z : Option ℕ). unwrap_or (option_map (λ n. n + 1) z) 0) (same_spare ∙ out) ∙ ap (λ n. n + 1) (sym at) in
+          let facts : CrewFacts = crew_facts (record { table = table; view = new }) in
+          λ i. record facts { round = round_of table (record old { shape = same_shape i; members = same_members i }); handed = one_more i; back = length (same_held i) };
+      pass_is = let fresh : b.shape.updates - left ≡ 0 = let e : b.shape.updates ≡ old.shape.updates = ap (λ (z : Shape). z.updates) same_shape in omega arith in
+          let facts : PassFacts = pass_facts (record { table = table; view = pass }) left in
+          λ i. record facts { round = round_of table (record old { shape = same_shape i; members = same_members i }); lane = unwrap_or (same_spare i) 0; spent = fresh i };
       exists = omega arith;
-      one_more = ap (λ (z : Option ℕ). unwrap_or (option_map (λ n. n + 1) z) 0) (same_spare ∙ out) ∙ ap (λ n. n + 1) (sym at);
-      same_back = ap (λ (z : List Held). length z) same_held;
-      loads = record { found = r; step = ap (λ (z : View). z.steps) l.stepped };
+      loads = (r, ap (λ (z : View). z.steps) l.stepped);
       named = numbers_long b.shape b.seen;
-      fresh = let e : b.shape.updates ≡ old.shape.updates = ap (λ (z : Shape). z.updates) same_shape in omega arith;
       knowledge = record { is_history = known.is_history; stands = known.stands };
     }
 
@@ -144,9 +145,8 @@ module _ (face : ℕ → ℕ → List (ℕ × ℕ) → List ℕ) where
     pub takes_back_is : (table other : TableId) (left : ℕ) → TakesBack (crew_facts (record { table = table; view = old })) (crew_facts (record { table = table; view = w })) (pass_facts (record { table = other; view = p }) left)
     takes_back_is table other left = record {
       knows = back_knows;
-      round = ap (λ (z : View). round_of table z) l.stepped;
-      one_more = one_back;
-      same_handed = ap (λ (z : View). unwrap_or z.spare 0) l.stepped;
+      crew_is = let facts : CrewFacts = crew_facts (record { table = table; view = w }) in
+          λ i. record facts { round = round_of table (l.stepped i); handed = unwrap_or (l.stepped i).spare 0; back = one_back i };
       knowledge = (crew_after face old p w place r lane c.is_crew.knows_table kp one_shape only l c.handed (length old.held) c.is_crew known).knowledge;
-      loads = record { found = r; step = ap (λ (z : View). z.steps) l.stepped };
+      loads = (r, ap (λ (z : View). z.steps) l.stepped);
     }

@@ -12,7 +12,8 @@ use Rattle.aug_query.specs.Tree.{first_key, end_key, below_node, IsTreeSet}
 use Rattle.aug_query.specs.declared.loaded.Loaded.{Loaded}
 use Rattle.aug_query.proofs.Nodes.{left_high, right_high, middle_high}
 use Rattle.aug_trie.specs.LeafWords.{serial_in_word}
-use Rattle.aug_trie.specs.Ended.{EndedFacts, set_of_ended, word_in, covered, IsVersion, NamesEnded, HasEndedNode}
+use Rattle.aug_trie.specs.Ended.{EndedFacts, set_of_ended}
+use Rattle.aug_trie.specs.inside.EndedTree.{word_in, covered, IsVersion, NamesEnded, HasEndedNode}
 use Rattle.aug_trie.specs.inside.EndedState.{pairs_at_rest, HoldsVersion}
 use Rattle.aug_trie.specs.declared.rounds.ended_tree.EndedNode.{EndedNode}
 use Rattle.aug_trie.proofs.Versions.{ended_set, inside_of, count_is, count_fits}

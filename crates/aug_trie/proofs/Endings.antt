@@ -32,7 +32,8 @@ use Rattle.aug_core.specs.declared.view.Change.{Change}
 use Rattle.aug_trie.specs.inside.Knows.{knows}
 use Rattle.aug_trie.specs.inside.CrewState.{crew_facts, HoldsCrew}
 use Rattle.aug_query.specs.Descend.{nothing_loaded}
-use Rattle.aug_trie.specs.Ended.{EndedFacts, word_in}
+use Rattle.aug_trie.specs.Ended.{EndedFacts}
+use Rattle.aug_trie.specs.inside.EndedTree.{word_in}
 use Rattle.aug_trie.specs.Crew.{Ends}
 use Rattle.aug_trie.specs.Tallies.{TalliesWithLost}
 use Rattle.aug_trie.proofs.Counting.{filter_shorter}

@@ -1,7 +1,8 @@
 -- How the steps of a pass go together.
-use Rattle.std.proofs.Common.{◌≡◌, ℕ, zero, suc, ◌+◌, ◌-◌, ◌*◌, ◌<◌, ◌≤◌, false, List, [], ◌∷◌, ◌++◌, length, append_assoc, length-append, length-set, sym, refl, ap, ◌∙◌, subst, arith}
+use Rattle.std.proofs.Common.{◌≡◌, ◌≢◌, Bool, true, ℕ, zero, suc, ◌+◌, ◌-◌, ◌*◌, ◌<◌, ◌≤◌, false, List, [], ◌∷◌, ◌++◌, length, append_assoc, length-append, length-set, sym, refl, ap, ◌∙◌, subst, arith}
 use Rattle.std.proofs.lemmas.List.{append-nil}
 use Rattle.std.proofs.lemmas.List.Elements.{All-nil, All-cons, All-append}
+use mathlib.Core.Bool.{false≢true}
 use mathlib.Core.Option.{some, some-injective}
 use lib.ListN.{get_elem?}
 use Rattle.aug_core.specs.Places.{Shape}
@@ -12,24 +13,36 @@ use Rattle.aug_core.specs.Counts.{changes_of}
 use Rattle.aug_core.specs.Told.{HoldsOnly, own_lane, on_first, with_word, with_published, with_changes, stepping, storing, seeing, beginning, publishing, changing, KnowsTable, MayStore, MayChange, Sees}
 use Rattle.aug_core.specs.declared.step.StepTaken.{StepTaken}
 use Rattle.aug_core.specs.declared.view.Change.{Change}
+use Rattle.aug_core.specs.declared.step.StepKind.{StepKind}
+use Rattle.aug_core.specs.declared.step.StepKind.TheVariants.{LoadLeaf, TryLeaf, LoadNode, TryNode, LoadRecordWord, StoreRecordWord, TakeLane, FinishLane}
 use Rattle.aug_core.specs.declared.view.Held.{Held}
 use Rattle.aug_core.specs.declared.view.View.{View}
 use Rattle.aug_core.proofs.Books.{fresh_now, fresh_on}
 use Rattle.aug_core.proofs.Fits.{knows_shown, knows_same}
 use Rattle.aug_trie.specs.inside.Points.{QuietStep}
-use Rattle.aug_trie.specs.Pass.{tries_leaf}
 use Rattle.aug_trie.specs.inside.Goes.{IsFree, HasRoom, Took, TookBetween, Goes}
 
 -- ---- steps, one after another
 
+-- the kind is that of an exchange of a leaf
+abbrev tries_leaf : StepKind → Bool
+tries_leaf TryLeaf = true
+tries_leaf LoadLeaf = false
+tries_leaf LoadNode = false
+tries_leaf TryNode = false
+tries_leaf LoadRecordWord = false
+tries_leaf StoreRecordWord = false
+tries_leaf TakeLane = false
+tries_leaf FinishLane = false
+
 abbrev quiet : StepTaken → Type 0
-quiet taken = tries_leaf taken.kind ≡ false
+quiet taken = taken.kind ≢ TryLeaf
 
 pub took_none : (v w : View) → w.steps ≡ v.steps → Took v w 0
 took_none v w is = record { more = []; steps = is ∙ sym (append-nil v.steps); count = refl; no_try = All-nil quiet }
 
 pub took_one : (v w : View) (taken : StepTaken) → tries_leaf taken.kind ≡ false → w.steps ≡ v.steps ++ taken ∷ [] → Took v w 1
-took_one v w taken other is = record { more = taken ∷ []; steps = is; count = refl; no_try = All-cons quiet taken [] other (All-nil quiet) }
+took_one v w taken other is = record { more = taken ∷ []; steps = is; count = refl; no_try = All-cons quiet taken [] (λ is. false≢true (sym other ∙ ap tries_leaf is)) (All-nil quiet) }
 
 pub took_on : (u v w : View) (m n k : ℕ) → m + n ≡ k → Took u v m → Took v w n → Took u w k
 took_on u v w m n k total a b = let x = a.count in let y = b.count in record {

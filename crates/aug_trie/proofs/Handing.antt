@@ -10,6 +10,7 @@ use Rattle.aug_core.specs.Counts.{changes_of}
 use Rattle.aug_core.specs.Told.{HoldsOnly, KnowsTable, LoadsNode, in_state, on_first, new_lane, handing_out, handed_out, taking, finishing, taking_back}
 use Rattle.aug_core.specs.declared.view.Change.{Change}
 use Rattle.aug_core.specs.declared.view.Held.{Held}
+use Rattle.aug_core.specs.declared.view.LaneState.TheVariants.{Taken, Ended}
 use Rattle.aug_core.specs.declared.view.View.{View}
 use Rattle.aug_core.proofs.Fits.{knows_shown, knows_same}
 use Rattle.aug_trie.specs.inside.Goes.{HasRoom, HasLeaves}
@@ -52,7 +53,7 @@ module _ (face : ℕ → ℕ → List (ℕ × ℕ) → List ℕ) where
 
     -- then it hands a lane out: the new pass knows what its lead then knows, and no change
     pub handed_out_is : (place : ℕ) → HandedOut (knows v) (knows (handing_out w)) (knows (taking (handed_out w) place))
-    handed_out_is place = record { goes_on = knows_on face v w kn same_shape t.sees.later; same_changes = loaded_changes; same_history = refl; no_change = refl }
+    handed_out_is place = record { goes_on = knows_on face v w kn same_shape t.sees.later; same_changes = loaded_changes; pass_knows = refl }
 
     pub pass_table : (place : ℕ) → KnowsTable face (taking (handed_out w) place)
     pass_table place = let p : View = taking (handed_out w) place in knows_same face w p.live p.also p.held p.spare p.began p.steps loaded_table
@@ -69,7 +70,7 @@ module _ (face : ℕ → ℕ → List (ℕ × ℕ) → List ℕ) where
   pub pass_room : (v : View) (place : ℕ) → HasRoom (taking (handed_out v) place) (first_record v.shape (unwrap_or v.spare 0)) (lane_records v.shape)
   pass_room v place = record {
     is_free = record {
-      lane = in_state 1 (new_lane v.shape (unwrap_or v.spare 0));
+      lane = in_state Taken (new_lane v.shape (unwrap_or v.spare 0));
       only = refl;
       from_first = omega arith;
       unpublished = λ n up listed. some-ne-none n (sym listed.1);
@@ -90,8 +91,8 @@ module _ (face : ℕ → ℕ → List (ℕ × ℕ) → List ℕ) where
     knowledge = record { is_history = is_history face p kn; stands = All-nil (StandsIn (last_cut (knows p).history)) };
   }
 
-  finished_changes : (p : View) (h : Held) → HoldsOnly p h → changes_of (on_first (in_state 2) p.held) ≡ changes_of p.held
-  finished_changes p h only = ap (λ (z : List Held). changes_of (on_first (in_state 2) z)) only ∙ sym (ap changes_of only)
+  finished_changes : (p : View) (h : Held) → HoldsOnly p h → changes_of (on_first (in_state Ended) p.held) ≡ changes_of p.held
+  finished_changes p h only = ap (λ (z : List Held). changes_of (on_first (in_state Ended) z)) only ∙ sym (ap changes_of only)
 
   -- a pass that was taken back, and the load of the root after it
   module _ (v p w : View) (place r : ℕ) (lane : Held) (kv : KnowsTable face v) (kp : KnowsTable face p) (one_shape : p.shape ≡ v.shape) (only : HoldsOnly p lane)
@@ -107,7 +108,7 @@ module _ (face : ℕ → ℕ → List (ℕ × ℕ) → List ℕ) where
         knows_shown face u w (knows_same face v u.live u.also u.held u.spare u.began u.steps kv) t.sees back_shape (ap (λ (z : View). z.members) t.stepped)
 
     all_changes : changes_of w.held ≡ changes_of v.held ++ changes_of p.held
-    all_changes = ap (λ (z : View). changes_of z.held) t.stepped ∙ changes-append v.held (on_first (in_state 2) p.held) ∙ ap (λ (z : List Change). changes_of v.held ++ z) (finished_changes p lane only)
+    all_changes = ap (λ (z : View). changes_of z.held) t.stepped ∙ changes-append v.held (on_first (in_state Ended) p.held) ∙ ap (λ (z : List Change). changes_of v.held ++ z) (finished_changes p lane only)
 
     -- the lead knows what both knew
     pub handed_back_is : HandedBack (knows v) (knows p) (knows w)
@@ -128,7 +129,7 @@ module _ (face : ℕ → ℕ → List (ℕ × ℕ) → List ℕ) where
     crew_after handed back c k = record {
       knows_table = back_table;
       hands_out = ap (λ (z : View). z.spare) t.stepped ∙ c.hands_out;
-      took_back = let e : length w.held ≡ length v.held + length (on_first (in_state 2) p.held) = ap (λ (z : View). length z.held) t.stepped ∙ length-append v.held (on_first (in_state 2) p.held) in
-          let one : length (on_first (in_state 2) p.held) ≡ 1 = ap (λ (z : List Held). length (on_first (in_state 2) z)) only in let b = c.took_back in omega arith;
+      took_back = let e : length w.held ≡ length v.held + length (on_first (in_state Ended) p.held) = ap (λ (z : View). length z.held) t.stepped ∙ length-append v.held (on_first (in_state Ended) p.held) in
+          let one : length (on_first (in_state Ended) p.held) ≡ 1 = ap (λ (z : List Held). length (on_first (in_state Ended) z)) only in let b = c.took_back in omega arith;
       knowledge = back_knowledge c.knowledge k;
     }

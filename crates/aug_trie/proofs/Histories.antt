@@ -16,7 +16,7 @@ use Rattle.aug_core.specs.inside.Shows.{above, NewestShows, ShowsAtMost}
 use Rattle.aug_core.proofs.Showing.{above_root}
 use Rattle.aug_core.specs.Cuts.{Cut, shown_of, serial_of, opening_cut, IsAtMost}
 use Rattle.aug_trie.specs.History.{IsPrefix, IsHistory, last_cut}
-use Rattle.aug_core.specs.EntryCuts.{entry_of}
+use Rattle.aug_core.specs.inside.EntryCuts.{entry_of}
 use Rattle.aug_core.specs.inside.RootCuts.{root_cut}
 use Rattle.aug_core.specs.Told.{KnowsTable, opening_of}
 use Rattle.aug_trie.specs.inside.Knows.{root_history, root_numbers}

@@ -4,13 +4,13 @@ use Rattle.aug_core.specs.Places.{Shape}
 use Rattle.aug_core.specs.Addresses.{root_place}
 use Rattle.aug_core.specs.Book.{Book, history_of, Continues, IsBook}
 use Rattle.aug_core.specs.Cuts.{Cut}
-use Rattle.aug_core.specs.EntryCuts.{IsPartOfCut}
+use Rattle.aug_core.specs.inside.EntryCuts.{IsPartOfCut}
 use Rattle.aug_core.specs.declared.view.Entry.{Entry}
 use Rattle.aug_core.proofs.Books.{at_below, no_shorter}
 use Rattle.aug_core.proofs.Levels.{root_word}
 use Rattle.aug_core.proofs.EntryCuts.{entry_later, cut_later}
 use Rattle.aug_trie.specs.inside.NamedCuts.{IsSnapshotOf}
-use Rattle.aug_trie.specs.Node.{IsNodeAt}
+use Rattle.aug_trie.specs.inside.NodeWords.{IsNodeAt}
 
 module _ (face : ℕ → ℕ → List (ℕ × ℕ) → List ℕ) (s : Shape) (book later : Book) (b : IsBook face s book) (grows : Continues later book) where
   pub part_later : (cut : Cut) (level place q i : ℕ) → IsPartOfCut s book cut level place q i → IsPartOfCut s later cut level place q i

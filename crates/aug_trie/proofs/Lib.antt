@@ -22,6 +22,7 @@ pub mod Trees
 pub mod Passing
 pub mod Snapshots
 pub mod Asking
+pub mod PassCalls
 pub mod SnapshotWalks
 pub mod RoundLemmas
 pub mod Crews

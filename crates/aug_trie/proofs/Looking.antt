@@ -13,8 +13,9 @@ use Rattle.aug_core.specs.Told.{HasSeen, KnowsTable}
 use Rattle.aug_core.specs.declared.view.View.{View}
 use Rattle.aug_core.proofs.Books.{fresh_now}
 use Rattle.aug_core.proofs.Fits.{knows_same}
+use Rattle.aug_core.proofs.PlaceLemmas.{keys-within}
 use Rattle.aug_trie.specs.LeafWords.{weight_in_word, leaf_pairs}
-use Rattle.aug_trie.specs.Node.{IsNodeAt}
+use Rattle.aug_trie.specs.inside.NodeWords.{IsNodeAt}
 use Rattle.aug_trie.specs.inside.Goes.{Goes, Looks}
 use Rattle.aug_trie.specs.TreeOf.{IsTreeOf}
 use Rattle.aug_trie.specs.inside.Points.{Says}
@@ -43,6 +44,9 @@ module _ {A B : Type 0} (parts_a : Parts A) (parts_b : Parts B) (v : View) (kn :
   pub leaf_weighs : level ≡ 0 → weight_in_word word ≡ weight_in (pairs_of_cut cut) place
   leaf_weighs low = leaf_weight parts_a parts_b v kn.book cut place word (subst (λ (z : ℕ). IsNodeAt v.shape v.seen cut z place word) low t)
 
+  few_keys : 2 ^ v.shape.bits ≤ 65536
+  few_keys = (keys-within v.shape.bits kn.laid_out.bits.0 kn.laid_out.bits.1).1
+
   module _ (inner : 1 ≤ level) where
     one_up : level ≡ suc (level - 1)
     one_up = omega arith
@@ -60,14 +64,14 @@ module _ {A B : Type 0} (parts_a : Parts A) (parts_b : Parts B) (v : View) (kn :
     pub right_is : (r : ℕ) → Says v word 1 r → IsNodeAt v.shape v.seen cut (level - 1) (2 * place + 1) r
     right_is = right_node parts_a parts_b v kn.book cut (level - 1) place word below
 
-    pub count_fits : (n : ℕ) → 2 ^ v.shape.bits ≤ 65536 → Says v word 2 n → n ≤ 65536
-    count_fits = count_few parts_a parts_b v kn.book cut (level - 1) place word below
+    pub count_fits : (n : ℕ) → Says v word 2 n → n ≤ 65536
+    count_fits n = count_few parts_a parts_b v kn.book cut (level - 1) place word below n few_keys
 
     -- and it is that of the cut's keys that it covers
     pub count_is : (n : ℕ) → Says v word 2 n → n ≡ length (range_of (set_of_cut cut) (place * 2 ^ level) ((place + 1) * 2 ^ level))
     count_is n says = count_told parts_a parts_b v kn.book cut (level - 1) place word below n says ∙ ap (λ (z : ℕ). length (range_of (set_of_cut cut) (place * 2 ^ z) ((place + 1) * 2 ^ z))) (sym one_up)
 
-    pub record_tells : (n x y : ℕ) → 2 ^ v.shape.bits ≤ 65536 → IsMonoid parts_a → IsMonoid parts_b → Says v word 2 n → Says v word 3 x → Says v word 4 y
+    pub record_tells : (n x y : ℕ) → IsMonoid parts_a → IsMonoid parts_b → Says v word 2 n → Says v word 3 x → Says v word 4 y
         → IsTreeOf (summary_of parts_a parts_b) v.shape.bits cut level place (record { count = n; a = parts_a.from_word x; b = parts_b.from_word y })
-    record_tells n x y few laws_a laws_b says_n says_x says_y = subst (λ (z : ℕ). IsTreeOf (summary_of parts_a parts_b) v.shape.bits cut z place (record { count = n; a = parts_a.from_word x; b = parts_b.from_word y })) (sym one_up)
-        (node_told parts_a parts_b v kn.book cut (level - 1) place word below n x y few laws_a laws_b says_n says_x says_y)
+    record_tells n x y laws_a laws_b says_n says_x says_y = subst (λ (z : ℕ). IsTreeOf (summary_of parts_a parts_b) v.shape.bits cut z place (record { count = n; a = parts_a.from_word x; b = parts_b.from_word y })) (sym one_up)
+        (node_told parts_a parts_b v kn.book cut (level - 1) place word below n x y few_keys laws_a laws_b says_n says_x says_y)

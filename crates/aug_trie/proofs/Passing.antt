@@ -13,8 +13,7 @@ use Rattle.aug_words.specs.Seats.{Known}
 use Rattle.aug_trie.specs.inside.Goes.{HasLeaves, Goes}
 use Rattle.aug_model.specs.declared.outcome.Outcome.{Outcome}
 use Rattle.aug_model.specs.declared.outcome.Outcome.TheVariants.{Accepted, Replaced, Refused}
-use Rattle.aug_trie.specs.inside.Climbing.{Updated, CameTo}
-use Rattle.aug_trie.specs.Requests.{advance_from}
+use Rattle.aug_trie.specs.inside.Climbing.{Updated, CameTo, advance_from}
 use Rattle.aug_trie.specs.declared.updates.request.Request.{Request}
 use Rattle.aug_trie.specs.inside.Knows.{KnowsRound}
 use Rattle.aug_trie.specs.Pass.{PassFacts, GoesOn, StepsOf}
@@ -61,9 +60,9 @@ module _ (face : ℕ → ℕ → List (ℕ × ℕ) → List ℕ) where
     pub goes_on_by : (table : TableId) (done : Outcome) (u : Updated face (next + bits) v key request w done)
         → GoesOn 1 (length u.more + 1) (pass_facts (record { table = table; view = v }) left) (pass_facts (record { table = table; view = w }) (left - 1))
     goes_on_by table done u = let g = (gained_by done u).2 in let updates : w.shape.updates ≡ v.shape.updates = ap (λ (z : Shape). z.updates) g.shaped in let b = p.budget in record {
-      round = λ i. round_of table (record w { shape = g.shaped i; members = g.same_members i });
-      lane = g.lane;
-      spent = omega arith;
+      same = let spent : w.shape.updates - (left - 1) ≡ v.shape.updates - left + 1 = omega arith in
+          let facts : PassFacts = pass_facts (record { table = table; view = w }) (left - 1) in
+          λ i. record facts { round = round_of table (record w { shape = g.shaped i; members = g.same_members i }); lane = g.lane i; spent = spent i };
       step_count = ap (λ (z : List StepTaken). length z) u.steps ∙ length-append v.steps (load_leaf key u.loaded ∷ u.more) ∙ (let e : length v.steps + suc (length u.more) ≡ length v.steps + (length u.more + 1) = omega arith in e);
       steps_stay = (load_leaf key u.loaded ∷ u.more, u.steps);
       knowledge = known_after done u;

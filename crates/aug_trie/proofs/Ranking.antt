@@ -18,10 +18,9 @@ use Rattle.aug_core.specs.Addresses.{IsInner}
 use Rattle.aug_core.specs.declared.step.StepTaken.{StepTaken}
 use Rattle.aug_core.specs.declared.view.View.{View}
 use Rattle.aug_trie.specs.LeafWords.{serial_in_word}
-use Rattle.aug_trie.specs.Node.{IsNodeAt}
+use Rattle.aug_trie.specs.inside.NodeWords.{IsNodeAt}
 use Rattle.aug_trie.specs.inside.Goes.{HasLeaves, Looks}
-use Rattle.aug_trie.specs.inside.NamedCuts.{cut_named}
-use Rattle.aug_trie.specs.TreeOf.{members_of}
+use Rattle.aug_trie.specs.inside.NamedCuts.{cut_named, members_of}
 use Rattle.aug_trie.specs.inside.Points.{Says}
 use Rattle.aug_trie.proofs.Trees.{named_set}
 use Rattle.aug_trie.proofs.Looking.{record_seen, count_is}

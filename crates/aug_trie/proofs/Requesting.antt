@@ -3,13 +3,13 @@ use Rattle.std.proofs.Common.{◌≡◌, ℕ, ◌+◌, ◌%◌, ◌^◌, ◌<◌
 use Rattle.std.proofs.lemmas.Bool.{eq-eqb, eqb-true, eqb-false, cases_Bool, false≢true}
 use Rattle.aug_core.specs.Book.{word_of_leaf}
 use Rattle.aug_core.specs.Counts.{change}
-use Rattle.aug_core.specs.Told.{IsAdvance, made_by, new_serial, old_word}
+use Rattle.aug_core.specs.Told.{IsAdvance, made_by, new_serial, new_word, old_word}
 use Rattle.aug_core.specs.declared.view.Advance.{Advance}
 use Rattle.aug_core.specs.declared.view.Change.{Change}
 use Rattle.aug_model.specs.declared.outcome.Outcome.TheVariants.{Accepted, Replaced}
 use Rattle.aug_trie.specs.LeafWords.{serial_in_word, weight_in_word}
-use Rattle.aug_trie.specs.inside.Climbing.{FitsRequest}
-use Rattle.aug_trie.specs.Requests.{goes_from, in_the_way, advance_from, outcome_by}
+use Rattle.aug_trie.specs.inside.Climbing.{FitsRequest, advance_from}
+use Rattle.aug_trie.specs.Requests.{goes_from, in_the_way, outcome_by, word_after}
 use Rattle.aug_trie.specs.declared.updates.request.Request.{Request}
 use Rattle.aug_trie.specs.declared.updates.request.Request.TheVariants.{Insert, Remove, Put}
 
@@ -100,3 +100,9 @@ remove_stands found = elim (cases_Bool (found % 2 == 1)) [
 -- the word that was loaded is the one that the exchange goes from
 pub from_word : (request : Request) (key word : ℕ) → word ≡ old_word (advance_from request key word)
 from_word request key word = leaf_again word ∙ (λ i. word_of_leaf (sym (serial_is request key word) i) (sym (weight_is request key word) i))
+
+-- and the word that the request makes of it is the one that the exchange goes to
+pub to_word : (request : Request) (key word : ℕ) → word_after request key word ≡ new_word (advance_from request key word)
+to_word Insert key word = refl
+to_word Remove key word = refl
+to_word (Put weight) key word = refl

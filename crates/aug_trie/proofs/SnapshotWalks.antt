@@ -11,10 +11,9 @@ use Rattle.aug_query.specs.Tree.{below_node}
 use Rattle.aug_query.specs.Descend.{Descends, one_more_node, one_more_past, one_more_count, one_more_summary}
 use Rattle.aug_query.specs.declared.loaded.Loaded.{Loaded}
 use Rattle.aug_words.specs.Seats.{Known}
-use Rattle.aug_trie.specs.Node.{IsNodeAt}
-use Rattle.aug_trie.specs.TreeOf.{members_of}
+use Rattle.aug_trie.specs.inside.NodeWords.{IsNodeAt}
 use Rattle.aug_trie.specs.inside.Goes.{Looks}
-use Rattle.aug_trie.specs.inside.NamedCuts.{cut_named}
+use Rattle.aug_trie.specs.inside.NamedCuts.{cut_named, members_of}
 use Rattle.aug_trie.specs.inside.SnapshotWalk.{set_seen, IsNamed, IsWalk, Walking, KeepsWords}
 use Rattle.aug_trie.specs.declared.queries.snapshot.Snapshot.{Snapshot}
 

@@ -9,7 +9,7 @@ use Rattle.aug_core.specs.Lanes.{first_record, lane_records}
 use Rattle.aug_core.specs.Book.{Book, history_of, At, IsBook}
 use Rattle.aug_core.specs.Counts.{changes_of}
 use Rattle.aug_core.specs.inside.RootCuts.{root_cut}
-use Rattle.aug_core.specs.EntryCuts.{entry_of}
+use Rattle.aug_core.specs.inside.EntryCuts.{entry_of}
 use Rattle.aug_core.specs.Told.{LoadsNode, opening_of}
 use Rattle.aug_core.specs.declared.view.Change.{Change}
 use Rattle.aug_core.specs.declared.view.Entry.{Entry}
@@ -25,7 +25,7 @@ use Rattle.aug_trie.specs.inside.Knows.{knows, root_numbers}
 use Rattle.aug_trie.specs.Snapshot.{first_place}
 use Rattle.aug_trie.specs.inside.PassState.{pass_facts, IsPass}
 use Rattle.aug_trie.specs.inside.RoundState.{round_of}
-use Rattle.aug_trie.specs.Pass.{GoesOn}
+use Rattle.aug_trie.specs.Pass.{PassFacts, GoesOn}
 use Rattle.atomic_table.specs.Seated.{TableId}
 use Rattle.aug_core.specs.Kinds.{load_node}
 use Rattle.aug_core.specs.declared.step.StepTaken.{StepTaken}
@@ -124,9 +124,9 @@ module _ (face : ℕ → ℕ → List (ℕ × ℕ) → List ℕ) where
 
     pub looked_on : (table : TableId) → Goes face 0 [] v w → GoesOn 0 1 (pass_facts (record { table = table; view = v }) left) (pass_facts (record { table = table; view = w }) left)
     looked_on table g = let steps = loads_root in let updates : w.shape.updates ≡ v.shape.updates = ap (λ (z : Shape). z.updates) shaped in record {
-      round = λ i. round_of table (record w { shape = g.shaped i; members = g.same_members i });
-      lane = g.lane;
-      spent = omega arith;
+      same = let spent : w.shape.updates - left ≡ v.shape.updates - left + 0 = omega arith in
+          let facts : PassFacts = pass_facts (record { table = table; view = w }) left in
+          λ i. record facts { round = round_of table (record w { shape = g.shaped i; members = g.same_members i }); lane = g.lane i; spent = spent i };
       step_count = ap (λ (z : List StepTaken). length z) steps ∙ length-append v.steps (load_node (root_place v.shape) r ∷ []);
       steps_stay = (load_node (root_place v.shape) r ∷ [], steps);
       knowledge = knowledge_on face 0 [] v w p.knows_table g (All-nil (StandsIn (last_cut (knows w).history))) p.knowledge;

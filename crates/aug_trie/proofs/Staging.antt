@@ -13,18 +13,19 @@ use Rattle.aug_model.specs.declared.outcome.Outcome.{Outcome}
 use Rattle.aug_model.specs.declared.outcome.Outcome.TheVariants.{Refused}
 use Rattle.aug_words.specs.Seats.{MayAdvance, TriedLeaf}
 use Rattle.aug_trie.specs.inside.Goes.{HasLeaves, HasRoom, Goes}
-use Rattle.aug_trie.specs.inside.Climbing.{Updated}
+use Rattle.aug_trie.specs.inside.Climbing.{Updated, advance_from}
 use Rattle.aug_trie.specs.inside.PassState.{IsPass}
 use Rattle.aug_trie.specs.LeafWords.{serial_in_word}
 use Rattle.aug_trie.specs.inside.Points.{OneStep, QuietStep}
-use Rattle.aug_trie.specs.Requests.{goes_from, advance_from, word_after, outcome_by}
+use Rattle.aug_trie.specs.Requests.{goes_from, word_after, outcome_by}
 use Rattle.aug_trie.specs.inside.Stages.{HasRisen, IsOnWay, HasBegun, IsRising, StageAt, ascent_turns}
 use Rattle.aug_trie.specs.declared.updates.request.Request.{Request}
 use Rattle.aug_trie.specs.declared.turns.points.Point.TheVariants.{Node}
 use Rattle.aug_trie.specs.declared.turns.ascents.Ascent.{Ascent}
+use Rattle.aug_trie.specs.declared.turns.stages.Stage.{Stage}
 use Rattle.aug_trie.specs.declared.turns.stages.Stage.TheVariants.{Leaf, Change, Up}
 use Rattle.aug_trie.proofs.Going.{may_change, room_on, goes_after}
-use Rattle.aug_trie.proofs.Requesting.{from_word}
+use Rattle.aug_trie.proofs.Requesting.{from_word, to_word}
 use Rattle.aug_trie.proofs.Updating.{goes_begun, goes_leaf, advances, serial_few, told, may_rise, refused_at_once, updated}
 use Rattle.aug_trie.proofs.Ascending.{way_begins}
 use Rattle.aug_core.specs.declared.step.StepTaken.{StepTaken}
@@ -33,6 +34,12 @@ use Rattle.aug_core.specs.declared.step.StepTaken.{StepTaken}
 pub first_turns : (bits : ℕ) (a : Ascent) → 1 ≤ bits → a.level ≡ 0 → a.second ≡ false → a.point ≡ Node → ascent_turns bits a + 12 ≡ 30 * bits
 first_turns bits a some el es ep = subst (λ (z : Ascent). ascent_turns bits z + 12 ≡ 30 * bits) (sym (λ i. record { level = el i; node = a.node; second = es i; point = ep i }))
     (let e : (bits - 1 - 0) * 30 + 9 + 9 + 12 ≡ 30 * bits = omega arith in e)
+
+-- the word that is to be exchanged next
+abbrev pub exchanged_word : Stage → ℕ
+exchanged_word Leaf = 0
+exchanged_word (Change word) = word
+exchanged_word (Up done a) = 0
 
 module _ (f : ℕ → ℕ → List (ℕ × ℕ) → List ℕ) where
   -- what one update takes of the records that are left
@@ -124,7 +131,7 @@ module _ (f : ℕ → ℕ → List (ℕ × ℕ) → List ℕ) where
         same_beginning = ⊎_elim (λ (hit : tried.found ≡ old_word a). ap (λ (z : View). z.began) (told_old.hit hit).0) (λ miss. ap (λ (z : View). z.began) (told_old.miss miss).0) (cases_eq tried.found (old_word a))
 
         pub tried_steps : w.steps ≡ old.steps ++ try_leaf key word (word_after request key word) tried.found ∷ []
-        tried_steps = subst (λ (z : ℕ). w.steps ≡ old.steps ++ try_leaf key z (word_after request key word) tried.found ∷ []) (sym (from_word request key word)) told_old.stepped
+        tried_steps = subst (λ (z : ℕ × ℕ). w.steps ≡ old.steps ++ try_leaf key z.0 z.1 tried.found ∷ []) (λ i. (sym (from_word request key word) i, sym (to_word request key word) i)) told_old.stepped
 
         pub try_step : OneStep old w
         try_step = record { taken = try_leaf key word (word_after request key word) tried.found; steps = tried_steps; later = told_old.sees.later; shaped = g_new.1.shaped; same_members = g_new.1.same_members; lane = g_new.1.lane }

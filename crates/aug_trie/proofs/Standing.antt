@@ -8,7 +8,7 @@ use Rattle.aug_core.specs.Book.{Book, history_of, At, IsPassed, IsBook}
 use Rattle.aug_core.specs.Counts.{change, Stands, AreCounted}
 use Rattle.aug_core.specs.Opening.{Opening, opening_serial}
 use Rattle.aug_core.specs.Cuts.{Cut, shown_of, serial_of, weight_at, IsAtMost}
-use Rattle.aug_core.specs.EntryCuts.{entry_of}
+use Rattle.aug_core.specs.inside.EntryCuts.{entry_of}
 use Rattle.aug_core.specs.inside.RootCuts.{root_cut}
 use Rattle.aug_core.specs.inside.Shows.{above, NewestShows}
 use Rattle.aug_core.specs.declared.view.Change.{Change}

@@ -21,7 +21,7 @@ use Rattle.aug_core.specs.Addresses.{IsInner, root_place}
 use Rattle.aug_core.specs.Book.{Book, history_of, Continues, IsBook}
 use Rattle.aug_core.specs.Counts.{changes_of}
 use Rattle.aug_core.specs.Cuts.{Cut, serial_of, weight_at, set_of_cut}
-use Rattle.aug_core.specs.EntryCuts.{entry_of}
+use Rattle.aug_core.specs.inside.EntryCuts.{entry_of}
 use Rattle.aug_core.specs.inside.RootCuts.{root_cut}
 use Rattle.aug_core.specs.Opening.{serial_entry}
 use Rattle.aug_core.specs.Told.{KnowsTable, opening_of}
@@ -37,11 +37,12 @@ use Rattle.aug_trie.specs.inside.Counted.{HasCounts}
 use Rattle.aug_trie.specs.LeafWords.{weight_in_word}
 use Rattle.aug_trie.specs.inside.PassState.{pass_facts, IsPass, HoldsPass}
 use Rattle.aug_trie.specs.Snapshot.{HasSnapshot, first_place}
-use Rattle.aug_trie.specs.Node.{IsNodeAt, HasNode, Keeps, Reads}
+use Rattle.aug_trie.specs.Node.{HasNode, Keeps, Reads}
+use Rattle.aug_trie.specs.inside.NodeWords.{IsNodeAt}
 use Rattle.aug_trie.specs.inside.Knows.{root_history, root_numbers}
-use Rattle.aug_trie.specs.inside.NamedCuts.{HasNamed, cut_named}
+use Rattle.aug_trie.specs.inside.NamedCuts.{HasNamed, cut_named, members_of}
 use Rattle.aug_trie.specs.inside.Goes.{Looks}
-use Rattle.aug_trie.specs.TreeOf.{members_of, IsTreeOf}
+use Rattle.aug_trie.specs.TreeOf.{IsTreeOf}
 use Rattle.aug_trie.specs.declared.queries.node.Node.{Node}
 use Rattle.aug_trie.proofs.Counters.{counted_still}
 use Rattle.aug_trie.proofs.Histories.{some_bits, history_long, numbers_long}
@@ -171,11 +172,7 @@ module _ {A B : Type 0} (parts_a : Parts A) (parts_b : Parts B) where
   pub reads_by : (known : Known) (w : View) (left most : ℕ) → Looks most known.view w → Reads (summary_of parts_a parts_b) most (pass_facts known left) (pass_facts (record { table = known.table; view = w }) left)
   reads_by known w left most l = subst (λ (z : View). Reads (summary_of parts_a parts_b) most (pass_facts known left) (pass_facts (record { table = known.table; view = z }) left)) (sym l.is) record {
     stays = record {
-      round = refl;
-      lane = refl;
-      knows = refl;
-      numbers = refl;
-      spent = refl;
+      same = refl;
       steps_stay = (l.more, refl);
       keeps = record {
         snapshots = λ z has. has;

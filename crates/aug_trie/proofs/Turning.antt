@@ -124,10 +124,9 @@ module _ (f : ℕ → ℕ → List (ℕ × ℕ) → List ℕ) where
     -- one step
     pub once : (v w : View) (rest : ℕ) → KnowsTable f v → OneStep v w → StepsOnce (pass_facts (record { table = table; view = v }) left) (pass_facts (record { table = table; view = w }) rest)
     once v w rest kn s = record {
-      round = λ i. round_of table (record w { shape = s.shaped i; members = s.same_members i });
-      lane = s.lane;
       taken = s.taken;
-      steps = s.steps;
+      same = let facts : PassFacts = pass_facts (record { table = table; view = w }) rest in
+          λ i. record facts { round = round_of table (record w { shape = s.shaped i; members = s.same_members i }); lane = s.lane i; steps = s.steps i };
       goes_on = knows_on f v w kn s.shaped s.later;
     }
 
@@ -156,9 +155,7 @@ module _ (f : ℕ → ℕ → List (ℕ × ℕ) → List ℕ) where
           → (stage ≡ Leaf → (found : ℕ) × (w.steps ≡ v.steps ++ load_leaf key found ∷ [])) → ((word : ℕ) → stage ≡ Change word → (found : ℕ) × (w.steps ≡ v.steps ++ try_leaf key word (word_after request key word) found ∷ []))
           → TurnsOn (climb_facts (record { table = table; view = v }) bits left key request stage) (climb_facts (record { table = table; view = w }) bits left key request next)
       turns_on next t' step falls some first second = record {
-        start = start_is next w t' ∙ sym (start_is stage v t);
-        request = refl;
-        key = refl;
+        same = ap (λ (z : PassFacts). record { start = z; now = pass_facts (record { table = table; view = w }) left; request = request; key = key; left = stage_turns bits next }) (start_is next w t' ∙ sym (start_is stage v t));
         once = once v w left (knows_stage stage v t) step;
         falls = falls;
         some = some;

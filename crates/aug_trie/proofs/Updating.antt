@@ -1,6 +1,6 @@
 -- An update: a load of the leaf, an exchange unless the serial refuses it, and a propagation.
-use Rattle.std.proofs.Common.{◌≡◌, ◌≢◌, ℕ, ◌+◌, ◌*◌, ◌^◌, ◌<◌, ◌≤◌, Bool, true, false, if◌then◌else◌, List, [], ◌∷◌, ◌++◌, append_assoc, sym, refl, ap, ◌∙◌, subst, ⊎_elim, inl, inr, arith}
-use Rattle.std.proofs.lemmas.Bool.{cases_eq, cases_Bool, false≢true}
+use Rattle.std.proofs.Common.{◌≡◌, ◌≢◌, ℕ, ◌+◌, ◌*◌, ◌^◌, ◌<◌, ◌≤◌, Bool, true, false, if◌then◌else◌, List, [], ◌∷◌, ◌++◌, append_assoc, sym, refl, ap, ◌∙◌, subst, ⊎_elim, inl, inr, arith, ◌==◌}
+use Rattle.std.proofs.lemmas.Bool.{cases_eq, cases_Bool, eqb-false, eqb-true, false≢true}
 use Rattle.std.proofs.lemmas.Nat.{mul-le}
 use Rattle.aug_core.specs.Places.{Shape}
 use Rattle.aug_core.specs.Book.{Book, At, IsNewest}
@@ -20,14 +20,14 @@ use Rattle.aug_model.specs.declared.outcome.Outcome.{Outcome}
 use Rattle.aug_model.specs.declared.outcome.Outcome.TheVariants.{Accepted, Replaced, Refused}
 use Rattle.aug_words.specs.Seats.{MayAdvance, TriedLeaf}
 use Rattle.aug_trie.specs.inside.Goes.{Goes, HasRoom}
-use Rattle.aug_trie.specs.inside.Climbing.{WentUp, Stayed, CameTo, Updated, FitsRequest}
+use Rattle.aug_trie.specs.inside.Climbing.{WentUp, Stayed, CameTo, Updated, FitsRequest, advance_from}
 use Rattle.aug_trie.specs.LeafWords.{serial_in_word, weight_in_word}
-use Rattle.aug_trie.specs.Requests.{goes_from, advance_from, word_after, outcome_by}
+use Rattle.aug_trie.specs.Requests.{goes_from, word_after, outcome_by}
 use Rattle.aug_trie.specs.inside.Stages.{MayRise, HasRisen}
 use Rattle.aug_trie.specs.declared.updates.request.Request.{Request}
 use Rattle.aug_trie.proofs.Going.{room_on, goes_on, goes_after, goes_beginning, goes_seeing, goes_changing}
 use Rattle.aug_trie.proofs.LeafWords.{serial_of_leaf, weight_of_leaf}
-use Rattle.aug_trie.proofs.Requesting.{is_advance, from_word, outcome_is, serial_is, weight_is, way_found, way_next}
+use Rattle.aug_trie.proofs.Requesting.{is_advance, from_word, to_word, outcome_is, serial_is, weight_is, way_found, way_next}
 
 newest_shows : (s : Shape) (book : Book) (key index n : ℕ) (e : Entry) → IsNewest book key index e → n ≤ index → NewestShows s book key 0 n
 newest_shows s book key index n e newest le = record { index = index; entry = e; newest = newest; shows = ((e, newest.at), le) }
@@ -56,7 +56,7 @@ module _ (f : ℕ → ℕ → List (ℕ × ℕ) → List ℕ) where
     advance = advance_from request key word;
     is_advance = is_advance request key word fits (small_key v key kn low) lets;
     from = from_word request key word;
-    to = refl;
+    to = to_word request key word;
     entry = l.entry;
     at = subst (λ (z : ℕ). At w.seen key z l.entry) (sym (serial_is request key word ∙ is.0)) l.newest.at;
     weighs = sym (weight_is request key word ∙ is.1);
@@ -125,7 +125,7 @@ module _ (f : ℕ → ℕ → List (ℕ × ℕ) → List ℕ) where
       from = from_word request key word
 
       pub told : TriesLeaf f w0 key a tried.found w1
-      told = tried.told a (is_advance request key word fits (small_key v key kn low) lets) from refl
+      told = tried.told a (is_advance request key word fits (small_key v key kn low) lets) from (to_word request key word)
 
       missed : tried.found ≢ word → tried.found ≢ old_word a
       missed other same = other (same ∙ sym from)
@@ -141,7 +141,7 @@ module _ (f : ℕ → ℕ → List (ℕ × ℕ) → List ℕ) where
       taken = try_leaf key word (word_after request key word) tried.found
 
       steps1 : w1.steps ≡ v.steps ++ load_leaf key word ∷ taken ∷ []
-      steps1 = subst (λ (z : ℕ). w1.steps ≡ w0.steps ++ try_leaf key z (word_after request key word) tried.found ∷ []) (sym from) told.stepped
+      steps1 = subst (λ (z : ℕ × ℕ). w1.steps ≡ w0.steps ++ try_leaf key z.0 z.1 tried.found ∷ []) (λ i. (sym from i, sym (to_word request key word) i)) told.stepped
           ∙ ap (λ (z : List StepTaken). z ++ taken ∷ []) steps0 ∙ append_assoc v.steps (load_leaf key word ∷ []) (taken ∷ [])
 
       module _ (w : View) (r : HasRisen f bits number key w1 bits w) where
@@ -178,13 +178,17 @@ module _ (f : ℕ → ℕ → List (ℕ × ℕ) → List ℕ) where
             let done_miss : (tried.found ≢ word → done ≡ Refused) = λ other. elim (cases_Bool ok) [
               | inl t ↦ absurd (other (tried.decided.0 t))
               | inr n ↦ comes ∙ ap (λ (z : Bool). if z then outcome_by request word else Refused) n
+            ] in
+            let done_by : done ≡ (if tried.found == word then outcome_by request word else Refused) = elim (cases_Bool (tried.found == word)) [
+              | inl t ↦ done_hit (eqb-true tried.found word t) ∙ ap (λ (z : Bool). if z then outcome_by request word else Refused) (sym t)
+              | inr n ↦ done_miss (eqb-false tried.found word n) ∙ ap (λ (z : Bool). if z then outcome_by request word else Refused) (sym n)
             ] in record {
               loaded = word;
               more = taken ∷ between.took.more;
               steps = between.took.steps ∙ ap (λ (z : List StepTaken). z ++ between.took.more) steps1 ∙ append_assoc v.steps (load_leaf key word ∷ taken ∷ []) between.took.more;
               least_steps = omega arith;
               most_steps = omega arith;
-              tried = λ _. record { found = tried.found; rest = between.took.more; second = refl; hit = done_hit; miss = done_miss; no_other = between.took.no_try };
+              tried = λ _. record { found = tried.found; rest = between.took.more; second = refl; says = done_by; no_other = between.took.no_try };
               refusing = λ other. absurd (false≢true (sym other ∙ lets));
               came_to = ⊎_elim
                   (λ (same : tried.found ≡ word). subst (CameTo f (number + bits) v key request w word) (sym (done_hit same ∙ outcome_is request key word)) (by_replaces a.replaces refl (went_up same)))

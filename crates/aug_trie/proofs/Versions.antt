@@ -20,7 +20,7 @@ use Rattle.aug_core.specs.Places.{Shape, record_count}
 use Rattle.aug_core.specs.Addresses.{IsInner, root_place, left_of, right_of}
 use Rattle.aug_core.specs.Book.{Book, history_of, At, IsBook}
 use Rattle.aug_core.specs.Cuts.{Cut, pairs_of_cut}
-use Rattle.aug_core.specs.EntryCuts.{entry_of, IsPartOfCut}
+use Rattle.aug_core.specs.inside.EntryCuts.{entry_of, IsPartOfCut}
 use Rattle.aug_core.specs.inside.RootCuts.{root_cut}
 use Rattle.aug_core.specs.Told.{KnowsTable}
 use Rattle.aug_core.specs.declared.view.Entry.{Entry}
@@ -35,7 +35,7 @@ use Rattle.aug_words.specs.Seats.{NamesRoot}
 use Rattle.aug_trie.specs.History.{last_cut}
 use Rattle.aug_trie.specs.inside.Knows.{knows}
 use Rattle.aug_trie.specs.LeafWords.{serial_in_word, weight_in_word, leaf_pairs}
-use Rattle.aug_trie.specs.Ended.{word_in, covered, IsLeafOf, IsVersion}
+use Rattle.aug_trie.specs.inside.EndedTree.{word_in, covered, IsLeafOf, IsVersion}
 use Rattle.aug_trie.specs.inside.EndedState.{pairs_at_rest, HoldsVersion}
 use Rattle.aug_trie.proofs.Counting.{filter_shorter}
 use Rattle.aug_trie.proofs.Histories.{last_is}

@@ -1,5 +1,5 @@
 -- What contracts see of an update that is made by single turns.
-use Rattle.std.specs.Prelude.{◌≡◌, ℕ, ◌+◌, ◌*◌, ◌<◌, ◌≤◌, true, [], ◌∷◌, ◌++◌}
+use Rattle.std.specs.Prelude.{◌≡◌, ℕ, ◌-◌, ◌*◌, ◌<◌, ◌≤◌, true, [], ◌∷◌, ◌++◌}
 use Rattle.aug_core.specs.Kinds.{load_leaf, try_leaf}
 use Rattle.aug_core.specs.declared.step.StepTaken.{StepTaken}
 use Rattle.aug_model.specs.declared.outcome.Outcome.{Outcome}
@@ -19,26 +19,18 @@ pub record ClimbFacts : Type 0 where
   pub left : ℕ
 
 -- an update begins, of which no step is made
-pub record BeginsClimb (request : Request) (key : ℕ) (pass : PassFacts) (climb : ClimbFacts) : Type 0 where
-  pub start : climb.start ≡ pass
-  pub now : climb.now ≡ pass
-  pub request_is : climb.request ≡ request
-  pub key_is : climb.key ≡ key
-  pub turns : climb.left + 10 ≡ 30 * pass.round.bits
+abbrev pub BeginsClimb : Request → ℕ → PassFacts → ClimbFacts → Type 0
+BeginsClimb request key pass climb = climb ≡ record { start = pass; now = pass; request = request; key = key; left = 30 * pass.round.bits - 10 }
 
 -- the pass made one step, and its history goes on
 pub record StepsOnce (old new : PassFacts) : Type 0 where
-  pub round : new.round ≡ old.round
-  pub lane : new.lane ≡ old.lane
   pub taken : StepTaken
-  pub steps : new.steps ≡ old.steps ++ taken ∷ []
+  pub same : new ≡ record new { round = old.round; lane = old.lane; steps = old.steps ++ taken ∷ [] }
   pub goes_on : IsPrefix old.knows.history new.knows.history
 
 -- a turn after which there is more to do. The first turn loads the key's leaf. The second, where the serial that was found lets the update go on, exchanges the word found for the one that the request makes of it
 pub record TurnsOn (old new : ClimbFacts) : Type 0 where
-  pub start : new.start ≡ old.start
-  pub request : new.request ≡ old.request
-  pub key : new.key ≡ old.key
+  pub same : new ≡ record old { now = new.now; left = new.left }
   pub once : StepsOnce old.now new.now
   pub falls : new.left < old.left
   pub some : 1 ≤ new.left

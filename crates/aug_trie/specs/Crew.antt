@@ -22,31 +22,19 @@ pub record CrewFacts : Type 0 where
 
 -- a round of keys of so many bits over a set with these members, and its crew, which knows the opening cut alone and handed nothing out
 pub record BeginsRound (members : List (ℕ × ℕ)) (bits workers updates : ℕ) (round : RoundFacts) (crew : CrewFacts) : Type 0 where
-  pub bits_are : round.bits ≡ bits
-  pub members_are : round.members ≡ members
-  pub workers_are : round.workers ≡ workers
-  pub updates_are : round.updates ≡ updates
-  pub room : round.room ≡ length members
-  pub together : crew.round ≡ round
-  pub opening : crew.knows ≡ record { history = opening_cut bits members ∷ []; accepted = [] }
-  pub none_out : crew.handed ≡ 0
-  pub none_back : crew.back ≡ 0
+  pub round_is : round ≡ record { table = round.table; bits = bits; members = members; workers = workers; updates = updates; room = length members }
+  pub crew_is : crew ≡ record { round = round; knows = record { history = opening_cut bits members ∷ []; accepted = [] }; steps = crew.steps; handed = 0; back = 0 }
 
 -- the crew's one step loads the root's word
-pub record LoadsRoot (old new : CrewFacts) : Type 0 where
-  pub found : ℕ
-  pub step : new.steps ≡ old.steps ++ load_node (root_of old.round) found ∷ []
+abbrev pub LoadsRoot : CrewFacts → CrewFacts → Type 0
+LoadsRoot old new = (found : ℕ) × (new.steps ≡ old.steps ++ load_node (root_of old.round) found ∷ [])
 
 -- the crew hands out its next lane, after it loaded the root
 pub record HandsOut (old new : CrewFacts) (pass : PassFacts) : Type 0 where
   pub knows : HandedOut old.knows new.knows pass.knows
-  pub round : new.round ≡ old.round
-  pub pass_round : pass.round ≡ old.round
-  pub next_lane : pass.lane ≡ old.handed
+  pub crew_is : new ≡ record old { knows = new.knows; steps = new.steps; handed = old.handed + 1 }
+  pub pass_is : pass ≡ record pass { round = old.round; lane = old.handed; spent = 0 }
   pub exists : old.handed < old.round.workers
-  pub one_more : new.handed ≡ old.handed + 1
-  pub same_back : new.back ≡ old.back
-  pub fresh : pass.spent ≡ 0
   pub knowledge : IsKnowledge pass.round.bits pass.round.members pass.knows
   pub named : length pass.numbers ≡ length pass.knows.history
   pub loads : LoadsRoot old new
@@ -54,9 +42,7 @@ pub record HandsOut (old new : CrewFacts) (pass : PassFacts) : Type 0 where
 -- the crew takes a pass back, and then loads the root
 pub record TakesBack (old new : CrewFacts) (pass : PassFacts) : Type 0 where
   pub knows : HandedBack old.knows pass.knows new.knows
-  pub round : new.round ≡ old.round
-  pub one_more : new.back ≡ old.back + 1
-  pub same_handed : new.handed ≡ old.handed
+  pub crew_is : new ≡ record old { knows = new.knows; steps = new.steps; back = old.back + 1 }
   pub knowledge : IsKnowledge new.round.bits new.round.members new.knows
   pub loads : LoadsRoot old new
 

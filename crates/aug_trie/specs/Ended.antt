@@ -1,15 +1,9 @@
--- What contracts see of a trie at rest and of the nodes of its tree, and what a query keeps of it.
-use Rattle.std.specs.Prelude.{◌≡◌, ℕ, zero, suc, ◌+◌, ◌*◌, ◌%◌, ◌^◌, ◌<◌, ◌≤◌, List, [], slice_index}
+-- What contracts see of a trie at rest, and what a query keeps of it.
+use Rattle.std.specs.Prelude.{◌≡◌, ℕ, List, []}
 use Rattle.aug_model.specs.Keys.{SetFacts}
 use Rattle.aug_words.specs.Rests.{AtRest}
-use Rattle.aug_core.specs.Places.{record_start, record_count, record_words}
-use Rattle.aug_model.specs.Queries.{weighted_range_of, weight_in}
 use Rattle.aug_query.specs.Descend.{nothing_loaded}
-use Rattle.aug_query.specs.Tree.{first_key, end_key, IsTreeSet, IsNodeOf}
 use Rattle.aug_query.specs.declared.loaded.Loaded.{Loaded}
-use Rattle.aug_model.specs.declared.summary.Summary.{Summary}
-use Rattle.aug_trie.specs.LeafWords.{serial_in_word, weight_in_word, leaf_pairs}
-use Rattle.aug_trie.specs.declared.rounds.ended_tree.EndedNode.{EndedNode}
 
 -- a trie at rest: its bits and members with their weights, what the round that ended it came to, how much queries loaded of it, and the words and the root's record that its members are read from
 pub record EndedFacts : Type 0 where
@@ -27,54 +21,9 @@ abbrev pub set_of_ended : EndedFacts → SetFacts
 set_of_ended ended = record { bits = ended.bits; pairs = ended.members }
 
 -- the trie of the empty set, which no round ended
-pub record IsEmptyTrie (bits : ℕ) (ended : EndedFacts) : Type 0 where
-  pub bits_are : ended.bits ≡ bits
-  pub no_members : ended.members ≡ []
-  pub no_inserts : ended.inserts ≡ 0
-  pub no_removals : ended.removals ≡ 0
-  pub none_missing : ended.missing ≡ 0
-  pub no_loads : ended.loaded ≡ nothing_loaded
-
--- a word of the record with a number, its five words counted from 0
-abbrev pub word_in : AtRest → ℕ → ℕ → ℕ
-word_in rest number field = slice_index rest.words (record_start rest.shape number + field)
-
--- the members of a set that a node at a level and a place covers
-abbrev pub covered : List (ℕ × ℕ) → ℕ → ℕ → List (ℕ × ℕ)
-covered pairs level place = weighted_range_of pairs (first_key level place) (end_key level place)
-
--- the word is a leaf's: it says whether its key is one of the set, and with which weight; that of a key that is absent is 0
-pub record IsLeafOf (pairs : List (ℕ × ℕ)) (place word : ℕ) : Type 0 where
-  pub says : covered pairs zero place ≡ leaf_pairs place word
-  pub none_if_even : serial_in_word word % 2 ≡ 0 → weight_in_word word ≡ 0
-
-module _ (face : ℕ → ℕ → List (ℕ × ℕ) → List ℕ) where
-  -- the record is one of the table, and its words are those of a node with these members below it
-  pub record IsRecordOf (rest : AtRest) (members : List (ℕ × ℕ)) (number : ℕ) : Type 0 where
-    pub inside : number < record_count rest.shape
-    pub says : (field : ℕ) → field < record_words → word_in rest number field ≡ slice_index (face (word_in rest number 0) (word_in rest number 1) members) field
-
-  -- the word names a version of the tree of a set, at a level and a place: down to the leaves every record tells of the set's members that it covers
-  abbrev pub IsVersion : AtRest → List (ℕ × ℕ) → ℕ → ℕ → ℕ → Type 0
-  IsVersion rest pairs zero place word = IsLeafOf pairs place word
-  IsVersion rest pairs (suc level) place word = IsRecordOf rest (covered pairs (suc level) place) word
-      × IsVersion rest pairs level (2 * place) (word_in rest word 0) × IsVersion rest pairs level (2 * place + 1) (word_in rest word 1)
-
-module _ (face : ℕ → ℕ → List (ℕ × ℕ) → List ℕ) where
-  -- the word names the node at a level and a place of the trie's tree
-  pub record NamesEnded (ended : EndedFacts) (level place word : ℕ) : Type 0 where
-    pub is_tree_set : IsTreeSet (set_of_ended ended)
-    pub level_fits : level ≤ ended.bits
-    pub place_fits : end_key level place ≤ 2 ^ ended.bits
-    pub is_version : IsVersion face ended.rest ended.members level place word
+abbrev pub IsEmptyTrie : ℕ → EndedFacts → Type 0
+IsEmptyTrie bits ended = ended ≡ record ended { bits = bits; members = []; inserts = 0; removals = 0; missing = 0; loaded = nothing_loaded }
 
 -- a walk changes nothing of the trie but how much was loaded of it
 abbrev pub KeepsEnded : EndedFacts → EndedFacts → Type 0
 KeepsEnded old new = new ≡ record old { loaded = new.loaded }
-
-module _ {A B : Type 0} (face : ℕ → ℕ → List (ℕ × ℕ) → List ℕ) (summary_of : List (ℕ × ℕ) → Summary A B) where
-  -- the node is one of the trie's tree: its word names the version below it, it tells the summary of the members that it covers, and a leaf the weight of its key
-  pub record HasEndedNode (ended : EndedFacts) (node : EndedNode A B) : Type 0 where
-    pub is_version : IsVersion face ended.rest ended.members node.level node.place node.word
-    pub is_node : IsNodeOf summary_of (set_of_ended ended) node.level node.place node.summary
-    pub weighs : node.level ≡ 0 → weight_in_word node.word ≡ weight_in ended.members node.place

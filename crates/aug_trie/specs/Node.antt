@@ -1,9 +1,5 @@
 -- What contracts see of the nodes of a snapshot's tree, and what calls leave of a pass's snapshots and nodes.
 use Rattle.std.specs.Prelude.{◌≡◌, ℕ, ◌+◌, ◌≤◌, List, length}
-use Rattle.aug_core.specs.Places.{Shape}
-use Rattle.aug_core.specs.Book.{Book}
-use Rattle.aug_core.specs.Cuts.{Cut}
-use Rattle.aug_core.specs.EntryCuts.{entry_of, IsPartOfCut}
 use Rattle.aug_model.specs.declared.summary.Summary.{Summary}
 use Rattle.aug_model.specs.Queries.{weight_in}
 use Rattle.aug_query.specs.Tree.{IsTreeSet}
@@ -11,16 +7,10 @@ use Rattle.aug_trie.specs.History.{IsPrefix}
 use Rattle.aug_trie.specs.LeafWords.{weight_in_word}
 use Rattle.aug_trie.specs.TreeOf.{IsTreeOf}
 use Rattle.aug_trie.specs.Pass.{PassFacts}
+use Rattle.aug_trie.specs.inside.NodeWords.{IsNodeAt}
 use Rattle.aug_trie.specs.Snapshot.{HasSnapshot, snapshot_cut, set_at}
 use Rattle.aug_trie.specs.declared.queries.node.Node.{Node}
 use Rattle.aug_trie.specs.declared.queries.snapshot.Snapshot.{Snapshot}
-
--- the word names an entry that stands below the cut, at the level and the place
-pub record IsNodeAt (s : Shape) (book : Book) (cut : Cut) (level place word : ℕ) : Type 0 where
-  pub q : ℕ
-  pub index : ℕ
-  pub part : IsPartOfCut s book cut level place q index
-  pub named : (entry_of book q index).word ≡ word
 
 module _ {A B : Type 0} (summary_of : List (ℕ × ℕ) → Summary A B) where
   -- the node is one of the tree of a snapshot of the pass, tells the summary of the members that it covers, and a leaf the weight of its key
@@ -40,11 +30,7 @@ module _ {A B : Type 0} (summary_of : List (ℕ × ℕ) → Summary A B) where
 
   -- the pass made steps that told it nothing new
   pub record Stays (old new : PassFacts) : Type 0 where
-    pub round : new.round ≡ old.round
-    pub lane : new.lane ≡ old.lane
-    pub knows : new.knows ≡ old.knows
-    pub numbers : new.numbers ≡ old.numbers
-    pub spent : new.spent ≡ old.spent
+    pub same : new ≡ record old { steps = new.steps; words = new.words }
     pub steps_stay : IsPrefix old.steps new.steps
     pub keeps : Keeps old new
 

@@ -1,5 +1,5 @@
 -- What contracts see of a pass, and what an update makes of it.
-use Rattle.std.specs.Prelude.{◌≡◌, ◌≢◌, ℕ, ◌+◌, ◌*◌, ◌≤◌, Bool, true, false, List, ◌∷◌, ◌++◌, length, All}
+use Rattle.std.specs.Prelude.{◌≡◌, ◌≢◌, ℕ, ◌+◌, ◌*◌, ◌≤◌, ◌==◌, if◌then◌else◌, true, false, List, ◌∷◌, ◌++◌, length, All}
 use Rattle.aug_core.specs.Places.{Shape}
 use Rattle.aug_core.specs.Book.{Book}
 use Rattle.aug_core.specs.Cuts.{serial_of}
@@ -7,8 +7,7 @@ use Rattle.aug_core.specs.Kinds.{load_leaf, try_leaf}
 use Rattle.aug_core.specs.declared.step.StepTaken.{StepTaken}
 use Rattle.aug_model.specs.declared.outcome.Outcome.{Outcome}
 use Rattle.aug_model.specs.declared.outcome.Outcome.TheVariants.{Refused}
-use Rattle.aug_core.specs.declared.step.StepKind.{StepKind}
-use Rattle.aug_core.specs.declared.step.StepKind.TheVariants.{LoadLeaf, TryLeaf, LoadNode, TryNode, LoadRecordWord, StoreRecordWord, TakeLane, FinishLane}
+use Rattle.aug_core.specs.declared.step.StepKind.TheVariants.{TryLeaf}
 use Rattle.aug_trie.specs.LeafWords.{serial_in_word}
 use Rattle.aug_trie.specs.Requests.{goes_from, in_the_way, word_after, outcome_by}
 use Rattle.aug_trie.specs.History.{IsPrefix, last_cut}
@@ -16,7 +15,7 @@ use Rattle.aug_trie.specs.Knowledge.{Knowledge, IsKnowledge}
 use Rattle.aug_trie.specs.Round.{RoundFacts}
 use Rattle.aug_trie.specs.declared.updates.request.Request.{Request}
 
--- the words that the nodes of a pass's snapshots are read from: how they are laid out, and what they said. A caller hands this on as it is, and never looks into it
+-- opaque: the words that the nodes of a pass's snapshots are read from: how they are laid out, and what they said
 pub record WordsSeen : Type 0 where
   pub shape : Shape
   pub book : Book
@@ -34,28 +33,15 @@ pub record PassFacts : Type 0 where
 
 -- the pass is in the same round and lane, after so many further updates and steps
 pub record GoesOn (updates steps : ℕ) (old new : PassFacts) : Type 0 where
-  pub round : new.round ≡ old.round
-  pub lane : new.lane ≡ old.lane
-  pub spent : new.spent ≡ old.spent + updates
+  pub same : new ≡ record new { round = old.round; lane = old.lane; spent = old.spent + updates }
   pub step_count : length new.steps ≡ length old.steps + steps
   pub steps_stay : IsPrefix old.steps new.steps
   pub knowledge : IsKnowledge new.round.bits new.round.members new.knows
   pub named : length new.numbers ≡ length new.knows.history
 
--- the kind is that of an exchange of a leaf
-abbrev pub tries_leaf : StepKind → Bool
-tries_leaf TryLeaf = true
-tries_leaf LoadLeaf = false
-tries_leaf LoadNode = false
-tries_leaf TryNode = false
-tries_leaf LoadRecordWord = false
-tries_leaf StoreRecordWord = false
-tries_leaf TakeLane = false
-tries_leaf FinishLane = false
-
--- none of the steps is one
+-- none of the steps is an exchange of a leaf
 abbrev pub TryNoLeaf : List StepTaken → Type 0
-TryNoLeaf steps = All (λ taken. tries_leaf taken.kind ≡ false) steps
+TryNoLeaf steps = All (λ taken. taken.kind ≢ TryLeaf) steps
 
 -- an update's second step is an exchange of the word that was loaded for the one that the request makes of it, and the outcome says whether it succeeded;
 -- it exchanges no other leaf
@@ -63,8 +49,7 @@ pub record Tried (request : Request) (key loaded : ℕ) (more : List StepTaken) 
   pub found : ℕ
   pub rest : List StepTaken
   pub second : more ≡ try_leaf key loaded (word_after request key loaded) found ∷ rest
-  pub hit : found ≡ loaded → done ≡ outcome_by request loaded
-  pub miss : found ≢ loaded → done ≡ Refused
+  pub says : done ≡ (if found == loaded then outcome_by request loaded else Refused)
   pub no_other : TryNoLeaf rest
 
 -- an update's steps: so many at least and at most; the first loads the key's leaf; where the serial found refuses, no leaf is exchanged, and else the

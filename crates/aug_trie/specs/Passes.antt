@@ -7,8 +7,7 @@ use Rattle.aug_trie.specs.Knowledge.{Knowledge}
 pub record HandedOut (old new pass : Knowledge) : Type 0 where
   pub goes_on : IsPrefix old.history new.history
   pub same_changes : new.accepted ≡ old.accepted
-  pub same_history : pass.history ≡ new.history
-  pub no_change : pass.accepted ≡ []
+  pub pass_knows : pass ≡ record { history = new.history; accepted = [] }
 
 -- the crew's and the pass's history are of one piece, and the crew then knows both, and the changes of both
 pub record HandedBack (old pass new : Knowledge) : Type 0 where

@@ -1,13 +1,8 @@
 -- What a tree shows of a cut.
 use Rattle.std.specs.Prelude.{◌≡◌, ℕ, ◌+◌, ◌*◌, ◌^◌, ◌≤◌, List}
-use Rattle.aug_model.specs.Keys.{SetFacts}
 use Rattle.aug_model.specs.Queries.{weighted_range_of}
 use Rattle.aug_model.specs.declared.summary.Summary.{Summary}
 use Rattle.aug_core.specs.Cuts.{Cut, pairs_of_cut}
-
--- the set of a cut, with its bits
-abbrev pub members_of : ℕ → Cut → SetFacts
-members_of bits cut = record { bits = bits; pairs = pairs_of_cut cut }
 
 -- a node at a level and a place of the tree of a cut tells the summary of the cut's keys that it covers, with their weights
 pub record IsTreeOf {A B : Type 0} (summary_of : List (ℕ × ℕ) → Summary A B) (bits : ℕ) (cut : Cut) (level place : ℕ) (told : Summary A B) : Type 0 where

@@ -1,5 +1,5 @@
 -- What one call of a pass does to what it knows.
-use Rattle.std.specs.Prelude.{◌≡◌, ◌≢◌, ℕ, ◌+◌, ◌%◌, ◌<◌, ◌≤◌, [], ◌∷◌, ◌++◌, All}
+use Rattle.std.specs.Prelude.{◌≡◌, ◌≢◌, ℕ, ◌+◌, ◌%◌, ◌<◌, ◌⊎◌, [], ◌∷◌, ◌++◌, All}
 use Rattle.aug_core.specs.Counts.{change}
 use Rattle.aug_core.specs.Cuts.{Cut, serial_of}
 use Rattle.aug_trie.specs.History.{IsPrefix, last_cut}
@@ -19,13 +19,10 @@ pub record AcceptedUpdate (parity key weight : ℕ) (old new : Knowledge) : Type
   pub shows : StandsIn (last_cut new.history) (change key number weight)
   pub adds : new.accepted ≡ old.accepted ++ change key number weight ∷ []
 
--- a refused update of the key: between then and now the key had a serial that stood in its way
+-- a refused update of the key: its serial stood in the way then, or the key got a further one meanwhile
 pub record RefusedUpdate (parity key : ℕ) (old new : Knowledge) : Type 0 where
   pub goes_on : IsPrefix old.history new.history
-  pub number : ℕ
-  pub suits : number % 2 ≡ parity
-  pub not_past : serial_of (last_cut old.history) key ≤ number
-  pub shows : number ≤ serial_of (last_cut new.history) key
+  pub stood : (serial_of (last_cut old.history) key % 2 ≡ parity) ⊎ (serial_of (last_cut old.history) key < serial_of (last_cut new.history) key)
   pub same_changes : new.accepted ≡ old.accepted
 
 -- a replacement of the weight of the key: a removal and the insertion behind it are new, the insertion shows now with its weight, no cut ever
@@ -42,26 +39,19 @@ pub record ReplacedUpdate (key weight : ℕ) (old new : Knowledge) : Type 0 wher
 -- a put that was refused: another change of the key came between then and now
 pub record RefusedPut (key : ℕ) (old new : Knowledge) : Type 0 where
   pub goes_on : IsPrefix old.history new.history
-  pub number : ℕ
-  pub is_new : serial_of (last_cut old.history) key < number
-  pub shows : number ≤ serial_of (last_cut new.history) key
+  pub rises : serial_of (last_cut old.history) key < serial_of (last_cut new.history) key
   pub same_changes : new.accepted ≡ old.accepted
-
--- what a put of a weight comes to
-abbrev pub PutsIn : ℕ → ℕ → Outcome → Knowledge → Knowledge → Type 0
-PutsIn key weight outcome.Accepted old new = AcceptedUpdate insertion key weight old new
-PutsIn key weight outcome.Replaced old new = ReplacedUpdate key weight old new
-PutsIn key weight outcome.Refused old new = RefusedPut key old new
 
 -- what an update comes to that asks so
 abbrev pub ComesTo : Request → ℕ → Outcome → Knowledge → Knowledge → Type 0
 ComesTo request.Insert key outcome.Accepted old new = AcceptedUpdate insertion key key old new
-ComesTo request.Insert key outcome.Replaced old new = ⊥
 ComesTo request.Insert key outcome.Refused old new = RefusedUpdate insertion key old new
 ComesTo request.Remove key outcome.Accepted old new = AcceptedUpdate removal key 0 old new
-ComesTo request.Remove key outcome.Replaced old new = ⊥
 ComesTo request.Remove key outcome.Refused old new = RefusedUpdate removal key old new
-ComesTo (request.Put weight) key done old new = PutsIn key weight done old new
+ComesTo (request.Put weight) key outcome.Accepted old new = AcceptedUpdate insertion key weight old new
+ComesTo (request.Put weight) key outcome.Replaced old new = ReplacedUpdate key weight old new
+ComesTo (request.Put weight) key outcome.Refused old new = RefusedPut key old new
+ComesTo asked key outcome.Replaced old new = ⊥
 
 -- a snapshot is the last cut of the history as it is known then
 pub record TakesSnapshot (old new : Knowledge) (snapshot : Cut) : Type 0 where

@@ -5,9 +5,11 @@ pub mod Counted
 pub mod CrewState
 pub mod EndedLaws
 pub mod EndedState
+pub mod EndedTree
 pub mod Goes
 pub mod Knows
 pub mod NamedCuts
+pub mod NodeWords
 pub mod PassState
 pub mod Points
 pub mod RoundState

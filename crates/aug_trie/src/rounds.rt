@@ -1,5 +1,6 @@
 //! Rounds, their passes and crews, and the trie at rest.
 
+pub(crate) mod account;
 pub(crate) mod crew;
 pub(crate) mod ended;
 pub(crate) mod ended_tree;

@@ -9,6 +9,7 @@ use Rattle.aug_core.specs.Book.{Continues, IsNewest, GoesOnFromBoth}
 use Rattle.aug_core.specs.Kinds.{take_lane}
 use Rattle.aug_core.specs.Rule.{newcomer, no_beginning}
 use Rattle.aug_core.specs.Told.{LoadsNode, handing_out, handed_out, taking, taking_back, in_state, new_lane, own_lane_place, MayStore, MayChange}
+use Rattle.aug_core.specs.declared.view.LaneState.TheVariants.{Taken}
 use Rattle.aug_core.specs.declared.view.View.{View}
 use Rattle.aug_core.proofs.PlaceLemmas.{keys-within}
 use Rattle.aug_core.proofs.Sizes.{twice}
@@ -108,13 +109,13 @@ new_pass face next root place lead me seat low empty is =
     subst (IsPassSeat face next) (λ i. (sym is i, sym empty i)) record {
       live = seat.live;
       no_slot = refl;
-      held = in_state 1 (new_lane lead.0.shape (unwrap_or lead.0.spare 0));
+      held = in_state Taken (new_lane lead.0.shape (unwrap_or lead.0.spare 0));
       only = refl;
       named = which;
       taken = refl;
       long = length-replicate (block_size lead.0.shape) 0;
       exists = low;
-      knows = knows_same face lead.0 lead.0.live [] (in_state 1 (new_lane lead.0.shape (unwrap_or lead.0.spare 0)) ∷ []) None no_beginning (take_lane place 0 ∷ []) seat.knows;
+      knows = knows_same face lead.0 lead.0.live [] (in_state Taken (new_lane lead.0.shape (unwrap_or lead.0.spare 0)) ∷ []) None no_beginning (take_lane place 0 ∷ []) seat.knows;
     }
 
 -- what the lead knows once it took a pass back and loaded the root

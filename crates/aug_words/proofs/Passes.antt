@@ -16,6 +16,7 @@ use Rattle.aug_core.specs.declared.step.StepTaken.{StepTaken}
 use Rattle.aug_core.specs.declared.view.Beginning.{Beginning}
 use Rattle.aug_core.specs.declared.view.Advance.{Advance}
 use Rattle.aug_core.specs.declared.view.Held.{Held}
+use Rattle.aug_core.specs.declared.view.LaneState.TheVariants.{Taken}
 use Rattle.aug_core.specs.declared.view.View.{View}
 use Rattle.aug_core.proofs.Sizes.{record_inside}
 use Rattle.aug_core.proofs.Fits.{knows_shown, knows_same}
@@ -32,7 +33,7 @@ module _ (face : ℕ → ℕ → List (ℕ × ℕ) → List ℕ) (a a' t : Table
   IsPass = SitsAt a' t l r me'.0.shape × IsPassSeat face lane me'
 
   -- a pass that was shown the whole book, and whose lane is the one that it was
-  shown : (h : Held) (held : List Held) (book : Book) (began : Beginning) (steps : List StepTaken) → held ≡ h ∷ [] → h.lane ≡ lane → h.state ≡ 1 → length h.words ≡ block_size me.0.shape → me'.1 ≡ []
+  shown : (h : Held) (held : List Held) (book : Book) (began : Beginning) (steps : List StepTaken) → held ≡ h ∷ [] → h.lane ≡ lane → h.state ≡ Taken → length h.words ≡ block_size me.0.shape → me'.1 ≡ []
       → me'.0 ≡ record me.0 { seen = book; held = held; began = began; steps = steps } → Sees face me.0 me'.0 → IsPass
   shown h held book began steps only named taken long empty is sees = let seat = is_pass.1 in let same : me'.0.shape ≡ me.0.shape = ap (λ (z : View). z.shape) is in (
     sits_on a a' t l r me.0.shape me'.0.shape is_pass.0 one same,
@@ -75,7 +76,7 @@ module _ (face : ℕ → ℕ → List (ℕ × ℕ) → List ℕ) (a a' t : Table
       (λ miss. watched me.0.began (me.0.steps ++ taken ∷ []) empty (did.miss miss).0 did.sees) (cases_eq found old)
 
   -- a pass that was shown nothing of the book
-  kept : (h : Held) (held : List Held) (steps : List StepTaken) → held ≡ h ∷ [] → h.lane ≡ lane → h.state ≡ 1 → length h.words ≡ block_size me.0.shape → me'.1 ≡ [] → me'.0 ≡ record me.0 { held = held; steps = steps } → IsPass
+  kept : (h : Held) (held : List Held) (steps : List StepTaken) → held ≡ h ∷ [] → h.lane ≡ lane → h.state ≡ Taken → length h.words ≡ block_size me.0.shape → me'.1 ≡ [] → me'.0 ≡ record me.0 { held = held; steps = steps } → IsPass
   kept h held steps only named taken long empty is = let seat = is_pass.1 in (
     sits_on a a' t l r me.0.shape me'.0.shape is_pass.0 one (ap (λ (z : View). z.shape) is),
     subst (IsPassSeat face lane) (λ i. (sym is i, sym empty i)) record {
@@ -108,7 +109,7 @@ module _ (face : ℕ → ℕ → List (ℕ × ℕ) → List ℕ) (lane : ℕ) (m
   own_lane_is = ap own_lane seat.only ∙ seat.named
 
   -- and what is said of the lane that it holds is said of that one
-  pub lane_named : (h : Held) → HoldsOnly me.0 h → (h.lane ≡ lane) × (h.state ≡ 1) × (length h.words ≡ block_size me.0.shape)
+  pub lane_named : (h : Held) → HoldsOnly me.0 h → (h.lane ≡ lane) × (h.state ≡ Taken) × (length h.words ≡ block_size me.0.shape)
   lane_named h only = let same = one_held me.0 h seat.held only seat.only in (ap (λ (z : Held). z.lane) same ∙ seat.named, ap (λ (z : Held). z.state) same ∙ seat.taken, ap (λ (z : Held). length z.words) same ∙ seat.long)
 
   -- a record that a pass owns or has seen is one of the table

@@ -5,7 +5,7 @@ use lib.ListN.{get_elem?}
 use Rattle.atomic_table.specs.Table.{State}
 use Rattle.aug_core.specs.Places.{Shape, lane_place, record_start, record_words}
 use Rattle.aug_core.specs.Addresses.{IsInner}
-use Rattle.aug_core.specs.Lanes.{IsOfLane}
+use Rattle.aug_core.specs.Lanes.{IsOfLane, word_of_state}
 use Rattle.aug_core.specs.Book.{At}
 use Rattle.aug_core.specs.Opening.{Opening, IsIdle, opening_number, opening_words, shared_words}
 use Rattle.aug_core.specs.Rule.{Kept}
@@ -14,7 +14,7 @@ use Rattle.aug_core.specs.declared.view.Entry.{Entry}
 use Rattle.aug_core.specs.declared.view.Held.{Held}
 use Rattle.aug_core.specs.declared.view.View.{View}
 
--- the words of a table that no seat steps on any more
+-- opaque: the words of a table that no seat steps on any more
 pub record AtRest : Type 0 where
   pub shape : Shape
   pub words : List ℕ
@@ -39,6 +39,6 @@ module _ (face : ℕ → ℕ → List (ℕ × ℕ) → List ℕ) (o : Opening) (
     -- the words of every record that the view has seen are its entry's
     pub seen_records : (q i field : ℕ) (e : Entry) → IsInner o.shape q → At v.seen q i e → field < record_words → slice_index words (record_start o.shape e.number + field) ≡ slice_index e.words field
     -- a lane of the view is as the view has it
-    pub lanes : (a : ℕ) (h : Held) → get_elem? v.held a ≡ some h → slice_index words (lane_place o.shape h.lane) ≡ h.state
+    pub lanes : (a : ℕ) (h : Held) → get_elem? v.held a ≡ some h → slice_index words (lane_place o.shape h.lane) ≡ word_of_state h.state
     -- and so is each word of its records
     pub records : (a number field : ℕ) (h : Held) → get_elem? v.held a ≡ some h → IsOfLane o.shape h.lane number → field < record_words → slice_index words (record_start o.shape number + field) ≡ held_word o.shape h number field

@@ -7,6 +7,7 @@ ghost use Rattle.aug_core.specs.Addresses.{IsInner};
 ghost use Rattle.aug_core.specs.Fields.{field_offset};
 ghost use Rattle.aug_core.specs.Told.{HoldsOnly, MayStore, MayChange, KnowsTable, LoadsLeaf, BeginsAtLeaf, LoadsNode, IsFilled, storing};
 ghost use Rattle.aug_core.specs.declared.view.Held.{Held};
+ghost use Rattle.aug_core.specs.declared.view.LaneState.TheVariants.{Taken};
 ghost use Rattle.aug_words.specs.Seats.{Known, MayLoad, LoadsRecordWord, MayAdvance, TriedLeaf, TriedNode};
 
 use atomic_table::Seat;
@@ -54,7 +55,7 @@ impl<'r, A: Monoid, B: Monoid> WordPass<'r, A, B> {
     /// The lane of the pass.
     pub fn lane(&self) -> u32
         ensures value { (held : Held) → HoldsOnly self.now.view held → held.lane ≡ result }
-        ensures taken { (held : Held) → HoldsOnly self.now.view held → held.state ≡ 1 }
+        ensures taken { (held : Held) → HoldsOnly self.now.view held → held.state ≡ Taken }
         ensures words { (held : Held) → HoldsOnly self.now.view held → length held.words ≡ block_size self.now.view.shape }
         ensures knows { KnowsTable (face A.parts B.parts) self.now.view }
     {
@@ -80,7 +81,7 @@ impl<'r, A: Monoid, B: Monoid> WordPass<'r, A, B> {
     }
 
     /// Puts a leaf's word in the place of the one that it was known to have, if it is still that. True if it did: then the
-    /// changes of it are accepted. The new word has the next serial, or the one after that where a key that is there gets a
+    /// changes of it are accepted. The new word has the next serial, or the one after that if a member gets a
     /// new weight.
     pub fn try_leaf(&mut self, leaf: usize, old: u64, new: u64) -> bool
         requires leaf { leaf < 2 ^ self.old.view.shape.bits }

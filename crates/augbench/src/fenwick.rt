@@ -30,14 +30,14 @@ impl FenwickSet {
         })
     }
 
-    /// Puts a key in, which weighs as much as it says itself: true where it was not there.
+    /// Puts a key in, with itself as its weight. True if it was not there.
     pub(crate) fn insert(&mut self, key: u32) -> bool
         requires { key < UNIVERSE }
     {
         self.enter(key, key)
     }
 
-    /// Puts a key in with a weight, or gives it this weight where it is there.
+    /// Puts a key in with a weight, or gives it this weight if it is there.
     pub(crate) fn put(&mut self, key: u32, weight: u32) -> Outcome
         requires { key < UNIVERSE }
     {
@@ -66,7 +66,7 @@ impl FenwickSet {
         true
     }
 
-    /// Takes a key out: true where it was there.
+    /// Takes a key out. True if it was there.
     pub(crate) fn remove(&mut self, key: u32) -> bool
         requires { key < UNIVERSE }
     {
@@ -114,7 +114,7 @@ impl FenwickSet {
         below
     }
 
-    /// The member with so many members below it, if there is one.
+    /// The member with `index` members below it, if there is one.
     pub(crate) fn select(&self, index: u32) -> Option<u32>
         ensures { IfSome result (λ key. key < UNIVERSE) }
     {

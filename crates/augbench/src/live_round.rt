@@ -20,7 +20,7 @@ use std::thread::Threads;
 use std::time::{Clock, Instant};
 use std::{io, thread};
 
-/// How many bytes the table of a round may take where nothing else is said.
+/// How many bytes the table of a round may take if nothing else is asked for.
 pub(crate) const TABLE: u64 = 64 << 20;
 
 /// A trie whose rounds roll over, and the handles of its threads.
@@ -56,7 +56,7 @@ pub(crate) fn members(alloc: Global, trie: Trie) -> Result<Members, AllocError>
 }
 
 impl Rolling {
-    /// Opens it over the set of a trie, for so many threads. The table of a round takes at most so many bytes.
+    /// Opens it over the set of a trie, for `threads` threads. The table of a round takes at most `table` bytes.
     pub(crate) fn open<R: Wait>(
         rt: &R,
         alloc: Global,

@@ -20,7 +20,7 @@ use std::sync::Wait;
 use std::thread::Threads;
 use std::time::Clock;
 
-/// Runs rounds of each engine until each was timed for so many seconds, and prints a line for each.
+/// Runs rounds of each engine until each was timed for `seconds` seconds, and prints a line for each.
 pub(crate) fn measure<R: Threads + Wait + Clock + Sync + Print>(
     rt: &R,
     alloc: Global,

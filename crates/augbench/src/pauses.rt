@@ -67,7 +67,7 @@ impl Pauses {
     }
 }
 
-/// Measures for so many seconds, and prints what came out.
+/// Measures for `seconds` seconds, and prints what came out.
 pub(crate) fn measure_pauses<R: Threads + Wait + Clock + Sync + Print>(
     rt: &R,
     alloc: Global,

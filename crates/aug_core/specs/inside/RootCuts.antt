@@ -4,7 +4,7 @@ use Rattle.aug_core.specs.Places.{Shape}
 use Rattle.aug_core.specs.Addresses.{root_place}
 use Rattle.aug_core.specs.Book.{Book}
 use Rattle.aug_core.specs.Cuts.{Cut}
-use Rattle.aug_core.specs.EntryCuts.{cut_under}
+use Rattle.aug_core.specs.inside.EntryCuts.{cut_under}
 
 -- the cut of an entry of the root
 abbrev pub root_cut : Shape → Book → ℕ → Cut

@@ -4,7 +4,8 @@ use Rattle.aug_model.specs.declared.outcome.Outcome.{Outcome}
 use Rattle.aug_model.specs.declared.outcome.Outcome.TheVariants as outcome
 use Rattle.aug_trie.specs.Knowledge.{insertion, removal}
 use Rattle.aug_trie.specs.Pass.{PassFacts}
-use Rattle.aug_trie.specs.Updates.{AcceptedUpdate, RefusedUpdate, PutsIn}
+use Rattle.aug_trie.specs.Updates.{AcceptedUpdate, RefusedUpdate, ComesTo}
+use Rattle.aug_trie.specs.declared.updates.request.Request.TheVariants as request
 use Rattle.aug_live.specs.declared.update.Update.{Update}
 use Rattle.aug_live.specs.declared.update.Update.TheVariants as update
 
@@ -15,4 +16,4 @@ ChangesTo update.Insert key outcome.Refused old new = RefusedUpdate insertion ke
 ChangesTo update.Remove key outcome.Accepted old new = AcceptedUpdate removal key 0 old.knows new.knows
 ChangesTo update.Remove key outcome.Replaced old new = ⊥
 ChangesTo update.Remove key outcome.Refused old new = RefusedUpdate removal key old.knows new.knows
-ChangesTo (update.Put weight) key done old new = PutsIn key weight done old.knows new.knows
+ChangesTo (update.Put weight) key done old new = ComesTo (request.Put weight) key done old.knows new.knows

@@ -32,11 +32,11 @@ impl From<AllocError> for Stop {
 
 impl Stop {
     ghost use Rattle.aug_script.specs.Devices.{Writes, WritesBeginning};
-    ghost use Rattle.aug_run.specs.Faults.{stop_line, stop_status, stop_text};
+    ghost use Rattle.aug_run.specs.Faults.{fault_line as line_of, stop_ending};
 
     /// The status that the program ends with: 0, 2 or 4.
     pub fn status(&self) -> u8
-        ensures { result ≡ stop_status self.now }
+        ensures { result ≡ (stop_ending line_of self.now).0 }
     {
         match self {
             Stop::Help(_) => 0,
@@ -47,7 +47,7 @@ impl Stop {
 
     /// The parser's text, or the fault's name.
     pub fn text(&self) -> &str
-        ensures { result.now ≡ stop_text self.now }
+        ensures { result.now ≡ (stop_ending (λ name. name) self.now).1 }
     {
         match self {
             Stop::Help(text) | Stop::Usage(text) => text.as_str(),
@@ -60,8 +60,8 @@ impl Stop {
     /// the sink ends it. It takes no memory.
     pub fn write_line<S: Sink>(&self, sink: &mut S) -> Result<(), Fault>
         requires { (S.state sink.old).faults < 2 ^ 64 - 1 }
-        ensures ok { OnOk result (Writes (S.state sink.old) (S.state sink.new) (stop_line self.now) 1) }
-        ensures err { OnErr result (WritesBeginning (S.state sink.old) (S.state sink.new) (stop_line self.now)) }
+        ensures ok { OnOk result (Writes (S.state sink.old) (S.state sink.new) (stop_ending line_of self.now).1 1) }
+        ensures err { OnErr result (WritesBeginning (S.state sink.old) (S.state sink.new) (stop_ending line_of self.now).1) }
     {
         match self {
             Stop::Help(text) | Stop::Usage(text) => send(text.as_bytes(), sink),
@@ -74,9 +74,9 @@ impl Stop {
 
 impl fmt::Display for Stop {
     ghost use Rattle.std.specs.Prelude.{Some};
-    ghost use Rattle.aug_run.specs.Faults.{stop_text};
+    ghost use Rattle.aug_run.specs.Faults.{stop_ending};
 
-    ghost output = { λ stop. Some (stop_text stop) };
+    ghost output = { λ stop. Some (stop_ending (λ name. name) stop).1 };
 
     fn fmt<W: fmt::Write>(&self, f: &mut fmt::Formatter<W>) -> fmt::Result {
         f.write_str(self.text())

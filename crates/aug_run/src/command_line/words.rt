@@ -1,8 +1,9 @@
 //! Reads the words of the command line, `[--bits H] [--workers W] [--updates U] [FILE]`.
-ghost use Rattle.std.specs.Prelude.{◌≡◌, ◌≢◌, ◌⊎◌, false, IfOk, IfErr, OnErr, OnOk, [], ◌∷◌, codes, map, option_map, string_bytes};
-ghost use Rattle.clap.specs.Words.{FailsBy, app_of, first_of, found_of, kind_of, matches_of, rows_of, rule_of};
-ghost use Rattle.aug_run.specs.CommandLine.{AsksFor, AsksTooMuch, IsReadFrom, IsStopFor, IsUsual, bits_rule, faults_of, file_rule, program, updates_rule, workers_rule};
+ghost use Rattle.std.specs.Prelude.{◌≡◌, false, None, IfOk, IfErr, OnOk, [], codes, map, option_map, string_bytes};
+ghost use Rattle.clap.specs.Words.{FailsBy, app_of, fault_of, first_of, found_of, kind_of, matches_of, new_rule, rows_of, rule_of};
+ghost use Rattle.aug_run.specs.CommandLine.{IsReadFrom, IsStopFor, number_rule, program};
 ghost use Rattle.aug_run.specs.inside.FoundNumbers.{FindsNumbers};
+ghost use Rattle.aug_run.specs.inside.Stops.{StopsReading, TellsOf};
 
 use crate::command_line::options::Options;
 use crate::command_line::stop::Stop;
@@ -15,13 +16,12 @@ use std::alloc::{AllocError, Global};
 /// to `--help`, and `Usage` to words that are wrong, each with the parser's text. `TooLarge` is the answer where a
 /// round that opens with every key would have more than 2^26 words.
 pub fn options(alloc: Global, words: &[String]) -> Result<Options, Stop>
-    ensures asked { IfOk result (AsksFor (map string_bytes words.now)) }
-    ensures right { OnOk result (faults_of (map string_bytes words.now) ≡ []) }
-    ensures stopped { IfErr result (IsStopFor (faults_of (map string_bytes words.now))) }
-    ensures too_large { IfErr result (λ stop. stop ≡ Stop.TooLarge → AsksTooMuch (matches_of program (map string_bytes words.now))) }
+    ensures asked { IfOk result (IsReadFrom (matches_of program (map string_bytes words.now))) }
+    ensures right { OnOk result (fault_of program (map string_bytes words.now) ≡ []) }
+    ensures stopped { IfErr result (IsStopFor (map string_bytes words.now)) }
 
-    // With no words.
-    ensures usual { words.now ≡ [] → IfOk result IsUsual }
+    // With no words: keys below 2^4, one lane with 64 updates, and no file.
+    ensures usual { words.now ≡ [] → IfOk result (λ o. o ≡ record { limits = record { bits = 4; workers = 1; updates = 64 }; file = None }) }
 {
     match parse(alloc, words) {
         Ok(matches) => options_of(alloc, &matches),
@@ -33,7 +33,7 @@ pub fn options(alloc: Global, words: &[String]) -> Result<Options, Stop>
 fn parse<'a>(alloc: Global, words: &'a [String]) -> Result<ArgMatches<'a>, Error>
     ensures rows { IfOk result (λ m. rows_of (found_of m) ≡ matches_of program (map string_bytes words.entry.now)) }
     ensures numbers { IfOk result (λ m. FindsNumbers (found_of m)) }
-    ensures fails { FailsBy (faults_of (map string_bytes words.entry.now)) result }
+    ensures fails { FailsBy (fault_of program (map string_bytes words.entry.now)) result }
 {
     command(alloc)?.try_get_matches_from(words)
 }
@@ -52,7 +52,7 @@ fn command<'a>(alloc: Global) -> Result<Command<'a>, AllocError>
 }
 
 fn bits<'a>(alloc: Global) -> Arg<'a>
-    ensures rule { rule_of result ≡ bits_rule }
+    ensures rule { rule_of result ≡ number_rule (codes "bits") 16 (codes "4") }
     ensures own { result.global ≡ false }
 {
     Arg::new(alloc, "bits")
@@ -65,7 +65,7 @@ fn bits<'a>(alloc: Global) -> Arg<'a>
 }
 
 fn workers<'a>(alloc: Global) -> Arg<'a>
-    ensures rule { rule_of result ≡ workers_rule }
+    ensures rule { rule_of result ≡ number_rule (codes "workers") 64 (codes "1") }
     ensures own { result.global ≡ false }
 {
     Arg::new(alloc, "workers")
@@ -78,7 +78,7 @@ fn workers<'a>(alloc: Global) -> Arg<'a>
 }
 
 fn updates<'a>(alloc: Global) -> Arg<'a>
-    ensures rule { rule_of result ≡ updates_rule }
+    ensures rule { rule_of result ≡ number_rule (codes "updates") 65536 (codes "64") }
     ensures own { result.global ≡ false }
 {
     Arg::new(alloc, "updates")
@@ -91,7 +91,7 @@ fn updates<'a>(alloc: Global) -> Arg<'a>
 }
 
 fn file<'a>(alloc: Global) -> Arg<'a>
-    ensures rule { rule_of result ≡ file_rule }
+    ensures rule { rule_of result ≡ new_rule (codes "FILE") }
     ensures own { result.global ≡ false }
 {
     Arg::new(alloc, "FILE").help("The script; without it standard input is read")
@@ -101,8 +101,7 @@ fn file<'a>(alloc: Global) -> Arg<'a>
 fn options_of(alloc: Global, matches: &ArgMatches<'_>) -> Result<Options, Stop>
     requires { FindsNumbers (found_of matches.now) }
     ensures ok { IfOk result (IsReadFrom (rows_of (found_of matches.now))) }
-    ensures err { IfErr result (λ stop. (stop ≡ Stop.OutOfMemory) ⊎ (stop ≡ Stop.TooLarge)) }
-    ensures too_large { IfErr result (λ stop. stop ≡ Stop.TooLarge → AsksTooMuch (rows_of (found_of matches.now))) }
+    ensures err { IfErr result (StopsReading (rows_of (found_of matches.now))) }
 {
     let bits = matches.get_one("bits").unwrap();
     let workers = matches.get_one("workers").unwrap();
@@ -128,7 +127,7 @@ fn file_of(alloc: Global, matches: &ArgMatches<'_>) -> Result<Option<String>, Al
 
 // What an error of the parser comes to: help where it was asked for, and want of memory, have answers of their own.
 fn stop_of(alloc: Global, error: &Error) -> Stop
-    ensures told { IsStopFor (kind_of error.now ∷ []) result }
+    ensures told { TellsOf (kind_of error.now) result }
     ensures memory { kind_of error.now ≡ ErrorKind.OutOfMemory → result ≡ Stop.OutOfMemory }
 {
     let kind = error.kind();

@@ -1,8 +1,11 @@
 //! A whole script, from its bytes to its printed reports.
-ghost use Rattle.std.specs.Prelude.{◌≡◌, ◌≢◌, ℕ, ◌-◌, ◌^◌, ◌<◌, ◌≤◌, ◌↔◌, ◌⊎◌, All, Err, IfErr, IfOk, IfSome, OnErr, OnOk, Some, [], length, take};
+ghost use Rattle.std.specs.Prelude.{◌≡◌, ◌≢◌, ℕ, ◌-◌, ◌^◌, ◌<◌, ◌≤◌, ◌↔◌, ◌⊎◌, All, Err, IfErr, IfOk, IfSome, List, OnErr, OnOk, Some, [], ◌∷◌, length};
+ghost use Rattle.aug_script.specs.Devices.{SinkState, WritesBeginning};
+ghost use Rattle.aug_script.specs.ReportText.{report_text};
 ghost use Rattle.aug_script.specs.Script.{IsRunnable, NeverNarrows};
+ghost use Rattle.aug_script.specs.declared.report.Report.{Report};
 ghost use Rattle.aug_run.specs.Program.{FailsBy};
-ghost use Rattle.aug_run.specs.Runs.{Prints, PrintsInPart, RunsWhole, script_limit};
+ghost use Rattle.aug_run.specs.Runs.{Prints, RunsWhole, script_limit};
 
 use crate::gate::Open;
 use crate::round::run_round;
@@ -80,11 +83,12 @@ fn run_rounds<R: Threads + Wait, W: Sink>(
     requires kept { All (IsRunnable limits.now) rounds.now }
     requires never_narrows { NeverNarrows rounds.now }
     requires sink { (W.state sink.old).faults < 2 ^ 64 - 1 }
-    ensures ok { OnOk result (Prints limits.now rounds.now (W.state sink.old) (W.state sink.new)) }
+    ensures ok { OnOk result ((reports : List Report) × Prints limits.now rounds.now reports [] (W.state sink.old) (W.state sink.new) × (length reports ≡ length rounds.now)) }
     ensures named { OnErr result ((result ≡ Err RunError.Output) ⊎ (result ≡ Err RunError.OutOfMemory)) }
-    ensures memory { result ≡ Err RunError.OutOfMemory → (count : ℕ) × Prints limits.now (take count rounds.now) (W.state sink.old) (W.state sink.new) }
+    ensures memory { result ≡ Err RunError.OutOfMemory → (reports : List Report) × Prints limits.now rounds.now reports [] (W.state sink.old) (W.state sink.new) }
     ensures output { result ≡ Err RunError.Output ↔ ((W.state sink.old).faults < (W.state sink.new).faults) }
-    ensures part { result ≡ Err RunError.Output → (count : ℕ) × PrintsInPart limits.now (take count rounds.now) (W.state sink.old) (W.state sink.new) }
+    ensures part { result ≡ Err RunError.Output → (reports : List Report) × (broken : Report) × (between : SinkState)
+        × Prints limits.now rounds.now reports (broken ∷ []) (W.state sink.old) between × WritesBeginning between (W.state sink.new) (report_text broken) }
 {
     let Ok(empty) = empty_trie(alloc, limits) else {
         return Err(RunError::OutOfMemory);

@@ -34,11 +34,11 @@ impl From<AllocError> for RunError {
 
 impl RunError {
     ghost use Rattle.aug_script.specs.Devices.{Writes, WritesBeginning};
-    ghost use Rattle.aug_run.specs.Faults.{run_error_line, run_error_status, run_error_text};
+    ghost use Rattle.aug_run.specs.Faults.{fault_line as line_of, run_ending};
 
     /// The status that the program ends with: 1, 3 or 4.
     pub fn status(&self) -> u8
-        ensures { result ≡ run_error_status self.now }
+        ensures { result ≡ (run_ending self.now).0 }
     {
         match self {
             RunError::OutOfMemory | RunError::Script(ScriptError::OutOfMemory) => 4,
@@ -49,7 +49,7 @@ impl RunError {
 
     /// What went wrong, as a word or a few. It takes no memory.
     pub fn text(&self) -> FaultText
-        ensures { result.bytes ≡ run_error_text self.now }
+        ensures { result.bytes ≡ (run_ending self.now).1 }
     {
         match self {
             RunError::Script(error) => error.text(),
@@ -64,8 +64,8 @@ impl RunError {
     /// memory.
     pub fn write_line<S: Sink>(&self, sink: &mut S) -> Result<(), Fault>
         requires { (S.state sink.old).faults < 2 ^ 64 - 1 }
-        ensures ok { OnOk result (Writes (S.state sink.old) (S.state sink.new) (run_error_line self.now) 1) }
-        ensures err { OnErr result (WritesBeginning (S.state sink.old) (S.state sink.new) (run_error_line self.now)) }
+        ensures ok { OnOk result (Writes (S.state sink.old) (S.state sink.new) (line_of (run_ending self.now).1) 1) }
+        ensures err { OnErr result (WritesBeginning (S.state sink.old) (S.state sink.new) (line_of (run_ending self.now).1)) }
     {
         let line = fault_line(self.text().as_str());
         send(line.as_str().as_bytes(), sink)
@@ -74,9 +74,9 @@ impl RunError {
 
 impl fmt::Display for RunError {
     ghost use Rattle.std.specs.Prelude.{Some};
-    ghost use Rattle.aug_run.specs.Faults.{run_error_text};
+    ghost use Rattle.aug_run.specs.Faults.{run_ending};
 
-    ghost output = { λ error. Some (run_error_text error) };
+    ghost output = { λ error. Some (run_ending error).1 };
 
     fn fmt<W: fmt::Write>(&self, f: &mut fmt::Formatter<W>) -> fmt::Result {
         f.write_str(self.text().as_str())

@@ -1,5 +1,6 @@
--- Which items of a script its rounds can take.
-use Rattle.std.specs.Prelude.{◌<◌, ◌≤◌, ⊤}
+-- What was read of a script before its first item, and which items its rounds can take.
+use Rattle.std.specs.Prelude.{ℕ, ◌<◌, ◌≤◌, ⊤, []}
+use Rattle.aug_script.specs.Script.{Progress}
 use Rattle.aug_script.specs.declared.item.Item.{Item}
 use Rattle.aug_script.specs.declared.item.Item.TheVariants as item
 
@@ -8,3 +9,7 @@ abbrev pub CanTake : Item → Type 0
 CanTake (item.Row row) = row.lane < 64
 CanTake item.End = ⊤
 CanTake (item.Grow bits) = bits ≤ 16
+
+-- nothing was read yet, and keys have so many bits
+abbrev pub nothing_read : ℕ → Progress
+nothing_read bits = record { next = 1; bits = bits; rows = []; closed = [] }

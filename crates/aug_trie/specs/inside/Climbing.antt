@@ -1,5 +1,5 @@
 -- An update as a whole: what its steps are, and what it comes to.
-use Rattle.std.specs.Prelude.{◌≡◌, ℕ, ◌+◌, ◌*◌, ◌^◌, ◌<◌, ◌≤◌, ⊤, true, false, List, [], ◌∷◌, ◌++◌, length}
+use Rattle.std.specs.Prelude.{◌≡◌, ℕ, ◌+◌, ◌*◌, ◌%◌, ◌^◌, ◌<◌, ◌≤◌, ◌==◌, ⊤, true, false, List, [], ◌∷◌, ◌++◌, length}
 use Rattle.aug_core.specs.Book.{Book, At, IsPassed}
 use Rattle.aug_core.specs.Kinds.{load_leaf}
 use Rattle.aug_core.specs.inside.Shows.{NewestShows, ShowsAtMost}
@@ -12,8 +12,8 @@ use Rattle.aug_model.specs.declared.outcome.Outcome.{Outcome}
 use Rattle.aug_model.specs.declared.outcome.Outcome.TheVariants as outcome
 use Rattle.aug_trie.specs.inside.Goes.{Goes}
 use Rattle.aug_trie.specs.Pass.{TryNoLeaf, Tried}
-use Rattle.aug_trie.specs.LeafWords.{serial_in_word}
-use Rattle.aug_trie.specs.Requests.{goes_from, in_the_way, advance_from}
+use Rattle.aug_trie.specs.LeafWords.{serial_in_word, weight_in_word}
+use Rattle.aug_trie.specs.Requests.{goes_from, in_the_way}
 use Rattle.aug_trie.specs.declared.updates.request.Request.{Request}
 use Rattle.aug_trie.specs.declared.updates.request.Request.TheVariants.{Insert, Remove, Put}
 
@@ -22,6 +22,12 @@ abbrev pub FitsRequest : Request → Type 0
 FitsRequest Insert = ⊤
 FitsRequest Remove = ⊤
 FitsRequest (Put weight) = weight < 2 ^ 32
+
+-- what a request makes of a leaf with this word: a put of a key that is there replaces it
+abbrev pub advance_from : Request → ℕ → ℕ → Advance
+advance_from Insert key word = record { serial = serial_in_word word; weight = weight_in_word word; replaces = false; new_weight = key }
+advance_from Remove key word = record { serial = serial_in_word word; weight = weight_in_word word; replaces = false; new_weight = 0 }
+advance_from (Put weight) key word = record { serial = serial_in_word word; weight = weight_in_word word; replaces = serial_in_word word % 2 == 1; new_weight = weight }
 
 -- the leaf's entry with this serial weighs so much
 pub record WeighsAt (book : Book) (key serial weight : ℕ) : Type 0 where

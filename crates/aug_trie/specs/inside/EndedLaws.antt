@@ -3,7 +3,8 @@ use Rattle.std.proofs.Common.{ℕ, List, refl, ap, ◌∙◌}
 use Rattle.aug_model.specs.Keys.{list_of}
 use Rattle.aug_model.specs.declared.summary.Summary.{Summary}
 use Rattle.aug_query.specs.Tree.{IsNodeOf, sum_of, below_node}
-use Rattle.aug_trie.specs.Ended.{EndedFacts, set_of_ended, NamesEnded, KeepsEnded}
+use Rattle.aug_trie.specs.Ended.{EndedFacts, set_of_ended, KeepsEnded}
+use Rattle.aug_trie.specs.inside.EndedTree.{NamesEnded}
 
 -- a trie that no call has walked keeps it
 pub kept_so : (trie : EndedFacts) → KeepsEnded trie trie

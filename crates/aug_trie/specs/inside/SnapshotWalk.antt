@@ -7,9 +7,8 @@ use Rattle.aug_model.specs.Keys.{SetFacts}
 use Rattle.aug_query.specs.Tree.{IsTreeSet}
 use Rattle.aug_query.specs.declared.loaded.Loaded.{Loaded}
 use Rattle.aug_words.specs.Seats.{Known}
-use Rattle.aug_trie.specs.Node.{IsNodeAt}
-use Rattle.aug_trie.specs.TreeOf.{members_of}
-use Rattle.aug_trie.specs.inside.NamedCuts.{cut_named}
+use Rattle.aug_trie.specs.inside.NodeWords.{IsNodeAt}
+use Rattle.aug_trie.specs.inside.NamedCuts.{cut_named, members_of}
 use Rattle.aug_trie.specs.declared.queries.snapshot.Snapshot.{Snapshot}
 
 -- the set that a snapshot shows in what a pass has seen

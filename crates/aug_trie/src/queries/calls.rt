@@ -40,7 +40,7 @@ impl<'r, A: Monoid, B: Monoid> Pass<'r, A, B> {
         ensures answer { result ≡ is_member (list_of (set_at self.old s)) k }
         ensures reads { Reads (summary_of A.parts B.parts) ((set_at self.old s).bits + 2) self.old self.new }
     {
-        let mut walk = SnapshotWalk::over(self.words.take(), s, self.bits);
+        let mut walk = SnapshotWalk::over(self.words.take(), s, self.account.bits);
         let found = descent::has(&mut walk, k);
         self.words = walk.into_words();
         found
@@ -52,7 +52,7 @@ impl<'r, A: Monoid, B: Monoid> Pass<'r, A, B> {
         ensures answer { result ≡ weight_of (set_at self.old s).pairs k }
         ensures reads { Reads (summary_of A.parts B.parts) ((set_at self.old s).bits + 2) self.old self.new }
     {
-        let mut walk = SnapshotWalk::over(self.words.take(), s, self.bits);
+        let mut walk = SnapshotWalk::over(self.words.take(), s, self.account.bits);
         let weight = descent::weight(&mut walk, k);
         self.words = walk.into_words();
         weight
@@ -64,7 +64,7 @@ impl<'r, A: Monoid, B: Monoid> Pass<'r, A, B> {
         ensures answer { result ≡ length (list_of (set_at self.old s)) }
         ensures reads { Reads (summary_of A.parts B.parts) 2 self.old self.new }
     {
-        let mut walk = SnapshotWalk::over(self.words.take(), s, self.bits);
+        let mut walk = SnapshotWalk::over(self.words.take(), s, self.account.bits);
         let size = descent::size(&mut walk);
         self.words = walk.into_words();
         size
@@ -76,7 +76,7 @@ impl<'r, A: Monoid, B: Monoid> Pass<'r, A, B> {
         ensures answer { result ≡ rank_of (list_of (set_at self.old s)) k }
         ensures reads { Reads (summary_of A.parts B.parts) (3 * (set_at self.old s).bits + 2) self.old self.new }
     {
-        let mut walk = SnapshotWalk::over(self.words.take(), s, self.bits);
+        let mut walk = SnapshotWalk::over(self.words.take(), s, self.account.bits);
         let below = descent::rank(&mut walk, k);
         self.words = walk.into_words();
         below
@@ -88,7 +88,7 @@ impl<'r, A: Monoid, B: Monoid> Pass<'r, A, B> {
         ensures answer { result ≡ select_of (list_of (set_at self.old s)) i }
         ensures reads { Reads (summary_of A.parts B.parts) (3 * (set_at self.old s).bits + 2) self.old self.new }
     {
-        let mut walk = SnapshotWalk::over(self.words.take(), s, self.bits);
+        let mut walk = SnapshotWalk::over(self.words.take(), s, self.account.bits);
         let found = descent::select(&mut walk, i);
         self.words = walk.into_words();
         found
@@ -100,7 +100,7 @@ impl<'r, A: Monoid, B: Monoid> Pass<'r, A, B> {
         ensures answer { result ≡ before_of (list_of (set_at self.old s)) k }
         ensures reads { Reads (summary_of A.parts B.parts) (6 * (set_at self.old s).bits + 1) self.old self.new }
     {
-        let mut walk = SnapshotWalk::over(self.words.take(), s, self.bits);
+        let mut walk = SnapshotWalk::over(self.words.take(), s, self.account.bits);
         let found = descent::before(&mut walk, k);
         self.words = walk.into_words();
         found
@@ -112,7 +112,7 @@ impl<'r, A: Monoid, B: Monoid> Pass<'r, A, B> {
         ensures answer { result ≡ after_of (list_of (set_at self.old s)) k }
         ensures reads { Reads (summary_of A.parts B.parts) (6 * (set_at self.old s).bits + 1) self.old self.new }
     {
-        let mut walk = SnapshotWalk::over(self.words.take(), s, self.bits);
+        let mut walk = SnapshotWalk::over(self.words.take(), s, self.account.bits);
         let found = descent::after(&mut walk, k);
         self.words = walk.into_words();
         found
@@ -124,7 +124,7 @@ impl<'r, A: Monoid, B: Monoid> Pass<'r, A, B> {
         ensures answer { result ≡ summary_of A.parts B.parts (weighted_range_of (set_at self.old s).pairs a b) }
         ensures reads { Reads (summary_of A.parts B.parts) (10 * (set_at self.old s).bits - 1) self.old self.new }
     {
-        let mut walk = SnapshotWalk::over(self.words.take(), s, self.bits);
+        let mut walk = SnapshotWalk::over(self.words.take(), s, self.account.bits);
         let total = descent::range(&mut walk, a, b);
         self.words = walk.into_words();
         total
@@ -137,7 +137,7 @@ impl<'r, A: Monoid, B: Monoid> Pass<'r, A, B> {
         ensures room { IfOk result (λ list. vec_capacity list ≡ length (list_of (set_at self.old s))) }
         ensures reads { Reads (summary_of A.parts B.parts) (3 * (set_at self.old s).bits * length (list_of (set_at self.old s)) + 2) self.old self.new }
     {
-        let mut walk = SnapshotWalk::over(self.words.take(), s, self.bits);
+        let mut walk = SnapshotWalk::over(self.words.take(), s, self.account.bits);
         let list = descent::keys(alloc, &mut walk);
         self.words = walk.into_words();
         list
@@ -150,7 +150,7 @@ impl<'r, A: Monoid, B: Monoid> Pass<'r, A, B> {
         ensures room { IfOk result (λ list. vec_capacity list ≡ length (set_at self.old s).pairs) }
         ensures reads { Reads (summary_of A.parts B.parts) (3 * (set_at self.old s).bits * length (set_at self.old s).pairs + 2) self.old self.new }
     {
-        let mut walk = SnapshotWalk::over(self.words.take(), s, self.bits);
+        let mut walk = SnapshotWalk::over(self.words.take(), s, self.account.bits);
         let list = descent::pairs(alloc, &mut walk);
         self.words = walk.into_words();
         list
@@ -166,7 +166,7 @@ impl<'r, A: Monoid, B: Monoid> Pass<'r, A, B> {
         ensures room { vec_capacity out.new ≡ vec_capacity out.old }
         ensures reads { Reads (summary_of A.parts B.parts) (3 * (length keys.now * (set_at self.old s).bits) + length keys.now + 1) self.old self.new }
     {
-        let mut walk = SnapshotWalk::over(self.words.take(), s, self.bits);
+        let mut walk = SnapshotWalk::over(self.words.take(), s, self.account.bits);
         descent::ranks(&mut walk, keys, out);
         self.words = walk.into_words();
     }
@@ -180,7 +180,7 @@ impl<'r, A: Monoid, B: Monoid> Pass<'r, A, B> {
         ensures room { vec_capacity out.new ≡ vec_capacity out.old }
         ensures reads { Reads (summary_of A.parts B.parts) (length keys.now * (set_at self.old s).bits + 2 * length keys.now) self.old self.new }
     {
-        let mut walk = SnapshotWalk::over(self.words.take(), s, self.bits);
+        let mut walk = SnapshotWalk::over(self.words.take(), s, self.account.bits);
         descent::memberships(&mut walk, keys, out);
         self.words = walk.into_words();
     }
@@ -195,7 +195,7 @@ impl<'r, A: Monoid, B: Monoid> Pass<'r, A, B> {
         ensures room { vec_capacity out.new ≡ vec_capacity out.old }
         ensures reads { Reads (summary_of A.parts B.parts) (length keys.now * (set_at self.old s).bits + 2 * length keys.now) self.old self.new }
     {
-        let mut walk = SnapshotWalk::over(self.words.take(), s, self.bits);
+        let mut walk = SnapshotWalk::over(self.words.take(), s, self.account.bits);
         descent::weights(&mut walk, keys, out);
         self.words = walk.into_words();
     }

@@ -1,9 +1,9 @@
 //! From one node of a snapshot's tree to the next, over a pass that knows its words alone.
-ghost use Rattle.std.specs.Prelude.{◌≡◌, ℕ, ◌+◌, ◌*◌, ◌^◌, ◌<◌, ◌≤◌, suc};
+ghost use Rattle.std.specs.Prelude.{◌≡◌, ◌+◌, ◌*◌, ◌≤◌};
 ghost use Rattle.aug_core.specs.Faces.{face};
 ghost use Rattle.aug_core.specs.Told.{KnowsTable};
 ghost use Rattle.aug_model.specs.Folds.{summary_of};
-ghost use Rattle.aug_trie.specs.Node.{IsNodeAt};
+ghost use Rattle.aug_trie.specs.inside.NodeWords.{IsNodeAt};
 ghost use Rattle.aug_trie.specs.LeafWords.{leaf_pairs};
 ghost use Rattle.aug_trie.specs.TreeOf.{IsTreeOf};
 ghost use Rattle.aug_trie.specs.inside.NamedCuts.{cut_named};
@@ -39,7 +39,6 @@ pub(crate) fn summary_at<A: Monoid, B: Monoid>(
     place: u32,
     word: u64,
 ) -> Summary<A, B>
-    requires few { 2 ^ pass.old.view.shape.bits ≤ 65536 }
     requires knows { KnowsTable (face A.parts B.parts) pass.old.view }
     requires node { IsNodeAt pass.old.view.shape pass.old.view.seen (cut_named pass.old.view.shape pass.old.view.seen snapshot.number) level place word }
     ensures table { pass.new.table ≡ pass.old.table }
@@ -68,7 +67,6 @@ pub(crate) fn node_at<A: Monoid, B: Monoid>(
     place: u32,
     word: u64,
 ) -> Node<A, B>
-    requires few { 2 ^ pass.old.view.shape.bits ≤ 65536 }
     requires knows { KnowsTable (face A.parts B.parts) pass.old.view }
     requires node { IsNodeAt pass.old.view.shape pass.old.view.seen (cut_named pass.old.view.shape pass.old.view.seen snapshot.number) level place word }
     ensures table { pass.new.table ≡ pass.old.table }
@@ -95,7 +93,6 @@ pub(crate) fn left_of<A: Monoid, B: Monoid>(
     pass: &mut WordPass<A, B>,
     node: &Node<A, B>,
 ) -> Node<A, B>
-    requires few { 2 ^ pass.old.view.shape.bits ≤ 65536 }
     requires knows { KnowsTable (face A.parts B.parts) pass.old.view }
     requires node { IsNodeAt pass.old.view.shape pass.old.view.seen (cut_named pass.old.view.shape pass.old.view.seen node.now.snapshot.number) node.now.level node.now.place node.now.word }
     requires inner { 1 ≤ node.now.level }
@@ -117,7 +114,6 @@ pub(crate) fn right_of<A: Monoid, B: Monoid>(
     pass: &mut WordPass<A, B>,
     node: &Node<A, B>,
 ) -> Node<A, B>
-    requires few { 2 ^ pass.old.view.shape.bits ≤ 65536 }
     requires knows { KnowsTable (face A.parts B.parts) pass.old.view }
     requires node { IsNodeAt pass.old.view.shape pass.old.view.seen (cut_named pass.old.view.shape pass.old.view.seen node.now.snapshot.number) node.now.level node.now.place node.now.word }
     requires inner { 1 ≤ node.now.level }

@@ -4,7 +4,7 @@ ghost use Rattle.aug_core.specs.Cuts.{set_of_cut};
 ghost use Rattle.aug_core.specs.Faces.{face};
 ghost use Rattle.aug_core.specs.Told.{KnowsTable};
 ghost use Rattle.aug_query.specs.Tree.{below_node};
-ghost use Rattle.aug_trie.specs.Node.{IsNodeAt};
+ghost use Rattle.aug_trie.specs.inside.NodeWords.{IsNodeAt};
 ghost use Rattle.aug_trie.specs.inside.Goes.{Looks};
 ghost use Rattle.aug_trie.specs.inside.NamedCuts.{cut_named};
 

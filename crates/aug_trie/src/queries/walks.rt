@@ -17,7 +17,7 @@ impl<'r, A: Monoid, B: Monoid> Pass<'r, A, B> {
         ensures value { result ≡ self.now.round.bits }
         ensures sets { (s : Snapshot) → HasSnapshot self.now s.number → IsTreeSet (set_at self.now s) }
     {
-        self.bits
+        self.account.bits
     }
 
     /// The top of the tree of a snapshot of this pass. It makes at most four steps, and so do `left` and `right`.
@@ -32,7 +32,7 @@ impl<'r, A: Monoid, B: Monoid> Pass<'r, A, B> {
         let Some(words) = &mut self.words else {
             unreachable!()
         };
-        node_at(words, *s, self.bits, 0, s.number)
+        node_at(words, *s, self.account.bits, 0, s.number)
     }
 
     /// The child of a node of this pass that covers the lesser half of its keys. The node is no leaf.

@@ -3,6 +3,7 @@ ghost use Rattle.std.specs.Prelude.{◌≡◌, ◌↔◌, IsErr, OnErr, IfOk};
 ghost use Rattle.aug_trie.specs.Crew.{HandsOut, TakesBack};
 
 use crate::error::CrewError;
+use crate::rounds::account::Account;
 use crate::rounds::pass::Pass;
 use crate::rounds::round::Round;
 use aug_monoid::Monoid;
@@ -48,12 +49,14 @@ impl<A: Monoid, B: Monoid> Crew<A, B> {
         let words = self.lead.split(&round.words);
         Ok(Pass {
             words: Some(words),
-            leaves: 1 << round.layout.bits(),
-            bits: round.layout.bits(),
-            next: round.layout.first_record(lane),
-            left: round.layout.updates(),
-            inserts: 0,
-            removals: 0,
+            account: Account {
+                leaves: 1 << round.layout.bits(),
+                bits: round.layout.bits(),
+                next: round.layout.first_record(lane),
+                left: round.layout.updates(),
+                inserts: 0,
+                removals: 0,
+            },
         })
     }
 
@@ -62,17 +65,12 @@ impl<A: Monoid, B: Monoid> Crew<A, B> {
         requires of_crew { pass.round ≡ self.old.round }
         ensures { TakesBack self.old self.new pass.entry }
     {
-        let Pass {
-            words,
-            inserts,
-            removals,
-            ..
-        } = pass;
+        let Pass { words, account } = pass;
         let Some(words) = words else { unreachable!() };
         self.lead.join(words);
         self.back = self.back.wrapping_add(1);
-        self.inserts = self.inserts.wrapping_add(inserts);
-        self.removals = self.removals.wrapping_add(removals);
+        self.inserts = self.inserts.wrapping_add(account.inserts);
+        self.removals = self.removals.wrapping_add(account.removals);
     }
 
     /// How many passes were handed out.

@@ -2,7 +2,7 @@
 ghost use Rattle.std.specs.Prelude.{◌≡◌};
 ghost use Rattle.aug_core.specs.Faces.{face};
 ghost use Rattle.aug_model.specs.Folds.{summary_of};
-ghost use Rattle.aug_trie.specs.Ended.{HasEndedNode, IsVersion, NamesEnded, covered};
+ghost use Rattle.aug_trie.specs.inside.EndedTree.{HasEndedNode, IsVersion, NamesEnded, covered};
 
 use crate::queries::nodes::leaf_summary;
 use crate::rounds::ended::Ended;
@@ -62,7 +62,8 @@ impl<A: Monoid, B: Monoid> Tree<A, B> for Ended<A, B> {
 
     ghost use Rattle.aug_core.specs.Faces.{face};
     ghost use Rattle.aug_model.specs.Folds.{summary_of};
-    ghost use Rattle.aug_trie.specs.Ended.{set_of_ended, KeepsEnded, HasEndedNode};
+    ghost use Rattle.aug_trie.specs.Ended.{set_of_ended, KeepsEnded};
+    ghost use Rattle.aug_trie.specs.inside.EndedTree.{HasEndedNode};
     ghost use Rattle.aug_trie.specs.LeafWords.{weight_in_word};
     ghost use Rattle.aug_trie.specs.inside.EndedLaws.{kept_so, kept_on};
 

@@ -3,7 +3,8 @@ ghost use Rattle.std.specs.Prelude.{◌≡◌, ◌+◌, ◌*◌, length};
 ghost use Rattle.aug_core.specs.Faces.{face};
 ghost use Rattle.aug_model.specs.Keys.{list_of};
 ghost use Rattle.aug_query.specs.Tree.{below_node};
-ghost use Rattle.aug_trie.specs.Ended.{set_of_ended, NamesEnded};
+ghost use Rattle.aug_trie.specs.Ended.{set_of_ended};
+ghost use Rattle.aug_trie.specs.inside.EndedTree.{NamesEnded};
 
 use crate::rounds::ended::Ended;
 use crate::updates::leaf_words::{leaf_serial, leaf_weight};
@@ -54,7 +55,8 @@ impl<A: Monoid, B: Monoid> Descend<A, B> for Ended<A, B> {
 
     ghost use Rattle.aug_core.specs.Faces.{face};
     ghost use Rattle.aug_model.specs.Folds.{summary_of};
-    ghost use Rattle.aug_trie.specs.Ended.{set_of_ended, NamesEnded, KeepsEnded};
+    ghost use Rattle.aug_trie.specs.Ended.{set_of_ended, KeepsEnded};
+    ghost use Rattle.aug_trie.specs.inside.EndedTree.{NamesEnded};
     ghost use Rattle.aug_trie.specs.inside.EndedLaws.{kept_so, kept_on, stands};
 
     ghost set_of = { λ e. set_of_ended e };

@@ -1,6 +1,7 @@
 //! A pass without its round, for the way into a thread.
 ghost use Rattle.std.specs.Prelude.{◌≡◌};
 
+use crate::rounds::account::Account;
 use crate::rounds::pass::Pass;
 use aug_monoid::Monoid;
 use aug_words::WordHalf;
@@ -11,12 +12,7 @@ use std::marker::Model;
 #[derive(Drop)]
 pub struct PassHalf<A: Monoid, B: Monoid> {
     pub(crate) words: WordHalf<A, B>,
-    pub(crate) leaves: usize,
-    pub(crate) bits: u32,
-    pub(crate) next: u64,
-    pub(crate) left: u32,
-    pub(crate) inserts: u32,
-    pub(crate) removals: u32,
+    pub(crate) account: Account,
 }
 
 impl<A: Monoid, B: Monoid> Model for PassHalf<A, B> {
@@ -28,9 +24,9 @@ impl<A: Monoid, B: Monoid> Model for PassHalf<A, B> {
 
     ghost Value = { PassFacts };
 
-    ghost view = { λ p. pass_facts p.words p.left };
+    ghost view = { λ p. pass_facts p.words p.account.left };
 
-    ghost invariant = { λ p. IsPass (face A.parts B.parts) p.words.view p.leaves p.bits p.next p.left × HasCounts (changes_of p.words.view.held) p.inserts p.removals };
+    ghost invariant = { λ p. IsPass (face A.parts B.parts) p.words.view p.account.leaves p.account.bits p.account.next p.account.left × HasCounts (changes_of p.words.view.held) p.account.inserts p.account.removals };
 }
 
 impl<'r, A: Monoid, B: Monoid> Pass<'r, A, B> {
@@ -38,24 +34,11 @@ impl<'r, A: Monoid, B: Monoid> Pass<'r, A, B> {
     pub fn into_half(self) -> PassHalf<A, B>
         ensures { result ≡ self.entry }
     {
-        let Pass {
-            words,
-            leaves,
-            bits,
-            next,
-            left,
-            inserts,
-            removals,
-        } = self;
+        let Pass { words, account } = self;
         let Some(words) = words else { unreachable!() };
         PassHalf {
             words: words.into_half(),
-            leaves,
-            bits,
-            next,
-            left,
-            inserts,
-            removals,
+            account,
         }
     }
 }

@@ -1,19 +1,19 @@
 //! A pass of a round: it updates the set and looks at it.
-ghost use Rattle.std.specs.Prelude.{◌≡◌, ℕ, ◌+◌, ◌*◌, ◌^◌, ◌<◌, ◌≤◌, [], ◌∷◌, ◌++◌};
+ghost use Rattle.std.specs.Prelude.{if◌then◌else◌, ◌≡◌, ℕ, ◌+◌, ◌*◌, ◌^◌, ◌<◌, ◌≤◌, [], ◌∷◌, ◌++◌};
 ghost use Rattle.std.specs.Bool.{OnTrue, OnFalse};
 ghost use Rattle.aug_trie.specs.Knowledge.{IsKnowledge, insertion, removal, inserts_of, removals_of};
-ghost use Rattle.aug_trie.specs.Updates.{AcceptedUpdate, RefusedUpdate, ComesTo, PutsIn, TakesSnapshot};
+ghost use Rattle.aug_trie.specs.Updates.{AcceptedUpdate, RefusedUpdate, ComesTo, TakesSnapshot};
 ghost use Rattle.aug_model.specs.Folds.{summary_of};
 ghost use Rattle.aug_trie.specs.Node.{Keeps};
 ghost use Rattle.aug_trie.specs.inside.Climbing.{FitsRequest};
-ghost use Rattle.aug_trie.specs.Requests.{answered};
 ghost use Rattle.aug_core.specs.Kinds.{load_node};
 ghost use Rattle.aug_trie.specs.Round.{root_of};
 ghost use Rattle.aug_trie.specs.Pass.{GoesOn, StepsOf};
 ghost use Rattle.aug_trie.specs.Snapshot.{HasSnapshot, snapshot_cut};
 
 use crate::queries::snapshot::Snapshot;
-use crate::updates::request::{Request, insertions_by, removals_by};
+use crate::rounds::account::Account;
+use crate::updates::request::Request;
 use crate::updates::update::update;
 use aug_model::Outcome;
 use aug_monoid::Monoid;
@@ -26,15 +26,7 @@ use std::marker::Model;
 pub struct Pass<'r, A: Monoid, B: Monoid> {
     // What it knows of the words. An update takes it out and puts it back, so that its steps can keep it in registers.
     pub(crate) words: Option<WordPass<'r, A, B>>,
-    pub(crate) leaves: usize,
-    pub(crate) bits: u32,
-    // The first record of its lane that no update has used.
-    pub(crate) next: u64,
-    // How many updates are left.
-    pub(crate) left: u32,
-    // How many keys it put in, and how many it took out, a replaced one on either side.
-    pub(crate) inserts: u32,
-    pub(crate) removals: u32,
+    pub(crate) account: Account,
 }
 
 impl<'r, A: Monoid, B: Monoid> Model for Pass<'r, A, B> {
@@ -46,9 +38,9 @@ impl<'r, A: Monoid, B: Monoid> Model for Pass<'r, A, B> {
 
     ghost Value = { PassFacts };
 
-    ghost view = { λ p. pass_facts (known_in p.words) p.left };
+    ghost view = { λ p. pass_facts (known_in p.words) p.account.left };
 
-    ghost invariant = { λ p. HoldsPass (face A.parts B.parts) p.words p.leaves p.bits p.next p.left × HasCounts (changes_of (known_in p.words).view.held) p.inserts p.removals };
+    ghost invariant = { λ p. HoldsPass (face A.parts B.parts) p.words p.account.leaves p.account.bits p.account.next p.account.left × HasCounts (changes_of (known_in p.words).view.held) p.account.inserts p.account.removals };
 }
 
 impl<'r, A: Monoid, B: Monoid> Pass<'r, A, B> {
@@ -62,7 +54,7 @@ impl<'r, A: Monoid, B: Monoid> Pass<'r, A, B> {
         ensures refused { OnFalse result (RefusedUpdate insertion k self.old.knows self.new.knows) }
         ensures goes_on { (steps : ℕ) × GoesOn 1 steps self.old self.new }
         ensures keeps { Keeps (summary_of A.parts B.parts) self.old self.new }
-        ensures steps { StepsOf Request.Insert k (answered result) self.old self.new }
+        ensures steps { StepsOf Request.Insert k (if result then Outcome.Accepted else Outcome.Refused) self.old self.new }
     {
         matches!(self.update(k, Request::Insert), Outcome::Accepted)
     }
@@ -76,7 +68,7 @@ impl<'r, A: Monoid, B: Monoid> Pass<'r, A, B> {
         ensures refused { OnFalse result (RefusedUpdate removal k self.old.knows self.new.knows) }
         ensures goes_on { (steps : ℕ) × GoesOn 1 steps self.old self.new }
         ensures keeps { Keeps (summary_of A.parts B.parts) self.old self.new }
-        ensures steps { StepsOf Request.Remove k (answered result) self.old self.new }
+        ensures steps { StepsOf Request.Remove k (if result then Outcome.Accepted else Outcome.Refused) self.old self.new }
     {
         matches!(self.update(k, Request::Remove), Outcome::Accepted)
     }
@@ -90,7 +82,7 @@ impl<'r, A: Monoid, B: Monoid> Pass<'r, A, B> {
     pub fn put(&mut self, k: u32, weight: u32) -> Outcome
         requires key { k < 2 ^ self.old.round.bits }
         requires budget { self.old.spent < self.old.round.updates }
-        ensures puts { PutsIn k weight result self.old.knows self.new.knows }
+        ensures puts { ComesTo (Request.Put weight) k result self.old.knows self.new.knows }
         ensures goes_on { (steps : ℕ) × GoesOn 1 steps self.old self.new }
         ensures keeps { Keeps (summary_of A.parts B.parts) self.old self.new }
         ensures steps { StepsOf (Request.Put weight) k result self.old self.new }
@@ -112,12 +104,17 @@ impl<'r, A: Monoid, B: Monoid> Pass<'r, A, B> {
         let Some(words) = self.words.take() else {
             unreachable!()
         };
-        let (words, outcome) = update(words, self.leaves, self.bits, k, self.next, request);
+        let account = self.account;
+        let (words, outcome) = update(
+            words,
+            account.leaves,
+            account.bits,
+            k,
+            account.next,
+            request,
+        );
         self.words = Some(words);
-        self.next += u64::from(self.bits);
-        self.left -= 1;
-        self.inserts += insertions_by(request, outcome);
-        self.removals += removals_by(request, outcome);
+        self.account = account.after(request, outcome);
         outcome
     }
 
@@ -132,7 +129,7 @@ impl<'r, A: Monoid, B: Monoid> Pass<'r, A, B> {
         let Some(mut words) = self.words.take() else {
             unreachable!()
         };
-        let number = words.load_node(2 * self.leaves - 2);
+        let number = words.load_node(2 * self.account.leaves - 2);
         self.words = Some(words);
         Snapshot { number }
     }
@@ -141,7 +138,7 @@ impl<'r, A: Monoid, B: Monoid> Pass<'r, A, B> {
     pub fn budget(&self) -> u32
         ensures { result + self.now.spent ≡ self.now.round.updates }
     {
-        self.left
+        self.account.left
     }
 
     /// The lane of the pass, counted from 0.
@@ -159,13 +156,13 @@ impl<'r, A: Monoid, B: Monoid> Pass<'r, A, B> {
     pub fn inserts(&self) -> u32
         ensures { result ≡ inserts_of self.now.knows.accepted }
     {
-        self.inserts
+        self.account.inserts
     }
 
     /// How many keys this pass took out. A weight that `put` replaced counts here and as an insertion.
     pub fn removals(&self) -> u32
         ensures { result ≡ removals_of self.now.knows.accepted }
     {
-        self.removals
+        self.account.removals
     }
 }

@@ -3,7 +3,6 @@ ghost use Rattle.std.specs.Prelude.{◌≡◌, ◌≢◌, ◌↔◌, ◌+◌, �
 ghost use Rattle.aug_monoid.specs.Weighted.{FitsPair};
 ghost use Rattle.aug_model.specs.Keys.{IsKeySet, keys_of};
 ghost use Rattle.aug_core.specs.Layout.{IsWithin, IsOutside, IsRefused};
-ghost use Rattle.aug_core.specs.Places.{shape_of};
 ghost use Rattle.aug_trie.specs.Crew.{BeginsRound, Ends};
 
 use crate::error::BeginError;
@@ -50,11 +49,11 @@ impl<A: Monoid, B: Monoid> Round<A, B> {
         ensures same { IfErr result (λ e. e.0 ≡ record ended { loaded = e.0.loaded }) }
         ensures not_walked { IfErr result (λ e. e.1 ≢ BeginError.OutOfMemory → e.0 ≡ ended) }
         ensures bad_workers { IsErrOf result (ended, BeginError.BadWorkers)
-            ↔ IsRefused LayoutError.BadWorkers (shape_of ended.bits workers updates (length ended.members)) }
+            ↔ IsRefused LayoutError.BadWorkers ended.bits workers updates (length ended.members) }
         ensures bad_updates { IsErrOf result (ended, BeginError.BadUpdates)
-            ↔ IsRefused LayoutError.BadUpdates (shape_of ended.bits workers updates (length ended.members)) }
+            ↔ IsRefused LayoutError.BadUpdates ended.bits workers updates (length ended.members) }
         ensures too_large { IsErrOf result (ended, BeginError.TooLarge)
-            ↔ IsRefused LayoutError.TooLarge (shape_of ended.bits workers updates (length ended.members)) }
+            ↔ IsRefused LayoutError.TooLarge ended.bits workers updates (length ended.members) }
         ensures good_bits { IfErr result (λ e. e.1 ≢ BeginError.BadBits) }
         ensures not_narrower { IfErr result (λ e. e.1 ≢ BeginError.Narrower) }
         ensures keys { IsKeySet ended.bits (keys_of ended.members) }
@@ -84,11 +83,11 @@ impl<A: Monoid, B: Monoid> Round<A, B> {
         ensures bad_bits { IsErrOf result (ended, BeginError.BadBits) ↔ IsOutside 1 16 bits }
         ensures narrower { IsErrOf result (ended, BeginError.Narrower) ↔ IsWithin 1 16 bits × (bits < ended.bits) }
         ensures bad_workers { IsErrOf result (ended, BeginError.BadWorkers)
-            ↔ (ended.bits ≤ bits) × IsRefused LayoutError.BadWorkers (shape_of bits workers updates (length ended.members)) }
+            ↔ (ended.bits ≤ bits) × IsRefused LayoutError.BadWorkers bits workers updates (length ended.members) }
         ensures bad_updates { IsErrOf result (ended, BeginError.BadUpdates)
-            ↔ (ended.bits ≤ bits) × IsRefused LayoutError.BadUpdates (shape_of bits workers updates (length ended.members)) }
+            ↔ (ended.bits ≤ bits) × IsRefused LayoutError.BadUpdates bits workers updates (length ended.members) }
         ensures too_large { IsErrOf result (ended, BeginError.TooLarge)
-            ↔ (ended.bits ≤ bits) × IsRefused LayoutError.TooLarge (shape_of bits workers updates (length ended.members)) }
+            ↔ (ended.bits ≤ bits) × IsRefused LayoutError.TooLarge bits workers updates (length ended.members) }
         ensures keys { IsKeySet ended.bits (keys_of ended.members) }
         ensures fit { All FitsPair ended.members }
     {
@@ -125,11 +124,11 @@ impl<A: Monoid, B: Monoid> Round<A, B> {
         ensures bad_bits { IsErrOf result (members, BeginError.BadBits) ↔ IsOutside 1 16 bits }
         ensures narrower { IsErrOf result (members, BeginError.Narrower) ↔ IsWithin 1 16 bits × (bits < members.bits) }
         ensures bad_workers { IsErrOf result (members, BeginError.BadWorkers)
-            ↔ (members.bits ≤ bits) × IsRefused LayoutError.BadWorkers (shape_of bits workers updates (length members.pairs)) }
+            ↔ (members.bits ≤ bits) × IsRefused LayoutError.BadWorkers bits workers updates (length members.pairs) }
         ensures bad_updates { IsErrOf result (members, BeginError.BadUpdates)
-            ↔ (members.bits ≤ bits) × IsRefused LayoutError.BadUpdates (shape_of bits workers updates (length members.pairs)) }
+            ↔ (members.bits ≤ bits) × IsRefused LayoutError.BadUpdates bits workers updates (length members.pairs) }
         ensures too_large { IsErrOf result (members, BeginError.TooLarge)
-            ↔ (members.bits ≤ bits) × IsRefused LayoutError.TooLarge (shape_of bits workers updates (length members.pairs)) }
+            ↔ (members.bits ≤ bits) × IsRefused LayoutError.TooLarge bits workers updates (length members.pairs) }
     {
         if (1..members.bits()).contains(&bits) {
             return Err((members, BeginError::Narrower));
@@ -193,23 +192,10 @@ impl<A: Monoid, B: Monoid> Round<A, B> {
         requires { half.round ≡ self.now }
         ensures { result ≡ half }
     {
-        let PassHalf {
-            words,
-            leaves,
-            bits,
-            next,
-            left,
-            inserts,
-            removals,
-        } = half;
+        let PassHalf { words, account } = half;
         Pass {
             words: Some(self.words.pass(words)),
-            leaves,
-            bits,
-            next,
-            left,
-            inserts,
-            removals,
+            account,
         }
     }
 }

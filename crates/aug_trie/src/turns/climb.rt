@@ -9,11 +9,12 @@ ghost use Rattle.aug_trie.specs.inside.Climbing.{FitsRequest};
 ghost use Rattle.aug_trie.specs.inside.Stages.{ascent_turns, part_above};
 ghost use Rattle.aug_trie.specs.Climb.{ClimbFacts, BeginsClimb, TurnsOn, Finishes};
 
+use crate::rounds::account::Account;
 use crate::rounds::pass::Pass;
 use crate::turns::ascents::Ascent;
 use crate::turns::points::Point;
 use crate::turns::stages::{Next, Stage, next_stage};
-use crate::updates::request::{Request, insertions_by, removals_by};
+use crate::updates::request::Request;
 use aug_model::Outcome;
 use aug_monoid::Monoid;
 use aug_words::WordPass;
@@ -24,13 +25,8 @@ use std::marker::Model;
 #[derive(Drop)]
 pub struct Climb<'r, A: Monoid, B: Monoid> {
     pub(crate) words: WordPass<'r, A, B>,
-    pub(crate) leaves: usize,
-    pub(crate) bits: u32,
-    // The first record of the update, and how many updates were left before it.
-    pub(crate) next: u64,
-    pub(crate) left: u32,
-    pub(crate) inserts: u32,
-    pub(crate) removals: u32,
+    // As it was before the update.
+    pub(crate) account: Account,
     pub(crate) key: u32,
     pub(crate) request: Request,
     pub(crate) stage: Stage,
@@ -43,9 +39,9 @@ impl<'r, A: Monoid, B: Monoid> Model for Climb<'r, A, B> {
 
     ghost Value = { ClimbFacts };
 
-    ghost view = { λ c. climb_facts c.words c.bits c.left c.key c.request c.stage };
+    ghost view = { λ c. climb_facts c.words c.account.bits c.account.left c.key c.request c.stage };
 
-    ghost invariant = { λ c. HoldsClimb (face A.parts B.parts) c.words.view c.leaves c.bits c.next c.left c.inserts c.removals c.key c.request c.stage };
+    ghost invariant = { λ c. HoldsClimb (face A.parts B.parts) c.words.view c.account.leaves c.account.bits c.account.next c.account.left c.account.inserts c.account.removals c.key c.request c.stage };
 }
 
 /// The result of a turn.
@@ -97,24 +93,11 @@ fn start<'r, A: Monoid, B: Monoid>(
     requires fits { FitsRequest request }
     ensures { BeginsClimb request key pass.entry result }
 {
-    let Pass {
-        words,
-        leaves,
-        bits,
-        next,
-        left,
-        inserts,
-        removals,
-    } = pass;
+    let Pass { words, account } = pass;
     let Some(words) = words else { unreachable!() };
     Climb {
         words,
-        leaves,
-        bits,
-        next,
-        left,
-        inserts,
-        removals,
+        account,
         key,
         request,
         stage: Stage::Leaf,
@@ -130,25 +113,24 @@ impl<'r, A: Monoid, B: Monoid> Climb<'r, A, B> {
     {
         let Climb {
             mut words,
-            leaves,
-            bits,
-            next,
-            left,
-            inserts,
-            removals,
+            account,
             key,
             request,
             stage,
         } = self;
-        match next_stage(&mut words, leaves, bits, next, key, request, stage) {
+        let next = next_stage(
+            &mut words,
+            account.leaves,
+            account.bits,
+            account.next,
+            key,
+            request,
+            stage,
+        );
+        match next {
             Next::More(stage) => Turn::More(Climb {
                 words,
-                leaves,
-                bits,
-                next,
-                left,
-                inserts,
-                removals,
+                account,
                 key,
                 request,
                 stage,
@@ -156,12 +138,7 @@ impl<'r, A: Monoid, B: Monoid> Climb<'r, A, B> {
             Next::Done(outcome) => {
                 let pass = Pass {
                     words: Some(words),
-                    leaves,
-                    bits,
-                    next: next + u64::from(bits),
-                    left: left - 1,
-                    inserts: inserts + insertions_by(request, outcome),
-                    removals: removals + removals_by(request, outcome),
+                    account: account.after(request, outcome),
                 };
                 Turn::Done(pass, outcome)
             }
@@ -174,9 +151,9 @@ impl<'r, A: Monoid, B: Monoid> Climb<'r, A, B> {
         ensures some { 1 ≤ result }
     {
         match self.stage {
-            Stage::Leaf => 30 * self.bits - 10,
-            Stage::Change(_) => 30 * self.bits - 11,
-            Stage::Up(_, ascent) => ascent_left(self.bits, ascent),
+            Stage::Leaf => 30 * self.account.bits - 10,
+            Stage::Change(_) => 30 * self.account.bits - 11,
+            Stage::Up(_, ascent) => ascent_left(self.account.bits, ascent),
         }
     }
 }

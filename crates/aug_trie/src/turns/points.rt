@@ -158,7 +158,6 @@ fn next_word(reading: Reading) -> (u64, RecordField)
 
 // Loads the next word of the children's records: one step.
 fn load_part<A: Monoid, B: Monoid>(pass: &mut WordPass<A, B>, reading: Reading) -> Point
-    requires few { 2 ^ pass.old.view.shape.bits ≤ 65536 }
     requires begun { (v : View) × (node : ℕ) × (number : ℕ) × TryAt (face A.parts B.parts) v node number (Point.Part reading) pass.old.view }
     ensures table { pass.new.table ≡ pass.old.table }
     ensures step { QuietStep pass.old.view pass.new.view }

@@ -11,6 +11,7 @@ use Rattle.aug_core.specs.Told.{HoldsOnly, KnowsTable}
 use Rattle.aug_core.specs.declared.view.Entry.{Entry}
 use Rattle.aug_core.specs.declared.view.Held.{Held}
 use Rattle.aug_core.specs.declared.view.View.{View}
+use Rattle.aug_core.specs.declared.view.LaneState.TheVariants.{Taken}
 use Rattle.aug_words.specs.Seats.{NamesRoot}
 
 abbrev pub Sat : Type 0
@@ -45,7 +46,7 @@ module _ (face : ℕ → ℕ → List (ℕ × ℕ) → List ℕ) where
     pub held : Held
     pub only : HoldsOnly me.0 held
     pub named : held.lane ≡ lane
-    pub taken : held.state ≡ 1
+    pub taken : held.state ≡ Taken
     pub long : length held.words ≡ block_size me.0.shape
     pub exists : lane < me.0.shape.workers
     pub knows : KnowsTable face me.0

@@ -1,5 +1,6 @@
 use Rattle.std.proofs.Common.{◌≡◌, ◌∙◌, All, ap, arith, get_or, subst, sym}
 use Rattle.std.proofs.lemmas.List.{get_or_default}
+use Rattle.aug_trie.specs.Ended.{EndedFacts}
 use Rattle.aug_script.specs.Limits.{bounds_at}
 use Rattle.aug_script.specs.Script.{IsRunnable, KeepsLimits, NeverNarrows}
 use Rattle.aug_script.specs.declared.script_round.ScriptRound.{ScriptRound}
@@ -8,7 +9,8 @@ use Rattle.aug_run_tests.proofs.rounds.run_text.Goals as goal
 pub loop-round-init : goal.loop-round-init
 loop-round-init g c =
     let all : All (IsRunnable c.in-Ok.limits) c.rounds-round-items.result.now = rw c.rounds-round-items.ensures c.in-Ok-read.ensures.kept in
-    λ j d from below. omega (arith, c.in-Ok-empty.ensures, (all j d below).wider)
+    let bits = ap (λ (z : EndedFacts). z.bits) c.in-Ok-empty.ensures.empty in
+    λ j d from below. omega (arith, bits, (all j d below).wider)
 
 pub run_round-requires-clause-kept : goal.run_round-requires-clause-kept
 run_round-requires-clause-kept g c κs within =

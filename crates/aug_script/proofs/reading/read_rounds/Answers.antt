@@ -1,6 +1,7 @@
 use Rattle.std.proofs.Common.{length, sym, ap, ◌∙◌, rules, arith}
 use Rattle.csv.specs.Records.{fields_of}
-use Rattle.aug_script.specs.Script.{nothing_read, read_from, records_of}
+use Rattle.aug_script.specs.Script.{read_from, records_of}
+use Rattle.aug_script.specs.inside.Items.{nothing_read}
 use Rattle.aug_script.proofs.Rows.{next-with_item, read_from-item, read_from-fault, read_from-none}
 use Rattle.aug_script.proofs.Runnable.{records_of-few}
 use Rattle.aug_script.proofs.reading.read_rounds.Goals as goal

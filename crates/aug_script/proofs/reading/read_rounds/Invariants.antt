@@ -1,5 +1,6 @@
 use Rattle.std.proofs.Common.{◌≡◌, ◌+◌, length}
-use Rattle.aug_script.specs.Script.{nothing_read, read_from, records_of}
+use Rattle.aug_script.specs.Script.{read_from, records_of}
+use Rattle.aug_script.specs.inside.Items.{nothing_read}
 use Rattle.aug_script.proofs.reading.read_rounds.Given as goal
 
 -- what was read, with what is left of the records, reads as all records do, and each record has a number

@@ -1,12 +1,13 @@
 use Rattle.std.proofs.Common.{refl, ap, ◌∙◌}
+use Rattle.aug_trie.specs.Climb.{ClimbFacts}
 use Rattle.aug_trie.specs.Pass.{PassFacts}
 use Rattle.aug_trie_tests.proofs.replacing.watched.Goals as goal
 
 pub loop-made-preserved : goal.loop-made-preserved
 loop-made-preserved c = record {
-  climb = (c.in-More.ensures.more c.in-More.next refl).start ∙ c.loop-made.invariant.climb;
+  climb = ap (λ (z : ClimbFacts). z.start) (c.in-More.ensures.more c.in-More.next refl).same ∙ c.loop-made.invariant.climb;
   other = c.seen_weight.ensures.round ∙ c.loop-made.invariant.other;
 }
 
 pub returns-in-Done-clause-round : goal.returns-in-Done-clause-round
-returns-in-Done-clause-round c = (c.in-Done.ensures.done c.in-Done.pass c.in-Done.outcome refl).goes_on.1.round ∙ ap (λ (z : PassFacts). z.round) c.loop-made.invariant.climb
+returns-in-Done-clause-round c = ap (λ (z : PassFacts). z.round) (c.in-Done.ensures.done c.in-Done.pass c.in-Done.outcome refl).goes_on.1.same ∙ ap (λ (z : PassFacts). z.round) c.loop-made.invariant.climb

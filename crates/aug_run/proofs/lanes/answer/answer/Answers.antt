@@ -2,7 +2,9 @@ use Rattle.std.proofs.Common.{refl, ap, if◌then◌else◌, length}
 use Rattle.aug_model.specs.Keys.{is_member, keys_of}
 use Rattle.aug_model.specs.Queries.{rank_of, select_of, before_of, after_of, weight_of, weighted_range_of}
 use Rattle.aug_trie.specs.Knowledge.{insertion, removal}
-use Rattle.aug_script.specs.Replies.{span_of}
+use Rattle.aug_monoid.specs.Extent.{extent_parts}
+use Rattle.aug_monoid.specs.Sum.{sum_parts}
+use Rattle.aug_model.specs.Folds.{summary_of}
 use Rattle.aug_script.specs.declared.reply.Reply.TheVariants as reply
 use Rattle.aug_run.proofs.Answering.{accepted, refused, put, asked}
 use Rattle.aug_run.proofs.lanes.answer.answer.Goals as goal
@@ -28,7 +30,7 @@ returns-else-remove-clause-answers c =
     rw c.in-Remove.is (refused _ _ _ c.args.held.now c.requires.held removal c.in-Remove.key 0 reply.Gone reply.Absent c.remove.ensures.keeps c.if-remove.ensures.refused)
 
 pub returns-in-Look-clause-answers : goal.returns-in-Look-clause-answers
-returns-in-Look-clause-answers c = rw c.in-Look.is (record { looked = refl; takes = c.snapshot.ensures.takes })
+returns-in-Look-clause-answers c = rw c.in-Look.is (refl, c.snapshot.ensures.takes)
 
 pub returns-then-has-clause-answers : goal.returns-then-has-clause-answers
 returns-then-has-clause-answers c =
@@ -68,5 +70,5 @@ returns-in-After-clause-answers c =
 
 pub returns-in-Range-clause-answers : goal.returns-in-Range-clause-answers
 returns-in-Range-clause-answers c =
-    rw c.in-Range.is (asked _ _ _ c.args.held.now c.requires.held (λ pairs. reply.Span (span_of (weighted_range_of pairs c.in-Range.from c.in-Range.to))) (reply.Span c.range.result) c.range.ensures.reads.stays
+    rw c.in-Range.is (asked _ _ _ c.args.held.now c.requires.held (λ pairs. reply.Span (summary_of sum_parts extent_parts (weighted_range_of pairs c.in-Range.from c.in-Range.to))) (reply.Span c.range.result) c.range.ensures.reads.stays
     (ap reply.Span c.range.ensures.answer))

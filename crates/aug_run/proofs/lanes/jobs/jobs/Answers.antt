@@ -1,5 +1,6 @@
 use Rattle.std.proofs.Common.{◌≡◌, ◌+◌, ◌∙◌, refl, ap, vec_len, slice_index, ◌∷◌, [], arith}
 use Rattle.std.proofs.lemmas.List.{get_or_read}
+use Rattle.aug_trie.specs.Crew.{CrewFacts}
 use Rattle.aug_trie.specs.Pass.{PassFacts}
 use Rattle.aug_trie.proofs.Pieces.{begins_on}
 use Rattle.aug_run.specs.inside.Workers.{MayBegin, opening_cut_of}
@@ -18,18 +19,18 @@ loop-lane-preserved c =
     let job : Job = record { lane = n; half = c.into_half.result; replies = c.in_ok-replies.replies } in
     let ready : MayBegin T R n job = record {
       lane_is = refl;
-      here = ap (λ (p : PassFacts). p.round) half ∙ hands.pass_round ∙ was.2;
+      here = ap (λ (p : PassFacts). p.round) half ∙ ap (λ (p : PassFacts). p.round) hands.pass_is ∙ was.2;
       handed_out = record { crew_old = c.loop-lane.crew.knows; crew_new = c.pass.new.self.knows; knew_opening = was.6; out = rw half hands.knows };
-      unspent = ap (λ (p : PassFacts). p.spent) half ∙ hands.fresh;
+      unspent = ap (λ (p : PassFacts). p.spent) half ∙ ap (λ (p : PassFacts). p.spent) hands.pass_is;
       empty = c.in_ok-replies.ensures.items;
       room = omega (arith, counted, read, c.in_ok-replies.ensures.capacity);
     } in
     let grown : vec_len c.push_reserved.new.self ≡ vec_len c.loop-lane.jobs + 1 = c.push_reserved.ensures.len in (
       omega (arith, grown, was.0),
       push_one (MayBegin T R) n _ _ _ job (omega (arith, was.0)) refl c.push_reserved.ensures.items was.1 ready,
-      hands.round ∙ was.2,
-      omega (arith, hands.one_more, was.3),
-      hands.same_back ∙ was.4,
+      ap (λ (z : CrewFacts). z.round) hands.crew_is ∙ was.2,
+      omega (arith, ap (λ (z : CrewFacts). z.handed) hands.crew_is, was.3),
+      ap (λ (z : CrewFacts). z.back) hands.crew_is ∙ was.4,
       hands.knows.same_changes ∙ was.5,
       begins_on (opening_cut_of T ∷ []) c.loop-lane.crew.knows.history c.pass.new.self.knows.history was.6 hands.knows.goes_on,
     )

@@ -1,5 +1,6 @@
-use Rattle.std.proofs.Common.{◌≡◌, ◌+◌, ◌<◌, ◌∙◌, sym, vec_len, rules, arith}
+use Rattle.std.proofs.Common.{◌≡◌, ◌+◌, ◌<◌, ◌∙◌, ap, sym, vec_len, rules, arith}
 use Rattle.std.specs.Vec.Iter.{into_iter_items, into_iter_len}
+use Rattle.aug_trie.specs.Crew.{CrewFacts}
 use Rattle.aug_run.specs.inside.Workers.{IsDone}
 use Rattle.aug_run.proofs.Passing.{head_of, tail_of}
 use Rattle.aug_run.proofs.Backs.{went_none, went_on}
@@ -27,7 +28,7 @@ loop-one-preserved c =
       tail_of (IsDone T R) n _ _ _ _ _ _ step.0 step.1 grown was.1,
       search rules,
       went_on (λ lane. into_iter_items lane) T R _ _ _ _ n _ _ _ _ c.push_reserved.ensures.items c.into_iter.ensures.rest (omega arith) was.3 mine.runs c.back.ensures.knows,
-      c.back.ensures.round ∙ was.4,
-      c.back.ensures.same_handed ∙ was.5,
-      omega (arith, c.back.ensures.one_more, was.6, grown),
+      ap (λ (z : CrewFacts). z.round) c.back.ensures.crew_is ∙ was.4,
+      ap (λ (z : CrewFacts). z.handed) c.back.ensures.crew_is ∙ was.5,
+      omega (arith, ap (λ (z : CrewFacts). z.back) c.back.ensures.crew_is, was.6, grown),
     )

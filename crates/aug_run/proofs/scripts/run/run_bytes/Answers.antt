@@ -5,7 +5,7 @@ use Rattle.aug_run.proofs.scripts.run.run_bytes.Goals as goal
 pub returns-clause-ok : goal.returns-clause-ok
 returns-clause-ok g c =
     let read = rw c.rounds.ensures at c.run_rounds.ensures.ok in
-    on_ok_weaker c.run_rounds.result (λ done. (c.in-Ok.script, record { fits = c.requires.fits; reads = c.in-Ok.ensures.ok }, done)) read
+    on_ok_weaker c.run_rounds.result (λ done. (c.in-Ok.script, (c.requires.fits, c.in-Ok.ensures.ok), done.0, done.1, done.2)) read
 
 pub returns-clause-err : goal.returns-clause-err
 returns-clause-err g c =

@@ -1,6 +1,6 @@
 use Rattle.std.proofs.Common.{ℕ, ◌-◌, ◌*◌, inl, sym, subst}
 use Rattle.aug_core.specs.declared.view.View.{View}
-use Rattle.aug_trie.specs.Node.{IsNodeAt}
+use Rattle.aug_trie.specs.inside.NodeWords.{IsNodeAt}
 use Rattle.aug_trie.specs.inside.NamedCuts.{cut_named}
 use Rattle.aug_trie.proofs.Looking.{record_seen, left_is}
 use Rattle.aug_trie.proofs.queries.nodes.left_of.Goals as goal

@@ -28,14 +28,14 @@ load_record_word-b-requires g c = let v : View = c.args.pass.now.view in let inn
 
 pub overflow_cast-result : goal.overflow_cast-result
 overflow_cast-result g c = let v : View = c.args.pass.now.view in let inner : 1 ≤ c.args.level = search rules in
-    let few = count_fits g.A.Monoid.parts g.B.Monoid.parts v c.requires.knows (cut_named v.shape v.seen c.args.snapshot.number) c.args.level c.args.place c.args.word c.requires.node inner c.load_record_word-count.result c.requires.few c.load_record_word-count.ensures.view.known in
+    let few = count_fits g.A.Monoid.parts g.B.Monoid.parts v c.requires.knows (cut_named v.shape v.seen c.args.snapshot.number) c.args.level c.args.place c.args.word c.requires.node inner c.load_record_word-count.result c.load_record_word-count.ensures.view.known in
     omega arith
 
 pub returns-clause-tells : goal.returns-clause-tells
 returns-clause-tells g c = let m = g.A.Monoid in let n = g.B.Monoid in let v : View = c.args.pass.now.view in let w1 : View = c.load_record_word-count.new.self.view in let w2 : View = c.load_record_word-a.new.self.view in
     let inner : 1 ≤ c.args.level = search rules in let cut : Cut = cut_named v.shape v.seen c.args.snapshot.number in
     let l1 = c.load_record_word-count.ensures.view in let l2 = c.load_record_word-a.ensures.view in let l3 = c.load_record_word-b.ensures.view in
-    let told = record_tells m.parts n.parts v c.requires.knows cut c.args.level c.args.place c.args.word c.requires.node inner _ _ _ c.requires.few (laws_of g.met.A.Monoid) (laws_of g.met.B.Monoid) l1.known
+    let told = record_tells m.parts n.parts v c.requires.knows cut c.args.level c.args.place c.args.word c.requires.node inner _ _ _ (laws_of g.met.A.Monoid) (laws_of g.met.B.Monoid) l1.known
     (says_before v w1 _ c.args.word 3 _ l1.stepped l2.known) (says_before v w1 _ c.args.word 4 _ l1.stepped (says_before w1 w2 _ c.args.word 4 _ l2.stepped l3.known)) in
     record {
       level_fits = told.level_fits;

@@ -1,9 +1,8 @@
-use Rattle.std.proofs.Common.{◌≡◌, ℕ, ◌%◌, ◌^◌, ◌≤◌, length, inl, sym, subst, arith, rules}
-use Rattle.std.proofs.Math.Pow.{pow_mono}
+use Rattle.std.proofs.Common.{◌≡◌, ℕ, ◌%◌, ◌≤◌, length, inl, sym, subst, arith, rules}
 use Rattle.aug_core.specs.Cuts.{Cut, set_of_cut}
 use Rattle.aug_core.specs.declared.view.View.{View}
 use Rattle.aug_query.specs.Tree.{below_node}
-use Rattle.aug_trie.specs.Node.{IsNodeAt}
+use Rattle.aug_trie.specs.inside.NodeWords.{IsNodeAt}
 use Rattle.aug_trie.specs.LeafWords.{serial_in_word}
 use Rattle.aug_trie.specs.inside.NamedCuts.{cut_named}
 use Rattle.aug_trie.proofs.Looking.{record_seen, count_fits, count_is}
@@ -25,8 +24,7 @@ load_record_word-requires g c = let v : View = c.args.pass.now.view in let inner
 
 pub overflow_cast-result-2 : goal.overflow_cast-result-2
 overflow_cast-result-2 g c = let v : View = c.args.pass.now.view in let inner : 1 ≤ c.args.level = search rules in
-    let few : 2 ^ v.shape.bits ≤ 65536 = omega (arith, pow_mono c.requires.knows.laid_out.bits.1) in
-    let fits = count_fits g.A.Monoid.parts g.B.Monoid.parts v c.requires.knows (cut_named v.shape v.seen c.args.snapshot.number) c.args.level c.args.place c.args.word c.requires.node inner c.load_record_word.result few c.load_record_word.ensures.view.known in
+    let fits = count_fits g.A.Monoid.parts g.B.Monoid.parts v c.requires.knows (cut_named v.shape v.seen c.args.snapshot.number) c.args.level c.args.place c.args.word c.requires.node inner c.load_record_word.result c.load_record_word.ensures.view.known in
     omega (arith, fits)
 
 pub returns-clause-value : goal.returns-clause-value

@@ -1,7 +1,7 @@
 use Rattle.std.proofs.Common.{◌≡◌, ℕ, ◌+◌, ◌-◌, ◌*◌, ◌≤◌, inl, subst, arith}
 use Rattle.aug_core.specs.Cuts.{Cut}
 use Rattle.aug_core.specs.declared.view.View.{View}
-use Rattle.aug_trie.specs.Node.{IsNodeAt}
+use Rattle.aug_trie.specs.inside.NodeWords.{IsNodeAt}
 use Rattle.aug_trie.specs.inside.NamedCuts.{cut_named}
 use Rattle.aug_trie.proofs.Looking.{record_seen, left_is}
 use Rattle.aug_trie.proofs.queries.record_words.left_word.Goals as goal

@@ -1,14 +1,14 @@
-use Rattle.std.proofs.Common.{arith, inl, refl, subst, sym, ◌≡◌, ◌+◌, ◌^◌, ◌≤◌, ℕ, set}
+use Rattle.std.proofs.Common.{arith, inl, refl, subst, sym, ◌≡◌, ◌+◌, ℕ, set}
 use Rattle.aug_monoid.proofs.BoundLaws.{laws_of}
 use Rattle.aug_core.specs.Faces.{face}
 use Rattle.aug_core.specs.Fields.{field_offset}
-use Rattle.aug_core.specs.Places.{Shape}
 use Rattle.aug_core.specs.Told.{HasSeen}
 use Rattle.aug_core.specs.declared.view.View.{View}
 use Rattle.aug_words.specs.Seats.{LoadsRecordWord}
 use Rattle.aug_trie.specs.inside.Points.{child_at}
 use Rattle.aug_trie.specs.declared.turns.points.Point.TheVariants.{Part}
-use Rattle.aug_trie.proofs.Advancing.{goes_at, child_seen, counts_fit, part_on, all_on, goes_all, took_all, nodes_told}
+use Rattle.aug_core.proofs.PlaceLemmas.{keys-within}
+use Rattle.aug_trie.proofs.Advancing.{child_seen, counts_fit, part_on, all_on, goes_all, took_all, nodes_told}
 use Rattle.aug_trie.proofs.turns.points.load_part.Goals as goal
 
 pub next_word-number-requires : goal.next_word-number-requires
@@ -23,7 +23,7 @@ over_nodes-requires g c = let m = g.A.Monoid in let n = g.B.Monoid in let f = fa
     let field = field_offset c.next_word-number.result.1 in let is_field = c.next_word-number.ensures.field in
     let l : LoadsRecordWord old (child_at r.left r.right r.count) field x w = subst (λ (z : ℕ). LoadsRecordWord old z field x w) c.next_word-number.ensures.record c.load_record_word.ensures.view in
     let b = c.requires.begun in let v : View = b.0 in let q = b.1 in let number = b.2 in let t = b.3 in let a = t.is_at in let small = a.few in let full = c.if-reading-lt6.false in
-    let few : 2 ^ v.shape.bits ≤ 65536 = subst (λ (z : Shape). 2 ^ z.bits ≤ 65536) (goes_at f v q number (Part r) old t).shaped c.requires.few in
+    let laid = t.knows_table.laid_out.bits in let few = (keys-within v.shape.bits laid.0 laid.1).1 in
     let fit = counts_fit m.parts n.parts (laws_of g.met.A.Monoid) (laws_of g.met.B.Monoid) v q r.from r.left r.right (set r.words r.count x) a.third few a.nodes t.inner a.loaded (all_on f v q number r old w field x t is_field l (omega arith)) in omega arith
 
 pub returns-then-reading-lt6-clause-on : goal.returns-then-reading-lt6-clause-on
@@ -37,6 +37,6 @@ returns-else-reading-lt6-clause-on g c = λ v q number t. let m = g.A.Monoid in 
     let field = field_offset c.next_word-number.result.1 in let is_field = c.next_word-number.ensures.field in
     let l : LoadsRecordWord old (child_at r.left r.right r.count) field x w = subst (λ (z : ℕ). LoadsRecordWord old z field x w) c.next_word-number.ensures.record c.load_record_word.ensures.view in
     let a = t.is_at in let small = a.few in let full = c.if-reading-lt6.false in let six : r.count + 1 ≡ 6 = omega arith in
-    let few : 2 ^ v.shape.bits ≤ 65536 = subst (λ (z : Shape). 2 ^ z.bits ≤ 65536) (goes_at f v q number (Part r) old t).shaped c.requires.few in
+    let laid = t.knows_table.laid_out.bits in let few = (keys-within v.shape.bits laid.0 laid.1).1 in
     nodes_told m.parts n.parts (laws_of g.met.A.Monoid) (laws_of g.met.B.Monoid) v q r.from r.left r.right (set r.words r.count x) a.third few a.nodes t.inner a.loaded (all_on f v q number r old w field x t is_field l six)
     number (Part r) old w c.over_nodes.result c.over_nodes.ensures.from c.over_nodes.ensures.five c.over_nodes.ensures.count t (goes_all f v q number r old w field x t is_field l) (took_all f v q number r old w field x t is_field l six)

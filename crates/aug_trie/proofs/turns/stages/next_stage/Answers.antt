@@ -1,11 +1,13 @@
-use Rattle.std.proofs.Common.{◌∙◌, sym, subst, ℕ, Option}
+use Rattle.std.proofs.Common.{◌≡◌, ◌∙◌, [], ◌∷◌, ◌++◌, sym, ap, subst, ℕ, Option}
 use Rattle.aug_core.specs.Faces.{face}
+use Rattle.aug_core.specs.Kinds.{try_leaf}
 use Rattle.aug_core.specs.declared.view.View.{View}
 use Rattle.aug_words.specs.Seats.{MayAdvance, TriedLeaf}
+use Rattle.aug_trie.specs.Requests.{word_after}
 use Rattle.aug_trie.specs.inside.Stages.{StageAt, Ascends}
 use Rattle.aug_trie.specs.declared.turns.ascents.Ascent.{Ascent}
 use Rattle.aug_trie.specs.declared.turns.stages.Stage.{Stage}
-use Rattle.aug_trie.proofs.Staging.{room_one, begun_change, begun_up, low_serial, may_advance, tried_up, rising_on, risen_up}
+use Rattle.aug_trie.proofs.Staging.{room_one, begun_change, begun_up, low_serial, may_advance, exchanged_word, tried_steps, try_step, tried_up, rising_on, risen_up}
 use Rattle.aug_trie.proofs.turns.stages.next_stage.Goals as goal
 
 pub ascend-requires-clause-small : goal.ascend-requires-clause-small
@@ -27,6 +29,17 @@ returns-in-Change-clause-on g c = λ left u t. let f = face g.A.Monoid.parts g.B
     let tried = subst (λ (z : ℕ). TriedLeaf f old c.args.key c.in-Change.word z done w) c.word_after.ensures c.try_leaf-done.ensures.view in
     tried_up f c.args.leaves c.args.bits c.args.number left c.args.key c.args.request u old c.in-Change.word (subst (λ (z : Stage). StageAt f c.args.leaves c.args.bits c.args.number left c.args.key c.args.request u z old) c.in-Change.is t) w done tried
     c.outcome_of-outcome.result c.from_leaf-in-Change.result c.outcome_of-outcome.ensures is.level is.node is.second is.point
+
+pub returns-in-Change-clause-step : goal.returns-in-Change-clause-step
+returns-in-Change-clause-step g c = let f = face g.A.Monoid.parts g.B.Monoid.parts in let old : View = c.args.pass.now.view in let u : View = c.requires.at.1 in
+    let w : View = c.try_leaf-done.new.self.view in let tried = subst (λ (z : ℕ). TriedLeaf f old c.args.key c.in-Change.word z c.try_leaf-done.result w) c.word_after.ensures c.try_leaf-done.ensures.view in
+    try_step f c.args.leaves c.args.bits c.args.number c.requires.at.0 c.args.key c.args.request u old c.in-Change.word (subst (λ (z : Stage). StageAt f c.args.leaves c.args.bits c.args.number c.requires.at.0 c.args.key c.args.request u z old) c.in-Change.is c.requires.at.2) w c.try_leaf-done.result tried
+
+pub returns-in-Change-clause-second : goal.returns-in-Change-clause-second
+returns-in-Change-clause-second g c = λ word is. let f = face g.A.Monoid.parts g.B.Monoid.parts in let old : View = c.args.pass.now.view in let u : View = c.requires.at.1 in
+    let w : View = c.try_leaf-done.new.self.view in let tried = subst (λ (z : ℕ). TriedLeaf f old c.args.key c.in-Change.word z c.try_leaf-done.result w) c.word_after.ensures c.try_leaf-done.ensures.view in
+    let steps = tried_steps f c.args.leaves c.args.bits c.args.number c.requires.at.0 c.args.key c.args.request u old c.in-Change.word (subst (λ (z : Stage). StageAt f c.args.leaves c.args.bits c.args.number c.requires.at.0 c.args.key c.args.request u z old) c.in-Change.is c.requires.at.2) w c.try_leaf-done.result tried in
+    subst (λ (z : ℕ). (x : ℕ) × (w.steps ≡ old.steps ++ try_leaf c.args.key z (word_after c.args.request c.args.key z) x ∷ [])) (ap exchanged_word (sym c.in-Change.is ∙ is)) (tried.found, steps)
 
 pub word_after-requires : goal.word_after-requires
 word_after-requires g c = let f = face g.A.Monoid.parts g.B.Monoid.parts in let old : View = c.args.pass.now.view in

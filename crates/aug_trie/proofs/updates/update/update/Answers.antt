@@ -1,11 +1,13 @@
 use Rattle.std.proofs.Common.{arith, refl, sym, subst, ◌≡◌, ◌∙◌, ℕ, true, []}
 use Rattle.aug_core.specs.Faces.{face}
+use Rattle.aug_core.specs.Places.{Shape}
 use Rattle.aug_core.specs.declared.view.View.{View}
 use Rattle.aug_words.specs.Seats.{MayAdvance, TriedLeaf}
 use Rattle.aug_trie.specs.LeafWords.{serial_in_word}
 use Rattle.aug_trie.specs.Requests.{goes_from}
 use Rattle.aug_trie.proofs.Going.{room_on, goes_after}
 use Rattle.aug_trie.proofs.Updating.{goes_begun, advances, serial_few, tried_goes, may_rise, refused_at_once, updated}
+use Rattle.aug_trie.specs.inside.Goes.{HasLeaves}
 use Rattle.aug_trie.proofs.updates.update.update.Goals as goal
 
 pub propagate-requires-clause-rises : goal.propagate-requires-clause-rises
@@ -41,3 +43,11 @@ returns-clause-updated g c = let f = face g.A.Monoid.parts g.B.Monoid.parts in l
     let lets : goes_from c.args.request (serial_in_word word) ≡ true = sym c.goes_on.ensures ∙ c.if-not-goes_on.false in
     let w1 : View = c.try_leaf-done.new.self.view in let ok = c.try_leaf-done.result in let t = subst (λ (z : ℕ). TriedLeaf f w0 c.args.key word z ok w1) c.word_after.ensures c.try_leaf-done.ensures.view in
     updated f v w0 c.args.key word c.args.request c.args.bits c.args.number c.requires.key is (omega arith) kn l c.requires.fits lets w1 ok room0.is_free.lane room0.is_free.only t c.propagate-2.result.view c.propagate-2.ensures.risen c.outcome_of-outcome.result c.outcome_of-outcome.ensures
+
+pub propagate-requires-2-clause-leaves : goal.propagate-requires-2-clause-leaves
+propagate-requires-2-clause-leaves g c = let f = face g.A.Monoid.parts g.B.Monoid.parts in let v : View = c.args.pass.view in let w0 : View = c.begin_at_leaf-word.new.self.view in let word = c.begin_at_leaf-word.result in let l = c.begin_at_leaf-word.ensures.view in let kn = c.requires.knows in let is = c.requires.bits in let some = kn.laid_out.bits.0 in
+    let g0 = goes_begun f v w0 c.args.key word kn l in let room0 = room_on f [] v w0 c.args.number c.args.bits g0 c.requires.room in
+    let lets : goes_from c.args.request (serial_in_word word) ≡ true = sym c.goes_on.ensures ∙ c.if-not-goes_on.false in
+    let w1 : View = c.try_leaf-done.new.self.view in let ok = c.try_leaf-done.result in let t = subst (λ (z : ℕ). TriedLeaf f w0 c.args.key word z ok w1) c.word_after.ensures c.try_leaf-done.ensures.view in
+    let g1 = tried_goes f v w0 c.args.key word c.args.request c.args.bits c.args.number c.requires.key is (omega arith) kn l c.requires.fits lets w1 ok room0.is_free.lane room0.is_free.only t in
+    subst (λ (z : Shape). HasLeaves z c.args.leaves) (sym (g1.1.shaped ∙ g0.shaped)) c.requires.leaves

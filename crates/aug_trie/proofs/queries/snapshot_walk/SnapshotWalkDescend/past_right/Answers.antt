@@ -1,6 +1,6 @@
 use Rattle.std.proofs.Common.{◌+◌, ◌*◌, ◌∙◌, sym, subst, arith}
 use Rattle.aug_core.specs.Faces.{face}
-use Rattle.aug_trie.specs.Node.{IsNodeAt}
+use Rattle.aug_trie.specs.inside.NodeWords.{IsNodeAt}
 use Rattle.aug_trie.specs.inside.Goes.{Looks}
 use Rattle.aug_trie.specs.inside.NamedCuts.{cut_named}
 use Rattle.aug_trie.specs.inside.SnapshotWalk.{Walking}

@@ -2,7 +2,8 @@ use Rattle.std.proofs.Common.{◌≤◌, ◌∙◌, arith, ap, sym, subst, rules
 use Rattle.aug_monoid.proofs.BoundLaws.{laws_of}
 use Rattle.aug_core.specs.Faces.{face}
 use Rattle.aug_model.specs.Folds.{summary_of}
-use Rattle.aug_trie.specs.Ended.{EndedFacts, IsVersion, covered}
+use Rattle.aug_trie.specs.Ended.{EndedFacts}
+use Rattle.aug_trie.specs.inside.EndedTree.{IsVersion, covered}
 use Rattle.aug_trie.specs.inside.EndedState.{pairs_at_rest}
 use Rattle.aug_trie.proofs.Versions.{inside_of, count_fits, tells, leaf_tells, some_bits, few_bits}
 use Rattle.aug_trie.proofs.rounds.ended.Ended.summary_of_word.Goals as goal

@@ -2,7 +2,8 @@ use Rattle.std.proofs.Common.{◌∙◌, ap}
 use Rattle.aug_model.specs.Folds.{summary_of}
 use Rattle.aug_model.specs.Keys.{keys_of}
 use Rattle.aug_model.proofs.Ranges.{rises_from}
-use Rattle.aug_trie.specs.Ended.{EndedFacts, covered}
+use Rattle.aug_trie.specs.Ended.{EndedFacts}
+use Rattle.aug_trie.specs.inside.EndedTree.{covered}
 use Rattle.aug_trie.proofs.Versions.{told_of_keys}
 use Rattle.aug_trie.proofs.rounds.ended_walk.EndedDescend.summary.Goals as goal
 

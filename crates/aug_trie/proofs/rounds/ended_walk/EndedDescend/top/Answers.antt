@@ -1,6 +1,7 @@
 use Rattle.std.proofs.Common.{ℕ, refl, ap, subst}
 use Rattle.aug_core.specs.Faces.{face}
-use Rattle.aug_trie.specs.Ended.{EndedFacts, NamesEnded}
+use Rattle.aug_trie.specs.Ended.{EndedFacts}
+use Rattle.aug_trie.specs.inside.EndedTree.{NamesEnded}
 use Rattle.aug_trie.specs.inside.EndedState.{pairs_at_rest}
 use Rattle.aug_trie.proofs.EndedWalks.{top_named, named_on}
 use Rattle.aug_trie.proofs.rounds.ended_walk.EndedDescend.top.Goals as goal

@@ -1,4 +1,4 @@
-use Rattle.std.proofs.Common.{arith, sym, subst, ◌≡◌, ℕ, ◌≤◌, ◌^◌, List, length}
+use Rattle.std.proofs.Common.{arith, ◌≡◌, ℕ, ◌≤◌, ◌^◌, List, length}
 use Rattle.std.proofs.Math.Pow.{pow_mono}
 use Rattle.aug_model.specs.Keys.{keys_of}
 use Rattle.aug_model.proofs.Boundaries.{IsKeySet-few}

@@ -13,19 +13,19 @@ use Rattle.aug_trie.proofs.rounds.pass.Pass.after.Goals as goal
 
 pub over-walk-requires : goal.over-walk-requires
 over-walk-requires g c = let i = c.self.inside in
-    subst (λ (z : Option Known). HasWalk (face g.A.Monoid.parts g.B.Monoid.parts) z c.args.s i.bits) (sym c.take.ensures.value)
-    (may_walk g.A.Monoid.parts g.B.Monoid.parts i.words i.leaves i.bits i.next i.left c.args.self.now c.args.s c.self.invariant.0 c.self.view_is c.requires)
+    subst (λ (z : Option Known). HasWalk (face g.A.Monoid.parts g.B.Monoid.parts) z c.args.s i.account.bits) (sym c.take.ensures.value)
+    (may_walk g.A.Monoid.parts g.B.Monoid.parts i.words i.account.leaves i.account.bits i.account.next i.account.left c.args.self.now c.args.s c.self.invariant.0 c.self.view_is c.requires)
 
 pub invariant_of-self : goal.invariant_of-self
 invariant_of-self g c = let i = c.self.inside in let b : ℕ = c.over-walk.result.words.view.shape.bits in
-    subst (λ (z : Option Known). HoldsPass (face g.A.Monoid.parts g.B.Monoid.parts) z i.leaves i.bits i.next i.left × HasCounts (changes_of (known_in z).view.held) i.inserts i.removals) (sym c.into_words.ensures)
-    (still_pass g.A.Monoid.parts g.B.Monoid.parts i.words c.over-walk.result c.after-found.new.tree i.leaves i.bits i.next i.left i.inserts i.removals (3 * b) (b + 1) (0) (b) c.self.invariant.0 c.self.invariant.1
+    subst (λ (z : Option Known). HoldsPass (face g.A.Monoid.parts g.B.Monoid.parts) z i.account.leaves i.account.bits i.account.next i.account.left × HasCounts (changes_of (known_in z).view.held) i.account.inserts i.account.removals) (sym c.into_words.ensures)
+    (still_pass g.A.Monoid.parts g.B.Monoid.parts i.words c.over-walk.result c.after-found.new.tree i.account.leaves i.account.bits i.account.next i.account.left i.account.inserts i.account.removals (3 * b) (b + 1) (0) (b) c.self.invariant.0 c.self.invariant.1
     (sym c.take.ensures.value ∙ c.over-walk.ensures.words) c.after-found.ensures.descends)
 
 pub returns-clause-reads : goal.returns-clause-reads
 returns-clause-reads g c = let i = c.self.inside in let b : ℕ = c.over-walk.result.words.view.shape.bits in
     let there = sym c.take.ensures.value ∙ c.over-walk.ensures.words in
-    let same = same_set i.words c.over-walk.result c.args.s i.left c.args.self.now there c.over-walk.ensures.snapshot c.self.view_is in
-    subst (λ (z : Option Known). Reads (summary_of g.A.Monoid.parts g.B.Monoid.parts) (6 * c.args.self.now.round.bits + 1) c.args.self.now (pass_facts (known_in z) i.left)) (sym c.into_words.ensures)
-    (reads_of g.A.Monoid.parts g.B.Monoid.parts i.words c.over-walk.result c.after-found.new.tree i.left (3 * b) (b + 1) (0) (b) (6 * c.args.self.now.round.bits + 1) c.args.self.now there c.self.view_is c.after-found.ensures.descends
+    let same = same_set i.words c.over-walk.result c.args.s i.account.left c.args.self.now there c.over-walk.ensures.snapshot c.self.view_is in
+    subst (λ (z : Option Known). Reads (summary_of g.A.Monoid.parts g.B.Monoid.parts) (6 * c.args.self.now.round.bits + 1) c.args.self.now (pass_facts (known_in z) i.account.left)) (sym c.into_words.ensures)
+    (reads_of g.A.Monoid.parts g.B.Monoid.parts i.words c.over-walk.result c.after-found.new.tree i.account.left (3 * b) (b + 1) (0) (b) (6 * c.args.self.now.round.bits + 1) c.args.self.now there c.self.view_is c.after-found.ensures.descends
     (omega (arith, ap (λ (z : SetFacts). z.bits) same)))

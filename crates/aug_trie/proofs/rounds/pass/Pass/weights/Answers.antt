@@ -1,31 +1,31 @@
-use Rattle.std.proofs.Common.{◌≡◌, ℕ, ◌+◌, ◌-◌, ◌*◌, ◌≤◌, min, Option, Some, length, sym, ap, ◌∙◌, subst, arith}
+use Rattle.std.proofs.Common.{◌≡◌, ℕ, ◌+◌, ◌*◌, Option, length, sym, ap, ◌∙◌, subst, arith}
 use Rattle.aug_model.specs.Folds.{summary_of}
-use Rattle.aug_model.specs.Keys.{SetFacts, list_of}
+use Rattle.aug_model.specs.Keys.{SetFacts}
 use Rattle.aug_core.specs.Counts.{changes_of}
 use Rattle.aug_core.specs.Faces.{face}
 use Rattle.aug_words.specs.Seats.{Known}
 use Rattle.aug_trie.specs.Node.{Reads}
 use Rattle.aug_trie.specs.inside.Counted.{HasCounts}
 use Rattle.aug_trie.specs.inside.PassState.{pass_facts, known_in, HoldsPass}
-use Rattle.aug_trie.specs.inside.SnapshotWalk.{set_seen, HasWalk}
+use Rattle.aug_trie.specs.inside.SnapshotWalk.{HasWalk}
 use Rattle.aug_trie.proofs.Asking.{may_walk, same_set, still_pass, reads_of}
 use Rattle.aug_trie.proofs.rounds.pass.Pass.weights.Goals as goal
 
 pub over-walk-requires : goal.over-walk-requires
 over-walk-requires g c = let i = c.self.inside in
-    subst (λ (z : Option Known). HasWalk (face g.A.Monoid.parts g.B.Monoid.parts) z c.args.s i.bits) (sym c.take.ensures.value)
-    (may_walk g.A.Monoid.parts g.B.Monoid.parts i.words i.leaves i.bits i.next i.left c.args.self.now c.args.s c.self.invariant.0 c.self.view_is c.requires.snapshot)
+    subst (λ (z : Option Known). HasWalk (face g.A.Monoid.parts g.B.Monoid.parts) z c.args.s i.account.bits) (sym c.take.ensures.value)
+    (may_walk g.A.Monoid.parts g.B.Monoid.parts i.words i.account.leaves i.account.bits i.account.next i.account.left c.args.self.now c.args.s c.self.invariant.0 c.self.view_is c.requires.snapshot)
 
 pub invariant_of-self : goal.invariant_of-self
 invariant_of-self g c = let i = c.self.inside in let b : ℕ = c.over-walk.result.words.view.shape.bits in let m : ℕ = length c.args.keys.now in
-    subst (λ (z : Option Known). HoldsPass (face g.A.Monoid.parts g.B.Monoid.parts) z i.leaves i.bits i.next i.left × HasCounts (changes_of (known_in z).view.held) i.inserts i.removals) (sym c.into_words.ensures)
-    (still_pass g.A.Monoid.parts g.B.Monoid.parts i.words c.over-walk.result c.weights.new.tree i.leaves i.bits i.next i.left i.inserts i.removals (m * (b + 1)) (m) (0) (0) c.self.invariant.0 c.self.invariant.1
+    subst (λ (z : Option Known). HoldsPass (face g.A.Monoid.parts g.B.Monoid.parts) z i.account.leaves i.account.bits i.account.next i.account.left × HasCounts (changes_of (known_in z).view.held) i.account.inserts i.account.removals) (sym c.into_words.ensures)
+    (still_pass g.A.Monoid.parts g.B.Monoid.parts i.words c.over-walk.result c.weights.new.tree i.account.leaves i.account.bits i.account.next i.account.left i.account.inserts i.account.removals (m * (b + 1)) (m) (0) (0) c.self.invariant.0 c.self.invariant.1
     (sym c.take.ensures.value ∙ c.over-walk.ensures.words) c.weights.ensures.descends)
 
 pub returns-clause-reads : goal.returns-clause-reads
 returns-clause-reads g c = let i = c.self.inside in let b : ℕ = c.over-walk.result.words.view.shape.bits in let m : ℕ = length c.args.keys.now in
     let there = sym c.take.ensures.value ∙ c.over-walk.ensures.words in
-    let same = same_set i.words c.over-walk.result c.args.s i.left c.args.self.now there c.over-walk.ensures.snapshot c.self.view_is in
-    subst (λ (z : Option Known). Reads (summary_of g.A.Monoid.parts g.B.Monoid.parts) (length c.args.keys.now * c.args.self.now.round.bits + 2 * length c.args.keys.now) c.args.self.now (pass_facts (known_in z) i.left)) (sym c.into_words.ensures)
-    (reads_of g.A.Monoid.parts g.B.Monoid.parts i.words c.over-walk.result c.weights.new.tree i.left (m * (b + 1)) (m) (0) (0) (length c.args.keys.now * c.args.self.now.round.bits + 2 * length c.args.keys.now) c.args.self.now there c.self.view_is c.weights.ensures.descends
+    let same = same_set i.words c.over-walk.result c.args.s i.account.left c.args.self.now there c.over-walk.ensures.snapshot c.self.view_is in
+    subst (λ (z : Option Known). Reads (summary_of g.A.Monoid.parts g.B.Monoid.parts) (length c.args.keys.now * c.args.self.now.round.bits + 2 * length c.args.keys.now) c.args.self.now (pass_facts (known_in z) i.account.left)) (sym c.into_words.ensures)
+    (reads_of g.A.Monoid.parts g.B.Monoid.parts i.words c.over-walk.result c.weights.new.tree i.account.left (m * (b + 1)) (m) (0) (0) (length c.args.keys.now * c.args.self.now.round.bits + 2 * length c.args.keys.now) c.args.self.now there c.self.view_is c.weights.ensures.descends
     (let same_product : m * b ≡ m * c.args.self.now.round.bits = ap (λ (z : SetFacts). m * z.bits) same in let whole : m * (b + 1) ≡ m * b + m = omega arith in omega (arith, same_product, whole)))

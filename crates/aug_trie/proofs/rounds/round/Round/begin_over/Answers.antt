@@ -1,4 +1,4 @@
-use Rattle.std.proofs.Common.{arith, rules, subst, sym, ◌≡◌, ℕ, ◌≤◌, List}
+use Rattle.std.proofs.Common.{arith, rules, subst, sym, ℕ, ◌≤◌, List}
 use Rattle.aug_model.specs.Keys.{IsKeySet, keys_of}
 use Rattle.aug_model.proofs.Rising.{is_wider}
 use Rattle.aug_core.specs.Places.{Shape, shape_of}

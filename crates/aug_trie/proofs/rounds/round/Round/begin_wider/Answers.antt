@@ -1,22 +1,11 @@
-use Rattle.std.proofs.Common.{arith, rules, ap, subst, sym, ◌∙◌, ◌≡◌, ℕ, ◌≤◌, List, [], ◌∷◌, All, length}
-use Rattle.std.specs.Prelude.{unwrap_or}
+use Rattle.std.proofs.Common.{arith, rules, ap, subst, sym, ◌∙◌, ◌≡◌, ℕ, ◌≤◌, List, All}
 use Rattle.aug_monoid.specs.Weighted.{FitsPair}
 use Rattle.aug_model.specs.Keys.{IsKeySet, keys_of}
 use Rattle.aug_model.proofs.Rising.{is_wider}
-use Rattle.aug_core.specs.Cuts.{opening_cut}
-use Rattle.aug_core.specs.Faces.{face}
 use Rattle.aug_core.specs.Places.{Shape, shape_of}
 use Rattle.aug_core.specs.Layout.{IsLayout}
-use Rattle.aug_core.specs.Opening.{Opening}
 use Rattle.aug_trie.specs.inside.EndedState.{pairs_at_rest}
-use Rattle.aug_core.specs.declared.view.View.{View}
-use Rattle.aug_words.specs.Seats.{Known}
-use Rattle.aug_trie.specs.inside.Knows.{knows}
-use Rattle.aug_trie.specs.inside.RoundState.{store_round}
 use Rattle.aug_trie.specs.Ended.{EndedFacts}
-use Rattle.aug_trie.specs.inside.CrewState.{HoldsCrew, crew_facts}
-use Rattle.aug_trie.specs.Crew.{BeginsRound}
-use Rattle.aug_trie.proofs.Crews.{begins_crew, begins_history}
 use Rattle.aug_trie.proofs.rounds.round.Round.begin_wider.Goals as goal
 
 pub over-requires-clause-keys : goal.over-requires-clause-keys

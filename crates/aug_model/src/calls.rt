@@ -3,9 +3,9 @@ ghost use Rattle.std.specs.Borrow.{ftrue};
 
 use std::marker::Model;
 
-/// How many calls of `top`, `left` and `right` a tree has had. Contracts alone read it: it takes no bytes,
-/// and its methods do nothing when they run.
-#[derive(Drop)]
+/// How many calls of some kind something had, as those of `left` and `right` that a tree had. Contracts alone read it: it takes
+/// no bytes, and its methods do nothing when they run.
+#[derive(Debug, Drop)]
 pub struct Calls {
     pub ghost made: { ℕ },
 }

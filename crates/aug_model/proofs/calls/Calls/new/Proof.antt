@@ -20,11 +20,11 @@ use denote.Triple.Entry.{on_entry, alive}
 use denote.Triple.Spec.{Meets, triple_of}
 use denote.Triple.Table.{entered}
 use denote.Triple.Walked.{says, Stays, walk_of, Walks, ends_at, walked, walk_Meets}
-use Rattle.aug_query.specs.contracts.calls.Calls.new.Key.{name as key}
-use Rattle.aug_query.specs.contracts.calls.Calls.new as f
-use Rattle.aug_query.proofs.calls.Calls.new.Statement as stated
-use Rattle.aug_query.proofs.calls.Calls.new.Code as code
-use Rattle.aug_query.specs.contracts.calls.Calls as made
+use Rattle.aug_model.specs.contracts.calls.Calls.new.Key.{name as key}
+use Rattle.aug_model.specs.contracts.calls.Calls.new as f
+use Rattle.aug_model.proofs.calls.Calls.new.Statement as stated
+use Rattle.aug_model.proofs.calls.Calls.new.Code as code
+use Rattle.aug_model.specs.contracts.calls.Calls as made
 
 abbrev stayed : Stays (f.ended).signature.params (f.ended).kept
 stayed = tt

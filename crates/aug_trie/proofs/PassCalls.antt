@@ -1,0 +1,115 @@
+-- What a pass's update and its snapshot come to, each as one record, from the pass as it was and from what its words' call says.
+use Rattle.std.proofs.Common.{◌≡◌, Option, Some, ℕ, ◌+◌, ◌-◌, ◌*◌, ◌^◌, ◌<◌, ◌≤◌, List, [], ◌∷◌, ◌++◌, length, sym, refl, subst, arith}
+use Rattle.atomic_table.specs.Seated.{TableId}
+use Rattle.aug_monoid.specs.Parts.{Parts}
+use Rattle.aug_model.specs.Folds.{summary_of}
+use Rattle.aug_model.specs.declared.outcome.Outcome.{Outcome}
+use Rattle.aug_core.specs.Addresses.{IsInner}
+use Rattle.aug_core.specs.Counts.{changes_of}
+use Rattle.aug_core.specs.Faces.{face}
+use Rattle.aug_core.specs.Kinds.{load_node}
+use Rattle.aug_core.specs.Told.{LoadsNode}
+use Rattle.aug_words.specs.Seats.{Known}
+use Rattle.aug_trie.specs.Node.{Keeps}
+use Rattle.aug_trie.specs.Pass.{PassFacts, GoesOn, StepsOf}
+use Rattle.aug_trie.specs.Round.{root_of}
+use Rattle.aug_trie.specs.Snapshot.{HasSnapshot, snapshot_cut}
+use Rattle.aug_trie.specs.Updates.{ComesTo, TakesSnapshot}
+use Rattle.aug_trie.specs.inside.Climbing.{Updated}
+use Rattle.aug_trie.specs.inside.Counted.{HasCounts, insertions_by, removals_by}
+use Rattle.aug_trie.specs.inside.Knows.{knows}
+use Rattle.aug_trie.specs.inside.PassState.{pass_facts, known_in, IsPass, HoldsPass}
+use Rattle.aug_trie.specs.declared.rounds.account.Account.{Account}
+use Rattle.aug_trie.specs.declared.updates.request.Request.{Request}
+use Rattle.aug_trie.proofs.Accepting.{comes_to}
+use Rattle.aug_trie.proofs.Counters.{may_count, counted_by, counted_still}
+use Rattle.aug_trie.proofs.Going.{goes_seeing}
+use Rattle.aug_trie.proofs.Passing.{pass_told, pass_after, gained_by, goes_on_by, steps_of}
+use Rattle.aug_trie.proofs.Snapshots.{pass_still, root_node, takes_snapshot, has_snapshot, loads_root, looked_on}
+use Rattle.aug_trie.proofs.Trees.{keeps_on}
+
+-- the account of a pass once an update came to this
+abbrev pub account_after : Account → Request → Outcome → Account
+account_after a request done = record {
+  leaves = a.leaves;
+  bits = a.bits;
+  next = a.next + a.bits;
+  left = a.left - 1;
+  inserts = a.inserts + insertions_by request done;
+  removals = a.removals + removals_by request done;
+}
+
+module _ {A B : Type 0} (parts_a : Parts A) (parts_b : Parts B) where
+  abbrev f : ℕ → ℕ → List (ℕ × ℕ) → List ℕ
+  f = face parts_a parts_b
+
+  -- a pass's fields keep what they are to keep
+  abbrev pub Holds : Option Known → Account → Type 0
+  Holds words a = HoldsPass f words a.leaves a.bits a.next a.left × HasCounts (changes_of (known_in words).view.held) a.inserts a.removals
+
+  -- an update came to this, from a pass as contracts saw it
+  pub record UpdateMade (now : PassFacts) (key : ℕ) (request : Request) (done : Outcome) (w : Known) (after : Account) : Type 0 where
+    pub holds : Holds (Some w) after
+    pub came_to : ComesTo request key done now.knows (knows w.view)
+    pub goes_on : (steps : ℕ) × GoesOn 1 steps now (pass_facts w after.left)
+    pub keeps : Keeps (summary_of parts_a parts_b) now (pass_facts w after.left)
+    pub steps : StepsOf request key done now (pass_facts w after.left)
+
+  -- a snapshot was taken
+  pub record SnapshotTaken (now : PassFacts) (a : Account) (number : ℕ) (w : Known) : Type 0 where
+    pub holds : Holds (Some w) a
+    pub takes : TakesSnapshot now.knows (knows w.view) (snapshot_cut (pass_facts w a.left) number)
+    pub known : HasSnapshot (pass_facts w a.left) number
+    pub goes_on : GoesOn 0 1 now (pass_facts w a.left)
+    pub step : w.view.steps ≡ now.steps ++ load_node (root_of now.round) number ∷ []
+    pub keeps : Keeps (summary_of parts_a parts_b) now (pass_facts w a.left)
+
+  module _ (words : Option Known) (a : Account) (now : PassFacts) (k : Known) (holds : Holds words a) (facts : pass_facts (known_in words) a.left ≡ now) (there : words ≡ Some k) where
+    told : IsPass f k.view a.leaves a.bits a.next a.left × (pass_facts k a.left ≡ now)
+    told = pass_told f words k a.leaves a.bits a.next a.left now holds.0 there facts
+
+    counts : HasCounts (changes_of k.view.held) a.inserts a.removals
+    counts = subst (λ (z : Option Known). HasCounts (changes_of (known_in z).view.held) a.inserts a.removals) there holds.1
+
+    -- one more change may be counted
+    pub has_count : (a.inserts + 1 < 2 ^ 32) × (a.removals + 1 < 2 ^ 32)
+    has_count = let room = may_count f k.view a.leaves a.bits a.next a.left a.inserts a.removals told.0 counts in (omega (arith, room), omega (arith, room))
+
+    pub update_made : (key : ℕ) (request : Request) (done : Outcome) (w : Known) (after : Account) → key < 2 ^ now.round.bits → now.spent < now.round.updates → Updated f (a.next + a.bits) k.view key request w.view done → w.table ≡ k.table
+        → after ≡ account_after a request done → UpdateMade now key request done w after
+    update_made key request done w after low budget u table is =
+        let p = told.0 in let now_is = told.1 in
+        let low' : key < 2 ^ k.view.shape.bits = subst (λ (z : PassFacts). key < 2 ^ z.round.bits) (sym now_is) low in
+        let budget' = subst (λ (z : PassFacts). z.spent < z.round.updates) (sym now_is) budget in let some : 1 ≤ a.left = omega arith in
+        let goes = (gained_by f k.view w.view a.leaves a.bits a.next a.left key request p some low' done u).2 in
+        subst (λ (z : PassFacts × TableId × Account). UpdateMade z.0 key request done (record { table = z.1; view = w.view }) z.2) (λ j. (now_is j, sym table j, sym is j)) record {
+          holds = (
+            record { known = record { table = k.table; view = w.view }; there = refl; is_pass = pass_after f k.view w.view a.leaves a.bits a.next a.left key request p some low' done u },
+            counted_by f (a.next + a.bits) k.view w.view key a.inserts a.removals request done u counts,
+          );
+          came_to = comes_to f (a.next + a.bits) k.view key request w.view p.knows_table low' done u;
+          goes_on = (length u.more + 1, goes_on_by f k.view w.view a.leaves a.bits a.next a.left key request p some low' k.table done u);
+          keeps = keeps_on parts_a parts_b k (record { table = k.table; view = w.view }) a.left (a.left - 1) p.knows_table goes.knows_table goes.shaped goes.later;
+          steps = steps_of f k.view w.view a.leaves a.bits a.next a.left key request p some low' k.table done u;
+        }
+
+    -- the root's word may be loaded
+    pub root_inside : IsInner k.view.shape (2 * a.leaves - 2)
+    root_inside = (root_node f k.view a.leaves a.bits a.next a.left told.0).0
+
+    pub snapshot_taken : (number : ℕ) (w : Known) → LoadsNode f k.view (2 * a.leaves - 2) number w.view → w.table ≡ k.table → SnapshotTaken now a number w
+    snapshot_taken number w loads table =
+        let p = told.0 in let now_is = told.1 in let root = root_node f k.view a.leaves a.bits a.next a.left p in
+        let l = subst (λ (z : ℕ). LoadsNode f k.view z number w.view) (sym root.1) loads in
+        let goes = goes_seeing f k.view w.view _ l.stepped p.knows_table l.sees in
+        subst (λ (z : PassFacts × TableId). SnapshotTaken z.0 a number (record { table = z.1; view = w.view })) (λ j. (now_is j, sym table j)) record {
+          holds = (
+            record { known = record { table = k.table; view = w.view }; there = refl; is_pass = pass_still f k.view w.view a.leaves a.bits a.next a.left p goes },
+            counted_still f 0 k.view w.view a.inserts a.removals goes counts,
+          );
+          takes = takes_snapshot f k.view w.view number a.leaves a.bits a.next a.left p l;
+          known = has_snapshot f k.view w.view number a.leaves a.bits a.next a.left p l;
+          goes_on = looked_on f k.view w.view number a.leaves a.bits a.next a.left p l k.table goes;
+          step = loads_root f k.view w.view number a.leaves a.bits a.next a.left p l;
+          keeps = keeps_on parts_a parts_b k (record { table = k.table; view = w.view }) a.left a.left p.knows_table goes.knows_table goes.shaped goes.later;
+        }

@@ -14,8 +14,8 @@ abbrev pub bad_key : ℤ
 bad_key = negsuc 2
 
 -- the lane made all of its updates
-abbrev pub spent : ℤ
-spent = negsuc 3
+abbrev pub lane_spent : ℤ
+lane_spent = negsuc 3
 
 -- a request for memory was refused
 abbrev pub no_memory : ℤ

@@ -19,7 +19,7 @@ use Rattle.aug_lane.specs.declared.error.LaneError.{LaneError}
 use Rattle.aug_lane.specs.declared.error.LaneError.TheVariants.{BadKey, Spent}
 use Rattle.aug_lane.specs.declared.lane.Lane.{Lane}
 use Rattle.aug_c.specs.declared.span.Span.{Span}
-use Rattle.aug_c.specs.Codes.{none, bad_key, spent}
+use Rattle.aug_c.specs.Codes.{none, bad_key, lane_spent}
 
 -- the number of the keys, the sum of their weights, and the least and the greatest of them
 abbrev pub span_of : List (ℕ × ℕ) → Summary Sum Extent
@@ -34,7 +34,7 @@ abbrev pub update_code : Result Bool LaneError → ℤ
 update_code (Ok true) = pos 1
 update_code (Ok false) = pos 0
 update_code (Err BadKey) = bad_key
-update_code (Err Spent) = spent
+update_code (Err Spent) = lane_spent
 
 -- what a put answers: 1 if it put the key in, 2 if it gave a member the weight, 0 if another change came in between
 abbrev pub put_code : Result Outcome LaneError → ℤ
@@ -42,13 +42,13 @@ put_code (Ok Accepted) = pos 1
 put_code (Ok Replaced) = pos 2
 put_code (Ok Refused) = pos 0
 put_code (Err BadKey) = bad_key
-put_code (Err Spent) = spent
+put_code (Err Spent) = lane_spent
 
 -- what many updates in one call answer: how many changed the set
 abbrev pub all_code : Result ℕ LaneError → ℤ
 all_code (Ok changed) = pos changed
 all_code (Err BadKey) = bad_key
-all_code (Err Spent) = spent
+all_code (Err Spent) = lane_spent
 
 -- a number if there is one
 abbrev pub found : Option ℕ → ℤ
@@ -72,7 +72,7 @@ pub record MakesUpdate {T : Type 0} (key : ℕ) (old new : Lane Sum Extent) (ans
   pub round : new.round ≡ old.round
 
 -- an insertion or a removal
-pub record Updates (parity key weight : ℕ) (old new : Lane Sum Extent) (code : ℤ) : Type 0 where
+pub record UpdatesKey (parity key weight : ℕ) (old new : Lane Sum Extent) (code : ℤ) : Type 0 where
   pub answer : Result Bool LaneError
   pub says : code ≡ update_code answer
   pub makes : MakesUpdate key old new answer
@@ -80,7 +80,7 @@ pub record Updates (parity key weight : ℕ) (old new : Lane Sum Extent) (code :
   pub refused : IfOk answer (λ done. OnFalse done (RefusedUpdate parity key old.half.knows new.half.knows))
 
 -- a put of a weight
-pub record Puts (key weight : ℕ) (old new : Lane Sum Extent) (code : ℤ) : Type 0 where
+pub record PutsWeight (key weight : ℕ) (old new : Lane Sum Extent) (code : ℤ) : Type 0 where
   pub answer : Result Outcome LaneError
   pub says : code ≡ put_code answer
   pub makes : MakesUpdate key old new answer
@@ -99,7 +99,7 @@ pub record UpdatesAll (keys : List ℕ) (makes : ℕ → PassFacts → PassFacts
   pub round : new.round ≡ old.round
 
 -- a new snapshot
-pub record Looks (old new : Lane Sum Extent) (code : ℤ) : Type 0 where
+pub record TakesLook (old new : Lane Sum Extent) (code : ℤ) : Type 0 where
   pub says : code ≡ pos 0
   pub takes : TakesSnapshot old.half.knows new.half.knows (snapshot_cut new.half new.held.number)
   pub goes_on : GoesOn 0 1 old.half new.half
@@ -114,7 +114,7 @@ pub record Asks (told : SetFacts → ℤ) (old new : Lane Sum Extent) (code : �
   pub round : new.round ≡ old.round
 
 -- how many updates are left
-pub record HasLeft (old new : Lane Sum Extent) (code : ℤ) : Type 0 where
+pub record TellsLeft (old new : Lane Sum Extent) (code : ℤ) : Type 0 where
   pub left : ℕ
   pub says : code ≡ pos left
   pub adds_up : left + old.half.spent ≡ old.half.round.updates

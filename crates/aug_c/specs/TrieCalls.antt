@@ -29,7 +29,7 @@ begin_code TooLarge = codes.too_large
 begin_code OutOfMemory = codes.no_memory
 
 -- a trie is opened: it is the empty one
-pub record Opens (bits : ℕ) (new : Option Stage) (code : ℤ) : Type 0 where
+pub record OpensTrie (bits : ℕ) (new : Option Stage) (code : ℤ) : Type 0 where
   pub opened : code ≡ pos 0 → (rest : EndedFacts) × (new ≡ Some (Resting rest)) × IsEmptyTrie bits rest
   pub refused : code ≢ pos 0 → new ≡ None
   pub bad_bits : (code ≡ codes.bad_bits) ↔ IsOutside 1 16 bits

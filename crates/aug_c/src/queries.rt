@@ -5,7 +5,7 @@ ghost use Rattle.aug_model.specs.Queries.{rank_of, select_of, before_of, after_o
 ghost use Rattle.aug_monoid.specs.declared.sum.Sum.{Sum};
 ghost use Rattle.aug_monoid.specs.declared.extent.Extent.{Extent};
 ghost use Rattle.aug_lane.specs.declared.lane.Lane.{Lane};
-ghost use Rattle.aug_lane.specs.Told.{bit_of, from_of};
+ghost use Rattle.aug_lane.specs.ManyKeys.{bit_of, from_of};
 ghost use Rattle.aug_c.specs.Codes.{closed, no_room};
 ghost use Rattle.aug_c.specs.Handles.{lane_of, On};
 ghost use Rattle.aug_c.specs.LaneCalls.{found as number_of, truth, span_of, shown, Asks, IsSpan};

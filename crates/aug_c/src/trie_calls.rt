@@ -8,7 +8,7 @@ ghost use Rattle.aug_c.specs.declared.stage.Stage.{Stage};
 ghost use Rattle.aug_c.specs.declared.stage.Stage.TheVariants as stage;
 ghost use Rattle.aug_c.specs.Codes.{closed, is_open};
 ghost use Rattle.aug_c.specs.Handles.{lane_of, lane_stamp, trie_of, trie_stamp, On};
-ghost use Rattle.aug_c.specs.TrieCalls.{begin_code, Opens, BeginsOn, OpensOn, OpensIn, EndsOn, EndsAs, GivesBack};
+ghost use Rattle.aug_c.specs.TrieCalls.{begin_code, OpensTrie, BeginsOn, OpensOn, OpensIn, EndsOn, EndsAs, GivesBack};
 
 use crate::codes::{
     AT_REST, BAD_BITS, BAD_UPDATES, BAD_WORKERS, CLOSED, IN_ROUND, LANES_OUT, NARROWER, NO_LANE,
@@ -39,7 +39,7 @@ fn code_of(cause: BeginError) -> i64
 #[unsafe(no_mangle)]
 pub extern "C" fn aug_open(alloc: Global, trie: &mut TrieHandle, bits: u32, number: u32) -> i64
     ensures open { IsSome trie.old.held.value → (result ≡ is_open) × (trie.new ≡ trie.old) }
-    ensures opens { IsNone trie.old.held.value → Opens bits (trie_of trie.new) result }
+    ensures opens { IsNone trie.old.held.value → OpensTrie bits (trie_of trie.new) result }
     ensures stamp { result ≡ pos 0 → trie_stamp trie.new ≡ number * 2 ^ 32 }
 {
     if trie.is_open() {

@@ -1,10 +1,10 @@
 //! The updates of a lane.
 ghost use Rattle.std.specs.Prelude.{◌≡◌, ◌≢◌, length, IsNone};
 ghost use Rattle.aug_trie.specs.Knowledge.{insertion, removal};
-ghost use Rattle.aug_lane.specs.InTurn.{Inserts, Removes, Puts as PutsAll};
+ghost use Rattle.aug_lane.specs.EachInTurn.{Inserts, Removes, Puts};
 ghost use Rattle.aug_c.specs.Codes.{no_room};
 ghost use Rattle.aug_c.specs.Handles.{lane_of, On};
-ghost use Rattle.aug_c.specs.LaneCalls.{span_of, update_code, put_code, all_code, Updates, Puts, UpdatesAll, Looks, HasLeft};
+ghost use Rattle.aug_c.specs.LaneCalls.{span_of, update_code, put_code, all_code, UpdatesKey, PutsWeight, UpdatesAll, TakesLook, TellsLeft};
 
 use crate::codes::{BAD_KEY, CLOSED, NO_ROOM, SPENT};
 use crate::lane_handle::LaneHandle;
@@ -51,7 +51,7 @@ fn code_of_all(answer: Result<u32, LaneError>) -> i64
 /// Puts a key in, with the key itself as its weight: 1 if it was not there, 0 if it was.
 #[unsafe(no_mangle)]
 pub extern "C" fn aug_insert(alloc: Global, lane: &mut LaneHandle, key: u32) -> i64
-    ensures updates { On (Updates insertion key key) (lane_of lane.old) (lane_of lane.new) result }
+    ensures updates { On (UpdatesKey insertion key key) (lane_of lane.old) (lane_of lane.new) result }
     ensures foreign { IsNone lane.old.held.value → lane.new ≡ lane.old }
 {
     let Some((slot, old)) = lane.lend(alloc) else {
@@ -65,7 +65,7 @@ pub extern "C" fn aug_insert(alloc: Global, lane: &mut LaneHandle, key: u32) -> 
 /// Takes a key out: 1 if it was there, 0 if it was not.
 #[unsafe(no_mangle)]
 pub extern "C" fn aug_remove(alloc: Global, lane: &mut LaneHandle, key: u32) -> i64
-    ensures updates { On (Updates removal key 0) (lane_of lane.old) (lane_of lane.new) result }
+    ensures updates { On (UpdatesKey removal key 0) (lane_of lane.old) (lane_of lane.new) result }
     ensures foreign { IsNone lane.old.held.value → lane.new ≡ lane.old }
 {
     let Some((slot, old)) = lane.lend(alloc) else {
@@ -80,7 +80,7 @@ pub extern "C" fn aug_remove(alloc: Global, lane: &mut LaneHandle, key: u32) -> 
 /// key came in between and nothing was stored.
 #[unsafe(no_mangle)]
 pub extern "C" fn aug_put(alloc: Global, lane: &mut LaneHandle, key: u32, weight: u32) -> i64
-    ensures puts { On (Puts key weight) (lane_of lane.old) (lane_of lane.new) result }
+    ensures puts { On (PutsWeight key weight) (lane_of lane.old) (lane_of lane.new) result }
     ensures foreign { IsNone lane.old.held.value → lane.new ≡ lane.old }
 {
     let Some((slot, old)) = lane.lend(alloc) else {
@@ -94,7 +94,7 @@ pub extern "C" fn aug_put(alloc: Global, lane: &mut LaneHandle, key: u32, weight
 /// Takes a new snapshot, which the queries are answered from.
 #[unsafe(no_mangle)]
 pub extern "C" fn aug_look(alloc: Global, lane: &mut LaneHandle) -> i64
-    ensures looks { On Looks (lane_of lane.old) (lane_of lane.new) result }
+    ensures looks { On TakesLook (lane_of lane.old) (lane_of lane.new) result }
     ensures foreign { IsNone lane.old.held.value → lane.new ≡ lane.old }
 {
     let Some((slot, old)) = lane.lend(alloc) else {
@@ -108,7 +108,7 @@ pub extern "C" fn aug_look(alloc: Global, lane: &mut LaneHandle) -> i64
 /// How many updates the lane has left.
 #[unsafe(no_mangle)]
 pub extern "C" fn aug_budget(alloc: Global, lane: &mut LaneHandle) -> i64
-    ensures left { On HasLeft (lane_of lane.old) (lane_of lane.new) result }
+    ensures left { On TellsLeft (lane_of lane.old) (lane_of lane.new) result }
     ensures foreign { IsNone lane.old.held.value → lane.new ≡ lane.old }
 {
     let Some((slot, old)) = lane.lend(alloc) else {
@@ -157,7 +157,7 @@ pub extern "C" fn aug_put_all(
     weights: &[u32],
 ) -> i64
     ensures room { length weights.now ≢ length keys.now → (result ≡ no_room) × (lane.new ≡ lane.old) }
-    ensures updates { length weights.now ≡ length keys.now → On (UpdatesAll keys.now (PutsAll span_of keys.now weights.now)) (lane_of lane.old) (lane_of lane.new) result }
+    ensures updates { length weights.now ≡ length keys.now → On (UpdatesAll keys.now (Puts span_of keys.now weights.now)) (lane_of lane.old) (lane_of lane.new) result }
     ensures foreign { IsNone lane.old.held.value → lane.new ≡ lane.old }
 {
     if weights.len() != keys.len() {

@@ -10,12 +10,12 @@ use Rattle.aug_core.specs.Book.{At, IsFresh, SerialsFit, IsBook}
 use Rattle.aug_core.specs.Opening.{Opening}
 use Rattle.aug_core.specs.Rule.{NamesNewest, Knows, Kept}
 use Rattle.aug_core.specs.Kinds.{load_leaf, load_node, load_record_word}
-use Rattle.aug_core.specs.Told.{stepping, held_word, read_record, seeing, beginning, Sees, loaded_leaf, began_at_leaf, loaded_node}
+use Rattle.aug_core.specs.Told.{Sat, stepping, held_word, read_record, seeing, beginning, Sees, loaded_leaf, began_at_leaf, loaded_node}
 use Rattle.aug_core.specs.declared.view.Entry.{Entry}
 use Rattle.aug_core.specs.declared.view.Held.{Held}
 use Rattle.aug_core.specs.declared.view.View.{View}
 use Rattle.aug_core.proofs.Sizes.{in_block}
-use Rattle.aug_core.proofs.Moves.{Sat, St, knows_keeping, rests, stands, watches}
+use Rattle.aug_core.proofs.Moves.{St, knows_keeping, rests, stands, watches}
 use Rattle.aug_core.proofs.Fits.{fits_book, sees_after}
 use Rattle.aug_core.proofs.Sizes.{twice}
 

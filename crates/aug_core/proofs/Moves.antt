@@ -4,7 +4,7 @@ use Rattle.std.proofs.lemmas.Bool.{cases_eq}
 use Rattle.std.proofs.lemmas.List.{set-get_or}
 use mathlib.Core.Option.{some}
 use lib.ListN.{get_elem?}
-use Rattle.atomic_table.specs.Table.{State, Me}
+use Rattle.atomic_table.specs.Table.{State}
 use Rattle.atomic_table.proofs.Lists.{at_set}
 use Rattle.aug_core.specs.Places.{Shape, lane_place, record_start, opening_count}
 use Rattle.aug_core.specs.Addresses.{place_count, IsInner}
@@ -12,6 +12,7 @@ use Rattle.aug_core.specs.Lanes.{IsOfLane, block_start, block_size}
 use Rattle.aug_core.specs.Book.{Book, history_of, At, IsNewest, Continues, FloorsCover, IsFresh, IsBook}
 use Rattle.aug_core.specs.Opening.{Opening}
 use Rattle.aug_core.specs.Counts.{WasMade, AreCounted, AreTallied}
+use Rattle.aug_core.specs.Told.{Sat}
 use Rattle.aug_core.specs.declared.view.Change.{Change}
 use Rattle.aug_core.specs.declared.step.StepTaken.{StepTaken}
 use Rattle.aug_core.specs.Rule.{Lists, NamesNewest, HoldsLane, Knows, KeepsTree, Kept}
@@ -22,9 +23,6 @@ use Rattle.aug_core.specs.declared.view.View.{View}
 use Rattle.aug_core.proofs.Sizes.{lanes_apart, twice}
 use Rattle.aug_core.proofs.Books.{fresh_now, at_below, there_is, one_entry, grow, grown_at, at_grown, newest_here, newest_there}
 use Rattle.aug_core.proofs.Views.{Likens, Repeats, was_there, repeats_like, counted_on, apart_on}
-
-abbrev pub Sat : Type 0
-Sat = Me (Unit {0}) View
 
 abbrev pub St : Type 0
 St = State (Unit {0}) View

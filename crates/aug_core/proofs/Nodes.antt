@@ -12,7 +12,7 @@ use Rattle.aug_core.specs.Book.{Book, history_of, At, IsNewest, Continues, Floor
 use Rattle.aug_core.specs.Opening.{Opening}
 use Rattle.aug_core.specs.Rule.{Lists, NamesNewest, HoldsLane, Kept}
 use Rattle.aug_core.specs.Kinds.{try_node}
-use Rattle.aug_core.specs.Told.{HoldsOnly, MayStore, held_word, on_first, with_published, seeing, publishing, IsFilled, tried_node}
+use Rattle.aug_core.specs.Told.{Sat, HoldsOnly, MayStore, held_word, on_first, with_published, seeing, publishing, IsFilled, tried_node}
 use Rattle.aug_core.specs.inside.LaneStates.{HasTakenLane}
 use Rattle.aug_core.specs.declared.step.StepTaken.{StepTaken}
 use Rattle.aug_core.specs.declared.view.Entry.{Entry}
@@ -21,7 +21,7 @@ use Rattle.aug_core.specs.declared.view.LaneState.TheVariants.{Taken}
 use Rattle.aug_core.specs.declared.view.View.{View}
 use Rattle.aug_core.proofs.Sizes.{twice, in_block, record_inside}
 use Rattle.aug_core.proofs.Books.{no_shorter, one_entry, one_index, grown_at, at_grown, newest_here, there, grows}
-use Rattle.aug_core.proofs.Moves.{Sat, St, MayMove, moves_on, holds_on, knows_seeing, in_book, book', after, all_stay, tree_moves, watches}
+use Rattle.aug_core.proofs.Moves.{St, MayMove, moves_on, holds_on, knows_seeing, in_book, book', after, all_stay, tree_moves, watches}
 use Rattle.aug_core.proofs.Stores.{alone, one_lane, is_taken}
 use Rattle.aug_core.proofs.States.{Did}
 use Rattle.aug_core.proofs.Fits.{fits_book, sees_after}

@@ -10,14 +10,14 @@ use Rattle.aug_core.specs.Lanes.{block_start, word_of_state}
 use Rattle.aug_core.specs.Opening.{Opening}
 use Rattle.aug_core.specs.Rule.{HoldsLane, Kept}
 use Rattle.aug_core.specs.Kinds.{take_lane, finish_lane}
-use Rattle.aug_core.specs.Told.{on_first, in_state, own_lane, own_lane_place, taking, took_lane, finishing, finished_lane}
+use Rattle.aug_core.specs.Told.{Sat, on_first, in_state, own_lane, own_lane_place, taking, took_lane, finishing, finished_lane}
 use Rattle.aug_core.specs.inside.LaneStates.{MayTake, HasTakenLane}
 use Rattle.aug_core.specs.declared.step.StepTaken.{StepTaken}
 use Rattle.aug_core.specs.declared.view.Held.{Held}
 use Rattle.aug_core.specs.declared.view.LaneState.{LaneState}
 use Rattle.aug_core.specs.declared.view.LaneState.TheVariants.{Taken, Ended}
 use Rattle.aug_core.specs.declared.view.View.{View}
-use Rattle.aug_core.proofs.Moves.{Sat, St, IsOwnWord, own_moves, moves_on, knows_keeping}
+use Rattle.aug_core.proofs.Moves.{St, IsOwnWord, own_moves, moves_on, knows_keeping}
 use Rattle.aug_core.proofs.Stores.{alone, one_lane}
 
 module _ (face : ℕ → ℕ → List (ℕ × ℕ) → List ℕ) (o : Opening) where

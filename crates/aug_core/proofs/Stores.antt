@@ -9,7 +9,7 @@ use Rattle.aug_core.specs.Lanes.{first_record, IsOfLane, block_start, word_of_st
 use Rattle.aug_core.specs.Opening.{Opening}
 use Rattle.aug_core.specs.Rule.{Lists, HoldsLane, Kept}
 use Rattle.aug_core.specs.Kinds.{store_record_word}
-use Rattle.aug_core.specs.Told.{on_first, with_word, HoldsOnly, MayStore, storing, stored_record}
+use Rattle.aug_core.specs.Told.{Sat, on_first, with_word, HoldsOnly, MayStore, storing, stored_record}
 use Rattle.aug_core.specs.inside.LaneStates.{HasTakenLane}
 use Rattle.aug_core.specs.declared.step.StepTaken.{StepTaken}
 use Rattle.aug_core.specs.declared.view.Held.{Held}
@@ -17,7 +17,7 @@ use Rattle.aug_core.specs.declared.view.LaneState.TheVariants.{Taken}
 use Rattle.aug_core.specs.declared.view.View.{View}
 use Rattle.aug_core.proofs.Sizes.{in_block, block_inside, blocks_apart}
 use Rattle.aug_core.proofs.Views.{Repeats}
-use Rattle.aug_core.proofs.Moves.{Sat, St, IsOwnWord, own_moves, moves_on, knows_keeping}
+use Rattle.aug_core.proofs.Moves.{St, IsOwnWord, own_moves, moves_on, knows_keeping}
 use Rattle.aug_core.specs.Book.{Book}
 
 module _ {A : Type 0} where

@@ -18,7 +18,7 @@ use Rattle.aug_trie.specs.Snapshot.{HasSnapshot, set_at}
 use Rattle.aug_trie.specs.declared.queries.node.Node.{Node}
 use Rattle.aug_trie.specs.declared.queries.snapshot.Snapshot.{Snapshot}
 use Rattle.aug_model.proofs.Ranges.{Rises, AllAbove, rises_from}
-use Rattle.aug_lane.specs.Told.{from_of}
+use Rattle.aug_lane.specs.ManyKeys.{from_of}
 use Rattle.aug_lane.proofs.Reading.{reads_none, reads_more}
 
 -- past a key all members are from it on, and none is below it

@@ -7,7 +7,7 @@ use Rattle.aug_model.specs.declared.outcome.Outcome.{Outcome}
 use Rattle.aug_model.specs.declared.summary.Summary.{Summary}
 use Rattle.aug_trie.specs.Pass.{PassFacts, GoesOn}
 use Rattle.aug_trie.specs.Node.{Keeps}
-use Rattle.aug_lane.specs.InTurn.{InTurn, change_by, changes, Updates}
+use Rattle.aug_lane.specs.EachInTurn.{InTurn, change_by, changes, Updates}
 use Rattle.aug_lane.proofs.Reading.{keeps_self, keeps_on}
 
 pub changes-more : (all : List Outcome) (done : Outcome) → changes (all ++ done ∷ []) ≡ changes all + change_by done

@@ -1,4 +1,4 @@
-pub mod Errors
+pub mod LaneErrors
 pub mod Rounds
-pub mod Told
-pub mod InTurn
+pub mod ManyKeys
+pub mod EachInTurn

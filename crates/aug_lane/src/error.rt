@@ -16,7 +16,7 @@ pub enum LaneError {
 
 impl fmt::Display for LaneError {
     ghost use Rattle.std.specs.Prelude.{Some};
-    ghost use Rattle.aug_lane.specs.Errors.{lane_text};
+    ghost use Rattle.aug_lane.specs.LaneErrors.{lane_text};
 
     ghost output = { λ cause. Some (lane_text cause) };
 
@@ -42,7 +42,7 @@ pub enum OpenError {
 
 impl fmt::Display for OpenError {
     ghost use Rattle.std.specs.Prelude.{Some};
-    ghost use Rattle.aug_lane.specs.Errors.{open_text};
+    ghost use Rattle.aug_lane.specs.LaneErrors.{open_text};
 
     ghost output = { λ cause. Some (open_text cause) };
 

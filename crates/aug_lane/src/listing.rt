@@ -5,7 +5,7 @@ ghost use Rattle.aug_model.specs.Folds.{summary_of};
 ghost use Rattle.aug_model.specs.Keys.{list_of};
 ghost use Rattle.aug_trie.specs.Snapshot.{set_at};
 ghost use Rattle.aug_trie.specs.Node.{Reads};
-ghost use Rattle.aug_lane.specs.Told.{from_of};
+ghost use Rattle.aug_lane.specs.ManyKeys.{from_of};
 
 use crate::lane::Lane;
 use aug_monoid::Monoid;

@@ -5,7 +5,7 @@ ghost use Rattle.aug_model.specs.Keys.{is_member, list_of};
 ghost use Rattle.aug_model.specs.Queries.{rank_of};
 ghost use Rattle.aug_trie.specs.Snapshot.{set_at};
 ghost use Rattle.aug_trie.specs.Node.{Reads};
-ghost use Rattle.aug_lane.specs.Told.{bit_of};
+ghost use Rattle.aug_lane.specs.ManyKeys.{bit_of};
 
 use crate::lane::Lane;
 use aug_monoid::Monoid;

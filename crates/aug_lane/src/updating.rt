@@ -2,7 +2,7 @@
 ghost use Rattle.std.specs.Prelude.{◌≡◌, ◌↔◌, ◌+◌, ◌^◌, ◌<◌, ◌≤◌, length, All, true, Some, None, IfOk, IfErr, IsErrOf};
 ghost use Rattle.aug_model.specs.Folds.{summary_of};
 ghost use Rattle.aug_trie.specs.declared.updates.request.Request.TheVariants as request;
-ghost use Rattle.aug_lane.specs.InTurn.{change_by, OneUpdate, Inserts, Removes, Puts};
+ghost use Rattle.aug_lane.specs.EachInTurn.{change_by, OneUpdate, Inserts, Removes, Puts};
 
 use crate::error::LaneError;
 use crate::lane::Lane;

@@ -7,8 +7,8 @@ use Rattle.aug_trie.specs.Pass.{PassFacts}
 use Rattle.aug_trie.specs.Node.{Reads}
 use Rattle.aug_trie.specs.Snapshot.{HasSnapshot}
 use Rattle.aug_trie.specs.declared.queries.snapshot.Snapshot.{Snapshot}
-use Rattle.aug_live.specs.Handles.{LookFacts, IsAsked}
-use Rattle.aug_live.specs.inside.Lanes.{OutFacts, half_of}
+use Rattle.aug_live.specs.LiveHandles.{LookFacts, IsAsked}
+use Rattle.aug_live.specs.inside.LaneKnowledge.{OutFacts, half_of}
 use Rattle.aug_live.specs.inside.Looks.{HoldsLook}
 
 -- the pass that a look has is that of its round, and has its snapshot

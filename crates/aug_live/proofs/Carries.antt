@@ -9,7 +9,7 @@ use Rattle.aug_trie.specs.Pass.{PassFacts}
 use Rattle.aug_trie.specs.Round.{RoundFacts}
 use Rattle.aug_trie.proofs.Pieces.{begins_on}
 use Rattle.aug_live.specs.Carrying.{RoundsLead, Carried}
-use Rattle.aug_live.specs.Handles.{HandleFacts, Continues, Follows, Makes}
+use Rattle.aug_live.specs.LiveHandles.{HandleFacts, IsSuccessor, Follows, Makes}
 
 -- rounds that lead to a set, and rounds that lead on from it
 pub leads_on : (bits : ℕ) (rounds more : List (List Cut)) (first middle last : List (ℕ × ℕ)) → RoundsLead bits first rounds middle → RoundsLead bits middle more last → RoundsLead bits first (rounds ++ more) last
@@ -32,7 +32,7 @@ pub carried_to : (pass : PassFacts) (history : List Cut) (members : List (ℕ ×
 carried_to pass history members goes is ends = record { history = history; goes_on = goes; is_history = is; rounds = []; lead = ends }
 
 -- a pass that knows all that another did carries it where its own goes
-carried_from : (a b : PassFacts) (last : List (ℕ × ℕ)) → (b ≡ a) ⊎ Continues a b → Carried b last → Carried a last
+carried_from : (a b : PassFacts) (last : List (ℕ × ℕ)) → (b ≡ a) ⊎ IsSuccessor a b → Carried b last → Carried a last
 carried_from a b last (inl same) x = subst (λ (z : PassFacts). Carried z last) same x
 carried_from a b last (inr c) x = record {
   history = x.history;
@@ -43,13 +43,13 @@ carried_from a b last (inr c) x = record {
 }
 
 -- the round of such a pass
-same_round : (a b : PassFacts) → (b ≡ a) ⊎ Continues a b → b.round ≡ a.round
+same_round : (a b : PassFacts) → (b ≡ a) ⊎ IsSuccessor a b → b.round ≡ a.round
 same_round a b (inl same) = ap (λ (z : PassFacts). z.round) same
 same_round a b (inr c) = c.round
 
-continues_on : (a b c : PassFacts) → (b ≡ a) ⊎ Continues a b → (c ≡ b) ⊎ Continues b c → (c ≡ a) ⊎ Continues a c
-continues_on a b c x (inl same) = subst (λ (z : PassFacts). (z ≡ a) ⊎ Continues a z) (sym same) x
-continues_on a b c (inl same) (inr y) = inr (subst (λ (z : PassFacts). Continues z c) same y)
+continues_on : (a b c : PassFacts) → (b ≡ a) ⊎ IsSuccessor a b → (c ≡ b) ⊎ IsSuccessor b c → (c ≡ a) ⊎ IsSuccessor a c
+continues_on a b c x (inl same) = subst (λ (z : PassFacts). (z ≡ a) ⊎ IsSuccessor a z) (sym same) x
+continues_on a b c (inl same) (inr y) = inr (subst (λ (z : PassFacts). IsSuccessor z c) same y)
 continues_on a b c (inr x) (inr y) = inr (record { round = y.round ∙ x.round; goes_on = begins_on a.knows.history b.knows.history c.knows.history x.goes_on y.goes_on })
 
 pub follows_self : (h : HandleFacts) → Follows h h
@@ -59,7 +59,7 @@ follows_self h = record { not_later = omega arith; same = λ _. inl refl; carrie
 pub follows_same : (a b : HandleFacts) → b ≡ a → Follows a b
 follows_same a b same = subst (Follows a) (sym same) (follows_self a)
 
-pub follows_pass : (a b : HandleFacts) → b.era ≡ a.era → Continues a.half b.half → Follows a b
+pub follows_pass : (a b : HandleFacts) → b.era ≡ a.era → IsSuccessor a.half b.half → Follows a b
 follows_pass a b era c = record { not_later = omega arith; same = λ _. inr c; carried = λ less. absurd (omega arith); bits = ap (λ (z : RoundFacts). z.bits) c.round }
 
 pub follows_round : (a b : HandleFacts) → b.era ≡ a.era + 1 → Carried a.half b.half.round.members → b.half.round.bits ≡ a.half.round.bits → Follows a b

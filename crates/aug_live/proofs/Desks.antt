@@ -7,15 +7,15 @@ use Rattle.aug_trie.specs.Round.{RoundFacts}
 use Rattle.aug_trie.specs.Ended.{EndedFacts, set_of_ended}
 use Rattle.aug_trie.specs.Crew.{CrewFacts, BeginsRound}
 use Rattle.aug_live.specs.declared.counts.LiveCounts.{LiveCounts}
-use Rattle.aug_live.specs.Handles.{HandleFacts, IsNew}
-use Rattle.aug_live.specs.inside.Lanes.{KnownFacts}
-use Rattle.aug_live.specs.inside.Rolls.{IsOf, IsReady, IsFirst}
+use Rattle.aug_live.specs.LiveHandles.{HandleFacts, IsNew}
+use Rattle.aug_live.specs.inside.LaneKnowledge.{KnownFacts}
+use Rattle.aug_live.specs.inside.Rolls.{IsOf, HasCarried, IsFirst}
 use Rattle.aug_live.specs.inside.Desks.{IsWorking, IsResting}
 use Rattle.std.specs.List.{insert, remove}
 use Rattle.aug_live.proofs.Moving.{put_in}
 
 pub stopped : (lanes updates : ℕ) (counts new : LiveCounts) (round : RoundFacts) (crew : CrewFacts) (ports back : List KnownFacts) (count count' : ℕ) (ended : EndedFacts) (set : SetFacts)
-    → IsWorking lanes updates counts round crew ports count → All (IsReady ended.bits counts.rounds ended.members) back → count' ≡ count → ended.bits ≡ round.bits
+    → IsWorking lanes updates counts round crew ports count → All (HasCarried ended.bits counts.rounds ended.members) back → count' ≡ count → ended.bits ≡ round.bits
     → length ended.members + ended.removals ≡ length round.members + ended.inserts → length ended.members ≤ 2 ^ round.bits
     → new.rounds ≡ counts.rounds → new.opened ≡ counts.opened → new.inserts ≡ counts.inserts + ended.inserts → new.removals ≡ counts.removals + ended.removals → set ≡ set_of_ended ended
     → IsResting lanes updates new set back count'
@@ -23,7 +23,7 @@ stopped lanes updates counts new round crew ports back count count' ended set w 
     let long : length set.pairs ≡ length ended.members = ap (λ (z : SetFacts). length z.pairs) set_is in
     let set_bits : set.bits ≡ round.bits = ap (λ (z : SetFacts). z.bits) set_is ∙ bits in
     let all_out = w.all_out in let within = w.within in let some = w.counted.some in let sum = w.counted.sizes in record {
-      ready = subst (λ (z : SetFacts × ℕ). All (IsReady z.0.bits z.1 z.0.pairs) back) (λ i. (sym set_is i, sym rounds i)) ready;
+      ready = subst (λ (z : SetFacts × ℕ). All (HasCarried z.0.bits z.1 z.0.pairs) back) (λ i. (sym set_is i, sym rounds i)) ready;
       enough = omega arith;
       counted = record { some = omega arith; sizes = omega arith };
       few = subst (λ (z : ℕ × ℕ). z.0 ≤ 2 ^ z.1) (λ i. (sym long i, sym set_bits i)) few;
@@ -32,8 +32,8 @@ stopped lanes updates counts new round crew ports back count count' ended set w 
 
 -- what lies in the lanes is ready for a round over the set
 pub ready_for : (lanes updates : ℕ) (counts : LiveCounts) (set : SetFacts) (round : RoundFacts) (crew : CrewFacts) (ports : List KnownFacts) (count : ℕ)
-    → IsResting lanes updates counts set ports count → BeginsRound set.pairs set.bits lanes updates round crew → All (IsReady round.bits counts.rounds round.members) ports
-ready_for lanes updates counts set round crew ports count r b = subst (λ (z : ℕ × List (ℕ × ℕ)). All (IsReady z.0 counts.rounds z.1) ports) (λ i. let back = sym b.round_is in ((back i).bits, (back i).members)) r.ready
+    → IsResting lanes updates counts set ports count → BeginsRound set.pairs set.bits lanes updates round crew → All (HasCarried round.bits counts.rounds round.members) ports
+ready_for lanes updates counts set round crew ports count r b = subst (λ (z : ℕ × List (ℕ × ℕ)). All (HasCarried z.0 counts.rounds z.1) ports) (λ i. let back = sym b.round_is in ((back i).bits, (back i).members)) r.ready
 
 pub begun_on : (lanes updates : ℕ) (counts new : LiveCounts) (set : SetFacts) (round : RoundFacts) (first crew : CrewFacts) (old ports : List KnownFacts) (count count' : ℕ)
     → IsResting lanes updates counts set old count → BeginsRound set.pairs set.bits lanes updates round first → All (IsOf round (counts.rounds + 1)) ports → count' ≡ count

@@ -9,8 +9,8 @@ use Rattle.aug_trie.specs.Round.{RoundFacts}
 use Rattle.aug_trie.specs.Ended.{EndedFacts}
 use Rattle.aug_trie.specs.Crew.{CrewFacts, Ends}
 use Rattle.aug_trie.proofs.Pieces.{begins_on}
-use Rattle.aug_live.specs.inside.Lanes.{KnownFacts}
-use Rattle.aug_live.specs.inside.Rolls.{IsBackIn, IsReady}
+use Rattle.aug_live.specs.inside.LaneKnowledge.{KnownFacts}
+use Rattle.aug_live.specs.inside.Rolls.{IsBackIn, HasCarried}
 use Rattle.aug_live.proofs.Carries.{carried_to}
 
 module _ {A : Type 0} (P : A → Type 0) where
@@ -45,7 +45,7 @@ same_era round era era' h v e = subst (λ (z : ℕ). IsBackIn round z h v) e
 
 -- what went back to a crew is carried into the set that its round ends with
 pub all_ready : (era : ℕ) (round : RoundFacts) (crew : CrewFacts) (ended : EndedFacts) (xs : List KnownFacts) → Ends crew ended → crew.round ≡ round
-    → All (IsBackIn round era crew.knows.history) xs → All (IsReady ended.bits era ended.members) xs
+    → All (IsBackIn round era crew.knows.history) xs → All (HasCarried ended.bits era ended.members) xs
 all_ready era round crew ended xs ends same all k d low = let v = get_or xs k d in let b = all k d low in record {
   kind = b.kind;
   works = b.works;

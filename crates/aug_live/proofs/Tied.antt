@@ -6,8 +6,8 @@ use mathlib.Core.Option.{some, some-injective, some-ne-none}
 use lib.ListN.{get_elem?}
 use Rattle.atomic_table.proofs.Lists.{at_set}
 use Rattle.ruled_lock.specs.Locks.{Learns, Forks}
-use Rattle.aug_live.specs.Handles.{Follows}
-use Rattle.aug_live.specs.inside.Lanes.{LaneFacts, KnownFacts, newcomer, known_of, as_kind, Knows, Ties, turned, Worked}
+use Rattle.aug_live.specs.LiveHandles.{Follows}
+use Rattle.aug_live.specs.inside.LaneKnowledge.{LaneFacts, KnownFacts, knows_nothing, known_of, as_kind, KnowsLane, Ties, turned, Worked}
 use Rattle.aug_live.proofs.Carries.{follows_self, follows_on}
 
 -- an element of a list with one more at its end, with its place
@@ -17,26 +17,26 @@ snoc_at [] a b (suc j) e = absurd (some-ne-none b (sym e))
 snoc_at (x ∷ xs) a b zero e = inl e
 snoc_at (x ∷ xs) a b (suc j) e = ⊎_elim (λ h. inl h) (λ h. inr (ap suc h.0, h.1)) (snoc_at xs a b j e)
 
-only : (j : ℕ) (v : KnownFacts) → get_elem? (newcomer ∷ []) j ≡ some v → (j ≡ 0) × (newcomer ≡ v)
-only zero v at = (refl, some-injective newcomer v at)
+only : (j : ℕ) (v : KnownFacts) → get_elem? (knows_nothing ∷ []) j ≡ some v → (j ≡ 0) × (knows_nothing ≡ v)
+only zero v at = (refl, some-injective knows_nothing v at)
 only (suc j) v at = absurd (some-ne-none v (sym at))
 
-newcomer_knows : (lane : LaneFacts) → Knows newcomer lane
+newcomer_knows : (lane : LaneFacts) → KnowsLane knows_nothing lane
 newcomer_knows lane = record { rolls = λ _ some. absurd (omega arith); follows = λ _ some. absurd (omega arith) }
 
 -- the lane at the start, of which its first pass knows nothing
-pub opens : (lane : LaneFacts) → Ties lane (newcomer ∷ [])
+pub opens : (lane : LaneFacts) → Ties lane (knows_nothing ∷ [])
 opens lane = record {
   kinds = λ j v at. subst (λ (z : KnownFacts). z.kind ≤ 2) (only j v at).1 (omega arith);
   pairs = λ i j v w apart a b. absurd (apart ((only i v a).0 ∙ sym (only j w b).0));
-  known = λ j v at. subst (λ (z : KnownFacts). Knows z lane) (only j v at).1 (newcomer_knows lane);
+  known = λ j v at. subst (λ (z : KnownFacts). KnowsLane z lane) (only j v at).1 (newcomer_knows lane);
 }
 
-pub learns : (id : ℕ) (v : KnownFacts) → Learns Ties id v Knows
+pub learns : (id : ℕ) (v : KnownFacts) → Learns Ties id v KnowsLane
 learns id v lane views t at = t.known id v at
 
 -- the roller's view and the handle's know what the first one knew
-kind_knows : (kind : ℕ) (v : KnownFacts) (lane : LaneFacts) → v.kind ≡ 0 → Knows v lane → Knows (as_kind kind v) lane
+kind_knows : (kind : ℕ) (v : KnownFacts) (lane : LaneFacts) → v.kind ≡ 0 → KnowsLane v lane → KnowsLane (as_kind kind v) lane
 kind_knows kind v lane first k = record { rolls = λ _ some. let r = k.rolls (λ e. omega arith) some in record { era = r.era; round = r.round; works = r.works; half = r.half }; follows = λ _ some. k.follows (λ e. omega arith) some }
 
 -- the first pass becomes the roller's, and makes the handle's
@@ -52,11 +52,11 @@ forks id v first lane views t at =
           (λ h. ⊎_elim (λ k. absurd (apart ((alone i x h).0 ∙ sym (alone j y k).0))) (λ k. subst (λ (z : KnownFacts × KnownFacts). z.0.kind + z.1.kind ≡ 3) (λ n. ((alone i x h).1 n, k.1 n)) refl) (snoc_at (set views id l) r y j b))
           (λ h. ⊎_elim (λ k. subst (λ (z : KnownFacts × KnownFacts). z.0.kind + z.1.kind ≡ 3) (λ n. (h.1 n, (alone j y k).1 n)) refl) (λ k. absurd (apart (h.0 ∙ sym k.0))) (snoc_at (set views id l) r y j b))
           (snoc_at (set views id l) r x i a);
-      known = λ j w there. ⊎_elim (λ h. subst (λ (z : KnownFacts). Knows z lane) (alone j w h).1 mine) (λ h. subst (λ (z : KnownFacts). Knows z lane) h.1 theirs) (snoc_at (set views id l) r w j there);
+      known = λ j w there. ⊎_elim (λ h. subst (λ (z : KnownFacts). KnowsLane z lane) (alone j w h).1 mine) (λ h. subst (λ (z : KnownFacts). KnowsLane z lane) h.1 theirs) (snoc_at (set views id l) r w j there);
     }
 
 -- who puts a lane back knows it
-knows_own : (kind : ℕ) (lane : LaneFacts) → Knows (known_of kind lane) lane
+knows_own : (kind : ℕ) (lane : LaneFacts) → KnowsLane (known_of kind lane) lane
 knows_own kind lane = record { rolls = λ _ _. record { era = refl; round = refl; works = refl; half = λ _. refl }; follows = λ _ _. follows_self lane.at }
 
 module _ (id : ℕ) (v : KnownFacts) (old new : LaneFacts) (views : List KnownFacts) (t : Ties old views) (at : get_elem? views id ≡ some v) where
@@ -64,7 +64,7 @@ module _ (id : ℕ) (v : KnownFacts) (old new : LaneFacts) (views : List KnownFa
   Goal = (w : KnownFacts) × Ties new (set views id w) × turned v old new w
 
   -- a pass puts a lane back of which the other knows what it should
-  turns : ((j : ℕ) (x : KnownFacts) → x.kind + v.kind ≡ 3 → Knows x old → Knows x new) → Goal
+  turns : ((j : ℕ) (x : KnownFacts) → x.kind + v.kind ≡ 3 → KnowsLane x old → KnowsLane x new) → Goal
   turns others = let w : KnownFacts = known_of v.kind new in let cases = λ (j : ℕ) (x : KnownFacts) (there : get_elem? (set views id w) j ≡ some x). at_set views id j w x there in (
     w,
     record {
@@ -73,7 +73,7 @@ module _ (id : ℕ) (v : KnownFacts) (old new : LaneFacts) (views : List KnownFa
           (λ h. ⊎_elim (λ k. absurd (apart (h.0 ∙ sym k.0))) (λ k. let p = t.pairs id j v y (λ e. k.0 (sym e)) at k.1 in subst (λ (z : KnownFacts). z.kind + y.kind ≡ 3) h.1 p) (cases j y b))
           (λ h. ⊎_elim (λ k. let p = t.pairs i id x v h.0 h.1 at in subst (λ (z : KnownFacts). x.kind + z.kind ≡ 3) k.1 p) (λ k. t.pairs i j x y apart h.1 k.1) (cases j y b))
           (cases i x a);
-      known = λ j x there. ⊎_elim (λ h. subst (λ (z : KnownFacts). Knows z new) h.1 (knows_own v.kind new)) (λ h. others j x (t.pairs j id x v h.0 h.1 at) (t.known j x h.1)) (cases j x there);
+      known = λ j x there. ⊎_elim (λ h. subst (λ (z : KnownFacts). KnowsLane z new) h.1 (knows_own v.kind new)) (λ h. others j x (t.pairs j id x v h.0 h.1 at) (t.known j x h.1)) (cases j x there);
     },
     refl,
   )
@@ -100,7 +100,7 @@ module _ (id : ℕ) (v : KnownFacts) (old new : LaneFacts) (views : List KnownFa
   -- there is one pass alone, and it may put anything in
   pub first_turns : v.kind ≡ 0 → Goal
   first_turns first = let kind = λ (j : ℕ) (x : KnownFacts) (there : get_elem? views j ≡ some x). t.kinds j x there in
-      let alone = λ (j : ℕ) (x : KnownFacts) (apart : j ≢ id) (there : get_elem? views j ≡ some x). let k = t.kinds j x there in let p = t.pairs j id x v apart there at in absurd {A = Knows x new} (omega arith) in
+      let alone = λ (j : ℕ) (x : KnownFacts) (apart : j ≢ id) (there : get_elem? views j ≡ some x). let k = t.kinds j x there in let p = t.pairs j id x v apart there at in absurd {A = KnowsLane x new} (omega arith) in
       let w : KnownFacts = known_of v.kind new in let cases = λ (j : ℕ) (x : KnownFacts) (there : get_elem? (set views id w) j ≡ some x). at_set views id j w x there in (
         w,
         record {
@@ -109,7 +109,7 @@ module _ (id : ℕ) (v : KnownFacts) (old new : LaneFacts) (views : List KnownFa
               (λ h. ⊎_elim (λ k. absurd (apart (h.0 ∙ sym k.0))) (λ k. let p = t.pairs id j v y (λ e. k.0 (sym e)) at k.1 in subst (λ (z : KnownFacts). z.kind + y.kind ≡ 3) h.1 p) (cases j y b))
               (λ h. ⊎_elim (λ k. let p = t.pairs i id x v h.0 h.1 at in subst (λ (z : KnownFacts). x.kind + z.kind ≡ 3) k.1 p) (λ k. t.pairs i j x y apart h.1 k.1) (cases j y b))
               (cases i x a);
-          known = λ j x there. ⊎_elim (λ h. subst (λ (z : KnownFacts). Knows z new) h.1 (knows_own v.kind new)) (λ h. alone j x h.0 h.1) (cases j x there);
+          known = λ j x there. ⊎_elim (λ h. subst (λ (z : KnownFacts). KnowsLane z new) h.1 (knows_own v.kind new)) (λ h. alone j x h.0 h.1) (cases j x there);
         },
         refl,
       )

@@ -1,5 +1,5 @@
-pub mod Errors
+pub mod LiveErrors
 pub mod Carrying
-pub mod Handles
+pub mod LiveHandles
 pub mod Plans
 pub mod inside

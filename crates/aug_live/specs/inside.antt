@@ -1,6 +1,6 @@
 -- What no promise rests on: what private fields keep, and what private calls leave.
 pub mod Changes
 pub mod Desks
-pub mod Lanes
+pub mod LaneKnowledge
 pub mod Looks
 pub mod Rolls

@@ -1,7 +1,7 @@
 //! The ends of a lane: a pass of its lock each.
 ghost use Rattle.std.specs.Prelude.{◌≡◌, ◌<◌, IfOk};
-ghost use Rattle.aug_live.specs.Handles.{Follows};
-ghost use Rattle.aug_live.specs.inside.Lanes.{Knows, Rolls, Worked, known_of, as_kind};
+ghost use Rattle.aug_live.specs.LiveHandles.{Follows};
+ghost use Rattle.aug_live.specs.inside.LaneKnowledge.{KnowsLane, Rolls, Worked, known_of, as_kind};
 
 use crate::known::Known;
 use crate::lane::Lane;
@@ -30,7 +30,7 @@ impl<A: Monoid, B: Monoid> Model for End<A, B> {
     ghost use Rattle.std.specs.Prelude.{◌≡◌};
     ghost use Rattle.std.specs.Arc.{arc_value};
     ghost use Rattle.ruled_lock.specs.Locks.{client_of, IsFree};
-    ghost use Rattle.aug_live.specs.inside.Lanes.{KnownFacts};
+    ghost use Rattle.aug_live.specs.inside.LaneKnowledge.{KnownFacts};
 
     ghost Value = { KnownFacts };
 
@@ -50,7 +50,7 @@ impl<A: Monoid, B: Monoid> Model for Out<A, B> {
     ghost use Rattle.std.specs.Prelude.{◌≡◌, IsSome, None, [], ◌∷◌};
     ghost use Rattle.std.specs.Arc.{arc_value};
     ghost use Rattle.ruled_lock.specs.Locks.{client_of};
-    ghost use Rattle.aug_live.specs.inside.Lanes.{OutFacts, taken_by};
+    ghost use Rattle.aug_live.specs.inside.LaneKnowledge.{OutFacts, taken_by};
 
     ghost Value = { OutFacts };
 
@@ -116,7 +116,7 @@ impl<A: Monoid, B: Monoid> End<A, B> {
     pub(crate) fn take<R: Wait>(self, rt: &R) -> (Out<A, B>, Lane<A, B>)
         ensures known { result.0.known ≡ self }
         ensures taken { result.0.taken ≡ result.1 }
-        ensures knows { Knows self result.1 }
+        ensures knows { KnowsLane self result.1 }
     {
         let End { lock, mut pass } = self;
         let lane = lock.take::<Learn, R>(rt, &mut pass);

@@ -25,7 +25,7 @@ pub enum LiveError {
 
 impl fmt::Display for LiveError {
     ghost use Rattle.std.specs.Prelude.{Some};
-    ghost use Rattle.aug_live.specs.Errors.{live_text};
+    ghost use Rattle.aug_live.specs.LiveErrors.{live_text};
 
     ghost output = { λ cause. Some (live_text cause) };
 

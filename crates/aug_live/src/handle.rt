@@ -5,7 +5,7 @@ ghost use Rattle.aug_trie.specs.Knowledge.{insertion, removal};
 ghost use Rattle.aug_trie.specs.declared.updates.request.Request.TheVariants as request;
 ghost use Rattle.aug_trie.specs.Updates.{AcceptedUpdate, RefusedUpdate, ComesTo, TakesSnapshot};
 ghost use Rattle.aug_trie.specs.Snapshot.{snapshot_cut};
-ghost use Rattle.aug_live.specs.Handles.{Follows, Makes, handle_of};
+ghost use Rattle.aug_live.specs.LiveHandles.{Follows, Makes, handle_of};
 ghost use Rattle.aug_live.specs.inside.Changes.{ChangesTo};
 
 use crate::desk::Place;
@@ -41,8 +41,8 @@ pub struct Handle<A: Monoid, B: Monoid> {
 }
 
 impl<A: Monoid, B: Monoid> Model for Handle<A, B> {
-    ghost use Rattle.aug_live.specs.Handles.{HandleFacts};
-    ghost use Rattle.aug_live.specs.inside.Lanes.{handle_by};
+    ghost use Rattle.aug_live.specs.LiveHandles.{HandleFacts};
+    ghost use Rattle.aug_live.specs.inside.LaneKnowledge.{handle_by};
     ghost use Rattle.aug_live.specs.inside.Looks.{HoldsHandle};
 
     ghost Value = { HandleFacts };

@@ -13,7 +13,7 @@ pub(crate) struct Known<A: Monoid, B: Monoid> {
 }
 
 impl<A: Monoid, B: Monoid> Model for Known<A, B> {
-    ghost use Rattle.aug_live.specs.inside.Lanes.{KnownFacts};
+    ghost use Rattle.aug_live.specs.inside.LaneKnowledge.{KnownFacts};
 
     ghost Value = { KnownFacts };
 

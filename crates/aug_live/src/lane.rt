@@ -1,8 +1,8 @@
 //! What lies in a lane.
 ghost use Rattle.std.specs.Prelude.{◌≡◌, ℕ, ◌^◌, ◌<◌, IfOk, IfErr, true, false};
-ghost use Rattle.aug_live.specs.Handles.{Makes};
+ghost use Rattle.aug_live.specs.LiveHandles.{Makes};
 ghost use Rattle.aug_live.specs.inside.Changes.{ChangesTo};
-ghost use Rattle.aug_live.specs.inside.Lanes.{Worked};
+ghost use Rattle.aug_live.specs.inside.LaneKnowledge.{Worked};
 
 use crate::seen::Seen;
 use crate::update::Update;
@@ -32,7 +32,7 @@ pub(crate) enum Missed {
 impl<A: Monoid, B: Monoid> Model for Lane<A, B> {
     ghost use Rattle.std.specs.Prelude.{◌≡◌, IfSome};
     ghost use Rattle.std.specs.Option.{is_some};
-    ghost use Rattle.aug_live.specs.inside.Lanes.{LaneFacts, half_of};
+    ghost use Rattle.aug_live.specs.inside.LaneKnowledge.{LaneFacts, half_of};
 
     ghost Value = { LaneFacts };
 

@@ -3,7 +3,7 @@ ghost use Rattle.std.specs.Prelude.{◌≡◌, ◌⊎◌, ◌↔◌, ℕ, ◌+�
 ghost use Rattle.std.specs.Arc.{arc_value};
 ghost use Rattle.aug_core.specs.Layout.{IsRefused, IsLayout, IsWithin, IsOutside};
 ghost use Rattle.aug_trie.specs.Crew.{BeginsRound};
-ghost use Rattle.aug_live.specs.Handles.{IsNew};
+ghost use Rattle.aug_live.specs.LiveHandles.{IsNew};
 ghost use Rattle.aug_live.specs.Plans.{Fits, least_plan};
 ghost use Rattle.aug_live.specs.inside.Rolls.{IsOf, IsFirst};
 

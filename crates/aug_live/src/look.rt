@@ -1,6 +1,6 @@
 //! A look of a handle: a snapshot to ask.
 ghost use Rattle.std.specs.Prelude.{◌≡◌};
-ghost use Rattle.aug_live.specs.Handles.{handle_of, LooksAgain};
+ghost use Rattle.aug_live.specs.LiveHandles.{handle_of, LooksAgain};
 
 use crate::end::Out;
 use crate::handle::{Desk, Handle};
@@ -29,8 +29,8 @@ pub struct Look<A: Monoid, B: Monoid> {
 
 impl<A: Monoid, B: Monoid> Model for Look<A, B> {
     ghost use Rattle.std.specs.Arc.{arc_value};
-    ghost use Rattle.aug_live.specs.Handles.{LookFacts};
-    ghost use Rattle.aug_live.specs.inside.Lanes.{half_of};
+    ghost use Rattle.aug_live.specs.LiveHandles.{LookFacts};
+    ghost use Rattle.aug_live.specs.inside.LaneKnowledge.{half_of};
     ghost use Rattle.aug_live.specs.inside.Looks.{HoldsLook};
 
     ghost Value = { LookFacts };

@@ -4,7 +4,7 @@ ghost use Rattle.std.specs.List.Sorted.{IsNonDecreasing};
 ghost use Rattle.aug_model.specs.Folds.{summary_of};
 ghost use Rattle.aug_model.specs.Keys.{is_member, list_of};
 ghost use Rattle.aug_model.specs.Queries.{rank_of, select_of, before_of, after_of, weight_of, weighted_range_of};
-ghost use Rattle.aug_live.specs.Handles.{set_of_look, IsAsked};
+ghost use Rattle.aug_live.specs.LiveHandles.{set_of_look, IsAsked};
 
 use crate::look::Look;
 use aug_model::Summary;

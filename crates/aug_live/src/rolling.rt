@@ -6,8 +6,8 @@ ghost use Rattle.aug_core.specs.Layout.{IsLayout};
 ghost use Rattle.aug_core.specs.Places.{shape_of};
 ghost use Rattle.aug_trie.specs.Crew.{BeginsRound};
 ghost use Rattle.aug_trie.specs.History.{IsPrefix};
-ghost use Rattle.aug_live.specs.inside.Lanes.{known_of};
-ghost use Rattle.aug_live.specs.inside.Rolls.{IsOf, IsBackIn, IsReady, Starts};
+ghost use Rattle.aug_live.specs.inside.LaneKnowledge.{known_of};
+ghost use Rattle.aug_live.specs.inside.Rolls.{IsOf, IsBackIn, HasCarried, Starts};
 
 use crate::end::End;
 use crate::lane::Lane;
@@ -168,7 +168,7 @@ impl<A: Monoid, B: Monoid> End<A, B> {
         round: &Arc<Round<A, B>, Global>,
         crew: &mut Crew<A, B>,
     ) -> End<A, B>
-        requires ready { IsReady (arc_value round.now).bits era (arc_value round.now).members self }
+        requires ready { HasCarried (arc_value round.now).bits era (arc_value round.now).members self }
         requires some { 0 < era }
         requires small { era + 1 < 2 ^ 64 }
         requires together { crew.old.round ≡ arc_value round.now }
@@ -264,7 +264,7 @@ pub(crate) fn finish<R: Wait, A: Monoid, B: Monoid>(
     requires all_out { crew.handed ≡ vec_len ports + crew.back }
     requires empty { room.items ≡ [] }
     requires room { vec_len ports ≤ vec_capacity room }
-    ensures ready { All (IsReady result.0.bits era result.0.members) result.1.items }
+    ensures ready { All (HasCarried result.0.bits era result.0.members) result.1.items }
     ensures len { vec_len result.1 ≡ vec_len ports }
     ensures bits { result.0.bits ≡ (arc_value round).bits }
     ensures sizes { length result.0.members + result.0.removals ≡ length (arc_value round).members + result.0.inserts }
@@ -285,7 +285,7 @@ pub(crate) fn deal<R: Wait, A: Monoid, B: Monoid>(
     back: Vec<End<A, B>>,
     mut ports: Vec<End<A, B>>,
 ) -> Vec<End<A, B>>
-    requires ready { All (IsReady (arc_value round.now).bits era (arc_value round.now).members) back.items }
+    requires ready { All (HasCarried (arc_value round.now).bits era (arc_value round.now).members) back.items }
     requires some { 0 < era }
     requires small { era + 1 < 2 ^ 64 }
     requires together { crew.old.round ≡ arc_value round.now }

@@ -1,5 +1,5 @@
 //! The rule of a lane's lock.
-ghost use Rattle.aug_live.specs.inside.Lanes.{Knows, turned, as_kind};
+ghost use Rattle.aug_live.specs.inside.LaneKnowledge.{KnowsLane, turned, as_kind};
 
 use crate::known::Known;
 use crate::lane::Lane;
@@ -11,18 +11,18 @@ use ruled_lock::{Lesson, LockRule, Outcome};
 pub(crate) struct Tie;
 
 impl<A: Monoid, B: Monoid> LockRule<Lane<A, B>, Known<A, B>> for Tie {
-    ghost use Rattle.aug_live.specs.inside.Lanes.{Ties, newcomer};
+    ghost use Rattle.aug_live.specs.inside.LaneKnowledge.{Ties, knows_nothing};
 
     ghost holds = { Ties };
 
-    ghost first = { newcomer };
+    ghost first = { knows_nothing };
 }
 
 /// What a pass learns that takes the lane.
 pub(crate) struct Learn;
 
 impl<A: Monoid, B: Monoid> Lesson<Lane<A, B>, Known<A, B>> for Learn {
-    ghost fact = { Knows };
+    ghost fact = { KnowsLane };
 }
 
 /// What a pass knows that puts the lane back.

@@ -4,7 +4,7 @@ ghost use Rattle.aug_trie.specs.History.{IsPrefix};
 ghost use Rattle.aug_trie.specs.Pass.{GoesOn};
 ghost use Rattle.std.specs.Arc.{arc_value};
 ghost use Rattle.aug_live.specs.inside.Changes.{ChangesTo};
-ghost use Rattle.aug_live.specs.inside.Rolls.{IsFresh};
+ghost use Rattle.aug_live.specs.inside.Rolls.{IsNewPass};
 
 use crate::rolling::share;
 use crate::update::Update;
@@ -43,7 +43,7 @@ impl<A: Monoid, B: Monoid> Work<A, B> {
     ) -> Work<A, B>
         requires together { crew.old.round ≡ arc_value round.now }
         requires lane_left { crew.old.handed < (arc_value round.now).workers }
-        ensures fresh { IsFresh (arc_value round.now) result }
+        ensures fresh { IsNewPass (arc_value round.now) result }
         ensures knows { IsPrefix crew.old.knows.history result.knows.history }
         ensures round { crew.new.round ≡ crew.old.round }
         ensures handed { crew.new.handed ≡ crew.old.handed + 1 }

@@ -9,7 +9,7 @@ use Rattle.aug_trie.specs.Knowledge.{Knowledge}
 use Rattle.aug_trie.specs.Passes.{HandedBack}
 use Rattle.aug_report.specs.AllowedReport.{Lane, AnswersAll, lines_of}
 use Rattle.aug_run.specs.inside.Returns.{AreAnswered, AreInOrder, RanLanes, WentBack}
-use Rattle.aug_run.specs.inside.Rounds.{BacksAll}
+use Rattle.aug_run.specs.inside.RoundLanes.{BacksAll}
 use Rattle.aug_run.specs.inside.Workers.{RunsTo, opening_cut_of, rows_of}
 use Rattle.aug_script.specs.declared.reply.Reply.{Reply}
 use Rattle.aug_script.specs.declared.row.Row.{Row}

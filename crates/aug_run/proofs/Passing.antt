@@ -5,7 +5,7 @@ use Rattle.std.proofs.lemmas.List.{get_or_append_left}
 use Rattle.std.proofs.Math.Seq.{get_or-append_seam}
 use Rattle.std.specs.declared.thread.PromisedHandle.{PromisedHandle}
 use Rattle.aug_trie.specs.Round.{RoundFacts}
-use Rattle.aug_run.specs.inside.Threads.{Owes}
+use Rattle.aug_run.specs.inside.Owed.{Owes}
 use Rattle.aug_run.specs.inside.Workers.{IsDone}
 use Rattle.aug_script.specs.declared.row.Row.{Row}
 use Rattle.aug_run.specs.declared.lanes.start.LaneOf.{LaneOf}

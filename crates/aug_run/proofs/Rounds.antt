@@ -7,7 +7,7 @@ use Rattle.aug_core.specs.declared.view.Change.{Change}
 use Rattle.aug_trie.specs.Knowledge.{Knowledge, inserts_of, removals_of}
 use Rattle.aug_trie.specs.Tallies.{Tallies, TalliesWithLost, Weighs}
 use Rattle.aug_report.specs.AllowedReport.{AllowedReport, Lane, Opens, AnswersAll, all_accepted, lines_of}
-use Rattle.aug_run.specs.inside.Rounds.{BacksAll, Started}
+use Rattle.aug_run.specs.inside.RoundLanes.{BacksAll, Started}
 use Rattle.aug_script.specs.declared.report.Report.{Report}
 use Rattle.aug_report.proofs.Histories.{begins-same}
 use Rattle.aug_trie.proofs.Pieces.{begins_on}

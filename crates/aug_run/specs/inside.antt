@@ -1,7 +1,7 @@
 -- What no promise rests on: what private fields keep, what private calls leave, how views come of fields, and lemmas.
 pub mod FoundNumbers
 pub mod Returns
-pub mod Rounds
+pub mod RoundLanes
 pub mod Stops
-pub mod Threads
+pub mod Owed
 pub mod Workers

@@ -30,8 +30,8 @@ abbrev pub is_number : List ℕ → Bool
 is_number field = nat_le 1 (length field) && nat_le (length field) 9 && list_all is_ascii_digit field
 
 -- the number that the digits of the field at this place write, or 0 where it is no number
-abbrev pub number_at : List (List ℕ) → ℕ → ℕ
-number_at fields place = if is_number (slice_index_or fields place []) then digits_value 10 (slice_index_or fields place []) else 0
+abbrev pub number_in : List (List ℕ) → ℕ → ℕ
+number_in fields place = if is_number (slice_index_or fields place []) then digits_value 10 (slice_index_or fields place []) else 0
 
 -- the field is `*`
 abbrev pub is_star : List ℕ → Bool
@@ -109,8 +109,8 @@ item_written (item.Grow bits) = (codes "grow", bits ∷ [])
 -- the items that a record with this number may be read as: behind `*` the end of a round and new bits, and else the rows of its lane
 abbrev pub items_with : ℕ → List (List ℕ) → List Item
 items_with number fields =
-    if is_star (slice_index_or fields 0 []) then item.End ∷ item.Grow (number_at fields 2) ∷ []
-    else map (λ asked. item.Row (record { row = number; lane = number_at fields 0; verb = asked })) (verbs_with (number_at fields 2) (number_at fields 3))
+    if is_star (slice_index_or fields 0 []) then item.End ∷ item.Grow (number_in fields 2) ∷ []
+    else map (λ asked. item.Row (record { row = number; lane = number_in fields 0; verb = asked })) (verbs_with (number_in fields 2) (number_in fields 3))
 
 -- the item once its arguments are known, or the first fault of its bounds. For a row they are those of its lane and its arguments, and then
 -- how many updates of its lane the open round may have. Bits never fall and are at most 16, no row of the open round came before, and a

@@ -4,7 +4,7 @@ ghost use Rattle.std.specs.List.{list_all};
 ghost use Rattle.std.specs.Str.{bytes_eq};
 ghost use Rattle.csv.specs.Records.{fields_of};
 ghost use Rattle.aug_script.specs.inside.Items.{CanTake};
-ghost use Rattle.aug_script.specs.Script.{are_printable, bounded_item, is_number as is_number_field, item_of, item_written, items_with, named_item, number_at as number_at_place};
+ghost use Rattle.aug_script.specs.Script.{are_printable, bounded_item, is_number as is_number_field, item_of, item_written, items_with, named_item, number_in as number_at_place};
 ghost use Rattle.aug_script.specs.declared.item.Item.TheVariants as item;
 
 use crate::field::{is_lane, is_number, is_printable, is_star, number};
@@ -44,7 +44,7 @@ fn are_arguments_numbers(fields: &ByteRecord) -> bool
 }
 
 /// The number that the field at a place writes, or 0 where it is none.
-fn number_at(fields: &ByteRecord, place: usize) -> u32
+fn number_in(fields: &ByteRecord, place: usize) -> u32
     ensures { result ≡ number_at_place (fields_of fields.now) place }
 {
     if is_number(field(fields, place)) {
@@ -59,16 +59,16 @@ fn named(row_number: u64, fields: &ByteRecord) -> Option<Item>
     ensures { result ≡ find (λ next. bytes_eq (slice_index_or (fields_of fields.now) 1 []) (item_written next).0) (items_with row_number (fields_of fields.now)) }
 {
     let word = field(fields, 1);
-    let first = number_at(fields, 2);
+    let first = number_in(fields, 2);
     if is_star(field(fields, 0)) {
         Item::starred(word, first)
     } else {
         Item::in_lane(
             row_number,
-            number_at(fields, 0),
+            number_in(fields, 0),
             word,
             first,
-            number_at(fields, 3),
+            number_in(fields, 3),
         )
     }
 }

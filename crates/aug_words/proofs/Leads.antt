@@ -8,7 +8,7 @@ use Rattle.aug_core.specs.Places.{word_count}
 use Rattle.aug_core.specs.Book.{Continues, IsNewest, GoesOnFromBoth}
 use Rattle.aug_core.specs.Kinds.{take_lane}
 use Rattle.aug_core.specs.Rule.{newcomer, no_beginning}
-use Rattle.aug_core.specs.Told.{LoadsNode, handing_out, handed_out, taking, taking_back, in_state, new_lane, own_lane_place, MayStore, MayChange}
+use Rattle.aug_core.specs.Told.{Sat, LoadsNode, handing_out, handed_out, taking, taking_back, in_state, new_lane, own_lane_place, MayStore, MayChange}
 use Rattle.aug_core.specs.declared.view.LaneState.TheVariants.{Taken}
 use Rattle.aug_core.specs.declared.view.View.{View}
 use Rattle.aug_core.proofs.PlaceLemmas.{keys-within}
@@ -27,7 +27,7 @@ use Rattle.aug_monoid.specs.Weighted.{FitsPair}
 use mathlib.Core.Option.{some}
 use lib.ListN.{get_elem?}
 use Rattle.aug_words.specs.Leads.{HandsLaneOut}
-use Rattle.aug_words.specs.inside.SeatState.{Sat, SitsAt, IsPassSeat, IsLeadSeat, IsStore}
+use Rattle.aug_words.specs.inside.SeatState.{SitsAt, IsPassSeat, IsLeadSeat, IsStore}
 use Rattle.aug_words.specs.Seats.{IsNextLane}
 
 -- a table has a word

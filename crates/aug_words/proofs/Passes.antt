@@ -9,7 +9,7 @@ use Rattle.aug_core.specs.Book.{Book, history_of}
 use Rattle.aug_core.proofs.Books.{at_below}
 use Rattle.std.proofs.Math.Nat.{mul_comm}
 use Rattle.std.proofs.lemmas.Bool.{cases_eq}
-use Rattle.aug_core.specs.Told.{old_word, new_word, made_by, with_changes, with_published, Sees, LoadsLeaf, BeginsAtLeaf, LoadsNode, TriesLeaf, TriesNode, HoldsOnly, HasSeen, Owns, MayStore, ReadsRecord, on_first, with_word, storing, beginning, own_lane}
+use Rattle.aug_core.specs.Told.{Sat, old_word, new_word, made_by, with_changes, with_published, Sees, LoadsLeaf, BeginsAtLeaf, LoadsNode, TriesLeaf, TriesNode, HoldsOnly, HasSeen, Owns, MayStore, ReadsRecord, on_first, with_word, storing, beginning, own_lane}
 use Rattle.aug_core.specs.inside.LaneStates.{HasTakenLane}
 use Rattle.aug_core.specs.Kinds.{load_leaf, try_leaf, load_node, try_node, load_record_word, store_record_word}
 use Rattle.aug_core.specs.declared.step.StepTaken.{StepTaken}
@@ -21,7 +21,7 @@ use Rattle.aug_core.specs.declared.view.View.{View}
 use Rattle.aug_core.proofs.Sizes.{record_inside}
 use Rattle.aug_core.proofs.Fits.{knows_shown, knows_same}
 use Rattle.aug_core.proofs.Stores.{alone, one_held}
-use Rattle.aug_words.specs.inside.SeatState.{Sat, SitsAt, IsPassSeat, HasReached}
+use Rattle.aug_words.specs.inside.SeatState.{SitsAt, IsPassSeat, HasReached}
 use Rattle.aug_words.specs.Seats.{MayLoad, LoadsRecordWord}
 
 -- a seat whose shape and table stayed

@@ -1,7 +1,7 @@
 -- What stands in a list that another one is emptied into.
 use Rattle.std.proofs.Common.{◌≡◌, ◌∙◌, ℕ, ◌+◌, List, [], ◌∷◌, ◌++◌, map, ap, sym, add-one}
 use Rattle.std.proofs.lemmas.List.{map-append, append_assoc}
-use Rattle.augbench.specs.Threads.{lane_of, lanes_of}
+use Rattle.augbench.specs.Threads.{seeded_lane, lanes_of}
 use Rattle.augbench.specs.declared.keys.Lane.{Lane}
 
 -- if an element goes over as what has its value, then the values and the rest stay the same list
@@ -15,6 +15,6 @@ goes_over value before after x rest left all pushed taken was =
     was
 
 -- a round's first threads, and then one more
-pub one_more_lane : (round n : ℕ) (before after : List Lane) → before ≡ lanes_of round n → after ≡ before ++ lane_of round n ∷ [] → after ≡ lanes_of round (n + 1)
+pub one_more_lane : (round n : ℕ) (before after : List Lane) → before ≡ lanes_of round n → after ≡ before ++ seeded_lane round n ∷ [] → after ≡ lanes_of round (n + 1)
 unfolding lanes_of
-one_more_lane round n before after was pushed = rw add-one (pushed ∙ ap (λ lanes. lanes ++ lane_of round n ∷ []) was)
+one_more_lane round n before after was pushed = rw add-one (pushed ∙ ap (λ lanes. lanes ++ seeded_lane round n ∷ []) was)

@@ -1,6 +1,6 @@
 //! The keys of operations.
 ghost use Rattle.std.specs.Prelude.{◌≡◌, ◌+◌, ◌*◌, ◌%◌, ◌<◌, ◌≤◌};
-ghost use Rattle.augbench.specs.Threads.{lane_of};
+ghost use Rattle.augbench.specs.Threads.{seeded_lane};
 
 use crate::operation::Operation;
 use crate::workload::{Action, BATCH, Kind, Pool};
@@ -29,7 +29,7 @@ pub(crate) struct Lane {
 impl Lane {
     /// A thread of the round with this number. No other thread of any round has its seed.
     pub(crate) fn new(round: u64, number: u32) -> Lane
-        ensures { result ≡ lane_of round number }
+        ensures { result ≡ seeded_lane round number }
     {
         Lane {
             number,

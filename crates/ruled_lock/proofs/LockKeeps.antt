@@ -9,7 +9,7 @@ use lib.ListN.{get_elem?}
 use lib.Seq.{map-set}
 use Rattle.atomic_table.specs.Table.{State, step, keeps, takes, gives, stepped, homes_after, Allows, Splits}
 use Rattle.ruled_lock.specs.declared.holding.Holding.{Holding}
-use Rattle.ruled_lock.specs.Locks.{Knows, client, IsLocked, Sat, doing, idle, tried, gave, Learns, TurnsAt, Forks}
+use Rattle.ruled_lock.specs.Locks.{KnowsValue, client, IsLocked, LockSeat, doing, idle, tried, gave, Learns, TurnsAt, Forks}
 use Rattle.atomic_table.proofs.Lists.{at_set, set_again, set_here, set_else, at_longer, at_snoc, at_map, exchanged}
 use prog.Atomic.{either}
 
@@ -35,7 +35,7 @@ module _ {T V : Type 0} (holds : T → List V → Type 0) where
   St = State (Option T) D
 
   abbrev M : Type 0
-  M = Sat T V
+  M = LockSeat T V
 
   abbrev Rule : St → Type 0
   Rule = IsLocked holds
@@ -52,16 +52,16 @@ module _ {T V : Type 0} (holds : T → List V → Type 0) where
       (λ (t : (j ≢ me) × (get_elem? vs j ≡ some d)). others j d t.0 t.1) (at_set vs me j w d e)
 
   -- where the word is 0 no seat has taken anything
-  none_taken : (value : T) (holder j n : ℕ) → n ≡ 0 → (o : Option T) → Knows n value holder j o → (n' : ℕ) (value' : T) (holder' : ℕ) → Knows n' value' holder' j o
+  none_taken : (value : T) (holder j n : ℕ) → n ≡ 0 → (o : Option T) → KnowsValue n value holder j o → (n' : ℕ) (value' : T) (holder' : ℕ) → KnowsValue n' value' holder' j o
   none_taken value holder j n z None k n' value' holder' = tt
   none_taken value holder j n z (Some t) k n' value' holder' = let p = k.0 in absurd (omega arith)
 
   -- where another seat has it, no further one has taken anything
-  others_none : (value : T) (holder j n : ℕ) → j ≢ holder → (o : Option T) → Knows n value holder j o → (n' : ℕ) (value' : T) (holder' : ℕ) → Knows n' value' holder' j o
+  others_none : (value : T) (holder j n : ℕ) → j ≢ holder → (o : Option T) → KnowsValue n value holder j o → (n' : ℕ) (value' : T) (holder' : ℕ) → KnowsValue n' value' holder' j o
   others_none value holder j n other None k n' value' holder' = tt
   others_none value holder j n other (Some t) k n' value' holder' = absurd (other k.1)
 
-  still_out : (value : T) (holder j n n' : ℕ) → 0 < n' → (o : Option T) → Knows n value holder j o → Knows n' value holder j o
+  still_out : (value : T) (holder j n n' : ℕ) → 0 < n' → (o : Option T) → KnowsValue n value holder j o → KnowsValue n' value holder j o
   still_out value holder j n n' p None k = tt
   still_out value holder j n n' p (Some t) k = (p, k.1, k.2)
 
@@ -73,8 +73,8 @@ module _ {T V : Type 0} (holds : T → List V → Type 0) where
       wide = length-set s.words 0 n ∙ wide;
       at_home = λ free. absurd (omega arith);
       held = λ _. (doing (Some r.value) v, replaced s.views id d (doing (Some r.value) v) at, refl);
-      each_seat = subst (λ (k : ℕ). (j : ℕ) (d : D) → get_elem? (set s.views id (doing (Some r.value) v)) j ≡ some d → Knows k r.value id j d.taken) (sym now)
-          (seats_stay (λ j o. Knows n r.value id j o) s.views id (doing (Some r.value) v) (p, refl, refl) (λ j d other there. none_taken r.value r.holder j (word s) z d.taken (r.each_seat j d there) n r.value id));
+      each_seat = subst (λ (k : ℕ). (j : ℕ) (d : D) → get_elem? (set s.views id (doing (Some r.value) v)) j ≡ some d → KnowsValue k r.value id j d.taken) (sym now)
+          (seats_stay (λ j o. KnowsValue n r.value id j o) s.views id (doing (Some r.value) v) (p, refl, refl) (λ j d other there. none_taken r.value r.holder j (word s) z d.taken (r.each_seat j d there) n r.value id));
       kept = same_clients r.value s.views id d (doing (Some r.value) v) at (sym e) r.kept;
     }
 
@@ -85,8 +85,8 @@ module _ {T V : Type 0} (holds : T → List V → Type 0) where
       wide = length-set s.words 0 n ∙ wide;
       at_home = λ free. absurd (omega arith);
       held = λ _. let h = r.held (omega arith) in (h.0, subst (λ (vs : List D). get_elem? vs r.holder ≡ some h.0) (sym (set_again s.views id d at)) h.1, h.2);
-      each_seat = subst (λ (k : ℕ). (j : ℕ) (e : D) → get_elem? (set s.views id d) j ≡ some e → Knows k r.value r.holder j e.taken) (sym now)
-          (seats_stay (λ j o. Knows n r.value r.holder j o) s.views id d (still_out r.value r.holder id (word s) n p d.taken (r.each_seat id d at))
+      each_seat = subst (λ (k : ℕ). (j : ℕ) (e : D) → get_elem? (set s.views id d) j ≡ some e → KnowsValue k r.value r.holder j e.taken) (sym now)
+          (seats_stay (λ j o. KnowsValue n r.value r.holder j o) s.views id d (still_out r.value r.holder id (word s) n p d.taken (r.each_seat id d at))
           (λ j e other there. still_out r.value r.holder j (word s) n p e.taken (r.each_seat j e there)));
       kept = same_clients r.value s.views id d d at refl r.kept;
     }
@@ -115,7 +115,7 @@ module _ {T V : Type 0} (holds : T → List V → Type 0) where
     pub puts : (slots id : ℕ) (me : M) (t y : T) → 0 < slots → me.0.taken ≡ Some t → me.1 ≡ (0, Some y) ∷ [] → TurnsAt holds id me.0.client t y then
         → Allows Rule slots id me 0 (λ _. 0) (gave then (step slots 0 0 0 none) me)
     unfolding in_slot
-    puts slots id me t y room took has asked s r homes at _ = let known = subst (Knows (word s) r.value r.holder id) took (r.each_seat id me.0 at) in
+    puts slots id me t y room took has asked s r homes at _ = let known = subst (KnowsValue (word s) r.value r.holder id) took (r.each_seat id me.0 at) in
         let turn = asked (map client s.views) (subst (λ (x : T). holds x (map client s.views)) (sym known.2) r.kept) (at_map client s.views id me.0 at) in
         let w : D = idle turn.0 in let wide = r.wide in let now : get_or (set s.words 0 0) 0 0 ≡ 0 = get_or-set_same s.words 0 0 0 (omega arith) in (
           w,
@@ -127,7 +127,7 @@ module _ {T V : Type 0} (holds : T → List V → Type 0) where
             wide = length-set s.words 0 0 ∙ wide;
             at_home = λ _. subst (λ (c : List (ℕ × Option T)). get_elem? (homes_after s.homes c gives) 0 ≡ some (some (Some y))) (sym has) (set_here s.homes 0 (some (Some y)) (omega arith));
             held = λ out. absurd (omega arith);
-            each_seat = seats_stay (λ j o. Knows (get_or (set s.words 0 0) 0 0) y id j o) s.views id w tt
+            each_seat = seats_stay (λ j o. KnowsValue (get_or (set s.words 0 0) 0 0) y id j o) s.views id w tt
                 (λ j d other there. others_none r.value r.holder j (word s) (λ same. other (same ∙ sym known.1)) d.taken (r.each_seat j d there) (get_or (set s.words 0 0) 0 0) y id);
             kept = subst (holds y) (sym (map-set client s.views id w)) turn.1;
           },
@@ -151,8 +151,8 @@ module _ {T V : Type 0} (holds : T → List V → Type 0) where
           ap (λ (z : D). z.taken) (some-injective d h.0 (sym at ∙ ap (λ (k : ℕ). get_elem? s.views k) (sym same) ∙ h.1)) ∙ h.2,
         ))
         (λ other. (h.0, at_longer (set s.views id w) (idle right ∷ []) r.holder h.0 (set_else s.views id r.holder w other ∙ h.1), h.2));
-    each_seat = λ j e p. ⊎_elim (seats_stay (λ j o. Knows (word s) r.value r.holder j o) s.views id w (r.each_seat id d at) (λ i x _. r.each_seat i x) j e)
-        (λ (t : idle right ≡ e). subst (λ (z : D). Knows (word s) r.value r.holder j z.taken) t tt) (at_snoc (set s.views id w) (idle right) e j p);
+    each_seat = λ j e p. ⊎_elim (seats_stay (λ j o. KnowsValue (word s) r.value r.holder j o) s.views id w (r.each_seat id d at) (λ i x _. r.each_seat i x) j e)
+        (λ (t : idle right ≡ e). subst (λ (z : D). KnowsValue (word s) r.value r.holder j z.taken) t tt) (at_snoc (set s.views id w) (idle right) e j p);
     kept = subst (holds r.value) (sym (map-append client (set s.views id w) (idle right ∷ []) ∙ ap (λ l. l ++ right ∷ []) (map-set client s.views id w)))
         (asked r.value (map client s.views) r.kept (at_map client s.views id d at));
   }

@@ -9,8 +9,8 @@ use Rattle.ruled_lock.specs.declared.holding.Holding.{Holding}
 
 module _ {T : Type 0} (word : ℕ) (value : T) (holder seat : ℕ) where
   -- what a seat has taken is the value, and it alone has it
-  abbrev pub Knows : Option T → Type 0
-  Knows taken = IfSome taken (λ t. (0 < word) × (seat ≡ holder) × (t ≡ value))
+  abbrev pub KnowsValue : Option T → Type 0
+  KnowsValue taken = IfSome taken (λ t. (0 < word) × (seat ≡ holder) × (t ≡ value))
 
 abbrev pub client : {T V : Type 0} → Holding T V → V
 client d = d.client
@@ -22,11 +22,11 @@ pub record IsLocked {T V : Type 0} (holds : T → List V → Type 0) (s : State 
   pub at_home : slice_index s.words 0 ≡ 0 → get_elem? s.homes 0 ≡ some (some (Some value))
   -- while the value is out its holder has taken it, so that no lock stays shut that nobody has shut
   pub held : 0 < slice_index s.words 0 → (d : Holding T V) × (get_elem? s.views holder ≡ some d) × (d.taken ≡ Some value)
-  pub each_seat : (j : ℕ) (d : Holding T V) → get_elem? s.views j ≡ some d → Knows (slice_index s.words 0) value holder j d.taken
+  pub each_seat : (j : ℕ) (d : Holding T V) → get_elem? s.views j ≡ some d → KnowsValue (slice_index s.words 0) value holder j d.taken
   pub kept : holds value (map client s.views)
 
-abbrev pub Sat : Type 0 → Type 0 → Type 0
-Sat T V = Me (Option T) (Holding T V)
+abbrev pub LockSeat : Type 0 → Type 0 → Type 0
+LockSeat T V = Me (Option T) (Holding T V)
 
 module _ {T V : Type 0} where
   abbrev pub doing : Option T → V → Holding T V
@@ -43,19 +43,19 @@ module _ {T V : Type 0} where
   IsSamePass p q = (q.table_id ≡ p.table_id) × (q.id ≡ p.id)
 
   -- the pass holds nothing
-  abbrev pub IsFree : Seat (Option T) (Holding T V) → Type 0
-  IsFree p = (p.me.0.taken ≡ None) × (p.me.1 ≡ [])
+  abbrev pub HoldsNothing : Seat (Option T) (Holding T V) → Type 0
+  HoldsNothing p = (p.me.0.taken ≡ None) × (p.me.1 ≡ [])
 
   -- the pass took t, and this is in the slot
   abbrev pub Holds : T → Option T → Seat (Option T) (Holding T V) → Type 0
   Holds t slot p = (p.me.0.taken ≡ Some t) × (p.me.1 ≡ (0, slot) ∷ [])
 
   -- the word was 0 and the slot was taken, or nothing changed
-  abbrev pub tried : (V → T → Type 0) → Step (Option T) → Sat T V → ℕ → Sat T V → Type 0
+  abbrev pub tried : (V → T → Type 0) → Step (Option T) → LockSeat T V → ℕ → LockSeat T V → Type 0
   tried fact st m r m' = (r ≡ 0 → (t : T) × (m' ≡ (doing (Some t) m.0.client, (0, Some t) ∷ [])) × fact m.0.client t) × (r ≢ 0 → m' ≡ m)
 
   -- the slot was given back
-  abbrev pub gave : (V → T → T → V → Type 0) → Step (Option T) → Sat T V → ℕ → Sat T V → Type 0
+  abbrev pub gave : (V → T → T → V → Type 0) → Step (Option T) → LockSeat T V → ℕ → LockSeat T V → Type 0
   gave then st m r m' = (m'.0.taken ≡ None) × (m'.1 ≡ rest m.1) × ((t y : T) → m.0.taken ≡ Some t → m.1 ≡ (0, Some y) ∷ [] → then m.0.client t y m'.0.client)
 
 -- What a caller shows.

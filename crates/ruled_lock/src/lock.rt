@@ -1,6 +1,6 @@
 //! The lock.
 ghost use Rattle.std.specs.Prelude.{◌≡◌, ◌<◌, [], ◌∷◌, IfOk, IfSome, IsSome, None, Some};
-ghost use Rattle.ruled_lock.specs.Locks.{client_of, IsSamePass, IsFree, Holds, Learns, TurnsAt, Forks};
+ghost use Rattle.ruled_lock.specs.Locks.{client_of, IsSamePass, HoldsNothing, Holds, Learns, TurnsAt, Forks};
 
 use crate::holding::Holding;
 use crate::plays::{Cut, Give, Try};
@@ -45,7 +45,7 @@ impl<T, V, P: LockRule<T, V>> RuledLock<T, V, P> {
     where
         T: Drop,
         requires rule { P.holds value (P.first ∷ []) }
-        ensures { IfOk result (λ l. (l.1.table_id ≡ l.0.table.shared.table_id) × (l.1.id ≡ 0) × IsFree l.1 × (client_of l.1 ≡ P.first)) }
+        ensures { IfOk result (λ l. (l.1.table_id ≡ l.0.table.shared.table_id) × (l.1.id ≡ 0) × HoldsNothing l.1 × (client_of l.1 ≡ P.first)) }
     {
         let mut slots = Vec::with_capacity(alloc, 1)?;
         slots.push_reserved(Some(value));
@@ -60,9 +60,9 @@ impl<T, V, P: LockRule<T, V>> RuledLock<T, V, P> {
         requires lock { pass.old.table_id ≡ self.now.table.shared.table_id }
         requires rule { Forks P.holds pass.old.id (client_of pass.old) (M.left (client_of pass.old)) (M.right (client_of pass.old)) }
         ensures same { IsSamePass pass.old pass.new }
-        ensures free { IsFree pass.old → IsFree pass.new }
+        ensures free { HoldsNothing pass.old → HoldsNothing pass.new }
         ensures left { client_of pass.new ≡ M.left (client_of pass.old) }
-        ensures new { (result.table_id ≡ pass.old.table_id) × IsFree result × (client_of result ≡ M.right (client_of pass.old)) }
+        ensures new { (result.table_id ≡ pass.old.table_id) × HoldsNothing result × (client_of result ≡ M.right (client_of pass.old)) }
     {
         self.table.shared.split_seat::<Cut<M>>(pass)
     }
@@ -71,7 +71,7 @@ impl<T, V, P: LockRule<T, V>> RuledLock<T, V, P> {
     #[inline(always)]
     pub fn take<M: Lesson<T, V>, R: Wait>(&self, rt: &R, pass: &mut Pass<T, V>) -> T
         requires lock { pass.old.table_id ≡ self.now.table.shared.table_id }
-        requires free { IsFree pass.old }
+        requires free { HoldsNothing pass.old }
         requires rule { Learns P.holds pass.old.id (client_of pass.old) M.fact }
         ensures same { IsSamePass pass.old pass.new }
         ensures view { client_of pass.new ≡ client_of pass.old }
@@ -89,7 +89,7 @@ impl<T, V, P: LockRule<T, V>> RuledLock<T, V, P> {
     #[inline(always)]
     fn acquire<M: Lesson<T, V>, R: Wait>(&self, rt: &R, pass: &mut Pass<T, V>)
         requires lock { pass.old.table_id ≡ self.now.table.shared.table_id }
-        requires free { IsFree pass.old }
+        requires free { HoldsNothing pass.old }
         requires rule { Learns P.holds pass.old.id (client_of pass.old) M.fact }
         ensures same { IsSamePass pass.old pass.new }
         ensures view { client_of pass.new ≡ client_of pass.old }
@@ -113,7 +113,7 @@ impl<T, V, P: LockRule<T, V>> RuledLock<T, V, P> {
         requires lock { pass.old.table_id ≡ self.now.table.shared.table_id }
         requires holds { (t : T) × Holds t None pass.old × TurnsAt P.holds pass.old.id (client_of pass.old) t value M.then }
         ensures same { IsSamePass pass.old pass.new }
-        ensures free { IsFree pass.new }
+        ensures free { HoldsNothing pass.new }
         ensures then { IfSome pass.old.me.0.taken (λ t. M.then (client_of pass.old) t value (client_of pass.new)) }
     {
         match self.table.shared.exchange(pass, 0, Some(value)) {

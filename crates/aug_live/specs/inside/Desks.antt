@@ -6,8 +6,8 @@ use Rattle.aug_model.specs.Keys.{SetFacts}
 use Rattle.aug_trie.specs.Round.{RoundFacts}
 use Rattle.aug_trie.specs.Crew.{CrewFacts}
 use Rattle.aug_live.specs.declared.counts.LiveCounts.{LiveCounts}
-use Rattle.aug_live.specs.inside.Lanes.{KnownFacts}
-use Rattle.aug_live.specs.inside.Rolls.{IsOf, IsReady}
+use Rattle.aug_live.specs.inside.LaneKnowledge.{KnownFacts}
+use Rattle.aug_live.specs.inside.Rolls.{IsOf, HasCarried}
 
 -- the counts of the rounds so far, at a set with so many members
 pub record AreCounts (counts : LiveCounts) (members : ℕ) : Type 0 where
@@ -28,7 +28,7 @@ pub record IsWorking (lanes updates : ℕ) (counts : LiveCounts) (round : RoundF
 
 -- a set at rest: what lay in each lane is carried into it
 pub record IsResting (lanes updates : ℕ) (counts : LiveCounts) (set : SetFacts) (ports : List KnownFacts) (count : ℕ) : Type 0 where
-  pub ready : All (IsReady set.bits counts.rounds set.pairs) ports
+  pub ready : All (HasCarried set.bits counts.rounds set.pairs) ports
   pub enough : count ≤ lanes
   pub counted : AreCounts counts (length set.pairs)
   pub few : length set.pairs ≤ 2 ^ set.bits

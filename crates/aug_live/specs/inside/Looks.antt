@@ -4,7 +4,7 @@ use Rattle.aug_trie.specs.Pass.{PassFacts}
 use Rattle.aug_trie.specs.Round.{RoundFacts}
 use Rattle.aug_trie.specs.Snapshot.{HasSnapshot}
 use Rattle.aug_trie.specs.declared.queries.snapshot.Snapshot.{Snapshot}
-use Rattle.aug_live.specs.inside.Lanes.{KnownFacts, OutFacts}
+use Rattle.aug_live.specs.inside.LaneKnowledge.{KnownFacts, OutFacts}
 
 -- the handle took a lane of this era with a pass of this round, whose snapshot it has
 pub record HoldsLook (out : OutFacts) (era : ℕ) (round : RoundFacts) (half : Option PassFacts) (snapshot : Snapshot) (bits : ℕ) : Type 0 where

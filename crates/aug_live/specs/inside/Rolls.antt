@@ -5,8 +5,8 @@ use Rattle.aug_trie.specs.History.{IsPrefix}
 use Rattle.aug_trie.specs.Pass.{PassFacts}
 use Rattle.aug_trie.specs.Round.{RoundFacts}
 use Rattle.aug_live.specs.Carrying.{Carried}
-use Rattle.aug_live.specs.Handles.{HandleFacts}
-use Rattle.aug_live.specs.inside.Lanes.{KnownFacts}
+use Rattle.aug_live.specs.LiveHandles.{HandleFacts}
+use Rattle.aug_live.specs.inside.LaneKnowledge.{KnownFacts}
 
 -- the roller knows that a pass of this round, in this era, lies in the lane
 pub record IsOf (round : RoundFacts) (era : ℕ) (v : KnownFacts) : Type 0 where
@@ -24,7 +24,7 @@ pub record IsBackIn (round : RoundFacts) (era : ℕ) (history : List Cut) (v : K
   pub known : IsPrefix v.at.half.knows.history history
 
 -- and it is carried into the set that the round ended with
-pub record IsReady (bits era : ℕ) (members : List (ℕ × ℕ)) (v : KnownFacts) : Type 0 where
+pub record HasCarried (bits era : ℕ) (members : List (ℕ × ℕ)) (v : KnownFacts) : Type 0 where
   pub kind : v.kind ≡ 1
   pub works : v.works ≡ false
   pub era_is : v.at.era ≡ era
@@ -32,7 +32,7 @@ pub record IsReady (bits era : ℕ) (members : List (ℕ × ℕ)) (v : KnownFact
   pub carried : Carried v.at.half members
 
 -- what a pass begins with that its crew just handed out
-pub record IsFresh (round : RoundFacts) (pass : PassFacts) : Type 0 where
+pub record IsNewPass (round : RoundFacts) (pass : PassFacts) : Type 0 where
   pub round_is : pass.round ≡ round
   pub none_spent : pass.spent ≡ 0
   pub none_accepted : pass.knows.accepted ≡ []
@@ -41,7 +41,7 @@ pub record IsFresh (round : RoundFacts) (pass : PassFacts) : Type 0 where
 pub record Starts (round : RoundFacts) (v : KnownFacts) : Type 0 where
   pub kind : v.kind ≡ 2
   pub era_is : v.at.era ≡ 1
-  pub fresh : IsFresh round v.at.half
+  pub fresh : IsNewPass round v.at.half
 
 -- a handle's end of a lane in which a pass lies, of a round with these bits
 pub record IsHandleEnd (bits : ℕ) (v : KnownFacts) : Type 0 where
@@ -53,4 +53,4 @@ pub record IsHandleEnd (bits : ℕ) (v : KnownFacts) : Type 0 where
 -- and its handle is where that pass stands
 pub record IsFirst (round : RoundFacts) (handle : HandleFacts) : Type 0 where
   pub era_is : handle.era ≡ 1
-  pub fresh : IsFresh round handle.half
+  pub fresh : IsNewPass round handle.half

@@ -4,7 +4,7 @@ use Rattle.aug_trie.specs.Crew.{CrewFacts}
 use Rattle.aug_trie.specs.Round.{RoundFacts}
 use Rattle.aug_trie.specs.Knowledge.{Knowledge}
 use Rattle.aug_report.specs.AllowedReport.{Lane, AnswersAll, lines_of}
-use Rattle.aug_run.specs.inside.Rounds.{BacksAll, Started}
+use Rattle.aug_run.specs.inside.RoundLanes.{BacksAll, Started}
 use Rattle.aug_run.specs.inside.Workers.{RunsTo, opening_cut_of, rows_of}
 use Rattle.aug_script.specs.declared.reply.Reply.{Reply}
 use Rattle.aug_script.specs.declared.row.Row.{Row}

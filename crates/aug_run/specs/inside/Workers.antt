@@ -7,7 +7,7 @@ use Rattle.aug_trie.specs.Snapshot.{snapshot_cut}
 use Rattle.aug_trie.specs.declared.queries.snapshot.Snapshot.{Snapshot}
 use Rattle.aug_report.specs.AllowedReport.{Lane, AnswersAll}
 use Rattle.aug_script.specs.Limits.{Bounds}
-use Rattle.aug_run.specs.inside.Rounds.{WasHandedOut, Started}
+use Rattle.aug_run.specs.inside.RoundLanes.{WasHandedOut, Started}
 use Rattle.aug_script.specs.declared.reply.Reply.{Reply}
 use Rattle.aug_script.specs.declared.row.Row.{Row}
 use Rattle.aug_run.specs.declared.lanes.work.Done.{Done}

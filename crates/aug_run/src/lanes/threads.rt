@@ -1,7 +1,7 @@
 //! All lanes at the same time, each in a thread of its own.
 ghost use Rattle.std.specs.Prelude.{◌≡◌, ◌≤◌, vec_len, vec_capacity, IfOk};
 ghost use Rattle.aug_script.specs.Script.{KeepsLimits};
-ghost use Rattle.aug_run.specs.inside.Threads.{AllPromised};
+ghost use Rattle.aug_run.specs.inside.Owed.{AllPromised};
 ghost use Rattle.aug_run.specs.inside.Workers.{limits_of, AllReady, AllDone};
 
 use crate::gate::Gate;

@@ -1,21 +1,17 @@
 -- What the fields of a table, of a lead and of a pass keep.
 use Rattle.std.specs.Prelude.{◌≡◌, ℕ, ◌<◌, true, Some, List, [], length}
-use Rattle.atomic_table.specs.Table.{Me}
 use Rattle.atomic_table.specs.Seated.{TableId}
 use Rattle.aug_core.specs.Places.{Shape, lane_place, record_start, word_count}
 use Rattle.aug_core.specs.Layout.{IsLayout}
 use Rattle.aug_core.specs.Lanes.{block_size}
 use Rattle.aug_core.specs.Book.{At}
 use Rattle.aug_core.specs.Opening.{Opening}
-use Rattle.aug_core.specs.Told.{HoldsOnly, KnowsTable}
+use Rattle.aug_core.specs.Told.{Sat, HoldsOnly, KnowsTable}
 use Rattle.aug_core.specs.declared.view.Entry.{Entry}
 use Rattle.aug_core.specs.declared.view.Held.{Held}
 use Rattle.aug_core.specs.declared.view.View.{View}
 use Rattle.aug_core.specs.declared.view.LaneState.TheVariants.{Taken}
 use Rattle.aug_words.specs.Seats.{NamesRoot}
-
-abbrev pub Sat : Type 0
-Sat = Me (Unit {0}) View
 
 -- what a table's fields keep
 pub record IsStore (table : TableId) (opening : Opening) (layout : Shape) (lanes records : ℕ) : Type 0 where

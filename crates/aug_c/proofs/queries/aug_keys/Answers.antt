@@ -1,6 +1,6 @@
 use Rattle.std.proofs.Common.{rules, ◌≡◌, ◌∙◌, w64, to_z, of_z, pos, length, min}
 use Rattle.aug_model.specs.Keys.{SetFacts, list_of}
-use Rattle.aug_lane.specs.Told.{from_of}
+use Rattle.aug_lane.specs.ManyKeys.{from_of}
 use Rattle.aug_c.specs.Handles.{lane_of}
 use Rattle.aug_c.specs.LaneCalls.{Asks, shown}
 use Rattle.aug_c.proofs.Calls.{on_some}

@@ -1,5 +1,5 @@
 use Rattle.std.proofs.Common.{rules, ◌≡◌, ◌∙◌, w64, to_z, of_z}
-use Rattle.aug_lane.specs.InTurn.{Puts}
+use Rattle.aug_lane.specs.EachInTurn.{Puts}
 use Rattle.aug_c.specs.Handles.{lane_of}
 use Rattle.aug_c.specs.LaneCalls.{span_of, UpdatesAll}
 use Rattle.aug_c.proofs.Calls.{on_some}

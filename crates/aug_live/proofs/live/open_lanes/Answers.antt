@@ -1,7 +1,7 @@
 use Rattle.std.proofs.Common.{◌≡◌, ◌+◌, ◌<◌, ◌∙◌, vec_len, rules, arith}
 use Rattle.std.specs.Arc.{arc_value}
 use Rattle.std.specs.Vec.Iter.{into_iter_len}
-use Rattle.aug_live.specs.inside.Lanes.{KnownFacts}
+use Rattle.aug_live.specs.inside.LaneKnowledge.{KnownFacts}
 use Rattle.aug_live.specs.inside.Rolls.{IsOf, IsFirst}
 use Rattle.aug_live.proofs.Moving.{head_of, tail_of, one_more}
 use Rattle.aug_live.proofs.live.open_lanes.Goals as goal

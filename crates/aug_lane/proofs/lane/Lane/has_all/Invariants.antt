@@ -1,7 +1,7 @@
 use Rattle.std.proofs.Common.{◌≡◌, ◌+◌, ℕ}
 use Rattle.aug_model.specs.Folds.{summary_of}
 use Rattle.aug_model.specs.Keys.{SetFacts, is_member, list_of}
-use Rattle.aug_lane.specs.Told.{bit_of}
+use Rattle.aug_lane.specs.ManyKeys.{bit_of}
 use Rattle.aug_lane.proofs.Reading.{Asked}
 use Rattle.aug_lane.proofs.lane.Lane.has_all.Given as goal
 

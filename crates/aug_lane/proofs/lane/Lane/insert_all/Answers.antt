@@ -2,7 +2,7 @@ use Rattle.std.proofs.Common.{rules, ◌∙◌, ◌+◌, ℕ, take, get_or, refl
 use Rattle.aug_model.specs.Folds.{summary_of}
 use Rattle.aug_model.specs.declared.outcome.Outcome.{Outcome}
 use Rattle.aug_trie.specs.declared.updates.request.Request.TheVariants as request
-use Rattle.aug_lane.specs.InTurn.{OneUpdate, Inserts}
+use Rattle.aug_lane.specs.EachInTurn.{OneUpdate, Inserts}
 use Rattle.aug_lane.proofs.Turns.{updates_more}
 use Rattle.aug_lane.proofs.lane.Lane.insert_all.Goals as goal
 

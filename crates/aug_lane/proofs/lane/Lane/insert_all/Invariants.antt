@@ -1,6 +1,6 @@
 use Rattle.std.proofs.Common.{◌≡◌, ◌≤◌, take}
 use Rattle.aug_model.specs.Folds.{summary_of}
-use Rattle.aug_lane.specs.InTurn.{Inserts}
+use Rattle.aug_lane.specs.EachInTurn.{Inserts}
 use Rattle.aug_lane.proofs.lane.Lane.insert_all.Given as goal
 
 abbrev pub invariant-loop-place : goal.invariant-loop-place

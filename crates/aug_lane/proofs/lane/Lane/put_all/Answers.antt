@@ -5,7 +5,7 @@ use Rattle.aug_model.specs.Folds.{summary_of}
 use Rattle.aug_model.specs.declared.outcome.Outcome.{Outcome}
 use Rattle.aug_trie.specs.Round.{RoundFacts}
 use Rattle.aug_trie.specs.declared.updates.request.Request.TheVariants as request
-use Rattle.aug_lane.specs.InTurn.{OneUpdate, Updates}
+use Rattle.aug_lane.specs.EachInTurn.{OneUpdate, Updates}
 use Rattle.aug_lane.proofs.Turns.{updates_more, pairs_long, pair_at}
 use Rattle.aug_lane.proofs.lane.Lane.put_all.Goals as goal
 

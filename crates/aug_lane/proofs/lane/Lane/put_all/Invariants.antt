@@ -3,7 +3,7 @@ use Rattle.std.specs.List.{zip}
 use Rattle.aug_model.specs.Folds.{summary_of}
 use Rattle.aug_model.specs.declared.outcome.Outcome.{Outcome}
 use Rattle.aug_trie.specs.declared.updates.request.Request.TheVariants as request
-use Rattle.aug_lane.specs.InTurn.{OneUpdate, Updates}
+use Rattle.aug_lane.specs.EachInTurn.{OneUpdate, Updates}
 use Rattle.aug_lane.proofs.lane.Lane.put_all.Given as goal
 
 abbrev pub invariant-loop-place : goal.invariant-loop-place

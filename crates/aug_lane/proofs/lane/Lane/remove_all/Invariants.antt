@@ -1,6 +1,6 @@
 use Rattle.std.proofs.Common.{◌≡◌, ◌≤◌, take}
 use Rattle.aug_model.specs.Folds.{summary_of}
-use Rattle.aug_lane.specs.InTurn.{Removes}
+use Rattle.aug_lane.specs.EachInTurn.{Removes}
 use Rattle.aug_lane.proofs.lane.Lane.remove_all.Given as goal
 
 abbrev pub invariant-loop-place : goal.invariant-loop-place

@@ -1,5 +1,5 @@
 use Rattle.std.proofs.Common.{◌∙◌, ap}
-use Rattle.aug_live.specs.inside.Lanes.{KnownFacts}
+use Rattle.aug_live.specs.inside.LaneKnowledge.{KnownFacts}
 use Rattle.aug_live.proofs.Tied.{forks}
 use Rattle.aug_live.proofs.end.End.fork.Goals as goal
 

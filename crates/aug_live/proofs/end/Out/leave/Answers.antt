@@ -1,6 +1,6 @@
 use Rattle.std.proofs.Common.{◌∙◌, ap, sym, subst}
-use Rattle.aug_live.specs.inside.Lanes.{OutFacts, taken_by}
-use Rattle.aug_live.specs.Handles.{Follows}
+use Rattle.aug_live.specs.inside.LaneKnowledge.{OutFacts, taken_by}
+use Rattle.aug_live.specs.LiveHandles.{Follows}
 use Rattle.aug_live.proofs.Tied.{roller_leaves, what_is}
 use Rattle.aug_live.proofs.end.Out.leave.Goals as goal
 

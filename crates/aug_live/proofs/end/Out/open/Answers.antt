@@ -1,5 +1,5 @@
 use Rattle.std.proofs.Common.{◌∙◌, ap}
-use Rattle.aug_live.specs.inside.Lanes.{OutFacts, taken_by}
+use Rattle.aug_live.specs.inside.LaneKnowledge.{OutFacts, taken_by}
 use Rattle.aug_live.proofs.Tied.{first_turns, what_is}
 use Rattle.aug_live.proofs.end.Out.open.Goals as goal
 

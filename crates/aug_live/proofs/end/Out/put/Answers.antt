@@ -1,5 +1,5 @@
 use Rattle.std.proofs.Common.{◌∙◌, ap, sym, subst}
-use Rattle.aug_live.specs.inside.Lanes.{OutFacts, Worked, taken_by}
+use Rattle.aug_live.specs.inside.LaneKnowledge.{OutFacts, Worked, taken_by}
 use Rattle.aug_live.proofs.Tied.{handle_turns, what_is}
 use Rattle.aug_live.proofs.end.Out.put.Goals as goal
 

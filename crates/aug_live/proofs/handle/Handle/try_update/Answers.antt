@@ -1,6 +1,6 @@
 use Rattle.std.proofs.Common.{ap, rules}
 use Rattle.aug_live.specs.inside.Changes.{ChangesTo}
-use Rattle.aug_live.specs.inside.Lanes.{KnownFacts}
+use Rattle.aug_live.specs.inside.LaneKnowledge.{KnownFacts}
 use Rattle.aug_live.proofs.Carries.{made_on}
 use Rattle.aug_live.proofs.handle.Handle.try_update.Goals as goal
 

@@ -1,4 +1,4 @@
-use Rattle.aug_live.specs.Handles.{Follows}
+use Rattle.aug_live.specs.LiveHandles.{Follows}
 use Rattle.aug_live.proofs.handle.Handle.update.Given as goal
 
 abbrev pub invariant-loop : goal.invariant-loop

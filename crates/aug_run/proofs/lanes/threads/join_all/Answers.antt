@@ -1,5 +1,5 @@
 use Rattle.std.proofs.Common.{◌≡◌, ◌+◌, vec_len, rules, arith}
-use Rattle.aug_run.specs.inside.Threads.{Owes}
+use Rattle.aug_run.specs.inside.Owed.{Owes}
 use Rattle.aug_run.specs.inside.Workers.{IsDone}
 use Rattle.aug_run.proofs.Passing.{head_of, tail_of, push_one, owed}
 use Rattle.aug_run.proofs.lanes.threads.join_all.Goals as goal

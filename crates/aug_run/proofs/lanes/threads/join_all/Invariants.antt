@@ -1,6 +1,6 @@
 use Rattle.std.specs.Prelude.{◌≡◌, ℕ, ◌+◌, ◌<◌, ◌≤◌, get_or, vec_items, vec_len, vec_capacity}
 use Rattle.std.specs.Vec.Iter.{into_iter_items, into_iter_len}
-use Rattle.aug_run.specs.inside.Threads.{Owes}
+use Rattle.aug_run.specs.inside.Owed.{Owes}
 use Rattle.aug_run.specs.inside.Workers.{IsDone}
 use Rattle.aug_run.proofs.lanes.threads.join_all.Given as goal
 

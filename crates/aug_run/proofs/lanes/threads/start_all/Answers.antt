@@ -1,5 +1,5 @@
 use Rattle.std.proofs.Common.{◌≡◌, ℕ, ◌+◌, ◌∙◌, vec_len, rules, arith, subst, sym}
-use Rattle.aug_run.specs.inside.Threads.{Owes}
+use Rattle.aug_run.specs.inside.Owed.{Owes}
 use Rattle.aug_run.specs.inside.Workers.{MayBegin}
 use Rattle.aug_run.proofs.Passing.{head_of, tail_of, push_one}
 use Rattle.aug_run.proofs.lanes.threads.start_all.Goals as goal

@@ -1,6 +1,6 @@
 use Rattle.std.proofs.Common.{◌≡◌, ◌∙◌}
 use Rattle.std.proofs.lemmas.List.Elements.{All-rest, All-same, All-weaker}
-use Rattle.aug_live.specs.Handles.{HandleFacts, IsNew}
+use Rattle.aug_live.specs.LiveHandles.{HandleFacts, IsNew}
 use Rattle.augbench.proofs.live_round.Rolling.open.Goals as goal
 
 -- the handles of a set of 16 bits have keys of 16 bits

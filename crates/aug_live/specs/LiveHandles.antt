@@ -16,7 +16,7 @@ pub record HandleFacts : Type 0 where
   pub half : PassFacts
 
 -- from a pass to a later one of its round, on a spare lane: it knows all that the first one knew
-pub record Continues (old new : PassFacts) : Type 0 where
+pub record IsSuccessor (old new : PassFacts) : Type 0 where
   pub round : new.round ≡ old.round
   pub goes_on : IsPrefix old.knows.history new.knows.history
 
@@ -24,7 +24,7 @@ pub record Continues (old new : PassFacts) : Type 0 where
 -- that the handle knew
 pub record Follows (old new : HandleFacts) : Type 0 where
   pub not_later : old.era ≤ new.era
-  pub same : old.era ≡ new.era → (new.half ≡ old.half) ⊎ Continues old.half new.half
+  pub same : old.era ≡ new.era → (new.half ≡ old.half) ⊎ IsSuccessor old.half new.half
   pub carried : old.era < new.era → Carried old.half new.half.round.members
   pub bits : new.half.round.bits ≡ old.half.round.bits
 

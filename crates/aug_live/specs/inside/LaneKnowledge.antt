@@ -3,7 +3,7 @@ use Rattle.std.specs.Prelude.{◌≡◌, ◌≢◌, ℕ, ◌+◌, ◌<◌, ◌�
 use mathlib.Core.Option.{some}
 use lib.ListN.{get_elem?}
 use Rattle.aug_trie.specs.Pass.{PassFacts}
-use Rattle.aug_live.specs.Handles.{HandleFacts, Follows}
+use Rattle.aug_live.specs.LiveHandles.{HandleFacts, Follows}
 
 -- a pass that there is not
 abbrev pub no_half : PassFacts
@@ -42,8 +42,8 @@ pub record KnownFacts : Type 0 where
   pub at : HandleFacts
 
 -- a pass that knows nothing yet
-abbrev pub newcomer : KnownFacts
-newcomer = record { kind = 0; works = false; at = nothing_known }
+abbrev pub knows_nothing : KnownFacts
+knows_nothing = record { kind = 0; works = false; at = nothing_known }
 
 -- what a pass knows that put a lane back
 abbrev pub known_of : ℕ → LaneFacts → KnownFacts
@@ -61,14 +61,14 @@ pub record Rolls (lane : LaneFacts) (v : KnownFacts) : Type 0 where
   pub half : lane.works ≡ false → lane.at.half ≡ v.at.half
 
 -- what a pass knows of the lane that it takes: the roller its round, the handle that it follows on what it left
-pub record Knows (v : KnownFacts) (lane : LaneFacts) : Type 0 where
+pub record KnowsLane (v : KnownFacts) (lane : LaneFacts) : Type 0 where
   pub rolls : v.kind ≢ 2 → 0 < v.at.era → Rolls lane v
   pub follows : v.kind ≢ 1 → 0 < v.at.era → Follows v.at lane.at
 
 pub record Ties (lane : LaneFacts) (views : List KnownFacts) : Type 0 where
   pub kinds : (j : ℕ) (v : KnownFacts) → get_elem? views j ≡ some v → v.kind ≤ 2
   pub pairs : (i j : ℕ) (v w : KnownFacts) → i ≢ j → get_elem? views i ≡ some v → get_elem? views j ≡ some w → v.kind + w.kind ≡ 3
-  pub known : (j : ℕ) (v : KnownFacts) → get_elem? views j ≡ some v → Knows v lane
+  pub known : (j : ℕ) (v : KnownFacts) → get_elem? views j ≡ some v → KnowsLane v lane
 
 -- who puts a lane back knows it
 abbrev pub turned : KnownFacts → LaneFacts → LaneFacts → KnownFacts → Type 0

@@ -1,10 +1,11 @@
 """The functions of a source file, and which of them a change of the file gives another body."""
 
 import collections
+import difflib
 import re
 
-# A function: its name as a check prints it, as `crate::module::Type::name`; the name of its trait's or type's module or method that `rt check --only`
-# takes (nothing if a trait declares it); its own name; its signature with its contract; its body; and the numbers of its lines, from 0 on.
+# A function: its path as a check prints it, as `crate::module::Type::name`; what `rt check --only` is given for it in tools/quick (its module, if it is of an
+# impl of a trait; nothing, if a trait declares it); its own name; its signature with its contract; its body; and the numbers of its lines, from 0 on.
 Function = collections.namedtuple("Function", "path only name head body lines")
 
 FN = re.compile(r'^( *)(?:pub(?:\(\w+\))? )?(?:const |unsafe |extern "C" )*fn (\w+)(.*?)(?: \{\}$|;$|(?:^\1| )\{$(.*?)^\1\}$)', re.M | re.S)
@@ -22,10 +23,10 @@ def module_of(path):
 
 def owner_of(kind, text, module):
     """The path of what an `impl`, a `trait` or a `mod` holds: `module::Type`, or `module::TypeTrait` for an impl of a trait."""
-    text, count = text.partition("\n    where")[0].replace("->", ""), 1
+    text, count = text.replace("->", ""), 1
     while count:
         text, count = re.subn(r"<[^<>]*>", "", text)
-    of, _, type_ = text.partition(" where")[0].partition(" for ")
+    of, _, type_ = re.split(r"\bwhere\b", text)[0].partition(" for ")
     names = [it.strip().rpartition("::")[2] for it in ((type_, of) if type_ else (of,))]
     return f"{module}::{''.join(names)}" if kind != "mod" else f"{module}::{text.strip()}"
 
@@ -59,10 +60,7 @@ def with_other_bodies(path, before, after):
 
 
 def enclosing(path, before, after):
-    """The paths of the functions of a file on whose lines a change of it begins or lies."""
-    old, new = before.splitlines(), after.splitlines()
-    changed = {at for at, line in enumerate(old) if line not in new} if len(old) == len(new) else set()
-    if not changed:
-        start = next((at for at, (a, b) in enumerate(zip(old, new)) if a != b), 0)
-        changed = {start}
+    """The paths of the functions of a file in which a change of it lies."""
+    rows = difflib.SequenceMatcher(None, before.splitlines(), after.splitlines(), autojunk=False).get_opcodes()
+    changed = {at for kind, start, end, _, _ in rows if kind != "equal" for at in range(start, max(end, start + 1))}
     return {it.path for it in functions(path, before)[1] if changed.intersection(it.lines)}

@@ -198,7 +198,9 @@ class Run(Folder):
 class Quick(Folder):
     """tools/quick checks the functions that a change touched, and what names them."""
 
-    copied = ["tools/quick"]
+    copied = ["tools/quick", "tests/bodies.py"]
+
+    SCRIPTS = ["tools/layout", *(f"tests/{name}.py" for name in ("surface", "promises", "refusals", "commands", "selftest"))]
 
     SHELF = """//! A shelf.
 impl<A: Fn(u32) -> u32> Shelf<A> {
@@ -258,8 +260,8 @@ mod tests {
         for name, text in self.FILES.items():
             self.write(name, text)
             self.write(f"base/{name}", text)
-        for name in "surface.py", "promises.py", "refusals.py", "commands.py", "selftest.py":
-            self.write(f"tests/{name}", "#!/bin/sh\necho 3 passed, 0 failed\n", 0o755)
+        for name in self.SCRIPTS:
+            self.write(name, "#!/bin/sh\necho 3 passed, 0 failed\n", 0o755)
         self.write("said.rt", "fn some: proved\nonly=1 proved=1\n")
 
     def quick(self, *changes, words=(), status=0, ends=0):
@@ -272,8 +274,8 @@ mod tests {
         self.write("status.check", str(status))
         out, err, ended = self.run_script("tools/quick", *words)
         self.assertEqual((err, ended), ("", ends), out)
-        for name in "surface", "promises", "refusals", "commands", "selftest":
-            self.assertEqual(out.count(f"  tests/{name}.py: "), 1)
+        for name in self.SCRIPTS:
+            self.assertEqual(out.count(f"  {name}: "), 1)
         return self.read("called").splitlines(), out
 
     def test_text_is_not_checked(self):

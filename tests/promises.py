@@ -2,6 +2,7 @@
 """Works out which definitions the promises of the crates rest on, from the clauses of their public calls (tests/chain.py says how), and
 compares docs/definitions.md with that: its lists of modules, and which modules its parts have paragraphs of. What is in a folder
 specs/inside/ must be behind no clause, and no module outside of it may import it, but for what is opaque. What is opaque must be given by a call.
+No name of a module or a definition may stand in two crates.
 
 usage: tests/promises.py [--list | --write]
 
@@ -142,6 +143,16 @@ class Promises:
         never = sorted(f"{it.name} ({it.module} of {it.crate})" for it in marked - given if self.crates.is_opaque(it))
         return [f"{it} is opaque, and no call gives it" for it in never]
 
+    def wrong_names(self):
+        """Which names of modules or definitions stand in two crates. A module of laws names each law as the trait does whose impl it is for."""
+        where = collections.defaultdict(set)
+        for (crate, module), it in self.crates.modules.items():
+            last = module.rpartition(".")[2]
+            where["module", last].add(crate)
+            for name in it.definitions if not last.endswith("Laws") else ():
+                where["definition", name].add(crate)
+        return [f"{' and '.join(sorted(crates))} have a {kind} {name} each" for (kind, name), crates in sorted(where.items()) if len(crates) > 1]
+
     def counts(self):
         return len(self.all), len(self.crates.modules), sum(len(it.definitions) for it in self.crates.modules.values())
 
@@ -212,7 +223,8 @@ def filled(text, indent):
 def check(promises, text, least, exceptions):
     """Prints what is wrong. The exit status."""
     wrong = [f"docs/definitions.md: {it}" for it in promises.wrong_lists(text) + promises.wrong_paragraphs(text)]
-    wrong += promises.wrong_imports(exceptions) + promises.wrong_clauses() + promises.wrong_opaque() + sorted(promises.crates.unknown)
+    wrong += promises.wrong_imports(exceptions) + promises.wrong_clauses() + promises.wrong_opaque() + promises.wrong_names()
+    wrong += sorted(promises.crates.unknown)
     counts = promises.counts()
     for what, count, most in zip(("public calls and impls", "modules", "definitions"), counts, least):
         if count < most:

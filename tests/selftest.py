@@ -13,7 +13,9 @@ import subprocess
 import sys
 import unittest
 
+import bodies
 import edits
+import must_fail
 import programs
 import promises
 import refused
@@ -580,6 +582,17 @@ Modules of `one`: `Books` (without `AreSteps`).
             self.assertEqual("inside.Deep of one is inside, and size of Shelf (one) rests on its deep\n" in said, wrong, said)
         self.assertIn("there is no list of the modules with opaque definitions\n", said)
 
+    def test_name_that_stands_in_two_crates(self):
+        for kind, module, name in ("module", "Books", "steps"), ("definition", "Bindings", "IsStep"):
+            self.write("crates/two/src/lib.rt", "")
+            self.write(f"crates/two/specs/{module}.antt", f"abbrev pub {name} : Type 0\n{name} = Unit\n")
+            said, status = self.check()
+            self.assertEqual(status, 1)
+            self.assertIn(f"one and two have a {kind} {'Books' if kind == 'module' else name} each\n", said)
+            os.remove(os.path.join(self.folder, f"crates/two/specs/{module}.antt"))
+        self.write("crates/two/specs/ShelfLaws.antt", "abbrev pub IsStep : Type 0\nIsStep = Unit\n")
+        self.assertNotIn("IsStep each", self.check()[0])
+
     def test_opaque_definition_that_no_call_gives(self):
         self.assert_told("AreSteps (Books of one) is opaque, and no call gives it", self.BOOKS, "-- a step is one", "-- opaque: a step is one")
 
@@ -683,6 +696,149 @@ class Edits(InFolder):
         self.assertIn("crates.txt has no two", said.getvalue())
 
 
+class Bodies(unittest.TestCase):
+    """tests/bodies.py finds the functions that a change gives another body."""
+
+    TEXT = """struct Shelf;
+
+impl<A: Fn(u32) -> u32> Shelf<A>
+where
+    A: Copy,
+{
+    /// Takes one.
+    pub fn take(&mut self) -> u32
+        ensures { result <= 9 }
+    {
+        one()
+    }
+}
+
+impl<'r> Ordered<'r, u32> for Shelf<u32> {
+    fn first(&self) -> u32 {
+        two()
+    }
+}
+
+#[unsafe(no_mangle)]
+pub unsafe extern "C" fn shelf_take() -> u32 {
+    three()
+}
+"""
+
+    def changed(self, old, new):
+        self.assertEqual(self.TEXT.count(old), 1)
+        return bodies.with_other_bodies("crates/low/src/shelves/shelf.rt", self.TEXT, self.TEXT.replace(old, new))
+
+    def test_each_kind_of_function_has_its_path(self):
+        for old, path in ("one()", "Shelf::take"), ("two()", "ShelfOrdered::first"), ("three()", "shelf_take"):
+            self.assertEqual(self.changed(old, "other()"), {f"low::shelves::shelf::{path}"})
+
+    def test_what_changes_more_than_bodies_is_none(self):
+        for old, new in ("result <= 9", "result <= 8"), ("struct Shelf;", "struct Shelf(u32);"), ("fn first", "fn last"):
+            self.assertEqual(self.changed(old, new), set())
+
+    def test_function_that_is_added_is_not_named(self):
+        self.assertEqual(self.changed("        one()\n    }", "        other()\n    }\n\n    fn other() {\n    }"), {"low::shelves::shelf::Shelf::take"})
+
+    def test_function_around_a_change(self):
+        after = self.TEXT.replace("result <= 9", "result <= 8")
+        self.assertEqual(bodies.enclosing("crates/low/src/lib.rt", self.TEXT, after), {"low::Shelf::take"})
+
+
+class MustFail(InFolder):
+    """tests/must_fail.py tries many edits in one check, each of which a function that it changes has to refuse."""
+
+    SOURCE = "fn one() {\n    a();\n}\n\nfn two() {\n    b();\n}\n\nfn three() {\n    one();\n}\n"
+
+    # Stands in for the prover: it does not prove a function whose body says that it is wrong, nor one that calls such a function, nor any where `all` stands.
+    PROVER = """#!/usr/bin/env python3
+import re, sys
+text = open("src/lib.rt").read()
+open({ran!r}, "a").write(" ".join(it for it in sys.argv if it.startswith("low::")) + "\\n")
+if "nonsense" in text:
+    sys.exit("src/lib.rt:1:1: error: no such word")
+bodies = dict(re.findall(r"fn (\\w+)\\(\\) {{\\n(.*?)\\n}}", text, re.S))
+wrong = [it for it in bodies if "wrong" in bodies[it] or "all" in text]
+for it in bodies:
+    called = [of for of in wrong if of + "()" in bodies[it]]
+    print(f"fn low::{{it}}: " + ("not proved" if it in wrong else f"no proof: it calls `{{called[0]}}`, which is not proved" if called else "proved"))
+print("only=3 proved=1")
+"""
+
+    def run_edits(self, *edits, names=()):
+        """What it answers and says of edits, each a file with a text of it and one in its place, the checks that it made, and the edits that it tried alone."""
+        self.write("low/src/lib.rt", self.SOURCE)
+        self.write("low/specs/Full.antt", "most = 9\n")
+        files = []
+        for number, (file, old, new) in enumerate(edits):
+            files.append(self.write(f"low/must-fail/{number}.edit", f"file: {file}\nold: {old}\nnew: {new}\n"))
+        ran, alone = self.write("ran", ""), []
+
+        def tried(crate, edit, flags, kept=None):
+            alone.append(os.path.basename(edit))
+            return "definition" in open(edit).read(), "by itself"
+
+        def read(edit, folder):
+            file, old, new = (line.partition(": ")[2] for line in open(edit).read().splitlines())
+            text = open(os.path.join(folder, file)).read()
+            return ({file: text.replace(old, new)}, None) if text.count(old) == 1 else (None, "an old text stands not once")
+
+        crate = SimpleNamespace(name="low", folder=os.path.join(self.folder, "low"), words=lambda flags, keeps: flags, below=lambda: [], count=len)
+        text_of = lambda path: open(path, encoding="utf-8").read()
+        prover = self.write("rattle", self.PROVER.format(ran=ran), 0o755)
+        rtlib = SimpleNamespace(PARTS=["src", "specs"], RATTLE=prover, guarded=lambda: [], STALE=must_fail.re.compile("stale"), text_of=text_of)
+        rtlib.crates_below = lambda top: [crate]
+        in_lanes = lambda tasks: {key: call({}, 1) for key, (_, _, _, call) in tasks.items()}
+        rt = SimpleNamespace(rtlib=rtlib, edits_of=lambda crate: (files, []), read_edit=read, must_fail=tried, in_lanes=in_lanes, need=lambda crate: 0)
+        status, said = quietly(must_fail.main, list(names), rt, self.folder)
+        with open(ran, encoding="utf-8") as file:
+            return status, said, file.read().splitlines(), alone
+
+    def test_edits_of_two_functions_take_one_check(self):
+        status, said, ran, alone = self.run_edits(("src/lib.rt", "a();", "wrong();"), ("src/lib.rt", "b();", "wrong(2);"))
+        self.assertEqual((status, said.splitlines()[-1], ran, alone), (0, "2 passed, 0 failed", ["low::one low::two"], []))
+        self.assertIn("must-fail low/0.edit: refused, as it must be: fn low::one: not proved", said)
+
+    def test_edits_of_one_function_take_two_checks(self):
+        status, said, ran, alone = self.run_edits(("src/lib.rt", "a();", "wrong();"), ("src/lib.rt", "a();", "wrong(2);"))
+        self.assertEqual((status, said.splitlines()[-1], ran, alone), (0, "2 passed, 0 failed", ["low::one"] * 2, []))
+
+    def test_edit_that_is_proved_fails(self):
+        status, said, _, alone = self.run_edits(("src/lib.rt", "a();", "c();"), ("src/lib.rt", "b();", "wrong();"))
+        self.assertEqual((status, said.splitlines()[-1], alone), (1, "1 passed, 1 failed", ["0.edit"] * 2))
+        self.assertIn("FAILED: by itself", said)
+
+    def test_function_that_waits_for_another_refuses_nothing(self):
+        status, _, _, alone = self.run_edits(("src/lib.rt", "a();", "wrong();"), ("src/lib.rt", "    one();", "    one() ;"))
+        self.assertEqual((status, alone), (1, ["1.edit"] * 2))
+
+    def test_group_in_which_another_function_fails_is_not_judged(self):
+        status, _, ran, alone = self.run_edits(("src/lib.rt", "a();", "wrong(); // all"), ("src/lib.rt", "b();", "wrong();"))
+        self.assertEqual((status, ran[1:]), (1, ["low::one", "low::two"]))
+        self.assertEqual(alone, ["0.edit"] * 2)
+
+    def test_group_that_cannot_be_read_is_tried_one_by_one(self):
+        status, said, _, alone = self.run_edits(("src/lib.rt", "a();", "nonsense"), ("src/lib.rt", "b();", "wrong();"))
+        self.assertEqual((status, said.splitlines()[-1], alone), (1, "1 passed, 1 failed", ["0.edit"] * 2))
+
+    def test_wrong_definition_is_tried_alone(self):
+        status, said, ran, alone = self.run_edits(("specs/Full.antt", "most = 9", "most = 8 -- definition"))
+        self.assertEqual((status, said.splitlines()[-1], ran, alone), (0, "1 passed, 0 failed", [], ["0.edit"]))
+
+    def test_edit_that_cannot_be_applied_fails(self):
+        status, said, _, _ = self.run_edits(("src/lib.rt", "z();", "wrong();"))
+        self.assertEqual((status, said.splitlines()[-1]), (1, "0 passed, 1 failed"))
+        self.assertIn("BAD EDIT: an old text stands not once", said)
+
+    def test_no_edit_fails(self):
+        self.assertEqual(self.run_edits()[0], 1)
+
+    def test_crate_that_is_not_there(self):
+        with contextlib.redirect_stderr(io.StringIO()) as said:
+            self.assertEqual(self.run_edits(names=["two"])[0], 2)
+        self.assertIn("crates.txt has no two", said.getvalue())
+
+
 class Gate(InFolder):
     """.ci/run adds up what each of its commands counts, and tests each program as each compiler built it."""
 
@@ -696,7 +852,7 @@ class Gate(InFolder):
         entries = [it for it in os.scandir(TESTS) if it.is_file() and os.access(it.path, os.X_OK)]
         self.scripts = sorted(it.name for it in entries)
         for name in self.scripts:
-            self.write(f"tests/{name}", f'#!/bin/sh\necho "{name} $*" >>ran\necho "10 passed, 0 failed"\n', 0o755)
+            self.write(f"tests/{name}", f'#!/bin/sh\necho "{name} $*" >>{self.folder}/ran\necho "10 passed, 0 failed"\n', 0o755)
 
     def run_gate(self, said="7 passed, 0 failed", status=0, built=("augtrie", "augbench")):
         """Runs it with an rt that says so and ends so: its last line, its status, and what it ran."""
@@ -704,9 +860,10 @@ class Gate(InFolder):
             self.write(f"crates/{name}/out/{name}", "", 0o755)
         for name in built:
             self.write(f"crates/{name}/out/{name}.by-rattle", "", 0o755)
+        self.write("crates/augtrie/must-fail/one.edit", "")
         self.write("said", said + "\n")
         self.write("ran", "")
-        self.write("bin/rt", f'#!/bin/sh\necho "rt $*" >>ran\ncat said\nexit {status}\n', 0o755)
+        self.write("bin/rt", f'#!/bin/sh\necho "rt $*" $(ls -d crates/*/must-fail) >>{self.folder}/ran\ncat said\nexit {status}\n', 0o755)
         path = f"{self.folder}/bin:{os.environ['PATH']}"
         ran = subprocess.run([os.path.join(self.folder, ".ci", "run")], env={**os.environ, "PATH": path}, stdout=subprocess.PIPE, timeout=SECONDS)
         with open(os.path.join(self.folder, "ran"), encoding="utf-8") as file:
@@ -717,6 +874,11 @@ class Gate(InFolder):
         self.assertEqual(ran[0], "rt ci")
         self.assertEqual(sorted(row.split()[0] for row in ran[1:]), self.scripts)
         self.assertEqual((line, status), (f"{7 + 10 * len(self.scripts)} passed, 0 failed", 0))
+
+    def test_edits_are_there_for_the_scripts_alone(self):
+        self.write("tests/must_fail.py", f"#!/bin/sh\nls -d crates/*/must-fail/* >>{self.folder}/ran\necho 1 passed, 0 failed\n", 0o755)
+        ran = self.run_gate()[2]
+        self.assertEqual(ran[:2], ["rt ci", "crates/augtrie/must-fail/one.edit"])
 
     def test_failures_are_added_up(self):
         self.write("tests/refused.py", "#!/bin/sh\necho 3 passed, 2 failed\nexit 1\n", 0o755)

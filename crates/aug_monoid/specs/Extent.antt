@@ -1,17 +1,15 @@
 -- The least and the greatest key of two folds, together, and the word that stands for them.
 use Rattle.std.specs.Prelude.{ℕ, ◌+◌, ◌*◌, ◌/◌, ◌%◌, ◌^◌, ◌<◌, ◌≤◌, min, max, Option, Some, None, nat_le, if◌then◌else◌}
-use Rattle.aug_monoid.specs.Parts.{Parts}
+use Rattle.aug_monoid.specs.Parts.{Parts, joined_by}
 
 -- there are no bounds, or they are two keys of 32 bits and the least is no greater than the greatest
 abbrev pub IsBoundsOrNone : Option (ℕ × ℕ) → Type 0
 IsBoundsOrNone None = Unit {0}
 IsBoundsOrNone (Some b) = (b.0 ≤ b.1) × (b.0 < 2 ^ 32) × (b.1 < 2 ^ 32)
 
--- the smaller least and the greater greatest; where one side has none, the other side's
-abbrev pub spanned_by : Option (ℕ × ℕ) → Option (ℕ × ℕ) → Option (ℕ × ℕ)
-spanned_by None y = y
-spanned_by (Some x) None = Some x
-spanned_by (Some x) (Some y) = Some (min x.0 y.0, max x.1 y.1)
+-- the smaller least and the greater greatest
+abbrev pub spanned_by : ℕ × ℕ → ℕ × ℕ → ℕ × ℕ
+spanned_by x y = (min x.0 y.0, max x.1 y.1)
 
 -- the least in the upper half and the greatest in the lower; 2^32, which is the word of no bounds, for none
 abbrev pub word_of_bounds : Option (ℕ × ℕ) → ℕ
@@ -32,7 +30,7 @@ extent_parts = record {
   IsProper = IsBoundsOrNone;
   unit = None;
   of_key = λ k _. Some (k, k);
-  join = spanned_by;
+  join = joined_by spanned_by;
   to_word = word_of_bounds;
   from_word = bounds_of_word;
 }

@@ -1,9 +1,8 @@
 pub mod Count
 pub mod Extent
 pub mod Fold
-pub mod Greatest
+pub mod KeyBound
 pub mod KeyWord
-pub mod Least
 pub mod Nothing
 pub mod Parts
 pub mod Sum

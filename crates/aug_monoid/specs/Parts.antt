@@ -1,5 +1,5 @@
 -- The plain parts of a monoid over keys with weights, as one record: folds, summaries and laws take it.
-use Rattle.std.specs.Prelude.{ℕ}
+use Rattle.std.specs.Prelude.{ℕ, Option, Some, None}
 
 -- what a member carries in a fold over keys, and what becomes of it
 pub record Parts (M : Type 0) : Type 1 where
@@ -15,3 +15,9 @@ pub record Parts (M : Type 0) : Type 1 where
   pub to_word : M → ℕ
   -- the value that a word stands for
   pub from_word : ℕ → M
+
+-- the join of two values by a function; where one side has none, the other side's
+abbrev pub joined_by : {A : Type 0} → (A → A → A) → Option A → Option A → Option A
+joined_by f None y = y
+joined_by f (Some x) None = Some x
+joined_by f (Some x) (Some y) = Some (f x y)

@@ -1,7 +1,8 @@
 //! The least and the greatest of the keys, together.
 ghost use Rattle.std.specs.Prelude.{◌≡◌, ◌↔◌, ◌≤◌, IsTrue, IfSome, None, Some, refl};
-ghost use Rattle.aug_monoid.specs.Extent.{IsBoundsOrNone, extent_parts};
-ghost use Rattle.aug_monoid.specs.inside.ExtentLaws.{one_key-is_bounds, spanned_by-is_bounds, spanned_by-none_right, spanned_by-assoc, bounds_of_word-is_bounds, word_of_bounds-fits, bounds_of_word-word_of_bounds};
+ghost use Rattle.aug_monoid.specs.Extent.{IsBoundsOrNone, spanned_by, extent_parts};
+ghost use Rattle.aug_monoid.specs.inside.ExtentLaws.{one_key-is_bounds, spanned_by-is_bounds, spanned_by-assoc, bounds_of_word-is_bounds, word_of_bounds-fits, bounds_of_word-word_of_bounds};
+ghost use Rattle.aug_monoid.specs.inside.JoinedLaws.{joined_by-is_proper, joined_by-none_right, joined_by-assoc};
 
 use crate::Monoid;
 use crate::key_word::NO_KEY;
@@ -98,15 +99,15 @@ impl Monoid for Extent {
 
     ghost key_is_proper = { λ k _ is_key _. one_key-is_bounds k is_key };
 
-    ghost join_is_proper = { spanned_by-is_bounds };
+    ghost join_is_proper = { joined_by-is_proper spanned_by IsBoundsOrNone spanned_by-is_bounds };
 
     ghost of_word_is_proper = { bounds_of_word-is_bounds };
 
-    ghost associates = { λ x y z _ _ _. spanned_by-assoc x y z };
+    ghost associates = { λ x y z _ _ _. joined_by-assoc spanned_by spanned_by-assoc x y z };
 
     ghost unit_left = { λ _ _. refl };
 
-    ghost unit_right = { λ x _. spanned_by-none_right x };
+    ghost unit_right = { λ x _. joined_by-none_right spanned_by x };
 
     ghost word_fits = { word_of_bounds-fits };
 

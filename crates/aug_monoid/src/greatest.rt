@@ -1,9 +1,9 @@
 //! The greatest of the keys.
-ghost use Rattle.std.specs.Prelude.{◌≡◌, ◌↔◌, ◌^◌, ◌<◌, IsTrue, refl};
+ghost use Rattle.std.specs.Prelude.{◌≡◌, ◌↔◌, ◌^◌, ◌<◌, max, IsTrue, refl};
+ghost use Rattle.aug_monoid.specs.KeyBound.{greatest_parts};
 ghost use Rattle.aug_monoid.specs.KeyWord.{IsKeyOrNone};
-ghost use Rattle.aug_monoid.specs.Greatest.{greatest_parts};
+ghost use Rattle.aug_monoid.specs.inside.JoinedLaws.{joined_by-is_proper, joined_by-none_right, joined_by-assoc, max-is_key, max-assoc};
 ghost use Rattle.aug_monoid.specs.inside.KeyWordLaws.{key_of_word-is_key, word_of_key-fits, key_of_word-word_of_key};
-ghost use Rattle.aug_monoid.specs.inside.GreatestLaws.{greater_of-is_key, greater_of-none_right, greater_of-assoc};
 
 use crate::Monoid;
 use crate::key_word::{key_of, word_of};
@@ -46,13 +46,11 @@ impl Monoid for Greatest {
     }
 
     fn join(self, other: Greatest) -> Greatest {
-        match (self.key, other.key) {
-            (Some(mine), Some(theirs)) => Greatest {
-                key: Some(mine.max(theirs)),
-            },
-            (None, _) => other,
-            (_, None) => self,
-        }
+        let key = match (self.key, other.key) {
+            (Some(mine), Some(theirs)) => Some(mine.max(theirs)),
+            (mine, theirs) => mine.or(theirs),
+        };
+        Greatest { key }
     }
 
     fn to_word(self) -> u64 {
@@ -76,15 +74,15 @@ impl Monoid for Greatest {
 
     ghost key_is_proper = { λ _ _ is_key _. is_key };
 
-    ghost join_is_proper = { greater_of-is_key };
+    ghost join_is_proper = { joined_by-is_proper max IsKeyOrNone max-is_key };
 
     ghost of_word_is_proper = { λ w _. key_of_word-is_key w };
 
-    ghost associates = { λ x y z _ _ _. greater_of-assoc x y z };
+    ghost associates = { λ x y z _ _ _. joined_by-assoc max max-assoc x y z };
 
     ghost unit_left = { λ _ _. refl };
 
-    ghost unit_right = { λ x _. greater_of-none_right x };
+    ghost unit_right = { λ x _. joined_by-none_right max x };
 
     ghost word_fits = { word_of_key-fits };
 

@@ -1,9 +1,9 @@
 //! The least of the keys.
-ghost use Rattle.std.specs.Prelude.{◌≡◌, ◌↔◌, ◌^◌, ◌<◌, IsTrue, refl};
+ghost use Rattle.std.specs.Prelude.{◌≡◌, ◌↔◌, ◌^◌, ◌<◌, min, IsTrue, refl};
+ghost use Rattle.aug_monoid.specs.KeyBound.{least_parts};
 ghost use Rattle.aug_monoid.specs.KeyWord.{IsKeyOrNone};
-ghost use Rattle.aug_monoid.specs.Least.{least_parts};
+ghost use Rattle.aug_monoid.specs.inside.JoinedLaws.{joined_by-is_proper, joined_by-none_right, joined_by-assoc, min-is_key, min-assoc};
 ghost use Rattle.aug_monoid.specs.inside.KeyWordLaws.{key_of_word-is_key, word_of_key-fits, key_of_word-word_of_key};
-ghost use Rattle.aug_monoid.specs.inside.LeastLaws.{smaller_of-is_key, smaller_of-none_right, smaller_of-assoc};
 
 use crate::Monoid;
 use crate::key_word::{key_of, word_of};
@@ -46,13 +46,11 @@ impl Monoid for Least {
     }
 
     fn join(self, other: Least) -> Least {
-        match (self.key, other.key) {
-            (Some(mine), Some(theirs)) => Least {
-                key: Some(mine.min(theirs)),
-            },
-            (None, _) => other,
-            (_, None) => self,
-        }
+        let key = match (self.key, other.key) {
+            (Some(mine), Some(theirs)) => Some(mine.min(theirs)),
+            (mine, theirs) => mine.or(theirs),
+        };
+        Least { key }
     }
 
     fn to_word(self) -> u64 {
@@ -76,15 +74,15 @@ impl Monoid for Least {
 
     ghost key_is_proper = { λ _ _ is_key _. is_key };
 
-    ghost join_is_proper = { smaller_of-is_key };
+    ghost join_is_proper = { joined_by-is_proper min IsKeyOrNone min-is_key };
 
     ghost of_word_is_proper = { λ w _. key_of_word-is_key w };
 
-    ghost associates = { λ x y z _ _ _. smaller_of-assoc x y z };
+    ghost associates = { λ x y z _ _ _. joined_by-assoc min min-assoc x y z };
 
     ghost unit_left = { λ _ _. refl };
 
-    ghost unit_right = { λ x _. smaller_of-none_right x };
+    ghost unit_right = { λ x _. joined_by-none_right min x };
 
     ghost word_fits = { word_of_key-fits };
 

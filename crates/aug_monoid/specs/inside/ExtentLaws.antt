@@ -1,31 +1,20 @@
--- `spanned_by` keeps the laws of a monoid, and its words give back the bounds that they were made of.
-use Rattle.std.specs.Prelude.{◌≡◌, ℕ, ◌+◌, ◌*◌, ◌/◌, ◌%◌, ◌^◌, ◌<◌, ◌≤◌, min, max, Bool, true, false, Option, Some, None, nat_le, if◌then◌else◌, refl}
+-- `spanned_by` makes bounds of bounds and is associative, and words give back the bounds that they were made of.
+use Rattle.std.specs.Prelude.{◌≡◌, ℕ, ◌+◌, ◌*◌, ◌/◌, ◌%◌, ◌^◌, ◌<◌, ◌≤◌, Bool, true, false, Option, Some, None, nat_le, if◌then◌else◌, refl}
 use Rattle.std.proofs.Common.{arith, inl, inr}
 use Rattle.std.proofs.lemmas.Bool.{le-leb, leb-true}
 use Rattle.aug_monoid.specs.Extent.{IsBoundsOrNone, spanned_by, word_of_bounds, bounds_of, bounds_of_word}
 use Rattle.aug_monoid.specs.inside.HeldBounds.{held_bounds, AreHeld}
+use Rattle.aug_monoid.specs.inside.JoinedLaws.{min-assoc, max-assoc}
 
 -- one key is its own least and greatest
 pub one_key-is_bounds : (k : ℕ) → k < 2 ^ 32 → IsBoundsOrNone (Some (k, k))
 one_key-is_bounds k is_key = (omega arith, is_key, is_key)
 
-pub spanned_by-is_bounds : (x y : Option (ℕ × ℕ)) → IsBoundsOrNone x → IsBoundsOrNone y → IsBoundsOrNone (spanned_by x y)
-spanned_by-is_bounds None y _ is_bounds = is_bounds
-spanned_by-is_bounds (Some x) None is_bounds _ = is_bounds
-spanned_by-is_bounds (Some x) (Some y) x_is y_is = (omega arith, omega arith, omega arith)
+pub spanned_by-is_bounds : (x y : ℕ × ℕ) → IsBoundsOrNone (Some x) → IsBoundsOrNone (Some y) → IsBoundsOrNone (Some (spanned_by x y))
+spanned_by-is_bounds x y x_is y_is = (omega arith, omega arith, omega arith)
 
-pub spanned_by-none_right : (x : Option (ℕ × ℕ)) → spanned_by x None ≡ x
-spanned_by-none_right None = refl
-spanned_by-none_right (Some x) = refl
-
-pub spanned_by-assoc : (x y z : Option (ℕ × ℕ)) → spanned_by (spanned_by x y) z ≡ spanned_by x (spanned_by y z)
-spanned_by-assoc None y z = refl
-spanned_by-assoc (Some x) None z = refl
-spanned_by-assoc (Some x) (Some y) None = refl
-spanned_by-assoc (Some x) (Some y) (Some z) =
-    let least : min (min x.0 y.0) z.0 ≡ min x.0 (min y.0 z.0) = omega arith in
-    let greatest : max (max x.1 y.1) z.1 ≡ max x.1 (max y.1 z.1) = omega arith in
-    λ i. Some (least i, greatest i)
+pub spanned_by-assoc : (x y z : ℕ × ℕ) → spanned_by (spanned_by x y) z ≡ spanned_by x (spanned_by y z)
+spanned_by-assoc x y z = λ i. (min-assoc x.0 y.0 z.0 i, max-assoc x.1 y.1 z.1 i)
 
 -- a word gives bounds or none
 pub bounds_of_word-is_bounds : (w : ℕ) → w < 2 ^ 64 → IsBoundsOrNone (bounds_of_word w)

@@ -1,4 +1,4 @@
--- The numbers that the calls answer where they have nothing else to say: all are below 0.
+-- The numbers that the calls answer if they have no other answer: all are below 0.
 use Rattle.std.specs.Prelude.{ℤ, negsuc}
 
 -- there is no such member

@@ -86,8 +86,8 @@ pub record PutsWeight (key weight : ℕ) (old new : Lane Sum Extent) (code : ℤ
   pub makes : MakesUpdate key old new answer
   pub puts : IfOk answer (λ done. ComesTo (request.Put weight) key done old.half.knows new.half.knows)
 
--- an update for each of many keys, in turn. Why all are refused, and that they then change nothing; else they are made one after another, and so many of
--- them changed the set. The lane looks at the same snapshot as before
+-- an update for each of `keys`, in turn. The fields say when all of them are refused, and that then nothing changes. Otherwise they are made one
+-- after another, and the answer is the number of updates that changed the set. The lane keeps its snapshot
 pub record UpdatesAll (keys : List ℕ) (makes : ℕ → PassFacts → PassFacts → Type 0) (old new : Lane Sum Extent) (code : ℤ) : Type 0 where
   pub answer : Result ℕ LaneError
   pub says : code ≡ all_code answer
@@ -120,7 +120,7 @@ pub record TellsLeft (old new : Lane Sum Extent) (code : ℤ) : Type 0 where
   pub adds_up : left + old.half.spent ≡ old.half.round.updates
   pub same : new ≡ old
 
--- the bounds of some keys: 0 where there are none
+-- the bounds of some keys: 0 if there are none
 abbrev pub least_of : Option (ℕ × ℕ) → ℕ
 least_of (Some bounds) = bounds.0
 least_of None = 0
@@ -129,7 +129,7 @@ abbrev pub greatest_of : Option (ℕ × ℕ) → ℕ
 greatest_of (Some bounds) = bounds.1
 greatest_of None = 0
 
--- a range is told by a span
+-- the span has the fields of the summary of a range
 pub record IsSpan (told : Summary Sum Extent) (span : Span) : Type 0 where
   pub count : span.count ≡ told.count
   pub sum : span.sum ≡ told.a

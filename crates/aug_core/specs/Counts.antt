@@ -43,13 +43,13 @@ pub record WasMade (o : Opening) (book : Book) (c : Change) : Type 0 where
   pub reached : At book c.key c.serial entry
   pub weighs : entry.weight ≡ c.weight
 
--- each serial past the opening one that a leaf has reached stands in one view's changes, once, and no other
+-- each serial past the opening one that a leaf has reached is in the changes of exactly one view, once, and nothing else is in them
 pub record AreCounted (o : Opening) (book : Book) (views : List View) : Type 0 where
   pub all : (c : Change) → WasMade o book c → Stands views c
   pub once : (i j a b k l : ℕ) (c : Change) → StandsAt views i a k c → StandsAt views j b l c → (i ≡ j) × (a ≡ b) × (k ≡ l)
   pub none_else : (i a k : ℕ) (c : Change) → StandsAt views i a k c → WasMade o book c
 
--- how many changes each lane has: a lane has no more than twice its updates, and no serial is past the opening one and all of them
+-- how many changes each lane has: a lane has at most twice as many as its updates, and no serial is greater than the opening one plus the sum of all
 pub record AreTallied (o : Opening) (words : List ℕ) (book : Book) (views : List View) (tally : List ℕ) : Type 0 where
   pub long : length tally ≡ o.shape.workers
   pub each : (i a : ℕ) (v : View) (h : Held) → get_elem? views i ≡ some v → get_elem? v.held a ≡ some h → length h.changes ≡ slice_index tally h.lane

@@ -31,7 +31,7 @@ pub record NamesNewest (words : List ℕ) (book : Book) (q : ℕ) : Type 0 where
 abbrev pub BlockIs : Shape → List ℕ → ℕ → List ℕ → Type 0
 BlockIs s words lane block = (k : ℕ) → k < block_size s → slice_index words (block_start s lane + k) ≡ slice_index block k
 
--- what is so of a lane that a view holds
+-- what holds for a lane that a view holds
 pub record HoldsLane (s : Shape) (words : List ℕ) (book : Book) (h : Held) : Type 0 where
   -- it is one of the table's
   pub exists : h.lane < s.workers
@@ -43,17 +43,17 @@ pub record HoldsLane (s : Shape) (words : List ℕ) (book : Book) (h : Held) : T
   -- the view knows which of its records were published
   pub published : (q i : ℕ) (e : Entry) → IsInner s q → At book q i e → IsOfLane s h.lane e.number → Lists h.published e.number
 
--- what is so of each view
+-- what holds for each view
 pub record Knows (o : Opening) (words : List ℕ) (book : Book) (v : View) : Type 0 where
   -- a view of a seat that was not joined knows how the table is laid out
   pub shaped : v.live ≡ true → v.shape ≡ o.shape
   -- and which keys it opened with
   pub same_members : v.live ≡ true → v.members ≡ o.members
-  -- what it has seen is a beginning of the book
+  -- each history that it has seen is a prefix of that in the book
   pub saw : Continues book v.seen
-  -- and so is what the seat that it took in had seen
+  -- and so is each history that the seat that it took in had seen
   pub also_saw : Continues book v.also
-  -- what came after it was published when the children showed at least what it shows of them
+  -- an entry that came after what the view has seen was published when the children showed at least what the view has seen of them
   pub fresh : IsFresh o.shape book v.seen
   -- each lane that it holds is as it has it
   pub holds : (a : ℕ) (h : Held) → get_elem? v.held a ≡ some h → HoldsLane o.shape words book h
@@ -64,14 +64,14 @@ pub record Knows (o : Opening) (words : List ℕ) (book : Book) (v : View) : Typ
 pub record KeepsTree (face : ℕ → ℕ → List (ℕ × ℕ) → List ℕ) (o : Opening) (words : List ℕ) (book : Book) : Type 0 where
   -- the table has its words
   pub wide : length words ≡ word_count o.shape
-  -- the book is one, and it begins as the table was opened
+  -- `book` is a book, and it begins as the table was opened
   pub is_book : IsBook face o.shape book
   pub opened : Continues book (opening_book face o)
   -- the word of a leaf or a node is the one that names its newest entry
   pub newest : (q : ℕ) → q < place_count o.shape → NamesNewest words book q
   -- the words of a published record are those of its entry, and never change
   pub written : (q i k : ℕ) (e : Entry) → IsInner o.shape q → At book q i e → k < record_words → slice_index words (record_start o.shape e.number + k) ≡ slice_index e.words k
-  -- the words of a level's empty record are those, also where no node opens with it
+  -- the words of a level's empty record are `shared_words`, even if no node opens with it
   pub shared : (level k : ℕ) → level < o.shape.bits → k < record_words → slice_index words (record_start o.shape level + k) ≡ slice_index (shared_words face level) k
   -- the words of an own opening record that no node opens with are zeros
   pub idle : (number k : ℕ) → IsIdle o number → k < record_words → slice_index words (record_start o.shape number + k) ≡ 0
@@ -89,7 +89,7 @@ pub record KeepsLanes (o : Opening) (words : List ℕ) (book : Book) : Type 0 wh
 pub record AreApart (views : List View) : Type 0 where
   -- a lane is held once in all views
   pub one_holder : (i j a b : ℕ) (v w : View) (h g : Held) → get_elem? views i ≡ some v → get_elem? views j ≡ some w → get_elem? v.held a ≡ some h → get_elem? w.held b ≡ some g → h.lane ≡ g.lane → (i ≡ j) × (a ≡ b)
-  -- one view at most hands lanes out
+  -- at most one view hands lanes out
   pub one_lead : (i j n m : ℕ) (v w : View) → get_elem? views i ≡ some v → get_elem? views j ≡ some w → v.spare ≡ Some n → w.spare ≡ Some m → i ≡ j
   -- a lane that is held was handed out
   pub handed_out : (i j a n : ℕ) (v w : View) (h : Held) → get_elem? views i ≡ some v → get_elem? views j ≡ some w → v.spare ≡ Some n → get_elem? w.held a ≡ some h → h.lane < n
@@ -98,7 +98,7 @@ pub record AreApart (views : List View) : Type 0 where
 pub record KeepsChanges (o : Opening) (words : List ℕ) (book : Book) (views : List View) : Type 0 where
   -- each change is counted once
   pub counted : AreCounted o book views
-  -- and so many were made
+  -- and `tally` has the number of each lane's changes
   pub tally : List ℕ
   pub tallied : AreTallied o words book views tally
 

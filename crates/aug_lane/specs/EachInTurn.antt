@@ -36,7 +36,7 @@ module _ {A B : Type 0} (summary_of : List (ℕ × ℕ) → Summary A B) where
     pub keeps : Keeps summary_of old new
     pub steps : StepsOf asked key done old new
 
-  -- so many updates, one after another, of which so many changed the set
+  -- one update for each item of `asked`, one after another, and `changed` of them changed the set
   pub record Updates {X : Type 0} (does : X → Outcome → PassFacts → PassFacts → Type 0) (asked : List X) (changed : ℕ) (old new : PassFacts) : Type 0 where
     pub done : List Outcome
     pub in_turn : InTurn does asked done old new

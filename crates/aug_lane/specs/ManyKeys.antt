@@ -1,4 +1,4 @@
--- What a lane tells of many keys.
+-- What a lane answers for many keys.
 use Rattle.std.specs.Prelude.{ℕ, Bool, true, false, List, filter, nat_le}
 
 -- 1 or 0

@@ -4,13 +4,14 @@ use Rattle.aug_core.specs.Cuts.{Cut, pairs_of_cut}
 use Rattle.aug_trie.specs.History.{IsPrefix, IsHistory, last_cut}
 use Rattle.aug_trie.specs.Pass.{PassFacts}
 
--- rounds of keys of so many bits lead from one set to another: each has a history of its own, and begins with the set that the one before it ended with
+-- rounds of keys of `bits` bits lead from one set to another: each round has a history of its own, and begins with the set that the previous one
+-- ended with
 abbrev pub RoundsLead : ℕ → List (ℕ × ℕ) → List (List Cut) → List (ℕ × ℕ) → Type 0
 RoundsLead bits first [] last = last ≡ first
 RoundsLead bits first (history ∷ rest) last = IsHistory bits first history × RoundsLead bits (pairs_of_cut (last_cut history)) rest last
 
--- what a pass knew of its round is carried into a set with these members: the round's history went on from what the pass knew, and further rounds lead from its last
--- cut to the set
+-- what a pass knew of its round is carried into a set with these members: the round's history continued from what the pass knew, and further rounds
+-- lead from the last cut of this history to the set
 pub record Carried (pass : PassFacts) (members : List (ℕ × ℕ)) : Type 0 where
   pub history : List Cut
   pub goes_on : IsPrefix pass.knows.history history

@@ -10,7 +10,7 @@ use Rattle.aug_model.specs.declared.summary.Summary.{Summary}
 use Rattle.aug_trie.specs.declared.queries.snapshot.Snapshot.{Snapshot}
 use Rattle.aug_live.specs.Carrying.{Carried}
 
--- a handle: the round that it last worked in, counted from 1, and the pass of its lane as it left it
+-- a handle: the round that it last worked in, counted from 1, and the pass of its lane as the handle left it
 pub record HandleFacts : Type 0 where
   pub era : ℕ
   pub half : PassFacts
@@ -20,15 +20,15 @@ pub record IsSuccessor (old new : PassFacts) : Type 0 where
   pub round : new.round ≡ old.round
   pub goes_on : IsPrefix old.knows.history new.knows.history
 
--- from what a handle knew to where its lane stands later: in the same round with the same pass or a later one, or in a later round, into whose set all is carried
--- that the handle knew
+-- from what a handle knew to the later state of its lane: in the same round with the same pass or a later one, or in a later round, into whose set
+-- all that the handle knew is carried
 pub record Follows (old new : HandleFacts) : Type 0 where
   pub not_later : old.era ≤ new.era
   pub same : old.era ≡ new.era → (new.half ≡ old.half) ⊎ IsSuccessor old.half new.half
   pub carried : old.era < new.era → Carried old.half new.half.round.members
   pub bits : new.half.round.bits ≡ old.half.round.bits
 
--- a handle makes so many updates: rounds may roll over first, and then its pass does this
+-- a handle makes `updates` updates: rounds may roll over first, and then its pass does what `does` says
 pub record Makes (updates : ℕ) (does : PassFacts → PassFacts → Type 0) (old new : HandleFacts) : Type 0 where
   pub start : HandleFacts
   pub follows : Follows old start
@@ -67,7 +67,7 @@ pub record LooksAgain (old new : LookFacts) : Type 0 where
   pub goes_on : GoesOn 0 1 old.half new.half
 
 module _ {A B : Type 0} (summary_of : List (ℕ × ℕ) → Summary A B) where
-  -- a query of a look keeps what it shows, and makes at most so many steps
+  -- a query of a look keeps what the look shows, and makes at most `most` steps
   pub record IsAsked (most : ℕ) (old new : LookFacts) : Type 0 where
     pub same_era : new.era ≡ old.era
     pub same_snapshot : new.snapshot ≡ old.snapshot

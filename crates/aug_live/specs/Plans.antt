@@ -4,7 +4,7 @@ use Rattle.aug_core.specs.Layout.{IsLayout}
 use Rattle.aug_core.specs.Places.{shape_of, word_count}
 use Rattle.aug_live.specs.declared.plan.Plan.{Plan}
 
--- a table of this plan, for the full set of so many bits, can be laid out, and its words of 8 bytes take at most so many bytes
+-- a table of this plan, for the full set of keys of `bits` bits, can be laid out, and its words of 8 bytes take at most `memory` bytes
 pub record Fits (bits memory : ℕ) (plan : Plan) : Type 0 where
   pub laid_out : IsLayout (shape_of bits plan.lanes plan.updates (2 ^ bits))
   pub bytes : 8 * word_count (shape_of bits plan.lanes plan.updates (2 ^ bits)) ≤ memory

@@ -21,7 +21,8 @@ abbrev pub one_more_summary : Loaded → Loaded
 one_more_summary l = record l { summaries = record { made = l.summaries.made + 1 } }
 
 module _ {Tree Name : Type 0} (set_of : Tree → SetFacts) (loads_of : Tree → Loaded) (Names : Tree → ℕ → ℕ → Name → Type 0) (KeepsRest : Tree → Tree → Type 0) where
-  -- after loads of which each kind is at most so many, a tree is of the set that it was of, names of nodes are names still, and the rest is kept
+  -- a tree after at most `nodes`, `counts`, `summaries` and `passed` loads of the four kinds: it has the same set, names of nodes are still names of
+  -- them, and the rest is kept
   pub record Descends (nodes counts summaries passed : ℕ) (old new : Tree) : Type 0 where
     pub same_set : set_of new ≡ set_of old
     pub few_nodes : (loads_of new).nodes.made ≤ (loads_of old).nodes.made + nodes

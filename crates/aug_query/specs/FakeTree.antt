@@ -16,7 +16,7 @@ module _ {A B : Type 0} (summary_of : List (ℕ × ℕ) → Summary A B) where
   abbrev pub IsFakePlace : SetFacts → ℕ → ℕ → Type 0
   IsFakePlace set level place = IsNodeOf summary_of set level place (sum_of summary_of set.pairs (below_node (list_of set) level place))
 
-  -- a node of the tree of a set, which knows its key's weight where it is a leaf
+  -- a node of the tree of a set; a leaf also knows its key's weight
   pub record IsFakeNode (set : SetFacts) (level place weight : ℕ) (told : Summary A B) : Type 0 where
     pub is_node : IsNodeOf summary_of set level place told
     pub weighs : level ≡ 0 → weight ≡ weight_in set.pairs place

@@ -29,7 +29,7 @@ abbrev pub sum_of : {A B : Type 0} → (List (ℕ × ℕ) → Summary A B) → L
 sum_of summary_of pairs keys = summary_of (pairs_of (weight_in pairs) keys)
 
 module _ {A B : Type 0} (summary_of : List (ℕ × ℕ) → Summary A B) where
-  -- a node of the tree of a set stands at a level and a place of the tree, and tells the summary of the members that it covers
+  -- a node of the tree of a set stands at a level and a place of the tree, and has the summary of the members that it covers
   pub record IsNodeOf (set : SetFacts) (level place : ℕ) (told : Summary A B) : Type 0 where
     pub is_tree_set : IsTreeSet set
     pub level_fits : level ≤ set.bits
@@ -44,7 +44,7 @@ module _ {Tree Node : Type 0} (set_of : Tree → SetFacts) (calls_of : Tree → 
     pub keeps_nodes : (node : Node) → HasNode old node → HasNode new node
     pub keeps_rest : KeepsRest old new
 
-  -- the same after at most so many calls
+  -- the same after at most `calls` calls
   pub record WalksAtMost (calls : ℕ) (old new : Tree) : Type 0 where
     pub same_set : set_of new ≡ set_of old
     pub counts : calls_of old ≤ calls_of new

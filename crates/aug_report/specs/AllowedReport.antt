@@ -23,18 +23,18 @@ pub record Lane : Type 0 where
   pub knows : Knowledge
   pub held : Cut
 
--- an update is answered with one reply where it was accepted, which gives the key this weight, and with another where it was refused
+-- the reply to an update is `yes` if it was accepted, which gives the key this weight, and `no` if it was refused
 pub record AnswersUpdate (parity key weight : ℕ) (yes no answer : Reply) (old new : Lane) : Type 0 where
   pub outcome : ((answer ≡ yes) × AcceptedUpdate parity key weight old.knows new.knows) ⊎ ((answer ≡ no) × RefusedUpdate parity key old.knows new.knows)
   pub holds_still : new.held ≡ old.held
 
--- the reply to a put that came to this
+-- the reply to a put with this outcome
 abbrev pub reply_to_put : Outcome → Reply
 reply_to_put outcome.Accepted = reply.New
 reply_to_put outcome.Replaced = reply.Set
 reply_to_put outcome.Refused = reply.Lost
 
--- a put is answered with what it came to
+-- the reply to a put follows from its outcome
 pub record AnswersPut (key weight : ℕ) (answer : Reply) (old new : Lane) : Type 0 where
   pub outcome : Outcome
   pub puts : ComesTo (request.Put weight) key outcome old.knows new.knows
@@ -61,7 +61,7 @@ pub record Opens (opening : Cut) (lane : Lane) : Type 0 where
   pub no_change : lane.knows.accepted ≡ []
   pub holds_last : lane.held ≡ last_cut lane.knows.history
 
--- a lane ran its lines in a round with this history, and ended so
+-- a lane ran its lines in a round with this history, and ended as `end`
 pub record RunsLane (opening : Cut) (history : List Cut) (lines : List (Row × Reply)) (end : Lane) : Type 0 where
   pub start : Lane
   pub opens : Opens opening start
@@ -76,9 +76,8 @@ lines_of lane lines = filter (λ line. line.0.lane == lane) lines
 abbrev pub all_accepted : List Lane → List Change
 all_accepted lanes = flat_map (λ lane. lane.knows.accepted) lanes
 
--- a round with keys of so many bits that opened with one set and closed with another may have this report: there are one history and an end for each
--- lane that tell how each row came to its reply, the changes of all lanes are all that happened, and each cut of the history shows
--- the weights of these changes
+-- a round with keys of `bits` bits that opened with one set and closed with another may have this report: one history, and an end for each lane,
+-- explain how each row got its reply; the changes of all lanes are all that happened; and each cut of the history shows the weights of these changes
 pub record AllowedReport (bits workers : ℕ) (members : List (ℕ × ℕ)) (report : Report) (closing : List (ℕ × ℕ)) : Type 0 where
   pub history : List Cut
   pub is_history : IsHistory bits members history
@@ -98,7 +97,7 @@ pub record IsReportOf (number : ℕ) (rows : List Row) (report : Report) : Type 
   pub number_is : report.number ≡ number
   pub rows_are : map (λ line. line.0) report.rows ≡ rows
 
--- rounds, the first with this number, may have these reports: each opens with the set that the one before closed with, with its own bits
+-- rounds, the first with this number, may have these reports: each round opens with the set that the previous one closed with, at its own bits
 unfoldable pub AllowedReports : ℕ → ℕ → List (ℕ × ℕ) → List ScriptRound → List Report → Type 0
 AllowedReports workers number members [] [] = ⊤
 AllowedReports workers number members (round ∷ rounds) (report ∷ reports) =

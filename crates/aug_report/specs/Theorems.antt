@@ -28,7 +28,7 @@ report_with number lines size inserts removals = record { number = number; rows 
 abbrev pub two_insertions : ℕ → Reply → Reply → List (Row × Reply)
 two_insertions k first second = (row_at 1 0 (verb.Insert k), first) ∷ (row_at 2 1 (verb.Insert k), second) ∷ []
 
--- of two lanes that insert a key into the empty set, the one may have `new` and the other `old`, whichever it is
+-- if two lanes insert a key into the empty set, either of them may have `new` while the other has `old`
 abbrev pub OneOfTwoIsNew : Type 0
 OneOfTwoIsNew = (bits k : ℕ) → k < 2 ^ bits
     → AllowedReport bits 2 [] (report_with 1 (two_insertions k reply.New reply.Old) 1 1 0) ((k, k) ∷ [])
@@ -45,19 +45,19 @@ NotBothNew = NotBoth reply.New
 abbrev pub NotBothOld : Type 0
 NotBothOld = NotBoth reply.Old
 
--- where all rows are of one lane, their report is that of the rows run in turn
+-- if all rows are of one lane, their report is that of the rows run in turn
 abbrev pub HasOneReport : Type 0
 HasOneReport = (bits workers : ℕ) (members : List (ℕ × ℕ)) (report : Report) (closing : List (ℕ × ℕ)) → IsKeySet bits (keys_of members)
     → AllowedReport bits workers members report closing → IsInTurn workers report.number members (map (λ line. line.0) report.rows) report closing
 
--- where each round's rows are of one lane, their reports are those of the rows run in turn, round after round. The set that the first round begins with
+-- if each round's rows are of one lane, their reports are those of the rows run in turn, round after round. The set that the first round begins with
 -- has keys of no more bits than any round
 abbrev pub HasOneList : Type 0
 HasOneList = (bits workers number : ℕ) (members : List (ℕ × ℕ)) (rounds : List ScriptRound) (reports : List Report) → IsKeySet bits (keys_of members)
     → All (λ round. bits ≤ round.bits) rounds → NeverNarrows rounds → All (OfOneLane workers) rounds
     → AllowedReports workers number members rounds reports → reports ≡ reports_of number members rounds
 
--- so it is of the rounds that the bytes of a script read as, or of the first of them
+-- the same for the rounds that the bytes of a script read as, or for the first of them
 abbrev pub ScriptHasOneList : Type 0
 ScriptHasOneList = (limits : Bounds) (bytes : List ℕ) (rounds : List ScriptRound) (count : ℕ) (reports : List Report) → IsBounds limits
     → rounds_of limits bytes ≡ Ok rounds → All (OfOneLane limits.workers) (take count rounds)
@@ -112,7 +112,7 @@ abbrev pub NewChanges : Type 0
 NewChanges = (k bits workers number size inserts removals : ℕ) (members : List (ℕ × ℕ)) → 0 < workers → IsKeySet bits (keys_of members)
     → AllowedReport bits workers members (report_with number (insertion_line k reply.New) size inserts removals) members → ⊥
 
--- or one that says `old` where nobody put the key in
+-- or one that says `old` although nobody put the key in
 abbrev pub OldHasCause : Type 0
 OldHasCause = (k bits workers number size inserts removals : ℕ) (members closing : List (ℕ × ℕ)) → 0 < workers → IsKeySet bits (keys_of members)
     → is_member (keys_of members) k ≡ false
@@ -136,7 +136,7 @@ abbrev pub SetKeepsTheKey : Type 0
 SetKeepsTheKey = (k w bits number size inserts removals : ℕ) (members closing : List (ℕ × ℕ)) → k < 2 ^ bits → is_member (keys_of members) k ≡ true
     → AllowedReport bits 2 members (report_with number (put_and_query k w reply.Set (verb.Has k) reply.No) size inserts removals) closing → ⊥
 
--- one lane puts a key in with a weight, and another sees it so: that may be
+-- one lane puts a key in with a weight, and another sees it with that weight: a report may have that
 abbrev pub WeightIsSeen : Type 0
 WeightIsSeen = (k w bits : ℕ) → k < 2 ^ bits
     → AllowedReport bits 2 [] (report_with 1 (put_and_query k w reply.New (verb.Weight k) (reply.Found (Some w))) 1 1 0) ((k, w) ∷ [])
@@ -146,7 +146,7 @@ abbrev pub WeightsWerePut : Type 0
 WeightsWerePut = (k w v bits number size inserts removals : ℕ) (members closing : List (ℕ × ℕ)) → is_member (keys_of members) k ≡ false → v ≢ w
     → AllowedReport bits 2 members (report_with number (put_and_query k w reply.New (verb.Weight k) (reply.Found (Some v))) size inserts removals) closing → ⊥
 
--- where nobody put a key in or took one out, no put is lost
+-- if nobody put a key in or took one out, no put is lost
 abbrev pub LostHasCause : Type 0
 LostHasCause = (bits workers : ℕ) (members : List (ℕ × ℕ)) (report : Report) (closing : List (ℕ × ℕ)) → AllowedReport bits workers members report closing
     → report.inserts ≡ 0 → report.removals ≡ 0 → All (λ line. line.1 ≢ reply.Lost) report.rows

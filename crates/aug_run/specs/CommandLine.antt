@@ -21,7 +21,7 @@ number_rule name most default = record (new_rule name) {
   parser = Some (Signed (pos 1) (pos most));
 }
 
--- `augtrie [--bits H] [--workers W] [--updates U] [FILE]`, where the program's own name is not among the words
+-- `augtrie [--bits H] [--workers W] [--updates U] [FILE]`, without the program's own name among the words
 abbrev pub program : App
 program = record (new_app (codes "augtrie")) {
   top = record (new_app (codes "augtrie")).top {

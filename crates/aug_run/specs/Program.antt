@@ -8,12 +8,12 @@ use Rattle.aug_run.specs.Runs.{Prints, ReadsAs, RunsInPart, script_limit}
 use Rattle.aug_run.specs.declared.scripts.run_error.RunError.{RunError}
 use Rattle.aug_run.specs.declared.scripts.run_error.RunError.TheVariants as run
 
--- a text was given to a sink: all of it went out and then `finish` was called, or the sink failed, and a beginning of it went out
+-- a text was given to a sink: all of it went out and then `finish` was called, or the sink failed after a prefix of it went out
 abbrev pub ShowsText : SinkState → SinkState → List ℕ → Type 0
 ShowsText old new text = Writes old new text 1 ⊎ WritesBeginning old new text
 
--- why a run of the script with these bytes failed, where they are known, and what went out: of a run that memory was refused to nothing, or the
--- reports of the first rounds
+-- why a run of the script with these bytes failed, if they are known, and what went out: if memory was refused, nothing or the reports of the first
+-- rounds
 abbrev pub FailsBy : Bounds → SinkState → SinkState → Option (List ℕ) → RunError → Type 0
 FailsBy limits old new bytes (run.Script fault) = IfSome bytes (λ known. ReadsAs limits known (Err fault))
 FailsBy limits old new bytes run.Input = ⊤

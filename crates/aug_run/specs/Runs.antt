@@ -1,4 +1,4 @@
--- What a run of a whole script comes to.
+-- The result of a run of a whole script.
 use Rattle.std.specs.Prelude.{◌≡◌, ℕ, ◌≤◌, List, [], ◌∷◌, ◌++◌, length, map, take, Result, Ok}
 use Rattle.std.specs.List.{concat}
 use Rattle.aug_script.specs.Devices.{SinkState, Writes, WritesBeginning}
@@ -22,8 +22,8 @@ texts_of reports = concat (map report_text reports)
 abbrev pub ReadsAs : Bounds → List ℕ → Result (List ScriptRound) ScriptError → Type 0
 ReadsAs limits bytes read = (length bytes ≤ script_limit) × (rounds_of limits bytes ≡ read)
 
--- the first of these rounds, counted from 1 and from the empty set on, may have these reports and these others behind them; and the reports, but for
--- the others, went out whole, and `finish` was called once for each
+-- the first of these rounds, counted from 1 and from the empty set on, may have `reports` followed by `others`. All of `reports`, and none of
+-- `others`, went out whole, and `finish` was called once for each
 pub record Prints (limits : Bounds) (rounds : List ScriptRound) (reports others : List Report) (old new : SinkState) : Type 0 where
   pub may_have : AllowedReports limits.workers 1 [] (take (length (reports ++ others)) rounds) (reports ++ others)
   pub wrote : Writes old new (texts_of reports) (length reports)
@@ -33,7 +33,7 @@ abbrev pub RunsWhole : Bounds → SinkState → SinkState → List ℕ → Type 
 RunsWhole limits old new bytes =
     (rounds : List ScriptRound) × ReadsAs limits bytes (Ok rounds) × (reports : List Report) × Prints limits rounds reports [] old new × (length reports ≡ length rounds)
 
--- the same, but of its first rounds alone, and of the next report a beginning went out
+-- the same, but only for its first rounds, and a prefix of the next report went out
 abbrev pub RunsInPart : Bounds → SinkState → SinkState → List ℕ → Type 0
 RunsInPart limits old new bytes =
     (rounds : List ScriptRound) × ReadsAs limits bytes (Ok rounds) × (reports : List Report) × (broken : Report) × (between : SinkState)

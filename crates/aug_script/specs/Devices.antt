@@ -2,19 +2,19 @@
 use Rattle.std.specs.Prelude.{◌≡◌, ℕ, ◌+◌, ◌≤◌, ◌⊎◌, Option, List, length, take}
 use Rattle.std.specs.Io.KnownBytes.{Appends}
 
--- what a sink did so far: the bytes that went out, where they are known, how often `finish` was called, and how many calls failed
+-- what a sink did so far: the bytes that went out, if they are known, how often `finish` was called, and how many calls failed
 pub record SinkState : Type 0 where
   pub bytes : Option (List ℕ)
   pub finishes : ℕ
   pub faults : ℕ
 
--- all of a text went out, with so many calls of `finish` and no fault
+-- all of a text went out, with `finishes` calls of `finish` and no fault
 pub record Writes (old new : SinkState) (text : List ℕ) (finishes : ℕ) : Type 0 where
   pub bytes : Appends old.bytes new.bytes text
   pub finished : new.finishes ≡ old.finishes + finishes
   pub no_fault : new.faults ≡ old.faults
 
--- a beginning of a text went out, and then there was one fault; `finish` was not called, or once, behind all of the text
+-- a prefix of a text went out, and then there was one fault; `finish` was not called, or once, after all of the text
 pub record WritesBeginning (old new : SinkState) (text : List ℕ) : Type 0 where
   pub count : ℕ
   pub within : count ≤ length text

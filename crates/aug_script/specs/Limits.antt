@@ -3,7 +3,7 @@ use Rattle.std.specs.Prelude.{ℕ, ◌+◌, ◌-◌, ◌*◌, ◌^◌, ◌&&◌,
 use Rattle.aug_core.specs.Layout.{IsLayout}
 use Rattle.aug_core.specs.Places.{shape_of}
 
--- keys below 2 ^ bits, lanes below workers, and so many updates a lane and round
+-- keys below 2 ^ bits, lanes below `workers`, and `updates` updates for each lane in each round
 pub record Bounds : Type 0 where
   pub bits : ℕ
   pub workers : ℕ
@@ -17,8 +17,8 @@ IsBounds b = IsLayout (shape_of b.bits b.workers b.updates (2 ^ b.bits))
 abbrev pub is_within : ℕ → ℕ → ℕ → Bool
 is_within first last n = nat_le first n && nat_le n last
 
--- the words of the table for a round that opens with every key: one for each leaf, node and lane, and 5 for each record, of which each level and each
--- node has one, and each update one on each level
+-- the words of the table for a round that opens with every key: one for each leaf, node and lane, and 5 for each record. Each level and each node has
+-- one record, and each update has one record on each level
 abbrev pub words_of : Bounds → ℕ
 words_of b = 2 ^ (b.bits + 1) - 1 + b.workers + 5 * (b.bits + (2 ^ b.bits - 1) + b.workers * b.updates * b.bits)
 

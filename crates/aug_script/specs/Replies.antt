@@ -1,4 +1,4 @@
--- What the rows of a round are answered, by the definitions of the queries.
+-- The replies to the rows of a round, by the definitions of the queries.
 use Rattle.std.specs.Prelude.{ℕ, if◌then◌else◌, Bool, true, false, List, [], ◌∷◌, length, filter}
 use Rattle.std.specs.List.{zip}
 use Rattle.aug_monoid.specs.Extent.{extent_parts}
@@ -19,8 +19,8 @@ pub record Sets : Type 0 where
   pub live : List (ℕ × ℕ)
   pub held : List (ℕ × ℕ)
 
--- what a query is answered from a set: a range by the number of its keys, the sum of their weights in a word of 64 bits, and the least and the greatest
--- of them; the other verbs ask nothing of it
+-- the reply to a query over a set: for a range the number of its keys, the sum of their weights in a word of 64 bits, and the least and the greatest
+-- of them; the verbs that are no queries have no answer from the set
 abbrev pub query_reply : List (ℕ × ℕ) → Verb → Reply
 query_reply pairs (verb.Has k) = if is_member (keys_of pairs) k then reply.Yes else reply.No
 query_reply pairs (verb.Weight k) = reply.Found (weight_of pairs k)
@@ -32,7 +32,7 @@ query_reply pairs (verb.After k) = reply.Found (after_of (keys_of pairs) k)
 query_reply pairs (verb.Range a b) = reply.Span (summary_of sum_parts extent_parts (weighted_range_of pairs a b))
 query_reply pairs other = reply.Looked
 
--- what a verb is answered; where one lane runs alone, no `put` is lost
+-- the reply to a verb if one lane runs alone; so no `put` is lost
 abbrev pub reply_to : Sets → Verb → Reply
 reply_to sets (verb.Insert k) = if is_member (keys_of sets.live) k then reply.Old else reply.New
 reply_to sets (verb.Put k w) = if is_member (keys_of sets.live) k then reply.Set else reply.New
@@ -57,13 +57,13 @@ unfoldable pub sets_of : Sets → List Row → Sets
 sets_of sets [] = sets
 sets_of sets (row ∷ rows) = sets_of (sets_after sets row.verb) rows
 
--- the reply says that an insertion was accepted, be it that of a replacement
+-- the reply says that an insertion was accepted, also as part of a replacement
 abbrev pub is_insertion : Reply → Bool
 is_insertion reply.New = true
 is_insertion reply.Set = true
 is_insertion answer = false
 
--- the reply says that a removal was accepted, be it that of a replacement
+-- the reply says that a removal was accepted, also as part of a replacement
 abbrev pub is_removal : Reply → Bool
 is_removal reply.Gone = true
 is_removal reply.Set = true
@@ -77,8 +77,7 @@ count_of test replies = length (filter test replies)
 abbrev pub opening_sets : List (ℕ × ℕ) → Sets
 opening_sets members = record { live = members; held = members }
 
--- the report of the round with this number, where these rows run one after another over one such lane, whose set has these members
--- at first
+-- the report of the round with this number if these rows run one after another over one such lane, whose set has these members at first
 abbrev pub report_of : ℕ → List (ℕ × ℕ) → List Row → Report
 report_of number members rows = record {
   number = number;

@@ -14,12 +14,12 @@ use Rattle.aug_script.specs.declared.verb.Verb.{Verb}
 abbrev pub verb_text : Verb → List ℕ
 verb_text asked = (written asked).0 ++ concat (map (λ n. codes " " ++ decimal n) (written asked).1)
 
--- the least and the greatest of some keys, or `- -` where there are none
+-- the least and the greatest of some keys, or `- -` if there are none
 abbrev pub extent_text : Extent → List ℕ
 extent_text None = codes "- -"
 extent_text (Some bounds) = decimal bounds.0 ++ codes " " ++ decimal bounds.1
 
--- the key or the weight that was found, or `-` where there is none
+-- the key or the weight that was found, or `-` if there is none
 abbrev pub found_text : Option ℕ → List ℕ
 found_text None = codes "-"
 found_text (Some number) = decimal number

@@ -29,7 +29,7 @@ are_printable fields = list_all (λ field. list_all (λ b. nat_le 32 b && nat_le
 abbrev pub is_number : List ℕ → Bool
 is_number field = nat_le 1 (length field) && nat_le (length field) 9 && list_all is_ascii_digit field
 
--- the number that the digits of the field at this place write, or 0 where it is no number
+-- the number that the digits of the field at this place write, or 0 if it is no number
 abbrev pub number_in : List (List ℕ) → ℕ → ℕ
 number_in fields place = if is_number (slice_index_or fields place []) then digits_value 10 (slice_index_or fields place []) else 0
 

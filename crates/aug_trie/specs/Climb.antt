@@ -18,7 +18,7 @@ pub record ClimbFacts : Type 0 where
   pub key : ℕ
   pub left : ℕ
 
--- an update begins, of which no step is made
+-- an update begins, and none of its steps is made yet
 abbrev pub BeginsClimb : Request → ℕ → PassFacts → ClimbFacts → Type 0
 BeginsClimb request key pass climb = climb ≡ record { start = pass; now = pass; request = request; key = key; left = 30 * pass.round.bits - 10 }
 
@@ -28,7 +28,8 @@ pub record StepsOnce (old new : PassFacts) : Type 0 where
   pub same : new ≡ record new { round = old.round; lane = old.lane; steps = old.steps ++ taken ∷ [] }
   pub goes_on : IsPrefix old.knows.history new.knows.history
 
--- a turn after which there is more to do. The first turn loads the key's leaf. The second, where the serial that was found lets the update go on, exchanges the word found for the one that the request makes of it
+-- a turn after which there is more to do. The first turn loads the key's leaf. If the serial that was found lets the update continue, the second
+-- exchanges the word found for the one that the request makes of it
 pub record TurnsOn (old new : ClimbFacts) : Type 0 where
   pub same : new ≡ record old { now = new.now; left = new.left }
   pub once : StepsOnce old.now new.now
@@ -38,7 +39,7 @@ pub record TurnsOn (old new : ClimbFacts) : Type 0 where
   pub second : (loaded : ℕ) → old.now.steps ≡ old.start.steps ++ load_leaf old.key loaded ∷ [] → goes_from old.request (serial_in_word loaded) ≡ true
       → (found : ℕ) × (new.now.steps ≡ old.now.steps ++ try_leaf old.key loaded (word_after old.request old.key loaded) found ∷ [])
 
--- the last turn: what the update comes to from what was known at the start to what is known now, and it is one of the pass's budget
+-- the last turn: the outcome of the update, from what was known at the start to what is known now. The update counts as one of the pass's budget
 pub record Finishes (done : Outcome) (old : ClimbFacts) (pass : PassFacts) : Type 0 where
   pub once : StepsOnce old.now pass
   pub some : 1 ≤ old.left

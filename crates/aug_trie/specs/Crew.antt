@@ -20,7 +20,7 @@ pub record CrewFacts : Type 0 where
   pub handed : ℕ
   pub back : ℕ
 
--- a round of keys of so many bits over a set with these members, and its crew, which knows the opening cut alone and handed nothing out
+-- a round of keys of `bits` bits over a set with these members, and its crew, which knows only the opening cut and has handed nothing out
 pub record BeginsRound (members : List (ℕ × ℕ)) (bits workers updates : ℕ) (round : RoundFacts) (crew : CrewFacts) : Type 0 where
   pub round_is : round ≡ record { table = round.table; bits = bits; members = members; workers = workers; updates = updates; room = length members }
   pub crew_is : crew ≡ record { round = round; knows = record { history = opening_cut bits members ∷ []; accepted = [] }; steps = crew.steps; handed = 0; back = 0 }

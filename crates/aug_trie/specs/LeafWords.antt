@@ -9,6 +9,6 @@ serial_in_word word = word / 2 ^ 32
 abbrev pub weight_in_word : ℕ → ℕ
 weight_in_word word = word % 2 ^ 32
 
--- that the key is there with its weight, where the serial is odd
+-- the key with its weight if the serial is odd, and nothing otherwise
 abbrev pub leaf_pairs : ℕ → ℕ → List (ℕ × ℕ)
 leaf_pairs key word = if serial_in_word word % 2 == 1 then (key, weight_in_word word) ∷ [] else []

@@ -1,4 +1,4 @@
--- What contracts see of the nodes of a snapshot's tree, and what calls leave of a pass's snapshots and nodes.
+-- What contracts see of the nodes of a snapshot's tree, and which snapshots and nodes of a pass stay valid after a call.
 use Rattle.std.specs.Prelude.{◌≡◌, ℕ, ◌+◌, ◌≤◌, List, length}
 use Rattle.aug_model.specs.declared.summary.Summary.{Summary}
 use Rattle.aug_model.specs.Queries.{weight_in}
@@ -13,7 +13,7 @@ use Rattle.aug_trie.specs.declared.queries.node.Node.{Node}
 use Rattle.aug_trie.specs.declared.queries.snapshot.Snapshot.{Snapshot}
 
 module _ {A B : Type 0} (summary_of : List (ℕ × ℕ) → Summary A B) where
-  -- the node is one of the tree of a snapshot of the pass, tells the summary of the members that it covers, and a leaf the weight of its key
+  -- the node belongs to the tree of a snapshot of the pass and has the summary of the members that it covers, and a leaf has the weight of its key
   pub record HasNode (pass : PassFacts) (node : Node A B) : Type 0 where
     pub of_pass : HasSnapshot pass node.snapshot.number
     pub is_tree_set : IsTreeSet (set_at pass node.snapshot)
@@ -21,20 +21,20 @@ module _ {A B : Type 0} (summary_of : List (ℕ × ℕ) → Summary A B) where
     pub tells : IsTreeOf summary_of pass.round.bits (snapshot_cut pass node.snapshot.number) node.level node.place node.summary
     pub weighs : node.level ≡ 0 → weight_in_word node.word ≡ weight_in (set_at pass node.snapshot).pairs node.place
 
-  -- what was a snapshot of the pass is one still, of the same cut and set, and what was a node of one is so still
+  -- each snapshot of the pass is still one of it, with the same cut and set, and each node of a snapshot is still one of that snapshot
   pub record Keeps (old new : PassFacts) : Type 0 where
     pub snapshots : (s : Snapshot) → HasSnapshot old s.number → HasSnapshot new s.number
     pub same_cuts : (s : Snapshot) → HasSnapshot old s.number → snapshot_cut new s.number ≡ snapshot_cut old s.number
     pub same_sets : (s : Snapshot) → HasSnapshot old s.number → set_at new s ≡ set_at old s
     pub nodes : (node : Node A B) → HasNode old node → HasNode new node
 
-  -- the pass made steps that told it nothing new
+  -- the pass made steps from which it learned nothing new
   pub record Stays (old new : PassFacts) : Type 0 where
     pub same : new ≡ record old { steps = new.steps; words = new.words }
     pub steps_stay : IsPrefix old.steps new.steps
     pub keeps : Keeps old new
 
-  -- and it made at most so many
+  -- and it made at most `most` of them
   pub record Reads (most : ℕ) (old new : PassFacts) : Type 0 where
     pub stays : Stays old new
     pub few_steps : length new.steps ≤ length old.steps + most

@@ -31,7 +31,7 @@ pub record PassFacts : Type 0 where
   pub steps : List StepTaken
   pub words : WordsSeen
 
--- the pass is in the same round and lane, after so many further updates and steps
+-- the pass is in the same round and lane, after `updates` more updates and `steps` more steps
 pub record GoesOn (updates steps : ℕ) (old new : PassFacts) : Type 0 where
   pub same : new ≡ record new { round = old.round; lane = old.lane; spent = old.spent + updates }
   pub step_count : length new.steps ≡ length old.steps + steps
@@ -52,9 +52,9 @@ pub record Tried (request : Request) (key loaded : ℕ) (more : List StepTaken) 
   pub says : done ≡ (if found == loaded then outcome_by request loaded else Refused)
   pub no_other : TryNoLeaf rest
 
--- an update's steps: so many at least and at most; the first loads the key's leaf; where the serial found refuses, no leaf is exchanged, and else the
--- second step is the only exchange, of the word found for the one that the request makes of it, and the outcome says whether it succeeded. After a refusal the last
--- cut shows what stood in the way, so the steps brought it to the root
+-- an update's steps: their number has a lower and an upper bound; the first loads the key's leaf. If the serial found refuses, no leaf is exchanged.
+-- Otherwise the second step is the only exchange of a leaf, of the word found for the one that the request makes of it, and the outcome says whether
+-- it succeeded. After a refusal the last cut shows what prevented the update, so the steps brought that to the root
 pub record StepsOf (request : Request) (key : ℕ) (done : Outcome) (old new : PassFacts) : Type 0 where
   pub found : ℕ
   pub more : List StepTaken

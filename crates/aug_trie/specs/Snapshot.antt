@@ -6,7 +6,7 @@ use Rattle.aug_model.specs.Keys.{SetFacts}
 use Rattle.aug_trie.specs.Pass.{PassFacts}
 use Rattle.aug_trie.specs.declared.queries.snapshot.Snapshot.{Snapshot}
 
--- where a number first stands in a list: past its end where it does not
+-- the first place of a number in a list, or the place past its end if the number is not in it
 abbrev pub first_place : List ℕ → ℕ → ℕ
 first_place numbers number = position_or_len (λ n. n == number) numbers
 

@@ -7,7 +7,7 @@ use Rattle.aug_trie.specs.Node.{Stays}
 use Rattle.aug_trie.specs.declared.queries.snapshot.Snapshot.{Snapshot}
 
 module _ {A B : Type 0} (summary_of : List (ℕ × ℕ) → Summary A B) where
-  -- the view is of the same pass and snapshot, and the pass made at most four steps for each call since, which told it nothing new
+  -- the view is of the same pass and snapshot, and the pass has made at most four steps for each call since, from which it learned nothing new
   pub record KeepsPass (first now : MutBor PassFacts) (s_first s_now : Snapshot) (calls_first calls_now : ℕ) : Type 0 where
     pub same_reference : now.ghost_name ≡ first.ghost_name
     pub same_snapshot : s_now ≡ s_first

@@ -28,13 +28,13 @@ module _ (face : ℕ → ℕ → List (ℕ × ℕ) → List ℕ) (o : Opening) (
     pub seat : ℕ
     pub view_is : get_elem? state.views seat ≡ some v
 
-  -- what a reader of the words is told
+  -- what a reader of the words learns
   pub record ShowAll : Type 0 where
     -- the words of a node's opening record, its own one or the empty one of its level, say what was there below it at the opening
     pub opening_records : (q field : ℕ) → IsInner o.shape q → field < record_words → slice_index words (record_start o.shape (opening_number o q) + field) ≡ slice_index (opening_words face o q) field
-    -- so do those of each level's empty record, also where no node opened with it: it counts nothing
+    -- so do the words of each level's empty record, even if no node opened with it: it counts nothing
     pub shared_records : (level field : ℕ) → level < o.shape.bits → field < record_words → slice_index words (record_start o.shape level + field) ≡ slice_index (shared_words face level) field
-    -- and those of an own opening record that no node opened with are zeros
+    -- and the words of an own opening record that no node opened with are zeros
     pub idle_records : (number field : ℕ) → IsIdle o number → field < record_words → slice_index words (record_start o.shape number + field) ≡ 0
     -- the words of every record that the view has seen are its entry's
     pub seen_records : (q i field : ℕ) (e : Entry) → IsInner o.shape q → At v.seen q i e → field < record_words → slice_index words (record_start o.shape e.number + field) ≡ slice_index e.words field

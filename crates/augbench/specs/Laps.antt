@@ -10,7 +10,7 @@ use Rattle.augbench.specs.declared.workload.Kind.{Kind}
 abbrev pub no_lap : Lap
 no_lap = record { operations = 0; sum = 0; updates = 0; idle = 0 }
 
--- 1 where it is so
+-- 1 if `b` holds, and 0 otherwise
 abbrev pub once : Bool → ℕ
 once b = if b then 1 else 0
 

@@ -23,7 +23,7 @@ pub record TotalsOfEach (totals : Each Total) : Type 0 where
   pub left_right : totals.left_right.engine ≡ LeftRight
   pub live : totals.live.engine ≡ Live
 
--- each engine's rounds took at least so many nanoseconds
+-- each engine's rounds took at least `time` nanoseconds
 pub record LastFor (time : ℕ) (totals : Each Total) : Type 0 where
   pub trie : time ≤ totals.trie.time
   pub mutex : time ≤ totals.mutex.time

@@ -1,5 +1,5 @@
--- The rule of the table of a lock, and what each step tells. Word 0 is 0 where the value is at home. While a seat holds the value, the
--- caller's rule holds of the value that it took.
+-- The rule of the table of a lock, and what each step shows. Word 0 is 0 if the value is in the lock. While a seat holds the value, the caller's rule
+-- holds for the value that the seat took.
 use Rattle.std.specs.Prelude.{◌≡◌, ◌≢◌, ℕ, ◌<◌, List, [], ◌∷◌, ◌++◌, map, length, slice_index, slice_set, Option, Some, None, IfSome}
 use mathlib.Core.Option.{some}
 use lib.ListN.{get_elem?}

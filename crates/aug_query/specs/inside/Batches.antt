@@ -9,10 +9,10 @@ pub record AreBetween (first end : ℕ) (keys : List ℕ) : Type 0 where
   pub from_first : All (λ k. first ≤ k) keys
   pub below_end : All (λ k. k < end) keys
 
--- at most so many nodes are below a node of a level on the ways to so many of its keys
+-- at most this many nodes are below a node of a level on the ways to `keys` of its keys
 abbrev pub nodes_below : ℕ → ℕ → ℕ
 nodes_below level keys = min (level * keys) (2 * 2 ^ level - 2)
 
--- and so many leaves
+-- and at most this many leaves
 abbrev pub leaves_below : ℕ → ℕ → ℕ
 leaves_below level keys = min keys (2 ^ level)

@@ -1,4 +1,5 @@
--- What walks over a tree keep of it, where nothing happened, and one after the other; and that the nodes that they name stand in it.
+-- What a walk over a tree keeps of it: lemmas for no walk at all, and for two walks one after the other; and that the nodes which they name stand in
+-- the tree.
 use Rattle.std.proofs.Common.{◌≡◌, ℕ, ◌+◌, ◌≤◌, List, refl, ap, subst, sym, ◌∙◌, arith}
 use Rattle.std.specs.Borrow.{MutBor}
 use Rattle.aug_model.specs.Keys.{SetFacts, list_of}
@@ -20,7 +21,7 @@ module _ {Tree Node : Type 0} {calls_of : Tree → ℕ} {HasNode : Tree → Node
     keeps_rest = on t.now u.now v.now a.keeps_rest b.keeps_rest;
   }
 
--- a node stands in the tree, and what it tells is the summary of what it covers
+-- a node stands in the tree, and has the summary of what it covers
 pub stands : {A B : Type 0} {sum : List (ℕ × ℕ) → Summary A B} {Tree Node : Type 0} {set_of : Tree → SetFacts} {HasNode : Tree → Node → Type 0} {level_of place_of : Node → ℕ} {told_by : Node → Summary A B}
     → ((tree : Tree) (node : Node) → HasNode tree node → IsNodeOf sum (set_of tree) (level_of node) (place_of node) (told_by node))
     → (tree : Tree) (level place : ℕ) (node : Node) → NamesNode HasNode level_of place_of tree level place node → IsNodeOf sum (set_of tree) level place (sum_of sum (set_of tree).pairs (below_node (list_of (set_of tree)) level place))

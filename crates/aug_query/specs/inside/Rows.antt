@@ -7,7 +7,7 @@ use Rattle.aug_monoid.specs.Weighted.{FitsPair}
 use Rattle.aug_model.specs.declared.summary.Summary.{Summary}
 use Rattle.aug_query.specs.Tree.{IsTreeSet, sum_of, below_node}
 
--- a list of weights has that of each key of so many bits, 0 where it is no member
+-- a list of weights has the weight of each key below 2 ^ bits, which is 0 if the key is no member
 pub record HasWeights (bits : ℕ) (pairs : List (ℕ × ℕ)) (weights : List ℕ) : Type 0 where
   pub all : length weights ≡ 2 ^ bits
   pub weigh : (key default : ℕ) → key < length weights → slice_index_or weights key default ≡ weight_in pairs key

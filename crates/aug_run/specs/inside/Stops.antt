@@ -1,4 +1,4 @@
--- What the private parts of the reader of the command line answer where it ends the program.
+-- What the private parts of the reader of the command line answer if it ends the program.
 use Rattle.std.specs.Prelude.{◌≡◌, ◌≢◌, List, ⊤}
 use Rattle.clap.specs.Words.{Row}
 use Rattle.clap.specs.declared.error.kind.ErrorKind.{ErrorKind}

@@ -36,7 +36,7 @@ pub record AnswersRows (rows : List Row) (replies : List Reply) (old new : Lane)
   pub replies_are : map (λ line. line.1) lines ≡ replies
   pub answers : AnswersAll lines old new
 
--- the rows had these replies, from where the pass of their lane was handed out to this state
+-- the rows had these replies, from the moment at which the pass of their lane was handed out to this state
 pub record RunsTo (opening : Cut) (rows : List Row) (replies : List Reply) (end : Lane) : Type 0 where
   pub start : Lane
   pub started : Started opening start

@@ -10,6 +10,6 @@ CanTake (item.Row row) = row.lane < 64
 CanTake item.End = ⊤
 CanTake (item.Grow bits) = bits ≤ 16
 
--- nothing was read yet, and keys have so many bits
+-- nothing was read yet, and keys have `bits` bits
 abbrev pub nothing_read : ℕ → Progress
 nothing_read bits = record { next = 1; bits = bits; rows = []; closed = [] }

@@ -16,7 +16,7 @@ abbrev pub records_in : State → Option (List ℕ) → List (List (List ℕ))
 records_in state None = []
 records_in state (Some bytes) = records_from default_config (length bytes + 1) state bytes
 
--- the records that a reader over a text has left, of which there are none once it is done
+-- the records that a reader over a text has left; there are none once it is done
 abbrev pub records_left : Bool → Reader (Bor (List ℕ)) → List (List (List ℕ))
 records_left done reader = if done then [] else records_in (reader_state reader) (bytes_left reader)
 

@@ -29,7 +29,7 @@ advance_from Insert key word = record { serial = serial_in_word word; weight = w
 advance_from Remove key word = record { serial = serial_in_word word; weight = weight_in_word word; replaces = false; new_weight = 0 }
 advance_from (Put weight) key word = record { serial = serial_in_word word; weight = weight_in_word word; replaces = serial_in_word word % 2 == 1; new_weight = weight }
 
--- the leaf's entry with this serial weighs so much
+-- the leaf's entry with this serial has this weight
 pub record WeighsAt (book : Book) (key serial weight : ℕ) : Type 0 where
   pub entry : Entry
   pub at : At book key serial entry
@@ -57,7 +57,7 @@ module _ (face : ℕ → ℕ → List (ℕ × ℕ) → List ℕ) (used : ℕ) (v
   CameTo loaded outcome.Replaced = WentUp (advance_from request key loaded) × ((advance_from request key loaded).replaces ≡ true)
   CameTo loaded outcome.Refused = Stayed (serial_in_word loaded)
 
-  -- an update: its first step is a load of the leaf, and the steps are at least and at most so many
+  -- an update: its first step is a load of the leaf, and the number of its steps has a lower and an upper bound
   pub record Updated (done : Outcome) : Type 0 where
     pub loaded : ℕ
     pub more : List StepTaken

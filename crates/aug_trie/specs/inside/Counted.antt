@@ -7,12 +7,12 @@ use Rattle.aug_trie.specs.Knowledge.{inserts_of, removals_of}
 use Rattle.aug_trie.specs.declared.updates.request.Request.{Request}
 use Rattle.aug_trie.specs.declared.updates.request.Request.TheVariants.{Insert, Remove, Put}
 
--- so many of the changes are insertions, and so many removals
+-- `inserts` of the changes are insertions, and `removals` are removals
 pub record HasCounts (changes : List Change) (inserts removals : ℕ) : Type 0 where
   pub inserts_are : inserts ≡ inserts_of changes
   pub removals_are : removals ≡ removals_of changes
 
--- how many insertions and how many removals an update comes to: a replacement is one of each
+-- how many insertions and how many removals an update makes: a replacement is one of each
 abbrev pub insertions_by : Request → Outcome → ℕ
 insertions_by Insert Accepted = 1
 insertions_by Remove Accepted = 0

@@ -14,7 +14,7 @@ abbrev pub crew_facts : Known → CrewFacts
 crew_facts known = record { round = round_of known.table known.view; knows = knows known.view; steps = known.view.steps; handed = unwrap_or known.view.spare 0; back = length known.view.held }
 
 module _ (face : ℕ → ℕ → List (ℕ × ℕ) → List ℕ) where
-  -- the view of a lead that handed out so many lanes and took so many passes back
+  -- the view of a lead that handed out `handed` lanes and took `back` passes back
   pub record IsCrew (v : View) (handed back : ℕ) : Type 0 where
     pub knows_table : KnowsTable face v
     pub hands_out : v.spare ≡ Some handed

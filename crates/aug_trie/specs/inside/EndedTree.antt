@@ -28,7 +28,8 @@ module _ (face : ℕ → ℕ → List (ℕ × ℕ) → List ℕ) where
     pub inside : number < record_count rest.shape
     pub says : (field : ℕ) → field < record_words → word_in rest number field ≡ slice_index (face (word_in rest number 0) (word_in rest number 1) members) field
 
-  -- the word names a version of the tree of a set, at a level and a place: down to the leaves every record tells of the set's members that it covers
+  -- the word names a version of the tree of a set, at a level and a place: down to the leaves every record summarizes the set's members that it
+  -- covers
   abbrev pub IsVersion : AtRest → List (ℕ × ℕ) → ℕ → ℕ → ℕ → Type 0
   IsVersion rest pairs zero place word = IsLeafOf pairs place word
   IsVersion rest pairs (suc level) place word = IsRecordOf rest (covered pairs (suc level) place) word
@@ -43,7 +44,8 @@ module _ (face : ℕ → ℕ → List (ℕ × ℕ) → List ℕ) where
     pub is_version : IsVersion face ended.rest ended.members level place word
 
 module _ {A B : Type 0} (face : ℕ → ℕ → List (ℕ × ℕ) → List ℕ) (summary_of : List (ℕ × ℕ) → Summary A B) where
-  -- the node is one of the trie's tree: its word names the version below it, it tells the summary of the members that it covers, and a leaf the weight of its key
+  -- the node is one of the trie's tree: its word names the version below it, it has the summary of the members that it covers, and a leaf has the
+  -- weight of its key
   pub record HasEndedNode (ended : EndedFacts) (node : EndedNode A B) : Type 0 where
     pub is_version : IsVersion face ended.rest ended.members node.level node.place node.word
     pub is_node : IsNodeOf summary_of (set_of_ended ended) node.level node.place node.summary

@@ -24,26 +24,26 @@ pub record IsFree (v : View) (next : ℕ) : Type 0 where
   pub unpublished : (n : ℕ) → next ≤ n → Lists lane.published n → ⊥
   pub long : length lane.words ≡ block_size v.shape
 
--- so many records of the lane are left from this one on
+-- `records` records of the lane are left from the record `next` on
 pub record HasRoom (v : View) (next records : ℕ) : Type 0 where
   pub is_free : IsFree v next
   pub room : next + records ≤ first_record v.shape (own_lane v.held) + lane_records v.shape
 
--- the view made so many steps more, and no exchange of a leaf
+-- the view made `n` more steps, and no exchange of a leaf
 pub record Took (v w : View) (n : ℕ) : Type 0 where
   pub more : List StepTaken
   pub steps : w.steps ≡ v.steps ++ more
   pub count : length more ≡ n
   pub no_try : TryNoLeaf more
 
--- and so many at least, and so many at most
+-- the same for at least `least` and at most `most` steps
 pub record TookBetween (v w : View) (least most : ℕ) : Type 0 where
   pub steps : ℕ
   pub least_steps : least ≤ steps
   pub most_steps : steps ≤ most
   pub took : Took v w steps
 
--- the view made at most so many steps more, and nothing else of it changed
+-- the view made at most `most` more steps, and nothing else in it changed
 pub record Looks (most : ℕ) (v w : View) : Type 0 where
   pub more : List StepTaken
   pub is : w ≡ record v { steps = v.steps ++ more }
@@ -61,12 +61,12 @@ module _ (face : ℕ → ℕ → List (ℕ × ℕ) → List ℕ) where
     pub changes : changes_of w.held ≡ changes_of v.held ++ gained
     pub still_free : (n : ℕ) → used ≤ n → IsFree v n → IsFree w n
 
--- one try at a node, which leaves its record free where it failed
+-- one try at a node, which leaves its record free if it failed
 pub record Tries (v : View) (q number : ℕ) (done : Bool) (w : View) : Type 0 where
   pub refreshed : Refreshed v.shape v.seen q done w.seen
   pub again : done ≡ false → IsFree v number → IsFree w number
 
--- so many leaves there are
+-- the table has `leaves` leaves
 pub record HasLeaves (s : Shape) (leaves : ℕ) : Type 0 where
   pub are : leaves ≡ 2 ^ s.bits
   pub few : leaves ≤ 65536

@@ -1,4 +1,4 @@
--- What the fields of a pass keep, and how what contracts see of it comes of them.
+-- What the fields of a pass keep, and how the value that contracts see of it is made of them.
 use Rattle.std.specs.Prelude.{◌≡◌, ℕ, ◌+◌, ◌-◌, ◌*◌, ◌^◌, ◌<◌, ◌≤◌, Option, Some, unwrap_or, List, [], length}
 use Rattle.aug_core.specs.Counts.{changes_of}
 use Rattle.aug_core.specs.Told.{KnowsTable, own_lane, spent}
@@ -9,11 +9,11 @@ use Rattle.aug_trie.specs.inside.Knows.{knows, root_numbers, KnowsRound}
 use Rattle.aug_trie.specs.Pass.{PassFacts}
 use Rattle.aug_trie.specs.inside.RoundState.{round_of}
 
--- what a seat knows, where it is there
+-- what a seat knows, if it is there
 abbrev pub known_in : Option Known → Known
 known_in words = unwrap_or words (record { table = record { words = 0; slots = 0; views_name = 0; atom = 0; block = 0; offset = 0; slot_names = [] }; view = spent })
 
--- a pass with what its seat knows, and so many updates left
+-- a pass with what its seat knows, and `left` updates left
 abbrev pub pass_facts : Known → ℕ → PassFacts
 pass_facts known left = record {
   round = round_of known.table known.view;
@@ -26,7 +26,7 @@ pass_facts known left = record {
 }
 
 module _ (face : ℕ → ℕ → List (ℕ × ℕ) → List ℕ) where
-  -- the view of a pass with the records from `next` on, for so many updates more
+  -- the view of a pass with the records from `next` on, for `left` more updates
   pub record IsPass (v : View) (leaves bits next left : ℕ) : Type 0 where
     pub leaves_are : HasLeaves v.shape leaves
     pub bits_are : bits ≡ v.shape.bits

@@ -1,4 +1,4 @@
--- One try at a node, step by step: what was done of it at each point.
+-- One try at a node, step by step: which part of it was done at each point.
 use Rattle.std.specs.Prelude.{◌≡◌, ℕ, zero, suc, ◌+◌, ◌-◌, ◌*◌, ◌^◌, ◌<◌, ◌≤◌, Bool, nat_lt, if◌then◌else◌, List, [], ◌∷◌, ◌++◌, length, slice_index}
 use Rattle.aug_monoid.specs.Parts.{Parts}
 use Rattle.aug_core.specs.Places.{record_start, record_words}
@@ -18,7 +18,7 @@ use Rattle.aug_trie.specs.declared.turns.points.Point.TheVariants.{Node, Left, R
 use Rattle.aug_trie.specs.declared.turns.points.Advanced.{Advanced}
 use Rattle.aug_trie.specs.declared.turns.points.Advanced.TheVariants.{To, Tried}
 
--- the view made one step more; what it saw grows, and its lane and table are the same
+-- the view made one more step; what it saw grows, and its lane and table are the same
 pub record OneStep (v w : View) : Type 0 where
   pub taken : StepTaken
   pub steps : w.steps ≡ v.steps ++ taken ∷ []
@@ -27,7 +27,7 @@ pub record OneStep (v w : View) : Type 0 where
   pub same_members : w.members ≡ v.members
   pub lane : own_lane w.held ≡ own_lane v.held
 
--- and its update began where it did
+-- and its update has the same beginning as before
 abbrev pub QuietStep : View → View → Type 0
 QuietStep v w = OneStep v w × (w.began ≡ v.began)
 
@@ -35,12 +35,12 @@ QuietStep v w = OneStep v w × (w.began ≡ v.began)
 abbrev pub Says : View → ℕ → ℕ → ℕ → Type 0
 Says v number field r = (q i : ℕ) (e : Entry) → IsInner v.shape q → At v.seen q i e → e.number ≡ number → r ≡ slice_index e.words field
 
--- the view after so many stores of the words of a record
+-- the view after storing the first words of a record, as many as the last argument says
 abbrev pub stored : View → ℕ → List ℕ → ℕ → View
 stored v number five zero = v
 stored v number five (suc k) = storing (stored v number five k) (record_start (stored v number five k).shape number + k) (slice_index five k)
 
--- the child whose word is loaded after so many others, and which word it is of its record
+-- the child whose record's word is loaded after `k` others, and which word of that record it is
 abbrev pub child_at : ℕ → ℕ → ℕ → ℕ
 child_at left right k = if nat_lt k 3 then left else right
 
@@ -89,7 +89,7 @@ module _ (face : ℕ → ℕ → List (ℕ × ℕ) → List ℕ) (v : View) (q :
     pub took : Took second w 1
     pub at_right : HasNewest w.seen (right_of v.shape q) right
 
-  -- and then so many words of their records
+  -- and then the first `r.count` words of their records
   pub record AfterWords (r : Reading) (w : View) : Type 0 where
     pub third : View
     pub loaded : AfterRight r.from r.left r.right third
@@ -100,7 +100,7 @@ module _ (face : ℕ → ℕ → List (ℕ × ℕ) → List ℕ) (v : View) (q :
     pub took : Took third w r.count
     pub says : (k : ℕ) → k < r.count → Says third (child_at r.left r.right k) (field_after k) (slice_index r.words k)
 
-  -- the own record's words are known, and so many were stored
+  -- the own record's words are known, and the first `r.count` of them were stored
   pub record AfterStores (number : ℕ) (r : Filling) (w : View) : Type 0 where
     pub third : View
     pub loaded : AfterRight r.from (slice_index r.five 0) (slice_index r.five 1) third
@@ -133,12 +133,12 @@ module _ (face : ℕ → ℕ → List (ℕ × ℕ) → List ℕ) (v : View) (q :
     pub took : Took v w (9 + 2 * part_steps v.shape (left_of v.shape q))
     pub tries : Tries v q number done w
 
-  -- what a step of it came to
+  -- the result of a step of the try
   abbrev pub Advances : ℕ → Advanced → View → Type 0
   Advances number (To point) w = TryAt number point w
   Advances number (Tried done) w = TryOver number done w
 
--- how many steps are left of a try at a point, where the part of a child takes so many loads
+-- how many steps of a try are left at a point, if reading a child's part takes `part` loads
 abbrev pub point_turns : ℕ → Point → ℕ
 point_turns part Node = 9 + 2 * part
 point_turns part (Left from) = 8 + 2 * part

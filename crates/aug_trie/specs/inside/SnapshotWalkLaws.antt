@@ -1,4 +1,5 @@
--- What walks over a snapshot keep, where nothing happened, and one after the other; and that the nodes that they name stand in its tree.
+-- What a walk over a snapshot keeps: lemmas for no walk at all, and for two walks one after the other; and that the nodes which they name stand in
+-- its tree.
 use Rattle.std.proofs.Common.{ℕ, List, [], ◌++◌, length-append, append_assoc, refl, ap, sym, ◌∙◌, arith}
 use Rattle.std.proofs.lemmas.List.{append-nil}
 use Rattle.aug_core.specs.declared.step.StepTaken.{StepTaken}

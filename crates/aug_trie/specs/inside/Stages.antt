@@ -1,4 +1,4 @@
--- An update, step by step: what was done of it at each stage.
+-- An update, step by step: which part of it was done at each stage.
 use Rattle.std.specs.Prelude.{◌≡◌, ℕ, suc, ◌+◌, ◌-◌, ◌*◌, ◌^◌, ◌<◌, ◌≤◌, ◌==◌, Bool, false, true, if◌then◌else◌, List, [], length, Option, Some, None, ◌∷◌, ◌++◌}
 use Rattle.aug_core.specs.Addresses.{left_of}
 use Rattle.aug_core.specs.Book.{history_of}
@@ -30,7 +30,7 @@ module _ (face : ℕ → ℕ → List (ℕ × ℕ) → List ℕ) where
     pub took : Took below begun (9 + 2 * part_steps below.shape (left_of below.shape q))
     pub longer : length (history_of below.seen q) + 1 ≤ length (history_of begun.seen q)
 
-  -- the first try begins where the node was come to, and the second where the first failed
+  -- the first try begins when the node is reached, and the second when the first has failed
   abbrev pub IsTry : View → View → ℕ → ℕ → Bool → Type 0
   IsTry below begun q number false = begun ≡ below
   IsTry below begun q number true = Missed below begun q number
@@ -49,14 +49,14 @@ module _ (face : ℕ → ℕ → List (ℕ × ℕ) → List ℕ) where
       pub took : TookBetween leaf below (15 * level - 6) (30 * level - 12)
       pub lifts : Lifts leaf.shape leaf.seen below.seen key level
 
-    -- what is so all the way
+    -- what holds all the way
     pub record MayRise : Type 0 where
       pub low : key < 2 ^ leaf.shape.bits
       pub bits_are : bits ≡ leaf.shape.bits
       pub knows_table : KnowsTable face leaf
       pub room : HasRoom leaf number bits
 
-    -- where it is at a node
+    -- it is at a node
     pub record IsAtNode (a : Ascent) (begun : View) : Type 0 where
       pub may_rise : MayRise
       pub below_root : a.level < bits
@@ -85,7 +85,7 @@ module _ (face : ℕ → ℕ → List (ℕ × ℕ) → List ℕ) where
 
   -- an update of a key from the view u of a pass
   module _ (leaves bits number left key : ℕ) (request : Request) (u : View) where
-    -- where the update began stands in the view
+    -- the view says from what state the update began
     pub record HasBegun (w : View) : Type 0 where
       pub began : w.began ≡ record { seen = u.seen; steps = u.steps; changes = changes_of u.held }
       pub shaped : w.shape ≡ u.shape
@@ -97,7 +97,7 @@ module _ (face : ℕ → ℕ → List (ℕ × ℕ) → List ℕ) where
       pub loaded : BeginsAtLeaf face u key word w
       pub lets : goes_from request (serial_in_word word) ≡ true
 
-    -- its leaf was loaded, and exchanged where what was found let it go on
+    -- its leaf was loaded, and then exchanged if the serial that was found let the update continue
     pub record HasLeft (w : View) : Type 0 where
       pub found : ℕ
       pub more : List StepTaken
@@ -134,11 +134,11 @@ module _ (face : ℕ → ℕ → List (ℕ × ℕ) → List ℕ) where
 abbrev pub part_above : ℕ → ℕ
 part_above level = if level == 0 then 0 else 3
 
--- how many turns an update has at most that is on its way
+-- the greatest number of turns that an update on its way may have left
 abbrev pub ascent_turns : ℕ → Ascent → ℕ
 ascent_turns bits a = (bits - 1 - a.level) * 30 + (if a.second then 0 else 9 + 2 * part_above a.level) + point_turns (part_above a.level) a.point
 
--- and how many at all
+-- and the same at any stage
 abbrev pub stage_turns : ℕ → Stage → ℕ
 stage_turns bits Leaf = 30 * bits - 10
 stage_turns bits (Change word) = 30 * bits - 11
@@ -149,7 +149,7 @@ abbrev pub AscentFalls : ℕ → Ascent → Option Ascent → Type 0
 AscentFalls bits a (Some next) = (ascent_turns bits next < ascent_turns bits a) × (1 ≤ ascent_turns bits next)
 AscentFalls bits a None = 1 ≤ ascent_turns bits a
 
--- how many turns are left once a try is over, if another follows at the node where it was the first
+-- how many turns are left once a try is over; a second try follows at the node if this was the first
 abbrev pub past_try_turns : ℕ → Ascent → ℕ
 past_try_turns bits a = (bits - 1 - a.level) * 30 + (if a.second then 0 else 9 + 2 * part_above a.level)
 

@@ -1,4 +1,4 @@
--- What a walk keeps of a pass, where nothing happened, and by walks one after the other.
+-- What a walk keeps of a pass: lemmas for no walk at all, and for walks one after the other.
 use Rattle.std.proofs.Common.{◌≡◌, ℕ, List, [], ◌++◌, append_assoc, sym, refl, ap, subst, ◌∙◌, arith}
 use Rattle.std.proofs.lemmas.List.{append-nil}
 use Rattle.std.specs.Borrow.{MutBor}
@@ -48,7 +48,7 @@ module _ {A B : Type 0} (summary_of : List (ℕ × ℕ) → Summary A B) where
     few_steps = let x = a.few_steps in let y = b.few_steps in omega arith;
   }
 
-  -- a leaf of a view's pass tells what its key weighs in the snapshot's set
+  -- a leaf of a view's pass has the weight of its key in the snapshot's set
   pub leaf_weighs : (p : PassFacts) (s : Snapshot) (node : Node A B) → node.snapshot ≡ s → HasNode summary_of p node → node.level ≡ 0 → weight_in_word node.word ≡ weight_in (set_at p s).pairs node.place
   leaf_weighs p s node same has level = subst (λ (z : Snapshot). weight_in_word node.word ≡ weight_in (set_at p z).pairs node.place) same (has.weighs level)
 

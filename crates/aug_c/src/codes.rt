@@ -1,4 +1,4 @@
-//! What a call answers where it has no number to give.
+//! What a call answers if it has no number to give.
 
 /// There is no such member.
 pub const NONE: i64 = -1;

@@ -1,4 +1,4 @@
-//! What each step tells. These types are for the proofs alone.
+//! What each step shows. These types are only for the proofs.
 ghost use Rattle.aug_core.specs.Told.{read_record, stored_record, took_lane, finished_lane, handing_out, handed_out, taking_back, spent, loaded_leaf, began_at_leaf, tried_leaf, loaded_node, tried_node};
 ghost use Rattle.aug_core.specs.Faces.{face};
 

@@ -9,13 +9,13 @@ pub struct Entry {
     pub number: u64,
     /// The word that names the entry: of a node the number itself, of a leaf its serial and its weight.
     pub word: u64,
-    /// Where the left child's entry stands in its history.
+    /// The index of the left child's entry in its history.
     pub left: u64,
-    /// Where the right child's entry stands in its history.
+    /// The index of the right child's entry in its history.
     pub right: u64,
-    /// Where the left child's newest entry stood as this one came.
+    /// The index of the left child's newest entry when this one was published.
     pub left_floor: u64,
-    /// Where the right child's newest entry stood as this one came.
+    /// The index of the right child's newest entry when this one was published.
     pub right_floor: u64,
     /// What the key of a leaf weighs there; 0 if it is no member, and for a node.
     pub weight: u64,
@@ -27,7 +27,7 @@ pub struct Entry {
     pub words: LinkedList<u64>,
 }
 
-/// An accepted change: the key's serial went up to this one, and the key weighs so much there.
+/// An accepted change: the key's serial went up to `serial`, and the key weighs `weight` there.
 pub struct Change {
     pub key: u64,
     pub serial: u64,
@@ -68,7 +68,7 @@ pub struct Held {
     pub changes: LinkedList<Change>,
 }
 
-/// Where an update began: what the seat knew as it made the first step of it.
+/// The beginning of an update: what the seat knew when it made the update's first step.
 pub struct Beginning {
     /// The book as far as it had been seen.
     pub seen: LinkedList<LinkedList<Entry>>,
@@ -94,7 +94,7 @@ pub struct View {
     pub held: LinkedList<Held>,
     /// The first lane that was not handed out, if the seat is the one that hands lanes out.
     pub spare: Option<u64>,
-    /// Where the update began that the seat is in, or was in last.
+    /// The beginning of the update that the seat is in, or was in last.
     pub began: Beginning,
     /// The seat's steps, the last one last.
     pub steps: LinkedList<StepTaken>,

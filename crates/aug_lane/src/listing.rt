@@ -48,7 +48,7 @@ impl<A: Monoid, B: Monoid> Lane<A, B> {
         }
     }
 
-    // Writes so many members, those from an index on.
+    // Writes `count` members, those from the index `below` on.
     fn copied(self, below: u32, count: u32, out: &mut [u32]) -> Lane<A, B>
         requires rises { IsStrictlyIncreasing (list_of (set_at self.half self.held)) }
         requires there { below + count ≤ length (list_of (set_at self.half self.held)) }

@@ -20,7 +20,7 @@ fn five(alloc: Global) -> Result<Trie, BeginError> {
     }
 }
 
-// A round over it, which is begun again where memory was refused.
+// A round over it, which is begun again if memory was refused.
 fn again(rt: &impl Abort, alloc: Global, trie: Trie) -> Result<Work, BeginError> {
     let trie = match Running::begin(alloc, trie, 1, 1) {
         Ok(round) => return Ok(round),
@@ -58,7 +58,7 @@ fn refused_memory_leaves_the_set(rt: HostRuntime) -> Result<(), BeginError> {
     Ok(())
 }
 
-// A trie of 4 bits with the members 5 and 9, of which 9 weighs 70.
+// A trie of 4 bits with the members 5 and 9; 9 weighs 70.
 fn five_and_nine(alloc: Global) -> Result<Trie, BeginError> {
     let round = begun(alloc, Ended::empty(alloc, 4)?, 1, 2)?;
     let (round, lane) = round.open();
@@ -73,7 +73,7 @@ fn five_and_nine(alloc: Global) -> Result<Trie, BeginError> {
     }
 }
 
-// The members of a trie at rest with their weights, which are asked for again where memory was refused.
+// The members of a trie at rest with their weights, requested again if memory was refused.
 fn listed(rt: &impl Abort, alloc: Global, ended: &mut Trie) -> Vec<(u32, u32)> {
     match pairs(alloc, ended) {
         Ok(list) => list,
@@ -81,8 +81,8 @@ fn listed(rt: &impl Abort, alloc: Global, ended: &mut Trie) -> Vec<(u32, u32)> {
     }
 }
 
-// A round of more bits, which is begun again where memory was refused: the trie that came back has the same set then, and its own bits or
-// those that were asked for.
+// A round of more bits, which is begun again if memory was refused: the trie that came back then has the same set, and its own bits or
+// the requested ones.
 fn again_wider(rt: &impl Abort, alloc: Global, trie: Trie) -> Result<Work, BeginError> {
     let mut trie = match Running::begin_wider(alloc, trie, 6, 1, 1) {
         Ok(round) => return Ok(round),

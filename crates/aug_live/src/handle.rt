@@ -24,12 +24,12 @@ use std::sync::{Arc, Mutex, Wait};
 /// The desk under its lock: nothing once the trie was closed.
 pub(crate) type Desk<A, B> = Mutex<Option<Place<A, B>>>;
 
-/// What a thread updates a trie with, and looks at it. It may go to another thread, and has a lane of its own. A handle that is
+/// A thread's access to a trie, for updates and looks. It may go to another thread, and has a lane of its own. A handle that is
 /// dropped leaves its lane behind, and holds nobody up; `Live::handle` gives the lane to a new one.
 ///
-/// A call waits for a roll-over and for nothing else: it then goes on in the next round. Where the updates of its lane are spent, it takes a
-/// spare lane of the round, and waits for nobody but a handle that does the same. Where no spare lane is left it rolls the round over
-/// itself, which waits for the update that another handle is in, and for each look.
+/// A call waits for a roll-over and for nothing else: it then continues in the next round. If the updates of its lane are spent, it takes a
+/// spare lane of the round, and waits only for a handle that does the same. If no spare lane is left, it rolls the round over itself, which
+/// waits for the update that another handle is in, and for each look.
 #[derive(Drop)]
 pub struct Handle<A: Monoid, B: Monoid> {
     // An update takes it out and puts it back.
@@ -119,7 +119,7 @@ impl<A: Monoid, B: Monoid> Handle<A, B> {
         1 << self.bits
     }
 
-    // Makes an update, and rolls the round over where it must.
+    // Makes an update, and rolls the round over if it must.
     #[inline(always)]
     fn update<R: Wait>(&mut self, rt: &R, k: u32, update: Update) -> Result<Outcome, LiveError>
         requires key { k < 2 ^ self.old.half.round.bits }

@@ -145,9 +145,10 @@ impl<A: Monoid, B: Monoid> Live<A, B> {
         rolled
     }
 
-    /// Gives a lane to a new handle, if its own was dropped or is in a thread that ended. Lanes are numbered from 0, in the order of
-    /// the handles that `open` gave. The new handle goes on where the old one left the lane. If the old one is still there, it answers
-    /// `Replaced` from then on, and the call waits for the update or look that it is in. No round ends for it.
+    /// Gives a lane to a new handle, if the lane's own handle was dropped or is in a thread that ended. Lanes are numbered from 0, in
+    /// the order of the handles that `open` gave. The new handle continues from the state in which the old one left the lane. If the
+    /// old one is still there, it answers `Replaced` from then on, and the call waits for the update or look that it is in. No round
+    /// ends for it.
     ///
     /// Refused with `NoLane` and with `OutOfMemory`, and as `roll` is if the trie is at rest. After a refusal all is as it was.
     pub fn handle<R: Wait>(
@@ -194,7 +195,7 @@ impl<A: Monoid, B: Monoid> Live<A, B> {
 }
 
 impl<A: Monoid, B: Monoid> Room<A, B> {
-    // Lanes for so many handles, and room for what is to come.
+    // Lanes for `handles` handles, and room for what is to come.
     fn new(alloc: Global, handles: u32, universe: u32) -> Result<Room<A, B>, AllocError>
         ensures firsts { IfOk result (λ r. All (λ v. v.kind ≡ 0) r.firsts.items × (vec_len r.firsts ≡ handles)) }
         ensures ports { IfOk result (λ r. (r.ports.items ≡ []) × (handles ≤ vec_capacity r.ports)) }
@@ -214,7 +215,7 @@ impl<A: Monoid, B: Monoid> Room<A, B> {
     }
 }
 
-// The first ends of so many new lanes.
+// The first ends of `handles` new lanes.
 fn first_ends<A: Monoid, B: Monoid>(
     alloc: Global,
     handles: u32,

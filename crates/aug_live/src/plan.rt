@@ -4,7 +4,7 @@ ghost use Rattle.aug_live.specs.Plans.{Fits, least_plan};
 
 use aug_core::Layout;
 
-// Where there are more lanes than handles, each has at least so many updates.
+// If there are more lanes than handles, each lane has at least this many updates.
 const LEAST_UPDATES: u64 = 256;
 
 const MOST_LANES: u32 = 64;

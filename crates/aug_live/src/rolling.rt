@@ -20,8 +20,8 @@ use std::snapshot::Snapshot;
 use std::sync::{Arc, Wait};
 use std::thread::yield_now;
 
-// Begins a round over a set, where its numbers are those of a table for the full set. After a refusal, which is for want of
-// memory, the same set comes back.
+// Begins a round over a set, with the numbers of a table for the full set. It is refused only for lack of memory, and then the
+// same set comes back.
 fn begun<A: Monoid, B: Monoid>(
     alloc: Global,
     set: Members,

@@ -3,7 +3,7 @@ ghost use Rattle.std.specs.Prelude.{◌≡◌};
 
 use std::marker::{Model, PhantomData, Send};
 
-/// A `T` as clauses saw it. It has no bytes and owns nothing. (The `Snapshot` of std is this too, but may not be told to go to
+/// A `T` as clauses saw it. It has no bytes and owns nothing. (The `Snapshot` of std is the same, but cannot be declared to go to
 /// another thread.)
 pub(crate) struct Seen<T> {
     of: PhantomData<T>,

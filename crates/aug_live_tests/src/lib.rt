@@ -1,5 +1,5 @@
-//! The tests of `aug_live`: what no clause says, as that rounds roll over, also while threads work, and that nothing is lost where
-//! memory is refused.
+//! The tests of `aug_live`: what no clause says, such as that rounds roll over, also while threads work, and that nothing is lost
+//! if memory is refused.
 #![tactic(auto)]
 
 #[cfg(test)]

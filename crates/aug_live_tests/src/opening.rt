@@ -12,7 +12,7 @@ pub(super) type Trie = Live<Sum, Extent>;
 
 pub(super) type Hand = Handle<Sum, Extent>;
 
-// The empty set of keys of so many bits.
+// The empty set of keys of `bits` bits.
 pub(super) fn no_keys(alloc: Global, bits: u32) -> Result<Members, BeginError> {
     let ended: Ended<Sum, Extent> = Ended::empty(alloc, bits)?;
     match ended.into_members(alloc) {
@@ -21,7 +21,7 @@ pub(super) fn no_keys(alloc: Global, bits: u32) -> Result<Members, BeginError> {
     }
 }
 
-// A trie over the empty set of keys of so many bits, with no spare lane.
+// A trie over the empty set of keys of `bits` bits, with no spare lane.
 pub(super) fn opened<R: Wait>(
     rt: &R,
     alloc: Global,
@@ -32,7 +32,7 @@ pub(super) fn opened<R: Wait>(
     opened_with(rt, alloc, bits, handles, 0, updates)
 }
 
-// A trie over the empty set of keys of so many bits, with so many spare lanes.
+// A trie over the empty set of keys of `bits` bits, with `spare` spare lanes.
 pub(super) fn opened_with<R: Wait>(
     rt: &R,
     alloc: Global,

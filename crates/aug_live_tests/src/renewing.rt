@@ -78,7 +78,7 @@ fn there_are_as_many_lanes_as_handles(rt: HostRuntime) -> Result<(), BeginError>
     Ok(())
 }
 
-// Puts key 3 in and takes it out so many times in turn, each time with a new handle for the lane 3. Whether all was right.
+// Puts key 3 in and takes it out in turn, `times` times, each time with a new handle for the lane 3. Whether all was right.
 fn renew_often<R: Wait>(rt: &R, alloc: Global, live: &Trie, times: u32) -> bool {
     let mut right = true;
     for number in 0..times {

@@ -8,7 +8,7 @@ use std::process::Abort;
 use std::sync::Wait;
 use std::thread;
 
-// Puts so many keys in, from one on, each of which is none yet.
+// Puts `count` keys in, from the key `from` on; none of them is a member yet.
 fn fill<R: Wait + Abort>(rt: &R, hand: &mut Hand, from: u32, count: u32) {
     for k in from..from.saturating_add(count) {
         assert_eq!(rt; insert(rt, hand, k), Ok(true));
@@ -80,12 +80,12 @@ fn four_threads_share_spare_lanes(rt: HostRuntime) -> Result<(), BeginError> {
     }
     let (set, counts) = live.close(r);
     assert_eq!(rt; u64::from(set.size()), sum);
-    // 80,000 calls, of which a round has room for 4,000, and none is left out but those of lanes that were not spent at its end.
+    // 80,000 calls. A round has room for 4,000, and uses all of them except those of lanes that were not spent at its end.
     assert!(rt; counts.rounds >= 20 && counts.rounds <= 26);
     Ok(())
 }
 
-// The words of a table for the full set of so many bits.
+// The words of a table for the full set of keys of `bits` bits.
 fn words_of(bits: u32, plan: Plan) -> u64 {
     let keys = 1u64 << (bits % 32);
     let calls = u64::from(plan.lanes).saturating_mul(u64::from(plan.updates));

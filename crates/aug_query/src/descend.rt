@@ -10,15 +10,14 @@ ghost use Rattle.aug_query.specs.declared.loaded.Loaded.{Loaded as Loads};
 use aug_model::Summary;
 use aug_monoid::Monoid;
 
-/// A complete binary tree of a set of keys below `2^bits`, each with a weight, as a query goes down it. The node at level
-/// `j` and place `p` covers the keys `p * 2^j` to `(p + 1) * 2^j - 1`. A leaf is at level 0, and the top is at level `bits`,
-/// place 0.
+/// A complete binary tree of a set of keys below `2^bits`, each with a weight, as a query descends it. The node at level `j` and
+/// place `p` covers the keys `p * 2^j` to `(p + 1) * 2^j - 1`. A leaf is at level 0, and the top is at level `bits`, place 0.
 ///
-/// The walk keeps what names the node where it stands, and counts level and place itself. Each call loads what it gives
-/// and no more, so a rank does not pay for the folds of the nodes on its way. A [`Tree`](crate::Tree), whose nodes
-/// are loaded whole, is walked through [`NodeWalk`](crate::NodeWalk).
+/// The walk keeps the name of the node that it has reached, and counts level and place itself. Each call loads only what it
+/// gives, so a rank does not pay for the folds of the nodes on its way. A [`Tree`](crate::Tree), whose nodes are loaded whole, is
+/// walked through [`NodeWalk`](crate::NodeWalk).
 pub trait Descend<A: Monoid, B: Monoid> {
-    /// What names a node: a trie's is the word that its parent has of it.
+    /// The name of a node. In a trie it is the word that the parent has of the node.
     type Name: Drop;
 
     // How many bits the keys have, and the members, rising, each with its weight.

@@ -20,7 +20,7 @@ pub struct FakeNode<A, B> {
     level: u32,
     place: u32,
     summary: Summary<A, B>,
-    // that of a leaf's key, 0 where it is no member and in the nodes above
+    // that of a leaf's key; 0 if the key is no member, and in the nodes above
     weight: u32,
 }
 

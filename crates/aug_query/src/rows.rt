@@ -27,7 +27,7 @@ pub(crate) fn leaf_row<A: Monoid, B: Monoid>(
     Ok(row)
 }
 
-// The weight of each key of `bits` bits, 0 where it is in none of `pairs`.
+// The weight of each key of `bits` bits, 0 if it is in none of `pairs`.
 pub(crate) fn leaf_weights(
     alloc: Global,
     bits: u32,
@@ -43,7 +43,7 @@ pub(crate) fn leaf_weights(
     Ok(weights)
 }
 
-// A row of so many leaves that cover no member.
+// A row of `width` leaves that cover no member.
 fn empty_row<A: Monoid, B: Monoid>(
     alloc: Global,
     width: usize,

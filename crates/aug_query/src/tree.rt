@@ -16,7 +16,7 @@ use aug_monoid::Monoid;
 /// A walk may load each node anew, so it takes `&mut self`. But it does not change the tree: its set and bits stay,
 /// and a node that was once handed out stays one of its nodes.
 pub trait Tree<A: Monoid, B: Monoid> {
-    /// A node as a walk holds it: where it stands, its summary, and a leaf's weight.
+    /// A node as a walk holds it: its level and place, its summary, and a leaf's weight.
     type Node: Drop;
 
     // How many bits the keys have, and the members, rising, each with its weight.
@@ -40,7 +40,7 @@ pub trait Tree<A: Monoid, B: Monoid> {
     // The summary that a node carries.
     ghost told_by: { Self.Node → Told A B };
 
-    // The weight of a leaf's key, 0 where it is no member.
+    // The weight of a leaf's key, 0 if it is no member.
     ghost weight_by: { Self.Node → ℕ };
 
     /// How many bits the keys have, from 1 to 16.

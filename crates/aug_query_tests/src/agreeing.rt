@@ -17,7 +17,7 @@ fn agrees_at(tree: &mut FakeTree<Last, Sum>, set: &KeySet, k: u32) -> bool {
         && after(tree, k) == set.after(k)
 }
 
-// The set of the keys 0 to 3 whose bits are set in `code`, none of which weighs what it is.
+// The set of the keys 0 to 3 whose bits are set in `code`. No key weighs itself.
 fn set_of(alloc: Global, code: u32) -> Result<KeySet, ModelError> {
     let mut set = KeySet::try_new(alloc, 2)?;
     for k in 0..4 {
@@ -28,7 +28,7 @@ fn set_of(alloc: Global, code: u32) -> Result<KeySet, ModelError> {
     Ok(set)
 }
 
-// The set of the keys of so many bits that leave `rest` when `divisor` divides them.
+// The set of the keys of `wanted` bits that leave `rest` when `divisor` divides them.
 fn set_of_rests(alloc: Global, wanted: u32, divisor: u32, rest: u32) -> Result<KeySet, ModelError> {
     let mut set = KeySet::try_new(alloc, wanted)?;
     let bits = set.bits();
@@ -140,7 +140,7 @@ fn every_query_agrees_with_the_plain_set(rt: HostRuntime) -> Result<(), Fail> {
     Ok(())
 }
 
-// The set of so many of the least keys of so many bits.
+// The set of the `members` least keys of `wanted` bits.
 fn set_of_least(alloc: Global, wanted: u32, members: u32) -> Result<KeySet, ModelError> {
     let mut set = KeySet::try_new(alloc, wanted)?;
     let bits = set.bits();

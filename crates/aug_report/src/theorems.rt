@@ -37,7 +37,7 @@ pub fn own_updates()
     ensures shown { SnapshotsShowAccepted }
 {}
 
-/// A lane that is alone has `new` only where the set changes, and `old` only where the key was in.
+/// A lane that is alone has `new` only if the set changes, and `old` only if the key was in.
 pub fn causes()
     ensures new_changes { NewChanges }
     ensures old_has_cause { OldHasCause }
@@ -48,7 +48,7 @@ pub fn rounds()
     ensures goes_on { NextRoundGoesOn }
 {}
 
-/// While a weight is replaced no snapshot is without the key, each weight that shows was put, and a put is lost only where something changed.
+/// While a weight is replaced no snapshot is without the key, each weight that shows was put, and a put is lost only if something changed.
 pub fn weights()
     ensures set_keeps_the_key { SetKeepsTheKey }
     ensures is_seen { WeightIsSeen }

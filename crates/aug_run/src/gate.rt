@@ -1,6 +1,6 @@
-//! What is told of each row of a round.
+//! What is called for each row of a round.
 
-/// Is told of each row before and after it runs, in the thread of its lane.
+/// Is called for each row before and after it runs, in the thread of its lane.
 pub trait Gate: Sync {
     /// The lane is about to run the row with this number in the script.
     fn before(&self, lane: u32, row: u64);

@@ -5,10 +5,10 @@ use aug_script::{Fault, Source};
 
 /// Standard input, or a file in its place once one was opened.
 pub trait Input: Source {
-    // The bytes of the file at a path, where they are known.
+    // The bytes of the file at a path, if they are known.
     ghost file_bytes: { Self → List ℕ → Option (List ℕ) } = { λ _ _. None };
 
-    /// Opens the file at `path`, from which is read from now on.
+    /// Opens the file at `path`. From now on reads come from it.
     fn open(&mut self, path: &str) -> Result<(), Fault>
         requires { Self.Source.fault_count self.old < 2 ^ 64 - 1 }
         ensures bytes { OnOk result (Self.Source.remaining self.new ≡ file_bytes self.old path.now) }

@@ -31,7 +31,7 @@ pub fn carry_out<R: Threads + Wait, I: Input, O: Sink, E: Sink>(
     requires output { (O.state output.old).faults < 2 ^ 64 - 1 }
     requires errors { (E.state errors.old).faults < 2 ^ 64 - 1 }
 
-    // Where the command line stops the program.
+    // If the command line stops the program.
     ensures status { IfErr asked (λ stop. result ≡ (stop_ending fault_line stop).0) }
     ensures unread { IfErr asked (λ stop. input.new ≡ input.old) }
     ensures help { IfErr asked (λ stop. MatchBool (result == 0)
@@ -41,7 +41,7 @@ pub fn carry_out<R: Threads + Wait, I: Input, O: Sink, E: Sink>(
         (errors.new ≡ errors.old)
         (ShowsText (E.state errors.old) (E.state errors.new) (stop_ending fault_line stop).1)) }
 
-    // Where a script is run.
+    // If a script is run.
     ensures done { IfOk asked (λ options. result ≡ 0 → (errors.new ≡ errors.old) × IfSome (option_map_or (λ path. I.file_bytes input.old (string_bytes path)) options.file (I.Source.remaining input.old))
         (RunsWhole options.limits (O.state output.old) (O.state output.new))) }
     ensures failed { IfOk asked (λ options. result ≢ 0 → (error : RunError) × (result ≡ (run_ending error).0)

@@ -48,8 +48,8 @@ fn run_lanes<'r, R: Threads + Wait, G: Gate>(
 
 /// Runs a round over a trie at rest: one pass and one worker thread for each lane, all at the same time. Keys have the bits of
 /// the round, which are no fewer than the trie's. The report has the rows in their order, each with its reply, and the trie that
-/// comes back has these bits, and the round's last set. It is refused for want of memory, or of a thread, alone, as `OutOfMemory`; the
-/// trie is then given up. The gate is told of each row in the thread of its lane.
+/// comes back has these bits, and the round's last set. It is refused only for lack of memory or of a thread, as `OutOfMemory`; the
+/// trie is then given up. The gate is called for each row in the thread of its lane.
 pub fn run_round<R: Threads + Wait, G: Gate>(
     rt: &R,
     alloc: Global,
@@ -84,7 +84,7 @@ pub fn run_round<R: Threads + Wait, G: Gate>(
     Ok((ended, report))
 }
 
-// The round of these limits with keys of so many bits. It is refused for want of memory alone.
+// The round of these limits with keys of `bits` bits. It is refused only for lack of memory.
 fn begin(
     alloc: Global,
     ended: Trie,

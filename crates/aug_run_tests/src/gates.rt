@@ -1,4 +1,5 @@
-//! What no clause says of the gate: that it is told of each row of each lane, when it is told, and that the lanes run at the same time.
+//! What no clause says of the gate: that it is called for each row of each lane, when it is called, and that the lanes run at the same
+//! time.
 use crate::rounds::report_of;
 use aug_run::Gate;
 use aug_script::Reply;
@@ -9,7 +10,7 @@ use std::sync::atomic::Ordering::SeqCst;
 use std::test::Fail;
 use std::thread;
 
-// A count that lanes raise and wait for, for so many looks at most. Once one has waited in vain, none waits any more.
+// A count that lanes raise and wait for, for at most `LOOKS` looks. Once one lane has waited in vain, none waits any more.
 #[derive(Drop)]
 struct Meeting {
     count: AtomicU64,
@@ -46,7 +47,7 @@ impl Meeting {
     }
 }
 
-// So many lanes, which have their rows in turn, wait for each other before each of them.
+// `lanes` lanes, which have their rows in turn, wait for each other before each row.
 #[derive(Drop)]
 struct MeetEachTime {
     lanes: u64,
@@ -64,7 +65,7 @@ impl Gate for MeetEachTime {
     fn after(&self, _lane: u32, _row: u64) {}
 }
 
-// Three rows for each of so many lanes, in turn.
+// Three rows for each of `lanes` lanes, in turn.
 fn looks_in_turn(alloc: Global, lanes: u32) -> Result<String, AllocError> {
     let mut text = String::new(alloc);
     for _ in 0..3u32 {
@@ -90,7 +91,7 @@ fn the_lanes_run_at_the_same_time(rt: HostRuntime) -> Result<(), Fail> {
     Ok(())
 }
 
-// What it is told of each lane, three digits for each call: twice the row's number before it, and one more after it.
+// The calls for each lane, three digits for each call: twice the row's number before the row, and one more after it.
 #[derive(Drop)]
 struct Told {
     lanes: Vec<AtomicU64>,

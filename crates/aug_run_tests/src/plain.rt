@@ -93,7 +93,7 @@ impl Plain {
     }
 }
 
-/// The replies to all rows of a script's rounds, and how many members the set then has. None where the script has a fault.
+/// The replies to all rows of a script's rounds, and how many members the set then has. None if the script has a fault.
 pub(crate) fn plain_replies(
     alloc: Global,
     limits: &Limits,

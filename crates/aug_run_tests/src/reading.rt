@@ -45,7 +45,8 @@ fn bytes_of(alloc: Global, bytes: &[u8]) -> Result<Vec<u8>, ReadError> {
     read_all(alloc, &mut source)
 }
 
-// Passes whichever request for memory is refused: that is told, and the same bytes are read once there is memory again.
+// Passes whichever request for memory is refused: the refusal is reported, and the same bytes are read once there is memory
+// again.
 #[test]
 fn refused_memory_is_told_by_reading_all(rt: HostRuntime) -> Result<(), Fail> {
     let bytes = match bytes_of(rt.alloc(), b"abc") {

@@ -10,7 +10,7 @@ use std::sync::Wait;
 use std::test::Fail;
 use std::thread::Threads;
 
-// The trie at the end of a script's rounds, and their reports. None where the script or a limit has a fault.
+// The trie at the end of a script's rounds, and their reports. None if the script or a limit has a fault.
 fn run_text<R: Threads + Wait, G: Gate>(
     rt: &R,
     alloc: Global,

@@ -12,7 +12,7 @@ pub struct Fault;
 
 /// Where bytes come from.
 pub trait Source {
-    // The bytes that are still to come, where they are known.
+    // The bytes that are still to come, if they are known.
     ghost remaining: { Self → Option (List ℕ) } = { λ _. None };
 
     // How often a call answered `Fault` so far.

@@ -9,7 +9,7 @@ pub(crate) enum Item {
     Row(Row),
     /// The end of that round.
     End,
-    /// Keys have so many bits, from that round on.
+    /// The number of bits that keys have from that round on.
     Grow(u32),
 }
 

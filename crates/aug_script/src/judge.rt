@@ -43,7 +43,7 @@ fn are_arguments_numbers(fields: &ByteRecord) -> bool
     true
 }
 
-/// The number that the field at a place writes, or 0 where it is none.
+/// The number that the field at a place writes, or 0 if it is none.
 fn number_in(fields: &ByteRecord, place: usize) -> u32
     ensures { result ≡ number_at_place (fields_of fields.now) place }
 {
@@ -73,7 +73,7 @@ fn named(row_number: u64, fields: &ByteRecord) -> Option<Item>
     }
 }
 
-/// The row, or its fault where its lane or its arguments are out of range or its lane has no update left.
+/// The row, or its fault if its lane or its arguments are out of range or its lane has no update left.
 fn bounded(limits: &Limits, read: &OpenRounds, row: Row) -> Result<Item, ScriptError>
     ensures item { result ≡ bounded_item limits.now read.now (item.Row row) }
     ensures can { IfOk result CanTake }
@@ -87,7 +87,7 @@ fn bounded(limits: &Limits, read: &OpenRounds, row: Row) -> Result<Item, ScriptE
     Ok(Item::Row(row))
 }
 
-/// So many bits for the keys from now on, or the first fault of that.
+/// `bits` bits for the keys from now on, or the first fault of that.
 fn growing(limits: &Limits, read: &OpenRounds, bits: u32) -> Result<Item, ScriptError>
     ensures item { result ≡ bounded_item limits.now read.now (item.Grow bits) }
     ensures can { IfOk result CanTake }

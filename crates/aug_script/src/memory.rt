@@ -1,4 +1,4 @@
-//! Devices over memory, for tests: they move few bytes a call, and fail where they are told to.
+//! Devices over memory, for tests: they move few bytes in each call, and fail at the call that the test sets.
 ghost use Rattle.std.specs.Prelude.{◌+◌, ◌-◌, ◌^◌, ◌<◌, ◌≤◌, ◌≡◌, [], Some, length, IfOk, is_ok, if◌then◌else◌};
 ghost use Rattle.std.specs.Io.KnownBytes.{Keeps, ReadConsumes, WriteAppends};
 

@@ -124,7 +124,7 @@ impl OpenRounds {
         Ok(())
     }
 
-    // From the open round on, keys have so many bits.
+    // From the open round on, keys have `bits` bits.
     fn grow(&mut self, bits: u32)
         requires most { bits ≤ 16 }
         requires number { self.old.next < 2 ^ 64 - 1 }

@@ -26,7 +26,7 @@ pub enum ScriptError {
     OutOfMemory,
     /// 9: a row of a lane came before `grow` in this round. It is tested after 6.
     BadPlace(u64),
-    /// 10: a round of so many bits that opens with every key has no table under the limits. It is tested after 9.
+    /// 10: a round of the requested bits that opens with every key has no table under the limits. It is tested after 9.
     TooWide(u64),
 }
 

@@ -7,9 +7,9 @@ use std::fmt;
 /// last.
 #[derive(Clone, Copy, Debug, PartialEq, Eq)]
 pub enum Verb {
-    /// Put a key in where it is not in. Its weight is then the key itself.
+    /// Put a key in if it is not in. Its weight is then the key itself.
     Insert(u32),
-    /// Give a key, the first number, a weight, the second, and put it in where it is not in.
+    /// Give a key, the first number, a weight, the second, and put it in if it is not in.
     Put(u32, u32),
     /// Take a key out.
     Remove(u32),
@@ -23,7 +23,7 @@ pub enum Verb {
     Size,
     /// How many members are below a key.
     Rank(u32),
-    /// The member that has so many members below it, if there is one.
+    /// The member that has this many members below it, if there is one.
     Select(u32),
     /// The greatest member below a key, if there is one.
     Before(u32),
@@ -84,7 +84,7 @@ impl Verb {
         }
     }
 
-    /// Whether the arguments are within their bounds, for keys of so many bits.
+    /// Whether the arguments are within their bounds, for keys of `bits` bits.
     pub(crate) fn is_in_bounds(self, bits: u32) -> bool
         requires { bits ≤ 16 }
         ensures { result ≡ is_in_bounds_of bits self }

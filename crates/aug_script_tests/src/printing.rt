@@ -6,7 +6,7 @@ use aug_script::{Fault, Listed, MemorySink, PrintError, Reply, Report, Verb, pri
 use std::alloc::{AllocError, Global};
 use std::test::Fail;
 
-// What is known of these keys with their weights, which are so many.
+// The summary of these keys with their weights; `count` is their number.
 fn span(count: u32, keys: &[(u32, u32)]) -> Reply {
     Reply::Span(Summary {
         count,

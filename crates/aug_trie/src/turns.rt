@@ -1,4 +1,4 @@
-//! An update by single turns, each of which makes one step.
+//! An update by single turns. Each turn makes one step.
 
 pub(crate) mod ascents;
 pub(crate) mod climb;

@@ -85,7 +85,7 @@ fn weights_change_in_the_next_round(rt: HostRuntime) -> Result<(), BeginError> {
     Ok(())
 }
 
-// A round of one update, which is asked for again where memory was refused: the trie that came back has its weights then.
+// A round of one update, requested again if memory was refused: the trie that came back then has its weights.
 fn begun(rt: &impl Abort, alloc: Global, ended: Trie) -> Result<(Table, Hands), BeginError>
     ensures together { IfOk result (λ t. t.1.round ≡ t.0) }
 {
@@ -100,7 +100,7 @@ fn begun(rt: &impl Abort, alloc: Global, ended: Trie) -> Result<(Table, Hands), 
     next_round(alloc, ended, 1, 1)
 }
 
-// All pairs of a new snapshot, which are asked for again where memory was refused.
+// All pairs of a new snapshot, requested again if memory was refused.
 fn listed(alloc: Global, pass: &mut Pass<Sum, Extent>) -> Result<Vec<(u32, u32)>, AllocError>
     ensures round { pass.new.round ≡ pass.old.round }
 {

@@ -51,14 +51,14 @@ fn a_clone_of_a_snapshot_answers_as_the_snapshot(rt: HostRuntime) -> Result<(), 
     Ok(())
 }
 
-// Where a node stands, and what it covers.
+// The level and the place of a node, and what it covers.
 type Stand = (u32, u32, Summary<Sum, Extent>);
 
 fn stand(node: &Node<Sum, Extent>) -> Stand {
     (node.level(), node.place(), node.summary())
 }
 
-// Where the top of a new snapshot of 2 bits stands and its clone, and then the right child of the clone.
+// The stand of the top of a new snapshot of 2 bits, that of its clone, and then that of the right child of the clone.
 fn clones_of_top(rt: &impl Abort, pass: &mut Pass<Sum, Extent>) -> (Stand, Stand, Stand)
     requires bits { pass.old.round.bits ≡ 2 }
     ensures round { pass.new.round ≡ pass.old.round }

@@ -32,7 +32,7 @@ fn one_key_that_two_threads_put_in_is_accounted_for(rt: HostRuntime) -> Result<(
     assert_eq!(rt; (ended.size(), ended.missing()), (1, 0));
     let out = u64::from(ended.removals()) + 1;
     assert_eq!(rt; out, u64::from(ended.inserts()));
-    // A put is refused only where one of the other lane came between, and each of those refuses one.
+    // A put is refused only if one of the other lane came between, and each of those refuses one.
     assert!(rt; ended.inserts() >= 200 && ended.inserts() <= 400);
     Ok(())
 }

@@ -1,4 +1,4 @@
-//! Threads that put the same keys in, each of which looks as soon as its own insertions have returned.
+//! Threads that put the same keys in. Each thread looks as soon as its own insertions have returned.
 ghost use Rattle.std.specs.Prelude.{◌≡◌};
 
 use super::ending::seen_size;

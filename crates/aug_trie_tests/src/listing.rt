@@ -8,7 +8,7 @@ use aug_trie::{BeginError, Members, Round};
 use std::alloc::Global;
 use std::process::Abort;
 
-// The list of a trie's set, which is asked for again where memory was refused.
+// The list of a trie's set, requested again if memory was refused.
 fn listed(alloc: Global, ended: Trie) -> Result<Members, BeginError> {
     match ended.into_members(alloc) {
         Ok(members) => Ok(members),
@@ -25,7 +25,7 @@ fn begun(alloc: Global, members: Members) -> Result<(Table, Hands), (Members, Be
     Round::begin_over(alloc, members, 4, 1, 2)
 }
 
-// The same, and where memory was refused it is asked for again.
+// The same, requested again if memory was refused.
 fn begun_at_last(
     rt: &impl Abort,
     alloc: Global,
@@ -78,7 +78,7 @@ fn refused_memory_leaves_the_list(rt: HostRuntime) -> Result<(), BeginError> {
     Ok(())
 }
 
-// The list that comes back where these numbers are refused.
+// The list that comes back if these numbers are refused.
 fn given_back(
     rt: &impl Abort,
     alloc: Global,

@@ -154,7 +154,7 @@ fn a_pass_that_looks_never_misses_a_key_that_another_replaces(
     Ok(())
 }
 
-// Puts every key of 16 bits in with the greatest weight, where updates are left.
+// Puts every key of 16 bits in with the greatest weight, as long as updates are left.
 fn put_all(pass: &mut Pass<Sum, Extent>)
     requires bits { pass.old.round.bits ≡ 16 }
     ensures round { pass.new.round ≡ pass.old.round }

@@ -40,7 +40,7 @@ fn assert_answers(rt: &impl Abort, alloc: Global, ended: &mut Trie) {
     );
 }
 
-// A round of one update, which is asked for again where memory was refused.
+// A round of one update, requested again if memory was refused.
 fn begun(rt: &impl Abort, alloc: Global, ended: Trie) -> Result<(Table, Hands), BeginError>
     ensures together { IfOk result (λ t. t.1.round ≡ t.0) }
 {
@@ -58,7 +58,7 @@ fn begun(rt: &impl Abort, alloc: Global, ended: Trie) -> Result<(Table, Hands), 
     }
 }
 
-// All keys of a new snapshot, which are asked for again where memory was refused.
+// All keys of a new snapshot, requested again if memory was refused.
 fn listed(alloc: Global, pass: &mut Pass<Sum, Extent>) -> Result<Vec<u32>, AllocError> {
     let snapshot = pass.snapshot();
     match pass.keys(alloc, snapshot) {
@@ -89,7 +89,7 @@ fn refused_memory_leaves_every_answer(rt: HostRuntime) -> Result<(), BeginError>
     Ok(())
 }
 
-// The trie that comes back where these numbers are refused.
+// The trie that comes back if these numbers are refused.
 fn given_back(
     rt: &impl Abort,
     alloc: Global,

@@ -108,8 +108,8 @@ fn a_put_that_lost_its_leaf_is_refused(rt: HostRuntime) -> Result<(), BeginError
     Ok(())
 }
 
-// After which turn the key was first seen to weigh 8, where so many were made and it is seen to weigh this: 0 where it was not yet. None
-// where it weighs anything but 0 before that turn and 8 from it on.
+// The turn after which the key was first seen to weigh 8, if `made` turns were made and it is now seen to weigh `weight`: 0 if it was
+// not seen so yet. None if it weighs anything but 0 before that turn and 8 from it on.
 fn first_seen(weight: Option<u32>, made: u32, first: u32) -> Option<u32> {
     match (weight, first) {
         (Some(0), 0) => Some(0),
@@ -119,8 +119,8 @@ fn first_seen(weight: Option<u32>, made: u32, first: u32) -> Option<u32> {
     }
 }
 
-// Makes all turns of a put of 0 that weighs 8 in place of 0, after each of which another pass looks at the key: what the put came to, and
-// after which turn the other first saw it. None where the other once saw another weight, or no key.
+// Makes all turns of a put of 0 that weighs 8 in place of 0. After each turn another pass looks at the key. The result is the outcome of
+// the put, and after which turn the other first saw it; None if the other once saw another weight, or no key.
 fn watched<'r>(climb: Climber<'r>, other: &mut Walker<'r>) -> Option<(Walker<'r>, Outcome, u32)>
     ensures round { IfSome result (λ t. t.0.round ≡ climb.entry.start.round) }
     ensures other { other.new.round ≡ other.old.round }
@@ -157,8 +157,8 @@ fn no_turn_of_a_replacement_shows_the_key_gone(rt: HostRuntime) -> Result<(), Be
     Ok(())
 }
 
-// What 0 weighs after its replacement by 8 was given up after so many turns, and another pass put 1 in: in that pass, and in the
-// trie at rest; and what is counted of the round.
+// What 0 weighs after its replacement by 8 was given up after a number of turns, and another pass put 1 in: in that pass, and in
+// the trie at rest; and the counts of the round.
 type GivenUp = (Option<u32>, Option<u32>, (u32, u32, u32));
 
 // That.

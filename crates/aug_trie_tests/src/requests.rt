@@ -1,6 +1,6 @@
 //! How often rounds ask for memory. The number stands in a test's name: `tests/requests.py` counts. An empty trie asks three times, for its
-//! words while they are made and for the two rows of its table, one of which is empty, and so does a round over no members. A round over
-//! some asks once more, for their list. Nothing else asks but a list, once.
+//! words while they are made and for the two rows of its table (one row is empty), and so does a round over no members. A round over some
+//! members asks once more, for their list. Nothing else asks except a list, once.
 ghost use Rattle.std.specs.Prelude.{◌≡◌};
 ghost use Rattle.aug_trie.specs.Snapshot.{HasSnapshot};
 

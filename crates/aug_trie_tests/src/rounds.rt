@@ -46,7 +46,7 @@ pub(super) fn next_pass<'r>(
     crew.pass(round)
 }
 
-// Puts a key in, where an update is left.
+// Puts a key in, if an update is left.
 pub(super) fn insert(pass: &mut Pass<Sum, Extent>, bits: u32, key: u32) -> bool
     requires bits { pass.old.round.bits ≡ bits }
     requires key { key < 2 ^ bits }
@@ -56,7 +56,7 @@ pub(super) fn insert(pass: &mut Pass<Sum, Extent>, bits: u32, key: u32) -> bool
     pass.budget() > 0 && pass.insert(key)
 }
 
-// Takes a key out, where an update is left.
+// Takes a key out, if an update is left.
 pub(super) fn remove(pass: &mut Pass<Sum, Extent>, bits: u32, key: u32) -> bool
     requires bits { pass.old.round.bits ≡ bits }
     requires key { key < 2 ^ bits }
@@ -66,7 +66,7 @@ pub(super) fn remove(pass: &mut Pass<Sum, Extent>, bits: u32, key: u32) -> bool
     pass.budget() > 0 && pass.remove(key)
 }
 
-// Puts a key in with a weight, where an update is left.
+// Puts a key in with a weight, if an update is left.
 pub(super) fn put(pass: &mut Pass<Sum, Extent>, bits: u32, key: u32, weight: u32) -> Outcome
     requires bits { pass.old.round.bits ≡ bits }
     requires key { key < 2 ^ bits }

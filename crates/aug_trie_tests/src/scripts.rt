@@ -27,7 +27,7 @@ impl Numbers {
         (self.word >> 32) as u32
     }
 
-    // A key of so many bits.
+    // A key of `bits` bits.
     fn key(&mut self, bits: u32) -> u32
         requires { bits ≤ 16 }
         ensures { result < 2 ^ bits }
@@ -168,7 +168,7 @@ pub(super) fn assert_rests(rt: &impl Abort, alloc: Global, ended: &mut Trie, set
     assert_lists(rt, &keys, &pairs, set);
 }
 
-// A round of so many steps over a trie at rest: the trie after it.
+// A round of `steps` steps over a trie at rest: the trie after it.
 fn played(
     rt: &impl Abort,
     alloc: Global,

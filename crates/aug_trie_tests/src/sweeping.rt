@@ -22,7 +22,7 @@ fn an_empty_trie_is_made_at_each_number_of_bits(rt: HostRuntime) -> Result<(), B
     Ok(())
 }
 
-// A trie of so many bits with the members 0, which weighs 70, and 1, which weighs 2^32 - 1.
+// A trie of `bits` bits with the members 0, which weighs 70, and 1, which weighs 2^32 - 1.
 fn zero_and_one(alloc: Global, bits: u32) -> Result<Trie, BeginError> {
     if bits == 0 {
         return Err(BeginError::BadBits);
@@ -36,7 +36,7 @@ fn zero_and_one(alloc: Global, bits: u32) -> Result<Trie, BeginError> {
     Ok(round.end(crew))
 }
 
-// Begins a round of so many workers and updates over such a trie, and looks: the trie after it.
+// Begins a round of `workers` workers and `updates` updates over such a trie, and looks: the trie after it.
 fn begun(
     rt: &impl Abort,
     alloc: Global,
@@ -121,7 +121,7 @@ fn rounds_of_many_updates_begin(rt: HostRuntime) -> Result<(), BeginError> {
     Ok(())
 }
 
-// A key of so many bits.
+// A key of `bits` bits.
 fn key_of(bits: u32, number: u32) -> u32
     requires { bits ≤ 16 }
     ensures { result < 2 ^ bits }
@@ -165,7 +165,7 @@ fn a_round_begins_over_each_number_of_members(rt: HostRuntime) -> Result<(), Beg
     Ok(())
 }
 
-// A trie of 16 bits with so many of the least keys, none of which weighs what it is.
+// A trie of 16 bits with the `members` least keys. No key weighs itself.
 fn filled(alloc: Global, members: u32) -> Result<Trie, BeginError> {
     let (round, mut crew) = opened(alloc, 16, 1, members)?;
     if let Ok(mut pass) = next_pass(&mut crew, &round) {

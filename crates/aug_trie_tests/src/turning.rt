@@ -13,7 +13,7 @@ pub(super) type Walker<'r> = Pass<'r, Sum, Extent>;
 
 pub(super) type Climber<'r> = Climb<'r, Sum, Extent>;
 
-// So many turns, none of which is the last.
+// Makes `count` turns. None of them is the last.
 pub(super) fn turns<'r>(climb: Climber<'r>, count: u32) -> Option<Climber<'r>>
     ensures { IfSome result (λ now. now.start ≡ climb.entry.start) }
 {
@@ -198,15 +198,16 @@ fn a_change_of_a_pass_given_up_is_shown_by_its_neighbour(
     Ok(())
 }
 
-// What is seen of a round of which one pass begins to put 0 in and is given up after so many turns, and the other puts a key in.
+// What is seen of a round in which one pass begins to put 0 in and is given up after a number of turns, and the other puts a key
+// in.
 #[derive(Clone, Copy, PartialEq, Eq, Debug)]
 struct GivenUp {
-    // What the other pass is answered, and what it then sees: how many members, and whether 0 and its key are among them.
+    // The answer to the other pass, and what it then sees: how many members, and whether 0 and its key are among them.
     went_in: bool,
     members: u32,
     zero: bool,
     key: bool,
-    // The ended set's size, and what is counted of the round.
+    // The ended set's size, and the counts of the round.
     size: u32,
     counts: (u32, u32, u32),
     // Whether 0 goes in in the next round.
@@ -246,8 +247,8 @@ fn given_up(alloc: Global, turned: u32, key: u32) -> Option<GivenUp> {
     })
 }
 
-// The first turn that leaves 0 to be shown is the second, where the other pass brings the node over both keys to its children, and
-// the eleventh, where that node is the giver-up's own to bring up.
+// The first turn that leaves 0 to be shown is the second if the other pass brings the node over both keys up to date with its
+// children. It is the eleventh if only the pass that is given up can bring that node up to date.
 #[test]
 fn a_pass_given_up_after_each_turn_harms_nobody(rt: HostRuntime) {
     for (key, shown_from) in [(1, 2), (2, 11)] {

@@ -12,7 +12,7 @@ use aug_trie::{BeginError, Ended, Pass, Round};
 use std::alloc::Global;
 use std::process::Abort;
 
-// A round of so many bits over a trie at rest, and its crew.
+// A round of `bits` bits over a trie at rest, and its crew.
 fn wider(
     alloc: Global,
     ended: Trie,
@@ -30,7 +30,7 @@ fn wider(
     }
 }
 
-// Keys about the ends of a universe of so many bits and of the one of one bit less, and past all universes.
+// Keys about the ends of a universe of `bits` bits and of the one of one bit less, and past all universes.
 fn asked(bits: u32) -> [u32; 9]
     requires { bits ≤ 16 }
 {
@@ -61,7 +61,7 @@ fn assert_sees(rt: &impl Abort, pass: &mut Pass<Sum, Extent>, set: &KeySet, bits
     }
 }
 
-// The trie has so many bits, and answers as the plain set.
+// The trie has `bits` bits, and answers as the plain set.
 fn assert_ends(rt: &impl Abort, alloc: Global, ended: &mut Trie, set: &KeySet, bits: u32)
     requires { bits ≤ 16 }
 {
@@ -72,7 +72,8 @@ fn assert_ends(rt: &impl Abort, alloc: Global, ended: &mut Trie, set: &KeySet, b
     }
 }
 
-// Puts each key of so many bits in that the plain set does not have yet, by the pass and of the set. No key weighs itself.
+// Puts each key of `bits` bits that the plain set does not have yet into the trie, by the pass, and into the set. No key weighs
+// itself.
 fn fill(rt: &impl Abort, pass: &mut Pass<Sum, Extent>, set: &mut KeySet, bits: u32)
     requires bits { pass.old.round.bits ≡ bits }
     requires few { bits ≤ 16 }
@@ -88,7 +89,7 @@ fn fill(rt: &impl Abort, pass: &mut Pass<Sum, Extent>, set: &mut KeySet, bits: u
     }
 }
 
-// A round of so many bits over a trie that has all keys of fewer bits, in which those of the new range go in.
+// A round of `bits` bits over a trie that has all keys of fewer bits. The keys of the new range go in.
 fn filled(
     rt: &impl Abort,
     alloc: Global,
@@ -162,7 +163,7 @@ fn a_key_of_the_new_range_goes_in(rt: HostRuntime) -> Result<(), BeginError> {
     Ok(())
 }
 
-// The trie that comes back where these bits, workers and updates are refused.
+// The trie that comes back if these bits, workers and updates are refused.
 fn given_back(
     rt: &impl Abort,
     alloc: Global,
@@ -210,7 +211,7 @@ fn begin_wider_refuses_in_its_order_and_leaves_every_answer(
     Ok(())
 }
 
-// A round of more bits and one update, which is asked for again where memory was refused: the trie that came back is as it was then.
+// A round of more bits and one update, requested again if memory was refused: the trie that came back is then unchanged.
 fn begun(rt: &impl Abort, alloc: Global, ended: Trie) -> Result<(Table, Hands), BeginError>
     ensures bits { IfOk result (λ t. t.0.bits ≡ 6) }
     ensures together { IfOk result (λ t. t.1.round ≡ t.0) }

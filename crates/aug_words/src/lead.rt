@@ -127,8 +127,8 @@ impl<A: Monoid, B: Monoid> Lead<A, B> {
         })
     }
 
-    /// Takes a pass of this lead back: ends its lane, takes in all that it knew, and loads the root. The lead then knows
-    /// a history that goes on from its own and from the pass's, one of which was a prefix of the other.
+    /// Takes a pass of this lead back: ends its lane, takes in all that it knew, and loads the root. The lead then knows a
+    /// history that continues its own and the pass's. One of these two was a prefix of the other.
     pub fn join<'r>(&mut self, pass: WordPass<'r, A, B>)
         requires { IsOfLead self.old pass }
         ensures table { self.new.table ≡ self.old.table }

@@ -71,7 +71,7 @@ impl<'r, A: Monoid, B: Monoid> WordPass<'r, A, B> {
         self.words.load::<LoadAnyLeaf<A, B>>(&mut self.seat, leaf)
     }
 
-    /// Loads a leaf's word as the first step of an update. From then on the view says where that update began.
+    /// Loads a leaf's word as the first step of an update. From then on the view says in what state that update began.
     pub fn begin_at_leaf(&mut self, leaf: usize) -> u64
         requires { leaf < 2 ^ self.old.view.shape.bits }
         ensures table { self.new.table ≡ self.old.table }

@@ -11,10 +11,10 @@ use aug_monoid::{Extent, Sum};
 use aug_words::{Rest, Words, WordsError};
 use std::alloc::{AllocError, Global};
 
-// The word of a record's bounds where no key is below.
+// The word of a record's bounds if no key is below.
 const NO_KEYS: u64 = 1 << 32;
 
-// The keys of so many bits from one on, each with its own number as its weight.
+// The keys of `bits` bits from `first` on, each with its own number as its weight.
 pub(super) fn keys_from(alloc: Global, bits: u32, first: u32) -> Result<Vec<(u32, u32)>, AllocError>
     requires bits { bits ≤ 16 }
     requires first { first ≤ 2 ^ bits }
@@ -29,7 +29,7 @@ pub(super) fn keys_from(alloc: Global, bits: u32, first: u32) -> Result<Vec<(u32
     Ok(keys)
 }
 
-// The words of a table of so many bits that was opened with the keys from one on, in a layout for so many.
+// The words of a table of `bits` bits that was opened with the keys from `first` on, in a layout for `members` members.
 fn opened(alloc: Global, bits: u32, first: u32, members: u32) -> Result<Rest, WordsError>
     requires bits { bits ≤ 16 }
     requires first { first ≤ 2 ^ bits }

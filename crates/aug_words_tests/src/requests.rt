@@ -1,5 +1,5 @@
 //! How often tables ask for memory. The number stands in a test's name: `tests/requests.py` counts. A table is opened with three
-//! requests, for its words while they are made and for its two rows, one of which is empty. Nothing else asks.
+//! requests, for its words while they are made and for its two rows (one row is empty). Nothing else asks.
 use super::tables::small;
 use super::working::{Filled, next_half, work};
 use aug_words::WordsError;

@@ -10,8 +10,8 @@ use aug_words::{Rest, Words, WordsError};
 use std::alloc::Global;
 use std::process::Abort;
 
-// The words of a table of so many bits, workers and updates that was opened with so many of the greatest keys, each of which weighs what
-// it is.
+// The words of a table of `bits` bits, `workers` workers and `updates` updates that was opened with the `members` greatest keys. Each
+// key weighs itself.
 fn opened(
     rt: &impl Abort,
     alloc: Global,

@@ -190,7 +190,7 @@ fn number_of(alloc: Global, found: &ArgMatches<'_>, name: &str) -> Result<u32, S
     found.get_one(name).ok_or(missing(alloc))
 }
 
-// A word that the parser wants is not there, which it tells by itself.
+// A word that the parser requires is missing. The parser itself reports that.
 fn missing(alloc: Global) -> Stop {
     match String::from_str(alloc, "error: a word is missing\n") {
         Ok(text) => Stop::Usage(text),

@@ -95,7 +95,7 @@ fn count_trie(
     Ok(sum)
 }
 
-// The trie whose members are the first so many multiples of the step.
+// The trie whose members are the first `members` multiples of the step.
 fn opening(alloc: Global, bits: u32, members: u32, step: u32) -> anyhow::Result<Trie>
     requires some { 0 < members }
     requires few { members ≤ UPDATES }
@@ -184,7 +184,7 @@ fn ranks(pass: &mut Hand, times: u32, universe: u32) -> u64
     sum
 }
 
-// The sum of the members with so many members below them, in a spread order, on one snapshot.
+// The sum of the members that are selected, in a spread order, on one snapshot.
 #[inline(never)]
 fn selects(pass: &mut Hand, times: u32, members: u32) -> u64
     requires { 0 < members }
@@ -242,7 +242,7 @@ fn ranges(pass: &mut Hand, times: u32, universe: u32) -> u64
     sum
 }
 
-// The sum of the size of one snapshot, asked so many times.
+// The sum of the size of one snapshot, asked `times` times.
 #[inline(never)]
 fn sizes(pass: &mut Hand, times: u32) -> u64
     ensures { pass.new.round ≡ pass.old.round }
@@ -255,7 +255,7 @@ fn sizes(pass: &mut Hand, times: u32) -> u64
     sum
 }
 
-// The sum of the lengths of the list of all members of one snapshot, made so many times.
+// The sum of the lengths of the list of all members of one snapshot, made `times` times.
 #[inline(never)]
 fn lists(alloc: Global, pass: &mut Hand, times: u32) -> Result<u64, AllocError>
     ensures { pass.new.round ≡ pass.old.round }

@@ -71,7 +71,7 @@ fn inserts<R: Wait>(
     Ok(came)
 }
 
-// Rolls over so many times.
+// Rolls over `times` times.
 #[inline(never)]
 fn rolls<R: Wait>(rt: &R, live: &Live<Sum, Extent>, times: u32) -> Result<u64, LiveError> {
     let mut rolled = 0u64;

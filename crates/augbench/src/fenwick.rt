@@ -50,7 +50,7 @@ impl FenwickSet {
         Outcome::Replaced
     }
 
-    // Puts a key in with a weight, unless it is there: true where it was not.
+    // Puts a key in with a weight, unless it is there: true if it was not.
     fn enter(&mut self, key: u32, weight: u32) -> bool
         requires { key < UNIVERSE }
     {

@@ -43,7 +43,7 @@ use std::thread::Threads;
 use std::time::Clock;
 use stop::Stop;
 
-// 0 where it did what was asked; 1 where it could not; 2 where the words are wrong.
+// 0 if it did what was asked; 1 if it could not; 2 if the words are wrong.
 fn main(rt: HostRuntime) -> ExitCode {
     let done = match read_words(&rt) {
         Ok(asked) => carry_out(&rt, rt.alloc(), asked),

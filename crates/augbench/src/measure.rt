@@ -40,7 +40,7 @@ pub(crate) fn measure<R: Threads + Wait + Clock + Sync + Print>(
     Ok(())
 }
 
-/// Runs a round of each engine in turn until the rounds of each took so many nanoseconds. The other engines' rounds are as long as the
+/// Runs a round of each engine in turn until the rounds of each took `time` nanoseconds. The other engines' rounds are as long as the
 /// trie's just before.
 pub(crate) fn rounds<R: Threads + Wait + Sync, C: Clock + Sync>(
     rt: &R,
@@ -91,7 +91,7 @@ fn no_totals() -> Each<Total>
     }
 }
 
-// Whether each engine's rounds took so many nanoseconds.
+// Whether each engine's rounds took `time` nanoseconds.
 fn has_lasted(totals: &Each<Total>, time: u64) -> bool
     ensures { result ≡ true → LastFor time totals.now }
 {

@@ -1,4 +1,4 @@
-//! How long a roll-over stops everybody, and which part of all time that is where threads only update.
+//! How long a roll-over stops everybody, and which part of all time that is if threads only update.
 
 use crate::course::Length;
 use crate::live_round::{Rolling, TABLE, live_round};
@@ -16,7 +16,7 @@ use std::time::Clock;
 // How many roll-overs are timed.
 const TIMED: u64 = 50;
 
-// How many updates a thread makes before each. With four threads no round of 64 MiB is at its end after so many.
+// How many updates a thread makes before each. With four threads no round of 64 MiB is at its end after this many.
 const BETWEEN: u64 = 8_192;
 
 /// What roll-overs took.
@@ -81,7 +81,7 @@ pub(crate) fn measure_pauses<R: Threads + Wait + Clock + Sync + Print>(
     Ok(())
 }
 
-// Has threads update for so many nanoseconds, and counts the roll-overs.
+// Has threads update for a number of nanoseconds, and counts the roll-overs.
 pub(crate) fn at_work<R: Threads + Wait + Sync, C: Clock + Sync>(
     rt: &R,
     clock: &C,
@@ -119,7 +119,7 @@ pub(crate) fn time_rolls<R: Threads + Wait + Sync, C: Clock + Sync>(
     Ok(())
 }
 
-// Updates alone, so many in a thread, or for so many nanoseconds.
+// Only updates: `operations` of them in a thread, or for `nanoseconds` nanoseconds.
 fn updating(threads: u32, operations: u64, nanoseconds: u64, round: u64) -> Plan {
     Plan {
         workload: Workload::Updates,

@@ -38,8 +38,8 @@ pub(crate) enum Pace {
 }
 
 impl<'t, R: Wait> Sets<'t, R> {
-    /// Sets of every second key, but without this one. The one whose rounds roll over has so many handles, and tables of at most so many
-    /// bytes.
+    /// Sets of every second key, but without this one. The one whose rounds roll over has `threads` handles, and tables of at most
+    /// `table` bytes.
     pub(crate) fn open(
         rt: &'t R,
         alloc: Global,

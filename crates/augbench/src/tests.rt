@@ -154,7 +154,7 @@ fn several_threads_run_each_workload(rt: HostRuntime) -> Result<(), Fail> {
     Ok(())
 }
 
-// A clock that goes on by so many nanoseconds each time that it is read.
+// A clock that goes on by `step` nanoseconds each time that it is read.
 #[derive(Drop)]
 struct Steps {
     step: u64,

@@ -55,7 +55,7 @@ pub(crate) enum Pool {
     Own,
 }
 
-/// A kind of operation, and where its keys are drawn.
+/// A kind of operation, and from which keys it draws.
 #[derive(Clone, Copy, Debug, PartialEq, Eq)]
 pub(crate) struct Action {
     pub(crate) kind: Kind,
@@ -98,7 +98,7 @@ impl Workload {
         }
     }
 
-    /// How many operations a thread of the trie makes in a round: those among which 4,096 are updates, and as many queries where
+    /// How many operations a thread of the trie makes in a round: those among which 4,096 are updates, and as many queries if
     /// none is.
     pub(crate) fn operations(self) -> u64
         ensures all { changes_among self result ≡ (if is_updated self then UPDATES else 0) }

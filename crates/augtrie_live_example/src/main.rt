@@ -1,4 +1,5 @@
-//! A timer service: four threads arm and cancel timers, and ask what is due, for so many seconds. No round is begun or ended by hand.
+//! A timer service: four threads arm and cancel timers, and ask what is due, for a given number of seconds. No round is begun or
+//! ended by hand.
 #![tactic(auto)]
 
 mod serve;

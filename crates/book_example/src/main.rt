@@ -124,7 +124,7 @@ fn day<R: Threads + Sync>(rt: &R, alloc: Global) -> anyhow::Result<(Ended<Sum, E
 
 fn main(rt: HostRuntime) -> anyhow::Result<()> {
     let (mut ended, agreed) = day(&rt, rt.alloc())?;
-    // Where an order was replaced one went, and another one came.
+    // If an order was replaced, one went and another one came.
     let (came, went, left) = (ended.inserts(), ended.removals(), ended.size());
     println!(rt; "{came} orders came, {went} went, {left} are left")?;
     let answer = if agreed { "yes" } else { "no" };

@@ -27,7 +27,7 @@ pub type Pass<T, V> = Seat<Option<T>, Holding<T, V>>;
 
 /// A value that one thread at a time has, under a rule of the caller's.
 pub struct RuledLock<T, V, P: LockRule<T, V>> {
-    // The word is 0 where the value is at home, 1 where a pass holds it, and 2 where one does and a thread may sleep.
+    // The word is 0 if the value is in the lock, 1 if a pass holds it, and 2 if a pass holds it and a thread may sleep.
     pub table: Table<Option<T>, Holding<T, V>, (), Locked<P>, Global>,
     ghost counts: { (table.shared.table_id.words ≡ 1) × (table.shared.table_id.slots ≡ 1) },
 }

@@ -79,7 +79,7 @@ fn a_set_is_refused_while_no_memory_is_left_and_made_once_there_is(
     Ok(())
 }
 
-// A set of so many bits, asked for once more where memory was refused.
+// A set of keys of `bits` bits, requested once more if memory was refused.
 fn made(alloc: Global, bits: u32) -> Result<KeySet, ModelError> {
     match KeySet::try_new(alloc, bits) {
         Err(ModelError::OutOfMemory) => KeySet::try_new(alloc, bits),

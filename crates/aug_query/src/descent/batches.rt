@@ -70,9 +70,9 @@ pub fn weights<A: Monoid, B: Monoid, D: Descend<A, B>>(
     tell_all(tree, keys, out);
 }
 
-// What is told of a key.
+// The answer for a key.
 trait Told: Copy {
-    // What is told of one with this weight, if it is a member.
+    // The answer for a key, by its weight if it is a member.
     ghost told_of: { Option ℕ → Self };
 
     // That.
@@ -96,7 +96,7 @@ impl Told for Option<u32> {
     }
 }
 
-// Puts what is told of each key at the end of `out`.
+// Puts the answer for each key at the end of `out`.
 fn tell_all<A: Monoid, B: Monoid, D: Descend<A, B>, T: Told>(
     tree: &mut D,
     keys: &[u32],
@@ -157,7 +157,7 @@ fn tell_each<A: Monoid, B: Monoid, D: Descend<A, B>, T: Told>(
     }
 }
 
-// What is told of one key, by the node at a level that covers it.
+// The answer for one key, by the node at a level that covers it.
 fn tell_one<A: Monoid, B: Monoid, D: Descend<A, B>, T: Told>(
     tree: &mut D,
     level: u32,
@@ -178,7 +178,7 @@ fn tell_one<A: Monoid, B: Monoid, D: Descend<A, B>, T: Told>(
     T::of_weight(weight_of_leaf(tree, k, &child))
 }
 
-// Puts the ranks of keys that the node at a level and a place covers at the end of `out`. So many members are before the node.
+// Puts the ranks of keys that the node at a level and a place covers at the end of `out`. `before` members come before the node.
 fn rank_each<A: Monoid, B: Monoid, D: Descend<A, B>>(
     tree: &mut D,
     level: u32,
@@ -225,7 +225,7 @@ fn rank_each<A: Monoid, B: Monoid, D: Descend<A, B>>(
     }
 }
 
-// The rank of one key, by the node at a level that covers it. So many members are before the node.
+// The rank of one key, by the node at a level that covers it. `before` members come before the node.
 fn rank_one<A: Monoid, B: Monoid, D: Descend<A, B>>(
     tree: &mut D,
     level: u32,
@@ -272,7 +272,7 @@ fn cut(keys: &[u32], k: u32) -> (&[u32], &[u32])
     keys.split_at(keys.partition_point(|&key| key < k))
 }
 
-// Puts `value` at the end of `out` so many times.
+// Puts `value` at the end of `out`, `times` times.
 fn repeat<X: Copy>(value: X, times: usize, out: &mut Vec<X>)
     requires { vec_len out.old + times ≤ vec_capacity out.old }
     ensures items { out.new.items ≡ out.old.items ++ replicate times value }

@@ -45,8 +45,8 @@ pub fn rank<A: Monoid, B: Monoid, D: Descend<A, B>>(tree: &mut D, k: u32) -> u32
     below
 }
 
-// The child, at this level, that covers `k`, of the node above it that does, and how many members come before that child, of which so
-// many come before the node.
+// The child, at this level, that covers `k`, of the node above it that covers `k`, and how many members come before that child.
+// `below` members come before the node.
 #[inline(always)]
 pub(super) fn toward_counting<A: Monoid, B: Monoid, D: Descend<A, B>>(
     tree: &mut D,

@@ -49,7 +49,7 @@ pub fn pairs_into<A: Monoid, B: Monoid, D: Descend<A, B>>(tree: &mut D, list: &m
 
 // What a list has of each member.
 trait Item: Copy {
-    // What it has of a key that weighs so much.
+    // The item of a key with a weight.
     ghost item_of: { ℕ → ℕ → Self };
 
     // That item.

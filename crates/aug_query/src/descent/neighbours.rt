@@ -9,8 +9,8 @@ use crate::Descend;
 use crate::toward::{toward_from_left, toward_from_right, universe};
 use aug_monoid::Monoid;
 
-/// The greatest member below `k`, if there is one. On the way down to `k` it counts the members that it passes, and it goes down
-/// once more below the last node where it passed some.
+/// The greatest member below `k`, if there is one. On the way down to `k` it counts the members that it passes, and it descends
+/// once more below the last node at which it passed some.
 #[inline(always)]
 pub fn before<A: Monoid, B: Monoid, D: Descend<A, B>>(tree: &mut D, k: u32) -> Option<u32>
     ensures answer { result ≡ before_of (list_of (D.set_of tree.old)) k }
@@ -80,7 +80,7 @@ fn last_below<A: Monoid, B: Monoid, D: Descend<A, B>>(
     Some(greatest(tree, level, 0, top))
 }
 
-// The greatest member that the node at a level and a place covers, of which there is one.
+// The greatest member that the node at a level and a place covers. There is at least one.
 #[inline(always)]
 fn greatest<A: Monoid, B: Monoid, D: Descend<A, B>>(
     tree: &mut D,
@@ -124,7 +124,7 @@ fn last_child<A: Monoid, B: Monoid, D: Descend<A, B>>(
     (tree.left(level, place, node), 2 * place)
 }
 
-// The least member that the node at a level and a place covers, of which there is one.
+// The least member that the node at a level and a place covers. There is at least one.
 #[inline(always)]
 fn least<A: Monoid, B: Monoid, D: Descend<A, B>>(
     tree: &mut D,

@@ -1,4 +1,4 @@
-//! Which member has so many below it.
+//! The member with a given number of members below it.
 ghost use Rattle.std.specs.Prelude.{◌≡◌, ◌+◌, ◌*◌, ◌<◌, length};
 ghost use Rattle.aug_model.specs.Keys.{list_of};
 ghost use Rattle.aug_model.specs.Queries.{rank_of, select_of};

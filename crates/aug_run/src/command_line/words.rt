@@ -13,8 +13,8 @@ use clap::{Arg, ArgAction, ArgMatches, Command, Error, value_parser};
 use std::alloc::{AllocError, Global};
 
 /// What the words of the command line ask for, which come without the program's own name. `Help` is the answer
-/// to `--help`, and `Usage` to words that are wrong, each with the parser's text. `TooLarge` is the answer where a
-/// round that opens with every key would have more than 2^26 words.
+/// to `--help`, and `Usage` to words that are wrong, each with the parser's text. `TooLarge` is the answer if a round that opens
+/// with every key would have more than 2^26 words.
 pub fn options(alloc: Global, words: &[String]) -> Result<Options, Stop>
     ensures asked { IfOk result (IsReadFrom (matches_of program (map string_bytes words.now))) }
     ensures right { OnOk result (fault_of program (map string_bytes words.now) ≡ []) }
@@ -125,7 +125,7 @@ fn file_of(alloc: Global, matches: &ArgMatches<'_>) -> Result<Option<String>, Al
     }
 }
 
-// What an error of the parser comes to: help where it was asked for, and want of memory, have answers of their own.
+// The answer for an error of the parser: help, if it was requested, and lack of memory have answers of their own.
 fn stop_of(alloc: Global, error: &Error) -> Stop
     ensures told { TellsOf (kind_of error.now) result }
     ensures memory { kind_of error.now ≡ ErrorKind.OutOfMemory → result ≡ Stop.OutOfMemory }

@@ -22,7 +22,7 @@ impl<'a, 'b> Promise<Done<'a>> for LaneOf<'a, 'b> {
     ghost kept_by = { λ p d. IsDone p.round.now p.rows.now p.lane d };
 }
 
-/// Starts the thread of one job. Where none can be made, the job is dropped.
+/// Starts the thread of one job. If none can be made, the job is dropped.
 pub(crate) fn start<'s, 'a: 's, 'b: 's, 'c: 's, E, G: Gate>(
     scope: &Scope<'s, E>,
     round: &'a Table,

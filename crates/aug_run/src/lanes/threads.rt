@@ -90,7 +90,7 @@ fn in_scope<'s, 'a: 's, 'b: 's, 'c: 's, E, R: Threads, G: Gate>(
     }
 }
 
-/// Runs all jobs at the same time. Where a thread can't be started, those that were are joined.
+/// Runs all jobs at the same time. If a thread can't be started, those that were started are joined.
 pub(crate) fn in_threads<'r, R: Threads + Wait, G: Gate>(
     rt: &R,
     alloc: Global,

@@ -30,7 +30,7 @@ pub(crate) fn leaf_summary<A: Monoid, B: Monoid>(key: u32, word: u64) -> Summary
     }
 }
 
-// What the node at a level and a place of a snapshot's tree tells, of which this is the word: three steps at most.
+// The summary of the node at a level and a place of a snapshot's tree, by its word: at most three steps.
 #[inline(always)]
 pub(crate) fn summary_at<A: Monoid, B: Monoid>(
     pass: &mut WordPass<A, B>,
@@ -58,7 +58,7 @@ pub(crate) fn summary_at<A: Monoid, B: Monoid>(
     }
 }
 
-// The node at a level and a place of a snapshot's tree, of which this is the word: three steps at most.
+// The node at a level and a place of a snapshot's tree, by its word: at most three steps.
 #[inline(always)]
 pub(crate) fn node_at<A: Monoid, B: Monoid>(
     pass: &mut WordPass<A, B>,

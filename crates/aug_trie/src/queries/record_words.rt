@@ -14,7 +14,7 @@ use aug_core::RecordField;
 use aug_monoid::Monoid;
 use aug_words::WordPass;
 
-// The word of the left child, at this level, of the node above it at this place, of which this is the word.
+// The word of the left child, at this level, of the node above it at this place, by that node's word.
 #[inline(always)]
 pub(crate) fn left_word<A: Monoid, B: Monoid>(
     pass: &mut WordPass<A, B>,
@@ -52,7 +52,7 @@ pub(crate) fn right_word<A: Monoid, B: Monoid>(
     pass.load_record_word(word, RecordField::Right)
 }
 
-// How many members the node covers at a level and a place, of which this is the word: a leaf's says it itself.
+// How many members the node at a level and a place covers, by its word: a leaf's word says it itself.
 #[inline(always)]
 pub(crate) fn count_at<A: Monoid, B: Monoid>(
     pass: &mut WordPass<A, B>,

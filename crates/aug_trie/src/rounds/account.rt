@@ -5,7 +5,7 @@ ghost use Rattle.aug_trie.specs.inside.Counted.{insertions_by as insertions, rem
 use crate::updates::request::{Request, insertions_by, removals_by};
 use aug_model::Outcome;
 
-// Where a pass stands in its lane, and what its updates came to. It goes unchanged from a pass to its half and back, and through the
+// How far a pass is in its lane, and the results of its updates. It goes unchanged from a pass to its half and back, and through the
 // turns of an update.
 #[derive(Clone, Copy)]
 pub(crate) struct Account {

@@ -23,7 +23,7 @@ pub struct EndedNode<A, B> {
 }
 
 impl<A: Monoid, B: Monoid> Ended<A, B> {
-    // What the node at a level and a place tells, of which this is the word.
+    // The summary of the node at a level and a place, by its word.
     pub(crate) fn summary_of_word(&self, level: u32, place: u32, word: u64) -> Summary<A, B>
         requires version { IsVersion (face A.parts B.parts) self.now.rest self.now.members level place word }
         ensures { result ≡ summary_of A.parts B.parts (covered self.now.members level place) }
@@ -41,7 +41,7 @@ impl<A: Monoid, B: Monoid> Ended<A, B> {
         }
     }
 
-    // The node at a level and a place, of which this is the word.
+    // The node at a level and a place, by its word.
     fn node(&self, level: u32, place: u32, word: u64) -> EndedNode<A, B>
         requires { NamesEnded (face A.parts B.parts) self.now level place word }
         ensures node { HasEndedNode (face A.parts B.parts) (summary_of A.parts B.parts) self.now result }

@@ -14,7 +14,7 @@ use aug_monoid::Monoid;
 use aug_query::Descend;
 
 impl<A: Monoid, B: Monoid> Ended<A, B> {
-    // The word of the left child, at this level, of the node above it at this place, of which this is the word.
+    // The word of the left child, at this level, of the node above it at this place, by that node's word.
     #[inline(always)]
     pub(crate) fn left_word(&self, level: u32, place: u32, word: u64) -> u64
         requires { NamesEnded (face A.parts B.parts) self.now (level + 1) place word }
@@ -34,7 +34,7 @@ impl<A: Monoid, B: Monoid> Ended<A, B> {
         self.rest.record_word(word, RecordField::Right)
     }
 
-    // How many members the node covers at a level and a place, of which this is the word: a leaf's says it itself.
+    // How many members the node at a level and a place covers, by its word: a leaf's word says it itself.
     #[inline(always)]
     fn count_of_word(&self, level: u32, place: u32, word: u64) -> u32
         requires { NamesEnded (face A.parts B.parts) self.now level place word }

@@ -10,7 +10,7 @@ use crate::turns::points::{Advanced, Point, advance};
 use aug_monoid::Monoid;
 use aug_words::WordPass;
 
-// Where an update is on its way.
+// The point that an update has reached on its way.
 #[derive(Clone, Copy)]
 pub(crate) struct Ascent {
     // The level below the node that is tried.
@@ -40,7 +40,7 @@ impl Ascent {
     }
 }
 
-// The next step on the way, and none where the root is done with it. A try that fails is made once more, and there is no third.
+// The next step on the way, and none if the root is done with it. A try that fails is made once more, and there is no third.
 pub(crate) fn ascend<A: Monoid, B: Monoid>(
     pass: &mut WordPass<A, B>,
     leaves: usize,
@@ -63,7 +63,7 @@ pub(crate) fn ascend<A: Monoid, B: Monoid>(
     }
 }
 
-// Where it goes on after a try.
+// The point from which it continues after a try.
 fn after_try(leaves: usize, bits: u32, ascent: Ascent, published: bool) -> Option<Ascent>
     requires leaves { leaves < 2 ^ 32 }
     requires node { ascent.node < 2 ^ 32 }

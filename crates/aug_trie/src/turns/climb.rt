@@ -178,7 +178,7 @@ fn ascent_left(bits: u32, ascent: Ascent) -> u32
     (bits - 1 - ascent.level) * 30 + again + point_left(whole, ascent.point)
 }
 
-// The turns of a try of so many steps that is at a point.
+// The turns that are left of a try of `whole` steps at a point.
 fn point_left(whole: u32, point: Point) -> u32
     requires whole { (part : ℕ) × (whole ≡ 9 + 2 * part) × (whole ≤ 15) × (1 ≤ point_turns part point) }
     ensures { (part : ℕ) → whole ≡ 9 + 2 * part → result ≡ point_turns part point }

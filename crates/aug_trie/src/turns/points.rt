@@ -59,7 +59,7 @@ pub(crate) enum Advanced {
     Tried(bool),
 }
 
-// The word of a record that stands so many words behind its first.
+// The word of a record that lies `offset` words after its first.
 #[inline(always)]
 fn field_at(offset: usize) -> RecordField
     requires { offset < record_words }

@@ -1,4 +1,4 @@
-//! The word of a leaf: its serial in the upper half, and in the lower one the weight of its key, which is 0 where the serial is even.
+//! The word of a leaf: its serial in the upper half, and in the lower one the weight of its key, which is 0 if the serial is even.
 ghost use Rattle.std.specs.Prelude.{◌≡◌, ◌+◌, ◌*◌, ◌^◌, ◌<◌};
 ghost use Rattle.aug_core.specs.Book.{word_of_leaf};
 ghost use Rattle.aug_trie.specs.LeafWords.{serial_in_word, weight_in_word};
@@ -19,7 +19,7 @@ pub(crate) fn leaf_weight(word: u64) -> u32
     (word % 0x1_0000_0000) as u32
 }
 
-// The word of a leaf with this serial, whose key weighs so much.
+// The word of a leaf with this serial, whose key has this weight.
 #[inline(always)]
 pub(crate) fn leaf_word(serial: u64, weight: u32) -> u64
     requires { serial < 2 ^ 32 }

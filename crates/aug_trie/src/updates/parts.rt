@@ -1,4 +1,4 @@
-//! What a child tells the node above it.
+//! What the node above reads of a child.
 ghost use Rattle.std.specs.Prelude.{◌≡◌, ℕ, ◌<◌, ◌^◌, []};
 ghost use Rattle.aug_core.specs.Faces.{face};
 ghost use Rattle.aug_core.specs.Addresses.{place_count, IsInner};
@@ -20,7 +20,7 @@ pub(crate) struct Part<A, B> {
     pub(crate) b: B,
 }
 
-// What a leaf with this word tells.
+// What is read of a leaf with this word.
 #[inline(always)]
 pub(crate) fn leaf_part<A: Monoid, B: Monoid>(leaf: usize, word: u64) -> Part<A, B>
     requires { leaf < 2 ^ 32 }
@@ -42,7 +42,7 @@ pub(crate) fn leaf_part<A: Monoid, B: Monoid>(leaf: usize, word: u64) -> Part<A,
     }
 }
 
-// What these words of a record tell.
+// What these words of a record say.
 #[inline(always)]
 pub(crate) fn part_of_words<A: Monoid, B: Monoid>(count: u64, a: u64, b: u64) -> Part<A, B>
     ensures count { result.count ≡ count }
@@ -56,7 +56,7 @@ pub(crate) fn part_of_words<A: Monoid, B: Monoid>(count: u64, a: u64, b: u64) ->
     }
 }
 
-// What the record of an inner node tells: three steps.
+// What is read of the record of an inner node: three steps.
 #[inline(always)]
 fn node_part<A: Monoid, B: Monoid>(
     pass: &mut WordPass<A, B>,
@@ -79,7 +79,7 @@ fn node_part<A: Monoid, B: Monoid>(
     part_of_words(count, a, b)
 }
 
-// What the leaf or node at a place tells, of which this word was loaded.
+// What is read of the leaf or node at a place whose loaded word is `word`.
 #[inline(always)]
 pub(crate) fn any_part<A: Monoid, B: Monoid>(
     pass: &mut WordPass<A, B>,

@@ -35,7 +35,7 @@ pub(crate) fn look<A: Monoid, B: Monoid>(
     }
 }
 
-// The words of a record over two children with these words, of which these parts were told.
+// The words of a record over two children with these words and these parts.
 #[inline(always)]
 pub(crate) fn five_words<A: Monoid, B: Monoid>(
     left: u64,
@@ -79,7 +79,7 @@ fn publish<A: Monoid, B: Monoid>(
     pass.try_node(node, from, number)
 }
 
-// One try at a node: 9 steps where its children are leaves, else 15. True if the record was published.
+// One try at a node: 9 steps if its children are leaves, otherwise 15. True if the record was published.
 #[inline(always)]
 pub(crate) fn refresh<A: Monoid, B: Monoid>(
     pass: &mut WordPass<A, B>,

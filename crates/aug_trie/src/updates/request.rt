@@ -7,11 +7,11 @@ use aug_model::Outcome;
 // What an update does to its key.
 #[derive(Clone, Copy)]
 pub(crate) enum Request {
-    // It puts the key in, with the key itself as its weight, where it is not there.
+    // It puts the key in, with the key itself as its weight, if it is not there.
     Insert,
-    // It takes the key out, where it is there.
+    // It takes the key out, if it is there.
     Remove,
-    // It puts the key in with this weight, or gives this weight to it where it is there.
+    // It puts the key in with this weight, or gives this weight to it if it is there.
     Put(u32),
 }
 

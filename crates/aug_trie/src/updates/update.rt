@@ -29,8 +29,8 @@ pub(crate) fn goes_on(request: Request, word: u64) -> bool
     }
 }
 
-// The word that an update makes of that of its leaf. Where the key of a put is there, the serial goes past the removal to the insertion
-// behind it, so that no word ever says that the key was gone.
+// The word that an update makes of that of its leaf. If the key of a put is there, the serial goes past the removal to the insertion
+// after it, so that no word ever says that the key was gone.
 #[inline(always)]
 pub(crate) fn word_after(request: Request, key: u32, word: u64) -> u64
     requires { serial_in_word word < 2 ^ 31 }

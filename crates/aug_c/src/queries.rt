@@ -147,7 +147,7 @@ pub extern "C" fn aug_after(alloc: Global, lane: &mut LaneHandle, key: u32) -> i
     found(answer)
 }
 
-/// What the members of the snapshot from `from` on that are below `to` come to. Answers how many they are.
+/// The summary of the members of the snapshot from `from` on that are below `to`. Answers how many they are.
 #[unsafe(no_mangle)]
 pub extern "C" fn aug_range(
     alloc: Global,

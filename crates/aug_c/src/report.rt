@@ -1,6 +1,6 @@
 //! What a round came to.
 
-/// What a round came to. A weight that was replaced counts as an insertion and a removal.
+/// The result of a round. A weight that was replaced counts as an insertion and a removal.
 #[repr(C)]
 #[derive(Drop)]
 pub struct Report {

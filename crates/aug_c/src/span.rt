@@ -1,4 +1,4 @@
-//! What a range of members comes to.
+//! The summary of a range of members.
 
 /// The count, the sum of the weights, the least and the greatest of some members. The last two are 0 if there are none.
 #[repr(C)]
@@ -6,7 +6,7 @@
 pub struct Span {
     /// The sum of the weights, modulo 2^64.
     pub sum: u64,
-    /// How many members they are.
+    /// How many members there are.
     pub count: u32,
     /// The least of them.
     pub least: u32,

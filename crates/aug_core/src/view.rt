@@ -1,4 +1,4 @@
-//! What a seat knows. No value of these is made: they are for contracts and proofs alone.
+//! What a seat knows. No values of these types are made: they are only for contracts and proofs.
 use crate::layout::Layout;
 use crate::step::StepTaken;
 use std::collections::LinkedList;
@@ -7,7 +7,7 @@ use std::collections::LinkedList;
 pub struct Entry {
     /// The record's number, or the leaf's serial.
     pub number: u64,
-    /// The word that names the entry: of a node the number itself, of a leaf its serial and its weight.
+    /// The word that names the entry: for a node the number itself, for a leaf its serial and its weight.
     pub word: u64,
     /// The index of the left child's entry in its history.
     pub left: u64,
@@ -21,7 +21,7 @@ pub struct Entry {
     pub weight: u64,
     /// Whether the leaf went past this serial in the very step that brought it, so that no word ever named it.
     pub passed: bool,
-    /// The keys that are there below, rising, each with its weight.
+    /// The members below, rising, each with its weight.
     pub pairs: LinkedList<(u64, u64)>,
     /// The record's words.
     pub words: LinkedList<u64>,

@@ -22,8 +22,8 @@ use std::sync::Arc;
 /// A round that its lanes share.
 pub type Table<A, B> = Arc<Round<A, B>, Global>;
 
-/// A lane of a round: a pass, the round that it is of, and the snapshot that its queries are answered from. It borrows
-/// nothing, so it may go to another thread and into a struct. Each call takes the lane and gives it back.
+/// A lane of a round: a pass, its round, and the snapshot that answers its queries. It borrows nothing, so it may go to another
+/// thread and into a struct. Each call takes the lane and gives it back.
 #[derive(Drop)]
 pub struct Lane<A: Monoid, B: Monoid> {
     pub(crate) round: Table<A, B>,
@@ -163,7 +163,7 @@ impl<A: Monoid, B: Monoid> Lane<A, B> {
         (lane, Ok(done))
     }
 
-    /// Takes a new snapshot, which the queries are answered from. It shows every change that the lane knows.
+    /// Takes a new snapshot, which answers the queries from then on. It shows every change that the lane knows.
     pub fn look(self) -> Lane<A, B>
         ensures takes { TakesSnapshot self.half.knows result.half.knows (snapshot_cut result.half result.held.number) }
         ensures goes_on { GoesOn 0 1 self.half result.half }
@@ -190,7 +190,7 @@ impl<A: Monoid, B: Monoid> Lane<A, B> {
         }
     }
 
-    /// The snapshot that the queries are answered from. It can be asked on after a later `look`, by `look_back`.
+    /// The snapshot that answers the queries. It can still be queried after a later `look`, by `look_back`.
     pub fn held(&self) -> Snapshot
         ensures held { result ≡ self.now.held }
         ensures known { HasSnapshot self.now.half result.number }

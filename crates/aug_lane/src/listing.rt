@@ -69,8 +69,8 @@ impl<A: Monoid, B: Monoid> Lane<A, B> {
         lane
     }
 
-    /// Writes the least members from `from` on, rising, as many as `out` has places for. How many these are. What `out` has
-    /// behind them stays.
+    /// Writes the least members from `from` on, rising, as many as `out` has places for, and gives their number. The rest of
+    /// `out` stays.
     pub fn keys_from(self, from: u32, out: &mut [u32]) -> (Lane<A, B>, u32)
         ensures count { result.1 ≡ min (length out.old) (length (from_of (list_of (set_at self.half self.held)) from)) }
         ensures answer { out.new ≡ take result.1 (from_of (list_of (set_at self.half self.held)) from) ++ drop result.1 out.old }

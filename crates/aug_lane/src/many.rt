@@ -18,9 +18,9 @@ fn bit(answer: bool) -> u8
 }
 
 impl<A: Monoid, B: Monoid> Lane<A, B> {
-    /// Writes how many members are below each of `asked` to the place with its index. The keys stand in any order, and each is a
-    /// walk of its own; `ranks` asks for keys that do not fall, and walks once over what their ways share. What `out` has behind
-    /// them stays.
+    /// Writes how many members are below each of `asked` to the place with its index. The keys may have any order, and the call
+    /// walks once for each; `ranks` requires keys that do not fall, and walks once over what their ways share. The rest of `out`
+    /// stays.
     pub fn rank_all(self, asked: &[u32], out: &mut [u32]) -> Lane<A, B>
         requires room { length asked.now ≤ length out.old }
         ensures answer { out.new ≡ map (λ k. rank_of (list_of (set_at self.half self.held)) k) asked.now ++ drop (length asked.now) out.old }
@@ -37,9 +37,9 @@ impl<A: Monoid, B: Monoid> Lane<A, B> {
         lane
     }
 
-    /// Writes 1 for each of `asked` that is a member, and 0 for each other, to the place with its index. The keys stand in any
-    /// order, and each is a walk of its own; `memberships` walks once over what the ways of keys share that do not fall. What
-    /// `out` has behind them stays.
+    /// Writes 1 for each of `asked` that is a member, and 0 for each other, to the place with its index. The keys may have any
+    /// order, and the call walks once for each; `memberships` requires keys that do not fall, and walks once over what their ways
+    /// share. The rest of `out` stays.
     pub fn has_all(self, asked: &[u32], out: &mut [u8]) -> Lane<A, B>
         requires room { length asked.now ≤ length out.old }
         ensures answer { out.new ≡ map (λ k. bit_of (is_member (list_of (set_at self.half self.held)) k)) asked.now ++ drop (length asked.now) out.old }

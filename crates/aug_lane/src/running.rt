@@ -27,7 +27,8 @@ pub struct Running<A: Monoid, B: Monoid> {
 }
 
 impl<A: Monoid, B: Monoid> Running<A, B> {
-    /// Begins a round with the trie's own bits, as `begin_wider` does. These are never refused, and stay also if memory is refused.
+    /// Begins a round with the trie's own bits, as `begin_wider` does. These bits are never refused, and stay also if memory is
+    /// refused.
     pub fn begin(
         alloc: Global,
         rest: Ended<A, B>,
@@ -59,8 +60,8 @@ impl<A: Monoid, B: Monoid> Running<A, B> {
     /// Begins a round over the set of a trie at rest, for keys of `bits` bits, with `workers` lanes of `updates` updates.
     ///
     /// Refused as `Round::begin_wider` refuses, and with `OutOfMemory` also if memory to share the round is refused. After a
-    /// refusal the trie has the same set; it is the same trie, unless memory was refused. Then it may have forgotten what
-    /// the round before came to, and have the bits that were asked for.
+    /// refusal the trie has the same set; it is the same trie, unless memory was refused. Then it may have forgotten the result
+    /// of the previous round, and have the requested bits.
     pub fn begin_wider(
         alloc: Global,
         rest: Ended<A, B>,
@@ -185,8 +186,8 @@ impl<A: Monoid, B: Monoid> Running<A, B> {
         }
     }
 
-    /// Ends the round, once no lane is out any more: each came back or was dropped. Else the same round comes back. The set is
-    /// that of the last version of the root that the crew knows.
+    /// Ends the round, once no lane is out any more: each came back or was dropped. Otherwise the same round comes back. The set
+    /// is that of the last version of the root that the crew knows.
     pub fn end(self) -> Result<Ended<A, B>, Running<A, B>>
         ensures ends { IfOk result (λ rest. Ends self.crew rest) }
         ensures same { IfErr result (λ same. (same.round ≡ self.round) × (same.crew ≡ self.crew)) }

@@ -1,6 +1,6 @@
 //! What the rounds of a trie came to.
 
-/// What the rounds of a trie came to, over its whole life.
+/// The counts of all rounds of a trie, over its whole life.
 #[derive(Clone, Copy, Debug, PartialEq, Eq)]
 pub struct LiveCounts {
     /// How many rounds were begun.

@@ -215,7 +215,7 @@ impl<A: Monoid, B: Monoid> Resting<A, B> {
         })
     }
 
-    /// Its set, and what its rounds came to.
+    /// Its set, and the counts of its rounds.
     pub(crate) fn into_set(self) -> (Members, LiveCounts)
         ensures parts { (result.0 ≡ self.set) × (result.1 ≡ self.counts) }
         ensures sizes { length result.0.pairs + result.1.removals ≡ result.1.opened + result.1.inserts }

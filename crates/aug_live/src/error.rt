@@ -4,7 +4,7 @@ ghost use Rattle.std.specs.Prelude.{◌≡◌};
 use std::error::Error;
 use std::fmt;
 
-/// Why an update or a look was not made. The set is then as it was.
+/// Why an update or a look was not made. The set is then unchanged.
 #[derive(Clone, Copy, Debug, PartialEq, Eq)]
 pub enum LiveError {
     /// Refusal 1: memory for the next round was refused. The trie is at rest, and the next call tries again.

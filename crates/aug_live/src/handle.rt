@@ -90,8 +90,8 @@ impl<A: Monoid, B: Monoid> Handle<A, B> {
         self.update(rt, k, Update::Put(weight))
     }
 
-    /// Takes a snapshot to ask. The look has the handle, and `Look::done` gives it back; after a refusal it comes back at once. As long
-    /// as the look is there it holds its lane: updates and looks of others go on, and a roll-over waits for it.
+    /// Takes a snapshot to query. The look owns the handle, and `Look::done` gives it back; after a refusal it comes back at once. As
+    /// long as the look exists it holds its lane: updates and looks of others continue, and a roll-over waits for it.
     pub fn look<R: Wait>(self, rt: &R) -> Result<Look<A, B>, (Handle<A, B>, LiveError)>
         ensures looks { IfOk result (λ look. Makes 0 (λ a b. TakesSnapshot a.knows b.knows (snapshot_cut b look.snapshot.number)) self (handle_of look)) }
         ensures not_made { IfErr result (λ e. Follows self e.0) }

@@ -107,8 +107,8 @@ impl<A: Monoid, B: Monoid> Live<A, B> {
         Ok((Live { desk }, ends))
     }
 
-    /// Opens a trie over a set, for `handles` handles, whose rounds have a table of at most `memory` bytes: `Plan::new` works their lanes
-    /// and updates out. While a round begins, a list of the table's words takes as much again.
+    /// Opens a trie over a set, for `handles` handles, whose rounds have a table of at most `memory` bytes: `Plan::new` computes their
+    /// lanes and updates. While a round begins, a list of the table's words takes as much again.
     ///
     /// Refused with `BadWorkers` for no handle and for more than 64, with `TooLarge` if a table with one update of each handle takes more
     /// bytes, and with `OutOfMemory`. After a refusal the same set comes back.
@@ -150,7 +150,8 @@ impl<A: Monoid, B: Monoid> Live<A, B> {
     /// old one is still there, it answers `Replaced` from then on, and the call waits for the update or look that it is in. No round
     /// ends for it.
     ///
-    /// Refused with `NoLane` and with `OutOfMemory`, and as `roll` is if the trie is at rest. After a refusal all is as it was.
+    /// Refused with `NoLane` and with `OutOfMemory`, and as `roll` is if the trie is at rest. After a refusal nothing has
+    /// changed.
     pub fn handle<R: Wait>(
         &self,
         rt: &R,
@@ -178,7 +179,7 @@ impl<A: Monoid, B: Monoid> Live<A, B> {
         })
     }
 
-    /// Gives the set back, and what the rounds came to. It waits for the update or look that each handle is in. From then on
+    /// Gives the set back, and the counts of the rounds. It waits for the update or look that each handle is in. From then on
     /// handles answer `Closed`.
     pub fn close<R: Wait>(self, rt: &R) -> (Members, LiveCounts)
         ensures sizes { length result.0.pairs + result.1.removals ≡ result.1.opened + result.1.inserts }

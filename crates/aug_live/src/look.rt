@@ -1,4 +1,4 @@
-//! A look of a handle: a snapshot to ask.
+//! A look of a handle: a snapshot to query.
 ghost use Rattle.std.specs.Prelude.{◌≡◌};
 ghost use Rattle.aug_live.specs.LiveHandles.{handle_of, LooksAgain};
 

@@ -16,7 +16,8 @@ const MOST_WORDS: u64 = 1 << 26;
 const WORDS_PER_RECORD: u64 = 5;
 
 /// How the rounds of a trie are laid out: how many lanes each has, and how many updates each lane. The lanes that no handle begins
-/// with are spare: a handle that made its updates goes on with one of them, and the round rolls over once none is left.
+/// with are spare: a handle that has made all of its updates continues with one of them, and the round rolls over once none is
+/// left.
 #[derive(Clone, Copy, Debug, PartialEq, Eq)]
 pub struct Plan {
     /// The lanes of a round.

@@ -57,8 +57,7 @@ fn taken_back<A: Monoid, B: Monoid>(
     round.end(crew).into_members_in(list)
 }
 
-/// Begins a round over a set of a plan, as `Live` does. After a refusal, which is for want of memory, the same set
-/// comes back.
+/// Begins a round over a set of a plan, as `Live` does. It is refused only for lack of memory, and then the same set comes back.
 pub(crate) fn next_round<A: Monoid, B: Monoid>(
     alloc: Global,
     set: Members,

@@ -3,8 +3,8 @@ ghost use Rattle.std.specs.Borrow.{ftrue};
 
 use std::marker::Model;
 
-/// How many calls of some kind something had, as those of `left` and `right` that a tree had. Contracts alone read it: it takes
-/// no bytes, and its methods do nothing when they run.
+/// A number of calls, such as those of `left` and `right` that a tree had. Only contracts read it: it takes no bytes, and its
+/// methods do nothing when they run.
 #[derive(Debug, Drop)]
 pub struct Calls {
     pub ghost made: { ℕ },

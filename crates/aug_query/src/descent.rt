@@ -1,11 +1,10 @@
 //! The queries on whatever a descent walks.
 //!
-//! Of a tree of keys of `bits` bits they load at most this: `size` the top and its count; `has` and `weight` `bits + 1` nodes and
-//! one count; `rank` `bits + 1` nodes, `bits` of them beside one whose members are counted, and one count; `select`
-//! `2 * bits + 1` nodes and `bits + 1` counts; `before` and `after` `3 * bits` nodes, `bits` of them beside a counted one, and `bits + 1`
-//! counts; `range` `4 * bits - 1` nodes and `2 * bits` summaries; `keys` and `pairs`, for `n` members, `2 * bits * n + 1`
-//! nodes and `bits * n + 1` counts. `ranks`, `memberships` and `weights` take `n` rising keys and go to `n * (bits + 1)` nodes, and
-//! to no node twice.
+//! In a tree of keys of `bits` bits they load at most this: `size` the top and its count; `has` and `weight` `bits + 1` nodes and one
+//! count; `rank` `bits + 1` nodes, `bits` of them beside one whose members are counted, and one count; `select` `2 * bits + 1` nodes and
+//! `bits + 1` counts; `before` and `after` `3 * bits` nodes, `bits` of them beside a counted one, and `bits + 1` counts; `range`
+//! `4 * bits - 1` nodes and `2 * bits` summaries; `keys` and `pairs`, for `n` members, `2 * bits * n + 1` nodes and `bits * n + 1`
+//! counts. `ranks`, `memberships` and `weights` take `n` rising keys and go to `n * (bits + 1)` nodes, and to no node twice.
 
 mod batches;
 mod counts;

@@ -1,10 +1,10 @@
 //! Queries on a tree of a set of keys with weights, by descent from its top (after Fatourou and Ruppert 2024).
 //!
-//! Each query is written once, over [`Descend`], in [`descent`]: it goes down by the counts of the nodes, and loads no more than it needs.
-//! The functions here ask a [`Tree`], whose nodes are loaded whole; they go the same way. Only `keys` and `pairs` take memory. If keys
-//! have `bits` bits, a query makes at most this many calls of `top`, `left` and `right` of a tree: `size` 1; `has`, `weight` and
-//! `rank` `bits + 1`; `select` `2 * bits + 1`; `before` and `after` `3 * bits`; `range` `4 * bits - 1`; `keys` and `pairs`, which visit
-//! each of `n` members, `2 * bits * n + 1`.
+//! Each query is written once, over [`Descend`], in [`descent`]: it descends by the counts of the nodes, and loads no more than it needs.
+//! The functions here query a [`Tree`], whose nodes are loaded whole; they go the same way. Only `keys` and `pairs` take memory. If keys
+//! have `bits` bits, a query makes at most this many calls of `top`, `left` and `right` of a tree: `size` 1; `has`, `weight` and `rank`
+//! `bits + 1`; `select` `2 * bits + 1`; `before` and `after` `3 * bits`; `range` `4 * bits - 1`; `keys` and `pairs`, which visit each of
+//! `n` members, `2 * bits * n + 1`.
 #![tactic(auto)]
 
 mod descend;

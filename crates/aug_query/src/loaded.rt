@@ -1,19 +1,19 @@
-//! How much a descent loaded, as contracts alone know it.
+//! How much a descent loaded. Only contracts know it.
 ghost use Rattle.std.specs.Prelude.{◌≡◌};
 ghost use Rattle.aug_query.specs.Descend.{nothing_loaded, one_more_node, one_more_past, one_more_count, one_more_summary};
 
 use crate::Calls;
 
-/// How much was loaded of a tree. Contracts alone read it: it takes no bytes, and its methods do nothing when they run.
+/// How much was loaded of a tree. Only contracts read it: it takes no bytes, and its methods do nothing when they run.
 #[derive(Drop)]
 pub struct Loaded {
-    /// Nodes gone to, the top among them.
+    /// Visited nodes, including the top.
     pub nodes: Calls,
     /// Counts of the members of a node.
     pub counts: Calls,
     /// Whole summaries of nodes.
     pub summaries: Calls,
-    /// Nodes that were passed: those beside the node gone to, if their members were counted on the way.
+    /// Nodes that were passed: those beside the visited node, if their members were counted on the way.
     pub passed: Calls,
 }
 

@@ -6,7 +6,7 @@ use aug_model::Summary;
 use aug_monoid::Monoid;
 use std::marker::PhantomData;
 
-/// A [`Tree`] as a [`Descend`]: what names a node is the node itself, so counts, summaries and what is beside a node cost nothing more.
+/// A [`Tree`] as a [`Descend`]: the name of a node is the node itself, so counts, summaries and the node beside it cost nothing more.
 pub struct NodeWalk<'t, A: Monoid, B: Monoid, T: Tree<A, B>> {
     /// The tree. It is borrowed as long as the walk is there.
     pub tree: &'t mut T,

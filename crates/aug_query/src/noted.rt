@@ -3,8 +3,7 @@ ghost use Rattle.std.specs.Borrow.{ftrue};
 
 use std::marker::Model;
 
-/// The keys of a set and their weights, as contracts alone read them: they take no bytes, and nothing is done when
-/// they are noted.
+/// The keys of a set and their weights. Only contracts read them: they take no bytes, and nothing is done when they are noted.
 /// The invariant of the tree that holds them ties them to its nodes.
 #[derive(Drop)]
 pub(crate) struct NotedPairs {

@@ -16,9 +16,9 @@ use std::alloc::Global;
 use std::sync::Wait;
 use std::thread::Threads;
 
-/// Does what the command line asks for, and answers the status that the program ends with. What the command line
-/// stops at is shown before the input is touched. Reports and the text of help go to `output`, the line of a fault
-/// to `errors`; a failure to write such a line, or the text of help, changes no status.
+/// Does what the command line asks for, and answers the status that the program ends with. If the command line stops the program,
+/// that is reported before the input is touched. Reports and the text of help go to `output`, the line of a fault to `errors`; a
+/// failure to write such a line, or the text of help, changes no status.
 pub fn carry_out<R: Threads + Wait, I: Input, O: Sink, E: Sink>(
     rt: &R,
     alloc: Global,

@@ -1,4 +1,4 @@
-//! The tests of `aug_run`: scripts, rounds and words, what they come to, and what happens if a device or memory fails.
+//! The tests of `aug_run`: scripts, rounds and words with their results, and what happens if a device or memory fails.
 #![tactic(auto)]
 
 #[cfg(test)]

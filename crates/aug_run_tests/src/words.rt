@@ -1,4 +1,4 @@
-//! Words of the command line, and what they come to.
+//! Words of the command line, and their results.
 use aug_run::{Options, Stop, options};
 use std::alloc::{AllocError, Global};
 use std::test::Fail;

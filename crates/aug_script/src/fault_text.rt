@@ -27,7 +27,7 @@ pub(crate) fn row_text(row: u64, name: &str) -> FaultText
     text
 }
 
-/// The text of want of memory, which has no row.
+/// The text for lack of memory, which has no row.
 pub(crate) fn memory_text() -> FaultText
     ensures { result.bytes ≡ codes "memory" }
 {

@@ -6,8 +6,8 @@ ghost use Rattle.aug_script.specs.Limits.{Bounds, IsBounds, bounds_at, is_bounds
 use aug_core::{Layout, LayoutError};
 use std::marker::Model;
 
-/// What a script may ask for: keys below `2^bits`, until a `grow` row gives them more bits, lanes below `workers`, and so
-/// many updates a lane and round.
+/// What a script may ask for: keys below `2^bits`, until a `grow` row gives them more bits, lanes below `workers`, and `updates`
+/// updates for each lane in each round.
 #[derive(Clone, Copy, Debug, PartialEq, Eq)]
 pub struct Limits {
     bits: u32,

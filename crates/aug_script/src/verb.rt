@@ -2,9 +2,8 @@ ghost use Rattle.std.specs.Prelude.{◌≡◌, ◌≤◌};
 
 use std::fmt;
 
-/// What a row asks for. Keys are below `2^bits` in updates, in `has` and in `weight`; what the other queries are given
-/// is at most `2^bits`. A weight is any number of a script. Queries are answered from the snapshot that the lane took
-/// last.
+/// What a row asks for. Keys are below `2^bits` in updates, in `has` and in `weight`; the arguments of the other queries are at
+/// most `2^bits`. A weight is any number of a script. Queries are answered from the snapshot that the lane took last.
 #[derive(Clone, Copy, Debug, PartialEq, Eq)]
 pub enum Verb {
     /// Put a key in if it is not in. Its weight is then the key itself.

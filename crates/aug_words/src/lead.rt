@@ -106,7 +106,7 @@ impl<A: Monoid, B: Monoid> Lead<A, B> {
         self.root = number;
     }
 
-    /// Makes a pass with the next lane: loads the root, splits a seat off, which knows what the lead then knows, and
+    /// Makes a pass with the next lane: loads the root, splits off a seat that knows what the lead knows after that load, and
     /// takes the lane. There is no refusal.
     pub fn split<'r>(&mut self, words: &'r Words<A, B>) -> WordPass<'r, A, B>
         requires together { AreTogether words.now self.old }

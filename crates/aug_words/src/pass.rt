@@ -80,9 +80,8 @@ impl<'r, A: Monoid, B: Monoid> WordPass<'r, A, B> {
         self.words.load::<BeginAtLeaf<A, B>>(&mut self.seat, leaf)
     }
 
-    /// Puts a leaf's word in the place of the one that it was known to have, if it is still that. True if it did: then the
-    /// changes of it are accepted. The new word has the next serial, or the one after that if a member gets a
-    /// new weight.
+    /// Replaces a leaf's word by a new one, if the leaf still has the word that it was known to have. True if it did: then the
+    /// changes of it are accepted. The new word has the next serial, or the one after that if a member gets a new weight.
     pub fn try_leaf(&mut self, leaf: usize, old: u64, new: u64) -> bool
         requires leaf { leaf < 2 ^ self.old.view.shape.bits }
         requires advance { MayAdvance self.old.view leaf old new }
@@ -105,7 +104,8 @@ impl<'r, A: Monoid, B: Monoid> WordPass<'r, A, B> {
         self.words.load::<LoadAnyNode<A, B>>(&mut self.seat, node)
     }
 
-    /// Puts an own record in the place of a node's, if that is still this one. True if it did: then the record is published.
+    /// Replaces a node's record by one of the pass's own, if the node still has the record that is given. True if it did: then
+    /// the pass's record is published.
     pub fn try_node(&mut self, node: usize, from: u64, number: u64) -> bool
         requires inner { IsInner self.old.view.shape node }
         requires own { MayStore self.old.view number }
@@ -121,7 +121,7 @@ impl<'r, A: Monoid, B: Monoid> WordPass<'r, A, B> {
 
     /// Loads one of the five words of a record.
     ///
-    /// `number` is the record's, opening records first. A record that was published never changes.
+    /// `number` is the number of the record, opening records first. A record that was published never changes.
     pub fn load_record_word(&mut self, number: u64, field: RecordField) -> u64
         requires { MayLoad self.old.view number }
         ensures table { self.new.table ≡ self.old.table }

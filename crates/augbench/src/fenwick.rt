@@ -6,8 +6,8 @@ use crate::operation::Span;
 use aug_model::Outcome;
 use std::alloc::{AllocError, Global};
 
-/// A bitmap of the keys and an array of their weights, with two Fenwick trees, of how many members there are and of what they
-/// weigh. It is proved safe alone.
+/// A bitmap of the keys and an array of their weights, with two Fenwick trees, one of the numbers of members and one of their
+/// weights. It is only proved safe.
 #[derive(Drop)]
 pub(crate) struct FenwickSet {
     present: Vec<u64>,
@@ -134,7 +134,7 @@ impl FenwickSet {
         Some(key)
     }
 
-    /// What the members from `from` on that are below `to` come to.
+    /// The summary of the members from `from` on that are below `to`.
     pub(crate) fn range(&self, from: u32, to: u32) -> Span
         requires from { from ≤ UNIVERSE }
         requires to { to ≤ UNIVERSE }

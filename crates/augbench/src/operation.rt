@@ -7,7 +7,7 @@ use crate::workload::Kind;
 use aug_model::Outcome;
 
 /// An operation with its keys: a put gives the key `one` the weight `two`, a range goes from `one` up to below `two`, a batch has the
-/// keys that `one` gives, and the others have `one` alone.
+/// keys that `one` gives, and the others have only `one`.
 #[derive(Clone, Copy, Debug, PartialEq, Eq)]
 pub(crate) struct Operation {
     pub(crate) kind: Kind,

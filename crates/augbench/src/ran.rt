@@ -1,4 +1,4 @@
-//! What a round is to do, and what it came to.
+//! What a round is to do, and its result.
 ghost use Rattle.std.specs.Prelude.{◌≡◌, IfOk};
 ghost use Rattle.augbench.specs.Threads.{lanes_of};
 ghost use Rattle.augbench.specs.Laps.{joined};

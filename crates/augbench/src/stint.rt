@@ -14,8 +14,8 @@ use std::time::Clock;
 const STRIDE: u64 = 64;
 
 /// Makes operations until this thread has made all of its own, or another one has, or the time is over. It makes two at a time, so that
-/// what the first puts in the second can take out, and counts them if the round was not over by then. Keys are drawn before the
-/// set is asked. None if the threads did not begin together.
+/// what the first puts in the second can take out, and counts them if the round was not over by then. Keys are drawn before the set is
+/// called. None if the threads did not begin together.
 pub(crate) fn run<C: Clock, S: Seat>(
     clock: &C,
     seat: &mut S,

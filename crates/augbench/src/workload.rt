@@ -17,7 +17,7 @@ pub(crate) enum Workload {
     /// The same, and every second update gives a new weight to an even key. Only odd ones come and go, so the even ones of
     /// the opening stay members.
     Puts,
-    /// Queries alone, each on a fresh snapshot.
+    /// Only queries, each on a fresh snapshot.
     Queries,
     /// Nine batches of ranks, each on one snapshot, and then an update.
     Batches,

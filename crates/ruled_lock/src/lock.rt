@@ -25,7 +25,7 @@ impl<T, V, P: LockRule<T, V>> TableRule<Option<T>, Holding<T, V>, ()> for Locked
 /// A pass of a lock. It has no bytes, and its view is what the caller's rule sees of it.
 pub type Pass<T, V> = Seat<Option<T>, Holding<T, V>>;
 
-/// A value that one thread at a time has, under a rule of the caller's.
+/// A value that one thread at a time holds, under a rule of the caller's.
 pub struct RuledLock<T, V, P: LockRule<T, V>> {
     // The word is 0 if the value is in the lock, 1 if a pass holds it, and 2 if a pass holds it and a thread may sleep.
     pub table: Table<Option<T>, Holding<T, V>, (), Locked<P>, Global>,

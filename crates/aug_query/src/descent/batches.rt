@@ -1,4 +1,4 @@
-//! The same query of many keys. What their ways share is walked once.
+//! The same query for many keys. What their ways share is walked once.
 ghost use Rattle.std.specs.Prelude.{◌≡◌, ℕ, ◌+◌, ◌-◌, ◌*◌, ◌/◌, ◌^◌, ◌≤◌, ◌++◌, min, length, map, replicate, Option, is_some, vec_len, vec_capacity};
 ghost use Rattle.std.specs.List.Sorted.{IsNonDecreasing};
 ghost use Rattle.aug_model.specs.Keys.{is_member, list_of};

@@ -1,4 +1,4 @@
-//! What the members of an interval come to.
+//! The summary of the members of an interval.
 ghost use Rattle.std.specs.Prelude.{◌≡◌, ℕ, ◌+◌, ◌-◌, ◌*◌, ◌/◌, ◌^◌, ◌<◌, ◌≤◌};
 ghost use Rattle.aug_model.specs.Folds.{summary_of};
 ghost use Rattle.aug_model.specs.Keys.{list_of};

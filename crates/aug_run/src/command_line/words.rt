@@ -12,9 +12,9 @@ use clap::error::ErrorKind;
 use clap::{Arg, ArgAction, ArgMatches, Command, Error, value_parser};
 use std::alloc::{AllocError, Global};
 
-/// What the words of the command line ask for, which come without the program's own name. `Help` is the answer
-/// to `--help`, and `Usage` to words that are wrong, each with the parser's text. `TooLarge` is the answer if a round that opens
-/// with every key would have more than 2^26 words.
+/// What the words of the command line ask for. They come without the program's own name. `Help` is the answer to `--help`, and
+/// `Usage` to words that are wrong, each with the parser's text. `TooLarge` is the answer if a round that opens with every key
+/// would have more than 2^26 words.
 pub fn options(alloc: Global, words: &[String]) -> Result<Options, Stop>
     ensures asked { IfOk result (IsReadFrom (matches_of program (map string_bytes words.now))) }
     ensures right { OnOk result (fault_of program (map string_bytes words.now) ≡ []) }

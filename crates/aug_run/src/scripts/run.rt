@@ -20,7 +20,7 @@ use std::thread::Threads;
 
 /// Reads the whole script, judges every row, and then runs round after round, each with a worker thread for every lane;
 /// its report is written before the next round begins. Nothing is written unless the whole script was read and has no
-/// fault. The clauses on the result of the bytes are for a source and a sink that show their bytes.
+/// fault. The clauses about the bytes are for a source and a sink that show their bytes.
 pub fn run<R: Threads + Wait, S: Source, W: Sink>(
     rt: &R,
     alloc: Global,

@@ -17,8 +17,8 @@ use aug_query::{Calls, descent};
 use std::alloc::{AllocError, Global};
 
 impl<'r, A: Monoid, B: Monoid> Pass<'r, A, B> {
-    /// The tree of a snapshot, for a query of one's own. Once the view that this call gives is gone, contracts know
-    /// nothing of the pass. To use the pass again, write the [`View`] out.
+    /// The tree of a snapshot, for a query that a caller writes. Once the view that this call gives is gone, contracts know
+    /// nothing about the pass. To use the pass again, write the [`View`] out.
     pub fn view<'p>(&'p mut self, s: Snapshot) -> View<'p, 'r, A, B>
         requires { HasSnapshot self.old s.number }
         ensures same_reference { result.pass.ghost_name ≡ self.entry.ghost_name }

@@ -1,4 +1,4 @@
-//! From one node of a snapshot's tree to the next, over a pass that knows its words alone.
+//! From one node of a snapshot's tree to the next, over a pass that knows only its words.
 ghost use Rattle.std.specs.Prelude.{◌≡◌, ◌+◌, ◌*◌, ◌≤◌};
 ghost use Rattle.aug_core.specs.Faces.{face};
 ghost use Rattle.aug_core.specs.Told.{KnowsTable};

@@ -1,4 +1,4 @@
-//! Loads of single words of a snapshot's tree, over a pass that knows its words alone.
+//! Loads of single words of a snapshot's tree, over a pass that knows only its words.
 ghost use Rattle.std.specs.Prelude.{◌≡◌, ℕ, ◌+◌, ◌*◌, ◌^◌, ◌<◌, ◌≤◌, length};
 ghost use Rattle.aug_core.specs.Cuts.{set_of_cut};
 ghost use Rattle.aug_core.specs.Faces.{face};

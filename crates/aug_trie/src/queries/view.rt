@@ -10,12 +10,12 @@ use aug_model::Summary;
 use aug_monoid::Monoid;
 use aug_query::{Calls, Tree};
 
-/// The tree of a snapshot of a pass, which the pass walks. For a query of one's own over [`Tree`], write it out as
-/// `View { pass: &mut pass, snapshot, calls: Calls::new() }`. Then contracts know what became of the pass once the view
-/// is gone. What a query keeps of the pass is `KeepsPass`: it makes at most four steps for each call of the tree, and
-/// learns nothing.
+/// The tree of a snapshot of a pass, which the pass walks. For your own query over [`Tree`], write it out as
+/// `View { pass: &mut pass, snapshot, calls: Calls::new() }`. Then contracts know the state of the pass after the view is gone.
+/// `KeepsPass` says what a query leaves unchanged in the pass: it makes at most four steps for each call of the tree, and learns
+/// nothing.
 pub struct View<'p, 'r, A: Monoid, B: Monoid> {
-    /// The pass. It is borrowed as long as the view is there.
+    /// The pass. It is borrowed as long as the view exists.
     pub pass: &'p mut Pass<'r, A, B>,
     /// A snapshot of this pass.
     pub snapshot: Snapshot,

@@ -34,7 +34,7 @@ impl<A: Monoid, B: Monoid> Model for Crew<A, B> {
 }
 
 impl<A: Monoid, B: Monoid> Crew<A, B> {
-    /// Hands out the next lane, 0 first, to a new pass. The pass knows what the crew then knows. Refused with `NoLane`
+    /// Hands out the next lane, 0 first, to a new pass. The pass knows what the crew knows after the call. Refused with `NoLane`
     /// once all lanes were handed out.
     pub fn pass<'r>(&mut self, round: &'r Round<A, B>) -> Result<Pass<'r, A, B>, CrewError>
         requires together { self.old.round ≡ round.now }

@@ -38,7 +38,7 @@ impl<A: Monoid, B: Monoid> Model for Round<A, B> {
 }
 
 impl<A: Monoid, B: Monoid> Round<A, B> {
-    /// Begins a round as `begin_wider` does, with the trie's own bits. These are never refused.
+    /// Begins a round as `begin_wider` does, with the trie's own bits. These bits are never refused.
     pub fn begin(
         alloc: Global,
         ended: Ended<A, B>,
@@ -64,8 +64,8 @@ impl<A: Monoid, B: Monoid> Round<A, B> {
     }
 
     /// Begins a round over the set of a trie at rest, each member with its weight. Keys are below `2^bits`, with at least
-    /// as many bits as the trie's. There may be `workers` passes, each with `updates` updates. All memory of the round
-    /// is taken here, and that of the round before is given back.
+    /// as many bits as the trie's. There may be `workers` passes, each with `updates` updates. All memory of the round is taken
+    /// here, and that of the previous round is given back.
     ///
     /// Refused, in this order, with `BadBits`, `Narrower`, `BadWorkers`, `BadUpdates` and `TooLarge`, as `Layout::new`
     /// refuses these numbers with the size of the set, and then with `OutOfMemory`. After a refusal the same trie comes
@@ -108,8 +108,8 @@ impl<A: Monoid, B: Monoid> Round<A, B> {
         }
     }
 
-    /// Begins a round as `begin_wider` does, over a set that was listed: its trie's memory was given back before, so the most
-    /// that is held meanwhile is the new table, a list of its words and the list of members.
+    /// Begins a round as `begin_wider` does, over a set that was listed. The memory of its trie was given back before, so the
+    /// call holds at most the new table, a list of its words and the list of members.
     ///
     /// Refused as `begin_wider` refuses. After a refusal the same list comes back.
     pub fn begin_over(

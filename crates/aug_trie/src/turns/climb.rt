@@ -21,7 +21,7 @@ use aug_words::WordPass;
 use std::marker::Model;
 
 /// An update that is made turn by turn, one atomic step each. It holds its pass meanwhile. If it is dropped, the pass is
-/// given up with its lane. That harms no other pass, and the change may be shown or not.
+/// given up with its lane. That harms no other pass, and the change may or may not be shown.
 #[derive(Drop)]
 pub struct Climb<'r, A: Monoid, B: Monoid> {
     pub(crate) words: WordPass<'r, A, B>,
@@ -145,7 +145,7 @@ impl<'r, A: Monoid, B: Monoid> Climb<'r, A, B> {
         }
     }
 
-    /// How many turns there are still to come at most: `30 * bits - 10` at the start, and always at least 1.
+    /// The greatest number of turns that may be left: `30 * bits - 10` at the start, and always at least 1.
     pub fn turns_left(&self) -> u32
         ensures turns { result ≡ self.now.left }
         ensures some { 1 ≤ result }

@@ -1,4 +1,4 @@
-//! Updates over a pass that knows its words alone.
+//! Updates over a pass that knows only its words.
 ghost use Rattle.std.specs.Prelude.{◌≡◌, ℕ, ◌+◌, ◌*◌, ◌^◌, ◌<◌, ◌≤◌, Bool, true, false, if◌then◌else◌, length};
 ghost use Rattle.aug_core.specs.Faces.{face};
 ghost use Rattle.aug_core.specs.Counts.{changes_of};

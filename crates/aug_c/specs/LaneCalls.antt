@@ -60,7 +60,7 @@ abbrev pub truth : Bool → ℤ
 truth true = pos 1
 truth false = pos 0
 
--- why an update is refused, and that it then changes nothing; else it is one update more, and keeps all snapshots. The lane looks at the same
+-- when an update is refused, and that it then changes nothing. Otherwise it is one more update, and keeps all snapshots. The lane looks at the same
 -- snapshot as before
 pub record MakesUpdate {T : Type 0} (key : ℕ) (old new : Lane Sum Extent) (answer : Result T LaneError) : Type 0 where
   pub bad_key : IsErrOf answer BadKey ↔ (2 ^ old.half.round.bits ≤ key)
@@ -106,7 +106,7 @@ pub record TakesLook (old new : Lane Sum Extent) (code : ℤ) : Type 0 where
   pub keeps : Keeps span_of old.half new.half
   pub round : new.round ≡ old.round
 
--- a query answers by the snapshot alone, and changes nothing that a later one could see
+-- a query answers only by the snapshot, and changes nothing that a later one could see
 pub record Asks (told : SetFacts → ℤ) (old new : Lane Sum Extent) (code : ℤ) : Type 0 where
   pub says : code ≡ told (shown old)
   pub stays : Stays span_of old.half new.half

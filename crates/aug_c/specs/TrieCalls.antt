@@ -63,14 +63,14 @@ abbrev pub OpensOn : LaneHandle → LaneHandle → Stage → Stage → ℤ → T
 OpensOn lane_before lane_after (Resting old) new code = (new ≡ Resting old) × (code ≡ codes.at_rest) × (lane_after ≡ lane_before)
 OpensOn lane_before lane_after (Working old) new code = OpensIn old new lane_before lane_after code
 
--- what a round came to
+-- the result of a round
 pub record IsReport (rest : EndedFacts) (report : Report) : Type 0 where
   pub size : report.size ≡ length rest.members
   pub inserts : report.inserts ≡ rest.inserts
   pub removals : report.removals ≡ rest.removals
   pub missing : report.missing ≡ rest.missing
 
--- a round ends, or stays as it was while a lane is out
+-- a round ends, or stays unchanged while a lane is out
 pub record EndsAs (old : Running Sum Extent) (new : Stage) (before after : Report) (code : ℤ) : Type 0 where
   pub ended : code ≡ pos 0 → (rest : EndedFacts) × (new ≡ Resting rest) × Ends old.crew rest × IsReport rest after
   pub out : code ≢ pos 0 → (round : Running Sum Extent) × (new ≡ Working round) × (round.round ≡ old.round) × (round.crew ≡ old.crew) × (code ≡ codes.lanes_out) × (after ≡ before)

@@ -10,7 +10,7 @@ use Rattle.aug_trie.specs.Node.{Keeps}
 use Rattle.aug_trie.specs.declared.updates.request.Request.{Request}
 use Rattle.aug_trie.specs.declared.updates.request.Request.TheVariants as request
 
--- each of some things is done in turn, one step for each, and comes to the outcome with its index
+-- each item is done in turn, one step for each, with the outcome that has its index
 abbrev pub InTurn : {X S : Type 0} → (X → Outcome → S → S → Type 0) → List X → List Outcome → S → S → Type 0
 InTurn does [] [] old new = new ≡ old
 InTurn does [] (done ∷ more) old new = ⊥

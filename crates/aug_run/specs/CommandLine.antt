@@ -49,7 +49,7 @@ IsReadFrom rows options = FindsLimits rows options.limits × (option_map string_
 abbrev pub AsksTooMuch : List Row → Type 0
 AsksTooMuch rows = (limits : Bounds) × FindsLimits rows limits × (2 ^ 26 < words_of limits)
 
--- an answer to words that are no options: they ask for help, something else is wrong with them, or nothing but that they ask for too much
+-- an answer to words that are no options: they ask for help, something else is wrong with them, or their only fault is that they ask for too much
 abbrev pub IsStopFor : List Text → Stop → Type 0
 IsStopFor words (stop.Help text) = IsAmong DisplayHelp (fault_of program words)
 IsStopFor words (stop.Usage text) = (fault : ErrorKind) × IsAmong fault (fault_of program words) × (fault ≢ DisplayHelp)

@@ -100,13 +100,13 @@ with_item read (item.Grow bits) = record { next = read.next + 1; bits = bits; ro
 abbrev pub rounds_read : Progress → List ScriptRound
 rounds_read read = read.closed ++ (if length read.rows == 0 then [] else open_round read ∷ [])
 
--- how an item is written behind its lane: its word and its arguments
+-- how an item is written after its lane: its word and its arguments
 abbrev pub item_written : Item → List ℕ × List ℕ
 item_written (item.Row row) = written row.verb
 item_written item.End = (codes "end", [])
 item_written (item.Grow bits) = (codes "grow", bits ∷ [])
 
--- the items that a record with this number may be read as: behind `*` the end of a round and new bits, and else the rows of its lane
+-- the items that a record with this number may be read as: after `*` the end of a round and new bits, otherwise the rows of its lane
 abbrev pub items_with : ℕ → List (List ℕ) → List Item
 items_with number fields =
     if is_star (slice_index_or fields 0 []) then item.End ∷ item.Grow (number_in fields 2) ∷ []

@@ -10,7 +10,7 @@ use Rattle.aug_trie.specs.Requests.{word_after, goes_from}
 use Rattle.aug_trie.specs.LeafWords.{serial_in_word}
 use Rattle.aug_trie.specs.declared.updates.request.Request.{Request}
 
--- an update by turns: its pass as it was at the start and as it is now, what it was asked to do, its key, and how many turns are left at most
+-- an update by turns: its pass as it was at the start and as it is now, its request, its key, and the greatest number of turns that may be left
 pub record ClimbFacts : Type 0 where
   pub start : PassFacts
   pub now : PassFacts
@@ -22,7 +22,7 @@ pub record ClimbFacts : Type 0 where
 abbrev pub BeginsClimb : Request → ℕ → PassFacts → ClimbFacts → Type 0
 BeginsClimb request key pass climb = climb ≡ record { start = pass; now = pass; request = request; key = key; left = 30 * pass.round.bits - 10 }
 
--- the pass made one step, and its history goes on
+-- the pass made one step, and its new history continues the old one
 pub record StepsOnce (old new : PassFacts) : Type 0 where
   pub taken : StepTaken
   pub same : new ≡ record new { round = old.round; lane = old.lane; steps = old.steps ++ taken ∷ [] }

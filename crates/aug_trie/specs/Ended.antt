@@ -5,7 +5,8 @@ use Rattle.aug_words.specs.Rests.{AtRest}
 use Rattle.aug_query.specs.Descend.{nothing_loaded}
 use Rattle.aug_query.specs.declared.loaded.Loaded.{Loaded}
 
--- a trie at rest: its bits and members with their weights, what the round that ended it came to, how much queries loaded of it, and the words and the root's record that its members are read from
+-- a trie at rest: its bits and members with their weights, the result of the round that ended with it, how much queries loaded of it, and the words
+-- and the root's record that its members are read from
 pub record EndedFacts : Type 0 where
   pub bits : ℕ
   pub members : List (ℕ × ℕ)

@@ -1,4 +1,4 @@
--- What an update is asked to do, and what it makes of a leaf.
+-- The requests of updates, and what an update makes of a leaf.
 use Rattle.std.specs.Prelude.{ℕ, ◌+◌, ◌%◌, ◌==◌, Bool, true, if◌then◌else◌}
 use Rattle.aug_core.specs.Book.{word_of_leaf}
 use Rattle.aug_model.specs.declared.outcome.Outcome.{Outcome}

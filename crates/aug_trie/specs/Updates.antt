@@ -19,7 +19,7 @@ pub record AcceptedUpdate (parity key weight : ℕ) (old new : Knowledge) : Type
   pub shows : StandsIn (last_cut new.history) (change key number weight)
   pub adds : new.accepted ≡ old.accepted ++ change key number weight ∷ []
 
--- a refused update of the key: its serial stood in the way then, or the key got a further one meanwhile
+-- a refused update of the key: its serial prevented the update at the start, or the key got another serial meanwhile
 pub record RefusedUpdate (parity key : ℕ) (old new : Knowledge) : Type 0 where
   pub goes_on : IsPrefix old.history new.history
   pub stood : (serial_of (last_cut old.history) key % 2 ≡ parity) ⊎ (serial_of (last_cut old.history) key < serial_of (last_cut new.history) key)
@@ -42,7 +42,7 @@ pub record RefusedPut (key : ℕ) (old new : Knowledge) : Type 0 where
   pub rises : serial_of (last_cut old.history) key < serial_of (last_cut new.history) key
   pub same_changes : new.accepted ≡ old.accepted
 
--- what an update comes to that asks so
+-- the result of an update with this request
 abbrev pub ComesTo : Request → ℕ → Outcome → Knowledge → Knowledge → Type 0
 ComesTo request.Insert key outcome.Accepted old new = AcceptedUpdate insertion key key old new
 ComesTo request.Insert key outcome.Refused old new = RefusedUpdate insertion key old new

@@ -1,4 +1,4 @@
--- What the rounds of the engines came to.
+-- The results of the rounds of the engines.
 use Rattle.std.specs.Prelude.{◌≡◌, ◌≤◌, ℕ, ◌+◌, ◌-◌, ◌^◌, ◌==◌, ◌&&◌, Bool, min}
 use Rattle.augbench.specs.declared.engine.Engine.{Engine}
 use Rattle.augbench.specs.declared.engine.Engine.TheVariants.{Trie, Mutex, RwLock, LeftRight, Live}
@@ -7,7 +7,7 @@ use Rattle.augbench.specs.declared.ran.Ran.{Ran}
 use Rattle.augbench.specs.declared.each.Each.{Each}
 use Rattle.augbench.specs.declared.total.Total.{Total}
 
--- what each engine's round came to
+-- the result of each engine's round
 pub record AreOfEach (rans : Each Ran) : Type 0 where
   pub trie : rans.trie.engine ≡ Trie
   pub mutex : rans.mutex.engine ≡ Mutex
@@ -15,7 +15,7 @@ pub record AreOfEach (rans : Each Ran) : Type 0 where
   pub left_right : rans.left_right.engine ≡ LeftRight
   pub live : rans.live.engine ≡ Live
 
--- what each engine's rounds came to
+-- the results of each engine's rounds
 pub record TotalsOfEach (totals : Each Total) : Type 0 where
   pub trie : totals.trie.engine ≡ Trie
   pub mutex : totals.mutex.engine ≡ Mutex

@@ -8,7 +8,7 @@ use Rattle.atomic_table.specs.declared.shared.Seat.{Seat}
 use Rattle.ruled_lock.specs.declared.holding.Holding.{Holding}
 
 module _ {T : Type 0} (word : ℕ) (value : T) (holder seat : ℕ) where
-  -- what a seat has taken is the value, and it alone has it
+  -- what a seat has taken is the value, and only this seat has it
   abbrev pub KnowsValue : Option T → Type 0
   KnowsValue taken = IfSome taken (λ t. (0 < word) × (seat ≡ holder) × (t ≡ value))
 

@@ -35,7 +35,7 @@ pub record SaysLoaded (face : ℕ → ℕ → List (ℕ × ℕ) → List ℕ) (s
   pub right_named : is_loaded.right.word ≡ slice_index five 1
   pub five_are : five ≡ face (slice_index five 0) (slice_index five 1) (is_loaded.left.pairs ++ is_loaded.right.pairs)
 
--- the node's newest entry stands over children of these words, if it was published, and else is another than was loaded
+-- the node's newest entry stands over children of these words, if it was published; otherwise it is another entry than the one that was loaded
 pub record Published (s : Shape) (q old left_word right_word : ℕ) (done : Bool) (book : Book) : Type 0 where
   pub index : ℕ
   pub entry : Entry

@@ -1,4 +1,4 @@
--- What a round comes to once all passes are back at the crew.
+-- The result of a round once all passes are back at the crew.
 use Rattle.std.specs.Prelude.{◌≡◌, ℕ, ◌<◌, List, [], ◌∷◌, length, map, slice_index_or, All}
 use Rattle.aug_trie.specs.Crew.{CrewFacts}
 use Rattle.aug_trie.specs.Round.{RoundFacts}
@@ -9,7 +9,7 @@ use Rattle.aug_run.specs.inside.Workers.{RunsTo, opening_cut_of, rows_of}
 use Rattle.aug_script.specs.declared.reply.Reply.{Reply}
 use Rattle.aug_script.specs.declared.row.Row.{Row}
 
--- a crew that knows the opening cut alone, and has handed nothing out
+-- a crew that knows only the opening cut, and has handed nothing out
 pub record IsFreshCrew (round : RoundFacts) (crew : CrewFacts) : Type 0 where
   pub together : crew.round ≡ round
   pub opening : crew.knows ≡ record { history = opening_cut_of round ∷ []; accepted = [] }

@@ -15,7 +15,7 @@ use Rattle.aug_trie.specs.declared.updates.request.Request.{Request}
 use Rattle.aug_trie.specs.declared.turns.stages.Stage.{Stage}
 use Rattle.aug_trie.specs.declared.turns.stages.Stage.TheVariants.{Leaf, Change, Up}
 
--- a pass as it was when the update began that it is in
+-- a pass as it was when its present update began
 abbrev pub began_facts : Known → ℕ → PassFacts
 began_facts known left = record {
   round = round_of known.table known.view;

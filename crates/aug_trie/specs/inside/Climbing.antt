@@ -1,4 +1,4 @@
--- An update as a whole: what its steps are, and what it comes to.
+-- An update as a whole: its steps, and its result.
 use Rattle.std.specs.Prelude.{◌≡◌, ℕ, ◌+◌, ◌*◌, ◌%◌, ◌^◌, ◌<◌, ◌≤◌, ◌==◌, ⊤, true, false, List, [], ◌∷◌, ◌++◌, length}
 use Rattle.aug_core.specs.Book.{Book, At, IsPassed}
 use Rattle.aug_core.specs.Kinds.{load_leaf}
@@ -45,13 +45,13 @@ module _ (face : ℕ → ℕ → List (ℕ × ℕ) → List ℕ) (used : ℕ) (v
     pub weighs : WeighsAt w.seen key (new_serial a) a.new_weight
     pub passes : a.replaces ≡ true → IsPassed w.seen key (a.serial + 1)
 
-  -- a serial of the key stood in the update's way, which the root shows
+  -- a serial of the key prevented the update, and the root shows it
   pub record Stayed (found : ℕ) : Type 0 where
     pub goes : Goes face used [] v w
     pub before : ShowsAtMost v.shape v.seen key found
     pub shown : NewestShows v.shape w.seen key v.shape.bits (in_the_way request found)
 
-  -- what an update came to whose leaf had this word when it was loaded
+  -- the result of an update whose leaf had this word when it was loaded
   abbrev pub CameTo : ℕ → Outcome → Type 0
   CameTo loaded outcome.Accepted = WentUp (advance_from request key loaded) × ((advance_from request key loaded).replaces ≡ false)
   CameTo loaded outcome.Replaced = WentUp (advance_from request key loaded) × ((advance_from request key loaded).replaces ≡ true)

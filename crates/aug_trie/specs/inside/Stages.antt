@@ -78,7 +78,7 @@ module _ (face : ℕ → ℕ → List (ℕ × ℕ) → List ℕ) where
       pub room : HasRoom begun (number + a.level) 1
       pub try_over : TryOver face begun a.node (number + a.level) done w
 
-    -- it goes on, or has come to the root
+    -- it continues, or has reached the root
     abbrev pub Ascends : Option Ascent → View → Type 0
     Ascends (Some a) w = IsOnWay a w
     Ascends None w = HasRisen bits w
@@ -104,7 +104,7 @@ module _ (face : ℕ → ℕ → List (ℕ × ℕ) → List ℕ) where
       pub steps : w.steps ≡ u.steps ++ load_leaf key found ∷ more
       pub tried : goes_from request (serial_in_word found) ≡ true → 1 ≤ length more
 
-    -- it is on its way, and will be an update when it has come to the root
+    -- it is on its way, and will be a complete update when it has reached the root
     pub record IsRising (done : Outcome) (a : Ascent) (w : View) : Type 0 where
       pub leaf : View
       pub has_begun : HasBegun w
@@ -125,7 +125,7 @@ module _ (face : ℕ → ℕ → List (ℕ × ℕ) → List ℕ) where
       pub fits : FitsRequest request
       pub is_stage : IsStage stage w
 
-    -- it goes on, or is done
+    -- it continues, or is done
     abbrev pub Climbs : Next → View → Type 0
     Climbs (More stage) w = StageAt stage w
     Climbs (Done done) w = Updated face (number + bits) u key request w done

@@ -35,7 +35,7 @@ pub record HasReached (v : View) (key serial : ℕ) : Type 0 where
   pub at : At v.seen key serial entry
 
 module _ (face : ℕ → ℕ → List (ℕ × ℕ) → List ℕ) where
-  -- what is so of the seat of a pass: it has one lane, which is taken, and all words of its records, and knows its table
+  -- what holds for the seat of a pass: it has one lane, which is taken, and all words of its records, and knows its table
   pub record IsPassSeat (lane : ℕ) (me : Sat) : Type 0 where
     pub live : me.0.live ≡ true
     pub no_slot : me.1 ≡ []
@@ -47,7 +47,7 @@ module _ (face : ℕ → ℕ → List (ℕ × ℕ) → List ℕ) where
     pub exists : lane < me.0.shape.workers
     pub knows : KnowsTable face me.0
 
-  -- what is so of the seat of a lead: it hands out the lanes from the next one on, knows its table, and has the number of the root's newest record
+  -- what holds for the seat of a lead: it hands out the lanes from the next one on, knows its table, and has the number of the root's newest record
   pub record IsLeadSeat (next root : ℕ) (me : Sat) : Type 0 where
     pub live : me.0.live ≡ true
     pub no_slot : me.1 ≡ []

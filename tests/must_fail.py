@@ -1,7 +1,7 @@
 #!/usr/bin/env python3
 """Tries the must-fail edits of the crates, many of them in one check.
 
-usage: tests/must_fail.py [CRATE ..], once `rt ci` or `rt lib` has built the libraries
+usage: tests/must_fail.py [CRATE | CRATE/EDIT ..], once `rt ci` or `rt lib` has built the libraries. EDIT is a name without its `.edit`
 
 Each edit has to be refused, as under `rt must-fail`, which checks the whole crate anew for each of them. That takes over half an hour of a processor in a
 large crate. Here the edits of a crate go into groups, so that no function is changed by two of a group, and a group is one check of the functions
@@ -46,13 +46,17 @@ Edit = collections.namedtuple("Edit", "file label texts functions is_of_bodies")
 class Crate:
     """A crate with its edits, which are tried in a folder that keeps what one check after another proved."""
 
-    def __init__(self, rt, crate, kept):
+    def __init__(self, rt, crate, kept, asked=()):
+        """With names of edits, these alone."""
         self.rt, self.crate, self.kept = rt, crate, kept
         self.said = {}
         found, bad = rt.edits_of(crate)
         for path in bad:
             self.tell(path, False, "BAD EDIT: an edit stands right in must-fail/, and its name ends in .edit")
-        self.edits = [it for it in map(self.read, found) if it]
+        files = {os.path.basename(it)[: -len(".edit")]: it for it in found}
+        for name in set(asked) - set(files):
+            self.tell(name, False, "there is no such edit")
+        self.edits = [it for it in map(self.read, (files[it] for it in files if it in asked or not asked)) if it]
 
     def tell(self, file, is_refused, text):
         self.said[file] = is_refused, f"must-fail {self.crate.name}/{os.path.basename(file)}: {text}"
@@ -169,8 +173,10 @@ class Crate:
 
 def main(names, rt=None, top=TOP):
     rt = rt or kit.loaded()
-    crates = kit.crates(rt, top)
-    unknown = sorted(set(names) - set(crates))
+    crates, asked = kit.crates(rt, top), collections.defaultdict(list)
+    for crate, _, edit in (it.partition("/") for it in names):
+        asked[crate] += [edit] if edit else []
+    unknown = sorted(set(asked) - set(crates))
     if unknown:
         print(f"must_fail.py: crates.txt has no {' and no '.join(unknown)}", file=sys.stderr)
         return 2
@@ -181,12 +187,12 @@ def main(names, rt=None, top=TOP):
             if not os.path.isdir(below.rlib):
                 return [(False, f"must-fail {crate.name}: its library {below.name} is not built")]
         with tempfile.TemporaryDirectory(prefix="edits-kept-") as kept:
-            said = Crate(rt, crate, kept).try_all(jobs)
+            said = Crate(rt, crate, kept, asked[crate.name]).try_all(jobs)
         for _, text in said:
             print(text, flush=True)
         return said
 
-    chosen = [crates[it] for it in names or crates if any(rt.edits_of(crates[it]))]
+    chosen = [crates[it] for it in (asked if names else crates) if any(rt.edits_of(crates[it]))]
     tasks = {(it.name, "edits"): ([], it.count(rb"\n"), rt.need(it), lambda _, jobs, crate=it: try_crate(crate, jobs)) for it in chosen}
     said = [it for found in rt.in_lanes(tasks).values() for it in found]
     if not said:

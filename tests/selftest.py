@@ -825,6 +825,12 @@ print("only=3 proved=1")
         status, said, ran, alone = self.run_edits(("specs/Full.antt", "most = 9", "most = 8 -- definition"))
         self.assertEqual((status, said.splitlines()[-1], ran, alone), (0, "1 passed, 0 failed", [], ["0.edit"]))
 
+    def test_edit_that_is_named(self):
+        edits = ("src/lib.rt", "a();", "wrong();"), ("src/lib.rt", "b();", "c();")
+        self.assertEqual(self.run_edits(*edits, names=["low/0"])[:3:2], (0, ["low::one"]))
+        status, said, _, _ = self.run_edits(*edits, names=["low/2"])
+        self.assertEqual((status, said.splitlines()[0]), (1, "must-fail low/2: there is no such edit"))
+
     def test_edit_that_cannot_be_applied_fails(self):
         status, said, _, _ = self.run_edits(("src/lib.rt", "z();", "wrong();"))
         self.assertEqual((status, said.splitlines()[-1]), (1, "0 passed, 1 failed"))

@@ -14,8 +14,8 @@ use Rattle.aug_core.proofs.FaceLemmas.{left_in, right_in}
 use Rattle.aug_core.proofs.Refreshing.{has_entry}
 use Rattle.aug_core.proofs.Sizes.{twice}
 use Rattle.aug_words.specs.Seats.{LoadsRecordWord}
-use Rattle.aug_trie.specs.inside.Goes.{HasRoom, Took, Goes, IsPartOf, part_steps, Looks}
-use Rattle.aug_trie.specs.inside.Points.{Says, stored, child_at, field_after, five_over, IsOverLeaves, AfterLeft, AfterRight, AfterWords, AfterStores, TryAt, TryOver}
+use Rattle.aug_trie.specs.inside.Goes.{HasRoom, Took, Goes, IsPartOf, part_steps, try_steps, Looks}
+use Rattle.aug_trie.specs.inside.Points.{Says, stored, reading_words, child_at, field_after, five_over, IsOverLeaves, AfterLeft, AfterRight, AfterWords, AfterStores, TryAt, TryOver}
 use Rattle.aug_trie.specs.declared.turns.points.Reading.{Reading}
 use Rattle.aug_trie.specs.declared.turns.points.Filling.{Filling}
 use Rattle.aug_trie.specs.declared.turns.points.Point.{Point}
@@ -118,7 +118,7 @@ module _ (f : ℕ → ℕ → List (ℕ × ℕ) → List ℕ) where
 
 -- all words of their records were loaded
 pub record AllWords (left right : ℕ) (words : List ℕ) (third : View) : Type 0 where
-  pub says : (k : ℕ) → k < 6 → Says third (child_at left right k) (field_after k) (get_or words k 0)
+  pub says : (k : ℕ) → k < reading_words → Says third (child_at left right k) (field_after k) (get_or words k 0)
 
 module _ {A B : Type 0} (parts_a : Parts A) (parts_b : Parts B) (laws_a : IsMonoid parts_a) (laws_b : IsMonoid parts_b) (v : View) (q : ℕ) where
   abbrev both : ℕ → ℕ → List (ℕ × ℕ) → List ℕ
@@ -175,10 +175,10 @@ module _ {A B : Type 0} (parts_a : Parts A) (parts_b : Parts B) (laws_a : IsMono
         let x = part_few parts_a parts_b third.shape third (left_of v.shape q) left _ _ _ refl few_third inner_left.inside kn_third e_l left_told in
         let y = part_few parts_a parts_b third.shape third (right_of v.shape q) right _ _ _ refl few_third inner_right.inside kn_third e_r right_told in omega arith
 
-    pub nodes_told : (number : ℕ) (point : Point) (old w : View) (r : Filling) → r.from ≡ from → r.five ≡ five_over parts_a parts_b left right (λ k. get_or words k 0) → r.count ≡ 0 → TryAt both v q number point old → Goes both 0 [] third w → Took third w 6 → TryAt both v q number (Record r) w
+    pub nodes_told : (number : ℕ) (point : Point) (old w : View) (r : Filling) → r.from ≡ from → r.five ≡ five_over parts_a parts_b left right (λ k. get_or words k 0) → r.count ≡ 0 → TryAt both v q number point old → Goes both 0 [] third w → Took third w reading_words → TryAt both v q number (Record r) w
     nodes_told number point old w r ef e5 ec t goes took = let l = a.lefts in let self = goes_self both third kn_third in
         let three : part_steps v.shape (left_of v.shape q) ≡ 3 = ap (λ (z : Bool). if z then 0 else 3) (le-ltb (left_of v.shape q) (2 ^ v.shape.bits) nodes) in
-        to_record both v q number from left right (get_or words 0 0 + get_or words 3 0) _ _ point old third w r ef e5 ec t a goes (subst (Took third w) (let e : 6 ≡ 2 * part_steps v.shape (left_of v.shape q) = omega arith in e) took)
+        to_record both v q number from left right (get_or words 0 0 + get_or words 3 0) _ _ point old third w r ef e5 ec t a goes (subst (Took third w) (let e : reading_words ≡ 2 * part_steps v.shape (left_of v.shape q) = omega arith in e) took)
         (says parts_a parts_b laws_a laws_b v l.first a.second third third w q from left right _ _ _ _ _ _ _ _ inner few l.node.goes l.goes a.goes self goes l.node.at_node l.at_left a.at_right left_told right_told refl refl)
 
   -- the record of the child whose word is next was seen
@@ -224,7 +224,7 @@ module _ (f : ℕ → ℕ → List (ℕ × ℕ) → List ℕ) (v : View) (q numb
       (cases_eq k r.count)
 
   -- there is another to load
-  pub part_on : (next : Reading) → next ≡ record { from = r.from; left = r.left; right = r.right; words = words_now; count = r.count + 1 } → r.count + 1 < 6 → TryAt f v q number (Part next) w
+  pub part_on : (next : Reading) → next ≡ record { from = r.from; left = r.left; right = r.right; words = words_now; count = r.count + 1 } → r.count + 1 < reading_words → TryAt f v q number (Part next) w
   part_on next is few = subst (λ (z : Reading). TryAt f v q number (Part z) w) (sym is) record {
     inner = t.inner;
     knows_table = t.knows_table;
@@ -233,10 +233,10 @@ module _ (f : ℕ → ℕ → List (ℕ × ℕ) → List ℕ) (v : View) (q numb
   }
 
   -- all were loaded
-  pub all_on : r.count + 1 ≡ 6 → AllWords r.left r.right words_now a.third
+  pub all_on : r.count + 1 ≡ reading_words → AllWords r.left r.right words_now a.third
   all_on full = record { says = λ k low. said k (omega arith) }
 
-  pub took_all : r.count + 1 ≡ 6 → Took a.third w 6
+  pub took_all : r.count + 1 ≡ reading_words → Took a.third w reading_words
   took_all full = subst (Took a.third w) full took_now
 
 -- ---- the own record
@@ -313,7 +313,7 @@ module _ {A B : Type 0} (parts_a : Parts A) (parts_b : Parts B) (v : View) (q nu
         let took_told = took_on v held.third held.told 3 (2 * n) (3 + 2 * n) refl (took_right f v q r.from (get_or r.five 0 0) (get_or r.five 1 0) held.third held.loaded) held.took in
         let took_old : Took held.told old 5 = subst (Took held.told old) full (subst (λ (z : View). Took held.told z r.count) (sym held.stands) (took_stored f held.told number r.five r.count)) in record {
           goes = goes_on f 0 (number + 1) (number + 1) [] v old w (omega arith) (omega arith) g_old gw;
-          took = took_on v old w (8 + 2 * n) 1 (9 + 2 * n) (omega arith) (took_on v held.told old (3 + 2 * n) 5 (8 + 2 * n) (omega arith) took_told took_old) (took_one old w _ refl tried.stepped);
+          took = took_on v old w (8 + 2 * n) 1 (try_steps n) (omega arith) (took_on v held.told old (3 + 2 * n) 5 (8 + 2 * n) (omega arith) took_told took_old) (took_one old w _ refl tried.stepped);
           tries = tries f v first second held.third held.told w q r.from (get_or r.five 0 0) (get_or r.five 1 0) number done t.inner gw.knows_table (gw.shaped ∙ g_old.shaped) g_told.shaped
               l.node.goes.later l.goes.later held.loaded.goes.later (λ p i e z. to_w.later p i e (held.goes.later p i e z)) l.node.at_node l.at_left held.loaded.at_right p
               (λ bad. free_again f old w q r.from number found done decided tried knows_old bad room_old.is_free);

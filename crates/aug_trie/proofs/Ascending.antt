@@ -8,7 +8,7 @@ use Rattle.aug_core.specs.inside.Shows.{above, Lifts}
 use Rattle.aug_core.specs.declared.view.View.{View}
 use Rattle.aug_core.proofs.Refreshing.{covers_second}
 use Rattle.aug_core.proofs.Showing.{above_inner}
-use Rattle.aug_trie.specs.inside.Goes.{Goes, Took, TookBetween, HasRoom, part_steps}
+use Rattle.aug_trie.specs.inside.Goes.{Goes, Took, TookBetween, HasRoom, part_steps, try_steps, level_steps, least_rise_steps, most_rise_steps}
 use Rattle.aug_trie.specs.inside.Points.{TryAt, TryOver, point_turns}
 use Rattle.aug_trie.specs.inside.Stages.{Missed, IsTry, IsCovered, HasRisen, MayRise, IsAtNode, IsOnWay, IsPastTry, part_above, ascent_turns}
 use Rattle.aug_trie.specs.declared.turns.points.Point.{Point}
@@ -27,13 +27,13 @@ module _ (f : ℕ → ℕ → List (ℕ × ℕ) → List ℕ) where
 
   -- the first try published its record
   pub covered_once : (below w : View) (q number : ℕ) → TryOver f below q number true w → IsCovered f below w q number
-  covered_once below w q number over = let n : ℕ = 9 + 2 * part_steps below.shape (left_of below.shape q) in
+  covered_once below w q number over = let n : ℕ = try_steps (part_steps below.shape (left_of below.shape q)) in
       record { goes = over.goes; took = record { steps = n; least_steps = omega arith; most_steps = omega arith; took = over.took }; covers = over.tries.refreshed.covers refl }
 
   -- it failed, and whatever the second came to, the node covers what had been seen
   pub covered_twice : (below begun w : View) (q number : ℕ) (done : Bool) → IsInner below.shape q → Missed f below begun q number → TryOver f begun q number done w → IsCovered f below w q number
-  covered_twice below begun w q number done inner m over = let n : ℕ = 9 + 2 * part_steps below.shape (left_of below.shape q) in let shaped = m.goes.shaped in
-      let second : Took begun w n = subst (λ (z : Shape). Took begun w (9 + 2 * part_steps z (left_of z q))) shaped over.took in
+  covered_twice below begun w q number done inner m over = let n : ℕ = try_steps (part_steps below.shape (left_of below.shape q)) in let shaped = m.goes.shaped in
+      let second : Took begun w n = subst (λ (z : Shape). Took begun w (try_steps (part_steps z (left_of z q)))) shaped over.took in
       let whole = goes_on f (number + 1) (number + 1) (number + 1) [] below begun w (omega arith) (omega arith) m.goes over.goes in record {
         goes = whole;
         took = record { steps = n + n; least_steps = omega arith; most_steps = omega arith; took = took_on below begun w n n (n + n) refl m.took second };
@@ -67,13 +67,13 @@ module _ (f : ℕ → ℕ → List (ℕ × ℕ) → List ℕ) where
       pub risen_on : (node : ℕ) (w : View) → node ≡ above leaf.shape key (suc level) → IsCovered f below w node (number + level) → HasRisen f bits number key leaf (level + 1) w
       risen_on node w is c = let s : Shape = leaf.shape in let one : suc level ≡ level + 1 = sym (add-one level) in let shaped = risen.goes.shaped in
           let goes : Goes f (number + (level + 1)) [] leaf w = goes_on f (number + level) (number + level + 1) (number + (level + 1)) [] leaf below w (omega arith) (omega arith) risen.goes c.goes in
-          let took : TookBetween below w (9 + 2 * part_steps s (left_of s (above s key (suc level)))) (18 + 4 * part_steps s (left_of s (above s key (suc level)))) =
-          subst (λ (z : ℕ). TookBetween below w (9 + 2 * part_steps s (left_of s z)) (18 + 4 * part_steps s (left_of s z))) is
-          (subst (λ (z : Shape). TookBetween below w (9 + 2 * part_steps z (left_of z node)) (18 + 4 * part_steps z (left_of z node))) shaped c.took) in
+          let took : TookBetween below w (try_steps (part_steps s (left_of s (above s key (suc level))))) (2 * try_steps (part_steps s (left_of s (above s key (suc level))))) =
+          subst (λ (z : ℕ). TookBetween below w (try_steps (part_steps s (left_of s z))) (2 * try_steps (part_steps s (left_of s z)))) is
+          (subst (λ (z : Shape). TookBetween below w (try_steps (part_steps z (left_of z node))) (2 * try_steps (part_steps z (left_of z node)))) shaped c.took) in
           let covers : NewestCovers s below.seen w.seen (above s key (suc level)) = subst (NewestCovers s below.seen w.seen) is (subst (λ (z : Shape). NewestCovers z below.seen w.seen node) shaped c.covers) in
           let book : IsBook f s w.seen = subst (λ (z : Shape). IsBook f z w.seen) goes.shaped goes.knows_table.book in record {
             goes = goes;
-            took = subst (λ (z : ℕ). TookBetween leaf w (15 * z - 6) (30 * z - 12)) one (took_level s leaf below w key level m.low up risen.took took);
+            took = subst (λ (z : ℕ). TookBetween leaf w (least_rise_steps z) (most_rise_steps z)) one (took_level s leaf below w key level m.low up risen.took took);
             lifts = subst (Lifts s leaf.seen w.seen key) one (lifts_level f s leaf.seen below w key level m.low up book c.goes.later covers risen.lifts);
           }
 
@@ -192,7 +192,7 @@ some_more x y p e = omega arith
 pub ascent_falls : (bits part : ℕ) (a : Ascent) (point : Point) → part ≡ part_above a.level → point_turns part point + 1 ≡ point_turns part a.point → 1 ≤ point_turns (part_above a.level) point
     → (ascent_turns bits (record { level = a.level; node = a.node; second = a.second; point = point }) < ascent_turns bits a) × (1 ≤ ascent_turns bits (record { level = a.level; node = a.node; second = a.second; point = point }))
 ascent_falls bits part a point is falls some = (
-  one_less ((bits - 1 - a.level) * 30) (if a.second then 0 else 9 + 2 * part_above a.level) (point_turns (part_above a.level) point) (point_turns (part_above a.level) a.point)
+  one_less ((bits - 1 - a.level) * level_steps) (if a.second then 0 else try_steps (part_above a.level)) (point_turns (part_above a.level) point) (point_turns (part_above a.level) a.point)
       (subst (λ (z : ℕ). point_turns z point + 1 ≡ point_turns z a.point) is falls),
-  some_more ((bits - 1 - a.level) * 30) (if a.second then 0 else 9 + 2 * part_above a.level) (point_turns (part_above a.level) point) some,
+  some_more ((bits - 1 - a.level) * level_steps) (if a.second then 0 else try_steps (part_above a.level)) (point_turns (part_above a.level) point) some,
 )

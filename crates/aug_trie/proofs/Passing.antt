@@ -75,8 +75,7 @@ module _ (face : ℕ → ℕ → List (ℕ × ℕ) → List ℕ) where
       found = u.loaded;
       more = u.more;
       steps = u.steps;
-      least_steps = let l = u.least_steps in omega arith;
-      most_steps = let m = u.most_steps in omega arith;
+      step_count = (u.least_steps, u.most_steps);
       refuses = u.refusing;
       tries = u.tried;
       shows = λ refused. shown_number face (next + bits) v key request w p.knows_table low (serial_in_word u.loaded) (subst (CameTo face (next + bits) v key request w u.loaded) refused u.came_to);

@@ -12,7 +12,7 @@ use Rattle.aug_core.specs.declared.view.View.{View}
 use Rattle.aug_model.specs.declared.outcome.Outcome.{Outcome}
 use Rattle.aug_model.specs.declared.outcome.Outcome.TheVariants.{Refused}
 use Rattle.aug_words.specs.Seats.{MayAdvance, TriedLeaf}
-use Rattle.aug_trie.specs.inside.Goes.{HasLeaves, HasRoom, Goes}
+use Rattle.aug_trie.specs.inside.Goes.{HasLeaves, HasRoom, Goes, try_steps, level_steps, most_rise_steps}
 use Rattle.aug_trie.specs.inside.Climbing.{Updated, advance_from}
 use Rattle.aug_trie.specs.inside.PassState.{IsPass}
 use Rattle.aug_trie.specs.LeafWords.{serial_in_word}
@@ -31,9 +31,9 @@ use Rattle.aug_trie.proofs.Ascending.{way_begins}
 use Rattle.aug_core.specs.declared.step.StepTaken.{StepTaken}
 
 -- the first node above a leaf, tried twice, and two tries at each of the others
-pub first_turns : (bits : ℕ) (a : Ascent) → 1 ≤ bits → a.level ≡ 0 → a.second ≡ false → a.point ≡ Node → ascent_turns bits a + 12 ≡ 30 * bits
-first_turns bits a some el es ep = subst (λ (z : Ascent). ascent_turns bits z + 12 ≡ 30 * bits) (sym (λ i. record { level = el i; node = a.node; second = es i; point = ep i }))
-    (let e : (bits - 1 - 0) * 30 + 9 + 9 + 12 ≡ 30 * bits = omega arith in e)
+pub first_turns : (bits : ℕ) (a : Ascent) → 1 ≤ bits → a.level ≡ 0 → a.second ≡ false → a.point ≡ Node → ascent_turns bits a ≡ most_rise_steps bits
+first_turns bits a some el es ep = subst (λ (z : Ascent). ascent_turns bits z ≡ most_rise_steps bits) (sym (λ i. record { level = el i; node = a.node; second = es i; point = ep i }))
+    (let e : (bits - 1 - 0) * level_steps + try_steps 0 + try_steps 0 ≡ most_rise_steps bits = omega arith in e)
 
 -- the word that is to be exchanged next
 abbrev pub exchanged_word : Stage → ℕ

@@ -12,7 +12,7 @@ use Rattle.aug_core.specs.Told.{own_lane, KnowsTable}
 use Rattle.aug_core.specs.declared.view.View.{View}
 use Rattle.aug_model.specs.declared.outcome.Outcome.{Outcome}
 use Rattle.aug_trie.specs.inside.Climbing.{Updated}
-use Rattle.aug_trie.specs.inside.Goes.{part_steps}
+use Rattle.aug_trie.specs.inside.Goes.{part_steps, try_steps, level_steps, most_rise_steps}
 use Rattle.aug_trie.specs.inside.Knows.{root_history, knows, root_numbers}
 use Rattle.aug_trie.specs.Updates.{ComesTo}
 use Rattle.aug_trie.specs.Pass.{PassFacts, GoesOn, StepsOf}
@@ -44,7 +44,7 @@ use Rattle.aug_trie.specs.LeafWords.{serial_in_word}
 -- ---- the turns that are left
 
 -- a try has no more steps left than it has
-point_few : (f : ℕ → ℕ → List (ℕ × ℕ) → List ℕ) (v : View) (q number : ℕ) (point : Point) (w : View) → TryAt f v q number point w → point_turns (part_steps v.shape (left_of v.shape q)) point ≤ 9 + 2 * part_steps v.shape (left_of v.shape q)
+point_few : (f : ℕ → ℕ → List (ℕ × ℕ) → List ℕ) (v : View) (q number : ℕ) (point : Point) (w : View) → TryAt f v q number point w → point_turns (part_steps v.shape (left_of v.shape q)) point ≤ try_steps (part_steps v.shape (left_of v.shape q))
 point_few f v q number Node w t = omega arith
 point_few f v q number (Left from) w t = omega arith
 point_few f v q number (Right from left) w t = omega arith
@@ -65,18 +65,18 @@ again_few : (second : Bool) (n : ℕ) → (if second then 0 else n) ≤ n
 again_few true n = omega arith
 again_few false n = omega arith
 
-level_few : (bits level x y : ℕ) → level < bits → x ≤ 9 + 2 * part_above level → y ≤ 9 + 2 * part_above level → (bits - 1 - level) * 30 + x + y + 12 ≤ 30 * bits
+level_few : (bits level x y : ℕ) → level < bits → x ≤ try_steps (part_above level) → y ≤ try_steps (part_above level) → (bits - 1 - level) * level_steps + x + y ≤ most_rise_steps bits
 level_few bits zero x y low a b = omega arith
 level_few bits (suc j) x y low a b = let three : part_above (suc j) ≡ 3 = ap (λ (z : Bool). if z then 0 else 3) (ne_eqb (suc j) 0 (λ is. omega arith)) in omega arith
 
 module _ (f : ℕ → ℕ → List (ℕ × ℕ) → List ℕ) where
   -- an update that is on its way has at most all turns but the two at its leaf
-  way_few : (bits number key : ℕ) (leaf : View) (a : Ascent) (v : View) → IsOnWay f bits number key leaf a v → ascent_turns bits a + 12 ≤ 30 * bits
+  way_few : (bits number key : ℕ) (leaf : View) (a : Ascent) (v : View) → IsOnWay f bits number key leaf a v → ascent_turns bits a ≤ most_rise_steps bits
   way_few bits number key leaf a v o = let is = part_is f bits number key leaf a v o in let shaped = (goes_at f o.begun a.node (number + a.level) a.point v o.try_at).shaped in
       let few = point_few f o.begun a.node (number + a.level) a.point v o.try_at in
       let same : part_steps o.begun.shape (left_of o.begun.shape a.node) ≡ part_above a.level = ap (λ (z : Shape). part_steps z (left_of z a.node)) (sym shaped) ∙ is in
-      level_few bits a.level (if a.second then 0 else 9 + 2 * part_above a.level) (point_turns (part_above a.level) a.point) o.at_node.below_root (again_few a.second (9 + 2 * part_above a.level))
-      (subst (λ (z : ℕ). point_turns z a.point ≤ 9 + 2 * z) same few)
+      level_few bits a.level (if a.second then 0 else try_steps (part_above a.level)) (point_turns (part_above a.level) a.point) o.at_node.below_root (again_few a.second (try_steps (part_above a.level)))
+      (subst (λ (z : ℕ). point_turns z a.point ≤ try_steps z) same few)
 
   module _ (leaves bits number left key : ℕ) (request : Request) (u : View) (table : TableId) where
     -- ---- what a stage says of the start

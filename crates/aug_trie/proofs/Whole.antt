@@ -14,7 +14,7 @@ use Rattle.aug_core.specs.declared.view.View.{View}
 use Rattle.aug_core.proofs.Sizes.{twice}
 use Rattle.aug_core.proofs.EntryKeys.{are_small}
 use Rattle.aug_core.proofs.Refreshing.{is_loaded, refreshed}
-use Rattle.aug_trie.specs.inside.Goes.{IsFree, Goes, Took, Tries, IsPartOf, part_steps}
+use Rattle.aug_trie.specs.inside.Goes.{IsFree, Goes, Took, Tries, IsPartOf, part_steps, publish_steps, try_steps}
 use Rattle.aug_trie.proofs.Going.{took_on}
 use Rattle.aug_trie.proofs.Telling.{words_are}
 
@@ -84,10 +84,10 @@ same_steps s q inner = let past = inner.past_leaves in ⊎_elim
     right_low : left_of s q < 2 ^ s.bits → right_of s q < 2 ^ s.bits
     right_low low = even s.bits (q - 2 ^ s.bits) low (let i = inner.inside in let t = twice s.bits in omega arith)
 
-pub took_refresh : (s : Shape) (q : ℕ) (v w0 w1 w2 w3 w4 w : View) → IsInner s q → w2.shape ≡ s → w3.shape ≡ s → Took v w0 1 → Took w0 w1 1 → Took w1 w2 1 → Took w2 w3 (part_steps w2.shape (left_of s q)) → Took w3 w4 (part_steps w3.shape (right_of s q)) → Took w4 w 6
-    → Took v w (9 + 2 * part_steps s (left_of s q))
+pub took_refresh : (s : Shape) (q : ℕ) (v w0 w1 w2 w3 w4 w : View) → IsInner s q → w2.shape ≡ s → w3.shape ≡ s → Took v w0 1 → Took w0 w1 1 → Took w1 w2 1 → Took w2 w3 (part_steps w2.shape (left_of s q)) → Took w3 w4 (part_steps w3.shape (right_of s q)) → Took w4 w publish_steps
+    → Took v w (try_steps (part_steps s (left_of s q)))
 took_refresh s q v w0 w1 w2 w3 w4 w inner s2 s3 t0 t1 t2 t3 t4 t5 = let n : ℕ = part_steps s (left_of s q) in
     let t3' : Took w2 w3 n = subst (λ (z : Shape). Took w2 w3 (part_steps z (left_of s q))) s2 t3 in
     let t4' : Took w3 w4 n = subst (Took w3 w4) (same_steps s q inner) (subst (λ (z : Shape). Took w3 w4 (part_steps z (right_of s q))) s3 t4) in
     let a = took_on v w0 w1 1 1 2 (omega arith) t0 t1 in let b = took_on v w1 w2 2 1 3 (omega arith) a t2 in let c = took_on v w2 w3 3 n (3 + n) (omega arith) b t3' in
-    let d = took_on v w3 w4 (3 + n) n (3 + 2 * n) (omega arith) c t4' in took_on v w4 w (3 + 2 * n) 6 (9 + 2 * n) (omega arith) d t5
+    let d = took_on v w3 w4 (3 + n) n (3 + 2 * n) (omega arith) c t4' in took_on v w4 w (3 + 2 * n) publish_steps (try_steps n) (omega arith) d t5

@@ -1,11 +1,11 @@
 -- What contracts see of an update that is made by single turns.
-use Rattle.std.specs.Prelude.{◌≡◌, ℕ, ◌-◌, ◌*◌, ◌<◌, ◌≤◌, true, [], ◌∷◌, ◌++◌}
+use Rattle.std.specs.Prelude.{◌≡◌, ℕ, ◌<◌, ◌≤◌, true, [], ◌∷◌, ◌++◌}
 use Rattle.aug_core.specs.Kinds.{load_leaf, try_leaf}
 use Rattle.aug_core.specs.declared.step.StepTaken.{StepTaken}
 use Rattle.aug_model.specs.declared.outcome.Outcome.{Outcome}
 use Rattle.aug_trie.specs.History.{IsPrefix}
 use Rattle.aug_trie.specs.Updates.{ComesTo}
-use Rattle.aug_trie.specs.Pass.{PassFacts, GoesOn, StepsOf}
+use Rattle.aug_trie.specs.Pass.{PassFacts, GoesOn, most_update_steps, StepsOf}
 use Rattle.aug_trie.specs.Requests.{word_after, goes_from}
 use Rattle.aug_trie.specs.LeafWords.{serial_in_word}
 use Rattle.aug_trie.specs.declared.updates.request.Request.{Request}
@@ -20,7 +20,7 @@ pub record ClimbFacts : Type 0 where
 
 -- an update begins, and none of its steps is made yet
 abbrev pub BeginsClimb : Request → ℕ → PassFacts → ClimbFacts → Type 0
-BeginsClimb request key pass climb = climb ≡ record { start = pass; now = pass; request = request; key = key; left = 30 * pass.round.bits - 10 }
+BeginsClimb request key pass climb = climb ≡ record { start = pass; now = pass; request = request; key = key; left = most_update_steps pass.round.bits }
 
 -- the pass made one step, and its new history continues the old one
 pub record StepsOnce (old new : PassFacts) : Type 0 where

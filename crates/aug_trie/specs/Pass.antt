@@ -1,6 +1,7 @@
 -- What contracts see of a pass, and what an update makes of it.
-use Rattle.std.specs.Prelude.{◌≡◌, ◌≢◌, ℕ, ◌+◌, ◌*◌, ◌≤◌, ◌==◌, if◌then◌else◌, true, false, List, ◌∷◌, ◌++◌, length, All}
+use Rattle.std.specs.Prelude.{◌≡◌, ◌≢◌, ℕ, ◌+◌, ◌-◌, ◌*◌, ◌≤◌, ◌==◌, if◌then◌else◌, true, false, List, ◌∷◌, ◌++◌, length, All}
 use Rattle.aug_core.specs.Places.{Shape}
+use Rattle.aug_core.specs.Layout.{IsWithin}
 use Rattle.aug_core.specs.Book.{Book}
 use Rattle.aug_core.specs.Cuts.{serial_of}
 use Rattle.aug_core.specs.Kinds.{load_leaf, try_leaf}
@@ -52,6 +53,15 @@ pub record Tried (request : Request) (key loaded : ℕ) (more : List StepTaken) 
   pub says : done ≡ (if found == loaded then outcome_by request loaded else Refused)
   pub no_other : TryNoLeaf rest
 
+-- the fewest atomic steps of an update: a load of the key's leaf, a try of 9 steps at the lowest node above it, and one of 15 at each further node up to
+-- the root
+abbrev pub least_update_steps : ℕ → ℕ
+least_update_steps bits = 15 * bits - 5
+
+-- and the most: a load of the leaf and an exchange of its word, and two such tries at each node
+abbrev pub most_update_steps : ℕ → ℕ
+most_update_steps bits = 30 * bits - 10
+
 -- an update's steps: their number has a lower and an upper bound; the first loads the key's leaf. If the serial found refuses, no leaf is exchanged.
 -- Otherwise the second step is the only exchange of a leaf, of the word found for the one that the request makes of it, and the outcome says whether
 -- it succeeded. After a refusal the last cut shows what prevented the update, so the steps brought that to the root
@@ -59,8 +69,7 @@ pub record StepsOf (request : Request) (key : ℕ) (done : Outcome) (old new : P
   pub found : ℕ
   pub more : List StepTaken
   pub steps : new.steps ≡ old.steps ++ load_leaf key found ∷ more
-  pub least_steps : 15 * old.round.bits ≤ length more + 1 + 5
-  pub most_steps : length more + 1 + 10 ≤ 30 * old.round.bits
+  pub step_count : IsWithin (least_update_steps old.round.bits) (most_update_steps old.round.bits) (length more + 1)
   pub refuses : goes_from request (serial_in_word found) ≡ false → (done ≡ Refused) × TryNoLeaf more
   pub tries : goes_from request (serial_in_word found) ≡ true → Tried request key found more done
   pub shows : done ≡ Refused → in_the_way request (serial_in_word found) ≤ serial_of (last_cut new.knows.history) key

@@ -1,5 +1,5 @@
 -- An update as a whole: its steps, and its result.
-use Rattle.std.specs.Prelude.{◌≡◌, ℕ, ◌+◌, ◌*◌, ◌%◌, ◌^◌, ◌<◌, ◌≤◌, ◌==◌, ⊤, true, false, List, [], ◌∷◌, ◌++◌, length}
+use Rattle.std.specs.Prelude.{◌≡◌, ℕ, ◌+◌, ◌%◌, ◌^◌, ◌<◌, ◌≤◌, ◌==◌, ⊤, true, false, List, [], ◌∷◌, ◌++◌, length}
 use Rattle.aug_core.specs.Book.{Book, At, IsPassed}
 use Rattle.aug_core.specs.Kinds.{load_leaf}
 use Rattle.aug_core.specs.inside.Shows.{NewestShows, ShowsAtMost}
@@ -11,7 +11,7 @@ use Rattle.aug_core.specs.declared.view.View.{View}
 use Rattle.aug_model.specs.declared.outcome.Outcome.{Outcome}
 use Rattle.aug_model.specs.declared.outcome.Outcome.TheVariants as outcome
 use Rattle.aug_trie.specs.inside.Goes.{Goes}
-use Rattle.aug_trie.specs.Pass.{TryNoLeaf, Tried}
+use Rattle.aug_trie.specs.Pass.{TryNoLeaf, Tried, least_update_steps, most_update_steps}
 use Rattle.aug_trie.specs.LeafWords.{serial_in_word, weight_in_word}
 use Rattle.aug_trie.specs.Requests.{goes_from, in_the_way}
 use Rattle.aug_trie.specs.declared.updates.request.Request.{Request}
@@ -62,8 +62,8 @@ module _ (face : ℕ → ℕ → List (ℕ × ℕ) → List ℕ) (used : ℕ) (v
     pub loaded : ℕ
     pub more : List StepTaken
     pub steps : w.steps ≡ v.steps ++ load_leaf key loaded ∷ more
-    pub least_steps : 15 * v.shape.bits ≤ length more + 6
-    pub most_steps : length more + 11 ≤ 30 * v.shape.bits
+    pub least_steps : least_update_steps v.shape.bits ≤ length more + 1
+    pub most_steps : length more + 1 ≤ most_update_steps v.shape.bits
     pub tried : goes_from request (serial_in_word loaded) ≡ true → Tried request key loaded more done
     pub refusing : goes_from request (serial_in_word loaded) ≡ false → (done ≡ outcome.Refused) × TryNoLeaf more
     pub came_to : CameTo loaded done

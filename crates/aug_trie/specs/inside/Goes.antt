@@ -1,8 +1,8 @@
 -- What the steps of a pass leave of what it knew, and what they add.
-use Rattle.std.specs.Prelude.{◌≡◌, ℕ, ◌+◌, ◌^◌, ◌≤◌, Bool, false, nat_lt, if◌then◌else◌, List, ◌++◌, length}
+use Rattle.std.specs.Prelude.{◌≡◌, ℕ, ◌+◌, ◌-◌, ◌*◌, ◌^◌, ◌≤◌, Bool, false, nat_lt, if◌then◌else◌, List, ◌++◌, length}
 use Rattle.aug_monoid.specs.Parts.{Parts}
 use Rattle.aug_monoid.specs.Fold.{fold_of}
-use Rattle.aug_core.specs.Places.{Shape}
+use Rattle.aug_core.specs.Places.{Shape, record_words}
 use Rattle.aug_core.specs.Lanes.{first_record, lane_records, block_size}
 use Rattle.aug_core.specs.Book.{At, Continues, IsFresh}
 use Rattle.aug_core.specs.Rule.{Lists}
@@ -74,6 +74,27 @@ pub record HasLeaves (s : Shape) (leaves : ℕ) : Type 0 where
 -- how many loads a child's part takes
 abbrev pub part_steps : Shape → ℕ → ℕ
 part_steps s place = if nat_lt place (2 ^ s.bits) then 0 else 3
+
+-- how many steps bring a record into the table once its words are known: a store of each, and an exchange of the node's word for its number
+abbrev pub publish_steps : ℕ
+publish_steps = record_words + 1
+
+-- how many steps a try at a node takes, if the part of each child takes so many loads: it loads the words of the node and of its two children, then both
+-- parts, and publishes
+abbrev pub try_steps : ℕ → ℕ
+try_steps part = 9 + 2 * part
+
+-- how many steps two tries at a node take whose children are nodes
+abbrev pub level_steps : ℕ
+level_steps = 2 * try_steps 3
+
+-- the fewest steps from a leaf on at all nodes above it up to a level: one try at each; at the lowest the children are leaves
+abbrev pub least_rise_steps : ℕ → ℕ
+least_rise_steps level = 15 * level - 6
+
+-- and the most: two tries at each
+abbrev pub most_rise_steps : ℕ → ℕ
+most_rise_steps level = 30 * level - 12
 
 module _ {A B : Type 0} (parts_a : Parts A) (parts_b : Parts B) where
   -- a count and two folds of keys with their weights

@@ -9,7 +9,7 @@ use Rattle.aug_core.specs.Told.{KnowsTable, own_lane, storing}
 use Rattle.aug_core.specs.declared.step.StepTaken.{StepTaken}
 use Rattle.aug_core.specs.declared.view.Entry.{Entry}
 use Rattle.aug_core.specs.declared.view.View.{View}
-use Rattle.aug_trie.specs.inside.Goes.{Goes, Took, HasRoom, Tries, IsPart, part_steps, Looks}
+use Rattle.aug_trie.specs.inside.Goes.{Goes, Took, HasRoom, Tries, IsPart, part_steps, publish_steps, try_steps, Looks}
 use Rattle.aug_trie.specs.LeafWords.{leaf_pairs}
 use Rattle.aug_trie.specs.declared.turns.points.Reading.{Reading}
 use Rattle.aug_trie.specs.declared.turns.points.Filling.{Filling}
@@ -39,6 +39,10 @@ Says v number field r = (q i : ℕ) (e : Entry) → IsInner v.shape q → At v.s
 abbrev pub stored : View → ℕ → List ℕ → ℕ → View
 stored v number five zero = v
 stored v number five (suc k) = storing (stored v number five k) (record_start (stored v number five k).shape number + k) (slice_index five k)
+
+-- how many words of the records of two children a try loads: of each a count and two folds
+abbrev pub reading_words : ℕ
+reading_words = 6
 
 -- the child whose record's word is loaded after `k` others, and which word of that record it is
 abbrev pub child_at : ℕ → ℕ → ℕ → ℕ
@@ -94,8 +98,8 @@ module _ (face : ℕ → ℕ → List (ℕ × ℕ) → List ℕ) (v : View) (q :
     pub third : View
     pub loaded : AfterRight r.from r.left r.right third
     pub nodes : 2 ^ v.shape.bits ≤ left_of v.shape q
-    pub few : r.count < 6
-    pub six : length r.words ≡ 6
+    pub few : r.count < reading_words
+    pub six : length r.words ≡ reading_words
     pub looks : Looks r.count third w
     pub took : Took third w r.count
     pub says : (k : ℕ) → k < r.count → Says third (child_at r.left r.right k) (field_after k) (slice_index r.words k)
@@ -130,7 +134,7 @@ module _ (face : ℕ → ℕ → List (ℕ × ℕ) → List ℕ) (v : View) (q :
   -- the try is over
   pub record TryOver (number : ℕ) (done : Bool) (w : View) : Type 0 where
     pub goes : Goes face (number + 1) [] v w
-    pub took : Took v w (9 + 2 * part_steps v.shape (left_of v.shape q))
+    pub took : Took v w (try_steps (part_steps v.shape (left_of v.shape q)))
     pub tries : Tries v q number done w
 
   -- the result of a step of the try
@@ -140,11 +144,11 @@ module _ (face : ℕ → ℕ → List (ℕ × ℕ) → List ℕ) (v : View) (q :
 
 -- how many steps of a try are left at a point, if reading a child's part takes `part` loads
 abbrev pub point_turns : ℕ → Point → ℕ
-point_turns part Node = 9 + 2 * part
-point_turns part (Left from) = 8 + 2 * part
-point_turns part (Right from left) = 7 + 2 * part
-point_turns part (Part r) = 12 - r.count
-point_turns part (Record r) = 6 - r.count
+point_turns part Node = try_steps part
+point_turns part (Left from) = try_steps part - 1
+point_turns part (Right from left) = try_steps part - 2
+point_turns part (Part r) = reading_words + publish_steps - r.count
+point_turns part (Record r) = publish_steps - r.count
 
 -- a step leaves one less
 abbrev pub Falls : ℕ → Point → Advanced → Type 0

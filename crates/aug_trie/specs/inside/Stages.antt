@@ -7,10 +7,11 @@ use Rattle.aug_core.specs.inside.Shows.{above, Lifts}
 use Rattle.aug_core.specs.inside.Refreshes.{NewestCovers}
 use Rattle.aug_core.specs.Told.{own_lane, KnowsTable, BeginsAtLeaf}
 use Rattle.aug_core.specs.declared.view.View.{View}
-use Rattle.aug_trie.specs.inside.Goes.{Goes, Took, TookBetween, HasRoom, part_steps}
+use Rattle.aug_trie.specs.inside.Goes.{Goes, Took, TookBetween, HasRoom, part_steps, try_steps, level_steps, least_rise_steps, most_rise_steps}
 use Rattle.aug_trie.specs.inside.Climbing.{Updated, FitsRequest}
 use Rattle.aug_model.specs.declared.outcome.Outcome.{Outcome}
 use Rattle.aug_trie.specs.inside.PassState.{IsPass}
+use Rattle.aug_trie.specs.Pass.{most_update_steps}
 use Rattle.aug_trie.specs.LeafWords.{serial_in_word}
 use Rattle.aug_trie.specs.Requests.{goes_from}
 use Rattle.aug_trie.specs.inside.Points.{TryAt, TryOver, point_turns}
@@ -27,7 +28,7 @@ module _ (face : ℕ → ℕ → List (ℕ × ℕ) → List ℕ) where
   -- a try at the node that failed
   pub record Missed (below begun : View) (q number : ℕ) : Type 0 where
     pub goes : Goes face (number + 1) [] below begun
-    pub took : Took below begun (9 + 2 * part_steps below.shape (left_of below.shape q))
+    pub took : Took below begun (try_steps (part_steps below.shape (left_of below.shape q)))
     pub longer : length (history_of below.seen q) + 1 ≤ length (history_of begun.seen q)
 
   -- the first try begins when the node is reached, and the second when the first has failed
@@ -38,7 +39,7 @@ module _ (face : ℕ → ℕ → List (ℕ × ℕ) → List ℕ) where
   -- a node that was tried once or twice covers what had been seen of its children
   pub record IsCovered (below w : View) (q number : ℕ) : Type 0 where
     pub goes : Goes face (number + 1) [] below w
-    pub took : TookBetween below w (9 + 2 * part_steps below.shape (left_of below.shape q)) (18 + 4 * part_steps below.shape (left_of below.shape q))
+    pub took : TookBetween below w (try_steps (part_steps below.shape (left_of below.shape q))) (2 * try_steps (part_steps below.shape (left_of below.shape q)))
     pub covers : NewestCovers below.shape below.seen w.seen q
 
   -- the way from a leaf to the root, whose records begin at this number
@@ -46,7 +47,7 @@ module _ (face : ℕ → ℕ → List (ℕ × ℕ) → List ℕ) where
     -- all levels up to this one show what the leaf had reached
     pub record HasRisen (level : ℕ) (below : View) : Type 0 where
       pub goes : Goes face (number + level) [] leaf below
-      pub took : TookBetween leaf below (15 * level - 6) (30 * level - 12)
+      pub took : TookBetween leaf below (least_rise_steps level) (most_rise_steps level)
       pub lifts : Lifts leaf.shape leaf.seen below.seen key level
 
     -- what holds all the way
@@ -136,12 +137,12 @@ part_above level = if level == 0 then 0 else 3
 
 -- the greatest number of turns that an update on its way may have left
 abbrev pub ascent_turns : ℕ → Ascent → ℕ
-ascent_turns bits a = (bits - 1 - a.level) * 30 + (if a.second then 0 else 9 + 2 * part_above a.level) + point_turns (part_above a.level) a.point
+ascent_turns bits a = (bits - 1 - a.level) * level_steps + (if a.second then 0 else try_steps (part_above a.level)) + point_turns (part_above a.level) a.point
 
 -- and the same at any stage
 abbrev pub stage_turns : ℕ → Stage → ℕ
-stage_turns bits Leaf = 30 * bits - 10
-stage_turns bits (Change word) = 30 * bits - 11
+stage_turns bits Leaf = most_update_steps bits
+stage_turns bits (Change word) = most_update_steps bits - 1
 stage_turns bits (Up done a) = ascent_turns bits a
 
 -- they fall with each step, and there are some while there is more to do
@@ -151,7 +152,7 @@ AscentFalls bits a None = 1 ≤ ascent_turns bits a
 
 -- how many turns are left once a try is over; a second try follows at the node if this was the first
 abbrev pub past_try_turns : ℕ → Ascent → ℕ
-past_try_turns bits a = (bits - 1 - a.level) * 30 + (if a.second then 0 else 9 + 2 * part_above a.level)
+past_try_turns bits a = (bits - 1 - a.level) * level_steps + (if a.second then 0 else try_steps (part_above a.level))
 
 abbrev pub StageFalls : ℕ → Stage → Next → Type 0
 StageFalls bits stage (More next) = (stage_turns bits next < stage_turns bits stage) × (1 ≤ stage_turns bits next)

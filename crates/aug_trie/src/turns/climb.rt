@@ -2,7 +2,9 @@
 ghost use Rattle.std.specs.Prelude.{◌≡◌, ℕ, ◌+◌, ◌-◌, ◌*◌, ◌^◌, ◌<◌, ◌≤◌};
 ghost use Rattle.aug_model.specs.Folds.{summary_of};
 ghost use Rattle.aug_model.specs.declared.outcome.Outcome.{Outcome as Told};
-ghost use Rattle.aug_trie.specs.Pass.{PassFacts};
+ghost use Rattle.aug_core.specs.Layout.{IsWithin};
+ghost use Rattle.aug_trie.specs.Pass.{PassFacts, most_update_steps};
+ghost use Rattle.aug_trie.specs.inside.Goes.{try_steps};
 ghost use Rattle.aug_trie.specs.Node.{Keeps};
 ghost use Rattle.aug_trie.specs.inside.Points.{point_turns};
 ghost use Rattle.aug_trie.specs.inside.Climbing.{FitsRequest};
@@ -12,8 +14,9 @@ ghost use Rattle.aug_trie.specs.Climb.{ClimbFacts, BeginsClimb, TurnsOn, Finishe
 use crate::rounds::account::Account;
 use crate::rounds::pass::Pass;
 use crate::turns::ascents::Ascent;
-use crate::turns::points::Point;
+use crate::turns::points::{Point, READING_WORDS};
 use crate::turns::stages::{Next, Stage, next_stage};
+use crate::updates::refreshing::PUBLISH_STEPS;
 use crate::updates::request::Request;
 use aug_model::Outcome;
 use aug_monoid::Monoid;
@@ -151,20 +154,33 @@ impl<'r, A: Monoid, B: Monoid> Climb<'r, A, B> {
         ensures some { 1 ≤ result }
     {
         match self.stage {
-            Stage::Leaf => 30 * self.account.bits - 10,
-            Stage::Change(_) => 30 * self.account.bits - 11,
+            Stage::Leaf => most_update_steps(self.account.bits),
+            Stage::Change(_) => most_update_steps(self.account.bits) - 1,
             Stage::Up(_, ascent) => ascent_left(self.account.bits, ascent),
         }
     }
 }
 
-// How many steps a try at a node has, whose children are leaves at level 0.
+// The most steps of an update.
 #[inline(always)]
-fn try_steps(level: u32) -> u32
-    ensures { result ≡ 9 + 2 * part_above level }
+const fn most_update_steps(bits: u32) -> u32
+    requires { IsWithin 1 16 bits }
+    ensures { result ≡ most_update_steps bits }
 {
-    if level == 0 { 9 } else { 15 }
+    30 * bits - 10
 }
+
+// How many steps a try at a node takes, whose children are leaves at level 0.
+#[inline(always)]
+const fn try_steps(level: u32) -> u32
+    ensures { result ≡ try_steps (part_above level) }
+{
+    let part = if level == 0 { 0 } else { 3 };
+    9 + 2 * part
+}
+
+// How many steps two tries at a node take whose children are nodes.
+const LEVEL_STEPS: u32 = 30;
 
 // The most turns of an update that is on its way.
 fn ascent_left(bits: u32, ascent: Ascent) -> u32
@@ -175,19 +191,19 @@ fn ascent_left(bits: u32, ascent: Ascent) -> u32
 {
     let whole = try_steps(ascent.level);
     let again = if ascent.second { 0 } else { whole };
-    (bits - 1 - ascent.level) * 30 + again + point_left(whole, ascent.point)
+    (bits - 1 - ascent.level) * LEVEL_STEPS + again + point_left(whole, ascent.point)
 }
 
 // The turns that are left of a try of `whole` steps at a point.
 fn point_left(whole: u32, point: Point) -> u32
-    requires whole { (part : ℕ) × (whole ≡ 9 + 2 * part) × (whole ≤ 15) × (1 ≤ point_turns part point) }
-    ensures { (part : ℕ) → whole ≡ 9 + 2 * part → result ≡ point_turns part point }
+    requires whole { (part : ℕ) × (whole ≡ try_steps part) × (whole ≤ try_steps 3) × (1 ≤ point_turns part point) }
+    ensures { (part : ℕ) → whole ≡ try_steps part → result ≡ point_turns part point }
 {
     match point {
         Point::Node => whole,
         Point::Left(_) => whole - 1,
         Point::Right(_, _) => whole - 2,
-        Point::Part(reading) => 12 - reading.count as u32,
-        Point::Record(filling) => 6 - filling.count as u32,
+        Point::Part(reading) => READING_WORDS as u32 + PUBLISH_STEPS - reading.count as u32,
+        Point::Record(filling) => PUBLISH_STEPS - filling.count as u32,
     }
 }

@@ -6,13 +6,16 @@ ghost use Rattle.aug_core.specs.Places.{record_words};
 ghost use Rattle.aug_core.specs.Addresses.{left_of};
 ghost use Rattle.aug_core.specs.declared.view.View.{View};
 ghost use Rattle.aug_trie.specs.inside.Goes.{HasLeaves, part_steps};
-ghost use Rattle.aug_trie.specs.inside.Points.{QuietStep, TryAt, Advances, Falls, IsOverLeaves, five_over, child_at, field_after};
+ghost use Rattle.aug_trie.specs.inside.Points.{QuietStep, TryAt, Advances, Falls, IsOverLeaves, five_over, reading_words, child_at, field_after};
 
 use crate::updates::parts::{leaf_part, part_of_words};
 use crate::updates::refreshing::{five_words, look};
 use aug_core::RecordField;
 use aug_monoid::Monoid;
 use aug_words::WordPass;
+
+// How many words of two children's records a try loads.
+pub(crate) const READING_WORDS: usize = 6;
 
 // The words of the children's records, which are loaded one after another: the count and the two folds of the left one, then of the
 // right one.
@@ -21,7 +24,7 @@ pub(crate) struct Reading {
     pub(crate) from: u64,
     pub(crate) left: u64,
     pub(crate) right: u64,
-    pub(crate) words: [u64; 6],
+    pub(crate) words: [u64; READING_WORDS],
     // How many of them were loaded.
     pub(crate) count: usize,
 }
@@ -137,14 +140,14 @@ fn load_right<A: Monoid, B: Monoid>(
         from,
         left,
         right,
-        words: [0; 6],
+        words: [0; READING_WORDS],
         count: 0,
     })
 }
 
 // The record and the word of it that are loaded next.
 fn next_word(reading: Reading) -> (u64, RecordField)
-    requires { reading.count < 6 }
+    requires { reading.count < reading_words }
     ensures record { result.0 ≡ child_at reading.left reading.right reading.count }
     ensures field { field_offset result.1 ≡ field_after reading.count }
 {
@@ -169,7 +172,7 @@ fn load_part<A: Monoid, B: Monoid>(pass: &mut WordPass<A, B>, reading: Reading) 
     let (number, field) = next_word(reading);
     reading.words[count] = pass.load_record_word(number, field);
     reading.count = count + 1;
-    if reading.count < 6 {
+    if reading.count < READING_WORDS {
         Point::Part(reading)
     } else {
         Point::Record(over_nodes::<A, B>(reading))

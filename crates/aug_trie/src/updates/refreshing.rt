@@ -4,7 +4,7 @@ ghost use Rattle.aug_core.specs.Faces.{face};
 ghost use Rattle.aug_core.specs.Addresses.{place_count, IsInner};
 ghost use Rattle.aug_core.specs.Told.{KnowsTable};
 ghost use Rattle.aug_core.specs.inside.Refreshes.{HasNewest, SaysLoaded, Published};
-ghost use Rattle.aug_trie.specs.inside.Goes.{Goes, Took, HasLeaves, HasRoom, IsFree};
+ghost use Rattle.aug_trie.specs.inside.Goes.{Goes, Took, HasLeaves, HasRoom, IsFree, publish_steps};
 ghost use Rattle.aug_trie.specs.inside.Points.{QuietStep, TryOver};
 
 use crate::updates::parts::{Part, any_part};
@@ -52,6 +52,9 @@ pub(crate) fn five_words<A: Monoid, B: Monoid>(
     [left, right, count, a, b]
 }
 
+// How many steps it takes to fill a record and to try to publish it.
+pub(crate) const PUBLISH_STEPS: u32 = 6;
+
 // Fills an own record and tries to publish it: six steps.
 #[inline(always)]
 fn publish<A: Monoid, B: Monoid>(
@@ -67,7 +70,7 @@ fn publish<A: Monoid, B: Monoid>(
     requires loaded { SaysLoaded (face A.parts B.parts) pass.old.view.shape pass.old.view.seen node from five }
     ensures table { pass.new.table ≡ pass.old.table }
     ensures goes { Goes (face A.parts B.parts) (number + 1) [] pass.old.view pass.new.view }
-    ensures took { Took pass.old.view pass.new.view 6 }
+    ensures took { Took pass.old.view pass.new.view publish_steps }
     ensures published { Published pass.old.view.shape node from (slice_index five 0) (slice_index five 1) result pass.new.view.seen }
     ensures again { result ≡ false → IsFree pass.new.view number }
 {

@@ -2,13 +2,12 @@
 use Rattle.std.proofs.Common.{◌≡◌, ◌≢◌, ℕ, zero, suc, ◌+◌, ◌-◌, ◌*◌, ◌%◌, ◌^◌, ◌<◌, ◌≤◌, Bool, eq-eqb, ne_eqb, if◌then◌else◌, length, get_or, length-append, sym, refl, ap, ◌∙◌, subst, ⊎_elim, arith, suc-mul}
 use Rattle.std.proofs.lemmas.Bool.{cases_lt}
 use Rattle.std.proofs.lemmas.List.{get_or_append_left, get_or-append_right}
-use Rattle.std.proofs.Math.Nat.{two-pow-succ, pow-le-pow_right, mul_assoc, mul_comm}
+use Rattle.std.proofs.Math.Nat.{two-pow-succ, mul_assoc, mul_comm}
 use Rattle.aug_core.specs.Places.{Shape}
-use Rattle.aug_core.specs.Addresses.{IsInner, left_of, right_of, root_place, IsWord}
+use Rattle.aug_core.specs.Addresses.{left_of, right_of, IsWord}
 use Rattle.aug_core.specs.Book.{Book, history_of}
 use Rattle.aug_core.specs.Opening.{serial_entry}
 use Rattle.aug_core.specs.declared.view.Entry.{Entry}
-use Rattle.aug_core.proofs.Sizes.{twice}
 use Rattle.aug_core.specs.inside.Shows.{above, toward, Shows}
 use Rattle.aug_core.specs.Cuts.{Cut}
 use Rattle.aug_core.specs.inside.EntryCuts.{entry_of, cut_under}

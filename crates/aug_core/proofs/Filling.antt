@@ -1,6 +1,6 @@
 -- The five words of a record, stored one after another into the own lane, and what they must say to be published.
 use Rattle.std.proofs.Common.{◌≡◌, ℕ, zero, suc, ◌+◌, ◌-◌, ◌*◌, ◌<◌, ◌≤◌, List, ◌++◌, length, get_or, set, length-set, get_or-set_same, get_or-set_other, sym, ap, ◌∙◌, subst, arith}
-use Rattle.aug_core.specs.Places.{record_start}
+use Rattle.aug_core.specs.Places.{record_start, record_words}
 use Rattle.aug_core.specs.Lanes.{first_record, IsOfLane, block_start, block_size}
 use Rattle.aug_core.specs.inside.Refreshes.{SaysLoaded}
 use Rattle.aug_core.specs.Told.{HoldsOnly, held_word, on_first, with_word, storing, IsFilled}
@@ -14,7 +14,7 @@ use Rattle.aug_core.proofs.Stores.{one_held}
 same_at : (l : List ℕ) (j i x : ℕ) → i ≡ j → j < length l → get_or (set l j x) i 0 ≡ x
 same_at l j i x is low = ap (λ (z : ℕ). get_or (set l j x) z 0) is ∙ get_or-set_same l j x 0 low
 
-module _ (ws : List ℕ) (b : ℕ) (room : b + 5 ≤ length ws) (j0 j1 j2 j3 j4 : ℕ) (e0 : j0 ≡ b + 0) (e1 : j1 ≡ b + 1) (e2 : j2 ≡ b + 2) (e3 : j3 ≡ b + 3) (e4 : j4 ≡ b + 4) (x : ℕ → ℕ) where
+module _ (ws : List ℕ) (b : ℕ) (room : b + record_words ≤ length ws) (j0 j1 j2 j3 j4 : ℕ) (e0 : j0 ≡ b + 0) (e1 : j1 ≡ b + 1) (e2 : j2 ≡ b + 2) (e3 : j3 ≡ b + 3) (e4 : j4 ≡ b + 4) (x : ℕ → ℕ) where
   abbrev l1 : List ℕ
   l1 = set ws j0 (x 0)
 
@@ -42,7 +42,7 @@ module _ (ws : List ℕ) (b : ℕ) (room : b + 5 ≤ length ws) (j0 j1 j2 j3 j4 
   n4 : length l4 ≡ length ws
   n4 = length-set l3 j3 (x 3) ∙ n3
 
-  pub five_set : (k : ℕ) → k < 5 → get_or l5 (b + k) 0 ≡ x k
+  pub five_set : (k : ℕ) → k < record_words → get_or l5 (b + k) 0 ≡ x k
   five_set zero small = get_or-set_other l4 j4 (b + 0) (x 4) 0 (λ is. omega arith) ∙ get_or-set_other l3 j3 (b + 0) (x 3) 0 (λ is. omega arith) ∙ get_or-set_other l2 j2 (b + 0) (x 2) 0 (λ is. omega arith)
       ∙ get_or-set_other l1 j1 (b + 0) (x 1) 0 (λ is. omega arith) ∙ same_at ws j0 (b + 0) (x 0) (sym e0) (omega arith)
   five_set (suc zero) small = get_or-set_other l4 j4 (b + 1) (x 4) 0 (λ is. omega arith) ∙ get_or-set_other l3 j3 (b + 1) (x 3) 0 (λ is. omega arith) ∙ get_or-set_other l2 j2 (b + 1) (x 2) 0 (λ is. omega arith)
@@ -75,12 +75,12 @@ module _ (v : View) (number : ℕ) (five : List ℕ) (lane : Held) (only : Holds
   from = block_start v.shape lane.lane
 
   abbrev base : ℕ
-  base = 5 * (number - first_record v.shape lane.lane)
+  base = record_words * (number - first_record v.shape lane.lane)
 
-  at_field : (k : ℕ) → k < 5 → record_start v.shape number + k - from ≡ base + k
+  at_field : (k : ℕ) → k < record_words → record_start v.shape number + k - from ≡ base + k
   at_field k small = let e = (in_block v.shape lane.lane number k of_lane small).0 in omega arith
 
-  enough : base + 5 ≤ length lane.words
+  enough : base + record_words ≤ length lane.words
   enough = let e = (in_block v.shape lane.lane number 4 of_lane (omega arith)).1 in omega arith
 
   abbrev pub filled_lane : Held
@@ -92,7 +92,7 @@ module _ (v : View) (number : ℕ) (five : List ℕ) (lane : Held) (only : Holds
   holds_filled = ap (λ (z : List Held). on_first (with_word v.shape (record_start v.shape number + 4) (get_or five 4 0)) (on_first (with_word v.shape (record_start v.shape number + 3) (get_or five 3 0)) (on_first (with_word v.shape (record_start v.shape number + 2) (get_or five 2 0))
       (on_first (with_word v.shape (record_start v.shape number + 1) (get_or five 1 0)) (on_first (with_word v.shape (record_start v.shape number + 0) (get_or five 0 0)) z))))) only
 
-  pub five_held : (h : Held) → HoldsOnly (filled_view v number five) h → (k : ℕ) → k < 5 → held_word v.shape h number k ≡ get_or five k 0
+  pub five_held : (h : Held) → HoldsOnly (filled_view v number five) h → (k : ℕ) → k < record_words → held_word v.shape h number k ≡ get_or five k 0
   five_held h only k small = subst (λ (z : Held). held_word v.shape z number k ≡ get_or five k 0) (one_held (filled_view v number five) filled_lane h holds_filled only)
       (five_set lane.words base enough (record_start v.shape number + 0 - from) (record_start v.shape number + 1 - from) (record_start v.shape number + 2 - from) (record_start v.shape number + 3 - from) (record_start v.shape number + 4 - from)
       (at_field 0 (omega arith)) (at_field 1 (omega arith)) (at_field 2 (omega arith)) (at_field 3 (omega arith)) (at_field 4 (omega arith)) (λ i. get_or five i 0) k small)

@@ -3,7 +3,7 @@ use Rattle.std.proofs.Common.{true, ◌≡◌, ℕ, ◌+◌, ◌-◌, ◌*◌, �
 use mathlib.Core.Option.{none, some}
 use lib.ListN.{get_elem?}
 use Rattle.atomic_table.specs.Table.{step, keeps, Allows}
-use Rattle.aug_core.specs.Places.{Shape, record_start}
+use Rattle.aug_core.specs.Places.{Shape, record_start, record_words}
 use Rattle.aug_core.specs.Addresses.{IsInner}
 use Rattle.aug_core.specs.Lanes.{first_record, IsOfLane}
 use Rattle.aug_core.specs.Book.{At, IsFresh, SerialsFit, IsBook}
@@ -21,12 +21,12 @@ use Rattle.aug_core.proofs.Sizes.{twice}
 
 module _ (face : ℕ → ℕ → List (ℕ × ℕ) → List ℕ) (o : Opening) where
   module _ (s : St) (r : Kept face o s) (v : View) (kn : Knows o s.words r.book v) (place : ℕ) where
-    of_entry : (q i field : ℕ) (e : Entry) → IsInner o.shape q → At v.seen q i e → field < 5 → place ≡ record_start o.shape e.number + field → get_or s.words place 0 ≡ get_or e.words field 0
+    of_entry : (q i field : ℕ) (e : Entry) → IsInner o.shape q → At v.seen q i e → field < record_words → place ≡ record_start o.shape e.number + field → get_or s.words place 0 ≡ get_or e.words field 0
     of_entry q i field e inner p small is = ap (λ (z : ℕ). get_or s.words z 0) is ∙ r.tree.written q i field e inner (kn.saw q i e p) small
 
-    of_own : (a number field : ℕ) (h : Held) → get_elem? v.held a ≡ some h → IsOfLane o.shape h.lane number → field < 5 → place ≡ record_start o.shape number + field → get_or s.words place 0 ≡ held_word o.shape h number field
+    of_own : (a number field : ℕ) (h : Held) → get_elem? v.held a ≡ some h → IsOfLane o.shape h.lane number → field < record_words → place ≡ record_start o.shape number + field → get_or s.words place 0 ≡ held_word o.shape h number field
     of_own a number field h p of_lane small is = let b = in_block o.shape h.lane number field of_lane small in
-        ap (λ (z : ℕ). get_or s.words z 0) (is ∙ b.0) ∙ (kn.holds a h p).exact (5 * (number - first_record o.shape h.lane) + field) b.1
+        ap (λ (z : ℕ). get_or s.words z 0) (is ∙ b.0) ∙ (kn.holds a h p).exact (record_words * (number - first_record o.shape h.lane) + field) b.1
 
   pub loads_record_word : (n id place : ℕ) (me : Sat) → me.0.live ≡ true → me.1 ≡ [] → Allows (Kept face o) n id me place (λ x. x) (read_record (step n place 0 0 none) me)
   loads_record_word n id place me live empty s r _ at _ =
@@ -40,8 +40,8 @@ module _ (face : ℕ → ℕ → List (ℕ × ℕ) → List ℕ) (o : Opening) w
           empty,
           record {
             stepped = refl;
-            known = subst (λ (z : Shape). (q i field : ℕ) (e : Entry) → IsInner z q → At v.seen q i e → field < 5 → place ≡ record_start z e.number + field → found ≡ get_or e.words field 0) shaped (of_entry s r v kn place);
-            own = subst (λ (z : Shape). (a number field : ℕ) (h : Held) → get_elem? v.held a ≡ some h → IsOfLane z h.lane number → field < 5 → place ≡ record_start z number + field → found ≡ held_word z h number field) shaped (of_own s r v kn place);
+            known = subst (λ (z : Shape). (q i field : ℕ) (e : Entry) → IsInner z q → At v.seen q i e → field < record_words → place ≡ record_start z e.number + field → found ≡ get_or e.words field 0) shaped (of_entry s r v kn place);
+            own = subst (λ (z : Shape). (a number field : ℕ) (h : Held) → get_elem? v.held a ≡ some h → IsOfLane z h.lane number → field < record_words → place ≡ record_start z number + field → found ≡ held_word z h number field) shaped (of_own s r v kn place);
           },
         ),
       )

@@ -6,13 +6,12 @@ use mathlib.Core.Option.{some}
 use lib.ListN.{get_elem?}
 use Rattle.atomic_table.specs.Table.{State}
 use Rattle.atomic_table.proofs.Lists.{at_set}
-use Rattle.aug_core.specs.Places.{Shape, lane_place, record_start, opening_count}
+use Rattle.aug_core.specs.Places.{Shape, lane_place, record_start, opening_count, record_words}
 use Rattle.aug_core.specs.Addresses.{place_count, IsInner}
-use Rattle.aug_core.specs.Lanes.{IsOfLane, block_start, block_size}
+use Rattle.aug_core.specs.Lanes.{IsOfLane, block_start, block_size, word_of_state}
 use Rattle.aug_core.specs.Book.{Book, history_of, At, IsNewest, Continues, FloorsCover, IsFresh, IsBook}
 use Rattle.aug_core.specs.Opening.{Opening}
 use Rattle.aug_core.specs.Counts.{WasMade, AreCounted, AreTallied}
-use Rattle.aug_core.specs.Told.{Sat}
 use Rattle.aug_core.specs.declared.view.Change.{Change}
 use Rattle.aug_core.specs.declared.step.StepTaken.{StepTaken}
 use Rattle.aug_core.specs.Rule.{Lists, NamesNewest, HoldsLane, Knows, KeepsTree, Kept}
@@ -20,6 +19,7 @@ use Rattle.aug_core.specs.declared.view.Beginning.{Beginning}
 use Rattle.aug_core.specs.declared.view.Entry.{Entry}
 use Rattle.aug_core.specs.declared.view.Held.{Held}
 use Rattle.aug_core.specs.declared.view.View.{View}
+use Rattle.aug_core.specs.declared.view.LaneState.TheVariants.{Free, Ended}
 use Rattle.aug_core.proofs.Sizes.{lanes_apart, twice}
 use Rattle.aug_core.proofs.Books.{fresh_now, at_below, there_is, one_entry, grow, grown_at, at_grown, newest_here, newest_there}
 use Rattle.aug_core.proofs.Views.{Likens, Repeats, was_there, repeats_like, counted_on, apart_on}
@@ -38,8 +38,8 @@ pub record IsMine (s : Shape) (after : List ℕ) (v : View) (lane : ℕ) : Type 
   pub held : Held
   pub at : get_elem? v.held index ≡ some held
   pub is : held.lane ≡ lane
-  pub some_state : 0 < get_or after (lane_place s lane) 0
-  pub last_state : get_or after (lane_place s lane) 0 ≤ 2
+  pub some_state : word_of_state Free < get_or after (lane_place s lane) 0
+  pub last_state : get_or after (lane_place s lane) 0 ≤ word_of_state Ended
 
 -- the record is of a lane that the view holds
 pub record IsOwn (s : Shape) (words : List ℕ) (v : View) (number : ℕ) : Type 0 where
@@ -47,7 +47,7 @@ pub record IsOwn (s : Shape) (words : List ℕ) (v : View) (number : ℕ) : Type
   pub held : Held
   pub at : get_elem? v.held index ≡ some held
   pub of_lane : IsOfLane s held.lane number
-  pub some_state : 0 < get_or words (lane_place s held.lane) 0
+  pub some_state : word_of_state Free < get_or words (lane_place s held.lane) 0
 
 module _ (face : ℕ → ℕ → List (ℕ × ℕ) → List ℕ) (o : Opening) (s : St) (r : Kept face o s) (id : ℕ) (v : View) (after : List ℕ) (book' : Book) where
   -- what a step may do to the words and to the book
@@ -83,13 +83,13 @@ module _ (face : ℕ → ℕ → List (ℕ × ℕ) → List ℕ) (o : Opening) (
     }
 
     -- the lanes that the view may still hand out are free
-    pub still_spare : (w : View) → v.spare ≡ w.spare → (n lane : ℕ) → w.spare ≡ Some n → n ≤ lane → lane < o.shape.workers → get_or after (lane_place o.shape lane) 0 ≡ 0
+    pub still_spare : (w : View) → v.spare ≡ w.spare → (n lane : ℕ) → w.spare ≡ Some n → n ≤ lane → lane < o.shape.workers → get_or after (lane_place o.shape lane) 0 ≡ word_of_state Free
     still_spare w same n lane e le low = let kn = r.each_view id v at in ⊎_elim
         (λ (stays : Stays o.shape s.words after lane). stays.state ∙ kn.spares n lane (same ∙ e) le low)
         (λ (mine : IsMine o.shape after v lane). let below : mine.held.lane < n = r.apart.handed_out id id mine.index n v v mine.held at at (same ∙ e) mine.at in let is = mine.is in absurd (omega arith)) (m.lanes lane low)
 
     -- no lane that was not free is free now
-    pub was_free : (lane : ℕ) → lane < o.shape.workers → get_or after (lane_place o.shape lane) 0 ≡ 0 → get_or s.words (lane_place o.shape lane) 0 ≡ 0
+    pub was_free : (lane : ℕ) → lane < o.shape.workers → get_or after (lane_place o.shape lane) 0 ≡ word_of_state Free → get_or s.words (lane_place o.shape lane) 0 ≡ word_of_state Free
     was_free lane low free = ⊎_elim (λ (stays : Stays o.shape s.words after lane). sym stays.state ∙ free)
         (λ (mine : IsMine o.shape after v lane). let pos = mine.some_state in absurd (omega arith)) (m.lanes lane low)
 
@@ -101,7 +101,7 @@ module _ (face : ℕ → ℕ → List (ℕ × ℕ) → List ℕ) (o : Opening) (
       tree = m.tree;
       lanes = record {
         states = λ lane low. ⊎_elim
-            (λ (stays : Stays o.shape s.words after lane). let t = r.lanes.states lane low in subst (λ (z : ℕ). z ≤ 2) (sym stays.state) t)
+            (λ (stays : Stays o.shape s.words after lane). let t = r.lanes.states lane low in subst (λ (z : ℕ). z ≤ word_of_state Ended) (sym stays.state) t)
             (λ (mine : IsMine o.shape after v lane). mine.last_state) (m.lanes lane low);
         blank = λ lane low free k small. ⊎_elim
             (λ (stays : Stays o.shape s.words after lane). stays.block k small ∙ r.lanes.blank lane low (sym stays.state ∙ free) k small)
@@ -109,7 +109,7 @@ module _ (face : ℕ → ℕ → List (ℕ × ℕ) → List ℕ) (o : Opening) (
         unused = λ lane q i e low free inner p of_lane. ⊎_elim
             (λ old. r.lanes.unused lane q i e low (was_free lane low free) inner old of_lane)
             (λ (mine : IsOwn o.shape after v e.number). let same : mine.held.lane ≡ lane = lanes_apart o.shape mine.held.lane lane e.number mine.of_lane of_lane in
-            let pos = subst (λ (z : ℕ). 0 < get_or after (lane_place o.shape z) 0) same mine.some_state in absurd (omega arith)) (m.came q i e inner p);
+            let pos = subst (λ (z : ℕ). word_of_state Free < get_or after (lane_place o.shape z) 0) same mine.some_state in absurd (omega arith)) (m.came q i e inner p);
       };
       each_view = λ j u p. ⊎_elim (λ t. subst (Knows o after book') t.1 knows) (λ t. others_know j u t.0 t.1) (at_set s.views id j w u p);
       apart = apart_on s.views (set s.views id w) (λ i a j b. (i ≡ j) × (a ≡ b)) (λ i a h. ⊥) r.apart record {
@@ -219,10 +219,10 @@ module _ (face : ℕ → ℕ → List (ℕ × ℕ) → List ℕ) (o : Opening) (
       pub past_nodes : (q : ℕ) → q < place_count o.shape → q ≢ i
       pub past_lanes : (m : ℕ) → m < o.shape.workers → m ≢ h.lane → lane_place o.shape m ≢ i
       pub past_blocks : (m k : ℕ) → m < o.shape.workers → m ≢ h.lane → k < block_size o.shape → block_start o.shape m + k ≢ i
-      pub unpublished : (q j k : ℕ) (e : Entry) → IsInner o.shape q → At r.book q j e → k < 5 → record_start o.shape e.number + k ≢ i
-      pub past_idle : (number k : ℕ) → number < opening_count o.shape → k < 5 → record_start o.shape number + k ≢ i
+      pub unpublished : (q j k : ℕ) (e : Entry) → IsInner o.shape q → At r.book q j e → k < record_words → record_start o.shape e.number + k ≢ i
+      pub past_idle : (number k : ℕ) → number < opening_count o.shape → k < record_words → record_start o.shape number + k ≢ i
 
-    pub own_moves : IsOwnWord → (n : ℕ) → get_or (set s.words i x) (lane_place o.shape h.lane) 0 ≡ n → 0 < n → n ≤ 2 → MayMove face o s r id v (set s.words i x) r.book
+    pub own_moves : IsOwnWord → (n : ℕ) → get_or (set s.words i x) (lane_place o.shape h.lane) 0 ≡ n → word_of_state Free < n → n ≤ word_of_state Ended → MayMove face o s r id v (set s.words i x) r.book
     own_moves own n state some_state last_state =
         let stays : (j : ℕ) → j ≢ i → get_or (set s.words i x) j 0 ≡ get_or s.words j 0 = λ j ne. get_or-set_other s.words i j x 0 ne in record {
           tree = record {
@@ -236,7 +236,7 @@ module _ (face : ℕ → ℕ → List (ℕ × ℕ) → List ℕ) (o : Opening) (
           };
           grows = λ q j e p. p;
           lanes = λ lane low. ⊎_elim
-              (λ (same : lane ≡ h.lane). inr record { index = a; held = h; at = held; is = sym same; some_state = subst (λ (z : ℕ). 0 < get_or (set s.words i x) (lane_place o.shape z) 0) (sym same) (omega (arith, state)); last_state = subst (λ (z : ℕ). get_or (set s.words i x) (lane_place o.shape z) 0 ≤ 2) (sym same) (omega (arith, state)) })
+              (λ (same : lane ≡ h.lane). inr record { index = a; held = h; at = held; is = sym same; some_state = subst (λ (z : ℕ). word_of_state Free < get_or (set s.words i x) (lane_place o.shape z) 0) (sym same) (omega (arith, state)); last_state = subst (λ (z : ℕ). get_or (set s.words i x) (lane_place o.shape z) 0 ≤ word_of_state Ended) (sym same) (omega (arith, state)) })
               (λ other. inl record { state = stays (lane_place o.shape lane) (own.past_lanes lane low other); block = λ k small. stays (block_start o.shape lane + k) (own.past_blocks lane k low other small) }) (cases_eq lane h.lane);
           came = λ q j e inner p. inl p;
           fresh = λ seen saw f. f;
@@ -262,7 +262,7 @@ module _ (face : ℕ → ℕ → List (ℕ × ℕ) → List ℕ) (o : Opening) (
     pub all_stay : (lane : ℕ) → Stays o.shape s.words after lane
     all_stay lane = record { state = stay (lane_place o.shape lane) (λ is. omega arith); block = λ k small. stay (block_start o.shape lane + k) (λ is. omega arith) }
 
-    pub tree_moves : IsBook face o.shape book' → e.passed ≡ false → (IsInner o.shape q → IsOwn o.shape s.words v e.number) → (IsInner o.shape q → (k : ℕ) → k < 5 → get_or s.words (record_start o.shape e.number + k) 0 ≡ get_or e.words k 0)
+    pub tree_moves : IsBook face o.shape book' → e.passed ≡ false → (IsInner o.shape q → IsOwn o.shape s.words v e.number) → (IsInner o.shape q → (k : ℕ) → k < record_words → get_or s.words (record_start o.shape e.number + k) 0 ≡ get_or e.words k 0)
         → ((seen : Book) → Continues r.book seen → IsInner o.shape q → FloorsCover o.shape seen q e) → MayMove face o s r id v after book'
     tree_moves is_book shown own full floors = record {
       grows = grown_at r.book q in_book e;

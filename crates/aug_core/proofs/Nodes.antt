@@ -5,7 +5,7 @@ use lib.ListN.{get_elem?}
 use prog.Atomic.{either}
 use Rattle.atomic_table.specs.Table.{step, keeps, Allows}
 use Rattle.atomic_table.proofs.Lists.{exchanged}
-use Rattle.aug_core.specs.Places.{Shape}
+use Rattle.aug_core.specs.Places.{Shape, record_words}
 use Rattle.aug_core.specs.Addresses.{IsInner, left_of, right_of}
 use Rattle.aug_core.specs.Lanes.{first_record, IsOfLane, word_of_state}
 use Rattle.aug_core.specs.Book.{Book, history_of, At, IsNewest, Continues, FloorsCover, IsFresh, SerialsFit, IsBook}
@@ -74,7 +74,7 @@ module _ (face : ℕ → ℕ → List (ℕ × ℕ) → List ℕ) (o : Opening) w
     ib : q < length r.book
     ib = in_book face o s r id v at q inner.inside entry
 
-    full : (k : ℕ) → k < 5 → held_word o.shape h number k ≡ get_or entry.words k 0
+    full : (k : ℕ) → k < record_words → held_word o.shape h number k ≡ get_or entry.words k 0
     full k small = subst (λ (z : Shape). held_word z h number k ≡ get_or entry.words k 0) shaped (c.full h only k small)
 
     fresh : (p i : ℕ) (e : Entry) → IsInner o.shape p → At r.book p i e → e.number ≢ number
@@ -99,7 +99,7 @@ module _ (face : ℕ → ℕ → List (ℕ × ℕ) → List ℕ) (o : Opening) w
     pub moved : get_or s.words q 0 ≡ old → MayMove face o s r id v words' longer_book
     moved hit = tree_moves face o s r id v at q inner.inside entry (is_book' hit) refl
         (λ _. record { index = 0; held = h; at = held; of_lane = of_lane; some_state = let st = mine.state ∙ ap word_of_state taken in omega arith })
-        (λ _ k small. let b = in_block o.shape h.lane number k of_lane small in ap (λ (z : ℕ). get_or s.words z 0) b.0 ∙ mine.exact (5 * (number - first_record o.shape h.lane) + k) b.1 ∙ full k small) floors
+        (λ _ k small. let b = in_block o.shape h.lane number k of_lane small in ap (λ (z : ℕ). get_or s.words z 0) b.0 ∙ mine.exact (record_words * (number - first_record o.shape h.lane) + k) b.1 ∙ full k small) floors
 
     abbrev pub lane' : Held
     lane' = with_published number h
@@ -127,7 +127,7 @@ module _ (face : ℕ → ℕ → List (ℕ × ℕ) → List ℕ) (o : Opening) w
     pub newest_now : IsNewest longer_book q (length (history_of r.book q)) entry
     newest_now = newest_here r.book q ib entry
 
-    pub says : (g : Held) → HoldsOnly v g → (k : ℕ) → k < 5 → held_word v.shape g number k ≡ get_or entry.words k 0
+    pub says : (g : Held) → HoldsOnly v g → (k : ℕ) → k < record_words → held_word v.shape g number k ≡ get_or entry.words k 0
     says g one k small = c.full g one k small
 
   pub tries_node : (n id q old number : ℕ) (me : Sat) → me.0.live ≡ true → me.1 ≡ [] → IsInner me.0.shape q → HasTakenLane me.0 → MayStore me.0 number → IsFilled face me.0 q old number

@@ -5,9 +5,9 @@ use Rattle.std.proofs.lemmas.List.FromFn.{length-map-range_with_len, get_or-map-
 use mathlib.Core.Option.{some, some-injective, some-ne-none}
 use lib.ListN.{get_elem?}
 use Rattle.atomic_table.specs.Table.{opening}
-use Rattle.aug_core.specs.Places.{opening_count, lane_place, record_start, word_count}
+use Rattle.aug_core.specs.Places.{opening_count, lane_place, record_start, word_count, record_words}
 use Rattle.aug_core.specs.Addresses.{place_count, IsInner, left_of, right_of}
-use Rattle.aug_core.specs.Lanes.{block_size}
+use Rattle.aug_core.specs.Lanes.{block_size, word_of_state}
 use Rattle.aug_core.specs.Book.{Book, history_of, At, IsNewest, StandsOver, IsSerial, SerialsFit, IsBook, word_of_leaf}
 use Rattle.aug_model.specs.Keys.{is_member, keys_of, IsKeySet}
 use Rattle.aug_model.specs.Queries.{weight_in}
@@ -27,6 +27,7 @@ use Rattle.aug_core.proofs.Books.{fresh_now, at_below}
 use Rattle.aug_core.proofs.Fits.{at_most_one}
 use Rattle.aug_core.specs.Counts.{StandsAt}
 use Rattle.aug_core.specs.declared.view.Change.{Change}
+use Rattle.aug_core.specs.declared.view.LaneState.TheVariants.{Free}
 use Rattle.std.proofs.lemmas.List.{length-replicate, get_or-replicate}
 
 module _ (o : Opening) where
@@ -174,10 +175,10 @@ module _ (face : ℕ → ℕ → List (ℕ × ℕ) → List ℕ) (o : Opening) w
   -- the rule holds of these words
   pub opens : (words : List ℕ) → Rises (keys_of o.members) → All FitsPair o.members → length (keys_of o.members) ≤ o.shape.members → length words ≡ word_count o.shape
       → ((q : ℕ) → q < place_count o.shape → get_or words q 0 ≡ opening_number o q)
-      → ((q k : ℕ) → IsInner o.shape q → k < 5 → get_or words (record_start o.shape (opening_number o q) + k) 0 ≡ get_or (opening_words face o q) k 0)
-      → ((level k : ℕ) → level < o.shape.bits → k < 5 → get_or words (record_start o.shape level + k) 0 ≡ get_or (shared_words face level) k 0)
-      → ((number k : ℕ) → IsIdle o number → k < 5 → get_or words (record_start o.shape number + k) 0 ≡ 0)
-      → ((lane : ℕ) → lane < o.shape.workers → get_or words (lane_place o.shape lane) 0 ≡ 0)
+      → ((q k : ℕ) → IsInner o.shape q → k < record_words → get_or words (record_start o.shape (opening_number o q) + k) 0 ≡ get_or (opening_words face o q) k 0)
+      → ((level k : ℕ) → level < o.shape.bits → k < record_words → get_or words (record_start o.shape level + k) 0 ≡ get_or (shared_words face level) k 0)
+      → ((number k : ℕ) → IsIdle o number → k < record_words → get_or words (record_start o.shape number + k) 0 ≡ 0)
+      → ((lane : ℕ) → lane < o.shape.workers → get_or words (lane_place o.shape lane) 0 ≡ word_of_state Free)
       → ((lane : ℕ) → lane < o.shape.workers → BlockIs o.shape words lane (replicate (block_size o.shape) 0))
       → Kept face o (opening words [] (newcomer face o))
   opens words rises pairs_fit fit wide nodes records shared idle lanes blocks = record {

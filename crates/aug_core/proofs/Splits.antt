@@ -7,7 +7,7 @@ use lib.ListN.{get_elem?}
 use Rattle.atomic_table.specs.Table.{Splits}
 use Rattle.atomic_table.proofs.Lists.{at_set}
 use Rattle.aug_core.specs.Places.{Shape, lane_place}
-use Rattle.aug_core.specs.Lanes.{block_size}
+use Rattle.aug_core.specs.Lanes.{block_size, word_of_state}
 use Rattle.aug_core.specs.Opening.{Opening}
 use Rattle.aug_core.specs.Rule.{HoldsLane, Knows, Kept, no_beginning}
 use Rattle.aug_core.specs.Told.{new_lane, handing_out, handed_out}
@@ -18,6 +18,7 @@ use Rattle.aug_core.proofs.Books.{snoc_at}
 use Rattle.aug_core.proofs.Views.{now_there, stays_there, apart_on}
 use Rattle.aug_core.specs.Counts.{StandsAt}
 use Rattle.aug_core.specs.declared.view.Change.{Change}
+use Rattle.aug_core.specs.declared.view.LaneState.TheVariants.{Free}
 use Rattle.std.proofs.lemmas.Bool.{cases_eq}
 use Rattle.atomic_table.proofs.Lists.{at_longer}
 use Rattle.aug_core.proofs.Stores.{alone}
@@ -51,7 +52,7 @@ module _ (face : ℕ → ℕ → List (ℕ × ℕ) → List ℕ) (o : Opening) (
       (λ t. absurd (t.0 (r.apart.one_lead i id m n x v t.1 at e spare))) (at_set s.views id i (handing_out v) x q))
       (λ t. let clash : None ≡ Some m = ap (λ (z : View). z.spare) t.1 ∙ e in cc) (snoc_at (set s.views id (handing_out v)) newer x i p)
 
-  free : get_or s.words (lane_place o.shape n) 0 ≡ 0
+  free : get_or s.words (lane_place o.shape n) 0 ≡ word_of_state Free
   free = (r.each_view id v at).spares n n spare (omega arith) room
 
   old_below : (i a : ℕ) (x : View) (h : Held) → get_elem? s.views i ≡ some x → get_elem? x.held a ≡ some h → h.lane < n

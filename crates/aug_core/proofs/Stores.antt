@@ -4,7 +4,7 @@ use Rattle.std.proofs.lemmas.Bool.{cases_eq}
 use mathlib.Core.Option.{none, some, some-injective, some-ne-none}
 use lib.ListN.{get_elem?}
 use Rattle.atomic_table.specs.Table.{step, keeps, Allows}
-use Rattle.aug_core.specs.Places.{Shape, lane_place, record_start}
+use Rattle.aug_core.specs.Places.{Shape, lane_place, record_start, record_words}
 use Rattle.aug_core.specs.Lanes.{first_record, IsOfLane, block_start, word_of_state}
 use Rattle.aug_core.specs.Opening.{Opening}
 use Rattle.aug_core.specs.Rule.{Lists, HoldsLane, Kept}
@@ -43,9 +43,9 @@ is_taken v h only has = ap (λ (z : Held). z.state) (one_held v h has.lane only 
 
 module _ (face : ℕ → ℕ → List (ℕ × ℕ) → List ℕ) (o : Opening) where
   module _ (s : St) (r : Kept face o s) (id : ℕ) (v : View) (at : get_elem? s.views id ≡ some v) (h : Held) (only : v.held ≡ h ∷ []) (taken : h.state ≡ Taken) (number field x : ℕ)
-      (of_lane : IsOfLane o.shape h.lane number) (unpublished : Lists h.published number → ⊥) (small : field < 5) (steps : List StepTaken) where
+      (of_lane : IsOfLane o.shape h.lane number) (unpublished : Lists h.published number → ⊥) (small : field < record_words) (steps : List StepTaken) where
     abbrev offset : ℕ
-    offset = 5 * (number - first_record o.shape h.lane) + field
+    offset = record_words * (number - first_record o.shape h.lane) + field
 
     abbrev place : ℕ
     place = record_start o.shape number + field
@@ -75,7 +75,7 @@ module _ (face : ℕ → ℕ → List (ℕ × ℕ) → List ℕ) (o : Opening) w
     stays : (j : ℕ) → j ≢ place → get_or after j 0 ≡ get_or s.words j 0
     stays j ne = get_or-set_other s.words place j x 0 ne
 
-    state_stays : get_or after (lane_place o.shape h.lane) 0 ≡ 1
+    state_stays : get_or after (lane_place o.shape h.lane) 0 ≡ word_of_state Taken
     state_stays = let low = mine.exists in stays (lane_place o.shape h.lane) (λ is. omega arith) ∙ mine.state ∙ ap word_of_state taken
 
     holds_it : HoldsLane o.shape after r.book lane'
@@ -95,21 +95,21 @@ module _ (face : ℕ → ℕ → List (ℕ × ℕ) → List ℕ) (o : Opening) w
         moves_on face o s r id v after r.book moved at record v { held = lane' ∷ []; steps = steps } (one_lane v h lane' v.seen steps only refl refl)
         (knows_keeping face o s r id v after r.book moved at (lane' ∷ []) steps (λ a g p. subst (HoldsLane o.shape after r.book) (alone lane' g a p).1 holds_it)) (λ key low. refl)
 
-  pub stores_record_word : (n id place number field x : ℕ) (me : Sat) → me.0.live ≡ true → me.1 ≡ [] → HasTakenLane me.0 → MayStore me.0 number → field < 5 → place ≡ record_start me.0.shape number + field
+  pub stores_record_word : (n id place number field x : ℕ) (me : Sat) → me.0.live ≡ true → me.1 ≡ [] → HasTakenLane me.0 → MayStore me.0 number → field < record_words → place ≡ record_start me.0.shape number + field
       → Allows (Kept face o) n id me place (λ _. x) (λ _ m. stored_record (step n place x 0 none) me x m)
   stores_record_word n id place number field x me live empty has may small is s r _ at _ =
       let v : View = me.0 in let h : Held = may.lane in let kn = r.each_view id v at in let shaped : v.shape ≡ o.shape = kn.shaped live in
       let of_lane : IsOfLane o.shape h.lane number = subst (λ (z : Shape). IsOfLane z h.lane number) shaped may.of_lane in
       let is' : place ≡ record_start o.shape number + field = is ∙ ap (λ (z : Shape). record_start z number + field) shaped in
       let b = (in_block o.shape h.lane number field of_lane small).0 in let steps : List StepTaken = v.steps ++ store_record_word place x ∷ [] in
-      let off : place - block_start o.shape h.lane ≡ 5 * (number - first_record o.shape h.lane) + field = omega arith in
-      let held : on_first (with_word v.shape place x) v.held ≡ record h { words = set h.words (5 * (number - first_record o.shape h.lane) + field) x } ∷ [] =
+      let off : place - block_start o.shape h.lane ≡ record_words * (number - first_record o.shape h.lane) + field = omega arith in
+      let held : on_first (with_word v.shape place x) v.held ≡ record h { words = set h.words (record_words * (number - first_record o.shape h.lane) + field) x } ∷ [] =
       ap (on_first (with_word v.shape place x)) may.only ∙ ap (λ (z : Shape). record h { words = set h.words (place - block_start z h.lane) x } ∷ []) shaped ∙ ap (λ (z : ℕ). record h { words = set h.words z x } ∷ []) off in (
         storing v place x,
         keeps,
         tt,
         subst (λ (z : List Held). Kept face o record { words = set s.words place x; homes = s.homes; views = set s.views id record v { held = z; steps = steps } }) (sym held)
-            (subst (λ (z : ℕ). Kept face o record { words = set s.words z x; homes = s.homes; views = set s.views id record v { held = record h { words = set h.words (5 * (number - first_record o.shape h.lane) + field) x } ∷ []; steps = steps } }) (sym is')
+            (subst (λ (z : ℕ). Kept face o record { words = set s.words z x; homes = s.homes; views = set s.views id record v { held = record h { words = set h.words (record_words * (number - first_record o.shape h.lane) + field) x } ∷ []; steps = steps } }) (sym is')
             (writes s r id v at h may.only (is_taken v h may.only has) number field x of_lane may.unpublished small steps)),
         (empty, refl),
       )

@@ -3,6 +3,9 @@ ghost use Rattle.std.specs.Prelude.{◌≡◌, ◌<◌};
 ghost use Rattle.aug_core.specs.Fields.{field_offset};
 ghost use Rattle.aug_core.specs.Places.{record_words};
 
+/// How many words a record has.
+pub const RECORD_WORDS: usize = 5;
+
 /// The five words of a record, in their order.
 #[derive(Clone, Copy, Debug, PartialEq, Eq)]
 pub enum RecordField {

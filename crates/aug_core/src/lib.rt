@@ -2,6 +2,7 @@
 #![tactic(auto)]
 
 mod field;
+mod lane;
 mod layout;
 mod opening;
 mod plays;
@@ -9,7 +10,8 @@ mod rule;
 mod step;
 mod view;
 
-pub use field::RecordField;
+pub use field::{RECORD_WORDS, RecordField};
+pub use lane::{LANE_ENDED, LANE_FREE, LANE_TAKEN};
 pub use layout::{Layout, LayoutError};
 pub use opening::OpeningKey;
 pub use plays::{

@@ -15,7 +15,7 @@ use Rattle.aug_model.specs.Queries.{range_of, weight_in}
 use Rattle.aug_model.proofs.Membership.{is_member-iff_Contains}
 use Rattle.aug_model.proofs.Pairs.{key_at, length-keys_of, keys_of-range, weight_at_place, weight_fits, weight-none}
 use Rattle.aug_model.proofs.Ranges.{Rises, rises_from, all_below_from, count_few, range_le, range_of_key}
-use Rattle.aug_core.specs.Places.{Shape, own_records, lane_place, record_start, word_count, level_start}
+use Rattle.aug_core.specs.Places.{Shape, own_records, lane_place, record_start, word_count, level_start, record_words}
 use Rattle.aug_core.specs.Addresses.{place_count, IsInner, left_of, right_of, level_of, place_on, IsWord}
 use Rattle.aug_core.specs.Lanes.{block_start, block_size}
 use Rattle.aug_core.specs.Opening.{Opening, opening_leaf_word, members_below, pairs_below, has_members, own_before, number_at, opening_pairs, opening_number, opening_words, shared_words}
@@ -314,8 +314,8 @@ pub built_ready : (face : ℕ → ℕ → List (ℕ × ℕ) → List ℕ) (o : O
 built_ready face o levels done q words built low inside = record { inside = inside; long = built.long; word = built.named q low; node = λ past. built.records q past low }
 
 -- a word that is read of a node that is ready
-pub ready_word : (face : ℕ → ℕ → List (ℕ × ℕ) → List ℕ) (o : Opening) (words : List ℕ) (q k x start leaves : ℕ) → IsReady face o words q → leaves ≤ q → k < 5 → leaves ≡ 2 ^ o.shape.bits
-    → start ≡ record_start o.shape (opening_number o q) → start + 5 ≤ length words → x ≡ get_or words (start + k) x → x ≡ get_or (opening_words face o q) k 0
+pub ready_word : (face : ℕ → ℕ → List (ℕ × ℕ) → List ℕ) (o : Opening) (words : List ℕ) (q k x start leaves : ℕ) → IsReady face o words q → leaves ≤ q → k < record_words → leaves ≡ 2 ^ o.shape.bits
+    → start ≡ record_start o.shape (opening_number o q) → start + record_words ≤ length words → x ≡ get_or words (start + k) x → x ≡ get_or (opening_words face o q) k 0
 ready_word face o words q k x start leaves ready past small begin first inside is =
     let at : start + k ≡ record_start o.shape (opening_number o q) + k = omega arith in
     get_or_read words (start + k) x (omega arith) is 0 ∙ ap (λ (i : ℕ). get_or words i 0) at ∙ ready.node (omega arith) k small
@@ -325,7 +325,7 @@ pub ready_number : (face : ℕ → ℕ → List (ℕ × ℕ) → List ℕ) (o : 
 ready_number face o words q x ready is = let t = twice o.shape.bits in let long = ready.long in let inside = ready.inside in get_or_read words q x (omega arith) is 0 ∙ ready.word
 
 -- the record of a node that is ready lies in the table
-pub record_inside_words : (face : ℕ → ℕ → List (ℕ × ℕ) → List ℕ) (o : Opening) (words : List ℕ) (q : ℕ) → Rises (keys_of o.members) → length (keys_of o.members) ≤ o.shape.members → IsReady face o words q → 2 ^ o.shape.bits ≤ q → record_start o.shape (opening_number o q) + 5 ≤ length words
+pub record_inside_words : (face : ℕ → ℕ → List (ℕ × ℕ) → List ℕ) (o : Opening) (words : List ℕ) (q : ℕ) → Rises (keys_of o.members) → length (keys_of o.members) ≤ o.shape.members → IsReady face o words q → 2 ^ o.shape.bits ≤ q → record_start o.shape (opening_number o q) + record_words ≤ length words
 record_inside_words face o words q up fit ready past = let long = ready.long in let low = number_below o up fit q record { past_leaves = past; inside = ready.inside } in omega arith
 
 -- the pairs below a leaf, by its word
@@ -390,7 +390,7 @@ few_keys p = let fit = p.fit in let long = length-keys_of p.key.members in omega
 
 -- a node's own record is one of the table's
 pub own_inside : (p : Plan) (level place node next : ℕ) (words : List ℕ) → IsWord p.key.shape (suc level) place node → IsOwn p.key level place → next ≡ next_own p.key level place → length words ≡ word_count p.key.shape
-    → (p.records + 5 * next + 5 ≤ length words) × (length words ≤ 2 ^ 26)
+    → (p.records + record_words * next + record_words ≤ length words) × (length words ≤ 2 ^ 26)
 own_inside p level place node next words on own is long =
     let low = number_low p.key (rises p.key p.key_set) (few_keys p) level place on.level_fits on.place_fits in let number = number_own p.key level place own in let begin = p.records_are in let most = p.laid_out.words in (omega arith, omega arith)
 

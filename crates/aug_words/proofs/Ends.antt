@@ -10,6 +10,7 @@ use Rattle.aug_core.specs.Opening.{Opening, opening_entry}
 use Rattle.aug_core.specs.Rule.{Kept}
 use Rattle.aug_core.specs.declared.view.Entry.{Entry}
 use Rattle.aug_core.specs.declared.view.View.{View}
+use Rattle.aug_core.specs.Places.{record_words}
 use Rattle.aug_core.proofs.Sizes.{in_block}
 use Rattle.aug_core.proofs.Moves.{St}
 use Rattle.aug_core.proofs.Openings.{inner_history}
@@ -29,7 +30,7 @@ module _ (face : ℕ → ℕ → List (ℕ × ℕ) → List ℕ) (o : Opening) w
       seen_records = λ q i field e inner p small. r.tree.written q i field e inner (kn.saw q i e p) small;
       lanes = λ a h p. (kn.holds a h p).state;
       records = λ a number field h p of_lane small. let b = in_block o.shape h.lane number field of_lane small in
-          ap (λ (z : ℕ). get_or s.words z 0) b.0 ∙ (kn.holds a h p).exact (5 * (number - first_record o.shape h.lane) + field) b.1;
+          ap (λ (z : ℕ). get_or s.words z 0) b.0 ∙ (kn.holds a h p).exact (record_words * (number - first_record o.shape h.lane) + field) b.1;
     }
 
   module _ (id : ℕ) (v : View) (words : List ℕ) (slots : List (Unit {0})) (end : Final (Seen (Kept face o) id v) words slots) where

@@ -2,14 +2,14 @@
 use Rattle.std.proofs.Common.{◌≡◌, ℕ, ◌+◌, ◌<◌, ◌≤◌, List, [], ◌∷◌, ◌++◌, length, All, Option, None, Some, option_map, sym, refl, ap, ◌∙◌, subst, arith}
 use Rattle.std.specs.Prelude.{unwrap_or}
 use Rattle.std.proofs.lemmas.List.{length-replicate}
-use Rattle.aug_core.specs.Lanes.{IsOfLane, block_size}
+use Rattle.aug_core.specs.Lanes.{IsOfLane, block_size, word_of_state}
 use Rattle.aug_core.specs.Addresses.{IsInner, root_place}
 use Rattle.aug_core.specs.Places.{word_count}
 use Rattle.aug_core.specs.Book.{Continues, IsNewest, GoesOnFromBoth}
 use Rattle.aug_core.specs.Kinds.{take_lane}
 use Rattle.aug_core.specs.Rule.{newcomer, no_beginning}
 use Rattle.aug_core.specs.Told.{Sat, LoadsNode, handing_out, handed_out, taking, taking_back, in_state, new_lane, own_lane_place, MayStore, MayChange}
-use Rattle.aug_core.specs.declared.view.LaneState.TheVariants.{Taken}
+use Rattle.aug_core.specs.declared.view.LaneState.TheVariants.{Taken, Free}
 use Rattle.aug_core.specs.declared.view.View.{View}
 use Rattle.aug_core.proofs.PlaceLemmas.{keys-within}
 use Rattle.aug_core.proofs.Sizes.{twice}
@@ -115,7 +115,7 @@ new_pass face next root place lead me seat low empty is =
       taken = refl;
       long = length-replicate (block_size lead.0.shape) 0;
       exists = low;
-      knows = knows_same face lead.0 lead.0.live [] (in_state Taken (new_lane lead.0.shape (unwrap_or lead.0.spare 0)) ∷ []) None no_beginning (take_lane place 0 ∷ []) seat.knows;
+      knows = knows_same face lead.0 lead.0.live [] (in_state Taken (new_lane lead.0.shape (unwrap_or lead.0.spare 0)) ∷ []) None no_beginning (take_lane place (word_of_state Free) ∷ []) seat.knows;
     }
 
 -- what the lead knows once it took a pass back and loaded the root

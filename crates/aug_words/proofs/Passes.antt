@@ -3,7 +3,7 @@ use Rattle.std.proofs.Common.{◌≡◌, ℕ, ◌+◌, ◌-◌, ◌*◌, ◌^◌
 use mathlib.Core.Option.{some}
 use lib.ListN.{get_elem?}
 use Rattle.atomic_table.specs.Seated.{TableId}
-use Rattle.aug_core.specs.Places.{Shape, record_start, record_count}
+use Rattle.aug_core.specs.Places.{Shape, record_start, record_count, record_words}
 use Rattle.aug_core.specs.Lanes.{IsOfLane, block_start, block_size}
 use Rattle.aug_core.specs.Book.{Book, history_of}
 use Rattle.aug_core.proofs.Books.{at_below}
@@ -131,7 +131,7 @@ module _ (face : ℕ → ℕ → List (ℕ × ℕ) → List ℕ) (lane : ℕ) (m
       let words = seat.knows.laid_out.words in let some_bits = seat.knows.laid_out.bits.0 in let more : 1 * (w * u) ≤ b * (w * u) = mul-le-mul_right (w * u) some_bits in let turned : b * (w * u) ≡ w * u * b = mul_comm b (w * u) in omega arith
 
 -- what a load at a record's word tells of the record
-pub tells : (v w : View) (place number field r : ℕ) → field < 5 → place ≡ record_start v.shape number + field → ReadsRecord v place r w → LoadsRecordWord v number field r w
+pub tells : (v w : View) (place number field r : ℕ) → field < record_words → place ≡ record_start v.shape number + field → ReadsRecord v place r w → LoadsRecordWord v number field r w
 tells v w place number field r small is reads = let at : ReadsRecord v (record_start v.shape number + field) r w = subst (λ (z : ℕ). ReadsRecord v z r w) is reads in record {
   stepped = at.stepped;
   known = λ q i e inner p numbered. at.known q i field e inner p small (ap (λ (z : ℕ). record_start v.shape z + field) (sym numbered));

@@ -11,7 +11,10 @@ use crate::half::WordHalf;
 use crate::pass::WordPass;
 use crate::words::Words;
 use atomic_table::Seat;
-use aug_core::{FinishOwnLane, HandOut, LoadAnyNode, SharedWords, TakeBack, TakeOwnLane, View};
+use aug_core::{
+    FinishOwnLane, HandOut, LANE_ENDED, LANE_FREE, LANE_TAKEN, LoadAnyNode, SharedWords, TakeBack,
+    TakeOwnLane, View,
+};
 use aug_monoid::Monoid;
 use std::marker::{Model, PhantomData};
 
@@ -54,7 +57,7 @@ fn take_lane<A: Monoid, B: Monoid>(
     ensures no_slot { seat.new.me.1 ≡ [] }
     ensures view { seat.new.me.0 ≡ taking seat.old.me.0 place }
 {
-    words.compare_exchange::<TakeOwnLane>(seat, place, 0, 1);
+    words.compare_exchange::<TakeOwnLane>(seat, place, LANE_FREE, LANE_TAKEN);
 }
 
 // Ends the lane of a seat: a store of its word as ended.
@@ -73,7 +76,7 @@ fn finish_lane<A: Monoid, B: Monoid>(
     ensures no_slot { seat.new.me.1 ≡ [] }
     ensures view { seat.new.me.0 ≡ finishing seat.old.me.0 place }
 {
-    words.store::<FinishOwnLane>(seat, place, 2);
+    words.store::<FinishOwnLane>(seat, place, LANE_ENDED);
 }
 
 impl<A: Monoid, B: Monoid> Lead<A, B> {

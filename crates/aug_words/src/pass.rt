@@ -12,8 +12,8 @@ ghost use Rattle.aug_words.specs.Seats.{Known, MayLoad, LoadsRecordWord, MayAdva
 
 use atomic_table::Seat;
 use aug_core::{
-    BeginAtLeaf, LoadAnyLeaf, LoadAnyNode, LoadAnyRecord, RecordField, SharedWords, StoreOwnRecord,
-    TryAnyLeaf, TryAnyNode, View,
+    BeginAtLeaf, LoadAnyLeaf, LoadAnyNode, LoadAnyRecord, RECORD_WORDS, RecordField, SharedWords,
+    StoreOwnRecord, TryAnyLeaf, TryAnyNode, View,
 };
 use aug_monoid::Monoid;
 use std::marker::Model;
@@ -48,7 +48,7 @@ fn record_word(records: usize, number: u64, field: usize) -> usize
     requires { records + record_words * number + field < 2 ^ 60 }
     ensures { result ≡ records + record_words * number + field }
 {
-    records + 5 * number as usize + field
+    records + RECORD_WORDS * number as usize + field
 }
 
 impl<'r, A: Monoid, B: Monoid> WordPass<'r, A, B> {

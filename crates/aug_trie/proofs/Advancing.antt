@@ -4,7 +4,7 @@ use Rattle.std.proofs.lemmas.Bool.{cases_eq}
 use Rattle.std.proofs.lemmas.List.{append-nil}
 use Rattle.aug_monoid.specs.Parts.{Parts}
 use Rattle.aug_monoid.specs.inside.Laws.{IsMonoid}
-use Rattle.aug_core.specs.Places.{Shape, record_start}
+use Rattle.aug_core.specs.Places.{Shape, record_start, record_words}
 use Rattle.aug_core.specs.Faces.{face}
 use Rattle.aug_core.specs.Addresses.{place_count, IsInner, left_of, right_of}
 use Rattle.aug_core.specs.inside.Refreshes.{HasNewest, SaysLoaded}
@@ -268,7 +268,7 @@ module _ {A B : Type 0} (parts_a : Parts A) (parts_b : Parts B) (v : View) (q nu
   knows_old = g_old.knows_table
 
   -- one more word was stored
-  pub record_on : (w : View) (offset : ℕ) (next : Filling) → next ≡ record { from = r.from; five = r.five; count = r.count + 1 } → offset ≡ r.count → r.count + 1 ≤ 5 → w ≡ storing old (record_start old.shape number + offset) (get_or r.five r.count 0) → TryAt f v q number (Record next) w
+  pub record_on : (w : View) (offset : ℕ) (next : Filling) → next ≡ record { from = r.from; five = r.five; count = r.count + 1 } → offset ≡ r.count → r.count + 1 ≤ record_words → w ≡ storing old (record_start old.shape number + offset) (get_or r.five r.count 0) → TryAt f v q number (Record next) w
   record_on w offset next is at few stored_is = subst (λ (z : Filling). TryAt f v q number (Record z) w) (sym is) record {
     inner = t.inner;
     knows_table = t.knows_table;
@@ -288,8 +288,8 @@ module _ {A B : Type 0} (parts_a : Parts A) (parts_b : Parts B) (v : View) (q nu
   }
 
   -- all five were stored
-  module _ (full : r.count ≡ 5) where
-    is_full : old ≡ stored held.told number r.five 5
+  module _ (full : r.count ≡ record_words) where
+    is_full : old ≡ stored held.told number r.five record_words
     is_full = held.stands ∙ ap (stored held.told number r.five) full
 
     room_told : HasRoom held.told number 1
@@ -311,9 +311,9 @@ module _ {A B : Type 0} (parts_a : Parts A) (parts_b : Parts B) (v : View) (q nu
         let to_w = goes_on f 0 (number + 1) (number + 1) [] held.told old w (omega arith) (omega arith) g_filled gw in
         let n : ℕ = part_steps v.shape (left_of v.shape q) in
         let took_told = took_on v held.third held.told 3 (2 * n) (3 + 2 * n) refl (took_right f v q r.from (get_or r.five 0 0) (get_or r.five 1 0) held.third held.loaded) held.took in
-        let took_old : Took held.told old 5 = subst (Took held.told old) full (subst (λ (z : View). Took held.told z r.count) (sym held.stands) (took_stored f held.told number r.five r.count)) in record {
+        let took_old : Took held.told old record_words = subst (Took held.told old) full (subst (λ (z : View). Took held.told z r.count) (sym held.stands) (took_stored f held.told number r.five r.count)) in record {
           goes = goes_on f 0 (number + 1) (number + 1) [] v old w (omega arith) (omega arith) g_old gw;
-          took = took_on v old w (8 + 2 * n) 1 (try_steps n) (omega arith) (took_on v held.told old (3 + 2 * n) 5 (8 + 2 * n) (omega arith) took_told took_old) (took_one old w _ refl tried.stepped);
+          took = took_on v old w (8 + 2 * n) 1 (try_steps n) (omega arith) (took_on v held.told old (3 + 2 * n) record_words (8 + 2 * n) (omega arith) took_told took_old) (took_one old w _ refl tried.stepped);
           tries = tries f v first second held.third held.told w q r.from (get_or r.five 0 0) (get_or r.five 1 0) number done t.inner gw.knows_table (gw.shaped ∙ g_old.shaped) g_told.shaped
               l.node.goes.later l.goes.later held.loaded.goes.later (λ p i e z. to_w.later p i e (held.goes.later p i e z)) l.node.at_node l.at_left held.loaded.at_right p
               (λ bad. free_again f old w q r.from number found done decided tried knows_old bad room_old.is_free);

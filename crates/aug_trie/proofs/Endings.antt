@@ -9,7 +9,7 @@ use Rattle.std.proofs.lemmas.List.Elements.{All-nil}
 use Rattle.aug_monoid.specs.Weighted.{FitsPair}
 use Rattle.aug_model.specs.Keys.{IsKeySet, keys_of}
 use Rattle.aug_model.proofs.Pairs.{length-keys_of, length-pairs_of}
-use Rattle.aug_core.specs.Places.{Shape, shape_of, own_records}
+use Rattle.aug_core.specs.Places.{Shape, shape_of, own_records, record_words}
 use Rattle.aug_core.specs.Layout.{IsLayout, IsWithin}
 use Rattle.aug_core.specs.Addresses.{IsInner, root_place}
 use Rattle.aug_core.specs.Book.{At, history_of}
@@ -51,7 +51,7 @@ module _ (store : Store) (lead : Known) (rest : AtRest) (t : AreTogether store l
   rest_shape = shape ∙ sym t.one_shape
 
   pub shows_seen : (face : ℕ → ℕ → List (ℕ × ℕ) → List ℕ) → ShowAll face store.opening lead.view rest.words
-      → (q i field : ℕ) (e : Entry) → IsInner lead.view.shape q → At lead.view.seen q i e → field < 5 → word_in rest e.number field ≡ get_or e.words field 0
+      → (q i field : ℕ) (e : Entry) → IsInner lead.view.shape q → At lead.view.seen q i e → field < record_words → word_in rest e.number field ≡ get_or e.words field 0
   shows_seen face all q i field e inner p low = ap (λ (z : Shape). word_in (record { shape = z; words = rest.words }) e.number field) shape
       ∙ all.seen_records q i field e (subst (λ (z : Shape). IsInner z q) t.one_shape inner) p low
 

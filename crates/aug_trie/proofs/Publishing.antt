@@ -7,6 +7,7 @@ use Rattle.aug_core.specs.inside.Refreshes.{SaysLoaded, Published}
 use Rattle.aug_core.specs.Told.{own_lane, storing, KnowsTable, IsFilled, TriesNode}
 use Rattle.aug_core.specs.declared.view.Held.{Held}
 use Rattle.aug_core.specs.declared.view.View.{View}
+use Rattle.aug_core.specs.Places.{record_words}
 use Rattle.aug_core.proofs.Filling.{put, filled_view, holds_filled, filled_lane, five_held, is_filled}
 use Rattle.aug_trie.specs.inside.Goes.{IsFree, HasRoom, Took, Goes}
 use Rattle.aug_trie.proofs.Going.{took_one, took_on, room_on, goes_on, goes_more, goes_storing, goes_seeing, goes_publishing}
@@ -39,10 +40,10 @@ module _ (face : ℕ → ℕ → List (ℕ × ℕ) → List ℕ) (v v1 v2 v3 v4 
   room_filled = room_on face [] v v5 number 1 goes_filling room
 
   -- and are five steps
-  pub took_filling : Took v v5 5
+  pub took_filling : Took v v5 record_words
   took_filling = let t1 = took_one v v1 _ refl (ap (λ (z : View). z.steps) e1) in let t2 = took_on v v1 v2 1 1 2 refl t1 (took_one v1 v2 _ refl (ap (λ (z : View). z.steps) e2)) in
       let t3 = took_on v v2 v3 2 1 3 refl t2 (took_one v2 v3 _ refl (ap (λ (z : View). z.steps) e3)) in let t4 = took_on v v3 v4 3 1 4 refl t3 (took_one v3 v4 _ refl (ap (λ (z : View). z.steps) e4)) in
-      took_on v v4 v5 4 1 5 refl t4 (took_one v4 v5 _ refl (ap (λ (z : View). z.steps) e5))
+      took_on v v4 v5 4 1 record_words refl t4 (took_one v4 v5 _ refl (ap (λ (z : View). z.steps) e5))
 
 -- a store leaves the record one that may be stored
 pub may_store_on : (face : ℕ → ℕ → List (ℕ × ℕ) → List ℕ) (v w : View) (number place value : ℕ) → KnowsTable face v → w ≡ storing v place value → HasRoom v number 1 → HasRoom w number 1 × KnowsTable face w

@@ -16,7 +16,7 @@ use Rattle.aug_model.proofs.Ranges.{Rises, rises_from, all_below_from, range_who
 use Rattle.aug_query.specs.Tree.{first_key, end_key, below_node, sum_of, IsTreeSet}
 use Rattle.aug_query.proofs.Nodes.{node_cut, left_covers, right_covers}
 use Rattle.aug_core.specs.Faces.{face}
-use Rattle.aug_core.specs.Places.{Shape, record_count}
+use Rattle.aug_core.specs.Places.{Shape, record_count, record_words}
 use Rattle.aug_core.specs.Addresses.{IsInner, root_place, left_of, right_of}
 use Rattle.aug_core.specs.Book.{Book, history_of, At, IsBook}
 use Rattle.aug_core.specs.Cuts.{Cut, pairs_of_cut}
@@ -95,7 +95,7 @@ module _ {A B : Type 0} (parts_a : Parts A) (parts_b : Parts B) where
 
   -- the words of all records that were seen are their entries'
   abbrev ShowSeen : Shape → Book → AtRest → Type 0
-  ShowSeen s book rest = (q i field : ℕ) (e : Entry) → IsInner s q → At book q i e → field < 5 → word_in rest e.number field ≡ get_or e.words field 0
+  ShowSeen s book rest = (q i field : ℕ) (e : Entry) → IsInner s q → At book q i e → field < record_words → word_in rest e.number field ≡ get_or e.words field 0
 
   module _ (s : Shape) (book : Book) (b : IsBook both s book) (words : List ℕ) (seen : ShowSeen s book (record { shape = s; words = words })) (cut : Cut) where
     abbrev rest : AtRest
@@ -117,7 +117,7 @@ module _ {A B : Type 0} (parts_a : Parts A) (parts_b : Parts B) where
     version_at (suc level) place q i p = let inner = inner_word s level place q p.word in let e : Entry = entry_of book q i in let at = entry_at book q i p.there in
         let l : Entry = entry_of book (left_of s q) e.left in let r : Entry = entry_of book (right_of s q) e.right in
         let number : e.number ≡ e.word = sym (b.named q i e inner at) in let below = b.below q i e inner at in let here : List (ℕ × ℕ) = covered pairs (suc level) place in
-        let read : (field : ℕ) → field < 5 → word_in rest e.word field ≡ get_or (both l.word r.word here) field 0 = λ field low.
+        let read : (field : ℕ) → field < record_words → word_in rest e.word field ≡ get_or (both l.word r.word here) field 0 = λ field low.
         ap (λ (z : ℕ). word_in rest z field) (sym number) ∙ seen q i field e inner at low ∙ ap (λ (z : List ℕ). get_or z field 0) (part_words both s book b cut level place q i p) in
         let left : word_in rest e.word 0 ≡ l.word = read 0 (omega arith) ∙ left_in parts_a parts_b l.word r.word here in
         let right : word_in rest e.word 1 ≡ r.word = read 1 (omega arith) ∙ right_in parts_a parts_b l.word r.word here in (
@@ -188,7 +188,7 @@ module _ {A B : Type 0} (parts_a : Parts A) (parts_b : Parts B) where
     pub inside_of : word < record_count rest.shape
     inside_of = at.0.inside
 
-    says : (field : ℕ) → field < 5 → word_in rest word field ≡ get_or (both (word_in rest word 0) (word_in rest word 1) here) field 0
+    says : (field : ℕ) → field < record_words → word_in rest word field ≡ get_or (both (word_in rest word 0) (word_in rest word 1) here) field 0
     says field low = at.0.says field low ∙ ap (λ (z : ℕ). get_or (both (word_in rest word 0) (word_in rest word 1) (covered list z place)) field 0) (sym up)
 
     pub count_is : word_in rest word 2 ≡ length here

@@ -10,7 +10,7 @@ ghost use Rattle.aug_trie.specs.inside.Points.{QuietStep, TryAt, Advances, Falls
 
 use crate::updates::parts::{leaf_part, part_of_words};
 use crate::updates::refreshing::{five_words, look};
-use aug_core::RecordField;
+use aug_core::{RECORD_WORDS, RecordField};
 use aug_monoid::Monoid;
 use aug_words::WordPass;
 
@@ -33,7 +33,7 @@ pub(crate) struct Reading {
 #[derive(Clone, Copy)]
 pub(crate) struct Filling {
     pub(crate) from: u64,
-    pub(crate) five: [u64; 5],
+    pub(crate) five: [u64; RECORD_WORDS],
     // How many of them were stored. After the fifth the node's word is exchanged.
     pub(crate) count: usize,
 }
@@ -193,7 +193,7 @@ fn store_or_try<A: Monoid, B: Monoid>(
     ensures falls { Falls 3 (Point.Record filling) result }
 {
     let count = filling.count;
-    if count == 5 {
+    if count == RECORD_WORDS {
         return Advanced::Tried(pass.try_node(node, filling.from, number));
     }
     pass.store_record_word(number, field_at(count), filling.five[count]);

@@ -8,7 +8,7 @@ ghost use Rattle.aug_trie.specs.inside.Goes.{Goes, Took, HasLeaves, HasRoom, IsF
 ghost use Rattle.aug_trie.specs.inside.Points.{QuietStep, TryOver};
 
 use crate::updates::parts::{Part, any_part};
-use aug_core::RecordField;
+use aug_core::{RECORD_WORDS, RecordField};
 use aug_monoid::Monoid;
 use aug_words::WordPass;
 
@@ -42,7 +42,7 @@ pub(crate) fn five_words<A: Monoid, B: Monoid>(
     right: u64,
     l: Part<A, B>,
     r: Part<A, B>,
-) -> [u64; 5]
+) -> [u64; RECORD_WORDS]
     requires few { l.count + r.count < 2 ^ 64 }
     ensures { result ≡ left ∷ right ∷ (l.count + r.count) ∷ A.parts.to_word (A.parts.join l.a r.a) ∷ B.parts.to_word (B.parts.join l.b r.b) ∷ [] }
 {
@@ -53,7 +53,7 @@ pub(crate) fn five_words<A: Monoid, B: Monoid>(
 }
 
 // How many steps it takes to fill a record and to try to publish it.
-pub(crate) const PUBLISH_STEPS: u32 = 6;
+pub(crate) const PUBLISH_STEPS: u32 = RECORD_WORDS as u32 + 1;
 
 // Fills an own record and tries to publish it: six steps.
 #[inline(always)]
@@ -62,7 +62,7 @@ fn publish<A: Monoid, B: Monoid>(
     node: usize,
     from: u64,
     number: u64,
-    five: [u64; 5],
+    five: [u64; RECORD_WORDS],
 ) -> bool
     requires inner { IsInner pass.old.view.shape node }
     requires knows { KnowsTable (face A.parts B.parts) pass.old.view }

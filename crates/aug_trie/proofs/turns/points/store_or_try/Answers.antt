@@ -9,12 +9,12 @@ pub try_node-requires-clause-own : goal.try_node-requires-clause-own
 try_node-requires-clause-own g c = may_store_word g.A.Monoid.parts g.B.Monoid.parts c.requires.begun.0 c.args.node c.args.number c.args.filling c.args.pass.now.view c.requires.begun.1
 
 pub try_node-requires-clause-filled : goal.try_node-requires-clause-filled
-try_node-requires-clause-filled g c = may_try g.A.Monoid.parts g.B.Monoid.parts c.requires.begun.0 c.args.node c.args.number c.args.filling c.args.pass.now.view c.requires.begun.1 c.if-count-eq5.true
+try_node-requires-clause-filled g c = may_try g.A.Monoid.parts g.B.Monoid.parts c.requires.begun.0 c.args.node c.args.number c.args.filling c.args.pass.now.view c.requires.begun.1 c.if-count-eq-RECORD_WORDS.true
 
-pub returns-then-count-eq5-clause-on : goal.returns-then-count-eq5-clause-on
-returns-then-count-eq5-clause-on g c = λ v t. let told = c.try_node.ensures.view in
-    try_over g.A.Monoid.parts g.B.Monoid.parts v c.args.node c.args.number c.args.filling c.args.pass.now.view t c.if-count-eq5.true c.try_node.new.self.view told.found c.try_node.result told.decided told.told
+pub returns-then-count-eq-RECORD_WORDS-clause-on : goal.returns-then-count-eq-RECORD_WORDS-clause-on
+returns-then-count-eq-RECORD_WORDS-clause-on g c = λ v t. let told = c.try_node.ensures.view in
+    try_over g.A.Monoid.parts g.B.Monoid.parts v c.args.node c.args.number c.args.filling c.args.pass.now.view t c.if-count-eq-RECORD_WORDS.true c.try_node.new.self.view told.found c.try_node.result told.decided told.told
 
 pub returns-clause-on : goal.returns-clause-on
-returns-clause-on g c = λ v t. let few = t.is_at.few in let not = c.if-count-eq5.false in
+returns-clause-on g c = λ v t. let few = t.is_at.few in let not = c.if-count-eq-RECORD_WORDS.false in
     record_on g.A.Monoid.parts g.B.Monoid.parts v c.args.node c.args.number c.args.filling c.args.pass.now.view t c.store_record_word.new.self.view _ _ refl c.field_at.ensures (omega arith) c.store_record_word.ensures.view

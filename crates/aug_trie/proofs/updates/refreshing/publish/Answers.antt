@@ -2,6 +2,8 @@ use Rattle.std.proofs.Common.{arith, subst, sym, refl, ◌+◌, []}
 use Rattle.aug_core.specs.Faces.{face}
 use Rattle.aug_core.specs.Told.{IsFilled, TriesNode}
 use Rattle.aug_core.specs.declared.view.View.{View}
+use Rattle.aug_core.specs.Places.{record_words}
+use Rattle.aug_trie.specs.inside.Goes.{publish_steps}
 use Rattle.aug_core.proofs.FaceLemmas.{left_in, right_in}
 use Rattle.aug_core.proofs.Filling.{filled_is}
 use Rattle.aug_trie.proofs.Going.{goes_on, took_one, took_on, may_store_room}
@@ -35,7 +37,7 @@ returns-clause-goes g c = let t = c.try_node.ensures.view in let h = goes_fillin
     goes_on (face g.A.Monoid.parts g.B.Monoid.parts) 0 (c.args.number + 1) (c.args.number + 1) [] c.args.pass.now.view c.store_record_word-5.new.self.view c.try_node.new.self.view (omega arith) (omega arith) h (goes_tried (face g.A.Monoid.parts g.B.Monoid.parts) c.store_record_word-5.new.self.view c.try_node.new.self.view c.args.node c.args.from c.args.number t.found c.try_node.result t.decided t.told h.knows_table)
 
 pub returns-clause-took : goal.returns-clause-took
-returns-clause-took g c = took_on c.args.pass.now.view c.store_record_word-5.new.self.view c.try_node.new.self.view 5 1 6 refl (took_filling (face g.A.Monoid.parts g.B.Monoid.parts) c.args.pass.now.view c.store_record_word.new.self.view c.store_record_word-2.new.self.view c.store_record_word-3.new.self.view c.store_record_word-4.new.self.view c.store_record_word-5.new.self.view c.args.number c.args.five c.requires.room c.requires.knows c.store_record_word.ensures.view c.store_record_word-2.ensures.view c.store_record_word-3.ensures.view c.store_record_word-4.ensures.view c.store_record_word-5.ensures.view) (took_one c.store_record_word-5.new.self.view c.try_node.new.self.view _ refl c.try_node.ensures.view.told.stepped)
+returns-clause-took g c = took_on c.args.pass.now.view c.store_record_word-5.new.self.view c.try_node.new.self.view record_words 1 publish_steps refl (took_filling (face g.A.Monoid.parts g.B.Monoid.parts) c.args.pass.now.view c.store_record_word.new.self.view c.store_record_word-2.new.self.view c.store_record_word-3.new.self.view c.store_record_word-4.new.self.view c.store_record_word-5.new.self.view c.args.number c.args.five c.requires.room c.requires.knows c.store_record_word.ensures.view c.store_record_word-2.ensures.view c.store_record_word-3.ensures.view c.store_record_word-4.ensures.view c.store_record_word-5.ensures.view) (took_one c.store_record_word-5.new.self.view c.try_node.new.self.view _ refl c.try_node.ensures.view.told.stepped)
 
 pub returns-clause-published : goal.returns-clause-published
 returns-clause-published g c = let t = c.try_node.ensures.view in let m = g.A.Monoid in let n = g.B.Monoid in

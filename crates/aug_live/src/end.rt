@@ -29,14 +29,14 @@ pub(crate) struct End<A: Monoid, B: Monoid> {
 impl<A: Monoid, B: Monoid> Model for End<A, B> {
     ghost use Rattle.std.specs.Prelude.{◌≡◌};
     ghost use Rattle.std.specs.Arc.{arc_value};
-    ghost use Rattle.ruled_lock.specs.Locks.{client_of, IsFree};
+    ghost use Rattle.ruled_lock.specs.Locks.{client_of, HoldsNothing};
     ghost use Rattle.aug_live.specs.inside.LaneKnowledge.{KnownFacts};
 
     ghost Value = { KnownFacts };
 
     ghost view = { λ e. client_of e.pass };
 
-    ghost invariant = { λ e. (e.pass.table_id ≡ (arc_value e.lock).table.shared.table_id) × IsFree e.pass };
+    ghost invariant = { λ e. (e.pass.table_id ≡ (arc_value e.lock).table.shared.table_id) × HoldsNothing e.pass };
 }
 
 /// The same while it has what lies in the lane.

@@ -25,7 +25,7 @@ module _ {A B : Type 0} (sum : List (ℕ × ℕ) → Summary A B) (out : OutFact
 
   pub still_holds : HoldsLook out era round (Some after) s bits
   still_holds = record {
-    kind = h.kind;
+    whose = h.whose;
     works = h.works;
     era_is = h.era_is;
     some_era = h.some_era;

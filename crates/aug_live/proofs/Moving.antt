@@ -35,7 +35,7 @@ module _ {A : Type 0} (P : A → Type 0) where
 
 -- what is in a history is in each later one
 back_on : (round : RoundFacts) (era : ℕ) (h h' : List Cut) (v : KnownFacts) → IsPrefix h h' → IsBackIn round era h v → IsBackIn round era h' v
-back_on round era h h' v on b = record { kind = b.kind; works = b.works; era_is = b.era_is; round_is = b.round_is; known = begins_on v.at.half.knows.history h h' b.known on }
+back_on round era h h' v on b = record { whose = b.whose; works = b.works; era_is = b.era_is; round_is = b.round_is; known = begins_on v.at.half.knows.history h h' b.known on }
 
 pub all_back_on : (round : RoundFacts) (era : ℕ) (h h' : List Cut) (xs : List KnownFacts) → IsPrefix h h' → All (IsBackIn round era h) xs → All (IsBackIn round era h') xs
 all_back_on round era h h' xs on all k d low = back_on round era h h' (get_or xs k d) on (all k d low)
@@ -47,7 +47,7 @@ same_era round era era' h v e = subst (λ (z : ℕ). IsBackIn round z h v) e
 pub all_ready : (era : ℕ) (round : RoundFacts) (crew : CrewFacts) (ended : EndedFacts) (xs : List KnownFacts) → Ends crew ended → crew.round ≡ round
     → All (IsBackIn round era crew.knows.history) xs → All (HasCarried ended.bits era ended.members) xs
 all_ready era round crew ended xs ends same all k d low = let v = get_or xs k d in let b = all k d low in record {
-  kind = b.kind;
+  whose = b.whose;
   works = b.works;
   era_is = b.era_is;
   bits_are = ap (λ (r : RoundFacts). r.bits) (b.round_is ∙ sym same) ∙ sym ends.bits;

@@ -1,6 +1,7 @@
 //! The desk: the roller's ends of all lanes, and the round that goes on or the set at rest.
 ghost use Rattle.std.specs.Prelude.{◌≡◌, ◌+◌, ◌≤◌, [], length, IfOk, IfErr, IfSome, vec_capacity};
 ghost use Rattle.aug_live.specs.inside.Rolls.{IsHandleEnd};
+ghost use Rattle.aug_live.specs.declared.known.Whose.TheVariants.{Nobody};
 
 use crate::counts::LiveCounts;
 use crate::end::End;
@@ -126,7 +127,7 @@ impl<A: Monoid, B: Monoid> Working<A, B> {
 
     /// Gives a lane to a new handle, whose end it answers with the bits of its keys, unless there is no such lane.
     fn renew<R: Wait>(&mut self, rt: &R, lane: usize, first: End<A, B>) -> Option<(End<A, B>, u32)>
-        requires first { first.kind ≡ 0 }
+        requires first { first.whose ≡ Nobody }
         ensures handle { IfSome result (λ h. IsHandleEnd h.1 h.0) }
     {
         if lane >= self.ports.len() {
@@ -259,7 +260,7 @@ impl<A: Monoid, B: Monoid> Place<A, B> {
         lane: usize,
         first: End<A, B>,
     ) -> (Place<A, B>, Result<(End<A, B>, u32), LiveError>)
-        requires first { first.kind ≡ 0 }
+        requires first { first.whose ≡ Nobody }
         ensures handle { IfOk result.1 (λ h. IsHandleEnd h.1 h.0) }
     {
         let mut working = match self {

@@ -1,7 +1,8 @@
 //! The ends of a lane: a pass of its lock each.
 ghost use Rattle.std.specs.Prelude.{◌≡◌, ◌<◌, IfOk};
 ghost use Rattle.aug_live.specs.LiveHandles.{Follows};
-ghost use Rattle.aug_live.specs.inside.LaneKnowledge.{KnowsLane, Rolls, Worked, known_of, as_kind};
+ghost use Rattle.aug_live.specs.inside.LaneKnowledge.{KnowsLane, Rolls, Worked, known_of, given_to};
+ghost use Rattle.aug_live.specs.declared.known.Whose.TheVariants.{Nobody, Roller, Handle};
 
 use crate::known::Known;
 use crate::lane::Lane;
@@ -62,7 +63,7 @@ impl<A: Monoid, B: Monoid> Model for Out<A, B> {
 impl<A: Monoid, B: Monoid> End<A, B> {
     /// The first end of a new lane.
     pub(crate) fn new(alloc: Global) -> Result<End<A, B>, AllocError>
-        ensures { IfOk result (λ e. e.kind ≡ 0) }
+        ensures { IfOk result (λ e. e.whose ≡ Nobody) }
     {
         let (lock, pass) = RuledLock::new(alloc, Lane::new())?;
         let Ok(lock) = Arc::new(alloc, lock) else {
@@ -73,8 +74,8 @@ impl<A: Monoid, B: Monoid> End<A, B> {
 
     /// The roller's end and the handle's, which both know what the first one knew.
     pub(crate) fn fork<R: Wait>(self, rt: &R) -> (End<A, B>, End<A, B>)
-        requires { self.kind ≡ 0 }
-        ensures { (result.0 ≡ as_kind 1 self) × (result.1 ≡ as_kind 2 self) }
+        requires { self.whose ≡ Nobody }
+        ensures { (result.0 ≡ given_to Roller self) × (result.1 ≡ given_to Handle self) }
     {
         let End { lock, mut pass } = self;
         let other = lock.another::<Parts>(&mut pass);
@@ -90,7 +91,7 @@ impl<A: Monoid, B: Monoid> End<A, B> {
 
     /// Takes what lies in the lane for the roller, and waits while the handle has it.
     pub(crate) fn take_to_roll<R: Wait>(self, rt: &R) -> (Out<A, B>, Lane<A, B>)
-        requires roller { self.kind ≡ 1 }
+        requires roller { self.whose ≡ Roller }
         requires some { 0 < self.at.era }
         ensures known { result.0.known ≡ self }
         ensures taken { result.0.taken ≡ result.1 }
@@ -102,9 +103,9 @@ impl<A: Monoid, B: Monoid> End<A, B> {
     /// Takes it for the handle, and waits while the roller has it.
     #[inline(always)]
     pub(crate) fn take_to_work<R: Wait>(self, rt: &R) -> (Out<A, B>, Lane<A, B>)
-        requires handle { self.kind ≡ 2 }
+        requires handle { self.whose ≡ Handle }
         requires some { 0 < self.at.era }
-        ensures kind { result.0.known.kind ≡ 2 }
+        ensures whose { result.0.known.whose ≡ Handle }
         ensures taken { result.0.taken ≡ result.1 }
         ensures follows { Follows self.at result.1.at }
     {
@@ -128,9 +129,9 @@ impl<A: Monoid, B: Monoid> Out<A, B> {
     /// Puts the lane back, with what the handle made of it.
     #[inline(always)]
     pub(crate) fn put(self, lane: Lane<A, B>) -> End<A, B>
-        requires handle { self.known.kind ≡ 2 }
+        requires handle { self.known.whose ≡ Handle }
         requires worked { Worked self.taken lane }
-        ensures { result ≡ known_of 2 lane }
+        ensures { result ≡ known_of Handle lane }
     {
         let Out { lock, mut pass } = self;
         lock.put::<Turn>(&mut pass, lane);
@@ -139,9 +140,9 @@ impl<A: Monoid, B: Monoid> Out<A, B> {
 
     /// Puts the lane back as the roller leaves it.
     pub(crate) fn leave(self, lane: Lane<A, B>) -> End<A, B>
-        requires roller { self.known.kind ≡ 1 }
+        requires roller { self.known.whose ≡ Roller }
         requires follows { Follows self.taken.at lane.at }
-        ensures { result ≡ known_of 1 lane }
+        ensures { result ≡ known_of Roller lane }
     {
         let Out { lock, mut pass } = self;
         lock.put::<Turn>(&mut pass, lane);
@@ -150,8 +151,8 @@ impl<A: Monoid, B: Monoid> Out<A, B> {
 
     /// Puts the lane of the first round in.
     pub(crate) fn open(self, lane: Lane<A, B>) -> End<A, B>
-        requires first { self.known.kind ≡ 0 }
-        ensures { result ≡ known_of 0 lane }
+        requires first { self.known.whose ≡ Nobody }
+        ensures { result ≡ known_of Nobody lane }
     {
         let Out { lock, mut pass } = self;
         lock.put::<Turn>(&mut pass, lane);

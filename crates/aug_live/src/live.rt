@@ -6,6 +6,7 @@ ghost use Rattle.aug_trie.specs.Crew.{BeginsRound};
 ghost use Rattle.aug_live.specs.LiveHandles.{IsNew};
 ghost use Rattle.aug_live.specs.Plans.{Fits, least_plan};
 ghost use Rattle.aug_live.specs.inside.Rolls.{IsOf, IsFirst};
+ghost use Rattle.aug_live.specs.declared.known.Whose.TheVariants.{Nobody};
 
 use crate::counts::LiveCounts;
 use crate::desk::{Place, Working};
@@ -198,7 +199,7 @@ impl<A: Monoid, B: Monoid> Live<A, B> {
 impl<A: Monoid, B: Monoid> Room<A, B> {
     // Lanes for `handles` handles, and room for what is to come.
     fn new(alloc: Global, handles: u32, universe: u32) -> Result<Room<A, B>, AllocError>
-        ensures firsts { IfOk result (λ r. All (λ v. v.kind ≡ 0) r.firsts.items × (vec_len r.firsts ≡ handles)) }
+        ensures firsts { IfOk result (λ r. All (λ v. v.whose ≡ Nobody) r.firsts.items × (vec_len r.firsts ≡ handles)) }
         ensures ports { IfOk result (λ r. (r.ports.items ≡ []) × (handles ≤ vec_capacity r.ports)) }
         ensures room { IfOk result (λ r. (r.room.items ≡ []) × (handles ≤ vec_capacity r.room)) }
         ensures handles { IfOk result (λ r. (r.handles.items ≡ []) × (handles ≤ vec_capacity r.handles)) }
@@ -221,7 +222,7 @@ fn first_ends<A: Monoid, B: Monoid>(
     alloc: Global,
     handles: u32,
 ) -> Result<Vec<End<A, B>>, AllocError>
-    ensures { IfOk result (λ ends. All (λ v. v.kind ≡ 0) ends.items × (vec_len ends ≡ handles)) }
+    ensures { IfOk result (λ ends. All (λ v. v.whose ≡ Nobody) ends.items × (vec_len ends ≡ handles)) }
 {
     let mut ends = Vec::with_capacity(alloc, handles as usize)?;
     for lane in 0..handles {
@@ -242,7 +243,7 @@ fn open_lanes<R: Wait, A: Monoid, B: Monoid>(
     mut ports: Vec<End<A, B>>,
     mut handles: Vec<Handle<A, B>>,
 ) -> (Vec<End<A, B>>, Vec<Handle<A, B>>)
-    requires firsts { All (λ v. v.kind ≡ 0) firsts.items }
+    requires firsts { All (λ v. v.whose ≡ Nobody) firsts.items }
     requires bits { (bits ≤ 16) × ((arc_value round.now).bits ≡ bits) }
     requires together { crew.old.round ≡ arc_value round.now }
     requires none_out { crew.old.handed ≡ 0 }

@@ -8,6 +8,7 @@ ghost use Rattle.aug_trie.specs.Crew.{BeginsRound};
 ghost use Rattle.aug_trie.specs.History.{IsPrefix};
 ghost use Rattle.aug_live.specs.inside.LaneKnowledge.{known_of};
 ghost use Rattle.aug_live.specs.inside.Rolls.{IsOf, IsBackIn, HasCarried, Starts};
+ghost use Rattle.aug_live.specs.declared.known.Whose.TheVariants.{Nobody, Roller, Handle};
 
 use crate::end::End;
 use crate::lane::Lane;
@@ -185,12 +186,12 @@ impl<A: Monoid, B: Monoid> End<A, B> {
     /// Moves the pass of the lane to a new lane, whose first end this is, and cuts that into the roller's end and a new handle's. The old
     /// handle finds its lane given on.
     pub(crate) fn renew<R: Wait>(self, rt: &R, first: End<A, B>) -> (End<A, B>, End<A, B>)
-        requires roller { self.kind ≡ 1 }
+        requires roller { self.whose ≡ Roller }
         requires works { self.works ≡ true }
         requires some { 0 < self.at.era }
-        requires first { first.kind ≡ 0 }
+        requires first { first.whose ≡ Nobody }
         ensures port { IsOf self.at.half.round self.at.era result.0 }
-        ensures handle { (result.1.kind ≡ 2) × (result.1.at ≡ result.0.at) }
+        ensures handle { (result.1.whose ≡ Handle) × (result.1.at ≡ result.0.at) }
     {
         let (out, lane) = self.take_to_roll(rt);
         let (work, lane) = lane.into_work();
@@ -207,7 +208,7 @@ impl<A: Monoid, B: Monoid> End<A, B> {
         round: &Arc<Round<A, B>, Global>,
         crew: &mut Crew<A, B>,
     ) -> (End<A, B>, End<A, B>)
-        requires first { self.kind ≡ 0 }
+        requires first { self.whose ≡ Nobody }
         requires together { crew.old.round ≡ arc_value round.now }
         requires lane_left { crew.old.handed < (arc_value round.now).workers }
         ensures of_round { IsOf (arc_value round.now) 1 result.0 }

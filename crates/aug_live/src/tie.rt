@@ -1,5 +1,6 @@
 //! The rule of a lane's lock.
-ghost use Rattle.aug_live.specs.inside.LaneKnowledge.{KnowsLane, turned, as_kind};
+ghost use Rattle.aug_live.specs.inside.LaneKnowledge.{KnowsLane, turned, given_to};
+ghost use Rattle.aug_live.specs.declared.known.Whose.TheVariants.{Roller, Handle};
 
 use crate::known::Known;
 use crate::lane::Lane;
@@ -36,7 +37,7 @@ impl<A: Monoid, B: Monoid> Outcome<Lane<A, B>, Known<A, B>> for Turn {
 pub(crate) struct Parts;
 
 impl<A: Monoid, B: Monoid> Split<Known<A, B>> for Parts {
-    ghost left = { as_kind 1 };
+    ghost left = { given_to Roller };
 
-    ghost right = { as_kind 2 };
+    ghost right = { given_to Handle };
 }

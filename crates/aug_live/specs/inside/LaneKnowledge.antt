@@ -1,9 +1,11 @@
 -- What lies in a lane, what the passes of its lock know, and the rule between them.
-use Rattle.std.specs.Prelude.{◌≡◌, ◌≢◌, ℕ, ◌+◌, ◌<◌, ◌≤◌, List, [], Option, Some, None, unwrap_or, Bool, false}
+use Rattle.std.specs.Prelude.{◌≡◌, ◌≢◌, ◌⊎◌, ℕ, ◌<◌, List, [], Option, Some, None, unwrap_or, Bool, false}
 use mathlib.Core.Option.{some}
 use lib.ListN.{get_elem?}
 use Rattle.aug_trie.specs.Pass.{PassFacts}
 use Rattle.aug_live.specs.LiveHandles.{HandleFacts, Follows}
+use Rattle.aug_live.specs.declared.known.Whose.{Whose}
+use Rattle.aug_live.specs.declared.known.Whose.TheVariants.{Nobody, Roller, Handle}
 
 -- a pass that there is not
 abbrev pub no_half : PassFacts
@@ -35,23 +37,23 @@ pub record LaneFacts : Type 0 where
   pub works : Bool
   pub at : HandleFacts
 
--- a pass of a lane's lock: whose it is (1 the roller's, 2 the handle's, 0 the first one's, which makes both), and where the lane stood when it put it back
+-- a pass of a lane's lock: whose it is, and where the lane stood when it put it back
 pub record KnownFacts : Type 0 where
-  pub kind : ℕ
+  pub whose : Whose
   pub works : Bool
   pub at : HandleFacts
 
 -- a pass that knows nothing yet
 abbrev pub knows_nothing : KnownFacts
-knows_nothing = record { kind = 0; works = false; at = nothing_known }
+knows_nothing = record { whose = Nobody; works = false; at = nothing_known }
 
 -- what a pass knows that put a lane back
-abbrev pub known_of : ℕ → LaneFacts → KnownFacts
-known_of kind lane = record { kind = kind; works = lane.works; at = lane.at }
+abbrev pub known_of : Whose → LaneFacts → KnownFacts
+known_of whose lane = record { whose = whose; works = lane.works; at = lane.at }
 
 -- a pass becomes the roller's, or the handle's
-abbrev pub as_kind : ℕ → KnownFacts → KnownFacts
-as_kind kind v = record { kind = kind; works = v.works; at = v.at }
+abbrev pub given_to : Whose → KnownFacts → KnownFacts
+given_to whose v = record { whose = whose; works = v.works; at = v.at }
 
 -- the roller knows the lane's round, and whether it has a pass; where it has none, it knows what the last one knew
 pub record Rolls (lane : LaneFacts) (v : KnownFacts) : Type 0 where
@@ -62,17 +64,21 @@ pub record Rolls (lane : LaneFacts) (v : KnownFacts) : Type 0 where
 
 -- what a pass knows of the lane that it takes: the roller its round, the handle that it follows on what it left
 pub record KnowsLane (v : KnownFacts) (lane : LaneFacts) : Type 0 where
-  pub rolls : v.kind ≢ 2 → 0 < v.at.era → Rolls lane v
-  pub follows : v.kind ≢ 1 → 0 < v.at.era → Follows v.at lane.at
+  pub rolls : v.whose ≢ Handle → 0 < v.at.era → Rolls lane v
+  pub follows : v.whose ≢ Roller → 0 < v.at.era → Follows v.at lane.at
 
+-- one of two passes is the roller's, and the other the handle's
+abbrev pub OneEach : KnownFacts → KnownFacts → Type 0
+OneEach v w = ((v.whose ≡ Roller) × (w.whose ≡ Handle)) ⊎ ((v.whose ≡ Handle) × (w.whose ≡ Roller))
+
+-- of any two passes of a lane's lock one is the roller's and the other the handle's, so that there is no third; and each knows what it should
 pub record Ties (lane : LaneFacts) (views : List KnownFacts) : Type 0 where
-  pub kinds : (j : ℕ) (v : KnownFacts) → get_elem? views j ≡ some v → v.kind ≤ 2
-  pub pairs : (i j : ℕ) (v w : KnownFacts) → i ≢ j → get_elem? views i ≡ some v → get_elem? views j ≡ some w → v.kind + w.kind ≡ 3
+  pub pairs : (i j : ℕ) (v w : KnownFacts) → i ≢ j → get_elem? views i ≡ some v → get_elem? views j ≡ some w → OneEach v w
   pub known : (j : ℕ) (v : KnownFacts) → get_elem? views j ≡ some v → KnowsLane v lane
 
 -- who puts a lane back knows it
 abbrev pub turned : KnownFacts → LaneFacts → LaneFacts → KnownFacts → Type 0
-turned v old new w = w ≡ known_of v.kind new
+turned v old new w = w ≡ known_of v.whose new
 
 -- what a handle makes of a lane: nothing if no pass lies in it, and else it leaves a pass of the same round
 pub record Worked (old new : LaneFacts) : Type 0 where

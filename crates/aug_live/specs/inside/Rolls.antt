@@ -7,17 +7,18 @@ use Rattle.aug_trie.specs.Round.{RoundFacts}
 use Rattle.aug_live.specs.Carrying.{Carried}
 use Rattle.aug_live.specs.LiveHandles.{HandleFacts}
 use Rattle.aug_live.specs.inside.LaneKnowledge.{KnownFacts}
+use Rattle.aug_live.specs.declared.known.Whose.TheVariants.{Roller, Handle}
 
 -- the roller knows that a pass of this round, in this era, lies in the lane
 pub record IsOf (round : RoundFacts) (era : ℕ) (v : KnownFacts) : Type 0 where
-  pub kind : v.kind ≡ 1
+  pub whose : v.whose ≡ Roller
   pub works : v.works ≡ true
   pub era_is : v.at.era ≡ era
   pub round_is : v.at.half.round ≡ round
 
 -- the pass of the lane went back to its crew: all that it knew is in the history
 pub record IsBackIn (round : RoundFacts) (era : ℕ) (history : List Cut) (v : KnownFacts) : Type 0 where
-  pub kind : v.kind ≡ 1
+  pub whose : v.whose ≡ Roller
   pub works : v.works ≡ false
   pub era_is : v.at.era ≡ era
   pub round_is : v.at.half.round ≡ round
@@ -25,7 +26,7 @@ pub record IsBackIn (round : RoundFacts) (era : ℕ) (history : List Cut) (v : K
 
 -- and it is carried into the set that the round ended with
 pub record HasCarried (bits era : ℕ) (members : List (ℕ × ℕ)) (v : KnownFacts) : Type 0 where
-  pub kind : v.kind ≡ 1
+  pub whose : v.whose ≡ Roller
   pub works : v.works ≡ false
   pub era_is : v.at.era ≡ era
   pub bits_are : v.at.half.round.bits ≡ bits
@@ -39,13 +40,13 @@ pub record IsNewPass (round : RoundFacts) (pass : PassFacts) : Type 0 where
 
 -- a handle of the first round begins with such a pass
 pub record Starts (round : RoundFacts) (v : KnownFacts) : Type 0 where
-  pub kind : v.kind ≡ 2
+  pub whose : v.whose ≡ Handle
   pub era_is : v.at.era ≡ 1
   pub fresh : IsNewPass round v.at.half
 
 -- a handle's end of a lane in which a pass lies, of a round with these bits
 pub record IsHandleEnd (bits : ℕ) (v : KnownFacts) : Type 0 where
-  pub kind : v.kind ≡ 2
+  pub whose : v.whose ≡ Handle
   pub some_era : 0 < v.at.era
   pub bits_are : v.at.half.round.bits ≡ bits
   pub few_bits : bits ≤ 16

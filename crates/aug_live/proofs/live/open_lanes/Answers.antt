@@ -3,6 +3,7 @@ use Rattle.std.specs.Arc.{arc_value}
 use Rattle.std.specs.Vec.Iter.{into_iter_len}
 use Rattle.aug_live.specs.inside.LaneKnowledge.{KnownFacts}
 use Rattle.aug_live.specs.inside.Rolls.{IsOf, IsFirst}
+use Rattle.aug_live.specs.declared.known.Whose.TheVariants.{Nobody}
 use Rattle.aug_live.proofs.Moving.{head_of, tail_of, one_more}
 use Rattle.aug_live.proofs.live.open_lanes.Goals as goal
 
@@ -11,7 +12,7 @@ open-port-requires g c =
     let was = c.loop-first.invariant in let step = c.in-Some.ensures.steps in
     let some : 0 < into_iter_len c.loop-first.first-iterator = omega (arith, step.1) in
     record {
-      first = head_of (λ (v : KnownFacts). v.kind ≡ 0) _ c.in-Some.first _ _ step.0 some was.1;
+      first = head_of (λ (v : KnownFacts). v.whose ≡ Nobody) _ c.in-Some.first _ _ step.0 some was.1;
       together = was.3;
       lane_left = omega (arith, was.0, was.5, some, c.requires.lanes);
     }
@@ -22,7 +23,7 @@ loop-first-preserved g c =
     let grown : vec_len c.push_reserved.new.self ≡ vec_len c.loop-first.ports + 1 = c.push_reserved.ensures.len in
     let longer : vec_len c.push_reserved-in-loop-first.new.self ≡ vec_len c.loop-first.handles + 1 = c.push_reserved-in-loop-first.ensures.len in (
       search rules,
-      tail_of (λ (v : KnownFacts). v.kind ≡ 0) _ _ _ _ _ step.0 step.1 was.1,
+      tail_of (λ (v : KnownFacts). v.whose ≡ Nobody) _ _ _ _ _ step.0 step.1 was.1,
       one_more (IsOf (arc_value c.args.round.now) 1) _ _ _ c.push_reserved.ensures.items was.2 opened.of_round,
       opened.round ∙ was.3,
       search rules,

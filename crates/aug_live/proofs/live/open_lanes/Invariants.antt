@@ -2,13 +2,14 @@ use Rattle.std.specs.Prelude.{◌≡◌, ℕ, ◌+◌, ◌<◌, ◌≤◌, get_o
 use Rattle.std.specs.Arc.{arc_value}
 use Rattle.std.specs.Vec.Iter.{into_iter_items, into_iter_len}
 use Rattle.aug_live.specs.inside.Rolls.{IsOf, IsFirst}
+use Rattle.aug_live.specs.declared.known.Whose.TheVariants.{Nobody}
 use Rattle.aug_live.proofs.live.open_lanes.Given as goal
 
 abbrev pub invariant-loop-first : goal.invariant-loop-first
 invariant-loop-first g l =
     let n = vec_len l.ports in let rest = l.first-iterator in let all = l.initial.first-iterator in
     (n + into_iter_len rest ≡ into_iter_len all)
-    × ((k : ℕ) (d : _) → k < into_iter_len rest → (get_or (into_iter_items rest) k d).kind ≡ 0)
+    × ((k : ℕ) (d : _) → k < into_iter_len rest → (get_or (into_iter_items rest) k d).whose ≡ Nobody)
     × All (IsOf (arc_value l.round) 1) l.ports.items
     × (l.crew.round ≡ arc_value l.round)
     × (into_iter_len all ≤ vec_capacity l.ports)

@@ -7,5 +7,5 @@ pub put-requires-clause-holds : goal.put-requires-clause-holds
 put-requires-clause-holds g c = let o = c.self.inside.pass.me.0.taken in (
   taken_by o,
   (what_is o _ c.self.invariant.1, c.self.invariant.2),
-  λ views ties at. first_turns _ _ (taken_by o) c.args.lane views ties at (ap (λ (z : OutFacts). z.known.kind) c.self.view_is ∙ c.requires.first),
+  λ views ties at. first_turns _ _ (taken_by o) c.args.lane views ties at (ap (λ (z : OutFacts). z.known.whose) c.self.view_is ∙ c.requires.first),
 )

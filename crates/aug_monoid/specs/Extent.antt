@@ -7,10 +7,6 @@ abbrev pub IsBoundsOrNone : Option (ℕ × ℕ) → Type 0
 IsBoundsOrNone None = Unit {0}
 IsBoundsOrNone (Some b) = (b.0 ≤ b.1) × (b.0 < 2 ^ 32) × (b.1 < 2 ^ 32)
 
--- the smaller least and the greater greatest
-abbrev pub spanned_by : ℕ × ℕ → ℕ × ℕ → ℕ × ℕ
-spanned_by x y = (min x.0 y.0, max x.1 y.1)
-
 -- the least in the upper half and the greatest in the lower; 2^32, which is the word of no bounds, for none
 abbrev pub word_of_bounds : Option (ℕ × ℕ) → ℕ
 word_of_bounds None = 2 ^ 32
@@ -30,7 +26,7 @@ extent_parts = record {
   IsProper = IsBoundsOrNone;
   unit = None;
   of_key = λ k _. Some (k, k);
-  join = joined_by spanned_by;
+  join = joined_by (λ x y. (min x.0 y.0, max x.1 y.1));
   to_word = word_of_bounds;
   from_word = bounds_of_word;
 }

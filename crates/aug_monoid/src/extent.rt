@@ -1,7 +1,7 @@
 //! The least and the greatest of the keys, together.
 ghost use Rattle.std.specs.Prelude.{◌≡◌, ◌↔◌, ◌≤◌, IsTrue, IfSome, None, Some, refl};
-ghost use Rattle.aug_monoid.specs.Extent.{IsBoundsOrNone, spanned_by, extent_parts};
-ghost use Rattle.aug_monoid.specs.inside.ExtentLaws.{one_key-is_bounds, spanned_by-is_bounds, spanned_by-assoc, bounds_of_word-is_bounds, word_of_bounds-fits, bounds_of_word-word_of_bounds};
+ghost use Rattle.aug_monoid.specs.Extent.{IsBoundsOrNone, extent_parts};
+ghost use Rattle.aug_monoid.specs.inside.ExtentLaws.{one_key-is_bounds, spanned_by, spanned_by-is_bounds, spanned_by-assoc, bounds_of_word-is_bounds, word_of_bounds-fits, bounds_of_word-word_of_bounds};
 ghost use Rattle.aug_monoid.specs.inside.JoinedLaws.{joined_by-is_proper, joined_by-none_right, joined_by-assoc};
 
 use crate::Monoid;

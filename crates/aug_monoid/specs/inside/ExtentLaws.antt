@@ -1,10 +1,14 @@
 -- `spanned_by` makes bounds of bounds and is associative, and words give back the bounds that they were made of.
-use Rattle.std.specs.Prelude.{◌≡◌, ℕ, ◌+◌, ◌*◌, ◌/◌, ◌%◌, ◌^◌, ◌<◌, ◌≤◌, Bool, true, false, Option, Some, None, nat_le, if◌then◌else◌, refl}
+use Rattle.std.specs.Prelude.{◌≡◌, ℕ, ◌+◌, ◌*◌, ◌/◌, ◌%◌, ◌^◌, ◌<◌, ◌≤◌, min, max, Bool, true, false, Option, Some, None, nat_le, if◌then◌else◌, refl}
 use Rattle.std.proofs.Common.{arith, inl, inr}
 use Rattle.std.proofs.lemmas.Bool.{le-leb, leb-true}
-use Rattle.aug_monoid.specs.Extent.{IsBoundsOrNone, spanned_by, word_of_bounds, bounds_of, bounds_of_word}
+use Rattle.aug_monoid.specs.Extent.{IsBoundsOrNone, word_of_bounds, bounds_of, bounds_of_word}
 use Rattle.aug_monoid.specs.inside.HeldBounds.{held_bounds, AreHeld}
 use Rattle.aug_monoid.specs.inside.JoinedLaws.{min-assoc, max-assoc}
+
+-- the smaller least and the greater greatest
+abbrev pub spanned_by : ℕ × ℕ → ℕ × ℕ → ℕ × ℕ
+spanned_by x y = (min x.0 y.0, max x.1 y.1)
 
 -- one key is its own least and greatest
 pub one_key-is_bounds : (k : ℕ) → k < 2 ^ 32 → IsBoundsOrNone (Some (k, k))

@@ -4,7 +4,8 @@ import collections
 import difflib
 import re
 
-# A function: its path as a check prints it, as `crate::module::Type::name`; what `rt check --only` is given for it in tools/quick (its module, if it is of an
+# A function: its path as a check prints it, as `crate::module::name` or, of an impl of a trait, `crate::module::TypeTrait::name`, and of another method its end
+# `Type::name`, since that is printed with the module of the type; what `rt check --only` is given for it in tools/quick (its module, if it is of an
 # impl of a trait; nothing, if a trait declares it); its own name; its signature with its contract; its body; and the numbers of its lines, from 0 on.
 Function = collections.namedtuple("Function", "path only name head body lines")
 
@@ -22,13 +23,13 @@ def module_of(path):
 
 
 def owner_of(kind, text, module):
-    """The path of what an `impl`, a `trait` or a `mod` holds: `module::Type`, or `module::TypeTrait` for an impl of a trait."""
+    """The path of what an `impl` or a `trait` holds: `Type`, or `module::TypeTrait` for an impl of a trait."""
     text, count = text.replace("->", ""), 1
     while count:
         text, count = re.subn(r"<[^<>]*>", "", text)
     of, _, type_ = re.split(r"\bwhere\b", text)[0].partition(" for ")
     names = [it.strip().rpartition("::")[2] for it in ((type_, of) if type_ else (of,))]
-    return f"{module}::{''.join(names)}" if kind != "mod" else f"{module}::{text.strip()}"
+    return names[0] if kind == "impl" and not type_ else f"{module}::{''.join(names)}"
 
 
 def functions(path, text):
@@ -41,8 +42,7 @@ def functions(path, text):
         if kind == "mod":
             continue
         where = owner_of(kind, of, module) if kind else module
-        is_plain = kind == "impl" and " for " not in of
-        only = {"": f"{module}::{it[2]}", "impl": f"{where.rpartition('::')[2]}::{it[2]}" if is_plain else module, "trait": ""}[kind]
+        only = {"": f"{module}::{it[2]}", "impl": f"{where}::{it[2]}" if "::" not in where else module, "trait": ""}[kind]
         lines = range(text.count("\n", 0, it.start()), text.count("\n", 0, it.end()) + 1)
         found.append(Function(f"{where}::{it[2]}", only, it[2], tuple(lines_of(it[3])), tuple(lines_of(it[4] or "")), lines))
     return module, found, [line for line in lines_of(FN.sub("", text)) if not re.match(r"#!?\[|(pub |ghost )*(use|mod) ", line)]

@@ -112,7 +112,7 @@ class Crate:
                 file.write(text)
 
     def check(self, texts, functions, jobs):
-        """What a check of some functions says over these texts: each function's word and reason, and all of it."""
+        """What a check of some functions says over these texts: each function's word and reason, by the name that it was asked for by, and all of it."""
         flags = ["--jobs", str(jobs), *(word for it in sorted(functions) for word in ("--only", it))]
         with tempfile.TemporaryDirectory(prefix="edits-") as room:
             self.copy(room)
@@ -122,7 +122,8 @@ class Crate:
             said = subprocess.run(words, **how).stdout
         if not ENDED.search(said) or self.rt.rtlib.STALE.search(said):
             return {}, said
-        return {path: (word, why) for path, word, why in SAID.findall(said)}, said
+        asked = lambda path: next((it for it in functions if path == it or path.endswith(f"::{it}")), path)
+        return {asked(path): (word, why) for path, word, why in SAID.findall(said)}, said
 
     def try_group(self, edits, jobs):
         """Tries edits in one check, and returns those that it does not judge."""
@@ -145,8 +146,8 @@ class Crate:
 
     def reason(self, path, word, said):
         """Why a function is not proved, in a line."""
-        folder = f"proofs/{'/'.join(path.split('::')[1:])}/"
-        told = [line for line in said.splitlines() if line.removeprefix("./").startswith(folder) and ": error" in line]
+        folder = "/".join(path.split("::")[-2:])
+        told = [line for line in said.splitlines() if re.match(rf"(\./)?proofs/(.*/)?{folder}/[^/]*: error", line)]
         if told and all(map(NAMES_WHAT_IS_GONE.search, told)):
             return f"(only because a proof file names what the edit took away, so this says little of the contract: change a value and keep the names): {told[0][:160]}"
         return (told[0] if told else f"fn {path}: {word[0]}: {word[1]}")[:160]

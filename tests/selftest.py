@@ -730,19 +730,20 @@ pub unsafe extern "C" fn shelf_take() -> u32 {
         return bodies.with_other_bodies("crates/low/src/shelves/shelf.rt", self.TEXT, self.TEXT.replace(old, new))
 
     def test_each_kind_of_function_has_its_path(self):
-        for old, path in ("one()", "Shelf::take"), ("two()", "ShelfOrdered::first"), ("three()", "shelf_take"):
-            self.assertEqual(self.changed(old, "other()"), {f"low::shelves::shelf::{path}"})
+        module = "low::shelves::shelf"
+        for old, path in ("one()", "Shelf::take"), ("two()", f"{module}::ShelfOrdered::first"), ("three()", f"{module}::shelf_take"):
+            self.assertEqual(self.changed(old, "other()"), {path})
 
     def test_what_changes_more_than_bodies_is_none(self):
         for old, new in ("result <= 9", "result <= 8"), ("struct Shelf;", "struct Shelf(u32);"), ("fn first", "fn last"):
             self.assertEqual(self.changed(old, new), set())
 
     def test_function_that_is_added_is_not_named(self):
-        self.assertEqual(self.changed("        one()\n    }", "        other()\n    }\n\n    fn other() {\n    }"), {"low::shelves::shelf::Shelf::take"})
+        self.assertEqual(self.changed("        one()\n    }", "        other()\n    }\n\n    fn other() {\n    }"), {"Shelf::take"})
 
     def test_function_around_a_change(self):
         after = self.TEXT.replace("result <= 9", "result <= 8")
-        self.assertEqual(bodies.enclosing("crates/low/src/lib.rt", self.TEXT, after), {"low::Shelf::take"})
+        self.assertEqual(bodies.enclosing("crates/low/src/lib.rt", self.TEXT, after), {"Shelf::take"})
 
 
 class MustFail(InFolder):

@@ -3,12 +3,12 @@
 
 usage: tests/must_fail.py [CRATE | CRATE/EDIT ..], once `rt ci` or `rt lib` has built the libraries. EDIT is a name without its `.edit`
 
-Each edit has to be refused, as under `rt must-fail`, which checks the whole crate anew for each of them. That takes over half an hour of a processor in a
-large crate. Here the edits of a crate go into groups, so that no function is changed by two of a group, and a group is one check of the functions
-that it changes and of those that they call (`rt check --only`). An edit is refused if a function that it changes is not proved, for a reason of
-its own. Other edits of the group are no such reason: the proof of a function sees the contracts of what it calls, and neither their bodies nor their proofs.
-A function that a group does not change has to be proved in it, or else only wait for one that the group changes. If it is not so, or if the group cannot
-be read, its edits are tried one by one.
+Each edit has to be refused, as under `rt must-fail`, which checks the whole crate once for each of them. Here the edits of a crate go into
+groups, so that no function is changed by two of a group, and a group is one check of the functions that it changes and of those that they call (`rt check
+--only`). An edit is refused if a function that it changes is not proved, for a reason of its own. Other edits of the group are no such reason: the
+proof of a function sees the contracts of what it calls, and neither their bodies nor their proofs. A function that calls one of these is not
+judged in that check; its edit goes into the next group. A function that a group does not change has to be proved in it, or only wait for one that
+the group changes. If it is not so, or if the group cannot be read, its edits are tried one by one.
 
 What changes more than bodies is tried by itself, in a check of the functions around it. What no function refused by then, such as a wrong
 definition, is tried as `rt must-fail` does it.
@@ -30,10 +30,11 @@ from bodies import enclosing, with_other_bodies
 
 TOP = os.path.dirname(os.path.dirname(os.path.abspath(__file__)))
 
-# A line of a check on a function: its path, and why it is not proved.
-SAID = re.compile(r"^fn (\S+): (proved|not proved|no proof)(?:: (.*))?$", re.M)
-# The reason that is not the function's own.
-OF_CALLED = re.compile(r"it calls `")
+# A line of a check on a function: its path, and what is said of it.
+SAID = re.compile(r"^fn (\S+): (.*)$", re.M)
+# What is said of a function that is not proved for a reason of its own, and of one that waits for those that it calls.
+REFUSED = re.compile(r"(not proved|no proof)(?!(; |: )it calls `)")
+WAITS = re.compile(r"(not proved; |no proof: )it calls `")
 # The last line of a check of some functions that came to its end.
 ENDED = re.compile(r"^only=(\d+) proved=(\d+)\s*\Z", re.M)
 # What a file of proofs says where the edit took away what it names.
@@ -74,17 +75,13 @@ class Crate:
             functions |= changed or (enclosing(place, before, text) if path.startswith("src/") else set())
         return Edit(file, os.path.basename(file), texts, frozenset(functions), is_of_bodies)
 
-    def groups(self):
-        """The edits of bodies in groups, in each of which no function is changed twice and each edit can still be applied."""
-        groups = []
-        for edit in (it for it in self.edits if it.is_of_bodies):
-            for group in groups:
-                if not any(it.functions & edit.functions for it in group) and self.applied([*group, edit]) is not None:
-                    group.append(edit)
-                    break
-            else:
-                groups.append([edit])
-        return groups
+    def next_group(self, edits):
+        """The first of some edits of bodies and those of the others that fit into one group with it: no function is changed twice, and each can still be applied."""
+        group = []
+        for edit in edits:
+            if not any(it.functions & edit.functions for it in group) and self.applied([*group, edit]) is not None:
+                group.append(edit)
+        return group
 
     def applied(self, edits):
         """The texts of the files that some edits change, one after another, or nothing if one of them cannot be applied then."""
@@ -112,7 +109,7 @@ class Crate:
                 file.write(text)
 
     def check(self, texts, functions, jobs):
-        """What a check of some functions says over these texts: each function's word and reason, by the name that it was asked for by, and all of it."""
+        """What a check of some functions says over these texts: what it says of each function, by the name that it was asked for by, and all of it."""
         flags = ["--jobs", str(jobs), *(word for it in sorted(functions) for word in ("--only", it))]
         with tempfile.TemporaryDirectory(prefix="edits-") as room:
             self.copy(room)
@@ -123,26 +120,27 @@ class Crate:
         if not ENDED.search(said) or self.rt.rtlib.STALE.search(said):
             return {}, said
         asked = lambda path: next((it for it in functions if path == it or path.endswith(f"::{it}")), path)
-        return {asked(path): (word, why) for path, word, why in SAID.findall(said)}, said
+        return {asked(path): word for path, word in SAID.findall(said)}, said
 
     def try_group(self, edits, jobs):
-        """Tries edits in one check, and returns those that it does not judge."""
+        """Tries edits in one check. Returns those that have to wait for another check, and those that it let through or could not judge."""
         changed = frozenset().union(*(it.functions for it in edits))
         texts = self.applied(edits)
         if not changed or texts is None:
-            return edits
+            return [], edits
         words, said = self.check(texts, changed, jobs)
-        for path, (word, why) in words.items():
-            if path not in changed and word != "proved" and not OF_CALLED.match(why):
-                return edits
-        left = []
+        if any(path not in changed and REFUSED.match(word) for path, word in words.items()):
+            return [], edits
+        waiting, left = [], []
         for edit in edits:
-            own = [path for path in sorted(edit.functions) if words.get(path, ("proved", ""))[0] != "proved" and not OF_CALLED.match(words[path][1])]
+            own = [path for path in sorted(edit.functions) if REFUSED.match(words.get(path, ""))]
             if own:
                 self.tell(edit.file, True, f"refused, as it must be: {self.reason(own[0], words[own[0]], said)}")
+            elif len(edits) > 1 and any(WAITS.match(words.get(path, "")) for path in edit.functions):
+                waiting.append(edit)
             else:
                 left.append(edit)
-        return left
+        return waiting, left
 
     def reason(self, path, word, said):
         """Why a function is not proved, in a line."""
@@ -150,7 +148,7 @@ class Crate:
         told = [line for line in said.splitlines() if re.match(rf"(\./)?proofs/(.*/)?{folder}/[^/]*: error", line)]
         if told and all(map(NAMES_WHAT_IS_GONE.search, told)):
             return f"(only because a proof file names what the edit took away, so this says little of the contract: change a value and keep the names): {told[0][:160]}"
-        return (told[0] if told else f"fn {path}: {word[0]}: {word[1]}")[:160]
+        return (told[0] if told else f"fn {path}: {word}")[:160]
 
     def try_alone(self, edit, jobs):
         """Tries an edit by itself, in a check of the whole crate, as `rt must-fail` does."""
@@ -161,12 +159,17 @@ class Crate:
 
     def try_all(self, jobs):
         """Tries all edits, and returns of each whether it is refused, and what to say."""
+        rest, alone = [it for it in self.edits if it.is_of_bodies], [it for it in self.edits if not it.is_of_bodies]
         left = []
-        for group in self.groups():
-            rest = self.try_group(group, jobs)
-            # (what a group that was not judged holds may be judged one by one)
-            left += [edit for it in rest for edit in self.try_group([it], jobs)] if len(rest) == len(group) > 1 else rest
-        left += [edit for it in self.edits if not it.is_of_bodies for edit in self.try_group([it], jobs)]
+        while rest:
+            group = self.next_group(rest)
+            waiting, through = self.try_group(group, jobs)
+            is_judged = len(waiting) + len(through) < len(group)
+            # what a group that was not judged holds may be judged one by one
+            alone, left = (alone, left + through) if is_judged or len(group) == 1 else (alone + waiting + through, left)
+            rest = [it for it in rest if it not in group] + (waiting if is_judged else [])
+        for edit in alone:
+            left += self.try_group([edit], jobs)[1]
         for edit in left:
             self.try_alone(edit, jobs)
         return [self.said[file] for file in sorted(self.said)]

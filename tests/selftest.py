@@ -749,7 +749,7 @@ pub unsafe extern "C" fn shelf_take() -> u32 {
 class MustFail(InFolder):
     """tests/must_fail.py tries many edits in one check, each of which a function that it changes has to refuse."""
 
-    SOURCE = "fn one() {\n    a();\n}\n\nfn two() {\n    b();\n}\n\nfn three() {\n    one();\n}\n"
+    SOURCE = "fn one() {\n    a();\n}\n\nfn two() {\n    b();\n}\n\nfn three() {\n    one();\n}\n\nfn four() {\n    d();\n}\n"
 
     # Stands in for the prover: it does not prove a function whose body says that it is wrong, nor one that calls such a function, nor any where `all` stands.
     PROVER = """#!/usr/bin/env python3
@@ -762,7 +762,7 @@ bodies = dict(re.findall(r"fn (\\w+)\\(\\) {{\\n(.*?)\\n}}", text, re.S))
 wrong = [it for it in bodies if "wrong" in bodies[it] or "all" in text]
 for it in bodies:
     called = [of for of in wrong if of + "()" in bodies[it]]
-    print(f"fn low::{{it}}: " + ("not proved" if it in wrong else f"no proof: it calls `{{called[0]}}`, which is not proved" if called else "proved"))
+    print(f"fn low::{{it}}: " + (f"not proved; it calls `{{called[0]}}`, which is not proved" if called else "not proved" if it in wrong else "proved"))
 print("only=3 proved=1")
 """
 
@@ -803,6 +803,10 @@ print("only=3 proved=1")
     def test_edits_of_one_function_take_two_checks(self):
         status, said, ran, alone = self.run_edits(("src/lib.rt", "a();", "wrong();"), ("src/lib.rt", "a();", "wrong(2);"))
         self.assertEqual((status, said.splitlines()[-1], ran, alone), (0, "2 passed, 0 failed", ["low::one"] * 2, []))
+
+    def test_edit_of_a_caller_waits_for_the_next_check(self):
+        status, said, ran, alone = self.run_edits(("src/lib.rt", "a();", "wrong();"), ("src/lib.rt", "    one();", "    one(); wrong();"))
+        self.assertEqual((status, said.splitlines()[-1], ran, alone), (0, "2 passed, 0 failed", ["low::one low::three", "low::three"], []))
 
     def test_edit_that_is_proved_fails(self):
         status, said, _, alone = self.run_edits(("src/lib.rt", "a();", "c();"), ("src/lib.rt", "b();", "wrong();"))

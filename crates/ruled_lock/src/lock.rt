@@ -10,6 +10,7 @@ use std::alloc::{AllocError, Global};
 use std::marker::PhantomData;
 use std::sync::Wait;
 
+/// The rule of a lock's table: `P` is the caller's rule, which holds for the value whenever the lock is free.
 pub struct Locked<P> {
     rule: PhantomData<P>,
 }

@@ -1,7 +1,6 @@
-#!/usr/bin/env python3
 """Tries the must-fail edits of the crates, many of them in one check.
 
-usage: tests/must_fail.py [CRATE | CRATE/EDIT ..], once `rt ci` or `rt lib` has built the libraries. EDIT is a name without its `.edit`
+usage: python3 tests/must_fail.py [CRATE | CRATE/EDIT ..], once `rt lib` has built the libraries below. EDIT is a name without its `.edit`
 
 Each edit has to be refused, as under `rt must-fail`, which checks the whole crate once for each of them. Here the edits of a crate go into
 groups, so that no function is changed by two of a group, and a group is one check of the functions that it changes and of those that they call (`rt check
@@ -45,19 +44,12 @@ Edit = collections.namedtuple("Edit", "file label texts functions is_of_bodies")
 
 
 class Crate:
-    """A crate with its edits, which are tried in a folder that keeps what one check after another proved."""
+    """A crate with some of its edits, which are tried in a folder that keeps what one check after another proved."""
 
-    def __init__(self, rt, crate, kept, asked=()):
-        """With names of edits, these alone."""
+    def __init__(self, rt, crate, kept, files):
         self.rt, self.crate, self.kept = rt, crate, kept
         self.said = {}
-        found, bad = rt.edits_of(crate)
-        for path in bad:
-            self.tell(path, False, "BAD EDIT: an edit stands right in must-fail/, and its name ends in .edit")
-        files = {os.path.basename(it)[: -len(".edit")]: it for it in found}
-        for name in set(asked) - set(files):
-            self.tell(name, False, "there is no such edit")
-        self.edits = [it for it in map(self.read, (files[it] for it in files if it in asked or not asked)) if it]
+        self.edits = [it for it in map(self.read, files) if it]
 
     def tell(self, file, is_refused, text):
         self.said[file] = is_refused, f"must-fail {self.crate.name}/{os.path.basename(file)}: {text}"
@@ -158,7 +150,7 @@ class Crate:
         self.said[edit.file] = is_refused, text
 
     def try_all(self, jobs):
-        """Tries all edits, and returns of each whether it is refused, and what to say."""
+        """Tries all edits."""
         rest, alone = [it for it in self.edits if it.is_of_bodies], [it for it in self.edits if not it.is_of_bodies]
         left = []
         while rest:
@@ -172,7 +164,23 @@ class Crate:
             left += self.try_group([edit], jobs)[1]
         for edit in left:
             self.try_alone(edit, jobs)
-        return [self.said[file] for file in sorted(self.said)]
+
+
+def tried(rt, crate, files, jobs=1):
+    """Tries edits of a crate. Of each whether it is refused, and what to say."""
+    with tempfile.TemporaryDirectory(prefix="edits-kept-") as kept:
+        edits = Crate(rt, crate, kept, files)
+        edits.try_all(jobs)
+    return [edits.said[it] for it in files]
+
+
+def files_of(rt, crate, asked):
+    """The files of the edits of a crate, or of those that are asked for by their names, and what is wrong with others."""
+    found, bad = rt.edits_of(crate)
+    files = {os.path.basename(it)[: -len(".edit")]: it for it in found}
+    wrong = [f"must-fail {crate.name}/{os.path.basename(it)}: BAD EDIT: an edit stands right in must-fail/, and its name ends in .edit" for it in bad]
+    wrong += [f"must-fail {crate.name}/{it}: there is no such edit" for it in asked if it not in files]
+    return [files[it] for it in files if it in asked or not asked], wrong
 
 
 def main(names, rt=None, top=TOP):
@@ -187,11 +195,9 @@ def main(names, rt=None, top=TOP):
     rt.rtlib.guarded()
 
     def try_crate(crate, jobs):
-        for below in crate.below():
-            if not os.path.isdir(below.rlib):
-                return [(False, f"must-fail {crate.name}: its library {below.name} is not built")]
-        with tempfile.TemporaryDirectory(prefix="edits-kept-") as kept:
-            said = Crate(rt, crate, kept, asked[crate.name]).try_all(jobs)
+        files, wrong = files_of(rt, crate, asked[crate.name])
+        wrong += [f"must-fail {crate.name}: its library {it.name} is not built" for it in crate.below() if not os.path.isdir(it.rlib)]
+        said = [*((False, it) for it in wrong), *(tried(rt, crate, files, jobs) if not wrong else [])]
         for _, text in said:
             print(text, flush=True)
         return said

@@ -12,9 +12,11 @@ import os
 import subprocess
 import sys
 import unittest
+import unittest.mock
 
 import bodies
 import edits
+import gate
 import must_fail
 import programs
 import promises
@@ -850,6 +852,25 @@ print("only=3 proved=1")
         self.assertIn("crates.txt has no two", said.getvalue())
 
 
+class OfTheToolchain(unittest.TestCase):
+    """tests/gate.py has `rt ci` try edits by tests/must_fail.py, and one by one if that fails."""
+
+    def answer(self, tried):
+        crate, files = SimpleNamespace(name="low"), ["b.edit", "a.edit"]
+        rt = SimpleNamespace(must_fail_all=lambda crate, edits, flags: [(True, f"{it} alone") for it in edits])
+        rt.ci = lambda: rt.must_fail_all(crate, files, ["--jobs", "1"])
+        with unittest.mock.patch.object(gate.must_fail, "tried", tried), contextlib.redirect_stdout(io.StringIO()) as said:
+            return gate.main(rt), said.getvalue()
+
+    def test_edits_are_tried_in_groups(self):
+        self.assertEqual(self.answer(lambda rt, crate, files: [(False, it) for it in files]), ([(False, "b.edit"), (False, "a.edit")], ""))
+
+    def test_groups_that_fail(self):
+        answer, said = self.answer(lambda rt, crate, files: [][0])
+        self.assertEqual(answer, [(True, "b.edit alone"), (True, "a.edit alone")])
+        self.assertIn("gate.py: the edits of low are tried one by one", said)
+
+
 class Gate(InFolder):
     """.ci/run adds up what each of its commands counts, and tests each program as each compiler built it."""
 
@@ -861,35 +882,28 @@ class Gate(InFolder):
         with open(os.path.join(TOP, ".ci", "run"), encoding="utf-8") as file:
             self.write(".ci/run", file.read(), 0o755)
         entries = [it for it in os.scandir(TESTS) if it.is_file() and os.access(it.path, os.X_OK)]
-        self.scripts = sorted(it.name for it in entries)
+        self.scripts = sorted(it.name for it in entries if it.name != "gate.py")
         for name in self.scripts:
             self.write(f"tests/{name}", f'#!/bin/sh\necho "{name} $*" >>{self.folder}/ran\necho "10 passed, 0 failed"\n', 0o755)
 
     def run_gate(self, said="7 passed, 0 failed", status=0, built=("augtrie", "augbench")):
-        """Runs it with an rt that says so and ends so: its last line, its status, and what it ran."""
+        """Runs it with a gate.py that says so and ends so: its last line, its status, and what it ran."""
         for name in "augtrie", "augbench":
             self.write(f"crates/{name}/out/{name}", "", 0o755)
         for name in built:
             self.write(f"crates/{name}/out/{name}.by-rattle", "", 0o755)
-        self.write("crates/augtrie/must-fail/one.edit", "")
         self.write("said", said + "\n")
         self.write("ran", "")
-        self.write("bin/rt", f'#!/bin/sh\necho "rt $*" $(ls -d crates/*/must-fail) >>{self.folder}/ran\ncat said\nexit {status}\n', 0o755)
-        path = f"{self.folder}/bin:{os.environ['PATH']}"
-        ran = subprocess.run([os.path.join(self.folder, ".ci", "run")], env={**os.environ, "PATH": path}, stdout=subprocess.PIPE, timeout=SECONDS)
+        self.write("tests/gate.py", f'#!/bin/sh\necho "gate.py $*" >>{self.folder}/ran\ncat said\nexit {status}\n', 0o755)
+        ran = subprocess.run([os.path.join(self.folder, ".ci", "run")], stdout=subprocess.PIPE, timeout=SECONDS)
         with open(os.path.join(self.folder, "ran"), encoding="utf-8") as file:
             return ran.stdout.decode().splitlines()[-1], ran.returncode, file.read().splitlines()
 
     def test_runs_every_script(self):
         line, status, ran = self.run_gate()
-        self.assertEqual(ran[0], "rt ci")
+        self.assertEqual(ran[0], "gate.py ")
         self.assertEqual(sorted(row.split()[0] for row in ran[1:]), self.scripts)
         self.assertEqual((line, status), (f"{7 + 10 * len(self.scripts)} passed, 0 failed", 0))
-
-    def test_edits_are_there_for_the_scripts_alone(self):
-        self.write("tests/must_fail.py", f"#!/bin/sh\nls -d crates/*/must-fail/* >>{self.folder}/ran\necho 1 passed, 0 failed\n", 0o755)
-        ran = self.run_gate()[2]
-        self.assertEqual(ran[:2], ["rt ci", "crates/augtrie/must-fail/one.edit"])
 
     def test_failures_are_added_up(self):
         self.write("tests/refused.py", "#!/bin/sh\necho 3 passed, 2 failed\nexit 1\n", 0o755)

@@ -5,7 +5,7 @@ use Rattle.aug_core.specs.Lanes.{first_record, IsOfLane, block_start, block_size
 use Rattle.aug_core.specs.inside.Refreshes.{SaysLoaded}
 use Rattle.aug_core.specs.Told.{HoldsOnly, held_word, on_first, with_word, storing, IsFilled}
 use Rattle.aug_core.specs.declared.view.Held.{Held}
-use Rattle.aug_core.specs.declared.view.View.{View}
+use Rattle.aug_core.specs.declared.view.SeatView.{SeatView}
 use Rattle.aug_core.proofs.Sizes.{in_block}
 use Rattle.aug_core.proofs.Stores.{one_held}
 
@@ -55,22 +55,22 @@ module _ (ws : List ℕ) (b : ℕ) (room : b + record_words ≤ length ws) (j0 j
 -- ---- five stores
 
 -- the view after the store of one of a record's words
-abbrev pub put : View → ℕ → ℕ → ℕ → View
+abbrev pub put : SeatView → ℕ → ℕ → ℕ → SeatView
 put v number k x = storing v (record_start v.shape number + k) x
 
 -- the view after five stores
-abbrev pub filled_view : View → ℕ → List ℕ → View
+abbrev pub filled_view : SeatView → ℕ → List ℕ → SeatView
 filled_view v number five = put (put (put (put (put v number 0 (get_or five 0 0)) number 1 (get_or five 1 0)) number 2 (get_or five 2 0)) number 3 (get_or five 3 0)) number 4 (get_or five 4 0)
 
 -- the five stores, one view after another
-pub filled_is : (v v1 v2 v3 v4 v5 : View) (number : ℕ) (five : List ℕ) → v1 ≡ put v number 0 (get_or five 0 0) → v2 ≡ put v1 number 1 (get_or five 1 0) → v3 ≡ put v2 number 2 (get_or five 2 0) → v4 ≡ put v3 number 3 (get_or five 3 0)
+pub filled_is : (v v1 v2 v3 v4 v5 : SeatView) (number : ℕ) (five : List ℕ) → v1 ≡ put v number 0 (get_or five 0 0) → v2 ≡ put v1 number 1 (get_or five 1 0) → v3 ≡ put v2 number 2 (get_or five 2 0) → v4 ≡ put v3 number 3 (get_or five 3 0)
     → v5 ≡ put v4 number 4 (get_or five 4 0) → v5 ≡ filled_view v number five
 filled_is v v1 v2 v3 v4 v5 number five a b c d e =
-    let v2' = b ∙ ap (λ (z : View). put z number 1 (get_or five 1 0)) a in let v3' = c ∙ ap (λ (z : View). put z number 2 (get_or five 2 0)) v2' in
-    let v4' = d ∙ ap (λ (z : View). put z number 3 (get_or five 3 0)) v3' in e ∙ ap (λ (z : View). put z number 4 (get_or five 4 0)) v4'
+    let v2' = b ∙ ap (λ (z : SeatView). put z number 1 (get_or five 1 0)) a in let v3' = c ∙ ap (λ (z : SeatView). put z number 2 (get_or five 2 0)) v2' in
+    let v4' = d ∙ ap (λ (z : SeatView). put z number 3 (get_or five 3 0)) v3' in e ∙ ap (λ (z : SeatView). put z number 4 (get_or five 4 0)) v4'
 
 -- a record of the own lane
-module _ (v : View) (number : ℕ) (five : List ℕ) (lane : Held) (only : HoldsOnly v lane) (of_lane : IsOfLane v.shape lane.lane number) (long : length lane.words ≡ block_size v.shape) where
+module _ (v : SeatView) (number : ℕ) (five : List ℕ) (lane : Held) (only : HoldsOnly v lane) (of_lane : IsOfLane v.shape lane.lane number) (long : length lane.words ≡ block_size v.shape) where
   abbrev from : ℕ
   from = block_start v.shape lane.lane
 

@@ -15,7 +15,7 @@ use Rattle.aug_core.specs.Told.{KnowsTable, Sees}
 use Rattle.aug_core.specs.declared.step.StepTaken.{StepTaken}
 use Rattle.aug_core.specs.declared.view.Beginning.{Beginning}
 use Rattle.aug_core.specs.declared.view.Held.{Held}
-use Rattle.aug_core.specs.declared.view.View.{View}
+use Rattle.aug_core.specs.declared.view.SeatView.{SeatView}
 
 pub at_most_one : (b : Bool) → (if b then 1 else 0) ≤ 1
 at_most_one true = omega arith
@@ -25,13 +25,13 @@ few_in_all : (l : List ℕ) (m : ℕ) → ((i : ℕ) → i < length l → get_or
 few_in_all [] m h = omega arith
 few_in_all (x ∷ xs) m h = let e = sum_by-cons (λ (y : ℕ). y) x xs in let first : x ≤ m = h 0 (omega arith) in let rest = few_in_all xs m (λ i low. h (suc i) (omega arith)) in let p = suc-mul (length xs) m in omega arith
 
-pub fits_book : (o : Opening) (words : List ℕ) (book : Book) (views : List View) (tally : List ℕ) → AreTallied o words book views tally → SerialsFit o.shape book
+pub fits_book : (o : Opening) (words : List ℕ) (book : Book) (views : List SeatView) (tally : List ℕ) → AreTallied o words book views tally → SerialsFit o.shape book
 fits_book o words book views tally t = let all = few_in_all tally (2 * o.shape.updates) (λ i low. let long = t.long in t.few i (omega arith)) in
     let is : length tally * (2 * o.shape.updates) ≡ o.shape.workers * (2 * o.shape.updates) = ap (λ (z : ℕ). z * (2 * o.shape.updates)) t.long in
     record { few = λ key low. let e = t.enough key low in let one = at_most_one (is_member (keys_of o.members) key) in omega arith }
 
 module _ (face : ℕ → ℕ → List (ℕ × ℕ) → List ℕ) where
-  pub sees_after : (v w : View) (s : Shape) → v.shape ≡ s → Continues w.seen v.seen → Continues w.seen v.also → IsFresh s w.seen v.seen → IsBook face s w.seen → SerialsFit s w.seen → Sees face v w
+  pub sees_after : (v w : SeatView) (s : Shape) → v.shape ≡ s → Continues w.seen v.seen → Continues w.seen v.also → IsFresh s w.seen v.seen → IsBook face s w.seen → SerialsFit s w.seen → Sees face v w
   sees_after v w s shaped later also fresh book fits = record {
     later = later;
     also_later = also;
@@ -41,7 +41,7 @@ module _ (face : ℕ → ℕ → List (ℕ × ℕ) → List ℕ) where
   }
 
   -- what a seat knows of its table it knows after a step that showed it the whole book
-  pub knows_shown : (v w : View) → KnowsTable face v → Sees face v w → w.shape ≡ v.shape → w.members ≡ v.members → KnowsTable face w
+  pub knows_shown : (v w : SeatView) → KnowsTable face v → Sees face v w → w.shape ≡ v.shape → w.members ≡ v.members → KnowsTable face w
   knows_shown v w kn sees shaped same = record {
     laid_out = subst IsLayout (sym shaped) kn.laid_out;
     key_set = subst (λ (z : ℕ × List (ℕ × ℕ)). IsKeySet z.0 (keys_of z.1)) (λ i. ((sym shaped i).bits, sym same i)) kn.key_set;
@@ -53,6 +53,6 @@ module _ (face : ℕ → ℕ → List (ℕ × ℕ) → List ℕ) where
   }
 
   -- and so it does after one that showed it nothing
-  pub knows_same : (v : View) (live : Bool) (also : Book) (held : List Held) (spare : Option ℕ) (began : Beginning) (steps : List StepTaken) → KnowsTable face v
+  pub knows_same : (v : SeatView) (live : Bool) (also : Book) (held : List Held) (spare : Option ℕ) (began : Beginning) (steps : List StepTaken) → KnowsTable face v
       → KnowsTable face record v { live = live; also = also; held = held; spare = spare; began = began; steps = steps }
   knows_same v live also held spare began steps kn = record { laid_out = kn.laid_out; key_set = kn.key_set; members_fit = kn.members_fit; few_members = kn.few_members; book = kn.book; opened = kn.opened; fits = kn.fits }

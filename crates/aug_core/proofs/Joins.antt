@@ -9,7 +9,7 @@ use Rattle.aug_core.specs.Rule.{Knows, Kept}
 use Rattle.aug_core.specs.Told.{taking_back, spent}
 use Rattle.aug_core.specs.declared.view.Entry.{Entry}
 use Rattle.aug_core.specs.declared.view.Held.{Held}
-use Rattle.aug_core.specs.declared.view.View.{View}
+use Rattle.aug_core.specs.declared.view.SeatView.{SeatView}
 use Rattle.aug_core.proofs.Views.{apart_on}
 use Rattle.aug_core.proofs.Moves.{St}
 use Rattle.aug_core.specs.Counts.{StandsAt, Stands}
@@ -42,35 +42,35 @@ spent_knows o words book = record {
   spares = λ n lane e le low. let clash : None ≡ Some n = e in cc;
 }
 
-module _ (face : ℕ → ℕ → List (ℕ × ℕ) → List ℕ) (o : Opening) (s : St) (r : Kept face o s) (id : ℕ) (v : View) (at : get_elem? s.views id ≡ some v) (other : ℕ) (w : View) (ne : other ≢ id) (at' : get_elem? s.views other ≡ some w) where
-  abbrev lead : View
+module _ (face : ℕ → ℕ → List (ℕ × ℕ) → List ℕ) (o : Opening) (s : St) (r : Kept face o s) (id : ℕ) (v : SeatView) (at : get_elem? s.views id ≡ some v) (other : ℕ) (w : SeatView) (ne : other ≢ id) (at' : get_elem? s.views other ≡ some w) where
+  abbrev lead : SeatView
   lead = taking_back v w
 
-  abbrev views : List View
+  abbrev views : List SeatView
   views = set (set s.views id lead) other spent
 
   -- a view is the joined one, the joining one, or as it was
-  came : (i : ℕ) (x : View) → get_elem? views i ≡ some x → (spent ≡ x) ⊎ (((i ≡ id) × (lead ≡ x)) ⊎ ((i ≢ other) × (get_elem? s.views i ≡ some x)))
+  came : (i : ℕ) (x : SeatView) → get_elem? views i ≡ some x → (spent ≡ x) ⊎ (((i ≡ id) × (lead ≡ x)) ⊎ ((i ≢ other) × (get_elem? s.views i ≡ some x)))
   came i x p = ⊎_elim (λ t. inl t.1) (λ t. inr (⊎_elim (λ q. inl q) (λ q. inr (t.0, q.1)) (at_set s.views id i lead x t.1))) (at_set (set s.views id lead) other i spent x p)
 
   -- where a lane stood before: as it was, or in the joined view
   abbrev Stood : ℕ → ℕ → Held → Type 0
-  Stood i a h = ((y : View) × (i ≢ other) × (get_elem? s.views i ≡ some y) × (get_elem? y.held a ≡ some h)) ⊎ ((b : ℕ) × (i ≡ id) × (a ≡ length v.held + b) × (get_elem? w.held b ≡ some h))
+  Stood i a h = ((y : SeatView) × (i ≢ other) × (get_elem? s.views i ≡ some y) × (get_elem? y.held a ≡ some h)) ⊎ ((b : ℕ) × (i ≡ id) × (a ≡ length v.held + b) × (get_elem? w.held b ≡ some h))
 
-  stood : (i a : ℕ) (x : View) (h : Held) → get_elem? views i ≡ some x → get_elem? x.held a ≡ some h → Stood i a h
+  stood : (i a : ℕ) (x : SeatView) (h : Held) → get_elem? views i ≡ some x → get_elem? x.held a ≡ some h → Stood i a h
   stood i a x h p q = ⊎_elim
-      (λ t. let out : get_elem? spent.held a ≡ some h = subst (λ (z : View). get_elem? z.held a ≡ some h) (sym t) q in absurd (some-ne-none h (sym out)))
+      (λ t. let out : get_elem? spent.held a ≡ some h = subst (λ (z : SeatView). get_elem? z.held a ≡ some h) (sym t) q in absurd (some-ne-none h (sym out)))
       (λ t. ⊎_elim
       (λ t'. ⊎_elim
       (λ old. inl (v, (λ same. ne (sym same ∙ t'.0)), subst (λ (z : ℕ). get_elem? s.views z ≡ some v) (sym t'.0) at, old))
-      (λ new. inr (new.0, t'.0, new.1, new.2)) (append_at v.held w.held h a (subst (λ (z : View). get_elem? z.held a ≡ some h) (sym t'.1) q)))
+      (λ new. inr (new.0, t'.0, new.1, new.2)) (append_at v.held w.held h a (subst (λ (z : SeatView). get_elem? z.held a ≡ some h) (sym t'.1) q)))
       (λ t'. inl (x, t'.0, t'.1, q)) t) (came i x p)
 
   -- who hands lanes out did so
-  leads : (i m : ℕ) (x : View) → get_elem? views i ≡ some x → x.spare ≡ Some m → (y : View) × (get_elem? s.views i ≡ some y) × (y.spare ≡ Some m)
+  leads : (i m : ℕ) (x : SeatView) → get_elem? views i ≡ some x → x.spare ≡ Some m → (y : SeatView) × (get_elem? s.views i ≡ some y) × (y.spare ≡ Some m)
   leads i m x p e = ⊎_elim
-      (λ t. let clash : None ≡ Some m = ap (λ (z : View). z.spare) t ∙ e in cc)
-      (λ t. ⊎_elim (λ t'. (v, subst (λ (z : ℕ). get_elem? s.views z ≡ some v) (sym t'.0) at, ap (λ (z : View). z.spare) t'.1 ∙ e)) (λ t'. (x, t'.1, e)) t) (came i x p)
+      (λ t. let clash : None ≡ Some m = ap (λ (z : SeatView). z.spare) t ∙ e in cc)
+      (λ t. ⊎_elim (λ t'. (v, subst (λ (z : ℕ). get_elem? s.views z ≡ some v) (sym t'.0) at, ap (λ (z : SeatView). z.spare) t'.1 ∙ e)) (λ t'. (x, t'.1, e)) t) (came i x p)
 
   -- where a lane may come from: the same place, or the joined view's
   abbrev From : ℕ → ℕ → ℕ → ℕ → Type 0
@@ -94,14 +94,14 @@ module _ (face : ℕ → ℕ → List (ℕ × ℕ) → List ℕ) (o : Opening) (
         seat = id;
         index = length v.held + a;
         place = k;
-        at = record { view = lead; lane = t.lane; sits = lead_there; held = at_right v.held w.held t.lane a (subst (λ (z : View). get_elem? z.held a ≡ some t.lane) this t.held); listed = t.listed };
+        at = record { view = lead; lane = t.lane; sits = lead_there; held = at_right v.held w.held t.lane a (subst (λ (z : SeatView). get_elem? z.held a ≡ some t.lane) this t.held); listed = t.listed };
       })
       (λ away. ⊎_elim
       (λ (is : i ≡ id). let e : some t.view ≡ some v = sym t.sits ∙ subst (λ (z : ℕ). get_elem? s.views z ≡ some v) (sym is) at in let this : t.view ≡ v = cc e in record {
         seat = id;
         index = a;
         place = k;
-        at = record { view = lead; lane = t.lane; sits = lead_there; held = at_longer v.held w.held a t.lane (subst (λ (z : View). get_elem? z.held a ≡ some t.lane) this t.held); listed = t.listed };
+        at = record { view = lead; lane = t.lane; sits = lead_there; held = at_longer v.held w.held a t.lane (subst (λ (z : SeatView). get_elem? z.held a ≡ some t.lane) this t.held); listed = t.listed };
       })
       (λ out. record {
         seat = i;
@@ -163,6 +163,6 @@ module _ (face : ℕ → ℕ → List (ℕ × ℕ) → List ℕ) (o : Opening) (
   }
 
 module _ (face : ℕ → ℕ → List (ℕ × ℕ) → List ℕ) (o : Opening) where
-  pub joins_seat : (id other : ℕ) (v w : View) → Joins (Kept face o) id v other w (taking_back v w) spent
+  pub joins_seat : (id other : ℕ) (v w : SeatView) → Joins (Kept face o) id v other w (taking_back v w) spent
   joins_seat id other v w s r at ne at' =
       takes_back face o s r id v at other w ne (⊎_elim (λ t. absurd (ne t.0)) (λ t. t.1) (at_set s.views id other (taking_back v w) w at'))

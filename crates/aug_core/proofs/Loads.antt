@@ -13,14 +13,14 @@ use Rattle.aug_core.specs.Kinds.{load_leaf, load_node, load_record_word}
 use Rattle.aug_core.specs.Told.{Sat, stepping, held_word, read_record, seeing, beginning, Sees, loaded_leaf, began_at_leaf, loaded_node}
 use Rattle.aug_core.specs.declared.view.Entry.{Entry}
 use Rattle.aug_core.specs.declared.view.Held.{Held}
-use Rattle.aug_core.specs.declared.view.View.{View}
+use Rattle.aug_core.specs.declared.view.SeatView.{SeatView}
 use Rattle.aug_core.proofs.Sizes.{in_block}
 use Rattle.aug_core.proofs.Moves.{St, knows_keeping, rests, stands, watches}
 use Rattle.aug_core.proofs.Fits.{fits_book, sees_after}
 use Rattle.aug_core.proofs.Sizes.{twice}
 
 module _ (face : ℕ → ℕ → List (ℕ × ℕ) → List ℕ) (o : Opening) where
-  module _ (s : St) (r : Kept face o s) (v : View) (kn : Knows o s.words r.book v) (place : ℕ) where
+  module _ (s : St) (r : Kept face o s) (v : SeatView) (kn : Knows o s.words r.book v) (place : ℕ) where
     of_entry : (q i field : ℕ) (e : Entry) → IsInner o.shape q → At v.seen q i e → field < record_words → place ≡ record_start o.shape e.number + field → get_or s.words place 0 ≡ get_or e.words field 0
     of_entry q i field e inner p small is = ap (λ (z : ℕ). get_or s.words z 0) is ∙ r.tree.written q i field e inner (kn.saw q i e p) small
 
@@ -30,8 +30,8 @@ module _ (face : ℕ → ℕ → List (ℕ × ℕ) → List ℕ) (o : Opening) w
 
   pub loads_record_word : (n id place : ℕ) (me : Sat) → me.0.live ≡ true → me.1 ≡ [] → Allows (Kept face o) n id me place (λ x. x) (read_record (step n place 0 0 none) me)
   loads_record_word n id place me live empty s r _ at _ =
-      let v : View = me.0 in let kn = r.each_view id v at in let found : ℕ = get_or s.words place 0 in let shaped : o.shape ≡ v.shape = sym (kn.shaped live) in
-      let w : View = stepping v (load_record_word place found) in (
+      let v : SeatView = me.0 in let kn = r.each_view id v at in let found : ℕ = get_or s.words place 0 in let shaped : o.shape ≡ v.shape = sym (kn.shaped live) in
+      let w : SeatView = stepping v (load_record_word place found) in (
         w,
         keeps,
         tt,
@@ -46,9 +46,9 @@ module _ (face : ℕ → ℕ → List (ℕ × ℕ) → List ℕ) (o : Opening) w
         ),
       )
 
-  module _ (s : St) (r : Kept face o s) (id : ℕ) (v : View) (at : get_elem? s.views id ≡ some v) (live : v.live ≡ true) where
+  module _ (s : St) (r : Kept face o s) (id : ℕ) (v : SeatView) (at : get_elem? s.views id ≡ some v) (live : v.live ≡ true) where
     -- what a view is told that is shown the book as it is
-    pub sees_it : (w : View) → w.seen ≡ r.book → Sees face v w
+    pub sees_it : (w : SeatView) → w.seen ≡ r.book → Sees face v w
     sees_it w is = let kn = r.each_view id v at in sees_after face v w o.shape (kn.shaped live)
         (subst (λ z. (q i : ℕ) (e : Entry) → At v.seen q i e → At z q i e) (sym is) kn.saw) (subst (λ z. (q i : ℕ) (e : Entry) → At v.also q i e → At z q i e) (sym is) kn.also_saw)
         (subst (λ z. IsFresh o.shape z v.seen) (sym is) kn.fresh) (subst (λ z. IsBook face o.shape z) (sym is) r.tree.is_book)
@@ -60,7 +60,7 @@ module _ (face : ℕ → ℕ → List (ℕ × ℕ) → List ℕ) (o : Opening) w
 
   pub loads_leaf : (n id place : ℕ) (me : Sat) → me.0.live ≡ true → me.1 ≡ [] → Allows (Kept face o) n id me place (λ x. x) (loaded_leaf face (step n place 0 0 none) me)
   loads_leaf n id place me live empty s r _ at _ =
-      let v : View = me.0 in let found : ℕ = get_or s.words place 0 in let w : View = seeing v r.book (load_leaf place found) in (
+      let v : SeatView = me.0 in let found : ℕ = get_or s.words place 0 in let w : SeatView = seeing v r.book (load_leaf place found) in (
         w,
         keeps,
         tt,
@@ -82,7 +82,7 @@ module _ (face : ℕ → ℕ → List (ℕ × ℕ) → List ℕ) (o : Opening) w
   -- the same, where an update begins with it
   pub begins_at_leaf : (n id place : ℕ) (me : Sat) → me.0.live ≡ true → me.1 ≡ [] → Allows (Kept face o) n id me place (λ x. x) (began_at_leaf face (step n place 0 0 none) me)
   begins_at_leaf n id place me live empty s r _ at _ =
-      let v : View = me.0 in let found : ℕ = get_or s.words place 0 in let w : View = beginning v r.book (load_leaf place found) in (
+      let v : SeatView = me.0 in let found : ℕ = get_or s.words place 0 in let w : SeatView = beginning v r.book (load_leaf place found) in (
         w,
         keeps,
         tt,
@@ -103,7 +103,7 @@ module _ (face : ℕ → ℕ → List (ℕ × ℕ) → List ℕ) (o : Opening) w
 
   pub loads_node : (n id place : ℕ) (me : Sat) → me.0.live ≡ true → me.1 ≡ [] → Allows (Kept face o) n id me place (λ x. x) (loaded_node face (step n place 0 0 none) me)
   loads_node n id place me live empty s r _ at _ =
-      let v : View = me.0 in let kn = r.each_view id v at in let found : ℕ = get_or s.words place 0 in let w : View = seeing v r.book (load_node place found) in (
+      let v : SeatView = me.0 in let kn = r.each_view id v at in let found : ℕ = get_or s.words place 0 in let w : SeatView = seeing v r.book (load_node place found) in (
         w,
         keeps,
         tt,

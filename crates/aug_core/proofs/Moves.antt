@@ -18,14 +18,14 @@ use Rattle.aug_core.specs.Rule.{Lists, NamesNewest, HoldsLane, Knows, KeepsTree,
 use Rattle.aug_core.specs.declared.view.Beginning.{Beginning}
 use Rattle.aug_core.specs.declared.view.Entry.{Entry}
 use Rattle.aug_core.specs.declared.view.Held.{Held}
-use Rattle.aug_core.specs.declared.view.View.{View}
+use Rattle.aug_core.specs.declared.view.SeatView.{SeatView}
 use Rattle.aug_core.specs.declared.view.LaneState.TheVariants.{Free, Ended}
 use Rattle.aug_core.proofs.Sizes.{lanes_apart, twice}
 use Rattle.aug_core.proofs.Books.{fresh_now, at_below, there_is, one_entry, grow, grown_at, at_grown, newest_here, newest_there}
 use Rattle.aug_core.proofs.Views.{Likens, Repeats, was_there, repeats_like, counted_on, apart_on}
 
 abbrev pub St : Type 0
-St = State (Unit {0}) View
+St = State (Unit {0}) SeatView
 
 -- a lane's word and the words of its records stayed
 pub record Stays (s : Shape) (words after : List ℕ) (lane : ℕ) : Type 0 where
@@ -33,7 +33,7 @@ pub record Stays (s : Shape) (words after : List ℕ) (lane : ℕ) : Type 0 wher
   pub block : (k : ℕ) → k < block_size s → get_or after (block_start s lane + k) 0 ≡ get_or words (block_start s lane + k) 0
 
 -- the lane is one that the view holds, and it is not free
-pub record IsMine (s : Shape) (after : List ℕ) (v : View) (lane : ℕ) : Type 0 where
+pub record IsMine (s : Shape) (after : List ℕ) (v : SeatView) (lane : ℕ) : Type 0 where
   pub index : ℕ
   pub held : Held
   pub at : get_elem? v.held index ≡ some held
@@ -42,14 +42,14 @@ pub record IsMine (s : Shape) (after : List ℕ) (v : View) (lane : ℕ) : Type 
   pub last_state : get_or after (lane_place s lane) 0 ≤ word_of_state Ended
 
 -- the record is of a lane that the view holds
-pub record IsOwn (s : Shape) (words : List ℕ) (v : View) (number : ℕ) : Type 0 where
+pub record IsOwn (s : Shape) (words : List ℕ) (v : SeatView) (number : ℕ) : Type 0 where
   pub index : ℕ
   pub held : Held
   pub at : get_elem? v.held index ≡ some held
   pub of_lane : IsOfLane s held.lane number
   pub some_state : word_of_state Free < get_or words (lane_place s held.lane) 0
 
-module _ (face : ℕ → ℕ → List (ℕ × ℕ) → List ℕ) (o : Opening) (s : St) (r : Kept face o s) (id : ℕ) (v : View) (after : List ℕ) (book' : Book) where
+module _ (face : ℕ → ℕ → List (ℕ × ℕ) → List ℕ) (o : Opening) (s : St) (r : Kept face o s) (id : ℕ) (v : SeatView) (after : List ℕ) (book' : Book) where
   -- what a step may do to the words and to the book
   pub record MayMove : Type 0 where
     pub tree : KeepsTree face o after book'
@@ -60,7 +60,7 @@ module _ (face : ℕ → ℕ → List (ℕ × ℕ) → List ℕ) (o : Opening) (
 
   module _ (m : MayMove) (at : get_elem? s.views id ≡ some v) where
     -- what another view knows stays so
-    pub others_know : (j : ℕ) (u : View) → j ≢ id → get_elem? s.views j ≡ some u → Knows o after book' u
+    pub others_know : (j : ℕ) (u : SeatView) → j ≢ id → get_elem? s.views j ≡ some u → Knows o after book' u
     others_know j u ne p = let kn = r.each_view j u p in record {
       shaped = kn.shaped;
       same_members = kn.same_members;
@@ -83,7 +83,7 @@ module _ (face : ℕ → ℕ → List (ℕ × ℕ) → List ℕ) (o : Opening) (
     }
 
     -- the lanes that the view may still hand out are free
-    pub still_spare : (w : View) → v.spare ≡ w.spare → (n lane : ℕ) → w.spare ≡ Some n → n ≤ lane → lane < o.shape.workers → get_or after (lane_place o.shape lane) 0 ≡ word_of_state Free
+    pub still_spare : (w : SeatView) → v.spare ≡ w.spare → (n lane : ℕ) → w.spare ≡ Some n → n ≤ lane → lane < o.shape.workers → get_or after (lane_place o.shape lane) 0 ≡ word_of_state Free
     still_spare w same n lane e le low = let kn = r.each_view id v at in ⊎_elim
         (λ (stays : Stays o.shape s.words after lane). stays.state ∙ kn.spares n lane (same ∙ e) le low)
         (λ (mine : IsMine o.shape after v lane). let below : mine.held.lane < n = r.apart.handed_out id id mine.index n v v mine.held at at (same ∙ e) mine.at in let is = mine.is in absurd (omega arith)) (m.lanes lane low)
@@ -94,7 +94,7 @@ module _ (face : ℕ → ℕ → List (ℕ × ℕ) → List ℕ) (o : Opening) (
         (λ (mine : IsMine o.shape after v lane). let pos = mine.some_state in absurd (omega arith)) (m.lanes lane low)
 
     -- the rule holds after the step, where the changes are counted
-    pub moves : (w : View) → Likens v w → Knows o after book' w → AreCounted o book' (set s.views id w) → (tally : List ℕ) → AreTallied o after book' (set s.views id w) tally
+    pub moves : (w : SeatView) → Likens v w → Knows o after book' w → AreCounted o book' (set s.views id w) → (tally : List ℕ) → AreTallied o after book' (set s.views id w) tally
         → Kept face o record { words = after; homes = s.homes; views = set s.views id w }
     moves w like knows counted tally tallied = record {
       book = book';
@@ -128,11 +128,11 @@ module _ (face : ℕ → ℕ → List (ℕ × ℕ) → List ℕ) (o : Opening) (
     SameLeaves = (key : ℕ) → key < 2 ^ o.shape.bits → length (history_of book' key) ≡ length (history_of r.book key)
 
     -- the tally stays
-    tallied_on : (w : View) → Repeats v w → SameLeaves → AreTallied o after book' (set s.views id w) r.changes.tally
+    tallied_on : (w : SeatView) → Repeats v w → SameLeaves → AreTallied o after book' (set s.views id w) r.changes.tally
     tallied_on w rep same = let t = r.changes.tallied in record {
       long = t.long;
       each = λ i a u h p held. ⊎_elim
-          (λ is. let g = rep.back a h (subst (λ (z : View). get_elem? z.held a ≡ some h) (sym is.1) held) in
+          (λ is. let g = rep.back a h (subst (λ (z : SeatView). get_elem? z.held a ≡ some h) (sym is.1) held) in
           ap length (sym g.3) ∙ t.each id a v g.0 at g.1 ∙ ap (λ (z : ℕ). get_or r.changes.tally z 0) g.2)
           (λ old. t.each i a u h old.1 held) (at_set s.views id i w u p);
       few = t.few;
@@ -151,7 +151,7 @@ module _ (face : ℕ → ℕ → List (ℕ × ℕ) → List ℕ) (o : Opening) (
         record { exists = w.exists; past_opening = w.past_opening; entry = w.entry; reached = subst (At r.book c.key c.serial) is x.1; weighs = w.weighs }
 
     -- the rule holds after a step that makes no change
-    pub moves_on : (w : View) → Repeats v w → Knows o after book' w → SameLeaves → Kept face o record { words = after; homes = s.homes; views = set s.views id w }
+    pub moves_on : (w : SeatView) → Repeats v w → Knows o after book' w → SameLeaves → Kept face o record { words = after; homes = s.homes; views = set s.views id w }
     moves_on w rep knows same = moves w (repeats_like v w rep) knows
         (counted_on s.views id v w at rep o r.book book' (made_back same) made_on r.changes.counted) r.changes.tally (tallied_on w rep same)
 
@@ -191,7 +191,7 @@ module _ (face : ℕ → ℕ → List (ℕ × ℕ) → List ℕ) (o : Opening) (
       spares = still_spare record v { held = held; steps = steps } refl;
     }
 
-module _ (face : ℕ → ℕ → List (ℕ × ℕ) → List ℕ) (o : Opening) (s : St) (r : Kept face o s) (id : ℕ) (v : View) (at : get_elem? s.views id ≡ some v) where
+module _ (face : ℕ → ℕ → List (ℕ × ℕ) → List ℕ) (o : Opening) (s : St) (r : Kept face o s) (id : ℕ) (v : SeatView) (at : get_elem? s.views id ≡ some v) where
   -- a step that changes no word
   pub rests : MayMove face o s r id v s.words r.book
   rests = record {
@@ -202,7 +202,7 @@ module _ (face : ℕ → ℕ → List (ℕ × ℕ) → List ℕ) (o : Opening) (
     fresh = λ seen saw f. f;
   }
 
-  pub stands : (w : View) → Repeats v w → Knows o s.words r.book w → (i : ℕ) → Kept face o record { words = set s.words i (get_or s.words i 0); homes = s.homes; views = set s.views id w }
+  pub stands : (w : SeatView) → Repeats v w → Knows o s.words r.book w → (i : ℕ) → Kept face o record { words = set s.words i (get_or s.words i 0); homes = s.homes; views = set s.views id w }
   stands w rep knows i = subst (λ (z : List ℕ). Kept face o record { words = z; homes = s.homes; views = set s.views id w }) (sym (set-get_or s.words i 0))
       (moves_on face o s r id v s.words r.book rests at w rep knows (λ key low. refl))
 

@@ -18,7 +18,7 @@ use Rattle.aug_core.specs.declared.step.StepTaken.{StepTaken}
 use Rattle.aug_core.specs.declared.view.Entry.{Entry}
 use Rattle.aug_core.specs.declared.view.Held.{Held}
 use Rattle.aug_core.specs.declared.view.LaneState.TheVariants.{Taken}
-use Rattle.aug_core.specs.declared.view.View.{View}
+use Rattle.aug_core.specs.declared.view.SeatView.{SeatView}
 use Rattle.aug_core.proofs.Sizes.{twice, in_block, record_inside}
 use Rattle.aug_core.proofs.Books.{no_shorter, one_entry, one_index, grown_at, at_grown, newest_here, there, grows}
 use Rattle.aug_core.proofs.Moves.{St, MayMove, moves_on, holds_on, knows_seeing, in_book, book', after, all_stay, tree_moves, watches}
@@ -32,7 +32,7 @@ lists_more : (l : List ℕ) (x n : ℕ) → Lists l n → Lists (x ∷ l) n
 lists_more l x n t = (suc t.0, t.1)
 
 module _ (face : ℕ → ℕ → List (ℕ × ℕ) → List ℕ) (o : Opening) where
-  module _ (s : St) (r : Kept face o s) (id : ℕ) (v : View) (at : get_elem? s.views id ≡ some v) (shaped : v.shape ≡ o.shape) (h : Held) (only : HoldsOnly v h) (taken : h.state ≡ Taken) (number : ℕ)
+  module _ (s : St) (r : Kept face o s) (id : ℕ) (v : SeatView) (at : get_elem? s.views id ≡ some v) (shaped : v.shape ≡ o.shape) (h : Held) (only : HoldsOnly v h) (taken : h.state ≡ Taken) (number : ℕ)
       (of_lane : IsOfLane o.shape h.lane number) (unpublished : Lists h.published number → ⊥) (q : ℕ) (inner : IsInner o.shape q) (old : ℕ) (c : IsFilled face v q old number) where
     held : get_elem? v.held 0 ≡ some h
     held = subst (λ (z : List Held). get_elem? z 0 ≡ some h) (sym only) refl
@@ -133,7 +133,7 @@ module _ (face : ℕ → ℕ → List (ℕ × ℕ) → List ℕ) (o : Opening) w
   pub tries_node : (n id q old number : ℕ) (me : Sat) → me.0.live ≡ true → me.1 ≡ [] → IsInner me.0.shape q → HasTakenLane me.0 → MayStore me.0 number → IsFilled face me.0 q old number
       → Allows (Kept face o) n id me q (λ x. either (eqb x old) number x) (tried_node face (step n q old number none) me)
   tries_node n id q old number me live empty inner has may c s r _ at _ =
-      let v : View = me.0 in let taken0 = is_taken v may.lane may.only has in let h : Held = may.lane in let kn = r.each_view id v at in let shaped : v.shape ≡ o.shape = kn.shaped live in
+      let v : SeatView = me.0 in let taken0 = is_taken v may.lane may.only has in let h : Held = may.lane in let kn = r.each_view id v at in let shaped : v.shape ≡ o.shape = kn.shaped live in
       let of_lane : IsOfLane o.shape h.lane number = subst (λ (z : Shape). IsOfLane z h.lane number) shaped may.of_lane in
       let inner' : IsInner o.shape q = subst (λ (z : Shape). IsInner z q) shaped inner in
       let found : ℕ = get_or s.words q 0 in
@@ -143,7 +143,7 @@ module _ (face : ℕ → ℕ → List (ℕ × ℕ) → List ℕ) (o : Opening) w
       (λ hit. let book2 : Book = longer_book s r id v at shaped h may.only taken0 number of_lane may.unpublished q inner' old c in
       let e : Entry = entry s r id v at shaped h may.only taken0 number of_lane may.unpublished q inner' old c in
       let longer = later s r id v at shaped h may.only taken0 number of_lane may.unpublished q inner' old c in
-      let w : View = publishing v book2 number taken in (
+      let w : SeatView = publishing v book2 number taken in (
         w,
         keeps,
         tt,
@@ -165,7 +165,7 @@ module _ (face : ℕ → ℕ → List (ℕ × ℕ) → List ℕ) (o : Opening) w
           },
         ),
       ))
-      (λ miss. let w : View = seeing v r.book taken in let top = r.tree.newest q inner'.inside in (
+      (λ miss. let w : SeatView = seeing v r.book taken in let top = r.tree.newest q inner'.inside in (
         w,
         keeps,
         tt,

@@ -18,7 +18,7 @@ use Rattle.aug_core.specs.Layout.{IsLayout}
 use Rattle.aug_core.specs.Told.{KnowsTable}
 use Rattle.aug_core.specs.Rule.{BlockIs, Knows, Kept, newcomer}
 use Rattle.aug_core.specs.declared.view.Entry.{Entry}
-use Rattle.aug_core.specs.declared.view.View.{View}
+use Rattle.aug_core.specs.declared.view.SeatView.{SeatView}
 use Rattle.aug_model.proofs.Ranges.{Rises, rises_from}
 use Rattle.aug_core.proofs.Sizes.{twice}
 use Rattle.aug_core.proofs.Below.{pairs_over, pairs_of_leaf, number_of_leaf, number_below}
@@ -170,7 +170,7 @@ module _ (face : ℕ → ℕ → List (ℕ × ℕ) → List ℕ) (o : Opening) w
 
   -- no change was made
   stands_nowhere : (i a k : ℕ) (c : Change) → StandsAt (newcomer face o ∷ []) i a k c → ⊥
-  stands_nowhere i a k c t = let out : get_elem? ((newcomer face o).held) a ≡ some t.lane = subst (λ (z : View). get_elem? z.held a ≡ some t.lane) (sym (alone (newcomer face o) t.view i t.sits).1) t.held in some-ne-none t.lane (sym out)
+  stands_nowhere i a k c t = let out : get_elem? ((newcomer face o).held) a ≡ some t.lane = subst (λ (z : SeatView). get_elem? z.held a ≡ some t.lane) (sym (alone (newcomer face o) t.view i t.sits).1) t.held in some-ne-none t.lane (sym out)
 
   -- the rule holds of these words
   pub opens : (words : List ℕ) → Rises (keys_of o.members) → All FitsPair o.members → length (keys_of o.members) ≤ o.shape.members → length words ≡ word_count o.shape
@@ -207,9 +207,9 @@ module _ (face : ℕ → ℕ → List (ℕ × ℕ) → List ℕ) (o : Opening) w
       spares = λ n lane e le low. lanes lane low;
     };
     apart = record {
-      one_holder = λ i j a b x y h g px py ph pg same. let out : get_elem? ((newcomer face o).held) a ≡ some h = subst (λ (z : View). get_elem? z.held a ≡ some h) (sym (alone (newcomer face o) x i px).1) ph in absurd (some-ne-none h (sym out));
+      one_holder = λ i j a b x y h g px py ph pg same. let out : get_elem? ((newcomer face o).held) a ≡ some h = subst (λ (z : SeatView). get_elem? z.held a ≡ some h) (sym (alone (newcomer face o) x i px).1) ph in absurd (some-ne-none h (sym out));
       one_lead = λ i j n m x y px py ex ey. (alone (newcomer face o) x i px).0 ∙ sym (alone (newcomer face o) y j py).0;
-      handed_out = λ i j a n x y h px py ex ph. let out : get_elem? ((newcomer face o).held) a ≡ some h = subst (λ (z : View). get_elem? z.held a ≡ some h) (sym (alone (newcomer face o) y j py).1) ph in absurd (some-ne-none h (sym out));
+      handed_out = λ i j a n x y h px py ex ph. let out : get_elem? ((newcomer face o).held) a ≡ some h = subst (λ (z : SeatView). get_elem? z.held a ≡ some h) (sym (alone (newcomer face o) y j py).1) ph in absurd (some-ne-none h (sym out));
     };
     changes = record {
       counted = record {
@@ -220,7 +220,7 @@ module _ (face : ℕ → ℕ → List (ℕ × ℕ) → List ℕ) (o : Opening) w
       tally = replicate o.shape.workers 0;
       tallied = record {
         long = length-replicate o.shape.workers 0;
-        each = λ i a v h p held. let out : get_elem? ((newcomer face o).held) a ≡ some h = subst (λ (z : View). get_elem? z.held a ≡ some h) (sym (alone (newcomer face o) v i p).1) held in absurd (some-ne-none h (sym out));
+        each = λ i a v h p held. let out : get_elem? ((newcomer face o).held) a ≡ some h = subst (λ (z : SeatView). get_elem? z.held a ≡ some h) (sym (alone (newcomer face o) v i p).1) held in absurd (some-ne-none h (sym out));
         few = λ lane low. subst (λ (z : ℕ). z ≤ 2 * o.shape.updates) (sym (get_or-replicate o.shape.workers lane 0 0 low)) (omega arith);
         free = λ lane low free. get_or-replicate o.shape.workers lane 0 0 low;
         enough = λ key low. let long = leaf_long key low in omega arith;

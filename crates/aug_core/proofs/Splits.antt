@@ -12,7 +12,7 @@ use Rattle.aug_core.specs.Opening.{Opening}
 use Rattle.aug_core.specs.Rule.{HoldsLane, Knows, Kept, no_beginning}
 use Rattle.aug_core.specs.Told.{new_lane, handing_out, handed_out}
 use Rattle.aug_core.specs.declared.view.Held.{Held}
-use Rattle.aug_core.specs.declared.view.View.{View}
+use Rattle.aug_core.specs.declared.view.SeatView.{SeatView}
 use Rattle.aug_core.proofs.Moves.{St}
 use Rattle.aug_core.proofs.Books.{snoc_at}
 use Rattle.aug_core.proofs.Views.{now_there, stays_there, apart_on}
@@ -23,46 +23,46 @@ use Rattle.std.proofs.lemmas.Bool.{cases_eq}
 use Rattle.atomic_table.proofs.Lists.{at_longer}
 use Rattle.aug_core.proofs.Stores.{alone}
 
-module _ (face : ℕ → ℕ → List (ℕ × ℕ) → List ℕ) (o : Opening) (s : St) (r : Kept face o s) (id : ℕ) (v : View) (at : get_elem? s.views id ≡ some v) (live : v.live ≡ true) (n : ℕ) (spare : v.spare ≡ Some n) (room : n < o.shape.workers) where
+module _ (face : ℕ → ℕ → List (ℕ × ℕ) → List ℕ) (o : Opening) (s : St) (r : Kept face o s) (id : ℕ) (v : SeatView) (at : get_elem? s.views id ≡ some v) (live : v.live ≡ true) (n : ℕ) (spare : v.spare ≡ Some n) (room : n < o.shape.workers) where
   abbrev fresh : Held
   fresh = new_lane o.shape n
 
-  abbrev newer : View
+  abbrev newer : SeatView
   newer = record { live = v.live; shape = v.shape; members = v.members; seen = v.seen; also = []; held = fresh ∷ []; spare = None; began = no_beginning; steps = [] }
 
-  abbrev views : List View
+  abbrev views : List SeatView
   views = set s.views id (handing_out v) ++ newer ∷ []
 
   abbrev last : ℕ
   last = length (set s.views id (handing_out v))
 
   -- a view holds what it held, or it is the new one
-  came : (i : ℕ) (x : View) → get_elem? views i ≡ some x → ((y : View) × (get_elem? s.views i ≡ some y) × (x.held ≡ y.held)) ⊎ ((i ≡ last) × (newer ≡ x))
+  came : (i : ℕ) (x : SeatView) → get_elem? views i ≡ some x → ((y : SeatView) × (get_elem? s.views i ≡ some y) × (x.held ≡ y.held)) ⊎ ((i ≡ last) × (newer ≡ x))
   came i x p = ⊎_elim
-      (λ q. inl (⊎_elim {C = (y : View) × (get_elem? s.views i ≡ some y) × (x.held ≡ y.held)}
-      (λ t. (v, subst (λ (z : ℕ). get_elem? s.views z ≡ some v) (sym t.0) at, sym (ap (λ (z : View). z.held) t.1)))
+      (λ q. inl (⊎_elim {C = (y : SeatView) × (get_elem? s.views i ≡ some y) × (x.held ≡ y.held)}
+      (λ t. (v, subst (λ (z : ℕ). get_elem? s.views z ≡ some v) (sym t.0) at, sym (ap (λ (z : SeatView). z.held) t.1)))
       (λ t. (x, t.1, refl)) (at_set s.views id i (handing_out v) x q)))
       (λ t. inr t) (snoc_at (set s.views id (handing_out v)) newer x i p)
 
   -- who hands lanes out does so after this one
-  leads : (i m : ℕ) (x : View) → get_elem? views i ≡ some x → x.spare ≡ Some m → (i ≡ id) × (m ≡ n + 1)
+  leads : (i m : ℕ) (x : SeatView) → get_elem? views i ≡ some x → x.spare ≡ Some m → (i ≡ id) × (m ≡ n + 1)
   leads i m x p e = ⊎_elim
       (λ q. ⊎_elim
-      (λ t. (t.0, let same : Some (n + 1) ≡ Some m = ap (option_map (λ k. k + 1)) (sym spare) ∙ ap (λ (z : View). z.spare) t.1 ∙ e in let is : n + 1 ≡ m = cc same in sym is))
+      (λ t. (t.0, let same : Some (n + 1) ≡ Some m = ap (option_map (λ k. k + 1)) (sym spare) ∙ ap (λ (z : SeatView). z.spare) t.1 ∙ e in let is : n + 1 ≡ m = cc same in sym is))
       (λ t. absurd (t.0 (r.apart.one_lead i id m n x v t.1 at e spare))) (at_set s.views id i (handing_out v) x q))
-      (λ t. let clash : None ≡ Some m = ap (λ (z : View). z.spare) t.1 ∙ e in cc) (snoc_at (set s.views id (handing_out v)) newer x i p)
+      (λ t. let clash : None ≡ Some m = ap (λ (z : SeatView). z.spare) t.1 ∙ e in cc) (snoc_at (set s.views id (handing_out v)) newer x i p)
 
   free : get_or s.words (lane_place o.shape n) 0 ≡ word_of_state Free
   free = (r.each_view id v at).spares n n spare (omega arith) room
 
-  old_below : (i a : ℕ) (x : View) (h : Held) → get_elem? s.views i ≡ some x → get_elem? x.held a ≡ some h → h.lane < n
+  old_below : (i a : ℕ) (x : SeatView) (h : Held) → get_elem? s.views i ≡ some x → get_elem? x.held a ≡ some h → h.lane < n
   old_below i a x h p q = r.apart.handed_out id i a n v x h at p spare q
 
-  in_held : (x y : View) (a : ℕ) (h : Held) → x.held ≡ y.held → get_elem? x.held a ≡ some h → get_elem? y.held a ≡ some h
+  in_held : (x y : SeatView) (a : ℕ) (h : Held) → x.held ≡ y.held → get_elem? x.held a ≡ some h → get_elem? y.held a ≡ some h
   in_held x y a h same p = subst (λ (z : List Held). get_elem? z a ≡ some h) same p
 
-  in_new : (x : View) (a : ℕ) (h : Held) → newer ≡ x → get_elem? x.held a ≡ some h → (a ≡ 0) × (fresh ≡ h)
-  in_new x a h same p = alone fresh h a (subst (λ (z : View). get_elem? z.held a ≡ some h) (sym same) p)
+  in_new : (x : SeatView) (a : ℕ) (h : Held) → newer ≡ x → get_elem? x.held a ≡ some h → (a ≡ 0) × (fresh ≡ h)
+  in_new x a h same p = alone fresh h a (subst (λ (z : SeatView). get_elem? z.held a ≡ some h) (sym same) p)
 
   holds_new : HoldsLane o.shape s.words r.book fresh
   holds_new = record {
@@ -85,7 +85,7 @@ module _ (face : ℕ → ℕ → List (ℕ × ℕ) → List ℕ) (o : Opening) (
         view = handing_out v;
         lane = t.lane;
         sits = subst (λ (z : ℕ). get_elem? views z ≡ some (handing_out v)) (sym is) (at_longer (set s.views id (handing_out v)) (newer ∷ []) id (handing_out v) (now_there s.views id v (handing_out v) at));
-        held = subst (λ (z : View). get_elem? z.held a ≡ some t.lane) this t.held;
+        held = subst (λ (z : SeatView). get_elem? z.held a ≡ some t.lane) this t.held;
         listed = t.listed;
       })
       (λ other. record { view = t.view; lane = t.lane; sits = at_longer (set s.views id (handing_out v)) (newer ∷ []) i t.view (stays_there s.views id v (handing_out v) at i t.view other t.sits); held = t.held; listed = t.listed }) (cases_eq i id)
@@ -145,7 +145,7 @@ module _ (face : ℕ → ℕ → List (ℕ × ℕ) → List ℕ) (o : Opening) (
   }
 
 module _ (face : ℕ → ℕ → List (ℕ × ℕ) → List ℕ) (o : Opening) where
-  pub splits_seat : (id n : ℕ) (v : View) → v.live ≡ true → v.spare ≡ Some n → n < v.shape.workers → Splits (Kept face o) id v (handing_out v) (handed_out v)
+  pub splits_seat : (id n : ℕ) (v : SeatView) → v.live ≡ true → v.spare ≡ Some n → n < v.shape.workers → Splits (Kept face o) id v (handing_out v) (handed_out v)
   splits_seat id n v live spare room s r at =
       let shaped : v.shape ≡ o.shape = (r.each_view id v at).shaped live in
       subst (λ (z : Held). Kept face o record { words = s.words; homes = s.homes; views = set s.views id (handing_out v) ++ record { live = v.live; shape = v.shape; members = v.members; seen = v.seen; also = []; held = z ∷ []; spare = None; began = no_beginning; steps = [] } ∷ [] })

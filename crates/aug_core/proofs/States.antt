@@ -16,12 +16,12 @@ use Rattle.aug_core.specs.declared.step.StepTaken.{StepTaken}
 use Rattle.aug_core.specs.declared.view.Held.{Held}
 use Rattle.aug_core.specs.declared.view.LaneState.{LaneState}
 use Rattle.aug_core.specs.declared.view.LaneState.TheVariants.{Taken, Ended, Free}
-use Rattle.aug_core.specs.declared.view.View.{View}
+use Rattle.aug_core.specs.declared.view.SeatView.{SeatView}
 use Rattle.aug_core.proofs.Moves.{St, IsOwnWord, own_moves, moves_on, knows_keeping}
 use Rattle.aug_core.proofs.Stores.{alone, one_lane}
 
 module _ (face : ℕ → ℕ → List (ℕ × ℕ) → List ℕ) (o : Opening) where
-  module _ (s : St) (r : Kept face o s) (id : ℕ) (v : View) (at : get_elem? s.views id ≡ some v) (h : Held) (only : v.held ≡ h ∷ []) (state : LaneState) (some_state : word_of_state Free < word_of_state state) (last_state : word_of_state state ≤ word_of_state Ended) (steps : List StepTaken) where
+  module _ (s : St) (r : Kept face o s) (id : ℕ) (v : SeatView) (at : get_elem? s.views id ≡ some v) (h : Held) (only : v.held ≡ h ∷ []) (state : LaneState) (some_state : word_of_state Free < word_of_state state) (last_state : word_of_state state ≤ word_of_state Ended) (steps : List StepTaken) where
     abbrev place : ℕ
     place = lane_place o.shape h.lane
 
@@ -68,12 +68,12 @@ module _ (face : ℕ → ℕ → List (ℕ × ℕ) → List ℕ) (o : Opening) w
 
   -- what a seat does where it found a word i, which becomes x
   abbrev pub Did : St → ℕ → ℕ → Sat → (ℕ → Sat → Type 0) → ℕ → Type 0
-  Did s i id me then x = (w : View) × (a : Act (Unit {0})) × Valid s.homes me.1 a × Kept face o (stepped s i x id me.1 w a) × then (get_or s.words i 0) (w, carried_after me.1 a)
+  Did s i id me then x = (w : SeatView) × (a : Act (Unit {0})) × Valid s.homes me.1 a × Kept face o (stepped s i x id me.1 w a) × then (get_or s.words i 0) (w, carried_after me.1 a)
 
   pub takes_lane : (n id place : ℕ) (me : Sat) → me.0.live ≡ true → me.1 ≡ [] → MayTake me.0 → place ≡ own_lane_place me.0
       → Allows (Kept face o) n id me place (λ x. either (eqb x (word_of_state Free)) (word_of_state Taken) x) (took_lane (step n place (word_of_state Free) (word_of_state Taken) none) me)
   takes_lane n id place me live empty may is s r _ at _ =
-      let v : View = me.0 in let h : Held = may.lane in let kn = r.each_view id v at in let shaped : v.shape ≡ o.shape = kn.shaped live in
+      let v : SeatView = me.0 in let h : Held = may.lane in let kn = r.each_view id v at in let shaped : v.shape ≡ o.shape = kn.shaped live in
       let is' : place ≡ lane_place o.shape h.lane = is ∙ ap (λ (z : Shape). lane_place z (own_lane v.held)) shaped ∙ ap (λ (z : List Held). lane_place o.shape (own_lane z)) may.only in
       let steps : List StepTaken = v.steps ++ take_lane place (word_of_state Free) ∷ [] in
       let found : get_or s.words place 0 ≡ word_of_state Free = ap (λ (z : ℕ). get_or s.words z 0) is' ∙ found_state s r id v at h may.only Taken (omega arith) (omega arith) steps ∙ ap word_of_state may.free in
@@ -93,7 +93,7 @@ module _ (face : ℕ → ℕ → List (ℕ × ℕ) → List ℕ) (o : Opening) w
   pub finishes_lane : (n id place : ℕ) (me : Sat) → me.0.live ≡ true → me.1 ≡ [] → HasTakenLane me.0 → place ≡ own_lane_place me.0
       → Allows (Kept face o) n id me place (λ _. word_of_state Ended) (λ _ m. finished_lane (step n place (word_of_state Ended) 0 none) me (word_of_state Ended) m)
   finishes_lane n id place me live empty may is s r _ at _ =
-      let v : View = me.0 in let h : Held = may.lane in let kn = r.each_view id v at in let shaped : v.shape ≡ o.shape = kn.shaped live in
+      let v : SeatView = me.0 in let h : Held = may.lane in let kn = r.each_view id v at in let shaped : v.shape ≡ o.shape = kn.shaped live in
       let is' : place ≡ lane_place o.shape h.lane = is ∙ ap (λ (z : Shape). lane_place z (own_lane v.held)) shaped ∙ ap (λ (z : List Held). lane_place o.shape (own_lane z)) may.only in
       let steps : List StepTaken = v.steps ++ finish_lane place ∷ [] in
       let held : on_first (in_state Ended) v.held ≡ in_state Ended h ∷ [] = ap (on_first (in_state Ended)) may.only in (

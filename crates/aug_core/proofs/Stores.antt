@@ -14,7 +14,7 @@ use Rattle.aug_core.specs.inside.LaneStates.{HasTakenLane}
 use Rattle.aug_core.specs.declared.step.StepTaken.{StepTaken}
 use Rattle.aug_core.specs.declared.view.Held.{Held}
 use Rattle.aug_core.specs.declared.view.LaneState.TheVariants.{Taken}
-use Rattle.aug_core.specs.declared.view.View.{View}
+use Rattle.aug_core.specs.declared.view.SeatView.{SeatView}
 use Rattle.aug_core.proofs.Sizes.{in_block, block_inside, blocks_apart}
 use Rattle.aug_core.proofs.Views.{Repeats}
 use Rattle.aug_core.proofs.Moves.{St, IsOwnWord, own_moves, moves_on, knows_keeping}
@@ -27,7 +27,7 @@ module _ {A : Type 0} where
   alone x y (suc a) e = absurd (some-ne-none y (sym e))
 
 -- a view whose one lane changed, but not which lane it is
-pub one_lane : (v : View) (h h' : Held) (seen : Book) (steps : List StepTaken) → v.held ≡ h ∷ [] → h.lane ≡ h'.lane → h.changes ≡ h'.changes → Repeats v record v { seen = seen; held = h' ∷ []; steps = steps }
+pub one_lane : (v : SeatView) (h h' : Held) (seen : Book) (steps : List StepTaken) → v.held ≡ h ∷ [] → h.lane ≡ h'.lane → h.changes ≡ h'.changes → Repeats v record v { seen = seen; held = h' ∷ []; steps = steps }
 one_lane v h h' seen steps only same equal = record {
   back = λ a g p. let t = alone h' g a p in (h, subst (λ (z : List Held). get_elem? z a ≡ some h) (sym only) (subst (λ (z : ℕ). get_elem? (h ∷ []) z ≡ some h) (sym t.0) refl), same ∙ ap (λ (z : Held). z.lane) t.1, equal ∙ ap (λ (z : Held). z.changes) t.1);
   forth = λ a g p. let t = alone h g a (subst (λ (z : List Held). get_elem? z a ≡ some g) only p) in (h', subst (λ (z : ℕ). get_elem? (h' ∷ []) z ≡ some h') (sym t.0) refl, ap (λ (z : Held). z.lane) (sym t.1) ∙ same, ap (λ (z : Held). z.changes) (sym t.1) ∙ equal);
@@ -35,14 +35,14 @@ one_lane v h h' seen steps only same equal = record {
 }
 
 -- the one lane that a view holds
-pub one_held : (v : View) (h g : Held) → HoldsOnly v h → HoldsOnly v g → h ≡ g
+pub one_held : (v : SeatView) (h g : Held) → HoldsOnly v h → HoldsOnly v g → h ≡ g
 one_held v h g a b = some-injective h g (ap (λ (z : List Held). get_elem? z 0) (sym a ∙ b))
 
-pub is_taken : (v : View) (h : Held) → HoldsOnly v h → HasTakenLane v → h.state ≡ Taken
+pub is_taken : (v : SeatView) (h : Held) → HoldsOnly v h → HasTakenLane v → h.state ≡ Taken
 is_taken v h only has = ap (λ (z : Held). z.state) (one_held v h has.lane only has.only) ∙ has.taken
 
 module _ (face : ℕ → ℕ → List (ℕ × ℕ) → List ℕ) (o : Opening) where
-  module _ (s : St) (r : Kept face o s) (id : ℕ) (v : View) (at : get_elem? s.views id ≡ some v) (h : Held) (only : v.held ≡ h ∷ []) (taken : h.state ≡ Taken) (number field x : ℕ)
+  module _ (s : St) (r : Kept face o s) (id : ℕ) (v : SeatView) (at : get_elem? s.views id ≡ some v) (h : Held) (only : v.held ≡ h ∷ []) (taken : h.state ≡ Taken) (number field x : ℕ)
       (of_lane : IsOfLane o.shape h.lane number) (unpublished : Lists h.published number → ⊥) (small : field < record_words) (steps : List StepTaken) where
     abbrev offset : ℕ
     offset = record_words * (number - first_record o.shape h.lane) + field
@@ -98,7 +98,7 @@ module _ (face : ℕ → ℕ → List (ℕ × ℕ) → List ℕ) (o : Opening) w
   pub stores_record_word : (n id place number field x : ℕ) (me : Sat) → me.0.live ≡ true → me.1 ≡ [] → HasTakenLane me.0 → MayStore me.0 number → field < record_words → place ≡ record_start me.0.shape number + field
       → Allows (Kept face o) n id me place (λ _. x) (λ _ m. stored_record (step n place x 0 none) me x m)
   stores_record_word n id place number field x me live empty has may small is s r _ at _ =
-      let v : View = me.0 in let h : Held = may.lane in let kn = r.each_view id v at in let shaped : v.shape ≡ o.shape = kn.shaped live in
+      let v : SeatView = me.0 in let h : Held = may.lane in let kn = r.each_view id v at in let shaped : v.shape ≡ o.shape = kn.shaped live in
       let of_lane : IsOfLane o.shape h.lane number = subst (λ (z : Shape). IsOfLane z h.lane number) shaped may.of_lane in
       let is' : place ≡ record_start o.shape number + field = is ∙ ap (λ (z : Shape). record_start z number + field) shaped in
       let b = (in_block o.shape h.lane number field of_lane small).0 in let steps : List StepTaken = v.steps ++ store_record_word place x ∷ [] in

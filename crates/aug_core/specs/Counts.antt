@@ -11,7 +11,7 @@ use Rattle.aug_core.specs.declared.view.Change.{Change}
 use Rattle.aug_core.specs.declared.view.Entry.{Entry}
 use Rattle.aug_core.specs.declared.view.Held.{Held}
 use Rattle.aug_core.specs.declared.view.LaneState.TheVariants.{Free}
-use Rattle.aug_core.specs.declared.view.View.{View}
+use Rattle.aug_core.specs.declared.view.SeatView.{SeatView}
 
 abbrev pub change : ℕ → ℕ → ℕ → Change
 change key serial weight = record { key = key; serial = serial; weight = weight }
@@ -21,15 +21,15 @@ abbrev pub changes_of : List Held → List Change
 changes_of held = flat_map (λ h. h.changes) held
 
 -- the change stands at this place: the k-th of the a-th lane of the i-th view
-pub record StandsAt (views : List View) (i a k : ℕ) (c : Change) : Type 0 where
-  pub view : View
+pub record StandsAt (views : List SeatView) (i a k : ℕ) (c : Change) : Type 0 where
+  pub view : SeatView
   pub lane : Held
   pub sits : get_elem? views i ≡ some view
   pub held : get_elem? view.held a ≡ some lane
   pub listed : get_elem? lane.changes k ≡ some c
 
 -- the change stands somewhere
-pub record Stands (views : List View) (c : Change) : Type 0 where
+pub record Stands (views : List SeatView) (c : Change) : Type 0 where
   pub seat : ℕ
   pub index : ℕ
   pub place : ℕ
@@ -44,15 +44,15 @@ pub record WasMade (o : Opening) (book : Book) (c : Change) : Type 0 where
   pub weighs : entry.weight ≡ c.weight
 
 -- each serial past the opening one that a leaf has reached is in the changes of exactly one view, once, and nothing else is in them
-pub record AreCounted (o : Opening) (book : Book) (views : List View) : Type 0 where
+pub record AreCounted (o : Opening) (book : Book) (views : List SeatView) : Type 0 where
   pub all : (c : Change) → WasMade o book c → Stands views c
   pub once : (i j a b k l : ℕ) (c : Change) → StandsAt views i a k c → StandsAt views j b l c → (i ≡ j) × (a ≡ b) × (k ≡ l)
   pub none_else : (i a k : ℕ) (c : Change) → StandsAt views i a k c → WasMade o book c
 
 -- how many changes each lane has: a lane has at most twice as many as its updates, and no serial is greater than the opening one plus the sum of all
-pub record AreTallied (o : Opening) (words : List ℕ) (book : Book) (views : List View) (tally : List ℕ) : Type 0 where
+pub record AreTallied (o : Opening) (words : List ℕ) (book : Book) (views : List SeatView) (tally : List ℕ) : Type 0 where
   pub long : length tally ≡ o.shape.workers
-  pub each : (i a : ℕ) (v : View) (h : Held) → get_elem? views i ≡ some v → get_elem? v.held a ≡ some h → length h.changes ≡ slice_index tally h.lane
+  pub each : (i a : ℕ) (v : SeatView) (h : Held) → get_elem? views i ≡ some v → get_elem? v.held a ≡ some h → length h.changes ≡ slice_index tally h.lane
   pub few : (lane : ℕ) → lane < o.shape.workers → slice_index tally lane ≤ 2 * o.shape.updates
   pub free : (lane : ℕ) → lane < o.shape.workers → slice_index words (lane_place o.shape lane) ≡ word_of_state Free → slice_index tally lane ≡ 0
   pub enough : (key : ℕ) → key < 2 ^ o.shape.bits → length (history_of book key) ≤ opening_serial o.members key + 1 + sum tally

@@ -13,7 +13,7 @@ use Rattle.aug_core.specs.declared.view.Beginning.{Beginning}
 use Rattle.aug_core.specs.declared.view.Entry.{Entry}
 use Rattle.aug_core.specs.declared.view.Held.{Held}
 use Rattle.aug_core.specs.declared.view.LaneState.TheVariants.{Free, Ended}
-use Rattle.aug_core.specs.declared.view.View.{View}
+use Rattle.aug_core.specs.declared.view.SeatView.{SeatView}
 
 -- the number stands in the list
 abbrev pub Lists : List ℕ → ℕ → Type 0
@@ -44,7 +44,7 @@ pub record HoldsLane (s : Shape) (words : List ℕ) (book : Book) (h : Held) : T
   pub published : (q i : ℕ) (e : Entry) → IsInner s q → At book q i e → IsOfLane s h.lane e.number → Lists h.published e.number
 
 -- what holds for each view
-pub record Knows (o : Opening) (words : List ℕ) (book : Book) (v : View) : Type 0 where
+pub record Knows (o : Opening) (words : List ℕ) (book : Book) (v : SeatView) : Type 0 where
   -- a view of a seat that was not joined knows how the table is laid out
   pub shaped : v.live ≡ true → v.shape ≡ o.shape
   -- and which keys it opened with
@@ -86,16 +86,16 @@ pub record KeepsLanes (o : Opening) (words : List ℕ) (book : Book) : Type 0 wh
   pub unused : (lane q i : ℕ) (e : Entry) → lane < o.shape.workers → slice_index words (lane_place o.shape lane) ≡ word_of_state Free → IsInner o.shape q → At book q i e → IsOfLane o.shape lane e.number → ⊥
 
 -- which view holds which lane
-pub record AreApart (views : List View) : Type 0 where
+pub record AreApart (views : List SeatView) : Type 0 where
   -- a lane is held once in all views
-  pub one_holder : (i j a b : ℕ) (v w : View) (h g : Held) → get_elem? views i ≡ some v → get_elem? views j ≡ some w → get_elem? v.held a ≡ some h → get_elem? w.held b ≡ some g → h.lane ≡ g.lane → (i ≡ j) × (a ≡ b)
+  pub one_holder : (i j a b : ℕ) (v w : SeatView) (h g : Held) → get_elem? views i ≡ some v → get_elem? views j ≡ some w → get_elem? v.held a ≡ some h → get_elem? w.held b ≡ some g → h.lane ≡ g.lane → (i ≡ j) × (a ≡ b)
   -- at most one view hands lanes out
-  pub one_lead : (i j n m : ℕ) (v w : View) → get_elem? views i ≡ some v → get_elem? views j ≡ some w → v.spare ≡ Some n → w.spare ≡ Some m → i ≡ j
+  pub one_lead : (i j n m : ℕ) (v w : SeatView) → get_elem? views i ≡ some v → get_elem? views j ≡ some w → v.spare ≡ Some n → w.spare ≡ Some m → i ≡ j
   -- a lane that is held was handed out
-  pub handed_out : (i j a n : ℕ) (v w : View) (h : Held) → get_elem? views i ≡ some v → get_elem? views j ≡ some w → v.spare ≡ Some n → get_elem? w.held a ≡ some h → h.lane < n
+  pub handed_out : (i j a n : ℕ) (v w : SeatView) (h : Held) → get_elem? views i ≡ some v → get_elem? views j ≡ some w → v.spare ≡ Some n → get_elem? w.held a ≡ some h → h.lane < n
 
 -- the accepted changes
-pub record KeepsChanges (o : Opening) (words : List ℕ) (book : Book) (views : List View) : Type 0 where
+pub record KeepsChanges (o : Opening) (words : List ℕ) (book : Book) (views : List SeatView) : Type 0 where
   -- each change is counted once
   pub counted : AreCounted o book views
   -- and `tally` has the number of each lane's changes
@@ -103,14 +103,14 @@ pub record KeepsChanges (o : Opening) (words : List ℕ) (book : Book) (views : 
   pub tallied : AreTallied o words book views tally
 
 -- the rule
-pub record Kept (face : ℕ → ℕ → List (ℕ × ℕ) → List ℕ) (o : Opening) (s : State (Unit {0}) View) : Type 0 where
+pub record Kept (face : ℕ → ℕ → List (ℕ × ℕ) → List ℕ) (o : Opening) (s : State (Unit {0}) SeatView) : Type 0 where
   pub book : Book
   -- the words of the tree are as the book says
   pub tree : KeepsTree face o s.words book
   -- the lanes' words and the records of free lanes
   pub lanes : KeepsLanes o s.words book
   -- each view is right
-  pub each_view : (j : ℕ) (v : View) → get_elem? s.views j ≡ some v → Knows o s.words book v
+  pub each_view : (j : ℕ) (v : SeatView) → get_elem? s.views j ≡ some v → Knows o s.words book v
   -- no two of them hold one lane
   pub apart : AreApart s.views
   -- all changes are counted
@@ -121,5 +121,5 @@ abbrev pub no_beginning : Beginning
 no_beginning = record { seen = []; steps = []; changes = [] }
 
 -- the view of the first seat, which hands all lanes out
-abbrev pub newcomer : (ℕ → ℕ → List (ℕ × ℕ) → List ℕ) → Opening → View
+abbrev pub newcomer : (ℕ → ℕ → List (ℕ × ℕ) → List ℕ) → Opening → SeatView
 newcomer face o = record { live = true; shape = o.shape; members = o.members; seen = opening_book face o; also = []; held = []; spare = Some 0; began = no_beginning; steps = [] }

@@ -20,4 +20,4 @@ pub use plays::{
 };
 pub use rule::{SharedWords, WordsRule};
 pub use step::{StepKind, StepTaken};
-pub use view::{Advance, Beginning, Change, Entry, Held, LaneState, View};
+pub use view::{Advance, Beginning, Change, Entry, Held, LaneState, SeatView};

@@ -2,7 +2,7 @@
 ghost use Rattle.aug_core.specs.Told.{read_record, stored_record, took_lane, finished_lane, handing_out, handed_out, taking_back, spent, loaded_leaf, began_at_leaf, tried_leaf, loaded_node, tried_node};
 ghost use Rattle.aug_core.specs.Faces.{face};
 
-use crate::view::View;
+use crate::view::SeatView;
 use atomic_table::{Join, Play, Split};
 use aug_monoid::Monoid;
 use std::marker::PhantomData;
@@ -10,35 +10,35 @@ use std::marker::PhantomData;
 /// A load of a word of any record.
 pub struct LoadAnyRecord;
 
-impl Play<(), View> for LoadAnyRecord {
+impl Play<(), SeatView> for LoadAnyRecord {
     ghost then = { read_record };
 }
 
 /// A store of a word of a record of the seat's own lane.
 pub struct StoreOwnRecord;
 
-impl Play<(), View> for StoreOwnRecord {
+impl Play<(), SeatView> for StoreOwnRecord {
     ghost then = { stored_record };
 }
 
 /// A compare-exchange of the own lane's word, from free to taken.
 pub struct TakeOwnLane;
 
-impl Play<(), View> for TakeOwnLane {
+impl Play<(), SeatView> for TakeOwnLane {
     ghost then = { took_lane };
 }
 
 /// A store of the own lane's word as ended.
 pub struct FinishOwnLane;
 
-impl Play<(), View> for FinishOwnLane {
+impl Play<(), SeatView> for FinishOwnLane {
     ghost then = { finished_lane };
 }
 
 /// A view hands out its next lane to a new one.
 pub struct HandOut;
 
-impl Split<View> for HandOut {
+impl Split<SeatView> for HandOut {
     ghost left = { handing_out };
 
     ghost right = { handed_out };
@@ -47,7 +47,7 @@ impl Split<View> for HandOut {
 /// A view takes in the lanes of another.
 pub struct TakeBack;
 
-impl Join<View> for TakeBack {
+impl Join<SeatView> for TakeBack {
     ghost both = { taking_back };
 
     ghost spent = { spent };
@@ -58,7 +58,7 @@ pub struct LoadAnyLeaf<A, B> {
     sums: PhantomData<(A, B)>,
 }
 
-impl<A: Monoid, B: Monoid> Play<(), View> for LoadAnyLeaf<A, B> {
+impl<A: Monoid, B: Monoid> Play<(), SeatView> for LoadAnyLeaf<A, B> {
     ghost then = { loaded_leaf (face A.parts B.parts) };
 }
 
@@ -67,7 +67,7 @@ pub struct BeginAtLeaf<A, B> {
     sums: PhantomData<(A, B)>,
 }
 
-impl<A: Monoid, B: Monoid> Play<(), View> for BeginAtLeaf<A, B> {
+impl<A: Monoid, B: Monoid> Play<(), SeatView> for BeginAtLeaf<A, B> {
     ghost then = { began_at_leaf (face A.parts B.parts) };
 }
 
@@ -76,7 +76,7 @@ pub struct TryAnyLeaf<A, B> {
     sums: PhantomData<(A, B)>,
 }
 
-impl<A: Monoid, B: Monoid> Play<(), View> for TryAnyLeaf<A, B> {
+impl<A: Monoid, B: Monoid> Play<(), SeatView> for TryAnyLeaf<A, B> {
     ghost then = { tried_leaf (face A.parts B.parts) };
 }
 
@@ -85,7 +85,7 @@ pub struct LoadAnyNode<A, B> {
     sums: PhantomData<(A, B)>,
 }
 
-impl<A: Monoid, B: Monoid> Play<(), View> for LoadAnyNode<A, B> {
+impl<A: Monoid, B: Monoid> Play<(), SeatView> for LoadAnyNode<A, B> {
     ghost then = { loaded_node (face A.parts B.parts) };
 }
 
@@ -94,6 +94,6 @@ pub struct TryAnyNode<A, B> {
     sums: PhantomData<(A, B)>,
 }
 
-impl<A: Monoid, B: Monoid> Play<(), View> for TryAnyNode<A, B> {
+impl<A: Monoid, B: Monoid> Play<(), SeatView> for TryAnyNode<A, B> {
     ghost then = { tried_node (face A.parts B.parts) };
 }

@@ -79,7 +79,7 @@ pub struct Beginning {
 }
 
 /// What a seat knows of a table.
-pub struct View {
+pub struct SeatView {
     /// False once another seat took it in.
     pub live: bool,
     /// How the table is laid out.

@@ -7,7 +7,7 @@ use Rattle.aug_trie.specs.Pass.{PassFacts}
 use Rattle.aug_trie.specs.Node.{Keeps, Reads}
 use Rattle.aug_trie.specs.Snapshot.{HasSnapshot, set_at}
 use Rattle.aug_trie.specs.declared.queries.snapshot.Snapshot.{Snapshot}
-use Rattle.aug_trie.proofs.Pieces.{begins_refl, begins_on}
+use Rattle.aug_trie.proofs.Pieces.{prefix_refl, prefix_trans}
 
 module _ {A B : Type 0} (summary_of : List (ℕ × ℕ) → Summary A B) where
   pub keeps_self : (p : PassFacts) → Keeps summary_of p p
@@ -23,7 +23,7 @@ module _ {A B : Type 0} (summary_of : List (ℕ × ℕ) → Summary A B) where
 
   pub reads_none : (p : PassFacts) → Reads summary_of 0 p p
   reads_none p = record {
-    stays = record { same = refl; steps_stay = begins_refl p.steps; keeps = keeps_self p };
+    stays = record { same = refl; steps_stay = prefix_refl p.steps; keeps = keeps_self p };
     few_steps = omega arith;
   }
 
@@ -31,7 +31,7 @@ module _ {A B : Type 0} (summary_of : List (ℕ × ℕ) → Summary A B) where
   reads_more i most p q r a b = let s = a.stays in let t = b.stays in let e = a.few_steps in let f = b.few_steps in record {
     stays = record {
       same = t.same ∙ ap (λ (z : PassFacts). record z { steps = r.steps; words = r.words }) s.same;
-      steps_stay = begins_on p.steps q.steps r.steps s.steps_stay t.steps_stay;
+      steps_stay = prefix_trans p.steps q.steps r.steps s.steps_stay t.steps_stay;
       keeps = keeps_on p q r s.keeps t.keeps;
     };
     few_steps = omega (arith, e, f);

@@ -7,7 +7,7 @@ use Rattle.aug_core.specs.Cuts.{Cut, pairs_of_cut}
 use Rattle.aug_trie.specs.History.{IsPrefix, IsHistory, last_cut}
 use Rattle.aug_trie.specs.Pass.{PassFacts}
 use Rattle.aug_trie.specs.Round.{RoundFacts}
-use Rattle.aug_trie.proofs.Pieces.{begins_on}
+use Rattle.aug_trie.proofs.Pieces.{prefix_trans}
 use Rattle.aug_live.specs.Carrying.{RoundsLead, Carried}
 use Rattle.aug_live.specs.LiveHandles.{HandleFacts, IsSuccessor, Follows, Makes}
 
@@ -36,7 +36,7 @@ carried_from : (a b : PassFacts) (last : List (ℕ × ℕ)) → (b ≡ a) ⊎ Is
 carried_from a b last (inl same) x = subst (λ (z : PassFacts). Carried z last) same x
 carried_from a b last (inr c) x = record {
   history = x.history;
-  goes_on = begins_on a.knows.history b.knows.history x.history c.goes_on x.goes_on;
+  goes_on = prefix_trans a.knows.history b.knows.history x.history c.goes_on x.goes_on;
   is_history = subst (λ (z : RoundFacts). IsHistory z.bits z.members x.history) c.round x.is_history;
   rounds = x.rounds;
   lead = subst (λ (z : RoundFacts). RoundsLead z.bits (pairs_of_cut (last_cut x.history)) x.rounds last) c.round x.lead;
@@ -50,7 +50,7 @@ same_round a b (inr c) = c.round
 continues_on : (a b c : PassFacts) → (b ≡ a) ⊎ IsSuccessor a b → (c ≡ b) ⊎ IsSuccessor b c → (c ≡ a) ⊎ IsSuccessor a c
 continues_on a b c x (inl same) = subst (λ (z : PassFacts). (z ≡ a) ⊎ IsSuccessor a z) (sym same) x
 continues_on a b c (inl same) (inr y) = inr (subst (λ (z : PassFacts). IsSuccessor z c) same y)
-continues_on a b c (inr x) (inr y) = inr (record { round = y.round ∙ x.round; goes_on = begins_on a.knows.history b.knows.history c.knows.history x.goes_on y.goes_on })
+continues_on a b c (inr x) (inr y) = inr (record { round = y.round ∙ x.round; goes_on = prefix_trans a.knows.history b.knows.history c.knows.history x.goes_on y.goes_on })
 
 pub follows_self : (h : HandleFacts) → Follows h h
 follows_self h = record { not_later = omega arith; same = λ _. inl refl; carried = λ less. absurd (omega arith); bits = refl }

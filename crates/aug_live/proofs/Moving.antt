@@ -8,7 +8,7 @@ use Rattle.aug_trie.specs.History.{IsPrefix, IsHistory}
 use Rattle.aug_trie.specs.Round.{RoundFacts}
 use Rattle.aug_trie.specs.Ended.{EndedFacts}
 use Rattle.aug_trie.specs.Crew.{CrewFacts, Ends}
-use Rattle.aug_trie.proofs.Pieces.{begins_on}
+use Rattle.aug_trie.proofs.Pieces.{prefix_trans}
 use Rattle.aug_live.specs.inside.LaneKnowledge.{KnownFacts}
 use Rattle.aug_live.specs.inside.Rolls.{IsBackIn, HasCarried}
 use Rattle.aug_live.proofs.Carries.{carried_to}
@@ -35,7 +35,7 @@ module _ {A : Type 0} (P : A → Type 0) where
 
 -- what is in a history is in each later one
 back_on : (round : RoundFacts) (era : ℕ) (h h' : List Cut) (v : KnownFacts) → IsPrefix h h' → IsBackIn round era h v → IsBackIn round era h' v
-back_on round era h h' v on b = record { whose = b.whose; works = b.works; era_is = b.era_is; round_is = b.round_is; known = begins_on v.at.half.knows.history h h' b.known on }
+back_on round era h h' v on b = record { whose = b.whose; works = b.works; era_is = b.era_is; round_is = b.round_is; known = prefix_trans v.at.half.knows.history h h' b.known on }
 
 pub all_back_on : (round : RoundFacts) (era : ℕ) (h h' : List Cut) (xs : List KnownFacts) → IsPrefix h h' → All (IsBackIn round era h) xs → All (IsBackIn round era h') xs
 all_back_on round era h h' xs on all k d low = back_on round era h h' (get_or xs k d) on (all k d low)

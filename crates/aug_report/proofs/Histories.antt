@@ -5,13 +5,13 @@ use Rattle.std.proofs.lemmas.List.Prefix.{front_reads, front_fits}
 use Rattle.aug_core.specs.Cuts.{Cut, serial_of, IsAtMost, opening_cut}
 use Rattle.aug_trie.specs.History.{IsPrefix, last_cut, IsHistory}
 use Rattle.aug_trie.proofs.CutLemmas.{serial_rises}
-use Rattle.aug_trie.proofs.Pieces.{begins_refl, begins_on}
+use Rattle.aug_trie.proofs.Pieces.{prefix_refl, prefix_trans}
 
-pub begins-same : {A : Type 0} (xs ys : List A) → ys ≡ xs → IsPrefix xs ys
-begins-same xs ys is = ([], is ∙ sym (append-nil xs))
+pub prefix-same : {A : Type 0} (xs ys : List A) → ys ≡ xs → IsPrefix xs ys
+prefix-same xs ys is = ([], is ∙ sym (append-nil xs))
 
-pub begins-length : {A : Type 0} (xs ys : List A) → IsPrefix xs ys → length xs ≤ length ys
-begins-length xs ys b = front_fits ys xs b.0 b.1
+pub prefix-length : {A : Type 0} (xs ys : List A) → IsPrefix xs ys → length xs ≤ length ys
+prefix-length xs ys b = front_fits ys xs b.0 b.1
 
 -- no key's serial falls from one cut to another
 abbrev pub Below : Cut → Cut → Type 0
@@ -54,16 +54,16 @@ module _ (bits : ℕ) (members : List (ℕ × ℕ)) (history : List Cut) (is_his
   -- of two beginnings the longer shows at least what the shorter shows
   pub last-rises : (short long : List Cut) → 0 < length short → IsPrefix short long → IsPrefix long history → IsAtMost (last_cut short) (last_cut long)
   last-rises short long some b rest =
-      let fits = begins-length short long b in
-      let within = begins-length long history rest in
+      let fits = prefix-length short long b in
+      let within = prefix-length long history rest in
       let le = rises_to (length short - 1) (length long - 1) (omega arith) (omega arith) in
-      rw (last_of short some (begins_on short long history b rest), last_of long (omega arith) rest) le
+      rw (last_of short some (prefix_trans short long history b rest), last_of long (omega arith) rest) le
 
   pub last-at_most_final : (front : List Cut) → 0 < length front → IsPrefix front history → IsAtMost (last_cut front) (last_cut history)
-  last-at_most_final front some b = last-rises front history some b (begins_refl history)
+  last-at_most_final front some b = last-rises front history some b (prefix_refl history)
 
   pub opening-at_most : (front : List Cut) → IsPrefix (opening_cut bits members ∷ []) front → IsPrefix front history → IsAtMost (opening_cut bits members) (last_cut front)
   opening-at_most front opens b = last-rises (opening_cut bits members ∷ []) front (omega arith) opens b
 
   pub opens-some : (front : List Cut) → IsPrefix (opening_cut bits members ∷ []) front → 0 < length front
-  opens-some front opens = begins-length (opening_cut bits members ∷ []) front opens
+  opens-some front opens = prefix-length (opening_cut bits members ∷ []) front opens

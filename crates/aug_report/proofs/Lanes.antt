@@ -27,8 +27,8 @@ use Rattle.aug_script.specs.declared.row.Row.{Row}
 use Rattle.aug_script.specs.declared.verb.Verb.{Verb}
 use Rattle.aug_script.specs.declared.verb.Verb.TheVariants as verb
 use Rattle.aug_trie.proofs.CutLemmas.{serial_rises, is_member-set_of_cut, same_cut, odd}
-use Rattle.aug_report.proofs.Histories.{below_of, begins-same, begins-length, last-rises, last-at_most_final}
-use Rattle.aug_trie.proofs.Pieces.{begins_on}
+use Rattle.aug_report.proofs.Histories.{below_of, prefix-same, prefix-length, last-rises, last-at_most_final}
+use Rattle.aug_trie.proofs.Pieces.{prefix_trans}
 use Rattle.aug_report.proofs.Advances.{AllShow, AllPast, ChangesOne, tally_one, tally_two, tally_nothing, tallies-front, tallies-rest}
 use Rattle.aug_trie.proofs.TallyLemmas.{counted, counted-append}
 use Rattle.aug_report.proofs.SetChanges.{pairs-with_key, pairs-without_key}
@@ -272,7 +272,7 @@ step_asks : (v : Verb) (about : List (ℕ × ℕ) → Reply) → ((s : Sets) →
     → ((pairs : List (ℕ × ℕ)) → is_insertion (about pairs) ≡ false) → ((pairs : List (ℕ × ℕ)) → is_removal (about pairs) ≡ false)
     → (r : Reply) (old new : Lane) → (r ≡ about (pairs_of_cut old.held)) × (new ≡ old) → Step v r old new
 step_asks v about says keeps no_insertion no_removal r old new asks = record {
-  goes = goes_nowhere old.knows new.knows (begins-same old.knows.history new.knows.history (ap (λ (l : Lane). l.knows.history) asks.1)) (ap (λ (l : Lane). l.knows.accepted) asks.1);
+  goes = goes_nowhere old.knows new.knows (prefix-same old.knows.history new.knows.history (ap (λ (l : Lane). l.knows.history) asks.1)) (ap (λ (l : Lane). l.knows.accepted) asks.1);
   inserts = sym (ap one_if (ap is_insertion asks.0 ∙ no_insertion (pairs_of_cut old.held)));
   removals = sym (ap one_if (ap is_removal asks.0 ∙ no_removal (pairs_of_cut old.held)));
   replies = λ h. asks.0 ∙ sym (says (sets_of_lane old));
@@ -332,9 +332,9 @@ module _ (bits : ℕ) (members : List (ℕ × ℕ)) (history : List Cut) (is_his
       → Step line.0.verb line.1 old next → Story history lines next new → Story history (line ∷ lines) old new
   unfolding replies_of sets_of
   story_more line lines old next new some within first rest =
-      let next_within = begins_on next.knows.history new.knows.history history rest.goes.goes_on within in
+      let next_within = prefix_trans next.knows.history new.knows.history history rest.goes.goes_on within in
       let le = last-rises bits members history is_history old.knows.history next.knows.history some first.goes.goes_on next_within in
-      let longer = begins-length old.knows.history next.knows.history first.goes.goes_on in
+      let longer = prefix-length old.knows.history next.knows.history first.goes.goes_on in
       let up = last-rises bits members history is_history next.knows.history new.knows.history (omega (arith, some, longer)) rest.goes.goes_on within in
       let to_end = last-at_most_final bits members history is_history next.knows.history (omega (arith, some, longer)) next_within in
       let front = λ (t : Tallies (last_cut old.knows.history) (last_cut history) (first.goes.more ++ rest.goes.more)).
@@ -345,7 +345,7 @@ module _ (bits : ℕ) (members : List (ℕ × ℕ)) (history : List Cut) (is_his
       record {
         goes = record {
           more = first.goes.more ++ rest.goes.more;
-          goes_on = begins_on old.knows.history next.knows.history new.knows.history first.goes.goes_on rest.goes.goes_on;
+          goes_on = prefix_trans old.knows.history next.knows.history new.knows.history first.goes.goes_on rest.goes.goes_on;
           adds = rest.goes.adds ∙ ap (λ l. l ++ rest.goes.more) first.goes.adds ∙ append_assoc old.knows.accepted first.goes.more rest.goes.more;
           past = All-append (past_of (last_cut old.knows.history)) first.goes.more rest.goes.more first.goes.past
               (All-weaker (past_of (last_cut next.knows.history)) (past_of (last_cut old.knows.history)) (λ c h. omega (arith, h, serial_rises (last_cut old.knows.history) (last_cut next.knows.history) c.key le)) rest.goes.more rest.goes.past);
@@ -362,10 +362,10 @@ module _ (bits : ℕ) (members : List (ℕ × ℕ)) (history : List Cut) (is_his
   story_none : (old new : Lane) → new ≡ old → 0 < length old.knows.history → IsPrefix new.knows.history history → Story history [] old new
   unfolding replies_of sets_of
   story_none old new stays some within =
-      let old_within = begins_on old.knows.history new.knows.history history (begins-same old.knows.history new.knows.history (ap (λ (l : Lane). l.knows.history) stays)) within in
+      let old_within = prefix_trans old.knows.history new.knows.history history (prefix-same old.knows.history new.knows.history (ap (λ (l : Lane). l.knows.history) stays)) within in
       let le = last-at_most_final bits members history is_history old.knows.history some old_within in
       record {
-        goes = goes_nowhere old.knows new.knows (begins-same old.knows.history new.knows.history (ap (λ (l : Lane). l.knows.history) stays)) (ap (λ (l : Lane). l.knows.accepted) stays);
+        goes = goes_nowhere old.knows new.knows (prefix-same old.knows.history new.knows.history (ap (λ (l : Lane). l.knows.history) stays)) (ap (λ (l : Lane). l.knows.accepted) stays);
         inserts = refl;
         removals = refl;
         replies = λ t. refl;
@@ -377,5 +377,5 @@ module _ (bits : ℕ) (members : List (ℕ × ℕ)) (history : List Cut) (is_his
   story [] old new runs some within = story_none old new runs some within
   story (line ∷ lines) old new runs some within =
       let first = step line.0.verb line.1 old runs.0 runs.1 in
-      let longer = begins-length old.knows.history runs.0.knows.history first.goes.goes_on in
+      let longer = prefix-length old.knows.history runs.0.knows.history first.goes.goes_on in
       story_more line lines old runs.0 new some within first (story lines runs.0 new runs.2 (omega (arith, some, longer)) within)

@@ -13,7 +13,7 @@ use Rattle.aug_script.specs.declared.report.Report.{Report}
 use Rattle.aug_script.specs.declared.row.Row.{Row}
 use Rattle.aug_report.specs.AllowedReport.{Lane, AllowedReport, lines_of, all_accepted}
 use Rattle.aug_trie.proofs.CutLemmas.{set_of_cut-opening}
-use Rattle.aug_trie.proofs.Pieces.{begins_refl}
+use Rattle.aug_trie.proofs.Pieces.{prefix_refl}
 use Rattle.aug_trie.proofs.TallyLemmas.{counted, counted-append, sizes}
 use Rattle.aug_report.proofs.Histories.{opening-at_most, opens-some}
 use Rattle.aug_report.proofs.Lanes.{story}
@@ -23,7 +23,7 @@ use Rattle.aug_report.proofs.TwoInsertions.{nobody}
 pub sizes_add_up : (bits workers : ℕ) (members : List (ℕ × ℕ)) (report : Report) (closing : List (ℕ × ℕ)) → IsKeySet bits (keys_of members) → AllowedReport bits workers members report closing
     → report.size + report.removals ≡ length members + report.inserts
 sizes_add_up bits workers members report closing is_set allowed =
-    let le = opening-at_most bits members allowed.history allowed.is_history allowed.history allowed.is_history.opens (begins_refl allowed.history) in
+    let le = opening-at_most bits members allowed.history allowed.is_history allowed.history allowed.is_history.opens (prefix_refl allowed.history) in
     let sum = sizes (opening_cut bits members) (last_cut allowed.history) (all_accepted allowed.lanes) le allowed.tallies in
     let opened = ap (λ (l : List ℕ). length l) (set_of_cut-opening bits members is_set) ∙ length-keys_of members in
     let closed = ap (λ (l : List (ℕ × ℕ)). length l) allowed.closes ∙ length-pairs_of (weight_at (last_cut allowed.history)) (set_of_cut (last_cut allowed.history)) in

@@ -19,10 +19,10 @@ use Rattle.aug_script.specs.declared.verb.Verb.{Verb}
 use Rattle.aug_script.specs.declared.verb.Verb.TheVariants as verb
 use Rattle.aug_report.specs.AllowedReport.{Lane, Answers, AnswersAll, AllowedReport, lines_of, all_accepted, reply_to_put}
 use Rattle.aug_trie.proofs.CutLemmas.{serial_rises}
-use Rattle.aug_trie.proofs.Pieces.{begins_refl, begins_on}
+use Rattle.aug_trie.proofs.Pieces.{prefix_refl, prefix_trans}
 use Rattle.aug_trie.proofs.TallyLemmas.{counted-cons}
 use Rattle.aug_report.proofs.Advances.{tally_nothing}
-use Rattle.aug_report.proofs.Histories.{opening-at_most, opens-some, begins-length, last-at_most_final}
+use Rattle.aug_report.proofs.Histories.{opening-at_most, opens-some, prefix-length, last-at_most_final}
 use Rattle.aug_report.proofs.Lanes.{step, story}
 use Rattle.aug_report.proofs.TwoInsertions.{nobody}
 
@@ -81,8 +81,8 @@ module _ (bits : ℕ) (members : List (ℕ × ℕ)) (history : List Cut) (is_his
   still_between : (old new : Lane) → IsPrefix (opening_cut bits members ∷ []) old.knows.history → IsPrefix old.knows.history new.knows.history → IsPrefix new.knows.history history → Still old new
   still_between old new opens goes_on within k =
       let some = opens-some bits members history is_history old.knows.history opens in
-      let longer = begins-length old.knows.history new.knows.history goes_on in
-      let low = opening-at_most bits members history is_history old.knows.history opens (begins_on old.knows.history new.knows.history history goes_on within) in
+      let longer = prefix-length old.knows.history new.knows.history goes_on in
+      let low = opening-at_most bits members history is_history old.knows.history opens (prefix_trans old.knows.history new.knows.history history goes_on within) in
       let high = last-at_most_final bits members history is_history new.knows.history (omega (arith, some, longer)) within in
       omega (arith, no_more k, serial_rises (opening_cut bits members) (last_cut old.knows.history) k low, serial_rises (last_cut new.knows.history) (last_cut history) k high)
 
@@ -92,9 +92,9 @@ module _ (bits : ℕ) (members : List (ℕ × ℕ)) (history : List Cut) (is_his
   none_lost (line ∷ lines) old new runs opens within =
       let next = runs.0 in
       let first = step line.0.verb line.1 old next runs.1 in
-      let next_opens = begins_on (opening_cut bits members ∷ []) old.knows.history next.knows.history opens first.goes.goes_on in
+      let next_opens = prefix_trans (opening_cut bits members ∷ []) old.knows.history next.knows.history opens first.goes.goes_on in
       let rest = story bits members history is_history lines next new runs.2 (opens-some bits members history is_history next.knows.history next_opens) within in
-      let next_within = begins_on next.knows.history new.knows.history history rest.goes.goes_on within in
+      let next_within = prefix_trans next.knows.history new.knows.history history rest.goes.goes_on within in
       All-cons NotLost line lines (not_lost line.0.verb line.1 old next runs.1 (still_between old next opens first.goes.goes_on next_within)) (none_lost lines next new runs.2 next_opens within)
 
 -- what holds of each lane's lines holds of all
@@ -118,7 +118,7 @@ pub lost_has_cause : (bits workers : ℕ) (members : List (ℕ × ℕ)) (report 
 lost_has_cause bits workers members report closing allowed none_in none_out =
     let nothing : all_accepted allowed.lanes ≡ [] = no_changes (all_accepted allowed.lanes) (sym allowed.inserts ∙ none_in) (sym allowed.removals ∙ none_out) in
     let tallies = rw nothing at allowed.tallies in
-    let le = opening-at_most bits members allowed.history allowed.is_history allowed.history allowed.is_history.opens (begins_refl allowed.history) in
+    let le = opening-at_most bits members allowed.history allowed.is_history allowed.history allowed.is_history.opens (prefix_refl allowed.history) in
     let same = tally_nothing (opening_cut bits members) (last_cut allowed.history) le tallies in
     of_all_lanes NotLost workers report.rows allowed.of_lanes (λ lane exists.
     let ran = allowed.runs lane nobody exists in

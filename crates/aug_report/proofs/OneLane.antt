@@ -18,7 +18,7 @@ use Rattle.aug_script.specs.declared.report.Report.{Report}
 use Rattle.aug_script.specs.declared.row.Row.{Row}
 use Rattle.aug_trie.proofs.CutLemmas.{same_cut, pairs_of_cut-opening}
 use Rattle.aug_report.proofs.Histories.{below_of, opening-at_most, opens-some, last-at_most_final}
-use Rattle.aug_trie.proofs.Pieces.{begins_on}
+use Rattle.aug_trie.proofs.Pieces.{prefix_trans}
 use Rattle.aug_report.proofs.Advances.{tally_nothing, tallies-front, tallies-rest}
 use Rattle.aug_report.proofs.Lanes.{story, sets_of_lane}
 
@@ -73,7 +73,7 @@ module _ (bits : ℕ) (members : List (ℕ × ℕ)) (history : List Cut) (is_his
       let start = ran.start in
       let some = opens-some bits members history is_history start.knows.history ran.opens.sees_opening in
       let told = story bits members history is_history lines start end ran.runs some ran.of_history in
-      let within = begins_on start.knows.history end.knows.history history told.goes.goes_on ran.of_history in
+      let within = prefix_trans start.knows.history end.knows.history history told.goes.goes_on ran.of_history in
       let changes : end.knows.accepted ≡ told.goes.more = told.goes.adds ∙ ap (λ l. l ++ told.goes.more) ran.opens.no_change in
       let all = rw changes at tallies in
       let low = opening-at_most bits members history is_history start.knows.history ran.opens.sees_opening within in

@@ -12,7 +12,7 @@ use Rattle.aug_model.proofs.Rising.{is_wider}
 use Rattle.aug_core.specs.Cuts.{Cut, serial_of, set_of_cut, weight_at}
 use Rattle.aug_trie.specs.History.{last_cut}
 use Rattle.aug_trie.proofs.CutLemmas.{length-opening}
-use Rattle.aug_trie.proofs.Pieces.{begins_refl}
+use Rattle.aug_trie.proofs.Pieces.{prefix_refl}
 use Rattle.aug_script.specs.Limits.{Bounds, IsBounds}
 use Rattle.aug_script.specs.Replies.{report_of}
 use Rattle.aug_script.specs.Script.{NeverNarrows, rounds_of}
@@ -47,7 +47,7 @@ cut_keys bits cut long = record {
 closes_with_keys : (bits workers : ℕ) (members : List (ℕ × ℕ)) (report : Report) (closing : List (ℕ × ℕ)) → AllowedReport bits workers members report closing → IsKeySet bits (keys_of closing)
 closes_with_keys bits workers members report closing allowed =
     let cut = last_cut allowed.history in
-    let le = opening-at_most bits members allowed.history allowed.is_history allowed.history allowed.is_history.opens (begins_refl allowed.history) in
+    let le = opening-at_most bits members allowed.history allowed.is_history allowed.history allowed.is_history.opens (prefix_refl allowed.history) in
     let keys : keys_of closing ≡ set_of_cut cut = ap keys_of allowed.closes ∙ keys_of-pairs_of (weight_at cut) (set_of_cut cut) in
     subst (IsKeySet bits) (sym keys) (cut_keys bits cut (sym le.same_keys ∙ length-opening bits members))
 

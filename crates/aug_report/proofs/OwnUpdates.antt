@@ -16,7 +16,7 @@ use Rattle.aug_script.specs.declared.row.Row.{Row}
 use Rattle.aug_script.specs.declared.verb.Verb.TheVariants as verb
 use Rattle.aug_report.specs.AllowedReport.{AllowedReport, AllowedReports}
 use Rattle.aug_report.specs.Theorems.{row_at, report_with, insertion_line, round_with}
-use Rattle.aug_trie.proofs.Pieces.{begins_refl}
+use Rattle.aug_trie.proofs.Pieces.{prefix_refl}
 use Rattle.aug_report.proofs.Histories.{last-rises, opens-some}
 use Rattle.aug_report.proofs.OneKey.{empty_set}
 use Rattle.aug_report.proofs.OneLane.{one_report}
@@ -82,7 +82,7 @@ pub snapshots_show : (bits : ℕ) (members : List (ℕ × ℕ)) (old new : Knowl
     → TakesSnapshot old new snapshot → All (StandsIn snapshot) old.accepted
 snapshots_show bits members old new snapshot known is_history takes =
     let some = opens-some bits members old.history known.is_history old.history known.is_history.opens in
-    let up = last-rises bits members new.history is_history old.history new.history some takes.goes_on (begins_refl new.history) in
+    let up = last-rises bits members new.history is_history old.history new.history some takes.goes_on (prefix_refl new.history) in
     subst (λ (c : Cut). All (StandsIn c) old.accepted) (sym takes.is_last)
     (All-weaker (StandsIn (last_cut old.history)) (StandsIn (last_cut new.history)) (stands_on (last_cut old.history) (last_cut new.history) up) old.accepted known.stands)
 

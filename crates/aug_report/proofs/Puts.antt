@@ -23,10 +23,10 @@ use Rattle.aug_script.specs.declared.verb.Verb.TheVariants as verb
 use Rattle.aug_report.specs.AllowedReport.{Lane, Answers, AnswersAll, RunsLane, AllowedReport, all_accepted, reply_to_put}
 use Rattle.aug_report.specs.Theorems.{row_at, report_with, put_and_query}
 use Rattle.aug_trie.proofs.CutLemmas.{serial-opening, serial_rises, is_member-set_of_cut}
-use Rattle.aug_trie.proofs.Pieces.{begins_on, either_begins}
+use Rattle.aug_trie.proofs.Pieces.{prefix_trans, either_prefix}
 use Rattle.aug_trie.proofs.TallyLemmas.{times_first, none_low, once_between}
 use Rattle.aug_report.proofs.Advances.{times_either}
-use Rattle.aug_report.proofs.Histories.{opening-at_most, begins-length, last-rises, last-at_most_final}
+use Rattle.aug_report.proofs.Histories.{opening-at_most, prefix-length, last-rises, last-at_most_final}
 use Rattle.aug_report.proofs.Lanes.{there_if_odd}
 use Rattle.aug_report.proofs.TwoInsertions.{nobody, two_lanes, serial-absent}
 
@@ -65,7 +65,7 @@ was_set opening history k w number lane end ran = by_outcome ran.runs.1.outcome 
     by_outcome outcome.Replaced puts is =
         let same : end ≡ ran.runs.0 = ran.runs.2 in
         subst (λ (l : Lane). WasSet k w l) (sym same) (record {
-          some = begins-length (opening ∷ []) ran.runs.0.knows.history (begins_on (opening ∷ []) ran.start.knows.history ran.runs.0.knows.history ran.opens.sees_opening puts.goes_on);
+          some = prefix-length (opening ∷ []) ran.runs.0.knows.history (prefix_trans (opening ∷ []) ran.start.knows.history ran.runs.0.knows.history ran.opens.sees_opening puts.goes_on);
           number = puts.number;
           suits = puts.suits;
           shows = shown_serial (last_cut ran.runs.0.knows.history) k (puts.number + 1) w puts.shows;
@@ -123,10 +123,10 @@ saw opening history asked about said end asks ran =
     let last = ran.runs.2.0 in
     let asked' = asks mid last ran.runs.2.1 in
     let same : end ≡ mid = ran.runs.2.2 ∙ asked'.1 in
-    let opens = begins_on (opening ∷ []) ran.start.knows.history mid.knows.history ran.opens.sees_opening looks.1.goes_on in
+    let opens = prefix_trans (opening ∷ []) ran.start.knows.history mid.knows.history ran.opens.sees_opening looks.1.goes_on in
     record {
       seen = mid.knows.history;
-      some = begins-length (opening ∷ []) mid.knows.history opens;
+      some = prefix-length (opening ∷ []) mid.knows.history opens;
       opens = opens;
       within = subst (λ (l : Lane). IsPrefix l.knows.history history) same ran.of_history;
       says = asked'.0 ∙ ap (λ (c : Cut). about (pairs_of_cut c)) looks.1.is_last;
@@ -186,12 +186,12 @@ module _ (k w bits number size inserts removals : ℕ) (members closing : List (
       let low = serial_rises (opening_cut bits members) (last_cut view.seen) k (opening-at_most bits members allowed.history allowed.is_history view.seen view.opens view.within) in
       let high = serial_rises (last_cut view.seen) (last_cut allowed.history) k (last-at_most_final bits members allowed.history allowed.is_history view.seen view.some view.within) in
       let even : serial_of (last_cut view.seen) k % 2 ≡ 1 → ⊥ = not_there (last_cut view.seen) k view.says in
-      elim (either_begins end.knows.history view.seen allowed.history within view.within) [
+      elim (either_prefix end.knows.history view.seen allowed.history within view.within) [
         | inl before ↦
             let later = last-rises bits members allowed.history allowed.is_history end.knows.history view.seen set.some before view.within in
             even (omega (arith, set.shows, serial_rises (last_cut end.knows.history) (last_cut view.seen) k later, high, happened.0, happened.1))
         | inr behind ↦
-            let fits' = begins-length view.seen end.knows.history behind in
+            let fits' = prefix-length view.seen end.knows.history behind in
             let never = All-get_or (λ c. serial_of c k ≢ set.number) end.knows.history (length view.seen - 1) [] (omega (arith, fits', view.some)) set.never in
             let is = ap (λ (c : Cut). serial_of c k) (last_within view.seen end.knows.history view.some behind) in
             elim (cases_lt (serial_of (last_cut view.seen) k) 2) [
@@ -223,7 +223,7 @@ module _ (k w bits number size inserts removals : ℕ) (members closing : List (
         | inl t ↦
             let is : v ≡ weight_at (last_cut view.seen) k = ap (λ o. unwrap_or o 0) said ∙ rw t refl in
             let is_odd = eqb-true (serial_of (last_cut view.seen) k % 2) 1 (sym (is_member-set_of_cut (last_cut view.seen) k) ∙ t) in
-            let long = begins-length view.seen allowed.history view.within in
+            let long = prefix-length view.seen allowed.history view.within in
             let there = All-get_or (Weighs (opening_cut bits members) (all_accepted allowed.lanes)) allowed.history (length view.seen - 1) [] (omega (arith, long, view.some)) allowed.weigh in
             let weighs = subst (λ (c : Cut). Weighs (opening_cut bits members) (all_accepted allowed.lanes) c) (sym (last_within view.seen allowed.history view.some view.within)) there in
             let one = subst (λ (l : List Change). Contains l (change k (serial_of (last_cut view.seen) k) (weight_at (last_cut view.seen) k))) changes (weighs k (omega (arith, is_odd, serial-absent bits members k absent))) in

@@ -21,7 +21,7 @@ use Rattle.aug_script.specs.declared.verb.Verb.{Verb}
 use Rattle.aug_script.specs.declared.verb.Verb.TheVariants as verb
 use Rattle.aug_report.specs.AllowedReport.{Lane, Answers, AnswersAll, RunsLane, AllowedReport, lines_of, all_accepted}
 use Rattle.aug_trie.proofs.CutLemmas.{length-opening, serial_rises, pairs_of_cut-opening}
-use Rattle.aug_trie.proofs.Pieces.{begins_refl, begins_on}
+use Rattle.aug_trie.proofs.Pieces.{prefix_refl, prefix_trans}
 use Rattle.aug_report.proofs.Advances.{ChangesOne}
 use Rattle.aug_report.proofs.Histories.{opening-at_most, opens-some, rises_to, at_most-refl, at_most-trans}
 use Rattle.aug_report.proofs.Lanes.{step, sets_of_lane, there_if_odd}
@@ -34,7 +34,7 @@ module _ (history : List Cut) (d : Cut) where
 
   push-history : (bits : ℕ) (members : List (ℕ × ℕ)) → IsHistory bits members history → IsAtMost (last_cut history) d → IsHistory bits members (history ++ d ∷ [])
   push-history bits members is_history le = record {
-    opens = begins_on (opening_cut bits members ∷ []) history (history ++ d ∷ []) is_history.opens (d ∷ [], refl);
+    opens = prefix_trans (opening_cut bits members ∷ []) history (history ++ d ∷ []) is_history.opens (d ∷ [], refl);
     rises = λ i below. elim (cases_lt (i + 1) (length history)) [
       | inl lt ↦ rw (get_or_append_left history (d ∷ []) [] i (omega arith), get_or_append_left history (d ∷ []) [] (i + 1) lt) (is_history.rises i lt)
       | inr ge ↦
@@ -79,7 +79,7 @@ module _ (bits : ℕ) (members : List (ℕ × ℕ)) (old : Lane) (is_history : I
   some = opens-some bits members old.knows.history is_history old.knows.history is_history.opens
 
   wide : length (last_cut old.knows.history) ≡ 2 ^ bits
-  wide = sym (opening-at_most bits members old.knows.history is_history old.knows.history is_history.opens (begins_refl old.knows.history)).same_keys ∙ length-opening bits members
+  wide = sym (opening-at_most bits members old.knows.history is_history old.knows.history is_history.opens (prefix_refl old.knows.history)).same_keys ∙ length-opening bits members
 
   -- no cut of the history shows more than the last
   no_more : (k i : ℕ) → i < length old.knows.history → serial_of (get_or old.knows.history i []) k ≤ serial_of (last_cut old.knows.history) k
@@ -204,7 +204,7 @@ module _ (bits : ℕ) (members : List (ℕ × ℕ)) (old : Lane) (is_history : I
 
     refused : (parity : ℕ) → serial_of (last_cut old.knows.history) k % 2 ≡ parity → RefusedUpdate parity k old.knows old.knows
     refused parity suits = record {
-      goes_on = begins_refl old.knows.history;
+      goes_on = prefix_refl old.knows.history;
       stood = inl suits;
       same_changes = refl;
     }
@@ -243,7 +243,7 @@ module _ (bits : ℕ) (members : List (ℕ × ℕ)) (old : Lane) (is_history : I
 
   look_alone : Answered bits members verb.Look old
   look_alone = answered_still bits members verb.Look old (record { knows = old.knows; held = last_cut old.knows.history }) refl
-      (refl, record { goes_on = begins_refl old.knows.history; same_changes = refl; is_last = refl }) is_history weigh
+      (refl, record { goes_on = prefix_refl old.knows.history; same_changes = refl; is_last = refl }) is_history weigh
 
   asks_alone : (v : Verb) → Answers v (reply_to (sets_of_lane old) v) old old → Answered bits members v old
   asks_alone v answers = answered_still bits members v old old refl answers is_history weigh
@@ -330,7 +330,7 @@ module _ (bits number : ℕ) (members : List (ℕ × ℕ)) (rows : List Row) (is
   opened = record { knows = record { history = opening_cut bits members ∷ []; accepted = [] }; held = opening_cut bits members }
 
   opening_history : IsHistory bits members (opening_cut bits members ∷ [])
-  opening_history = record { opens = begins_refl (opening_cut bits members ∷ []); rises = λ i below. absurd (omega arith) }
+  opening_history = record { opens = prefix_refl (opening_cut bits members ∷ []); rises = λ i below. absurd (omega arith) }
 
   opening_weighs : All (Weighs (opening_cut bits members) []) (opening_cut bits members ∷ [])
   opening_weighs = All-cons (Weighs (opening_cut bits members) []) (opening_cut bits members) [] (λ key past. absurd (omega (arith, past))) (All-nil (Weighs (opening_cut bits members) []))
@@ -355,9 +355,9 @@ module _ (bits number : ℕ) (members : List (ℕ × ℕ)) (rows : List Row) (is
       let runs = subst (λ (t : Sets). AnswersAll (zip rows (replies_of t rows)) opened ran.end) opened_sets ran.runs in
       let lane : RunsLane (opening_cut bits members) ran.end.knows.history lines ran.end = record {
         start = opened;
-        opens = record { sees_opening = begins_refl (opening_cut bits members ∷ []); no_change = refl; holds_last = refl };
+        opens = record { sees_opening = prefix_refl (opening_cut bits members ∷ []); no_change = refl; holds_last = refl };
         runs = runs;
-        of_history = begins_refl ran.end.knows.history;
+        of_history = prefix_refl ran.end.knows.history;
       } in
       let tallies : Tallies (opening_cut bits members) (last_cut ran.end.knows.history) ran.end.knows.accepted = rw ran.adds ran.tallies in
       let told = alone bits members ran.end.knows.history ran.is_history is_set lines ran.end lane tallies in

@@ -17,7 +17,7 @@ use Rattle.aug_report.specs.AllowedReport.{Lane, AnswersAll, RunsLane, AllowedRe
 use Rattle.aug_report.specs.Theorems.{row_at, report_with, two_insertions}
 use Rattle.aug_trie.proofs.CutLemmas.{serial-opening, length-opening, serial_past, serial_rises}
 use Rattle.aug_trie.proofs.TallyLemmas.{counted-cons, exactly, times_first, none_high, once_between}
-use Rattle.aug_report.proofs.Histories.{opens-some, begins-length, last-rises, last-at_most_final}
+use Rattle.aug_report.proofs.Histories.{opens-some, prefix-length, last-rises, last-at_most_final}
 use Rattle.aug_report.proofs.Lanes.{story}
 use Rattle.aug_report.proofs.OneKey.{empty-serial, shown-key, serial-key, pairs-key, two_cuts, two_history, two_weigh, first_change, early, opens_early}
 use Rattle.aug_report.proofs.Tallied.{one_tallies}
@@ -240,7 +240,7 @@ both_old bits k number size inserts removals members closing absent allowed =
     let changes : all_accepted allowed.lanes ≡ [] = two_lanes allowed.lanes allowed.one_each ∙ rw (a_none, b_none) refl in
     let some = opens-some bits members allowed.history allowed.is_history ran.start.knows.history ran.opens.sees_opening in
     let told = story bits members allowed.history allowed.is_history ((row_at 1 0 (verb.Insert k), reply.Old) ∷ []) ran.start end ran.runs some ran.of_history in
-    let longer = begins-length ran.start.knows.history end.knows.history told.goes.goes_on in
+    let longer = prefix-length ran.start.knows.history end.knows.history told.goes.goes_on in
     let rises = serial_rises (last_cut ran.start.knows.history) (last_cut end.knows.history) k
     (last-rises bits members allowed.history allowed.is_history ran.start.knows.history end.knows.history some told.goes.goes_on ran.of_history) in
     let a = was_old (opening_cut bits members) allowed.history k 1 0 end ran rises in

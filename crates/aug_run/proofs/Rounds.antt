@@ -9,15 +9,15 @@ use Rattle.aug_trie.specs.Tallies.{Tallies, TalliesWithLost, Weighs}
 use Rattle.aug_report.specs.AllowedReport.{AllowedReport, Lane, Opens, AnswersAll, all_accepted, lines_of}
 use Rattle.aug_run.specs.inside.RoundLanes.{BacksAll, Started}
 use Rattle.aug_script.specs.declared.report.Report.{Report}
-use Rattle.aug_report.proofs.Histories.{begins-same}
-use Rattle.aug_trie.proofs.Pieces.{begins_on}
+use Rattle.aug_report.proofs.Histories.{prefix-same}
+use Rattle.aug_trie.proofs.Pieces.{prefix_trans}
 use Rattle.aug_trie.proofs.Tallying.{none_lost_tallies}
 use Rattle.aug_trie.proofs.TallyLemmas.{none_lost_weighs}
 
 backs_begin : (lanes : List Lane) (old new : Knowledge) → BacksAll lanes old new → IsPrefix old.history new.history
 unfolding BacksAll
-backs_begin [] old new backs = begins-same old.history new.history (ap (λ (k : Knowledge). k.history) backs)
-backs_begin (lane ∷ lanes) old new backs = begins_on old.history backs.0.history new.history backs.1.goes_on (backs_begin lanes backs.0 new backs.2)
+backs_begin [] old new backs = prefix-same old.history new.history (ap (λ (k : Knowledge). k.history) backs)
+backs_begin (lane ∷ lanes) old new backs = prefix_trans old.history backs.0.history new.history backs.1.goes_on (backs_begin lanes backs.0 new backs.2)
 
 backs_add : (lanes : List Lane) (old new : Knowledge) → BacksAll lanes old new → new.accepted ≡ old.accepted ++ all_accepted lanes
 unfolding BacksAll
@@ -28,16 +28,16 @@ backs_add (lane ∷ lanes) old new backs =
 backs_know : (lanes : List Lane) (old new : Knowledge) → BacksAll lanes old new → (i : ℕ) (d : Lane) → i < length lanes → IsPrefix (get_or lanes i d).knows.history new.history
 unfolding BacksAll
 backs_know [] old new backs i d below = absurd (omega arith)
-backs_know (lane ∷ lanes) old new backs zero d below = begins_on lane.knows.history backs.0.history new.history backs.1.takes_up (backs_begin lanes backs.0 new backs.2)
+backs_know (lane ∷ lanes) old new backs zero d below = prefix_trans lane.knows.history backs.0.history new.history backs.1.takes_up (backs_begin lanes backs.0 new backs.2)
 backs_know (lane ∷ lanes) old new backs (suc i) d below = backs_know lanes backs.0 new backs.2 i d (omega arith)
 
 opens_of : (opening : Cut) (start : Lane) → Started opening start → Opens opening start
 opens_of opening start s =
     let h = s.handed_out in
     record {
-      sees_opening = begins_on (opening ∷ []) h.crew_old.history start.knows.history h.knew_opening
-          (begins_on h.crew_old.history h.crew_new.history start.knows.history h.out.goes_on
-          (begins_on h.crew_new.history s.pass.history start.knows.history (begins-same h.crew_new.history s.pass.history (ap (λ (k : Knowledge). k.history) h.out.pass_knows)) s.takes.goes_on));
+      sees_opening = prefix_trans (opening ∷ []) h.crew_old.history start.knows.history h.knew_opening
+          (prefix_trans h.crew_old.history h.crew_new.history start.knows.history h.out.goes_on
+          (prefix_trans h.crew_new.history s.pass.history start.knows.history (prefix-same h.crew_new.history s.pass.history (ap (λ (k : Knowledge). k.history) h.out.pass_knows)) s.takes.goes_on));
       no_change = s.takes.same_changes ∙ ap (λ (k : Knowledge). k.accepted) h.out.pass_knows;
       holds_last = s.takes.is_last;
     }

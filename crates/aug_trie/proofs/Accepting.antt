@@ -14,7 +14,7 @@ use Rattle.aug_core.specs.inside.EntryCuts.{IsPartOfCut}
 use Rattle.aug_core.specs.inside.Shows.{NewestShows}
 use Rattle.aug_core.specs.declared.view.Advance.{Advance}
 use Rattle.aug_core.specs.declared.view.Change.{Change}
-use Rattle.aug_core.specs.declared.view.View.{View}
+use Rattle.aug_core.specs.declared.view.SeatView.{SeatView}
 use Rattle.aug_core.proofs.EntryCuts.{root_part}
 use Rattle.aug_model.specs.declared.outcome.Outcome.{Outcome}
 use Rattle.aug_model.specs.declared.outcome.Outcome.TheVariants.{Accepted, Replaced, Refused}
@@ -34,31 +34,31 @@ use Rattle.aug_trie.proofs.Standing.{at_least, stands_later, stands_last, never_
 
 module _ (face : ℕ → ℕ → List (ℕ × ℕ) → List ℕ) where
   -- a later view's history goes on
-  pub knows_on : (v w : View) → KnowsTable face v → w.shape ≡ v.shape → Continues w.seen v.seen → IsPrefix (knows v).history (knows w).history
+  pub knows_on : (v w : SeatView) → KnowsTable face v → w.shape ≡ v.shape → Continues w.seen v.seen → IsPrefix (knows v).history (knows w).history
   knows_on v w kn shaped later = subst (λ (z : Shape). IsPrefix (root_history v.shape v.seen) (root_history z w.seen)) (sym shaped) (history_on face v.shape v.seen kn.book w.seen later)
 
   -- and its last cut rises
-  pub knows_more : (v w : View) → KnowsTable face v → KnowsTable face w → w.shape ≡ v.shape → Continues w.seen v.seen → IsAtMost (last_cut (knows v).history) (last_cut (knows w).history)
+  pub knows_more : (v w : SeatView) → KnowsTable face v → KnowsTable face w → w.shape ≡ v.shape → Continues w.seen v.seen → IsAtMost (last_cut (knows v).history) (last_cut (knows w).history)
   knows_more v w kn kn' shaped later = subst (λ (z : Shape). IsAtMost (last_cut (root_history v.shape v.seen)) (last_cut (root_history z w.seen))) (sym shaped)
       (last_rises face v.shape v.seen w.seen kn.book (subst (λ (z : Shape). IsBook face z w.seen) shaped kn'.book) later (root_some face v kn))
 
-  pub shown_of : (v w : View) (key n : ℕ) → w.shape ≡ v.shape → key < 2 ^ v.shape.bits → NewestShows v.shape w.seen key v.shape.bits n → n ≤ serial_of (last_cut (knows w).history) key
+  pub shown_of : (v w : SeatView) (key n : ℕ) → w.shape ≡ v.shape → key < 2 ^ v.shape.bits → NewestShows v.shape w.seen key v.shape.bits n → n ≤ serial_of (last_cut (knows w).history) key
   shown_of v w key n shaped low shown = subst (λ (z : Shape). n ≤ serial_of (last_cut (root_history z w.seen)) key) (sym shaped) (shown_last v.shape w.seen key n low shown)
 
   -- changes that stand in what was known stand in what is known
-  pub stands_on : (v w : View) (changes : List Change) → KnowsTable face v → KnowsTable face w → w.shape ≡ v.shape → Continues w.seen v.seen → All (StandsIn (last_cut (knows v).history)) changes → All (StandsIn (last_cut (knows w).history)) changes
+  pub stands_on : (v w : SeatView) (changes : List Change) → KnowsTable face v → KnowsTable face w → w.shape ≡ v.shape → Continues w.seen v.seen → All (StandsIn (last_cut (knows v).history)) changes → All (StandsIn (last_cut (knows w).history)) changes
   stands_on v w changes kn kn' shaped later stand = let more = knows_more v w kn kn' shaped later in
       All-weaker (StandsIn (last_cut (knows v).history)) (StandsIn (last_cut (knows w).history)) (λ c. stands_later (last_cut (knows v).history) (last_cut (knows w).history) c more) changes stand
 
   -- what a pass knows is knowledge still, when its history goes on and what it gains is shown
-  pub knowledge_on : (used : ℕ) (gained : List Change) (v w : View) → KnowsTable face v → Goes face used gained v w → All (StandsIn (last_cut (knows w).history)) gained → KnowsRound v → KnowsRound w
+  pub knowledge_on : (used : ℕ) (gained : List Change) (v w : SeatView) → KnowsTable face v → Goes face used gained v w → All (StandsIn (last_cut (knows w).history)) gained → KnowsRound v → KnowsRound w
   knowledge_on used gained v w kn g shown k = record {
     is_history = is_history face w g.knows_table;
     stands = subst (All (StandsIn (last_cut (knows w).history))) (sym g.changes)
         (All-append (StandsIn (last_cut (knows w).history)) (changes_of v.held) gained (stands_on v w (changes_of v.held) kn g.knows_table g.shaped g.later k.stands) shown);
   }
 
-  module _ (used : ℕ) (v : View) (key : ℕ) (request : Request) (w : View) (kn : KnowsTable face v) (low : key < 2 ^ v.shape.bits) where
+  module _ (used : ℕ) (v : SeatView) (key : ℕ) (request : Request) (w : SeatView) (kn : KnowsTable face v) (low : key < 2 ^ v.shape.bits) where
     -- what went up stands in the last cut with its weight
     module _ (a : Advance) (up : WentUp face used v key request w a) where
       stands_up : StandsIn (last_cut (knows w).history) (change key (new_serial a) a.new_weight)
@@ -131,7 +131,7 @@ module _ (face : ℕ → ℕ → List (ℕ × ℕ) → List ℕ) where
     updated_knowledge Refused u k = knowledge_on used [] v w kn u.came_to.goes (All-nil (StandsIn (last_cut (knows w).history))) k
 
   -- what an update comes to
-  pub comes_to : (used : ℕ) (v : View) (key : ℕ) (request : Request) (w : View) → KnowsTable face v → key < 2 ^ v.shape.bits → (done : Outcome) → Updated face used v key request w done → ComesTo request key done (knows v) (knows w)
+  pub comes_to : (used : ℕ) (v : SeatView) (key : ℕ) (request : Request) (w : SeatView) → KnowsTable face v → key < 2 ^ v.shape.bits → (done : Outcome) → Updated face used v key request w done → ComesTo request key done (knows v) (knows w)
   comes_to used v key Insert w kn low Accepted u = let a = advance_from Insert key u.loaded in let even = eqb-true (serial_in_word u.loaded % 2) 0 u.came_to.0.lets in
       accepted_is used v key Insert w kn low a u.came_to.0 insertion key (omega (arith, even)) refl refl
   comes_to used v key Insert w kn low Replaced u = false≢true u.came_to.1
@@ -147,13 +147,13 @@ module _ (face : ℕ → ℕ → List (ℕ × ℕ) → List ℕ) where
   comes_to used v key (Put weight) w kn low Refused u = refused_put used v key (Put weight) w kn low (serial_in_word u.loaded) u.came_to refl
 
   -- a load of the root is a snapshot: the cut of its newest entry, which has the number that was found
-  pub snapshot_is : (v : View) (r : ℕ) (w : View) → KnowsTable face v → (t : LoadsNode face v (root_place v.shape) r w) → TakesSnapshot (knows v) (knows w) (root_cut v.shape w.seen t.index)
-  snapshot_is v r w kn t = let shaped : w.shape ≡ v.shape = ap (λ (z : View). z.shape) t.stepped in record {
+  pub snapshot_is : (v : SeatView) (r : ℕ) (w : SeatView) → KnowsTable face v → (t : LoadsNode face v (root_place v.shape) r w) → TakesSnapshot (knows v) (knows w) (root_cut v.shape w.seen t.index)
+  snapshot_is v r w kn t = let shaped : w.shape ≡ v.shape = ap (λ (z : SeatView). z.shape) t.stepped in record {
     goes_on = knows_on v w kn shaped t.sees.later;
-    same_changes = ap (λ (z : View). changes_of z.held) t.stepped;
+    same_changes = ap (λ (z : SeatView). changes_of z.held) t.stepped;
     is_last = sym (last_is v.shape w.seen t.index t.newest.last) ∙ ap (λ (z : Shape). last_cut (root_history z w.seen)) (sym shaped);
   }
 
   -- and the entry stands for the whole tree of that cut
-  pub snapshot_top : (v : View) (r : ℕ) (w : View) (t : LoadsNode face v (root_place v.shape) r w) → IsPartOfCut v.shape w.seen (root_cut v.shape w.seen t.index) v.shape.bits 0 (root_place v.shape) t.index
+  pub snapshot_top : (v : SeatView) (r : ℕ) (w : SeatView) (t : LoadsNode face v (root_place v.shape) r w) → IsPartOfCut v.shape w.seen (root_cut v.shape w.seen t.index) v.shape.bits 0 (root_place v.shape) t.index
   snapshot_top v r w t = root_part face v.shape w.seen t.sees.book t.index (let long = t.newest.last in omega arith)

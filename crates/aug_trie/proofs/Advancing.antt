@@ -9,7 +9,7 @@ use Rattle.aug_core.specs.Faces.{face}
 use Rattle.aug_core.specs.Addresses.{place_count, IsInner, left_of, right_of}
 use Rattle.aug_core.specs.inside.Refreshes.{HasNewest, SaysLoaded}
 use Rattle.aug_core.specs.Told.{HasSeen, KnowsTable, MayStore, IsFilled, TriesNode, storing}
-use Rattle.aug_core.specs.declared.view.View.{View}
+use Rattle.aug_core.specs.declared.view.SeatView.{SeatView}
 use Rattle.aug_core.proofs.FaceLemmas.{left_in, right_in}
 use Rattle.aug_core.proofs.Refreshing.{has_entry}
 use Rattle.aug_core.proofs.Sizes.{twice}
@@ -30,32 +30,32 @@ use Rattle.aug_trie.proofs.Whole.{says, tries, even, part_few}
 -- ---- the views so far
 
 module _ (f : ℕ → ℕ → List (ℕ × ℕ) → List ℕ) where
-  goes_stored : (v : View) (number : ℕ) (five : List ℕ) (k : ℕ) → KnowsTable f v → Goes f 0 [] v (stored v number five k)
+  goes_stored : (v : SeatView) (number : ℕ) (five : List ℕ) (k : ℕ) → KnowsTable f v → Goes f 0 [] v (stored v number five k)
   goes_stored v number five zero kn = goes_self f v kn
-  goes_stored v number five (suc k) kn = let g = goes_stored v number five k kn in let w : View = stored v number five k in
+  goes_stored v number five (suc k) kn = let g = goes_stored v number five k kn in let w : SeatView = stored v number five k in
       goes_on f 0 0 0 [] v w (stored v number five (suc k)) (omega arith) (omega arith) g (goes_storing f w (stored v number five (suc k)) _ _ refl g.knows_table)
 
-  took_stored : (v : View) (number : ℕ) (five : List ℕ) (k : ℕ) → Took v (stored v number five k) k
+  took_stored : (v : SeatView) (number : ℕ) (five : List ℕ) (k : ℕ) → Took v (stored v number five k) k
   took_stored v number five zero = took_none v v refl
-  took_stored v number five (suc k) = let w : View = stored v number five k in
+  took_stored v number five (suc k) = let w : SeatView = stored v number five k in
       took_on v w (stored v number five (suc k)) k 1 (suc k) (omega arith) (took_stored v number five k) (took_one w (stored v number five (suc k)) _ refl refl)
 
-  module _ (v : View) (q : ℕ) where
-    goes_left : (from left : ℕ) (w : View) → AfterLeft f v q from left w → Goes f 0 [] v w
+  module _ (v : SeatView) (q : ℕ) where
+    goes_left : (from left : ℕ) (w : SeatView) → AfterLeft f v q from left w → Goes f 0 [] v w
     goes_left from left w a = goes_on f 0 0 0 [] v a.first w (omega arith) (omega arith) a.node.goes a.goes
 
-    goes_right : (from left right : ℕ) (w : View) → AfterRight f v q from left right w → Goes f 0 [] v w
+    goes_right : (from left right : ℕ) (w : SeatView) → AfterRight f v q from left right w → Goes f 0 [] v w
     goes_right from left right w a = goes_on f 0 0 0 [] v a.second w (omega arith) (omega arith) (goes_left from left a.second a.lefts) a.goes
 
-    took_right : (from left right : ℕ) (w : View) → AfterRight f v q from left right w → Took v w 3
+    took_right : (from left right : ℕ) (w : SeatView) → AfterRight f v q from left right w → Took v w 3
     took_right from left right w a = let l = a.lefts in
         took_on v a.second w 2 1 3 refl (took_on v l.first a.second 1 1 2 refl l.node.took l.took) a.took
 
-    goes_words : (r : Reading) (w : View) (a : AfterWords f v q r w) → Goes f 0 [] a.third w
+    goes_words : (r : Reading) (w : SeatView) (a : AfterWords f v q r w) → Goes f 0 [] a.third w
     goes_words r w a = goes_looking f r.count a.third w a.looks (goes_right r.from r.left r.right a.third a.loaded).knows_table
 
     -- what was seen at a point goes on from the beginning
-    pub goes_at : (number : ℕ) (point : Point) (w : View) → TryAt f v q number point w → Goes f 0 [] v w
+    pub goes_at : (number : ℕ) (point : Point) (w : SeatView) → TryAt f v q number point w → Goes f 0 [] v w
     goes_at number Node w t = subst (Goes f 0 [] v) (sym t.is_at) (goes_self f v t.knows_table)
     goes_at number (Left from) w t = t.is_at.goes
     goes_at number (Right from left) w t = goes_left from left w t.is_at
@@ -65,13 +65,13 @@ module _ (f : ℕ → ℕ → List (ℕ × ℕ) → List ℕ) where
 
     -- ---- the three loads
 
-    module _ (number : ℕ) (old w : View) (r : ℕ) (goes : Goes f 0 [] old w) (took : Took old w 1) where
+    module _ (number : ℕ) (old w : SeatView) (r : ℕ) (goes : Goes f 0 [] old w) (took : Took old w 1) where
       pub node_on : TryAt f v q number Node old → HasNewest w.seen q r → TryAt f v q number (Left r) w
       node_on t at_node = let e : old ≡ v = t.is_at in record {
         inner = t.inner;
         knows_table = t.knows_table;
         room = t.room;
-        is_at = record { goes = subst (λ (z : View). Goes f 0 [] z w) e goes; took = subst (λ (z : View). Took z w 1) e took; at_node = at_node };
+        is_at = record { goes = subst (λ (z : SeatView). Goes f 0 [] z w) e goes; took = subst (λ (z : SeatView). Took z w 1) e took; at_node = at_node };
       }
 
       pub left_on : (from : ℕ) → TryAt f v q number (Left from) old → HasNewest w.seen (left_of v.shape q) r → TryAt f v q number (Right from r) w
@@ -86,7 +86,7 @@ module _ (f : ℕ → ℕ → List (ℕ × ℕ) → List ℕ) where
       right_on from left t at_right = record { second = old; lefts = t.is_at; goes = goes; took = took; at_right = at_right }
 
     -- the children are nodes, and no word of their records was loaded
-    pub to_words : (number from left right : ℕ) (old w : View) (r : Reading) → r ≡ record { from = from; left = left; right = right; words = 0 ∷ 0 ∷ 0 ∷ 0 ∷ 0 ∷ 0 ∷ []; count = 0 } → 2 ^ v.shape.bits ≤ left_of v.shape q
+    pub to_words : (number from left right : ℕ) (old w : SeatView) (r : Reading) → r ≡ record { from = from; left = left; right = right; words = 0 ∷ 0 ∷ 0 ∷ 0 ∷ 0 ∷ 0 ∷ []; count = 0 } → 2 ^ v.shape.bits ≤ left_of v.shape q
         → TryAt f v q number (Right from left) old → AfterRight f v q from left right w → TryAt f v q number (Part r) w
     to_words number from left right old w r is nodes t a = subst (λ (z : Reading). TryAt f v q number (Part z) w) (sym is) record {
       inner = t.inner;
@@ -105,7 +105,7 @@ module _ (f : ℕ → ℕ → List (ℕ × ℕ) → List ℕ) where
     }
 
     -- the words of the own record are known, and none was stored
-    to_record : (number from left right n xa xb : ℕ) (point : Point) (old third told : View) (r : Filling) → r.from ≡ from → r.five ≡ left ∷ right ∷ n ∷ xa ∷ xb ∷ [] → r.count ≡ 0 → TryAt f v q number point old
+    to_record : (number from left right n xa xb : ℕ) (point : Point) (old third told : SeatView) (r : Filling) → r.from ≡ from → r.five ≡ left ∷ right ∷ n ∷ xa ∷ xb ∷ [] → r.count ≡ 0 → TryAt f v q number point old
         → AfterRight f v q from left right third → Goes f 0 [] third told → Took third told (2 * part_steps v.shape (left_of v.shape q)) → SaysLoaded f told.shape told.seen q from (left ∷ right ∷ n ∷ xa ∷ xb ∷ []) → TryAt f v q number (Record r) told
     to_record number from left right n xa xb point old third told r ef e5 ec t a goes took says = subst (λ (z : Filling). TryAt f v q number (Record z) told) (sym (λ i. record { from = ef i; five = e5 i; count = ec i })) record {
       inner = t.inner;
@@ -117,21 +117,21 @@ module _ (f : ℕ → ℕ → List (ℕ × ℕ) → List ℕ) where
 -- ---- what the children tell
 
 -- all words of their records were loaded
-pub record AllWords (left right : ℕ) (words : List ℕ) (third : View) : Type 0 where
+pub record AllWords (left right : ℕ) (words : List ℕ) (third : SeatView) : Type 0 where
   pub says : (k : ℕ) → k < reading_words → Says third (child_at left right k) (field_after k) (get_or words k 0)
 
-module _ {A B : Type 0} (parts_a : Parts A) (parts_b : Parts B) (laws_a : IsMonoid parts_a) (laws_b : IsMonoid parts_b) (v : View) (q : ℕ) where
+module _ {A B : Type 0} (parts_a : Parts A) (parts_b : Parts B) (laws_a : IsMonoid parts_a) (laws_b : IsMonoid parts_b) (v : SeatView) (q : ℕ) where
   abbrev both : ℕ → ℕ → List (ℕ × ℕ) → List ℕ
   both = face parts_a parts_b
 
   inside_left : IsInner v.shape q → left_of v.shape q < place_count v.shape
   inside_left inner = let past = inner.past_leaves in let inside = inner.inside in let t = twice v.shape.bits in omega arith
 
-  same_shape : (from left right : ℕ) (third : View) → AfterRight both v q from left right third → third.shape ≡ v.shape
+  same_shape : (from left right : ℕ) (third : SeatView) → AfterRight both v q from left right third → third.shape ≡ v.shape
   same_shape from left right third a = (goes_right both v q from left right third a).shaped
 
   -- the children are leaves
-  pub leaves_told : (number from left right : ℕ) (old w : View) (r : Filling) → r.from ≡ from → r.count ≡ 0 → 2 ^ v.shape.bits ≤ 65536 → left_of v.shape q < 2 ^ v.shape.bits → IsOverLeaves parts_a parts_b (left_of v.shape q) left right r.five
+  pub leaves_told : (number from left right : ℕ) (old w : SeatView) (r : Filling) → r.from ≡ from → r.count ≡ 0 → 2 ^ v.shape.bits ≤ 65536 → left_of v.shape q < 2 ^ v.shape.bits → IsOverLeaves parts_a parts_b (left_of v.shape q) left right r.five
       → TryAt both v q number (Right from left) old → AfterRight both v q from left right w → TryAt both v q number (Record r) w
   leaves_told number from left right old w r ef ec few low over t a = let kn = (goes_right both v q from left right w a).knows_table in let shaped = same_shape from left right w a in
       let none : part_steps v.shape (left_of v.shape q) ≡ 0 = ap (λ (z : Bool). if z then 0 else 3) (lt-ltb (left_of v.shape q) (2 ^ v.shape.bits) low) in
@@ -147,7 +147,7 @@ module _ {A B : Type 0} (parts_a : Parts A) (parts_b : Parts B) (laws_a : IsMono
       right_low s p inner below = even s.bits (p - 2 ^ s.bits) below (let i = inner.inside in let t = twice s.bits in omega arith)
 
   -- the children are nodes: their parts, as their records' words tell
-  module _ (from left right : ℕ) (words : List ℕ) (third : View) (few : 2 ^ v.shape.bits ≤ 65536) (nodes : 2 ^ v.shape.bits ≤ left_of v.shape q) (inner : IsInner v.shape q) (a : AfterRight both v q from left right third) (all : AllWords left right words third) where
+  module _ (from left right : ℕ) (words : List ℕ) (third : SeatView) (few : 2 ^ v.shape.bits ≤ 65536) (nodes : 2 ^ v.shape.bits ≤ left_of v.shape q) (inner : IsInner v.shape q) (a : AfterRight both v q from left right third) (all : AllWords left right words third) where
     kn_third : KnowsTable both third
     kn_third = (goes_right both v q from left right third a).knows_table
 
@@ -175,14 +175,14 @@ module _ {A B : Type 0} (parts_a : Parts A) (parts_b : Parts B) (laws_a : IsMono
         let x = part_few parts_a parts_b third.shape third (left_of v.shape q) left _ _ _ refl few_third inner_left.inside kn_third e_l left_told in
         let y = part_few parts_a parts_b third.shape third (right_of v.shape q) right _ _ _ refl few_third inner_right.inside kn_third e_r right_told in omega arith
 
-    pub nodes_told : (number : ℕ) (point : Point) (old w : View) (r : Filling) → r.from ≡ from → r.five ≡ five_over parts_a parts_b left right (λ k. get_or words k 0) → r.count ≡ 0 → TryAt both v q number point old → Goes both 0 [] third w → Took third w reading_words → TryAt both v q number (Record r) w
+    pub nodes_told : (number : ℕ) (point : Point) (old w : SeatView) (r : Filling) → r.from ≡ from → r.five ≡ five_over parts_a parts_b left right (λ k. get_or words k 0) → r.count ≡ 0 → TryAt both v q number point old → Goes both 0 [] third w → Took third w reading_words → TryAt both v q number (Record r) w
     nodes_told number point old w r ef e5 ec t goes took = let l = a.lefts in let self = goes_self both third kn_third in
         let three : part_steps v.shape (left_of v.shape q) ≡ 3 = ap (λ (z : Bool). if z then 0 else 3) (le-ltb (left_of v.shape q) (2 ^ v.shape.bits) nodes) in
         to_record both v q number from left right (get_or words 0 0 + get_or words 3 0) _ _ point old third w r ef e5 ec t a goes (subst (Took third w) (let e : reading_words ≡ 2 * part_steps v.shape (left_of v.shape q) = omega arith in e) took)
         (says parts_a parts_b laws_a laws_b v l.first a.second third third w q from left right _ _ _ _ _ _ _ _ inner few l.node.goes l.goes a.goes self goes l.node.at_node l.at_left a.at_right left_told right_told refl refl)
 
   -- the record of the child whose word is next was seen
-  pub child_seen : (number : ℕ) (r : Reading) (old : View) → TryAt both v q number (Part r) old → HasSeen old (child_at r.left r.right r.count)
+  pub child_seen : (number : ℕ) (r : Reading) (old : SeatView) → TryAt both v q number (Part r) old → HasSeen old (child_at r.left r.right r.count)
   child_seen number r old t = let a = t.is_at in let third = a.third in let loaded = a.loaded in
       let shaped = same_shape r.from r.left r.right third loaded in let kn = (goes_right both v q r.from r.left r.right third loaded).knows_table in
       let inner_l : IsInner third.shape (left_of v.shape q) = subst (λ (z : Shape). IsInner z (left_of v.shape q)) (sym shaped) record { past_leaves = a.nodes; inside = inside_left t.inner } in
@@ -199,7 +199,7 @@ module _ {A B : Type 0} (parts_a : Parts A) (parts_b : Parts B) (laws_a : IsMono
 
 -- ---- a word of a child's record
 
-module _ (f : ℕ → ℕ → List (ℕ × ℕ) → List ℕ) (v : View) (q number : ℕ) (r : Reading) (old w : View) (field x : ℕ) (t : TryAt f v q number (Part r) old) (is_field : field ≡ field_after r.count) (l : LoadsRecordWord old (child_at r.left r.right r.count) field x w) where
+module _ (f : ℕ → ℕ → List (ℕ × ℕ) → List ℕ) (v : SeatView) (q number : ℕ) (r : Reading) (old w : SeatView) (field x : ℕ) (t : TryAt f v q number (Part r) old) (is_field : field ≡ field_after r.count) (l : LoadsRecordWord old (child_at r.left r.right r.count) field x w) where
   abbrev a : AfterWords f v q r old
   a = t.is_at
 
@@ -210,7 +210,7 @@ module _ (f : ℕ → ℕ → List (ℕ × ℕ) → List ℕ) (v : View) (q numb
   looks_now = looks_on r.count 1 (r.count + 1) a.third old w (omega arith) a.looks (looks_one old w _ l.stepped)
 
   took_now : Took a.third w (r.count + 1)
-  took_now = took_on a.third old w r.count 1 (r.count + 1) refl a.took (took_one old w _ refl (ap (λ (z : View). z.steps) l.stepped))
+  took_now = took_on a.third old w r.count 1 (r.count + 1) refl a.took (took_one old w _ refl (ap (λ (z : SeatView). z.steps) l.stepped))
 
   pub goes_all : Goes f 0 [] a.third w
   goes_all = goes_looking f (r.count + 1) a.third w looks_now (goes_right f v q r.from r.left r.right a.third a.loaded).knows_table
@@ -241,7 +241,7 @@ module _ (f : ℕ → ℕ → List (ℕ × ℕ) → List ℕ) (v : View) (q numb
 
 -- ---- the own record
 
-module _ {A B : Type 0} (parts_a : Parts A) (parts_b : Parts B) (v : View) (q number : ℕ) (r : Filling) (old : View) (t : TryAt (face parts_a parts_b) v q number (Record r) old) where
+module _ {A B : Type 0} (parts_a : Parts A) (parts_b : Parts B) (v : SeatView) (q number : ℕ) (r : Filling) (old : SeatView) (t : TryAt (face parts_a parts_b) v q number (Record r) old) where
   abbrev f : ℕ → ℕ → List (ℕ × ℕ) → List ℕ
   f = face parts_a parts_b
 
@@ -268,7 +268,7 @@ module _ {A B : Type 0} (parts_a : Parts A) (parts_b : Parts B) (v : View) (q nu
   knows_old = g_old.knows_table
 
   -- one more word was stored
-  pub record_on : (w : View) (offset : ℕ) (next : Filling) → next ≡ record { from = r.from; five = r.five; count = r.count + 1 } → offset ≡ r.count → r.count + 1 ≤ record_words → w ≡ storing old (record_start old.shape number + offset) (get_or r.five r.count 0) → TryAt f v q number (Record next) w
+  pub record_on : (w : SeatView) (offset : ℕ) (next : Filling) → next ≡ record { from = r.from; five = r.five; count = r.count + 1 } → offset ≡ r.count → r.count + 1 ≤ record_words → w ≡ storing old (record_start old.shape number + offset) (get_or r.five r.count 0) → TryAt f v q number (Record next) w
   record_on w offset next is at few stored_is = subst (λ (z : Filling). TryAt f v q number (Record z) w) (sym is) record {
     inner = t.inner;
     knows_table = t.knows_table;
@@ -282,7 +282,7 @@ module _ {A B : Type 0} (parts_a : Parts A) (parts_b : Parts B) (v : View) (q nu
       says = held.says;
       few = few;
       five = held.five;
-      stands = stored_is ∙ ap (λ (z : ℕ). storing old (record_start old.shape number + z) (get_or r.five r.count 0)) at ∙ ap (λ (z : View). storing z (record_start z.shape number + r.count) (get_or r.five r.count 0)) held.stands
+      stands = stored_is ∙ ap (λ (z : ℕ). storing old (record_start old.shape number + z) (get_or r.five r.count 0)) at ∙ ap (λ (z : SeatView). storing z (record_start z.shape number + r.count) (get_or r.five r.count 0)) held.stands
           ∙ ap (stored held.told number r.five) (sym (add-one r.count));
     };
   }
@@ -296,22 +296,22 @@ module _ {A B : Type 0} (parts_a : Parts A) (parts_b : Parts B) (v : View) (q nu
     room_told = room_on f [] v held.told number 1 g_told t.room
 
     pub may_try : IsFilled f old q r.from number
-    may_try = subst (λ (z : View). IsFilled f z q r.from number) (sym is_full) (may_publish f held.told number r.five room_told q r.from held.says)
+    may_try = subst (λ (z : SeatView). IsFilled f z q r.from number) (sym is_full) (may_publish f held.told number r.five room_told q r.from held.says)
 
     pub inner_old : IsInner old.shape q
     inner_old = subst (λ (z : Shape). IsInner z q) (sym g_old.shaped) t.inner
 
     -- and the node's word exchanged, or not
-    pub try_over : (w : View) (found : ℕ) (done : Bool) → (IsTrue done ↔ (found ≡ r.from)) → TriesNode f old q r.from number found w → TryOver f v q number done w
+    pub try_over : (w : SeatView) (found : ℕ) (done : Bool) → (IsTrue done ↔ (found ≡ r.from)) → TriesNode f old q r.from number found w → TryOver f v q number done w
     try_over w found done decided tried = let l = held.loaded.lefts in let first = l.first in let second = held.loaded.second in
         let gw = goes_tried f old w q r.from number found done decided tried knows_old in
         let p = published f held.told number r.five room_told w q r.from found done (subst (λ (z : Shape). IsInner z q) (sym g_told.shaped) t.inner) (left_in parts_a parts_b) (right_in parts_a parts_b) decided
-        (subst (λ (z : View). TriesNode f z q r.from number found w) is_full tried) in
+        (subst (λ (z : SeatView). TriesNode f z q r.from number found w) is_full tried) in
         let g_filled : Goes f 0 [] held.told old = subst (Goes f 0 [] held.told) (sym held.stands) (goes_stored f held.told number r.five r.count g_told.knows_table) in
         let to_w = goes_on f 0 (number + 1) (number + 1) [] held.told old w (omega arith) (omega arith) g_filled gw in
         let n : ℕ = part_steps v.shape (left_of v.shape q) in
         let took_told = took_on v held.third held.told 3 (2 * n) (3 + 2 * n) refl (took_right f v q r.from (get_or r.five 0 0) (get_or r.five 1 0) held.third held.loaded) held.took in
-        let took_old : Took held.told old record_words = subst (Took held.told old) full (subst (λ (z : View). Took held.told z r.count) (sym held.stands) (took_stored f held.told number r.five r.count)) in record {
+        let took_old : Took held.told old record_words = subst (Took held.told old) full (subst (λ (z : SeatView). Took held.told z r.count) (sym held.stands) (took_stored f held.told number r.five r.count)) in record {
           goes = goes_on f 0 (number + 1) (number + 1) [] v old w (omega arith) (omega arith) g_old gw;
           took = took_on v old w (8 + 2 * n) 1 (try_steps n) (omega arith) (took_on v held.told old (3 + 2 * n) record_words (8 + 2 * n) (omega arith) took_told took_old) (took_one old w _ refl tried.stepped);
           tries = tries f v first second held.third held.told w q r.from (get_or r.five 0 0) (get_or r.five 1 0) number done t.inner gw.knows_table (gw.shaped ∙ g_old.shaped) g_told.shaped

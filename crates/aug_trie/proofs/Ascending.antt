@@ -5,7 +5,7 @@ use Rattle.aug_core.specs.Addresses.{IsInner, left_of}
 use Rattle.aug_core.specs.Book.{IsBook}
 use Rattle.aug_core.specs.inside.Refreshes.{NewestCovers, Refreshed}
 use Rattle.aug_core.specs.inside.Shows.{above, Lifts}
-use Rattle.aug_core.specs.declared.view.View.{View}
+use Rattle.aug_core.specs.declared.view.SeatView.{SeatView}
 use Rattle.aug_core.proofs.Refreshing.{covers_second}
 use Rattle.aug_core.proofs.Showing.{above_inner}
 use Rattle.aug_trie.specs.inside.Goes.{Goes, Took, TookBetween, HasRoom, part_steps, try_steps, level_steps, least_rise_steps, most_rise_steps}
@@ -22,16 +22,16 @@ module _ (f : ℕ → ℕ → List (ℕ × ℕ) → List ℕ) where
   -- ---- one try at a node, and the second
 
   -- a try that failed
-  pub missed : (below w : View) (q number : ℕ) → TryOver f below q number false w → Missed f below w q number
+  pub missed : (below w : SeatView) (q number : ℕ) → TryOver f below q number false w → Missed f below w q number
   missed below w q number over = record { goes = over.goes; took = over.took; longer = over.tries.refreshed.longer refl }
 
   -- the first try published its record
-  pub covered_once : (below w : View) (q number : ℕ) → TryOver f below q number true w → IsCovered f below w q number
+  pub covered_once : (below w : SeatView) (q number : ℕ) → TryOver f below q number true w → IsCovered f below w q number
   covered_once below w q number over = let n : ℕ = try_steps (part_steps below.shape (left_of below.shape q)) in
       record { goes = over.goes; took = record { steps = n; least_steps = omega arith; most_steps = omega arith; took = over.took }; covers = over.tries.refreshed.covers refl }
 
   -- it failed, and whatever the second came to, the node covers what had been seen
-  pub covered_twice : (below begun w : View) (q number : ℕ) (done : Bool) → IsInner below.shape q → Missed f below begun q number → TryOver f begun q number done w → IsCovered f below w q number
+  pub covered_twice : (below begun w : SeatView) (q number : ℕ) (done : Bool) → IsInner below.shape q → Missed f below begun q number → TryOver f begun q number done w → IsCovered f below w q number
   covered_twice below begun w q number done inner m over = let n : ℕ = try_steps (part_steps below.shape (left_of below.shape q)) in let shaped = m.goes.shaped in
       let second : Took begun w n = subst (λ (z : Shape). Took begun w (try_steps (part_steps z (left_of z q)))) shaped over.took in
       let whole = goes_on f (number + 1) (number + 1) (number + 1) [] below begun w (omega arith) (omega arith) m.goes over.goes in record {
@@ -43,7 +43,7 @@ module _ (f : ℕ → ℕ → List (ℕ × ℕ) → List ℕ) where
 
   -- ---- the levels
 
-  module _ (bits number key : ℕ) (leaf : View) (m : MayRise f bits number key leaf) where
+  module _ (bits number key : ℕ) (leaf : SeatView) (m : MayRise f bits number key leaf) where
     pub risen_none : HasRisen f bits number key leaf 0 leaf
     risen_none = record {
       goes = goes_more f 0 (number + 0) [] leaf leaf (omega arith) (goes_self f leaf m.knows_table);
@@ -51,7 +51,7 @@ module _ (f : ℕ → ℕ → List (ℕ × ℕ) → List ℕ) where
       lifts = lifts_none leaf.shape leaf.seen key;
     }
 
-    module _ (level : ℕ) (below : View) (low : level < bits) (risen : HasRisen f bits number key leaf level below) where
+    module _ (level : ℕ) (below : SeatView) (low : level < bits) (risen : HasRisen f bits number key leaf level below) where
       up : suc level ≤ leaf.shape.bits
       up = let b = m.bits_are in omega arith
 
@@ -64,7 +64,7 @@ module _ (f : ℕ → ℕ → List (ℕ × ℕ) → List ℕ) where
       room_above = room_left f leaf below number level bits 1 [] (omega arith) risen.goes m.room
 
       -- once the node is covered, the level above shows it too
-      pub risen_on : (node : ℕ) (w : View) → node ≡ above leaf.shape key (suc level) → IsCovered f below w node (number + level) → HasRisen f bits number key leaf (level + 1) w
+      pub risen_on : (node : ℕ) (w : SeatView) → node ≡ above leaf.shape key (suc level) → IsCovered f below w node (number + level) → HasRisen f bits number key leaf (level + 1) w
       risen_on node w is c = let s : Shape = leaf.shape in let one : suc level ≡ level + 1 = sym (add-one level) in let shaped = risen.goes.shaped in
           let goes : Goes f (number + (level + 1)) [] leaf w = goes_on f (number + level) (number + level + 1) (number + (level + 1)) [] leaf below w (omega arith) (omega arith) risen.goes c.goes in
           let took : TookBetween below w (try_steps (part_steps s (left_of s (above s key (suc level))))) (2 * try_steps (part_steps s (left_of s (above s key (suc level))))) =
@@ -87,7 +87,7 @@ module _ (f : ℕ → ℕ → List (ℕ × ℕ) → List ℕ) where
       try_at = record { inner = inner_above 0 leaf some risen_none (2 ^ leaf.shape.bits + key / 2) refl; knows_table = m.knows_table; room = room_above 0 leaf some risen_none; is_at = refl };
     }
 
-  module _ (bits number key : ℕ) (leaf : View) (a : Ascent) (done : Bool) (w : View) (p : IsPastTry f bits number key leaf a done w) where
+  module _ (bits number key : ℕ) (leaf : SeatView) (a : Ascent) (done : Bool) (w : SeatView) (p : IsPastTry f bits number key leaf a done w) where
     abbrev n : IsAtNode f bits number key leaf a p.begun
     n = p.at_node
 
@@ -95,7 +95,7 @@ module _ (f : ℕ → ℕ → List (ℕ × ℕ) → List ℕ) where
     inner_now = inner_above bits number key leaf n.may_rise a.level n.below n.below_root n.risen a.node n.node_is
 
     over_first : IsTry f n.below p.begun a.node (number + a.level) false → TryOver f n.below a.node (number + a.level) done w
-    over_first is = subst (λ (z : View). TryOver f z a.node (number + a.level) done w) is p.try_over
+    over_first is = subst (λ (z : SeatView). TryOver f z a.node (number + a.level) done w) is p.try_over
 
     covered : (second : Bool) → IsTry f n.below p.begun a.node (number + a.level) second → (second ≡ false → done ≡ true) → IsCovered f n.below w a.node (number + a.level)
     covered true t good = covered_twice n.below p.begun w a.node (number + a.level) done inner_now t p.try_over
@@ -109,7 +109,7 @@ module _ (f : ℕ → ℕ → List (ℕ × ℕ) → List ℕ) where
     pub second_begins : (next : Ascent) → next ≡ record { level = a.level; node = a.node; second = true; point = Node } → a.second ≡ false → done ≡ false → IsOnWay f bits number key leaf next w
     second_begins next is first bad = let t : IsTry f n.below p.begun a.node (number + a.level) false = subst (IsTry f n.below p.begun a.node (number + a.level)) first n.is_try in
         let o = over_first t in let lost = subst (λ (z : Bool). TryOver f n.below a.node (number + a.level) z w) bad o in
-        let room_first : HasRoom n.below (number + a.level) 1 = subst (λ (z : View). HasRoom z (number + a.level) 1) t p.room in
+        let room_first : HasRoom n.below (number + a.level) 1 = subst (λ (z : SeatView). HasRoom z (number + a.level) 1) t p.room in
         subst (λ (z : Ascent). IsOnWay f bits number key leaf z w) (sym is) record {
           begun = w;
           at_node = record { may_rise = n.may_rise; below_root = n.below_root; node_is = n.node_is; below = n.below; risen = n.risen; is_try = missed n.below w a.node (number + a.level) lost };
@@ -142,13 +142,13 @@ module _ (f : ℕ → ℕ → List (ℕ × ℕ) → List ℕ) where
 
   -- ---- a step of a try, on the way
 
-  module _ (bits number key : ℕ) (leaf : View) (a : Ascent) (old : View) (o : IsOnWay f bits number key leaf a old) where
+  module _ (bits number key : ℕ) (leaf : SeatView) (a : Ascent) (old : SeatView) (o : IsOnWay f bits number key leaf a old) where
     shaped : old.shape ≡ leaf.shape
     shaped = (goes_at f o.begun a.node (number + a.level) a.point old o.try_at).shaped ∙ begun_shaped a.second o.at_node.is_try ∙ o.at_node.risen.goes.shaped
       where
         begun_shaped : (second : Bool) → IsTry f o.at_node.below o.begun a.node (number + a.level) second → o.begun.shape ≡ o.at_node.below.shape
         begun_shaped true t = t.goes.shaped
-        begun_shaped false t = ap (λ (z : View). z.shape) t
+        begun_shaped false t = ap (λ (z : SeatView). z.shape) t
 
     -- the way is in that table
     pub leaves_are : (leaves : ℕ) → leaves ≡ 2 ^ old.shape.bits → leaves ≡ 2 ^ bits
@@ -162,20 +162,20 @@ module _ (f : ℕ → ℕ → List (ℕ × ℕ) → List ℕ) where
         at_level zero up = cost_first leaf.shape key o.at_node.may_rise.low up
         at_level (suc j) up = cost_later leaf.shape key j o.at_node.may_rise.low up ∙ sym (ap (λ (z : Bool). if z then 0 else 3) (ne_eqb (suc j) 0 (λ is. omega arith)))
 
-    pub step_on : (w : View) (point : Point) → TryAt f o.begun a.node (number + a.level) point w → IsOnWay f bits number key leaf (record { level = a.level; node = a.node; second = a.second; point = point }) w
+    pub step_on : (w : SeatView) (point : Point) → TryAt f o.begun a.node (number + a.level) point w → IsOnWay f bits number key leaf (record { level = a.level; node = a.node; second = a.second; point = point }) w
     step_on w point t = let n = o.at_node in record {
       begun = o.begun;
       at_node = record { may_rise = n.may_rise; below_root = n.below_root; node_is = n.node_is; below = n.below; risen = n.risen; is_try = n.is_try };
       try_at = t;
     }
 
-    pub past_try : (w : View) (done : Bool) → TryOver f o.begun a.node (number + a.level) done w → IsPastTry f bits number key leaf a done w
+    pub past_try : (w : SeatView) (done : Bool) → TryOver f o.begun a.node (number + a.level) done w → IsPastTry f bits number key leaf a done w
     past_try w done over = record { begun = o.begun; at_node = o.at_node; room = o.try_at.room; try_over = over }
 
 -- ---- the turns that are left
 
 -- some are, at every point
-pub point_some : (f : ℕ → ℕ → List (ℕ × ℕ) → List ℕ) (v : View) (q number part : ℕ) (point : Point) (w : View) → TryAt f v q number point w → 1 ≤ point_turns part point
+pub point_some : (f : ℕ → ℕ → List (ℕ × ℕ) → List ℕ) (v : SeatView) (q number part : ℕ) (point : Point) (w : SeatView) → TryAt f v q number point w → 1 ≤ point_turns part point
 point_some f v q number part Node w t = omega arith
 point_some f v q number part (Left from) w t = omega arith
 point_some f v q number part (Right from left) w t = omega arith

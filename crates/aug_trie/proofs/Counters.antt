@@ -6,7 +6,7 @@ use Rattle.aug_core.specs.Counts.{change, changes_of}
 use Rattle.aug_core.specs.Told.{made_by}
 use Rattle.aug_core.specs.declared.view.Advance.{Advance}
 use Rattle.aug_core.specs.declared.view.Change.{Change}
-use Rattle.aug_core.specs.declared.view.View.{View}
+use Rattle.aug_core.specs.declared.view.SeatView.{SeatView}
 use Rattle.aug_trie.specs.inside.Counted.{HasCounts, insertions_by, removals_by}
 use Rattle.aug_model.specs.declared.outcome.Outcome.{Outcome}
 use Rattle.aug_model.specs.declared.outcome.Outcome.TheVariants.{Accepted, Replaced, Refused}
@@ -55,25 +55,25 @@ few_removals changes = filter_shorter is_removal changes
 
 module _ (face : ℕ → ℕ → List (ℕ × ℕ) → List ℕ) where
   -- a counter has room for all changes that may still come
-  pub may_count : (v : View) (leaves bits next left inserts removals : ℕ) → IsPass face v leaves bits next left → HasCounts (changes_of v.held) inserts removals → (inserts + 2 * left ≤ 131072) × (removals + 2 * left ≤ 131072)
+  pub may_count : (v : SeatView) (leaves bits next left inserts removals : ℕ) → IsPass face v leaves bits next left → HasCounts (changes_of v.held) inserts removals → (inserts + 2 * left ≤ 131072) × (removals + 2 * left ≤ 131072)
   may_count v leaves bits next left inserts removals p c = let few = p.knows_table.laid_out.updates.1 in let b = p.budget in let i = few_inserts (changes_of v.held) in let r = few_removals (changes_of v.held) in
       let ci = c.inserts_are in let cr = c.removals_are in (omega arith, omega arith)
 
-  counted_to : (v w : View) (inserts removals more less : ℕ) (gained : List Change) → changes_of w.held ≡ changes_of v.held ++ gained → HasCounts (changes_of v.held) inserts removals → HasCounts gained more less → HasCounts (changes_of w.held) (inserts + more) (removals + less)
+  counted_to : (v w : SeatView) (inserts removals more less : ℕ) (gained : List Change) → changes_of w.held ≡ changes_of v.held ++ gained → HasCounts (changes_of v.held) inserts removals → HasCounts gained more less → HasCounts (changes_of w.held) (inserts + more) (removals + less)
   counted_to v w inserts removals more less gained is c g = subst (λ (z : List Change). HasCounts z (inserts + more) (removals + less)) (sym is) (counted_both (changes_of v.held) gained inserts removals more less c g)
 
   -- a pass that gained no change counts what it counted
-  pub counted_still : (used : ℕ) (v w : View) (inserts removals : ℕ) → Goes face used [] v w → HasCounts (changes_of v.held) inserts removals → HasCounts (changes_of w.held) inserts removals
+  pub counted_still : (used : ℕ) (v w : SeatView) (inserts removals : ℕ) → Goes face used [] v w → HasCounts (changes_of v.held) inserts removals → HasCounts (changes_of w.held) inserts removals
   counted_still used v w inserts removals g c = subst (λ (z : List Change). HasCounts z inserts removals) (sym (g.changes ∙ append-nil (changes_of v.held))) c
 
-  counted_one : (used : ℕ) (v w : View) (key inserts removals more less : ℕ) (request : Request) (a : Advance) → a.replaces ≡ false → HasCounts (change key (a.serial + 1) a.new_weight ∷ []) more less → WentUp face used v key request w a → HasCounts (changes_of v.held) inserts removals → HasCounts (changes_of w.held) (inserts + more) (removals + less)
+  counted_one : (used : ℕ) (v w : SeatView) (key inserts removals more less : ℕ) (request : Request) (a : Advance) → a.replaces ≡ false → HasCounts (change key (a.serial + 1) a.new_weight ∷ []) more less → WentUp face used v key request w a → HasCounts (changes_of v.held) inserts removals → HasCounts (changes_of w.held) (inserts + more) (removals + less)
   counted_one used v w key inserts removals more less request a one g up c = counted_to v w inserts removals more less (made_by key a) up.goes.changes c (subst (λ (z : List Change). HasCounts z more less) (sym (made_one key a one)) g)
 
-  counted_same : (used : ℕ) (v w : View) (key inserts removals found : ℕ) (request : Request) → Stayed face used v key request w found → HasCounts (changes_of v.held) inserts removals → HasCounts (changes_of w.held) (inserts + 0) (removals + 0)
+  counted_same : (used : ℕ) (v w : SeatView) (key inserts removals found : ℕ) (request : Request) → Stayed face used v key request w found → HasCounts (changes_of v.held) inserts removals → HasCounts (changes_of w.held) (inserts + 0) (removals + 0)
   counted_same used v w key inserts removals found request s c = counted_to v w inserts removals 0 0 [] s.goes.changes c counted_none
 
   -- an update counts what it came to
-  pub counted_by : (used : ℕ) (v w : View) (key inserts removals : ℕ) (request : Request) (done : Outcome) → Updated face used v key request w done → HasCounts (changes_of v.held) inserts removals
+  pub counted_by : (used : ℕ) (v w : SeatView) (key inserts removals : ℕ) (request : Request) (done : Outcome) → Updated face used v key request w done → HasCounts (changes_of v.held) inserts removals
       → HasCounts (changes_of w.held) (inserts + insertions_by request done) (removals + removals_by request done)
   counted_by used v w key inserts removals Insert Accepted u c = let a = advance_from Insert key u.loaded in let even = eqb-true (serial_in_word u.loaded % 2) 0 u.came_to.0.lets in
       counted_one used v w key inserts removals 1 0 Insert a refl (one_insertion key (a.serial + 1) a.new_weight (omega (arith, even))) u.came_to.0 c

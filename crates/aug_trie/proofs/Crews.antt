@@ -18,7 +18,7 @@ use Rattle.aug_core.specs.Opening.{Opening, opening_book}
 use Rattle.aug_core.specs.Rule.{newcomer}
 use Rattle.aug_core.specs.Told.{HoldsOnly, KnowsTable, LoadsNode, finishing, taking_back, handed_out, handing_out, taking}
 use Rattle.aug_core.specs.declared.view.Entry.{Entry}
-use Rattle.aug_core.specs.declared.view.View.{View}
+use Rattle.aug_core.specs.declared.view.SeatView.{SeatView}
 use Rattle.aug_core.proofs.Openings.{newcomer_knows, inner_history}
 use Rattle.aug_core.proofs.OpeningCuts.{root_inner, opening_first}
 use Rattle.atomic_table.specs.Seated.{TableId}
@@ -57,24 +57,24 @@ module _ (face : ℕ → ℕ → List (ℕ × ℕ) → List ℕ) where
         ∙ ap (λ (z : Cut). z ∷ []) (opening_first face o some)
 
   -- a lead that loads the root and hands a lane out
-  module _ (old b : View) (r back inserts removals place : ℕ) (c : HoldsCrew face old back inserts removals) (l : LoadsNode face old (root_place old.shape) r b) where
-    abbrev new : View
+  module _ (old b : SeatView) (r back inserts removals place : ℕ) (c : HoldsCrew face old back inserts removals) (l : LoadsNode face old (root_place old.shape) r b) where
+    abbrev new : SeatView
     new = handing_out b
 
-    abbrev pass : View
+    abbrev pass : SeatView
     pass = taking (handed_out b) place
 
     same_shape : b.shape ≡ old.shape
-    same_shape = ap (λ (z : View). z.shape) l.stepped
+    same_shape = ap (λ (z : SeatView). z.shape) l.stepped
 
     same_members : b.members ≡ old.members
-    same_members = ap (λ (z : View). z.members) l.stepped
+    same_members = ap (λ (z : SeatView). z.members) l.stepped
 
     same_spare : b.spare ≡ old.spare
-    same_spare = ap (λ (z : View). z.spare) l.stepped
+    same_spare = ap (λ (z : SeatView). z.spare) l.stepped
 
     same_held : b.held ≡ old.held
-    same_held = ap (λ (z : View). z.held) l.stepped
+    same_held = ap (λ (z : SeatView). z.held) l.stepped
 
     -- is a crew still
     pub hands_crew : c.handed < old.shape.workers → HoldsCrew face new back inserts removals
@@ -110,13 +110,13 @@ module _ (face : ℕ → ℕ → List (ℕ × ℕ) → List ℕ) where
           let facts : PassFacts = pass_facts (record { table = table; view = pass }) left in
           λ i. record facts { round = round_of table (record old { shape = same_shape i; members = same_members i }); lane = unwrap_or (same_spare i) 0; spent = fresh i };
       exists = omega arith;
-      loads = (r, ap (λ (z : View). z.steps) l.stepped);
+      loads = (r, ap (λ (z : SeatView). z.steps) l.stepped);
       named = numbers_long b.shape b.seen;
       knowledge = record { is_history = known.is_history; stands = known.stands };
     }
 
   -- a lead that took a pass in and loaded the root
-  module _ (old p w : View) (place r back inserts removals more less : ℕ) (c : HoldsCrew face old back inserts removals) (lane : Held) (only : HoldsOnly p lane) (one_shape : p.shape ≡ old.shape) (kp : KnowsTable face p) (known : KnowsRound p)
+  module _ (old p w : SeatView) (place r back inserts removals more less : ℕ) (c : HoldsCrew face old back inserts removals) (lane : Held) (only : HoldsOnly p lane) (one_shape : p.shape ≡ old.shape) (kp : KnowsTable face p) (known : KnowsRound p)
       (counts : HasCounts (changes_of p.held) more less) (l : LoadsNode face (taking_back old (finishing p place)) (root_place old.shape) r w) where
     back_knows : HandedBack (knows old) (knows p) (knows w)
     back_knows = handed_back_is face old p w place r lane c.is_crew.knows_table kp one_shape only l
@@ -135,7 +135,7 @@ module _ (face : ℕ → ℕ → List (ℕ × ℕ) → List ℕ) where
     back_crew b i d is_b is_i is_d = let after = crew_after face old p w place r lane c.is_crew.knows_table kp one_shape only l c.handed (length old.held) c.is_crew known in record {
       handed = c.handed;
       is_crew = subst (IsCrew face w c.handed) (sym one_back) after;
-      few = let e : w.shape.workers ≡ old.shape.workers = ap (λ (z : View). z.shape.workers) l.stepped in let f = c.few in omega arith;
+      few = let e : w.shape.workers ≡ old.shape.workers = ap (λ (z : SeatView). z.shape.workers) l.stepped in let f = c.few in omega arith;
       back_is = let e = one_back in let o = c.back_is in omega arith;
       inserts_are = let e = back_inserts in let o = c.inserts_are in omega arith;
       removals_are = let e = back_removals in let o = c.removals_are in omega arith;
@@ -148,5 +148,5 @@ module _ (face : ℕ → ℕ → List (ℕ × ℕ) → List ℕ) where
       crew_is = let facts : CrewFacts = crew_facts (record { table = table; view = w }) in
           λ i. record facts { round = round_of table (l.stepped i); handed = unwrap_or (l.stepped i).spare 0; back = one_back i };
       knowledge = (crew_after face old p w place r lane c.is_crew.knows_table kp one_shape only l c.handed (length old.held) c.is_crew known).knowledge;
-      loads = (r, ap (λ (z : View). z.steps) l.stepped);
+      loads = (r, ap (λ (z : SeatView). z.steps) l.stepped);
     }

@@ -20,7 +20,7 @@ use Rattle.aug_core.specs.Rule.{Kept}
 use Rattle.aug_core.specs.Told.{opening_of}
 use Rattle.aug_core.specs.declared.view.Entry.{Entry}
 use Rattle.aug_core.specs.declared.view.Held.{Held}
-use Rattle.aug_core.specs.declared.view.View.{View}
+use Rattle.aug_core.specs.declared.view.SeatView.{SeatView}
 use Rattle.aug_core.proofs.PlaceLemmas.{keys-within}
 use Rattle.aug_core.proofs.Sizes.{twice}
 use Rattle.aug_core.proofs.Moves.{St}
@@ -63,7 +63,7 @@ changes_few [] most each = omega arith
 changes_few (h ∷ hs) most each = let here = each 0 h refl in let rest = changes_few hs most (λ a g p. each (suc a) g p) in
     let long = length-append h.changes (changes_of hs) in omega arith
 
-module _ (face : ℕ → ℕ → List (ℕ × ℕ) → List ℕ) (v : View) (back inserts removals : ℕ) (c : HoldsCrew face v back inserts removals) (s : St) (r : Kept face (opening_of v) s) (id : ℕ) (at : get_elem? s.views id ≡ some v) where
+module _ (face : ℕ → ℕ → List (ℕ × ℕ) → List ℕ) (v : SeatView) (back inserts removals : ℕ) (c : HoldsCrew face v back inserts removals) (s : St) (r : Kept face (opening_of v) s) (id : ℕ) (at : get_elem? s.views id ≡ some v) where
   all_held : length v.held ≤ c.handed
   all_held = held_few face s id c.handed v r at c.is_crew.hands_out c.is_crew.knows_table c.is_crew.knowledge.stands
 

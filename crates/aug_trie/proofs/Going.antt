@@ -16,7 +16,7 @@ use Rattle.aug_core.specs.declared.view.Change.{Change}
 use Rattle.aug_core.specs.declared.step.StepKind.{StepKind}
 use Rattle.aug_core.specs.declared.step.StepKind.TheVariants.{LoadLeaf, TryLeaf, LoadNode, TryNode, LoadRecordWord, StoreRecordWord, TakeLane, FinishLane}
 use Rattle.aug_core.specs.declared.view.Held.{Held}
-use Rattle.aug_core.specs.declared.view.View.{View}
+use Rattle.aug_core.specs.declared.view.SeatView.{SeatView}
 use Rattle.aug_core.proofs.Books.{fresh_now, fresh_on}
 use Rattle.aug_core.proofs.Fits.{knows_shown, knows_same}
 use Rattle.aug_trie.specs.inside.Points.{QuietStep}
@@ -38,13 +38,13 @@ tries_leaf FinishLane = false
 abbrev quiet : StepTaken → Type 0
 quiet taken = taken.kind ≢ TryLeaf
 
-pub took_none : (v w : View) → w.steps ≡ v.steps → Took v w 0
+pub took_none : (v w : SeatView) → w.steps ≡ v.steps → Took v w 0
 took_none v w is = record { more = []; steps = is ∙ sym (append-nil v.steps); count = refl; no_try = All-nil quiet }
 
-pub took_one : (v w : View) (taken : StepTaken) → tries_leaf taken.kind ≡ false → w.steps ≡ v.steps ++ taken ∷ [] → Took v w 1
+pub took_one : (v w : SeatView) (taken : StepTaken) → tries_leaf taken.kind ≡ false → w.steps ≡ v.steps ++ taken ∷ [] → Took v w 1
 took_one v w taken other is = record { more = taken ∷ []; steps = is; count = refl; no_try = All-cons quiet taken [] (λ is. false≢true (sym other ∙ ap tries_leaf is)) (All-nil quiet) }
 
-pub took_on : (u v w : View) (m n k : ℕ) → m + n ≡ k → Took u v m → Took v w n → Took u w k
+pub took_on : (u v w : SeatView) (m n k : ℕ) → m + n ≡ k → Took u v m → Took v w n → Took u w k
 took_on u v w m n k total a b = let x = a.count in let y = b.count in record {
   more = a.more ++ b.more;
   steps = b.steps ∙ ap (λ (z : List StepTaken). z ++ b.more) a.steps ∙ append_assoc u.steps a.more b.more;
@@ -52,7 +52,7 @@ took_on u v w m n k total a b = let x = a.count in let y = b.count in record {
   no_try = All-append quiet a.more b.more a.no_try b.no_try;
 }
 
-pub between_on : (u v w : View) (a b c d m n : ℕ) → m ≤ a + c → b + d ≤ n → TookBetween u v a b → TookBetween v w c d → TookBetween u w m n
+pub between_on : (u v w : SeatView) (a b c d m n : ℕ) → m ≤ a + c → b + d ≤ n → TookBetween u v a b → TookBetween v w c d → TookBetween u w m n
 between_on u v w a b c d m n le ge x y = let xl = x.least_steps in let xm = x.most_steps in let yl = y.least_steps in let ym = y.most_steps in
     record { steps = x.steps + y.steps; least_steps = omega arith; most_steps = omega arith; took = took_on u v w x.steps y.steps (x.steps + y.steps) refl x.took y.took }
 
@@ -66,11 +66,11 @@ changes_on : (f : Held → Held) (held : List Held) → ((h : Held) → (f h).ch
 changes_on f [] keeps = refl
 changes_on f (h ∷ hs) keeps = ap (λ (z : List Change). z ++ changes_of hs) (keeps h)
 
-pub only_changes : (v : View) (h : Held) → HoldsOnly v h → changes_of v.held ≡ h.changes
+pub only_changes : (v : SeatView) (h : Held) → HoldsOnly v h → changes_of v.held ≡ h.changes
 only_changes v h only = ap changes_of only ∙ append-nil h.changes
 
 -- a free record may be stored
-pub may_store : (v : View) (next n : ℕ) → IsFree v next → next ≤ n → n < first_record v.shape (own_lane v.held) + lane_records v.shape → MayStore v n
+pub may_store : (v : SeatView) (next n : ℕ) → IsFree v next → next ≤ n → n < first_record v.shape (own_lane v.held) + lane_records v.shape → MayStore v n
 may_store v next n is_free past below = let lane : own_lane v.held ≡ is_free.lane.lane = ap own_lane is_free.only in record {
   lane = is_free.lane;
   only = is_free.only;
@@ -78,29 +78,29 @@ may_store v next n is_free past below = let lane : own_lane v.held ≡ is_free.l
   unpublished = is_free.unpublished n past;
 }
 
-pub may_store_room : (v : View) (number : ℕ) → HasRoom v number 1 → MayStore v number
+pub may_store_room : (v : SeatView) (number : ℕ) → HasRoom v number 1 → MayStore v number
 may_store_room v number r = let room = r.room in may_store v number number r.is_free (omega arith) (omega arith)
 
 -- the pass may try a leaf, while it has updates left
-pub may_change : (v : View) (next records : ℕ) → HasRoom v next records → length (changes_of v.held) + 2 ≤ 2 * v.shape.updates → MayChange v
+pub may_change : (v : SeatView) (next records : ℕ) → HasRoom v next records → length (changes_of v.held) + 2 ≤ 2 * v.shape.updates → MayChange v
 may_change v next records r few = let f = r.is_free in record { lane = f.lane; only = f.only; room = subst (λ (z : List Change). length z + 2 ≤ 2 * v.shape.updates) (only_changes v f.lane f.only) few }
 
 -- a load that showed the book is one step, in which no update began
-pub quiet_seeing : (v w : View) (taken : StepTaken) → w ≡ seeing v w.seen taken → Continues w.seen v.seen → QuietStep v w
+pub quiet_seeing : (v w : SeatView) (taken : StepTaken) → w ≡ seeing v w.seen taken → Continues w.seen v.seen → QuietStep v w
 quiet_seeing v w taken is later = (
   record {
     taken = taken;
-    steps = ap (λ (z : View). z.steps) is;
+    steps = ap (λ (z : SeatView). z.steps) is;
     later = later;
-    shaped = ap (λ (z : View). z.shape) is;
-    same_members = ap (λ (z : View). z.members) is;
-    lane = ap (λ (z : View). own_lane z.held) is;
+    shaped = ap (λ (z : SeatView). z.shape) is;
+    same_members = ap (λ (z : SeatView). z.members) is;
+    lane = ap (λ (z : SeatView). own_lane z.held) is;
   },
-  ap (λ (z : View). z.began) is,
+  ap (λ (z : SeatView). z.began) is,
 )
 
 module _ (face : ℕ → ℕ → List (ℕ × ℕ) → List ℕ) where
-  pub goes_self : (v : View) → KnowsTable face v → Goes face 0 [] v v
+  pub goes_self : (v : SeatView) → KnowsTable face v → Goes face 0 [] v v
   goes_self v kn = record {
     later = λ q i e p. p;
     fresh = fresh_now v.shape v.seen;
@@ -113,7 +113,7 @@ module _ (face : ℕ → ℕ → List (ℕ × ℕ) → List ℕ) where
   }
 
   -- steps after steps
-  pub goes_after : (a b c : ℕ) (gained more all : List Change) (u v w : View) → a ≤ c → b ≤ c → gained ++ more ≡ all → Goes face a gained u v → Goes face b more v w → Goes face c all u w
+  pub goes_after : (a b c : ℕ) (gained more all : List Change) (u v w : SeatView) → a ≤ c → b ≤ c → gained ++ more ≡ all → Goes face a gained u v → Goes face b more v w → Goes face c all u w
   goes_after a b c gained more all u v w ac bc total x y = record {
     later = λ q i e p. y.later q i e (x.later q i e p);
     fresh = fresh_on u.shape u.seen v.seen w.seen x.later y.later x.fresh (subst (λ (z : Shape). IsFresh z w.seen v.seen) x.shaped y.fresh);
@@ -126,14 +126,14 @@ module _ (face : ℕ → ℕ → List (ℕ × ℕ) → List ℕ) where
   }
 
   -- steps that gain no change, after others
-  pub goes_on : (a b c : ℕ) (gained : List Change) (u v w : View) → a ≤ c → b ≤ c → Goes face a gained u v → Goes face b [] v w → Goes face c gained u w
+  pub goes_on : (a b c : ℕ) (gained : List Change) (u v w : SeatView) → a ≤ c → b ≤ c → Goes face a gained u v → Goes face b [] v w → Goes face c gained u w
   goes_on a b c gained u v w ac bc x y = goes_after a b c gained [] gained u v w ac bc (append-nil gained) x y
 
-  pub goes_more : (a c : ℕ) (gained : List Change) (v w : View) → a ≤ c → Goes face a gained v w → Goes face c gained v w
+  pub goes_more : (a c : ℕ) (gained : List Change) (v w : SeatView) → a ≤ c → Goes face a gained v w → Goes face c gained v w
   goes_more a c gained v w le g = record { later = g.later; fresh = g.fresh; knows_table = g.knows_table; shaped = g.shaped; same_members = g.same_members; lane = g.lane; changes = g.changes; still_free = λ n past f. g.still_free n (omega arith) f }
 
   -- a view that only made a step
-  pub goes_stepping : (v w : View) (taken : StepTaken) → w ≡ stepping v taken → KnowsTable face v → Goes face 0 [] v w
+  pub goes_stepping : (v w : SeatView) (taken : StepTaken) → w ≡ stepping v taken → KnowsTable face v → Goes face 0 [] v w
   goes_stepping v w taken is kn = subst (Goes face 0 [] v) (sym is) record {
     later = λ q i e p. p;
     fresh = fresh_now v.shape v.seen;
@@ -146,7 +146,7 @@ module _ (face : ℕ → ℕ → List (ℕ × ℕ) → List ℕ) where
   }
 
   -- one that stored a word of its lane
-  pub goes_storing : (v w : View) (place value : ℕ) → w ≡ storing v place value → KnowsTable face v → Goes face 0 [] v w
+  pub goes_storing : (v w : SeatView) (place value : ℕ) → w ≡ storing v place value → KnowsTable face v → Goes face 0 [] v w
   goes_storing v w place value is kn = let f' : Held → Held = with_word v.shape place value in subst (Goes face 0 [] v) (sym is) record {
     later = λ q i e p. p;
     fresh = fresh_now v.shape v.seen;
@@ -159,7 +159,7 @@ module _ (face : ℕ → ℕ → List (ℕ × ℕ) → List ℕ) where
   }
 
   -- what is free stays so for another that holds the same lanes
-  free_same : (v w : View) (n : ℕ) → w.shape ≡ v.shape → w.held ≡ v.held → IsFree v n → IsFree w n
+  free_same : (v w : SeatView) (n : ℕ) → w.shape ≡ v.shape → w.held ≡ v.held → IsFree v n → IsFree w n
   free_same v w n shaped held f = record {
     lane = f.lane;
     only = held ∙ f.only;
@@ -168,7 +168,7 @@ module _ (face : ℕ → ℕ → List (ℕ × ℕ) → List ℕ) where
     long = subst (λ (z : Shape). length f.lane.words ≡ block_size z) (sym shaped) f.long;
   }
 
-  goes_shown : (v w : View) → w.shape ≡ v.shape → w.members ≡ v.members → w.held ≡ v.held → KnowsTable face v → Sees face v w → Goes face 0 [] v w
+  goes_shown : (v w : SeatView) → w.shape ≡ v.shape → w.members ≡ v.members → w.held ≡ v.held → KnowsTable face v → Sees face v w → Goes face 0 [] v w
   goes_shown v w shaped same held kn sees = record {
     later = sees.later;
     fresh = sees.fresh;
@@ -181,17 +181,17 @@ module _ (face : ℕ → ℕ → List (ℕ × ℕ) → List ℕ) where
   }
 
   -- a view that was shown the whole book
-  pub goes_seeing : (v w : View) (taken : StepTaken) → w ≡ seeing v w.seen taken → KnowsTable face v → Sees face v w → Goes face 0 [] v w
-  goes_seeing v w taken is kn sees = goes_shown v w (ap (λ (z : View). z.shape) is) (ap (λ (z : View). z.members) is) (ap (λ (z : View). z.held) is) kn sees
+  pub goes_seeing : (v w : SeatView) (taken : StepTaken) → w ≡ seeing v w.seen taken → KnowsTable face v → Sees face v w → Goes face 0 [] v w
+  goes_seeing v w taken is kn sees = goes_shown v w (ap (λ (z : SeatView). z.shape) is) (ap (λ (z : SeatView). z.members) is) (ap (λ (z : SeatView). z.held) is) kn sees
 
   -- and one that began an update with it
-  pub goes_beginning : (v w : View) (taken : StepTaken) → w ≡ beginning v w.seen taken → KnowsTable face v → Sees face v w → Goes face 0 [] v w
-  goes_beginning v w taken is kn sees = goes_shown v w (ap (λ (z : View). z.shape) is) (ap (λ (z : View). z.members) is) (ap (λ (z : View). z.held) is) kn sees
+  pub goes_beginning : (v w : SeatView) (taken : StepTaken) → w ≡ beginning v w.seen taken → KnowsTable face v → Sees face v w → Goes face 0 [] v w
+  goes_beginning v w taken is kn sees = goes_shown v w (ap (λ (z : SeatView). z.shape) is) (ap (λ (z : SeatView). z.members) is) (ap (λ (z : SeatView). z.held) is) kn sees
 
   -- a view that published a record
-  pub goes_publishing : (v w : View) (number : ℕ) (taken : StepTaken) → w ≡ publishing v w.seen number taken → KnowsTable face v → Sees face v w → Goes face (number + 1) [] v w
-  goes_publishing v w number taken is kn sees = let shaped : w.shape ≡ v.shape = ap (λ (z : View). z.shape) is in let same : w.members ≡ v.members = ap (λ (z : View). z.members) is in
-      let held : w.held ≡ on_first (with_published number) v.held = ap (λ (z : View). z.held) is in record {
+  pub goes_publishing : (v w : SeatView) (number : ℕ) (taken : StepTaken) → w ≡ publishing v w.seen number taken → KnowsTable face v → Sees face v w → Goes face (number + 1) [] v w
+  goes_publishing v w number taken is kn sees = let shaped : w.shape ≡ v.shape = ap (λ (z : SeatView). z.shape) is in let same : w.members ≡ v.members = ap (λ (z : SeatView). z.members) is in
+      let held : w.held ≡ on_first (with_published number) v.held = ap (λ (z : SeatView). z.held) is in record {
         later = sees.later;
         fresh = sees.fresh;
         knows_table = knows_shown face v w kn sees shaped same;
@@ -213,9 +213,9 @@ module _ (face : ℕ → ℕ → List (ℕ × ℕ) → List ℕ) where
       one_more l number n m past above not (suc i) e = not (i, e)
 
   -- a view whose changes were accepted
-  pub goes_changing : (v w : View) (more : List Change) (taken : StepTaken) (h : Held) → HoldsOnly v h → w ≡ changing v w.seen more taken → KnowsTable face v → Sees face v w → Goes face 0 more v w
-  goes_changing v w more taken h only is kn sees = let shaped : w.shape ≡ v.shape = ap (λ (z : View). z.shape) is in let same : w.members ≡ v.members = ap (λ (z : View). z.members) is in
-      let held : w.held ≡ on_first (with_changes more) v.held = ap (λ (z : View). z.held) is in
+  pub goes_changing : (v w : SeatView) (more : List Change) (taken : StepTaken) (h : Held) → HoldsOnly v h → w ≡ changing v w.seen more taken → KnowsTable face v → Sees face v w → Goes face 0 more v w
+  goes_changing v w more taken h only is kn sees = let shaped : w.shape ≡ v.shape = ap (λ (z : SeatView). z.shape) is in let same : w.members ≡ v.members = ap (λ (z : SeatView). z.members) is in
+      let held : w.held ≡ on_first (with_changes more) v.held = ap (λ (z : SeatView). z.held) is in
       let new : HoldsOnly w (with_changes more h) = held ∙ ap (on_first (with_changes more)) only in record {
         later = sees.later;
         fresh = sees.fresh;
@@ -236,7 +236,7 @@ module _ (face : ℕ → ℕ → List (ℕ × ℕ) → List ℕ) where
   -- ---- records that are left
 
   -- the room that is left after some records were used
-  pub room_left : (v w : View) (number done all more : ℕ) (gained : List Change) → done + more ≤ all → Goes face (number + done) gained v w → HasRoom v number all → HasRoom w (number + done) more
+  pub room_left : (v w : SeatView) (number done all more : ℕ) (gained : List Change) → done + more ≤ all → Goes face (number + done) gained v w → HasRoom v number all → HasRoom w (number + done) more
   room_left v w number done all more gained enough g r = record {
     is_free = let f = r.is_free in let first = f.from_first in
         g.still_free (number + done) (omega arith) record { lane = f.lane; only = f.only; from_first = omega arith; unpublished = λ n past. f.unpublished n (omega arith); long = f.long };
@@ -244,16 +244,16 @@ module _ (face : ℕ → ℕ → List (ℕ × ℕ) → List ℕ) where
   }
 
   -- the room of a record that was not published
-  pub room_again : (v w : View) (number used : ℕ) → Goes face used [] v w → IsFree w number → HasRoom v number 1 → HasRoom w number 1
+  pub room_again : (v w : SeatView) (number used : ℕ) → Goes face used [] v w → IsFree w number → HasRoom v number 1 → HasRoom w number 1
   room_again v w number used g is_free r = record { is_free = is_free; room = subst (λ (z : Shape × ℕ). number + 1 ≤ first_record z.0 z.1 + lane_records z.0) (λ i. (sym g.shaped i, sym g.lane i)) r.room }
 
   -- steps that published nothing leave all the room
-  pub room_on : (gained : List Change) (v w : View) (next records : ℕ) → Goes face 0 gained v w → HasRoom v next records → HasRoom w next records
+  pub room_on : (gained : List Change) (v w : SeatView) (next records : ℕ) → Goes face 0 gained v w → HasRoom v next records → HasRoom w next records
   room_on gained v w next records g r = record {
     is_free = g.still_free next (omega arith) r.is_free;
     room = subst (λ (z : Shape × ℕ). next + records ≤ first_record z.0 z.1 + lane_records z.0) (λ i. (sym g.shaped i, sym g.lane i)) r.room;
   }
 
 -- the records from a later one on are free too
-pub free_from : (v : View) (next later : ℕ) → next ≤ later → IsFree v next → IsFree v later
+pub free_from : (v : SeatView) (next later : ℕ) → next ≤ later → IsFree v next → IsFree v later
 free_from v next later le f = let first = f.from_first in record { lane = f.lane; only = f.only; from_first = omega arith; unpublished = λ n up listed. f.unpublished n (omega arith) listed; long = f.long }

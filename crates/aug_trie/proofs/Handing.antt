@@ -11,7 +11,7 @@ use Rattle.aug_core.specs.Told.{HoldsOnly, KnowsTable, LoadsNode, in_state, on_f
 use Rattle.aug_core.specs.declared.view.Change.{Change}
 use Rattle.aug_core.specs.declared.view.Held.{Held}
 use Rattle.aug_core.specs.declared.view.LaneState.TheVariants.{Taken, Ended}
-use Rattle.aug_core.specs.declared.view.View.{View}
+use Rattle.aug_core.specs.declared.view.SeatView.{SeatView}
 use Rattle.aug_core.proofs.Fits.{knows_shown, knows_same}
 use Rattle.aug_trie.specs.inside.Goes.{HasRoom, HasLeaves}
 use Rattle.aug_trie.specs.History.{last_cut}
@@ -22,11 +22,11 @@ use Rattle.aug_trie.specs.inside.PassState.{IsPass}
 use Rattle.aug_trie.specs.inside.CrewState.{IsCrew}
 use Rattle.aug_trie.proofs.Histories.{is_history}
 use Rattle.aug_trie.proofs.Accepting.{knows_on, stands_on}
-use Rattle.aug_trie.proofs.Pieces.{either_begins, changes-append}
+use Rattle.aug_trie.proofs.Pieces.{either_prefix, changes-append}
 
 module _ (face : ℕ → ℕ → List (ℕ × ℕ) → List ℕ) where
   -- the lead of a new table is a crew
-  pub crew_begins : (v : View) → KnowsTable face v → v.held ≡ [] → v.spare ≡ Some 0 → IsCrew face v 0 0
+  pub crew_begins : (v : SeatView) → KnowsTable face v → v.held ≡ [] → v.spare ≡ Some 0 → IsCrew face v 0 0
   crew_begins v kn none first = record {
     knows_table = kn;
     hands_out = first;
@@ -35,15 +35,15 @@ module _ (face : ℕ → ℕ → List (ℕ × ℕ) → List ℕ) where
   }
 
   -- a lead that loads the root knows what it shows
-  module _ (v w : View) (r : ℕ) (kn : KnowsTable face v) (t : LoadsNode face v (root_place v.shape) r w) where
+  module _ (v w : SeatView) (r : ℕ) (kn : KnowsTable face v) (t : LoadsNode face v (root_place v.shape) r w) where
     same_shape : w.shape ≡ v.shape
-    same_shape = ap (λ (z : View). z.shape) t.stepped
+    same_shape = ap (λ (z : SeatView). z.shape) t.stepped
 
     pub loaded_table : KnowsTable face w
-    loaded_table = knows_shown face v w kn t.sees same_shape (ap (λ (z : View). z.members) t.stepped)
+    loaded_table = knows_shown face v w kn t.sees same_shape (ap (λ (z : SeatView). z.members) t.stepped)
 
     loaded_changes : changes_of w.held ≡ changes_of v.held
-    loaded_changes = ap (λ (z : View). changes_of z.held) t.stepped
+    loaded_changes = ap (λ (z : SeatView). changes_of z.held) t.stepped
 
     pub loaded_knowledge : KnowsRound v → KnowsRound w
     loaded_knowledge k = record {
@@ -56,18 +56,18 @@ module _ (face : ℕ → ℕ → List (ℕ × ℕ) → List ℕ) where
     handed_out_is place = record { goes_on = knows_on face v w kn same_shape t.sees.later; same_changes = loaded_changes; pass_knows = refl }
 
     pub pass_table : (place : ℕ) → KnowsTable face (taking (handed_out w) place)
-    pass_table place = let p : View = taking (handed_out w) place in knows_same face w p.live p.also p.held p.spare p.began p.steps loaded_table
+    pass_table place = let p : SeatView = taking (handed_out w) place in knows_same face w p.live p.also p.held p.spare p.began p.steps loaded_table
 
     pub crew_out : (handed back : ℕ) → IsCrew face v handed back → IsCrew face (handing_out w) (handed + 1) back
-    crew_out handed back c = let p : View = handing_out w in record {
+    crew_out handed back c = let p : SeatView = handing_out w in record {
       knows_table = knows_same face w p.live p.also p.held p.spare p.began p.steps loaded_table;
-      hands_out = ap (λ (z : View). (handing_out z).spare) t.stepped ∙ ap (λ z. (handing_out record v { spare = z }).spare) c.hands_out;
-      took_back = ap (λ (z : View). length z.held) t.stepped ∙ c.took_back;
+      hands_out = ap (λ (z : SeatView). (handing_out z).spare) t.stepped ∙ ap (λ z. (handing_out record v { spare = z }).spare) c.hands_out;
+      took_back = ap (λ (z : SeatView). length z.held) t.stepped ∙ c.took_back;
       knowledge = let k = loaded_knowledge c.knowledge in record { is_history = k.is_history; stands = k.stands };
     }
 
   -- all records of the new pass's lane are free
-  pub pass_room : (v : View) (place : ℕ) → HasRoom (taking (handed_out v) place) (first_record v.shape (unwrap_or v.spare 0)) (lane_records v.shape)
+  pub pass_room : (v : SeatView) (place : ℕ) → HasRoom (taking (handed_out v) place) (first_record v.shape (unwrap_or v.spare 0)) (lane_records v.shape)
   pass_room v place = record {
     is_free = record {
       lane = in_state Taken (new_lane v.shape (unwrap_or v.spare 0));
@@ -80,8 +80,8 @@ module _ (face : ℕ → ℕ → List (ℕ × ℕ) → List ℕ) where
   }
 
   -- so it is a pass, with all its updates
-  pub pass_begins : (v : View) (place leaves : ℕ) → KnowsTable face (taking (handed_out v) place) → HasLeaves v.shape leaves → first_record v.shape (unwrap_or v.spare 0) + v.shape.updates * v.shape.bits < 2 ^ 60 → IsPass face (taking (handed_out v) place) leaves v.shape.bits (first_record v.shape (unwrap_or v.spare 0)) v.shape.updates
-  pass_begins v place leaves kn l small = let p : View = taking (handed_out v) place in record {
+  pub pass_begins : (v : SeatView) (place leaves : ℕ) → KnowsTable face (taking (handed_out v) place) → HasLeaves v.shape leaves → first_record v.shape (unwrap_or v.spare 0) + v.shape.updates * v.shape.bits < 2 ^ 60 → IsPass face (taking (handed_out v) place) leaves v.shape.bits (first_record v.shape (unwrap_or v.spare 0)) v.shape.updates
+  pass_begins v place leaves kn l small = let p : SeatView = taking (handed_out v) place in record {
     leaves_are = record { are = l.are; few = l.few };
     bits_are = refl;
     knows_table = kn;
@@ -91,29 +91,29 @@ module _ (face : ℕ → ℕ → List (ℕ × ℕ) → List ℕ) where
     knowledge = record { is_history = is_history face p kn; stands = All-nil (StandsIn (last_cut (knows p).history)) };
   }
 
-  finished_changes : (p : View) (h : Held) → HoldsOnly p h → changes_of (on_first (in_state Ended) p.held) ≡ changes_of p.held
+  finished_changes : (p : SeatView) (h : Held) → HoldsOnly p h → changes_of (on_first (in_state Ended) p.held) ≡ changes_of p.held
   finished_changes p h only = ap (λ (z : List Held). changes_of (on_first (in_state Ended) z)) only ∙ sym (ap changes_of only)
 
   -- a pass that was taken back, and the load of the root after it
-  module _ (v p w : View) (place r : ℕ) (lane : Held) (kv : KnowsTable face v) (kp : KnowsTable face p) (one_shape : p.shape ≡ v.shape) (only : HoldsOnly p lane)
+  module _ (v p w : SeatView) (place r : ℕ) (lane : Held) (kv : KnowsTable face v) (kp : KnowsTable face p) (one_shape : p.shape ≡ v.shape) (only : HoldsOnly p lane)
       (t : LoadsNode face (taking_back v (finishing p place)) (root_place v.shape) r w) where
     back_shape : w.shape ≡ v.shape
-    back_shape = ap (λ (z : View). z.shape) t.stepped
+    back_shape = ap (λ (z : SeatView). z.shape) t.stepped
 
     pass_shape : w.shape ≡ p.shape
     pass_shape = back_shape ∙ sym one_shape
 
     pub back_table : KnowsTable face w
-    back_table = let u : View = taking_back v (finishing p place) in
-        knows_shown face u w (knows_same face v u.live u.also u.held u.spare u.began u.steps kv) t.sees back_shape (ap (λ (z : View). z.members) t.stepped)
+    back_table = let u : SeatView = taking_back v (finishing p place) in
+        knows_shown face u w (knows_same face v u.live u.also u.held u.spare u.began u.steps kv) t.sees back_shape (ap (λ (z : SeatView). z.members) t.stepped)
 
     all_changes : changes_of w.held ≡ changes_of v.held ++ changes_of p.held
-    all_changes = ap (λ (z : View). changes_of z.held) t.stepped ∙ changes-append v.held (on_first (in_state Ended) p.held) ∙ ap (λ (z : List Change). changes_of v.held ++ z) (finished_changes p lane only)
+    all_changes = ap (λ (z : SeatView). changes_of z.held) t.stepped ∙ changes-append v.held (on_first (in_state Ended) p.held) ∙ ap (λ (z : List Change). changes_of v.held ++ z) (finished_changes p lane only)
 
     -- the lead knows what both knew
     pub handed_back_is : HandedBack (knows v) (knows p) (knows w)
     handed_back_is = let a = knows_on face v w kv back_shape t.sees.later in let b = knows_on face p w kp pass_shape t.sees.also_later in
-        record { one_piece = either_begins (knows v).history (knows p).history (knows w).history a b; goes_on = a; takes_up = b; changes_of_both = all_changes }
+        record { one_piece = either_prefix (knows v).history (knows p).history (knows w).history a b; goes_on = a; takes_up = b; changes_of_both = all_changes }
 
     -- and it is knowledge
     pub back_knowledge : KnowsRound v → KnowsRound p → KnowsRound w
@@ -128,8 +128,8 @@ module _ (face : ℕ → ℕ → List (ℕ × ℕ) → List ℕ) where
     pub crew_after : (handed back : ℕ) → IsCrew face v handed back → KnowsRound p → IsCrew face w handed (back + 1)
     crew_after handed back c k = record {
       knows_table = back_table;
-      hands_out = ap (λ (z : View). z.spare) t.stepped ∙ c.hands_out;
-      took_back = let e : length w.held ≡ length v.held + length (on_first (in_state Ended) p.held) = ap (λ (z : View). length z.held) t.stepped ∙ length-append v.held (on_first (in_state Ended) p.held) in
+      hands_out = ap (λ (z : SeatView). z.spare) t.stepped ∙ c.hands_out;
+      took_back = let e : length w.held ≡ length v.held + length (on_first (in_state Ended) p.held) = ap (λ (z : SeatView). length z.held) t.stepped ∙ length-append v.held (on_first (in_state Ended) p.held) in
           let one : length (on_first (in_state Ended) p.held) ≡ 1 = ap (λ (z : List Held). length (on_first (in_state Ended) z)) only in let b = c.took_back in omega arith;
       knowledge = back_knowledge c.knowledge k;
     }

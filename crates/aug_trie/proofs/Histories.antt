@@ -6,7 +6,7 @@ use Rattle.aug_core.specs.Addresses.{root_place}
 use Rattle.aug_core.specs.Book.{Book, history_of, Continues, IsBook}
 use Rattle.aug_core.specs.Opening.{opening_book}
 use Rattle.aug_core.specs.declared.view.Entry.{Entry}
-use Rattle.aug_core.specs.declared.view.View.{View}
+use Rattle.aug_core.specs.declared.view.SeatView.{SeatView}
 use Rattle.aug_model.specs.Keys.{keys_of}
 use Rattle.aug_model.proofs.Pairs.{length-keys_of}
 use Rattle.aug_model.proofs.Ranges.{rises_from}
@@ -20,7 +20,7 @@ use Rattle.aug_core.specs.inside.EntryCuts.{entry_of}
 use Rattle.aug_core.specs.inside.RootCuts.{root_cut}
 use Rattle.aug_core.specs.Told.{KnowsTable, opening_of}
 use Rattle.aug_trie.specs.inside.Knows.{root_history, root_numbers}
-use Rattle.aug_trie.proofs.Pieces.{begins_at}
+use Rattle.aug_trie.proofs.Pieces.{prefix_at}
 use Rattle.aug_core.proofs.Levels.{root_word}
 use Rattle.aug_core.proofs.CutsUnder.{reached, shown_is, serial_is, shows_reached}
 use Rattle.aug_core.proofs.EntryCuts.{Has, reached_shows, root_rises, cut_later}
@@ -66,7 +66,7 @@ module _ (face : ℕ → ℕ → List (ℕ × ℕ) → List ℕ) (s : Shape) (bo
   -- a later book's history begins with the earlier one's
   pub history_on : (later : Book) → Continues later book → IsPrefix (root_history s book) (root_history s later)
   history_on later grows = let l = history_long s book in let m = history_long s later in let le = no_shorter later book grows (root_place s) in
-      begins_at (root_history s book) (root_history s later) [] (omega arith)
+      prefix_at (root_history s book) (root_history s later) [] (omega arith)
       (λ i low. let h : Has book (root_place s) i = omega arith in let h' : Has later (root_place s) i = omega arith in
       cut_at s book i h ∙ sym (cut_later face s book b later s.bits 0 (root_place s) i grows (root_word s) h) ∙ sym (cut_at s later i h'))
 
@@ -77,7 +77,7 @@ last_rises face s seen book b b' later some = let le = no_shorter book seen late
     let y : root_cut s book j ≡ last_cut (root_history s book) = sym (last_is s book j (omega arith)) in
     subst (λ (z : Cut). IsAtMost z (last_cut (root_history s book))) x (subst (IsAtMost (root_cut s book i)) y (root_rises face s book b' i j (omega arith) (omega arith)))
 
-module _ (face : ℕ → ℕ → List (ℕ × ℕ) → List ℕ) (v : View) (kn : KnowsTable face v) where
+module _ (face : ℕ → ℕ → List (ℕ × ℕ) → List ℕ) (v : SeatView) (kn : KnowsTable face v) where
   abbrev root : ℕ
   root = root_place v.shape
 
@@ -101,7 +101,7 @@ module _ (face : ℕ → ℕ → List (ℕ × ℕ) → List ℕ) (v : View) (kn 
 
   pub is_history : IsHistory v.shape.bits v.members (root_history v.shape v.seen)
   is_history = let long = history_long v.shape v.seen in let some_there = root_some in record {
-    opens = begins_at (opening_cut v.shape.bits v.members ∷ []) (root_history v.shape v.seen) [] (omega arith)
+    opens = prefix_at (opening_cut v.shape.bits v.members ∷ []) (root_history v.shape v.seen) [] (omega arith)
         (λ i low. let z : i ≡ 0 = omega arith in ap (λ (k : ℕ). get_or (opening_cut v.shape.bits v.members ∷ []) k []) z ∙ sym first_cut ∙ sym (cut_at v.shape v.seen 0 some_there) ∙ ap (λ (k : ℕ). get_or (root_history v.shape v.seen) k []) (sym z));
     rises = λ i low. let here : Has v.seen root i = omega arith in let next : Has v.seen root (i + 1) = omega arith in
         subst (λ (z : Cut). IsAtMost z (get_or (root_history v.shape v.seen) (i + 1) [])) (sym (cut_at v.shape v.seen i here))

@@ -5,7 +5,7 @@ use Rattle.aug_core.specs.Addresses.{left_of}
 use Rattle.aug_core.specs.Book.{Book, Continues, IsBook}
 use Rattle.aug_core.specs.inside.Shows.{above, Lifts}
 use Rattle.aug_core.specs.inside.Refreshes.{NewestCovers}
-use Rattle.aug_core.specs.declared.view.View.{View}
+use Rattle.aug_core.specs.declared.view.SeatView.{SeatView}
 use Rattle.aug_core.proofs.Showing.{first_children, later_children, shows_up}
 use Rattle.aug_trie.specs.inside.Goes.{TookBetween, part_steps, try_steps, least_rise_steps, most_rise_steps}
 use Rattle.aug_trie.proofs.Going.{between_on}
@@ -24,11 +24,11 @@ pub cost_later : (s : Shape) (key j : ℕ) → key < 2 ^ s.bits → suc (suc j) 
 cost_later s key j low up = ap (λ (z : Bool). if z then 0 else 3) (le-ltb (left_of s (above s key (suc (suc j)))) (2 ^ s.bits) (later_children s key j low up))
 
 -- the steps of one level more
-pub took_level : (s : Shape) (u v w : View) (key level : ℕ) → key < 2 ^ s.bits → suc level ≤ s.bits → TookBetween u v (least_rise_steps level) (most_rise_steps level)
+pub took_level : (s : Shape) (u v w : SeatView) (key level : ℕ) → key < 2 ^ s.bits → suc level ≤ s.bits → TookBetween u v (least_rise_steps level) (most_rise_steps level)
     → TookBetween v w (try_steps (part_steps s (left_of s (above s key (suc level))))) (2 * try_steps (part_steps s (left_of s (above s key (suc level))))) → TookBetween u w (least_rise_steps (suc level)) (most_rise_steps (suc level))
 took_level s u v w key zero low up x y = let c = cost_first s key low up in between_on u v w 0 0 _ _ (try_steps 0) (2 * try_steps 0) (omega arith) (omega arith) x y
 took_level s u v w key (suc j) low up x y = let c = cost_later s key j low up in between_on u v w _ _ _ _ _ _ (omega arith) (omega arith) x y
 
 module _ (f : ℕ → ℕ → List (ℕ × ℕ) → List ℕ) where
-  pub lifts_level : (s : Shape) (seen : Book) (v w : View) (key level : ℕ) → key < 2 ^ s.bits → suc level ≤ s.bits → IsBook f s w.seen → Continues w.seen v.seen → NewestCovers s v.seen w.seen (above s key (suc level)) → Lifts s seen v.seen key level → Lifts s seen w.seen key (suc level)
+  pub lifts_level : (s : Shape) (seen : Book) (v w : SeatView) (key level : ℕ) → key < 2 ^ s.bits → suc level ≤ s.bits → IsBook f s w.seen → Continues w.seen v.seen → NewestCovers s v.seen w.seen (above s key (suc level)) → Lifts s seen v.seen key level → Lifts s seen w.seen key (suc level)
   lifts_level s seen v w key level low up b later c h = record { lifted = λ n x. shows_up f s w.seen b key low v.seen level n up later c (h.lifted n x) }

@@ -10,7 +10,7 @@ use Rattle.aug_core.specs.Faces.{face}
 use Rattle.aug_core.specs.Cuts.{Cut, set_of_cut, pairs_of_cut}
 use Rattle.aug_core.specs.Counts.{changes_of}
 use Rattle.aug_core.specs.Told.{HasSeen, KnowsTable}
-use Rattle.aug_core.specs.declared.view.View.{View}
+use Rattle.aug_core.specs.declared.view.SeatView.{SeatView}
 use Rattle.aug_core.proofs.Books.{fresh_now}
 use Rattle.aug_core.proofs.Fits.{knows_same}
 use Rattle.aug_core.proofs.PlaceLemmas.{keys-within}
@@ -22,7 +22,7 @@ use Rattle.aug_trie.specs.inside.Points.{Says}
 use Rattle.aug_trie.proofs.Walking.{node_seen, left_node, right_node, node_told, count_few, count_told, leaf_told, leaf_weight}
 
 -- a view that made steps and learnt nothing
-pub goes_looking : (f : ℕ → ℕ → List (ℕ × ℕ) → List ℕ) (most : ℕ) (v w : View) → Looks most v w → KnowsTable f v → Goes f 0 [] v w
+pub goes_looking : (f : ℕ → ℕ → List (ℕ × ℕ) → List ℕ) (most : ℕ) (v w : SeatView) → Looks most v w → KnowsTable f v → Goes f 0 [] v w
 goes_looking f most v w l kn = subst (Goes f 0 [] v) (sym l.is) record {
   later = λ q i e p. p;
   fresh = fresh_now v.shape v.seen;
@@ -34,7 +34,7 @@ goes_looking f most v w l kn = subst (Goes f 0 [] v) (sym l.is) record {
   still_free = λ n _ f. record { lane = f.lane; only = f.only; from_first = f.from_first; unpublished = f.unpublished; long = f.long };
 }
 
-module _ {A B : Type 0} (parts_a : Parts A) (parts_b : Parts B) (v : View) (kn : KnowsTable (face parts_a parts_b) v) (cut : Cut) (level place word : ℕ) (t : IsNodeAt v.shape v.seen cut level place word) where
+module _ {A B : Type 0} (parts_a : Parts A) (parts_b : Parts B) (v : SeatView) (kn : KnowsTable (face parts_a parts_b) v) (cut : Cut) (level place word : ℕ) (t : IsNodeAt v.shape v.seen cut level place word) where
   -- what a leaf's word tells
   pub leaf_tells : (told : Summary A B) → level ≡ 0 → told ≡ summary_of parts_a parts_b (leaf_pairs place word) → IsTreeOf (summary_of parts_a parts_b) v.shape.bits cut level place told
   leaf_tells told low is = subst (λ (z : ℕ). IsTreeOf (summary_of parts_a parts_b) v.shape.bits cut z place told) (sym low)

@@ -4,7 +4,7 @@ use Rattle.std.proofs.lemmas.Bool.{cases_eq, cases_lt, eqb-true, ltb-true}
 use mathlib.Core.Option.{some, some-injective, some-ne-none}
 use lib.ListN.{get_elem?}
 use Rattle.aug_core.specs.declared.view.Held.{Held}
-use Rattle.aug_core.specs.declared.view.View.{View}
+use Rattle.aug_core.specs.declared.view.SeatView.{SeatView}
 use Rattle.aug_trie.proofs.Counting.{hits, hits_yes, hits_no, hits_none, hits_one}
 
 -- the lane is one of the list
@@ -22,14 +22,14 @@ search_held (x ∷ xs) lane = ⊎_elim
     (λ ne. ⊎_elim (λ t. inl (suc t.0, t.1, t.2, t.3)) (λ bad. inr (λ t. not_here x xs lane ne bad t.0 t.1 t.2 t.3)) (search_held xs lane)) (cases_eq x.lane lane)
 
 -- one of the views holds the lane
-abbrev pub Holder : List View → ℕ → Type 0
-Holder views lane = (i : ℕ) × (v : View) × (get_elem? views i ≡ some v) × HeldIn v.held lane
+abbrev pub Holder : List SeatView → ℕ → Type 0
+Holder views lane = (i : ℕ) × (v : SeatView) × (get_elem? views i ≡ some v) × HeldIn v.held lane
 
-not_there : (x : View) (xs : List View) (lane : ℕ) → (HeldIn x.held lane → ⊥) → (Holder xs lane → ⊥) → (i : ℕ) (v : View) → get_elem? (x ∷ xs) i ≡ some v → HeldIn v.held lane → ⊥
-not_there x xs lane ne bad zero v at is = ne (subst (λ (z : View). HeldIn z.held lane) (sym (some-injective x v at)) is)
+not_there : (x : SeatView) (xs : List SeatView) (lane : ℕ) → (HeldIn x.held lane → ⊥) → (Holder xs lane → ⊥) → (i : ℕ) (v : SeatView) → get_elem? (x ∷ xs) i ≡ some v → HeldIn v.held lane → ⊥
+not_there x xs lane ne bad zero v at is = ne (subst (λ (z : SeatView). HeldIn z.held lane) (sym (some-injective x v at)) is)
 not_there x xs lane ne bad (suc i) v at is = bad (i, v, at, is)
 
-pub search_views : (views : List View) (lane : ℕ) → Holder views lane ⊎ (Holder views lane → ⊥)
+pub search_views : (views : List SeatView) (lane : ℕ) → Holder views lane ⊎ (Holder views lane → ⊥)
 search_views [] lane = inr (λ t. some-ne-none t.1 (sym t.2))
 search_views (x ∷ xs) lane = ⊎_elim
     (λ t. inl (0, x, refl, t))

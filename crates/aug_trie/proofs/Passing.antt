@@ -7,7 +7,7 @@ use Rattle.aug_core.specs.Told.{made_by}
 use Rattle.aug_core.specs.Kinds.{load_leaf}
 use Rattle.aug_core.specs.declared.step.StepTaken.{StepTaken}
 use Rattle.aug_core.specs.declared.view.Change.{Change}
-use Rattle.aug_core.specs.declared.view.View.{View}
+use Rattle.aug_core.specs.declared.view.SeatView.{SeatView}
 use Rattle.atomic_table.specs.Seated.{TableId}
 use Rattle.aug_words.specs.Seats.{Known}
 use Rattle.aug_trie.specs.inside.Goes.{HasLeaves, Goes}
@@ -26,7 +26,7 @@ use Rattle.aug_trie.specs.LeafWords.{serial_in_word}
 use Rattle.aug_trie.proofs.Histories.{numbers_long}
 
 module _ (face : ℕ → ℕ → List (ℕ × ℕ) → List ℕ) where
-  pass_on : (v w : View) (leaves bits next left : ℕ) (gained : List Change) → IsPass face v leaves bits next left → 1 ≤ left → length gained ≤ 2 → Goes face (next + bits) gained v w → KnowsRound w → IsPass face w leaves bits (next + bits) (left - 1)
+  pass_on : (v w : SeatView) (leaves bits next left : ℕ) (gained : List Change) → IsPass face v leaves bits next left → 1 ≤ left → length gained ≤ 2 → Goes face (next + bits) gained v w → KnowsRound w → IsPass face w leaves bits (next + bits) (left - 1)
   pass_on v w leaves bits next left gained p some few goes known =
       let e : left ≡ suc (left - 1) = omega arith in let m : left * bits ≡ (left - 1) * bits + bits = ap (λ (z : ℕ). z * bits) e ∙ suc-mul (left - 1) bits in
       let free = free_from v next (next + bits) (omega arith) p.room.is_free in let shape = goes.shaped in record {
@@ -43,7 +43,7 @@ module _ (face : ℕ → ℕ → List (ℕ × ℕ) → List ℕ) where
         knowledge = known;
       }
 
-  module _ (v w : View) (leaves bits next left key : ℕ) (request : Request) (p : IsPass face v leaves bits next left) (some : 1 ≤ left) (low : key < 2 ^ v.shape.bits) where
+  module _ (v w : SeatView) (leaves bits next left key : ℕ) (request : Request) (p : IsPass face v leaves bits next left) (some : 1 ≤ left) (low : key < 2 ^ v.shape.bits) where
     known_after : (done : Outcome) → Updated face (next + bits) v key request w done → KnowsRound w
     known_after done u = updated_knowledge face (next + bits) v key request w p.knows_table low done u p.knowledge
 

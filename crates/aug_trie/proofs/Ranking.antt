@@ -16,7 +16,7 @@ use Rattle.aug_core.specs.Faces.{face}
 use Rattle.aug_core.specs.Told.{HasSeen, KnowsTable, stepping}
 use Rattle.aug_core.specs.Addresses.{IsInner}
 use Rattle.aug_core.specs.declared.step.StepTaken.{StepTaken}
-use Rattle.aug_core.specs.declared.view.View.{View}
+use Rattle.aug_core.specs.declared.view.SeatView.{SeatView}
 use Rattle.aug_trie.specs.LeafWords.{serial_in_word}
 use Rattle.aug_trie.specs.inside.NodeWords.{IsNodeAt}
 use Rattle.aug_trie.specs.inside.Goes.{HasLeaves, Looks}
@@ -34,7 +34,7 @@ half_place k level = ap (λ (n : ℕ). k / n) (pow-suc 2 level) ∙ sym (div-div
 pub even_of : (k : ℕ) → k % 2 ≢ 1 → k % 2 ≡ 0
 even_of k odd = omega arith
 
-module _ {A B : Type 0} (parts_a : Parts A) (parts_b : Parts B) (v : View) (kn : KnowsTable (face parts_a parts_b) v) (cut : Cut) (k : ℕ) where
+module _ {A B : Type 0} (parts_a : Parts A) (parts_b : Parts B) (v : SeatView) (kn : KnowsTable (face parts_a parts_b) v) (cut : Cut) (k : ℕ) where
   abbrev list : List ℕ
   list = set_of_cut cut
 
@@ -122,7 +122,7 @@ module _ {A B : Type 0} (parts_a : Parts A) (parts_b : Parts B) (v : View) (kn :
 
 -- ---- the set of a snapshot
 
-module _ (f : ℕ → ℕ → List (ℕ × ℕ) → List ℕ) (v : View) (number : ℕ) (kn : KnowsTable f v) where
+module _ (f : ℕ → ℕ → List (ℕ × ℕ) → List ℕ) (v : SeatView) (number : ℕ) (kn : KnowsTable f v) where
   snapshot_set : IsTreeSet (members_of v.shape.bits (cut_named v.shape v.seen number))
   snapshot_set = named_set f v number kn
 
@@ -152,7 +152,7 @@ module _ (f : ℕ → ℕ → List (ℕ × ℕ) → List ℕ) (v : View) (number
       ∙ sym (ap length (ap (λ (z : ℕ). range_of keys z ((0 + 1) * 2 ^ bits)) (zero-mul (2 ^ bits)) ∙ ap (range_of keys 0) (one-mul (2 ^ bits)) ∙ range_whole keys (2 ^ bits) below))
 
 -- there are few leaves
-pub few_leaves : (v : View) (leaves : ℕ) → HasLeaves v.shape leaves → 2 ^ v.shape.bits ≤ 65536
+pub few_leaves : (v : SeatView) (leaves : ℕ) → HasLeaves v.shape leaves → 2 ^ v.shape.bits ≤ 65536
 few_leaves v leaves h = let are = h.are in let few = h.few in omega arith
 
 -- before the top there is no member
@@ -161,23 +161,23 @@ top_rank cut bits place is = rank_none (set_of_cut cut) (first_key bits place) (
 
 -- ---- a view that looked
 
-pub looks_none : (most : ℕ) (v : View) → Looks most v v
+pub looks_none : (most : ℕ) (v : SeatView) → Looks most v v
 looks_none most v = record { more = []; is = ap (λ (z : List StepTaken). record v { steps = z }) (sym (append-nil v.steps)); few = omega arith }
 
-pub looks_on : (a b c : ℕ) (u v w : View) → a + b ≤ c → Looks a u v → Looks b v w → Looks c u w
+pub looks_on : (a b c : ℕ) (u v w : SeatView) → a + b ≤ c → Looks a u v → Looks b v w → Looks c u w
 looks_on a b c u v w fits x y = let xf = x.few in let yf = y.few in record {
   more = x.more ++ y.more;
   is = y.is ∙ (λ i. record (x.is i) { steps = (x.is i).steps ++ y.more }) ∙ ap (λ (z : List StepTaken). record u { steps = z }) (append_assoc u.steps x.more y.more);
   few = let long = length-append x.more y.more in omega arith;
 }
 
-pub looks_one : (v w : View) (taken : StepTaken) → w ≡ stepping v taken → Looks 1 v w
+pub looks_one : (v w : SeatView) (taken : StepTaken) → w ≡ stepping v taken → Looks 1 v w
 looks_one v w taken is = record { more = taken ∷ []; is = is; few = omega arith }
 
 -- what was seen of a record is so still
-pub seen_looking : (most : ℕ) (v w : View) (number : ℕ) → Looks most v w → HasSeen v number → HasSeen w number
-seen_looking most v w number l h = subst (λ (z : View). HasSeen z number) (sym l.is) record { place = h.place; index = h.index; entry = h.entry; inner = h.inner; at = h.at; numbered = h.numbered }
+pub seen_looking : (most : ℕ) (v w : SeatView) (number : ℕ) → Looks most v w → HasSeen v number → HasSeen w number
+seen_looking most v w number l h = subst (λ (z : SeatView). HasSeen z number) (sym l.is) record { place = h.place; index = h.index; entry = h.entry; inner = h.inner; at = h.at; numbered = h.numbered }
 
 -- and what it says
-pub says_looking : (most : ℕ) (v w : View) (number field r : ℕ) → Looks most v w → Says w number field r → Says v number field r
-says_looking most v w number field r l says q i e inner p = says q i e (subst (λ (z : View). IsInner z.shape q) (sym l.is) inner) (subst (λ (z : View). At z.seen q i e) (sym l.is) p)
+pub says_looking : (most : ℕ) (v w : SeatView) (number field r : ℕ) → Looks most v w → Says w number field r → Says v number field r
+says_looking most v w number field r l says q i e inner p = says q i e (subst (λ (z : SeatView). IsInner z.shape q) (sym l.is) inner) (subst (λ (z : SeatView). At z.seen q i e) (sym l.is) p)

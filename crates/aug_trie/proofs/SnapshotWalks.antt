@@ -3,7 +3,7 @@ use Rattle.std.proofs.Common.{◌≡◌, ℕ, ◌+◌, ◌*◌, ◌^◌, ◌≤�
 use Rattle.std.proofs.Math.Pow.{pow_mono}
 use Rattle.aug_core.specs.Cuts.{Cut, weight_at, set_of_cut}
 use Rattle.aug_core.specs.Told.{KnowsTable}
-use Rattle.aug_core.specs.declared.view.View.{View}
+use Rattle.aug_core.specs.declared.view.SeatView.{SeatView}
 use Rattle.aug_core.proofs.Fits.{knows_same}
 use Rattle.aug_model.specs.Keys.{list_of}
 use Rattle.aug_model.proofs.Pairs.{keys_of-pairs_of}
@@ -23,20 +23,20 @@ keys_of_cut bits cut = keys_of-pairs_of (weight_at cut) (set_of_cut cut)
 
 module _ (f : ℕ → ℕ → List (ℕ × ℕ) → List ℕ) where
   -- a table has few keys
-  pub few_keys : (v : View) → KnowsTable f v → 2 ^ v.shape.bits ≤ 65536
+  pub few_keys : (v : SeatView) → KnowsTable f v → 2 ^ v.shape.bits ≤ 65536
   few_keys v kn = omega (arith, pow_mono kn.laid_out.bits.1)
 
   -- a view that looked knows its table still
-  pub knows_on : (n : ℕ) (v w : View) → Looks n v w → KnowsTable f v → KnowsTable f w
+  pub knows_on : (n : ℕ) (v w : SeatView) → Looks n v w → KnowsTable f v → KnowsTable f w
   knows_on n v w l kn = subst (KnowsTable f) (sym l.is) (knows_same f v v.live v.also v.held v.spare v.began (v.steps ++ l.more) kn)
 
   -- names are names still
-  pub named_on : (n : ℕ) (v w : View) (s : Snapshot) (level place word : ℕ) → Looks n v w → IsNamed f v s level place word → IsNamed f w s level place word
-  named_on n v w s level place word l has = subst (λ (z : View). IsNamed f z s level place word) (sym l.is)
+  pub named_on : (n : ℕ) (v w : SeatView) (s : Snapshot) (level place word : ℕ) → Looks n v w → IsNamed f v s level place word → IsNamed f w s level place word
+  named_on n v w s level place word l has = subst (λ (z : SeatView). IsNamed f z s level place word) (sym l.is)
       record { knows_table = knows_same f v v.live v.also v.held v.spare v.began (v.steps ++ l.more) has.knows_table; is_tree_set = has.is_tree_set; node = has.node }
 
-  pub walk_on : (n : ℕ) (v w : View) (s : Snapshot) (bits : ℕ) → Looks n v w → IsWalk f v s bits → IsWalk f w s bits
-  walk_on n v w s bits l walk = record { bits_are = walk.bits_are ∙ ap (λ (z : View). z.shape.bits) (sym l.is); top = named_on n v w s bits 0 s.number l walk.top }
+  pub walk_on : (n : ℕ) (v w : SeatView) (s : Snapshot) (bits : ℕ) → Looks n v w → IsWalk f v s bits → IsWalk f w s bits
+  walk_on n v w s bits l walk = record { bits_are = walk.bits_are ∙ ap (λ (z : SeatView). z.shape.bits) (sym l.is); top = named_on n v w s bits 0 s.number l walk.top }
 
   abbrev pub WalkDescends : ℕ → ℕ → ℕ → ℕ → Walking → Walking → Type 0
   WalkDescends nodes counts summaries passed old new = Descends {Tree = Walking} {Name = ℕ} (λ w. set_seen w.words.view w.snapshot) (λ w. w.loaded) (λ w level place word. IsNamed f w.words.view w.snapshot level place word)
@@ -49,7 +49,7 @@ module _ (f : ℕ → ℕ → List (ℕ × ℕ) → List ℕ) where
       → WalkDescends nodes counts summaries passed old (record i { words = words; loaded = loaded })
   descends_by n nodes counts summaries passed i old words loaded same table l most is = let few = l.few in let a = is.0 in let b = is.1 in let c = is.2 in let d = is.3 in
       subst (λ (z : Walking). WalkDescends nodes counts summaries passed z (record i { words = words; loaded = loaded })) same record {
-        same_set = ap (λ (z : View). set_seen z i.snapshot) l.is;
+        same_set = ap (λ (z : SeatView). set_seen z i.snapshot) l.is;
         few_nodes = omega arith;
         few_counts = omega arith;
         few_summaries = omega arith;
@@ -82,24 +82,24 @@ module _ (f : ℕ → ℕ → List (ℕ × ℕ) → List ℕ) where
   descends_summary i old words loaded same table l is = descends_by 3 0 0 1 0 i old words loaded same table l (omega arith) (ap (λ (z : Loaded). z.nodes.made) is ∙ none _, ap (λ (z : Loaded). z.counts.made) is ∙ none _, ap (λ (z : Loaded). z.summaries.made) is, ap (λ (z : Loaded). z.passed.made) is ∙ none _)
 
   -- the count of what a name stands for, by the keys of the set and by those of the cut
-  pub counted : (v : View) (s : Snapshot) (level place n : ℕ) → n ≡ length (below_node (set_of_cut (cut_named v.shape v.seen s.number)) level place) → n ≡ length (below_node (list_of (set_seen v s)) level place)
+  pub counted : (v : SeatView) (s : Snapshot) (level place n : ℕ) → n ≡ length (below_node (set_of_cut (cut_named v.shape v.seen s.number)) level place) → n ≡ length (below_node (list_of (set_seen v s)) level place)
   counted v s level place n is = is ∙ ap (λ (z : List ℕ). length (below_node z level place)) (sym (keys_of_cut v.shape.bits (cut_named v.shape v.seen s.number)))
 
   -- a name, as it is after some looks
-  pub named_then : (n level place word : ℕ) (v w : View) (s : Snapshot) (bits : ℕ) → Looks n v w → IsWalk f v s bits → IsNodeAt v.shape v.seen (cut_named v.shape v.seen s.number) level place word → IsNamed f w s level place word
+  pub named_then : (n level place word : ℕ) (v w : SeatView) (s : Snapshot) (bits : ℕ) → Looks n v w → IsWalk f v s bits → IsNodeAt v.shape v.seen (cut_named v.shape v.seen s.number) level place word → IsNamed f w s level place word
   named_then n level place word v w s bits l walk node = named_on n v w s level place word l record { knows_table = walk.top.knows_table; is_tree_set = walk.top.is_tree_set; node = node }
 
   -- what was named before some looks is so still
-  pub node_on : (n level place word : ℕ) (v w : View) (s : Snapshot) → Looks n v w → IsNodeAt v.shape v.seen (cut_named v.shape v.seen s.number) level place word → IsNodeAt w.shape w.seen (cut_named w.shape w.seen s.number) level place word
-  node_on n level place word v w s l node = subst (λ (z : View). IsNodeAt z.shape z.seen (cut_named z.shape z.seen s.number) level place word) (sym l.is) node
+  pub node_on : (n level place word : ℕ) (v w : SeatView) (s : Snapshot) → Looks n v w → IsNodeAt v.shape v.seen (cut_named v.shape v.seen s.number) level place word → IsNodeAt w.shape w.seen (cut_named w.shape w.seen s.number) level place word
+  node_on n level place word v w s l node = subst (λ (z : SeatView). IsNodeAt z.shape z.seen (cut_named z.shape z.seen s.number) level place word) (sym l.is) node
 
   -- and the other way round
-  pub node_back : (n level place word : ℕ) (v w : View) (s : Snapshot) → Looks n v w → IsNodeAt w.shape w.seen (cut_named w.shape w.seen s.number) level place word → IsNodeAt v.shape v.seen (cut_named v.shape v.seen s.number) level place word
-  node_back n level place word v w s l node = subst (λ (z : View). IsNodeAt z.shape z.seen (cut_named z.shape z.seen s.number) level place word) l.is node
+  pub node_back : (n level place word : ℕ) (v w : SeatView) (s : Snapshot) → Looks n v w → IsNodeAt w.shape w.seen (cut_named w.shape w.seen s.number) level place word → IsNodeAt v.shape v.seen (cut_named v.shape v.seen s.number) level place word
+  node_back n level place word v w s l node = subst (λ (z : SeatView). IsNodeAt z.shape z.seen (cut_named z.shape z.seen s.number) level place word) l.is node
 
   -- a count that was loaded after some looks, by the set of the beginning
-  pub counted_before : (n : ℕ) (i old : Walking) (w : View) (level place m : ℕ) → i ≡ old → Looks n i.words.view w → m ≡ length (below_node (set_of_cut (cut_named w.shape w.seen i.snapshot.number)) level place)
+  pub counted_before : (n : ℕ) (i old : Walking) (w : SeatView) (level place m : ℕ) → i ≡ old → Looks n i.words.view w → m ≡ length (below_node (set_of_cut (cut_named w.shape w.seen i.snapshot.number)) level place)
       → m ≡ length (below_node (list_of (set_seen old.words.view old.snapshot)) level place)
   counted_before n i old w level place m same l is =
       subst (λ (z : Walking). m ≡ length (below_node (list_of (set_seen z.words.view z.snapshot)) level place)) same
-      (counted i.words.view i.snapshot level place m (subst (λ (z : View). m ≡ length (below_node (set_of_cut (cut_named z.shape z.seen i.snapshot.number)) level place)) l.is is))
+      (counted i.words.view i.snapshot level place m (subst (λ (z : SeatView). m ≡ length (below_node (set_of_cut (cut_named z.shape z.seen i.snapshot.number)) level place)) l.is is))

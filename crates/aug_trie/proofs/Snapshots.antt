@@ -13,7 +13,7 @@ use Rattle.aug_core.specs.inside.EntryCuts.{entry_of}
 use Rattle.aug_core.specs.Told.{LoadsNode, opening_of}
 use Rattle.aug_core.specs.declared.view.Change.{Change}
 use Rattle.aug_core.specs.declared.view.Entry.{Entry}
-use Rattle.aug_core.specs.declared.view.View.{View}
+use Rattle.aug_core.specs.declared.view.SeatView.{SeatView}
 use Rattle.aug_core.proofs.Books.{one_index, at_below}
 use Rattle.aug_core.proofs.OpeningCuts.{root_inner}
 use Rattle.aug_core.proofs.Sizes.{twice}
@@ -80,7 +80,7 @@ cut_is s book number has = let long = numbers_long s book in let same = history_
 
 module _ (face : ℕ → ℕ → List (ℕ × ℕ) → List ℕ) where
   -- a pass that only looked is one still
-  pub pass_still : (v w : View) (leaves bits next left : ℕ) → IsPass face v leaves bits next left → Goes face 0 [] v w → IsPass face w leaves bits next left
+  pub pass_still : (v w : SeatView) (leaves bits next left : ℕ) → IsPass face v leaves bits next left → Goes face 0 [] v w → IsPass face w leaves bits next left
   pass_still v w leaves bits next left p g = let goes = goes_more face 0 next [] v w (omega arith) g in let shape = goes.shaped in record {
     leaves_are = subst (λ (z : Shape). HasLeaves z leaves) (sym shape) p.leaves_are;
     bits_are = p.bits_are ∙ ap (λ (z : Shape). z.bits) (sym shape);
@@ -96,17 +96,17 @@ module _ (face : ℕ → ℕ → List (ℕ × ℕ) → List ℕ) where
   }
 
   -- the root is a node of the pass's table
-  pub root_node : (v : View) (leaves bits next left : ℕ) → IsPass face v leaves bits next left → IsInner v.shape (2 * leaves - 2) × (root_place v.shape ≡ 2 * leaves - 2)
+  pub root_node : (v : SeatView) (leaves bits next left : ℕ) → IsPass face v leaves bits next left → IsInner v.shape (2 * leaves - 2) × (root_place v.shape ≡ 2 * leaves - 2)
   root_node v leaves bits next left p = let inner = root_inner face (opening_of v) (some_bits face v p.knows_table) in let l = p.leaves_are.are in let t = twice v.shape.bits in
       let e : root_place v.shape ≡ 2 * leaves - 2 = omega arith in (subst (IsInner v.shape) e inner, e)
 
   -- a load of the root
-  module _ (v w : View) (r leaves bits next left : ℕ) (p : IsPass face v leaves bits next left) (t : LoadsNode face v (root_place v.shape) r w) where
+  module _ (v w : SeatView) (r leaves bits next left : ℕ) (p : IsPass face v leaves bits next left) (t : LoadsNode face v (root_place v.shape) r w) where
     at_number : first_place (root_numbers v.shape w.seen) r ≡ t.index
     at_number = ap (first_place (root_numbers v.shape w.seen)) t.found ∙ index_is face v.shape w.seen t.sees.book t.index t.entry (root_inner face (opening_of v) (some_bits face v p.knows_table)) t.newest.at
 
     shaped : w.shape ≡ v.shape
-    shaped = ap (λ (z : View). z.shape) t.stepped
+    shaped = ap (λ (z : SeatView). z.shape) t.stepped
 
     has_loaded : HasNamed v.shape w.seen r
     has_loaded = let at = at_number in let n = number_at v.shape w.seen t.index t.entry t.newest.at in omega (arith, n.0)
@@ -120,7 +120,7 @@ module _ (face : ℕ → ℕ → List (ℕ × ℕ) → List ℕ) where
 
     -- the one step is that load
     pub loads_root : w.steps ≡ v.steps ++ load_node (root_place v.shape) r ∷ []
-    loads_root = ap (λ (z : View). z.steps) t.stepped
+    loads_root = ap (λ (z : SeatView). z.steps) t.stepped
 
     pub looked_on : (table : TableId) → Goes face 0 [] v w → GoesOn 0 1 (pass_facts (record { table = table; view = v }) left) (pass_facts (record { table = table; view = w }) left)
     looked_on table g = let steps = loads_root in let updates : w.shape.updates ≡ v.shape.updates = ap (λ (z : Shape). z.updates) shaped in record {

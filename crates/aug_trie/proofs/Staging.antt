@@ -8,7 +8,7 @@ use Rattle.aug_core.specs.Kinds.{load_leaf, try_leaf}
 use Rattle.aug_core.specs.Told.{own_lane, MayChange, BeginsAtLeaf, TriesLeaf, old_word}
 use Rattle.aug_core.specs.declared.view.Advance.{Advance}
 use Rattle.aug_core.specs.declared.view.Change as changed
-use Rattle.aug_core.specs.declared.view.View.{View}
+use Rattle.aug_core.specs.declared.view.SeatView.{SeatView}
 use Rattle.aug_model.specs.declared.outcome.Outcome.{Outcome}
 use Rattle.aug_model.specs.declared.outcome.Outcome.TheVariants.{Refused}
 use Rattle.aug_words.specs.Seats.{MayAdvance, TriedLeaf}
@@ -43,26 +43,26 @@ exchanged_word (Up done a) = 0
 
 module _ (f : ℕ → ℕ → List (ℕ × ℕ) → List ℕ) where
   -- what one update takes of the records that are left
-  pub room_one : (u : View) (leaves bits number left : ℕ) → IsPass f u leaves bits number left → 1 ≤ left → HasRoom u number bits × (number + bits < 2 ^ 60) × (1 ≤ bits)
+  pub room_one : (u : SeatView) (leaves bits number left : ℕ) → IsPass f u leaves bits number left → 1 ≤ left → HasRoom u number bits × (number + bits < 2 ^ 60) × (1 ≤ bits)
   room_one u leaves bits number left p some = let e : left ≡ suc (left - 1) = omega arith in let m : left * bits ≡ (left - 1) * bits + bits = ap (λ (z : ℕ). z * bits) e ∙ suc-mul (left - 1) bits in
       let r = p.room.room in let s = p.small in let b = p.knows_table.laid_out.bits.0 in let is = p.bits_are in (record { is_free = p.room.is_free; room = omega arith }, omega arith, omega arith)
 
-  pub begin_step : (v w : View) (key serial : ℕ) → BeginsAtLeaf f v key serial w → OneStep v w
+  pub begin_step : (v w : SeatView) (key serial : ℕ) → BeginsAtLeaf f v key serial w → OneStep v w
   begin_step v w key serial l = record {
     taken = load_leaf key serial;
-    steps = ap (λ (z : View). z.steps) l.stepped;
+    steps = ap (λ (z : SeatView). z.steps) l.stepped;
     later = l.sees.later;
-    shaped = ap (λ (z : View). z.shape) l.stepped;
-    same_members = ap (λ (z : View). z.members) l.stepped;
-    lane = ap (λ (z : View). own_lane z.held) l.stepped;
+    shaped = ap (λ (z : SeatView). z.shape) l.stepped;
+    same_members = ap (λ (z : SeatView). z.members) l.stepped;
+    lane = ap (λ (z : SeatView). own_lane z.held) l.stepped;
   }
 
-  module _ (leaves bits number left key : ℕ) (request : Request) (u : View) where
+  module _ (leaves bits number left key : ℕ) (request : Request) (u : SeatView) where
     -- ---- the leaf is loaded
 
-    module _ (old w : View) (word : ℕ) (t : StageAt f leaves bits number left key request u Leaf old) (loaded : BeginsAtLeaf f old key word w) where
+    module _ (old w : SeatView) (word : ℕ) (t : StageAt f leaves bits number left key request u Leaf old) (loaded : BeginsAtLeaf f old key word w) where
       from_start : BeginsAtLeaf f u key word w
-      from_start = subst (λ (z : View). BeginsAtLeaf f z key word w) t.is_stage loaded
+      from_start = subst (λ (z : SeatView). BeginsAtLeaf f z key word w) t.is_stage loaded
 
       pub begun_change : goes_from request (serial_in_word word) ≡ true → StageAt f leaves bits number left key request u (Change word) w
       begun_change lets = record { is_pass = t.is_pass; some = t.some; low = t.low; fits = t.fits; is_stage = record { loaded = from_start; lets = lets } }
@@ -77,7 +77,7 @@ module _ (f : ℕ → ℕ → List (ℕ × ℕ) → List ℕ) where
             is_stage = record {
               leaf = w;
               has_begun = begun_here;
-              has_left = record { found = word; more = []; steps = ap (λ (z : View). z.steps) from_start.stepped; tried = λ lets. absurd (false≢true (sym other ∙ lets)) };
+              has_left = record { found = word; more = []; steps = ap (λ (z : SeatView). z.steps) from_start.stepped; tried = λ lets. absurd (false≢true (sym other ∙ lets)) };
               finish = λ z risen. refused_at_once f u w key word request bits number t.low p.bits_are r.2 p.knows_table from_start z other risen;
               on_way = way_begins f bits number key w m a r.2 el (en ∙ ap (λ (z : ℕ). z + key / 2) (p.leaves_are.are ∙ ap (λ (z : Shape). 2 ^ z.bits) (sym g.shaped))) es ep;
             };
@@ -85,15 +85,15 @@ module _ (f : ℕ → ℕ → List (ℕ × ℕ) → List ℕ) where
         where
           begun_here : HasBegun f leaves bits number left key request u w
           begun_here = let l = from_start in record {
-            began = ap (λ (z : View). z.began) l.stepped;
-            shaped = ap (λ (z : View). z.shape) l.stepped;
-            same_members = ap (λ (z : View). z.members) l.stepped;
-            lane = ap (λ (z : View). own_lane z.held) l.stepped;
+            began = ap (λ (z : SeatView). z.began) l.stepped;
+            shaped = ap (λ (z : SeatView). z.shape) l.stepped;
+            same_members = ap (λ (z : SeatView). z.members) l.stepped;
+            lane = ap (λ (z : SeatView). own_lane z.held) l.stepped;
           }
 
     -- ---- the leaf is exchanged
 
-    module _ (old : View) (word : ℕ) (t : StageAt f leaves bits number left key request u (Change word) old) where
+    module _ (old : SeatView) (word : ℕ) (t : StageAt f leaves bits number left key request u (Change word) old) where
       loaded : BeginsAtLeaf f u key word old
       loaded = t.is_stage.loaded
 
@@ -117,7 +117,7 @@ module _ (f : ℕ → ℕ → List (ℕ × ℕ) → List ℕ) where
           let l : length (changes_of old.held) ≡ length (changes_of u.held) = ap (λ (z : List changed.Change). length z) (g_old.changes ∙ append-nil (changes_of u.held)) in
           let up : old.shape.updates ≡ u.shape.updates = ap (λ (z : Shape). z.updates) g_old.shaped in omega arith)
 
-      module _ (w : View) (ok : Bool) (tried : TriedLeaf f old key word (word_after request key word) ok w) where
+      module _ (w : SeatView) (ok : Bool) (tried : TriedLeaf f old key word (word_after request key word) ok w) where
         abbrev a : Advance
         a = advance_from request key word
 
@@ -128,7 +128,7 @@ module _ (f : ℕ → ℕ → List (ℕ × ℕ) → List ℕ) where
         g_new = goes_leaf f old w key tried.found a room_old.is_free.lane room_old.is_free.only g_old.knows_table told_old
 
         same_beginning : w.began ≡ old.began
-        same_beginning = ⊎_elim (λ (hit : tried.found ≡ old_word a). ap (λ (z : View). z.began) (told_old.hit hit).0) (λ miss. ap (λ (z : View). z.began) (told_old.miss miss).0) (cases_eq tried.found (old_word a))
+        same_beginning = ⊎_elim (λ (hit : tried.found ≡ old_word a). ap (λ (z : SeatView). z.began) (told_old.hit hit).0) (λ miss. ap (λ (z : SeatView). z.began) (told_old.miss miss).0) (cases_eq tried.found (old_word a))
 
         pub tried_steps : w.steps ≡ old.steps ++ try_leaf key word (word_after request key word) tried.found ∷ []
         tried_steps = subst (λ (z : ℕ × ℕ). w.steps ≡ old.steps ++ try_leaf key z.0 z.1 tried.found ∷ []) (λ i. (sym (from_word request key word) i, sym (to_word request key word) i)) told_old.stepped
@@ -149,11 +149,11 @@ module _ (f : ℕ → ℕ → List (ℕ × ℕ) → List ℕ) where
                 has_left = record {
                   found = word;
                   more = try_leaf key word (word_after request key word) tried.found ∷ [];
-                  steps = tried_steps ∙ ap (λ (z : List StepTaken). z ++ try_leaf key word (word_after request key word) tried.found ∷ []) (ap (λ (z : View). z.steps) loaded.stepped)
+                  steps = tried_steps ∙ ap (λ (z : List StepTaken). z ++ try_leaf key word (word_after request key word) tried.found ∷ []) (ap (λ (z : SeatView). z.steps) loaded.stepped)
                       ∙ append_assoc u.steps (load_leaf key word ∷ []) (try_leaf key word (word_after request key word) tried.found ∷ []);
                   tried = λ lets. omega arith;
                 };
-                has_begun = record { began = same_beginning ∙ ap (λ (z : View). z.began) loaded.stepped; shaped = g.shaped; same_members = g.same_members; lane = g.lane };
+                has_begun = record { began = same_beginning ∙ ap (λ (z : SeatView). z.began) loaded.stepped; shaped = g.shaped; same_members = g.same_members; lane = g.lane };
                 finish = λ z risen. updated f u old key word request bits number t.low p.bits_are r.2 p.knows_table loaded t.fits t.is_stage.lets w ok room_old.is_free.lane room_old.is_free.only tried z risen done comes;
                 on_way = way_begins f bits number key w m up r.2 el (en ∙ ap (λ (z : ℕ). z + key / 2) (p.leaves_are.are ∙ ap (λ (z : Shape). 2 ^ z.bits) (sym g.shaped))) es ep;
               };
@@ -161,7 +161,7 @@ module _ (f : ℕ → ℕ → List (ℕ × ℕ) → List ℕ) where
 
     -- ---- a step of the way to the root
 
-    module _ (old w : View) (done : Outcome) (a : Ascent) (t : StageAt f leaves bits number left key request u (Up done a) old) where
+    module _ (old w : SeatView) (done : Outcome) (a : Ascent) (t : StageAt f leaves bits number left key request u (Up done a) old) where
       abbrev r : IsRising f leaves bits number left key request u done a old
       r = t.is_stage
 

@@ -12,7 +12,7 @@ use Rattle.aug_core.specs.inside.EntryCuts.{entry_of}
 use Rattle.aug_core.specs.inside.RootCuts.{root_cut}
 use Rattle.aug_core.specs.inside.Shows.{above, NewestShows}
 use Rattle.aug_core.specs.declared.view.Change.{Change}
-use Rattle.aug_core.specs.declared.view.View.{View}
+use Rattle.aug_core.specs.declared.view.SeatView.{SeatView}
 use Rattle.aug_core.proofs.CutsUnder.{reached, shows_reached}
 use Rattle.aug_core.proofs.EntryCuts.{Has, entry_is, reached_shown, not_passed}
 use Rattle.aug_core.proofs.Showing.{above_root}
@@ -62,7 +62,7 @@ never_shows face s book b key n low some passed =
     not_passed face s book b key (s.bits - 1) i n low (omega arith) at passed (sym serial ∙ is))
 
 -- where a cut shows a serial past the opening one, the change with that serial and that weight stands in the changes of one view
-pub shown_stands : (face : ℕ → ℕ → List (ℕ × ℕ) → List ℕ) (o : Opening) (book : Book) (views : List View) → IsBook face o.shape book → AreCounted o book views → 1 ≤ o.shape.bits → (key i : ℕ) → key < 2 ^ o.shape.bits → Has book (root_place o.shape) i
+pub shown_stands : (face : ℕ → ℕ → List (ℕ × ℕ) → List ℕ) (o : Opening) (book : Book) (views : List SeatView) → IsBook face o.shape book → AreCounted o book views → 1 ≤ o.shape.bits → (key i : ℕ) → key < 2 ^ o.shape.bits → Has book (root_place o.shape) i
     → opening_serial o.members key < serial_of (root_cut o.shape book i) key → Stands views (change key (serial_of (root_cut o.shape book i) key) (weight_at (root_cut o.shape book i) key))
 shown_stands face o book views b counted some key i low here past =
     let s : Shape = o.shape in

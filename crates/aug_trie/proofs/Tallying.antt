@@ -12,7 +12,7 @@ use Rattle.aug_core.specs.Rule.{Kept}
 use Rattle.aug_core.specs.declared.view.Change.{Change}
 use Rattle.aug_core.specs.declared.view.Entry.{Entry}
 use Rattle.aug_core.specs.declared.view.Held.{Held}
-use Rattle.aug_core.specs.declared.view.View.{View}
+use Rattle.aug_core.specs.declared.view.SeatView.{SeatView}
 use Rattle.aug_core.proofs.Books.{at_below, no_shorter}
 use Rattle.aug_core.proofs.Moves.{St}
 use Rattle.aug_core.specs.inside.Shows.{above}
@@ -47,11 +47,11 @@ same_number key number c is = eqb-true c.serial number (and_right (eqb c.key key
 test_same : (key number weight : ℕ) → test key number (change key number weight) ≡ true
 test_same key number weight = λ j. eq-eqb key key refl j && eq-eqb number number refl j
 
-same_held : (views : List View) (i j a b : ℕ) (v w : View) (h g : Held) → i ≡ j → a ≡ b → get_elem? views i ≡ some v → get_elem? views j ≡ some w → get_elem? v.held a ≡ some h → get_elem? w.held b ≡ some g → h ≡ g
+same_held : (views : List SeatView) (i j a b : ℕ) (v w : SeatView) (h g : Held) → i ≡ j → a ≡ b → get_elem? views i ≡ some v → get_elem? views j ≡ some w → get_elem? v.held a ≡ some h → get_elem? w.held b ≡ some g → h ≡ g
 same_held views i j a b v w h g ij ab pv pw ph pg = let here : get_elem? views j ≡ some v = subst (λ (z : ℕ). get_elem? views z ≡ some v) ij pv in let same : v ≡ w = some-injective v w (sym here ∙ pw) in
-    let there : get_elem? v.held b ≡ some h = subst (λ (z : ℕ). get_elem? v.held z ≡ some h) ab ph in some-injective h g (sym (subst (λ (z : View). get_elem? z.held b ≡ some h) same there) ∙ pg)
+    let there : get_elem? v.held b ≡ some h = subst (λ (z : ℕ). get_elem? v.held z ≡ some h) ab ph in some-injective h g (sym (subst (λ (z : SeatView). get_elem? z.held b ≡ some h) same there) ∙ pg)
 
-module _ (face : ℕ → ℕ → List (ℕ × ℕ) → List ℕ) (s : St) (id n : ℕ) (v : View) (r : Kept face (opening_of v) s) (at : get_elem? s.views id ≡ some v) (spare : v.spare ≡ Some n) (kn : KnowsTable face v) where
+module _ (face : ℕ → ℕ → List (ℕ × ℕ) → List ℕ) (s : St) (id n : ℕ) (v : SeatView) (r : Kept face (opening_of v) s) (at : get_elem? s.views id ≡ some v) (spare : v.spare ≡ Some n) (kn : KnowsTable face v) where
   abbrev last : Cut
   last = last_cut (knows v).history
 
@@ -99,7 +99,7 @@ module _ (face : ℕ → ℕ → List (ℕ × ℕ) → List ℕ) (s : St) (id n 
   abbrev stays : Change → Bool
   stays c = leb c.serial (serial_of last c.key)
 
-  module _ (lane i a : ℕ) (w : View) (g : Held) (sits : get_elem? s.views i ≡ some w) (ga : get_elem? w.held a ≡ some g) (named : g.lane ≡ lane) where
+  module _ (lane i a : ℕ) (w : SeatView) (g : Held) (sits : get_elem? s.views i ≡ some w) (ga : get_elem? w.held a ≡ some g) (named : g.lane ≡ lane) where
     abbrev here : (k : ℕ) (c : Change) → get_elem? g.changes k ≡ some c → StandsAt s.views i a k c
     here k c p = record { view = w; lane = g; sits = sits; held = ga; listed = p }
 
@@ -168,7 +168,7 @@ module _ (face : ℕ → ℕ → List (ℕ × ℕ) → List ℕ) (s : St) (id n 
     -- a change that stands at the lead stands in one of its lanes
     held_place : (c : Change) (st : Stands s.views c) → st.seat ≡ id → get_elem? v.held st.index ≡ some st.at.lane
     held_place c st mine = let t = st.at in let this : t.view ≡ v = some-injective t.view v (sym (subst (λ (z : ℕ). get_elem? s.views z ≡ some t.view) mine t.sits) ∙ at) in
-        subst (λ (z : View). get_elem? z.held st.index ≡ some t.lane) this t.held
+        subst (λ (z : SeatView). get_elem? z.held st.index ≡ some t.lane) this t.held
 
     -- and any other in one of the lanes that it does not hold
     away_place : (c : Change) (st : Stands s.views c) → st.seat ≢ id → (j : ℕ) × (get_elem? away.list j ≡ some st.at.lane.lane)

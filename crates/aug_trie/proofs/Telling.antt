@@ -10,7 +10,7 @@ use Rattle.aug_core.specs.Book.{At}
 use Rattle.aug_core.specs.inside.Refreshes.{HasEntry}
 use Rattle.aug_core.specs.Told.{HasSeen, KnowsTable, stepping}
 use Rattle.aug_core.specs.declared.step.StepTaken.{StepTaken}
-use Rattle.aug_core.specs.declared.view.View.{View}
+use Rattle.aug_core.specs.declared.view.SeatView.{SeatView}
 use Rattle.aug_core.proofs.EntryKeys.{are_small}
 use Rattle.aug_core.proofs.FaceLemmas.{count_in, a_in, b_in, face_is}
 use Rattle.aug_trie.specs.LeafWords.{leaf_pairs}
@@ -20,18 +20,18 @@ use Rattle.aug_trie.proofs.LeafWords.{pairs_of_serial}
 use Rattle.aug_trie.proofs.Going.{goes_on, goes_stepping}
 
 -- a record that an entry of a node has was seen
-pub has_seen : (f : ℕ → ℕ → List (ℕ × ℕ) → List ℕ) (v : View) (node number : ℕ) → KnowsTable f v → IsInner v.shape node → HasEntry v.seen node number → HasSeen v number
+pub has_seen : (f : ℕ → ℕ → List (ℕ × ℕ) → List ℕ) (v : SeatView) (node number : ℕ) → KnowsTable f v → IsInner v.shape node → HasEntry v.seen node number → HasSeen v number
 has_seen f v node number kn inner n = record { place = node; index = n.index; entry = n.entry; inner = inner; at = n.at; numbered = sym (kn.book.named node n.index n.entry inner n.at) ∙ n.named }
 
-pub seen_on : (v w : View) (taken : StepTaken) (number : ℕ) → w ≡ stepping v taken → HasSeen v number → HasSeen w number
-seen_on v w taken number is h = subst (λ (z : View). HasSeen z number) (sym is) record { place = h.place; index = h.index; entry = h.entry; inner = h.inner; at = h.at; numbered = h.numbered }
+pub seen_on : (v w : SeatView) (taken : StepTaken) (number : ℕ) → w ≡ stepping v taken → HasSeen v number → HasSeen w number
+seen_on v w taken number is h = subst (λ (z : SeatView). HasSeen z number) (sym is) record { place = h.place; index = h.index; entry = h.entry; inner = h.inner; at = h.at; numbered = h.numbered }
 
 -- what a record says is the same after a step that shows nothing of the book
-pub says_before : (v w : View) (taken : StepTaken) (number field r : ℕ) → w ≡ stepping v taken → Says w number field r → Says v number field r
-says_before v w taken number field r is says q i e inner p = says q i e (subst (λ (z : View). IsInner z.shape q) (sym is) inner) (subst (λ (z : View). At z.seen q i e) (sym is) p)
+pub says_before : (v w : SeatView) (taken : StepTaken) (number field r : ℕ) → w ≡ stepping v taken → Says w number field r → Says v number field r
+says_before v w taken number field r is says q i e inner p = says q i e (subst (λ (z : SeatView). IsInner z.shape q) (sym is) inner) (subst (λ (z : SeatView). At z.seen q i e) (sym is) p)
 
 -- three steps that show nothing of the book
-pub goes_three : (f : ℕ → ℕ → List (ℕ × ℕ) → List ℕ) (v v1 v2 v3 : View) (t1 t2 t3 : StepTaken) → KnowsTable f v → v1 ≡ stepping v t1 → v2 ≡ stepping v1 t2 → v3 ≡ stepping v2 t3 → Goes f 0 [] v v3
+pub goes_three : (f : ℕ → ℕ → List (ℕ × ℕ) → List ℕ) (v v1 v2 v3 : SeatView) (t1 t2 t3 : StepTaken) → KnowsTable f v → v1 ≡ stepping v t1 → v2 ≡ stepping v1 t2 → v3 ≡ stepping v2 t3 → Goes f 0 [] v v3
 goes_three f v v1 v2 v3 t1 t2 t3 kn e1 e2 e3 =
     let x = goes_stepping f v v1 t1 e1 kn in let y = goes_stepping f v1 v2 t2 e2 x.knows_table in let z = goes_stepping f v2 v3 t3 e3 y.knows_table in
     goes_on f 0 0 0 [] v v2 v3 (omega arith) (omega arith) (goes_on f 0 0 0 [] v v1 v2 (omega arith) (omega arith) x y) z
@@ -41,7 +41,7 @@ module _ {A B : Type 0} (parts_a : Parts A) (parts_b : Parts B) (laws_a : IsMono
   both = face parts_a parts_b
 
   -- three words of a node's record tell the part of its entry
-  pub part_of_node : (v : View) (node word x y z : ℕ) → 2 ^ v.shape.bits ≤ 65536 → KnowsTable both v → IsInner v.shape node → Says v word 2 x → Says v word 3 y → Says v word 4 z
+  pub part_of_node : (v : SeatView) (node word x y z : ℕ) → 2 ^ v.shape.bits ≤ 65536 → KnowsTable both v → IsInner v.shape node → Says v word 2 x → Says v word 3 y → Says v word 4 z
       → IsPartOf parts_a parts_b v node word x (parts_a.from_word y) (parts_b.from_word z)
   part_of_node v node word x y z few kn inner says_x says_y says_z = record {
     of = λ i e p is. let o = kn.book.over node i e inner p in let number : e.number ≡ word = sym (kn.book.named node i e inner p) ∙ is in
@@ -53,7 +53,7 @@ module _ {A B : Type 0} (parts_a : Parts A) (parts_b : Parts B) (laws_a : IsMono
   }
 
   -- a leaf's word has its serial and its weight, and tells whether its key is there
-  pub part_of_leaf : (v : View) (key word n : ℕ) (a : A) (b : B) → KnowsTable both v → key < 2 ^ v.shape.bits → IsPart parts_a parts_b n a b (leaf_pairs key word) → IsPartOf parts_a parts_b v key word n a b
+  pub part_of_leaf : (v : SeatView) (key word n : ℕ) (a : A) (b : B) → KnowsTable both v → key < 2 ^ v.shape.bits → IsPart parts_a parts_b n a b (leaf_pairs key word) → IsPartOf parts_a parts_b v key word n a b
   part_of_leaf v key word n a b kn low part = record {
     of = λ i e p is. let serial = kn.book.serials key i e low p in
         subst (IsPart parts_a parts_b n a b) (sym (pairs_of_serial key i e serial ∙ ap (leaf_pairs key) is)) part;

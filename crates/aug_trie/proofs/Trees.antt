@@ -26,7 +26,7 @@ use Rattle.aug_core.specs.inside.RootCuts.{root_cut}
 use Rattle.aug_core.specs.Opening.{serial_entry}
 use Rattle.aug_core.specs.Told.{KnowsTable, opening_of}
 use Rattle.aug_core.specs.declared.view.Entry.{Entry}
-use Rattle.aug_core.specs.declared.view.View.{View}
+use Rattle.aug_core.specs.declared.view.SeatView.{SeatView}
 use Rattle.aug_core.proofs.Books.{no_shorter}
 use Rattle.aug_core.proofs.Levels.{root_word}
 use Rattle.aug_core.proofs.CutsUnder.{cut_long, reached, shown_is}
@@ -68,13 +68,13 @@ light f s book b key i low = ⊎_elim
     (cases_lt i (length (history_of book key)))
 
 -- a key's weight in a root's cut is that of an entry
-cut_light : (f : ℕ → ℕ → List (ℕ × ℕ) → List ℕ) (v : View) (i key : ℕ) → KnowsTable f v → key < 2 ^ v.shape.bits → weight_at (root_cut v.shape v.seen i) key < 2 ^ 32
+cut_light : (f : ℕ → ℕ → List (ℕ × ℕ) → List ℕ) (v : SeatView) (i key : ℕ) → KnowsTable f v → key < 2 ^ v.shape.bits → weight_at (root_cut v.shape v.seen i) key < 2 ^ 32
 cut_light f v i key kn low = let s : Shape = v.shape in let r : ℕ = reached s v.seen key s.bits i in
     let is : weight_at (root_cut s v.seen i) key ≡ (entry_of v.seen key r).weight = ap (λ (z : ℕ × ℕ). z.1) (shown_is s v.seen key s.bits 0 key (root_place s) i (root_word s) (omega arith) low) in
     let fits = light f s v.seen kn.book key r low in omega arith
 
 -- a cut that is no longer than the keys, and whose weights fit, is of a set of keys of so many bits
-cut_set : (f : ℕ → ℕ → List (ℕ × ℕ) → List ℕ) (v : View) (cut : Cut) → KnowsTable f v → length cut ≤ 2 ^ v.shape.bits → ((key : ℕ) → key < 2 ^ v.shape.bits → weight_at cut key < 2 ^ 32) → IsTreeSet (members_of v.shape.bits cut)
+cut_set : (f : ℕ → ℕ → List (ℕ × ℕ) → List ℕ) (v : SeatView) (cut : Cut) → KnowsTable f v → length cut ≤ 2 ^ v.shape.bits → ((key : ℕ) → key < 2 ^ v.shape.bits → weight_at cut key < 2 ^ 32) → IsTreeSet (members_of v.shape.bits cut)
 cut_set f v cut kn long light =
     let below : All (λ k. k < 2 ^ v.shape.bits) (set_of_cut cut) =
     All-filter (λ key. eqb (serial_of cut key % 2) 1) (λ k. k < 2 ^ v.shape.bits) (range_with_len 0 (length cut)) (range_below (length cut) 0 (2 ^ v.shape.bits) (omega arith)) in
@@ -89,13 +89,13 @@ cut_set f v cut kn long light =
     }
 
 -- so is a root's
-pub tree_set : (f : ℕ → ℕ → List (ℕ × ℕ) → List ℕ) (v : View) (i : ℕ) → KnowsTable f v → IsTreeSet (members_of v.shape.bits (root_cut v.shape v.seen i))
+pub tree_set : (f : ℕ → ℕ → List (ℕ × ℕ) → List ℕ) (v : SeatView) (i : ℕ) → KnowsTable f v → IsTreeSet (members_of v.shape.bits (root_cut v.shape v.seen i))
 tree_set f v i kn = let long = cut_long v.shape v.seen v.shape.bits (root_place v.shape) i in cut_set f v (root_cut v.shape v.seen i) kn (omega arith) (λ key low. cut_light f v i key kn low)
 
 -- ---- the record of a snapshot
 
 -- what a number names that stands nowhere is no set but the empty one
-pub named_set : (f : ℕ → ℕ → List (ℕ × ℕ) → List ℕ) (v : View) (number : ℕ) → KnowsTable f v → IsTreeSet (members_of v.shape.bits (cut_named v.shape v.seen number))
+pub named_set : (f : ℕ → ℕ → List (ℕ × ℕ) → List ℕ) (v : SeatView) (number : ℕ) → KnowsTable f v → IsTreeSet (members_of v.shape.bits (cut_named v.shape v.seen number))
 named_set f v number kn = ⊎_elim
     (λ (has : HasNamed v.shape v.seen number). subst (λ (z : Cut). IsTreeSet (members_of v.shape.bits z)) (sym (cut_is v.shape v.seen number has)) (tree_set f v (first_place (root_numbers v.shape v.seen) number) kn))
     (λ (past : length (root_numbers v.shape v.seen) ≤ first_place (root_numbers v.shape v.seen) number). let long = numbers_long v.shape v.seen in
@@ -106,13 +106,13 @@ module _ {A B : Type 0} (parts_a : Parts A) (parts_b : Parts B) where
   abbrev both : ℕ → ℕ → List (ℕ × ℕ) → List ℕ
   both = face parts_a parts_b
 
-  pub inner_root : (v : View) → KnowsTable both v → IsInner v.shape (root_place v.shape)
+  pub inner_root : (v : SeatView) → KnowsTable both v → IsInner v.shape (root_place v.shape)
   inner_root v kn = root_inner both (opening_of v) (some_bits both v kn)
 
   -- the top of a snapshot's tree
   pub top_is : (known : Known) (left number : ℕ) → KnowsTable both known.view → HasSnapshot (pass_facts known left) number
       → IsNodeAt known.view.shape known.view.seen (cut_named known.view.shape known.view.seen number) known.view.shape.bits 0 number
-  top_is known left number kn has = let v : View = known.view in let t = named_there v.shape v.seen number has in
+  top_is known left number kn has = let v : SeatView = known.view in let t = named_there v.shape v.seen number has in
       top_node parts_a parts_b v kn.book (cut_named v.shape v.seen number) number (inner_root v kn) record {
         index = first_place (root_numbers v.shape v.seen) number;
         entry = t.0;
@@ -169,8 +169,8 @@ module _ {A B : Type 0} (parts_a : Parts A) (parts_b : Parts B) where
     keeps_on = record { snapshots = λ z. snapshot_on z.number; same_cuts = λ z. cut_on z.number; same_sets = λ z has. (λ i. members_of (shaped i).bits (cut_on z.number has i)); nodes = node_on }
 
   -- a pass that looked
-  pub reads_by : (known : Known) (w : View) (left most : ℕ) → Looks most known.view w → Reads (summary_of parts_a parts_b) most (pass_facts known left) (pass_facts (record { table = known.table; view = w }) left)
-  reads_by known w left most l = subst (λ (z : View). Reads (summary_of parts_a parts_b) most (pass_facts known left) (pass_facts (record { table = known.table; view = z }) left)) (sym l.is) record {
+  pub reads_by : (known : Known) (w : SeatView) (left most : ℕ) → Looks most known.view w → Reads (summary_of parts_a parts_b) most (pass_facts known left) (pass_facts (record { table = known.table; view = w }) left)
+  reads_by known w left most l = subst (λ (z : SeatView). Reads (summary_of parts_a parts_b) most (pass_facts known left) (pass_facts (record { table = known.table; view = z }) left)) (sym l.is) record {
     stays = record {
       same = refl;
       steps_stay = (l.more, refl);

@@ -9,7 +9,7 @@ use Rattle.aug_core.specs.Addresses.{left_of}
 use Rattle.aug_core.specs.Counts.{changes_of}
 use Rattle.aug_core.specs.Kinds.{load_leaf, try_leaf}
 use Rattle.aug_core.specs.Told.{own_lane, KnowsTable}
-use Rattle.aug_core.specs.declared.view.View.{View}
+use Rattle.aug_core.specs.declared.view.SeatView.{SeatView}
 use Rattle.aug_model.specs.declared.outcome.Outcome.{Outcome}
 use Rattle.aug_trie.specs.inside.Climbing.{Updated}
 use Rattle.aug_trie.specs.inside.Goes.{part_steps, try_steps, level_steps, most_rise_steps}
@@ -44,7 +44,7 @@ use Rattle.aug_trie.specs.LeafWords.{serial_in_word}
 -- ---- the turns that are left
 
 -- a try has no more steps left than it has
-point_few : (f : ℕ → ℕ → List (ℕ × ℕ) → List ℕ) (v : View) (q number : ℕ) (point : Point) (w : View) → TryAt f v q number point w → point_turns (part_steps v.shape (left_of v.shape q)) point ≤ try_steps (part_steps v.shape (left_of v.shape q))
+point_few : (f : ℕ → ℕ → List (ℕ × ℕ) → List ℕ) (v : SeatView) (q number : ℕ) (point : Point) (w : SeatView) → TryAt f v q number point w → point_turns (part_steps v.shape (left_of v.shape q)) point ≤ try_steps (part_steps v.shape (left_of v.shape q))
 point_few f v q number Node w t = omega arith
 point_few f v q number (Left from) w t = omega arith
 point_few f v q number (Right from left) w t = omega arith
@@ -71,20 +71,20 @@ level_few bits (suc j) x y low a b = let three : part_above (suc j) ≡ 3 = ap (
 
 module _ (f : ℕ → ℕ → List (ℕ × ℕ) → List ℕ) where
   -- an update that is on its way has at most all turns but the two at its leaf
-  way_few : (bits number key : ℕ) (leaf : View) (a : Ascent) (v : View) → IsOnWay f bits number key leaf a v → ascent_turns bits a ≤ most_rise_steps bits
+  way_few : (bits number key : ℕ) (leaf : SeatView) (a : Ascent) (v : SeatView) → IsOnWay f bits number key leaf a v → ascent_turns bits a ≤ most_rise_steps bits
   way_few bits number key leaf a v o = let is = part_is f bits number key leaf a v o in let shaped = (goes_at f o.begun a.node (number + a.level) a.point v o.try_at).shaped in
       let few = point_few f o.begun a.node (number + a.level) a.point v o.try_at in
       let same : part_steps o.begun.shape (left_of o.begun.shape a.node) ≡ part_above a.level = ap (λ (z : Shape). part_steps z (left_of z a.node)) (sym shaped) ∙ is in
       level_few bits a.level (if a.second then 0 else try_steps (part_above a.level)) (point_turns (part_above a.level) a.point) o.at_node.below_root (again_few a.second (try_steps (part_above a.level)))
       (subst (λ (z : ℕ). point_turns z a.point ≤ try_steps z) same few)
 
-  module _ (leaves bits number left key : ℕ) (request : Request) (u : View) (table : TableId) where
+  module _ (leaves bits number left key : ℕ) (request : Request) (u : SeatView) (table : TableId) where
     -- ---- what a stage says of the start
 
     abbrev at_start : PassFacts
     at_start = pass_facts (record { table = table; view = u }) left
 
-    begun_is : (v : View) → HasBegun f leaves bits number left key request u v → began_facts (record { table = table; view = v }) left ≡ at_start
+    begun_is : (v : SeatView) → HasBegun f leaves bits number left key request u v → began_facts (record { table = table; view = v }) left ≡ at_start
     begun_is v b = let began : v.began ≡ record { seen = u.seen; steps = u.steps; changes = changes_of u.held } = b.began in λ i. record {
       round = round_of table (record v { shape = b.shaped i; members = b.same_members i });
       lane = b.lane i;
@@ -95,34 +95,34 @@ module _ (f : ℕ → ℕ → List (ℕ × ℕ) → List ℕ) where
       words = record { shape = b.shaped i; book = (began i).seen };
     }
 
-    loaded_begun : (v : View) (word : ℕ) → StageAt f leaves bits number left key request u (Change word) v → HasBegun f leaves bits number left key request u v
+    loaded_begun : (v : SeatView) (word : ℕ) → StageAt f leaves bits number left key request u (Change word) v → HasBegun f leaves bits number left key request u v
     loaded_begun v word t = let l = t.is_stage.loaded in record {
-      began = ap (λ (z : View). z.began) l.stepped;
-      shaped = ap (λ (z : View). z.shape) l.stepped;
-      same_members = ap (λ (z : View). z.members) l.stepped;
-      lane = ap (λ (z : View). own_lane z.held) l.stepped;
+      began = ap (λ (z : SeatView). z.began) l.stepped;
+      shaped = ap (λ (z : SeatView). z.shape) l.stepped;
+      same_members = ap (λ (z : SeatView). z.members) l.stepped;
+      lane = ap (λ (z : SeatView). own_lane z.held) l.stepped;
     }
 
-    pub start_is : (stage : Stage) (v : View) → StageAt f leaves bits number left key request u stage v → start_facts (record { table = table; view = v }) left stage ≡ at_start
-    start_is Leaf v t = let e : v ≡ u = t.is_stage in ap (λ (z : View). pass_facts (record { table = table; view = z }) left) e
+    pub start_is : (stage : Stage) (v : SeatView) → StageAt f leaves bits number left key request u stage v → start_facts (record { table = table; view = v }) left stage ≡ at_start
+    start_is Leaf v t = let e : v ≡ u = t.is_stage in ap (λ (z : SeatView). pass_facts (record { table = table; view = z }) left) e
     start_is (Change word) v t = begun_is v (loaded_begun v word t)
     start_is (Up done a) v t = begun_is v t.is_stage.has_begun
 
-    pub knows_stage : (stage : Stage) (v : View) → StageAt f leaves bits number left key request u stage v → KnowsTable f v
+    pub knows_stage : (stage : Stage) (v : SeatView) → StageAt f leaves bits number left key request u stage v → KnowsTable f v
     knows_stage Leaf v t = subst (KnowsTable f) (sym t.is_stage) t.is_pass.knows_table
     knows_stage (Change word) v t = (goes_begun f u v key word t.is_pass.knows_table t.is_stage.loaded).knows_table
     knows_stage (Up done a) v t = let o = t.is_stage.on_way in (goes_at f o.begun a.node (number + a.level) a.point v o.try_at).knows_table
 
     -- the steps since the start: a load of the leaf
-    loaded_steps : (v : View) (word : ℕ) → MayTry f leaves bits number left key request u word v → v.steps ≡ v.began.steps ++ load_leaf key word ∷ []
-    loaded_steps v word m = let l = m.loaded in ap (λ (z : View). z.steps) l.stepped ∙ ap (λ (z : View). z.began.steps ++ load_leaf key word ∷ []) (sym l.stepped)
+    loaded_steps : (v : SeatView) (word : ℕ) → MayTry f leaves bits number left key request u word v → v.steps ≡ v.began.steps ++ load_leaf key word ∷ []
+    loaded_steps v word m = let l = m.loaded in ap (λ (z : SeatView). z.steps) l.stepped ∙ ap (λ (z : SeatView). z.began.steps ++ load_leaf key word ∷ []) (sym l.stepped)
 
     -- and all others
-    left_steps : (v : View) (done : Outcome) (a : Ascent) (r : IsRising f leaves bits number left key request u done a v) → v.steps ≡ v.began.steps ++ load_leaf key r.has_left.found ∷ r.has_left.more
+    left_steps : (v : SeatView) (done : Outcome) (a : Ascent) (r : IsRising f leaves bits number left key request u done a v) → v.steps ≡ v.began.steps ++ load_leaf key r.has_left.found ∷ r.has_left.more
     left_steps v done a r = r.has_left.steps ∙ ap (λ z. z.steps ++ load_leaf key r.has_left.found ∷ r.has_left.more) (sym r.has_begun.began)
 
     -- one step
-    pub once : (v w : View) (rest : ℕ) → KnowsTable f v → OneStep v w → StepsOnce (pass_facts (record { table = table; view = v }) left) (pass_facts (record { table = table; view = w }) rest)
+    pub once : (v w : SeatView) (rest : ℕ) → KnowsTable f v → OneStep v w → StepsOnce (pass_facts (record { table = table; view = v }) left) (pass_facts (record { table = table; view = w }) rest)
     once v w rest kn s = record {
       taken = s.taken;
       same = let facts : PassFacts = pass_facts (record { table = table; view = w }) rest in
@@ -132,7 +132,7 @@ module _ (f : ℕ → ℕ → List (ℕ × ℕ) → List ℕ) where
 
     -- ---- a turn after which there is more to do
 
-    module _ (v w : View) (stage : Stage) (t : StageAt f leaves bits number left key request u stage v) where
+    module _ (v w : SeatView) (stage : Stage) (t : StageAt f leaves bits number left key request u stage v) where
       abbrev start : PassFacts
       start = start_facts (record { table = table; view = v }) left stage
 
@@ -176,7 +176,7 @@ module _ (f : ℕ → ℕ → List (ℕ × ℕ) → List ℕ) where
       }
 
 -- what was a snapshot of the pass at the start is one still
-pub keeps_start : {A B : Type 0} (parts_a : Parts A) (parts_b : Parts B) (table : TableId) (leaves bits number left key : ℕ) (request : Request) (u v w : View) (stage : Stage) (done : Outcome) (t : StageAt (face parts_a parts_b) leaves bits number left key request u stage v)
+pub keeps_start : {A B : Type 0} (parts_a : Parts A) (parts_b : Parts B) (table : TableId) (leaves bits number left key : ℕ) (request : Request) (u v w : SeatView) (stage : Stage) (done : Outcome) (t : StageAt (face parts_a parts_b) leaves bits number left key request u stage v)
     → Updated (face parts_a parts_b) (number + bits) u key request w done → Keeps (summary_of parts_a parts_b) (start_facts (record { table = table; view = v }) left stage) (pass_facts (record { table = table; view = w }) (left - 1))
 keeps_start parts_a parts_b table leaves bits number left key request u v w stage done t up = let f = face parts_a parts_b in let p = t.is_pass in let goes = (gained_by f u w leaves bits number left key request p t.some t.low done up).2 in
     subst (λ (z : PassFacts). Keeps (summary_of parts_a parts_b) z (pass_facts (record { table = table; view = w }) (left - 1))) (sym (start_is f leaves bits number left key request u table stage v t))

@@ -12,7 +12,7 @@ use Rattle.aug_core.specs.declared.view.Advance.{Advance}
 use Rattle.aug_core.specs.declared.view.Change.{Change}
 use Rattle.aug_core.specs.declared.view.Entry.{Entry}
 use Rattle.aug_core.specs.declared.view.Held.{Held}
-use Rattle.aug_core.specs.declared.view.View.{View}
+use Rattle.aug_core.specs.declared.view.SeatView.{SeatView}
 use Rattle.aug_core.proofs.Books.{newest_is_last}
 use Rattle.aug_core.proofs.PlaceLemmas.{keys-within}
 use Rattle.aug_core.proofs.Showing.{shows_leaf}
@@ -33,25 +33,25 @@ newest_shows : (s : Shape) (book : Book) (key index n : ℕ) (e : Entry) → IsN
 newest_shows s book key index n e newest le = record { index = index; entry = e; newest = newest; shows = ((e, newest.at), le) }
 
 module _ (f : ℕ → ℕ → List (ℕ × ℕ) → List ℕ) where
-  pub goes_begun : (v w : View) (key word : ℕ) → KnowsTable f v → BeginsAtLeaf f v key word w → Goes f 0 [] v w
+  pub goes_begun : (v w : SeatView) (key word : ℕ) → KnowsTable f v → BeginsAtLeaf f v key word w → Goes f 0 [] v w
   goes_begun v w key word kn l = goes_beginning f v w _ l.stepped kn l.sees
 
   -- a try of a leaf gains changes or none
-  pub goes_leaf : (v w : View) (key found : ℕ) (a : Advance) (h : Held) → HoldsOnly v h → KnowsTable f v → TriesLeaf f v key a found w → (gained : List Change) × Goes f 0 gained v w
+  pub goes_leaf : (v w : SeatView) (key found : ℕ) (a : Advance) (h : Held) → HoldsOnly v h → KnowsTable f v → TriesLeaf f v key a found w → (gained : List Change) × Goes f 0 gained v w
   goes_leaf v w key found a h only kn told = ⊎_elim
       (λ (hit : found ≡ old_word a). (made_by key a, goes_changing f v w (made_by key a) _ h only (told.hit hit).0 kn told.sees))
       (λ miss. ([], goes_seeing f v w _ (told.miss miss).0 kn told.sees)) (cases_eq found (old_word a))
 
   -- a loaded word has the serial and the weight of the leaf's newest entry
-  pub loaded_serial : (v w : View) (key word : ℕ) → key < 2 ^ v.shape.bits → (l : BeginsAtLeaf f v key word w) → (serial_in_word word ≡ l.index) × (weight_in_word word ≡ l.entry.weight)
+  pub loaded_serial : (v w : SeatView) (key word : ℕ) → key < 2 ^ v.shape.bits → (l : BeginsAtLeaf f v key word w) → (serial_in_word word ≡ l.index) × (weight_in_word word ≡ l.entry.weight)
   loaded_serial v w key word low l = let is = l.sees.book.serials key l.index l.entry low l.newest.at in let same = l.found ∙ is.named in
       (ap serial_in_word same ∙ serial_of_leaf l.index l.entry.weight is.fits, ap weight_in_word same ∙ weight_of_leaf l.index l.entry.weight is.fits)
 
-  small_key : (v : View) (key : ℕ) → KnowsTable f v → key < 2 ^ v.shape.bits → key < 2 ^ 32
+  small_key : (v : SeatView) (key : ℕ) → KnowsTable f v → key < 2 ^ v.shape.bits → key < 2 ^ 32
   small_key v key kn low = let few = (keys-within v.shape.bits kn.laid_out.bits.0 kn.laid_out.bits.1).1 in omega arith
 
   -- the leaf may be exchanged as the request says
-  pub advances : (v w : View) (key word : ℕ) (request : Request) → key < 2 ^ v.shape.bits → KnowsTable f v → BeginsAtLeaf f v key word w → FitsRequest request → goes_from request (serial_in_word word) ≡ true → MayAdvance w key word (word_after request key word)
+  pub advances : (v w : SeatView) (key word : ℕ) (request : Request) → key < 2 ^ v.shape.bits → KnowsTable f v → BeginsAtLeaf f v key word w → FitsRequest request → goes_from request (serial_in_word word) ≡ true → MayAdvance w key word (word_after request key word)
   advances v w key word request low kn l fits lets = let is = loaded_serial v w key word low l in record {
     advance = advance_from request key word;
     is_advance = is_advance request key word fits (small_key v key kn low) lets;
@@ -63,18 +63,18 @@ module _ (f : ℕ → ℕ → List (ℕ × ℕ) → List ℕ) where
   }
 
   -- and its serial is far from the end of its half of the word
-  pub serial_few : (v w : View) (key word : ℕ) → key < 2 ^ v.shape.bits → KnowsTable f v → BeginsAtLeaf f v key word w → serial_in_word word < 2 ^ 31
+  pub serial_few : (v w : SeatView) (key word : ℕ) → key < 2 ^ v.shape.bits → KnowsTable f v → BeginsAtLeaf f v key word w → serial_in_word word < 2 ^ 31
   serial_few v w key word low kn l = let is = (loaded_serial v w key word low l).0 in let long = l.newest.last in let few = l.sees.fits.few key low in
       let some = mul-le v.shape.workers (2 * v.shape.updates) 64 131072 kn.laid_out.workers.1 (let up = kn.laid_out.updates.1 in omega arith) in omega (arith, is, long, few, some)
 
   -- the root showed no serial past the one that was loaded
-  at_most : (v w : View) (key word : ℕ) → key < 2 ^ v.shape.bits → BeginsAtLeaf f v key word w → ShowsAtMost v.shape v.seen key (serial_in_word word)
+  at_most : (v w : SeatView) (key word : ℕ) → key < 2 ^ v.shape.bits → BeginsAtLeaf f v key word w → ShowsAtMost v.shape v.seen key (serial_in_word word)
   at_most v w key word low l = let serial = (loaded_serial v w key word low l).0 in record {
     at_most = λ i n h. let t = shows_leaf v.shape v.seen key v.shape.bits i n h in let le = newest_is_last w.seen key l.index t.0 l.entry t.1 l.newest (l.sees.later key t.0 t.1 t.2) in let e = t.3 in omega (arith, serial, le, e);
   }
 
   -- after steps that published nothing the way to the root may begin
-  pub may_rise : (bits number key : ℕ) (gained : List Change) (v w : View) → key < 2 ^ v.shape.bits → bits ≡ v.shape.bits → HasRoom v number bits → Goes f 0 gained v w → MayRise f bits number key w
+  pub may_rise : (bits number key : ℕ) (gained : List Change) (v w : SeatView) → key < 2 ^ v.shape.bits → bits ≡ v.shape.bits → HasRoom v number bits → Goes f 0 gained v w → MayRise f bits number key w
   may_rise bits number key gained v w low is room g = record {
     low = subst (λ (z : Shape). key < 2 ^ z.bits) (sym g.shaped) low;
     bits_are = is ∙ ap (λ (z : Shape). z.bits) (sym g.shaped);
@@ -82,7 +82,7 @@ module _ (f : ℕ → ℕ → List (ℕ × ℕ) → List ℕ) where
     room = room_on f gained v w number bits g room;
   }
 
-  module _ (v w0 : View) (key word : ℕ) (request : Request) (bits number : ℕ) (low : key < 2 ^ v.shape.bits) (is : bits ≡ v.shape.bits) (some : 1 ≤ bits) (kn : KnowsTable f v) (loaded : BeginsAtLeaf f v key word w0) where
+  module _ (v w0 : SeatView) (key word : ℕ) (request : Request) (bits number : ℕ) (low : key < 2 ^ v.shape.bits) (is : bits ≡ v.shape.bits) (some : 1 ≤ bits) (kn : KnowsTable f v) (loaded : BeginsAtLeaf f v key word w0) where
     abbrev used : ℕ
     used = number + bits
 
@@ -90,10 +90,10 @@ module _ (f : ℕ → ℕ → List (ℕ × ℕ) → List ℕ) where
     a = advance_from request key word
 
     shaped0 : w0.shape ≡ v.shape
-    shaped0 = ap (λ (z : View). z.shape) loaded.stepped
+    shaped0 = ap (λ (z : SeatView). z.shape) loaded.stepped
 
     steps0 : w0.steps ≡ v.steps ++ load_leaf key word ∷ []
-    steps0 = ap (λ (z : View). z.steps) loaded.stepped
+    steps0 = ap (λ (z : SeatView). z.steps) loaded.stepped
 
     first : Goes f 0 [] v w0
     first = goes_begun v w0 key word kn loaded
@@ -102,7 +102,7 @@ module _ (f : ℕ → ℕ → List (ℕ × ℕ) → List ℕ) where
     at_leaf = (loaded_serial v w0 key word low loaded).0
 
     -- the serial that was loaded refuses the update
-    pub refused_at_once : (w : View) → goes_from request (serial_in_word word) ≡ false → HasRisen f bits number key w0 bits w → Updated f (number + bits) v key request w Refused
+    pub refused_at_once : (w : SeatView) → goes_from request (serial_in_word word) ≡ false → HasRisen f bits number key w0 bits w → Updated f (number + bits) v key request w Refused
     refused_at_once w other h = let goes = h.goes in let between = h.took in let lifts = h.lifts in let least = between.least_steps in let most = between.most_steps in let count = between.took.count in record {
       loaded = word;
       more = between.took.more;
@@ -120,7 +120,7 @@ module _ (f : ℕ → ℕ → List (ℕ × ℕ) → List ℕ) where
     }
 
     -- the leaf was tried
-    module _ (fits : FitsRequest request) (lets : goes_from request (serial_in_word word) ≡ true) (w1 : View) (ok : Bool) (h : Held) (only : HoldsOnly w0 h) (tried : TriedLeaf f w0 key word (word_after request key word) ok w1) where
+    module _ (fits : FitsRequest request) (lets : goes_from request (serial_in_word word) ≡ true) (w1 : SeatView) (ok : Bool) (h : Held) (only : HoldsOnly w0 h) (tried : TriedLeaf f w0 key word (word_after request key word) ok w1) where
       abbrev from : word ≡ old_word a
       from = from_word request key word
 
@@ -144,7 +144,7 @@ module _ (f : ℕ → ℕ → List (ℕ × ℕ) → List ℕ) where
       steps1 = subst (λ (z : ℕ × ℕ). w1.steps ≡ w0.steps ++ try_leaf key z.0 z.1 tried.found ∷ []) (λ i. (sym from i, sym (to_word request key word) i)) told.stepped
           ∙ ap (λ (z : List StepTaken). z ++ taken ∷ []) steps0 ∙ append_assoc v.steps (load_leaf key word ∷ []) (taken ∷ [])
 
-      module _ (w : View) (r : HasRisen f bits number key w1 bits w) where
+      module _ (w : SeatView) (r : HasRisen f bits number key w1 bits w) where
         -- what the leaf had reached the root shows
         shown_up : (n : ℕ) → n ≤ told.index → NewestShows v.shape w.seen key v.shape.bits n
         shown_up n le = subst (λ (z : Shape × ℕ). NewestShows z.0 w.seen key z.1 n) (λ i. (shaped1 i, is i)) (r.lifts.lifted n (newest_shows w1.shape w1.seen key told.index n told.entry told.newest le))

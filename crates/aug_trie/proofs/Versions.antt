@@ -24,7 +24,7 @@ use Rattle.aug_core.specs.inside.EntryCuts.{entry_of, IsPartOfCut}
 use Rattle.aug_core.specs.inside.RootCuts.{root_cut}
 use Rattle.aug_core.specs.Told.{KnowsTable}
 use Rattle.aug_core.specs.declared.view.Entry.{Entry}
-use Rattle.aug_core.specs.declared.view.View.{View}
+use Rattle.aug_core.specs.declared.view.SeatView.{SeatView}
 use Rattle.aug_core.proofs.Books.{at_below}
 use Rattle.aug_core.proofs.Levels.{inner_word, leaf_word}
 use Rattle.aug_core.proofs.EntryCuts.{entry_at, entry_is, root_part, left_part, right_part, part_words, part_pairs}
@@ -134,7 +134,7 @@ module _ {A B : Type 0} (parts_a : Parts A) (parts_b : Parts B) where
         (λ k. a k ++ b k) ∙ covered_cut list rises level place
 
   -- the version of the root's newest record that a view has seen is that of the last cut that it knows
-  module _ (v : View) (kn : KnowsTable both v) (number : ℕ) (n : NamesRoot v number) (rest : AtRest) (shaped : rest.shape ≡ v.shape) (seen : ShowSeen v.shape v.seen rest) where
+  module _ (v : SeatView) (kn : KnowsTable both v) (number : ℕ) (n : NamesRoot v number) (rest : AtRest) (shaped : rest.shape ≡ v.shape) (seen : ShowSeen v.shape v.seen rest) where
     abbrev last : Cut
     last = last_cut (knows v).history
 

@@ -15,7 +15,7 @@ use Rattle.aug_core.specs.Cuts.{Cut, weight_at, set_of_cut, pairs_of_cut}
 use Rattle.aug_core.specs.inside.EntryCuts.{entry_of, IsPartOfCut}
 use Rattle.aug_core.specs.Told.{HasSeen}
 use Rattle.aug_core.specs.declared.view.Entry.{Entry}
-use Rattle.aug_core.specs.declared.view.View.{View}
+use Rattle.aug_core.specs.declared.view.SeatView.{SeatView}
 use Rattle.aug_core.proofs.Books.{at_below}
 use Rattle.aug_core.proofs.Levels.{inner_word, leaf_word}
 use Rattle.aug_core.proofs.EntryCuts.{entry_at, entry_is, root_part, left_part, right_part, part_words, part_pairs, part_fits}
@@ -68,7 +68,7 @@ module _ {A B : Type 0} (parts_a : Parts A) (parts_b : Parts B) where
   abbrev both : ℕ → ℕ → List (ℕ × ℕ) → List ℕ
   both = face parts_a parts_b
 
-  module _ (v : View) (b : IsBook both v.shape v.seen) (cut : Cut) where
+  module _ (v : SeatView) (b : IsBook both v.shape v.seen) (cut : Cut) where
     -- the top of a snapshot's tree
     pub top_node : (number : ℕ) → IsInner v.shape (root_place v.shape) → IsSnapshotOf v.shape v.seen number cut → IsNodeAt v.shape v.seen cut v.shape.bits 0 number
     top_node number inner t = record {

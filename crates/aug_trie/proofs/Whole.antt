@@ -10,7 +10,7 @@ use Rattle.aug_core.specs.Faces.{face}
 use Rattle.aug_core.specs.Book.{At, Continues, IsBook}
 use Rattle.aug_core.specs.inside.Refreshes.{HasEntry, HasNewest, SaysLoaded, Published}
 use Rattle.aug_core.specs.Told.{KnowsTable, LoadsLeaf, LoadsNode}
-use Rattle.aug_core.specs.declared.view.View.{View}
+use Rattle.aug_core.specs.declared.view.SeatView.{SeatView}
 use Rattle.aug_core.proofs.Sizes.{twice}
 use Rattle.aug_core.proofs.EntryKeys.{are_small}
 use Rattle.aug_core.proofs.Refreshing.{is_loaded, refreshed}
@@ -18,15 +18,15 @@ use Rattle.aug_trie.specs.inside.Goes.{IsFree, Goes, Took, Tries, IsPartOf, part
 use Rattle.aug_trie.proofs.Going.{took_on}
 use Rattle.aug_trie.proofs.Telling.{words_are}
 
-book_at : (f : ℕ → ℕ → List (ℕ × ℕ) → List ℕ) (s : Shape) (w : View) → w.shape ≡ s → KnowsTable f w → IsBook f s w.seen
+book_at : (f : ℕ → ℕ → List (ℕ × ℕ) → List ℕ) (s : Shape) (w : SeatView) → w.shape ≡ s → KnowsTable f w → IsBook f s w.seen
 book_at f s w shaped kn = subst (λ (z : Shape). IsBook f z w.seen) shaped kn.book
 
 -- what a load of a leaf shows
-pub leaf_loaded : (f : ℕ → ℕ → List (ℕ × ℕ) → List ℕ) (v w : View) (key r : ℕ) → key < 2 ^ v.shape.bits → LoadsLeaf f v key r w → HasNewest w.seen key r
+pub leaf_loaded : (f : ℕ → ℕ → List (ℕ × ℕ) → List ℕ) (v w : SeatView) (key r : ℕ) → key < 2 ^ v.shape.bits → LoadsLeaf f v key r w → HasNewest w.seen key r
 leaf_loaded f v w key r low l = record { index = l.index; entry = l.entry; newest = l.newest; named = sym l.found; shown = l.shown }
 
 -- and one of a node
-pub node_loaded : (f : ℕ → ℕ → List (ℕ × ℕ) → List ℕ) (v w : View) (q r : ℕ) → IsInner v.shape q → LoadsNode f v q r w → HasNewest w.seen q r
+pub node_loaded : (f : ℕ → ℕ → List (ℕ × ℕ) → List ℕ) (v w : SeatView) (q r : ℕ) → IsInner v.shape q → LoadsNode f v q r w → HasNewest w.seen q r
 node_loaded f v w q r inner l = record { index = l.index; entry = l.entry; newest = l.newest; named = l.sees.book.named q l.index l.entry inner l.newest.at ∙ sym l.found; shown = l.shown }
 
 module _ {A B : Type 0} (parts_a : Parts A) (parts_b : Parts B) where
@@ -34,13 +34,13 @@ module _ {A B : Type 0} (parts_a : Parts A) (parts_b : Parts B) where
   both = face parts_a parts_b
 
   -- a part counts few keys
-  pub part_few : (s : Shape) (w : View) (place word m : ℕ) (x : A) (y : B) → w.shape ≡ s → 2 ^ s.bits ≤ 65536 → place < place_count s → KnowsTable both w → HasEntry w.seen place word → IsPartOf parts_a parts_b w place word m x y → m ≤ 65536
+  pub part_few : (s : Shape) (w : SeatView) (place word m : ℕ) (x : A) (y : B) → w.shape ≡ s → 2 ^ s.bits ≤ 65536 → place < place_count s → KnowsTable both w → HasEntry w.seen place word → IsPartOf parts_a parts_b w place word m x y → m ≤ 65536
   part_few s w place word m x y shaped few inside kn there part = let e = (part.of there.index there.entry there.at there.named).count_is in
       let t = (are_small both s w.seen (book_at both s w shaped kn) few place there.index there.entry inside there.at).few in omega arith
 
   module _ (laws_a : IsMonoid parts_a) (laws_b : IsMonoid parts_b) where
     -- the views after the loads of a node, of its left and of its right child, and after the loads of their parts
-    pub says : (v w0 w1 w2 w3 w4 : View) (q old ln rn m k : ℕ) (x x' : A) (y y' : B) (xa xb : ℕ) → IsInner v.shape q → 2 ^ v.shape.bits ≤ 65536
+    pub says : (v w0 w1 w2 w3 w4 : SeatView) (q old ln rn m k : ℕ) (x x' : A) (y y' : B) (xa xb : ℕ) → IsInner v.shape q → 2 ^ v.shape.bits ≤ 65536
         → Goes both 0 [] v w0 → Goes both 0 [] w0 w1 → Goes both 0 [] w1 w2 → Goes both 0 [] w2 w3 → Goes both 0 [] w3 w4
         → HasNewest w0.seen q old → HasNewest w1.seen (left_of v.shape q) ln → HasNewest w2.seen (right_of v.shape q) rn
         → IsPartOf parts_a parts_b w2 (left_of v.shape q) ln m x y → IsPartOf parts_a parts_b w3 (right_of v.shape q) rn k x' y'
@@ -63,7 +63,7 @@ module _ {A B : Type 0} (parts_a : Parts A) (parts_b : Parts B) where
         }
 
 -- what the try left
-pub tries : (f : ℕ → ℕ → List (ℕ × ℕ) → List ℕ) (v w0 w1 w2 w4 w : View) (q old ln rn number : ℕ) (done : Bool) → IsInner v.shape q → KnowsTable f w → w.shape ≡ v.shape → w4.shape ≡ v.shape → Continues w0.seen v.seen → Continues w1.seen w0.seen → Continues w2.seen w1.seen → Continues w.seen w2.seen
+pub tries : (f : ℕ → ℕ → List (ℕ × ℕ) → List ℕ) (v w0 w1 w2 w4 w : SeatView) (q old ln rn number : ℕ) (done : Bool) → IsInner v.shape q → KnowsTable f w → w.shape ≡ v.shape → w4.shape ≡ v.shape → Continues w0.seen v.seen → Continues w1.seen w0.seen → Continues w2.seen w1.seen → Continues w.seen w2.seen
     → HasNewest w0.seen q old → HasNewest w1.seen (left_of v.shape q) ln → HasNewest w2.seen (right_of v.shape q) rn → Published w4.shape q old ln rn done w.seen → (done ≡ false → IsFree w number) → Tries v q number done w
 tries f v w0 w1 w2 w4 w q old ln rn number done inner kn shaped shaped4 c0 c01 c12 c23 at_node at_left at_right p again = record {
   refreshed = refreshed f v.shape w0.seen w1.seen w2.seen w.seen q old ln rn inner c01 c12 c23 at_node at_left at_right v.seen done (book_at f v.shape w shaped kn) c0 (subst (λ (z : Shape). Published z q old ln rn done w.seen) shaped4 p);
@@ -84,7 +84,7 @@ same_steps s q inner = let past = inner.past_leaves in ⊎_elim
     right_low : left_of s q < 2 ^ s.bits → right_of s q < 2 ^ s.bits
     right_low low = even s.bits (q - 2 ^ s.bits) low (let i = inner.inside in let t = twice s.bits in omega arith)
 
-pub took_refresh : (s : Shape) (q : ℕ) (v w0 w1 w2 w3 w4 w : View) → IsInner s q → w2.shape ≡ s → w3.shape ≡ s → Took v w0 1 → Took w0 w1 1 → Took w1 w2 1 → Took w2 w3 (part_steps w2.shape (left_of s q)) → Took w3 w4 (part_steps w3.shape (right_of s q)) → Took w4 w publish_steps
+pub took_refresh : (s : Shape) (q : ℕ) (v w0 w1 w2 w3 w4 w : SeatView) → IsInner s q → w2.shape ≡ s → w3.shape ≡ s → Took v w0 1 → Took w0 w1 1 → Took w1 w2 1 → Took w2 w3 (part_steps w2.shape (left_of s q)) → Took w3 w4 (part_steps w3.shape (right_of s q)) → Took w4 w publish_steps
     → Took v w (try_steps (part_steps s (left_of s q)))
 took_refresh s q v w0 w1 w2 w3 w4 w inner s2 s3 t0 t1 t2 t3 t4 t5 = let n : ℕ = part_steps s (left_of s q) in
     let t3' : Took w2 w3 n = subst (λ (z : Shape). Took w2 w3 (part_steps z (left_of s q))) s2 t3 in

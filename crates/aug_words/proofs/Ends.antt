@@ -9,7 +9,7 @@ use Rattle.aug_core.specs.Book.{At}
 use Rattle.aug_core.specs.Opening.{Opening, opening_entry}
 use Rattle.aug_core.specs.Rule.{Kept}
 use Rattle.aug_core.specs.declared.view.Entry.{Entry}
-use Rattle.aug_core.specs.declared.view.View.{View}
+use Rattle.aug_core.specs.declared.view.SeatView.{SeatView}
 use Rattle.aug_core.specs.Places.{record_words}
 use Rattle.aug_core.proofs.Sizes.{in_block}
 use Rattle.aug_core.proofs.Moves.{St}
@@ -22,7 +22,7 @@ module _ (face : ℕ → ℕ → List (ℕ × ℕ) → List ℕ) (o : Opening) w
     opening_at q inner = r.tree.opened q 0 (opening_entry face o q)
         (subst (λ (z : List Entry). get_elem? z 0 ≡ some (opening_entry face o q)) (sym (inner_history face o q inner)) refl)
 
-    pub shows_all : (id : ℕ) (v : View) → get_elem? s.views id ≡ some v → ShowAll face o v s.words
+    pub shows_all : (id : ℕ) (v : SeatView) → get_elem? s.views id ≡ some v → ShowAll face o v s.words
     shows_all id v at = let kn = r.each_view id v at in record {
       opening_records = λ q field inner small. r.tree.written q 0 field (opening_entry face o q) inner (opening_at q inner) small;
       shared_records = λ level field low small. r.tree.shared level field low small;
@@ -33,7 +33,7 @@ module _ (face : ℕ → ℕ → List (ℕ × ℕ) → List ℕ) (o : Opening) w
           ap (λ (z : ℕ). get_or s.words z 0) b.0 ∙ (kn.holds a h p).exact (record_words * (number - first_record o.shape h.lane) + field) b.1;
     }
 
-  module _ (id : ℕ) (v : View) (words : List ℕ) (slots : List (Unit {0})) (end : Final (Seen (Kept face o) id v) words slots) where
+  module _ (id : ℕ) (v : SeatView) (words : List ℕ) (slots : List (Unit {0})) (end : Final (Seen (Kept face o) id v) words slots) where
     pub ends_with : EndWith face o v words
     ends_with = record { state = end.0; kept = end.1.0; words_are = end.2; seat = id; view_is = end.1.1 }
 

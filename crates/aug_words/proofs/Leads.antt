@@ -10,7 +10,7 @@ use Rattle.aug_core.specs.Kinds.{take_lane}
 use Rattle.aug_core.specs.Rule.{newcomer, no_beginning}
 use Rattle.aug_core.specs.Told.{Sat, LoadsNode, handing_out, handed_out, taking, taking_back, in_state, new_lane, own_lane_place, MayStore, MayChange}
 use Rattle.aug_core.specs.declared.view.LaneState.TheVariants.{Taken, Free}
-use Rattle.aug_core.specs.declared.view.View.{View}
+use Rattle.aug_core.specs.declared.view.SeatView.{SeatView}
 use Rattle.aug_core.proofs.PlaceLemmas.{keys-within}
 use Rattle.aug_core.proofs.Sizes.{twice}
 use Rattle.aug_core.proofs.Books.{goes_on_from_both}
@@ -64,14 +64,14 @@ module _ (face : ℕ → ℕ → List (ℕ × ℕ) → List ℕ) (next root : �
   -- a lead that loaded the root's word
   pub lead_loaded : (found : ℕ) → me'.1 ≡ [] → LoadsNode face me.0 (root_place me.0.shape) found me'.0 → IsLeadSeat face next found me'
   lead_loaded found empty did = let is = did.stepped in record {
-    live = ap (λ (z : View). z.live) is ∙ seat.live;
+    live = ap (λ (z : SeatView). z.live) is ∙ seat.live;
     no_slot = empty;
-    hands_out = ap (λ (z : View). z.spare) is ∙ seat.hands_out;
-    knows = knows_shown face me.0 me'.0 seat.knows did.sees (ap (λ (z : View). z.shape) is) (ap (λ (z : View). z.members) is);
+    hands_out = ap (λ (z : SeatView). z.spare) is ∙ seat.hands_out;
+    knows = knows_shown face me.0 me'.0 seat.knows did.sees (ap (λ (z : SeatView). z.shape) is) (ap (λ (z : SeatView). z.members) is);
     names_root = record {
       index = did.index;
       entry = did.entry;
-      newest = subst (λ (z : Shape). IsNewest me'.0.seen (root_place z) did.index did.entry) (sym (ap (λ (z : View). z.shape) is)) did.newest;
+      newest = subst (λ (z : Shape). IsNewest me'.0.seen (root_place z) did.index did.entry) (sym (ap (λ (z : SeatView). z.shape) is)) did.newest;
       named = did.found;
     };
   }
@@ -87,7 +87,7 @@ module _ (face : ℕ → ℕ → List (ℕ × ℕ) → List ℕ) (next root : �
   }
 
   -- one that took a pass in
-  pub lead_joined : (w : View) → me'.0 ≡ taking_back me.0 w → me'.1 ≡ me.1 → IsLeadSeat face next root me'
+  pub lead_joined : (w : SeatView) → me'.0 ≡ taking_back me.0 w → me'.1 ≡ me.1 → IsLeadSeat face next root me'
   lead_joined w is same = subst (IsLeadSeat face next root) (λ i. (sym is i, sym same i)) record {
     live = seat.live;
     no_slot = seat.no_slot;
@@ -97,10 +97,10 @@ module _ (face : ℕ → ℕ → List (ℕ × ℕ) → List ℕ) (next root : �
   }
 
 -- a lead that may hand a lane out may do so after it loaded a node
-pub may_hand_out : (face : ℕ → ℕ → List (ℕ × ℕ) → List ℕ) (old new : View) (q found lane next : ℕ) → LoadsNode face old q found new → IsNextLane old lane → new.spare ≡ Some next → next < new.shape.workers
+pub may_hand_out : (face : ℕ → ℕ → List (ℕ × ℕ) → List ℕ) (old new : SeatView) (q found lane next : ℕ) → LoadsNode face old q found new → IsNextLane old lane → new.spare ≡ Some next → next < new.shape.workers
 may_hand_out face old new q found lane next did room spare =
-    let same : Some next ≡ Some lane = sym spare ∙ ap (λ (z : View). z.spare) did.stepped ∙ room.next in let one : next ≡ lane = cc same in
-    let shaped = ap (λ (z : View). z.shape) did.stepped in subst (λ (z : Shape). next < z.workers) (sym shaped) (let low = room.exists in omega arith)
+    let same : Some next ≡ Some lane = sym spare ∙ ap (λ (z : SeatView). z.spare) did.stepped ∙ room.next in let one : next ≡ lane = cc same in
+    let shaped = ap (λ (z : SeatView). z.shape) did.stepped in subst (λ (z : Shape). next < z.workers) (sym shaped) (let low = room.exists in omega arith)
 
 -- the seat that was split off a lead's, once it took its lane
 pub new_pass : (face : ℕ → ℕ → List (ℕ × ℕ) → List ℕ) (next root place : ℕ) (lead me : Sat) → IsLeadSeat face next root lead → next < lead.0.shape.workers → me.1 ≡ [] → me.0 ≡ taking (handed_out lead.0) place → IsPassSeat face next me
@@ -119,27 +119,27 @@ new_pass face next root place lead me seat low empty is =
     }
 
 -- what the lead knows once it took a pass back and loaded the root
-pub took_back : (face : ℕ → ℕ → List (ℕ × ℕ) → List ℕ) (v w u x : View) (q found : ℕ) → LoadsNode face (taking_back v w) q found u → w.seen ≡ x.seen → GoesOnFromBoth u.seen v.seen x.seen
+pub took_back : (face : ℕ → ℕ → List (ℕ × ℕ) → List ℕ) (v w u x : SeatView) (q found : ℕ) → LoadsNode face (taking_back v w) q found u → w.seen ≡ x.seen → GoesOnFromBoth u.seen v.seen x.seen
 took_back face v w u x q found did same = goes_on_from_both u.seen v.seen x.seen did.sees.later (subst (Continues u.seen) same did.sees.also_later)
 
 -- a lane that is handed out leaves how the table is laid out and opened, and the next one is the next
-module _ (face : ℕ → ℕ → List (ℕ × ℕ) → List ℕ) (lead after pass : View) (h : HandsLaneOut face lead after pass) where
+module _ (face : ℕ → ℕ → List (ℕ × ℕ) → List ℕ) (lead after pass : SeatView) (h : HandsLaneOut face lead after pass) where
   pub lead_shape : after.shape ≡ lead.shape
-  lead_shape = ap (λ (z : View). z.shape) h.lead_is ∙ ap (λ (z : View). z.shape) h.loaded.stepped
+  lead_shape = ap (λ (z : SeatView). z.shape) h.lead_is ∙ ap (λ (z : SeatView). z.shape) h.loaded.stepped
 
   pub lead_members : after.members ≡ lead.members
-  lead_members = ap (λ (z : View). z.members) h.lead_is ∙ ap (λ (z : View). z.members) h.loaded.stepped
+  lead_members = ap (λ (z : SeatView). z.members) h.lead_is ∙ ap (λ (z : SeatView). z.members) h.loaded.stepped
 
   pub pass_shape : pass.shape ≡ lead.shape
-  pass_shape = ap (λ (z : View). z.shape) h.pass_is ∙ ap (λ (z : View). z.shape) h.loaded.stepped
+  pass_shape = ap (λ (z : SeatView). z.shape) h.pass_is ∙ ap (λ (z : SeatView). z.shape) h.loaded.stepped
 
   pub next_spare : (lane : ℕ) → lead.spare ≡ Some lane → after.spare ≡ Some (lane + 1)
-  next_spare lane spare = ap (λ (z : View). z.spare) h.lead_is ∙ ap (λ (z : View). option_map (λ n. n + 1) z.spare) h.loaded.stepped ∙ ap (option_map (λ n. n + 1)) spare
+  next_spare lane spare = ap (λ (z : SeatView). z.spare) h.lead_is ∙ ap (λ (z : SeatView). option_map (λ n. n + 1) z.spare) h.loaded.stepped ∙ ap (option_map (λ n. n + 1)) spare
 
   -- and the new pass may store the records of its lane, and make a change
   pub pass_may_store : (lane number : ℕ) → lead.spare ≡ Some lane → IsOfLane lead.shape lane number → MayStore pass number
-  pass_may_store lane number spare of_lane = new_pass_may_store h.between pass (own_lane_place (handed_out h.between)) lane number (ap (λ (z : View). z.spare) h.loaded.stepped ∙ spare)
-      (subst (λ (z : Shape). IsOfLane z lane number) (sym (ap (λ (z : View). z.shape) h.loaded.stepped)) of_lane) h.pass_is
+  pass_may_store lane number spare of_lane = new_pass_may_store h.between pass (own_lane_place (handed_out h.between)) lane number (ap (λ (z : SeatView). z.spare) h.loaded.stepped ∙ spare)
+      (subst (λ (z : Shape). IsOfLane z lane number) (sym (ap (λ (z : SeatView). z.shape) h.loaded.stepped)) of_lane) h.pass_is
 
   pub pass_may_change : 0 < lead.shape.updates → MayChange pass
-  pass_may_change room = new_pass_may_change h.between pass (own_lane_place (handed_out h.between)) (subst (λ (z : Shape). 0 < z.updates) (sym (ap (λ (z : View). z.shape) h.loaded.stepped)) room) h.pass_is
+  pass_may_change room = new_pass_may_change h.between pass (own_lane_place (handed_out h.between)) (subst (λ (z : Shape). 0 < z.updates) (sym (ap (λ (z : SeatView). z.shape) h.loaded.stepped)) room) h.pass_is

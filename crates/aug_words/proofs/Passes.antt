@@ -17,7 +17,7 @@ use Rattle.aug_core.specs.declared.view.Beginning.{Beginning}
 use Rattle.aug_core.specs.declared.view.Advance.{Advance}
 use Rattle.aug_core.specs.declared.view.Held.{Held}
 use Rattle.aug_core.specs.declared.view.LaneState.TheVariants.{Taken}
-use Rattle.aug_core.specs.declared.view.View.{View}
+use Rattle.aug_core.specs.declared.view.SeatView.{SeatView}
 use Rattle.aug_core.proofs.Sizes.{record_inside}
 use Rattle.aug_core.proofs.Fits.{knows_shown, knows_same}
 use Rattle.aug_core.proofs.Stores.{alone, one_held}
@@ -35,18 +35,18 @@ module _ (face : ℕ → ℕ → List (ℕ × ℕ) → List ℕ) (a a' t : Table
   -- a pass that was shown the whole book, and whose lane is the one that it was
   shown : (h : Held) (held : List Held) (book : Book) (began : Beginning) (steps : List StepTaken) → held ≡ h ∷ [] → h.lane ≡ lane → h.state ≡ Taken → length h.words ≡ block_size me.0.shape → me'.1 ≡ []
       → me'.0 ≡ record me.0 { seen = book; held = held; began = began; steps = steps } → Sees face me.0 me'.0 → IsPass
-  shown h held book began steps only named taken long empty is sees = let seat = is_pass.1 in let same : me'.0.shape ≡ me.0.shape = ap (λ (z : View). z.shape) is in (
+  shown h held book began steps only named taken long empty is sees = let seat = is_pass.1 in let same : me'.0.shape ≡ me.0.shape = ap (λ (z : SeatView). z.shape) is in (
     sits_on a a' t l r me.0.shape me'.0.shape is_pass.0 one same,
     record {
-      live = ap (λ (z : View). z.live) is ∙ seat.live;
+      live = ap (λ (z : SeatView). z.live) is ∙ seat.live;
       no_slot = empty;
       held = h;
-      only = ap (λ (z : View). z.held) is ∙ only;
+      only = ap (λ (z : SeatView). z.held) is ∙ only;
       named = named;
       taken = taken;
       long = subst (λ (z : Shape). length h.words ≡ block_size z) (sym same) long;
       exists = subst (λ (z : Shape). lane < z.workers) (sym same) seat.exists;
-      knows = knows_shown face me.0 me'.0 seat.knows sees same (ap (λ (z : View). z.members) is);
+      knows = knows_shown face me.0 me'.0 seat.knows sees same (ap (λ (z : SeatView). z.members) is);
     },
   )
 
@@ -78,7 +78,7 @@ module _ (face : ℕ → ℕ → List (ℕ × ℕ) → List ℕ) (a a' t : Table
   -- a pass that was shown nothing of the book
   kept : (h : Held) (held : List Held) (steps : List StepTaken) → held ≡ h ∷ [] → h.lane ≡ lane → h.state ≡ Taken → length h.words ≡ block_size me.0.shape → me'.1 ≡ [] → me'.0 ≡ record me.0 { held = held; steps = steps } → IsPass
   kept h held steps only named taken long empty is = let seat = is_pass.1 in (
-    sits_on a a' t l r me.0.shape me'.0.shape is_pass.0 one (ap (λ (z : View). z.shape) is),
+    sits_on a a' t l r me.0.shape me'.0.shape is_pass.0 one (ap (λ (z : SeatView). z.shape) is),
     subst (IsPassSeat face lane) (λ i. (sym is i, sym empty i)) record {
       live = seat.live;
       no_slot = refl;
@@ -131,7 +131,7 @@ module _ (face : ℕ → ℕ → List (ℕ × ℕ) → List ℕ) (lane : ℕ) (m
       let words = seat.knows.laid_out.words in let some_bits = seat.knows.laid_out.bits.0 in let more : 1 * (w * u) ≤ b * (w * u) = mul-le-mul_right (w * u) some_bits in let turned : b * (w * u) ≡ w * u * b = mul_comm b (w * u) in omega arith
 
 -- what a load at a record's word tells of the record
-pub tells : (v w : View) (place number field r : ℕ) → field < record_words → place ≡ record_start v.shape number + field → ReadsRecord v place r w → LoadsRecordWord v number field r w
+pub tells : (v w : SeatView) (place number field r : ℕ) → field < record_words → place ≡ record_start v.shape number + field → ReadsRecord v place r w → LoadsRecordWord v number field r w
 tells v w place number field r small is reads = let at : ReadsRecord v (record_start v.shape number + field) r w = subst (λ (z : ℕ). ReadsRecord v z r w) is reads in record {
   stepped = at.stepped;
   known = λ q i e inner p numbered. at.known q i field e inner p small (ap (λ (z : ℕ). record_start v.shape z + field) (sym numbered));

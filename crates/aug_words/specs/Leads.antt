@@ -3,19 +3,19 @@ use Rattle.std.specs.Prelude.{◌≡◌, ℕ, List}
 use Rattle.aug_core.specs.Addresses.{root_place}
 use Rattle.aug_core.specs.Book.{GoesOnFromBoth}
 use Rattle.aug_core.specs.Told.{LoadsNode, handing_out, handed_out, taking, finishing, taking_back, own_lane_place}
-use Rattle.aug_core.specs.declared.view.View.{View}
+use Rattle.aug_core.specs.declared.view.SeatView.{SeatView}
 
 module _ (face : ℕ → ℕ → List (ℕ × ℕ) → List ℕ) where
   -- the lead loads the root; a view with the next lane is split off, which knows what the lead then knows; and takes that lane
-  pub record HandsLaneOut (lead after pass : View) : Type 0 where
+  pub record HandsLaneOut (lead after pass : SeatView) : Type 0 where
     pub found : ℕ
-    pub between : View
+    pub between : SeatView
     pub loaded : LoadsNode face lead (root_place lead.shape) found between
     pub lead_is : after ≡ handing_out between
     pub pass_is : pass ≡ taking (handed_out between) (own_lane_place (handed_out between))
 
   -- the pass ends its lane; the lead takes it in, with all that it knew; and loads the root, by which it knows more than both knew
-  pub record TakesLaneBack (lead pass after : View) : Type 0 where
+  pub record TakesLaneBack (lead pass after : SeatView) : Type 0 where
     pub found : ℕ
     pub loaded : LoadsNode face (taking_back lead (finishing pass (own_lane_place pass))) (root_place lead.shape) found after
     pub of_both : GoesOnFromBoth after.seen lead.seen pass.seen

@@ -12,17 +12,17 @@ use Rattle.aug_core.specs.Rule.{Kept}
 use Rattle.aug_core.specs.Told.{held_word}
 use Rattle.aug_core.specs.declared.view.Entry.{Entry}
 use Rattle.aug_core.specs.declared.view.Held.{Held}
-use Rattle.aug_core.specs.declared.view.View.{View}
+use Rattle.aug_core.specs.declared.view.SeatView.{SeatView}
 
 -- opaque: the words of a table that no seat steps on any more
 pub record AtRest : Type 0 where
   pub shape : Shape
   pub words : List ℕ
 
-module _ (face : ℕ → ℕ → List (ℕ × ℕ) → List ℕ) (o : Opening) (v : View) (words : List ℕ) where
+module _ (face : ℕ → ℕ → List (ℕ × ℕ) → List ℕ) (o : Opening) (v : SeatView) (words : List ℕ) where
   -- the words meet the rule, and one of the views is this one
   pub record EndWith : Type 0 where
-    pub state : State (Unit {0}) View
+    pub state : State (Unit {0}) SeatView
     pub kept : Kept face o state
     pub words_are : state.words ≡ words
     pub seat : ℕ

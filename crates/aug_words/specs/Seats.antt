@@ -13,7 +13,7 @@ use Rattle.aug_core.specs.Told.{stepping, held_word, HasSeen, Owns, IsAdvance, o
 use Rattle.aug_core.specs.declared.view.Advance.{Advance}
 use Rattle.aug_core.specs.declared.view.Entry.{Entry}
 use Rattle.aug_core.specs.declared.view.Held.{Held}
-use Rattle.aug_core.specs.declared.view.View.{View}
+use Rattle.aug_core.specs.declared.view.SeatView.{SeatView}
 
 -- a table, and how it was opened
 pub record Store : Type 0 where
@@ -23,7 +23,7 @@ pub record Store : Type 0 where
 -- a seat: its table, and what it knows of it
 pub record Known : Type 0 where
   pub table : TableId
-  pub view : View
+  pub view : SeatView
 
 -- the seat was made with the table, or comes from one that was
 pub record AreTogether (store : Store) (known : Known) : Type 0 where
@@ -37,22 +37,22 @@ pub record IsOfLead (lead pass : Known) : Type 0 where
   pub one_shape : pass.view.shape ≡ lead.view.shape
 
 -- the view hands lanes out, and this is the next one
-pub record IsNextLane (v : View) (lane : ℕ) : Type 0 where
+pub record IsNextLane (v : SeatView) (lane : ℕ) : Type 0 where
   pub next : v.spare ≡ Some lane
   pub exists : lane < v.shape.workers
 
 -- the record is one that the view has seen, or of a lane that it holds
-abbrev pub MayLoad : View → ℕ → Type 0
+abbrev pub MayLoad : SeatView → ℕ → Type 0
 MayLoad v number = HasSeen v number ⊎ Owns v number
 
 -- a loaded word is what the record's entry says, and what the lane's holder has
-pub record LoadsRecordWord (v : View) (number field r : ℕ) (w : View) : Type 0 where
+pub record LoadsRecordWord (v : SeatView) (number field r : ℕ) (w : SeatView) : Type 0 where
   pub stepped : w ≡ stepping v (load_record_word (record_start v.shape number + field) r)
   pub known : (q i : ℕ) (e : Entry) → IsInner v.shape q → At v.seen q i e → e.number ≡ number → r ≡ slice_index e.words field
   pub own : (a : ℕ) (h : Held) → get_elem? v.held a ≡ some h → IsOfLane v.shape h.lane number → r ≡ held_word v.shape h number field
 
 -- an exchange of the leaf's word for another is one of those that there are, and the leaf is known to have had the first
-pub record MayAdvance (v : View) (key old new : ℕ) : Type 0 where
+pub record MayAdvance (v : SeatView) (key old new : ℕ) : Type 0 where
   pub advance : Advance
   pub is_advance : IsAdvance advance
   pub from : old ≡ old_word advance
@@ -62,7 +62,7 @@ pub record MayAdvance (v : View) (key old new : ℕ) : Type 0 where
   pub weighs : entry.weight ≡ advance.weight
 
 -- the number is that of the newest record of the root that the view has seen
-pub record NamesRoot (v : View) (number : ℕ) : Type 0 where
+pub record NamesRoot (v : SeatView) (number : ℕ) : Type 0 where
   pub index : ℕ
   pub entry : Entry
   pub newest : IsNewest v.seen (root_place v.shape) index entry
@@ -70,13 +70,13 @@ pub record NamesRoot (v : View) (number : ℕ) : Type 0 where
 
 module _ (face : ℕ → ℕ → List (ℕ × ℕ) → List ℕ) where
   -- the answer says whether the leaf's word was the old one
-  pub record TriedLeaf (v : View) (key old new : ℕ) (done : Bool) (w : View) : Type 0 where
+  pub record TriedLeaf (v : SeatView) (key old new : ℕ) (done : Bool) (w : SeatView) : Type 0 where
     pub found : ℕ
     pub decided : IsTrue done ↔ (found ≡ old)
     pub told : (a : Advance) → IsAdvance a → old ≡ old_word a → new ≡ new_word a → TriesLeaf face v key a found w
 
   -- the answer says whether the node's word was the old number
-  pub record TriedNode (v : View) (q old number : ℕ) (done : Bool) (w : View) : Type 0 where
+  pub record TriedNode (v : SeatView) (q old number : ℕ) (done : Bool) (w : SeatView) : Type 0 where
     pub found : ℕ
     pub decided : IsTrue done ↔ (found ≡ old)
     pub told : TriesNode face v q old number found w

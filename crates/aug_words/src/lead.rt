@@ -12,8 +12,8 @@ use crate::pass::WordPass;
 use crate::words::Words;
 use atomic_table::Seat;
 use aug_core::{
-    FinishOwnLane, HandOut, LANE_ENDED, LANE_FREE, LANE_TAKEN, LoadAnyNode, SharedWords, TakeBack,
-    TakeOwnLane, View,
+    FinishOwnLane, HandOut, LANE_ENDED, LANE_FREE, LANE_TAKEN, LoadAnyNode, SeatView, SharedWords,
+    TakeBack, TakeOwnLane,
 };
 use aug_monoid::Monoid;
 use std::marker::{Model, PhantomData};
@@ -21,7 +21,7 @@ use std::marker::{Model, PhantomData};
 /// The seat that hands out the lanes of a table, 0 first, and takes passes back.
 #[derive(Drop)]
 pub struct Lead<A: Monoid, B: Monoid> {
-    pub(crate) seat: Seat<(), View>,
+    pub(crate) seat: Seat<(), SeatView>,
     // The lane that is handed out next.
     pub(crate) next: u32,
     // The number of the newest record of the root that the lead has seen.
@@ -44,7 +44,7 @@ impl<A: Monoid, B: Monoid> Model for Lead<A, B> {
 // Takes the lane of a seat that was just split off: a compare-exchange of its word from free to taken.
 fn take_lane<A: Monoid, B: Monoid>(
     words: &SharedWords<A, B>,
-    seat: &mut Seat<(), View>,
+    seat: &mut Seat<(), SeatView>,
     place: usize,
 )
     requires table { seat.old.table_id ≡ words.now.table_id }
@@ -63,7 +63,7 @@ fn take_lane<A: Monoid, B: Monoid>(
 // Ends the lane of a seat: a store of its word as ended.
 fn finish_lane<A: Monoid, B: Monoid>(
     words: &SharedWords<A, B>,
-    seat: &mut Seat<(), View>,
+    seat: &mut Seat<(), SeatView>,
     place: usize,
 )
     requires table { seat.old.table_id ≡ words.now.table_id }

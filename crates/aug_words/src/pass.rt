@@ -12,8 +12,8 @@ ghost use Rattle.aug_words.specs.Seats.{Known, MayLoad, LoadsRecordWord, MayAdva
 
 use atomic_table::Seat;
 use aug_core::{
-    BeginAtLeaf, LoadAnyLeaf, LoadAnyNode, LoadAnyRecord, RECORD_WORDS, RecordField, SharedWords,
-    StoreOwnRecord, TryAnyLeaf, TryAnyNode, View,
+    BeginAtLeaf, LoadAnyLeaf, LoadAnyNode, LoadAnyRecord, RECORD_WORDS, RecordField, SeatView,
+    SharedWords, StoreOwnRecord, TryAnyLeaf, TryAnyNode,
 };
 use aug_monoid::Monoid;
 use std::marker::Model;
@@ -21,7 +21,7 @@ use std::marker::Model;
 /// What one thread knows of a table, with a lane of its own. Each call is exactly one atomic step and takes no memory.
 #[derive(Drop)]
 pub struct WordPass<'r, A: Monoid, B: Monoid> {
-    pub(crate) seat: Seat<(), View>,
+    pub(crate) seat: Seat<(), SeatView>,
     pub(crate) words: &'r SharedWords<A, B>,
     pub(crate) lane: u32,
     // The word of lane 0.

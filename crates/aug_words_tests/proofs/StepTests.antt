@@ -7,7 +7,7 @@ use Rattle.aug_core.specs.Book.{IsSerial, IsBook}
 use Rattle.aug_core.specs.inside.Refreshes.{HasNewest, SaysLoaded}
 use Rattle.aug_core.specs.Told.{MayStore, TriesLeaf, LoadsLeaf, BeginsAtLeaf, LoadsNode, IsFilled}
 use Rattle.aug_core.specs.declared.view.Entry.{Entry}
-use Rattle.aug_core.specs.declared.view.View.{View}
+use Rattle.aug_core.specs.declared.view.SeatView.{SeatView}
 use Rattle.aug_core.proofs.Clients.{may_store_same, may_store_tried}
 use Rattle.aug_core.proofs.Filling.{filled_view, is_filled}
 use Rattle.aug_core.proofs.Refreshing.{is_loaded}
@@ -45,7 +45,7 @@ there_is key i word e is named =
     is.there_if_odd ∙ (λ j. if eqb (serial j % 2) 1 then (key, weight j) ∷ [] else [])
 
 -- what the first load of an update allows
-module _ (face : ℕ → ℕ → List (ℕ × ℕ) → List ℕ) (v w : View) (key word : ℕ) (began : BeginsAtLeaf face v key word w) (inside : key < 2 ^ v.shape.bits) where
+module _ (face : ℕ → ℕ → List (ℕ × ℕ) → List ℕ) (v w : SeatView) (key word : ℕ) (began : BeginsAtLeaf face v key word w) (inside : key < 2 ^ v.shape.bits) where
   of_leaf : IsSerial key began.index began.entry
   of_leaf = began.sees.book.serials key began.index began.entry inside began.newest.at
 
@@ -78,28 +78,28 @@ module _ (face : ℕ → ℕ → List (ℕ × ℕ) → List ℕ) (v w : View) (k
   }
 
   -- and once it was tried, the pass has the records that it had
-  module _ (x : View) (new : ℕ) (done : Bool) (may : MayAdvance w key word new) (tried : TriedLeaf face w key word new done x) where
+  module _ (x : SeatView) (new : ℕ) (done : Bool) (may : MayAdvance w key word new) (tried : TriedLeaf face w key word new done x) where
     told : TriesLeaf face w key may.advance tried.found x
     told = tried.told may.advance may.is_advance may.from may.to
 
     pub shape_stays : x.shape ≡ v.shape
-    shape_stays = told.shaped ∙ ap (λ (z : View). z.shape) began.stepped
+    shape_stays = told.shaped ∙ ap (λ (z : SeatView). z.shape) began.stepped
 
     pub stores_on : (number : ℕ) → MayStore v number → MayStore x number
-    stores_on number own = may_store_tried face w x key may.advance tried.found number told (may_store_same v w number (ap (λ (z : View). z.shape) began.stepped) (ap (λ (z : View). z.held) began.stepped) own)
+    stores_on number own = may_store_tried face w x key may.advance tried.found number told (may_store_same v w number (ap (λ (z : SeatView). z.shape) began.stepped) (ap (λ (z : SeatView). z.held) began.stepped) own)
 
-module _ (face : ℕ → ℕ → List (ℕ × ℕ) → List ℕ) (v v1 v2 v3 : View) (from left right : ℕ) (shaped : v.shape ≡ small) (node : LoadsNode face v 2 from v1) (at_left : LoadsLeaf face v1 0 left v2) (at_right : LoadsLeaf face v2 1 right v3) where
+module _ (face : ℕ → ℕ → List (ℕ × ℕ) → List ℕ) (v v1 v2 v3 : SeatView) (from left right : ℕ) (shaped : v.shape ≡ small) (node : LoadsNode face v 2 from v1) (at_left : LoadsLeaf face v1 0 left v2) (at_right : LoadsLeaf face v2 1 right v3) where
   shape1 : v1.shape ≡ small
-  shape1 = ap (λ (z : View). z.shape) node.stepped ∙ shaped
+  shape1 = ap (λ (z : SeatView). z.shape) node.stepped ∙ shaped
 
   shape2 : v2.shape ≡ small
-  shape2 = ap (λ (z : View). z.shape) at_left.stepped ∙ shape1
+  shape2 = ap (λ (z : SeatView). z.shape) at_left.stepped ∙ shape1
 
   pub shape3 : v3.shape ≡ small
-  shape3 = ap (λ (z : View). z.shape) at_right.stepped ∙ shape2
+  shape3 = ap (λ (z : SeatView). z.shape) at_right.stepped ∙ shape2
 
   pub same_lane : v3.held ≡ v.held
-  same_lane = ap (λ (z : View). z.held) at_right.stepped ∙ ap (λ (z : View). z.held) at_left.stepped ∙ ap (λ (z : View). z.held) node.stepped
+  same_lane = ap (λ (z : SeatView). z.held) at_right.stepped ∙ ap (λ (z : SeatView). z.held) at_left.stepped ∙ ap (λ (z : SeatView). z.held) node.stepped
 
   pub still_stores : (number : ℕ) → MayStore v number → MayStore v3 number
   still_stores number may = may_store_same v v3 number (shape3 ∙ sym shaped) same_lane may

@@ -3,16 +3,16 @@ use Rattle.std.specs.Prelude.{◌≡◌}
 use Rattle.aug_core.specs.Told.{HoldsOnly}
 use Rattle.aug_core.specs.declared.view.Held.{Held}
 use Rattle.aug_core.specs.declared.view.LaneState.TheVariants.{Free, Taken}
-use Rattle.aug_core.specs.declared.view.View.{View}
+use Rattle.aug_core.specs.declared.view.SeatView.{SeatView}
 
 -- the view holds one lane, and it is free
-pub record MayTake (v : View) : Type 0 where
+pub record MayTake (v : SeatView) : Type 0 where
   pub lane : Held
   pub only : HoldsOnly v lane
   pub free : lane.state ≡ Free
 
 -- the view holds one lane, and it is taken
-pub record HasTakenLane (v : View) : Type 0 where
+pub record HasTakenLane (v : SeatView) : Type 0 where
   pub lane : Held
   pub only : HoldsOnly v lane
   pub taken : lane.state ≡ Taken

@@ -2,7 +2,7 @@
 use Rattle.std.specs.Prelude.{ℕ, ◌-◌, List}
 use Rattle.aug_core.specs.Counts.{changes_of}
 use Rattle.aug_core.specs.Told.{own_lane}
-use Rattle.aug_core.specs.declared.view.View.{View}
+use Rattle.aug_core.specs.declared.view.SeatView.{SeatView}
 use Rattle.aug_words.specs.Seats.{Known}
 use Rattle.aug_trie.specs.inside.Counted.{HasCounts}
 use Rattle.aug_trie.specs.inside.Knows.{root_history, root_numbers}
@@ -38,7 +38,7 @@ abbrev pub climb_facts : Known → ℕ → ℕ → ℕ → Request → Stage →
 climb_facts known bits left key request stage = record { start = start_facts known left stage; now = pass_facts known left; request = request; key = key; left = stage_turns bits stage }
 
 -- what a climb's fields keep
-pub record HoldsClimb (face : ℕ → ℕ → List (ℕ × ℕ) → List ℕ) (v : View) (leaves bits next left inserts removals key : ℕ) (request : Request) (stage : Stage) : Type 0 where
-  pub began : View
+pub record HoldsClimb (face : ℕ → ℕ → List (ℕ × ℕ) → List ℕ) (v : SeatView) (leaves bits next left inserts removals key : ℕ) (request : Request) (stage : Stage) : Type 0 where
+  pub began : SeatView
   pub stage_at : StageAt face leaves bits next left key request began stage v
   pub counts : HasCounts (changes_of began.held) inserts removals

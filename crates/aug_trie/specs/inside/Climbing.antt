@@ -7,7 +7,7 @@ use Rattle.aug_core.specs.Told.{made_by, new_serial}
 use Rattle.aug_core.specs.declared.step.StepTaken.{StepTaken}
 use Rattle.aug_core.specs.declared.view.Advance.{Advance}
 use Rattle.aug_core.specs.declared.view.Entry.{Entry}
-use Rattle.aug_core.specs.declared.view.View.{View}
+use Rattle.aug_core.specs.declared.view.SeatView.{SeatView}
 use Rattle.aug_model.specs.declared.outcome.Outcome.{Outcome}
 use Rattle.aug_model.specs.declared.outcome.Outcome.TheVariants as outcome
 use Rattle.aug_trie.specs.inside.Goes.{Goes}
@@ -35,7 +35,7 @@ pub record WeighsAt (book : Book) (key serial weight : ℕ) : Type 0 where
   pub at : At book key serial entry
   pub weighs : entry.weight ≡ weight
 
-module _ (face : ℕ → ℕ → List (ℕ × ℕ) → List ℕ) (used : ℕ) (v : View) (key : ℕ) (request : Request) (w : View) where
+module _ (face : ℕ → ℕ → List (ℕ × ℕ) → List ℕ) (used : ℕ) (v : SeatView) (key : ℕ) (request : Request) (w : SeatView) where
   -- the key's serial went up as the request says, which are changes of the view, and the root shows it with its weight; what it went past it never shows
   pub record WentUp (a : Advance) : Type 0 where
     pub lets : goes_from request a.serial ≡ true

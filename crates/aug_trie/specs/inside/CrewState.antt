@@ -1,7 +1,7 @@
 -- What the fields of a crew keep, and how what contracts see of it comes of them.
 use Rattle.std.specs.Prelude.{◌≡◌, ℕ, ◌%◌, ◌^◌, ◌≤◌, Some, unwrap_or, List, length}
 use Rattle.aug_core.specs.Counts.{changes_of}
-use Rattle.aug_core.specs.declared.view.View.{View}
+use Rattle.aug_core.specs.declared.view.SeatView.{SeatView}
 use Rattle.aug_words.specs.Seats.{Known}
 use Rattle.aug_core.specs.Told.{KnowsTable}
 use Rattle.aug_trie.specs.Knowledge.{inserts_of, removals_of}
@@ -15,14 +15,14 @@ crew_facts known = record { round = round_of known.table known.view; knows = kno
 
 module _ (face : ℕ → ℕ → List (ℕ × ℕ) → List ℕ) where
   -- the view of a lead that handed out `handed` lanes and took `back` passes back
-  pub record IsCrew (v : View) (handed back : ℕ) : Type 0 where
+  pub record IsCrew (v : SeatView) (handed back : ℕ) : Type 0 where
     pub knows_table : KnowsTable face v
     pub hands_out : v.spare ≡ Some handed
     pub took_back : length v.held ≡ back
     pub knowledge : KnowsRound v
 
 -- what a crew's fields keep: its counters are those of its changes, in 32 bits
-pub record HoldsCrew (face : ℕ → ℕ → List (ℕ × ℕ) → List ℕ) (v : View) (back inserts removals : ℕ) : Type 0 where
+pub record HoldsCrew (face : ℕ → ℕ → List (ℕ × ℕ) → List ℕ) (v : SeatView) (back inserts removals : ℕ) : Type 0 where
   pub handed : ℕ
   pub is_crew : IsCrew face v handed (length v.held)
   pub few : handed ≤ v.shape.workers

@@ -13,11 +13,11 @@ use Rattle.aug_core.specs.declared.step.StepTaken.{StepTaken}
 use Rattle.aug_core.specs.declared.view.Change.{Change}
 use Rattle.aug_core.specs.declared.view.Entry.{Entry}
 use Rattle.aug_core.specs.declared.view.Held.{Held}
-use Rattle.aug_core.specs.declared.view.View.{View}
+use Rattle.aug_core.specs.declared.view.SeatView.{SeatView}
 use Rattle.aug_trie.specs.Pass.{TryNoLeaf}
 
 -- the records of the view's lane from this one on were not published
-pub record IsFree (v : View) (next : ℕ) : Type 0 where
+pub record IsFree (v : SeatView) (next : ℕ) : Type 0 where
   pub lane : Held
   pub only : HoldsOnly v lane
   pub from_first : first_record v.shape lane.lane ≤ next
@@ -25,33 +25,33 @@ pub record IsFree (v : View) (next : ℕ) : Type 0 where
   pub long : length lane.words ≡ block_size v.shape
 
 -- `records` records of the lane are left from the record `next` on
-pub record HasRoom (v : View) (next records : ℕ) : Type 0 where
+pub record HasRoom (v : SeatView) (next records : ℕ) : Type 0 where
   pub is_free : IsFree v next
   pub room : next + records ≤ first_record v.shape (own_lane v.held) + lane_records v.shape
 
 -- the view made `n` more steps, and no exchange of a leaf
-pub record Took (v w : View) (n : ℕ) : Type 0 where
+pub record Took (v w : SeatView) (n : ℕ) : Type 0 where
   pub more : List StepTaken
   pub steps : w.steps ≡ v.steps ++ more
   pub count : length more ≡ n
   pub no_try : TryNoLeaf more
 
 -- the same for at least `least` and at most `most` steps
-pub record TookBetween (v w : View) (least most : ℕ) : Type 0 where
+pub record TookBetween (v w : SeatView) (least most : ℕ) : Type 0 where
   pub steps : ℕ
   pub least_steps : least ≤ steps
   pub most_steps : steps ≤ most
   pub took : Took v w steps
 
 -- the view made at most `most` more steps, and nothing else in it changed
-pub record Looks (most : ℕ) (v w : View) : Type 0 where
+pub record Looks (most : ℕ) (v w : SeatView) : Type 0 where
   pub more : List StepTaken
   pub is : w ≡ record v { steps = v.steps ++ more }
   pub few : length more ≤ most
 
 module _ (face : ℕ → ℕ → List (ℕ × ℕ) → List ℕ) where
   -- what was known grows, the changes gain these, and the records from `used` on that were free are so
-  pub record Goes (used : ℕ) (gained : List Change) (v w : View) : Type 0 where
+  pub record Goes (used : ℕ) (gained : List Change) (v w : SeatView) : Type 0 where
     pub later : Continues w.seen v.seen
     pub fresh : IsFresh v.shape w.seen v.seen
     pub knows_table : KnowsTable face w
@@ -62,7 +62,7 @@ module _ (face : ℕ → ℕ → List (ℕ × ℕ) → List ℕ) where
     pub still_free : (n : ℕ) → used ≤ n → IsFree v n → IsFree w n
 
 -- one try at a node, which leaves its record free if it failed
-pub record Tries (v : View) (q number : ℕ) (done : Bool) (w : View) : Type 0 where
+pub record Tries (v : SeatView) (q number : ℕ) (done : Bool) (w : SeatView) : Type 0 where
   pub refreshed : Refreshed v.shape v.seen q done w.seen
   pub again : done ≡ false → IsFree v number → IsFree w number
 
@@ -104,5 +104,5 @@ module _ {A B : Type 0} (parts_a : Parts A) (parts_b : Parts B) where
     pub b_is : b ≡ fold_of parts_b pairs
 
   -- what the entries of a place with this word have
-  pub record IsPartOf (v : View) (place word count : ℕ) (a : A) (b : B) : Type 0 where
+  pub record IsPartOf (v : SeatView) (place word count : ℕ) (a : A) (b : B) : Type 0 where
     pub of : (i : ℕ) (e : Entry) → At v.seen place i e → e.word ≡ word → IsPart count a b e.pairs

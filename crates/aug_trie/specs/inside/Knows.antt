@@ -7,7 +7,7 @@ use Rattle.aug_core.specs.Book.{Book, history_of}
 use Rattle.aug_core.specs.Counts.{changes_of}
 use Rattle.aug_core.specs.Cuts.{Cut}
 use Rattle.aug_core.specs.inside.RootCuts.{root_cut}
-use Rattle.aug_core.specs.declared.view.View.{View}
+use Rattle.aug_core.specs.declared.view.SeatView.{SeatView}
 use Rattle.aug_trie.specs.Knowledge.{Knowledge, IsKnowledge}
 
 -- the cuts of all entries of the root
@@ -19,9 +19,9 @@ abbrev pub root_numbers : Shape → Book → List ℕ
 root_numbers s book = map (λ entry. entry.number) (history_of book (root_place s))
 
 -- what a view knows
-abbrev pub knows : View → Knowledge
+abbrev pub knows : SeatView → Knowledge
 knows v = record { history = root_history v.shape v.seen; accepted = changes_of v.held }
 
 -- it is knowledge of the round that the view's table was opened for
-abbrev pub KnowsRound : View → Type 0
+abbrev pub KnowsRound : SeatView → Type 0
 KnowsRound v = IsKnowledge v.shape.bits v.members (knows v)

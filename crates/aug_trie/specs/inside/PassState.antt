@@ -3,7 +3,7 @@ use Rattle.std.specs.Prelude.{◌≡◌, ℕ, ◌+◌, ◌-◌, ◌*◌, ◌^◌
 use Rattle.aug_core.specs.Counts.{changes_of}
 use Rattle.aug_core.specs.Told.{KnowsTable, own_lane, spent}
 use Rattle.aug_words.specs.Seats.{Known}
-use Rattle.aug_core.specs.declared.view.View.{View}
+use Rattle.aug_core.specs.declared.view.SeatView.{SeatView}
 use Rattle.aug_trie.specs.inside.Goes.{HasLeaves, HasRoom}
 use Rattle.aug_trie.specs.inside.Knows.{knows, root_numbers, KnowsRound}
 use Rattle.aug_trie.specs.Pass.{PassFacts}
@@ -27,7 +27,7 @@ pass_facts known left = record {
 
 module _ (face : ℕ → ℕ → List (ℕ × ℕ) → List ℕ) where
   -- the view of a pass with the records from `next` on, for `left` more updates
-  pub record IsPass (v : View) (leaves bits next left : ℕ) : Type 0 where
+  pub record IsPass (v : SeatView) (leaves bits next left : ℕ) : Type 0 where
     pub leaves_are : HasLeaves v.shape leaves
     pub bits_are : bits ≡ v.shape.bits
     pub knows_table : KnowsTable face v

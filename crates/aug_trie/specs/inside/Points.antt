@@ -8,7 +8,7 @@ use Rattle.aug_core.specs.inside.Refreshes.{HasNewest, SaysLoaded}
 use Rattle.aug_core.specs.Told.{KnowsTable, own_lane, storing}
 use Rattle.aug_core.specs.declared.step.StepTaken.{StepTaken}
 use Rattle.aug_core.specs.declared.view.Entry.{Entry}
-use Rattle.aug_core.specs.declared.view.View.{View}
+use Rattle.aug_core.specs.declared.view.SeatView.{SeatView}
 use Rattle.aug_trie.specs.inside.Goes.{Goes, Took, HasRoom, Tries, IsPart, part_steps, publish_steps, try_steps, Looks}
 use Rattle.aug_trie.specs.LeafWords.{leaf_pairs}
 use Rattle.aug_trie.specs.declared.turns.points.Reading.{Reading}
@@ -19,7 +19,7 @@ use Rattle.aug_trie.specs.declared.turns.points.Advanced.{Advanced}
 use Rattle.aug_trie.specs.declared.turns.points.Advanced.TheVariants.{To, Tried}
 
 -- the view made one more step; what it saw grows, and its lane and table are the same
-pub record OneStep (v w : View) : Type 0 where
+pub record OneStep (v w : SeatView) : Type 0 where
   pub taken : StepTaken
   pub steps : w.steps ≡ v.steps ++ taken ∷ []
   pub later : Continues w.seen v.seen
@@ -28,15 +28,15 @@ pub record OneStep (v w : View) : Type 0 where
   pub lane : own_lane w.held ≡ own_lane v.held
 
 -- and its update has the same beginning as before
-abbrev pub QuietStep : View → View → Type 0
+abbrev pub QuietStep : SeatView → SeatView → Type 0
 QuietStep v w = OneStep v w × (w.began ≡ v.began)
 
 -- a loaded word of a record is what its entry says
-abbrev pub Says : View → ℕ → ℕ → ℕ → Type 0
+abbrev pub Says : SeatView → ℕ → ℕ → ℕ → Type 0
 Says v number field r = (q i : ℕ) (e : Entry) → IsInner v.shape q → At v.seen q i e → e.number ≡ number → r ≡ slice_index e.words field
 
 -- the view after storing the first words of a record, as many as the last argument says
-abbrev pub stored : View → ℕ → List ℕ → ℕ → View
+abbrev pub stored : SeatView → ℕ → List ℕ → ℕ → SeatView
 stored v number five zero = v
 stored v number five (suc k) = storing (stored v number five k) (record_start (stored v number five k).shape number + k) (slice_index five k)
 
@@ -70,32 +70,32 @@ module _ {A B : Type 0} (parts_a : Parts A) (parts_b : Parts B) where
     pub five_are : five ≡ left ∷ right ∷ (m + k) ∷ parts_a.to_word (parts_a.join a a') ∷ parts_b.to_word (parts_b.join b b') ∷ []
 
 -- a try that began at the view v
-module _ (face : ℕ → ℕ → List (ℕ × ℕ) → List ℕ) (v : View) (q : ℕ) where
+module _ (face : ℕ → ℕ → List (ℕ × ℕ) → List ℕ) (v : SeatView) (q : ℕ) where
   -- the node's word was loaded
-  pub record AfterNode (from : ℕ) (w : View) : Type 0 where
+  pub record AfterNode (from : ℕ) (w : SeatView) : Type 0 where
     pub goes : Goes face 0 [] v w
     pub took : Took v w 1
     pub at_node : HasNewest w.seen q from
 
   -- and then the left child's
-  pub record AfterLeft (from left : ℕ) (w : View) : Type 0 where
-    pub first : View
+  pub record AfterLeft (from left : ℕ) (w : SeatView) : Type 0 where
+    pub first : SeatView
     pub node : AfterNode from first
     pub goes : Goes face 0 [] first w
     pub took : Took first w 1
     pub at_left : HasNewest w.seen (left_of v.shape q) left
 
   -- and then the right child's
-  pub record AfterRight (from left right : ℕ) (w : View) : Type 0 where
-    pub second : View
+  pub record AfterRight (from left right : ℕ) (w : SeatView) : Type 0 where
+    pub second : SeatView
     pub lefts : AfterLeft from left second
     pub goes : Goes face 0 [] second w
     pub took : Took second w 1
     pub at_right : HasNewest w.seen (right_of v.shape q) right
 
   -- and then the first `r.count` words of their records
-  pub record AfterWords (r : Reading) (w : View) : Type 0 where
-    pub third : View
+  pub record AfterWords (r : Reading) (w : SeatView) : Type 0 where
+    pub third : SeatView
     pub loaded : AfterRight r.from r.left r.right third
     pub nodes : 2 ^ v.shape.bits ≤ left_of v.shape q
     pub few : r.count < reading_words
@@ -105,10 +105,10 @@ module _ (face : ℕ → ℕ → List (ℕ × ℕ) → List ℕ) (v : View) (q :
     pub says : (k : ℕ) → k < r.count → Says third (child_at r.left r.right k) (field_after k) (slice_index r.words k)
 
   -- the own record's words are known, and the first `r.count` of them were stored
-  pub record AfterStores (number : ℕ) (r : Filling) (w : View) : Type 0 where
-    pub third : View
+  pub record AfterStores (number : ℕ) (r : Filling) (w : SeatView) : Type 0 where
+    pub third : SeatView
     pub loaded : AfterRight r.from (slice_index r.five 0) (slice_index r.five 1) third
-    pub told : View
+    pub told : SeatView
     pub goes : Goes face 0 [] third told
     pub took : Took third told (2 * part_steps v.shape (left_of v.shape q))
     pub says : SaysLoaded face told.shape told.seen q r.from r.five
@@ -117,7 +117,7 @@ module _ (face : ℕ → ℕ → List (ℕ × ℕ) → List ℕ) (v : View) (q :
     pub stands : w ≡ stored told number r.five r.count
 
   -- what was done at a point
-  abbrev pub IsAt : ℕ → Point → View → Type 0
+  abbrev pub IsAt : ℕ → Point → SeatView → Type 0
   IsAt number Node w = w ≡ v
   IsAt number (Left from) w = AfterNode from w
   IsAt number (Right from left) w = AfterLeft from left w
@@ -125,20 +125,20 @@ module _ (face : ℕ → ℕ → List (ℕ × ℕ) → List ℕ) (v : View) (q :
   IsAt number (Record r) w = AfterStores number r w
 
   -- the try is at a point
-  pub record TryAt (number : ℕ) (point : Point) (w : View) : Type 0 where
+  pub record TryAt (number : ℕ) (point : Point) (w : SeatView) : Type 0 where
     pub inner : IsInner v.shape q
     pub knows_table : KnowsTable face v
     pub room : HasRoom v number 1
     pub is_at : IsAt number point w
 
   -- the try is over
-  pub record TryOver (number : ℕ) (done : Bool) (w : View) : Type 0 where
+  pub record TryOver (number : ℕ) (done : Bool) (w : SeatView) : Type 0 where
     pub goes : Goes face (number + 1) [] v w
     pub took : Took v w (try_steps (part_steps v.shape (left_of v.shape q)))
     pub tries : Tries v q number done w
 
   -- the result of a step of the try
-  abbrev pub Advances : ℕ → Advanced → View → Type 0
+  abbrev pub Advances : ℕ → Advanced → SeatView → Type 0
   Advances number (To point) w = TryAt number point w
   Advances number (Tried done) w = TryOver number done w
 

@@ -1,11 +1,11 @@
 -- The round of a table, and of a view of it.
 use Rattle.atomic_table.specs.Seated.{TableId}
 use Rattle.aug_words.specs.Seats.{Store}
-use Rattle.aug_core.specs.declared.view.View.{View}
+use Rattle.aug_core.specs.declared.view.SeatView.{SeatView}
 use Rattle.aug_trie.specs.Round.{RoundFacts}
 
 -- the round of a table that was opened so
-abbrev pub round_of : TableId → View → RoundFacts
+abbrev pub round_of : TableId → SeatView → RoundFacts
 round_of table v = record { table = table; bits = v.shape.bits; members = v.members; workers = v.shape.workers; updates = v.shape.updates; room = v.shape.members }
 
 -- the same of the table itself

@@ -2,7 +2,7 @@
 use Rattle.std.specs.Prelude.{◌≡◌, ℕ, ◌+◌, ◌*◌, ◌≤◌, Option, Some, List, ◌++◌, length}
 use Rattle.aug_core.specs.Told.{KnowsTable}
 use Rattle.aug_core.specs.declared.step.StepTaken.{StepTaken}
-use Rattle.aug_core.specs.declared.view.View.{View}
+use Rattle.aug_core.specs.declared.view.SeatView.{SeatView}
 use Rattle.aug_model.specs.Keys.{SetFacts}
 use Rattle.aug_query.specs.Tree.{IsTreeSet}
 use Rattle.aug_query.specs.declared.loaded.Loaded.{Loaded}
@@ -12,18 +12,18 @@ use Rattle.aug_trie.specs.inside.NamedCuts.{cut_named, members_of}
 use Rattle.aug_trie.specs.declared.queries.snapshot.Snapshot.{Snapshot}
 
 -- the set that a snapshot shows in what a pass has seen
-abbrev pub set_seen : View → Snapshot → SetFacts
+abbrev pub set_seen : SeatView → Snapshot → SetFacts
 set_seen v s = members_of v.shape.bits (cut_named v.shape v.seen s.number)
 
 module _ (face : ℕ → ℕ → List (ℕ × ℕ) → List ℕ) where
   -- the word names the node at a level and a place of the snapshot's tree
-  pub record IsNamed (v : View) (s : Snapshot) (level place word : ℕ) : Type 0 where
+  pub record IsNamed (v : SeatView) (s : Snapshot) (level place word : ℕ) : Type 0 where
     pub knows_table : KnowsTable face v
     pub is_tree_set : IsTreeSet (set_seen v s)
     pub node : IsNodeAt v.shape v.seen (cut_named v.shape v.seen s.number) level place word
 
   -- what a walk goes by: the bits of its keys, and the root
-  pub record IsWalk (v : View) (s : Snapshot) (bits : ℕ) : Type 0 where
+  pub record IsWalk (v : SeatView) (s : Snapshot) (bits : ℕ) : Type 0 where
     pub bits_are : bits ≡ v.shape.bits
     pub top : IsNamed v s bits 0 s.number
 

@@ -3,7 +3,7 @@
 use Rattle.std.proofs.Common.{ℕ, List, [], ◌++◌, length-append, append_assoc, refl, ap, sym, ◌∙◌, arith}
 use Rattle.std.proofs.lemmas.List.{append-nil}
 use Rattle.aug_core.specs.declared.step.StepTaken.{StepTaken}
-use Rattle.aug_core.specs.declared.view.View.{View}
+use Rattle.aug_core.specs.declared.view.SeatView.{SeatView}
 use Rattle.aug_model.specs.Keys.{list_of}
 use Rattle.aug_model.specs.declared.summary.Summary.{Summary}
 use Rattle.aug_query.specs.Tree.{IsNodeOf, sum_of, below_node}
@@ -31,7 +31,7 @@ kept_on p q r s t u k l m a b = record {
   few_steps = let x = a.few_steps in let y = b.few_steps in let long = length-append a.more b.more in omega arith;
 }
 
-pub stands : {A B : Type 0} (f : ℕ → ℕ → List (ℕ × ℕ) → List ℕ) (sum : List (ℕ × ℕ) → Summary A B) (v : View) (s : Snapshot) (level place word : ℕ) → IsNamed f v s level place word
+pub stands : {A B : Type 0} (f : ℕ → ℕ → List (ℕ × ℕ) → List ℕ) (sum : List (ℕ × ℕ) → Summary A B) (v : SeatView) (s : Snapshot) (level place word : ℕ) → IsNamed f v s level place word
     → IsNodeOf sum (set_seen v s) level place (sum_of sum (set_seen v s).pairs (below_node (list_of (set_seen v s)) level place))
 stands f sum v s level place word named =
     let at = named.node.part.word in

@@ -6,7 +6,7 @@ use Rattle.aug_core.specs.Counts.{changes_of}
 use Rattle.aug_core.specs.inside.Shows.{above, Lifts}
 use Rattle.aug_core.specs.inside.Refreshes.{NewestCovers}
 use Rattle.aug_core.specs.Told.{own_lane, KnowsTable, BeginsAtLeaf}
-use Rattle.aug_core.specs.declared.view.View.{View}
+use Rattle.aug_core.specs.declared.view.SeatView.{SeatView}
 use Rattle.aug_trie.specs.inside.Goes.{Goes, Took, TookBetween, HasRoom, part_steps, try_steps, level_steps, least_rise_steps, most_rise_steps}
 use Rattle.aug_trie.specs.inside.Climbing.{Updated, FitsRequest}
 use Rattle.aug_model.specs.declared.outcome.Outcome.{Outcome}
@@ -26,26 +26,26 @@ use Rattle.aug_core.specs.declared.step.StepTaken.{StepTaken}
 
 module _ (face : ℕ → ℕ → List (ℕ × ℕ) → List ℕ) where
   -- a try at the node that failed
-  pub record Missed (below begun : View) (q number : ℕ) : Type 0 where
+  pub record Missed (below begun : SeatView) (q number : ℕ) : Type 0 where
     pub goes : Goes face (number + 1) [] below begun
     pub took : Took below begun (try_steps (part_steps below.shape (left_of below.shape q)))
     pub longer : length (history_of below.seen q) + 1 ≤ length (history_of begun.seen q)
 
   -- the first try begins when the node is reached, and the second when the first has failed
-  abbrev pub IsTry : View → View → ℕ → ℕ → Bool → Type 0
+  abbrev pub IsTry : SeatView → SeatView → ℕ → ℕ → Bool → Type 0
   IsTry below begun q number false = begun ≡ below
   IsTry below begun q number true = Missed below begun q number
 
   -- a node that was tried once or twice covers what had been seen of its children
-  pub record IsCovered (below w : View) (q number : ℕ) : Type 0 where
+  pub record IsCovered (below w : SeatView) (q number : ℕ) : Type 0 where
     pub goes : Goes face (number + 1) [] below w
     pub took : TookBetween below w (try_steps (part_steps below.shape (left_of below.shape q))) (2 * try_steps (part_steps below.shape (left_of below.shape q)))
     pub covers : NewestCovers below.shape below.seen w.seen q
 
   -- the way from a leaf to the root, whose records begin at this number
-  module _ (bits number key : ℕ) (leaf : View) where
+  module _ (bits number key : ℕ) (leaf : SeatView) where
     -- all levels up to this one show what the leaf had reached
-    pub record HasRisen (level : ℕ) (below : View) : Type 0 where
+    pub record HasRisen (level : ℕ) (below : SeatView) : Type 0 where
       pub goes : Goes face (number + level) [] leaf below
       pub took : TookBetween leaf below (least_rise_steps level) (most_rise_steps level)
       pub lifts : Lifts leaf.shape leaf.seen below.seen key level
@@ -58,68 +58,68 @@ module _ (face : ℕ → ℕ → List (ℕ × ℕ) → List ℕ) where
       pub room : HasRoom leaf number bits
 
     -- it is at a node
-    pub record IsAtNode (a : Ascent) (begun : View) : Type 0 where
+    pub record IsAtNode (a : Ascent) (begun : SeatView) : Type 0 where
       pub may_rise : MayRise
       pub below_root : a.level < bits
       pub node_is : a.node ≡ above leaf.shape key (suc a.level)
-      pub below : View
+      pub below : SeatView
       pub risen : HasRisen a.level below
       pub is_try : IsTry below begun a.node (number + a.level) a.second
 
     -- and in a try there
-    pub record IsOnWay (a : Ascent) (w : View) : Type 0 where
-      pub begun : View
+    pub record IsOnWay (a : Ascent) (w : SeatView) : Type 0 where
+      pub begun : SeatView
       pub at_node : IsAtNode a begun
       pub try_at : TryAt face begun a.node (number + a.level) a.point w
 
     -- and after that try
-    pub record IsPastTry (a : Ascent) (done : Bool) (w : View) : Type 0 where
-      pub begun : View
+    pub record IsPastTry (a : Ascent) (done : Bool) (w : SeatView) : Type 0 where
+      pub begun : SeatView
       pub at_node : IsAtNode a begun
       pub room : HasRoom begun (number + a.level) 1
       pub try_over : TryOver face begun a.node (number + a.level) done w
 
     -- it continues, or has reached the root
-    abbrev pub Ascends : Option Ascent → View → Type 0
+    abbrev pub Ascends : Option Ascent → SeatView → Type 0
     Ascends (Some a) w = IsOnWay a w
     Ascends None w = HasRisen bits w
 
   -- an update of a key from the view u of a pass
-  module _ (leaves bits number left key : ℕ) (request : Request) (u : View) where
+  module _ (leaves bits number left key : ℕ) (request : Request) (u : SeatView) where
     -- the view says from what state the update began
-    pub record HasBegun (w : View) : Type 0 where
+    pub record HasBegun (w : SeatView) : Type 0 where
       pub began : w.began ≡ record { seen = u.seen; steps = u.steps; changes = changes_of u.held }
       pub shaped : w.shape ≡ u.shape
       pub same_members : w.members ≡ u.members
       pub lane : own_lane w.held ≡ own_lane u.held
 
     -- its leaf was loaded, and it may exchange it
-    pub record MayTry (word : ℕ) (w : View) : Type 0 where
+    pub record MayTry (word : ℕ) (w : SeatView) : Type 0 where
       pub loaded : BeginsAtLeaf face u key word w
       pub lets : goes_from request (serial_in_word word) ≡ true
 
     -- its leaf was loaded, and then exchanged if the serial that was found let the update continue
-    pub record HasLeft (w : View) : Type 0 where
+    pub record HasLeft (w : SeatView) : Type 0 where
       pub found : ℕ
       pub more : List StepTaken
       pub steps : w.steps ≡ u.steps ++ load_leaf key found ∷ more
       pub tried : goes_from request (serial_in_word found) ≡ true → 1 ≤ length more
 
     -- it is on its way, and will be a complete update when it has reached the root
-    pub record IsRising (done : Outcome) (a : Ascent) (w : View) : Type 0 where
-      pub leaf : View
+    pub record IsRising (done : Outcome) (a : Ascent) (w : SeatView) : Type 0 where
+      pub leaf : SeatView
       pub has_begun : HasBegun w
       pub has_left : HasLeft w
-      pub finish : (z : View) → HasRisen bits number key leaf bits z → Updated face (number + bits) u key request z done
+      pub finish : (z : SeatView) → HasRisen bits number key leaf bits z → Updated face (number + bits) u key request z done
       pub on_way : IsOnWay bits number key leaf a w
 
-    abbrev pub IsStage : Stage → View → Type 0
+    abbrev pub IsStage : Stage → SeatView → Type 0
     IsStage Leaf w = w ≡ u
     IsStage (Change word) w = MayTry word w
     IsStage (Up done a) w = IsRising done a w
 
     -- the update is at a stage
-    pub record StageAt (stage : Stage) (w : View) : Type 0 where
+    pub record StageAt (stage : Stage) (w : SeatView) : Type 0 where
       pub is_pass : IsPass face u leaves bits number left
       pub some : 1 ≤ left
       pub low : key < 2 ^ u.shape.bits
@@ -127,7 +127,7 @@ module _ (face : ℕ → ℕ → List (ℕ × ℕ) → List ℕ) where
       pub is_stage : IsStage stage w
 
     -- it continues, or is done
-    abbrev pub Climbs : Next → View → Type 0
+    abbrev pub Climbs : Next → SeatView → Type 0
     Climbs (More stage) w = StageAt stage w
     Climbs (Done done) w = Updated face (number + bits) u key request w done
 

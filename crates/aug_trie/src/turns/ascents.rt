@@ -1,7 +1,7 @@
 //! The way from a leaf to the root, one atomic step at a time.
 ghost use Rattle.std.specs.Prelude.{◌≡◌, ℕ, List, ◌+◌, ◌/◌, ◌^◌, ◌<◌, ◌≤◌, false, IfSome};
 ghost use Rattle.aug_core.specs.Faces.{face};
-ghost use Rattle.aug_core.specs.declared.view.View.{View};
+ghost use Rattle.aug_core.specs.declared.view.SeatView.{SeatView};
 ghost use Rattle.aug_trie.specs.inside.Goes.{HasLeaves};
 ghost use Rattle.aug_trie.specs.inside.Points.{QuietStep};
 ghost use Rattle.aug_trie.specs.inside.Stages.{IsOnWay, IsPastTry, Ascends, AscentFalls, ascent_turns, past_try_turns};
@@ -50,10 +50,10 @@ pub(crate) fn ascend<A: Monoid, B: Monoid>(
 ) -> Option<Ascent>
     requires leaves { HasLeaves pass.old.view.shape leaves }
     requires small { number + bits < 2 ^ 60 }
-    requires on_way { (key : ℕ) × (leaf : View) × IsOnWay (face A.parts B.parts) bits number key leaf ascent pass.old.view }
+    requires on_way { (key : ℕ) × (leaf : SeatView) × IsOnWay (face A.parts B.parts) bits number key leaf ascent pass.old.view }
     ensures table { pass.new.table ≡ pass.old.table }
     ensures step { QuietStep pass.old.view pass.new.view }
-    ensures on { (key : ℕ) (leaf : View) → IsOnWay (face A.parts B.parts) bits number key leaf ascent pass.old.view → Ascends (face A.parts B.parts) bits number key leaf result pass.new.view }
+    ensures on { (key : ℕ) (leaf : SeatView) → IsOnWay (face A.parts B.parts) bits number key leaf ascent pass.old.view → Ascends (face A.parts B.parts) bits number key leaf result pass.new.view }
     ensures falls { AscentFalls bits ascent result }
 {
     let at = number + u64::from(ascent.level);
@@ -69,7 +69,7 @@ fn after_try(leaves: usize, bits: u32, ascent: Ascent, published: bool) -> Optio
     requires node { ascent.node < 2 ^ 32 }
     requires level { ascent.level < bits }
     requires bits { bits ≤ 16 }
-    ensures on { (f : ℕ → ℕ → List (ℕ × ℕ) → List ℕ) (number key : ℕ) (leaf w : View) → leaves ≡ 2 ^ bits → IsPastTry f bits number key leaf ascent published w → Ascends f bits number key leaf result w }
+    ensures on { (f : ℕ → ℕ → List (ℕ × ℕ) → List ℕ) (number key : ℕ) (leaf w : SeatView) → leaves ≡ 2 ^ bits → IsPastTry f bits number key leaf ascent published w → Ascends f bits number key leaf result w }
     ensures falls { IfSome result (λ next. (ascent_turns bits next ≤ past_try_turns bits ascent) × (1 ≤ ascent_turns bits next)) }
 {
     if !published && !ascent.second {

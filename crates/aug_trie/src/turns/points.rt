@@ -4,7 +4,7 @@ ghost use Rattle.aug_core.specs.Faces.{face};
 ghost use Rattle.aug_core.specs.Fields.{field_offset};
 ghost use Rattle.aug_core.specs.Places.{record_words};
 ghost use Rattle.aug_core.specs.Addresses.{left_of};
-ghost use Rattle.aug_core.specs.declared.view.View.{View};
+ghost use Rattle.aug_core.specs.declared.view.SeatView.{SeatView};
 ghost use Rattle.aug_trie.specs.inside.Goes.{HasLeaves, part_steps};
 ghost use Rattle.aug_trie.specs.inside.Points.{QuietStep, TryAt, Advances, Falls, IsOverLeaves, five_over, reading_words, child_at, field_after};
 
@@ -125,10 +125,10 @@ fn load_right<A: Monoid, B: Monoid>(
     left: u64,
 ) -> Point
     requires leaves { HasLeaves pass.old.view.shape leaves }
-    requires begun { (v : View) × (number : ℕ) × TryAt (face A.parts B.parts) v node number (Point.Right from left) pass.old.view }
+    requires begun { (v : SeatView) × (number : ℕ) × TryAt (face A.parts B.parts) v node number (Point.Right from left) pass.old.view }
     ensures table { pass.new.table ≡ pass.old.table }
     ensures step { QuietStep pass.old.view pass.new.view }
-    ensures on { (v : View) (number : ℕ) → TryAt (face A.parts B.parts) v node number (Point.Right from left) pass.old.view → TryAt (face A.parts B.parts) v node number result pass.new.view }
+    ensures on { (v : SeatView) (number : ℕ) → TryAt (face A.parts B.parts) v node number (Point.Right from left) pass.old.view → TryAt (face A.parts B.parts) v node number result pass.new.view }
     ensures falls { Falls (part_steps pass.old.view.shape (left_of pass.old.view.shape node)) (Point.Right from left) (Advanced.To result) }
 {
     let child = 2 * (node - leaves);
@@ -161,10 +161,10 @@ fn next_word(reading: Reading) -> (u64, RecordField)
 
 // Loads the next word of the children's records: one step.
 fn load_part<A: Monoid, B: Monoid>(pass: &mut WordPass<A, B>, reading: Reading) -> Point
-    requires begun { (v : View) × (node : ℕ) × (number : ℕ) × TryAt (face A.parts B.parts) v node number (Point.Part reading) pass.old.view }
+    requires begun { (v : SeatView) × (node : ℕ) × (number : ℕ) × TryAt (face A.parts B.parts) v node number (Point.Part reading) pass.old.view }
     ensures table { pass.new.table ≡ pass.old.table }
     ensures step { QuietStep pass.old.view pass.new.view }
-    ensures on { (v : View) (node number : ℕ) → TryAt (face A.parts B.parts) v node number (Point.Part reading) pass.old.view → TryAt (face A.parts B.parts) v node number result pass.new.view }
+    ensures on { (v : SeatView) (node number : ℕ) → TryAt (face A.parts B.parts) v node number (Point.Part reading) pass.old.view → TryAt (face A.parts B.parts) v node number result pass.new.view }
     ensures falls { Falls 3 (Point.Part reading) (Advanced.To result) }
 {
     let mut reading = reading;
@@ -186,10 +186,10 @@ fn store_or_try<A: Monoid, B: Monoid>(
     number: u64,
     filling: Filling,
 ) -> Advanced
-    requires begun { (v : View) × TryAt (face A.parts B.parts) v node number (Point.Record filling) pass.old.view }
+    requires begun { (v : SeatView) × TryAt (face A.parts B.parts) v node number (Point.Record filling) pass.old.view }
     ensures table { pass.new.table ≡ pass.old.table }
     ensures step { QuietStep pass.old.view pass.new.view }
-    ensures on { (v : View) → TryAt (face A.parts B.parts) v node number (Point.Record filling) pass.old.view → Advances (face A.parts B.parts) v node number result pass.new.view }
+    ensures on { (v : SeatView) → TryAt (face A.parts B.parts) v node number (Point.Record filling) pass.old.view → Advances (face A.parts B.parts) v node number result pass.new.view }
     ensures falls { Falls 3 (Point.Record filling) result }
 {
     let count = filling.count;
@@ -213,10 +213,10 @@ pub(crate) fn advance<A: Monoid, B: Monoid>(
     point: Point,
 ) -> Advanced
     requires leaves { HasLeaves pass.old.view.shape leaves }
-    requires begun { (v : View) × TryAt (face A.parts B.parts) v node number point pass.old.view }
+    requires begun { (v : SeatView) × TryAt (face A.parts B.parts) v node number point pass.old.view }
     ensures table { pass.new.table ≡ pass.old.table }
     ensures step { QuietStep pass.old.view pass.new.view }
-    ensures on { (v : View) → TryAt (face A.parts B.parts) v node number point pass.old.view → Advances (face A.parts B.parts) v node number result pass.new.view }
+    ensures on { (v : SeatView) → TryAt (face A.parts B.parts) v node number point pass.old.view → Advances (face A.parts B.parts) v node number result pass.new.view }
     ensures falls { Falls (part_steps pass.old.view.shape (left_of pass.old.view.shape node)) point result }
 {
     match point {

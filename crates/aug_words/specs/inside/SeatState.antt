@@ -9,7 +9,7 @@ use Rattle.aug_core.specs.Opening.{Opening}
 use Rattle.aug_core.specs.Told.{Sat, HoldsOnly, KnowsTable}
 use Rattle.aug_core.specs.declared.view.Entry.{Entry}
 use Rattle.aug_core.specs.declared.view.Held.{Held}
-use Rattle.aug_core.specs.declared.view.View.{View}
+use Rattle.aug_core.specs.declared.view.SeatView.{SeatView}
 use Rattle.aug_core.specs.declared.view.LaneState.TheVariants.{Taken}
 use Rattle.aug_words.specs.Seats.{NamesRoot}
 
@@ -30,7 +30,7 @@ pub record SitsAt (seat_table table : TableId) (lanes records : ℕ) (s : Shape)
   pub records_are : records ≡ record_start s 0
 
 -- the leaf has reached the serial
-pub record HasReached (v : View) (key serial : ℕ) : Type 0 where
+pub record HasReached (v : SeatView) (key serial : ℕ) : Type 0 where
   pub entry : Entry
   pub at : At v.seen key serial entry
 

@@ -1,7 +1,7 @@
 use Rattle.std.proofs.Common.{ℕ, List, get_or, subst, sym, ap, ◌∙◌}
 use Rattle.aug_core.specs.Faces.{face}
 use Rattle.aug_core.specs.Told.{IsFilled}
-use Rattle.aug_core.specs.declared.view.View.{View}
+use Rattle.aug_core.specs.declared.view.SeatView.{SeatView}
 use Rattle.aug_core.proofs.Clients.{may_store_on}
 use Rattle.aug_core.proofs.FaceLemmas.{left_in, right_in}
 use Rattle.aug_core.proofs.Filling.{filled_is}
@@ -40,10 +40,10 @@ returns-clause-own g c =
 
 pub returns-clause-filled : goal.returns-clause-filled
 returns-clause-filled g c = let m = g.A.Monoid in let n = g.B.Monoid in let f = face m.parts n.parts in
-    let v : View = c.args.pass.now.view in let v3 : View = c.load_leaf-right.new.self.view in let five = c.words_over-five.result in
+    let v : SeatView = c.args.pass.now.view in let v3 : SeatView = c.load_leaf-right.new.self.view in let five = c.words_over-five.result in
     let may = still_stores f _ _ _ _ c.load_node-from.result c.load_leaf-left.result c.load_leaf-right.result c.requires.shape c.load_node-from.ensures.view c.load_leaf-left.ensures.view c.load_leaf-right.ensures.view c.args.number c.requires.own in
     let are = c.words_over-five.ensures in
     let first = ap (λ (z : List ℕ). get_or z 0 0) are ∙ left_in m.parts n.parts _ _ _ in let second = ap (λ (z : List ℕ). get_or z 1 0) are ∙ right_in m.parts n.parts _ _ _ in
     let good = may_publish f _ _ _ _ c.load_node-from.result c.load_leaf-left.result c.load_leaf-right.result c.requires.shape c.load_node-from.ensures.view c.load_leaf-left.ensures.view c.load_leaf-right.ensures.view five are first second c.args.number may (c.lane.ensures.words may.lane may.only) in
     let is = filled_is v3 _ _ _ _ _ c.args.number five c.store_record_word.ensures.view c.store_record_word-2.ensures.view c.store_record_word-3.ensures.view c.store_record_word-4.ensures.view c.store_record_word-5.ensures.view in
-    subst (λ (z : View). IsFilled f z 2 c.load_node-from.result c.args.number) (sym is) good
+    subst (λ (z : SeatView). IsFilled f z 2 c.load_node-from.result c.args.number) (sym is) good

@@ -1,5 +1,5 @@
 use Rattle.std.proofs.Common.{ap, inr}
-use Rattle.aug_core.specs.declared.view.View.{View}
+use Rattle.aug_core.specs.declared.view.SeatView.{SeatView}
 use Rattle.aug_core.proofs.Clients.{owns_what_it_stores, may_store_stepped}
 use Rattle.aug_words_tests.proofs.working.get.Goals as goal
 
@@ -7,4 +7,4 @@ pub load_record_word-requires : goal.load_record_word-requires
 load_record_word-requires c = inr (owns_what_it_stores _ _ c.requires)
 
 pub returns : goal.returns
-returns c = (c.load_record_word.ensures.table, ap (λ (v : View). v.shape) c.load_record_word.ensures.view.stepped, ap (λ (v : View). v.members) c.load_record_word.ensures.view.stepped, may_store_stepped _ _ _ _ c.requires c.load_record_word.ensures.view.stepped)
+returns c = (c.load_record_word.ensures.table, ap (λ (v : SeatView). v.shape) c.load_record_word.ensures.view.stepped, ap (λ (v : SeatView). v.members) c.load_record_word.ensures.view.stepped, may_store_stepped _ _ _ _ c.requires c.load_record_word.ensures.view.stepped)

@@ -2,7 +2,7 @@ use Rattle.std.proofs.Common.{◌≡◌, ◌+◌, ◌∙◌, refl, ap, vec_len, 
 use Rattle.std.proofs.lemmas.List.{get_or_read}
 use Rattle.aug_trie.specs.Crew.{CrewFacts}
 use Rattle.aug_trie.specs.Pass.{PassFacts}
-use Rattle.aug_trie.proofs.Pieces.{begins_on}
+use Rattle.aug_trie.proofs.Pieces.{prefix_trans}
 use Rattle.aug_run.specs.inside.Workers.{MayBegin, opening_cut_of}
 use Rattle.aug_run.specs.declared.lanes.work.Job.{Job}
 use Rattle.aug_run.proofs.Passing.{push_one}
@@ -32,5 +32,5 @@ loop-lane-preserved c =
       omega (arith, ap (λ (z : CrewFacts). z.handed) hands.crew_is, was.3),
       ap (λ (z : CrewFacts). z.back) hands.crew_is ∙ was.4,
       hands.knows.same_changes ∙ was.5,
-      begins_on (opening_cut_of T ∷ []) c.loop-lane.crew.knows.history c.pass.new.self.knows.history was.6 hands.knows.goes_on,
+      prefix_trans (opening_cut_of T ∷ []) c.loop-lane.crew.knows.history c.pass.new.self.knows.history was.6 hands.knows.goes_on,
     )

@@ -1,38 +1,38 @@
 use Rattle.std.proofs.Common.{◌∙◌, ◌≤◌, arith, inl, rules}
 use Rattle.aug_monoid.proofs.BoundLaws.{laws_of}
 use Rattle.aug_core.specs.Cuts.{Cut}
-use Rattle.aug_core.specs.declared.view.View.{View}
+use Rattle.aug_core.specs.declared.view.SeatView.{SeatView}
 use Rattle.aug_trie.specs.inside.NamedCuts.{cut_named}
 use Rattle.aug_trie.proofs.Telling.{seen_on, says_before}
 use Rattle.aug_trie.proofs.Looking.{leaf_tells, record_seen, count_fits, record_tells}
 use Rattle.aug_trie.proofs.queries.nodes.summary_at.Goals as goal
 
 pub returns-then-level-eq0-clause-tells : goal.returns-then-level-eq0-clause-tells
-returns-then-level-eq0-clause-tells g c = let v : View = c.args.pass.now.view in
+returns-then-level-eq0-clause-tells g c = let v : SeatView = c.args.pass.now.view in
     leaf_tells g.A.Monoid.parts g.B.Monoid.parts v c.requires.knows (cut_named v.shape v.seen c.args.snapshot.number) c.args.level c.args.place c.args.word c.requires.node c.leaf_summary.result c.if-level-eq0.true c.leaf_summary.ensures
 
 pub load_record_word-count-requires : goal.load_record_word-count-requires
-load_record_word-count-requires g c = let v : View = c.args.pass.now.view in let inner : 1 ≤ c.args.level = search rules in
+load_record_word-count-requires g c = let v : SeatView = c.args.pass.now.view in let inner : 1 ≤ c.args.level = search rules in
     inl (record_seen g.A.Monoid.parts g.B.Monoid.parts v c.requires.knows (cut_named v.shape v.seen c.args.snapshot.number) c.args.level c.args.place c.args.word c.requires.node inner)
 
 pub load_record_word-a-requires : goal.load_record_word-a-requires
-load_record_word-a-requires g c = let v : View = c.args.pass.now.view in let inner : 1 ≤ c.args.level = search rules in
+load_record_word-a-requires g c = let v : SeatView = c.args.pass.now.view in let inner : 1 ≤ c.args.level = search rules in
     inl (seen_on v c.load_record_word-count.new.self.view _ c.args.word c.load_record_word-count.ensures.view.stepped
     (record_seen g.A.Monoid.parts g.B.Monoid.parts v c.requires.knows (cut_named v.shape v.seen c.args.snapshot.number) c.args.level c.args.place c.args.word c.requires.node inner))
 
 pub load_record_word-b-requires : goal.load_record_word-b-requires
-load_record_word-b-requires g c = let v : View = c.args.pass.now.view in let inner : 1 ≤ c.args.level = search rules in
+load_record_word-b-requires g c = let v : SeatView = c.args.pass.now.view in let inner : 1 ≤ c.args.level = search rules in
     inl (seen_on c.load_record_word-count.new.self.view c.load_record_word-a.new.self.view _ c.args.word c.load_record_word-a.ensures.view.stepped
     (seen_on v c.load_record_word-count.new.self.view _ c.args.word c.load_record_word-count.ensures.view.stepped
     (record_seen g.A.Monoid.parts g.B.Monoid.parts v c.requires.knows (cut_named v.shape v.seen c.args.snapshot.number) c.args.level c.args.place c.args.word c.requires.node inner)))
 
 pub overflow_cast-result : goal.overflow_cast-result
-overflow_cast-result g c = let v : View = c.args.pass.now.view in let inner : 1 ≤ c.args.level = search rules in
+overflow_cast-result g c = let v : SeatView = c.args.pass.now.view in let inner : 1 ≤ c.args.level = search rules in
     let few = count_fits g.A.Monoid.parts g.B.Monoid.parts v c.requires.knows (cut_named v.shape v.seen c.args.snapshot.number) c.args.level c.args.place c.args.word c.requires.node inner c.load_record_word-count.result c.load_record_word-count.ensures.view.known in
     omega arith
 
 pub returns-clause-tells : goal.returns-clause-tells
-returns-clause-tells g c = let m = g.A.Monoid in let n = g.B.Monoid in let v : View = c.args.pass.now.view in let w1 : View = c.load_record_word-count.new.self.view in let w2 : View = c.load_record_word-a.new.self.view in
+returns-clause-tells g c = let m = g.A.Monoid in let n = g.B.Monoid in let v : SeatView = c.args.pass.now.view in let w1 : SeatView = c.load_record_word-count.new.self.view in let w2 : SeatView = c.load_record_word-a.new.self.view in
     let inner : 1 ≤ c.args.level = search rules in let cut : Cut = cut_named v.shape v.seen c.args.snapshot.number in
     let l1 = c.load_record_word-count.ensures.view in let l2 = c.load_record_word-a.ensures.view in let l3 = c.load_record_word-b.ensures.view in
     let told = record_tells m.parts n.parts v c.requires.knows cut c.args.level c.args.place c.args.word c.requires.node inner _ _ _ (laws_of g.met.A.Monoid) (laws_of g.met.B.Monoid) l1.known

@@ -3,7 +3,7 @@ use Rattle.aug_core.specs.Faces.{face}
 use Rattle.aug_core.specs.Places.{Shape}
 use Rattle.aug_core.specs.Addresses.{left_of}
 use Rattle.aug_core.specs.inside.Refreshes.{HasNewest}
-use Rattle.aug_core.specs.declared.view.View.{View}
+use Rattle.aug_core.specs.declared.view.SeatView.{SeatView}
 use Rattle.aug_trie.specs.inside.Points.{TryAt}
 use Rattle.aug_trie.specs.declared.turns.points.Point.{Point}
 use Rattle.aug_trie.specs.declared.turns.points.Point.TheVariants.{Left}
@@ -11,11 +11,11 @@ use Rattle.aug_trie.proofs.Advancing.{goes_at, node_on, left_on}
 use Rattle.aug_trie.proofs.turns.points.advance.Goals as goal
 
 pub returns-in-Node-clause-on : goal.returns-in-Node-clause-on
-returns-in-Node-clause-on g c = λ v t. let f = face g.A.Monoid.parts g.B.Monoid.parts in let old : View = c.args.pass.now.view in
+returns-in-Node-clause-on g c = λ v t. let f = face g.A.Monoid.parts g.B.Monoid.parts in let old : SeatView = c.args.pass.now.view in
     node_on f v c.args.node c.args.number old c.look.new.pass.view c.look.result c.look.ensures.goes c.look.ensures.took (subst (λ (z : Point). TryAt f v c.args.node c.args.number z old) c.in-Node.is t) c.look.ensures.newest
 
 pub returns-in-Left-clause-on : goal.returns-in-Left-clause-on
-returns-in-Left-clause-on g c = λ v t. let f = face g.A.Monoid.parts g.B.Monoid.parts in let old : View = c.args.pass.now.view in let w : View = c.look-left.new.pass.view in let x = c.look-left.result in
+returns-in-Left-clause-on g c = λ v t. let f = face g.A.Monoid.parts g.B.Monoid.parts in let old : SeatView = c.args.pass.now.view in let w : SeatView = c.look-left.new.pass.view in let x = c.look-left.result in
     let u : TryAt f v c.args.node c.args.number (Left c.in-Left.from) old = subst (λ (z : Point). TryAt f v c.args.node c.args.number z old) c.in-Left.is t in
     let are = c.requires.leaves.are in let past = u.inner.past_leaves in let shaped = (goes_at f v c.args.node c.args.number (Left c.in-Left.from) old u).shaped in
     let same : v.shape.bits ≡ old.shape.bits = ap (λ (z : Shape). z.bits) (sym shaped) in let bits : 2 ^ v.shape.bits ≡ c.args.leaves = ap (λ (z : ℕ). 2 ^ z) same ∙ sym are in
@@ -23,9 +23,9 @@ returns-in-Left-clause-on g c = λ v t. let f = face g.A.Monoid.parts g.B.Monoid
     left_on f v c.args.node c.args.number old w x c.look-left.ensures.goes c.look-left.ensures.took c.in-Left.from u (subst (λ (z : ℕ). HasNewest w.seen z x) el c.look-left.ensures.newest)
 
 pub returns-in-Right-clause-on : goal.returns-in-Right-clause-on
-returns-in-Right-clause-on g c = λ v t. let f = face g.A.Monoid.parts g.B.Monoid.parts in let old : View = c.args.pass.now.view in
+returns-in-Right-clause-on g c = λ v t. let f = face g.A.Monoid.parts g.B.Monoid.parts in let old : SeatView = c.args.pass.now.view in
     c.load_right.ensures.on v c.args.number (subst (λ (z : Point). TryAt f v c.args.node c.args.number z old) c.in-Right.is t)
 
 pub returns-in-Part-clause-on : goal.returns-in-Part-clause-on
-returns-in-Part-clause-on g c = λ v t. let f = face g.A.Monoid.parts g.B.Monoid.parts in let old : View = c.args.pass.now.view in
+returns-in-Part-clause-on g c = λ v t. let f = face g.A.Monoid.parts g.B.Monoid.parts in let old : SeatView = c.args.pass.now.view in
     c.load_part.ensures.on v c.args.node c.args.number (subst (λ (z : Point). TryAt f v c.args.node c.args.number z old) c.in-Part.is t)

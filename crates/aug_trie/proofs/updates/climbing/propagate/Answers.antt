@@ -2,7 +2,7 @@ use Rattle.std.proofs.Common.{ap, subst, sym, refl, ◌∙◌, ◌≡◌, ◌+�
 use Rattle.aug_core.specs.Faces.{face}
 use Rattle.aug_core.specs.Places.{Shape}
 use Rattle.aug_core.specs.inside.Shows.{above}
-use Rattle.aug_core.specs.declared.view.View.{View}
+use Rattle.aug_core.specs.declared.view.SeatView.{SeatView}
 use Rattle.aug_trie.specs.inside.Goes.{HasLeaves, HasRoom}
 use Rattle.aug_trie.specs.inside.Stages.{IsCovered}
 use Rattle.aug_trie.proofs.Ascending.{risen_none, inner_above, room_above, risen_on}
@@ -16,7 +16,7 @@ pub refresh_twice-requires-clause-leaves : goal.refresh_twice-requires-clause-le
 refresh_twice-requires-clause-leaves g c = subst (λ (z : Shape). HasLeaves z c.args.leaves) (sym c.loop-level.invariant.risen.goes.shaped) c.requires.leaves
 
 pub refresh_twice-requires-clause-inner : goal.refresh_twice-requires-clause-inner
-refresh_twice-requires-clause-inner g c = let f = face g.A.Monoid.parts g.B.Monoid.parts in let v : View = c.args.pass.view in let u : View = c.loop-level.pass.view in let inv = c.loop-level.invariant in let level : ℕ = c.loop-level.level in let low = c.loop-level-test.true in let m = c.requires.rises in
+refresh_twice-requires-clause-inner g c = let f = face g.A.Monoid.parts g.B.Monoid.parts in let v : SeatView = c.args.pass.view in let u : SeatView = c.loop-level.pass.view in let inv = c.loop-level.invariant in let level : ℕ = c.loop-level.level in let low = c.loop-level-test.true in let m = c.requires.rises in
     let is : c.args.leaves + c.loop-level.node / 2 ≡ above v.shape c.args.leaf (suc level) = place_is v.shape c.args.leaf level c.args.leaves c.loop-level.node c.requires.leaves.are inv.node in
     inner_above f c.args.bits c.args.number c.args.leaf v m level u low inv.risen (c.args.leaves + c.loop-level.node / 2) is
 
@@ -24,14 +24,14 @@ pub refresh_twice-requires-clause-knows : goal.refresh_twice-requires-clause-kno
 refresh_twice-requires-clause-knows g c = c.loop-level.invariant.risen.goes.knows_table
 
 pub refresh_twice-requires-clause-room : goal.refresh_twice-requires-clause-room
-refresh_twice-requires-clause-room g c = let f = face g.A.Monoid.parts g.B.Monoid.parts in let v : View = c.args.pass.view in let u : View = c.loop-level.pass.view in let inv = c.loop-level.invariant in let level : ℕ = c.loop-level.level in let low = c.loop-level-test.true in let m = c.requires.rises in
+refresh_twice-requires-clause-room g c = let f = face g.A.Monoid.parts g.B.Monoid.parts in let v : SeatView = c.args.pass.view in let u : SeatView = c.loop-level.pass.view in let inv = c.loop-level.invariant in let level : ℕ = c.loop-level.level in let low = c.loop-level-test.true in let m = c.requires.rises in
     let is : c.args.leaves + c.loop-level.node / 2 ≡ above v.shape c.args.leaf (suc level) = place_is v.shape c.args.leaf level c.args.leaves c.loop-level.node c.requires.leaves.are inv.node in
     subst (λ (z : ℕ). HasRoom u (c.args.number + z) 1) (sym c.from.ensures) (room_above f c.args.bits c.args.number c.args.leaf v m level u low inv.risen)
 
 pub loop-level-preserved : goal.loop-level-preserved
-loop-level-preserved g c = let f = face g.A.Monoid.parts g.B.Monoid.parts in let v : View = c.args.pass.view in let u : View = c.loop-level.pass.view in let inv = c.loop-level.invariant in let level : ℕ = c.loop-level.level in let low = c.loop-level-test.true in let m = c.requires.rises in
+loop-level-preserved g c = let f = face g.A.Monoid.parts g.B.Monoid.parts in let v : SeatView = c.args.pass.view in let u : SeatView = c.loop-level.pass.view in let inv = c.loop-level.invariant in let level : ℕ = c.loop-level.level in let low = c.loop-level-test.true in let m = c.requires.rises in
     let is : c.args.leaves + c.loop-level.node / 2 ≡ above v.shape c.args.leaf (suc level) = place_is v.shape c.args.leaf level c.args.leaves c.loop-level.node c.requires.leaves.are inv.node in
-    let w : View = c.refresh_twice.new.pass.view in let node = c.args.leaves + c.loop-level.node / 2 in
+    let w : SeatView = c.refresh_twice.new.pass.view in let node = c.args.leaves + c.loop-level.node / 2 in
     let covered : IsCovered f u w node (c.args.number + level) = subst (λ (z : ℕ). IsCovered f u w node (c.args.number + z)) c.from.ensures c.refresh_twice.ensures.covered in record {
       table = c.refresh_twice.ensures.table ∙ inv.table;
       node = is ∙ ap (above v.shape c.args.leaf) (sym (add-one level));

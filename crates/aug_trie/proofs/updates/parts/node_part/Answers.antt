@@ -1,7 +1,7 @@
 use Rattle.std.proofs.Common.{arith, inl, ◌∙◌}
 use Rattle.aug_monoid.proofs.BoundLaws.{laws_of}
 use Rattle.aug_core.specs.Faces.{face}
-use Rattle.aug_core.specs.declared.view.View.{View}
+use Rattle.aug_core.specs.declared.view.SeatView.{SeatView}
 use Rattle.aug_trie.proofs.Telling.{has_seen, seen_on, says_before, goes_three, part_of_node}
 use Rattle.aug_trie.proofs.updates.parts.node_part.Goals as goal
 
@@ -22,7 +22,7 @@ returns-clause-goes g c = goes_three (face g.A.Monoid.parts g.B.Monoid.parts) c.
     c.load_record_word-count.ensures.view.stepped c.load_record_word-a.ensures.view.stepped c.load_record_word-b.ensures.view.stepped
 
 pub returns-clause-part : goal.returns-clause-part
-returns-clause-part g c = let m = g.A.Monoid in let n = g.B.Monoid in let v : View = c.args.pass.now.view in let w1 : View = c.load_record_word-count.new.self.view in let w2 : View = c.load_record_word-a.new.self.view in
+returns-clause-part g c = let m = g.A.Monoid in let n = g.B.Monoid in let v : SeatView = c.args.pass.now.view in let w1 : SeatView = c.load_record_word-count.new.self.view in let w2 : SeatView = c.load_record_word-a.new.self.view in
     let are = c.requires.leaves.are in let few = c.requires.leaves.few in
     let l1 = c.load_record_word-count.ensures.view in let l2 = c.load_record_word-a.ensures.view in let l3 = c.load_record_word-b.ensures.view in
     let told = part_of_node m.parts n.parts (laws_of g.met.A.Monoid) (laws_of g.met.B.Monoid) v c.args.node c.args.number _ _ _ (omega arith) c.requires.knows c.requires.inner l1.known

@@ -1,7 +1,7 @@
 use Rattle.std.proofs.Common.{arith, ap, refl}
 use Rattle.aug_core.specs.Faces.{face}
 use Rattle.aug_core.specs.Kinds.{load_leaf, load_node}
-use Rattle.aug_core.specs.declared.view.View.{View}
+use Rattle.aug_core.specs.declared.view.SeatView.{SeatView}
 use Rattle.aug_trie.proofs.Going.{goes_seeing, quiet_seeing, took_one}
 use Rattle.aug_trie.proofs.Whole.{leaf_loaded, node_loaded}
 use Rattle.aug_trie.proofs.updates.refreshing.look.Goals as goal
@@ -16,7 +16,7 @@ pub returns-then-place-leaves-clause-goes : goal.returns-then-place-leaves-claus
 returns-then-place-leaves-clause-goes g c = let l = c.load_leaf.ensures.view in goes_seeing (face g.A.Monoid.parts g.B.Monoid.parts) c.args.pass.now.view c.load_leaf.new.self.view _ l.stepped c.requires.knows l.sees
 
 pub returns-then-place-leaves-clause-took : goal.returns-then-place-leaves-clause-took
-returns-then-place-leaves-clause-took g c = let l = c.load_leaf.ensures.view in took_one c.args.pass.now.view c.load_leaf.new.self.view (load_leaf c.args.place c.load_leaf.result) refl (ap (λ (z : View). z.steps) l.stepped)
+returns-then-place-leaves-clause-took g c = let l = c.load_leaf.ensures.view in took_one c.args.pass.now.view c.load_leaf.new.self.view (load_leaf c.args.place c.load_leaf.result) refl (ap (λ (z : SeatView). z.steps) l.stepped)
 
 pub returns-then-place-leaves-clause-newest : goal.returns-then-place-leaves-clause-newest
 returns-then-place-leaves-clause-newest g c = let are = c.requires.leaves.are in let low = c.if-place-leaves.true in
@@ -26,7 +26,7 @@ pub returns-else-place-leaves-clause-goes : goal.returns-else-place-leaves-claus
 returns-else-place-leaves-clause-goes g c = let l = c.load_node.ensures.view in goes_seeing (face g.A.Monoid.parts g.B.Monoid.parts) c.args.pass.now.view c.load_node.new.self.view _ l.stepped c.requires.knows l.sees
 
 pub returns-else-place-leaves-clause-took : goal.returns-else-place-leaves-clause-took
-returns-else-place-leaves-clause-took g c = let l = c.load_node.ensures.view in took_one c.args.pass.now.view c.load_node.new.self.view (load_node c.args.place c.load_node.result) refl (ap (λ (z : View). z.steps) l.stepped)
+returns-else-place-leaves-clause-took g c = let l = c.load_node.ensures.view in took_one c.args.pass.now.view c.load_node.new.self.view (load_node c.args.place c.load_node.result) refl (ap (λ (z : SeatView). z.steps) l.stepped)
 
 pub returns-else-place-leaves-clause-newest : goal.returns-else-place-leaves-clause-newest
 returns-else-place-leaves-clause-newest g c = let are = c.requires.leaves.are in let past = c.if-place-leaves.false in

@@ -1,7 +1,7 @@
 use Rattle.std.proofs.Common.{arith, subst, sym, refl, ◌+◌, []}
 use Rattle.aug_core.specs.Faces.{face}
 use Rattle.aug_core.specs.Told.{IsFilled, TriesNode}
-use Rattle.aug_core.specs.declared.view.View.{View}
+use Rattle.aug_core.specs.declared.view.SeatView.{SeatView}
 use Rattle.aug_core.specs.Places.{record_words}
 use Rattle.aug_trie.specs.inside.Goes.{publish_steps}
 use Rattle.aug_core.proofs.FaceLemmas.{left_in, right_in}
@@ -29,7 +29,7 @@ pub try_node-requires-clause-own : goal.try_node-requires-clause-own
 try_node-requires-clause-own g c = may_store_room c.store_record_word-5.new.self.view c.args.number (room_filled (face g.A.Monoid.parts g.B.Monoid.parts) c.args.pass.now.view c.store_record_word.new.self.view c.store_record_word-2.new.self.view c.store_record_word-3.new.self.view c.store_record_word-4.new.self.view c.store_record_word-5.new.self.view c.args.number c.args.five c.requires.room c.requires.knows c.store_record_word.ensures.view c.store_record_word-2.ensures.view c.store_record_word-3.ensures.view c.store_record_word-4.ensures.view c.store_record_word-5.ensures.view)
 
 pub try_node-requires-clause-filled : goal.try_node-requires-clause-filled
-try_node-requires-clause-filled g c = subst (λ (z : View). IsFilled (face g.A.Monoid.parts g.B.Monoid.parts) z c.args.node c.args.from c.args.number) (sym (filled_is c.args.pass.now.view c.store_record_word.new.self.view c.store_record_word-2.new.self.view c.store_record_word-3.new.self.view c.store_record_word-4.new.self.view c.store_record_word-5.new.self.view c.args.number c.args.five c.store_record_word.ensures.view c.store_record_word-2.ensures.view c.store_record_word-3.ensures.view c.store_record_word-4.ensures.view c.store_record_word-5.ensures.view))
+try_node-requires-clause-filled g c = subst (λ (z : SeatView). IsFilled (face g.A.Monoid.parts g.B.Monoid.parts) z c.args.node c.args.from c.args.number) (sym (filled_is c.args.pass.now.view c.store_record_word.new.self.view c.store_record_word-2.new.self.view c.store_record_word-3.new.self.view c.store_record_word-4.new.self.view c.store_record_word-5.new.self.view c.args.number c.args.five c.store_record_word.ensures.view c.store_record_word-2.ensures.view c.store_record_word-3.ensures.view c.store_record_word-4.ensures.view c.store_record_word-5.ensures.view))
     (may_publish (face g.A.Monoid.parts g.B.Monoid.parts) c.args.pass.now.view c.args.number c.args.five c.requires.room c.args.node c.args.from c.requires.loaded)
 
 pub returns-clause-goes : goal.returns-clause-goes
@@ -42,7 +42,7 @@ returns-clause-took g c = took_on c.args.pass.now.view c.store_record_word-5.new
 pub returns-clause-published : goal.returns-clause-published
 returns-clause-published g c = let t = c.try_node.ensures.view in let m = g.A.Monoid in let n = g.B.Monoid in
     published (face g.A.Monoid.parts g.B.Monoid.parts) c.args.pass.now.view c.args.number c.args.five c.requires.room c.try_node.new.self.view c.args.node c.args.from t.found c.try_node.result c.requires.inner (left_in m.parts n.parts) (right_in m.parts n.parts) t.decided
-    (subst (λ (z : View). TriesNode (face g.A.Monoid.parts g.B.Monoid.parts) z c.args.node c.args.from c.args.number t.found c.try_node.new.self.view) (filled_is c.args.pass.now.view c.store_record_word.new.self.view c.store_record_word-2.new.self.view c.store_record_word-3.new.self.view c.store_record_word-4.new.self.view c.store_record_word-5.new.self.view c.args.number c.args.five c.store_record_word.ensures.view c.store_record_word-2.ensures.view c.store_record_word-3.ensures.view c.store_record_word-4.ensures.view c.store_record_word-5.ensures.view) t.told)
+    (subst (λ (z : SeatView). TriesNode (face g.A.Monoid.parts g.B.Monoid.parts) z c.args.node c.args.from c.args.number t.found c.try_node.new.self.view) (filled_is c.args.pass.now.view c.store_record_word.new.self.view c.store_record_word-2.new.self.view c.store_record_word-3.new.self.view c.store_record_word-4.new.self.view c.store_record_word-5.new.self.view c.args.number c.args.five c.store_record_word.ensures.view c.store_record_word-2.ensures.view c.store_record_word-3.ensures.view c.store_record_word-4.ensures.view c.store_record_word-5.ensures.view) t.told)
 
 pub returns-clause-again : goal.returns-clause-again
 returns-clause-again g c = let t = c.try_node.ensures.view in let h = goes_filling (face g.A.Monoid.parts g.B.Monoid.parts) c.args.pass.now.view c.store_record_word.new.self.view c.store_record_word-2.new.self.view c.store_record_word-3.new.self.view c.store_record_word-4.new.self.view c.store_record_word-5.new.self.view c.args.number c.args.five c.requires.room c.requires.knows c.store_record_word.ensures.view c.store_record_word-2.ensures.view c.store_record_word-3.ensures.view c.store_record_word-4.ensures.view c.store_record_word-5.ensures.view in let r = room_filled (face g.A.Monoid.parts g.B.Monoid.parts) c.args.pass.now.view c.store_record_word.new.self.view c.store_record_word-2.new.self.view c.store_record_word-3.new.self.view c.store_record_word-4.new.self.view c.store_record_word-5.new.self.view c.args.number c.args.five c.requires.room c.requires.knows c.store_record_word.ensures.view c.store_record_word-2.ensures.view c.store_record_word-3.ensures.view c.store_record_word-4.ensures.view c.store_record_word-5.ensures.view in

@@ -4,7 +4,7 @@ use Rattle.aug_core.specs.Faces.{face}
 use Rattle.aug_core.specs.Places.{Shape}
 use Rattle.aug_core.specs.Addresses.{left_of, right_of}
 use Rattle.aug_core.specs.inside.Refreshes.{HasNewest, SaysLoaded, Published}
-use Rattle.aug_core.specs.declared.view.View.{View}
+use Rattle.aug_core.specs.declared.view.SeatView.{SeatView}
 use Rattle.aug_core.proofs.Sizes.{twice}
 use Rattle.aug_core.proofs.Refreshing.{has_entry}
 use Rattle.aug_trie.specs.inside.Goes.{Took, IsPartOf, part_steps}
@@ -13,8 +13,8 @@ use Rattle.aug_trie.proofs.Whole.{part_few, says, tries, took_refresh}
 use Rattle.aug_trie.proofs.updates.refreshing.refresh.Goals as goal
 
 pub publish-requires-clause-room : goal.publish-requires-clause-room
-publish-requires-clause-room g c = let m = g.A.Monoid in let n = g.B.Monoid in let f = face m.parts n.parts in let v : View = c.args.pass.now.view in let s : Shape = v.shape in
-    let w0 : View = c.look-from.new.pass.view in let w1 : View = c.look-left.new.pass.view in let w2 : View = c.look-right.new.pass.view in let w3 : View = c.any_part-l.new.pass.view in let w4 : View = c.any_part-r.new.pass.view in
+publish-requires-clause-room g c = let m = g.A.Monoid in let n = g.B.Monoid in let f = face m.parts n.parts in let v : SeatView = c.args.pass.now.view in let s : Shape = v.shape in
+    let w0 : SeatView = c.look-from.new.pass.view in let w1 : SeatView = c.look-left.new.pass.view in let w2 : SeatView = c.look-right.new.pass.view in let w3 : SeatView = c.any_part-l.new.pass.view in let w4 : SeatView = c.any_part-r.new.pass.view in
     let inner = c.requires.inner in let past = inner.past_leaves in let inside = inner.inside in let are = c.requires.leaves.are in let few = c.requires.leaves.few in let t = twice s.bits in
     let el : 2 * (c.args.node - c.args.leaves) ≡ left_of s c.args.node = omega arith in let er : 2 * (c.args.node - c.args.leaves) + 1 ≡ right_of s c.args.node = omega arith in
     let g0 = c.look-from.ensures.goes in let g1 = c.look-left.ensures.goes in let g2 = c.look-right.ensures.goes in let g3 = c.any_part-l.ensures.goes in let g4 = c.any_part-r.ensures.goes in
@@ -25,8 +25,8 @@ publish-requires-clause-room g c = let m = g.A.Monoid in let n = g.B.Monoid in l
     room_on f [] v w4 c.args.number 1 h4 c.requires.room
 
 pub five_words-requires : goal.five_words-requires
-five_words-requires g c = let m = g.A.Monoid in let n = g.B.Monoid in let f = face m.parts n.parts in let v : View = c.args.pass.now.view in let s : Shape = v.shape in
-    let w0 : View = c.look-from.new.pass.view in let w1 : View = c.look-left.new.pass.view in let w2 : View = c.look-right.new.pass.view in let w3 : View = c.any_part-l.new.pass.view in let w4 : View = c.any_part-r.new.pass.view in
+five_words-requires g c = let m = g.A.Monoid in let n = g.B.Monoid in let f = face m.parts n.parts in let v : SeatView = c.args.pass.now.view in let s : Shape = v.shape in
+    let w0 : SeatView = c.look-from.new.pass.view in let w1 : SeatView = c.look-left.new.pass.view in let w2 : SeatView = c.look-right.new.pass.view in let w3 : SeatView = c.any_part-l.new.pass.view in let w4 : SeatView = c.any_part-r.new.pass.view in
     let inner = c.requires.inner in let past = inner.past_leaves in let inside = inner.inside in let are = c.requires.leaves.are in let few = c.requires.leaves.few in let t = twice s.bits in
     let el : 2 * (c.args.node - c.args.leaves) ≡ left_of s c.args.node = omega arith in let er : 2 * (c.args.node - c.args.leaves) + 1 ≡ right_of s c.args.node = omega arith in
     let g0 = c.look-from.ensures.goes in let g1 = c.look-left.ensures.goes in let g2 = c.look-right.ensures.goes in let g3 = c.any_part-l.ensures.goes in let g4 = c.any_part-r.ensures.goes in
@@ -39,8 +39,8 @@ five_words-requires g c = let m = g.A.Monoid in let n = g.B.Monoid in let f = fa
     omega arith
 
 pub publish-requires-clause-loaded : goal.publish-requires-clause-loaded
-publish-requires-clause-loaded g c = let m = g.A.Monoid in let n = g.B.Monoid in let f = face m.parts n.parts in let v : View = c.args.pass.now.view in let s : Shape = v.shape in
-    let w0 : View = c.look-from.new.pass.view in let w1 : View = c.look-left.new.pass.view in let w2 : View = c.look-right.new.pass.view in let w3 : View = c.any_part-l.new.pass.view in let w4 : View = c.any_part-r.new.pass.view in
+publish-requires-clause-loaded g c = let m = g.A.Monoid in let n = g.B.Monoid in let f = face m.parts n.parts in let v : SeatView = c.args.pass.now.view in let s : Shape = v.shape in
+    let w0 : SeatView = c.look-from.new.pass.view in let w1 : SeatView = c.look-left.new.pass.view in let w2 : SeatView = c.look-right.new.pass.view in let w3 : SeatView = c.any_part-l.new.pass.view in let w4 : SeatView = c.any_part-r.new.pass.view in
     let inner = c.requires.inner in let past = inner.past_leaves in let inside = inner.inside in let are = c.requires.leaves.are in let few = c.requires.leaves.few in let t = twice s.bits in
     let el : 2 * (c.args.node - c.args.leaves) ≡ left_of s c.args.node = omega arith in let er : 2 * (c.args.node - c.args.leaves) + 1 ≡ right_of s c.args.node = omega arith in
     let g0 = c.look-from.ensures.goes in let g1 = c.look-left.ensures.goes in let g2 = c.look-right.ensures.goes in let g3 = c.any_part-l.ensures.goes in let g4 = c.any_part-r.ensures.goes in
@@ -52,8 +52,8 @@ publish-requires-clause-loaded g c = let m = g.A.Monoid in let n = g.B.Monoid in
     inner (omega arith) g0 g1 g2 g3 g4 at_node at_left at_right part_l part_r refl refl)
 
 pub returns-clause-over : goal.returns-clause-over
-returns-clause-over g c = let m = g.A.Monoid in let n = g.B.Monoid in let f = face m.parts n.parts in let v : View = c.args.pass.now.view in let s : Shape = v.shape in
-    let w0 : View = c.look-from.new.pass.view in let w1 : View = c.look-left.new.pass.view in let w2 : View = c.look-right.new.pass.view in let w3 : View = c.any_part-l.new.pass.view in let w4 : View = c.any_part-r.new.pass.view in
+returns-clause-over g c = let m = g.A.Monoid in let n = g.B.Monoid in let f = face m.parts n.parts in let v : SeatView = c.args.pass.now.view in let s : Shape = v.shape in
+    let w0 : SeatView = c.look-from.new.pass.view in let w1 : SeatView = c.look-left.new.pass.view in let w2 : SeatView = c.look-right.new.pass.view in let w3 : SeatView = c.any_part-l.new.pass.view in let w4 : SeatView = c.any_part-r.new.pass.view in
     let inner = c.requires.inner in let past = inner.past_leaves in let inside = inner.inside in let are = c.requires.leaves.are in let few = c.requires.leaves.few in let t = twice s.bits in
     let el : 2 * (c.args.node - c.args.leaves) ≡ left_of s c.args.node = omega arith in let er : 2 * (c.args.node - c.args.leaves) + 1 ≡ right_of s c.args.node = omega arith in
     let g0 = c.look-from.ensures.goes in let g1 = c.look-left.ensures.goes in let g2 = c.look-right.ensures.goes in let g3 = c.any_part-l.ensures.goes in let g4 = c.any_part-r.ensures.goes in

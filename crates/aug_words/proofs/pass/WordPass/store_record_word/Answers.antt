@@ -2,7 +2,7 @@ use Rattle.std.proofs.Common.{arith, subst, sym, ◌≡◌, ◌+◌, ℕ}
 use Rattle.aug_core.specs.Fields.{field_offset}
 use Rattle.aug_core.specs.Places.{record_start}
 use Rattle.aug_core.specs.Told.{MayStore, storing}
-use Rattle.aug_core.specs.declared.view.View.{View}
+use Rattle.aug_core.specs.declared.view.SeatView.{SeatView}
 use Rattle.aug_core.proofs.Stores.{stores_record_word}
 use Rattle.aug_words.specs.Seats.{Known}
 use Rattle.aug_words.proofs.Passes.{pass_stored, has_taken, stores_inside}
@@ -26,7 +26,7 @@ invariant_of-self g c = pass_stored _ _ _ _ _ _ _ c.self.inside.seat.me c.store.
 
 pub returns-clause-view : goal.returns-clause-view
 returns-clause-view g c =
-    let begins = c.self.invariant.0.records_are in let at = c.record_word-place.ensures in let v : View = c.self.inside.seat.me.0 in
+    let begins = c.self.invariant.0.records_are in let at = c.record_word-place.ensures in let v : SeatView = c.self.inside.seat.me.0 in
     let offset = c.offset.ensures.value in let is : c.record_word-place.result ≡ record_start v.shape c.args.number + field_offset c.args.field = omega arith in
     subst (λ (k : Known). c.store.new.seat.me.0 ≡ storing k.view (record_start k.view.shape c.args.number + field_offset c.args.field) c.args.value) c.self.view_is
     (subst (λ (z : ℕ). c.store.new.seat.me.0 ≡ storing v z c.args.value) is c.store.ensures.2.1)

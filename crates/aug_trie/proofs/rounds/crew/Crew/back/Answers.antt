@@ -4,7 +4,7 @@ use Rattle.aug_core.specs.Faces.{face}
 use Rattle.aug_core.specs.Places.{shape_of}
 use Rattle.aug_core.specs.Counts.{changes_of}
 use Rattle.aug_core.specs.Told.{own_lane_place}
-use Rattle.aug_core.specs.declared.view.View.{View}
+use Rattle.aug_core.specs.declared.view.SeatView.{SeatView}
 use Rattle.aug_words.specs.Seats.{Known}
 use Rattle.aug_trie.specs.inside.Counted.{HasCounts}
 use Rattle.aug_trie.specs.Round.{RoundFacts}
@@ -18,7 +18,7 @@ use Rattle.aug_trie.proofs.Crews.{back_crew, takes_back_is}
 use Rattle.aug_trie.proofs.rounds.crew.Crew.back.Goals as goal
 
 pub invariant_of-self : goal.invariant_of-self
-invariant_of-self g c = let f = face g.A.Monoid.parts g.B.Monoid.parts in let i = c.self.inside in let k : Known = i.lead in let v : View = k.view in let j = c.pass.inside in let pk : Known = c.in-Some.words in let p : View = pk.view in let new : Known = c.join.new.self in let w : View = new.view in
+invariant_of-self g c = let f = face g.A.Monoid.parts g.B.Monoid.parts in let i = c.self.inside in let k : Known = i.lead in let v : SeatView = k.view in let j = c.pass.inside in let pk : Known = c.in-Some.words in let p : SeatView = pk.view in let new : Known = c.join.new.self in let w : SeatView = new.view in
     let h = c.join.ensures.takes_back in let holds = c.self.invariant in let place : ℕ = own_lane_place p in
     let told = pass_told f j.words pk j.account.leaves j.account.bits j.account.next j.account.left c.args.pass c.pass.invariant.0 c.in-Some.is c.pass.view_is in let is = told.0 in let facts = told.1 in let free = is.room.is_free in
     let round : round_of pk.table p ≡ round_of k.table v = ap (λ (z : PassFacts). z.round) facts ∙ c.requires.of_crew ∙ ap (λ (z : CrewFacts). z.round) (sym c.self.view_is) in
@@ -28,7 +28,7 @@ invariant_of-self g c = let f = face g.A.Monoid.parts g.B.Monoid.parts in let i 
     ((i.back + 1) % 4294967296) ((i.inserts + j.account.inserts) % 4294967296) ((i.removals + j.account.removals) % 4294967296) refl refl refl
 
 pub returns : goal.returns
-returns g c = let f = face g.A.Monoid.parts g.B.Monoid.parts in let i = c.self.inside in let k : Known = i.lead in let v : View = k.view in let j = c.pass.inside in let pk : Known = c.in-Some.words in let p : View = pk.view in let new : Known = c.join.new.self in let w : View = new.view in
+returns g c = let f = face g.A.Monoid.parts g.B.Monoid.parts in let i = c.self.inside in let k : Known = i.lead in let v : SeatView = k.view in let j = c.pass.inside in let pk : Known = c.in-Some.words in let p : SeatView = pk.view in let new : Known = c.join.new.self in let w : SeatView = new.view in
     let h = c.join.ensures.takes_back in let holds = c.self.invariant in let place : ℕ = own_lane_place p in
     let told = pass_told f j.words pk j.account.leaves j.account.bits j.account.next j.account.left c.args.pass c.pass.invariant.0 c.in-Some.is c.pass.view_is in let is = told.0 in let facts = told.1 in let free = is.room.is_free in
     let round : round_of pk.table p ≡ round_of k.table v = ap (λ (z : PassFacts). z.round) facts ∙ c.requires.of_crew ∙ ap (λ (z : CrewFacts). z.round) (sym c.self.view_is) in

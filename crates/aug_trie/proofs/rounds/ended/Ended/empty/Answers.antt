@@ -5,7 +5,7 @@ use Rattle.aug_core.specs.Faces.{face}
 use Rattle.aug_core.specs.Layout.{IsLayout}
 use Rattle.aug_core.specs.Opening.{Opening}
 use Rattle.aug_core.specs.Places.{shape_of}
-use Rattle.aug_core.specs.declared.view.View.{View}
+use Rattle.aug_core.specs.declared.view.SeatView.{SeatView}
 use Rattle.aug_trie.specs.Ended.{EndedFacts}
 use Rattle.aug_trie.specs.History.{last_cut}
 use Rattle.aug_trie.specs.inside.Knows.{knows}
@@ -25,7 +25,7 @@ returns-in-Ok-open-clause-empty g c = let f = face g.A.Monoid.parts g.B.Monoid.p
     let shape : o.shape ≡ shape_of c.args.bits 1 1 0 = opened.0 ∙ c.in-Ok.ensures.layout in
     let laid : IsLayout (shape_of c.args.bits 1 1 0) = search rules in
     let first = begins_history f o (subst IsLayout (sym shape) laid) (no_keys o.shape.bits o.members opened.1) (none_fit o.members opened.1) (let long = ap (λ (z : List (ℕ × ℕ)). length z) opened.1 in omega arith) in
-    let no_members : c.at_rest.result.members ≡ [] = made.members ∙ ap (λ (z : View). pairs_of_cut (last_cut (knows z).history)) c.in-Ok-open.ensures.lead ∙ ap (λ (z : List Cut). pairs_of_cut (last_cut z)) first
+    let no_members : c.at_rest.result.members ≡ [] = made.members ∙ ap (λ (z : SeatView). pairs_of_cut (last_cut (knows z).history)) c.in-Ok-open.ensures.lead ∙ ap (λ (z : List Cut). pairs_of_cut (last_cut z)) first
     ∙ ap (λ (z : List (ℕ × ℕ)). pairs_of_cut (opening_cut o.shape.bits z)) opened.1 ∙ none_shown o.shape.bits in
     let ended : EndedFacts = c.at_rest.result in
     λ j. record ended { bits = made.bits j; members = no_members j; inserts = made.no_inserts j; removals = made.no_removals j; missing = made.none_missing j; loaded = made.no_loads j }

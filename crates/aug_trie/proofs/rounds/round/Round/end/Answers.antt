@@ -5,7 +5,7 @@ use Rattle.aug_model.proofs.Boundaries.{IsKeySet-few}
 use Rattle.aug_model.proofs.Pairs.{length-keys_of}
 use Rattle.aug_core.specs.Places.{Shape}
 use Rattle.aug_core.specs.Faces.{face}
-use Rattle.aug_core.specs.declared.view.View.{View}
+use Rattle.aug_core.specs.declared.view.SeatView.{SeatView}
 use Rattle.aug_words.specs.Seats.{Known}
 use Rattle.aug_trie.specs.Round.{RoundFacts}
 use Rattle.aug_trie.specs.Crew.{CrewFacts, Ends}
@@ -16,13 +16,13 @@ use Rattle.aug_trie.proofs.Endings.{kept_for, back_few, ends_so, sizes_so}
 use Rattle.aug_trie.proofs.rounds.round.Round.end.Goals as goal
 
 pub overflow_sub-ended : goal.overflow_sub-ended
-overflow_sub-ended g c = let f = face g.A.Monoid.parts g.B.Monoid.parts in let i = c.crew.inside in let lead : Known = i.lead in let v : View = lead.view in let h = c.crew.invariant in let e = c.at_rest-ended.ensures.rule in
+overflow_sub-ended g c = let f = face g.A.Monoid.parts g.B.Monoid.parts in let i = c.crew.inside in let lead : Known = i.lead in let v : SeatView = lead.view in let h = c.crew.invariant in let e = c.at_rest-ended.ensures.rule in
     let t = are_together c.self.inside.words lead (ap (λ (z : CrewFacts). z.round) c.crew.view_is ∙ c.requires.together ∙ sym c.self.view_is) in
     let at : h.handed ≡ c.handed-handed.result = ap (λ (z : Option ℕ). unwrap_or z 0) (sym h.is_crew.hands_out ∙ c.handed-handed.ensures.value) in
     let few = back_few f v i.back i.inserts i.removals h e.state (kept_for f c.self.inside.words lead _ t e) e.seat e.view_is in omega arith
 
 pub returns-clause-ends : goal.returns-clause-ends
-returns-clause-ends g c = let f = face g.A.Monoid.parts g.B.Monoid.parts in let i = c.crew.inside in let lead : Known = i.lead in let v : View = lead.view in let h = c.crew.invariant in let e = c.at_rest-ended.ensures.rule in
+returns-clause-ends g c = let f = face g.A.Monoid.parts g.B.Monoid.parts in let i = c.crew.inside in let lead : Known = i.lead in let v : SeatView = lead.view in let h = c.crew.invariant in let e = c.at_rest-ended.ensures.rule in
     let t = are_together c.self.inside.words lead (ap (λ (z : CrewFacts). z.round) c.crew.view_is ∙ c.requires.together ∙ sym c.self.view_is) in
     let at : h.handed ≡ c.handed-handed.result = ap (λ (z : Option ℕ). unwrap_or z 0) (sym h.is_crew.hands_out ∙ c.handed-handed.ensures.value) in
     let r = c.ended.inside in let made = c.at_rest-ended.ensures in
@@ -33,7 +33,7 @@ returns-clause-ends g c = let f = face g.A.Monoid.parts g.B.Monoid.parts in let 
     (ap (λ (z : ℕ). z - i.back) (sym at)) (ap (λ (z : EndedFacts). z.loaded) c.ended.view_is ∙ made.no_loads))
 
 pub returns-clause-sizes : goal.returns-clause-sizes
-returns-clause-sizes g c = let f = face g.A.Monoid.parts g.B.Monoid.parts in let i = c.crew.inside in let lead : Known = i.lead in let v : View = lead.view in let h = c.crew.invariant in let e = c.at_rest-ended.ensures.rule in
+returns-clause-sizes g c = let f = face g.A.Monoid.parts g.B.Monoid.parts in let i = c.crew.inside in let lead : Known = i.lead in let v : SeatView = lead.view in let h = c.crew.invariant in let e = c.at_rest-ended.ensures.rule in
     let t = are_together c.self.inside.words lead (ap (λ (z : CrewFacts). z.round) c.crew.view_is ∙ c.requires.together ∙ sym c.self.view_is) in
     let at : h.handed ≡ c.handed-handed.result = ap (λ (z : Option ℕ). unwrap_or z 0) (sym h.is_crew.hands_out ∙ c.handed-handed.ensures.value) in
     let r = c.ended.inside in let made = c.at_rest-ended.ensures in

@@ -21,11 +21,11 @@ use Rattle.aug_core.proofs.Sizes.{twice}
 
 module _ (face : ℕ → ℕ → List (ℕ × ℕ) → List ℕ) (o : Opening) where
   module _ (s : St) (r : Kept face o s) (v : SeatView) (kn : Knows o s.words r.book v) (place : ℕ) where
-    of_entry : (q i field : ℕ) (e : Entry) → IsInner o.shape q → At v.seen q i e → field < record_words → place ≡ record_start o.shape e.number + field → get_or s.words place 0 ≡ get_or e.words field 0
-    of_entry q i field e inner p small is = ap (λ (z : ℕ). get_or s.words z 0) is ∙ r.tree.written q i field e inner (kn.saw q i e p) small
+    of_entry : (number field : ℕ) → field < record_words → place ≡ record_start o.shape number + field → (q i : ℕ) (e : Entry) → IsInner o.shape q → At v.seen q i e → e.number ≡ number → get_or s.words place 0 ≡ get_or e.words field 0
+    of_entry number field small is q i e inner p numbered = ap (λ (z : ℕ). get_or s.words z 0) (is ∙ ap (λ (z : ℕ). record_start o.shape z + field) (sym numbered)) ∙ r.tree.written q i field e inner (kn.saw q i e p) small
 
-    of_own : (a number field : ℕ) (h : Held) → get_elem? v.held a ≡ some h → IsOfLane o.shape h.lane number → field < record_words → place ≡ record_start o.shape number + field → get_or s.words place 0 ≡ held_word o.shape h number field
-    of_own a number field h p of_lane small is = let b = in_block o.shape h.lane number field of_lane small in
+    of_own : (number field : ℕ) → field < record_words → place ≡ record_start o.shape number + field → (a : ℕ) (h : Held) → get_elem? v.held a ≡ some h → IsOfLane o.shape h.lane number → get_or s.words place 0 ≡ held_word o.shape h number field
+    of_own number field small is a h p of_lane = let b = in_block o.shape h.lane number field of_lane small in
         ap (λ (z : ℕ). get_or s.words z 0) (is ∙ b.0) ∙ (kn.holds a h p).exact (record_words * (number - first_record o.shape h.lane) + field) b.1
 
   pub loads_record_word : (n id place : ℕ) (me : Sat) → me.0.live ≡ true → me.1 ≡ [] → Allows (Kept face o) n id me place (λ x. x) (read_record (step n place 0 0 none) me)
@@ -40,8 +40,8 @@ module _ (face : ℕ → ℕ → List (ℕ × ℕ) → List ℕ) (o : Opening) w
           empty,
           record {
             stepped = refl;
-            known = subst (λ (z : Shape). (q i field : ℕ) (e : Entry) → IsInner z q → At v.seen q i e → field < record_words → place ≡ record_start z e.number + field → found ≡ get_or e.words field 0) shaped (of_entry s r v kn place);
-            own = subst (λ (z : Shape). (a number field : ℕ) (h : Held) → get_elem? v.held a ≡ some h → IsOfLane z h.lane number → field < record_words → place ≡ record_start z number + field → found ≡ held_word z h number field) shaped (of_own s r v kn place);
+            known = subst (λ (z : Shape). (number field : ℕ) → field < record_words → place ≡ record_start z number + field → (q i : ℕ) (e : Entry) → IsInner z q → At v.seen q i e → e.number ≡ number → found ≡ get_or e.words field 0) shaped (of_entry s r v kn place);
+            own = subst (λ (z : Shape). (number field : ℕ) → field < record_words → place ≡ record_start z number + field → (a : ℕ) (h : Held) → get_elem? v.held a ≡ some h → IsOfLane z h.lane number → found ≡ held_word z h number field) shaped (of_own s r v kn place);
           },
         ),
       )

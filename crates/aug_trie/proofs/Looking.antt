@@ -9,7 +9,7 @@ use Rattle.aug_model.specs.declared.summary.Summary.{Summary}
 use Rattle.aug_core.specs.Faces.{face}
 use Rattle.aug_core.specs.Cuts.{Cut, set_of_cut, pairs_of_cut}
 use Rattle.aug_core.specs.Counts.{changes_of}
-use Rattle.aug_core.specs.Told.{HasSeen, KnowsTable}
+use Rattle.aug_core.specs.Told.{HasSeen, KnowsTable, Says}
 use Rattle.aug_core.specs.declared.view.SeatView.{SeatView}
 use Rattle.aug_core.proofs.Books.{fresh_now}
 use Rattle.aug_core.proofs.Fits.{knows_same}
@@ -18,7 +18,6 @@ use Rattle.aug_trie.specs.LeafWords.{weight_in_word, leaf_pairs}
 use Rattle.aug_trie.specs.inside.NodeWords.{IsNodeAt}
 use Rattle.aug_trie.specs.inside.Goes.{Goes, Looks}
 use Rattle.aug_trie.specs.TreeOf.{IsTreeOf}
-use Rattle.aug_trie.specs.inside.Points.{Says}
 use Rattle.aug_trie.proofs.Walking.{node_seen, left_node, right_node, node_told, count_few, count_told, leaf_told, leaf_weight}
 
 -- a view that made steps and learnt nothing

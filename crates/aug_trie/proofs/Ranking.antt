@@ -13,7 +13,7 @@ use Rattle.aug_query.proofs.Orders.{rank_cut, rank_few, rank_none, rank_past}
 use Rattle.aug_core.specs.Book.{At}
 use Rattle.aug_core.specs.Cuts.{Cut, weight_at, set_of_cut}
 use Rattle.aug_core.specs.Faces.{face}
-use Rattle.aug_core.specs.Told.{HasSeen, KnowsTable, stepping}
+use Rattle.aug_core.specs.Told.{HasSeen, KnowsTable, Says, stepping}
 use Rattle.aug_core.specs.Addresses.{IsInner}
 use Rattle.aug_core.specs.declared.step.StepTaken.{StepTaken}
 use Rattle.aug_core.specs.declared.view.SeatView.{SeatView}
@@ -21,7 +21,6 @@ use Rattle.aug_trie.specs.LeafWords.{serial_in_word}
 use Rattle.aug_trie.specs.inside.NodeWords.{IsNodeAt}
 use Rattle.aug_trie.specs.inside.Goes.{HasLeaves, Looks}
 use Rattle.aug_trie.specs.inside.NamedCuts.{cut_named, members_of}
-use Rattle.aug_trie.specs.inside.Points.{Says}
 use Rattle.aug_trie.proofs.Trees.{named_set}
 use Rattle.aug_trie.proofs.Looking.{record_seen, count_is}
 use Rattle.aug_trie.proofs.Walking.{node_seen, left_node, right_node, leaf_count}

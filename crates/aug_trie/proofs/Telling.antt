@@ -8,14 +8,13 @@ use Rattle.aug_core.specs.Addresses.{IsInner}
 use Rattle.aug_core.specs.Faces.{face}
 use Rattle.aug_core.specs.Book.{At}
 use Rattle.aug_core.specs.inside.Refreshes.{HasEntry}
-use Rattle.aug_core.specs.Told.{HasSeen, KnowsTable, stepping}
+use Rattle.aug_core.specs.Told.{HasSeen, KnowsTable, Says, stepping}
 use Rattle.aug_core.specs.declared.step.StepTaken.{StepTaken}
 use Rattle.aug_core.specs.declared.view.SeatView.{SeatView}
 use Rattle.aug_core.proofs.EntryKeys.{are_small}
 use Rattle.aug_core.proofs.FaceLemmas.{count_in, a_in, b_in, face_is}
 use Rattle.aug_trie.specs.LeafWords.{leaf_pairs}
 use Rattle.aug_trie.specs.inside.Goes.{Goes, IsPart, IsPartOf}
-use Rattle.aug_trie.specs.inside.Points.{Says}
 use Rattle.aug_trie.proofs.LeafWords.{pairs_of_serial}
 use Rattle.aug_trie.proofs.Going.{goes_on, goes_stepping}
 

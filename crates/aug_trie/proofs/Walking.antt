@@ -13,7 +13,7 @@ use Rattle.aug_core.specs.Faces.{face}
 use Rattle.aug_core.specs.Book.{At, IsSerial, IsBook}
 use Rattle.aug_core.specs.Cuts.{Cut, weight_at, set_of_cut, pairs_of_cut}
 use Rattle.aug_core.specs.inside.EntryCuts.{entry_of, IsPartOfCut}
-use Rattle.aug_core.specs.Told.{HasSeen}
+use Rattle.aug_core.specs.Told.{HasSeen, Says}
 use Rattle.aug_core.specs.declared.view.Entry.{Entry}
 use Rattle.aug_core.specs.declared.view.SeatView.{SeatView}
 use Rattle.aug_core.proofs.Books.{at_below}
@@ -25,7 +25,6 @@ use Rattle.aug_trie.specs.LeafWords.{serial_in_word, weight_in_word, leaf_pairs}
 use Rattle.aug_trie.specs.inside.NamedCuts.{IsSnapshotOf}
 use Rattle.aug_trie.specs.inside.NodeWords.{IsNodeAt}
 use Rattle.aug_trie.specs.TreeOf.{IsTreeOf}
-use Rattle.aug_trie.specs.inside.Points.{Says}
 use Rattle.aug_trie.proofs.LeafWords.{serial_of_entry, weight_of_entry, pairs_of_serial}
 
 -- an interval has as many pairs as keys

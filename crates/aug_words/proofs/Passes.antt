@@ -9,7 +9,7 @@ use Rattle.aug_core.specs.Book.{Book, history_of}
 use Rattle.aug_core.proofs.Books.{at_below}
 use Rattle.std.proofs.Math.Nat.{mul_comm}
 use Rattle.std.proofs.lemmas.Bool.{cases_eq}
-use Rattle.aug_core.specs.Told.{Sat, old_word, new_word, made_by, with_changes, with_published, Sees, LoadsLeaf, BeginsAtLeaf, LoadsNode, TriesLeaf, TriesNode, HoldsOnly, HasSeen, Owns, MayStore, ReadsRecord, on_first, with_word, storing, beginning, own_lane}
+use Rattle.aug_core.specs.Told.{Sat, stepping, old_word, new_word, made_by, with_changes, with_published, Sees, LoadsLeaf, BeginsAtLeaf, LoadsNode, TriesLeaf, TriesNode, HoldsOnly, HasSeen, Owns, MayStore, ReadsRecord, on_first, with_word, storing, beginning, own_lane}
 use Rattle.aug_core.specs.inside.LaneStates.{HasTakenLane}
 use Rattle.aug_core.specs.Kinds.{load_leaf, try_leaf, load_node, try_node, load_record_word, store_record_word}
 use Rattle.aug_core.specs.declared.step.StepTaken.{StepTaken}
@@ -132,8 +132,8 @@ module _ (face : ℕ → ℕ → List (ℕ × ℕ) → List ℕ) (lane : ℕ) (m
 
 -- what a load at a record's word tells of the record
 pub tells : (v w : SeatView) (place number field r : ℕ) → field < record_words → place ≡ record_start v.shape number + field → ReadsRecord v place r w → LoadsRecordWord v number field r w
-tells v w place number field r small is reads = let at : ReadsRecord v (record_start v.shape number + field) r w = subst (λ (z : ℕ). ReadsRecord v z r w) is reads in record {
-  stepped = at.stepped;
-  known = λ q i e inner p numbered. at.known q i field e inner p small (ap (λ (z : ℕ). record_start v.shape z + field) (sym numbered));
-  own = λ a h p of_lane. at.own a number field h p of_lane small refl;
+tells v w place number field r small is reads = record {
+  stepped = subst (λ (z : ℕ). w ≡ stepping v (load_record_word z r)) is reads.stepped;
+  known = reads.known number field small is;
+  own = reads.own number field small is;
 }

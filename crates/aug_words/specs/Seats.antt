@@ -1,18 +1,14 @@
 -- What contracts see of a table, of a lead and of a pass, and what a call of a pass asks.
-use Rattle.std.specs.Prelude.{◌≡◌, ℕ, ◌+◌, ◌<◌, ◌⊎◌, ◌↔◌, Bool, IsTrue, List, slice_index, Some}
-use mathlib.Core.Option.{some}
-use lib.ListN.{get_elem?}
+use Rattle.std.specs.Prelude.{◌≡◌, ℕ, ◌+◌, ◌<◌, ◌⊎◌, ◌↔◌, Bool, IsTrue, List, Some}
 use Rattle.atomic_table.specs.Seated.{TableId}
 use Rattle.aug_core.specs.Places.{record_start}
-use Rattle.aug_core.specs.Addresses.{root_place, IsInner}
-use Rattle.aug_core.specs.Lanes.{IsOfLane}
+use Rattle.aug_core.specs.Addresses.{root_place}
 use Rattle.aug_core.specs.Book.{At, IsNewest}
 use Rattle.aug_core.specs.Opening.{Opening}
 use Rattle.aug_core.specs.Kinds.{load_record_word}
-use Rattle.aug_core.specs.Told.{stepping, held_word, HasSeen, Owns, IsAdvance, old_word, new_word, TriesLeaf, TriesNode}
+use Rattle.aug_core.specs.Told.{stepping, HasSeen, Owns, Says, SaysOwn, IsAdvance, old_word, new_word, TriesLeaf, TriesNode}
 use Rattle.aug_core.specs.declared.view.Advance.{Advance}
 use Rattle.aug_core.specs.declared.view.Entry.{Entry}
-use Rattle.aug_core.specs.declared.view.Held.{Held}
 use Rattle.aug_core.specs.declared.view.SeatView.{SeatView}
 
 -- a table, and how it was opened
@@ -45,11 +41,11 @@ pub record IsNextLane (v : SeatView) (lane : ℕ) : Type 0 where
 abbrev pub MayLoad : SeatView → ℕ → Type 0
 MayLoad v number = HasSeen v number ⊎ Owns v number
 
--- a loaded word is what the record's entry says, and what the lane's holder has
+-- a word of a record was loaded
 pub record LoadsRecordWord (v : SeatView) (number field r : ℕ) (w : SeatView) : Type 0 where
   pub stepped : w ≡ stepping v (load_record_word (record_start v.shape number + field) r)
-  pub known : (q i : ℕ) (e : Entry) → IsInner v.shape q → At v.seen q i e → e.number ≡ number → r ≡ slice_index e.words field
-  pub own : (a : ℕ) (h : Held) → get_elem? v.held a ≡ some h → IsOfLane v.shape h.lane number → r ≡ held_word v.shape h number field
+  pub known : Says v number field r
+  pub own : SaysOwn v number field r
 
 -- an exchange of the leaf's word for another is one of those that there are, and the leaf is known to have had the first
 pub record MayAdvance (v : SeatView) (key old new : ℕ) : Type 0 where

@@ -5,7 +5,7 @@ use Rattle.aug_core.specs.Places.{record_start, record_words}
 use Rattle.aug_core.specs.Addresses.{IsInner, left_of, right_of}
 use Rattle.aug_core.specs.Book.{At, Continues}
 use Rattle.aug_core.specs.inside.Refreshes.{HasNewest, SaysLoaded}
-use Rattle.aug_core.specs.Told.{KnowsTable, own_lane, storing}
+use Rattle.aug_core.specs.Told.{KnowsTable, Says, own_lane, storing}
 use Rattle.aug_core.specs.declared.step.StepTaken.{StepTaken}
 use Rattle.aug_core.specs.declared.view.Entry.{Entry}
 use Rattle.aug_core.specs.declared.view.SeatView.{SeatView}
@@ -30,10 +30,6 @@ pub record OneStep (v w : SeatView) : Type 0 where
 -- and its update has the same beginning as before
 abbrev pub QuietStep : SeatView → SeatView → Type 0
 QuietStep v w = OneStep v w × (w.began ≡ v.began)
-
--- a loaded word of a record is what its entry says
-abbrev pub Says : SeatView → ℕ → ℕ → ℕ → Type 0
-Says v number field r = (q i : ℕ) (e : Entry) → IsInner v.shape q → At v.seen q i e → e.number ≡ number → r ≡ slice_index e.words field
 
 -- the view after storing the first words of a record, as many as the last argument says
 abbrev pub stored : SeatView → ℕ → List ℕ → ℕ → SeatView

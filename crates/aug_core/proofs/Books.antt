@@ -1,13 +1,15 @@
 -- One history of a book grows at its end.
 use Rattle.std.proofs.Common.{◌≡◌, ℕ, zero, suc, ◌+◌, ◌^◌, ◌<◌, ◌≤◌, ◌≢◌, ◌⊎◌, inl, inr, List, [], ◌∷◌, ◌++◌, length, set, sym, refl, ap, ◌∙◌, subst, ⊎_elim, arith, length-set, length-append, get_or-set_other, get_or-set_same}
 use Rattle.std.proofs.lemmas.Bool.{cases_eq, cases_lt}
+use Rattle.std.proofs.lemmas.List.{append-nil}
 use mathlib.Core.Option.{some, some-injective, some-ne-none}
 use lib.ListN.{get_elem?}
-use Rattle.atomic_table.proofs.Lists.{at_longer, at_last}
+use Rattle.atomic_table.proofs.Lists.{at_last}
 use Rattle.aug_core.specs.Places.{Shape, opening_count, record_count}
 use Rattle.aug_core.specs.Addresses.{place_count, IsInner, left_of, right_of}
-use Rattle.aug_core.specs.Book.{Book, history_of, At, IsNewest, ContinuesAt, Continues, GoesOnFromBoth, StandsOver, IsSerial, IsBook, IsFresh}
+use Rattle.aug_core.specs.Book.{Book, history_of, At, IsNewest, ArePrefixes, GoesOnFromBoth, StandsOver, IsSerial, IsBook, IsFresh}
 use Rattle.aug_core.specs.declared.view.Entry.{Entry}
+use Rattle.aug_core.proofs.PrefixLemmas.{either_prefix, prefix_long, entry_stays}
 
 module _ {A : Type 0} where
   pub snoc_at : (l : List A) (a b : A) (j : ℕ) → get_elem? (l ++ a ∷ []) j ≡ some b → (get_elem? l j ≡ some b) ⊎ ((j ≡ length l) × (a ≡ b))
@@ -36,20 +38,14 @@ module _ {A : Type 0} where
   shorter (x ∷ xs) m h = let t = last_at (x ∷ xs) (omega arith) in let b = at_below m t.0 t.1 (h t.0 t.1 t.2) in let e = t.3 in omega arith
 
 -- a later book is no shorter
-pub no_shorter : (book seen : Book) → Continues book seen → (q : ℕ) → length (history_of seen q) ≤ length (history_of book q)
-no_shorter book seen h q = shorter (history_of seen q) (history_of book q) (h q)
+pub no_shorter : (book seen : Book) → ArePrefixes seen book → (q : ℕ) → length (history_of seen q) ≤ length (history_of book q)
+no_shorter book seen h q = prefix_long (history_of seen q) (history_of book q) (h.each q)
 
--- of two beginnings of one book the one is a beginning of the other, at each place
-either_way : (book a b : Book) (q : ℕ) → Continues book a → Continues book b → length (history_of a q) ≤ length (history_of b q) → ContinuesAt b a q
-either_way book a b q ca cb le i e p = let below = at_below (history_of a q) i e p in let x = there_is (history_of b q) i (omega arith) in
-    subst (At b q i) (some-injective x.0 e (sym (cb q i x.0 x.1) ∙ ca q i e p)) x.1
-
-pub goes_on_from_both : (book a b : Book) → Continues book a → Continues book b → GoesOnFromBoth book a b
+pub goes_on_from_both : (book a b : Book) → ArePrefixes a book → ArePrefixes b book → GoesOnFromBoth a b book
 goes_on_from_both book a b ca cb = record {
   from_first = ca;
   from_second = cb;
-  one_piece = λ q. ⊎_elim (λ (lt : length (history_of a q) < length (history_of b q)). inl (either_way book a b q ca cb (omega arith)))
-      (λ (ge : length (history_of b q) ≤ length (history_of a q)). inr (either_way book b a q cb ca ge)) (cases_lt (length (history_of a q)) (length (history_of b q)));
+  one_piece = λ q. either_prefix (history_of a q) (history_of b q) (history_of book q) (ca.each q) (cb.each q);
 }
 
 -- nothing came after the whole book
@@ -57,10 +53,10 @@ pub fresh_now : (s : Shape) (book : Book) → IsFresh s book book
 fresh_now s book = record { covers = λ q i e inner past p. let below = at_below (history_of book q) i e p in absurd (omega arith) }
 
 -- one snapshot after another
-pub fresh_on : (s : Shape) (a b c : Book) → Continues b a → Continues c b → IsFresh s b a → IsFresh s c b → IsFresh s c a
+pub fresh_on : (s : Shape) (a b c : Book) → ArePrefixes a b → ArePrefixes b c → IsFresh s b a → IsFresh s c b → IsFresh s c a
 fresh_on s a b c ab bc f g = record {
   covers = λ q i e inner past p. ⊎_elim
-      (λ (lt : i < length (history_of b q)). let x = there_is (history_of b q) i lt in let same : x.0 ≡ e = some-injective x.0 e (sym (bc q i x.0 x.1) ∙ p) in f.covers q i e inner past (subst (λ (z : Entry). At b q i z) same x.1))
+      (λ (lt : i < length (history_of b q)). let x = there_is (history_of b q) i lt in let same : x.0 ≡ e = some-injective x.0 e (sym (entry_stays bc q i x.0 x.1) ∙ p) in f.covers q i e inner past (subst (λ (z : Entry). At b q i z) same x.1))
       (λ (ge : length (history_of b q) ≤ i). let k = g.covers q i e inner ge p in let k0 = k.left in let k1 = k.right in let l = no_shorter b a ab (left_of s q) in let r = no_shorter b a ab (right_of s q) in
       record { left = omega arith; right = omega arith }) (cases_lt i (length (history_of b q)));
 }
@@ -111,10 +107,14 @@ module _ (book : Book) (q : ℕ) (in_book : q < length book) (e : Entry) where
   pub longer : length (history_of grow q) ≡ length (history_of book q) + 1
   longer = ap length here ∙ length-append (history_of book q) (e ∷ [])
 
-  pub grown_at : Continues grow book
-  grown_at p i x at = ⊎_elim
-      (λ is. subst (λ (z : ℕ). At grow z i x) (sym is) (subst (λ (z : List Entry). get_elem? z i ≡ some x) (sym here) (at_longer (history_of book q) (e ∷ []) i x (subst (λ (z : ℕ). At book z i x) is at))))
-      (λ ne. subst (λ (z : List Entry). get_elem? z i ≡ some x) (sym (there p ne)) at) (cases_eq p q)
+  pub grown : ArePrefixes book grow
+  grown = record {
+    each = λ p. ⊎_elim (λ is. (e ∷ [], ap (history_of grow) is ∙ here ∙ ap (λ (z : ℕ). history_of book z ++ e ∷ []) (sym is)))
+        (λ ne. ([], there p ne ∙ sym (append-nil (history_of book p)))) (cases_eq p q);
+  }
+
+  pub grown_at : (p i : ℕ) (x : Entry) → At book p i x → At grow p i x
+  grown_at = entry_stays grown
 
   -- what stands in the longer book: it stood there before, or it is the new one
   pub at_grown : (p i : ℕ) (x : Entry) → At grow p i x → (At book p i x) ⊎ ((p ≡ q) × (i ≡ length (history_of book q)) × (e ≡ x))

@@ -3,7 +3,7 @@ use Rattle.std.proofs.Common.{Option, ◌≡◌, ℕ, suc, ◌*◌, ◌<◌, ◌
 use Rattle.std.specs.List.{sum_by}
 use Rattle.std.proofs.lemmas.List.Sums.{sum_by-cons}
 use Rattle.aug_core.specs.Places.{Shape}
-use Rattle.aug_core.specs.Book.{Book, Continues, IsFresh, SerialsFit, IsBook}
+use Rattle.aug_core.specs.Book.{Book, ArePrefixes, IsFresh, SerialsFit, IsBook}
 use Rattle.aug_model.specs.Keys.{is_member, keys_of}
 use Rattle.aug_monoid.specs.Weighted.{FitsPair}
 use Rattle.aug_core.specs.Opening.{Opening}
@@ -16,6 +16,7 @@ use Rattle.aug_core.specs.declared.step.StepTaken.{StepTaken}
 use Rattle.aug_core.specs.declared.view.Beginning.{Beginning}
 use Rattle.aug_core.specs.declared.view.Held.{Held}
 use Rattle.aug_core.specs.declared.view.SeatView.{SeatView}
+use Rattle.aug_core.proofs.PrefixLemmas.{book_trans}
 
 pub at_most_one : (b : Bool) → (if b then 1 else 0) ≤ 1
 at_most_one true = omega arith
@@ -31,7 +32,7 @@ fits_book o words book views tally t = let all = few_in_all tally (2 * o.shape.u
     record { few = λ key low. let e = t.enough key low in let one = at_most_one (is_member (keys_of o.members) key) in omega arith }
 
 module _ (face : ℕ → ℕ → List (ℕ × ℕ) → List ℕ) where
-  pub sees_after : (v w : SeatView) (s : Shape) → v.shape ≡ s → Continues w.seen v.seen → Continues w.seen v.also → IsFresh s w.seen v.seen → IsBook face s w.seen → SerialsFit s w.seen → Sees face v w
+  pub sees_after : (v w : SeatView) (s : Shape) → v.shape ≡ s → ArePrefixes v.seen w.seen → ArePrefixes v.also w.seen → IsFresh s w.seen v.seen → IsBook face s w.seen → SerialsFit s w.seen → Sees face v w
   sees_after v w s shaped later also fresh book fits = record {
     later = later;
     also_later = also;
@@ -48,7 +49,7 @@ module _ (face : ℕ → ℕ → List (ℕ × ℕ) → List ℕ) where
     members_fit = subst (All FitsPair) (sym same) kn.members_fit;
     few_members = subst (λ (z : ℕ × List (ℕ × ℕ)). length z.1 ≤ z.0) (λ i. ((sym shaped i).members, sym same i)) kn.few_members;
     book = subst (λ (z : Shape). IsBook face z w.seen) (sym shaped) sees.book;
-    opened = subst (λ (z : Opening). Continues w.seen (opening_book face z)) (λ i. record { shape = sym shaped i; members = sym same i }) (λ q i e p. sees.later q i e (kn.opened q i e p));
+    opened = subst (λ (z : Opening). ArePrefixes (opening_book face z) w.seen) (λ i. record { shape = sym shaped i; members = sym same i }) (book_trans kn.opened sees.later);
     fits = subst (λ (z : Shape). SerialsFit z w.seen) (sym shaped) sees.fits;
   }
 

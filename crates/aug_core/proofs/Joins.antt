@@ -18,6 +18,7 @@ use Rattle.std.proofs.lemmas.Bool.{cases_eq}
 use Rattle.std.proofs.Common.{refl}
 use Rattle.aug_core.proofs.Books.{at_below}
 use Rattle.atomic_table.proofs.Lists.{at_longer, set_here, set_else}
+use Rattle.aug_core.proofs.PrefixLemmas.{book_none}
 
 module _ {A : Type 0} where
   -- an element of two lists, one after the other
@@ -35,8 +36,8 @@ spent_knows : (o : Opening) (words : List ℕ) (book : List (List Entry)) → Kn
 spent_knows o words book = record {
   shaped = λ l. let clash : false ≡ true = l in cc;
   same_members = λ l. let clash : false ≡ true = l in cc;
-  saw = λ q i e p. absurd (some-ne-none e (sym p));
-  also_saw = λ q i e p. absurd (some-ne-none e (sym p));
+  saw = book_none book;
+  also_saw = book_none book;
   fresh = record { covers = λ q i e inner past p. record { left = omega arith; right = omega arith } };
   holds = λ a h p. absurd (some-ne-none h (sym p));
   spares = λ n lane e le low. let clash : None ≡ Some n = e in cc;

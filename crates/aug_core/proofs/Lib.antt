@@ -3,6 +3,7 @@ pub mod NameLemmas
 pub mod Sizes
 pub mod Levels
 pub mod Below
+pub mod PrefixLemmas
 pub mod Books
 pub mod Views
 pub mod Moves

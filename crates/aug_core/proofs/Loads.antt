@@ -6,7 +6,7 @@ use Rattle.atomic_table.specs.Table.{step, keeps, Allows}
 use Rattle.aug_core.specs.Places.{Shape, record_start, record_words}
 use Rattle.aug_core.specs.Addresses.{IsInner}
 use Rattle.aug_core.specs.Lanes.{first_record, IsOfLane}
-use Rattle.aug_core.specs.Book.{At, IsFresh, SerialsFit, IsBook}
+use Rattle.aug_core.specs.Book.{At, ArePrefixes, IsFresh, SerialsFit, IsBook}
 use Rattle.aug_core.specs.Opening.{Opening}
 use Rattle.aug_core.specs.Rule.{NamesNewest, Knows, Kept}
 use Rattle.aug_core.specs.Kinds.{load_leaf, load_node, load_record_word}
@@ -18,11 +18,12 @@ use Rattle.aug_core.proofs.Sizes.{in_block}
 use Rattle.aug_core.proofs.Moves.{St, knows_keeping, rests, stands, watches}
 use Rattle.aug_core.proofs.Fits.{fits_book, sees_after}
 use Rattle.aug_core.proofs.Sizes.{twice}
+use Rattle.aug_core.proofs.PrefixLemmas.{entry_stays}
 
 module _ (face : ℕ → ℕ → List (ℕ × ℕ) → List ℕ) (o : Opening) where
   module _ (s : St) (r : Kept face o s) (v : SeatView) (kn : Knows o s.words r.book v) (place : ℕ) where
     of_entry : (number field : ℕ) → field < record_words → place ≡ record_start o.shape number + field → (q i : ℕ) (e : Entry) → IsInner o.shape q → At v.seen q i e → e.number ≡ number → get_or s.words place 0 ≡ get_or e.words field 0
-    of_entry number field small is q i e inner p numbered = ap (λ (z : ℕ). get_or s.words z 0) (is ∙ ap (λ (z : ℕ). record_start o.shape z + field) (sym numbered)) ∙ r.tree.written q i field e inner (kn.saw q i e p) small
+    of_entry number field small is q i e inner p numbered = ap (λ (z : ℕ). get_or s.words z 0) (is ∙ ap (λ (z : ℕ). record_start o.shape z + field) (sym numbered)) ∙ r.tree.written q i field e inner (entry_stays kn.saw q i e p) small
 
     of_own : (number field : ℕ) → field < record_words → place ≡ record_start o.shape number + field → (a : ℕ) (h : Held) → get_elem? v.held a ≡ some h → IsOfLane o.shape h.lane number → get_or s.words place 0 ≡ held_word o.shape h number field
     of_own number field small is a h p of_lane = let b = in_block o.shape h.lane number field of_lane small in
@@ -50,7 +51,7 @@ module _ (face : ℕ → ℕ → List (ℕ × ℕ) → List ℕ) (o : Opening) w
     -- what a view is told that is shown the book as it is
     pub sees_it : (w : SeatView) → w.seen ≡ r.book → Sees face v w
     sees_it w is = let kn = r.each_view id v at in sees_after face v w o.shape (kn.shaped live)
-        (subst (λ z. (q i : ℕ) (e : Entry) → At v.seen q i e → At z q i e) (sym is) kn.saw) (subst (λ z. (q i : ℕ) (e : Entry) → At v.also q i e → At z q i e) (sym is) kn.also_saw)
+        (subst (ArePrefixes v.seen) (sym is) kn.saw) (subst (ArePrefixes v.also) (sym is) kn.also_saw)
         (subst (λ z. IsFresh o.shape z v.seen) (sym is) kn.fresh) (subst (λ z. IsBook face o.shape z) (sym is) r.tree.is_book)
         (subst (λ z. SerialsFit o.shape z) (sym is) (fits_book o s.words r.book s.views r.changes.tally r.changes.tallied))
 

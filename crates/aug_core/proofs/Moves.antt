@@ -9,7 +9,7 @@ use Rattle.atomic_table.proofs.Lists.{at_set}
 use Rattle.aug_core.specs.Places.{Shape, lane_place, record_start, opening_count, record_words}
 use Rattle.aug_core.specs.Addresses.{place_count, IsInner}
 use Rattle.aug_core.specs.Lanes.{IsOfLane, block_start, block_size, word_of_state}
-use Rattle.aug_core.specs.Book.{Book, history_of, At, IsNewest, Continues, FloorsCover, IsFresh, IsBook}
+use Rattle.aug_core.specs.Book.{Book, history_of, At, IsNewest, ArePrefixes, FloorsCover, IsFresh, IsBook}
 use Rattle.aug_core.specs.Opening.{Opening}
 use Rattle.aug_core.specs.Counts.{WasMade, AreCounted, AreTallied}
 use Rattle.aug_core.specs.declared.view.Change.{Change}
@@ -21,8 +21,9 @@ use Rattle.aug_core.specs.declared.view.Held.{Held}
 use Rattle.aug_core.specs.declared.view.SeatView.{SeatView}
 use Rattle.aug_core.specs.declared.view.LaneState.TheVariants.{Free, Ended}
 use Rattle.aug_core.proofs.Sizes.{lanes_apart, twice}
-use Rattle.aug_core.proofs.Books.{fresh_now, at_below, there_is, one_entry, grow, grown_at, at_grown, newest_here, newest_there}
+use Rattle.aug_core.proofs.Books.{grown, fresh_now, at_below, there_is, one_entry, grow, at_grown, newest_here, newest_there}
 use Rattle.aug_core.proofs.Views.{Likens, Repeats, was_there, repeats_like, counted_on, apart_on}
+use Rattle.aug_core.proofs.PrefixLemmas.{book_refl, book_trans, entry_stays}
 
 abbrev pub St : Type 0
 St = State (Unit {0}) SeatView
@@ -53,10 +54,10 @@ module _ (face : ℕ → ℕ → List (ℕ × ℕ) → List ℕ) (o : Opening) (
   -- what a step may do to the words and to the book
   pub record MayMove : Type 0 where
     pub tree : KeepsTree face o after book'
-    pub grows : Continues book' r.book
+    pub grows : ArePrefixes r.book book'
     pub lanes : (lane : ℕ) → lane < o.shape.workers → Stays o.shape s.words after lane ⊎ IsMine o.shape after v lane
     pub came : (q i : ℕ) (e : Entry) → IsInner o.shape q → At book' q i e → At r.book q i e ⊎ IsOwn o.shape after v e.number
-    pub fresh : (seen : Book) → Continues r.book seen → IsFresh o.shape r.book seen → IsFresh o.shape book' seen
+    pub fresh : (seen : Book) → ArePrefixes seen r.book → IsFresh o.shape r.book seen → IsFresh o.shape book' seen
 
   module _ (m : MayMove) (at : get_elem? s.views id ≡ some v) where
     -- what another view knows stays so
@@ -64,8 +65,8 @@ module _ (face : ℕ → ℕ → List (ℕ × ℕ) → List ℕ) (o : Opening) (
     others_know j u ne p = let kn = r.each_view j u p in record {
       shaped = kn.shaped;
       same_members = kn.same_members;
-      saw = λ q i e t. m.grows q i e (kn.saw q i e t);
-      also_saw = λ q i e t. m.grows q i e (kn.also_saw q i e t);
+      saw = book_trans kn.saw m.grows;
+      also_saw = book_trans kn.also_saw m.grows;
       fresh = m.fresh u.seen kn.saw kn.fresh;
       holds = λ b g t. let l = kn.holds b g t in ⊎_elim
           (λ (stays : Stays o.shape s.words after g.lane). record {
@@ -141,13 +142,13 @@ module _ (face : ℕ → ℕ → List (ℕ × ℕ) → List ℕ) (o : Opening) (
     }
 
     made_on : (c : Change) → WasMade o r.book c → WasMade o book' c
-    made_on c w = record { exists = w.exists; past_opening = w.past_opening; entry = w.entry; reached = m.grows c.key c.serial w.entry w.reached; weighs = w.weighs }
+    made_on c w = record { exists = w.exists; past_opening = w.past_opening; entry = w.entry; reached = entry_stays m.grows c.key c.serial w.entry w.reached; weighs = w.weighs }
 
     made_back : SameLeaves → (c : Change) → WasMade o book' c → WasMade o r.book c
     made_back same c w =
         let below = at_below (history_of book' c.key) c.serial w.entry w.reached in let long = same c.key w.exists in
         let x = there_is (history_of r.book c.key) c.serial (omega arith) in
-        let is : x.0 ≡ w.entry = one_entry book' c.key c.serial x.0 w.entry (m.grows c.key c.serial x.0 x.1) w.reached in
+        let is : x.0 ≡ w.entry = one_entry book' c.key c.serial x.0 w.entry (entry_stays m.grows c.key c.serial x.0 x.1) w.reached in
         record { exists = w.exists; past_opening = w.past_opening; entry = w.entry; reached = subst (At r.book c.key c.serial) is x.1; weighs = w.weighs }
 
     -- the rule holds after a step that makes no change
@@ -172,8 +173,8 @@ module _ (face : ℕ → ℕ → List (ℕ × ℕ) → List ℕ) (o : Opening) (
     knows_seeing held began steps holds = let kn = r.each_view id v at in record {
       shaped = kn.shaped;
       same_members = kn.same_members;
-      saw = λ q i e p. p;
-      also_saw = λ q i e p. m.grows q i e (kn.also_saw q i e p);
+      saw = book_refl book';
+      also_saw = book_trans kn.also_saw m.grows;
       fresh = fresh_now o.shape book';
       holds = holds;
       spares = still_spare record v { seen = book'; held = held; began = began; steps = steps } refl;
@@ -184,8 +185,8 @@ module _ (face : ℕ → ℕ → List (ℕ × ℕ) → List ℕ) (o : Opening) (
     knows_keeping held steps holds = let kn = r.each_view id v at in record {
       shaped = kn.shaped;
       same_members = kn.same_members;
-      saw = λ q i e p. m.grows q i e (kn.saw q i e p);
-      also_saw = λ q i e p. m.grows q i e (kn.also_saw q i e p);
+      saw = book_trans kn.saw m.grows;
+      also_saw = book_trans kn.also_saw m.grows;
       fresh = m.fresh v.seen kn.saw kn.fresh;
       holds = holds;
       spares = still_spare record v { held = held; steps = steps } refl;
@@ -196,7 +197,7 @@ module _ (face : ℕ → ℕ → List (ℕ × ℕ) → List ℕ) (o : Opening) (
   pub rests : MayMove face o s r id v s.words r.book
   rests = record {
     tree = r.tree;
-    grows = λ q i e p. p;
+    grows = book_refl r.book;
     lanes = λ lane low. inl record { state = refl; block = λ k small. refl };
     came = λ q i e inner p. inl p;
     fresh = λ seen saw f. f;
@@ -234,7 +235,7 @@ module _ (face : ℕ → ℕ → List (ℕ × ℕ) → List ℕ) (o : Opening) (
             shared = λ level k low small. stays (record_start o.shape level + k) (own.past_idle level k (omega arith) small) ∙ r.tree.shared level k low small;
             idle = λ number k is small. stays (record_start o.shape number + k) (own.past_idle number k is.opening small) ∙ r.tree.idle number k is small;
           };
-          grows = λ q j e p. p;
+          grows = book_refl r.book;
           lanes = λ lane low. ⊎_elim
               (λ (same : lane ≡ h.lane). inr record { index = a; held = h; at = held; is = sym same; some_state = subst (λ (z : ℕ). word_of_state Free < get_or (set s.words i x) (lane_place o.shape z) 0) (sym same) (omega (arith, state)); last_state = subst (λ (z : ℕ). get_or (set s.words i x) (lane_place o.shape z) 0 ≤ word_of_state Ended) (sym same) (omega (arith, state)) })
               (λ other. inl record { state = stays (lane_place o.shape lane) (own.past_lanes lane low other); block = λ k small. stays (block_start o.shape lane + k) (own.past_blocks lane k low other small) }) (cases_eq lane h.lane);
@@ -263,13 +264,13 @@ module _ (face : ℕ → ℕ → List (ℕ × ℕ) → List ℕ) (o : Opening) (
     all_stay lane = record { state = stay (lane_place o.shape lane) (λ is. omega arith); block = λ k small. stay (block_start o.shape lane + k) (λ is. omega arith) }
 
     pub tree_moves : IsBook face o.shape book' → e.passed ≡ false → (IsInner o.shape q → IsOwn o.shape s.words v e.number) → (IsInner o.shape q → (k : ℕ) → k < record_words → get_or s.words (record_start o.shape e.number + k) 0 ≡ get_or e.words k 0)
-        → ((seen : Book) → Continues r.book seen → IsInner o.shape q → FloorsCover o.shape seen q e) → MayMove face o s r id v after book'
+        → ((seen : Book) → ArePrefixes seen r.book → IsInner o.shape q → FloorsCover o.shape seen q e) → MayMove face o s r id v after book'
     tree_moves is_book shown own full floors = record {
-      grows = grown_at r.book q in_book e;
+      grows = grown r.book q in_book e;
       tree = record {
         wide = length-set s.words q e.word ∙ r.tree.wide;
         is_book = is_book;
-        opened = λ p j f t. grown_at r.book q in_book e p j f (r.tree.opened p j f t);
+        opened = book_trans r.tree.opened (grown r.book q in_book e);
         newest = λ p low. ⊎_elim
             (λ is. subst (λ (z : ℕ). NamesNewest after book' z) (sym is) record {
               index = length (history_of r.book q);
@@ -299,7 +300,7 @@ module _ (face : ℕ → ℕ → List (ℕ × ℕ) → List ℕ) (o : Opening) (
   module _ (key : ℕ) (leaf : key < 2 ^ o.shape.bits) (x : ℕ) (longer : Book) where
     pub record GainsLeaf : Type 0 where
       pub is_book : IsBook face o.shape longer
-      pub grows : Continues longer r.book
+      pub grows : ArePrefixes r.book longer
       pub stays : (p i : ℕ) (e : Entry) → p ≢ key → At longer p i e → At r.book p i e
       pub still : (p i : ℕ) (e : Entry) → p ≢ key → IsNewest r.book p i e → IsNewest longer p i e
       pub names : NamesNewest (set s.words key x) longer key
@@ -322,7 +323,7 @@ module _ (face : ℕ → ℕ → List (ℕ × ℕ) → List ℕ) (o : Opening) (
       tree = record {
         wide = length-set s.words key x ∙ r.tree.wide;
         is_book = g.is_book;
-        opened = λ p j f t. g.grows p j f (r.tree.opened p j f t);
+        opened = book_trans r.tree.opened g.grows;
         newest = λ p low. ⊎_elim
             (λ is. subst (λ (z : ℕ). NamesNewest (set s.words key x) longer z) (sym is) g.names)
             (λ ne. let t = r.tree.newest p low in record { index = t.index; entry = t.entry; newest = g.still p t.index t.entry ne t.newest; word = stay_leaf p ne ∙ t.word; shown = t.shown }) (cases_eq p key);

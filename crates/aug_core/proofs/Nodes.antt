@@ -8,7 +8,7 @@ use Rattle.atomic_table.proofs.Lists.{exchanged}
 use Rattle.aug_core.specs.Places.{Shape, record_words}
 use Rattle.aug_core.specs.Addresses.{IsInner, left_of, right_of}
 use Rattle.aug_core.specs.Lanes.{first_record, IsOfLane, word_of_state}
-use Rattle.aug_core.specs.Book.{Book, history_of, At, IsNewest, Continues, FloorsCover, IsFresh, SerialsFit, IsBook}
+use Rattle.aug_core.specs.Book.{Book, history_of, At, IsNewest, ArePrefixes, FloorsCover, IsFresh, SerialsFit, IsBook}
 use Rattle.aug_core.specs.Opening.{Opening}
 use Rattle.aug_core.specs.Rule.{Lists, NamesNewest, HoldsLane, Kept}
 use Rattle.aug_core.specs.Kinds.{try_node}
@@ -20,12 +20,13 @@ use Rattle.aug_core.specs.declared.view.Held.{Held}
 use Rattle.aug_core.specs.declared.view.LaneState.TheVariants.{Taken}
 use Rattle.aug_core.specs.declared.view.SeatView.{SeatView}
 use Rattle.aug_core.proofs.Sizes.{twice, in_block, record_inside}
-use Rattle.aug_core.proofs.Books.{no_shorter, one_entry, one_index, grown_at, at_grown, newest_here, there, grows}
+use Rattle.aug_core.proofs.Books.{grown, no_shorter, one_entry, one_index, at_grown, newest_here, there, grows}
 use Rattle.aug_core.proofs.Moves.{St, MayMove, moves_on, holds_on, knows_seeing, in_book, book', after, all_stay, tree_moves, watches}
 use Rattle.aug_core.proofs.Stores.{alone, one_lane, is_taken}
 use Rattle.aug_core.proofs.States.{Did}
 use Rattle.aug_core.proofs.Fits.{fits_book, sees_after}
 use Rattle.aug_core.proofs.Loads.{sees_it}
+use Rattle.aug_core.proofs.PrefixLemmas.{book_trans, entry_stays}
 
 -- the list lists what it listed, and the new number
 lists_more : (l : List ℕ) (x n : ℕ) → Lists l n → Lists (x ∷ l) n
@@ -41,14 +42,14 @@ module _ (face : ℕ → ℕ → List (ℕ × ℕ) → List ℕ) (o : Opening) w
     mine = (r.each_view id v at).holds 0 h held
 
     -- what was seen of the node and its children stands in the book
-    know : Continues r.book v.seen
+    know : ArePrefixes v.seen r.book
     know = (r.each_view id v at).saw
 
     left_at : At r.book (left_of o.shape q) c.is_loaded.left_index c.is_loaded.left
-    left_at = subst (λ (z : Shape). At r.book (left_of z q) c.is_loaded.left_index c.is_loaded.left) shaped (know (left_of v.shape q) c.is_loaded.left_index c.is_loaded.left c.is_loaded.left_at)
+    left_at = subst (λ (z : Shape). At r.book (left_of z q) c.is_loaded.left_index c.is_loaded.left) shaped (entry_stays know (left_of v.shape q) c.is_loaded.left_index c.is_loaded.left c.is_loaded.left_at)
 
     right_at : At r.book (right_of o.shape q) c.is_loaded.right_index c.is_loaded.right
-    right_at = subst (λ (z : Shape). At r.book (right_of z q) c.is_loaded.right_index c.is_loaded.right) shaped (know (right_of v.shape q) c.is_loaded.right_index c.is_loaded.right c.is_loaded.right_at)
+    right_at = subst (λ (z : Shape). At r.book (right_of z q) c.is_loaded.right_index c.is_loaded.right) shaped (entry_stays know (right_of v.shape q) c.is_loaded.right_index c.is_loaded.right c.is_loaded.right_at)
 
     pub left_newest : NamesNewest s.words r.book (left_of o.shape q)
     left_newest = r.tree.newest (left_of o.shape q) (let past = inner.past_leaves in let low = inner.inside in let t = twice o.shape.bits in omega arith)
@@ -82,8 +83,8 @@ module _ (face : ℕ → ℕ → List (ℕ × ℕ) → List ℕ) (o : Opening) w
 
     -- where the word is the one that was loaded, the newest entry is the one that was loaded
     top_is : get_or s.words q 0 ≡ old → node_newest.entry ≡ c.is_loaded.from
-    top_is hit = let t = node_newest in let one = one_index face o.shape r.book r.tree.is_book q t.index c.is_loaded.index t.entry c.is_loaded.from inner t.newest.at (know q c.is_loaded.index c.is_loaded.from c.is_loaded.loaded) (sym (r.tree.is_book.named q t.index t.entry inner t.newest.at) ∙ sym t.word ∙ hit ∙ c.is_loaded.numbered) in
-        one_entry r.book q c.is_loaded.index t.entry c.is_loaded.from (subst (λ (z : ℕ). At r.book q z t.entry) one t.newest.at) (know q c.is_loaded.index c.is_loaded.from c.is_loaded.loaded)
+    top_is hit = let t = node_newest in let one = one_index face o.shape r.book r.tree.is_book q t.index c.is_loaded.index t.entry c.is_loaded.from inner t.newest.at (entry_stays know q c.is_loaded.index c.is_loaded.from c.is_loaded.loaded) (sym (r.tree.is_book.named q t.index t.entry inner t.newest.at) ∙ sym t.word ∙ hit ∙ c.is_loaded.numbered) in
+        one_entry r.book q c.is_loaded.index t.entry c.is_loaded.from (subst (λ (z : ℕ). At r.book q z t.entry) one t.newest.at) (entry_stays know q c.is_loaded.index c.is_loaded.from c.is_loaded.loaded)
 
     pub is_book' : get_or s.words q 0 ≡ old → IsBook face o.shape longer_book
     is_book' hit = let e = sym (top_is hit) in let t = node_newest in grows r.book q ib entry face o.shape r.tree.is_book inner t.index t.entry t.newest refl (record_inside o.shape h.lane number mine.exists of_lane) (let from = of_lane.from_first in omega arith) fresh
@@ -92,7 +93,7 @@ module _ (face : ℕ → ℕ → List (ℕ × ℕ) → List ℕ) (o : Opening) w
         (subst (λ (z : Entry). z.left_floor ≤ c.is_loaded.left_index) e c.is_loaded.left_known) (subst (λ (z : Entry). z.right_floor ≤ c.is_loaded.right_index) e c.is_loaded.right_known)
         ((left_newest.entry, left_newest.newest.at), (right_newest.entry, right_newest.newest.at))
 
-    floors : (seen : Book) → Continues r.book seen → IsInner o.shape q → FloorsCover o.shape seen q entry
+    floors : (seen : Book) → ArePrefixes seen r.book → IsInner o.shape q → FloorsCover o.shape seen q entry
     floors seen saw _ = let a = no_shorter r.book seen saw (left_of o.shape q) in let b = no_shorter r.book seen saw (right_of o.shape q) in let x = left_newest.newest.last in let y = right_newest.newest.last in
         record { left = omega arith; right = omega arith }
 
@@ -121,8 +122,8 @@ module _ (face : ℕ → ℕ → List (ℕ × ℕ) → List ℕ) (o : Opening) w
     pub later_fresh : get_or s.words q 0 ≡ old → IsFresh o.shape longer_book v.seen
     later_fresh hit = (moved hit).fresh v.seen know (r.each_view id v at).fresh
 
-    pub later : Continues longer_book r.book
-    later = grown_at r.book q ib entry
+    pub later : ArePrefixes r.book longer_book
+    later = grown r.book q ib entry
 
     pub newest_now : IsNewest longer_book q (length (history_of r.book q)) entry
     newest_now = newest_here r.book q ib entry
@@ -152,7 +153,7 @@ module _ (face : ℕ → ℕ → List (ℕ × ℕ) → List ℕ) (o : Opening) w
         (
           empty,
           record {
-            sees = sees_after face v w o.shape shaped (λ p i x t. longer p i x (kn.saw p i x t)) (λ p i x t. longer p i x (kn.also_saw p i x t))
+            sees = sees_after face v w o.shape shaped (book_trans kn.saw longer) (book_trans kn.also_saw longer)
                 (later_fresh s r id v at shaped h may.only taken0 number of_lane may.unpublished q inner' old c hit) (is_book' s r id v at shaped h may.only taken0 number of_lane may.unpublished q inner' old c hit)
                 (fits s r id v at shaped h may.only taken0 number of_lane may.unpublished q inner' old c);
             shaped = refl;

@@ -29,6 +29,7 @@ use Rattle.aug_core.specs.Counts.{StandsAt}
 use Rattle.aug_core.specs.declared.view.Change.{Change}
 use Rattle.aug_core.specs.declared.view.LaneState.TheVariants.{Free}
 use Rattle.std.proofs.lemmas.List.{length-replicate, get_or-replicate}
+use Rattle.aug_core.proofs.PrefixLemmas.{book_none, book_refl}
 
 module _ (o : Opening) where
   abbrev leaves : ℕ
@@ -186,7 +187,7 @@ module _ (face : ℕ → ℕ → List (ℕ × ℕ) → List ℕ) (o : Opening) w
     tree = record {
       wide = wide;
       is_book = is_book rises pairs_fit fit;
-      opened = λ q i e p. p;
+      opened = book_refl book;
       newest = λ q low. let t = newly q low in record { index = opening_index o q; entry = t.entry; newest = t.newest; word = nodes q low ∙ sym t.named; shown = t.shown };
       written = λ q i k e inner p small. subst (λ (z : Entry). get_or words (record_start o.shape z.number + k) 0 ≡ get_or z.words k 0) (inner_at q i e inner p).1 (records q k inner small);
       shared = shared;
@@ -200,8 +201,8 @@ module _ (face : ℕ → ℕ → List (ℕ × ℕ) → List ℕ) (o : Opening) w
     each_view = λ j v p. subst (Knows o words book) (alone (newcomer face o) v j p).1 record {
       shaped = λ _. refl;
       same_members = λ _. refl;
-      saw = λ q i e at. at;
-      also_saw = λ q i e at. absurd (some-ne-none e (sym at));
+      saw = book_refl book;
+      also_saw = book_none book;
       fresh = fresh_now o.shape book;
       holds = λ a h at. absurd (some-ne-none h (sym at));
       spares = λ n lane e le low. lanes lane low;
@@ -230,4 +231,4 @@ module _ (face : ℕ → ℕ → List (ℕ × ℕ) → List ℕ) (o : Opening) w
 
   -- the first seat knows its table
   pub newcomer_knows : IsLayout o.shape → IsKeySet o.shape.bits (keys_of o.members) → All FitsPair o.members → length (keys_of o.members) ≤ o.shape.members → KnowsTable face (newcomer face o)
-  newcomer_knows laid_out key_set fit few = record { laid_out = laid_out; key_set = key_set; members_fit = fit; few_members = let long = length-keys_of o.members in omega arith; book = is_book (rises_from (keys_of o.members) key_set.rising) fit few; opened = λ q i e p. p; fits = opening_fits }
+  newcomer_knows laid_out key_set fit few = record { laid_out = laid_out; key_set = key_set; members_fit = fit; few_members = let long = length-keys_of o.members in omega arith; book = is_book (rises_from (keys_of o.members) key_set.rising) fit few; opened = book_refl book; fits = opening_fits }

@@ -3,11 +3,12 @@ use Rattle.std.proofs.Common.{◌≡◌, ◌≢◌, ℕ, ◌+◌, ◌-◌, ◌^�
 use Rattle.std.proofs.lemmas.Bool.{cases_lt}
 use Rattle.aug_core.specs.Places.{Shape}
 use Rattle.aug_core.specs.Addresses.{place_count, IsInner, left_of, right_of}
-use Rattle.aug_core.specs.Book.{Book, history_of, At, Continues, IsFresh, IsBook, IsLoaded}
+use Rattle.aug_core.specs.Book.{Book, history_of, At, ArePrefixes, IsFresh, IsBook, IsLoaded}
 use Rattle.aug_core.specs.inside.Refreshes.{HasEntry, HasNewest, NewestCovers, Published, Refreshed}
 use Rattle.aug_core.specs.declared.view.Entry.{Entry}
 use Rattle.aug_core.proofs.Sizes.{twice}
 use Rattle.aug_core.proofs.Books.{no_shorter, one_entry, same_index, newest_is_last, there_is, second_covers}
+use Rattle.aug_core.proofs.PrefixLemmas.{entry_stays}
 
 module _ (face : ℕ → ℕ → List (ℕ × ℕ) → List ℕ) (s : Shape) where
   -- an entry's word names one entry of a history
@@ -18,26 +19,26 @@ module _ (face : ℕ → ℕ → List (ℕ × ℕ) → List ℕ) (s : Shape) whe
       same_index face s book b q i j e f inside p p' (sym (b.named q i e inner p) ∙ same ∙ b.named q j f inner p')) (cases_lt q (2 ^ s.bits))
 
   -- what is newest is an entry of every later book
-  pub has_entry : (book seen : Book) (q word : ℕ) → Continues book seen → HasNewest seen q word → HasEntry book q word
-  has_entry book seen q word later h = record { index = h.index; entry = h.entry; at = later q h.index h.entry h.newest.at; named = h.named }
+  pub has_entry : (book seen : Book) (q word : ℕ) → ArePrefixes seen book → HasNewest seen q word → HasEntry book q word
+  has_entry book seen q word later h = record { index = h.index; entry = h.entry; at = entry_stays later q h.index h.entry h.newest.at; named = h.named }
 
-  pub entry_on : (book seen : Book) (q word : ℕ) → Continues book seen → HasEntry seen q word → HasEntry book q word
-  entry_on book seen q word later h = record { index = h.index; entry = h.entry; at = later q h.index h.entry h.at; named = h.named }
+  pub entry_on : (book seen : Book) (q word : ℕ) → ArePrefixes seen book → HasEntry seen q word → HasEntry book q word
+  entry_on book seen q word later h = record { index = h.index; entry = h.entry; at = entry_stays later q h.index h.entry h.at; named = h.named }
 
   -- the books that were seen at a node's load, at that of its left child, and at that of its right, before the last
-  module _ (book0 book1 book2 book : Book) (q old left_word right_word : ℕ) (inner : IsInner s q) (c01 : Continues book1 book0) (c12 : Continues book2 book1) (c23 : Continues book book2)
+  module _ (book0 book1 book2 book : Book) (q old left_word right_word : ℕ) (inner : IsInner s q) (c01 : ArePrefixes book0 book1) (c12 : ArePrefixes book1 book2) (c23 : ArePrefixes book2 book)
       (at_node : HasNewest book0 q old) (at_left : HasNewest book1 (left_of s q) left_word) (at_right : HasNewest book2 (right_of s q) right_word) where
     abbrev e : Entry
     e = at_node.entry
 
     pub node_at : At book q at_node.index e
-    node_at = c23 q at_node.index e (c12 q at_node.index e (c01 q at_node.index e at_node.newest.at))
+    node_at = entry_stays c23 q at_node.index e (entry_stays c12 q at_node.index e (entry_stays c01 q at_node.index e at_node.newest.at))
 
     pub left_at : At book (left_of s q) at_left.index at_left.entry
-    left_at = c23 (left_of s q) at_left.index at_left.entry (c12 (left_of s q) at_left.index at_left.entry at_left.newest.at)
+    left_at = entry_stays c23 (left_of s q) at_left.index at_left.entry (entry_stays c12 (left_of s q) at_left.index at_left.entry at_left.newest.at)
 
     pub right_at : At book (right_of s q) at_right.index at_right.entry
-    right_at = c23 (right_of s q) at_right.index at_right.entry at_right.newest.at
+    right_at = entry_stays c23 (right_of s q) at_right.index at_right.entry at_right.newest.at
 
     -- then they were loaded in the order that a record of them may be published in
     abbrev pub is_loaded : IsBook face s book0 → IsLoaded s book q old
@@ -54,14 +55,14 @@ module _ (face : ℕ → ℕ → List (ℕ × ℕ) → List ℕ) (s : Shape) whe
       right_at = right_at;
       left_shown = at_left.shown;
       right_shown = at_right.shown;
-      left_later = newest_is_last book1 (left_of s q) at_left.index e.left at_left.entry o.left_child at_left.newest (c01 (left_of s q) e.left o.left_child o.left_at);
-      right_later = newest_is_last book2 (right_of s q) at_right.index e.right at_right.entry o.right_child at_right.newest (c12 (right_of s q) e.right o.right_child (c01 (right_of s q) e.right o.right_child o.right_at));
-      left_known = newest_is_last book1 (left_of s q) at_left.index e.left_floor at_left.entry fl.0.0 at_left.newest (c01 (left_of s q) e.left_floor fl.0.0 fl.0.1);
-      right_known = newest_is_last book2 (right_of s q) at_right.index e.right_floor at_right.entry fl.1.0 at_right.newest (c12 (right_of s q) e.right_floor fl.1.0 (c01 (right_of s q) e.right_floor fl.1.0 fl.1.1));
+      left_later = newest_is_last book1 (left_of s q) at_left.index e.left at_left.entry o.left_child at_left.newest (entry_stays c01 (left_of s q) e.left o.left_child o.left_at);
+      right_later = newest_is_last book2 (right_of s q) at_right.index e.right at_right.entry o.right_child at_right.newest (entry_stays c12 (right_of s q) e.right o.right_child (entry_stays c01 (right_of s q) e.right o.right_child o.right_at));
+      left_known = newest_is_last book1 (left_of s q) at_left.index e.left_floor at_left.entry fl.0.0 at_left.newest (entry_stays c01 (left_of s q) e.left_floor fl.0.0 fl.0.1);
+      right_known = newest_is_last book2 (right_of s q) at_right.index e.right_floor at_right.entry fl.1.0 at_right.newest (entry_stays c12 (right_of s q) e.right_floor fl.1.0 (entry_stays c01 (right_of s q) e.right_floor fl.1.0 fl.1.1));
     }
 
     -- and the try covers what was seen before it, or the node has an entry more
-    pub refreshed : (seen : Book) (done : Bool) → IsBook face s book → Continues book0 seen → Published s q old left_word right_word done book → Refreshed s seen q done book
+    pub refreshed : (seen : Book) (done : Bool) → IsBook face s book → ArePrefixes seen book0 → Published s q old left_word right_word done book → Refreshed s seen q done book
     refreshed seen done b c0 p = record {
       covers = λ yes. let past = inner.past_leaves in let inside = inner.inside in let t = twice s.bits in
           let left : p.entry.left ≡ at_left.index = same_word book b (left_of s q) p.entry.left at_left.index p.left_child at_left.entry (omega arith) p.left_at left_at (p.left_is yes ∙ sym at_left.named) in
@@ -85,12 +86,12 @@ module _ (face : ℕ → ℕ → List (ℕ × ℕ) → List ℕ) (s : Shape) whe
       let c = second_covers face s book seen b fresh q i x.0 y.0 inner (omega arith) x.1 y.1 in record { index = i + 1; entry = y.0; newest = record { at = y.1; last = omega arith }; left = c.left; right = c.right }
 
   -- what covers a later book covers an earlier one
-  pub covers_before : (seen later book : Book) (q : ℕ) → Continues later seen → NewestCovers s later book q → NewestCovers s seen book q
+  pub covers_before : (seen later book : Book) (q : ℕ) → ArePrefixes seen later → NewestCovers s later book q → NewestCovers s seen book q
   covers_before seen later book q on c = let l = no_shorter later seen on (left_of s q) in let r = no_shorter later seen on (right_of s q) in let cl = c.left in let cr = c.right in
       record { index = c.index; entry = c.entry; newest = c.newest; left = omega arith; right = omega arith }
 
   -- so after a try that failed, a second one leaves the node covering what was seen before the first, whether it fails too or not
-  pub covers_second : (seen between book : Book) (q : ℕ) (done : Bool) → IsInner s q → IsBook face s book → Continues between seen → IsFresh s book seen → length (history_of seen q) + 1 ≤ length (history_of between q)
+  pub covers_second : (seen between book : Book) (q : ℕ) (done : Bool) → IsInner s q → IsBook face s book → ArePrefixes seen between → IsFresh s book seen → length (history_of seen q) + 1 ≤ length (history_of between q)
       → Refreshed s between q done book → NewestCovers s seen book q
   covers_second seen between book q true inner b later fresh one r = covers_before seen between book q later (r.covers refl)
   covers_second seen between book q false inner b later fresh one r = covers_twice seen between book q inner b fresh one (r.longer refl)

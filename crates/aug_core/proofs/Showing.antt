@@ -4,11 +4,12 @@ use Rattle.std.proofs.lemmas.Bool.{cases_eq}
 use Rattle.std.proofs.Math.Nat.{two-pow-succ}
 use Rattle.aug_core.specs.Places.{Shape}
 use Rattle.aug_core.specs.Addresses.{IsInner, left_of, right_of}
-use Rattle.aug_core.specs.Book.{Book, history_of, At, Continues, IsBook}
+use Rattle.aug_core.specs.Book.{Book, history_of, At, ArePrefixes, IsBook}
 use Rattle.aug_core.specs.declared.view.Entry.{Entry}
 use Rattle.aug_core.proofs.Sizes.{twice, some_leaf}
 use Rattle.aug_core.specs.inside.Refreshes.{NewestCovers}
 use Rattle.aug_core.specs.inside.Shows.{above, toward, Shows, NewestShows}
+use Rattle.aug_core.proofs.PrefixLemmas.{entry_stays}
 
 -- ---- where the places above a key lie
 
@@ -46,9 +47,9 @@ later_children s key j low up = let past = (above_inner s key j low (omega arith
 -- ---- what is shown
 
 -- a later book shows it still
-pub shows_later : (s : Shape) (book seen : Book) (key level i n : ℕ) → Continues book seen → Shows s seen key level i n → Shows s book key level i n
-shows_later s book seen key zero i n later h = ((h.0.0, later key i h.0.0 h.0.1), h.1)
-shows_later s book seen key (suc level) i n later h = (h.0, later (above s key (suc level)) i h.0 h.1, shows_later s book seen key level (toward h.0 (above s key level)) n later h.2)
+pub shows_later : (s : Shape) (book seen : Book) (key level i n : ℕ) → ArePrefixes seen book → Shows s seen key level i n → Shows s book key level i n
+shows_later s book seen key zero i n later h = ((h.0.0, entry_stays later key i h.0.0 h.0.1), h.1)
+shows_later s book seen key (suc level) i n later h = (h.0, entry_stays later (above s key (suc level)) i h.0 h.1, shows_later s book seen key level (toward h.0 (above s key level)) n later h.2)
 
 -- the leaf has reached it
 pub shows_leaf : (s : Shape) (book : Book) (key level i n : ℕ) → Shows s book key level i n → (j : ℕ) × (e : Entry) × At book key j e × (n ≤ j)
@@ -82,7 +83,7 @@ module _ (face : ℕ → ℕ → List (ℕ × ℕ) → List ℕ) (s : Shape) (bo
       (f, p, shows_rises level (toward h.0 c) (toward f c) n below.0 (omega arith) h.2 (either_le (eqb (c % 2) 0) h.0.left h.0.right f.left f.right r.0 r.1) below.1)
 
   -- a node that covers what was seen shows what its child's newest entry showed then
-  pub shows_up : (seen : Book) (level n : ℕ) → suc level ≤ s.bits → Continues book seen → NewestCovers s seen book (above s key (suc level)) → NewestShows s seen key level n → NewestShows s book key (suc level) n
+  pub shows_up : (seen : Book) (level n : ℕ) → suc level ≤ s.bits → ArePrefixes seen book → NewestCovers s seen book (above s key (suc level)) → NewestShows s seen key level n → NewestShows s book key (suc level) n
   shows_up seen level n up later c h = let child : ℕ = above s key level in let q : ℕ = above s key (suc level) in let below = entry_below level c.index c.entry up c.newest.at in
       let long = h.newest.last in let cl = c.left in let cr = c.right in
       let enough : h.index ≤ toward c.entry child = ⊎_elim

@@ -22,6 +22,7 @@ use Rattle.aug_core.specs.declared.view.LaneState.TheVariants.{Free}
 use Rattle.std.proofs.lemmas.Bool.{cases_eq}
 use Rattle.atomic_table.proofs.Lists.{at_longer}
 use Rattle.aug_core.proofs.Stores.{alone}
+use Rattle.aug_core.proofs.PrefixLemmas.{book_none}
 
 module _ (face : ℕ → ℕ → List (ℕ × ℕ) → List ℕ) (o : Opening) (s : St) (r : Kept face o s) (id : ℕ) (v : SeatView) (at : get_elem? s.views id ≡ some v) (live : v.live ≡ true) (n : ℕ) (spare : v.spare ≡ Some n) (room : n < o.shape.workers) where
   abbrev fresh : Held
@@ -111,7 +112,7 @@ module _ (face : ℕ → ℕ → List (ℕ × ℕ) → List ℕ) (o : Opening) (
           shaped = kn.shaped;
           same_members = kn.same_members;
           saw = kn.saw;
-          also_saw = λ q i e p. absurd (some-ne-none e (sym p));
+          also_saw = book_none r.book;
           fresh = kn.fresh;
           holds = λ a h q. subst (HoldsLane o.shape s.words r.book) (alone fresh h a q).1 holds_new;
           spares = λ m lane e le low. let clash : None ≡ Some m = e in cc;

@@ -5,6 +5,7 @@ pub mod Addresses
 pub mod Lanes
 pub mod Faces
 pub mod Fields
+pub mod Prefixes
 pub mod Book
 pub mod Opening
 pub mod Kinds

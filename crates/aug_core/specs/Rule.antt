@@ -6,7 +6,7 @@ use Rattle.atomic_table.specs.Table.{State}
 use Rattle.aug_core.specs.Places.{Shape, lane_place, record_start, word_count, record_words}
 use Rattle.aug_core.specs.Addresses.{place_count, IsInner}
 use Rattle.aug_core.specs.Lanes.{IsOfLane, block_start, block_size, word_of_state}
-use Rattle.aug_core.specs.Book.{Book, At, IsNewest, Continues, IsFresh, IsBook}
+use Rattle.aug_core.specs.Book.{Book, At, IsNewest, ArePrefixes, IsFresh, IsBook}
 use Rattle.aug_core.specs.Opening.{Opening, IsIdle, shared_words, opening_book}
 use Rattle.aug_core.specs.Counts.{AreCounted, AreTallied}
 use Rattle.aug_core.specs.declared.view.Beginning.{Beginning}
@@ -50,9 +50,9 @@ pub record Knows (o : Opening) (words : List ℕ) (book : Book) (v : SeatView) :
   -- and which keys it opened with
   pub same_members : v.live ≡ true → v.members ≡ o.members
   -- each history that it has seen is a prefix of that in the book
-  pub saw : Continues book v.seen
+  pub saw : ArePrefixes v.seen book
   -- and so is each history that the seat that it took in had seen
-  pub also_saw : Continues book v.also
+  pub also_saw : ArePrefixes v.also book
   -- an entry that came after what the view has seen was published when the children showed at least what the view has seen of them
   pub fresh : IsFresh o.shape book v.seen
   -- each lane that it holds is as it has it
@@ -66,7 +66,7 @@ pub record KeepsTree (face : ℕ → ℕ → List (ℕ × ℕ) → List ℕ) (o 
   pub wide : length words ≡ word_count o.shape
   -- `book` is a book, and it begins as the table was opened
   pub is_book : IsBook face o.shape book
-  pub opened : Continues book (opening_book face o)
+  pub opened : ArePrefixes (opening_book face o) book
   -- the word of a leaf or a node is the one that names its newest entry
   pub newest : (q : ℕ) → q < place_count o.shape → NamesNewest words book q
   -- the words of a published record are those of its entry, and never change

@@ -7,7 +7,7 @@ use Rattle.aug_trie.specs.Pass.{PassFacts}
 use Rattle.aug_trie.specs.Node.{Keeps, Reads}
 use Rattle.aug_trie.specs.Snapshot.{HasSnapshot, set_at}
 use Rattle.aug_trie.specs.declared.queries.snapshot.Snapshot.{Snapshot}
-use Rattle.aug_trie.proofs.Pieces.{prefix_refl, prefix_trans}
+use Rattle.aug_core.proofs.PrefixLemmas.{prefix_refl, prefix_trans}
 
 module _ {A B : Type 0} (summary_of : List (ℕ × ℕ) → Summary A B) where
   pub keeps_self : (p : PassFacts) → Keeps summary_of p p

@@ -4,11 +4,12 @@ use Rattle.std.specs.Prelude.{All, take, drop}
 use Rattle.std.specs.List.{insert, remove}
 use Rattle.std.proofs.lemmas.List.Elements.{All-append, All-take, All-drop}
 use Rattle.aug_core.specs.Cuts.{Cut}
-use Rattle.aug_trie.specs.History.{IsPrefix, IsHistory}
+use Rattle.aug_core.specs.Prefixes.{IsPrefix}
+use Rattle.aug_trie.specs.History.{IsHistory}
 use Rattle.aug_trie.specs.Round.{RoundFacts}
 use Rattle.aug_trie.specs.Ended.{EndedFacts}
 use Rattle.aug_trie.specs.Crew.{CrewFacts, Ends}
-use Rattle.aug_trie.proofs.Pieces.{prefix_trans}
+use Rattle.aug_core.proofs.PrefixLemmas.{prefix_trans}
 use Rattle.aug_live.specs.inside.LaneKnowledge.{KnownFacts}
 use Rattle.aug_live.specs.inside.Rolls.{IsBackIn, HasCarried}
 use Rattle.aug_live.proofs.Carries.{carried_to}

@@ -1,7 +1,8 @@
 -- What is carried over from a round to later ones.
 use Rattle.std.specs.Prelude.{◌≡◌, ℕ, List, [], ◌∷◌}
 use Rattle.aug_core.specs.Cuts.{Cut, pairs_of_cut}
-use Rattle.aug_trie.specs.History.{IsPrefix, IsHistory, last_cut}
+use Rattle.aug_core.specs.Prefixes.{IsPrefix}
+use Rattle.aug_trie.specs.History.{IsHistory, last_cut}
 use Rattle.aug_trie.specs.Pass.{PassFacts}
 
 -- rounds of keys of `bits` bits lead from one set to another: each round has a history of its own, and begins with the set that the previous one

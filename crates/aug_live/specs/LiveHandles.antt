@@ -1,7 +1,7 @@
 -- What contracts see of a handle and of a look, and what their calls do.
 use Rattle.std.specs.Prelude.{◌≡◌, ◌⊎◌, ℕ, ◌<◌, ◌≤◌, List, []}
 use Rattle.aug_model.specs.Keys.{SetFacts}
-use Rattle.aug_trie.specs.History.{IsPrefix}
+use Rattle.aug_core.specs.Prefixes.{IsPrefix}
 use Rattle.aug_trie.specs.Pass.{PassFacts, GoesOn}
 use Rattle.aug_trie.specs.Snapshot.{set_at, snapshot_cut}
 use Rattle.aug_trie.specs.Updates.{TakesSnapshot}

@@ -5,7 +5,7 @@ ghost use Rattle.aug_model.specs.Keys.{IsKeySet, keys_of};
 ghost use Rattle.aug_core.specs.Layout.{IsLayout};
 ghost use Rattle.aug_core.specs.Places.{shape_of};
 ghost use Rattle.aug_trie.specs.Crew.{BeginsRound};
-ghost use Rattle.aug_trie.specs.History.{IsPrefix};
+ghost use Rattle.aug_core.specs.Prefixes.{IsPrefix};
 ghost use Rattle.aug_live.specs.inside.LaneKnowledge.{known_of};
 ghost use Rattle.aug_live.specs.inside.Rolls.{IsOf, IsBackIn, HasCarried, Starts};
 ghost use Rattle.aug_live.specs.declared.known.Whose.TheVariants.{Nobody, Roller, Handle};

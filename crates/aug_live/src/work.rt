@@ -1,6 +1,6 @@
 //! A pass beside its round.
 ghost use Rattle.std.specs.Prelude.{if◌then◌else◌, ◌≡◌, ℕ, ◌+◌, ◌^◌, ◌<◌, IfSome, IfNone};
-ghost use Rattle.aug_trie.specs.History.{IsPrefix};
+ghost use Rattle.aug_core.specs.Prefixes.{IsPrefix};
 ghost use Rattle.aug_trie.specs.Pass.{GoesOn};
 ghost use Rattle.std.specs.Arc.{arc_value};
 ghost use Rattle.aug_live.specs.inside.Changes.{ChangesTo};

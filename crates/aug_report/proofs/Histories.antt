@@ -3,9 +3,10 @@ use Rattle.std.proofs.Common.{◌≡◌, ℕ, zero, suc, ◌+◌, ◌-◌, ◌<�
 use Rattle.std.proofs.lemmas.List.{append-nil}
 use Rattle.std.proofs.lemmas.List.Prefix.{front_reads, front_fits}
 use Rattle.aug_core.specs.Cuts.{Cut, serial_of, IsAtMost, opening_cut}
-use Rattle.aug_trie.specs.History.{IsPrefix, last_cut, IsHistory}
+use Rattle.aug_core.specs.Prefixes.{IsPrefix}
+use Rattle.aug_trie.specs.History.{last_cut, IsHistory}
 use Rattle.aug_trie.proofs.CutLemmas.{serial_rises}
-use Rattle.aug_trie.proofs.Pieces.{prefix_refl, prefix_trans}
+use Rattle.aug_core.proofs.PrefixLemmas.{prefix_refl, prefix_trans}
 
 pub prefix-same : {A : Type 0} (xs ys : List A) → ys ≡ xs → IsPrefix xs ys
 prefix-same xs ys is = ([], is ∙ sym (append-nil xs))

@@ -10,7 +10,8 @@ use Rattle.aug_model.specs.declared.outcome.Outcome.TheVariants as outcome
 use Rattle.aug_model.proofs.Pairs.{keys_of-pairs_of}
 use Rattle.aug_core.specs.Counts.{change}
 use Rattle.aug_core.specs.Cuts.{Cut, shown_of, serial_of, weight_at, set_of_cut, pairs_of_cut, IsAtMost}
-use Rattle.aug_trie.specs.History.{IsPrefix, last_cut, IsHistory}
+use Rattle.aug_core.specs.Prefixes.{IsPrefix}
+use Rattle.aug_trie.specs.History.{last_cut, IsHistory}
 use Rattle.aug_core.specs.declared.view.Change.{Change}
 use Rattle.aug_trie.specs.Knowledge.{Knowledge, StandsIn, insertion, removal, inserts_of, removals_of}
 use Rattle.aug_trie.specs.Updates.{AcceptedUpdate, RefusedUpdate, ReplacedUpdate, RefusedPut, ComesTo}
@@ -28,7 +29,7 @@ use Rattle.aug_script.specs.declared.verb.Verb.{Verb}
 use Rattle.aug_script.specs.declared.verb.Verb.TheVariants as verb
 use Rattle.aug_trie.proofs.CutLemmas.{serial_rises, is_member-set_of_cut, same_cut, odd}
 use Rattle.aug_report.proofs.Histories.{below_of, prefix-same, prefix-length, last-rises, last-at_most_final}
-use Rattle.aug_trie.proofs.Pieces.{prefix_trans}
+use Rattle.aug_core.proofs.PrefixLemmas.{prefix_trans}
 use Rattle.aug_report.proofs.Advances.{AllShow, AllPast, ChangesOne, tally_one, tally_two, tally_nothing, tallies-front, tallies-rest}
 use Rattle.aug_trie.proofs.TallyLemmas.{counted, counted-append}
 use Rattle.aug_report.proofs.SetChanges.{pairs-with_key, pairs-without_key}

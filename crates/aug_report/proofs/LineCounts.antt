@@ -13,7 +13,7 @@ use Rattle.aug_script.specs.declared.report.Report.{Report}
 use Rattle.aug_script.specs.declared.row.Row.{Row}
 use Rattle.aug_report.specs.AllowedReport.{Lane, AllowedReport, lines_of, all_accepted}
 use Rattle.aug_trie.proofs.CutLemmas.{set_of_cut-opening}
-use Rattle.aug_trie.proofs.Pieces.{prefix_refl}
+use Rattle.aug_core.proofs.PrefixLemmas.{prefix_refl}
 use Rattle.aug_trie.proofs.TallyLemmas.{counted, counted-append, sizes}
 use Rattle.aug_report.proofs.Histories.{opening-at_most, opens-some}
 use Rattle.aug_report.proofs.Lanes.{story}

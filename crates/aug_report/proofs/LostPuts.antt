@@ -7,7 +7,8 @@ use Rattle.aug_model.specs.declared.outcome.Outcome.TheVariants as outcome
 use Rattle.aug_model.specs.Keys.{is_member, keys_of}
 use Rattle.aug_core.specs.Cuts.{Cut, serial_of, pairs_of_cut, opening_cut}
 use Rattle.aug_core.specs.declared.view.Change.{Change}
-use Rattle.aug_trie.specs.History.{IsPrefix, IsHistory, last_cut}
+use Rattle.aug_core.specs.Prefixes.{IsPrefix}
+use Rattle.aug_trie.specs.History.{IsHistory, last_cut}
 use Rattle.aug_trie.specs.Knowledge.{inserts_of, removals_of}
 use Rattle.aug_trie.specs.Updates.{ComesTo}
 use Rattle.aug_trie.specs.declared.updates.request.Request.TheVariants as request
@@ -19,7 +20,7 @@ use Rattle.aug_script.specs.declared.verb.Verb.{Verb}
 use Rattle.aug_script.specs.declared.verb.Verb.TheVariants as verb
 use Rattle.aug_report.specs.AllowedReport.{Lane, Answers, AnswersAll, AllowedReport, lines_of, all_accepted, reply_to_put}
 use Rattle.aug_trie.proofs.CutLemmas.{serial_rises}
-use Rattle.aug_trie.proofs.Pieces.{prefix_refl, prefix_trans}
+use Rattle.aug_core.proofs.PrefixLemmas.{prefix_refl, prefix_trans}
 use Rattle.aug_trie.proofs.TallyLemmas.{counted-cons}
 use Rattle.aug_report.proofs.Advances.{tally_nothing}
 use Rattle.aug_report.proofs.Histories.{opening-at_most, opens-some, prefix-length, last-at_most_final}

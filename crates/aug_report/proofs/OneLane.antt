@@ -18,7 +18,7 @@ use Rattle.aug_script.specs.declared.report.Report.{Report}
 use Rattle.aug_script.specs.declared.row.Row.{Row}
 use Rattle.aug_trie.proofs.CutLemmas.{same_cut, pairs_of_cut-opening}
 use Rattle.aug_report.proofs.Histories.{below_of, opening-at_most, opens-some, last-at_most_final}
-use Rattle.aug_trie.proofs.Pieces.{prefix_trans}
+use Rattle.aug_core.proofs.PrefixLemmas.{prefix_trans}
 use Rattle.aug_report.proofs.Advances.{tally_nothing, tallies-front, tallies-rest}
 use Rattle.aug_report.proofs.Lanes.{story, sets_of_lane}
 

@@ -11,7 +11,8 @@ use Rattle.aug_model.specs.declared.outcome.Outcome.TheVariants as outcome
 use Rattle.aug_core.specs.Counts.{change}
 use Rattle.aug_core.specs.Cuts.{Cut, serial_of, weight_at, set_of_cut, pairs_of_cut, opening_cut}
 use Rattle.aug_core.specs.declared.view.Change.{Change}
-use Rattle.aug_trie.specs.History.{IsPrefix, last_cut}
+use Rattle.aug_core.specs.Prefixes.{IsPrefix}
+use Rattle.aug_trie.specs.History.{last_cut}
 use Rattle.aug_trie.specs.Knowledge.{StandsIn}
 use Rattle.aug_trie.specs.Tallies.{Tallies, Weighs}
 use Rattle.aug_trie.specs.Updates.{ComesTo}
@@ -23,7 +24,7 @@ use Rattle.aug_script.specs.declared.verb.Verb.TheVariants as verb
 use Rattle.aug_report.specs.AllowedReport.{Lane, Answers, AnswersAll, RunsLane, AllowedReport, all_accepted, reply_to_put}
 use Rattle.aug_report.specs.Theorems.{row_at, report_with, put_and_query}
 use Rattle.aug_trie.proofs.CutLemmas.{serial-opening, serial_rises, is_member-set_of_cut}
-use Rattle.aug_trie.proofs.Pieces.{prefix_trans, either_prefix}
+use Rattle.aug_core.proofs.PrefixLemmas.{prefix_trans, either_prefix}
 use Rattle.aug_trie.proofs.TallyLemmas.{times_first, none_low, once_between}
 use Rattle.aug_report.proofs.Advances.{times_either}
 use Rattle.aug_report.proofs.Histories.{opening-at_most, prefix-length, last-rises, last-at_most_final}

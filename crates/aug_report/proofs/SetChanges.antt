@@ -4,7 +4,7 @@ use Rattle.std.proofs.lemmas.Bool.{eq-eqb, ne_eqb, cases_Bool, cases_lt, cases_e
 use Rattle.aug_model.specs.Keys.{is_member, pairs_of, with_pair, without_pair}
 use Rattle.aug_model.proofs.Pairs.{pairs_of-append}
 use Rattle.aug_core.specs.Cuts.{Cut, shown_of, serial_of, weight_at, set_of_cut, pairs_of_cut}
-use Rattle.aug_trie.proofs.Rising.{Rises, same_list, is_member-filter, rises-filter}
+use Rattle.aug_trie.proofs.Rising.{RisesFrom, same_list, is_member-filter, rises-filter}
 use Rattle.aug_trie.proofs.CutLemmas.{odd, rises-set_of_cut, is_member-set_of_cut}
 
 -- a list of keys with a key in it
@@ -49,7 +49,7 @@ is_member-with_key keys k x =
       | inr (inr gt) ↦ rw (le-ltb x k (omega arith), lt-ltb k x gt, ne_eqb k x (λ e. omega (arith, e)), and_true (is_member keys x), and_false (is_member keys x)) refl
     ])
 
-rises_past : (b k : ℕ) (xs : List ℕ) → Rises b xs → Rises (k + 1) (filter (λ x. nat_lt k x) xs)
+rises_past : (b k : ℕ) (xs : List ℕ) → RisesFrom b xs → RisesFrom (k + 1) (filter (λ x. nat_lt k x) xs)
 rises_past b k [] rises = tt
 rises_past b k (x ∷ xs) rises =
     elim (cases_lt k x) [
@@ -57,11 +57,11 @@ rises_past b k (x ∷ xs) rises =
       | inr ge ↦ rw (le-ltb k x ge) (rises_past (x + 1) k xs rises.1)
     ]
 
-none_before : (b k : ℕ) (xs : List ℕ) → Rises b xs → k ≤ b → filter (λ x. nat_lt x k) xs ≡ []
+none_before : (b k : ℕ) (xs : List ℕ) → RisesFrom b xs → k ≤ b → filter (λ x. nat_lt x k) xs ≡ []
 none_before b k [] rises le = refl
 none_before b k (x ∷ xs) rises le = rw (le-ltb x k (omega (arith, rises.0))) (none_before (x + 1) k xs rises.1 (omega (arith, rises.0)))
 
-pub rises-with_key : (b k : ℕ) (xs : List ℕ) → Rises b xs → b ≤ k → Rises b (with_key xs k)
+pub rises-with_key : (b k : ℕ) (xs : List ℕ) → RisesFrom b xs → b ≤ k → RisesFrom b (with_key xs k)
 rises-with_key b k [] rises le = (le, tt)
 rises-with_key b k (x ∷ xs) rises le =
     elim (cases_lt x k) [

@@ -2,7 +2,8 @@
 use Rattle.std.proofs.Common.{◌≡◌, ℕ, zero, suc, ◌<◌, List, [], ◌∷◌, ◌++◌, length, get_or, refl, ap, sym, ◌∙◌, arith, All, append_assoc, subst}
 use Rattle.std.proofs.lemmas.List.{append-nil}
 use Rattle.aug_core.specs.Cuts.{Cut, opening_cut, pairs_of_cut}
-use Rattle.aug_trie.specs.History.{IsPrefix, IsHistory, last_cut}
+use Rattle.aug_core.specs.Prefixes.{IsPrefix}
+use Rattle.aug_trie.specs.History.{IsHistory, last_cut}
 use Rattle.aug_core.specs.declared.view.Change.{Change}
 use Rattle.aug_trie.specs.Knowledge.{Knowledge, inserts_of, removals_of}
 use Rattle.aug_trie.specs.Tallies.{Tallies, TalliesWithLost, Weighs}
@@ -10,7 +11,7 @@ use Rattle.aug_report.specs.AllowedReport.{AllowedReport, Lane, Opens, AnswersAl
 use Rattle.aug_run.specs.inside.RoundLanes.{BacksAll, Started}
 use Rattle.aug_script.specs.declared.report.Report.{Report}
 use Rattle.aug_report.proofs.Histories.{prefix-same}
-use Rattle.aug_trie.proofs.Pieces.{prefix_trans}
+use Rattle.aug_core.proofs.PrefixLemmas.{prefix_trans}
 use Rattle.aug_trie.proofs.Tallying.{none_lost_tallies}
 use Rattle.aug_trie.proofs.TallyLemmas.{none_lost_weighs}
 

@@ -5,7 +5,7 @@ use Rattle.std.proofs.lemmas.List.{append-nil}
 use Rattle.std.proofs.lemmas.List.Elements.{All-nil, All-cons, All-append, All-weaker}
 use Rattle.aug_core.specs.Places.{Shape}
 use Rattle.aug_core.specs.Addresses.{root_place}
-use Rattle.aug_core.specs.Book.{Continues, IsBook}
+use Rattle.aug_core.specs.Book.{ArePrefixes, IsBook}
 use Rattle.aug_core.specs.Counts.{change, changes_of}
 use Rattle.aug_core.specs.Told.{KnowsTable, LoadsNode, made_by, new_serial}
 use Rattle.aug_core.specs.Cuts.{serial_of, IsAtMost}
@@ -20,7 +20,8 @@ use Rattle.aug_model.specs.declared.outcome.Outcome.{Outcome}
 use Rattle.aug_model.specs.declared.outcome.Outcome.TheVariants.{Accepted, Replaced, Refused}
 use Rattle.aug_trie.specs.inside.Goes.{Goes}
 use Rattle.aug_trie.specs.inside.Climbing.{WentUp, Stayed, Updated, advance_from}
-use Rattle.aug_trie.specs.History.{IsPrefix, last_cut}
+use Rattle.aug_core.specs.Prefixes.{IsPrefix}
+use Rattle.aug_trie.specs.History.{last_cut}
 use Rattle.aug_trie.specs.Knowledge.{StandsIn, insertion, removal}
 use Rattle.aug_trie.specs.LeafWords.{serial_in_word}
 use Rattle.aug_trie.specs.Requests.{in_the_way}
@@ -34,11 +35,11 @@ use Rattle.aug_trie.proofs.Standing.{at_least, stands_later, stands_last, never_
 
 module _ (face : ℕ → ℕ → List (ℕ × ℕ) → List ℕ) where
   -- a later view's history goes on
-  pub knows_on : (v w : SeatView) → KnowsTable face v → w.shape ≡ v.shape → Continues w.seen v.seen → IsPrefix (knows v).history (knows w).history
+  pub knows_on : (v w : SeatView) → KnowsTable face v → w.shape ≡ v.shape → ArePrefixes v.seen w.seen → IsPrefix (knows v).history (knows w).history
   knows_on v w kn shaped later = subst (λ (z : Shape). IsPrefix (root_history v.shape v.seen) (root_history z w.seen)) (sym shaped) (history_on face v.shape v.seen kn.book w.seen later)
 
   -- and its last cut rises
-  pub knows_more : (v w : SeatView) → KnowsTable face v → KnowsTable face w → w.shape ≡ v.shape → Continues w.seen v.seen → IsAtMost (last_cut (knows v).history) (last_cut (knows w).history)
+  pub knows_more : (v w : SeatView) → KnowsTable face v → KnowsTable face w → w.shape ≡ v.shape → ArePrefixes v.seen w.seen → IsAtMost (last_cut (knows v).history) (last_cut (knows w).history)
   knows_more v w kn kn' shaped later = subst (λ (z : Shape). IsAtMost (last_cut (root_history v.shape v.seen)) (last_cut (root_history z w.seen))) (sym shaped)
       (last_rises face v.shape v.seen w.seen kn.book (subst (λ (z : Shape). IsBook face z w.seen) shaped kn'.book) later (root_some face v kn))
 
@@ -46,7 +47,7 @@ module _ (face : ℕ → ℕ → List (ℕ × ℕ) → List ℕ) where
   shown_of v w key n shaped low shown = subst (λ (z : Shape). n ≤ serial_of (last_cut (root_history z w.seen)) key) (sym shaped) (shown_last v.shape w.seen key n low shown)
 
   -- changes that stand in what was known stand in what is known
-  pub stands_on : (v w : SeatView) (changes : List Change) → KnowsTable face v → KnowsTable face w → w.shape ≡ v.shape → Continues w.seen v.seen → All (StandsIn (last_cut (knows v).history)) changes → All (StandsIn (last_cut (knows w).history)) changes
+  pub stands_on : (v w : SeatView) (changes : List Change) → KnowsTable face v → KnowsTable face w → w.shape ≡ v.shape → ArePrefixes v.seen w.seen → All (StandsIn (last_cut (knows v).history)) changes → All (StandsIn (last_cut (knows w).history)) changes
   stands_on v w changes kn kn' shaped later stand = let more = knows_more v w kn kn' shaped later in
       All-weaker (StandsIn (last_cut (knows v).history)) (StandsIn (last_cut (knows w).history)) (λ c. stands_later (last_cut (knows v).history) (last_cut (knows w).history) c more) changes stand
 

@@ -26,6 +26,7 @@ use Rattle.aug_trie.proofs.Ranking.{looks_on, looks_one, seen_looking, says_look
 use Rattle.aug_trie.proofs.Publishing.{may_publish, published, goes_tried, free_again}
 use Rattle.aug_trie.proofs.Telling.{has_seen, part_of_leaf, part_of_node}
 use Rattle.aug_trie.proofs.Whole.{says, tries, even, part_few}
+use Rattle.aug_core.proofs.PrefixLemmas.{book_refl, book_trans}
 
 -- ---- the views so far
 
@@ -171,7 +172,7 @@ module _ {A B : Type 0} (parts_a : Parts A) (parts_b : Parts B) (laws_a : IsMono
     pub counts_fit : get_or words 0 0 + get_or words 3 0 ≤ 131072
     counts_fit = let l = a.lefts in
         let e_l = has_entry both third.shape third.seen a.second.seen (left_of v.shape q) left a.goes.later l.at_left in
-        let e_r = has_entry both third.shape third.seen third.seen (right_of v.shape q) right (λ p i e z. z) a.at_right in
+        let e_r = has_entry both third.shape third.seen third.seen (right_of v.shape q) right (book_refl third.seen) a.at_right in
         let x = part_few parts_a parts_b third.shape third (left_of v.shape q) left _ _ _ refl few_third inner_left.inside kn_third e_l left_told in
         let y = part_few parts_a parts_b third.shape third (right_of v.shape q) right _ _ _ refl few_third inner_right.inside kn_third e_r right_told in omega arith
 
@@ -189,7 +190,7 @@ module _ {A B : Type 0} (parts_a : Parts A) (parts_b : Parts B) (laws_a : IsMono
       let inner_r : IsInner third.shape (right_of v.shape q) = subst (λ (z : Shape). IsInner z (right_of v.shape q)) (sym shaped)
       record { past_leaves = let n = a.nodes in omega arith; inside = let past = t.inner.past_leaves in let inside = t.inner.inside in let w = twice v.shape.bits in omega arith } in
       let e_l = has_entry both third.shape third.seen loaded.second.seen (left_of v.shape q) r.left loaded.goes.later loaded.lefts.at_left in
-      let e_r = has_entry both third.shape third.seen third.seen (right_of v.shape q) r.right (λ p i e z. z) loaded.at_right in
+      let e_r = has_entry both third.shape third.seen third.seen (right_of v.shape q) r.right (book_refl third.seen) loaded.at_right in
       seen_looking r.count third old (child_at r.left r.right r.count) a.looks
       (either (ltb r.count 3) (has_seen both third (left_of v.shape q) r.left kn inner_l e_l) (has_seen both third (right_of v.shape q) r.right kn inner_r e_r))
     where
@@ -315,6 +316,6 @@ module _ {A B : Type 0} (parts_a : Parts A) (parts_b : Parts B) (v : SeatView) (
           goes = goes_on f 0 (number + 1) (number + 1) [] v old w (omega arith) (omega arith) g_old gw;
           took = took_on v old w (8 + 2 * n) 1 (try_steps n) (omega arith) (took_on v held.told old (3 + 2 * n) record_words (8 + 2 * n) (omega arith) took_told took_old) (took_one old w _ refl tried.stepped);
           tries = tries f v first second held.third held.told w q r.from (get_or r.five 0 0) (get_or r.five 1 0) number done t.inner gw.knows_table (gw.shaped ∙ g_old.shaped) g_told.shaped
-              l.node.goes.later l.goes.later held.loaded.goes.later (λ p i e z. to_w.later p i e (held.goes.later p i e z)) l.node.at_node l.at_left held.loaded.at_right p
+              l.node.goes.later l.goes.later held.loaded.goes.later (book_trans held.goes.later to_w.later) l.node.at_node l.at_left held.loaded.at_right p
               (λ bad. free_again f old w q r.from number found done decided tried knows_old bad room_old.is_free);
         }

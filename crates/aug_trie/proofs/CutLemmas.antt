@@ -11,7 +11,7 @@ use Rattle.aug_model.specs.Queries.{weight_in}
 use Rattle.aug_model.proofs.Pairs.{agrees-own, pairs-again}
 use Rattle.aug_model.proofs.Ranges.{rises_from}
 use Rattle.aug_core.specs.Cuts.{Cut, shown_of, serial_of, weight_at, set_of_cut, pairs_of_cut, opening_cut, IsAtMost}
-use Rattle.aug_trie.proofs.Rising.{Rises, rises_of, same_list, is_member-filter, is_member-range, rises-range, rises-filter, head_there}
+use Rattle.aug_trie.proofs.Rising.{RisesFrom, rises_of, same_list, is_member-filter, is_member-range, rises-range, rises-filter, head_there}
 
 abbrev pub odd : ℕ → Bool
 odd n = n % 2 == 1
@@ -27,7 +27,7 @@ serial_rises c d k le = elim (le.no_greater k) [
   | inr same ↦ omega (arith, ap (λ (z : ℕ × ℕ). z.0) same)
 ]
 
-pub rises-set_of_cut : (cut : Cut) → Rises 0 (set_of_cut cut)
+pub rises-set_of_cut : (cut : Cut) → RisesFrom 0 (set_of_cut cut)
 rises-set_of_cut cut = rises-filter (λ key. odd (serial_of cut key)) 0 (range_with_len 0 (length cut)) (rises-range 0 (length cut))
 
 -- a key is in the set of a cut exactly where its serial is odd

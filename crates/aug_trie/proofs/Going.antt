@@ -7,9 +7,10 @@ use mathlib.Core.Option.{some, some-injective}
 use lib.ListN.{get_elem?}
 use Rattle.aug_core.specs.Places.{Shape}
 use Rattle.aug_core.specs.Lanes.{first_record, lane_records, block_start, block_size}
-use Rattle.aug_core.specs.Book.{Continues, IsFresh}
+use Rattle.aug_core.specs.Book.{ArePrefixes, IsFresh}
 use Rattle.aug_core.specs.Rule.{Lists}
 use Rattle.aug_core.specs.Counts.{changes_of}
+use Rattle.aug_core.specs.Kinds.{store_record_word}
 use Rattle.aug_core.specs.Told.{HoldsOnly, own_lane, on_first, with_word, with_published, with_changes, stepping, storing, seeing, beginning, publishing, changing, KnowsTable, MayStore, MayChange, Sees}
 use Rattle.aug_core.specs.declared.step.StepTaken.{StepTaken}
 use Rattle.aug_core.specs.declared.view.Change.{Change}
@@ -21,6 +22,7 @@ use Rattle.aug_core.proofs.Books.{fresh_now, fresh_on}
 use Rattle.aug_core.proofs.Fits.{knows_shown, knows_same}
 use Rattle.aug_trie.specs.inside.Points.{QuietStep}
 use Rattle.aug_trie.specs.inside.Goes.{IsFree, HasRoom, Took, TookBetween, Goes}
+use Rattle.aug_core.proofs.PrefixLemmas.{book_refl, book_trans}
 
 -- ---- steps, one after another
 
@@ -86,7 +88,7 @@ pub may_change : (v : SeatView) (next records : ℕ) → HasRoom v next records 
 may_change v next records r few = let f = r.is_free in record { lane = f.lane; only = f.only; room = subst (λ (z : List Change). length z + 2 ≤ 2 * v.shape.updates) (only_changes v f.lane f.only) few }
 
 -- a load that showed the book is one step, in which no update began
-pub quiet_seeing : (v w : SeatView) (taken : StepTaken) → w ≡ seeing v w.seen taken → Continues w.seen v.seen → QuietStep v w
+pub quiet_seeing : (v w : SeatView) (taken : StepTaken) → w ≡ seeing v w.seen taken → ArePrefixes v.seen w.seen → QuietStep v w
 quiet_seeing v w taken is later = (
   record {
     taken = taken;
@@ -99,10 +101,20 @@ quiet_seeing v w taken is later = (
   ap (λ (z : SeatView). z.began) is,
 )
 
+-- so is one that showed nothing of the book, and a store
+pub quiet_stepping : (v w : SeatView) (taken : StepTaken) → w ≡ stepping v taken → QuietStep v w
+quiet_stepping v w taken is = subst (QuietStep v) (sym is) (record { taken = taken; steps = refl; later = book_refl v.seen; shaped = refl; same_members = refl; lane = refl }, refl)
+
+pub quiet_storing : (v w : SeatView) (place value : ℕ) → w ≡ storing v place value → QuietStep v w
+quiet_storing v w place value is = subst (QuietStep v) (sym is) (
+  record { taken = store_record_word place value; steps = refl; later = book_refl v.seen; shaped = refl; same_members = refl; lane = own_lane_on (with_word v.shape place value) v.held (λ h. refl) },
+  refl,
+)
+
 module _ (face : ℕ → ℕ → List (ℕ × ℕ) → List ℕ) where
   pub goes_self : (v : SeatView) → KnowsTable face v → Goes face 0 [] v v
   goes_self v kn = record {
-    later = λ q i e p. p;
+    later = book_refl v.seen;
     fresh = fresh_now v.shape v.seen;
     knows_table = kn;
     shaped = refl;
@@ -115,7 +127,7 @@ module _ (face : ℕ → ℕ → List (ℕ × ℕ) → List ℕ) where
   -- steps after steps
   pub goes_after : (a b c : ℕ) (gained more all : List Change) (u v w : SeatView) → a ≤ c → b ≤ c → gained ++ more ≡ all → Goes face a gained u v → Goes face b more v w → Goes face c all u w
   goes_after a b c gained more all u v w ac bc total x y = record {
-    later = λ q i e p. y.later q i e (x.later q i e p);
+    later = book_trans x.later y.later;
     fresh = fresh_on u.shape u.seen v.seen w.seen x.later y.later x.fresh (subst (λ (z : Shape). IsFresh z w.seen v.seen) x.shaped y.fresh);
     knows_table = y.knows_table;
     shaped = y.shaped ∙ x.shaped;
@@ -135,7 +147,7 @@ module _ (face : ℕ → ℕ → List (ℕ × ℕ) → List ℕ) where
   -- a view that only made a step
   pub goes_stepping : (v w : SeatView) (taken : StepTaken) → w ≡ stepping v taken → KnowsTable face v → Goes face 0 [] v w
   goes_stepping v w taken is kn = subst (Goes face 0 [] v) (sym is) record {
-    later = λ q i e p. p;
+    later = book_refl v.seen;
     fresh = fresh_now v.shape v.seen;
     knows_table = knows_same face v v.live v.also v.held v.spare v.began (v.steps ++ taken ∷ []) kn;
     shaped = refl;
@@ -148,7 +160,7 @@ module _ (face : ℕ → ℕ → List (ℕ × ℕ) → List ℕ) where
   -- one that stored a word of its lane
   pub goes_storing : (v w : SeatView) (place value : ℕ) → w ≡ storing v place value → KnowsTable face v → Goes face 0 [] v w
   goes_storing v w place value is kn = let f' : Held → Held = with_word v.shape place value in subst (Goes face 0 [] v) (sym is) record {
-    later = λ q i e p. p;
+    later = book_refl v.seen;
     fresh = fresh_now v.shape v.seen;
     knows_table = knows_same face v v.live v.also (storing v place value).held v.spare v.began (storing v place value).steps kn;
     shaped = refl;

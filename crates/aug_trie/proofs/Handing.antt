@@ -1,5 +1,5 @@
 -- What a lead knows as it hands a lane out and takes a pass back.
-use Rattle.std.proofs.Common.{◌≡◌, ℕ, ◌+◌, ◌*◌, ◌^◌, ◌<◌, List, [], ◌++◌, length, length-append, All, sym, refl, ap, ◌∙◌, subst, arith}
+use Rattle.std.proofs.Common.{◌≡◌, ℕ, ◌+◌, ◌*◌, ◌^◌, ◌<◌, List, [], ◌∷◌, ◌++◌, append_assoc, length, length-append, All, sym, refl, ap, ◌∙◌, subst, arith}
 use Rattle.std.specs.Prelude.{unwrap_or, Some}
 use Rattle.std.proofs.lemmas.List.{length-replicate}
 use Rattle.std.proofs.lemmas.List.Elements.{All-nil, All-append}
@@ -22,7 +22,11 @@ use Rattle.aug_trie.specs.inside.PassState.{IsPass}
 use Rattle.aug_trie.specs.inside.CrewState.{IsCrew}
 use Rattle.aug_trie.proofs.Histories.{is_history}
 use Rattle.aug_trie.proofs.Accepting.{knows_on, stands_on}
-use Rattle.aug_trie.proofs.Pieces.{either_prefix, changes-append}
+use Rattle.aug_core.proofs.PrefixLemmas.{either_prefix}
+
+changes-append : (a b : List Held) → changes_of (a ++ b) ≡ changes_of a ++ changes_of b
+changes-append [] b = refl
+changes-append (h ∷ hs) b = ap (λ (z : List Change). h.changes ++ z) (changes-append hs b) ∙ sym (append_assoc h.changes (changes_of hs) (changes_of b))
 
 module _ (face : ℕ → ℕ → List (ℕ × ℕ) → List ℕ) where
   -- the lead of a new table is a crew

@@ -3,7 +3,7 @@ use Rattle.std.proofs.Common.{◌≡◌, ℕ, ◌+◌, ◌-◌, ◌^◌, ◌<◌
 use Rattle.std.proofs.lemmas.List.FromFn.{length-map-range_with_len, get_or-map-range_with_len}
 use Rattle.aug_core.specs.Places.{Shape}
 use Rattle.aug_core.specs.Addresses.{root_place}
-use Rattle.aug_core.specs.Book.{Book, history_of, Continues, IsBook}
+use Rattle.aug_core.specs.Book.{Book, history_of, ArePrefixes, IsBook}
 use Rattle.aug_core.specs.Opening.{opening_book}
 use Rattle.aug_core.specs.declared.view.Entry.{Entry}
 use Rattle.aug_core.specs.declared.view.SeatView.{SeatView}
@@ -15,12 +15,13 @@ use Rattle.aug_core.proofs.Openings.{is_book, inner_history}
 use Rattle.aug_core.specs.inside.Shows.{above, NewestShows, ShowsAtMost}
 use Rattle.aug_core.proofs.Showing.{above_root}
 use Rattle.aug_core.specs.Cuts.{Cut, shown_of, serial_of, opening_cut, IsAtMost}
-use Rattle.aug_trie.specs.History.{IsPrefix, IsHistory, last_cut}
+use Rattle.aug_core.specs.Prefixes.{IsPrefix}
+use Rattle.aug_trie.specs.History.{IsHistory, last_cut}
 use Rattle.aug_core.specs.inside.EntryCuts.{entry_of}
 use Rattle.aug_core.specs.inside.RootCuts.{root_cut}
 use Rattle.aug_core.specs.Told.{KnowsTable, opening_of}
 use Rattle.aug_trie.specs.inside.Knows.{root_history, root_numbers}
-use Rattle.aug_trie.proofs.Pieces.{prefix_at}
+use Rattle.aug_core.proofs.PrefixLemmas.{prefix_at}
 use Rattle.aug_core.proofs.Levels.{root_word}
 use Rattle.aug_core.proofs.CutsUnder.{reached, shown_is, serial_is, shows_reached}
 use Rattle.aug_core.proofs.EntryCuts.{Has, reached_shows, root_rises, cut_later}
@@ -64,14 +65,14 @@ module _ (face : ℕ → ℕ → List (ℕ × ℕ) → List ℕ) (s : Shape) (bo
       let is = ap (λ (z : Cut). serial_of z key) (last_is s book i (omega arith)) ∙ root_serial s book key i low in omega arith
 
   -- a later book's history begins with the earlier one's
-  pub history_on : (later : Book) → Continues later book → IsPrefix (root_history s book) (root_history s later)
+  pub history_on : (later : Book) → ArePrefixes book later → IsPrefix (root_history s book) (root_history s later)
   history_on later grows = let l = history_long s book in let m = history_long s later in let le = no_shorter later book grows (root_place s) in
       prefix_at (root_history s book) (root_history s later) [] (omega arith)
       (λ i low. let h : Has book (root_place s) i = omega arith in let h' : Has later (root_place s) i = omega arith in
       cut_at s book i h ∙ sym (cut_later face s book b later s.bits 0 (root_place s) i grows (root_word s) h) ∙ sym (cut_at s later i h'))
 
 -- the last cut rises
-pub last_rises : (face : ℕ → ℕ → List (ℕ × ℕ) → List ℕ) (s : Shape) (seen book : Book) → IsBook face s seen → IsBook face s book → Continues book seen → 0 < length (history_of seen (root_place s)) → IsAtMost (last_cut (root_history s seen)) (last_cut (root_history s book))
+pub last_rises : (face : ℕ → ℕ → List (ℕ × ℕ) → List ℕ) (s : Shape) (seen book : Book) → IsBook face s seen → IsBook face s book → ArePrefixes seen book → 0 < length (history_of seen (root_place s)) → IsAtMost (last_cut (root_history s seen)) (last_cut (root_history s book))
 last_rises face s seen book b b' later some = let le = no_shorter book seen later (root_place s) in let i : ℕ = length (history_of seen (root_place s)) - 1 in let j : ℕ = length (history_of book (root_place s)) - 1 in
     let x : root_cut s book i ≡ last_cut (root_history s seen) = cut_later face s seen b book s.bits 0 (root_place s) i later (root_word s) (omega arith) ∙ sym (last_is s seen i (omega arith)) in
     let y : root_cut s book j ≡ last_cut (root_history s book) = sym (last_is s book j (omega arith)) in

@@ -2,7 +2,7 @@
 use Rattle.std.proofs.Common.{ℕ, List, ◌++◌, sym, ap, ◌∙◌, arith}
 use Rattle.aug_core.specs.Places.{Shape}
 use Rattle.aug_core.specs.Addresses.{root_place}
-use Rattle.aug_core.specs.Book.{Book, history_of, Continues, IsBook}
+use Rattle.aug_core.specs.Book.{Book, history_of, ArePrefixes, IsBook}
 use Rattle.aug_core.specs.Cuts.{Cut}
 use Rattle.aug_core.specs.inside.EntryCuts.{IsPartOfCut}
 use Rattle.aug_core.specs.declared.view.Entry.{Entry}
@@ -11,8 +11,9 @@ use Rattle.aug_core.proofs.Levels.{root_word}
 use Rattle.aug_core.proofs.EntryCuts.{entry_later, cut_later}
 use Rattle.aug_trie.specs.inside.NamedCuts.{IsSnapshotOf}
 use Rattle.aug_trie.specs.inside.NodeWords.{IsNodeAt}
+use Rattle.aug_core.proofs.PrefixLemmas.{entry_stays}
 
-module _ (face : ℕ → ℕ → List (ℕ × ℕ) → List ℕ) (s : Shape) (book later : Book) (b : IsBook face s book) (grows : Continues later book) where
+module _ (face : ℕ → ℕ → List (ℕ × ℕ) → List ℕ) (s : Shape) (book later : Book) (b : IsBook face s book) (grows : ArePrefixes book later) where
   pub part_later : (cut : Cut) (level place q i : ℕ) → IsPartOfCut s book cut level place q i → IsPartOfCut s later cut level place q i
   part_later cut level place q i p = record {
     word = p.word;
@@ -35,7 +36,7 @@ module _ (face : ℕ → ℕ → List (ℕ × ℕ) → List ℕ) (s : Shape) (bo
   snapshot_later number cut t = record {
     index = t.index;
     entry = t.entry;
-    at = grows (root_place s) t.index t.entry t.at;
+    at = entry_stays grows (root_place s) t.index t.entry t.at;
     numbered = t.numbered;
     cut_is = t.cut_is ∙ sym (cut_later face s book b later s.bits 0 (root_place s) t.index grows (root_word s) (at_below (history_of book (root_place s)) t.index t.entry t.at));
   }

@@ -2,7 +2,7 @@
 use Rattle.std.proofs.Common.{◌≡◌, ℕ, zero, suc, ◌+◌, ◌*◌, ◌/◌, ◌^◌, ◌<◌, ◌≤◌, Bool, if◌then◌else◌, List, lt-ltb, le-ltb, ap, arith}
 use Rattle.aug_core.specs.Places.{Shape}
 use Rattle.aug_core.specs.Addresses.{left_of}
-use Rattle.aug_core.specs.Book.{Book, Continues, IsBook}
+use Rattle.aug_core.specs.Book.{Book, ArePrefixes, IsBook}
 use Rattle.aug_core.specs.inside.Shows.{above, Lifts}
 use Rattle.aug_core.specs.inside.Refreshes.{NewestCovers}
 use Rattle.aug_core.specs.declared.view.SeatView.{SeatView}
@@ -30,5 +30,5 @@ took_level s u v w key zero low up x y = let c = cost_first s key low up in betw
 took_level s u v w key (suc j) low up x y = let c = cost_later s key j low up in between_on u v w _ _ _ _ _ _ (omega arith) (omega arith) x y
 
 module _ (f : ℕ → ℕ → List (ℕ × ℕ) → List ℕ) where
-  pub lifts_level : (s : Shape) (seen : Book) (v w : SeatView) (key level : ℕ) → key < 2 ^ s.bits → suc level ≤ s.bits → IsBook f s w.seen → Continues w.seen v.seen → NewestCovers s v.seen w.seen (above s key (suc level)) → Lifts s seen v.seen key level → Lifts s seen w.seen key (suc level)
+  pub lifts_level : (s : Shape) (seen : Book) (v w : SeatView) (key level : ℕ) → key < 2 ^ s.bits → suc level ≤ s.bits → IsBook f s w.seen → ArePrefixes v.seen w.seen → NewestCovers s v.seen w.seen (above s key (suc level)) → Lifts s seen v.seen key level → Lifts s seen w.seen key (suc level)
   lifts_level s seen v w key level low up b later c h = record { lifted = λ n x. shows_up f s w.seen b key low v.seen level n up later c (h.lifted n x) }

@@ -1,5 +1,4 @@
 pub mod Going
-pub mod Pieces
 pub mod LeafWords
 pub mod Requesting
 pub mod Histories

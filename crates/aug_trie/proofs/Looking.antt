@@ -19,11 +19,12 @@ use Rattle.aug_trie.specs.inside.NodeWords.{IsNodeAt}
 use Rattle.aug_trie.specs.inside.Goes.{Goes, Looks}
 use Rattle.aug_trie.specs.TreeOf.{IsTreeOf}
 use Rattle.aug_trie.proofs.Walking.{node_seen, left_node, right_node, node_told, count_few, count_told, leaf_told, leaf_weight}
+use Rattle.aug_core.proofs.PrefixLemmas.{book_refl}
 
 -- a view that made steps and learnt nothing
 pub goes_looking : (f : ℕ → ℕ → List (ℕ × ℕ) → List ℕ) (most : ℕ) (v w : SeatView) → Looks most v w → KnowsTable f v → Goes f 0 [] v w
 goes_looking f most v w l kn = subst (Goes f 0 [] v) (sym l.is) record {
-  later = λ q i e p. p;
+  later = book_refl v.seen;
   fresh = fresh_now v.shape v.seen;
   knows_table = knows_same f v v.live v.also v.held v.spare v.began (v.steps ++ l.more) kn;
   shaped = refl;

@@ -6,9 +6,9 @@ use Rattle.std.specs.List.Sorted.{IsStrictlyIncreasing}
 use Rattle.aug_model.specs.Keys.{is_member}
 
 -- the list rises, and begins with at least b
-abbrev pub Rises : ℕ → List ℕ → Type 0
-Rises b [] = Unit {0}
-Rises b (x ∷ xs) = (b ≤ x) × Rises (x + 1) xs
+abbrev pub RisesFrom : ℕ → List ℕ → Type 0
+RisesFrom b [] = Unit {0}
+RisesFrom b (x ∷ xs) = (b ≤ x) × RisesFrom (x + 1) xs
 
 tail_up : (x : ℕ) (xs : List ℕ) → IsStrictlyIncreasing (x ∷ xs) → IsStrictlyIncreasing xs
 tail_up x xs up k below =
@@ -16,14 +16,14 @@ tail_up x xs up k below =
     let step = up (suc k) (omega arith) in
     omega (arith, step, ap (slice_index (x ∷ xs)) e)
 
-pub rises_of : (b : ℕ) (xs : List ℕ) → IsStrictlyIncreasing xs → (0 < length xs → b ≤ slice_index xs 0) → Rises b xs
+pub rises_of : (b : ℕ) (xs : List ℕ) → IsStrictlyIncreasing xs → (0 < length xs → b ≤ slice_index xs 0) → RisesFrom b xs
 rises_of b [] up low = tt
 rises_of b (x ∷ xs) up low = (low (omega arith), rises_of (x + 1) xs (tail_up x xs up) (λ some. first some))
   where
     first : 0 < length xs → x + 1 ≤ slice_index xs 0
     first some = let e : 0 + 1 ≡ suc 0 = omega arith in omega (arith, up 0 (omega arith), ap (slice_index (x ∷ xs)) e)
 
-pub low_absent : (b : ℕ) (xs : List ℕ) (k : ℕ) → Rises b xs → k < b → is_member xs k ≡ false
+pub low_absent : (b : ℕ) (xs : List ℕ) (k : ℕ) → RisesFrom b xs → k < b → is_member xs k ≡ false
 low_absent b [] k rises low = refl
 low_absent b (x ∷ xs) k rises low = rw (ne_eqb x k (λ e. omega (arith, rises.0))) (low_absent (x + 1) xs k rises.1 (omega (arith, rises.0)))
 
@@ -34,19 +34,19 @@ abbrev SameMembers : List ℕ → List ℕ → Type 0
 SameMembers xs ys = (k : ℕ) → is_member xs k ≡ is_member ys k
 
 -- a first member that is below the other list's is not in it
-too_low : (x y : ℕ) (xs ys : List ℕ) → Rises (y + 1) ys → SameMembers (x ∷ xs) (y ∷ ys) → x < y → ⊥
+too_low : (x y : ℕ) (xs ys : List ℕ) → RisesFrom (y + 1) ys → SameMembers (x ∷ xs) (y ∷ ys) → x < y → ⊥
 too_low x y xs ys rises same low =
     let absent : is_member (y ∷ ys) x ≡ false = rw (ne_eqb y x (λ e. omega (arith, e))) (low_absent (y + 1) ys x rises (omega arith)) in
     false≢true (sym absent ∙ sym (same x) ∙ head_there x xs)
 
-tails : (x : ℕ) (xs ys : List ℕ) → Rises (x + 1) xs → Rises (x + 1) ys → SameMembers (x ∷ xs) (x ∷ ys) → SameMembers xs ys
+tails : (x : ℕ) (xs ys : List ℕ) → RisesFrom (x + 1) xs → RisesFrom (x + 1) ys → SameMembers (x ∷ xs) (x ∷ ys) → SameMembers xs ys
 tails x xs ys up_x up_y same k =
     elim (cases_eq x k) [
       | inl e ↦ low_absent (x + 1) xs k up_x (omega (arith, e)) ∙ sym (low_absent (x + 1) ys k up_y (omega (arith, e)))
       | inr ne ↦ (let off = ne_eqb x k ne in rw off at (same k))
     ]
 
-pub same_list : (b : ℕ) (xs ys : List ℕ) → Rises b xs → Rises b ys → SameMembers xs ys → xs ≡ ys
+pub same_list : (b : ℕ) (xs ys : List ℕ) → RisesFrom b xs → RisesFrom b ys → SameMembers xs ys → xs ≡ ys
 same_list b [] [] up_x up_y same = refl
 same_list b [] (y ∷ ys) up_x up_y same = absurd (false≢true (same y ∙ head_there y ys))
 same_list b (x ∷ xs) [] up_x up_y same = absurd (false≢true (sym (same x) ∙ head_there x xs))
@@ -57,7 +57,7 @@ same_list b (x ∷ xs) (y ∷ ys) up_x up_y same =
       | inr (inr gt) ↦ absurd (too_low y x ys xs up_x.1 (λ k. sym (same k)) gt)
     ]
   where
-    equal : x ≡ y → (Rises (x + 1) ys → SameMembers xs ys → xs ≡ ys) → x ∷ xs ≡ y ∷ ys
+    equal : x ≡ y → (RisesFrom (x + 1) ys → SameMembers xs ys → xs ≡ ys) → x ∷ xs ≡ y ∷ ys
     equal e recurse =
         let up = rw (← e) at up_y.1 in
         let both = rw (← e) at same in
@@ -84,12 +84,12 @@ is_member-filter p (x ∷ xs) k =
       | inr f ↦ (let pk = rw e at f in rw (f, eq-eqb x k e, pk) (ih ∙ rw pk (fades (is_member xs k))))
     ]
 
-pub rises-range : (a n : ℕ) → Rises a (range_with_len a n)
+pub rises-range : (a n : ℕ) → RisesFrom a (range_with_len a n)
 rises-range a zero = tt
 rises-range a (suc n) = (omega arith, rises-range (a + 1) n)
 
 -- a filter of a rising list rises
-pub rises-filter : (p : ℕ → Bool) (b : ℕ) (xs : List ℕ) → Rises b xs → Rises b (filter p xs)
+pub rises-filter : (p : ℕ → Bool) (b : ℕ) (xs : List ℕ) → RisesFrom b xs → RisesFrom b (filter p xs)
 rises-filter p b [] rises = tt
 rises-filter p b (x ∷ xs) rises =
     elim (cases_Bool (p x)) [
@@ -97,7 +97,7 @@ rises-filter p b (x ∷ xs) rises =
       | inr f ↦ rw f (lower (x + 1) b (filter p xs) (omega (arith, rises.0)) (rises-filter p (x + 1) xs rises.1))
     ]
   where
-    lower : (c a : ℕ) (ys : List ℕ) → a ≤ c → Rises c ys → Rises a ys
+    lower : (c a : ℕ) (ys : List ℕ) → a ≤ c → RisesFrom c ys → RisesFrom a ys
     lower c a [] le rises = tt
     lower c a (y ∷ ys) le rises = (omega (arith, rises.0), rises.1)
 

@@ -34,6 +34,7 @@ use Rattle.aug_trie.proofs.Histories.{history_long, cut_at, last_is, root_serial
 use Rattle.aug_trie.proofs.Standing.{at_least, shown_stands}
 use Rattle.aug_trie.proofs.Counting.{and_left, and_right, hits-append, hits_none, hits_one, hits_all, filter_shorter, flat_none, flat_one, twice_same, twice_none, twice_less, filter_place, at_longer, at_after, flat_place, IsIn, all_at, all_map, map_at, at_map}
 use Rattle.aug_trie.proofs.Missing.{HeldIn, search_views, Missing, missing}
+use Rattle.aug_core.proofs.PrefixLemmas.{entry_stays}
 
 abbrev test : ℕ → ℕ → Change → Bool
 test key number c = eqb c.key key && eqb c.serial number
@@ -72,7 +73,7 @@ module _ (face : ℕ → ℕ → List (ℕ × ℕ) → List ℕ) (s : St) (id n 
       let is = ap (λ (z : Cut). serial_of z key) (last_cut_is i (omega arith)) ∙ root_serial v.shape v.seen key i low in
       let has : Has v.seen (above v.shape key v.shape.bits) i = subst (λ (z : ℕ). Has v.seen z i) (sym (above_root v.shape key low)) (omega arith) in
       let t = shows_leaf v.shape v.seen key v.shape.bits i (reached v.shape v.seen key v.shape.bits i) (reached_shows face v.shape v.seen kn.book key v.shape.bits i low (omega arith) has) in
-      let up = t.3 in let below = at_below (history_of r.book key) t.0 t.1 ((r.each_view id v at).saw key t.0 t.1 t.2) in omega arith
+      let up = t.3 in let below = at_below (history_of r.book key) t.0 t.1 (entry_stays (r.each_view id v at).saw key t.0 t.1 t.2) in omega arith
 
   -- the change of a key with a serial that its leaf has reached: it has the weight of its entry
   abbrev made : ℕ → ℕ → Change

@@ -18,7 +18,7 @@ use Rattle.aug_query.specs.Tree.{IsTreeSet}
 use Rattle.aug_core.specs.Faces.{face}
 use Rattle.aug_core.specs.Places.{Shape}
 use Rattle.aug_core.specs.Addresses.{IsInner, root_place}
-use Rattle.aug_core.specs.Book.{Book, history_of, Continues, IsBook}
+use Rattle.aug_core.specs.Book.{Book, history_of, ArePrefixes, IsBook}
 use Rattle.aug_core.specs.Counts.{changes_of}
 use Rattle.aug_core.specs.Cuts.{Cut, serial_of, weight_at, set_of_cut}
 use Rattle.aug_core.specs.inside.EntryCuts.{entry_of}
@@ -50,6 +50,7 @@ use Rattle.aug_trie.proofs.Keeping.{node_later}
 use Rattle.aug_trie.proofs.Looking.{goes_looking, leaf_weighs}
 use Rattle.aug_trie.proofs.Snapshots.{named_there, index_is, cut_is, pass_still}
 use Rattle.aug_trie.proofs.Walking.{top_node}
+use Rattle.aug_core.proofs.PrefixLemmas.{entry_stays}
 
 -- ---- the set of a cut
 
@@ -130,7 +131,7 @@ module _ {A B : Type 0} (parts_a : Parts A) (parts_b : Parts B) where
 
   -- ---- what a pass keeps as its book grows
 
-  module _ (old new : Known) (left rest : ℕ) (kn : KnowsTable both old.view) (kn' : KnowsTable both new.view) (shaped : new.view.shape ≡ old.view.shape) (grows : Continues new.view.seen old.view.seen) where
+  module _ (old new : Known) (left rest : ℕ) (kn : KnowsTable both old.view) (kn' : KnowsTable both new.view) (shaped : new.view.shape ≡ old.view.shape) (grows : ArePrefixes old.view.seen new.view.seen) where
     abbrev s : Shape
     s = old.view.shape
 
@@ -143,7 +144,7 @@ module _ {A B : Type 0} (parts_a : Parts A) (parts_b : Parts B) where
     same_index : (number : ℕ) → HasNamed s book number → first_place (root_numbers s later) number ≡ first_place (root_numbers s book) number
     same_index number has = let t = named_there s book number has in let i = first_place (root_numbers s book) number in
         subst (λ (z : ℕ). first_place (root_numbers s later) z ≡ i) t.2
-        (index_is both s later (subst (λ (z : Shape). IsBook both z later) shaped kn'.book) i t.0 (inner_root old.view kn) (grows (root_place s) i t.0 t.1))
+        (index_is both s later (subst (λ (z : Shape). IsBook both z later) shaped kn'.book) i t.0 (inner_root old.view kn) (entry_stays grows (root_place s) i t.0 t.1))
 
     still_named : (number : ℕ) → HasNamed s book number → HasNamed s later number
     still_named number has = let same = same_index number has in let le = no_shorter later book grows (root_place s) in let a = length-map (history_of book (root_place s)) (λ (z : Entry). z.number) in

@@ -28,6 +28,7 @@ use Rattle.aug_trie.specs.declared.updates.request.Request.{Request}
 use Rattle.aug_trie.proofs.Going.{room_on, goes_on, goes_after, goes_beginning, goes_seeing, goes_changing}
 use Rattle.aug_trie.proofs.LeafWords.{serial_of_leaf, weight_of_leaf}
 use Rattle.aug_trie.proofs.Requesting.{is_advance, from_word, to_word, outcome_is, serial_is, weight_is, way_found, way_next}
+use Rattle.aug_core.proofs.PrefixLemmas.{entry_stays}
 
 newest_shows : (s : Shape) (book : Book) (key index n : ℕ) (e : Entry) → IsNewest book key index e → n ≤ index → NewestShows s book key 0 n
 newest_shows s book key index n e newest le = record { index = index; entry = e; newest = newest; shows = ((e, newest.at), le) }
@@ -70,7 +71,7 @@ module _ (f : ℕ → ℕ → List (ℕ × ℕ) → List ℕ) where
   -- the root showed no serial past the one that was loaded
   at_most : (v w : SeatView) (key word : ℕ) → key < 2 ^ v.shape.bits → BeginsAtLeaf f v key word w → ShowsAtMost v.shape v.seen key (serial_in_word word)
   at_most v w key word low l = let serial = (loaded_serial v w key word low l).0 in record {
-    at_most = λ i n h. let t = shows_leaf v.shape v.seen key v.shape.bits i n h in let le = newest_is_last w.seen key l.index t.0 l.entry t.1 l.newest (l.sees.later key t.0 t.1 t.2) in let e = t.3 in omega (arith, serial, le, e);
+    at_most = λ i n h. let t = shows_leaf v.shape v.seen key v.shape.bits i n h in let le = newest_is_last w.seen key l.index t.0 l.entry t.1 l.newest (entry_stays l.sees.later key t.0 t.1 t.2) in let e = t.3 in omega (arith, serial, le, e);
   }
 
   -- after steps that published nothing the way to the root may begin
@@ -156,8 +157,8 @@ module _ (f : ℕ → ℕ → List (ℕ × ℕ) → List ℕ) where
               (goes_after f 0 0 0 [] gained gained v w0 w1 (omega arith) (omega arith) refl first (goes_changing f w0 w1 gained _ h only hit.0 first.knows_table told.sees)) r.goes;
           before = subst (ShowsAtMost v.shape v.seen key) (sym (serial_is request key word)) (at_most v w0 key word low loaded);
           shown = shown_up (new_serial a) (omega (arith, reached));
-          weighs = record { entry = told.entry; at = r.goes.later key (new_serial a) told.entry (subst (λ (z : ℕ). At w1.seen key z told.entry) reached told.newest.at); weighs = hit.2 };
-          passes = λ e. let p = told.passes (same ∙ from) e in record { entry = p.entry; at = r.goes.later key (a.serial + 1) p.entry p.at; passed = p.passed };
+          weighs = record { entry = told.entry; at = entry_stays r.goes.later key (new_serial a) told.entry (subst (λ (z : ℕ). At w1.seen key z told.entry) reached told.newest.at); weighs = hit.2 };
+          passes = λ e. let p = told.passes (same ∙ from) e in record { entry = p.entry; at = entry_stays r.goes.later key (a.serial + 1) p.entry p.at; passed = p.passed };
         }
 
         stayed : tried.found ≢ word → Stayed f (number + bits) v key request w (serial_in_word word)

@@ -7,7 +7,7 @@ use Rattle.aug_monoid.specs.inside.Laws.{IsMonoid}
 use Rattle.aug_core.specs.Places.{Shape}
 use Rattle.aug_core.specs.Addresses.{place_count, IsInner, left_of, right_of}
 use Rattle.aug_core.specs.Faces.{face}
-use Rattle.aug_core.specs.Book.{At, Continues, IsBook}
+use Rattle.aug_core.specs.Book.{At, ArePrefixes, IsBook}
 use Rattle.aug_core.specs.inside.Refreshes.{HasEntry, HasNewest, SaysLoaded, Published}
 use Rattle.aug_core.specs.Told.{KnowsTable, LoadsLeaf, LoadsNode}
 use Rattle.aug_core.specs.declared.view.SeatView.{SeatView}
@@ -17,6 +17,7 @@ use Rattle.aug_core.proofs.Refreshing.{is_loaded, refreshed}
 use Rattle.aug_trie.specs.inside.Goes.{IsFree, Goes, Took, Tries, IsPartOf, part_steps, publish_steps, try_steps}
 use Rattle.aug_trie.proofs.Going.{took_on}
 use Rattle.aug_trie.proofs.Telling.{words_are}
+use Rattle.aug_core.proofs.PrefixLemmas.{book_trans, entry_stays}
 
 book_at : (f : ℕ → ℕ → List (ℕ × ℕ) → List ℕ) (s : Shape) (w : SeatView) → w.shape ≡ s → KnowsTable f w → IsBook f s w.seen
 book_at f s w shaped kn = subst (λ (z : Shape). IsBook f z w.seen) shaped kn.book
@@ -48,14 +49,14 @@ module _ {A B : Type 0} (parts_a : Parts A) (parts_b : Parts B) where
     says v w0 w1 w2 w3 w4 q old ln rn m k x x' y y' xa xb inner few g0 g1 g2 g3 g4 at_node at_left at_right part_l part_r ea eb =
         let s : Shape = v.shape in let past = inner.past_leaves in let inside = inner.inside in let t = twice s.bits in
         let s0 = g0.shaped in let s1 = g1.shaped ∙ s0 in let s2 = g2.shaped ∙ s1 in let s4 = g4.shaped ∙ g3.shaped ∙ s2 in
-        let l_at : At w2.seen (left_of s q) at_left.index at_left.entry = g2.later (left_of s q) at_left.index at_left.entry at_left.newest.at in
-        let r_at : At w3.seen (right_of s q) at_right.index at_right.entry = g3.later (right_of s q) at_right.index at_right.entry at_right.newest.at in
+        let l_at : At w2.seen (left_of s q) at_left.index at_left.entry = entry_stays g2.later (left_of s q) at_left.index at_left.entry at_left.newest.at in
+        let r_at : At w3.seen (right_of s q) at_right.index at_right.entry = entry_stays g3.later (right_of s q) at_right.index at_right.entry at_right.newest.at in
         let b2 = book_at both s w2 s2 g2.knows_table in
         let small_l = (are_small both s w2.seen b2 few (left_of s q) at_left.index at_left.entry (omega arith) l_at).small in
         let small_r = (are_small both s w2.seen b2 few (right_of s q) at_right.index at_right.entry (omega arith) at_right.newest.at).small in
         let p = part_l.of at_left.index at_left.entry l_at at_left.named in let p' = part_r.of at_right.index at_right.entry r_at at_right.named in
         subst (λ (z : Shape). SaysLoaded both z w4.seen q old (ln ∷ rn ∷ (m + k) ∷ xa ∷ xb ∷ [])) (sym s4) record {
-          is_loaded = is_loaded both s w0.seen w1.seen w2.seen w4.seen q old ln rn inner g1.later g2.later (λ p i e z. g4.later p i e (g3.later p i e z)) at_node at_left at_right (book_at both s w0 s0 g0.knows_table);
+          is_loaded = is_loaded both s w0.seen w1.seen w2.seen w4.seen q old ln rn inner g1.later g2.later (book_trans g3.later g4.later) at_node at_left at_right (book_at both s w0 s0 g0.knows_table);
           left_named = at_left.named;
           right_named = at_right.named;
           five_are = (λ i. ln ∷ rn ∷ (m + k) ∷ ea i ∷ eb i ∷ [])
@@ -63,7 +64,7 @@ module _ {A B : Type 0} (parts_a : Parts A) (parts_b : Parts B) where
         }
 
 -- what the try left
-pub tries : (f : ℕ → ℕ → List (ℕ × ℕ) → List ℕ) (v w0 w1 w2 w4 w : SeatView) (q old ln rn number : ℕ) (done : Bool) → IsInner v.shape q → KnowsTable f w → w.shape ≡ v.shape → w4.shape ≡ v.shape → Continues w0.seen v.seen → Continues w1.seen w0.seen → Continues w2.seen w1.seen → Continues w.seen w2.seen
+pub tries : (f : ℕ → ℕ → List (ℕ × ℕ) → List ℕ) (v w0 w1 w2 w4 w : SeatView) (q old ln rn number : ℕ) (done : Bool) → IsInner v.shape q → KnowsTable f w → w.shape ≡ v.shape → w4.shape ≡ v.shape → ArePrefixes v.seen w0.seen → ArePrefixes w0.seen w1.seen → ArePrefixes w1.seen w2.seen → ArePrefixes w2.seen w.seen
     → HasNewest w0.seen q old → HasNewest w1.seen (left_of v.shape q) ln → HasNewest w2.seen (right_of v.shape q) rn → Published w4.shape q old ln rn done w.seen → (done ≡ false → IsFree w number) → Tries v q number done w
 tries f v w0 w1 w2 w4 w q old ln rn number done inner kn shaped shaped4 c0 c01 c12 c23 at_node at_left at_right p again = record {
   refreshed = refreshed f v.shape w0.seen w1.seen w2.seen w.seen q old ln rn inner c01 c12 c23 at_node at_left at_right v.seen done (book_at f v.shape w shaped kn) c0 (subst (λ (z : Shape). Published z q old ln rn done w.seen) shaped4 p);

@@ -11,7 +11,8 @@ use Rattle.aug_model.specs.declared.outcome.Outcome.TheVariants.{Refused}
 use Rattle.aug_core.specs.declared.step.StepKind.TheVariants.{TryLeaf}
 use Rattle.aug_trie.specs.LeafWords.{serial_in_word}
 use Rattle.aug_trie.specs.Requests.{goes_from, in_the_way, word_after, outcome_by}
-use Rattle.aug_trie.specs.History.{IsPrefix, last_cut}
+use Rattle.aug_core.specs.Prefixes.{IsPrefix}
+use Rattle.aug_trie.specs.History.{last_cut}
 use Rattle.aug_trie.specs.Knowledge.{Knowledge, IsKnowledge}
 use Rattle.aug_trie.specs.Round.{RoundFacts}
 use Rattle.aug_trie.specs.declared.updates.request.Request.{Request}

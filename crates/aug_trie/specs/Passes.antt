@@ -1,6 +1,6 @@
 -- How knowledge goes from a crew to a pass and back.
 use Rattle.std.specs.Prelude.{◌≡◌, ◌⊎◌, [], ◌++◌}
-use Rattle.aug_trie.specs.History.{IsPrefix}
+use Rattle.aug_core.specs.Prefixes.{IsPrefix}
 use Rattle.aug_trie.specs.Knowledge.{Knowledge}
 
 -- a new pass knows the history that its crew then knows, and no accepted change

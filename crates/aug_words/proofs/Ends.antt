@@ -15,11 +15,12 @@ use Rattle.aug_core.proofs.Sizes.{in_block}
 use Rattle.aug_core.proofs.Moves.{St}
 use Rattle.aug_core.proofs.Openings.{inner_history}
 use Rattle.aug_words.specs.Rests.{EndWith, ShowAll}
+use Rattle.aug_core.proofs.PrefixLemmas.{entry_stays}
 
 module _ (face : ℕ → ℕ → List (ℕ × ℕ) → List ℕ) (o : Opening) where
   module _ (s : St) (r : Kept face o s) where
     opening_at : (q : ℕ) → IsInner o.shape q → At r.book q 0 (opening_entry face o q)
-    opening_at q inner = r.tree.opened q 0 (opening_entry face o q)
+    opening_at q inner = entry_stays r.tree.opened q 0 (opening_entry face o q)
         (subst (λ (z : List Entry). get_elem? z 0 ≡ some (opening_entry face o q)) (sym (inner_history face o q inner)) refl)
 
     pub shows_all : (id : ℕ) (v : SeatView) → get_elem? s.views id ≡ some v → ShowAll face o v s.words
@@ -27,7 +28,7 @@ module _ (face : ℕ → ℕ → List (ℕ × ℕ) → List ℕ) (o : Opening) w
       opening_records = λ q field inner small. r.tree.written q 0 field (opening_entry face o q) inner (opening_at q inner) small;
       shared_records = λ level field low small. r.tree.shared level field low small;
       idle_records = λ number field is small. r.tree.idle number field is small;
-      seen_records = λ q i field e inner p small. r.tree.written q i field e inner (kn.saw q i e p) small;
+      seen_records = λ q i field e inner p small. r.tree.written q i field e inner (entry_stays kn.saw q i e p) small;
       lanes = λ a h p. (kn.holds a h p).state;
       records = λ a number field h p of_lane small. let b = in_block o.shape h.lane number field of_lane small in
           ap (λ (z : ℕ). get_or s.words z 0) b.0 ∙ (kn.holds a h p).exact (record_words * (number - first_record o.shape h.lane) + field) b.1;

@@ -5,7 +5,7 @@ use Rattle.std.proofs.lemmas.List.{length-replicate}
 use Rattle.aug_core.specs.Lanes.{IsOfLane, block_size, word_of_state}
 use Rattle.aug_core.specs.Addresses.{IsInner, root_place}
 use Rattle.aug_core.specs.Places.{word_count}
-use Rattle.aug_core.specs.Book.{Continues, IsNewest, GoesOnFromBoth}
+use Rattle.aug_core.specs.Book.{Book, ArePrefixes, IsNewest, GoesOnFromBoth}
 use Rattle.aug_core.specs.Kinds.{take_lane}
 use Rattle.aug_core.specs.Rule.{newcomer, no_beginning}
 use Rattle.aug_core.specs.Told.{Sat, LoadsNode, handing_out, handed_out, taking, taking_back, in_state, new_lane, own_lane_place, MayStore, MayChange}
@@ -119,8 +119,8 @@ new_pass face next root place lead me seat low empty is =
     }
 
 -- what the lead knows once it took a pass back and loaded the root
-pub took_back : (face : ℕ → ℕ → List (ℕ × ℕ) → List ℕ) (v w u x : SeatView) (q found : ℕ) → LoadsNode face (taking_back v w) q found u → w.seen ≡ x.seen → GoesOnFromBoth u.seen v.seen x.seen
-took_back face v w u x q found did same = goes_on_from_both u.seen v.seen x.seen did.sees.later (subst (Continues u.seen) same did.sees.also_later)
+pub took_back : (face : ℕ → ℕ → List (ℕ × ℕ) → List ℕ) (v w u x : SeatView) (q found : ℕ) → LoadsNode face (taking_back v w) q found u → w.seen ≡ x.seen → GoesOnFromBoth v.seen x.seen u.seen
+took_back face v w u x q found did same = goes_on_from_both u.seen v.seen x.seen did.sees.later (subst (λ (z : Book). ArePrefixes z u.seen) same did.sees.also_later)
 
 -- a lane that is handed out leaves how the table is laid out and opened, and the next one is the next
 module _ (face : ℕ → ℕ → List (ℕ × ℕ) → List ℕ) (lead after pass : SeatView) (h : HandsLaneOut face lead after pass) where

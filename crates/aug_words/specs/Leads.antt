@@ -18,4 +18,4 @@ module _ (face : ℕ → ℕ → List (ℕ × ℕ) → List ℕ) where
   pub record TakesLaneBack (lead pass after : SeatView) : Type 0 where
     pub found : ℕ
     pub loaded : LoadsNode face (taking_back lead (finishing pass (own_lane_place pass))) (root_place lead.shape) found after
-    pub of_both : GoesOnFromBoth after.seen lead.seen pass.seen
+    pub of_both : GoesOnFromBoth lead.seen pass.seen after.seen

@@ -13,6 +13,7 @@ use Rattle.aug_core.proofs.Filling.{filled_view, is_filled}
 use Rattle.aug_core.proofs.Refreshing.{is_loaded}
 use mathlib.Core.Bool.{true≢false}
 use Rattle.aug_words.specs.Seats.{MayAdvance, TriedLeaf}
+use Rattle.aug_core.proofs.PrefixLemmas.{book_refl}
 
 abbrev pub small : Shape
 small = shape_of 1 2 1 0
@@ -132,7 +133,7 @@ module _ (face : ℕ → ℕ → List (ℕ × ℕ) → List ℕ) (v v1 v2 v3 : S
 
     says : SaysLoaded face small v3.seen 2 from five
     says = record {
-      is_loaded = is_loaded face small v1.seen v2.seen v3.seen v3.seen 2 from (get_or five 0 0) (get_or five 1 0) node_inner at_left.sees.later at_right.sees.later (λ q i e p. p) has_node has_left has_right book1;
+      is_loaded = is_loaded face small v1.seen v2.seen v3.seen v3.seen 2 from (get_or five 0 0) (get_or five 1 0) node_inner at_left.sees.later at_right.sees.later (book_refl v3.seen) has_node has_left has_right book1;
       left_named = has_left.named;
       right_named = has_right.named;
       five_are = are ∙ (λ i. face (sym first i) (sym second i) (sym below_left i ++ sym below_right i));

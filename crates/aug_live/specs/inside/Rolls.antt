@@ -1,7 +1,7 @@
 -- How a round ends whose passes lie in the lanes, and how the next begins.
 use Rattle.std.specs.Prelude.{◌≡◌, ℕ, ◌<◌, ◌≤◌, List, [], true, false}
 use Rattle.aug_core.specs.Cuts.{Cut}
-use Rattle.aug_trie.specs.History.{IsPrefix}
+use Rattle.aug_core.specs.Prefixes.{IsPrefix}
 use Rattle.aug_trie.specs.Pass.{PassFacts}
 use Rattle.aug_trie.specs.Round.{RoundFacts}
 use Rattle.aug_live.specs.Carrying.{Carried}

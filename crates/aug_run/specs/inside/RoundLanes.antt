@@ -1,7 +1,7 @@
 -- The way of the lanes of a round, from the crew and back.
 use Rattle.std.specs.Prelude.{◌≡◌, List, [], ◌∷◌}
 use Rattle.aug_core.specs.Cuts.{Cut}
-use Rattle.aug_trie.specs.History.{IsPrefix}
+use Rattle.aug_core.specs.Prefixes.{IsPrefix}
 use Rattle.aug_trie.specs.Knowledge.{Knowledge}
 use Rattle.aug_trie.specs.Passes.{HandedBack, HandedOut}
 use Rattle.aug_trie.specs.Updates.{TakesSnapshot}

@@ -1,6 +1,6 @@
 //! What each worker begins with.
 ghost use Rattle.std.specs.Prelude.{◌≡◌, ℕ, ◌<◌, [], ◌∷◌, length, All, slice_index, vec_len, IfOk};
-ghost use Rattle.aug_trie.specs.History.{IsPrefix};
+ghost use Rattle.aug_core.specs.Prefixes.{IsPrefix};
 ghost use Rattle.aug_run.specs.inside.Workers.{opening_cut_of, AllReady, AreRowCounts};
 
 use crate::lanes::work::Job;

@@ -4,7 +4,7 @@ use Rattle.aug_monoid.specs.Parts.{Parts}
 use Rattle.aug_monoid.specs.Fold.{fold_of}
 use Rattle.aug_core.specs.Places.{Shape, record_words}
 use Rattle.aug_core.specs.Lanes.{first_record, lane_records, block_size}
-use Rattle.aug_core.specs.Book.{At, Continues, IsFresh}
+use Rattle.aug_core.specs.Book.{At, ArePrefixes, IsFresh}
 use Rattle.aug_core.specs.Rule.{Lists}
 use Rattle.aug_core.specs.Counts.{changes_of}
 use Rattle.aug_core.specs.Told.{HoldsOnly, own_lane, KnowsTable}
@@ -52,7 +52,7 @@ pub record Looks (most : ℕ) (v w : SeatView) : Type 0 where
 module _ (face : ℕ → ℕ → List (ℕ × ℕ) → List ℕ) where
   -- what was known grows, the changes gain these, and the records from `used` on that were free are so
   pub record Goes (used : ℕ) (gained : List Change) (v w : SeatView) : Type 0 where
-    pub later : Continues w.seen v.seen
+    pub later : ArePrefixes v.seen w.seen
     pub fresh : IsFresh v.shape w.seen v.seen
     pub knows_table : KnowsTable face w
     pub shaped : w.shape ≡ v.shape

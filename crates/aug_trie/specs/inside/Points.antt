@@ -3,7 +3,7 @@ use Rattle.std.specs.Prelude.{◌≡◌, ℕ, zero, suc, ◌+◌, ◌-◌, ◌*�
 use Rattle.aug_monoid.specs.Parts.{Parts}
 use Rattle.aug_core.specs.Places.{record_start, record_words}
 use Rattle.aug_core.specs.Addresses.{IsInner, left_of, right_of}
-use Rattle.aug_core.specs.Book.{At, Continues}
+use Rattle.aug_core.specs.Book.{At, ArePrefixes}
 use Rattle.aug_core.specs.inside.Refreshes.{HasNewest, SaysLoaded}
 use Rattle.aug_core.specs.Told.{KnowsTable, Says, own_lane, storing}
 use Rattle.aug_core.specs.declared.step.StepTaken.{StepTaken}
@@ -22,7 +22,7 @@ use Rattle.aug_trie.specs.declared.turns.points.Advanced.TheVariants.{To, Tried}
 pub record OneStep (v w : SeatView) : Type 0 where
   pub taken : StepTaken
   pub steps : w.steps ≡ v.steps ++ taken ∷ []
-  pub later : Continues w.seen v.seen
+  pub later : ArePrefixes v.seen w.seen
   pub shaped : w.shape ≡ v.shape
   pub same_members : w.members ≡ v.members
   pub lane : own_lane w.held ≡ own_lane v.held

@@ -2,7 +2,7 @@ use Rattle.std.proofs.Common.{◌≡◌, ◌+◌, ◌∙◌, refl, ap, vec_len, 
 use Rattle.std.proofs.lemmas.List.{get_or_read}
 use Rattle.aug_trie.specs.Crew.{CrewFacts}
 use Rattle.aug_trie.specs.Pass.{PassFacts}
-use Rattle.aug_trie.proofs.Pieces.{prefix_trans}
+use Rattle.aug_core.proofs.PrefixLemmas.{prefix_trans}
 use Rattle.aug_run.specs.inside.Workers.{MayBegin, opening_cut_of}
 use Rattle.aug_run.specs.declared.lanes.work.Job.{Job}
 use Rattle.aug_run.proofs.Passing.{push_one}

@@ -1,5 +1,5 @@
 use Rattle.std.specs.Prelude.{◌≡◌, ℕ, ◌<◌, [], ◌∷◌, get_or, vec_len}
-use Rattle.aug_trie.specs.History.{IsPrefix}
+use Rattle.aug_core.specs.Prefixes.{IsPrefix}
 use Rattle.aug_run.specs.inside.Workers.{MayBegin, opening_cut_of}
 use Rattle.aug_run.proofs.lanes.jobs.jobs.Given as goal
 

@@ -8,6 +8,7 @@ use Rattle.aug_words.specs.Seats.{LoadsRecordWord}
 use Rattle.aug_trie.specs.inside.Points.{reading_words, child_at}
 use Rattle.aug_trie.specs.declared.turns.points.Point.TheVariants.{Part}
 use Rattle.aug_core.proofs.PlaceLemmas.{keys-within}
+use Rattle.aug_trie.proofs.Going.{quiet_stepping}
 use Rattle.aug_trie.proofs.Advancing.{child_seen, counts_fit, part_on, all_on, goes_all, took_all, nodes_told}
 use Rattle.aug_trie.proofs.turns.points.load_part.Goals as goal
 
@@ -40,3 +41,9 @@ returns-else-reading-lt-READING_WORDS-clause-on g c = λ v q number t. let m = g
     let laid = t.knows_table.laid_out.bits in let few = (keys-within v.shape.bits laid.0 laid.1).1 in
     nodes_told m.parts n.parts (laws_of g.met.A.Monoid) (laws_of g.met.B.Monoid) v q r.from r.left r.right (set r.words r.count x) a.third few a.nodes t.inner a.loaded (all_on f v q number r old w field x t is_field l six)
     number (Part r) old w c.over_nodes.result c.over_nodes.ensures.from c.over_nodes.ensures.five c.over_nodes.ensures.count t (goes_all f v q number r old w field x t is_field l) (took_all f v q number r old w field x t is_field l six)
+
+pub returns-then-reading-lt-READING_WORDS-clause-step : goal.returns-then-reading-lt-READING_WORDS-clause-step
+returns-then-reading-lt-READING_WORDS-clause-step g c = quiet_stepping _ _ _ c.load_record_word.ensures.view.stepped
+
+pub returns-else-reading-lt-READING_WORDS-clause-step : goal.returns-else-reading-lt-READING_WORDS-clause-step
+returns-else-reading-lt-READING_WORDS-clause-step g c = quiet_stepping _ _ _ c.load_record_word.ensures.view.stepped

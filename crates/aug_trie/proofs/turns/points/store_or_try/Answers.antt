@@ -1,4 +1,5 @@
 use Rattle.std.proofs.Common.{arith, refl}
+use Rattle.aug_trie.proofs.Going.{quiet_storing}
 use Rattle.aug_trie.proofs.Advancing.{may_store_word, may_try, try_over, record_on}
 use Rattle.aug_trie.proofs.turns.points.store_or_try.Goals as goal
 
@@ -18,3 +19,6 @@ returns-then-count-eq-RECORD_WORDS-clause-on g c = λ v t. let told = c.try_node
 pub returns-clause-on : goal.returns-clause-on
 returns-clause-on g c = λ v t. let few = t.is_at.few in let not = c.if-count-eq-RECORD_WORDS.false in
     record_on g.A.Monoid.parts g.B.Monoid.parts v c.args.node c.args.number c.args.filling c.args.pass.now.view t c.store_record_word.new.self.view _ _ refl c.field_at.ensures (omega arith) c.store_record_word.ensures.view
+
+pub returns-clause-step : goal.returns-clause-step
+returns-clause-step g c = quiet_storing _ _ _ _ c.store_record_word.ensures.view

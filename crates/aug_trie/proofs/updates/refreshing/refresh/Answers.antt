@@ -11,6 +11,15 @@ use Rattle.aug_trie.specs.inside.Goes.{Took, IsPartOf, part_steps}
 use Rattle.aug_trie.proofs.Going.{goes_on, room_on}
 use Rattle.aug_trie.proofs.Whole.{part_few, says, tries, took_refresh}
 use Rattle.aug_trie.proofs.updates.refreshing.refresh.Goals as goal
+use Rattle.aug_core.proofs.PrefixLemmas.{book_trans}
+
+pub any_part-l-requires-clause-named : goal.any_part-l-requires-clause-named
+any_part-l-requires-clause-named g c = let v : SeatView = c.args.pass.now.view in let w1 : SeatView = c.look-left.new.pass.view in let w2 : SeatView = c.look-right.new.pass.view in
+    has_entry (face g.A.Monoid.parts g.B.Monoid.parts) v.shape w2.seen w1.seen _ c.look-left.result c.look-right.ensures.goes.later c.look-left.ensures.newest
+
+pub any_part-r-requires-clause-named : goal.any_part-r-requires-clause-named
+any_part-r-requires-clause-named g c = let v : SeatView = c.args.pass.now.view in let w2 : SeatView = c.look-right.new.pass.view in let w3 : SeatView = c.any_part-l.new.pass.view in
+    has_entry (face g.A.Monoid.parts g.B.Monoid.parts) v.shape w3.seen w2.seen _ c.look-right.result c.any_part-l.ensures.goes.later c.look-right.ensures.newest
 
 pub publish-requires-clause-room : goal.publish-requires-clause-room
 publish-requires-clause-room g c = let m = g.A.Monoid in let n = g.B.Monoid in let f = face m.parts n.parts in let v : SeatView = c.args.pass.now.view in let s : Shape = v.shape in
@@ -66,6 +75,6 @@ returns-clause-over g c = let m = g.A.Monoid in let n = g.B.Monoid in let f = fa
       took = took_refresh s c.args.node v w0 w1 w2 w3 w4 c.publish.new.pass.view inner s2 s3 c.look-from.ensures.took c.look-left.ensures.took c.look-right.ensures.took
           (subst (λ (z : ℕ). Took w2 w3 (part_steps w2.shape z)) el c.any_part-l.ensures.took) (subst (λ (z : ℕ). Took w3 w4 (part_steps w3.shape z)) er c.any_part-r.ensures.took) c.publish.ensures.took;
       tries = tries f v w0 w1 w2 w4 c.publish.new.pass.view c.args.node c.look-from.result c.look-left.result c.look-right.result c.args.number c.publish.result inner gp.knows_table (gp.shaped ∙ s4) s4
-          g0.later g1.later g2.later (λ p i e z. gp.later p i e (g4.later p i e (g3.later p i e z))) at_node at_left at_right
+          g0.later g1.later g2.later (book_trans g3.later (book_trans g4.later gp.later)) at_node at_left at_right
           (subst (λ (z : List ℕ). Published w4.shape c.args.node c.look-from.result (get_or z 0 0) (get_or z 1 0) c.publish.result c.publish.new.pass.view.seen) c.five_words.ensures c.publish.ensures.published) c.publish.ensures.again;
     }

@@ -1,7 +1,8 @@
 #!/usr/bin/env python3
 """Works out which definitions the promises of the crates rest on, from the clauses of their public calls (tests/chain.py says how), and
 compares docs/definitions.md with that: its lists of modules, and which modules its parts have paragraphs of. What is in a folder
-specs/inside/ must be behind no clause, and no module outside of it may import it, but for what is opaque. What is opaque must be given by a call.
+specs/inside/ must be behind no clause, and no module outside of it may import it, but for what is opaque. What is not in such a folder must be
+behind a clause, or opaque, in a crate that promises anything. What is opaque must be given by a call.
 No name of a module or a definition may stand in two crates.
 
 usage: tests/promises.py [--list | --write]
@@ -29,6 +30,9 @@ LEAST = 200, 80, 600
 
 # The modules outside of `inside` that may import it, each as (crate, module) with its reason: the view of a `Model` stands there.
 EXCEPTIONS = {}
+
+# The definitions outside of `inside` that may be behind no clause, each as (crate, name) with its reason.
+LOOSE = {}
 
 INSIDE = re.compile(r"Rattle\.\w+\.specs\.inside(\.|$)")
 BEGIN, END = "<!-- modules {}: begin -->", "<!-- end -->"
@@ -136,6 +140,13 @@ class Promises:
             wrong.append(f"{name} of {crate} is inside, and {call} rests on its {', '.join(sorted(it.name for it in of))}")
         return wrong
 
+    def wrong_places(self, loose):
+        """Which definitions lie outside of what is inside, and are behind no clause."""
+        outside = [(key, name) for key, it in self.crates.modules.items() if self.crates.promises[key[0]] and not is_inside(key[1]) for name in it.definitions]
+        found = {Spec(*key, name) for key, name in outside} - self.chain
+        found = {(it.crate, it.name): it.module for it in found if not self.crates.is_opaque(it)}
+        return [f"{found[crate, name]}.{name} of {crate} is behind no clause, and not inside" for crate, name in sorted(set(found) - set(loose))]
+
     def wrong_opaque(self):
         """Which opaque definitions no call gives."""
         given = self.crates.opaque({name for _, it in self.all for name in it.given})
@@ -220,10 +231,10 @@ def filled(text, indent):
     return textwrap.fill(text, 140, subsequent_indent=indent, break_on_hyphens=False, break_long_words=False) + "\n"
 
 
-def check(promises, text, least, exceptions):
+def check(promises, text, least, exceptions, loose):
     """Prints what is wrong. The exit status."""
     wrong = [f"docs/definitions.md: {it}" for it in promises.wrong_lists(text) + promises.wrong_paragraphs(text)]
-    wrong += promises.wrong_imports(exceptions) + promises.wrong_clauses() + promises.wrong_opaque() + promises.wrong_names()
+    wrong += promises.wrong_imports(exceptions) + promises.wrong_clauses() + promises.wrong_places(loose) + promises.wrong_opaque() + promises.wrong_names()
     wrong += sorted(promises.crates.unknown)
     counts = promises.counts()
     for what, count, most in zip(("public calls and impls", "modules", "definitions"), counts, least):
@@ -235,7 +246,7 @@ def check(promises, text, least, exceptions):
     return 1 if wrong else 0
 
 
-def main(words=(), top=TOP, least=LEAST, exceptions=EXCEPTIONS):
+def main(words=(), top=TOP, least=LEAST, exceptions=EXCEPTIONS, loose=LOOSE):
     """`least` is how many calls, modules and definitions there are at least."""
     if list(words) not in ([], ["--list"], ["--write"]):
         print("usage: tests/promises.py [--list | --write]", file=sys.stderr)
@@ -243,7 +254,7 @@ def main(words=(), top=TOP, least=LEAST, exceptions=EXCEPTIONS):
     promises, path = Promises(top), os.path.join(top, "docs", "definitions.md")
     text = read(path) if os.path.exists(path) else ""
     if not words:
-        return check(promises, text, least, exceptions)
+        return check(promises, text, least, exceptions, loose)
     if "--list" in words:
         promises.list_all()
     else:

@@ -486,14 +486,17 @@ Modules of `one`: `Books` (without `AreSteps`).
 """,
     }
 
-    def check(self, file=None, old="", new="", words=(), least=(1, 4, 7), exceptions=()):
+    # The definitions that are behind no clause, though they are not inside.
+    LOOSE = {("one", name): "a test" for name in ("AreSteps", "IsStep", "facts_of")}
+
+    def check(self, file=None, old="", new="", words=(), least=(1, 4, 7), exceptions=(), loose=LOOSE):
         """Checks the folder, in one file of which a text was put in the place of another: what it printed, and its status."""
         for name, text in self.TEXTS.items():
             if name == file:
                 self.assertEqual(text.count(old), 1)
                 text = text.replace(old, new)
             self.write(name, text)
-        status, said = quietly(promises.main, words, self.folder, least, dict(exceptions))
+        status, said = quietly(promises.main, words, self.folder, least, dict(exceptions), loose)
         return said, status
 
     def assert_told(self, why, *changed, **given):
@@ -564,6 +567,13 @@ Modules of `one`: `Books` (without `AreSteps`).
         said, status = self.check(*changed, exceptions={("one", "Books"): "a view"})
         self.assertIn("inside.Deep of one is inside, and size of Shelf (one) rests on its deep\n", said)
         self.assertEqual(status, 1)
+
+    def test_definition_behind_no_clause_that_is_not_inside(self):
+        for name, module in ("AreSteps", "Books"), ("IsStep", "Steps"), ("facts_of", "Kept"):
+            self.assert_told(f"{module}.{name} of one is behind no clause, and not inside", loose={key for key in self.LOOSE if key[1] != name})
+        self.write("crates/two/src/lib.rt", "")
+        self.write("crates/two/specs/Piles.antt", "abbrev pub IsPile : Type 0\nIsPile = Unit\n")
+        self.assertNotIn("IsPile", self.check(self.DEFINITIONS, "behind a view `Kept`\n", "behind a view `Kept`\n- `two`: `Piles`\n")[0])
 
     def test_what_is_opaque_ends_the_chain(self):
         marked = self.BOOKS, "-- those of some", "-- opaque: those of some"

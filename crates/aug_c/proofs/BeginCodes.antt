@@ -4,7 +4,7 @@ use Rattle.std.specs.Prelude.{nat_abs}
 use Rattle.aug_trie.specs.declared.error.BeginError.{BeginError}
 use Rattle.aug_trie.specs.declared.error.BeginError.TheVariants.{BadWorkers, BadUpdates, TooLarge, OutOfMemory, BadBits, Narrower}
 use Rattle.aug_c.specs.Codes as codes
-use Rattle.aug_c.specs.TrieCalls.{begin_code}
+use Rattle.aug_c.specs.inside.BeginCode.{begin_code}
 
 pub is_bad_bits : (cause : BeginError) → begin_code cause ≡ codes.bad_bits → cause ≡ BadBits
 is_bad_bits BadBits e = refl

@@ -12,7 +12,8 @@ use Rattle.aug_trie.specs.declared.error.BeginError.{BeginError}
 use Rattle.aug_trie.specs.declared.error.BeginError.TheVariants.{BadWorkers, BadUpdates, TooLarge, OutOfMemory, BadBits, Narrower}
 use Rattle.aug_lane.specs.declared.running.Running.{Running}
 use Rattle.aug_c.specs.Codes as codes
-use Rattle.aug_c.specs.TrieCalls.{begin_code, Begins}
+use Rattle.aug_c.specs.TrieCalls.{Begins}
+use Rattle.aug_c.specs.inside.BeginCode.{begin_code}
 use Rattle.aug_c.specs.declared.stage.Stage.TheVariants.{Resting, Working}
 use Rattle.aug_c.proofs.BeginCodes.{is_bad_bits, is_narrower, is_bad_workers, is_bad_updates, is_too_large, not_zero}
 

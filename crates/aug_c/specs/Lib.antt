@@ -4,3 +4,4 @@ pub mod Codes
 pub mod Handles
 pub mod LaneCalls
 pub mod TrieCalls
+pub mod inside

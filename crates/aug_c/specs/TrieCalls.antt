@@ -7,8 +7,6 @@ use Rattle.aug_core.specs.Layout.{IsOutside, IsWithin, IsRefused}
 use Rattle.aug_core.specs.declared.layout.LayoutError.TheVariants as layout
 use Rattle.aug_trie.specs.Crew.{BeginsRound, TakesBack, Ends}
 use Rattle.aug_trie.specs.Ended.{EndedFacts, IsEmptyTrie}
-use Rattle.aug_trie.specs.declared.error.BeginError.{BeginError}
-use Rattle.aug_trie.specs.declared.error.BeginError.TheVariants.{BadWorkers, BadUpdates, TooLarge, OutOfMemory, BadBits, Narrower}
 use Rattle.aug_lane.specs.Rounds.{OpensLane}
 use Rattle.aug_lane.specs.declared.lane.Lane.{Lane}
 use Rattle.aug_lane.specs.declared.running.Running.{Running}
@@ -18,15 +16,6 @@ use Rattle.aug_c.specs.declared.stage.Stage.TheVariants.{Resting, Working}
 use Rattle.aug_c.specs.declared.lane_handle.LaneHandle.{LaneHandle}
 use Rattle.aug_c.specs.Codes as codes
 use Rattle.aug_c.specs.Handles.{lane_of}
-
--- the code of a refusal
-abbrev pub begin_code : BeginError → ℤ
-begin_code BadBits = codes.bad_bits
-begin_code Narrower = codes.narrower
-begin_code BadWorkers = codes.bad_workers
-begin_code BadUpdates = codes.bad_updates
-begin_code TooLarge = codes.too_large
-begin_code OutOfMemory = codes.no_memory
 
 -- a trie is opened: it is the empty one
 pub record OpensTrie (bits : ℕ) (new : Option Stage) (code : ℤ) : Type 0 where

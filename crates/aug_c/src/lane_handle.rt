@@ -1,6 +1,7 @@
 //! The handle of a lane as C holds it.
 ghost use Rattle.std.specs.Prelude.{◌≡◌, ◌≢◌, ◌↔◌, Some, None, IsSome, IfSome, IfNone, true};
-ghost use Rattle.aug_c.specs.LaneHolding.{Content, content_coded};
+ghost use Rattle.aug_c.specs.LaneHolding.{Content};
+ghost use Rattle.aug_c.specs.inside.LaneContent.{content_coded};
 
 use crate::loose::Loose;
 use crate::stage::LaneOf;

@@ -8,7 +8,8 @@ ghost use Rattle.aug_c.specs.declared.stage.Stage.{Stage};
 ghost use Rattle.aug_c.specs.declared.stage.Stage.TheVariants as stage;
 ghost use Rattle.aug_c.specs.Codes.{closed, is_open};
 ghost use Rattle.aug_c.specs.Handles.{lane_of, lane_stamp, trie_of, trie_stamp, On};
-ghost use Rattle.aug_c.specs.TrieCalls.{begin_code, OpensTrie, BeginsOn, OpensOn, OpensIn, EndsOn, EndsAs, GivesBack};
+ghost use Rattle.aug_c.specs.TrieCalls.{OpensTrie, BeginsOn, OpensOn, OpensIn, EndsOn, EndsAs, GivesBack};
+ghost use Rattle.aug_c.specs.inside.BeginCode.{begin_code};
 
 use crate::codes::{
     AT_REST, BAD_BITS, BAD_UPDATES, BAD_WORKERS, CLOSED, IN_ROUND, LANES_OUT, NARROWER, NO_LANE,

@@ -1,6 +1,7 @@
 //! The handle of a trie as C holds it.
 ghost use Rattle.std.specs.Prelude.{◌≡◌, ◌≢◌, ◌↔◌, Some, None, IsSome, IfSome, IfNone, true};
-ghost use Rattle.aug_c.specs.TrieHolding.{Content, content_coded};
+ghost use Rattle.aug_c.specs.TrieHolding.{Content};
+ghost use Rattle.aug_c.specs.inside.TrieContent.{content_coded};
 
 use crate::loose::Loose;
 use crate::stage::Stage;

@@ -3,7 +3,8 @@ use Rattle.std.proofs.Common.{◌≡◌, ℕ, zero, suc, ◌+◌, ◌-◌, ◌*�
 use Rattle.std.proofs.Math.Nat.{two-pow-succ, add-mul, mul-add, min-eq_left, min-eq_right}
 use Rattle.std.proofs.lemmas.Bool.{cases_lt}
 use Rattle.aug_core.specs.Places.{own_records, opening_count}
-use Rattle.aug_core.specs.Addresses.{IsInner, left_of, right_of, IsWord}
+use Rattle.aug_core.specs.Addresses.{IsInner, left_of, right_of}
+use Rattle.aug_core.specs.inside.WordPlaces.{IsWord}
 use Rattle.aug_core.specs.Opening.{opening_leaf_word, Opening, members_below, pairs_below, has_members, own_before, number_at, opening_pairs, opening_number}
 use Rattle.aug_model.specs.Keys.{is_member, keys_of, pairs_of}
 use Rattle.aug_model.specs.Queries.{range_of, weight_in}

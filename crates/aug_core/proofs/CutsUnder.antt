@@ -4,7 +4,8 @@ use Rattle.std.proofs.lemmas.Bool.{cases_lt}
 use Rattle.std.proofs.lemmas.List.{get_or_append_left, get_or-append_right}
 use Rattle.std.proofs.Math.Nat.{two-pow-succ, mul_assoc, mul_comm}
 use Rattle.aug_core.specs.Places.{Shape}
-use Rattle.aug_core.specs.Addresses.{left_of, right_of, IsWord}
+use Rattle.aug_core.specs.Addresses.{left_of, right_of}
+use Rattle.aug_core.specs.inside.WordPlaces.{IsWord}
 use Rattle.aug_core.specs.Book.{Book, history_of}
 use Rattle.aug_core.specs.Opening.{serial_entry}
 use Rattle.aug_core.specs.declared.view.Entry.{Entry}

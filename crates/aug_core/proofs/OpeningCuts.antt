@@ -3,7 +3,8 @@ use Rattle.std.proofs.Common.{true, false, ◌≡◌, ℕ, zero, suc, ◌+◌, �
 use Rattle.std.specs.List.{range_with_len}
 use Rattle.std.proofs.lemmas.List.{map-append}
 use Rattle.std.proofs.Math.Nat.{pow-le-pow_right}
-use Rattle.aug_core.specs.Addresses.{IsInner, left_of, right_of, root_place, IsWord}
+use Rattle.aug_core.specs.Addresses.{IsInner, left_of, right_of, root_place}
+use Rattle.aug_core.specs.inside.WordPlaces.{IsWord}
 use Rattle.aug_core.specs.Opening.{Opening, opening_serial, opening_index, opening_entry, opening_book, serial_entry}
 use Rattle.aug_core.specs.declared.view.Entry.{Entry}
 use Rattle.aug_core.proofs.Sizes.{twice}

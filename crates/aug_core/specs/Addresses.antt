@@ -1,6 +1,6 @@
 -- The tree over the leaves and the inner nodes, by their words. The children of the node at a word q lie side by side.
-use Rattle.std.specs.Prelude.{◌≡◌, ℕ, zero, suc, ◌+◌, ◌-◌, ◌*◌, ◌^◌, ◌<◌, ◌≤◌, nat_lt, if◌then◌else◌}
-use Rattle.aug_core.specs.Places.{Shape, level_start, node_place}
+use Rattle.std.specs.Prelude.{ℕ, zero, suc, ◌+◌, ◌-◌, ◌*◌, ◌^◌, ◌<◌, ◌≤◌, nat_lt, if◌then◌else◌}
+use Rattle.aug_core.specs.Places.{Shape, level_start}
 
 -- how many words the leaves and the inner nodes have
 abbrev pub place_count : Shape → ℕ
@@ -22,12 +22,6 @@ right_of s q = 2 * (q - 2 ^ s.bits) + 1
 -- the word of the root
 abbrev pub root_place : Shape → ℕ
 root_place s = 2 ^ (s.bits + 1) - 2
-
--- the word is that of the leaf or the inner node at the place on the level
-pub record IsWord (s : Shape) (level place q : ℕ) : Type 0 where
-  pub level_fits : level ≤ s.bits
-  pub place_fits : place < 2 ^ (s.bits - level)
-  pub is : q ≡ node_place s level place
 
 -- the last level up to this one that begins no later than the word
 abbrev pub level_up_to : Shape → ℕ → ℕ → ℕ

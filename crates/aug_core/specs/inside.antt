@@ -5,3 +5,4 @@ pub mod LayoutState
 pub mod Refreshes
 pub mod RootCuts
 pub mod Shows
+pub mod WordPlaces

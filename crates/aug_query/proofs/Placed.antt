@@ -14,7 +14,7 @@ use Rattle.aug_model.specs.Queries.{weight_of, weight_in}
 use Rattle.aug_model.proofs.Pairs.{pairs_of-append}
 use Rattle.aug_query.proofs.Cover.{range_fits, range_is_few}
 use Rattle.aug_query.specs.Tree.{IsTreeSet, sum_of, IsNodeOf, below_node, first_key, end_key}
-use Rattle.aug_query.specs.FakeTree.{IsFakePlace}
+use Rattle.aug_query.specs.inside.FakeNodes.{IsFakePlace}
 use Rattle.aug_query.specs.inside.NodePlaces.{middle_key}
 use Rattle.aug_query.specs.inside.Rows.{IsRow, HoldsTree, JoinsPairs}
 use Rattle.aug_model.proofs.Ranges.{Rises, AllBelow, added_same, added_other, rises_from}

@@ -3,13 +3,6 @@ use Rattle.std.specs.Prelude.{◌≡◌, ℕ, ◌+◌, ◌≤◌}
 use Rattle.std.specs.Borrow.{MutBor}
 use Rattle.aug_query.specs.declared.loaded.Loaded.{Loaded}
 
-module _ {Tree Node : Type 0} (HasNode : Tree → Node → Type 0) (level_of place_of : Node → ℕ) where
-  -- the node is the tree's, at a level and a place
-  pub record NamesNode (tree : Tree) (level place : ℕ) (node : Node) : Type 0 where
-    pub has : HasNode tree node
-    pub at_level : level_of node ≡ level
-    pub at_place : place_of node ≡ place
-
 module _ {Tree Node : Type 0} (calls_of : Tree → ℕ) (HasNode : Tree → Node → Type 0) (KeepsRest : Tree → Tree → Type 0) where
   -- the walk is over the same tree, which had no more calls than nodes were gone to, keeps its nodes, and the rest that a walk keeps
   pub record KeepsWalk (first now : MutBor Tree) (loads_first loads_now : Loaded) : Type 0 where

@@ -1,5 +1,6 @@
 -- What no promise rests on: what private fields keep, what private calls leave, how views come of fields, and lemmas.
 pub mod Batches
+pub mod FakeNodes
 pub mod NodePlaces
 pub mod NodeWalkLaws
 pub mod Rows

@@ -4,7 +4,7 @@ ghost use Rattle.aug_model.specs.Folds.{summary_of};
 ghost use Rattle.aug_model.specs.Keys.{IsKeySet, keys_of};
 ghost use Rattle.aug_monoid.specs.Weighted.{FitsPair};
 ghost use Rattle.aug_query.specs.Descend.{nothing_loaded};
-ghost use Rattle.aug_query.specs.FakeTree.{IsFakeNode};
+ghost use Rattle.aug_query.specs.inside.FakeNodes.{IsFakeNode};
 
 use crate::noted::NotedPairs;
 use crate::rows::{leaf_row, leaf_weights, parent_row};
@@ -106,7 +106,7 @@ impl<A: Monoid, B: Monoid> Tree<A, B> for FakeTree<A, B> {
 
     ghost use Rattle.std.specs.Prelude.{ℕ, ⊤};
     ghost use Rattle.aug_model.specs.Folds.{summary_of};
-    ghost use Rattle.aug_query.specs.FakeTree.{IsFakeNode};
+    ghost use Rattle.aug_query.specs.inside.FakeNodes.{IsFakeNode};
 
     ghost set_of = { λ t. t.set };
 
@@ -173,7 +173,7 @@ impl<A: Monoid, B: Monoid> Descend<A, B> for FakeTree<A, B> {
 
     ghost use Rattle.std.specs.Prelude.{ℕ, ⊤};
     ghost use Rattle.aug_model.specs.Folds.{summary_of};
-    ghost use Rattle.aug_query.specs.FakeTree.{IsFakePlace};
+    ghost use Rattle.aug_query.specs.inside.FakeNodes.{IsFakePlace};
 
     ghost set_of = { λ t. t.set };
 

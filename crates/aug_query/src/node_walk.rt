@@ -31,7 +31,8 @@ impl<A: Monoid, B: Monoid, T: Tree<A, B>> Drop for NodeWalk<'_, A, B, T> {
 impl<A: Monoid, B: Monoid, T: Tree<A, B>> Descend<A, B> for NodeWalk<'_, A, B, T> {
     type Name = T::Node;
 
-    ghost use Rattle.aug_query.specs.NodeWalk.{NamesNode, KeepsWalk};
+    ghost use Rattle.aug_query.specs.NodeWalk.{KeepsWalk};
+    ghost use Rattle.aug_query.specs.inside.NodePlaces.{NamesNode};
     ghost use Rattle.aug_query.specs.inside.NodeWalkLaws.{kept_so, kept_on, stands};
 
     ghost set_of = { λ w. T.set_of w.tree.now };

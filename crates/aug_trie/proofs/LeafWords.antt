@@ -2,7 +2,8 @@
 use Rattle.std.proofs.Common.{◌≡◌, ℕ, ◌%◌, ◌^◌, ◌<◌, eqb, if◌then◌else◌, [], ◌∷◌, sym, ap, ◌∙◌, arith}
 use Rattle.aug_core.specs.Book.{IsSerial, word_of_leaf}
 use Rattle.aug_core.specs.declared.view.Entry.{Entry}
-use Rattle.aug_trie.specs.LeafWords.{serial_in_word, weight_in_word, leaf_pairs}
+use Rattle.aug_trie.specs.LeafWords.{serial_in_word, weight_in_word}
+use Rattle.aug_trie.specs.inside.LeafPairs.{leaf_pairs}
 
 pub serial_of_leaf : (i w : ℕ) → w < 2 ^ 32 → serial_in_word (word_of_leaf i w) ≡ i
 serial_of_leaf i w fits = omega arith

@@ -14,7 +14,8 @@ use Rattle.aug_core.specs.declared.view.SeatView.{SeatView}
 use Rattle.aug_core.proofs.Books.{fresh_now}
 use Rattle.aug_core.proofs.Fits.{knows_same}
 use Rattle.aug_core.proofs.PlaceLemmas.{keys-within}
-use Rattle.aug_trie.specs.LeafWords.{weight_in_word, leaf_pairs}
+use Rattle.aug_trie.specs.LeafWords.{weight_in_word}
+use Rattle.aug_trie.specs.inside.LeafPairs.{leaf_pairs}
 use Rattle.aug_trie.specs.inside.NodeWords.{IsNodeAt}
 use Rattle.aug_trie.specs.inside.Goes.{Goes, Looks}
 use Rattle.aug_trie.specs.TreeOf.{IsTreeOf}

@@ -34,7 +34,8 @@ use Rattle.aug_words.specs.Rests.{AtRest}
 use Rattle.aug_words.specs.Seats.{NamesRoot}
 use Rattle.aug_trie.specs.History.{last_cut}
 use Rattle.aug_trie.specs.inside.Knows.{knows}
-use Rattle.aug_trie.specs.LeafWords.{serial_in_word, weight_in_word, leaf_pairs}
+use Rattle.aug_trie.specs.LeafWords.{serial_in_word, weight_in_word}
+use Rattle.aug_trie.specs.inside.LeafPairs.{leaf_pairs}
 use Rattle.aug_trie.specs.inside.EndedTree.{word_in, covered, IsLeafOf, IsVersion}
 use Rattle.aug_trie.specs.inside.EndedState.{pairs_at_rest, HoldsVersion}
 use Rattle.aug_trie.proofs.Counting.{filter_shorter}

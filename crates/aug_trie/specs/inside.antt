@@ -8,6 +8,7 @@ pub mod EndedState
 pub mod EndedTree
 pub mod Goes
 pub mod Knows
+pub mod LeafPairs
 pub mod NamedCuts
 pub mod NodeWords
 pub mod PassState

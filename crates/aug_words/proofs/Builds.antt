@@ -16,7 +16,8 @@ use Rattle.aug_model.proofs.Membership.{is_member-iff_Contains}
 use Rattle.aug_model.proofs.Pairs.{key_at, length-keys_of, keys_of-range, weight_at_place, weight_fits, weight-none}
 use Rattle.aug_model.proofs.Ranges.{Rises, rises_from, all_below_from, count_few, range_le, range_of_key}
 use Rattle.aug_core.specs.Places.{Shape, own_records, lane_place, record_start, word_count, level_start, record_words}
-use Rattle.aug_core.specs.Addresses.{place_count, IsInner, left_of, right_of, level_of, place_on, IsWord}
+use Rattle.aug_core.specs.Addresses.{place_count, IsInner, left_of, right_of, level_of, place_on}
+use Rattle.aug_core.specs.inside.WordPlaces.{IsWord}
 use Rattle.aug_core.specs.Lanes.{block_start, block_size}
 use Rattle.aug_core.specs.Opening.{Opening, opening_leaf_word, members_below, pairs_below, has_members, own_before, number_at, opening_pairs, opening_number, opening_words, shared_words}
 use Rattle.aug_core.specs.Faces.{face}

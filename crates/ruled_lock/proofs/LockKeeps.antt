@@ -9,7 +9,8 @@ use lib.ListN.{get_elem?}
 use lib.Seq.{map-set}
 use Rattle.atomic_table.specs.Table.{State, step, keeps, takes, gives, stepped, homes_after, Allows, Splits}
 use Rattle.ruled_lock.specs.declared.holding.Holding.{Holding}
-use Rattle.ruled_lock.specs.Locks.{KnowsValue, client, IsLocked, LockSeat, doing, idle, tried, gave, Learns, TurnsAt, Forks}
+use Rattle.ruled_lock.specs.Locks.{Learns, TurnsAt, Forks}
+use Rattle.ruled_lock.specs.inside.LockState.{KnowsValue, client, IsLocked, LockSeat, doing, idle, tried, gave}
 use Rattle.atomic_table.proofs.Lists.{at_set, set_again, set_here, set_else, at_longer, at_snoc, at_map, exchanged}
 use prog.Atomic.{either}
 

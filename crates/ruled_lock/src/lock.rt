@@ -16,7 +16,7 @@ pub struct Locked<P> {
 }
 
 impl<T, V, P: LockRule<T, V>> TableRule<Option<T>, Holding<T, V>, ()> for Locked<P> {
-    ghost use Rattle.ruled_lock.specs.Locks.{IsLocked, idle};
+    ghost use Rattle.ruled_lock.specs.inside.LockState.{IsLocked, idle};
 
     ghost holds = { λ _. IsLocked P.holds };
 

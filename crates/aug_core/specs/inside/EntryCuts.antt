@@ -1,7 +1,8 @@
 -- The cut that an entry of the book shows: the serials that its leaves had reached, and their weights.
 use Rattle.std.specs.Prelude.{◌≡◌, ℕ, ◌*◌, ◌^◌, ◌<◌, [], ◌∷◌, ◌++◌, length, slice_index_or, zero, suc}
 use Rattle.aug_core.specs.Places.{Shape}
-use Rattle.aug_core.specs.Addresses.{left_of, right_of, IsWord}
+use Rattle.aug_core.specs.Addresses.{left_of, right_of}
+use Rattle.aug_core.specs.inside.WordPlaces.{IsWord}
 use Rattle.aug_core.specs.Book.{Book, history_of}
 use Rattle.aug_core.specs.Opening.{serial_entry}
 use Rattle.aug_core.specs.Cuts.{Cut}

@@ -5,7 +5,8 @@ use Rattle.std.specs.Borrow.{MutBor}
 use Rattle.aug_model.specs.Keys.{SetFacts, list_of}
 use Rattle.aug_model.specs.declared.summary.Summary.{Summary}
 use Rattle.aug_query.specs.Tree.{IsNodeOf, sum_of, below_node}
-use Rattle.aug_query.specs.NodeWalk.{NamesNode, KeepsWalk}
+use Rattle.aug_query.specs.NodeWalk.{KeepsWalk}
+use Rattle.aug_query.specs.inside.NodePlaces.{NamesNode}
 use Rattle.aug_query.specs.declared.loaded.Loaded.{Loaded}
 
 module _ {Tree Node : Type 0} {calls_of : Tree → ℕ} {HasNode : Tree → Node → Type 0} {KeepsRest : Tree → Tree → Type 0} where

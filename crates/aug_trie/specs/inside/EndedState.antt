@@ -4,7 +4,7 @@ use Rattle.aug_core.specs.Layout.{IsLayout}
 use Rattle.aug_model.specs.Keys.{IsKeySet, keys_of}
 use Rattle.aug_monoid.specs.Weighted.{FitsPair}
 use Rattle.aug_words.specs.Rests.{AtRest}
-use Rattle.aug_trie.specs.LeafWords.{leaf_pairs}
+use Rattle.aug_trie.specs.inside.LeafPairs.{leaf_pairs}
 use Rattle.aug_trie.specs.inside.EndedTree.{word_in, IsVersion}
 
 -- the members, with their weights, that the version shows which a word names at a level and a place: a leaf's word has its serial and its weight, a

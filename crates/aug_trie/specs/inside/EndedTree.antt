@@ -5,7 +5,8 @@ use Rattle.aug_core.specs.Places.{record_start, record_count, record_words}
 use Rattle.aug_model.specs.Queries.{weighted_range_of, weight_in}
 use Rattle.aug_query.specs.Tree.{first_key, end_key, IsTreeSet, IsNodeOf}
 use Rattle.aug_model.specs.declared.summary.Summary.{Summary}
-use Rattle.aug_trie.specs.LeafWords.{serial_in_word, weight_in_word, leaf_pairs}
+use Rattle.aug_trie.specs.LeafWords.{serial_in_word, weight_in_word}
+use Rattle.aug_trie.specs.inside.LeafPairs.{leaf_pairs}
 use Rattle.aug_trie.specs.declared.rounds.ended_tree.EndedNode.{EndedNode}
 use Rattle.aug_trie.specs.Ended.{EndedFacts, set_of_ended}
 

@@ -10,7 +10,7 @@ use Rattle.aug_core.specs.declared.step.StepTaken.{StepTaken}
 use Rattle.aug_core.specs.declared.view.Entry.{Entry}
 use Rattle.aug_core.specs.declared.view.SeatView.{SeatView}
 use Rattle.aug_trie.specs.inside.Goes.{Goes, Took, HasRoom, Tries, IsPart, part_steps, publish_steps, try_steps, Looks}
-use Rattle.aug_trie.specs.LeafWords.{leaf_pairs}
+use Rattle.aug_trie.specs.inside.LeafPairs.{leaf_pairs}
 use Rattle.aug_trie.specs.declared.turns.points.Reading.{Reading}
 use Rattle.aug_trie.specs.declared.turns.points.Filling.{Filling}
 use Rattle.aug_trie.specs.declared.turns.points.Point.{Point}

@@ -4,7 +4,7 @@ ghost use Rattle.aug_core.specs.Faces.{face};
 ghost use Rattle.aug_core.specs.Told.{KnowsTable};
 ghost use Rattle.aug_model.specs.Folds.{summary_of};
 ghost use Rattle.aug_trie.specs.inside.NodeWords.{IsNodeAt};
-ghost use Rattle.aug_trie.specs.LeafWords.{leaf_pairs};
+ghost use Rattle.aug_trie.specs.inside.LeafPairs.{leaf_pairs};
 ghost use Rattle.aug_trie.specs.TreeOf.{IsTreeOf};
 ghost use Rattle.aug_trie.specs.inside.NamedCuts.{cut_named};
 ghost use Rattle.aug_trie.specs.inside.Goes.{Looks};

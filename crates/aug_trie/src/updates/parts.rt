@@ -4,7 +4,7 @@ ghost use Rattle.aug_core.specs.Faces.{face};
 ghost use Rattle.aug_core.specs.Addresses.{place_count, IsInner};
 ghost use Rattle.aug_core.specs.Told.{KnowsTable};
 ghost use Rattle.aug_core.specs.inside.Refreshes.{HasEntry};
-ghost use Rattle.aug_trie.specs.LeafWords.{leaf_pairs};
+ghost use Rattle.aug_trie.specs.inside.LeafPairs.{leaf_pairs};
 ghost use Rattle.aug_trie.specs.inside.Goes.{IsPart, IsPartOf, Goes, Took, HasLeaves, part_steps};
 
 use crate::updates::leaf_words::{leaf_serial, leaf_weight};

@@ -2,7 +2,8 @@ use Rattle.std.proofs.Common.{◌≡◌, ◌≤◌, ◌^◌, ap, sym, ◌∙◌,
 use Rattle.std.proofs.Math.ListN.{get_or-map}
 use Rattle.aug_model.specs.Folds.{summary_of}
 use Rattle.aug_model.specs.Queries.{weight_in}
-use Rattle.aug_query.specs.FakeTree.{Asked, IsFakeNode}
+use Rattle.aug_query.specs.FakeTree.{Asked}
+use Rattle.aug_query.specs.inside.FakeNodes.{IsFakeNode}
 use Rattle.aug_query.specs.Tree.{end_key}
 use Rattle.aug_query.proofs.Nodes.{leaf_end}
 use Rattle.aug_query.proofs.Placed.{row_reaches, is_node}

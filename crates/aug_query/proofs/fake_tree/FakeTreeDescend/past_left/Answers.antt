@@ -1,6 +1,7 @@
 use Rattle.std.proofs.Common.{◌+◌, sym, subst}
 use Rattle.aug_model.specs.Folds.{summary_of}
-use Rattle.aug_query.specs.FakeTree.{Asked, IsFakePlace}
+use Rattle.aug_query.specs.FakeTree.{Asked}
+use Rattle.aug_query.specs.inside.FakeNodes.{IsFakePlace}
 use Rattle.aug_query.proofs.Placed.{right_stands}
 use Rattle.aug_query.proofs.fake_tree.FakeTreeDescend.past_left.Goals as goal
 

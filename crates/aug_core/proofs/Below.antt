@@ -5,7 +5,8 @@ use Rattle.std.proofs.lemmas.Bool.{cases_lt}
 use Rattle.aug_core.specs.Places.{own_records, opening_count}
 use Rattle.aug_core.specs.Addresses.{IsInner, left_of, right_of}
 use Rattle.aug_core.specs.inside.WordPlaces.{IsWord}
-use Rattle.aug_core.specs.Opening.{opening_leaf_word, Opening, members_below, pairs_below, has_members, own_before, number_at, opening_pairs, opening_number}
+use Rattle.aug_core.specs.Opening.{opening_leaf_word, Opening, has_members, own_before, number_at, opening_pairs, opening_number}
+use Rattle.aug_model.specs.NodeKeys.{keys_below, pairs_below}
 use Rattle.aug_model.specs.Keys.{is_member, keys_of, pairs_of}
 use Rattle.aug_model.specs.Queries.{range_of, weight_in}
 use Rattle.aug_model.proofs.Pairs.{range-again, pairs_of-append}
@@ -32,7 +33,7 @@ own_few o rises l zero = omega arith
 own_few o rises l (suc p) = let h = own_few o rises l p in let w : ℕ = 2 ^ l in let one : p + 1 ≡ suc p = omega arith in
     let e : suc p * w ≡ p * w + w = suc-mul p w in let next : (p + 1) * w ≡ suc p * w = ap (λ (z : ℕ). z * w) one in
     let cut = count_cut (keys_of o.members) 0 (p * w) ((p + 1) * w) rises (omega arith) (omega arith) in
-    let is = ap (λ (z : ℕ). length (range_of (keys_of o.members) 0 z)) next in let one = one_if (length (members_below o l p)) in omega arith
+    let is = ap (λ (z : ℕ). length (range_of (keys_of o.members) 0 z)) next in let one = one_if (length (keys_below (keys_of o.members) l p)) in omega arith
 
 lt_min : (x a b : ℕ) → x < a → x < b → x < min a b
 lt_min x a b h k = ⊎_elim (λ (lt : a < b). subst (λ (z : ℕ). x < z) (sym (min-eq_left {n = a} {m = b} (omega arith))) h) (λ (ge : b ≤ a). subst (λ (z : ℕ). x < z) (sym (min-eq_right {n = b} {m = a} ge)) k) (cases_lt a b)
@@ -67,14 +68,14 @@ number_low o rises few l p up room = ⊎_elim
     (λ none. let e = number_shared o l p none in omega arith) (true_or_false (has_members o (suc l) p))
 
 module _ (o : Opening) where
-  pub pairs_are : (q l p : ℕ) → IsWord o.shape l p q → opening_pairs o q ≡ pairs_below o l p
-  pairs_are q l p a = let e = level_is o.shape q l p a in λ i. pairs_below o (e.0 i) (e.1 i)
+  pub pairs_are : (q l p : ℕ) → IsWord o.shape l p q → opening_pairs o q ≡ pairs_below o.members l p
+  pairs_are q l p a = let e = level_is o.shape q l p a in λ i. pairs_below o.members (e.0 i) (e.1 i)
 
   pub number_is : (q l p : ℕ) → IsWord o.shape l p q → opening_number o q ≡ number_at o l p
   number_is q l p a = let e = level_is o.shape q l p a in λ i. number_at o (e.0 i) (e.1 i)
 
   -- the members below a node are those below its children
-  pub below_both : Rises (keys_of o.members) → (l p : ℕ) → members_below o (suc l) p ≡ members_below o l (2 * p) ++ members_below o l (2 * p + 1)
+  pub below_both : Rises (keys_of o.members) → (l p : ℕ) → keys_below (keys_of o.members) (suc l) p ≡ keys_below (keys_of o.members) l (2 * p) ++ keys_below (keys_of o.members) l (2 * p + 1)
   below_both rises l p = let w : ℕ = 2 ^ l in let e : 2 ^ suc l ≡ w + w = two-pow-succ l in
       let two : 2 * p ≡ p + p = omega arith in
       let first : p * 2 ^ suc l ≡ 2 * p * w = ap (λ (z : ℕ). p * z) e ∙ mul-add p w w ∙ sym (add-mul p p w) ∙ ap (λ (z : ℕ). z * w) (sym two) in
@@ -88,12 +89,12 @@ module _ (o : Opening) where
       next n w = let k : suc n * w ≡ n * w + w = suc-mul n w in let j : suc n ≡ n + 1 = omega arith in sym k ∙ ap (λ (z : ℕ). z * w) j
 
   -- and so are they with their weights
-  weighed : Rises (keys_of o.members) → (l p : ℕ) → pairs_below o l p ≡ pairs_of (weight_in o.members) (members_below o l p)
+  weighed : Rises (keys_of o.members) → (l p : ℕ) → pairs_below o.members l p ≡ pairs_of (weight_in o.members) (keys_below (keys_of o.members) l p)
   weighed rises l p = range-again o.members (p * 2 ^ l) ((p + 1) * 2 ^ l) rises
 
-  pairs_both : Rises (keys_of o.members) → (l p : ℕ) → pairs_below o (suc l) p ≡ pairs_below o l (2 * p) ++ pairs_below o l (2 * p + 1)
+  pairs_both : Rises (keys_of o.members) → (l p : ℕ) → pairs_below o.members (suc l) p ≡ pairs_below o.members l (2 * p) ++ pairs_below o.members l (2 * p + 1)
   pairs_both rises l p =
-      weighed rises (suc l) p ∙ ap (pairs_of (weight_in o.members)) (below_both rises l p) ∙ pairs_of-append (weight_in o.members) (members_below o l (2 * p)) (members_below o l (2 * p + 1))
+      weighed rises (suc l) p ∙ ap (pairs_of (weight_in o.members)) (below_both rises l p) ∙ pairs_of-append (weight_in o.members) (keys_below (keys_of o.members) l (2 * p)) (keys_below (keys_of o.members) l (2 * p + 1))
       ∙ (λ i. sym (weighed rises l (2 * p)) i ++ sym (weighed rises l (2 * p + 1)) i)
 
   pub pairs_over : Rises (keys_of o.members) → (q : ℕ) → IsInner o.shape q → opening_pairs o q ≡ opening_pairs o (left_of o.shape q) ++ opening_pairs o (right_of o.shape q)

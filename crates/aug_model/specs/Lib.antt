@@ -1,4 +1,5 @@
 pub mod Folds
 pub mod Keys
 pub mod Queries
+pub mod NodeKeys
 pub mod inside

@@ -11,7 +11,8 @@ use Rattle.std.proofs.lemmas.List.Sorted.{IsNonDecreasingBy-take, IsNonDecreasin
 use Rattle.aug_model.specs.Keys.{SetFacts, is_member, keys_of, list_of}
 use Rattle.aug_model.specs.Queries.{rank_of, weight_of}
 use Rattle.aug_model.proofs.Ranges.{rises_from}
-use Rattle.aug_query.specs.Tree.{IsTreeSet, first_key, end_key, below_node}
+use Rattle.aug_query.specs.Tree.{IsTreeSet}
+use Rattle.aug_model.specs.NodeKeys.{first_key, end_key, keys_below}
 use Rattle.aug_query.specs.Descend.{Descends}
 use Rattle.aug_query.specs.declared.loaded.Loaded.{Loaded}
 use Rattle.aug_query.specs.inside.Batches.{AreBetween, nodes_below, leaves_below}
@@ -205,10 +206,10 @@ left_before set other level place before inner same is =
     is ∙ ap (rank_of (list_of set)) (sym (left_low level place (level - 1) (2 * place) (one_down level inner) refl)) ∙ ap (λ s. rank_of (list_of s) (first_key (level - 1) (2 * place))) (sym same)
 
 -- and before a right child those that the left one covers besides
-pub right_before : (set mid other : SetFacts) (level place before n : ℕ) → IsTreeSet set → 1 ≤ level → mid ≡ set → other ≡ set → before ≡ rank_of (list_of set) (first_key level place) → n ≡ length (below_node (list_of mid) (level - 1) (2 * place))
+pub right_before : (set mid other : SetFacts) (level place before n : ℕ) → IsTreeSet set → 1 ≤ level → mid ≡ set → other ≡ set → before ≡ rank_of (list_of set) (first_key level place) → n ≡ length (keys_below (list_of mid) (level - 1) (2 * place))
     → before + n ≡ rank_of (list_of other) (first_key (level - 1) (2 * place + 1))
 right_before set mid other level place before n tree inner alike same is count =
-    let here = count ∙ ap (λ s. length (below_node (list_of s) (level - 1) (2 * place))) alike in
+    let here = count ∙ ap (λ s. length (keys_below (list_of s) (level - 1) (2 * place))) alike in
     let cut = rank_before_right (list_of set) (level - 1) place n (rises_from (list_of set) tree.is_key_set.rising) here in
     let top = ap (λ l. rank_of (list_of set) (first_key l place)) (one_down level inner) in
     omega (arith, is, cut, top) ∙ ap (λ s. rank_of (list_of s) (first_key (level - 1) (2 * place + 1))) (sym same)

@@ -7,7 +7,8 @@ use Rattle.aug_model.specs.Keys.{SetFacts, list_of}
 use Rattle.aug_model.specs.Queries.{first_of, last_of}
 use Rattle.aug_model.specs.declared.summary.Summary.{Summary}
 use Rattle.aug_model.proofs.Ranges.{Rises, no_members, range_of_one}
-use Rattle.aug_query.specs.Tree.{IsNodeOf, first_key, end_key, below_node}
+use Rattle.aug_query.specs.Tree.{IsNodeOf}
+use Rattle.aug_model.specs.NodeKeys.{first_key, end_key, keys_below}
 use Rattle.aug_query.proofs.Nodes.{few_keys, right_high, leaf_is, leaf_low, leaf_first, leaf_end}
 use Rattle.aug_query.proofs.Descending.{key_first, key_end}
 use Rattle.aug_query.proofs.Orders.{last_append, first_append}
@@ -22,33 +23,33 @@ pub child_places : {A B : Type 0} {sum : List (ℕ × ℕ) → Summary A B} {set
 child_places {place = place} level node = let room = small (2 ^ level) (2 * place + 1 + 1) (2 ^ 16) (pow_pos level) (le_trans (le_of_eq (right_high (level + 1) place level (2 * place + 1) refl refl)) (few_keys node)) in omega (arith, room)
 
 -- the last member below a node is that below its right child, where members are below it
-pub last_right : (keys : List ℕ) (level place : ℕ) → Rises keys → 0 < length (below_node keys level (2 * place + 1)) → last_of (below_node keys level (2 * place + 1)) ≡ last_of (below_node keys (level + 1) place)
+pub last_right : (keys : List ℕ) (level place : ℕ) → Rises keys → 0 < length (keys_below keys level (2 * place + 1)) → last_of (keys_below keys level (2 * place + 1)) ≡ last_of (keys_below keys (level + 1) place)
 last_right keys level place rises some =
-    sym (last_append (below_node keys level (2 * place)) (below_node keys level (2 * place + 1)) some) ∙ ap last_of (children_cover keys level place rises)
+    sym (last_append (keys_below keys level (2 * place)) (keys_below keys level (2 * place + 1)) some) ∙ ap last_of (children_cover keys level place rises)
 
 -- and that below its left child, where none are
-pub last_left : (keys : List ℕ) (level place : ℕ) → Rises keys → length (below_node keys level (2 * place + 1)) ≡ 0 → last_of (below_node keys level (2 * place)) ≡ last_of (below_node keys (level + 1) place)
+pub last_left : (keys : List ℕ) (level place : ℕ) → Rises keys → length (keys_below keys level (2 * place + 1)) ≡ 0 → last_of (keys_below keys level (2 * place)) ≡ last_of (keys_below keys (level + 1) place)
 last_left keys level place rises none =
-    let all = ap (λ ys. below_node keys level (2 * place) ++ ys) (no_members (below_node keys level (2 * place + 1)) none) ∙ append-nil (below_node keys level (2 * place)) in
+    let all = ap (λ ys. keys_below keys level (2 * place) ++ ys) (no_members (keys_below keys level (2 * place + 1)) none) ∙ append-nil (keys_below keys level (2 * place)) in
     ap last_of (sym all ∙ children_cover keys level place rises)
 
 -- the first member below a node is that below its left child, where members are below it
-pub first_left : (keys : List ℕ) (level place : ℕ) → Rises keys → 0 < length (below_node keys level (2 * place)) → first_of (below_node keys level (2 * place)) ≡ first_of (below_node keys (level + 1) place)
+pub first_left : (keys : List ℕ) (level place : ℕ) → Rises keys → 0 < length (keys_below keys level (2 * place)) → first_of (keys_below keys level (2 * place)) ≡ first_of (keys_below keys (level + 1) place)
 first_left keys level place rises some =
-    sym (first_append (below_node keys level (2 * place)) (below_node keys level (2 * place + 1)) some) ∙ ap first_of (children_cover keys level place rises)
+    sym (first_append (keys_below keys level (2 * place)) (keys_below keys level (2 * place + 1)) some) ∙ ap first_of (children_cover keys level place rises)
 
 -- and that below its right child, where none are
-pub first_right : (keys : List ℕ) (level place : ℕ) → Rises keys → length (below_node keys level (2 * place)) ≡ 0 → first_of (below_node keys level (2 * place + 1)) ≡ first_of (below_node keys (level + 1) place)
+pub first_right : (keys : List ℕ) (level place : ℕ) → Rises keys → length (keys_below keys level (2 * place)) ≡ 0 → first_of (keys_below keys level (2 * place + 1)) ≡ first_of (keys_below keys (level + 1) place)
 first_right keys level place rises none =
-    let all = ap (λ xs. xs ++ below_node keys level (2 * place + 1)) (no_members (below_node keys level (2 * place)) none) in
+    let all = ap (λ xs. xs ++ keys_below keys level (2 * place + 1)) (no_members (keys_below keys level (2 * place)) none) in
     ap first_of (sym all ∙ children_cover keys level place rises)
 
 -- there are as many members below a node as below its two children
-pub children_add : (keys : List ℕ) (level place : ℕ) → Rises keys → length (below_node keys level (2 * place)) + length (below_node keys level (2 * place + 1)) ≡ length (below_node keys (level + 1) place)
-children_add keys level place rises = sym (length-append (below_node keys level (2 * place)) (below_node keys level (2 * place + 1))) ∙ ap length (children_cover keys level place rises)
+pub children_add : (keys : List ℕ) (level place : ℕ) → Rises keys → length (keys_below keys level (2 * place)) + length (keys_below keys level (2 * place + 1)) ≡ length (keys_below keys (level + 1) place)
+children_add keys level place rises = sym (length-append (keys_below keys level (2 * place)) (keys_below keys level (2 * place + 1))) ∙ ap length (children_cover keys level place rises)
 
 -- a leaf that covers a member covers its key alone
-leaf_alone : (keys : List ℕ) (level place : ℕ) → Rises keys → level ≡ 0 → 0 < length (below_node keys level place) → below_node keys level place ≡ place ∷ []
+leaf_alone : (keys : List ℕ) (level place : ℕ) → Rises keys → level ≡ 0 → 0 < length (keys_below keys level place) → keys_below keys level place ≡ place ∷ []
 leaf_alone keys level place rises leaf some =
     let covers = leaf_is keys level place leaf in
     elim (range_of_one keys place rises) [
@@ -57,7 +58,7 @@ leaf_alone keys level place rises leaf some =
     ]
 
 -- so what such a leaf has, that key has
-pub leaf_has : {X : Type 0} (of : List ℕ → X) (x : X) (keys : List ℕ) (level place : ℕ) → Rises keys → level ≡ 0 → 0 < length (below_node keys level place) → of (below_node keys level place) ≡ x → of (place ∷ []) ≡ x
+pub leaf_has : {X : Type 0} (of : List ℕ → X) (x : X) (keys : List ℕ) (level place : ℕ) → Rises keys → level ≡ 0 → 0 < length (keys_below keys level place) → of (keys_below keys level place) ≡ x → of (place ∷ []) ≡ x
 leaf_has of x keys level place rises leaf some same = sym (ap of (leaf_alone keys level place rises leaf some)) ∙ same
 
 -- at the top a key is in the node at place 0
@@ -72,10 +73,10 @@ pub past_leaf : (k level : ℕ) → level ≡ 0 → end_key level (k / 2 ^ level
 past_leaf k level leaf = leaf_end level (k / 2 ^ level) leaf ∙ ap (λ n. n + 1) (leaf_low level (k / 2 ^ level) k leaf (key_first k level) (key_end k level))
 
 -- what a child has of its node it has of the node that a walk began with, where the set was never changed
-pub as_begun : {X : Type 0} (of : List ℕ → X) (x : X) {set other : SetFacts} (level l m place p : ℕ) → other ≡ set → l ≡ level → of (below_node (list_of other) m p) ≡ of (below_node (list_of other) l place) → of (below_node (list_of set) level place) ≡ x → of (below_node (list_of set) m p) ≡ x
+pub as_begun : {X : Type 0} (of : List ℕ → X) (x : X) {set other : SetFacts} (level l m place p : ℕ) → other ≡ set → l ≡ level → of (keys_below (list_of other) m p) ≡ of (keys_below (list_of other) l place) → of (keys_below (list_of set) level place) ≡ x → of (keys_below (list_of set) m p) ≡ x
 as_begun of x {set = set} level l m place p e f child node =
-    sym (ap (λ s. of (below_node (list_of s) m p)) e) ∙ child ∙ ap (λ s. of (below_node (list_of s) l place)) e ∙ ap (λ n. of (below_node (list_of set) n place)) f ∙ node
+    sym (ap (λ s. of (keys_below (list_of s) m p)) e) ∙ child ∙ ap (λ s. of (keys_below (list_of s) l place)) e ∙ ap (λ n. of (keys_below (list_of set) n place)) f ∙ node
 
 -- what is told of the members below a node is so, where the set is written in another way
-pub told_is : {X : Type 0} (of : List ℕ → X) (x y : X) {set other : SetFacts} (level place : ℕ) → other ≡ set → x ≡ of (below_node (list_of other) level place) → y ≡ of (below_node (list_of set) level place) → x ≡ y
-told_is of x y level place e told is = told ∙ ap (λ s. of (below_node (list_of s) level place)) e ∙ sym is
+pub told_is : {X : Type 0} (of : List ℕ → X) (x y : X) {set other : SetFacts} (level place : ℕ) → other ≡ set → x ≡ of (keys_below (list_of other) level place) → y ≡ of (keys_below (list_of set) level place) → x ≡ y
+told_is of x y level place e told is = told ∙ ap (λ s. of (keys_below (list_of s) level place)) e ∙ sym is

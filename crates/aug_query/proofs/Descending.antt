@@ -6,7 +6,7 @@ use Rattle.std.proofs.lemmas.Nat.{pow_pos}
 use Rattle.aug_model.specs.Keys.{SetFacts}
 use Rattle.aug_model.specs.Queries.{rank_of}
 use Rattle.aug_model.proofs.Ranges.{Rises}
-use Rattle.aug_query.specs.Tree.{first_key, end_key, below_node}
+use Rattle.aug_model.specs.NodeKeys.{first_key, end_key, keys_below}
 use Rattle.aug_query.specs.Descend.{Descends}
 use Rattle.aug_query.proofs.Nodes.{node_width, left_low, right_high}
 use Rattle.aug_query.proofs.Orders.{rank_cut}
@@ -69,14 +69,14 @@ pub high_half : (k level : ℕ) → k / 2 ^ level % 2 ≢ 0 → 2 * (k / 2 ^ (le
 high_half k level high = let half = half_place k level in omega arith
 
 -- how many members come before a right child: those before the node, and those of the left one
-pub rank_before_right : (keys : List ℕ) (level place n : ℕ) → Rises keys → n ≡ length (below_node keys level (2 * place)) → rank_of keys (first_key level (2 * place + 1)) ≡ rank_of keys (first_key (level + 1) place) + n
+pub rank_before_right : (keys : List ℕ) (level place n : ℕ) → Rises keys → n ≡ length (keys_below keys level (2 * place)) → rank_of keys (first_key level (2 * place + 1)) ≡ rank_of keys (first_key (level + 1) place) + n
 rank_before_right keys level place n rises is =
     let cut = rank_cut keys (first_key level (2 * place)) (end_key level (2 * place)) rises (mul-le-mul_right (2 ^ level) (omega arith)) in
     let from = ap (rank_of keys) (left_low (level + 1) place level (2 * place) refl refl) in
     omega (arith, cut, from, is)
 
 -- and after a left child: those after the node, and those of the right one
-pub rank_after_left : (keys : List ℕ) (level place n : ℕ) → Rises keys → n ≡ length (below_node keys level (2 * place + 1)) → rank_of keys (end_key level (2 * place)) + n ≡ rank_of keys (end_key (level + 1) place)
+pub rank_after_left : (keys : List ℕ) (level place n : ℕ) → Rises keys → n ≡ length (keys_below keys level (2 * place + 1)) → rank_of keys (end_key level (2 * place)) + n ≡ rank_of keys (end_key (level + 1) place)
 rank_after_left keys level place n rises is =
     let cut = rank_cut keys (first_key level (2 * place + 1)) (end_key level (2 * place + 1)) rises (mul-le-mul_right (2 ^ level) (omega arith)) in
     let to = ap (rank_of keys) (right_high (level + 1) place level (2 * place + 1) refl refl) in

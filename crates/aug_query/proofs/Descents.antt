@@ -5,13 +5,14 @@ use Rattle.std.proofs.lemmas.Bool.{lt-ltb}
 use Rattle.aug_model.specs.Keys.{SetFacts, is_member, list_of, keys_of}
 use Rattle.aug_model.specs.Queries.{range_of, rank_of, select_of, weight_of, weight_in}
 use Rattle.aug_model.specs.declared.summary.Summary.{Summary}
-use Rattle.aug_query.specs.Tree.{IsTreeSet, IsNodeOf, first_key, end_key, below_node}
+use Rattle.aug_query.specs.Tree.{IsTreeSet, IsNodeOf}
+use Rattle.aug_model.specs.NodeKeys.{first_key, end_key, keys_below}
 use Rattle.aug_model.proofs.Ranges.{Rises, rises_from, all_below_from, one_member, range_within, range_clipped, range_none, is_member-counted}
 use Rattle.aug_query.proofs.Orders.{rank_cut, select_is, rank_is as rank_at}
 use Rattle.aug_query.proofs.Nodes.{members_rise, counts, leaf_is, leaf_low, leaf_first, leaf_end}
 
 -- a node that covers a key, and counts no members or is its leaf, counts as many as the key has places
-covers : (keys : List ℕ) (level place k n : ℕ) → Rises keys → n ≡ length (below_node keys level place) → place * 2 ^ level ≤ k → k < (place + 1) * 2 ^ level → (level ≡ 0) ⊎ (n ≡ 0) → n ≡ length (range_of keys k (k + 1))
+covers : (keys : List ℕ) (level place k n : ℕ) → Rises keys → n ≡ length (keys_below keys level place) → place * 2 ^ level ≤ k → k < (place + 1) * 2 ^ level → (level ≡ 0) ⊎ (n ≡ 0) → n ≡ length (range_of keys k (k + 1))
 covers keys level place k n rises e l h (inl leaf) = e ∙ ap length (leaf_is keys level place leaf) ∙ ap (λ x. length (range_of keys x (x + 1))) (leaf_low level place k leaf l h)
 covers keys level place k n rises e l h (inr none) =
     let within = range_within keys (place * 2 ^ level) k (k + 1) ((place + 1) * 2 ^ level) rises l (omega arith) (omega arith) in omega (arith, within)

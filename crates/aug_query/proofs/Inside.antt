@@ -11,7 +11,8 @@ use Rattle.aug_model.proofs.Pairs.{pairs_of-append, range-again}
 use Rattle.aug_model.proofs.Ranges.{Rises, rises_from, all_below_from, range_cut}
 use Rattle.aug_query.specs.declared.loaded.Loaded.{Loaded}
 use Rattle.aug_query.specs.Descend.{Descends}
-use Rattle.aug_query.specs.Tree.{IsTreeSet, sum_of, first_key, end_key, below_node}
+use Rattle.aug_query.specs.Tree.{IsTreeSet, sum_of}
+use Rattle.aug_model.specs.NodeKeys.{first_key, end_key, keys_below}
 use Rattle.aug_query.proofs.Nodes.{left_low, right_high, leaf_low, leaf_first, leaf_end, node_width}
 use Rattle.aug_query.proofs.Cover.{range_fits, range_is_few, inner_alike, clipped}
 use Rattle.aug_query.proofs.Descending.{further, half_place, key_first, key_end, low_half, high_half}
@@ -64,13 +65,13 @@ first_no_earlier k level =
     omega (arith, first, more)
 
 -- the right child beside a left one over a key covers what is between the ends of that and of the node
-pub beside_low : (keys : List ℕ) (k level : ℕ) → k / 2 ^ level % 2 ≡ 0 → below_node keys level (2 * (k / 2 ^ (level + 1)) + 1) ≡ range_of keys (end_key level (k / 2 ^ level)) (end_key (level + 1) (k / 2 ^ (level + 1)))
+pub beside_low : (keys : List ℕ) (k level : ℕ) → k / 2 ^ level % 2 ≡ 0 → keys_below keys level (2 * (k / 2 ^ (level + 1)) + 1) ≡ range_of keys (end_key level (k / 2 ^ level)) (end_key (level + 1) (k / 2 ^ (level + 1)))
 beside_low keys k level low =
     let p = k / 2 ^ (level + 1) in
     ap (λ n. range_of keys ((n + 1) * 2 ^ level) (end_key level (2 * p + 1))) (low_half k level low) ∙ ap (λ n. range_of keys (end_key level (k / 2 ^ level)) n) (right_high (level + 1) p level (2 * p + 1) refl refl)
 
 -- the left child beside a right one covers what is between the firsts of the node and of that
-pub beside_high : (keys : List ℕ) (k level : ℕ) → k / 2 ^ level % 2 ≢ 0 → below_node keys level (2 * (k / 2 ^ (level + 1))) ≡ range_of keys (first_key (level + 1) (k / 2 ^ (level + 1))) (first_key level (k / 2 ^ level))
+pub beside_high : (keys : List ℕ) (k level : ℕ) → k / 2 ^ level % 2 ≢ 0 → keys_below keys level (2 * (k / 2 ^ (level + 1))) ≡ range_of keys (first_key (level + 1) (k / 2 ^ (level + 1))) (first_key level (k / 2 ^ level))
 beside_high keys k level high =
     let p = k / 2 ^ (level + 1) in
     ap (λ n. range_of keys n (end_key level (2 * p))) (left_low (level + 1) p level (2 * p) refl refl) ∙ ap (λ n. range_of keys (first_key (level + 1) p) (n * 2 ^ level)) (high_half k level high)
@@ -81,7 +82,7 @@ part_between a z level both less =
     let next : a / 2 ^ level + 1 ≡ z / 2 ^ level = omega (arith, part_left a z level both less, part_right a z level both less) in ap (λ n. n * 2 ^ level) next
 
 -- an interval as wide as a node that covers it has the members of that
-pub whole_node : (keys : List ℕ) (a b level : ℕ) → Rises keys → a < b → a / 2 ^ level ≡ (b - 1) / 2 ^ level → b - a ≡ 2 ^ level → below_node keys level (a / 2 ^ level) ≡ range_of keys a b
+pub whole_node : (keys : List ℕ) (a b level : ℕ) → Rises keys → a < b → a / 2 ^ level ≡ (b - 1) / 2 ^ level → b - a ≡ 2 ^ level → keys_below keys level (a / 2 ^ level) ≡ range_of keys a b
 whole_node keys a b level rises some both wide =
     let first = key_first a level in
     let last = key_end (b - 1) level in

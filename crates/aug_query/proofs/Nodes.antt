@@ -7,7 +7,8 @@ use Rattle.aug_model.specs.Keys.{SetFacts, list_of, pairs_of}
 use Rattle.aug_model.specs.Queries.{range_of, rank_of, weight_in}
 use Rattle.aug_model.proofs.Pairs.{length-pairs_of}
 use Rattle.aug_model.specs.declared.summary.Summary.{Summary}
-use Rattle.aug_query.specs.Tree.{IsNodeOf, first_key, end_key, below_node}
+use Rattle.aug_query.specs.Tree.{IsNodeOf}
+use Rattle.aug_model.specs.NodeKeys.{first_key, end_key, keys_below}
 use Rattle.aug_query.specs.inside.NodePlaces.{IsPlace, middle_key}
 use Rattle.aug_model.proofs.Ranges.{Rises, AllBelow, rises_from, all_below_from, range_whole, count_cut, range_cut}
 use Rattle.aug_query.proofs.Orders.{rank_cut, rank_few}
@@ -108,7 +109,7 @@ leaf_first level place e = ap (λ n. place * 2 ^ n) e ∙ mul-one place
 pub leaf_end : (level place : ℕ) → level ≡ 0 → end_key level place ≡ place + 1
 leaf_end level place e = ap (λ n. (place + 1) * 2 ^ n) e ∙ mul-one (place + 1)
 
-pub leaf_is : (keys : List ℕ) (level place : ℕ) → level ≡ 0 → below_node keys level place ≡ range_of keys place (place + 1)
+pub leaf_is : (keys : List ℕ) (level place : ℕ) → level ≡ 0 → keys_below keys level place ≡ range_of keys place (place + 1)
 leaf_is keys level place e =
     ap (λ a. range_of keys a (end_key level place)) (leaf_first level place e) ∙ ap (λ b. range_of keys place b) (leaf_end level place e)
 
@@ -133,11 +134,11 @@ module _ {A B : Type 0} {sum : List (ℕ × ℕ) → Summary A B} {set : SetFact
   ranks_fit k = omega (arith, rank_few (list_of set) k (2 ^ set.bits) members_rise members_below, pow_mono node.is_tree_set.few_bits)
 
   -- a node counts the members below it
-  pub counts : ((pairs : List (ℕ × ℕ)) → (sum pairs).count ≡ length pairs) → told.count ≡ length (below_node (list_of set) level place)
-  counts h = ap (λ s. s.count) node.tells ∙ h (pairs_of (weight_in set.pairs) (below_node (list_of set) level place)) ∙ length-pairs_of (weight_in set.pairs) (below_node (list_of set) level place)
+  pub counts : ((pairs : List (ℕ × ℕ)) → (sum pairs).count ≡ length pairs) → told.count ≡ length (keys_below (list_of set) level place)
+  counts h = ap (λ s. s.count) node.tells ∙ h (pairs_of (weight_in set.pairs) (keys_below (list_of set) level place)) ∙ length-pairs_of (weight_in set.pairs) (keys_below (list_of set) level place)
 
   -- the top of a tree covers every key
-  pub top_covers : level ≡ set.bits → place ≡ 0 → below_node (list_of set) level place ≡ list_of set
+  pub top_covers : level ≡ set.bits → place ≡ 0 → keys_below (list_of set) level place ≡ list_of set
   top_covers e f =
       ap (λ a. range_of (list_of set) a (end_key level place)) (top_first level place f) ∙ ap (λ b. range_of (list_of set) 0 b) (top_end level place set.bits e f) ∙ range_whole (list_of set) (2 ^ set.bits) members_below
 
@@ -193,12 +194,12 @@ module _ {A B : Type 0} {sum : List (ℕ × ℕ) → Summary A B} {set : SetFact
   right_end_rank e f = ap (rank_of (list_of set)) (right_high level place l p e f)
 
 -- what the children of a node cover
-pub left_covers : (keys : List ℕ) (level place l p : ℕ) → l + 1 ≡ level → p ≡ 2 * place → below_node keys l p ≡ range_of keys (first_key level place) (middle_key level place)
+pub left_covers : (keys : List ℕ) (level place l p : ℕ) → l + 1 ≡ level → p ≡ 2 * place → keys_below keys l p ≡ range_of keys (first_key level place) (middle_key level place)
 left_covers keys level place l p e f = ap (λ a. range_of keys a (end_key l p)) (left_low level place l p e f) ∙ ap (λ b. range_of keys (first_key level place) b) (left_high level place l p e f)
 
-pub right_covers : (keys : List ℕ) (level place l p : ℕ) → l + 1 ≡ level → p ≡ 2 * place + 1 → below_node keys l p ≡ range_of keys (middle_key level place) (end_key level place)
+pub right_covers : (keys : List ℕ) (level place l p : ℕ) → l + 1 ≡ level → p ≡ 2 * place + 1 → keys_below keys l p ≡ range_of keys (middle_key level place) (end_key level place)
 right_covers keys level place l p e f = ap (λ a. range_of keys a (end_key l p)) (right_low level place l p e f) ∙ ap (λ b. range_of keys (middle_key level place) b) (right_high level place l p e f)
 
 -- what a node covers, cut in the middle
-pub node_cut : (keys : List ℕ) (level place : ℕ) → Rises keys → 1 ≤ level → below_node keys level place ≡ range_of keys (first_key level place) (middle_key level place) ++ range_of keys (middle_key level place) (end_key level place)
+pub node_cut : (keys : List ℕ) (level place : ℕ) → Rises keys → 1 ≤ level → keys_below keys level place ≡ range_of keys (first_key level place) (middle_key level place) ++ range_of keys (middle_key level place) (end_key level place)
 node_cut keys level place h inner = range_cut keys (first_key level place) (middle_key level place) (end_key level place) h (le_of_lt (low_middle level place inner)) (le_of_lt (middle_high level place inner))

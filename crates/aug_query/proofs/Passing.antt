@@ -3,7 +3,7 @@ use Rattle.std.proofs.Common.{◌≡◌, ℕ, ◌+◌, ◌*◌, ◌/◌, ◌^◌
 use Rattle.std.proofs.Math.Nat.{mul-le-mul_right}
 use Rattle.std.proofs.lemmas.List.{append-nil}
 use Rattle.aug_model.specs.Queries.{rank_of, range_of, before_of, after_of, first_of, last_of}
-use Rattle.aug_query.specs.Tree.{first_key, end_key, below_node}
+use Rattle.aug_model.specs.NodeKeys.{first_key, end_key, keys_below}
 use Rattle.aug_model.proofs.Ranges.{Rises, AllBelow, below_is, above_is, range_cut, range_none, range_whole, range_clipped, no_members}
 use Rattle.aug_query.proofs.Nodes.{left_low, right_high}
 use Rattle.aug_query.proofs.Orders.{rank_cut, rank_past, last_append, first_append}
@@ -13,13 +13,13 @@ use Rattle.aug_query.proofs.Descending.{key_first, key_end}
 pub record LeftBehind (keys : List ℕ) (k first level place : ℕ) : Type 0 where
   pub passed : end_key level place ≤ k
   pub none_between : rank_of keys first ≡ rank_of keys (end_key level place)
-  pub some : 0 < length (below_node keys level place)
+  pub some : 0 < length (keys_below keys level place)
 
 -- the least members from a key on, past k, are those of the node at a level and a place
 pub record RightAhead (keys : List ℕ) (k end level place : ℕ) : Type 0 where
   pub ahead : k < first_key level place
   pub none_between : rank_of keys end ≡ rank_of keys (first_key level place)
-  pub some : 0 < length (below_node keys level place)
+  pub some : 0 < length (keys_below keys level place)
 
 module _ {Name : Type 0} (Names : ℕ → ℕ → Name → Type 0) (keys : List ℕ) (k : ℕ) where
   -- if a node above k is kept, the left child of it has the greatest members before a key; it is kept by that child's level and its own name
@@ -91,7 +91,7 @@ after_none keys k n h b l e =
     ap first_of (above_is keys k n b ∙ no_members (range_of keys (k + 1) n) (omega (arith, cut, e, rank_past keys n n b (omega arith))))
 
 -- the greatest member below a key, from the node left behind
-pub before_ends : (keys : List ℕ) (k first level place : ℕ) → Rises keys → LeftBehind keys k first level place → rank_of keys first ≡ rank_of keys k → before_of keys k ≡ last_of (below_node keys level place)
+pub before_ends : (keys : List ℕ) (k first level place : ℕ) → Rises keys → LeftBehind keys k first level place → rank_of keys first ≡ rank_of keys k → before_of keys k ≡ last_of (keys_below keys level place)
 before_ends keys k first level place h kept e =
     let low = first_key level place in
     let high = end_key level place in
@@ -102,7 +102,7 @@ before_ends keys k first level place h kept e =
     ∙ last_append (range_of keys 0 low) (range_of keys low high) kept.some
 
 -- the least member above a key, from the node ahead
-pub after_ends : (keys : List ℕ) (k n end level place : ℕ) → Rises keys → AllBelow n keys → RightAhead keys k end level place → rank_of keys end ≡ rank_of keys (k + 1) → end_key level place ≤ n → after_of keys k ≡ first_of (below_node keys level place)
+pub after_ends : (keys : List ℕ) (k n end level place : ℕ) → Rises keys → AllBelow n keys → RightAhead keys k end level place → rank_of keys end ≡ rank_of keys (k + 1) → end_key level place ≤ n → after_of keys k ≡ first_of (keys_below keys level place)
 after_ends keys k n end level place h b kept e m =
     let low = first_key level place in
     let high = end_key level place in

@@ -13,7 +13,8 @@ use Rattle.aug_monoid.specs.Weighted.{FitsPair}
 use Rattle.aug_model.specs.Queries.{weight_of, weight_in}
 use Rattle.aug_model.proofs.Pairs.{pairs_of-append}
 use Rattle.aug_query.proofs.Cover.{range_fits, range_is_few}
-use Rattle.aug_query.specs.Tree.{IsTreeSet, sum_of, IsNodeOf, below_node, first_key, end_key}
+use Rattle.aug_query.specs.Tree.{IsTreeSet, sum_of, IsNodeOf}
+use Rattle.aug_model.specs.NodeKeys.{keys_below, first_key, end_key}
 use Rattle.aug_query.specs.inside.FakeNodes.{IsFakePlace}
 use Rattle.aug_query.specs.inside.NodePlaces.{middle_key}
 use Rattle.aug_query.specs.inside.Rows.{IsRow, HoldsTree, JoinsPairs}
@@ -61,17 +62,17 @@ pub half_width : (bits level : ℕ) → level < bits → 2 ^ (bits - level) ≡ 
 half_width bits level h = let same : bits - level ≡ suc (bits - (level + 1)) = omega arith in ap (λ n. 2 ^ n) same ∙ pow-suc 2 (bits - (level + 1)) ∙ mul_comm (2 ^ (bits - (level + 1))) 2
 
 -- the members below a node, by its children
-pub children_cover : (keys : List ℕ) (level place : ℕ) → Rises keys → below_node keys level (2 * place) ++ below_node keys level (2 * place + 1) ≡ below_node keys (level + 1) place
+pub children_cover : (keys : List ℕ) (level place : ℕ) → Rises keys → keys_below keys level (2 * place) ++ keys_below keys level (2 * place + 1) ≡ keys_below keys (level + 1) place
 children_cover keys level place h =
-    ap (λ xs. xs ++ below_node keys level (2 * place + 1)) (left_covers keys (level + 1) place level (2 * place) refl refl) ∙ ap (λ ys. range_of keys (first_key (level + 1) place) (middle_key (level + 1) place) ++ ys) (right_covers keys (level + 1) place level (2 * place + 1) refl refl)
+    ap (λ xs. xs ++ keys_below keys level (2 * place + 1)) (left_covers keys (level + 1) place level (2 * place) refl refl) ∙ ap (λ ys. range_of keys (first_key (level + 1) place) (middle_key (level + 1) place) ++ ys) (right_covers keys (level + 1) place level (2 * place + 1) refl refl)
     ∙ sym (node_cut keys (level + 1) place h (omega arith))
 
 -- the pairs below a node fit
-pub covered_fit : (bits : ℕ) (pairs : List (ℕ × ℕ)) (level place : ℕ) → IsTreeSet (record { bits = bits; pairs = pairs }) → All FitsPair (pairs_of (weight_in pairs) (below_node (keys_of pairs) level place))
+pub covered_fit : (bits : ℕ) (pairs : List (ℕ × ℕ)) (level place : ℕ) → IsTreeSet (record { bits = bits; pairs = pairs }) → All FitsPair (pairs_of (weight_in pairs) (keys_below (keys_of pairs) level place))
 covered_fit bits pairs level place set = range_fits set (first_key level place) (end_key level place)
 
 -- and are few
-pub covered_are_few : (bits : ℕ) (pairs : List (ℕ × ℕ)) (level place : ℕ) → IsTreeSet (record { bits = bits; pairs = pairs }) → length (pairs_of (weight_in pairs) (below_node (keys_of pairs) level place)) ≤ 2 ^ 16
+pub covered_are_few : (bits : ℕ) (pairs : List (ℕ × ℕ)) (level place : ℕ) → IsTreeSet (record { bits = bits; pairs = pairs }) → length (pairs_of (weight_in pairs) (keys_below (keys_of pairs) level place)) ≤ 2 ^ 16
 covered_are_few bits pairs level place set = range_is_few set (first_key level place) (end_key level place)
 
 module _ {A B : Type 0} (sum : List (ℕ × ℕ) → Summary A B) where
@@ -112,7 +113,7 @@ weight_put weights pairs more k w e below each p d h =
     ]
 
 -- a leaf covers its key
-pub leaf_below : (keys : List ℕ) (k : ℕ) → range_of keys k (k + 1) ≡ below_node keys 0 k
+pub leaf_below : (keys : List ℕ) (k : ℕ) → range_of keys k (k + 1) ≡ keys_below keys 0 k
 leaf_below keys k = sym (leaf_is keys 0 k refl)
 
 module _ {A B : Type 0} (sum : List (ℕ × ℕ) → Summary A B) where
@@ -123,7 +124,7 @@ module _ {A B : Type 0} (sum : List (ℕ × ℕ) → Summary A B) where
 -- the nodes of a row count few members
 pub row_counts_few : {A B : Type 0} {sum : List (ℕ × ℕ) → Summary A B} {bits level : ℕ} {pairs : List (ℕ × ℕ)} {row : List (Summary A B)} → ((xs : List (ℕ × ℕ)) → (sum xs).count ≡ length xs) → IsTreeSet (record { bits = bits; pairs = pairs }) → IsRow sum bits pairs level row → All (λ node. node.count < 2 ^ 31) row
 row_counts_few {bits = bits} {level = level} {pairs = pairs} totals set is_row place default within =
-    omega (arith, ap (λ s. s.count) (is_row.tells place default within), totals (pairs_of (weight_in pairs) (below_node (keys_of pairs) level place)), covered_are_few bits pairs level place set)
+    omega (arith, ap (λ s. s.count) (is_row.tells place default within), totals (pairs_of (weight_in pairs) (keys_below (keys_of pairs) level place)), covered_are_few bits pairs level place set)
 
 -- what stands above a row of a tree is its next row
 pub row_above : {A B : Type 0} {sum : List (ℕ × ℕ) → Summary A B} {bits level : ℕ} {pairs : List (ℕ × ℕ)} {row above : List (Summary A B)} → IsTreeSet (record { bits = bits; pairs = pairs }) → level < bits → IsRow sum bits pairs level row → JoinsPairs sum row above → IsRow sum bits pairs (level + 1) above
@@ -132,9 +133,9 @@ row_above {sum = sum} {bits = bits} {level = level} {pairs = pairs} set h is_row
     record {
       all = omega (arith, width, is_row.all, joined.all, joined.no_more);
       tells = λ place default within.
-          joined.joins place default (pairs_of (weight_in pairs) (below_node (keys_of pairs) level (2 * place))) (pairs_of (weight_in pairs) (below_node (keys_of pairs) level (2 * place + 1))) within (covered_fit bits pairs level (2 * place) set) (covered_fit bits pairs level (2 * place + 1) set)
+          joined.joins place default (pairs_of (weight_in pairs) (keys_below (keys_of pairs) level (2 * place))) (pairs_of (weight_in pairs) (keys_below (keys_of pairs) level (2 * place + 1))) within (covered_fit bits pairs level (2 * place) set) (covered_fit bits pairs level (2 * place + 1) set)
           (is_row.tells (2 * place) default (omega (arith, within, joined.all))) (is_row.tells (2 * place + 1) default (omega (arith, within, joined.all)))
-          ∙ ap sum (sym (pairs_of-append (weight_in pairs) (below_node (keys_of pairs) level (2 * place)) (below_node (keys_of pairs) level (2 * place + 1)))) ∙ ap (sum_of sum pairs) (children_cover (keys_of pairs) level place (rises_from (keys_of pairs) set.is_key_set.rising));
+          ∙ ap sum (sym (pairs_of-append (weight_in pairs) (keys_below (keys_of pairs) level (2 * place)) (keys_below (keys_of pairs) level (2 * place + 1)))) ∙ ap (sum_of sum pairs) (children_cover (keys_of pairs) level place (rises_from (keys_of pairs) set.is_key_set.rising));
     }
 
 -- the right child of a node of a tree stands in it too

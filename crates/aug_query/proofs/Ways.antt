@@ -6,7 +6,8 @@ use Rattle.aug_model.specs.Keys.{SetFacts, is_member, list_of}
 use Rattle.aug_model.specs.Queries.{range_of, rank_of, weight_of, weight_in}
 use Rattle.aug_model.specs.declared.summary.Summary.{Summary}
 use Rattle.aug_model.proofs.Ranges.{rises_from, all_below_from, range_whole}
-use Rattle.aug_query.specs.Tree.{IsTreeSet, IsNodeOf, first_key, end_key, below_node}
+use Rattle.aug_query.specs.Tree.{IsTreeSet, IsNodeOf}
+use Rattle.aug_model.specs.NodeKeys.{first_key, end_key, keys_below}
 use Rattle.aug_query.proofs.Nodes.{of_set, counts, top_first, top_end, leaf_is, leaf_first, leaf_end}
 use Rattle.aug_query.proofs.Orders.{rank_cut, rank_few, rank_none}
 use Rattle.aug_query.proofs.Descents.{has_is, weight_is, weight_is_none}
@@ -24,7 +25,7 @@ to_leaf : (k : ℕ) → k < end_key 0 k
 to_leaf k = omega (arith, leaf_end 0 k refl)
 
 -- where a descent ends at the leaf of a key: what it counts tells whether the key is a member, and what it weighs
-module _ {A B : Type 0} {sum : List (ℕ × ℕ) → Summary A B} {set other : SetFacts} {told : Summary A B} (k n : ℕ) (totals : (pairs : List (ℕ × ℕ)) → (sum pairs).count ≡ length pairs) (node : IsNodeOf sum other 0 k told) (same : other ≡ set) (count : n ≡ length (below_node (list_of other) 0 k)) where
+module _ {A B : Type 0} {sum : List (ℕ × ℕ) → Summary A B} {set other : SetFacts} {told : Summary A B} (k n : ℕ) (totals : (pairs : List (ℕ × ℕ)) → (sum pairs).count ≡ length pairs) (node : IsNodeOf sum other 0 k told) (same : other ≡ set) (count : n ≡ length (keys_below (list_of other) 0 k)) where
   -- it counts what its summary does
   counted : n ≡ told.count
   counted = count ∙ sym (counts node totals)
@@ -61,18 +62,18 @@ pub even_rank : (keys : List ℕ) (k level below : ℕ) → level ≡ 1 → k % 
 even_rank keys k level below e even is = let same : first_key level (k / 2 ^ level) ≡ k = omega (arith, pair_first k level e) in is ∙ ap (rank_of keys) same
 
 -- and before an odd one, with what the leaf before it counts
-pub odd_rank : {set other : SetFacts} (k level below n : ℕ) → IsTreeSet set → other ≡ set → level ≡ 1 → k % 2 ≡ 1 → below ≡ rank_of (list_of set) (first_key level (k / 2 ^ level)) → n ≡ length (below_node (list_of other) 0 (k - 1)) → below + n ≡ rank_of (list_of set) k
+pub odd_rank : {set other : SetFacts} (k level below n : ℕ) → IsTreeSet set → other ≡ set → level ≡ 1 → k % 2 ≡ 1 → below ≡ rank_of (list_of set) (first_key level (k / 2 ^ level)) → n ≡ length (keys_below (list_of other) 0 (k - 1)) → below + n ≡ rank_of (list_of set) k
 odd_rank {set = set} k level below n tree same e odd is count =
     let keys = list_of set in
     let first : first_key level (k / 2 ^ level) ≡ k - 1 = omega (arith, pair_first k level e) in
     let next : k - 1 + 1 ≡ k = omega arith in
-    let one = count ∙ ap (λ s. length (below_node (list_of s) 0 (k - 1))) same ∙ ap length (leaf_is keys 0 (k - 1) refl) ∙ ap (λ b. length (range_of keys (k - 1) b)) next in
+    let one = count ∙ ap (λ s. length (keys_below (list_of s) 0 (k - 1))) same ∙ ap length (leaf_is keys 0 (k - 1) refl) ∙ ap (λ b. length (range_of keys (k - 1) b)) next in
     let cut = rank_cut keys (k - 1) k (rises_from keys tree.is_key_set.rising) (omega arith) in
     omega (arith, one, cut, is, ap (rank_of keys) first)
 
 -- the top counts every member
-pub top_size : {set other : SetFacts} (level n : ℕ) → IsTreeSet set → other ≡ set → level ≡ set.bits → n ≡ length (below_node (list_of other) level 0) → n ≡ length (list_of set)
+pub top_size : {set other : SetFacts} (level n : ℕ) → IsTreeSet set → other ≡ set → level ≡ set.bits → n ≡ length (keys_below (list_of other) level 0) → n ≡ length (list_of set)
 top_size {set = set} level n is same e count =
     let keys = list_of set in
     let whole = range_whole keys (2 ^ set.bits) (all_below_from (2 ^ set.bits) keys is.is_key_set.below) in
-    count ∙ ap (λ s. length (below_node (list_of s) level 0)) same ∙ ap (λ a. length (range_of keys a (end_key level 0))) (top_first level 0 refl) ∙ ap (λ b. length (range_of keys 0 b)) (top_end level 0 set.bits e refl) ∙ ap length whole
+    count ∙ ap (λ s. length (keys_below (list_of s) level 0)) same ∙ ap (λ a. length (range_of keys a (end_key level 0))) (top_first level 0 refl) ∙ ap (λ b. length (range_of keys 0 b)) (top_end level 0 set.bits e refl) ∙ ap length whole

@@ -1,21 +1,10 @@
 -- What a tree of a set of keys is: its nodes, each with the summary of the members that it covers, and the calls that walk it.
-use Rattle.std.specs.Prelude.{◌≡◌, ℕ, ◌+◌, ◌*◌, ◌^◌, ◌≤◌, List, All}
+use Rattle.std.specs.Prelude.{◌≡◌, ℕ, ◌+◌, ◌^◌, ◌≤◌, List, All}
 use Rattle.aug_model.specs.Keys.{IsKeySet, SetFacts, list_of, pairs_of}
-use Rattle.aug_model.specs.Queries.{range_of, weight_in}
+use Rattle.aug_model.specs.Queries.{weight_in}
+use Rattle.aug_model.specs.NodeKeys.{end_key, keys_below}
 use Rattle.aug_monoid.specs.Weighted.{FitsPair}
 use Rattle.aug_model.specs.declared.summary.Summary.{Summary}
-
--- the least key that the node at a level and a place covers
-abbrev pub first_key : ℕ → ℕ → ℕ
-first_key level place = place * 2 ^ level
-
--- one more than the greatest key that it covers
-abbrev pub end_key : ℕ → ℕ → ℕ
-end_key level place = (place + 1) * 2 ^ level
-
--- the members that it covers
-abbrev pub below_node : List ℕ → ℕ → ℕ → List ℕ
-below_node keys level place = range_of keys (first_key level place) (end_key level place)
 
 -- a tree is of a set of keys of 1 to 16 bits, with weights of 32 bits
 pub record IsTreeSet (set : SetFacts) : Type 0 where
@@ -34,7 +23,7 @@ module _ {A B : Type 0} (summary_of : List (ℕ × ℕ) → Summary A B) where
     pub is_tree_set : IsTreeSet set
     pub level_fits : level ≤ set.bits
     pub place_fits : end_key level place ≤ 2 ^ set.bits
-    pub tells : told ≡ sum_of summary_of set.pairs (below_node (list_of set) level place)
+    pub tells : told ≡ sum_of summary_of set.pairs (keys_below (list_of set) level place)
 
 module _ {Tree Node : Type 0} (set_of : Tree → SetFacts) (calls_of : Tree → ℕ) (HasNode : Tree → Node → Type 0) (KeepsRest : Tree → Tree → Type 0) where
   -- after some calls of top, left and right a tree is of the set that it was of, its nodes are its nodes still, and the rest is kept that a walk keeps

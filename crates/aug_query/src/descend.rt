@@ -3,7 +3,8 @@ ghost use Rattle.std.specs.Prelude.{◌≡◌, ℕ, ◌+◌, ◌*◌, length};
 ghost use Rattle.aug_model.specs.Keys.{SetFacts, list_of};
 ghost use Rattle.aug_model.specs.Folds.{summary_of};
 ghost use Rattle.aug_model.specs.Queries.{weight_in};
-ghost use Rattle.aug_query.specs.Tree.{IsTreeSet, IsNodeOf, below_node, sum_of};
+ghost use Rattle.aug_query.specs.Tree.{IsTreeSet, IsNodeOf, sum_of};
+ghost use Rattle.aug_model.specs.NodeKeys.{keys_below};
 ghost use Rattle.aug_query.specs.Descend.{Descends, one_more_node, one_more_past, one_more_count, one_more_summary};
 ghost use Rattle.aug_query.specs.declared.loaded.Loaded.{Loaded as Loads};
 
@@ -63,7 +64,7 @@ pub trait Descend<A: Monoid, B: Monoid> {
         ensures descends { Descends set_of loads_of Names KeepsRest 1 0 0 1 self.old self.new }
         ensures notes { loads_of self.new ≡ one_more_past (loads_of self.old) }
         ensures name { Names self.new level (2 * place + 1) result.0 }
-        ensures count { result.1 ≡ length (below_node (list_of (set_of self.old)) level (2 * place)) };
+        ensures count { result.1 ≡ length (keys_below (list_of (set_of self.old)) level (2 * place)) };
 
     /// The left child, and how many members the right one covers.
     fn past_right(&mut self, level: u32, place: u32, node: &Self::Name) -> (Self::Name, u32)
@@ -71,21 +72,21 @@ pub trait Descend<A: Monoid, B: Monoid> {
         ensures descends { Descends set_of loads_of Names KeepsRest 1 0 0 1 self.old self.new }
         ensures notes { loads_of self.new ≡ one_more_past (loads_of self.old) }
         ensures name { Names self.new level (2 * place) result.0 }
-        ensures count { result.1 ≡ length (below_node (list_of (set_of self.old)) level (2 * place + 1)) };
+        ensures count { result.1 ≡ length (keys_below (list_of (set_of self.old)) level (2 * place + 1)) };
 
     /// How many members the node covers.
     fn count(&mut self, level: u32, place: u32, node: &Self::Name) -> u32
         requires { Names self.old level place node.now }
         ensures descends { Descends set_of loads_of Names KeepsRest 0 1 0 0 self.old self.new }
         ensures notes { loads_of self.new ≡ one_more_count (loads_of self.old) }
-        ensures value { result ≡ length (below_node (list_of (set_of self.old)) level place) };
+        ensures value { result ≡ length (keys_below (list_of (set_of self.old)) level place) };
 
     /// The summary of the members that the node covers.
     fn summary(&mut self, level: u32, place: u32, node: &Self::Name) -> Summary<A, B>
         requires { Names self.old level place node.now }
         ensures descends { Descends set_of loads_of Names KeepsRest 0 0 1 0 self.old self.new }
         ensures notes { loads_of self.new ≡ one_more_summary (loads_of self.old) }
-        ensures value { result ≡ sum_of (summary_of A.parts B.parts) (set_of self.old).pairs (below_node (list_of (set_of self.old)) level place) };
+        ensures value { result ≡ sum_of (summary_of A.parts B.parts) (set_of self.old).pairs (keys_below (list_of (set_of self.old)) level place) };
 
     /// The weight of the key that the leaf at this place covers, or 0 if that key is no member.
     fn weight(&self, place: u32, node: &Self::Name) -> u32
@@ -100,5 +101,5 @@ pub trait Descend<A: Monoid, B: Monoid> {
 
     // A node that has a name stands within the tree.
     ghost name_stands: { (tree : Self) (level place : ℕ) (name : Self.Name) → Names tree level place name
-        → IsNodeOf (summary_of A.parts B.parts) (set_of tree) level place (sum_of (summary_of A.parts B.parts) (set_of tree).pairs (below_node (list_of (set_of tree)) level place)) };
+        → IsNodeOf (summary_of A.parts B.parts) (set_of tree) level place (sum_of (summary_of A.parts B.parts) (set_of tree).pairs (keys_below (list_of (set_of tree)) level place)) };
 }

@@ -2,7 +2,8 @@
 ghost use Rattle.std.specs.Prelude.{◌≡◌, ◌+◌, ◌*◌, ◌/◌, ◌^◌, ◌<◌};
 ghost use Rattle.aug_model.specs.Keys.{list_of};
 ghost use Rattle.aug_model.specs.Queries.{rank_of};
-ghost use Rattle.aug_query.specs.Tree.{IsTreeSet, first_key, end_key};
+ghost use Rattle.aug_query.specs.Tree.{IsTreeSet};
+ghost use Rattle.aug_model.specs.NodeKeys.{first_key, end_key};
 ghost use Rattle.aug_query.specs.Descend.{Descends};
 
 use crate::Descend;

@@ -7,7 +7,8 @@ use Rattle.aug_model.specs.Keys.{list_of}
 use Rattle.aug_model.specs.Queries.{range_of, rank_of}
 use Rattle.aug_model.proofs.Pairs.{keys_of-pairs_of}
 use Rattle.aug_model.proofs.Ranges.{Rises, AllBelow, rises_from, all_below_from, range_whole}
-use Rattle.aug_query.specs.Tree.{first_key, end_key, IsTreeSet}
+use Rattle.aug_query.specs.Tree.{IsTreeSet}
+use Rattle.aug_model.specs.NodeKeys.{first_key, end_key}
 use Rattle.aug_query.proofs.Nodes.{left_low}
 use Rattle.aug_query.proofs.Orders.{rank_cut, rank_few, rank_none, rank_past}
 use Rattle.aug_core.specs.Book.{At}

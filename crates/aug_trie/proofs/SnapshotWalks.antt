@@ -7,7 +7,7 @@ use Rattle.aug_core.specs.declared.view.SeatView.{SeatView}
 use Rattle.aug_core.proofs.Fits.{knows_same}
 use Rattle.aug_model.specs.Keys.{list_of}
 use Rattle.aug_model.proofs.Pairs.{keys_of-pairs_of}
-use Rattle.aug_query.specs.Tree.{below_node}
+use Rattle.aug_model.specs.NodeKeys.{keys_below}
 use Rattle.aug_query.specs.Descend.{Descends, one_more_node, one_more_past, one_more_count, one_more_summary}
 use Rattle.aug_query.specs.declared.loaded.Loaded.{Loaded}
 use Rattle.aug_words.specs.Seats.{Known}
@@ -82,8 +82,8 @@ module _ (f : ℕ → ℕ → List (ℕ × ℕ) → List ℕ) where
   descends_summary i old words loaded same table l is = descends_by 3 0 0 1 0 i old words loaded same table l (omega arith) (ap (λ (z : Loaded). z.nodes.made) is ∙ none _, ap (λ (z : Loaded). z.counts.made) is ∙ none _, ap (λ (z : Loaded). z.summaries.made) is, ap (λ (z : Loaded). z.passed.made) is ∙ none _)
 
   -- the count of what a name stands for, by the keys of the set and by those of the cut
-  pub counted : (v : SeatView) (s : Snapshot) (level place n : ℕ) → n ≡ length (below_node (set_of_cut (cut_named v.shape v.seen s.number)) level place) → n ≡ length (below_node (list_of (set_seen v s)) level place)
-  counted v s level place n is = is ∙ ap (λ (z : List ℕ). length (below_node z level place)) (sym (keys_of_cut v.shape.bits (cut_named v.shape v.seen s.number)))
+  pub counted : (v : SeatView) (s : Snapshot) (level place n : ℕ) → n ≡ length (keys_below (set_of_cut (cut_named v.shape v.seen s.number)) level place) → n ≡ length (keys_below (list_of (set_seen v s)) level place)
+  counted v s level place n is = is ∙ ap (λ (z : List ℕ). length (keys_below z level place)) (sym (keys_of_cut v.shape.bits (cut_named v.shape v.seen s.number)))
 
   -- a name, as it is after some looks
   pub named_then : (n level place word : ℕ) (v w : SeatView) (s : Snapshot) (bits : ℕ) → Looks n v w → IsWalk f v s bits → IsNodeAt v.shape v.seen (cut_named v.shape v.seen s.number) level place word → IsNamed f w s level place word
@@ -98,8 +98,8 @@ module _ (f : ℕ → ℕ → List (ℕ × ℕ) → List ℕ) where
   node_back n level place word v w s l node = subst (λ (z : SeatView). IsNodeAt z.shape z.seen (cut_named z.shape z.seen s.number) level place word) l.is node
 
   -- a count that was loaded after some looks, by the set of the beginning
-  pub counted_before : (n : ℕ) (i old : Walking) (w : SeatView) (level place m : ℕ) → i ≡ old → Looks n i.words.view w → m ≡ length (below_node (set_of_cut (cut_named w.shape w.seen i.snapshot.number)) level place)
-      → m ≡ length (below_node (list_of (set_seen old.words.view old.snapshot)) level place)
+  pub counted_before : (n : ℕ) (i old : Walking) (w : SeatView) (level place m : ℕ) → i ≡ old → Looks n i.words.view w → m ≡ length (keys_below (set_of_cut (cut_named w.shape w.seen i.snapshot.number)) level place)
+      → m ≡ length (keys_below (list_of (set_seen old.words.view old.snapshot)) level place)
   counted_before n i old w level place m same l is =
-      subst (λ (z : Walking). m ≡ length (below_node (list_of (set_seen z.words.view z.snapshot)) level place)) same
-      (counted i.words.view i.snapshot level place m (subst (λ (z : SeatView). m ≡ length (below_node (set_of_cut (cut_named z.shape z.seen i.snapshot.number)) level place)) l.is is))
+      subst (λ (z : Walking). m ≡ length (keys_below (list_of (set_seen z.words.view z.snapshot)) level place)) same
+      (counted i.words.view i.snapshot level place m (subst (λ (z : SeatView). m ≡ length (keys_below (set_of_cut (cut_named z.shape z.seen i.snapshot.number)) level place)) l.is is))

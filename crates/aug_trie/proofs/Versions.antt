@@ -13,7 +13,8 @@ use Rattle.aug_model.specs.declared.summary.Summary.{Summary}
 use Rattle.aug_model.proofs.Boundaries.{IsKeySet-few}
 use Rattle.aug_model.proofs.Pairs.{length-keys_of, range-again, pairs_of-append, pairs-again, agrees-own}
 use Rattle.aug_model.proofs.Ranges.{Rises, rises_from, all_below_from, range_whole}
-use Rattle.aug_query.specs.Tree.{first_key, end_key, below_node, sum_of, IsTreeSet}
+use Rattle.aug_query.specs.Tree.{sum_of, IsTreeSet}
+use Rattle.aug_model.specs.NodeKeys.{first_key, end_key, keys_below, pairs_below}
 use Rattle.aug_query.proofs.Nodes.{node_cut, left_covers, right_covers}
 use Rattle.aug_core.specs.Faces.{face}
 use Rattle.aug_core.specs.Places.{Shape, record_count, record_words}
@@ -36,7 +37,7 @@ use Rattle.aug_trie.specs.History.{last_cut}
 use Rattle.aug_trie.specs.inside.Knows.{knows}
 use Rattle.aug_trie.specs.LeafWords.{serial_in_word, weight_in_word}
 use Rattle.aug_trie.specs.inside.LeafPairs.{leaf_pairs}
-use Rattle.aug_trie.specs.inside.EndedTree.{word_in, covered, IsLeafOf, IsVersion}
+use Rattle.aug_trie.specs.inside.EndedTree.{word_in, IsLeafOf, IsVersion}
 use Rattle.aug_trie.specs.inside.EndedState.{pairs_at_rest, HoldsVersion}
 use Rattle.aug_trie.proofs.Counting.{filter_shorter}
 use Rattle.aug_trie.proofs.Histories.{last_is}
@@ -48,23 +49,23 @@ use Rattle.aug_core.specs.Layout.{IsLayout}
 
 module _ (pairs : List (ℕ × ℕ)) (rises : Rises (keys_of pairs)) where
   -- the keys that it covers, each with its weight
-  covered_again : (level place : ℕ) → covered pairs level place ≡ pairs_of (weight_in pairs) (below_node (keys_of pairs) level place)
-  covered_again level place = range-again pairs (first_key level place) (end_key level place) rises
+  below_again : (level place : ℕ) → pairs_below pairs level place ≡ pairs_of (weight_in pairs) (keys_below (keys_of pairs) level place)
+  below_again level place = range-again pairs (first_key level place) (end_key level place) rises
 
   -- what its two children cover, in order
-  covered_cut : (level place : ℕ) → covered pairs level (2 * place) ++ covered pairs level (2 * place + 1) ≡ covered pairs (suc level) place
-  covered_cut level place =
+  below_cut : (level place : ℕ) → pairs_below pairs level (2 * place) ++ pairs_below pairs level (2 * place + 1) ≡ pairs_below pairs (suc level) place
+  below_cut level place =
       let keys : List ℕ = keys_of pairs in let l : level + 1 ≡ suc level = omega arith in
-      let left : List ℕ = below_node keys level (2 * place) in let right : List ℕ = below_node keys level (2 * place + 1) in
+      let left : List ℕ = keys_below keys level (2 * place) in let right : List ℕ = keys_below keys level (2 * place + 1) in
       let a = left_covers keys (suc level) place level (2 * place) l refl in let b = right_covers keys (suc level) place level (2 * place + 1) l refl in
-      let halves : left ++ right ≡ below_node keys (suc level) place = (λ k. a k ++ b k) ∙ sym (node_cut keys (suc level) place rises (omega arith)) in
-      (λ k. covered_again level (2 * place) k ++ covered_again level (2 * place + 1) k) ∙ sym (pairs_of-append (weight_in pairs) left right)
-      ∙ ap (pairs_of (weight_in pairs)) halves ∙ sym (covered_again (suc level) place)
+      let halves : left ++ right ≡ keys_below keys (suc level) place = (λ k. a k ++ b k) ∙ sym (node_cut keys (suc level) place rises (omega arith)) in
+      (λ k. below_again level (2 * place) k ++ below_again level (2 * place + 1) k) ∙ sym (pairs_of-append (weight_in pairs) left right)
+      ∙ ap (pairs_of (weight_in pairs)) halves ∙ sym (below_again (suc level) place)
 
   -- the root covers them all
-  covered_whole : (bits : ℕ) → IsKeySet bits (keys_of pairs) → covered pairs bits 0 ≡ pairs
-  covered_whole bits set = let from : 0 * 2 ^ bits ≡ 0 = omega arith in let to : (0 + 1) * 2 ^ bits ≡ 2 ^ bits = omega arith in
-      covered_again bits 0 ∙ (λ k. pairs_of (weight_in pairs) (range_of (keys_of pairs) (from k) (to k)))
+  below_whole : (bits : ℕ) → IsKeySet bits (keys_of pairs) → pairs_below pairs bits 0 ≡ pairs
+  below_whole bits set = let from : 0 * 2 ^ bits ≡ 0 = omega arith in let to : (0 + 1) * 2 ^ bits ≡ 2 ^ bits = omega arith in
+      below_again bits 0 ∙ (λ k. pairs_of (weight_in pairs) (range_of (keys_of pairs) (from k) (to k)))
       ∙ ap (pairs_of (weight_in pairs)) (range_whole (keys_of pairs) (2 ^ bits) (all_below_from (2 ^ bits) (keys_of pairs) set.below)) ∙ pairs-again (weight_in pairs) pairs (agrees-own pairs rises)
 
 -- what a key weighs among the pairs of an interval that has it
@@ -117,7 +118,7 @@ module _ {A B : Type 0} (parts_a : Parts A) (parts_b : Parts B) where
     version_at zero place q i p = leaf_at place q i p
     version_at (suc level) place q i p = let inner = inner_word s level place q p.word in let e : Entry = entry_of book q i in let at = entry_at book q i p.there in
         let l : Entry = entry_of book (left_of s q) e.left in let r : Entry = entry_of book (right_of s q) e.right in
-        let number : e.number ≡ e.word = sym (b.named q i e inner at) in let below = b.below q i e inner at in let here : List (ℕ × ℕ) = covered pairs (suc level) place in
+        let number : e.number ≡ e.word = sym (b.named q i e inner at) in let below = b.below q i e inner at in let here : List (ℕ × ℕ) = pairs_below pairs (suc level) place in
         let read : (field : ℕ) → field < record_words → word_in rest e.word field ≡ get_or (both l.word r.word here) field 0 = λ field low.
         ap (λ (z : ℕ). word_in rest z field) (sym number) ∙ seen q i field e inner at low ∙ ap (λ (z : List ℕ). get_or z field 0) (part_words both s book b cut level place q i p) in
         let left : word_in rest e.word 0 ≡ l.word = read 0 (omega arith) ∙ left_in parts_a parts_b l.word r.word here in
@@ -129,10 +130,10 @@ module _ {A B : Type 0} (parts_a : Parts A) (parts_b : Parts B) where
 
   module _ (rest : AtRest) (list : List (ℕ × ℕ)) (rises : Rises (keys_of list)) where
     -- a version shows the members that it covers
-    shows : (level place word : ℕ) → IsVersion both rest list level place word → pairs_at_rest rest level place word ≡ covered list level place
+    shows : (level place word : ℕ) → IsVersion both rest list level place word → pairs_at_rest rest level place word ≡ pairs_below list level place
     shows zero place word v = sym v.says
     shows (suc level) place word v = let a = shows level (2 * place) (word_in rest word 0) v.1 in let b = shows level (2 * place + 1) (word_in rest word 1) v.2 in
-        (λ k. a k ++ b k) ∙ covered_cut list rises level place
+        (λ k. a k ++ b k) ∙ below_cut list rises level place
 
   -- the version of the root's newest record that a view has seen is that of the last cut that it knows
   module _ (v : SeatView) (kn : KnowsTable both v) (number : ℕ) (n : NamesRoot v number) (rest : AtRest) (shaped : rest.shape ≡ v.shape) (seen : ShowSeen v.shape v.seen rest) where
@@ -164,7 +165,7 @@ module _ {A B : Type 0} (parts_a : Parts A) (parts_b : Parts B) where
 
     pub members_are : pairs_at_rest rest v.shape.bits 0 number ≡ pairs_of_cut last
     members_are = let rises = rises_from (keys_of (pairs_of_cut last)) set_is.is_key_set.rising in
-        shows rest (pairs_of_cut last) rises v.shape.bits 0 number version ∙ covered_whole (pairs_of_cut last) rises v.shape.bits set_is.is_key_set
+        shows rest (pairs_of_cut last) rises v.shape.bits 0 number version ∙ below_whole (pairs_of_cut last) rises v.shape.bits set_is.is_key_set
 
     pub holds_version : HoldsVersion both rest number v.shape.bits
     holds_version = record {
@@ -184,13 +185,13 @@ module _ {A B : Type 0} (parts_a : Parts A) (parts_b : Parts B) where
     at = subst (λ (z : ℕ). IsVersion both rest list z place word) up v
 
     abbrev here : List (ℕ × ℕ)
-    here = covered list level place
+    here = pairs_below list level place
 
     pub inside_of : word < record_count rest.shape
     inside_of = at.0.inside
 
     says : (field : ℕ) → field < record_words → word_in rest word field ≡ get_or (both (word_in rest word 0) (word_in rest word 1) here) field 0
-    says field low = at.0.says field low ∙ ap (λ (z : ℕ). get_or (both (word_in rest word 0) (word_in rest word 1) (covered list z place)) field 0) (sym up)
+    says field low = at.0.says field low ∙ ap (λ (z : ℕ). get_or (both (word_in rest word 0) (word_in rest word 1) (pairs_below list z place)) field 0) (sym up)
 
     pub count_is : word_in rest word 2 ≡ length here
     count_is = says 2 (omega arith) ∙ count_in parts_a parts_b (word_in rest word 0) (word_in rest word 1) here
@@ -213,8 +214,8 @@ module _ {A B : Type 0} (parts_a : Parts A) (parts_b : Parts B) where
     is_leaf = subst (λ (z : ℕ). IsVersion both rest list z place word) low v
 
     -- a leaf's word says whether its key is a member
-    pub leaf_tells : (told : Summary A B) → told ≡ summary_of parts_a parts_b (leaf_pairs place word) → told ≡ summary_of parts_a parts_b (covered list level place)
-    leaf_tells told is = is ∙ ap (summary_of parts_a parts_b) (sym is_leaf.says) ∙ ap (λ (z : ℕ). summary_of parts_a parts_b (covered list z place)) (sym low)
+    pub leaf_tells : (told : Summary A B) → told ≡ summary_of parts_a parts_b (leaf_pairs place word) → told ≡ summary_of parts_a parts_b (pairs_below list level place)
+    leaf_tells told is = is ∙ ap (summary_of parts_a parts_b) (sym is_leaf.says) ∙ ap (λ (z : ℕ). summary_of parts_a parts_b (pairs_below list z place)) (sym low)
 
     -- and what it weighs
     pub version_weighs : weight_in_word word ≡ weight_in list place
@@ -240,12 +241,12 @@ module _ {A B : Type 0} (parts_a : Parts A) (parts_b : Parts B) where
 
     pub root_counts : word_in rest root 2 ≡ length members
     root_counts = count_is rest members bits 0 root some_bits h.is_version
-        ∙ ap (λ (z : List (ℕ × ℕ)). length z) (covered_whole members (rises_from (keys_of members) h.is_key_set.rising) bits h.is_key_set)
+        ∙ ap (λ (z : List (ℕ × ℕ)). length z) (below_whole members (rises_from (keys_of members) h.is_key_set.rising) bits h.is_key_set)
 
     pub root_fits : word_in rest root 2 ≤ 65536
     root_fits = count_fits rest members bits 0 root some_bits h.is_version bits some_bits few_bits h.is_key_set
 
 -- what is told of the members that a node covers is told of their keys with their weights
-pub told_of_keys : {A B : Type 0} (summary : List (ℕ × ℕ) → Summary A B) (list : List (ℕ × ℕ)) (level place : ℕ) (told : Summary A B) → Rises (keys_of list) → told ≡ summary (covered list level place)
-    → told ≡ sum_of summary list (below_node (keys_of list) level place)
-told_of_keys summary list level place told rises is = is ∙ ap summary (covered_again list rises level place)
+pub told_of_keys : {A B : Type 0} (summary : List (ℕ × ℕ) → Summary A B) (list : List (ℕ × ℕ)) (level place : ℕ) (told : Summary A B) → Rises (keys_of list) → told ≡ summary (pairs_below list level place)
+    → told ≡ sum_of summary list (keys_below (keys_of list) level place)
+told_of_keys summary list level place told rises is = is ∙ ap summary (below_again list rises level place)

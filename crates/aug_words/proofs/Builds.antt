@@ -19,7 +19,8 @@ use Rattle.aug_core.specs.Places.{Shape, own_records, lane_place, record_start, 
 use Rattle.aug_core.specs.Addresses.{place_count, IsInner, left_of, right_of, level_of, place_on}
 use Rattle.aug_core.specs.inside.WordPlaces.{IsWord}
 use Rattle.aug_core.specs.Lanes.{block_start, block_size}
-use Rattle.aug_core.specs.Opening.{Opening, opening_leaf_word, members_below, pairs_below, has_members, own_before, number_at, opening_pairs, opening_number, opening_words, shared_words}
+use Rattle.aug_core.specs.Opening.{Opening, opening_leaf_word, has_members, own_before, number_at, opening_pairs, opening_number, opening_words, shared_words}
+use Rattle.aug_model.specs.NodeKeys.{keys_below, pairs_below}
 use Rattle.aug_core.specs.Faces.{face}
 use Rattle.aug_core.proofs.FaceLemmas.{face_is}
 use Rattle.aug_core.proofs.Sizes.{twice, own_more}
@@ -38,8 +39,8 @@ pub pairs_fit : (o : Opening) → All FitsPair o.members → (q : ℕ) → All F
 pairs_fit o fit q = All-filter _ FitsPair o.members fit
 
 -- as many pairs as keys
-count_same : (o : Opening) (l p : ℕ) → length (pairs_below o l p) ≡ length (members_below o l p)
-count_same o l p = sym (length-keys_of (pairs_below o l p)) ∙ ap length (keys_of-range o.members (p * 2 ^ l) ((p + 1) * 2 ^ l))
+count_same : (o : Opening) (l p : ℕ) → length (pairs_below o.members l p) ≡ length (keys_below (keys_of o.members) l p)
+count_same o l p = sym (length-keys_of (pairs_below o.members l p)) ∙ ap length (keys_of-range o.members (p * 2 ^ l) ((p + 1) * 2 ^ l))
 
 module _ (o : Opening) (set : IsKeySet o.shape.bits (keys_of o.members)) where
   pub rises : Rises (keys_of o.members)
@@ -108,25 +109,25 @@ number_rises o up fit q r l p k n a b lt has = let e = number_own o k n has in l
     (λ none. let f = number_shared o l p none in omega arith) (true_or_false (has_members o (suc l) p))
 
 -- where no member is below a node, none is below its children
-no_keys : (o : Opening) (l p : ℕ) → has_members o l p ≡ false → length (members_below o l p) ≡ 0
-no_keys o l p none = ⊎_elim (λ (lt : 0 < length (members_below o l p)). let clash : false ≡ true = sym none ∙ lt-ltb 0 (length (members_below o l p)) lt in cc) (λ (z : length (members_below o l p) ≤ 0). omega arith) (cases_lt 0 (length (members_below o l p)))
+no_keys : (o : Opening) (l p : ℕ) → has_members o l p ≡ false → length (keys_below (keys_of o.members) l p) ≡ 0
+no_keys o l p none = ⊎_elim (λ (lt : 0 < length (keys_below (keys_of o.members) l p)). let clash : false ≡ true = sym none ∙ lt-ltb 0 (length (keys_below (keys_of o.members) l p)) lt in cc) (λ (z : length (keys_below (keys_of o.members) l p) ≤ 0). omega arith) (cases_lt 0 (length (keys_below (keys_of o.members) l p)))
 
-pub none_there : (o : Opening) (l p : ℕ) → length (members_below o l p) ≡ 0 → has_members o l p ≡ false
-none_there o l p none = le-ltb 0 (length (members_below o l p)) (omega arith)
+pub none_there : (o : Opening) (l p : ℕ) → length (keys_below (keys_of o.members) l p) ≡ 0 → has_members o l p ≡ false
+none_there o l p none = le-ltb 0 (length (keys_below (keys_of o.members) l p)) (omega arith)
 
-pub has_there : (o : Opening) (l p : ℕ) → 0 < length (members_below o l p) → has_members o l p ≡ true
-has_there o l p lt = lt-ltb 0 (length (members_below o l p)) lt
+pub has_there : (o : Opening) (l p : ℕ) → 0 < length (keys_below (keys_of o.members) l p) → has_members o l p ≡ true
+has_there o l p lt = lt-ltb 0 (length (keys_below (keys_of o.members) l p)) lt
 
-some_keys : (o : Opening) (l p : ℕ) → has_members o l p ≡ true → 0 < length (members_below o l p)
-some_keys o l p some = ⊎_elim (λ (lt : 0 < length (members_below o l p)). lt) (λ (z : length (members_below o l p) ≤ 0). let clash : true ≡ false = sym some ∙ le-ltb 0 (length (members_below o l p)) z in cc)
-    (cases_lt 0 (length (members_below o l p)))
+some_keys : (o : Opening) (l p : ℕ) → has_members o l p ≡ true → 0 < length (keys_below (keys_of o.members) l p)
+some_keys o l p some = ⊎_elim (λ (lt : 0 < length (keys_below (keys_of o.members) l p)). lt) (λ (z : length (keys_below (keys_of o.members) l p) ≤ 0). let clash : true ≡ false = sym some ∙ le-ltb 0 (length (keys_below (keys_of o.members) l p)) z in cc)
+    (cases_lt 0 (length (keys_below (keys_of o.members) l p)))
 
 no_pairs : (pairs : List (ℕ × ℕ)) → length pairs ≡ 0 → pairs ≡ []
 no_pairs [] none = refl
 no_pairs (p ∷ ps) none = absurd (omega arith)
 
 -- the members at a leaf
-below_leaf : (o : Opening) → Rises (keys_of o.members) → (p : ℕ) → members_below o 0 p ≡ (if is_member (keys_of o.members) p then p ∷ [] else [])
+below_leaf : (o : Opening) → Rises (keys_of o.members) → (p : ℕ) → keys_below (keys_of o.members) 0 p ≡ (if is_member (keys_of o.members) p then p ∷ [] else [])
 below_leaf o up p = (let e : p * 1 ≡ p = omega arith in let f : (p + 1) * 1 ≡ p + 1 = omega arith in λ i. range_of (keys_of o.members) (e i) (f i)) ∙ range_of_key (keys_of o.members) p up
 
 -- a leaf without a member has the word 0
@@ -139,7 +140,7 @@ leaf_word members key = either (is_member (keys_of members) key) (weight-none me
     either false weighs = let zero_weight = weighs refl in omega arith
 
 -- the word of a place with no members below
-number_none : (o : Opening) → Rises (keys_of o.members) → (l p : ℕ) → length (members_below o l p) ≡ 0 → number_at o l p ≡ l - 1
+number_none : (o : Opening) → Rises (keys_of o.members) → (l p : ℕ) → length (keys_below (keys_of o.members) l p) ≡ 0 → number_at o l p ≡ l - 1
 number_none o up zero p none = leaf_none (is_member (keys_of o.members) p) (let e = ap length (below_leaf o up p) in omega arith) (weight-none o.members p)
   where
     leaf_none : (b : Bool) → length (if b then p ∷ [] else []) ≡ 0 → (b ≡ false → weight_in o.members p ≡ 0) → (if b then 1 else 0) * 2 ^ 32 + weight_in o.members p ≡ 0 - 1
@@ -149,11 +150,11 @@ number_none o up (suc l) p none = number_shared o l p (none_there o (suc l) p no
 
 -- a word tells whether there are members below: a leaf's by having a serial, and a node's by being no number of a shared record
 pub number_tells : (o : Opening) → Rises (keys_of o.members) → (l p least : ℕ) → l ≤ o.shape.bits → (l ≡ 0 → least ≡ 2 ^ 32) → (l ≢ 0 → least ≡ o.shape.bits)
-    → ((0 < length (members_below o l p)) × (least ≤ number_at o l p)) ⊎ ((length (members_below o l p) ≡ 0) × (number_at o l p < least))
+    → ((0 < length (keys_below (keys_of o.members) l p)) × (least ≤ number_at o l p)) ⊎ ((length (keys_below (keys_of o.members) l p) ≡ 0) × (number_at o l p < least))
 number_tells o up zero p least few leaf node = of_leaf (is_member (keys_of o.members) p) (below_leaf o up p) refl (weight-none o.members p)
   where
-    of_leaf : (b : Bool) → members_below o 0 p ≡ (if b then p ∷ [] else []) → number_at o 0 p ≡ (if b then 1 else 0) * 2 ^ 32 + weight_in o.members p → (b ≡ false → weight_in o.members p ≡ 0)
-        → ((0 < length (members_below o 0 p)) × (least ≤ number_at o 0 p)) ⊎ ((length (members_below o 0 p) ≡ 0) × (number_at o 0 p < least))
+    of_leaf : (b : Bool) → keys_below (keys_of o.members) 0 p ≡ (if b then p ∷ [] else []) → number_at o 0 p ≡ (if b then 1 else 0) * 2 ^ 32 + weight_in o.members p → (b ≡ false → weight_in o.members p ≡ 0)
+        → ((0 < length (keys_below (keys_of o.members) 0 p)) × (least ≤ number_at o 0 p)) ⊎ ((length (keys_below (keys_of o.members) 0 p) ≡ 0) × (number_at o 0 p < least))
     of_leaf true is e weighs = let serial = leaf refl in let n = ap length is in inl (omega arith, omega arith)
     of_leaf false is e weighs = let serial = leaf refl in let n = ap length is in let zero_weight = weighs refl in inr (omega arith, omega arith)
 number_tells o up (suc l) p least few leaf node = let is : least ≡ o.shape.bits = node (λ e. omega arith) in ⊎_elim
@@ -164,7 +165,7 @@ number_tells o up (suc l) p least few leaf node = let is : least ≡ o.shape.bit
 pub has_by_children : (o : Opening) → Rises (keys_of o.members) → (l p least x y : ℕ) → suc l ≤ o.shape.bits → (l ≡ 0 → least ≡ 2 ^ 32) → (l ≢ 0 → least ≡ o.shape.bits)
     → x ≡ number_at o l (2 * p) → y ≡ number_at o l (2 * p + 1) → leb least (max x y) ≡ has_members o (suc l) p
 has_by_children o up l p least x y few leaf node ex ey =
-    let both = ap length (below_both o up l p) in let sum = length-append (members_below o l (2 * p)) (members_below o l (2 * p + 1)) in ⊎_elim
+    let both = ap length (below_both o up l p) in let sum = length-append (keys_below (keys_of o.members) l (2 * p)) (keys_below (keys_of o.members) l (2 * p + 1)) in ⊎_elim
     (λ left. le-leb least (max x y) (omega (arith, left.1, ex)) ∙ sym (has_there o (suc l) p (omega (arith, left.0, both, sum))))
     (λ left. ⊎_elim
     (λ right. le-leb least (max x y) (omega (arith, right.1, ey)) ∙ sym (has_there o (suc l) p (omega (arith, right.0, both, sum))))
@@ -175,10 +176,10 @@ module _ (face : ℕ → ℕ → List (ℕ × ℕ) → List ℕ) (o : Opening) (
   -- the record that a level's nodes share is that of each with no members below
   pub shared_is : (q l p : ℕ) → IsWord o.shape (suc l) p q → has_members o (suc l) p ≡ false → shared_words face l ≡ opening_words face o q
   shared_is q l p a none = let zero_all = no_keys o (suc l) p none in
-      let split = ap length (below_both o up l p) in let sum = length-append (members_below o l (2 * p)) (members_below o l (2 * p + 1)) in
+      let split = ap length (below_both o up l p) in let sum = length-append (keys_below (keys_of o.members) l (2 * p)) (keys_below (keys_of o.members) l (2 * p + 1)) in
       let left = number_is o (left_of o.shape q) l (2 * p) (left_word o.shape l p q a) ∙ number_none o up l (2 * p) (omega arith) in
       let right = number_is o (right_of o.shape q) l (2 * p + 1) (right_word o.shape l p q a) ∙ number_none o up l (2 * p + 1) (omega arith) in
-      let pairs = pairs_are o q (suc l) p a ∙ no_pairs (pairs_below o (suc l) p) (count_same o (suc l) p ∙ zero_all) in
+      let pairs = pairs_are o q (suc l) p a ∙ no_pairs (pairs_below o.members (suc l) p) (count_same o (suc l) p ∙ zero_all) in
       λ i. face (sym left i) (sym right i) (sym pairs i)
 
   -- one node more, whose record is there

@@ -2,7 +2,7 @@
 use Rattle.std.proofs.Common.{◌≡◌, ℕ, ◌+◌, ◌-◌, ◌*◌, ◌^◌, ◌/◌, ◌%◌, ◌<◌, ◌≤◌, ap, sym, ◌∙◌, add-zero, arith}
 use Rattle.std.proofs.Math.Nat.{div-eq_of_lt, div-div-eq-div-mul, div-add-mod, mod-lt, div-one, le_of_mul-le-mul_right}
 use Rattle.std.proofs.lemmas.Nat.{pow-add, pow_pos}
-use Rattle.aug_query.specs.Tree.{end_key}
+use Rattle.aug_model.specs.NodeKeys.{end_key}
 
 -- the top is over every band
 pub top_place : (level band top bits : ℕ) → top ≡ bits → level ≤ bits → end_key level band ≤ 2 ^ bits → 0 ≡ band / 2 ^ (top - level)

@@ -5,7 +5,8 @@ ghost use Rattle.std.specs.Prelude.{◌≡◌, ◌+◌, ◌*◌, ◌^◌, ◌<�
 ghost use Rattle.aug_model.specs.Folds.{summary_of};
 ghost use Rattle.aug_model.specs.Keys.{list_of};
 ghost use Rattle.aug_monoid.specs.Nothing.{nothing_parts};
-ghost use Rattle.aug_query.specs.Tree.{WalksAtMost, below_node, end_key};
+ghost use Rattle.aug_query.specs.Tree.{WalksAtMost};
+ghost use Rattle.aug_model.specs.NodeKeys.{keys_below, end_key};
 ghost use Rattle.aug_trie.specs.Snapshot.{HasSnapshot, set_at};
 ghost use Rattle.aug_trie.specs.Node.{Reads};
 
@@ -23,7 +24,7 @@ type Book = Ended<Nothing, Nothing>;
 fn in_band<A: Monoid, B: Monoid, T: Tree<A, B>>(tree: &mut T, level: u32, band: u32) -> u32
     requires level { level ≤ (T.set_of tree.old).bits }
     requires band { end_key level band ≤ 2 ^ (T.set_of tree.old).bits }
-    ensures answer { result ≡ length (below_node (list_of (T.set_of tree.old)) level band) }
+    ensures answer { result ≡ length (keys_below (list_of (T.set_of tree.old)) level band) }
     ensures walks { WalksAtMost T.set_of T.calls_of T.HasNode T.KeepsRest ((T.set_of tree.old).bits + 1) tree.old tree.new }
 {
     let mut node = tree.top();
@@ -43,7 +44,7 @@ fn orders_in(pass: &mut Pass<Nothing, Nothing>, now: Snapshot, level: u32, band:
     requires snapshot { HasSnapshot pass.old now.number }
     requires level { level ≤ pass.old.round.bits }
     requires band { end_key level band ≤ 2 ^ pass.old.round.bits }
-    ensures answer { result ≡ length (below_node (list_of (set_at pass.old now)) level band) }
+    ensures answer { result ≡ length (keys_below (list_of (set_at pass.old now)) level band) }
     ensures reads { Reads (summary_of nothing_parts nothing_parts) (4 * (pass.old.round.bits + 1)) pass.old pass.new }
 {
     let mut view = View {
@@ -67,7 +68,7 @@ fn around(
     requires band { end_key level band ≤ 2 ^ pass.old.round.bits }
     requires price { price < 2 ^ pass.old.round.bits }
     requires budget { pass.old.spent < pass.old.round.updates }
-    ensures before { result.0 ≡ length (below_node (list_of (set_at pass.old then)) level band) }
+    ensures before { result.0 ≡ length (keys_below (list_of (set_at pass.old then)) level band) }
     ensures after { result.1 ≡ result.0 }
     ensures round { pass.new.round ≡ pass.old.round }
     ensures spent { pass.new.spent ≡ pass.old.spent + 1 }

@@ -1,6 +1,6 @@
 -- Levels and places of nodes, and where a node's children meet.
 use Rattle.std.specs.Prelude.{◌≡◌, ℕ, ◌+◌, ◌-◌, ◌*◌, ◌^◌, ◌≤◌}
-use Rattle.aug_query.specs.Tree.{end_key}
+use Rattle.aug_model.specs.NodeKeys.{end_key}
 
 -- the least key that the right child of the node at a level and a place covers
 abbrev pub middle_key : ℕ → ℕ → ℕ

@@ -4,7 +4,8 @@ use Rattle.std.proofs.Common.{◌≡◌, ℕ, ◌+◌, ◌≤◌, List, refl, ap
 use Rattle.std.specs.Borrow.{MutBor}
 use Rattle.aug_model.specs.Keys.{SetFacts, list_of}
 use Rattle.aug_model.specs.declared.summary.Summary.{Summary}
-use Rattle.aug_query.specs.Tree.{IsNodeOf, sum_of, below_node}
+use Rattle.aug_query.specs.Tree.{IsNodeOf, sum_of}
+use Rattle.aug_model.specs.NodeKeys.{keys_below}
 use Rattle.aug_query.specs.NodeWalk.{KeepsWalk}
 use Rattle.aug_query.specs.inside.NodePlaces.{NamesNode}
 use Rattle.aug_query.specs.declared.loaded.Loaded.{Loaded}
@@ -25,7 +26,7 @@ module _ {Tree Node : Type 0} {calls_of : Tree → ℕ} {HasNode : Tree → Node
 -- a node stands in the tree, and has the summary of what it covers
 pub stands : {A B : Type 0} {sum : List (ℕ × ℕ) → Summary A B} {Tree Node : Type 0} {set_of : Tree → SetFacts} {HasNode : Tree → Node → Type 0} {level_of place_of : Node → ℕ} {told_by : Node → Summary A B}
     → ((tree : Tree) (node : Node) → HasNode tree node → IsNodeOf sum (set_of tree) (level_of node) (place_of node) (told_by node))
-    → (tree : Tree) (level place : ℕ) (node : Node) → NamesNode HasNode level_of place_of tree level place node → IsNodeOf sum (set_of tree) level place (sum_of sum (set_of tree).pairs (below_node (list_of (set_of tree)) level place))
+    → (tree : Tree) (level place : ℕ) (node : Node) → NamesNode HasNode level_of place_of tree level place node → IsNodeOf sum (set_of tree) level place (sum_of sum (set_of tree).pairs (keys_below (list_of (set_of tree)) level place))
 stands {sum = sum} {set_of = set_of} {level_of = level_of} {place_of = place_of} {told_by = told_by} tells tree level place node is =
     let set = set_of tree in
     let at = subst (λ (l : ℕ). IsNodeOf sum set l (place_of node) (told_by node)) is.at_level (tells tree node is.has) in

@@ -5,7 +5,8 @@ use Rattle.aug_model.specs.Keys.{keys_of}
 use Rattle.aug_model.specs.Queries.{weight_in}
 use Rattle.aug_monoid.specs.Weighted.{FitsPair}
 use Rattle.aug_model.specs.declared.summary.Summary.{Summary}
-use Rattle.aug_query.specs.Tree.{IsTreeSet, sum_of, below_node}
+use Rattle.aug_query.specs.Tree.{IsTreeSet, sum_of}
+use Rattle.aug_model.specs.NodeKeys.{keys_below}
 
 -- a list of weights has the weight of each key below 2 ^ bits, which is 0 if the key is no member
 pub record HasWeights (bits : ℕ) (pairs : List (ℕ × ℕ)) (weights : List ℕ) : Type 0 where
@@ -24,7 +25,7 @@ module _ {A B : Type 0} (summary_of : List (ℕ × ℕ) → Summary A B) where
     -- a row has the summary of each node of its level
     pub record IsRow (level : ℕ) (row : List (Summary A B)) : Type 0 where
       pub all : length row ≡ 2 ^ (bits - level)
-      pub tells : (place : ℕ) (default : Summary A B) → place < length row → slice_index_or row place default ≡ sum_of summary_of pairs (below_node (keys_of pairs) level place)
+      pub tells : (place : ℕ) (default : Summary A B) → place < length row → slice_index_or row place default ≡ sum_of summary_of pairs (keys_below (keys_of pairs) level place)
 
     -- the rows are those of all levels, and the weights those of all keys
     pub record HoldsTree (rows : List (List (Summary A B))) (weights : List ℕ) : Type 0 where

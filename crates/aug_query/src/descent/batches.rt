@@ -3,7 +3,7 @@ ghost use Rattle.std.specs.Prelude.{◌≡◌, ℕ, ◌+◌, ◌-◌, ◌*◌, �
 ghost use Rattle.std.specs.List.Sorted.{IsNonDecreasing};
 ghost use Rattle.aug_model.specs.Keys.{is_member, list_of};
 ghost use Rattle.aug_model.specs.Queries.{rank_of, weight_of};
-ghost use Rattle.aug_query.specs.Tree.{first_key, end_key};
+ghost use Rattle.aug_model.specs.NodeKeys.{first_key, end_key};
 ghost use Rattle.aug_query.specs.Descend.{Descends};
 ghost use Rattle.aug_query.specs.inside.Batches.{AreBetween, nodes_below, leaves_below};
 ghost use Rattle.aug_query.specs.inside.NodePlaces.{IsPlace};

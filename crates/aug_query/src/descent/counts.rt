@@ -2,7 +2,7 @@
 ghost use Rattle.std.specs.Prelude.{◌≡◌, ◌+◌, ◌/◌, ◌^◌, length};
 ghost use Rattle.aug_model.specs.Keys.{list_of};
 ghost use Rattle.aug_model.specs.Queries.{rank_of};
-ghost use Rattle.aug_query.specs.Tree.{first_key};
+ghost use Rattle.aug_model.specs.NodeKeys.{first_key};
 ghost use Rattle.aug_query.specs.Descend.{Descends};
 
 use crate::Descend;

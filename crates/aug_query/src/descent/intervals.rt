@@ -3,7 +3,8 @@ ghost use Rattle.std.specs.Prelude.{◌≡◌, ℕ, ◌+◌, ◌-◌, ◌*◌, �
 ghost use Rattle.aug_model.specs.Folds.{summary_of};
 ghost use Rattle.aug_model.specs.Keys.{list_of};
 ghost use Rattle.aug_model.specs.Queries.{range_of, weighted_range_of};
-ghost use Rattle.aug_query.specs.Tree.{sum_of, first_key, end_key};
+ghost use Rattle.aug_query.specs.Tree.{sum_of};
+ghost use Rattle.aug_model.specs.NodeKeys.{first_key, end_key};
 ghost use Rattle.aug_query.specs.Descend.{Descends};
 
 use crate::Descend;

@@ -2,7 +2,8 @@
 ghost use Rattle.std.specs.Prelude.{◌≡◌, ℕ, ◌+◌, ◌*◌, ◌<◌, ◌≤◌, ◌++◌, length, map, IfOk, vec_len, vec_capacity};
 ghost use Rattle.aug_model.specs.Keys.{list_of};
 ghost use Rattle.aug_model.specs.Queries.{weight_in};
-ghost use Rattle.aug_query.specs.Tree.{IsTreeSet, below_node};
+ghost use Rattle.aug_query.specs.Tree.{IsTreeSet};
+ghost use Rattle.aug_model.specs.NodeKeys.{keys_below};
 ghost use Rattle.aug_query.specs.Descend.{Descends};
 
 use crate::Descend;
@@ -102,9 +103,9 @@ fn list_members<A: Monoid, B: Monoid, D: Descend<A, B>, I: Item>(
     list: &mut Vec<I>,
 )
     requires name { D.Names tree.old level place node.now }
-    requires count { count ≡ length (below_node (list_of (D.set_of tree.old)) level place) }
+    requires count { count ≡ length (keys_below (list_of (D.set_of tree.old)) level place) }
     requires room { vec_len list.old + count ≤ vec_capacity list.old }
-    ensures answer { list.new.items ≡ list.old.items ++ map (λ k. I.item_of k (weight_in (D.set_of tree.old).pairs k)) (below_node (list_of (D.set_of tree.old)) level place) }
+    ensures answer { list.new.items ≡ list.old.items ++ map (λ k. I.item_of k (weight_in (D.set_of tree.old).pairs k)) (keys_below (list_of (D.set_of tree.old)) level place) }
     ensures length { vec_len list.new ≡ vec_len list.old + count }
     ensures room { vec_capacity list.new ≡ vec_capacity list.old }
     ensures descends { Descends D.set_of D.loads_of D.Names D.KeepsRest (2 * level * count) (level * count) 0 0 tree.old tree.new }

@@ -2,7 +2,7 @@
 ghost use Rattle.std.specs.Prelude.{◌≡◌, ◌+◌, ◌*◌, ◌<◌, Some, length};
 ghost use Rattle.aug_model.specs.Keys.{list_of};
 ghost use Rattle.aug_model.specs.Queries.{before_of, after_of, first_of, last_of};
-ghost use Rattle.aug_query.specs.Tree.{below_node};
+ghost use Rattle.aug_model.specs.NodeKeys.{keys_below};
 ghost use Rattle.aug_query.specs.Descend.{Descends};
 
 use crate::Descend;
@@ -89,8 +89,8 @@ fn greatest<A: Monoid, B: Monoid, D: Descend<A, B>>(
     mut node: D::Name,
 ) -> u32
     requires name { D.Names tree.old level place node }
-    requires some { 0 < length (below_node (list_of (D.set_of tree.old)) level place) }
-    ensures answer { Some result ≡ last_of (below_node (list_of (D.set_of tree.old)) level place) }
+    requires some { 0 < length (keys_below (list_of (D.set_of tree.old)) level place) }
+    ensures answer { Some result ≡ last_of (keys_below (list_of (D.set_of tree.old)) level place) }
     ensures descends { Descends D.set_of D.loads_of D.Names D.KeepsRest (2 * level) level 0 0 tree.old tree.new }
 {
     while level > 0 {
@@ -111,11 +111,11 @@ fn last_child<A: Monoid, B: Monoid, D: Descend<A, B>>(
     node: &D::Name,
 ) -> (D::Name, u32)
     requires name { D.Names tree.old (level + 1) place node.now }
-    requires some { 0 < length (below_node (list_of (D.set_of tree.old)) (level + 1) place) }
+    requires some { 0 < length (keys_below (list_of (D.set_of tree.old)) (level + 1) place) }
     ensures descends { Descends D.set_of D.loads_of D.Names D.KeepsRest 2 1 0 0 tree.old tree.new }
     ensures name { D.Names tree.new level result.1 result.0 }
-    ensures some { 0 < length (below_node (list_of (D.set_of tree.old)) level result.1) }
-    ensures same { last_of (below_node (list_of (D.set_of tree.old)) level result.1) ≡ last_of (below_node (list_of (D.set_of tree.old)) (level + 1) place) }
+    ensures some { 0 < length (keys_below (list_of (D.set_of tree.old)) level result.1) }
+    ensures same { last_of (keys_below (list_of (D.set_of tree.old)) level result.1) ≡ last_of (keys_below (list_of (D.set_of tree.old)) (level + 1) place) }
 {
     let right = tree.right(level, place, node);
     if tree.count(level, 2 * place + 1, &right) > 0 {
@@ -133,8 +133,8 @@ fn least<A: Monoid, B: Monoid, D: Descend<A, B>>(
     mut node: D::Name,
 ) -> u32
     requires name { D.Names tree.old level place node }
-    requires some { 0 < length (below_node (list_of (D.set_of tree.old)) level place) }
-    ensures answer { Some result ≡ first_of (below_node (list_of (D.set_of tree.old)) level place) }
+    requires some { 0 < length (keys_below (list_of (D.set_of tree.old)) level place) }
+    ensures answer { Some result ≡ first_of (keys_below (list_of (D.set_of tree.old)) level place) }
     ensures descends { Descends D.set_of D.loads_of D.Names D.KeepsRest (2 * level) level 0 0 tree.old tree.new }
 {
     while level > 0 {
@@ -155,11 +155,11 @@ fn first_child<A: Monoid, B: Monoid, D: Descend<A, B>>(
     node: &D::Name,
 ) -> (D::Name, u32)
     requires name { D.Names tree.old (level + 1) place node.now }
-    requires some { 0 < length (below_node (list_of (D.set_of tree.old)) (level + 1) place) }
+    requires some { 0 < length (keys_below (list_of (D.set_of tree.old)) (level + 1) place) }
     ensures descends { Descends D.set_of D.loads_of D.Names D.KeepsRest 2 1 0 0 tree.old tree.new }
     ensures name { D.Names tree.new level result.1 result.0 }
-    ensures some { 0 < length (below_node (list_of (D.set_of tree.old)) level result.1) }
-    ensures same { first_of (below_node (list_of (D.set_of tree.old)) level result.1) ≡ first_of (below_node (list_of (D.set_of tree.old)) (level + 1) place) }
+    ensures some { 0 < length (keys_below (list_of (D.set_of tree.old)) level result.1) }
+    ensures same { first_of (keys_below (list_of (D.set_of tree.old)) level result.1) ≡ first_of (keys_below (list_of (D.set_of tree.old)) (level + 1) place) }
 {
     let left = tree.left(level, place, node);
     if tree.count(level, 2 * place, &left) > 0 {

@@ -2,8 +2,9 @@
 use Rattle.std.specs.Prelude.{◌≡◌, ℕ, zero, suc, ◌+◌, ◌*◌, ◌%◌, ◌^◌, ◌<◌, ◌≤◌, List, slice_index}
 use Rattle.aug_words.specs.Rests.{AtRest}
 use Rattle.aug_core.specs.Places.{record_start, record_count, record_words}
-use Rattle.aug_model.specs.Queries.{weighted_range_of, weight_in}
-use Rattle.aug_query.specs.Tree.{first_key, end_key, IsTreeSet, IsNodeOf}
+use Rattle.aug_model.specs.Queries.{weight_in}
+use Rattle.aug_query.specs.Tree.{IsTreeSet, IsNodeOf}
+use Rattle.aug_model.specs.NodeKeys.{end_key, pairs_below}
 use Rattle.aug_model.specs.declared.summary.Summary.{Summary}
 use Rattle.aug_trie.specs.LeafWords.{serial_in_word, weight_in_word}
 use Rattle.aug_trie.specs.inside.LeafPairs.{leaf_pairs}
@@ -14,13 +15,9 @@ use Rattle.aug_trie.specs.Ended.{EndedFacts, set_of_ended}
 abbrev pub word_in : AtRest → ℕ → ℕ → ℕ
 word_in rest number field = slice_index rest.words (record_start rest.shape number + field)
 
--- the members of a set that a node at a level and a place covers
-abbrev pub covered : List (ℕ × ℕ) → ℕ → ℕ → List (ℕ × ℕ)
-covered pairs level place = weighted_range_of pairs (first_key level place) (end_key level place)
-
 -- the word is a leaf's: it says whether its key is one of the set, and with which weight; that of a key that is absent is 0
 pub record IsLeafOf (pairs : List (ℕ × ℕ)) (place word : ℕ) : Type 0 where
-  pub says : covered pairs zero place ≡ leaf_pairs place word
+  pub says : pairs_below pairs zero place ≡ leaf_pairs place word
   pub none_if_even : serial_in_word word % 2 ≡ 0 → weight_in_word word ≡ 0
 
 module _ (face : ℕ → ℕ → List (ℕ × ℕ) → List ℕ) where
@@ -33,7 +30,7 @@ module _ (face : ℕ → ℕ → List (ℕ × ℕ) → List ℕ) where
   -- covers
   abbrev pub IsVersion : AtRest → List (ℕ × ℕ) → ℕ → ℕ → ℕ → Type 0
   IsVersion rest pairs zero place word = IsLeafOf pairs place word
-  IsVersion rest pairs (suc level) place word = IsRecordOf rest (covered pairs (suc level) place) word
+  IsVersion rest pairs (suc level) place word = IsRecordOf rest (pairs_below pairs (suc level) place) word
       × IsVersion rest pairs level (2 * place) (word_in rest word 0) × IsVersion rest pairs level (2 * place + 1) (word_in rest word 1)
 
 module _ (face : ℕ → ℕ → List (ℕ × ℕ) → List ℕ) where

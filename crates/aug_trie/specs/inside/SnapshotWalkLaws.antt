@@ -6,7 +6,8 @@ use Rattle.aug_core.specs.declared.step.StepTaken.{StepTaken}
 use Rattle.aug_core.specs.declared.view.SeatView.{SeatView}
 use Rattle.aug_model.specs.Keys.{list_of}
 use Rattle.aug_model.specs.declared.summary.Summary.{Summary}
-use Rattle.aug_query.specs.Tree.{IsNodeOf, sum_of, below_node}
+use Rattle.aug_query.specs.Tree.{IsNodeOf, sum_of}
+use Rattle.aug_model.specs.NodeKeys.{keys_below}
 use Rattle.aug_query.specs.declared.loaded.Loaded.{Loaded}
 use Rattle.aug_query.proofs.Placed.{row_in_keys}
 use Rattle.aug_words.specs.Seats.{Known}
@@ -32,7 +33,7 @@ kept_on p q r s t u k l m a b = record {
 }
 
 pub stands : {A B : Type 0} (f : ℕ → ℕ → List (ℕ × ℕ) → List ℕ) (sum : List (ℕ × ℕ) → Summary A B) (v : SeatView) (s : Snapshot) (level place word : ℕ) → IsNamed f v s level place word
-    → IsNodeOf sum (set_seen v s) level place (sum_of sum (set_seen v s).pairs (below_node (list_of (set_seen v s)) level place))
+    → IsNodeOf sum (set_seen v s) level place (sum_of sum (set_seen v s).pairs (keys_below (list_of (set_seen v s)) level place))
 stands f sum v s level place word named =
     let at = named.node.part.word in
     record { is_tree_set = named.is_tree_set; level_fits = at.level_fits; place_fits = row_in_keys v.shape.bits level place at.level_fits at.place_fits; tells = refl }

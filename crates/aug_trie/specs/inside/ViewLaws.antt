@@ -12,7 +12,8 @@ use Rattle.aug_model.specs.Queries.{weight_in}
 use Rattle.aug_model.specs.Keys.{list_of}
 use Rattle.aug_model.proofs.Pairs.{range-again}
 use Rattle.aug_model.proofs.Ranges.{rises_from}
-use Rattle.aug_query.specs.Tree.{IsNodeOf, sum_of, below_node, first_key, end_key}
+use Rattle.aug_query.specs.Tree.{IsNodeOf, sum_of}
+use Rattle.aug_model.specs.NodeKeys.{keys_below, first_key, end_key}
 use Rattle.aug_trie.specs.LeafWords.{weight_in_word}
 use Rattle.aug_trie.specs.View.{KeepsPass}
 use Rattle.aug_trie.specs.declared.queries.snapshot.Snapshot.{Snapshot}
@@ -52,7 +53,7 @@ module _ {A B : Type 0} (summary_of : List (ℕ × ℕ) → Summary A B) where
   pub leaf_weighs : (p : PassFacts) (s : Snapshot) (node : Node A B) → node.snapshot ≡ s → HasNode summary_of p node → node.level ≡ 0 → weight_in_word node.word ≡ weight_in (set_at p s).pairs node.place
   leaf_weighs p s node same has level = subst (λ (z : Snapshot). weight_in_word node.word ≡ weight_in (set_at p z).pairs node.place) same (has.weighs level)
 
-  told : (p : PassFacts) (node : Node A B) (has : HasNode summary_of p node) → node.summary ≡ sum_of summary_of (set_at p node.snapshot).pairs (below_node (list_of (set_at p node.snapshot)) node.level node.place)
+  told : (p : PassFacts) (node : Node A B) (has : HasNode summary_of p node) → node.summary ≡ sum_of summary_of (set_at p node.snapshot).pairs (keys_below (list_of (set_at p node.snapshot)) node.level node.place)
   told p node has = let set = set_at p node.snapshot in has.tells.tells
       ∙ ap summary_of (range-again set.pairs (first_key node.level node.place) (end_key node.level node.place) (rises_from (list_of set) has.is_tree_set.is_key_set.rising))
 

@@ -3,7 +3,7 @@ ghost use Rattle.std.specs.Prelude.{◌≡◌, ℕ, ◌+◌, ◌*◌, ◌^◌, �
 ghost use Rattle.aug_core.specs.Cuts.{set_of_cut};
 ghost use Rattle.aug_core.specs.Faces.{face};
 ghost use Rattle.aug_core.specs.Told.{KnowsTable};
-ghost use Rattle.aug_query.specs.Tree.{below_node};
+ghost use Rattle.aug_model.specs.NodeKeys.{keys_below};
 ghost use Rattle.aug_trie.specs.inside.NodeWords.{IsNodeAt};
 ghost use Rattle.aug_trie.specs.inside.Goes.{Looks};
 ghost use Rattle.aug_trie.specs.inside.NamedCuts.{cut_named};
@@ -65,7 +65,7 @@ pub(crate) fn count_at<A: Monoid, B: Monoid>(
     requires node { IsNodeAt pass.old.view.shape pass.old.view.seen (cut_named pass.old.view.shape pass.old.view.seen snapshot.number) level place word }
     ensures table { pass.new.table ≡ pass.old.table }
     ensures looks { Looks 1 pass.old.view pass.new.view }
-    ensures value { result ≡ length (below_node (set_of_cut (cut_named pass.old.view.shape pass.old.view.seen snapshot.number)) level place) }
+    ensures value { result ≡ length (keys_below (set_of_cut (cut_named pass.old.view.shape pass.old.view.seen snapshot.number)) level place) }
 {
     let _ = (snapshot, place);
     if level == 0 {

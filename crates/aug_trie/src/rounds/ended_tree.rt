@@ -2,7 +2,8 @@
 ghost use Rattle.std.specs.Prelude.{◌≡◌};
 ghost use Rattle.aug_core.specs.Faces.{face};
 ghost use Rattle.aug_model.specs.Folds.{summary_of};
-ghost use Rattle.aug_trie.specs.inside.EndedTree.{HasEndedNode, IsVersion, NamesEnded, covered};
+ghost use Rattle.aug_trie.specs.inside.EndedTree.{HasEndedNode, IsVersion, NamesEnded};
+ghost use Rattle.aug_model.specs.NodeKeys.{pairs_below};
 
 use crate::queries::nodes::leaf_summary;
 use crate::rounds::ended::Ended;
@@ -26,7 +27,7 @@ impl<A: Monoid, B: Monoid> Ended<A, B> {
     // The summary of the node at a level and a place, by its word.
     pub(crate) fn summary_of_word(&self, level: u32, place: u32, word: u64) -> Summary<A, B>
         requires version { IsVersion (face A.parts B.parts) self.now.rest self.now.members level place word }
-        ensures { result ≡ summary_of A.parts B.parts (covered self.now.members level place) }
+        ensures { result ≡ summary_of A.parts B.parts (pairs_below self.now.members level place) }
     {
         if level == 0 {
             return leaf_summary(place, word);

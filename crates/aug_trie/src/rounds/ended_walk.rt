@@ -2,7 +2,7 @@
 ghost use Rattle.std.specs.Prelude.{◌≡◌, ◌+◌, ◌*◌, length};
 ghost use Rattle.aug_core.specs.Faces.{face};
 ghost use Rattle.aug_model.specs.Keys.{list_of};
-ghost use Rattle.aug_query.specs.Tree.{below_node};
+ghost use Rattle.aug_model.specs.NodeKeys.{keys_below};
 ghost use Rattle.aug_trie.specs.Ended.{set_of_ended};
 ghost use Rattle.aug_trie.specs.inside.EndedTree.{NamesEnded};
 
@@ -38,7 +38,7 @@ impl<A: Monoid, B: Monoid> Ended<A, B> {
     #[inline(always)]
     fn count_of_word(&self, level: u32, place: u32, word: u64) -> u32
         requires { NamesEnded (face A.parts B.parts) self.now level place word }
-        ensures { result ≡ length (below_node (list_of (set_of_ended self.now)) level place) }
+        ensures { result ≡ length (keys_below (list_of (set_of_ended self.now)) level place) }
     {
         let _ = place;
         if level == 0 {

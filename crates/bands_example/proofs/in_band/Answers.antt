@@ -1,6 +1,6 @@
 use Rattle.std.proofs.Common.{◌≡◌, ◌<◌, length, refl, ap, ◌∙◌, arith}
 use Rattle.aug_model.specs.Keys.{list_of}
-use Rattle.aug_query.specs.Tree.{below_node}
+use Rattle.aug_model.specs.NodeKeys.{keys_below}
 use Rattle.aug_query.proofs.Nodes.{of_set, counts}
 use Rattle.aug_query.proofs.Steps.{begins}
 use Rattle.bands_example.proofs.Descent.{goes_down}
@@ -39,4 +39,4 @@ returns-clause-answer g c =
     let there : g.T.Tree.level_of c.loop-node.node ≡ c.args.level = omega (arith, over.above, c.level.ensures, c.loop-node-test.false) in
     let place = last_place c.args.level c.args.band (g.T.Tree.place_of c.loop-node.node) (g.T.Tree.level_of c.loop-node.node) there over.place in
     let keys = list_of (g.T.Tree.set_of c.args.tree.now) in
-    ap (λ s. s.count) c.summary.ensures ∙ counts node (λ _. refl) ∙ ap (λ l. length (below_node keys l (g.T.Tree.place_of c.loop-node.node))) there ∙ ap (λ p. length (below_node keys c.args.level p)) place
+    ap (λ s. s.count) c.summary.ensures ∙ counts node (λ _. refl) ∙ ap (λ l. length (keys_below keys l (g.T.Tree.place_of c.loop-node.node))) there ∙ ap (λ p. length (keys_below keys c.args.level p)) place

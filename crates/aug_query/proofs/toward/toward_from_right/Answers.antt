@@ -1,7 +1,7 @@
 use Rattle.std.proofs.Common.{◌+◌, ◌*◌, ◌/◌, ◌^◌, refl, ap, sym, ◌∙◌, subst, add-zero}
 use Rattle.aug_model.specs.Keys.{list_of}
 use Rattle.aug_model.specs.Queries.{rank_of}
-use Rattle.aug_query.specs.Tree.{end_key}
+use Rattle.aug_model.specs.NodeKeys.{end_key}
 use Rattle.aug_query.proofs.Nodes.{right_high, members_rise}
 use Rattle.aug_query.proofs.Descending.{low_half, high_half, rank_after_left}
 use Rattle.aug_query.proofs.toward.toward_from_right.Goals as goal

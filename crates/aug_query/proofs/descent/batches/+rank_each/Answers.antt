@@ -1,7 +1,7 @@
 use Rattle.std.proofs.Common.{◌≡◌, ℕ, ◌+◌, ◌-◌, ◌*◌, ◌≤◌, ◌++◌, vec_len, vec_capacity, length, map, refl, ap, sym, ◌∙◌, subst, arith, rules}
 use Rattle.aug_model.specs.Keys.{SetFacts, list_of}
 use Rattle.aug_model.specs.Queries.{rank_of}
-use Rattle.aug_query.specs.Tree.{first_key}
+use Rattle.aug_model.specs.NodeKeys.{first_key}
 use Rattle.aug_query.specs.Descend.{Descends}
 use Rattle.aug_query.proofs.Nodes.{stands, leaf_first}
 use Rattle.aug_query.proofs.Descending.{still, within}

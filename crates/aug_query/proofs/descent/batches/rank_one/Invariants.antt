@@ -1,7 +1,7 @@
 use Rattle.std.proofs.Common.{◌≡◌, ◌+◌, ◌-◌, ◌/◌, ◌^◌, ◌≤◌}
 use Rattle.aug_model.specs.Keys.{list_of}
 use Rattle.aug_model.specs.Queries.{rank_of}
-use Rattle.aug_query.specs.Tree.{first_key}
+use Rattle.aug_model.specs.NodeKeys.{first_key}
 use Rattle.aug_query.specs.Descend.{Descends}
 use Rattle.aug_query.proofs.descent.batches.rank_one.Given as goal
 

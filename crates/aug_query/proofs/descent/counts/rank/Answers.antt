@@ -1,7 +1,7 @@
 use Rattle.std.proofs.Common.{◌≡◌, ◌≤◌, ◌<◌, ◌/◌, ◌^◌, ◌+◌, ◌-◌, ap, sym, ◌∙◌, subst, arith}
 use Rattle.aug_model.specs.Keys.{list_of}
 use Rattle.aug_model.specs.Queries.{rank_of}
-use Rattle.aug_query.specs.Tree.{first_key}
+use Rattle.aug_model.specs.NodeKeys.{first_key}
 use Rattle.aug_model.proofs.Ranges.{all_below_from}
 use Rattle.aug_query.proofs.Orders.{rank_past}
 use Rattle.aug_query.proofs.Descending.{within, further}

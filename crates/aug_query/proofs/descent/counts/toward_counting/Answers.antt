@@ -1,7 +1,7 @@
 use Rattle.std.proofs.Common.{◌≡◌, ◌+◌, ◌*◌, ◌/◌, ◌^◌, refl, ap, sym, ◌∙◌, subst, arith}
 use Rattle.aug_model.specs.Keys.{list_of}
 use Rattle.aug_model.specs.Queries.{rank_of}
-use Rattle.aug_query.specs.Tree.{first_key}
+use Rattle.aug_model.specs.NodeKeys.{first_key}
 use Rattle.aug_query.proofs.Nodes.{left_low, members_rise}
 use Rattle.aug_query.proofs.Descending.{low_half, high_half, rank_before_right}
 use Rattle.aug_query.proofs.Ways.{ranks_few}

@@ -4,7 +4,8 @@ use Rattle.aug_model.specs.Folds.{summary_of}
 use Rattle.aug_model.specs.Keys.{list_of}
 use Rattle.aug_model.specs.Queries.{range_of}
 use Rattle.aug_model.proofs.Ranges.{range_none}
-use Rattle.aug_query.specs.Tree.{sum_of, end_key, below_node}
+use Rattle.aug_query.specs.Tree.{sum_of}
+use Rattle.aug_model.specs.NodeKeys.{end_key, keys_below}
 use Rattle.aug_query.specs.Descend.{Descends}
 use Rattle.aug_query.proofs.Nodes.{leaf_is}
 use Rattle.aug_query.proofs.Descending.{still}
@@ -31,7 +32,7 @@ joined-total-requires g c =
     let is = (g.met.D.Descend.name_stands c.args.tree.now _ _ c.args.node c.requires).is_tree_set in
     let same = c.right-right.ensures.descends.same_set ∙ inv.walk.same_set in
     let place = 2 * (c.args.a / 2 ^ (c.loop-level.level - 1 + 1)) + 1 in
-    let told = c.summary.ensures.value ∙ ap (λ s. sum_of whole_sum s.pairs (below_node (list_of s) (c.loop-level.level - 1) place)) same in
+    let told = c.summary.ensures.value ∙ ap (λ s. sum_of whole_sum s.pairs (keys_below (list_of s) (c.loop-level.level - 1) place)) same in
     joined_few whole_sum is (λ _. refl) _ _ _ _ told inv.total
 
 pub loop-level-preserved : goal.loop-level-preserved
@@ -54,7 +55,7 @@ loop-level-preserved g c =
     elim c.if-a-level-eq0.branch [
       | then-a-level-eq0 w ↦
           let same = w.right-right.ensures.descends.same_set ∙ inv.walk.same_set in
-          let told = w.summary.ensures.value ∙ ap (λ s. sum_of whole_sum s.pairs (below_node (list_of s) level (2 * (a / 2 ^ (level + 1)) + 1))) same ∙ ap sum (beside_low keys a level w.if-a-level-eq0.true) in
+          let told = w.summary.ensures.value ∙ ap (λ s. sum_of whole_sum s.pairs (keys_below (list_of s) level (2 * (a / 2 ^ (level + 1)) + 1))) same ∙ ap sum (beside_low keys a level w.if-a-level-eq0.true) in
           w.total-is ∙ joined_is is w.joined-total.ensures cut high last (end_no_later a level) later told so_far
       | else-a-level-eq0 w ↦ w.total-is ∙ so_far ∙ ap (λ n. sum (range_of keys n last)) (sym (end_of_high a level w.if-a-level-eq0.false))
     ] in
@@ -76,7 +77,7 @@ joined-requires g c =
     let whole_sum = summary_of g.A.Monoid.parts g.B.Monoid.parts in
     let inv = c.loop-level.invariant in
     let is = (g.met.D.Descend.name_stands c.args.tree.now _ _ c.args.node c.requires).is_tree_set in
-    let told = c.summary-2.ensures.value ∙ ap (λ s. sum_of whole_sum s.pairs (below_node (list_of s) 0 c.args.a)) inv.walk.same_set in
+    let told = c.summary-2.ensures.value ∙ ap (λ s. sum_of whole_sum s.pairs (keys_below (list_of s) 0 c.args.a)) inv.walk.same_set in
     joined_few whole_sum is (λ _. refl) _ _ _ _ told inv.total
 
 pub returns-clause-answer : goal.returns-clause-answer
@@ -90,5 +91,5 @@ returns-clause-answer g c =
     let a = c.args.a in
     let last = end_key c.args.level (a / 2 ^ c.args.level) in
     let next = leaf_ends a c.loop-level.level (omega (arith, c.loop-level-test.false)) in
-    let told = c.summary-2.ensures.value ∙ ap (λ s. sum_of whole_sum s.pairs (below_node (list_of s) 0 a)) inv.walk.same_set ∙ ap sum (leaf_is keys 0 a refl) in
+    let told = c.summary-2.ensures.value ∙ ap (λ s. sum_of whole_sum s.pairs (keys_below (list_of s) 0 a)) inv.walk.same_set ∙ ap sum (leaf_is keys 0 a refl) in
     joined_is is c.joined.ensures a (a + 1) last (omega arith) (omega (arith, next, inv.no_later)) told (inv.total ∙ ap (λ n. sum (range_of keys n last)) next)

@@ -4,7 +4,8 @@ use Rattle.aug_model.specs.Folds.{summary_of}
 use Rattle.aug_model.specs.Keys.{list_of}
 use Rattle.aug_model.specs.Queries.{range_of}
 use Rattle.aug_model.proofs.Ranges.{range_none}
-use Rattle.aug_query.specs.Tree.{sum_of, first_key, end_key, below_node}
+use Rattle.aug_query.specs.Tree.{sum_of}
+use Rattle.aug_model.specs.NodeKeys.{first_key, end_key, keys_below}
 use Rattle.aug_query.proofs.Nodes.{of_set, members_rise, few_keys, wrapped_width}
 use Rattle.aug_query.proofs.Descending.{key_first, key_end}
 use Rattle.aug_query.proofs.Inside.{part_left, part_right, part_between, whole_node, joined_is, joined_few, both_ways, asked_is, no_leaf}
@@ -28,7 +29,7 @@ returns-then-b-a-2-clause-answer g c =
     let same = c.spanning-level.ensures.descends.same_set in
     let node = of_set same (g.met.D.Descend.name_stands c.spanning-level.new.tree _ _ c.spanning-level.result.1 c.spanning-level.ensures.name) in
     let wide : b - a ≡ 2 ^ level = c.if-b-a-2.true ∙ wrapped_width level level (a / 2 ^ level) refl (few_keys node) in
-    c.summary.ensures.value ∙ ap (λ s. sum_of whole_sum s.pairs (below_node (list_of s) level (a / 2 ^ level))) same
+    c.summary.ensures.value ∙ ap (λ s. sum_of whole_sum s.pairs (keys_below (list_of s) level (a / 2 ^ level))) same
     ∙ ap (sum_of whole_sum set.pairs) (whole_node keys a b level (members_rise node) c.if-b-a.false c.spanning-level.ensures.both wide) ∙ asked_is whole_sum c.universe.ensures.set a c.args.b b (c.min-b.ensures ∙ ap (min c.args.b) c.universe.ensures.value)
 
 pub from-low-requires : goal.from-low-requires

@@ -4,7 +4,8 @@ use Rattle.aug_model.specs.Folds.{summary_of}
 use Rattle.aug_model.specs.Keys.{list_of}
 use Rattle.aug_model.specs.Queries.{range_of}
 use Rattle.aug_model.proofs.Ranges.{range_none}
-use Rattle.aug_query.specs.Tree.{sum_of, first_key, below_node}
+use Rattle.aug_query.specs.Tree.{sum_of}
+use Rattle.aug_model.specs.NodeKeys.{first_key, keys_below}
 use Rattle.aug_query.specs.Descend.{Descends}
 use Rattle.aug_query.proofs.Nodes.{leaf_is}
 use Rattle.aug_query.proofs.Descending.{still}
@@ -31,7 +32,7 @@ joined-total-requires g c =
     let is = (g.met.D.Descend.name_stands c.args.tree.now _ _ c.args.node c.requires).is_tree_set in
     let same = c.left-left.ensures.descends.same_set ∙ inv.walk.same_set in
     let place = 2 * (c.args.z / 2 ^ (c.loop-level.level - 1 + 1)) in
-    let told = c.summary.ensures.value ∙ ap (λ s. sum_of whole_sum s.pairs (below_node (list_of s) (c.loop-level.level - 1) place)) same in
+    let told = c.summary.ensures.value ∙ ap (λ s. sum_of whole_sum s.pairs (keys_below (list_of s) (c.loop-level.level - 1) place)) same in
     joined_few whole_sum is (λ _. refl) _ _ _ _ inv.total told
 
 pub loop-level-preserved : goal.loop-level-preserved
@@ -55,7 +56,7 @@ loop-level-preserved g c =
       | then-z-level-eq1 w ↦
           let same = w.left-left.ensures.descends.same_set ∙ inv.walk.same_set in
           let odd : z / 2 ^ level % 2 ≢ 0 = omega (arith, w.if-z-level-eq1.true) in
-          let told = w.summary.ensures.value ∙ ap (λ s. sum_of whole_sum s.pairs (below_node (list_of s) level (2 * (z / 2 ^ (level + 1))))) same ∙ ap sum (beside_high keys z level odd) in
+          let told = w.summary.ensures.value ∙ ap (λ s. sum_of whole_sum s.pairs (keys_below (list_of s) level (2 * (z / 2 ^ (level + 1))))) same ∙ ap sum (beside_high keys z level odd) in
           w.total-is ∙ joined_is is w.joined-total.ensures start low cut earlier (first_no_earlier z level) so_far told
       | else-z-level-eq1 w ↦
           let even : z / 2 ^ level % 2 ≡ 0 = omega (arith, w.if-z-level-eq1.false) in w.total-is ∙ so_far ∙ ap (λ n. sum (range_of keys start n)) (sym (first_of_low z level even))
@@ -78,7 +79,7 @@ joined-requires g c =
     let whole_sum = summary_of g.A.Monoid.parts g.B.Monoid.parts in
     let inv = c.loop-level.invariant in
     let is = (g.met.D.Descend.name_stands c.args.tree.now _ _ c.args.node c.requires).is_tree_set in
-    let told = c.summary-2.ensures.value ∙ ap (λ s. sum_of whole_sum s.pairs (below_node (list_of s) 0 c.args.z)) inv.walk.same_set in
+    let told = c.summary-2.ensures.value ∙ ap (λ s. sum_of whole_sum s.pairs (keys_below (list_of s) 0 c.args.z)) inv.walk.same_set in
     joined_few whole_sum is (λ _. refl) _ _ _ _ inv.total told
 
 pub returns-clause-answer : goal.returns-clause-answer
@@ -92,5 +93,5 @@ returns-clause-answer g c =
     let z = c.args.z in
     let start = first_key c.args.level (z / 2 ^ c.args.level) in
     let here = leaf_begins z c.loop-level.level (omega (arith, c.loop-level-test.false)) in
-    let told = c.summary-2.ensures.value ∙ ap (λ s. sum_of whole_sum s.pairs (below_node (list_of s) 0 z)) inv.walk.same_set ∙ ap sum (leaf_is keys 0 z refl) in
+    let told = c.summary-2.ensures.value ∙ ap (λ s. sum_of whole_sum s.pairs (keys_below (list_of s) 0 z)) inv.walk.same_set ∙ ap sum (leaf_is keys 0 z refl) in
     joined_is is c.joined.ensures start z (z + 1) (omega (arith, here, inv.no_earlier)) (omega arith) (inv.total ∙ ap (λ n. sum (range_of keys start n)) here) told

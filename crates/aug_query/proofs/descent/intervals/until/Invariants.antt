@@ -2,7 +2,8 @@ use Rattle.std.proofs.Common.{◌≡◌, ◌-◌, ◌*◌, ◌/◌, ◌^◌, ◌
 use Rattle.aug_model.specs.Folds.{summary_of}
 use Rattle.aug_model.specs.Keys.{list_of}
 use Rattle.aug_model.specs.Queries.{range_of}
-use Rattle.aug_query.specs.Tree.{sum_of, first_key}
+use Rattle.aug_query.specs.Tree.{sum_of}
+use Rattle.aug_model.specs.NodeKeys.{first_key}
 use Rattle.aug_query.specs.Descend.{Descends}
 use Rattle.aug_query.proofs.descent.intervals.until.Given as goal
 

@@ -1,7 +1,7 @@
 use Rattle.std.proofs.Common.{◌≡◌, ◌+◌, ◌-◌, ◌*◌, ◌/◌, ◌^◌, ◌<◌, Some, length, ap, sym, ◌∙◌, subst, arith}
 use Rattle.aug_model.specs.Keys.{list_of}
 use Rattle.aug_model.specs.Queries.{rank_of, after_of, first_of}
-use Rattle.aug_query.specs.Tree.{end_key, below_node}
+use Rattle.aug_model.specs.NodeKeys.{end_key, keys_below}
 use Rattle.aug_model.proofs.Ranges.{all_below_from}
 use Rattle.aug_query.proofs.Orders.{rank_past}
 use Rattle.aug_query.proofs.Nodes.{of_set, members_rise, members_below, top_end}
@@ -103,7 +103,7 @@ pub least-requires-clause-some : goal.least-requires-clause-some
 least-requires-clause-some g c =
     let inv = c.loop-level.invariant in
     let kept = subst (KeepsAfter (g.D.Descend.Names c.loop-level.tree) (list_of (g.D.Descend.set_of c.args.tree.now)) c.args.k (end_key c.loop-level.level (c.args.k / 2 ^ c.loop-level.level))) c.in_ok-level.was inv.kept in
-    let same = ap (λ s. length (below_node (list_of s) c.in_ok-level.level (2 * (c.args.k / 2 ^ (c.in_ok-level.level + 1)) + 1))) (c.right-right.ensures.descends.same_set ∙ inv.descends.same_set) in
+    let same = ap (λ s. length (keys_below (list_of s) c.in_ok-level.level (2 * (c.args.k / 2 ^ (c.in_ok-level.level + 1)) + 1))) (c.right-right.ensures.descends.same_set ∙ inv.descends.same_set) in
     omega (arith, kept.1.some, same)
 
 pub returns-clause-answer : goal.returns-clause-answer

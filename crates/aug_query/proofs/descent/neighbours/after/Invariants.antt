@@ -1,6 +1,6 @@
 use Rattle.std.proofs.Common.{◌+◌, ◌-◌, ◌/◌, ◌^◌, ◌≤◌}
 use Rattle.aug_model.specs.Keys.{list_of}
-use Rattle.aug_query.specs.Tree.{end_key}
+use Rattle.aug_model.specs.NodeKeys.{end_key}
 use Rattle.aug_query.specs.Descend.{Descends}
 use Rattle.aug_query.proofs.Passing.{KeepsAfter}
 use Rattle.aug_query.proofs.descent.neighbours.after.Given as goal

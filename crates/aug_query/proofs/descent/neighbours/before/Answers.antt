@@ -1,7 +1,7 @@
 use Rattle.std.proofs.Common.{◌≡◌, ◌+◌, ◌-◌, ◌*◌, ◌/◌, ◌^◌, Some, length, ap, sym, ◌∙◌, subst, arith}
 use Rattle.aug_model.specs.Keys.{list_of}
 use Rattle.aug_model.specs.Queries.{rank_of, before_of, last_of}
-use Rattle.aug_query.specs.Tree.{first_key, below_node}
+use Rattle.aug_model.specs.NodeKeys.{first_key, keys_below}
 use Rattle.aug_model.proofs.Ranges.{all_below_from}
 use Rattle.aug_query.proofs.Orders.{rank_none}
 use Rattle.aug_query.proofs.Nodes.{of_set, members_rise, top_first}
@@ -105,7 +105,7 @@ pub greatest-requires-clause-some : goal.greatest-requires-clause-some
 greatest-requires-clause-some g c =
     let inv = c.loop-level.invariant in
     let kept = subst (KeepsBefore (g.D.Descend.Names c.loop-level.tree) (list_of (g.D.Descend.set_of c.args.tree.now)) c.args.k (first_key c.loop-level.level (c.args.k / 2 ^ c.loop-level.level))) c.in_ok-level.was inv.kept in
-    let same = ap (λ s. length (below_node (list_of s) c.in_ok-level.level (2 * (c.args.k / 2 ^ (c.in_ok-level.level + 1))))) (c.left-left.ensures.descends.same_set ∙ inv.descends.same_set) in
+    let same = ap (λ s. length (keys_below (list_of s) c.in_ok-level.level (2 * (c.args.k / 2 ^ (c.in_ok-level.level + 1))))) (c.left-left.ensures.descends.same_set ∙ inv.descends.same_set) in
     omega (arith, kept.1.some, same)
 
 pub returns-clause-answer : goal.returns-clause-answer

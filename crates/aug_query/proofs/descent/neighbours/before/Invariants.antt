@@ -1,6 +1,6 @@
 use Rattle.std.proofs.Common.{◌+◌, ◌-◌, ◌/◌, ◌^◌, ◌≤◌}
 use Rattle.aug_model.specs.Keys.{list_of}
-use Rattle.aug_query.specs.Tree.{first_key}
+use Rattle.aug_model.specs.NodeKeys.{first_key}
 use Rattle.aug_query.specs.Descend.{Descends}
 use Rattle.aug_query.proofs.Passing.{KeepsBefore}
 use Rattle.aug_query.proofs.descent.neighbours.before.Given as goal

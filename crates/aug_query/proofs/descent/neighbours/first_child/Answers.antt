@@ -1,6 +1,6 @@
 use Rattle.std.proofs.Common.{◌*◌, length, ap, arith}
 use Rattle.aug_model.specs.Keys.{list_of}
-use Rattle.aug_query.specs.Tree.{below_node}
+use Rattle.aug_model.specs.NodeKeys.{keys_below}
 use Rattle.aug_query.proofs.Nodes.{members_rise}
 use Rattle.aug_query.proofs.Beside.{child_places, first_left, first_right, children_add}
 use Rattle.aug_query.proofs.descent.neighbours.first_child.Goals as goal
@@ -20,17 +20,17 @@ overflow_mul-result-2 g c = let few = child_places c.args.level (g.met.D.Descend
 pub returns-then-count-gt0-clause-same : goal.returns-then-count-gt0-clause-same
 returns-then-count-gt0-clause-same g c =
     let node = g.met.D.Descend.name_stands c.args.tree.now _ _ c.args.node.now c.requires.name in
-    let same = ap (λ s. length (below_node (list_of s) c.args.level (2 * c.args.place))) c.left-left.ensures.descends.same_set in
+    let same = ap (λ s. length (keys_below (list_of s) c.args.level (2 * c.args.place))) c.left-left.ensures.descends.same_set in
     first_left _ c.args.level c.args.place (members_rise node) (omega (arith, c.if-count-gt0.true, c.count.ensures.value, same))
 
 pub returns-clause-some : goal.returns-clause-some
 returns-clause-some g c =
     let node = g.met.D.Descend.name_stands c.args.tree.now _ _ c.args.node.now c.requires.name in
-    let same = ap (λ s. length (below_node (list_of s) c.args.level (2 * c.args.place))) c.left-left.ensures.descends.same_set in
+    let same = ap (λ s. length (keys_below (list_of s) c.args.level (2 * c.args.place))) c.left-left.ensures.descends.same_set in
     omega (arith, c.requires.some, c.if-count-gt0.false, c.count.ensures.value, same, children_add _ c.args.level c.args.place (members_rise node))
 
 pub returns-clause-same : goal.returns-clause-same
 returns-clause-same g c =
     let node = g.met.D.Descend.name_stands c.args.tree.now _ _ c.args.node.now c.requires.name in
-    let same = ap (λ s. length (below_node (list_of s) c.args.level (2 * c.args.place))) c.left-left.ensures.descends.same_set in
+    let same = ap (λ s. length (keys_below (list_of s) c.args.level (2 * c.args.place))) c.left-left.ensures.descends.same_set in
     first_right _ c.args.level c.args.place (members_rise node) (omega (arith, c.if-count-gt0.false, c.count.ensures.value, same))

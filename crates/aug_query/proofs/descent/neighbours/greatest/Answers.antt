@@ -1,7 +1,7 @@
 use Rattle.std.proofs.Common.{◌≡◌, ◌+◌, ◌-◌, length, refl, ap, subst, arith}
 use Rattle.aug_model.specs.Keys.{list_of}
 use Rattle.aug_model.specs.Queries.{last_of}
-use Rattle.aug_query.specs.Tree.{below_node}
+use Rattle.aug_model.specs.NodeKeys.{keys_below}
 use Rattle.aug_query.proofs.Nodes.{of_set, members_rise}
 use Rattle.aug_query.proofs.Descending.{still, further, within}
 use Rattle.aug_query.proofs.Beside.{leaf_has, as_begun}
@@ -19,8 +19,8 @@ pub last_child-child-requires-clause-some : goal.last_child-child-requires-claus
 last_child-child-requires-clause-some g c =
     let inv = c.loop-level.invariant in
     let above : c.loop-level.level ≡ c.loop-level.level - 1 + 1 = omega (arith, c.loop-level-test.true) in
-    let here = ap (λ s. length (below_node (list_of s) c.loop-level.level c.loop-level.place)) inv.descends.same_set in
-    let there = ap (λ n. length (below_node (list_of (g.D.Descend.set_of c.loop-level.tree)) n c.loop-level.place)) above in
+    let here = ap (λ s. length (keys_below (list_of s) c.loop-level.level c.loop-level.place)) inv.descends.same_set in
+    let there = ap (λ n. length (keys_below (list_of (g.D.Descend.set_of c.loop-level.tree)) n c.loop-level.place)) above in
     omega (arith, inv.some, here, there)
 
 pub loop-level-preserved : goal.loop-level-preserved
@@ -29,12 +29,12 @@ loop-level-preserved g c =
     let child = c.last_child-child in
     let set = inv.descends.same_set in
     let above : c.loop-level.level - 1 + 1 ≡ c.loop-level.level = omega (arith, c.loop-level-test.true) in
-    let here = ap (λ s. length (below_node (list_of s) (c.loop-level.level - 1) child.result.1)) set in
+    let here = ap (λ s. length (keys_below (list_of s) (c.loop-level.level - 1) child.result.1)) set in
     record {
       most = omega (arith, inv.most);
       name = child.ensures.name;
       some = omega (arith, child.ensures.some, here);
-      same = as_begun last_of (last_of (below_node (list_of (g.D.Descend.set_of c.args.tree.now)) c.args.level c.args.place)) c.loop-level.level (c.loop-level.level - 1 + 1) (c.loop-level.level - 1) c.loop-level.place child.result.1 set above child.ensures.same inv.same;
+      same = as_begun last_of (last_of (keys_below (list_of (g.D.Descend.set_of c.args.tree.now)) c.args.level c.args.place)) c.loop-level.level (c.loop-level.level - 1 + 1) (c.loop-level.level - 1) c.loop-level.place child.result.1 set above child.ensures.same inv.same;
       descends = further g.met.D.Descend.keeps_on inv.descends child.ensures.descends (omega (arith, inv.most, c.loop-level-test.true)) (omega (arith, inv.most, c.loop-level-test.true)) (omega arith) (omega arith);
     }
 
@@ -42,7 +42,7 @@ pub returns-clause-answer : goal.returns-clause-answer
 returns-clause-answer g c =
     let inv = c.loop-level.invariant in
     let node = of_set inv.descends.same_set (g.met.D.Descend.name_stands c.loop-level.tree _ _ c.loop-level.node inv.name) in
-    leaf_has last_of (last_of (below_node (list_of (g.D.Descend.set_of c.args.tree.now)) c.args.level c.args.place)) (list_of (g.D.Descend.set_of c.args.tree.now)) c.loop-level.level c.loop-level.place (members_rise node) (omega (arith, c.loop-level-test.false)) inv.some inv.same
+    leaf_has last_of (last_of (keys_below (list_of (g.D.Descend.set_of c.args.tree.now)) c.args.level c.args.place)) (list_of (g.D.Descend.set_of c.args.tree.now)) c.loop-level.level c.loop-level.place (members_rise node) (omega (arith, c.loop-level-test.false)) inv.some inv.same
 
 pub returns-clause-descends : goal.returns-clause-descends
 returns-clause-descends g c = within c.loop-level.invariant.descends (omega arith) (omega arith) (omega arith) (omega arith)

@@ -4,7 +4,7 @@ use Rattle.aug_model.specs.Folds.{summary_of}
 use Rattle.aug_model.specs.Queries.{weight_in}
 use Rattle.aug_query.specs.FakeTree.{Asked}
 use Rattle.aug_query.specs.inside.FakeNodes.{IsFakeNode}
-use Rattle.aug_query.specs.Tree.{end_key}
+use Rattle.aug_model.specs.NodeKeys.{end_key}
 use Rattle.aug_query.proofs.Nodes.{leaf_end}
 use Rattle.aug_query.proofs.Placed.{row_reaches, is_node}
 use Rattle.aug_query.proofs.fake_tree.FakeTree.node.Goals as goal

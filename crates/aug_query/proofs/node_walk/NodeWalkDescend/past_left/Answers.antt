@@ -1,11 +1,11 @@
 use Rattle.std.proofs.Common.{◌+◌, ◌*◌, ◌≡◌, length, refl, ap, sym, arith}
 use Rattle.aug_model.specs.Keys.{list_of}
-use Rattle.aug_query.specs.Tree.{below_node}
+use Rattle.aug_model.specs.NodeKeys.{keys_below}
 use Rattle.aug_query.proofs.Nodes.{of_set, right_leaves, left_covers}
 use Rattle.aug_query.proofs.node_walk.NodeWalkDescend.past_left.Goals as goal
 
 -- what the node counts is what the two children do
-both : (g : _) (c : goal.After-summary-2 g) → c.summary.result.count ≡ length (below_node (list_of (g.T.Tree.set_of c.args.self.now.tree.now)) c.args._level (2 * c.args._place)) + c.summary-2.result.count
+both : (g : _) (c : goal.After-summary-2 g) → c.summary.result.count ≡ length (keys_below (list_of (g.T.Tree.set_of c.args.self.now.tree.now)) c.args._level (2 * c.args._place)) + c.summary-2.result.count
 both g c =
     let keys = list_of (g.T.Tree.set_of c.args.self.now.tree.now) in
     let step = c.right-right.ensures in

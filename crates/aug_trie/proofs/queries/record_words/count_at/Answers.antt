@@ -1,7 +1,7 @@
 use Rattle.std.proofs.Common.{◌≡◌, ℕ, ◌%◌, ◌≤◌, length, inl, sym, subst, arith, rules}
 use Rattle.aug_core.specs.Cuts.{Cut, set_of_cut}
 use Rattle.aug_core.specs.declared.view.SeatView.{SeatView}
-use Rattle.aug_query.specs.Tree.{below_node}
+use Rattle.aug_model.specs.NodeKeys.{keys_below}
 use Rattle.aug_trie.specs.inside.NodeWords.{IsNodeAt}
 use Rattle.aug_trie.specs.LeafWords.{serial_in_word}
 use Rattle.aug_trie.specs.inside.NamedCuts.{cut_named}
@@ -12,8 +12,8 @@ use Rattle.aug_trie.proofs.queries.record_words.count_at.Goals as goal
 pub returns-then-level-eq0-clause-value : goal.returns-then-level-eq0-clause-value
 returns-then-level-eq0-clause-value g c = let v : SeatView = c.args.pass.now.view in let cut : Cut = cut_named v.shape v.seen c.args.snapshot.number in
     let leaf : c.args.level ≡ 0 = c.if-level-eq0.true in
-    let counts : serial_in_word c.args.word % 2 ≡ length (below_node (set_of_cut cut) c.args.level c.args.place) =
-    subst (λ (z : ℕ). serial_in_word c.args.word % 2 ≡ length (below_node (set_of_cut cut) z c.args.place)) (sym leaf)
+    let counts : serial_in_word c.args.word % 2 ≡ length (keys_below (set_of_cut cut) c.args.level c.args.place) =
+    subst (λ (z : ℕ). serial_in_word c.args.word % 2 ≡ length (keys_below (set_of_cut cut) z c.args.place)) (sym leaf)
     (leaf_count g.A.Monoid.parts g.B.Monoid.parts v c.requires.knows.book cut c.args.place c.args.word (subst (λ (z : ℕ). IsNodeAt v.shape v.seen cut z c.args.place c.args.word) leaf c.requires.node)) in
     let serial = c.leaf_serial.ensures in
     omega (arith, serial, counts)

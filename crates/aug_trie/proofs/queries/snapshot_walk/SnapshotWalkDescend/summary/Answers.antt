@@ -3,7 +3,8 @@ use Rattle.aug_model.specs.Folds.{summary_of}
 use Rattle.aug_model.specs.Keys.{list_of}
 use Rattle.aug_model.proofs.Pairs.{range-again}
 use Rattle.aug_model.proofs.Ranges.{rises_from}
-use Rattle.aug_query.specs.Tree.{sum_of, below_node, first_key, end_key}
+use Rattle.aug_query.specs.Tree.{sum_of}
+use Rattle.aug_model.specs.NodeKeys.{keys_below, first_key, end_key}
 use Rattle.aug_trie.specs.inside.SnapshotWalk.{Walking, set_seen}
 use Rattle.aug_core.specs.Faces.{face}
 use Rattle.aug_trie.proofs.SnapshotWalks.{walk_on, descends_summary}
@@ -20,5 +21,5 @@ returns-clause-descends g c = let f = face g.A.Monoid.parts g.B.Monoid.parts in 
 
 pub returns-clause-value : goal.returns-clause-value
 returns-clause-value g c = let sum = summary_of g.A.Monoid.parts g.B.Monoid.parts in let i = c.self.inside in let set = set_seen i.words.view i.snapshot in
-    subst (λ (z : Walking). c.summary_at.result ≡ sum_of sum (set_seen z.words.view z.snapshot).pairs (below_node (list_of (set_seen z.words.view z.snapshot)) c.args.level c.args.place)) c.self.view_is
+    subst (λ (z : Walking). c.summary_at.result ≡ sum_of sum (set_seen z.words.view z.snapshot).pairs (keys_below (list_of (set_seen z.words.view z.snapshot)) c.args.level c.args.place)) c.self.view_is
     (c.summary_at.ensures.tells.tells ∙ ap sum (range-again set.pairs (first_key c.args.level c.args.place) (end_key c.args.level c.args.place) (rises_from (list_of set) c.self.invariant.top.is_tree_set.is_key_set.rising)))

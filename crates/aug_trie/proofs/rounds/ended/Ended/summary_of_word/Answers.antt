@@ -3,7 +3,8 @@ use Rattle.aug_monoid.proofs.BoundLaws.{laws_of}
 use Rattle.aug_core.specs.Faces.{face}
 use Rattle.aug_model.specs.Folds.{summary_of}
 use Rattle.aug_trie.specs.Ended.{EndedFacts}
-use Rattle.aug_trie.specs.inside.EndedTree.{IsVersion, covered}
+use Rattle.aug_trie.specs.inside.EndedTree.{IsVersion}
+use Rattle.aug_model.specs.NodeKeys.{pairs_below}
 use Rattle.aug_trie.specs.inside.EndedState.{pairs_at_rest}
 use Rattle.aug_trie.proofs.Versions.{inside_of, count_fits, tells, leaf_tells, some_bits, few_bits}
 use Rattle.aug_trie.proofs.rounds.ended.Ended.summary_of_word.Goals as goal
@@ -39,4 +40,4 @@ returns g c = let m = g.A.Monoid.parts in let n = g.B.Monoid.parts in let e = c.
     (λ i. record { count = c.record_word-count.ensures i; a = c.from_word.result; b = c.from_word-2.result })
     ∙ tells m n e.rest (pairs_at_rest e.rest e.bits 0 e.root) c.args.level c.args.place c.args.word inner version c.self.invariant.fit
     (laws_of g.met.A.Monoid) (laws_of g.met.B.Monoid) c.from_word.result c.from_word-2.result (c.from_word.ensures ∙ ap m.from_word c.record_word-a.ensures) (c.from_word-2.ensures ∙ ap n.from_word c.record_word-b.ensures)
-    ∙ ap (λ (z : EndedFacts). summary_of m n (covered z.members c.args.level c.args.place)) c.self.view_is
+    ∙ ap (λ (z : EndedFacts). summary_of m n (pairs_below z.members c.args.level c.args.place)) c.self.view_is

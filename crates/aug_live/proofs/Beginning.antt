@@ -8,7 +8,6 @@ use Rattle.aug_core.specs.declared.layout.LayoutError.TheVariants as layout
 use Rattle.aug_trie.specs.declared.error.BeginError.{BeginError}
 use Rattle.aug_trie.specs.declared.error.BeginError.TheVariants as begin
 use Rattle.aug_trie.specs.History.{last_cut}
-use Rattle.aug_trie.specs.Knowledge.{Knowledge}
 use Rattle.aug_trie.specs.Round.{RoundFacts}
 use Rattle.aug_trie.specs.Ended.{EndedFacts, set_of_ended}
 use Rattle.aug_trie.specs.Crew.{CrewFacts, BeginsRound, Ends}

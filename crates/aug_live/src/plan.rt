@@ -2,7 +2,7 @@
 ghost use Rattle.std.specs.Prelude.{◌*◌, ◌^◌, ◌≤◌, IfSome, IfNone};
 ghost use Rattle.aug_live.specs.Plans.{Fits, least_plan};
 
-use aug_core::Layout;
+use aug_core::{Layout, RECORD_WORDS};
 
 // If there are more lanes than handles, each lane has at least this many updates.
 const LEAST_UPDATES: u64 = 256;
@@ -12,8 +12,6 @@ const MOST_LANES: u32 = 64;
 const MOST_UPDATES: u64 = 65_536;
 
 const MOST_WORDS: u64 = 1 << 26;
-
-const WORDS_PER_RECORD: u64 = 5;
 
 /// How the rounds of a trie are laid out: how many lanes each has, and how many updates each lane. The lanes that no handle begins
 /// with are spare: a handle that has made all of its updates continues with one of them, and the round rolls over once none is
@@ -40,7 +38,7 @@ impl Plan {
         };
         let words = least.words_within(bits, memory)?;
         let room = (memory / 8).min(MOST_WORDS) - words;
-        let record_words = WORDS_PER_RECORD * u64::from(bits);
+        let record_words = RECORD_WORDS as u64 * u64::from(bits);
         let calls = room.saturating_sub(u64::from(MOST_LANES)) / record_words + u64::from(handles);
         let lanes = ((calls / LEAST_UPDATES).min(u64::from(MOST_LANES)) as u32).max(handles);
         let updates = (calls / u64::from(lanes)).min(MOST_UPDATES) as u32;

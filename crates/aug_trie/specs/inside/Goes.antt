@@ -71,9 +71,13 @@ pub record HasLeaves (s : Shape) (leaves : ℕ) : Type 0 where
   pub are : leaves ≡ 2 ^ s.bits
   pub few : leaves ≤ 65536
 
+-- how many words of a record tell what is below its node: a count and two folds
+abbrev pub part_words : ℕ
+part_words = 3
+
 -- how many loads a child's part takes
 abbrev pub part_steps : Shape → ℕ → ℕ
-part_steps s place = if nat_lt place (2 ^ s.bits) then 0 else 3
+part_steps s place = if nat_lt place (2 ^ s.bits) then 0 else part_words
 
 -- how many steps bring a record into the table once its words are known: a store of each, and an exchange of the node's word for its number
 abbrev pub publish_steps : ℕ
@@ -86,7 +90,7 @@ try_steps part = 9 + 2 * part
 
 -- how many steps two tries at a node take whose children are nodes
 abbrev pub level_steps : ℕ
-level_steps = 2 * try_steps 3
+level_steps = 2 * try_steps part_words
 
 -- the fewest steps from a leaf on at all nodes above it up to a level: one try at each; at the lowest the children are leaves
 abbrev pub least_rise_steps : ℕ → ℕ

@@ -3,13 +3,12 @@ use Rattle.std.specs.Prelude.{◌≡◌, ℕ, zero, suc, ◌+◌, ◌-◌, ◌*�
 use Rattle.aug_monoid.specs.Parts.{Parts}
 use Rattle.aug_core.specs.Places.{record_start, record_words}
 use Rattle.aug_core.specs.Addresses.{IsInner, left_of, right_of}
-use Rattle.aug_core.specs.Book.{At, ArePrefixes}
+use Rattle.aug_core.specs.Book.{ArePrefixes}
 use Rattle.aug_core.specs.inside.Refreshes.{HasNewest, SaysLoaded}
 use Rattle.aug_core.specs.Told.{KnowsTable, Says, own_lane, storing}
 use Rattle.aug_core.specs.declared.step.StepTaken.{StepTaken}
-use Rattle.aug_core.specs.declared.view.Entry.{Entry}
 use Rattle.aug_core.specs.declared.view.SeatView.{SeatView}
-use Rattle.aug_trie.specs.inside.Goes.{Goes, Took, HasRoom, Tries, IsPart, part_steps, publish_steps, try_steps, Looks}
+use Rattle.aug_trie.specs.inside.Goes.{Goes, Took, HasRoom, Tries, IsPart, part_words, part_steps, publish_steps, try_steps, Looks}
 use Rattle.aug_trie.specs.inside.LeafPairs.{leaf_pairs}
 use Rattle.aug_trie.specs.declared.turns.points.Reading.{Reading}
 use Rattle.aug_trie.specs.declared.turns.points.Filling.{Filling}
@@ -36,16 +35,16 @@ abbrev pub stored : SeatView → ℕ → List ℕ → ℕ → SeatView
 stored v number five zero = v
 stored v number five (suc k) = storing (stored v number five k) (record_start (stored v number five k).shape number + k) (slice_index five k)
 
--- how many words of the records of two children a try loads: of each a count and two folds
+-- how many words of the records of two children a try loads
 abbrev pub reading_words : ℕ
-reading_words = 6
+reading_words = 2 * part_words
 
 -- the child whose record's word is loaded after `k` others, and which word of that record it is
 abbrev pub child_at : ℕ → ℕ → ℕ → ℕ
-child_at left right k = if nat_lt k 3 then left else right
+child_at left right k = if nat_lt k part_words then left else right
 
 abbrev pub field_after : ℕ → ℕ
-field_after k = if nat_lt k 3 then k + 2 else k - 1
+field_after k = if nat_lt k part_words then k + 2 else k - 1
 
 module _ {A B : Type 0} (parts_a : Parts A) (parts_b : Parts B) where
   -- the words of a record over two children with these words, whose records' counts and folds are the words from 0 on and from 3 on

@@ -7,7 +7,7 @@ use Rattle.aug_core.specs.inside.Shows.{above, Lifts}
 use Rattle.aug_core.specs.inside.Refreshes.{NewestCovers}
 use Rattle.aug_core.specs.Told.{own_lane, KnowsTable, BeginsAtLeaf}
 use Rattle.aug_core.specs.declared.view.SeatView.{SeatView}
-use Rattle.aug_trie.specs.inside.Goes.{Goes, Took, TookBetween, HasRoom, part_steps, try_steps, level_steps, least_rise_steps, most_rise_steps}
+use Rattle.aug_trie.specs.inside.Goes.{Goes, Took, TookBetween, HasRoom, part_words, part_steps, try_steps, level_steps, least_rise_steps, most_rise_steps}
 use Rattle.aug_trie.specs.inside.Climbing.{Updated, FitsRequest}
 use Rattle.aug_model.specs.declared.outcome.Outcome.{Outcome}
 use Rattle.aug_trie.specs.inside.PassState.{IsPass}
@@ -133,7 +133,7 @@ module _ (face : ℕ → ℕ → List (ℕ × ℕ) → List ℕ) where
 
 -- how many loads a child's part takes above a level
 abbrev pub part_above : ℕ → ℕ
-part_above level = if level == 0 then 0 else 3
+part_above level = if level == 0 then 0 else part_words
 
 -- the greatest number of turns that an update on its way may have left
 abbrev pub ascent_turns : ℕ → Ascent → ℕ

@@ -4,7 +4,7 @@ ghost use Rattle.aug_model.specs.Folds.{summary_of};
 ghost use Rattle.aug_model.specs.declared.outcome.Outcome.{Outcome as Told};
 ghost use Rattle.aug_core.specs.Layout.{IsWithin};
 ghost use Rattle.aug_trie.specs.Pass.{PassFacts, most_update_steps};
-ghost use Rattle.aug_trie.specs.inside.Goes.{try_steps};
+ghost use Rattle.aug_trie.specs.inside.Goes.{part_words, try_steps};
 ghost use Rattle.aug_trie.specs.Node.{Keeps};
 ghost use Rattle.aug_trie.specs.inside.Points.{point_turns};
 ghost use Rattle.aug_trie.specs.inside.Climbing.{FitsRequest};
@@ -16,6 +16,7 @@ use crate::rounds::pass::Pass;
 use crate::turns::ascents::Ascent;
 use crate::turns::points::{Point, READING_WORDS};
 use crate::turns::stages::{Next, Stage, next_stage};
+use crate::updates::parts::PART_WORDS;
 use crate::updates::refreshing::PUBLISH_STEPS;
 use crate::updates::request::Request;
 use aug_model::Outcome;
@@ -175,7 +176,7 @@ const fn most_update_steps(bits: u32) -> u32
 const fn try_steps(level: u32) -> u32
     ensures { result ≡ try_steps (part_above level) }
 {
-    let part = if level == 0 { 0 } else { 3 };
+    let part = if level == 0 { 0 } else { PART_WORDS as u32 };
     9 + 2 * part
 }
 
@@ -196,7 +197,7 @@ fn ascent_left(bits: u32, ascent: Ascent) -> u32
 
 // The turns that are left of a try of `whole` steps at a point.
 fn point_left(whole: u32, point: Point) -> u32
-    requires whole { (part : ℕ) × (whole ≡ try_steps part) × (whole ≤ try_steps 3) × (1 ≤ point_turns part point) }
+    requires whole { (part : ℕ) × (whole ≡ try_steps part) × (whole ≤ try_steps part_words) × (1 ≤ point_turns part point) }
     ensures { (part : ℕ) → whole ≡ try_steps part → result ≡ point_turns part point }
 {
     match point {

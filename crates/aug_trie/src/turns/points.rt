@@ -5,17 +5,17 @@ ghost use Rattle.aug_core.specs.Fields.{field_offset};
 ghost use Rattle.aug_core.specs.Places.{record_words};
 ghost use Rattle.aug_core.specs.Addresses.{left_of};
 ghost use Rattle.aug_core.specs.declared.view.SeatView.{SeatView};
-ghost use Rattle.aug_trie.specs.inside.Goes.{HasLeaves, part_steps};
+ghost use Rattle.aug_trie.specs.inside.Goes.{HasLeaves, part_words, part_steps};
 ghost use Rattle.aug_trie.specs.inside.Points.{QuietStep, TryAt, Advances, Falls, IsOverLeaves, five_over, reading_words, child_at, field_after};
 
-use crate::updates::parts::{leaf_part, part_of_words};
+use crate::updates::parts::{PART_WORDS, leaf_part, part_of_words};
 use crate::updates::refreshing::{five_words, look};
 use aug_core::{RECORD_WORDS, RecordField};
 use aug_monoid::Monoid;
 use aug_words::WordPass;
 
 // How many words of two children's records a try loads.
-pub(crate) const READING_WORDS: usize = 6;
+pub(crate) const READING_WORDS: usize = 2 * PART_WORDS;
 
 // The words of the children's records, which are loaded one after another: the count and the two folds of the left one, then of the
 // right one.
@@ -152,7 +152,7 @@ fn next_word(reading: Reading) -> (u64, RecordField)
     ensures field { field_offset result.1 ≡ field_after reading.count }
 {
     let count = reading.count;
-    if count < 3 {
+    if count < PART_WORDS {
         (reading.left, field_at(count + 2))
     } else {
         (reading.right, field_at(count - 1))
@@ -165,7 +165,7 @@ fn load_part<A: Monoid, B: Monoid>(pass: &mut WordPass<A, B>, reading: Reading) 
     ensures table { pass.new.table ≡ pass.old.table }
     ensures step { QuietStep pass.old.view pass.new.view }
     ensures on { (v : SeatView) (node number : ℕ) → TryAt (face A.parts B.parts) v node number (Point.Part reading) pass.old.view → TryAt (face A.parts B.parts) v node number result pass.new.view }
-    ensures falls { Falls 3 (Point.Part reading) (Advanced.To result) }
+    ensures falls { Falls part_words (Point.Part reading) (Advanced.To result) }
 {
     let mut reading = reading;
     let count = reading.count;
@@ -190,7 +190,7 @@ fn store_or_try<A: Monoid, B: Monoid>(
     ensures table { pass.new.table ≡ pass.old.table }
     ensures step { QuietStep pass.old.view pass.new.view }
     ensures on { (v : SeatView) → TryAt (face A.parts B.parts) v node number (Point.Record filling) pass.old.view → Advances (face A.parts B.parts) v node number result pass.new.view }
-    ensures falls { Falls 3 (Point.Record filling) result }
+    ensures falls { Falls part_words (Point.Record filling) result }
 {
     let count = filling.count;
     if count == RECORD_WORDS {

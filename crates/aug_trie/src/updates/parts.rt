@@ -5,12 +5,15 @@ ghost use Rattle.aug_core.specs.Addresses.{place_count, IsInner};
 ghost use Rattle.aug_core.specs.Told.{KnowsTable};
 ghost use Rattle.aug_core.specs.inside.Refreshes.{HasEntry};
 ghost use Rattle.aug_trie.specs.inside.LeafPairs.{leaf_pairs};
-ghost use Rattle.aug_trie.specs.inside.Goes.{IsPart, IsPartOf, Goes, Took, HasLeaves, part_steps};
+ghost use Rattle.aug_trie.specs.inside.Goes.{IsPart, IsPartOf, Goes, Took, HasLeaves, part_words, part_steps};
 
 use crate::updates::leaf_words::{leaf_serial, leaf_weight};
 use aug_core::RecordField;
 use aug_monoid::Monoid;
 use aug_words::WordPass;
+
+// How many words of a record tell what is below its node: a count and two folds.
+pub(crate) const PART_WORDS: usize = 3;
 
 // How many keys there are below a child, and the folds of these with their weights.
 #[derive(Clone, Copy)]
@@ -70,7 +73,7 @@ fn node_part<A: Monoid, B: Monoid>(
     requires named { HasEntry pass.old.view.seen node number }
     ensures table { pass.new.table ≡ pass.old.table }
     ensures goes { Goes (face A.parts B.parts) 0 [] pass.old.view pass.new.view }
-    ensures took { Took pass.old.view pass.new.view 3 }
+    ensures took { Took pass.old.view pass.new.view part_words }
     ensures part { IsPartOf A.parts B.parts pass.old.view node number result.count result.a result.b }
 {
     let count = pass.load_record_word(number, RecordField::Count);

@@ -81,7 +81,6 @@ module _ {A B : Type 0} (parts_a : Parts A) (parts_b : Parts B) where
     -- whatever is told of a node's keys is told of the cut's tree
     tree_is : (level place word : ℕ) (t : IsNodeAt v.shape v.seen cut level place word) (told : Summary A B) → told ≡ summary_of parts_a parts_b (entry_of v.seen t.q t.index).pairs → IsTreeOf (summary_of parts_a parts_b) v.shape.bits cut level place told
     tree_is level place word t told is = record {
-      level_fits = t.part.word.level_fits;
       place_fits = part_fits both v.shape v.seen b cut level place t.q t.index t.part;
       tells = is ∙ ap (summary_of parts_a parts_b) (part_pairs both v.shape v.seen b cut level place t.q t.index t.part);
     }

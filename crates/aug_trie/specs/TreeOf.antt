@@ -6,6 +6,5 @@ use Rattle.aug_core.specs.Cuts.{Cut, pairs_of_cut}
 
 -- a node at a level and a place of the tree of a cut has the summary of the cut's keys that it covers, with their weights
 pub record IsTreeOf {A B : Type 0} (summary_of : List (ℕ × ℕ) → Summary A B) (bits : ℕ) (cut : Cut) (level place : ℕ) (told : Summary A B) : Type 0 where
-  pub level_fits : level ≤ bits
   pub place_fits : (place + 1) * 2 ^ level ≤ 2 ^ bits
   pub tells : told ≡ summary_of (weighted_range_of (pairs_of_cut cut) (place * 2 ^ level) ((place + 1) * 2 ^ level))

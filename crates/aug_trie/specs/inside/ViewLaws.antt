@@ -1,8 +1,12 @@
 -- What a walk keeps of a pass: lemmas for no walk at all, and for walks one after the other.
-use Rattle.std.proofs.Common.{◌≡◌, ℕ, List, [], ◌++◌, append_assoc, sym, refl, ap, subst, ◌∙◌, arith}
+use Rattle.std.proofs.Common.{◌≡◌, ℕ, ◌+◌, ◌*◌, ◌^◌, ◌<◌, ◌≤◌, List, [], ◌++◌, append_assoc, sym, refl, ap, subst, ◌∙◌, ⊎_elim, arith}
+use Rattle.std.proofs.Math.Nat.{mul-le-mul_right}
+use Rattle.std.proofs.Math.Pow.{pow_mono}
+use Rattle.std.proofs.lemmas.Bool.{cases_lt}
 use Rattle.std.proofs.lemmas.List.{append-nil}
 use Rattle.std.specs.Borrow.{MutBor}
 use Rattle.aug_core.specs.declared.step.StepTaken.{StepTaken}
+use Rattle.aug_core.proofs.Sizes.{twice, some_leaf}
 use Rattle.aug_model.specs.declared.summary.Summary.{Summary}
 use Rattle.aug_trie.specs.Pass.{PassFacts}
 use Rattle.aug_trie.specs.Node.{HasNode, Stays}
@@ -17,6 +21,13 @@ use Rattle.aug_model.specs.NodeKeys.{keys_below, first_key, end_key}
 use Rattle.aug_trie.specs.LeafWords.{weight_in_word}
 use Rattle.aug_trie.specs.View.{KeepsPass}
 use Rattle.aug_trie.specs.declared.queries.snapshot.Snapshot.{Snapshot}
+
+-- a node whose keys are below 2 ^ bits stands no higher than the root
+level_within : (bits level place : ℕ) → (place + 1) * 2 ^ level ≤ 2 ^ bits → level ≤ bits
+level_within bits level place fits = ⊎_elim
+    (λ (past : bits < level). let up : 2 ^ (bits + 1) ≤ 2 ^ level = pow_mono {i = bits + 1} {j = level} (omega arith) in let double = twice bits in let some = some_leaf bits in
+    let one : 1 ≤ place + 1 = omega arith in let wide : 1 * 2 ^ level ≤ (place + 1) * 2 ^ level = mul-le-mul_right (2 ^ level) one in absurd (omega arith))
+    (λ (le : level ≤ bits). le) (cases_lt bits level)
 
 module _ {A B : Type 0} (summary_of : List (ℕ × ℕ) → Summary A B) where
   stays_so : (p : PassFacts) → Stays summary_of p p
@@ -60,4 +71,4 @@ module _ {A B : Type 0} (summary_of : List (ℕ × ℕ) → Summary A B) where
   -- a node of a view's pass is one of the tree of its snapshot's set
   pub node_of : (p : PassFacts) (s : Snapshot) (node : Node A B) → node.snapshot ≡ s → HasNode summary_of p node → IsNodeOf summary_of (set_at p s) node.level node.place node.summary
   node_of p s node same has = subst (λ (z : Snapshot). IsNodeOf summary_of (set_at p z) node.level node.place node.summary) same
-      record { is_tree_set = has.is_tree_set; level_fits = has.tells.level_fits; place_fits = has.tells.place_fits; tells = told p node has }
+      record { is_tree_set = has.is_tree_set; level_fits = level_within (set_at p node.snapshot).bits node.level node.place has.tells.place_fits; place_fits = has.tells.place_fits; tells = told p node has }

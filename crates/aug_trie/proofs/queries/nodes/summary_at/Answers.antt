@@ -38,7 +38,6 @@ returns-clause-tells g c = let m = g.A.Monoid in let n = g.B.Monoid in let v : S
     let told = record_tells m.parts n.parts v c.requires.knows cut c.args.level c.args.place c.args.word c.requires.node inner _ _ _ (laws_of g.met.A.Monoid) (laws_of g.met.B.Monoid) l1.known
     (says_before v w1 _ c.args.word 3 _ l1.stepped l2.known) (says_before v w1 _ c.args.word 4 _ l1.stepped (says_before w1 w2 _ c.args.word 4 _ l2.stepped l3.known)) in
     record {
-      level_fits = told.level_fits;
       place_fits = told.place_fits;
       tells = (λ i. record { count = c.load_record_word-count.result; a = c.from_word.ensures i; b = c.from_word-2.ensures i }) ∙ told.tells;
     }

@@ -3,6 +3,7 @@
 use super::rounds::{Trie, Work, back, begun};
 use aug_lane::Running;
 use aug_query::{keys, pairs};
+use aug_testing::{equal, holds};
 use aug_trie::{BeginError, Ended};
 use std::alloc::Global;
 use std::process::Abort;
@@ -25,11 +26,11 @@ fn again(rt: &impl Abort, alloc: Global, trie: Trie) -> Result<Work, BeginError>
     let trie = match Running::begin(alloc, trie, 1, 1) {
         Ok(round) => return Ok(round),
         Err((trie, cause)) => {
-            assert_eq!(rt; cause, BeginError::OutOfMemory);
+            equal(rt, cause, BeginError::OutOfMemory);
             trie
         }
     };
-    assert_eq!(rt; trie.bits(), 4);
+    equal(rt, trie.bits(), 4);
     begun(alloc, trie, 1, 1)
 }
 
@@ -39,22 +40,22 @@ fn refused_memory_leaves_the_set(rt: HostRuntime) -> Result<(), BeginError> {
     let trie = match five(rt.alloc()) {
         Ok(trie) => trie,
         Err(cause) => {
-            assert_eq!(rt; cause, BeginError::OutOfMemory);
+            equal(&rt, cause, BeginError::OutOfMemory);
             five(rt.alloc())?
         }
     };
     let size = trie.size();
     let round = again(&rt, rt.alloc(), trie)?;
     let Ok(mut ended) = round.end() else {
-        assert!(rt; false);
+        holds(&rt, false);
         return Ok(());
     };
-    assert_eq!(rt; ended.size(), size);
+    equal(&rt, ended.size(), size);
     let list = match keys(rt.alloc(), &mut ended) {
         Ok(list) => list,
         Err(_) => keys(rt.alloc(), &mut ended).expect(&rt, "memory"),
     };
-    assert_eq!(rt; list.len(), size as usize);
+    equal(&rt, list.len(), size as usize);
     Ok(())
 }
 
@@ -87,13 +88,13 @@ fn again_wider(rt: &impl Abort, alloc: Global, trie: Trie) -> Result<Work, Begin
     let mut trie = match Running::begin_wider(alloc, trie, 6, 1, 1) {
         Ok(round) => return Ok(round),
         Err((trie, cause)) => {
-            assert_eq!(rt; cause, BeginError::OutOfMemory);
+            equal(rt, cause, BeginError::OutOfMemory);
             trie
         }
     };
-    assert!(rt; trie.bits() == 4 || trie.bits() == 6);
+    holds(rt, trie.bits() == 4 || trie.bits() == 6);
     let list = listed(rt, alloc, &mut trie);
-    assert_eq!(rt; list.as_slice(), [(5, 5), (9, 70)].as_slice());
+    equal(rt, list.as_slice(), [(5, 5), (9, 70)].as_slice());
     match Running::begin_wider(alloc, trie, 6, 1, 1) {
         Ok(round) => Ok(round),
         Err((_, cause)) => Err(cause),
@@ -106,20 +107,20 @@ fn refused_memory_leaves_the_narrower_set(rt: HostRuntime) -> Result<(), BeginEr
     let trie = match five_and_nine(rt.alloc()) {
         Ok(trie) => trie,
         Err(cause) => {
-            assert_eq!(rt; cause, BeginError::OutOfMemory);
+            equal(&rt, cause, BeginError::OutOfMemory);
             five_and_nine(rt.alloc())?
         }
     };
     let round = again_wider(&rt, rt.alloc(), trie)?;
     let (round, lane) = round.open();
     let (lane, done) = lane.expect(&rt, "lane 0").insert(63);
-    assert_eq!(rt; done, Ok(true));
+    equal(&rt, done, Ok(true));
     let Ok(mut ended) = back(round, lane).end() else {
-        assert!(rt; false);
+        holds(&rt, false);
         return Ok(());
     };
-    assert_eq!(rt; (ended.bits(), ended.inserts()), (6, 1));
+    equal(&rt, (ended.bits(), ended.inserts()), (6, 1));
     let list = listed(&rt, rt.alloc(), &mut ended);
-    assert_eq!(rt; list.as_slice(), [(5, 5), (9, 70), (63, 63)].as_slice());
+    equal(&rt, list.as_slice(), [(5, 5), (9, 70), (63, 63)].as_slice());
     Ok(())
 }

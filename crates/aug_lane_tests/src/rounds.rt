@@ -6,6 +6,7 @@ use aug_lane::{Lane, LaneError, OpenError, Running};
 use aug_model::Outcome;
 use aug_monoid::{Extent, Sum};
 use aug_query::{keys, weight};
+use aug_testing::{equal, holds};
 use aug_trie::{BeginError, Ended};
 use std::alloc::Global;
 
@@ -38,20 +39,20 @@ pub(super) fn back(round: Work, lane: Worker) -> Work
 #[test]
 fn a_round_ends_once_its_lanes_are_dropped(rt: HostRuntime) -> Result<(), BeginError> {
     let round = begun(rt.alloc(), Ended::empty(rt.alloc(), 4)?, 2, 2)?;
-    assert_eq!(rt; (round.universe(), round.opened()), (16, 0));
+    equal(&rt, (round.universe(), round.opened()), (16, 0));
     let (round, first) = round.open();
     let first = first.expect(&rt, "lane 0");
-    assert_eq!(rt; (first.universe(), first.budget()), (16, 2));
+    equal(&rt, (first.universe(), first.budget()), (16, 2));
     let Err(round) = round.end() else {
-        assert!(rt; false);
+        holds(&rt, false);
         return Ok(());
     };
     drop(first);
     let Ok(ended) = round.end() else {
-        assert!(rt; false);
+        holds(&rt, false);
         return Ok(());
     };
-    assert_eq!(rt; (ended.missing(), ended.inserts()), (1, 0));
+    equal(&rt, (ended.missing(), ended.inserts()), (1, 0));
     Ok(())
 }
 
@@ -68,12 +69,12 @@ fn a_dropped_lane_leaves_what_the_round_saw(rt: HostRuntime) -> Result<(), Begin
     let (third, _) = third.expect(&rt, "lane 2").insert(9);
     drop(third);
     let Ok(mut ended) = round.end() else {
-        assert!(rt; false);
+        holds(&rt, false);
         return Ok(());
     };
-    assert_eq!(rt; (ended.missing(), ended.inserts()), (2, 0));
+    equal(&rt, (ended.missing(), ended.inserts()), (2, 0));
     let list = keys(rt.alloc(), &mut ended).expect(&rt, "memory");
-    assert_eq!(rt; list.as_slice(), [5].as_slice());
+    equal(&rt, list.as_slice(), [5].as_slice());
     Ok(())
 }
 
@@ -82,9 +83,9 @@ fn each_lane_is_opened_once(rt: HostRuntime) -> Result<(), BeginError> {
     let round = begun(rt.alloc(), Ended::empty(rt.alloc(), 4)?, 1, 2)?;
     let (round, first) = round.open();
     let (_, number) = first.expect(&rt, "lane 0").number();
-    assert_eq!(rt; number, 0);
+    equal(&rt, number, 0);
     let (_, second) = round.open();
-    assert_eq!(rt; second.map(drop), Err(OpenError::NoLane));
+    equal(&rt, second.map(drop), Err(OpenError::NoLane));
     Ok(())
 }
 
@@ -94,45 +95,51 @@ fn a_lane_updates_looks_and_is_spent(rt: HostRuntime) -> Result<(), BeginError> 
     let (_, lane) = round.open();
     let lane = lane.expect(&rt, "lane 0");
     let (lane, refused) = lane.insert(16);
-    assert_eq!(rt; refused, Err(LaneError::BadKey));
+    equal(&rt, refused, Err(LaneError::BadKey));
     let (lane, done) = lane.insert(5);
-    assert_eq!(rt; done, Ok(true));
+    equal(&rt, done, Ok(true));
     let (lane, done) = lane.put(9, 70);
-    assert_eq!(rt; done, Ok(Outcome::Accepted));
+    equal(&rt, done, Ok(Outcome::Accepted));
     let (lane, before) = lane.size();
     let (lane, after) = lane.look().size();
-    assert_eq!(rt; (before, after), (0, 2));
+    equal(&rt, (before, after), (0, 2));
     let (lane, found) = lane.weight(9);
-    assert_eq!(rt; found, Some(70));
+    equal(&rt, found, Some(70));
     let (lane, found) = lane.has(6);
-    assert!(rt; !found);
+    holds(&rt, !found);
     let (lane, below) = lane.rank(9);
     let (lane, member) = lane.select(1);
-    assert_eq!(rt; (below, member), (1, Some(9)));
+    equal(&rt, (below, member), (1, Some(9)));
     let (lane, low) = lane.before(9);
     let (lane, high) = lane.after(5);
-    assert_eq!(rt; (low, high), (Some(5), Some(9)));
+    equal(&rt, (low, high), (Some(5), Some(9)));
     let (lane, span) = lane.range(0, 16);
-    assert_eq!(rt;
+    equal(
+        &rt,
         (span.count, span.a.value(), span.b.bounds()),
-        (2, 75, Some((5, 9)))
+        (2, 75, Some((5, 9))),
     );
     let (lane, list) = lane.keys(rt.alloc());
-    assert_eq!(rt; list.expect(&rt, "memory").as_slice(), [5, 9].as_slice());
-    let (lane, list) = lane.pairs(rt.alloc());
-    assert_eq!(rt;
+    equal(
+        &rt,
         list.expect(&rt, "memory").as_slice(),
-        [(5, 5), (9, 70)].as_slice()
+        [5, 9].as_slice(),
+    );
+    let (lane, list) = lane.pairs(rt.alloc());
+    equal(
+        &rt,
+        list.expect(&rt, "memory").as_slice(),
+        [(5, 5), (9, 70)].as_slice(),
     );
     let (lane, done) = lane.remove(5);
-    assert_eq!(rt; done, Ok(true));
+    equal(&rt, done, Ok(true));
     let (lane, done) = lane.remove(5);
-    assert_eq!(rt; (done, lane.budget()), (Ok(false), 0));
+    equal(&rt, (done, lane.budget()), (Ok(false), 0));
     let (lane, refused) = lane.put(1, 1);
-    assert_eq!(rt; refused, Err(LaneError::Spent));
+    equal(&rt, refused, Err(LaneError::Spent));
     let (lane, inserts) = lane.inserts();
     let (_, removals) = lane.removals();
-    assert_eq!(rt; (inserts, removals), (2, 1));
+    equal(&rt, (inserts, removals), (2, 1));
     Ok(())
 }
 
@@ -140,30 +147,30 @@ fn a_lane_updates_looks_and_is_spent(rt: HostRuntime) -> Result<(), BeginError> 
 fn begin_refuses_lanes_and_updates(rt: HostRuntime) -> Result<(), BeginError> {
     let empty: Trie = Ended::empty(rt.alloc(), 16)?;
     let Err((empty, cause)) = Running::begin(rt.alloc(), empty, 65, 1) else {
-        assert!(rt; false);
+        holds(&rt, false);
         return Ok(());
     };
-    assert_eq!(rt; cause, BeginError::BadWorkers);
+    equal(&rt, cause, BeginError::BadWorkers);
     let Err((empty, cause)) = Running::begin(rt.alloc(), empty, 1, 0) else {
-        assert!(rt; false);
+        holds(&rt, false);
         return Ok(());
     };
-    assert_eq!(rt; cause, BeginError::BadUpdates);
+    equal(&rt, cause, BeginError::BadUpdates);
     let Err((empty, cause)) = Running::begin(rt.alloc(), empty, 64, 65_536) else {
-        assert!(rt; false);
+        holds(&rt, false);
         return Ok(());
     };
-    assert_eq!(rt; cause, BeginError::TooLarge);
+    equal(&rt, cause, BeginError::TooLarge);
     let Err((empty, cause)) = Running::begin_wider(rt.alloc(), empty, 15, 1, 1) else {
-        assert!(rt; false);
+        holds(&rt, false);
         return Ok(());
     };
-    assert_eq!(rt; cause, BeginError::Narrower);
+    equal(&rt, cause, BeginError::Narrower);
     let Err((_, cause)) = Running::begin_wider(rt.alloc(), empty, 17, 1, 1) else {
-        assert!(rt; false);
+        holds(&rt, false);
         return Ok(());
     };
-    assert_eq!(rt; cause, BeginError::BadBits);
+    equal(&rt, cause, BeginError::BadBits);
     Ok(())
 }
 
@@ -173,22 +180,26 @@ fn the_next_round_has_the_set(rt: HostRuntime) -> Result<(), BeginError> {
     let (round, lane) = round.open();
     let (lane, _) = lane.expect(&rt, "lane 0").put(3, 8);
     let Ok(ended) = back(round, lane).end() else {
-        assert!(rt; false);
+        holds(&rt, false);
         return Ok(());
     };
-    assert_eq!(rt; (ended.missing(), ended.inserts(), ended.size()), (0, 1, 1));
+    equal(
+        &rt,
+        (ended.missing(), ended.inserts(), ended.size()),
+        (0, 1, 1),
+    );
     let Ok(round) = Running::begin_wider(rt.alloc(), ended, 5, 1, 1) else {
-        assert!(rt; false);
+        holds(&rt, false);
         return Ok(());
     };
     let (round, lane) = round.open();
     let (lane, _) = lane.expect(&rt, "lane 0").insert(31);
     let Ok(mut ended) = back(round, lane).end() else {
-        assert!(rt; false);
+        holds(&rt, false);
         return Ok(());
     };
-    assert_eq!(rt; (weight(&mut ended, 3), ended.bits()), (Some(8), 5));
+    equal(&rt, (weight(&mut ended, 3), ended.bits()), (Some(8), 5));
     let list = keys(rt.alloc(), &mut ended).expect(&rt, "memory");
-    assert_eq!(rt; list.as_slice(), [3, 31].as_slice());
+    equal(&rt, list.as_slice(), [3, 31].as_slice());
     Ok(())
 }

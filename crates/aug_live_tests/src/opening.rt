@@ -3,6 +3,7 @@
 use aug_live::{Handle, Live, LiveError, Plan};
 use aug_model::Outcome;
 use aug_monoid::{Extent, Sum};
+use aug_testing::{equal, holds};
 use aug_trie::{BeginError, Ended, Members};
 use std::alloc::Global;
 use std::process::Abort;
@@ -101,34 +102,35 @@ fn a_handle_updates_and_looks_over_many_rounds(rt: HostRuntime) -> Result<(), Be
     let (live, mut hands) = opened(&rt, rt.alloc(), 6, 2, 3)?;
     let idle = hands.pop();
     let mut hand = hands.pop().expect(&rt, "a handle");
-    assert_eq!(rt; hand.universe(), 64);
+    equal(&rt, hand.universe(), 64);
     for k in 0..64 {
-        assert_eq!(rt; insert(&rt, &mut hand, k), Ok(true));
-        assert_eq!(rt; insert(&rt, &mut hand, k), Ok(false));
+        equal(&rt, insert(&rt, &mut hand, k), Ok(true));
+        equal(&rt, insert(&rt, &mut hand, k), Ok(false));
         if k % 3 == 0 {
-            assert_eq!(rt; put(&rt, &mut hand, k, 100 + k), Ok(Outcome::Replaced));
+            equal(&rt, put(&rt, &mut hand, k, 100 + k), Ok(Outcome::Replaced));
         }
         if k % 2 == 0 {
-            assert_eq!(rt; remove(&rt, &mut hand, k), Ok(true));
-            assert_eq!(rt; remove(&rt, &mut hand, k), Ok(false));
+            equal(&rt, remove(&rt, &mut hand, k), Ok(true));
+            equal(&rt, remove(&rt, &mut hand, k), Ok(false));
         }
         let Ok(mut look) = hand.look(&rt) else {
             panic!(rt; "no look");
         };
-        assert_eq!(rt; look.has(k), k % 2 == 1);
-        assert_eq!(rt; look.size(), (k + 1) / 2);
+        equal(&rt, look.has(k), k % 2 == 1);
+        equal(&rt, look.size(), (k + 1) / 2);
         hand = look.done();
     }
-    assert_eq!(rt; put(&rt, &mut hand, 2, 7), Ok(Outcome::Accepted));
+    equal(&rt, put(&rt, &mut hand, 2, 7), Ok(Outcome::Accepted));
     drop(idle);
     let (set, counts) = live.close(&rt);
-    assert_eq!(rt; set.size(), 33);
-    assert_eq!(rt;
+    equal(&rt, set.size(), 33);
+    equal(
+        &rt,
         (counts.opened, counts.inserts, counts.removals),
-        (0, 87, 54)
+        (0, 87, 54),
     );
-    assert!(rt; counts.rounds > 60);
-    assert_eq!(rt; insert(&rt, &mut hand, 1), Err(LiveError::Closed));
+    holds(&rt, counts.rounds > 60);
+    equal(&rt, insert(&rt, &mut hand, 1), Err(LiveError::Closed));
     Ok(())
 }
 
@@ -137,44 +139,46 @@ fn a_look_answers_every_query_and_stays_what_it_is(rt: HostRuntime) -> Result<()
     let (live, mut hands) = opened(&rt, rt.alloc(), 4, 2, 16)?;
     let mut other = hands.pop().expect(&rt, "a handle");
     let mut hand = hands.pop().expect(&rt, "a handle");
-    assert_eq!(rt; insert(&rt, &mut hand, 3), Ok(true));
-    assert_eq!(rt; insert(&rt, &mut hand, 9), Ok(true));
-    assert_eq!(rt; put(&rt, &mut hand, 12, 50), Ok(Outcome::Accepted));
+    equal(&rt, insert(&rt, &mut hand, 3), Ok(true));
+    equal(&rt, insert(&rt, &mut hand, 9), Ok(true));
+    equal(&rt, put(&rt, &mut hand, 12, 50), Ok(Outcome::Accepted));
     let Ok(mut look) = hand.look(&rt) else {
         panic!(rt; "no look");
     };
-    assert_eq!(rt; insert(&rt, &mut other, 5), Ok(true));
-    assert_eq!(rt;
+    equal(&rt, insert(&rt, &mut other, 5), Ok(true));
+    equal(
+        &rt,
         (look.has(3), look.has(5), look.has(20)),
-        (true, false, false)
+        (true, false, false),
     );
-    assert_eq!(rt; (look.weight(12), look.weight(5)), (Some(50), None));
-    assert_eq!(rt; (look.size(), look.rank(12)), (3, 2));
-    assert_eq!(rt; (look.select(1), look.select(3)), (Some(9), None));
-    assert_eq!(rt; (look.before(9), look.after(9)), (Some(3), Some(12)));
+    equal(&rt, (look.weight(12), look.weight(5)), (Some(50), None));
+    equal(&rt, (look.size(), look.rank(12)), (3, 2));
+    equal(&rt, (look.select(1), look.select(3)), (Some(9), None));
+    equal(&rt, (look.before(9), look.after(9)), (Some(3), Some(12)));
     let whole = look.range(0, 16);
-    assert_eq!(rt;
+    equal(
+        &rt,
         (whole.count, whole.a.value(), whole.b.bounds()),
-        (3, 62, Some((3, 12)))
+        (3, 62, Some((3, 12))),
     );
     let keys = look.keys(rt.alloc()).expect(&rt, "memory");
-    assert_eq!(rt; keys.as_slice(), [3, 9, 12].as_slice());
+    equal(&rt, keys.as_slice(), [3, 9, 12].as_slice());
     let pairs = look.pairs(rt.alloc()).expect(&rt, "memory");
-    assert_eq!(rt; pairs.as_slice(), [(3, 3), (9, 9), (12, 50)].as_slice());
+    equal(&rt, pairs.as_slice(), [(3, 3), (9, 9), (12, 50)].as_slice());
     let mut ranks = Vec::with_capacity(rt.alloc(), 2).expect(&rt, "memory");
     look.ranks(&[4, 10], &mut ranks);
-    assert_eq!(rt; ranks.as_slice(), [1, 2].as_slice());
+    equal(&rt, ranks.as_slice(), [1, 2].as_slice());
     let mut there = Vec::with_capacity(rt.alloc(), 2).expect(&rt, "memory");
     look.memberships(&[3, 5], &mut there);
-    assert_eq!(rt; there.as_slice(), [true, false].as_slice());
+    equal(&rt, there.as_slice(), [true, false].as_slice());
     let mut weights = Vec::with_capacity(rt.alloc(), 2).expect(&rt, "memory");
     look.weights(&[5, 12], &mut weights);
-    assert_eq!(rt; weights.as_slice(), [None, Some(50)].as_slice());
+    equal(&rt, weights.as_slice(), [None, Some(50)].as_slice());
     look.again();
-    assert_eq!(rt; (look.has(5), look.size()), (true, 4));
+    equal(&rt, (look.has(5), look.size()), (true, 4));
     drop(look.done());
     drop(other);
-    assert_eq!(rt; live.close(&rt).0.size(), 4);
+    equal(&rt, live.close(&rt).0.size(), 4);
     Ok(())
 }
 
@@ -182,16 +186,20 @@ fn a_look_answers_every_query_and_stays_what_it_is(rt: HostRuntime) -> Result<()
 fn a_trie_rolls_over_where_it_is_asked_to(rt: HostRuntime) -> Result<(), BeginError> {
     let (live, mut hands) = opened(&rt, rt.alloc(), 4, 1, 9)?;
     let mut hand = hands.pop().expect(&rt, "a handle");
-    assert_eq!(rt; insert(&rt, &mut hand, 7), Ok(true));
-    assert_eq!(rt; live.roll(&rt), Ok(()));
-    assert_eq!(rt; live.roll(&rt), Ok(()));
+    equal(&rt, insert(&rt, &mut hand, 7), Ok(true));
+    equal(&rt, live.roll(&rt), Ok(()));
+    equal(&rt, live.roll(&rt), Ok(()));
     let (hand, list) = listed(&rt, rt.alloc(), hand);
-    assert_eq!(rt; list.as_slice(), [(7, 7)].as_slice());
+    equal(&rt, list.as_slice(), [(7, 7)].as_slice());
     drop(hand);
-    assert_eq!(rt; live.roll(&rt), Ok(()));
+    equal(&rt, live.roll(&rt), Ok(()));
     let (set, counts) = live.close(&rt);
-    assert_eq!(rt; set.as_slice(), [(7, 7)].as_slice());
-    assert_eq!(rt; (counts.rounds, counts.inserts, counts.removals), (4, 1, 0));
+    equal(&rt, set.as_slice(), [(7, 7)].as_slice());
+    equal(
+        &rt,
+        (counts.rounds, counts.inserts, counts.removals),
+        (4, 1, 0),
+    );
     Ok(())
 }
 
@@ -200,20 +208,24 @@ fn a_trie_opens_over_the_set_that_another_closed_with(rt: HostRuntime) -> Result
     let (live, mut hands) = opened(&rt, rt.alloc(), 5, 1, 2)?;
     let mut hand = hands.pop().expect(&rt, "a handle");
     for k in 0..10 {
-        assert_eq!(rt; put(&rt, &mut hand, 3 * k, k), Ok(Outcome::Accepted));
+        equal(&rt, put(&rt, &mut hand, 3 * k, k), Ok(Outcome::Accepted));
     }
     let (set, _) = live.close(&rt);
     let Ok((live, mut hands)) = Live::<Sum, Extent>::open(&rt, rt.alloc(), set, 3, 1 << 20) else {
         panic!(rt; "not opened");
     };
-    assert_eq!(rt; hands.len(), 3);
+    equal(&rt, hands.len(), 3);
     let hand = hands.pop().expect(&rt, "a handle");
     let (_, list) = listed(&rt, rt.alloc(), hand);
-    assert_eq!(rt; list.len(), 10);
-    assert_eq!(rt; list.as_slice().first().copied(), Some((0, 0)));
+    equal(&rt, list.len(), 10);
+    equal(&rt, list.as_slice().first().copied(), Some((0, 0)));
     drop(hands);
     let (set, counts) = live.close(&rt);
-    assert_eq!(rt; (set.size(), counts.opened, counts.inserts), (10, 10, 0));
+    equal(
+        &rt,
+        (set.size(), counts.opened, counts.inserts),
+        (10, 10, 0),
+    );
     Ok(())
 }
 
@@ -227,11 +239,11 @@ fn open_refuses_numbers_in_their_order(rt: HostRuntime) -> Result<(), BeginError
         (64, 65_536, BeginError::TooLarge),
     ] {
         let opened = opened(&rt, rt.alloc(), 16, handles, updates);
-        assert_eq!(rt; opened.err(), Some(cause));
+        equal(&rt, opened.err(), Some(cause));
     }
     let (live, hands) = opened(&rt, rt.alloc(), 16, 64, 1)?;
-    assert_eq!(rt; hands.len(), 64);
-    assert_eq!(rt; live.close(&rt).0.size(), 0);
+    equal(&rt, hands.len(), 64);
+    equal(&rt, live.close(&rt).0.size(), 0);
     Ok(())
 }
 
@@ -245,7 +257,7 @@ fn a_refusal_is_printed_by_its_name(rt: HostRuntime) -> Result<(), BeginError> {
         (LiveError::NoLane, "NoLane"),
     ] {
         let text = format!(in rt.alloc(); "{cause}").expect(&rt, "memory");
-        assert_eq!(rt; text.as_str(), name);
+        equal(&rt, text.as_str(), name);
     }
     Ok(())
 }

@@ -2,6 +2,7 @@
 
 use super::opening::{Hand, Trie, insert, listed, no_keys, opened, remove};
 use aug_live::{Live, LiveError, Plan};
+use aug_testing::equal;
 use aug_trie::BeginError;
 use std::alloc::Global;
 use std::process::Abort;
@@ -12,7 +13,7 @@ fn put_in<R: Wait + Abort>(rt: &R, hand: &mut Hand, k: u32) -> bool {
     match insert(rt, hand, k) {
         Ok(done) => done,
         Err(cause) => {
-            assert_eq!(rt; cause, LiveError::OutOfMemory);
+            equal(rt, cause, LiveError::OutOfMemory);
             insert(rt, hand, k).expect(rt, "a second refusal")
         }
     }
@@ -23,7 +24,7 @@ fn take_out<R: Wait + Abort>(rt: &R, hand: &mut Hand, k: u32) -> bool {
     match remove(rt, hand, k) {
         Ok(done) => done,
         Err(cause) => {
-            assert_eq!(rt; cause, LiveError::OutOfMemory);
+            equal(rt, cause, LiveError::OutOfMemory);
             remove(rt, hand, k).expect(rt, "a second refusal")
         }
     }
@@ -37,7 +38,7 @@ fn seen<R: Wait + Abort>(rt: &R, hand: Hand) -> (Hand, u32) {
             return (look.done(), size);
         }
         Err((hand, cause)) => {
-            assert_eq!(rt; cause, LiveError::OutOfMemory);
+            equal(rt, cause, LiveError::OutOfMemory);
             hand
         }
     };
@@ -69,9 +70,10 @@ fn opened_again<R: Wait + Abort>(rt: &R, alloc: Global) -> Result<(Trie, Hand), 
     let set = match Live::open_with(rt, alloc, set, 1, plan) {
         Ok((live, mut hands)) => return Ok((live, hands.pop().expect(rt, "a handle"))),
         Err((set, cause)) => {
-            assert_eq!(rt;
+            equal(
+                rt,
                 (set.bits(), set.size(), cause),
-                (4, 0, BeginError::OutOfMemory)
+                (4, 0, BeginError::OutOfMemory),
             );
             set
         }
@@ -87,20 +89,24 @@ fn opened_again<R: Wait + Abort>(rt: &R, alloc: Global) -> Result<(Trie, Hand), 
 fn refused_memory_loses_nothing_of_a_live_trie(rt: HostRuntime) -> Result<(), BeginError> {
     let (live, mut hand) = opened_again(&rt, rt.alloc())?;
     for k in 0..5 {
-        assert_eq!(rt; put_in(&rt, &mut hand, k), true);
+        equal(&rt, put_in(&rt, &mut hand, k), true);
     }
-    assert_eq!(rt; take_out(&rt, &mut hand, 2), true);
+    equal(&rt, take_out(&rt, &mut hand, 2), true);
     let (hand, size) = seen(&rt, hand);
-    assert_eq!(rt; size, 4);
+    equal(&rt, size, 4);
     drop(hand);
     let mut hand = renewed(&rt, rt.alloc(), &live);
-    assert_eq!(rt; put_in(&rt, &mut hand, 4), false);
+    equal(&rt, put_in(&rt, &mut hand, 4), false);
     let rolled = live.roll(&rt);
     if rolled == Err(LiveError::OutOfMemory) {
-        assert_eq!(rt; live.roll(&rt), Ok(()));
+        equal(&rt, live.roll(&rt), Ok(()));
     }
     let (set, counts) = live.close(&rt);
-    assert_eq!(rt; (set.size(), counts.inserts, counts.removals), (4, 5, 1));
+    equal(
+        &rt,
+        (set.size(), counts.inserts, counts.removals),
+        (4, 5, 1),
+    );
     Ok(())
 }
 
@@ -108,20 +114,20 @@ fn refused_memory_loses_nothing_of_a_live_trie(rt: HostRuntime) -> Result<(), Be
 fn a_closed_trie_answers_so(rt: HostRuntime) -> Result<(), BeginError> {
     let (live, mut hands) = opened(&rt, rt.alloc(), 4, 2, 5)?;
     let mut hand = hands.pop().expect(&rt, "a handle");
-    assert_eq!(rt; insert(&rt, &mut hand, 9), Ok(true));
+    equal(&rt, insert(&rt, &mut hand, 9), Ok(true));
     let (hand, list) = listed(&rt, rt.alloc(), hand);
-    assert_eq!(rt; list.as_slice(), [(9, 9)].as_slice());
+    equal(&rt, list.as_slice(), [(9, 9)].as_slice());
     let mut hand = hand;
-    assert_eq!(rt; live.close(&rt).0.size(), 1);
-    assert_eq!(rt; insert(&rt, &mut hand, 8), Err(LiveError::Closed));
-    assert_eq!(rt; remove(&rt, &mut hand, 9), Err(LiveError::Closed));
+    equal(&rt, live.close(&rt).0.size(), 1);
+    equal(&rt, insert(&rt, &mut hand, 8), Err(LiveError::Closed));
+    equal(&rt, remove(&rt, &mut hand, 9), Err(LiveError::Closed));
     match hand.look(&rt) {
         Ok(look) => {
             drop(look.done());
             panic!(rt; "a look of a closed trie");
         }
         Err((_, cause)) => {
-            assert_eq!(rt; cause, LiveError::Closed);
+            equal(&rt, cause, LiveError::Closed);
         }
     }
     Ok(())

@@ -3,6 +3,7 @@
 use super::opening::{Trie, insert, listed, opened, remove};
 use super::rolling::{jobs, work};
 use aug_live::LiveError;
+use aug_testing::{equal, holds};
 use aug_trie::BeginError;
 use std::alloc::Global;
 use std::sync::Wait;
@@ -13,23 +14,27 @@ fn a_new_handle_goes_on_where_a_dropped_one_ended(rt: HostRuntime) -> Result<(),
     let (live, mut hands) = opened(&rt, rt.alloc(), 6, 2, 3)?;
     let mut hand = hands.pop().expect(&rt, "a handle");
     for k in 0..8 {
-        assert_eq!(rt; insert(&rt, &mut hand, k), Ok(true));
+        equal(&rt, insert(&rt, &mut hand, k), Ok(true));
     }
     drop(hand);
     let Ok(hand) = live.handle(&rt, rt.alloc(), 1) else {
         panic!(rt; "no handle");
     };
-    assert_eq!(rt; hand.universe(), 64);
+    equal(&rt, hand.universe(), 64);
     let (mut hand, list) = listed(&rt, rt.alloc(), hand);
-    assert_eq!(rt; list.len(), 8);
-    assert_eq!(rt; insert(&rt, &mut hand, 0), Ok(false));
+    equal(&rt, list.len(), 8);
+    equal(&rt, insert(&rt, &mut hand, 0), Ok(false));
     for k in 8..16 {
-        assert_eq!(rt; insert(&rt, &mut hand, k), Ok(true));
+        equal(&rt, insert(&rt, &mut hand, k), Ok(true));
     }
-    assert_eq!(rt; live.roll(&rt), Ok(()));
-    assert_eq!(rt; remove(&rt, &mut hand, 0), Ok(true));
+    equal(&rt, live.roll(&rt), Ok(()));
+    equal(&rt, remove(&rt, &mut hand, 0), Ok(true));
     let (set, counts) = live.close(&rt);
-    assert_eq!(rt; (set.size(), counts.inserts, counts.removals), (15, 16, 1));
+    equal(
+        &rt,
+        (set.size(), counts.inserts, counts.removals),
+        (15, 16, 1),
+    );
     Ok(())
 }
 
@@ -39,24 +44,24 @@ fn the_old_handle_of_a_lane_that_was_given_on_is_refused(
 ) -> Result<(), BeginError> {
     let (live, mut hands) = opened(&rt, rt.alloc(), 6, 1, 3)?;
     let mut old = hands.pop().expect(&rt, "a handle");
-    assert_eq!(rt; insert(&rt, &mut old, 5), Ok(true));
+    equal(&rt, insert(&rt, &mut old, 5), Ok(true));
     let Ok(mut new) = live.handle(&rt, rt.alloc(), 0) else {
         panic!(rt; "no handle");
     };
-    assert_eq!(rt; insert(&rt, &mut old, 6), Err(LiveError::Replaced));
-    assert_eq!(rt; live.roll(&rt), Ok(()));
-    assert_eq!(rt; remove(&rt, &mut old, 5), Err(LiveError::Replaced));
+    equal(&rt, insert(&rt, &mut old, 6), Err(LiveError::Replaced));
+    equal(&rt, live.roll(&rt), Ok(()));
+    equal(&rt, remove(&rt, &mut old, 5), Err(LiveError::Replaced));
     match old.look(&rt) {
         Ok(look) => {
             drop(look.done());
             panic!(rt; "a look of a lane that was given on");
         }
         Err((_, cause)) => {
-            assert_eq!(rt; cause, LiveError::Replaced);
+            equal(&rt, cause, LiveError::Replaced);
         }
     }
-    assert_eq!(rt; remove(&rt, &mut new, 5), Ok(true));
-    assert_eq!(rt; live.close(&rt).0.size(), 0);
+    equal(&rt, remove(&rt, &mut new, 5), Ok(true));
+    equal(&rt, live.close(&rt).0.size(), 0);
     Ok(())
 }
 
@@ -65,16 +70,16 @@ fn there_are_as_many_lanes_as_handles(rt: HostRuntime) -> Result<(), BeginError>
     let (live, hands) = opened(&rt, rt.alloc(), 6, 3, 3)?;
     for lane in [3, 4, u32::MAX] {
         let refused = live.handle(&rt, rt.alloc(), lane);
-        assert_eq!(rt; refused.err(), Some(LiveError::NoLane));
+        equal(&rt, refused.err(), Some(LiveError::NoLane));
     }
     drop(hands);
     for lane in 0..3 {
         let Ok(mut hand) = live.handle(&rt, rt.alloc(), lane) else {
             panic!(rt; "no handle");
         };
-        assert_eq!(rt; insert(&rt, &mut hand, lane), Ok(true));
+        equal(&rt, insert(&rt, &mut hand, lane), Ok(true));
     }
-    assert_eq!(rt; live.close(&rt).0.size(), 3);
+    equal(&rt, live.close(&rt).0.size(), 3);
     Ok(())
 }
 
@@ -105,12 +110,12 @@ fn handles_are_dropped_and_made_anew_while_others_work(rt: HostRuntime) -> Resul
         || thread::map_vec(r, jobs, &|job| work(r, job)),
         || renew_often(r, alloc, trie, 1001),
     );
-    assert!(rt; right);
+    holds(&rt, right);
     let mut sum = 1u64;
     for did in done.expect(r, "memory") {
-        assert!(rt; did.right && !did.closed);
+        holds(&rt, did.right && !did.closed);
         sum = sum.saturating_add(did.inserts).saturating_sub(did.removals);
     }
-    assert_eq!(rt; u64::from(live.close(r).0.size()), sum);
+    equal(&rt, u64::from(live.close(r).0.size()), sum);
     Ok(())
 }

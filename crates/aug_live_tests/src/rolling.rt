@@ -3,6 +3,7 @@
 use super::opening::{Hand, insert, opened, remove};
 use aug_live::LiveError;
 use aug_model::KeySet;
+use aug_testing::{equal, holds};
 use aug_trie::BeginError;
 use std::alloc::Global;
 use std::process::Abort;
@@ -144,14 +145,14 @@ fn four_threads_see_their_own_updates_in_every_round(rt: HostRuntime) -> Result<
     let mut sum = 0u64;
     let mut inserts = 0u64;
     for did in done {
-        assert!(rt; did.right && !did.closed);
+        holds(&rt, did.right && !did.closed);
         inserts = inserts.saturating_add(did.inserts);
         sum = sum.saturating_add(did.inserts).saturating_sub(did.removals);
     }
     let (set, counts) = live.close(r);
-    assert_eq!(rt; u64::from(set.size()), sum);
-    assert_eq!(rt; counts.inserts, inserts);
-    assert!(rt; counts.rounds >= 200);
+    equal(&rt, u64::from(set.size()), sum);
+    equal(&rt, counts.inserts, inserts);
+    holds(&rt, counts.rounds >= 200);
     Ok(())
 }
 
@@ -164,10 +165,10 @@ fn a_thread_with_few_updates_rolls_over_an_idle_one(rt: HostRuntime) -> Result<(
     let jobs = jobs(r, rt.alloc(), hands, 200);
     let done = thread::map_vec(r, jobs, &|job| work(r, job)).expect(r, "memory");
     for did in done {
-        assert!(rt; did.right && !did.closed);
+        holds(&rt, did.right && !did.closed);
     }
     drop(idle);
-    assert!(rt; live.close(r).1.rounds >= 200);
+    holds(&rt, live.close(r).1.rounds >= 200);
     Ok(())
 }
 
@@ -183,9 +184,9 @@ fn a_trie_is_closed_while_others_work(rt: HostRuntime) -> Result<(), BeginError>
     );
     let mut sum = 0u64;
     for did in done.expect(r, "memory") {
-        assert!(rt; did.right && did.closed);
+        holds(&rt, did.right && did.closed);
         sum = sum.saturating_add(did.inserts).saturating_sub(did.removals);
     }
-    assert_eq!(rt; u64::from(closed.0.size()), sum);
+    equal(&rt, u64::from(closed.0.size()), sum);
     Ok(())
 }

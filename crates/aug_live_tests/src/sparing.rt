@@ -3,6 +3,7 @@
 use super::opening::{Hand, Trie, insert, listed, no_keys, opened_with};
 use super::rolling::{jobs, work};
 use aug_live::{Live, Plan};
+use aug_testing::{equal, holds};
 use aug_trie::BeginError;
 use std::process::Abort;
 use std::sync::Wait;
@@ -11,7 +12,7 @@ use std::thread;
 // Puts `count` keys in, from the key `from` on; none of them is a member yet.
 fn fill<R: Wait + Abort>(rt: &R, hand: &mut Hand, from: u32, count: u32) {
     for k in from..from.saturating_add(count) {
-        assert_eq!(rt; insert(rt, hand, k), Ok(true));
+        equal(rt, insert(rt, hand, k), Ok(true));
     }
 }
 
@@ -22,13 +23,14 @@ fn a_round_rolls_over_once_no_spare_lane_is_left(rt: HostRuntime) -> Result<(), 
         let mut hand = hands.pop().expect(&rt, "a handle");
         fill(&rt, &mut hand, 0, 21 + extra);
         let (hand, list) = listed(&rt, rt.alloc(), hand);
-        assert_eq!(rt; list.len(), 21 + extra as usize);
+        equal(&rt, list.len(), 21 + extra as usize);
         drop(hand);
         let (set, counts) = live.close(&rt);
-        assert_eq!(rt; set.size(), 21 + extra);
-        assert_eq!(rt;
+        equal(&rt, set.size(), 21 + extra);
+        equal(
+            &rt,
             (counts.rounds, counts.inserts),
-            (1 + u64::from(extra), 21 + u64::from(extra))
+            (1 + u64::from(extra), 21 + u64::from(extra)),
         );
     }
     Ok(())
@@ -44,13 +46,13 @@ fn a_look_holds_no_spare_lane_up(rt: HostRuntime) -> Result<(), BeginError> {
         panic!(&rt; "no look");
     };
     fill(&rt, &mut hand, 2, 10);
-    assert_eq!(rt; look.size(), 2);
+    equal(&rt, look.size(), 2);
     look.again();
-    assert_eq!(rt; look.size(), 12);
+    equal(&rt, look.size(), 12);
     let mut other = look.done();
     fill(&rt, &mut other, 20, 4);
     let (set, counts) = live.close(&rt);
-    assert_eq!(rt; (set.size(), counts.rounds), (16, 1));
+    equal(&rt, (set.size(), counts.rounds), (16, 1));
     Ok(())
 }
 
@@ -63,7 +65,7 @@ fn a_new_handle_goes_on_with_spare_lanes(rt: HostRuntime) -> Result<(), BeginErr
     let mut first = hands.pop().expect(&rt, "the first handle");
     fill(&rt, &mut first, 10, 2);
     let (set, counts) = live.close(&rt);
-    assert_eq!(rt; (set.size(), counts.rounds), (8, 1));
+    equal(&rt, (set.size(), counts.rounds), (8, 1));
     Ok(())
 }
 
@@ -75,13 +77,13 @@ fn four_threads_share_spare_lanes(rt: HostRuntime) -> Result<(), BeginError> {
     let done = thread::map_vec(r, jobs, &|job| work(r, job)).expect(r, "memory");
     let mut sum = 0u64;
     for did in done {
-        assert!(rt; did.right && !did.closed);
+        holds(&rt, did.right && !did.closed);
         sum = sum.saturating_add(did.inserts).saturating_sub(did.removals);
     }
     let (set, counts) = live.close(r);
-    assert_eq!(rt; u64::from(set.size()), sum);
+    equal(&rt, u64::from(set.size()), sum);
     // 80,000 calls. A round has room for 4,000, and uses all of them except those of lanes that were not spent at its end.
-    assert!(rt; counts.rounds >= 20 && counts.rounds <= 26);
+    holds(&rt, counts.rounds >= 20 && counts.rounds <= 26);
     Ok(())
 }
 
@@ -109,18 +111,18 @@ fn a_plan_uses_the_memory_that_there_is(rt: HostRuntime) {
                 },
             )
             .saturating_mul(8);
-            assert_eq!(rt; Plan::new(bits, handles, least.saturating_sub(1)), None);
-            assert!(rt; Plan::new(bits, handles, least).is_some());
+            equal(&rt, Plan::new(bits, handles, least.saturating_sub(1)), None);
+            holds(&rt, Plan::new(bits, handles, least).is_some());
             let mut memory = 1024u64;
             for _ in 0..30 {
                 memory = memory.saturating_mul(2);
                 match Plan::new(bits, handles, memory) {
-                    None => assert!(rt; memory < least),
+                    None => holds(&rt, memory < least),
                     Some(plan) => {
                         let words = words_of(bits, plan);
-                        assert!(rt; words.saturating_mul(8) <= memory);
-                        assert!(rt; plan.lanes >= handles && plan.lanes <= 64);
-                        assert!(rt; plan.lanes == handles || plan.updates >= 256);
+                        holds(&rt, words.saturating_mul(8) <= memory);
+                        holds(&rt, plan.lanes >= handles && plan.lanes <= 64);
+                        holds(&rt, plan.lanes == handles || plan.updates >= 256);
                         let more = words.saturating_add(
                             u64::from(plan.lanes)
                                 .saturating_mul(5)
@@ -129,19 +131,20 @@ fn a_plan_uses_the_memory_that_there_is(rt: HostRuntime) {
                         );
                         let spent = more.saturating_mul(8) > memory || more > 1 << 26;
                         let full = plan.lanes == 64 && plan.updates == 65_536;
-                        assert!(rt; spent || full);
+                        holds(&rt, spent || full);
                     }
                 }
             }
         }
     }
     let plan = Plan::new(16, 4, 64 << 20);
-    assert_eq!(rt;
+    equal(
+        &rt,
         plan,
         Some(Plan {
             lanes: 64,
-            updates: 1548
-        })
+            updates: 1548,
+        }),
     );
 }
 
@@ -163,7 +166,7 @@ fn a_trie_opens_within_the_memory_of_a_table(rt: HostRuntime) -> Result<(), Begi
         match opened {
             Ok(_) => panic!(&rt; "opened"),
             Err((set, why)) => {
-                assert_eq!(rt; (set.bits(), why), (6, cause));
+                equal(&rt, (set.bits(), why), (6, cause));
             }
         }
     }
@@ -177,10 +180,10 @@ fn a_trie_opens_within_the_memory_of_a_table(rt: HostRuntime) -> Result<(), Begi
     let Ok((live, mut hands)) = opened else {
         panic!(&rt; "not opened");
     };
-    assert_eq!(rt; hands.len(), 4);
+    equal(&rt, hands.len(), 4);
     let mut hand = hands.pop().expect(&rt, "a handle");
     fill(&rt, &mut hand, 0, 64);
     let (set, counts) = live.close(&rt);
-    assert_eq!(rt; (set.size(), counts.rounds), (64, 1));
+    equal(&rt, (set.size(), counts.rounds), (64, 1));
     Ok(())
 }

@@ -32,22 +32,3 @@ impl From<AllocError> for ModelError {
         Self::OutOfMemory
     }
 }
-
-#[cfg(test)]
-mod tests {
-    use super::*;
-    use std::test::Fail;
-
-    #[test]
-    fn says_its_cause_and_its_number(rt: HostRuntime) -> Result<(), Fail> {
-        let bad_bits = format!(in rt.alloc(); "{}", ModelError::BadBits)?;
-        assert_eq!(rt; bad_bits.as_str(), "the number of bits is not from 1 to 16");
-        let out_of_memory = format!(in rt.alloc(); "{}", ModelError::OutOfMemory)?;
-        assert_eq!(rt; out_of_memory.as_str(), "out of memory");
-        assert_eq!(rt;
-            (ModelError::BadBits as u8, ModelError::OutOfMemory as u8),
-            (1, 2)
-        );
-        Ok(())
-    }
-}

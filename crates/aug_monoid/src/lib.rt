@@ -19,6 +19,3 @@ pub use least::Least;
 pub use monoid::Monoid;
 pub use nothing::Nothing;
 pub use sum::Sum;
-
-#[cfg(test)]
-mod tests;

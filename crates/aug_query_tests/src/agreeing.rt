@@ -1,8 +1,8 @@
 //! Trees of many sets, asked beside the plain set.
-use super::last::Last;
 use aug_model::{KeySet, ModelError};
 use aug_monoid::Sum;
 use aug_query::{FakeTree, after, before, has, keys, pairs, range, rank, select, size, weight};
+use aug_testing::{Last, equal, equal_at, holds_at};
 use std::alloc::{AllocError, Global};
 use std::process::Abort;
 use std::test::Fail;
@@ -75,16 +75,18 @@ fn assert_agrees(
 ) -> Result<(), Fail> {
     let set = set_of_rests(alloc, bits, divisor, rest)?;
     let mut tree = tree_of(alloc, &set)?;
-    assert!(rt;
+    holds_at(
+        rt,
         lists(alloc, &mut tree, &set)?,
-        "{rest} by {divisor}, {bits} bits"
+        format_args!("{rest} by {divisor}, {bits} bits"),
     );
-    assert_eq!(rt; size(&mut tree), set.size());
-    assert_eq!(rt; range(&mut tree, 0, 65536), set.range(0, 65536));
+    equal(rt, size(&mut tree), set.size());
+    equal(rt, range(&mut tree, 0, 65536), set.range(0, 65536));
     for k in [0, 1, 2, 32_767, 65_535, 65_536] {
-        assert!(rt;
+        holds_at(
+            rt,
             agrees_at(&mut tree, &set, k),
-            "{k} in {rest} by {divisor}, {bits} bits"
+            format_args!("{k} in {rest} by {divisor}, {bits} bits"),
         );
     }
     Ok(())
@@ -124,15 +126,29 @@ fn every_query_agrees_with_the_plain_set(rt: HostRuntime) -> Result<(), Fail> {
     for code in 0..16u32 {
         let set = set_of(rt.alloc(), code)?;
         let mut tree = tree_of(rt.alloc(), &set)?;
-        assert!(rt; lists(rt.alloc(), &mut tree, &set)?, "lists of {code}");
-        assert_eq!(rt; size(&mut tree), set.size(), "size of {code}");
+        holds_at(
+            &rt,
+            lists(rt.alloc(), &mut tree, &set)?,
+            format_args!("lists of {code}"),
+        );
+        equal_at(
+            &rt,
+            size(&mut tree),
+            set.size(),
+            format_args!("size of {code}"),
+        );
         for a in 0..6 {
-            assert!(rt; agrees_at(&mut tree, &set, a), "{a} in {code}");
+            holds_at(
+                &rt,
+                agrees_at(&mut tree, &set, a),
+                format_args!("{a} in {code}"),
+            );
             for b in 0..6 {
-                assert_eq!(rt;
+                equal_at(
+                    &rt,
                     range(&mut tree, a, b),
                     set.range(a, b),
-                    "{a} to {b} in {code}"
+                    format_args!("{a} to {b} in {code}"),
                 );
             }
         }
@@ -156,10 +172,11 @@ fn set_of_least(alloc: Global, wanted: u32, members: u32) -> Result<KeySet, Mode
 fn assert_lists(rt: &impl Abort, alloc: Global, bits: u32, members: u32) -> Result<(), Fail> {
     let set = set_of_least(alloc, bits, members)?;
     let mut tree = tree_of(alloc, &set)?;
-    assert_eq!(rt; (size(&mut tree), set.size()), (members, members));
-    assert!(rt;
+    equal(rt, (size(&mut tree), set.size()), (members, members));
+    holds_at(
+        rt,
         lists(alloc, &mut tree, &set)?,
-        "{members} members of {bits} bits"
+        format_args!("{members} members of {bits} bits"),
     );
     Ok(())
 }

@@ -1,7 +1,7 @@
 //! The queries on a tree of two keys, and how often they ask for memory.
-use super::last::Last;
 use aug_monoid::{Extent, Sum};
 use aug_query::{FakeTree, after, before, has, keys, pairs, range, rank, select, size, weight};
+use aug_testing::{Last, equal};
 use std::alloc::{AllocError, Global};
 use std::test::Fail;
 
@@ -14,9 +14,9 @@ fn five_and_nine(alloc: Global) -> Result<FakeTree<Last, Extent>, AllocError> {
 fn a_range_joins_in_rising_order(rt: HostRuntime) -> Result<(), Fail> {
     let mut tree = five_and_nine(rt.alloc())?;
     let whole = range(&mut tree, 0, 16);
-    assert_eq!(rt; whole.count, 2);
-    assert_eq!(rt; whole.a.value(), Some(9));
-    assert_eq!(rt; whole.b.bounds(), Some((5, 9)));
+    equal(&rt, whole.count, 2);
+    equal(&rt, whole.a.value(), Some(9));
+    equal(&rt, whole.b.bounds(), Some((5, 9)));
     Ok(())
 }
 
@@ -24,25 +24,25 @@ fn a_range_joins_in_rising_order(rt: HostRuntime) -> Result<(), Fail> {
 fn a_range_leaves_its_end_out(rt: HostRuntime) -> Result<(), Fail> {
     let mut tree = five_and_nine(rt.alloc())?;
     let front = range(&mut tree, 0, 9);
-    assert_eq!(rt; front.count, 1);
-    assert_eq!(rt; front.a.value(), Some(5));
+    equal(&rt, front.count, 1);
+    equal(&rt, front.a.value(), Some(5));
     Ok(())
 }
 
 #[test]
 fn ranks_past_the_keys_count_every_member(rt: HostRuntime) -> Result<(), Fail> {
     let mut tree = five_and_nine(rt.alloc())?;
-    assert_eq!(rt; rank(&mut tree, 16), 2);
-    assert_eq!(rt; rank(&mut tree, 4_000_000_000), 2);
+    equal(&rt, rank(&mut tree, 16), 2);
+    equal(&rt, rank(&mut tree, 4_000_000_000), 2);
     Ok(())
 }
 
 #[test]
 fn nothing_is_past_the_last_member_or_before_the_first(rt: HostRuntime) -> Result<(), Fail> {
     let mut tree = five_and_nine(rt.alloc())?;
-    assert_eq!(rt; select(&mut tree, 2), None);
-    assert_eq!(rt; before(&mut tree, 5), None);
-    assert_eq!(rt; after(&mut tree, 9), None);
+    equal(&rt, select(&mut tree, 2), None);
+    equal(&rt, before(&mut tree, 5), None);
+    equal(&rt, after(&mut tree, 9), None);
     Ok(())
 }
 
@@ -50,24 +50,24 @@ fn nothing_is_past_the_last_member_or_before_the_first(rt: HostRuntime) -> Resul
 fn keys_lists_the_members(rt: HostRuntime) -> Result<(), Fail> {
     let mut tree = five_and_nine(rt.alloc())?;
     let list = keys(rt.alloc(), &mut tree)?;
-    assert_eq!(rt; list.as_slice(), [5, 9].as_slice());
+    equal(&rt, list.as_slice(), [5, 9].as_slice());
     Ok(())
 }
 
 #[test]
 fn members_weigh_what_they_were_given(rt: HostRuntime) -> Result<(), Fail> {
     let mut tree = five_and_nine(rt.alloc())?;
-    assert_eq!(rt; weight(&mut tree, 5), Some(70));
-    assert_eq!(rt; weight(&mut tree, 9), Some(30));
+    equal(&rt, weight(&mut tree, 5), Some(70));
+    equal(&rt, weight(&mut tree, 9), Some(30));
     Ok(())
 }
 
 #[test]
 fn what_is_no_member_has_no_weight(rt: HostRuntime) -> Result<(), Fail> {
     let mut tree = five_and_nine(rt.alloc())?;
-    assert_eq!(rt; weight(&mut tree, 6), None);
-    assert_eq!(rt; weight(&mut tree, 16), None);
-    assert_eq!(rt; weight(&mut tree, 4_000_000_000), None);
+    equal(&rt, weight(&mut tree, 6), None);
+    equal(&rt, weight(&mut tree, 16), None);
+    equal(&rt, weight(&mut tree, 4_000_000_000), None);
     Ok(())
 }
 
@@ -75,7 +75,7 @@ fn what_is_no_member_has_no_weight(rt: HostRuntime) -> Result<(), Fail> {
 fn pairs_lists_the_members_with_their_weights(rt: HostRuntime) -> Result<(), Fail> {
     let mut tree = five_and_nine(rt.alloc())?;
     let list = pairs(rt.alloc(), &mut tree)?;
-    assert_eq!(rt; list.as_slice(), [(5, 70), (9, 30)].as_slice());
+    equal(&rt, list.as_slice(), [(5, 70), (9, 30)].as_slice());
     Ok(())
 }
 
@@ -83,8 +83,8 @@ fn pairs_lists_the_members_with_their_weights(rt: HostRuntime) -> Result<(), Fai
 fn a_range_adds_weights_past_32_bits(rt: HostRuntime) -> Result<(), Fail> {
     let members = [(5, u32::MAX), (9, u32::MAX)];
     let mut tree = FakeTree::<Sum, Extent>::try_new(rt.alloc(), 4, &members)?;
-    assert_eq!(rt; range(&mut tree, 0, 9).a.value(), 4_294_967_295);
-    assert_eq!(rt; range(&mut tree, 0, 16).a.value(), 8_589_934_590);
+    equal(&rt, range(&mut tree, 0, 9).a.value(), 4_294_967_295);
+    equal(&rt, range(&mut tree, 0, 16).a.value(), 8_589_934_590);
     Ok(())
 }
 
@@ -98,23 +98,24 @@ fn refused_memory_changes_no_answer(rt: HostRuntime) -> Result<(), Fail> {
     let list = match keys(rt.alloc(), &mut tree) {
         Ok(list) => list,
         Err(_) => {
-            assert_eq!(rt; (size(&mut tree), rank(&mut tree, 9)), (2, 1));
-            assert_eq!(rt; (has(&mut tree, 9), has(&mut tree, 6)), (true, false));
+            equal(&rt, (size(&mut tree), rank(&mut tree, 9)), (2, 1));
+            equal(&rt, (has(&mut tree, 9), has(&mut tree, 6)), (true, false));
             keys(rt.alloc(), &mut tree)?
         }
     };
-    assert_eq!(rt; list.as_slice(), [5, 9].as_slice());
+    equal(&rt, list.as_slice(), [5, 9].as_slice());
     let weighted = match pairs(rt.alloc(), &mut tree) {
         Ok(weighted) => weighted,
         Err(_) => {
-            assert_eq!(rt;
+            equal(
+                &rt,
                 (weight(&mut tree, 9), weight(&mut tree, 6)),
-                (Some(30), None)
+                (Some(30), None),
             );
             pairs(rt.alloc(), &mut tree)?
         }
     };
-    assert_eq!(rt; weighted.as_slice(), [(5, 70), (9, 30)].as_slice());
+    equal(&rt, weighted.as_slice(), [(5, 70), (9, 30)].as_slice());
     Ok(())
 }
 
@@ -122,14 +123,19 @@ fn refused_memory_changes_no_answer(rt: HostRuntime) -> Result<(), Fail> {
 #[test]
 fn the_queries_of_a_tree_of_4_bits_ask_7_times_for_memory(rt: HostRuntime) -> Result<(), Fail> {
     let mut tree = five_and_nine(rt.alloc())?;
-    assert_eq!(rt; (size(&mut tree), rank(&mut tree, 9)), (2, 1));
-    assert_eq!(rt; (has(&mut tree, 9), weight(&mut tree, 9)), (true, Some(30)));
-    assert_eq!(rt; select(&mut tree, 1), Some(9));
-    assert_eq!(rt;
-        (before(&mut tree, 9), after(&mut tree, 5)),
-        (Some(5), Some(9))
+    equal(&rt, (size(&mut tree), rank(&mut tree, 9)), (2, 1));
+    equal(
+        &rt,
+        (has(&mut tree, 9), weight(&mut tree, 9)),
+        (true, Some(30)),
     );
-    assert_eq!(rt; range(&mut tree, 0, 16).count, 2);
+    equal(&rt, select(&mut tree, 1), Some(9));
+    equal(
+        &rt,
+        (before(&mut tree, 9), after(&mut tree, 5)),
+        (Some(5), Some(9)),
+    );
+    equal(&rt, range(&mut tree, 0, 16).count, 2);
     Ok(())
 }
 
@@ -139,7 +145,7 @@ fn the_lists_of_a_tree_of_4_bits_ask_9_times_for_memory(rt: HostRuntime) -> Resu
     let mut tree = five_and_nine(rt.alloc())?;
     let list = keys(rt.alloc(), &mut tree)?;
     let weighted = pairs(rt.alloc(), &mut tree)?;
-    assert_eq!(rt; list.as_slice(), [5, 9].as_slice());
-    assert_eq!(rt; weighted.as_slice(), [(5, 70), (9, 30)].as_slice());
+    equal(&rt, list.as_slice(), [5, 9].as_slice());
+    equal(&rt, weighted.as_slice(), [(5, 70), (9, 30)].as_slice());
     Ok(())
 }

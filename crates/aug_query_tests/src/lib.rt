@@ -7,5 +7,3 @@ mod agreeing;
 mod batches;
 #[cfg(test)]
 mod examples;
-#[cfg(test)]
-mod last;

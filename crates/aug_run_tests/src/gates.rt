@@ -3,6 +3,7 @@
 use crate::rounds::report_of;
 use aug_run::Gate;
 use aug_script::Reply;
+use aug_testing::{equal, equal_at, holds};
 use std::alloc::{AllocError, Global};
 use std::process::Abort;
 use std::sync::atomic::AtomicU64;
@@ -85,8 +86,8 @@ fn the_lanes_run_at_the_same_time(rt: HostRuntime) -> Result<(), Fail> {
         };
         let text = looks_in_turn(rt.alloc(), lanes)?;
         let run = report_of(&rt, rt.alloc(), lanes, text.as_str(), &gate)?;
-        assert!(rt; run.is_some());
-        assert_eq!(rt; gate.meeting.missed(), 0);
+        holds(&rt, run.is_some());
+        equal(&rt, gate.meeting.missed(), 0);
     }
     Ok(())
 }
@@ -133,11 +134,11 @@ impl Gate for Told {
 fn the_gate_is_told_of_each_row(rt: HostRuntime) -> Result<(), Fail> {
     let gate = Told::of_no_row(rt.alloc(), 4)?;
     let run = report_of(&rt, rt.alloc(), 4, "3,insert,1\n3,look\n3,size\n", &gate)?;
-    assert!(rt; run.is_some());
+    holds(&rt, run.is_some());
     for lane in 0..3u32 {
-        assert_eq!(rt; gate.of_lane(lane), Some(0));
+        equal(&rt, gate.of_lane(lane), Some(0));
     }
-    assert_eq!(rt; gate.of_lane(3), Some(2_003_004_005_006_007));
+    equal(&rt, gate.of_lane(3), Some(2_003_004_005_006_007));
     Ok(())
 }
 
@@ -146,11 +147,11 @@ fn the_gate_is_told_of_each_lane(rt: HostRuntime) -> Result<(), Fail> {
     let gate = Told::of_no_row(rt.alloc(), 64)?;
     let text = looks_in_turn(rt.alloc(), 64)?;
     let run = report_of(&rt, rt.alloc(), 64, text.as_str(), &gate)?;
-    assert!(rt; run.is_some());
+    holds(&rt, run.is_some());
     // The rows of lane 0 are 1, 65 and 129, and a lane's are one more each than those of the lane before it.
     let mut calls = 2_003_130_131_258_259u64;
     for lane in 0..64u32 {
-        assert_eq!(rt; gate.of_lane(lane), Some(calls), "{lane}");
+        equal_at(&rt, gate.of_lane(lane), Some(calls), format_args!("{lane}"));
         calls = calls.wrapping_add(2_002_002_002_002_002);
     }
     Ok(())
@@ -192,7 +193,7 @@ fn a_row_runs_between_its_two_calls(rt: HostRuntime) -> Result<(), Fail> {
     let text = "0,look\n0,insert,5\n1,insert,5\n1,has,5\n1,look\n1,has,5\n";
     let run = report_of(&rt, rt.alloc(), 2, text, &gate)?;
     let report = run.expect(&rt, "a report");
-    assert_eq!(rt; gate.meeting.missed(), 0);
+    equal(&rt, gate.meeting.missed(), 0);
     // Lane 1 took its first snapshot before lane 0 put the key in.
     let expected = [
         Reply::Looked,
@@ -203,6 +204,6 @@ fn a_row_runs_between_its_two_calls(rt: HostRuntime) -> Result<(), Fail> {
         Reply::Yes,
     ];
     let replies = report.rows.as_slice().iter().map(|line| line.1);
-    assert!(rt; replies.eq(expected));
+    holds(&rt, replies.eq(expected));
     Ok(())
 }

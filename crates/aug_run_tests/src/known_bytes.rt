@@ -5,6 +5,7 @@ use crate::test_input::TestInput;
 use aug_report::one_list;
 use aug_run::{Options, carry_out};
 use aug_script::{Limits, MemorySink};
+use aug_testing::equal;
 use std::alloc::Global;
 use std::sync::Wait;
 use std::test::Fail;
@@ -29,7 +30,7 @@ fn run_known_bytes<R: Threads + Wait>(rt: &R, alloc: Global) -> Option<(u8, Memo
 fn known_bytes_come_to_a_known_output(rt: HostRuntime) -> Result<(), Fail> {
     let left = run_known_bytes(&rt, rt.alloc());
     let (status, output) = left.expect(&rt, "limits");
-    assert_eq!(rt; status, 0);
-    assert_eq!(rt; output.finished, 1);
+    equal(&rt, status, 0);
+    equal(&rt, output.finished, 1);
     Ok(())
 }

@@ -2,6 +2,7 @@
 use crate::test_input::TestInput;
 use aug_run::{Stop, carry_out, options};
 use aug_script::MemorySink;
+use aug_testing::{equal, holds};
 use std::alloc::{AllocError, Global};
 use std::sync::Wait;
 use std::test::Fail;
@@ -45,20 +46,23 @@ fn run_line<R: Threads + Wait>(
 #[test]
 fn help_goes_to_the_output(rt: HostRuntime) -> Result<(), Fail> {
     let left = run_line(&rt, rt.alloc(), "--help a.csv", None, None)?;
-    assert_eq!(rt; left.status, 0);
-    assert!(rt; left.output.out.starts_with(b"Runs a script"));
-    assert_eq!(rt; (left.output.finished, left.errors.calls), (1, 0));
-    assert_eq!(rt; left.opened, 0);
+    equal(&rt, left.status, 0);
+    holds(&rt, left.output.out.starts_with(b"Runs a script"));
+    equal(&rt, (left.output.finished, left.errors.calls), (1, 0));
+    equal(&rt, left.opened, 0);
     Ok(())
 }
 
 #[test]
 fn wrong_words_are_told_before_the_file_is_opened(rt: HostRuntime) -> Result<(), Fail> {
     let left = run_line(&rt, rt.alloc(), "--bits 17 a.csv", None, None)?;
-    assert_eq!(rt; left.status, 2);
-    assert!(rt; left.errors.out.starts_with(b"error: invalid value '17'"));
-    assert_eq!(rt; (left.output.calls, left.errors.finished), (0, 1));
-    assert_eq!(rt; left.opened, 0);
+    equal(&rt, left.status, 2);
+    holds(
+        &rt,
+        left.errors.out.starts_with(b"error: invalid value '17'"),
+    );
+    equal(&rt, (left.output.calls, left.errors.finished), (0, 1));
+    equal(&rt, left.opened, 0);
     Ok(())
 }
 
@@ -69,10 +73,10 @@ fn a_script_comes_from_standard_input_or_the_file(rt: HostRuntime) -> Result<(),
         ("a.csv", "1 0 size = 0\n1 end size=0 in=0 out=0\n", 1),
     ] {
         let left = run_line(&rt, rt.alloc(), line, None, None)?;
-        assert_eq!(rt; left.status, 0);
-        assert_eq!(rt; left.output.out.as_slice(), text.as_bytes());
-        assert_eq!(rt; (left.output.finished, left.errors.calls), (1, 0));
-        assert_eq!(rt; left.opened, opened);
+        equal(&rt, left.status, 0);
+        equal(&rt, left.output.out.as_slice(), text.as_bytes());
+        equal(&rt, (left.output.finished, left.errors.calls), (1, 0));
+        equal(&rt, left.opened, opened);
     }
     Ok(())
 }
@@ -80,18 +84,26 @@ fn a_script_comes_from_standard_input_or_the_file(rt: HostRuntime) -> Result<(),
 #[test]
 fn a_file_that_is_not_there_is_a_fault_of_the_input(rt: HostRuntime) -> Result<(), Fail> {
     let left = run_line(&rt, rt.alloc(), "b.csv", None, None)?;
-    assert_eq!(rt; left.status, 3);
-    assert_eq!(rt; left.errors.out.as_slice(), b"augtrie: input\n".as_slice());
-    assert_eq!(rt; left.output.calls, 0);
+    equal(&rt, left.status, 3);
+    equal(
+        &rt,
+        left.errors.out.as_slice(),
+        b"augtrie: input\n".as_slice(),
+    );
+    equal(&rt, left.output.calls, 0);
     Ok(())
 }
 
 #[test]
 fn a_report_that_cannot_be_written_is_told(rt: HostRuntime) -> Result<(), Fail> {
     let left = run_line(&rt, rt.alloc(), "", Some(1), None)?;
-    assert_eq!(rt; left.status, 3);
-    assert_eq!(rt; left.output.out.as_slice(), b"1 0 loo".as_slice());
-    assert_eq!(rt; left.errors.out.as_slice(), b"augtrie: output\n".as_slice());
+    equal(&rt, left.status, 3);
+    equal(&rt, left.output.out.as_slice(), b"1 0 loo".as_slice());
+    equal(
+        &rt,
+        left.errors.out.as_slice(),
+        b"augtrie: output\n".as_slice(),
+    );
     Ok(())
 }
 
@@ -99,8 +111,11 @@ fn a_report_that_cannot_be_written_is_told(rt: HostRuntime) -> Result<(), Fail> 
 fn a_text_that_cannot_be_written_changes_no_status(rt: HostRuntime) -> Result<(), Fail> {
     for (line, status) in [("--help", 0), ("--bits 17", 2), ("b.csv", 3)] {
         let left = run_line(&rt, rt.alloc(), line, Some(0), Some(0))?;
-        assert_eq!(rt; left.status, status);
-        assert!(rt; left.output.out.is_empty() && left.errors.out.is_empty());
+        equal(&rt, left.status, status);
+        holds(
+            &rt,
+            left.output.out.is_empty() && left.errors.out.is_empty(),
+        );
     }
     Ok(())
 }
@@ -122,8 +137,8 @@ fn limits_and_memory_have_lines_of_their_own(rt: HostRuntime) {
             &mut output,
             &mut errors,
         );
-        assert_eq!(rt; found, status);
-        assert_eq!(rt; errors.out.as_slice(), line.as_bytes());
-        assert_eq!(rt; output.calls, 0);
+        equal(&rt, found, status);
+        equal(&rt, errors.out.as_slice(), line.as_bytes());
+        equal(&rt, output.calls, 0);
     }
 }

@@ -1,6 +1,7 @@
 //! Sources that are read to their end, or to the limit of a script.
 use aug_run::{ReadError, read_all};
 use aug_script::MemorySource;
+use aug_testing::{equal, equal_at};
 use std::alloc::Global;
 use std::test::Fail;
 
@@ -8,8 +9,8 @@ use std::test::Fail;
 fn reads_to_the_end_byte_by_byte(rt: HostRuntime) -> Result<(), Fail> {
     let mut source = MemorySource::new(b"abc", 1, None);
     let bytes = read_all(rt.alloc(), &mut source).ok().ok_or("no bytes")?;
-    assert_eq!(rt; bytes.as_slice(), b"abc".as_slice());
-    assert_eq!(rt; source.calls, 4);
+    equal(&rt, bytes.as_slice(), b"abc".as_slice());
+    equal(&rt, source.calls, 4);
     Ok(())
 }
 
@@ -18,8 +19,13 @@ fn a_fault_is_not_the_end(rt: HostRuntime) {
     for fault_at in [0, 2, 3] {
         let mut source = MemorySource::new(b"abc", 1, Some(fault_at));
         let error = read_all(rt.alloc(), &mut source).err();
-        assert_eq!(rt; error, Some(ReadError::Input), "at {fault_at}");
-        assert_eq!(rt; source.calls, fault_at + 1);
+        equal_at(
+            &rt,
+            error,
+            Some(ReadError::Input),
+            format_args!("at {fault_at}"),
+        );
+        equal(&rt, source.calls, fault_at + 1);
     }
 }
 
@@ -28,14 +34,15 @@ fn one_byte_past_the_limit_is_too_long(rt: HostRuntime) -> Result<(), Fail> {
     let mut bytes = vec![in rt.alloc(); 0; 16_777_216]?;
     let mut source = MemorySource::new(bytes.as_slice(), usize::MAX, None);
     let read = read_all(rt.alloc(), &mut source).ok().ok_or("no bytes")?;
-    assert_eq!(rt; read.len(), 16_777_216);
+    equal(&rt, read.len(), 16_777_216);
     bytes.extend_from_slice(&[0; 3])?;
     let mut source = MemorySource::new(bytes.as_slice(), usize::MAX, None);
-    assert_eq!(rt;
+    equal(
+        &rt,
         read_all(rt.alloc(), &mut source).err(),
-        Some(ReadError::TooLong)
+        Some(ReadError::TooLong),
     );
-    assert_eq!(rt; source.rest.len(), 2);
+    equal(&rt, source.rest.len(), 2);
     Ok(())
 }
 
@@ -52,10 +59,10 @@ fn refused_memory_is_told_by_reading_all(rt: HostRuntime) -> Result<(), Fail> {
     let bytes = match bytes_of(rt.alloc(), b"abc") {
         Ok(bytes) => bytes,
         Err(error) => {
-            assert_eq!(rt; error, ReadError::OutOfMemory);
+            equal(&rt, error, ReadError::OutOfMemory);
             bytes_of(rt.alloc(), b"abc").ok().ok_or("no bytes")?
         }
     };
-    assert_eq!(rt; bytes.as_slice(), b"abc".as_slice());
+    equal(&rt, bytes.as_slice(), b"abc".as_slice());
     Ok(())
 }

@@ -3,6 +3,7 @@ use crate::plain::plain_replies;
 use aug_query::pairs;
 use aug_run::{Gate, Open, Trie, run_round};
 use aug_script::{Limits, Reply, Report, Script, Verb};
+use aug_testing::{equal, holds_at};
 use aug_trie::Ended;
 use std::alloc::{AllocError, Global};
 use std::process::Abort;
@@ -61,17 +62,21 @@ const THREE_LANES: &str =
 fn three_lanes<R: Threads + Wait + Abort>(rt: &R, alloc: Global) -> Result<(), AllocError> {
     let run = report_of(rt, alloc, 3, THREE_LANES, &Open)?;
     let report = run.expect(rt, "a report");
-    assert_eq!(rt; report.number, 1);
-    assert_eq!(rt; (report.size, report.inserts, report.removals), (12, 12, 0));
-    assert_eq!(rt; report.rows.as_slice().len(), 27);
+    equal(rt, report.number, 1);
+    equal(
+        rt,
+        (report.size, report.inserts, report.removals),
+        (12, 12, 0),
+    );
+    equal(rt, report.rows.as_slice().len(), 27);
     let mut next = 0u64;
     for (row, reply) in report.rows.as_slice() {
         next = next.wrapping_add(1);
-        assert_eq!(rt; row.row, next);
+        equal(rt, row.row, next);
         match row.verb {
-            Verb::Insert(_) => assert_eq!(rt; *reply, Reply::New),
-            Verb::Has(_) => assert_eq!(rt; *reply, Reply::Yes),
-            _ => assert_eq!(rt; *reply, Reply::Looked),
+            Verb::Insert(_) => equal(rt, *reply, Reply::New),
+            Verb::Has(_) => equal(rt, *reply, Reply::Yes),
+            _ => equal(rt, *reply, Reply::Looked),
         }
     }
     Ok(())
@@ -89,7 +94,11 @@ fn three_lanes_keep_to_the_script_each_time(rt: HostRuntime) -> Result<(), Fail>
 fn one_key<R: Threads + Wait + Abort>(rt: &R, alloc: Global) -> Result<(), AllocError> {
     let run = report_of(rt, alloc, 2, "0,insert,6\n1,insert,6\n", &Open)?;
     let report = run.expect(rt, "a report");
-    assert_eq!(rt; (report.size, report.inserts, report.removals), (1, 1, 0));
+    equal(
+        rt,
+        (report.size, report.inserts, report.removals),
+        (1, 1, 0),
+    );
     let mut new = 0u32;
     let mut old = 0u32;
     for (_, reply) in report.rows.as_slice() {
@@ -99,7 +108,7 @@ fn one_key<R: Threads + Wait + Abort>(rt: &R, alloc: Global) -> Result<(), Alloc
             _ => {}
         }
     }
-    assert_eq!(rt; (new, old), (1, 1));
+    equal(rt, (new, old), (1, 1));
     Ok(())
 }
 
@@ -131,9 +140,9 @@ fn one_key_with_two_weights<R: Threads + Wait + Abort>(
     }
     let totals = (report.size, report.inserts, report.removals);
     if set == 1 {
-        assert_eq!(rt; (new, lost, totals), (1, 0, (1, 2, 1)));
+        equal(rt, (new, lost, totals), (1, 0, (1, 2, 1)));
     } else {
-        assert_eq!(rt; (new, lost, totals), (1, 1, (1, 1, 0)));
+        equal(rt, (new, lost, totals), (1, 1, (1, 1, 0)));
     }
     Ok(())
 }
@@ -208,9 +217,10 @@ fn answers_as_a_plain_set<R: Threads + Wait>(
 fn one_lane_is_answered_as_by_a_plain_set(rt: HostRuntime) -> Result<(), Fail> {
     for seed in 0..40u64 {
         let text = random_script(rt.alloc(), seed)?;
-        assert!(rt;
+        holds_at(
+            &rt,
             answers_as_a_plain_set(&rt, rt.alloc(), text.as_str())?,
-            "{seed}"
+            format_args!("{seed}"),
         );
     }
     Ok(())
@@ -221,15 +231,19 @@ fn a_round_goes_on_from_the_one_before(rt: HostRuntime) -> Result<(), Fail> {
     let text = "0,insert,1\n0,insert,2\n0,insert,3\n*,end\n0,remove,2\n0,look\n0,select,1\n*,end\n";
     let run = run_text(&rt, rt.alloc(), 1, text, &Open)?;
     let (ended, mut reports) = run.expect(&rt, "reports");
-    assert_eq!(rt; (ended.size(), ended.missing()), (2, 0));
-    assert_eq!(rt; reports.len(), 2);
+    equal(&rt, (ended.size(), ended.missing()), (2, 0));
+    equal(&rt, reports.len(), 2);
     let second = reports.pop().expect(&rt, "the second report");
-    assert_eq!(rt; second.number, 2);
-    assert_eq!(rt; (second.size, second.inserts, second.removals), (2, 0, 1));
+    equal(&rt, second.number, 2);
+    equal(
+        &rt,
+        (second.size, second.inserts, second.removals),
+        (2, 0, 1),
+    );
     let found = second.rows.as_slice().last().map(|line| line.1);
-    assert_eq!(rt; found, Some(Reply::Found(Some(3))));
+    equal(&rt, found, Some(Reply::Found(Some(3))));
     let first = reports.pop().expect(&rt, "the first report");
-    assert_eq!(rt; (first.size, first.inserts, first.removals), (3, 3, 0));
+    equal(&rt, (first.size, first.inserts, first.removals), (3, 3, 0));
     Ok(())
 }
 
@@ -238,10 +252,18 @@ fn a_round_of_more_bits_goes_on_from_the_one_before(rt: HostRuntime) -> Result<(
     let text = "0,put,1,70\n1,put,15,80\n*,end\n*,grow,16\n0,insert,65535\n1,remove,1\n*,end\n";
     let run = run_text(&rt, rt.alloc(), 2, text, &Open)?;
     let (mut ended, reports) = run.expect(&rt, "reports");
-    assert_eq!(rt; (ended.bits(), ended.size(), ended.missing()), (16, 2, 0));
+    equal(
+        &rt,
+        (ended.bits(), ended.size(), ended.missing()),
+        (16, 2, 0),
+    );
     let members = pairs(rt.alloc(), &mut ended)?;
-    assert_eq!(rt; members.as_slice(), [(15, 80), (65_535, 65_535)].as_slice());
-    assert_eq!(rt; reports.len(), 2);
+    equal(
+        &rt,
+        members.as_slice(),
+        [(15, 80), (65_535, 65_535)].as_slice(),
+    );
+    equal(&rt, reports.len(), 2);
     Ok(())
 }
 
@@ -249,8 +271,8 @@ fn a_round_of_more_bits_goes_on_from_the_one_before(rt: HostRuntime) -> Result<(
 fn lanes_without_rows_come_back(rt: HostRuntime) -> Result<(), Fail> {
     let run = run_text(&rt, rt.alloc(), 64, "*,end\n", &Open)?;
     let (ended, reports) = run.expect(&rt, "a report");
-    assert_eq!(rt; (ended.size(), ended.missing()), (0, 0));
-    assert_eq!(rt; reports.len(), 1);
+    equal(&rt, (ended.size(), ended.missing()), (0, 0));
+    equal(&rt, reports.len(), 1);
     Ok(())
 }
 
@@ -265,6 +287,6 @@ fn refused_memory_is_told(rt: HostRuntime) -> Result<(), Fail> {
             again.expect(&rt, "a report")
         }
     };
-    assert_eq!(rt; (report.size, report.inserts), (1, 1));
+    equal(&rt, (report.size, report.inserts), (1, 1));
     Ok(())
 }

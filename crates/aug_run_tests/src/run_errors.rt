@@ -1,6 +1,7 @@
 //! Why a script was not run: its statuses and lines.
 use aug_run::RunError;
 use aug_script::{Fault, MemorySink, ScriptError};
+use aug_testing::equal;
 
 const LINES: [(RunError, u8, &str); 14] = [
     (
@@ -62,17 +63,17 @@ const LINES: [(RunError, u8, &str); 14] = [
 #[test]
 fn each_has_its_status_and_line(rt: HostRuntime) {
     for (error, status, line) in LINES {
-        assert_eq!(rt; error.status(), status);
+        equal(&rt, error.status(), status);
         let mut sink = MemorySink::new(rt.alloc(), 7, None);
-        assert_eq!(rt; error.write_line(&mut sink), Ok(()));
-        assert_eq!(rt; sink.out.as_slice(), line.as_bytes());
-        assert_eq!(rt; sink.finished, 1);
+        equal(&rt, error.write_line(&mut sink), Ok(()));
+        equal(&rt, sink.out.as_slice(), line.as_bytes());
+        equal(&rt, sink.finished, 1);
     }
 }
 
 #[test]
 fn a_fault_of_the_sink_is_told(rt: HostRuntime) {
     let mut sink = MemorySink::new(rt.alloc(), 7, Some(2));
-    assert_eq!(rt; RunError::Input.write_line(&mut sink), Err(Fault));
-    assert_eq!(rt; sink.out.as_slice(), b"augtrie: input".as_slice());
+    equal(&rt, RunError::Input.write_line(&mut sink), Err(Fault));
+    equal(&rt, sink.out.as_slice(), b"augtrie: input".as_slice());
 }

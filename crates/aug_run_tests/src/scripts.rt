@@ -1,6 +1,7 @@
 //! Whole scripts, with what they print.
 use aug_run::{RunError, run};
 use aug_script::{Limits, MemorySink, MemorySource, ScriptError};
+use aug_testing::{equal, equal_at, holds};
 use std::alloc::{AllocError, Global};
 use std::process::Abort;
 use std::sync::Wait;
@@ -48,9 +49,14 @@ fn outcome(
 
 fn assert_prints(rt: &(impl Abort + Threads + Wait), alloc: Global, script: &str, text: &str) {
     let (result, sink) = outcome(rt, alloc, script.as_bytes(), 64);
-    assert_eq!(rt; result, Ok(()), "{script}");
-    assert_eq!(rt; sink.out.as_slice(), text.as_bytes(), "{script}");
-    assert_eq!(rt; sink.finished, 1);
+    equal_at(rt, result, Ok(()), format_args!("{script}"));
+    equal_at(
+        rt,
+        sink.out.as_slice(),
+        text.as_bytes(),
+        format_args!("{script}"),
+    );
+    equal(rt, sink.finished, 1);
 }
 
 fn assert_refused_under(
@@ -62,13 +68,18 @@ fn assert_refused_under(
     line: &str,
 ) {
     let (result, sink) = outcome_under(rt, alloc, script, limits);
-    assert_eq!(rt; result, Err(RunError::Script(fault)), "{line}");
-    assert_eq!(rt; sink.calls, 0, "{line}");
+    equal_at(
+        rt,
+        result,
+        Err(RunError::Script(fault)),
+        format_args!("{line}"),
+    );
+    equal_at(rt, sink.calls, 0, format_args!("{line}"));
     let mut standard_error = MemorySink::new(alloc, 7, None);
     let error = RunError::Script(fault);
-    assert_eq!(rt; error.status(), 1);
-    assert_eq!(rt; error.write_line(&mut standard_error), Ok(()));
-    assert_eq!(rt; standard_error.out.as_slice(), line.as_bytes());
+    equal(rt, error.status(), 1);
+    equal(rt, error.write_line(&mut standard_error), Ok(()));
+    equal(rt, standard_error.out.as_slice(), line.as_bytes());
 }
 
 fn assert_refused(
@@ -123,18 +134,18 @@ fn rounds_go_on_from_the_set_of_the_one_before(rt: HostRuntime) {
     let script =
         b"0,insert,1\n0,insert,2\n0,insert,3\n*,end\n0,remove,2\n0,look\n0,select,1\n*,end\n0,size\n";
     let (result, sink) = outcome(&rt, rt.alloc(), script, 64);
-    assert_eq!(rt; result, Ok(()));
+    equal(&rt, result, Ok(()));
     let text =
         "1 0 insert 1 = new\n1 0 insert 2 = new\n1 0 insert 3 = new\n1 end size=3 in=3 out=0\n2 0 remove 2 = gone\n2 0 look = ok\n2 0 select 1 = 3\n2 end size=2 in=0 out=1\n3 0 size = 2\n3 end size=2 in=0 out=0\n";
-    assert_eq!(rt; sink.out.as_slice(), text.as_bytes());
-    assert_eq!(rt; sink.finished, 3);
+    equal(&rt, sink.out.as_slice(), text.as_bytes());
+    equal(&rt, sink.finished, 3);
 }
 
 #[test]
 fn empty_script_prints_nothing(rt: HostRuntime) {
     let (result, sink) = outcome(&rt, rt.alloc(), b"", 64);
-    assert_eq!(rt; result, Ok(()));
-    assert_eq!(rt; sink.calls, 0);
+    equal(&rt, result, Ok(()));
+    equal(&rt, sink.calls, 0);
 }
 
 #[test]
@@ -172,10 +183,10 @@ fn weights_go_on_into_the_next_round(rt: HostRuntime) {
     let script =
         b"0,put,1,50\n0,put,2,60\n*,end\n0,weight,1\n0,insert,2\n0,put,1,70\n0,look\n0,weight,1\n0,weight,2\n*,end\n0,range,0,16\n";
     let (result, sink) = outcome(&rt, rt.alloc(), script, 64);
-    assert_eq!(rt; result, Ok(()));
+    equal(&rt, result, Ok(()));
     let text =
         "1 0 put 1 50 = new\n1 0 put 2 60 = new\n1 end size=2 in=2 out=0\n2 0 weight 1 = 50\n2 0 insert 2 = old\n2 0 put 1 70 = set\n2 0 look = ok\n2 0 weight 1 = 70\n2 0 weight 2 = 60\n2 end size=2 in=1 out=1\n3 0 range 0 16 = 2 130 1 2\n3 end size=2 in=0 out=0\n";
-    assert_eq!(rt; sink.out.as_slice(), text.as_bytes());
+    equal(&rt, sink.out.as_slice(), text.as_bytes());
 }
 
 #[test]
@@ -184,11 +195,11 @@ fn a_round_after_grow_has_more_keys(rt: HostRuntime) -> Result<(), Fail> {
     let script =
         b"0,insert,3\n*,end\n*,grow,5\n0,insert,31\n0,look\n0,rank,32\n0,before,31\n0,has,3\n";
     let (result, sink) = outcome_under(&rt, rt.alloc(), script, &limits);
-    assert_eq!(rt; result, Ok(()));
+    equal(&rt, result, Ok(()));
     let text =
         "1 0 insert 3 = new\n1 end size=1 in=1 out=0\n2 0 insert 31 = new\n2 0 look = ok\n2 0 rank 32 = 2\n2 0 before 31 = 3\n2 0 has 3 = yes\n2 end size=2 in=1 out=0\n";
-    assert_eq!(rt; sink.out.as_slice(), text.as_bytes());
-    assert_eq!(rt; sink.finished, 2);
+    equal(&rt, sink.out.as_slice(), text.as_bytes());
+    equal(&rt, sink.finished, 2);
     Ok(())
 }
 
@@ -197,17 +208,17 @@ fn weights_go_on_into_a_round_of_more_bits(rt: HostRuntime) {
     let script =
         b"0,put,5,100\n0,put,15,7\n*,end\n*,grow,9\n0,weight,5\n0,put,511,40\n0,look\n0,weight,15\n0,range,0,512\n*,end\n*,grow,12\n*,grow,16\n0,weight,511\n0,range,15,65536\n";
     let (result, sink) = outcome(&rt, rt.alloc(), script, 64);
-    assert_eq!(rt; result, Ok(()));
+    equal(&rt, result, Ok(()));
     let text =
         "1 0 put 5 100 = new\n1 0 put 15 7 = new\n1 end size=2 in=2 out=0\n2 0 weight 5 = 100\n2 0 put 511 40 = new\n2 0 look = ok\n2 0 weight 15 = 7\n2 0 range 0 512 = 3 147 5 511\n2 end size=3 in=1 out=0\n3 0 weight 511 = 40\n3 0 range 15 65536 = 2 47 15 511\n3 end size=3 in=0 out=0\n";
-    assert_eq!(rt; sink.out.as_slice(), text.as_bytes());
+    equal(&rt, sink.out.as_slice(), text.as_bytes());
 }
 
 #[test]
 fn grow_makes_no_round(rt: HostRuntime) {
     let (result, sink) = outcome(&rt, rt.alloc(), b"*,grow,5", 64);
-    assert_eq!(rt; result, Ok(()));
-    assert_eq!(rt; sink.calls, 0);
+    equal(&rt, result, Ok(()));
+    equal(&rt, sink.calls, 0);
     let alloc = rt.alloc();
     assert_prints(&rt, alloc, "*,grow,5\n*,end\n", "1 end size=0 in=0 out=0\n");
     assert_prints(&rt, alloc, "*,end\n*,grow,5\n", "1 end size=0 in=0 out=0\n");
@@ -247,15 +258,15 @@ fn updates_of_a_lane_are_limited(rt: HostRuntime) {
         "augtrie: row 3: TooManyUpdates\n",
     );
     let (result, sink) = outcome(&rt, rt.alloc(), b"0,insert,1\n0,remove,1\n", 2);
-    assert_eq!(rt; result, Ok(()));
+    equal(&rt, result, Ok(()));
     let text = "1 0 insert 1 = new\n1 0 remove 1 = gone\n1 end size=0 in=1 out=1\n";
-    assert_eq!(rt; sink.out.as_slice(), text.as_bytes());
+    equal(&rt, sink.out.as_slice(), text.as_bytes());
     let ended = b"0,insert,1\n0,remove,1\n*,end\n0,insert,1\n";
     let (result, sink) = outcome(&rt, rt.alloc(), ended, 2);
-    assert_eq!(rt; result, Ok(()));
+    equal(&rt, result, Ok(()));
     let text =
         "1 0 insert 1 = new\n1 0 remove 1 = gone\n1 end size=0 in=1 out=1\n2 0 insert 1 = new\n2 end size=1 in=1 out=0\n";
-    assert_eq!(rt; sink.out.as_slice(), text.as_bytes());
+    equal(&rt, sink.out.as_slice(), text.as_bytes());
 }
 
 #[test]
@@ -409,11 +420,11 @@ fn script_past_its_limit_is_too_long(rt: HostRuntime) -> Result<(), Fail> {
     let alloc = rt.alloc();
     let mut bytes = vec![in alloc; b'\n'; 16_777_216]?;
     let (result, _calls) = run_over(&rt, alloc, bytes.as_slice())?;
-    assert_eq!(rt; result, Ok(()));
+    equal(&rt, result, Ok(()));
     bytes.push(b'\n')?;
     let (result, calls) = run_over(&rt, alloc, bytes.as_slice())?;
-    assert_eq!(rt; result, Err(RunError::TooLong));
-    assert_eq!(rt; calls, 0);
+    equal(&rt, result, Err(RunError::TooLong));
+    equal(&rt, calls, 0);
     Ok(())
 }
 
@@ -426,8 +437,13 @@ fn a_source_that_fails_prints_nothing(rt: HostRuntime) -> Result<(), Fail> {
         let mut source = MemorySource::new(FIRST_SCRIPT.as_bytes(), 1, Some(fault_at));
         let mut sink = MemorySink::new(alloc, 7, None);
         let result = run(&rt, alloc, &mut source, &mut sink, &limits);
-        assert_eq!(rt; result, Err(RunError::Input), "at {fault_at}");
-        assert_eq!(rt; sink.calls, 0, "at {fault_at}");
+        equal_at(
+            &rt,
+            result,
+            Err(RunError::Input),
+            format_args!("at {fault_at}"),
+        );
+        equal_at(&rt, sink.calls, 0, format_args!("at {fault_at}"));
     }
     Ok(())
 }
@@ -436,15 +452,23 @@ fn a_source_that_fails_prints_nothing(rt: HostRuntime) -> Result<(), Fail> {
 fn a_sink_that_fails_has_a_beginning(rt: HostRuntime) -> Result<(), Fail> {
     let alloc = rt.alloc();
     let limits = Limits::try_new(4, 1, 64).ok().ok_or("limits")?;
-    assert_eq!(rt; FIRST_REPORT.len(), 166);
+    equal(&rt, FIRST_REPORT.len(), 166);
     // The last of these calls is `finish`.
     for fault_at in 0..167u64 {
         let mut source = MemorySource::new(FIRST_SCRIPT.as_bytes(), usize::MAX, None);
         let mut sink = MemorySink::new(alloc, 1, Some(fault_at));
         let result = run(&rt, alloc, &mut source, &mut sink, &limits);
-        assert_eq!(rt; result, Err(RunError::Output), "at {fault_at}");
-        assert_eq!(rt; sink.out.len() as u64, fault_at);
-        assert!(rt; FIRST_REPORT.as_bytes().starts_with(sink.out.as_slice()));
+        equal_at(
+            &rt,
+            result,
+            Err(RunError::Output),
+            format_args!("at {fault_at}"),
+        );
+        equal(&rt, sink.out.len() as u64, fault_at);
+        holds(
+            &rt,
+            FIRST_REPORT.as_bytes().starts_with(sink.out.as_slice()),
+        );
     }
     Ok(())
 }
@@ -491,16 +515,21 @@ fn a_script_may_use_every_update_and_no_more(rt: HostRuntime) -> Result<(), Fail
     text.push_str("1 end size=65536 in=65536 out=0\n")?;
     let mut source = MemorySource::new(script.as_bytes(), usize::MAX, None);
     let mut sink = MemorySink::new(alloc, usize::MAX, None);
-    assert_eq!(rt; run(&rt, alloc, &mut source, &mut sink, &limits), Ok(()));
-    assert_eq!(rt; sink.out.as_slice(), text.as_bytes());
+    equal(
+        &rt,
+        run(&rt, alloc, &mut source, &mut sink, &limits),
+        Ok(()),
+    );
+    equal(&rt, sink.out.as_slice(), text.as_bytes());
     script.push_str("0,remove,0\n")?;
     let mut source = MemorySource::new(script.as_bytes(), usize::MAX, None);
     let mut sink = MemorySink::new(alloc, 7, None);
-    assert_eq!(rt;
+    equal(
+        &rt,
         run(&rt, alloc, &mut source, &mut sink, &limits),
-        Err(RunError::Script(ScriptError::TooManyUpdates(65_540)))
+        Err(RunError::Script(ScriptError::TooManyUpdates(65_540))),
     );
-    assert_eq!(rt; sink.calls, 0);
+    equal(&rt, sink.calls, 0);
     Ok(())
 }
 
@@ -529,19 +558,19 @@ fn refused_memory_is_told_behind_whole_reports(rt: HostRuntime) {
     let first =
         "1 0 insert 1 = new\n1 0 insert 2 = new\n1 0 insert 3 = new\n1 end size=3 in=3 out=0\n";
     let second = "2 0 remove 2 = gone\n2 0 look = ok\n2 0 select 1 = 3\n2 end size=2 in=0 out=1\n";
-    assert_eq!(rt; first.len(), 81);
+    equal(&rt, first.len(), 81);
     let (mut result, mut sink) = into_room(&rt, rt.alloc(), script);
     if result.is_err() {
-        assert_eq!(rt; result, Err(RunError::OutOfMemory));
+        equal(&rt, result, Err(RunError::OutOfMemory));
         if sink.finished == 0 {
-            assert_eq!(rt; sink.calls, 0);
+            equal(&rt, sink.calls, 0);
         } else {
-            assert_eq!(rt; sink.out.as_slice(), first.as_bytes());
+            equal(&rt, sink.out.as_slice(), first.as_bytes());
         }
         (result, sink) = into_room(&rt, rt.alloc(), script);
     }
-    assert_eq!(rt; result, Ok(()));
-    assert_eq!(rt; sink.out.len(), first.len() + second.len());
-    assert!(rt; sink.out.as_slice().starts_with(first.as_bytes()));
-    assert!(rt; sink.out.as_slice().ends_with(second.as_bytes()));
+    equal(&rt, result, Ok(()));
+    equal(&rt, sink.out.len(), first.len() + second.len());
+    holds(&rt, sink.out.as_slice().starts_with(first.as_bytes()));
+    holds(&rt, sink.out.as_slice().ends_with(second.as_bytes()));
 }

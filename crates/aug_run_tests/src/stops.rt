@@ -1,6 +1,7 @@
 //! Why the command line ends the program: its statuses and texts.
 use aug_run::Stop;
 use aug_script::{Fault, MemorySink};
+use aug_testing::equal;
 use std::alloc::{AllocError, Global};
 use std::test::Fail;
 
@@ -24,11 +25,11 @@ fn stops(alloc: Global) -> Result<[(Stop, u8, &'static str); 4], AllocError> {
 #[test]
 fn each_has_its_status_and_text(rt: HostRuntime) -> Result<(), Fail> {
     for (stop, status, text) in stops(rt.alloc())? {
-        assert_eq!(rt; stop.status(), status);
+        equal(&rt, stop.status(), status);
         let mut sink = MemorySink::new(rt.alloc(), 5, None);
-        assert_eq!(rt; stop.write_line(&mut sink), Ok(()));
-        assert_eq!(rt; sink.out.as_slice(), text.as_bytes());
-        assert_eq!(rt; sink.finished, 1);
+        equal(&rt, stop.write_line(&mut sink), Ok(()));
+        equal(&rt, sink.out.as_slice(), text.as_bytes());
+        equal(&rt, sink.finished, 1);
     }
     Ok(())
 }
@@ -36,6 +37,6 @@ fn each_has_its_status_and_text(rt: HostRuntime) -> Result<(), Fail> {
 #[test]
 fn a_fault_of_the_sink_is_told(rt: HostRuntime) {
     let mut sink = MemorySink::new(rt.alloc(), 5, Some(1));
-    assert_eq!(rt; Stop::TooLarge.write_line(&mut sink), Err(Fault));
-    assert_eq!(rt; sink.out.as_slice(), b"augtr".as_slice());
+    equal(&rt, Stop::TooLarge.write_line(&mut sink), Err(Fault));
+    equal(&rt, sink.out.as_slice(), b"augtr".as_slice());
 }

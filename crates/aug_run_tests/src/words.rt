@@ -1,5 +1,6 @@
 //! Words of the command line, and their results.
 use aug_run::{Options, Stop, options};
+use aug_testing::{equal, equal_at, holds_at};
 use std::alloc::{AllocError, Global};
 use std::test::Fail;
 
@@ -41,12 +42,22 @@ fn reads_options_and_a_file(rt: HostRuntime) -> Result<(), Fail> {
         ("-- --bits", 4, 64, Some("--bits")),
     ] {
         let found = asked(rt.alloc(), line)?.ok().ok_or("no options")?;
-        assert_eq!(rt; found.limits.bits(), bits, "in {line}");
-        assert_eq!(rt; found.limits.workers(), 1, "in {line}");
-        assert_eq!(rt; found.limits.updates(), updates, "in {line}");
-        assert_eq!(rt; found.file.is_some(), file.is_some(), "in {line}");
+        equal_at(&rt, found.limits.bits(), bits, format_args!("in {line}"));
+        equal_at(&rt, found.limits.workers(), 1, format_args!("in {line}"));
+        equal_at(
+            &rt,
+            found.limits.updates(),
+            updates,
+            format_args!("in {line}"),
+        );
+        equal_at(
+            &rt,
+            found.file.is_some(),
+            file.is_some(),
+            format_args!("in {line}"),
+        );
         if let (Some(path), Some(want)) = (&found.file, file) {
-            assert_eq!(rt; path.as_str(), want, "in {line}");
+            equal_at(&rt, path.as_str(), want, format_args!("in {line}"));
         }
     }
     Ok(())
@@ -95,10 +106,11 @@ fn refuses_wrong_words(rt: HostRuntime) -> Result<(), Fail> {
         ("a.csv b.csv", "error: unexpected argument 'b.csv' found\n"),
     ] {
         let (status, said) = refusal(rt.alloc(), line)?;
-        assert_eq!(rt; status, 2, "in {line}");
-        assert!(rt;
+        equal_at(&rt, status, 2, format_args!("in {line}"));
+        holds_at(
+            &rt,
             said.as_bytes().starts_with(text.as_bytes()),
-            "{said} in {line}"
+            format_args!("{said} in {line}"),
         );
     }
     Ok(())
@@ -111,7 +123,12 @@ fn refuses_a_table_of_too_many_words(rt: HostRuntime) -> Result<(), Fail> {
         ("--bits 16 --workers 64 --updates 13108 a.csv", Some(2)),
     ] {
         let found = asked(rt.alloc(), line)?.err();
-        assert_eq!(rt; found.map(|stop| stop.status()), stop, "in {line}");
+        equal_at(
+            &rt,
+            found.map(|stop| stop.status()),
+            stop,
+            format_args!("in {line}"),
+        );
     }
     Ok(())
 }
@@ -133,7 +150,7 @@ Options:
   -h, --help         Print help
 ";
     let (status, said) = refusal(rt.alloc(), "--bits 3 --help")?;
-    assert_eq!(rt; status, 0);
-    assert_eq!(rt; said.as_bytes(), text.as_bytes());
+    equal(&rt, status, 0);
+    equal(&rt, said.as_bytes(), text.as_bytes());
     Ok(())
 }

@@ -1,5 +1,6 @@
 //! Devices that read and write, and what goes to one byte by byte.
 use aug_script::{Fault, FromRead, MemorySink, Sink, Source, ToWrite, send};
+use aug_testing::{equal, equal_at, holds};
 use std::io;
 use std::io::{ErrorKind, Read, Write};
 use std::test::Fail;
@@ -17,21 +18,21 @@ impl Read for Interrupted {
 fn gives_what_the_reader_gives(rt: HostRuntime) -> Result<(), Fail> {
     let mut source = FromRead::new("abc".as_bytes());
     let mut piece = [0; 2];
-    assert_eq!(rt; source.read_some(&mut piece), Ok(2));
-    assert_eq!(rt; piece, *b"ab");
-    assert_eq!(rt; source.read_some(&mut piece), Ok(1));
-    assert_eq!(rt; piece[0], b'c');
-    assert_eq!(rt; source.read_some(&mut piece), Ok(0));
-    assert_eq!(rt; source.faults(), 0);
-    assert!(rt; source.into_inner().is_empty());
+    equal(&rt, source.read_some(&mut piece), Ok(2));
+    equal(&rt, piece, *b"ab");
+    equal(&rt, source.read_some(&mut piece), Ok(1));
+    equal(&rt, piece[0], b'c');
+    equal(&rt, source.read_some(&mut piece), Ok(0));
+    equal(&rt, source.faults(), 0);
+    holds(&rt, source.into_inner().is_empty());
     Ok(())
 }
 
 #[test]
 fn an_interrupted_call_is_a_fault(rt: HostRuntime) {
     let mut source = FromRead::new(Interrupted);
-    assert_eq!(rt; source.read_some(&mut [0; 2]), Err(Fault));
-    assert_eq!(rt; source.faults(), 1);
+    equal(&rt, source.read_some(&mut [0; 2]), Err(Fault));
+    equal(&rt, source.faults(), 1);
     let Interrupted = source.into_inner();
 }
 
@@ -51,42 +52,52 @@ impl Write for Full {
 #[test]
 fn hands_on_to_the_writer(rt: HostRuntime) -> Result<(), Fail> {
     let mut sink = ToWrite::new(Vec::new(rt.alloc()));
-    assert_eq!(rt; sink.write_some(b"ab"), Ok(2));
-    assert_eq!(rt; sink.write_some(b"c"), Ok(1));
-    assert_eq!(rt; sink.finish(), Ok(()));
-    assert_eq!(rt; sink.faults(), 0);
-    assert_eq!(rt; sink.into_inner().as_slice(), b"abc".as_slice());
+    equal(&rt, sink.write_some(b"ab"), Ok(2));
+    equal(&rt, sink.write_some(b"c"), Ok(1));
+    equal(&rt, sink.finish(), Ok(()));
+    equal(&rt, sink.faults(), 0);
+    equal(&rt, sink.into_inner().as_slice(), b"abc".as_slice());
     Ok(())
 }
 
 #[test]
 fn a_write_that_takes_no_byte_is_a_fault(rt: HostRuntime) {
     let mut sink = ToWrite::new(Full);
-    assert_eq!(rt; sink.write_some(b"ab"), Err(Fault));
-    assert_eq!(rt; sink.faults(), 1);
-    assert_eq!(rt; sink.write_some(b""), Ok(0));
-    assert_eq!(rt; sink.faults(), 1);
-    assert_eq!(rt; sink.finish(), Err(Fault));
-    assert_eq!(rt; sink.faults(), 2);
+    equal(&rt, sink.write_some(b"ab"), Err(Fault));
+    equal(&rt, sink.faults(), 1);
+    equal(&rt, sink.write_some(b""), Ok(0));
+    equal(&rt, sink.faults(), 1);
+    equal(&rt, sink.finish(), Err(Fault));
+    equal(&rt, sink.faults(), 2);
     let Full = sink.into_inner();
 }
 
 #[test]
 fn gives_byte_by_byte_and_finishes_once(rt: HostRuntime) {
     let mut sink = MemorySink::new(rt.alloc(), 1, None);
-    assert_eq!(rt; send(b"abc", &mut sink), Ok(()));
-    assert_eq!(rt; sink.out.as_slice(), b"abc".as_slice());
-    assert_eq!(rt; sink.calls, 4);
-    assert_eq!(rt; sink.finished, 1);
+    equal(&rt, send(b"abc", &mut sink), Ok(()));
+    equal(&rt, sink.out.as_slice(), b"abc".as_slice());
+    equal(&rt, sink.calls, 4);
+    equal(&rt, sink.finished, 1);
 }
 
 #[test]
 fn stops_at_the_first_fault(rt: HostRuntime) {
     for (fault_at, out) in [(0, ""), (2, "ab"), (3, "abc")] {
         let mut sink = MemorySink::new(rt.alloc(), 1, Some(fault_at));
-        assert_eq!(rt; send(b"abc", &mut sink), Err(Fault), "at {fault_at}");
-        assert_eq!(rt; sink.out.as_slice(), out.as_bytes(), "at {fault_at}");
-        assert_eq!(rt; sink.calls, fault_at + 1);
-        assert_eq!(rt; sink.finished, 0);
+        equal_at(
+            &rt,
+            send(b"abc", &mut sink),
+            Err(Fault),
+            format_args!("at {fault_at}"),
+        );
+        equal_at(
+            &rt,
+            sink.out.as_slice(),
+            out.as_bytes(),
+            format_args!("at {fault_at}"),
+        );
+        equal(&rt, sink.calls, fault_at + 1);
+        equal(&rt, sink.finished, 0);
     }
 }

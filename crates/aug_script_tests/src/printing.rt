@@ -3,6 +3,7 @@ use super::reading::{rounds_of, row};
 use aug_model::Summary;
 use aug_monoid::{Extent, Sum, fold_slice};
 use aug_script::{Fault, Listed, MemorySink, PrintError, Reply, Report, Verb, print};
+use aug_testing::{equal, equal_at, holds};
 use std::alloc::{AllocError, Global};
 use std::test::Fail;
 
@@ -67,9 +68,13 @@ const TEXT: &str = "\
 #[test]
 fn every_verb_and_every_reply_is_printed(rt: HostRuntime) -> Result<(), Fail> {
     let mut sink = MemorySink::new(rt.alloc(), 7, None);
-    assert_eq!(rt; print(rt.alloc(), &report(rt.alloc())?, &mut sink), Ok(()));
-    assert_eq!(rt; sink.out.as_slice(), TEXT.as_bytes());
-    assert_eq!(rt; sink.finished, 1);
+    equal(
+        &rt,
+        print(rt.alloc(), &report(rt.alloc())?, &mut sink),
+        Ok(()),
+    );
+    equal(&rt, sink.out.as_slice(), TEXT.as_bytes());
+    equal(&rt, sink.finished, 1);
     Ok(())
 }
 
@@ -111,12 +116,12 @@ fn rows_of_keys_with_weights_are_read_and_printed(rt: HostRuntime) -> Result<(),
         (row(8, 0, Verb::Range(0, 16)), span(2, &[(5, 7), (9, 9)])),
     ];
     let rounds = rounds_of(alloc, WEIGHED, 1, 64)?;
-    assert_eq!(rt; rounds.len(), 1);
-    assert_eq!(rt; rounds[0].as_slice().len(), lines.len());
+    equal(&rt, rounds.len(), 1);
+    equal(&rt, rounds[0].as_slice().len(), lines.len());
     let mut inserts = 0u32;
     let mut removals = 0u32;
     for (read, line) in rounds[0].as_slice().iter().zip(lines.as_slice()) {
-        assert_eq!(rt; *read, line.0);
+        equal(&rt, *read, line.0);
         inserts = inserts.wrapping_add(u32::from(line.1.is_insertion()));
         removals = removals.wrapping_add(u32::from(line.1.is_removal()));
     }
@@ -128,8 +133,8 @@ fn rows_of_keys_with_weights_are_read_and_printed(rt: HostRuntime) -> Result<(),
         removals,
     };
     let mut sink = MemorySink::new(alloc, 7, None);
-    assert_eq!(rt; print(alloc, &report, &mut sink), Ok(()));
-    assert_eq!(rt; sink.out.as_slice(), WEIGHED_TEXT.as_bytes());
+    equal(&rt, print(alloc, &report, &mut sink), Ok(()));
+    equal(&rt, sink.out.as_slice(), WEIGHED_TEXT.as_bytes());
     Ok(())
 }
 
@@ -143,10 +148,11 @@ fn a_report_without_rows_is_its_last_line(rt: HostRuntime) -> Result<(), Fail> {
         removals: 0,
     };
     let mut sink = MemorySink::new(rt.alloc(), 7, None);
-    assert_eq!(rt; print(rt.alloc(), &report, &mut sink), Ok(()));
-    assert_eq!(rt;
+    equal(&rt, print(rt.alloc(), &report, &mut sink), Ok(()));
+    equal(
+        &rt,
         sink.out.as_slice(),
-        b"1 end size=0 in=0 out=0\n".as_slice()
+        b"1 end size=0 in=0 out=0\n".as_slice(),
     );
     Ok(())
 }
@@ -156,9 +162,14 @@ fn a_sink_that_fails_has_a_beginning(rt: HostRuntime) -> Result<(), Fail> {
     for fault_at in 0..TEXT.len() as u64 + 1 {
         let mut sink = MemorySink::new(rt.alloc(), 1, Some(fault_at));
         let result = print(rt.alloc(), &report(rt.alloc())?, &mut sink);
-        assert_eq!(rt; result, Err(PrintError::Output), "at {fault_at}");
-        assert_eq!(rt; sink.out.len() as u64, fault_at);
-        assert!(rt; TEXT.as_bytes().starts_with(sink.out.as_slice()));
+        equal_at(
+            &rt,
+            result,
+            Err(PrintError::Output),
+            format_args!("at {fault_at}"),
+        );
+        equal(&rt, sink.out.len() as u64, fault_at);
+        holds(&rt, TEXT.as_bytes().starts_with(sink.out.as_slice()));
     }
     Ok(())
 }
@@ -176,11 +187,11 @@ fn refused_memory_leaves_the_sink_as_it_was(rt: HostRuntime) -> Result<(), Fail>
         sink.out.reserve(TEXT.len())?;
     }
     if print(rt.alloc(), &report, &mut sink) == Err(PrintError::OutOfMemory) {
-        assert_eq!(rt; (sink.calls, sink.out.len()), (0, 0));
-        assert_eq!(rt; print(rt.alloc(), &report, &mut sink), Ok(()));
+        equal(&rt, (sink.calls, sink.out.len()), (0, 0));
+        equal(&rt, print(rt.alloc(), &report, &mut sink), Ok(()));
     }
-    assert_eq!(rt; sink.out.as_slice(), TEXT.as_bytes());
-    assert_eq!(rt; sink.finished, 1);
+    equal(&rt, sink.out.as_slice(), TEXT.as_bytes());
+    equal(&rt, sink.finished, 1);
     Ok(())
 }
 
@@ -188,8 +199,12 @@ fn refused_memory_leaves_the_sink_as_it_was(rt: HostRuntime) -> Result<(), Fail>
 fn errors_say_what_is_wrong(rt: HostRuntime) -> Result<(), Fail> {
     let alloc = rt.alloc();
     let (output, memory) = (PrintError::Output, PrintError::OutOfMemory);
-    assert_eq!(rt; format!(in alloc; "{output}")?.as_str(), "output");
-    assert_eq!(rt; format!(in alloc; "{memory}")?.as_str(), "memory");
-    assert_eq!(rt; format!(in alloc; "{}", Fault)?.as_str(), "a device failed");
+    equal(&rt, format!(in alloc; "{output}")?.as_str(), "output");
+    equal(&rt, format!(in alloc; "{memory}")?.as_str(), "memory");
+    equal(
+        &rt,
+        format!(in alloc; "{}", Fault)?.as_str(),
+        "a device failed",
+    );
     Ok(())
 }

@@ -1,6 +1,7 @@
 //! Scripts as they are read.
 use aug_core::LayoutError;
 use aug_script::{Limits, Listed, Row, Script, ScriptError, Verb};
+use aug_testing::{equal, equal_at};
 use std::alloc::Global;
 use std::test::Fail;
 
@@ -50,12 +51,22 @@ fn a_script_may_ask_for_as_much_as_a_full_table_holds(rt: HostRuntime) {
     ] {
         match Limits::try_new(bits, workers, updates) {
             Ok(limits) => {
-                assert_eq!(rt; None, error, "at {bits}, {workers}, {updates}");
-                assert_eq!(rt; limits.bits(), bits);
-                assert_eq!(rt; limits.workers(), workers);
-                assert_eq!(rt; limits.updates(), updates);
+                equal_at(
+                    &rt,
+                    None,
+                    error,
+                    format_args!("at {bits}, {workers}, {updates}"),
+                );
+                equal(&rt, limits.bits(), bits);
+                equal(&rt, limits.workers(), workers);
+                equal(&rt, limits.updates(), updates);
             }
-            Err(cause) => assert_eq!(rt; Some(cause), error, "at {bits}, {workers}, {updates}"),
+            Err(cause) => equal_at(
+                &rt,
+                Some(cause),
+                error,
+                format_args!("at {bits}, {workers}, {updates}"),
+            ),
         }
     }
 }
@@ -65,7 +76,7 @@ fn every_verb_is_read(rt: HostRuntime) -> Result<(), Fail> {
     let script =
         "0,insert,1\n1,remove,2\n0,look\n1,has,3\n0,size\n1,rank,4\n0,select,5\n1,before,6\n0,after,7\n1,range,8,9\n0,put,10,11\n1,weight,12\n";
     let rounds = rounds_of(rt.alloc(), script, 2, 64)?;
-    assert_eq!(rt; rounds.len(), 1);
+    equal(&rt, rounds.len(), 1);
     let rows = [
         row(1, 0, Verb::Insert(1)),
         row(2, 1, Verb::Remove(2)),
@@ -80,16 +91,16 @@ fn every_verb_is_read(rt: HostRuntime) -> Result<(), Fail> {
         row(11, 0, Verb::Put(10, 11)),
         row(12, 1, Verb::Weight(12)),
     ];
-    assert_eq!(rt; rounds[0].as_slice(), rows.as_slice());
+    equal(&rt, rounds[0].as_slice(), rows.as_slice());
     Ok(())
 }
 
 #[test]
 fn quotes_blank_lines_line_ends_and_leading_zeros(rt: HostRuntime) -> Result<(), Fail> {
     let rounds = rounds_of(rt.alloc(), "\"0\",\"insert\",\"005\"\r\n\r\n0,look", 1, 64)?;
-    assert_eq!(rt; rounds.len(), 1);
+    equal(&rt, rounds.len(), 1);
     let rows = [row(1, 0, Verb::Insert(5)), row(2, 0, Verb::Look)];
-    assert_eq!(rt; rounds[0].as_slice(), rows.as_slice());
+    equal(&rt, rounds[0].as_slice(), rows.as_slice());
     Ok(())
 }
 
@@ -168,10 +179,11 @@ fn faulty_scripts_of_one_row(rt: HostRuntime) -> Result<(), Fail> {
         (b"grow,5", ScriptError::BadLane(1)),
     ];
     for (place, (script, fault)) in scripts.into_iter().enumerate() {
-        assert_eq!(rt;
+        equal_at(
+            &rt,
             fault_of(rt.alloc(), script, 64)?,
             Some(fault),
-            "at {place}"
+            format_args!("at {place}"),
         );
     }
     Ok(())
@@ -181,31 +193,31 @@ fn faulty_scripts_of_one_row(rt: HostRuntime) -> Result<(), Fail> {
 fn arguments_up_to_their_bounds_are_taken(rt: HostRuntime) -> Result<(), Fail> {
     let script =
         "0,insert,15\n0,remove,15\n0,has,15\n0,rank,16\n0,select,16\n0,before,16\n0,after,16\n0,range,16,16\n0,put,15,1\n0,weight,15\n";
-    assert_eq!(rt; fault_of(rt.alloc(), script.as_bytes(), 64)?, None);
+    equal(&rt, fault_of(rt.alloc(), script.as_bytes(), 64)?, None);
     Ok(())
 }
 
 #[test]
 fn a_weight_is_any_number(rt: HostRuntime) -> Result<(), Fail> {
     let rounds = rounds_of(rt.alloc(), "0,put,1,999999999\n0,put,1,0\n", 1, 64)?;
-    assert_eq!(rt; rounds.len(), 1);
+    equal(&rt, rounds.len(), 1);
     let rows = [
         row(1, 0, Verb::Put(1, 999_999_999)),
         row(2, 0, Verb::Put(1, 0)),
     ];
-    assert_eq!(rt; rounds[0].as_slice(), rows.as_slice());
+    equal(&rt, rounds[0].as_slice(), rows.as_slice());
     Ok(())
 }
 
 #[test]
 fn lanes_are_below_the_workers(rt: HostRuntime) -> Result<(), Fail> {
     let rounds = rounds_of(rt.alloc(), "63,look\n0,look\n", 64, 64)?;
-    assert_eq!(rt; rounds.len(), 1);
+    equal(&rt, rounds.len(), 1);
     let rows = [row(1, 63, Verb::Look), row(2, 0, Verb::Look)];
-    assert_eq!(rt; rounds[0].as_slice(), rows.as_slice());
+    equal(&rt, rounds[0].as_slice(), rows.as_slice());
     let limits = Limits::try_new(4, 64, 64)?;
     let fault = Script::read(rt.alloc(), b"63,look\n64,look\n", &limits).err();
-    assert_eq!(rt; fault, Some(ScriptError::OutOfRange(2)));
+    equal(&rt, fault, Some(ScriptError::OutOfRange(2)));
     Ok(())
 }
 
@@ -213,19 +225,21 @@ fn lanes_are_below_the_workers(rt: HostRuntime) -> Result<(), Fail> {
 fn updates_are_limited_in_each_round(rt: HostRuntime) -> Result<(), Fail> {
     let alloc = rt.alloc();
     let three = b"0,insert,1\n0,remove,1\n0,insert,1\n";
-    assert_eq!(rt;
+    equal(
+        &rt,
         fault_of(alloc, three, 2)?,
-        Some(ScriptError::TooManyUpdates(3))
+        Some(ScriptError::TooManyUpdates(3)),
     );
     let two = rounds_of(alloc, "0,insert,1\n0,remove,1\n", 1, 2)?;
-    assert_eq!(rt; two.len(), 1);
+    equal(&rt, two.len(), 1);
     let ended = rounds_of(alloc, "0,insert,1\n0,remove,1\n*,end\n0,insert,1\n", 1, 2)?;
-    assert_eq!(rt; ended.len(), 2);
+    equal(&rt, ended.len(), 2);
     let first = [row(1, 0, Verb::Insert(1)), row(2, 0, Verb::Remove(1))];
-    assert_eq!(rt; ended[0].as_slice(), first.as_slice());
-    assert_eq!(rt;
+    equal(&rt, ended[0].as_slice(), first.as_slice());
+    equal(
+        &rt,
         ended[1].as_slice(),
-        [row(4, 0, Verb::Insert(1))].as_slice()
+        [row(4, 0, Verb::Insert(1))].as_slice(),
     );
     Ok(())
 }
@@ -234,17 +248,19 @@ fn updates_are_limited_in_each_round(rt: HostRuntime) -> Result<(), Fail> {
 fn a_put_is_one_update(rt: HostRuntime) -> Result<(), Fail> {
     let alloc = rt.alloc();
     let three = b"0,put,1,5\n0,put,1,5\n0,put,2,5\n";
-    assert_eq!(rt;
+    equal(
+        &rt,
         fault_of(alloc, three, 2)?,
-        Some(ScriptError::TooManyUpdates(3))
+        Some(ScriptError::TooManyUpdates(3)),
     );
-    assert_eq!(rt; fault_of(alloc, three, 3)?, None);
+    equal(&rt, fault_of(alloc, three, 3)?, None);
     let asked = b"0,put,1,5\n0,weight,1\n0,weight,2\n0,insert,1\n";
-    assert_eq!(rt;
+    equal(
+        &rt,
         fault_of(alloc, asked, 1)?,
-        Some(ScriptError::TooManyUpdates(4))
+        Some(ScriptError::TooManyUpdates(4)),
     );
-    assert_eq!(rt; fault_of(alloc, asked, 2)?, None);
+    equal(&rt, fault_of(alloc, asked, 2)?, None);
     Ok(())
 }
 
@@ -252,10 +268,10 @@ fn a_put_is_one_update(rt: HostRuntime) -> Result<(), Fail> {
 fn updates_are_limited_in_each_lane(rt: HostRuntime) -> Result<(), Fail> {
     let limits = Limits::try_new(4, 3, 1)?;
     let each = b"2,insert,1\n0,insert,1\n1,remove,1\n*,end\n1,remove,1\n2,insert,1\n";
-    assert_eq!(rt; Script::read(rt.alloc(), each, &limits).err(), None);
+    equal(&rt, Script::read(rt.alloc(), each, &limits).err(), None);
     let more = b"2,insert,1\n0,insert,1\n*,end\n1,remove,1\n2,insert,1\n1,insert,1\n";
     let fault = Script::read(rt.alloc(), more, &limits).err();
-    assert_eq!(rt; fault, Some(ScriptError::TooManyUpdates(6)));
+    equal(&rt, fault, Some(ScriptError::TooManyUpdates(6)));
     Ok(())
 }
 
@@ -271,9 +287,14 @@ fn a_round_may_have_no_rows(rt: HostRuntime) -> Result<(), Fail> {
         ("0,look\n*,end\n*,end\n0,size", [1, 0, 1].as_slice()),
     ] {
         let rounds = rounds_of(rt.alloc(), script, 1, 64)?;
-        assert_eq!(rt; rounds.len(), rows.len(), "in {script}");
+        equal_at(&rt, rounds.len(), rows.len(), format_args!("in {script}"));
         for (round, count) in rounds.iter().zip(rows) {
-            assert_eq!(rt; round.as_slice().len(), *count, "in {script}");
+            equal_at(
+                &rt,
+                round.as_slice().len(),
+                *count,
+                format_args!("in {script}"),
+            );
         }
     }
     Ok(())
@@ -284,23 +305,24 @@ fn rows_keep_their_numbers_past_the_end_of_a_round(rt: HostRuntime) -> Result<()
     let script =
         "0,insert,1\n0,insert,2\n0,insert,3\n*,end\n0,remove,2\n0,look\n0,select,1\n*,end\n";
     let rounds = rounds_of(rt.alloc(), script, 1, 64)?;
-    assert_eq!(rt; rounds.len(), 2);
+    equal(&rt, rounds.len(), 2);
     let first = [
         row(1, 0, Verb::Insert(1)),
         row(2, 0, Verb::Insert(2)),
         row(3, 0, Verb::Insert(3)),
     ];
-    assert_eq!(rt; rounds[0].as_slice(), first.as_slice());
+    equal(&rt, rounds[0].as_slice(), first.as_slice());
     let second = [
         row(5, 0, Verb::Remove(2)),
         row(6, 0, Verb::Look),
         row(7, 0, Verb::Select(1)),
     ];
-    assert_eq!(rt; rounds[1].as_slice(), second.as_slice());
+    equal(&rt, rounds[1].as_slice(), second.as_slice());
     let late = b"0,look\n*,end\n\n0,look\n0,fly\n";
-    assert_eq!(rt;
+    equal(
+        &rt,
         fault_of(rt.alloc(), late, 64)?,
-        Some(ScriptError::BadVerb(4))
+        Some(ScriptError::BadVerb(4)),
     );
     Ok(())
 }
@@ -347,7 +369,7 @@ fn rounds_have_the_bits_that_hold_at_their_rows(rt: HostRuntime) -> Result<(), F
         ),
     ] {
         let read = growth_of(rt.alloc(), script, bits)?;
-        assert_eq!(rt; read.as_slice(), rounds, "in {script}");
+        equal_at(&rt, read.as_slice(), rounds, format_args!("in {script}"));
     }
     Ok(())
 }
@@ -358,15 +380,16 @@ fn a_round_is_wider_than_the_one_before(rt: HostRuntime) -> Result<(), Fail> {
     let script =
         "0,insert,3\n*,end\n*,grow,5\n0,insert,31\n0,look\n0,rank,32\n0,before,31\n0,has,3\n";
     let script = Script::read(rt.alloc(), script.as_bytes(), &limits)?;
-    assert_eq!(rt; script.rounds().len(), 2);
+    equal(&rt, script.rounds().len(), 2);
     let narrow = &script.rounds()[0];
-    assert_eq!(rt; narrow.bits, 2);
-    assert_eq!(rt;
+    equal(&rt, narrow.bits, 2);
+    equal(
+        &rt,
         narrow.rows.as_slice(),
-        [row(1, 0, Verb::Insert(3))].as_slice()
+        [row(1, 0, Verb::Insert(3))].as_slice(),
     );
     let wide = &script.rounds()[1];
-    assert_eq!(rt; wide.bits, 5);
+    equal(&rt, wide.bits, 5);
     let rows = [
         row(4, 0, Verb::Insert(31)),
         row(5, 0, Verb::Look),
@@ -374,7 +397,7 @@ fn a_round_is_wider_than_the_one_before(rt: HostRuntime) -> Result<(), Fail> {
         row(7, 0, Verb::Before(31)),
         row(8, 0, Verb::Has(3)),
     ];
-    assert_eq!(rt; wide.rows.as_slice(), rows.as_slice());
+    equal(&rt, wide.rows.as_slice(), rows.as_slice());
     Ok(())
 }
 
@@ -412,7 +435,12 @@ fn arguments_have_the_bounds_that_hold_at_their_row(rt: HostRuntime) -> Result<(
         (b"*,grow,5\n0,insert,1\n*,end\n*,grow,5\n0,insert,1", None),
     ];
     for (place, (script, fault)) in scripts.into_iter().enumerate() {
-        assert_eq!(rt; fault_of(alloc, script, 1)?, fault, "at {place}");
+        equal_at(
+            &rt,
+            fault_of(alloc, script, 1)?,
+            fault,
+            format_args!("at {place}"),
+        );
     }
     Ok(())
 }
@@ -432,10 +460,11 @@ fn keys_get_more_bits_before_the_rows_of_a_round(rt: HostRuntime) -> Result<(), 
         (b"0,look\n*,grow,17", ScriptError::OutOfRange(2)),
     ];
     for (place, (script, fault)) in scripts.into_iter().enumerate() {
-        assert_eq!(rt;
+        equal_at(
+            &rt,
             fault_of(rt.alloc(), script, 64)?,
             Some(fault),
-            "at {place}"
+            format_args!("at {place}"),
         );
     }
     Ok(())
@@ -459,7 +488,7 @@ fn a_wider_round_has_a_table_too(rt: HostRuntime) -> Result<(), Fail> {
     for (place, (script, updates, fault)) in scripts.into_iter().enumerate() {
         let limits = Limits::try_new(4, 64, updates)?;
         let read = Script::read(rt.alloc(), script, &limits);
-        assert_eq!(rt; read.err(), fault, "at {place}");
+        equal_at(&rt, read.err(), fault, format_args!("at {place}"));
     }
     Ok(())
 }
@@ -472,14 +501,14 @@ fn refused_memory_is_told_by_reading(rt: HostRuntime) -> Result<(), Fail> {
     for _ in 0..2 {
         match Script::read(rt.alloc(), b"0,insert,5\n*,end\n1,look\n", &limits) {
             Ok(script) => {
-                assert_eq!(rt; script.rounds().len(), 2);
+                equal(&rt, script.rounds().len(), 2);
                 let first = [row(1, 0, Verb::Insert(5))];
-                assert_eq!(rt; script.rounds()[0].rows.as_slice(), first.as_slice());
+                equal(&rt, script.rounds()[0].rows.as_slice(), first.as_slice());
                 let second = [row(3, 1, Verb::Look)];
-                assert_eq!(rt; script.rounds()[1].rows.as_slice(), second.as_slice());
+                equal(&rt, script.rounds()[1].rows.as_slice(), second.as_slice());
             }
             Err(fault) => {
-                assert_eq!(rt; (fault, refused), (ScriptError::OutOfMemory, 0));
+                equal(&rt, (fault, refused), (ScriptError::OutOfMemory, 0));
                 refused = 1;
             }
         }
@@ -495,7 +524,7 @@ fn shows_its_row_and_its_name(rt: HostRuntime) -> Result<(), Fail> {
         (ScriptError::TooWide(1), "row 1: TooWide"),
         (ScriptError::OutOfMemory, "memory"),
     ] {
-        assert_eq!(rt; format!(in rt.alloc(); "{fault}")?.as_str(), text);
+        equal(&rt, format!(in rt.alloc(); "{fault}")?.as_str(), text);
     }
     Ok(())
 }

@@ -1,6 +1,7 @@
 //! How rounds begin and hand out their lanes, what they are refused for, and what refusals print.
 
 use super::rounds::{Trie, insert, next_pass, opened, remove};
+use aug_testing::{equal, holds};
 use aug_trie::{BeginError, CrewError, Ended, Round};
 use std::alloc::Global;
 
@@ -8,15 +9,15 @@ use std::alloc::Global;
 fn a_pass_counts_its_changes(rt: HostRuntime) -> Result<(), BeginError> {
     let (round, mut crew) = opened(rt.alloc(), 2, 1, 3)?;
     let mut pass = next_pass(&mut crew, &round).expect(&rt, "a lane");
-    assert_eq!(rt; pass.lane(), 0);
-    assert_eq!(rt; pass.budget(), 3);
-    assert!(rt; insert(&mut pass, 2, 1));
+    equal(&rt, pass.lane(), 0);
+    equal(&rt, pass.budget(), 3);
+    holds(&rt, insert(&mut pass, 2, 1));
     pass.snapshot();
-    assert!(rt; insert(&mut pass, 2, 2));
-    assert!(rt; remove(&mut pass, 2, 1));
-    assert_eq!(rt; pass.budget(), 0);
-    assert_eq!(rt; pass.inserts(), 2);
-    assert_eq!(rt; pass.removals(), 1);
+    holds(&rt, insert(&mut pass, 2, 2));
+    holds(&rt, remove(&mut pass, 2, 1));
+    equal(&rt, pass.budget(), 0);
+    equal(&rt, pass.inserts(), 2);
+    equal(&rt, pass.removals(), 1);
     Ok(())
 }
 
@@ -24,13 +25,13 @@ fn a_pass_counts_its_changes(rt: HostRuntime) -> Result<(), BeginError> {
 fn each_lane_is_handed_out_once(rt: HostRuntime) -> Result<(), BeginError> {
     let (round, mut crew) = opened(rt.alloc(), 1, 2, 1)?;
     let first = next_pass(&mut crew, &round).expect(&rt, "lane 0");
-    assert_eq!(rt; first.lane(), 0);
+    equal(&rt, first.lane(), 0);
     let second = next_pass(&mut crew, &round).expect(&rt, "lane 1");
-    assert_eq!(rt; second.lane(), 1);
-    assert!(rt; next_pass(&mut crew, &round).is_err());
+    equal(&rt, second.lane(), 1);
+    holds(&rt, next_pass(&mut crew, &round).is_err());
     crew.back(first);
-    assert!(rt; next_pass(&mut crew, &round).is_err());
-    assert_eq!(rt; crew.handed(), 2);
+    holds(&rt, next_pass(&mut crew, &round).is_err());
+    equal(&rt, crew.handed(), 2);
     Ok(())
 }
 
@@ -57,11 +58,11 @@ fn begin_refuses_in_its_order(rt: HostRuntime) {
         let Some((ended, refused)) = refusal(rt.alloc(), workers, updates) else {
             panic!(rt; "not refused: {workers} workers, {updates} updates")
         };
-        assert_eq!(rt; refused, cause);
-        assert_eq!(rt; ended.bits(), 16);
-        assert_eq!(rt; ended.universe(), 65_536);
-        assert_eq!(rt; ended.size(), 0);
-        assert!(rt; Round::begin(rt.alloc(), ended, 1, 1).is_ok());
+        equal(&rt, refused, cause);
+        equal(&rt, ended.bits(), 16);
+        equal(&rt, ended.universe(), 65_536);
+        equal(&rt, ended.size(), 0);
+        holds(&rt, Round::begin(rt.alloc(), ended, 1, 1).is_ok());
     }
 }
 
@@ -69,14 +70,15 @@ fn begin_refuses_in_its_order(rt: HostRuntime) {
 fn an_empty_trie_has_1_to_16_bits(rt: HostRuntime) {
     for bits in [0, 17] {
         let made: Result<Trie, BeginError> = Ended::empty(rt.alloc(), bits);
-        assert_eq!(rt; made.err(), Some(BeginError::BadBits));
+        equal(&rt, made.err(), Some(BeginError::BadBits));
     }
     for bits in [1, 16] {
         let made: Result<Trie, BeginError> = Ended::empty(rt.alloc(), bits);
         let ended = made.expect(&rt, "an empty trie");
-        assert_eq!(rt;
+        equal(
+            &rt,
             (ended.inserts(), ended.removals(), ended.missing()),
-            (0, 0, 0)
+            (0, 0, 0),
         );
     }
 }
@@ -92,9 +94,9 @@ fn refusals_are_printed_by_their_names(rt: HostRuntime) -> Result<(), std::alloc
         (BeginError::Narrower, "Narrower"),
     ] {
         let printed = format!(in rt.alloc(); "{cause}")?;
-        assert_eq!(rt; printed.as_str(), text);
+        equal(&rt, printed.as_str(), text);
     }
     let printed = format!(in rt.alloc(); "{}", CrewError::NoLane)?;
-    assert_eq!(rt; printed.as_str(), "NoLane");
+    equal(&rt, printed.as_str(), "NoLane");
     Ok(())
 }

@@ -7,6 +7,7 @@ use super::rounds::{Hands, Table, Trie, insert, next_pass, opened, put, remove};
 use aug_model::Outcome;
 use aug_monoid::{Extent, Sum};
 use aug_query::{pairs, range, weight};
+use aug_testing::{equal, holds};
 use aug_trie::{BeginError, Pass, Round};
 use std::alloc::{AllocError, Global};
 use std::process::Abort;
@@ -25,16 +26,17 @@ pub(super) fn heavy(alloc: Global) -> Result<Trie, BeginError> {
 
 // Asks such a trie what its members weigh.
 pub(super) fn assert_weights(rt: &impl Abort, alloc: Global, ended: &mut Trie) {
-    assert_eq!(rt;
+    equal(
+        rt,
         (weight(ended, 5), weight(ended, 9)),
-        (Some(70), Some(u32::MAX))
+        (Some(70), Some(u32::MAX)),
     );
-    assert_eq!(rt; (weight(ended, 6), weight(ended, 16)), (None, None));
+    equal(rt, (weight(ended, 6), weight(ended, 16)), (None, None));
     let whole = range(ended, 0, 16);
-    assert_eq!(rt; (whole.count, whole.a.value()), (2, 4_294_967_365));
+    equal(rt, (whole.count, whole.a.value()), (2, 4_294_967_365));
     let list = pairs(alloc, ended).expect(rt, "memory");
-    assert_eq!(rt; list.as_slice(), [(5, 70), (9, u32::MAX)].as_slice());
-    assert_eq!(rt; counts(ended), (3, 1, 0));
+    equal(rt, list.as_slice(), [(5, 70), (9, u32::MAX)].as_slice());
+    equal(rt, counts(ended), (3, 1, 0));
 }
 
 #[test]
@@ -46,10 +48,11 @@ fn the_next_round_has_the_weights(rt: HostRuntime) -> Result<(), BeginError> {
     let mut second = next_pass(&mut crew, &round).expect(&rt, "lane 1");
     let snapshot = first.snapshot();
     let list = first.pairs(rt.alloc(), snapshot).expect(&rt, "memory");
-    assert_eq!(rt; list.as_slice(), [(5, 70), (9, u32::MAX)].as_slice());
-    assert_eq!(rt;
+    equal(&rt, list.as_slice(), [(5, 70), (9, u32::MAX)].as_slice());
+    equal(
+        &rt,
         (seen_weight(&mut second, 5), seen_weight(&mut second, 4)),
-        (Some(70), None)
+        (Some(70), None),
     );
     Ok(())
 }
@@ -63,25 +66,25 @@ fn rest(alloc: Global, ended: &mut Trie) -> Result<(Vec<(u32, u32)>, (u32, u32, 
 #[test]
 fn weights_change_in_the_next_round(rt: HostRuntime) -> Result<(), BeginError> {
     let ended = heavy(rt.alloc())?;
-    assert!(rt; ended.bits() == 4);
+    holds(&rt, ended.bits() == 4);
     let (round, mut crew) = next_round(rt.alloc(), ended, 2, 2)?;
     let mut first = next_pass(&mut crew, &round).expect(&rt, "lane 0");
     let mut second = next_pass(&mut crew, &round).expect(&rt, "lane 1");
-    assert!(rt; !insert(&mut second, 4, 5));
-    assert_eq!(rt; put(&mut second, 4, 9, 0), Outcome::Replaced);
-    assert!(rt; remove(&mut first, 4, 5));
-    assert!(rt; insert(&mut first, 4, 12));
+    holds(&rt, !insert(&mut second, 4, 5));
+    equal(&rt, put(&mut second, 4, 9, 0), Outcome::Replaced);
+    holds(&rt, remove(&mut first, 4, 5));
+    holds(&rt, insert(&mut first, 4, 12));
     crew.back(first);
     crew.back(second);
     let mut ended = round.end(crew);
     let (list, counted) = rest(rt.alloc(), &mut ended).expect(&rt, "memory");
-    assert_eq!(rt; list.as_slice(), [(9, 0), (12, 12)].as_slice());
-    assert_eq!(rt; counted, (2, 2, 0));
+    equal(&rt, list.as_slice(), [(9, 0), (12, 12)].as_slice());
+    equal(&rt, counted, (2, 2, 0));
     let (round, crew) = next_round(rt.alloc(), ended, 1, 1)?;
     let mut ended = round.end(crew);
     let (list, counted) = rest(rt.alloc(), &mut ended).expect(&rt, "memory");
-    assert_eq!(rt; list.as_slice(), [(9, 0), (12, 12)].as_slice());
-    assert_eq!(rt; counted, (0, 0, 0));
+    equal(&rt, list.as_slice(), [(9, 0), (12, 12)].as_slice());
+    equal(&rt, counted, (0, 0, 0));
     Ok(())
 }
 
@@ -92,7 +95,7 @@ fn begun(rt: &impl Abort, alloc: Global, ended: Trie) -> Result<(Table, Hands), 
     let mut ended = match Round::begin(alloc, ended, 1, 1) {
         Ok(begun) => return Ok(begun),
         Err((ended, cause)) => {
-            assert_eq!(rt; cause, BeginError::OutOfMemory);
+            equal(rt, cause, BeginError::OutOfMemory);
             ended
         }
     };
@@ -117,20 +120,21 @@ fn refused_memory_leaves_the_weights(rt: HostRuntime) -> Result<(), BeginError> 
     let ended = match heavy(rt.alloc()) {
         Ok(ended) => ended,
         Err(cause) => {
-            assert_eq!(rt; cause, BeginError::OutOfMemory);
+            equal(&rt, cause, BeginError::OutOfMemory);
             heavy(rt.alloc())?
         }
     };
     let (round, mut crew) = begun(&rt, rt.alloc(), ended)?;
     let mut pass = next_pass(&mut crew, &round).expect(&rt, "lane 0");
     let list = listed(rt.alloc(), &mut pass).expect(&rt, "memory");
-    assert_eq!(rt; list.as_slice(), [(5, 70), (9, u32::MAX)].as_slice());
-    assert_eq!(rt; seen_weight(&mut pass, 9), Some(u32::MAX));
+    equal(&rt, list.as_slice(), [(5, 70), (9, u32::MAX)].as_slice());
+    equal(&rt, seen_weight(&mut pass, 9), Some(u32::MAX));
     crew.back(pass);
     let mut ended = round.end(crew);
-    assert_eq!(rt;
+    equal(
+        &rt,
         (weight(&mut ended, 5), weight(&mut ended, 9)),
-        (Some(70), Some(u32::MAX))
+        (Some(70), Some(u32::MAX)),
     );
     Ok(())
 }

@@ -6,6 +6,7 @@ use super::rounds::{Trie, next_pass, opened, put};
 use aug_model::Summary;
 use aug_monoid::{Extent, Sum};
 use aug_query::Tree;
+use aug_testing::{equal, holds};
 use aug_trie::{BeginError, CrewError, Node, Pass, Snapshot};
 use std::alloc::AllocError;
 use std::process::Abort;
@@ -44,9 +45,9 @@ fn a_clone_of_a_snapshot_answers_as_the_snapshot(rt: HostRuntime) -> Result<(), 
     let (round, mut crew) = opened(rt.alloc(), 2, 1, 2)?;
     let mut pass = next_pass(&mut crew, &round).expect(&rt, "a lane");
     put(&mut pass, 2, 1, 70);
-    assert!(rt; pass.budget() > 0);
+    holds(&rt, pass.budget() > 0);
     for shown in cloned(&rt, &mut pass) {
-        assert_eq!(rt; shown, (1, Some(70), None, 70));
+        equal(&rt, shown, (1, Some(70), None, 70));
     }
     Ok(())
 }
@@ -77,17 +78,19 @@ fn a_clone_of_a_node_leads_where_the_node_does(rt: HostRuntime) -> Result<(), Be
     put(&mut pass, 2, 1, 70);
     put(&mut pass, 2, 3, 9);
     let (clone, top, right) = clones_of_top(&rt, &mut pass);
-    assert_eq!(rt; clone, top);
+    equal(&rt, clone, top);
     let (level, place, summary) = clone;
-    assert_eq!(rt;
+    equal(
+        &rt,
         (level, place, summary.count, summary.a.value()),
-        (2, 0, 2, 79)
+        (2, 0, 2, 79),
     );
-    assert_eq!(rt; summary.b.bounds(), Some((1, 3)));
+    equal(&rt, summary.b.bounds(), Some((1, 3)));
     let (level, place, summary) = right;
-    assert_eq!(rt;
+    equal(
+        &rt,
         (level, place, summary.count, summary.a.value()),
-        (1, 1, 1, 9)
+        (1, 1, 1, 9),
     );
     Ok(())
 }
@@ -100,12 +103,12 @@ fn a_clone_of_a_node_at_rest_stands_where_the_node_does(rt: HostRuntime) -> Resu
     put(&mut pass, 1, 1, 9);
     crew.back(pass);
     let mut ended = round.end(crew);
-    assert!(rt; ended.bits() == 1);
+    holds(&rt, ended.bits() == 1);
     let top = ended.top();
     let clone = top.clone().expect(&rt, "a clone");
-    assert_eq!(rt; (Trie::level(&clone), Trie::place(&clone)), (1, 0));
-    assert_eq!(rt; Trie::summary(&clone), Trie::summary(&top));
-    assert_eq!(rt; Trie::summary(&clone).a.value(), 79);
+    equal(&rt, (Trie::level(&clone), Trie::place(&clone)), (1, 0));
+    equal(&rt, Trie::summary(&clone), Trie::summary(&top));
+    equal(&rt, Trie::summary(&clone).a.value(), 79);
     Ok(())
 }
 
@@ -120,15 +123,16 @@ fn a_clone_of_a_refusal_is_the_refusal(rt: HostRuntime) -> Result<(), AllocError
         (BeginError::Narrower, "Narrower"),
     ] {
         let clone = cause.clone()?;
-        assert_eq!(rt; clone, cause);
+        equal(&rt, clone, cause);
         let printed = format!(in rt.alloc(); "{clone} {clone:?}")?;
-        assert_eq!(rt;
+        equal(
+            &rt,
             printed.as_str(),
-            format!(in rt.alloc(); "{text} {text}")?.as_str()
+            format!(in rt.alloc(); "{text} {text}")?.as_str(),
         );
     }
     let clone = CrewError::NoLane.clone()?;
     let printed = format!(in rt.alloc(); "{clone} {clone:?}")?;
-    assert_eq!(rt; printed.as_str(), "NoLane NoLane");
+    equal(&rt, printed.as_str(), "NoLane NoLane");
     Ok(())
 }

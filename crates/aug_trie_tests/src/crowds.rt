@@ -5,6 +5,7 @@ use super::ending::next_round;
 use super::rounds::{Half, Table, next_pass, opened};
 use super::working::{Deed, Task, four_halves, pair, work};
 use aug_monoid::{Extent, Sum};
+use aug_testing::{equal, holds};
 use aug_trie::{BeginError, Pass};
 use std::sync::Wait;
 use std::thread;
@@ -29,11 +30,11 @@ fn one_key_that_two_threads_put_in_is_accounted_for(rt: HostRuntime) -> Result<(
     crew.back(round.pass(one));
     crew.back(round.pass(two));
     let ended = round.end(crew);
-    assert_eq!(rt; (ended.size(), ended.missing()), (1, 0));
+    equal(&rt, (ended.size(), ended.missing()), (1, 0));
     let out = u64::from(ended.removals()) + 1;
-    assert_eq!(rt; out, u64::from(ended.inserts()));
+    equal(&rt, out, u64::from(ended.inserts()));
     // A put is refused only if one of the other lane came between, and each of those refuses one.
-    assert!(rt; ended.inserts() >= 200 && ended.inserts() <= 400);
+    holds(&rt, ended.inserts() >= 200 && ended.inserts() <= 400);
     Ok(())
 }
 
@@ -125,21 +126,21 @@ fn each_snapshot_adds_up_while_four_threads_put(rt: HostRuntime) -> Result<(), B
         deed: Deed::Put,
     };
     let (halves, (fifth, right)) = watched_work(&rt, &round, halves, fifth, task);
-    assert!(rt; right);
+    holds(&rt, right);
     let (one, two, three, four) = halves;
     let mut pass = round.pass(fifth);
-    assert_eq!(rt; adds_up(&mut pass), Some(4));
+    equal(&rt, adds_up(&mut pass), Some(4));
     crew.back(pass);
     crew.back(round.pass(one));
     crew.back(round.pass(two));
     crew.back(round.pass(three));
     crew.back(round.pass(four));
     let ended = round.end(crew);
-    assert_eq!(rt; (ended.size(), ended.missing()), (4, 0));
+    equal(&rt, (ended.size(), ended.missing()), (4, 0));
     let out = u64::from(ended.removals()) + 4;
-    assert_eq!(rt; out, u64::from(ended.inserts()));
+    equal(&rt, out, u64::from(ended.inserts()));
     let (round, mut crew) = next_round(rt.alloc(), ended, 1, 1)?;
     let mut pass = next_pass(&mut crew, &round).expect(&rt, "lane 0");
-    assert_eq!(rt; adds_up(&mut pass), Some(4));
+    equal(&rt, adds_up(&mut pass), Some(4));
     Ok(())
 }

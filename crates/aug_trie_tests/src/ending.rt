@@ -6,6 +6,7 @@ use super::rounds::{Hands, Table, Trie, insert, next_pass, opened, remove};
 use super::working::{Deed, Task, four_halves, work};
 use aug_monoid::{Extent, Sum};
 use aug_query::{has, keys, select, size};
+use aug_testing::{equal, holds};
 use aug_trie::{BeginError, Pass, Round};
 use std::alloc::Global;
 
@@ -54,24 +55,24 @@ fn four_threads_put_each_key_in_once_and_the_next_round_goes_on(
     let (round, mut crew) = opened(rt.alloc(), 4, 4, 16)?;
     let halves = four_halves(&mut crew, &round).expect(&rt, "four lanes");
     let ((one, two, three, four), seen) = four_filled(&rt, &round, halves);
-    assert_eq!(rt; seen, [16; 4]);
+    equal(&rt, seen, [16; 4]);
     crew.back(round.pass(one));
     crew.back(round.pass(two));
     crew.back(round.pass(three));
     crew.back(round.pass(four));
     let ended = round.end(crew);
-    assert_eq!(rt; ended.size(), 16);
-    assert_eq!(rt; counts(&ended), (16, 0, 0));
+    equal(&rt, ended.size(), 16);
+    equal(&rt, counts(&ended), (16, 0, 0));
     let (round, mut crew) = next_round(rt.alloc(), ended, 2, 1)?;
     let mut first = next_pass(&mut crew, &round).expect(&rt, "lane 0");
     let mut second = next_pass(&mut crew, &round).expect(&rt, "lane 1");
-    assert!(rt; remove(&mut first, 4, 0));
-    assert!(rt; !insert(&mut second, 4, 1));
+    holds(&rt, remove(&mut first, 4, 0));
+    holds(&rt, !insert(&mut second, 4, 1));
     crew.back(second);
     crew.back(first);
     let ended = round.end(crew);
-    assert_eq!(rt; ended.size(), 15);
-    assert_eq!(rt; counts(&ended), (0, 1, 0));
+    equal(&rt, ended.size(), 15);
+    equal(&rt, counts(&ended), (0, 1, 0));
     Ok(())
 }
 
@@ -93,11 +94,11 @@ fn one_key_that_four_threads_put_in_and_take_out_is_accounted_for(
     crew.back(round.pass(two));
     crew.back(round.pass(one));
     let ended = round.end(crew);
-    assert!(rt; ended.inserts() >= 500);
+    holds(&rt, ended.inserts() >= 500);
     let out = u64::from(ended.removals()) + u64::from(ended.size());
-    assert_eq!(rt; out, u64::from(ended.inserts()));
-    assert!(rt; ended.size() <= 1);
-    assert_eq!(rt; ended.missing(), 0);
+    equal(&rt, out, u64::from(ended.inserts()));
+    holds(&rt, ended.size() <= 1);
+    equal(&rt, ended.missing(), 0);
     Ok(())
 }
 
@@ -106,18 +107,18 @@ fn a_pass_that_comes_back_tells_later_ones(rt: HostRuntime) -> Result<(), BeginE
     let (round, mut crew) = opened(rt.alloc(), 4, 3, 2)?;
     let mut first = next_pass(&mut crew, &round).expect(&rt, "lane 0");
     let mut third = next_pass(&mut crew, &round).expect(&rt, "lane 1");
-    assert!(rt; insert(&mut first, 4, 3));
-    assert!(rt; sees(&mut third, 3));
-    assert!(rt; remove(&mut third, 4, 3));
-    assert!(rt; insert(&mut first, 4, 3));
+    holds(&rt, insert(&mut first, 4, 3));
+    holds(&rt, sees(&mut third, 3));
+    holds(&rt, remove(&mut third, 4, 3));
+    holds(&rt, insert(&mut first, 4, 3));
     crew.back(first);
     let mut second = next_pass(&mut crew, &round).expect(&rt, "lane 2");
-    assert!(rt; sees(&mut second, 3));
+    holds(&rt, sees(&mut second, 3));
     crew.back(third);
     crew.back(second);
     let ended = round.end(crew);
-    assert_eq!(rt; ended.size(), 1);
-    assert_eq!(rt; counts(&ended), (2, 1, 0));
+    equal(&rt, ended.size(), 1);
+    equal(&rt, counts(&ended), (2, 1, 0));
     Ok(())
 }
 
@@ -126,14 +127,14 @@ fn a_dropped_pass_is_missing_and_harms_nobody(rt: HostRuntime) -> Result<(), Beg
     let (round, mut crew) = opened(rt.alloc(), 2, 2, 1)?;
     let mut dropped = next_pass(&mut crew, &round).expect(&rt, "lane 0");
     let mut other = next_pass(&mut crew, &round).expect(&rt, "lane 1");
-    assert!(rt; insert(&mut dropped, 2, 0));
+    holds(&rt, insert(&mut dropped, 2, 0));
     drop(dropped);
-    assert!(rt; insert(&mut other, 2, 1));
-    assert_eq!(rt; seen_size(&mut other), 2);
+    holds(&rt, insert(&mut other, 2, 1));
+    equal(&rt, seen_size(&mut other), 2);
     crew.back(other);
     let ended = round.end(crew);
-    assert_eq!(rt; ended.size(), 2);
-    assert_eq!(rt; counts(&ended), (1, 0, 1));
+    equal(&rt, ended.size(), 2);
+    equal(&rt, counts(&ended), (1, 0, 1));
     Ok(())
 }
 
@@ -145,14 +146,14 @@ fn what_came_after_the_last_look_of_the_crew_is_not_in_the_end(
     let first = next_pass(&mut crew, &round).expect(&rt, "lane 0");
     let mut late = next_pass(&mut crew, &round).expect(&rt, "lane 1");
     crew.back(first);
-    assert!(rt; insert(&mut late, 2, 3));
+    holds(&rt, insert(&mut late, 2, 3));
     drop(late);
     let mut ended = round.end(crew);
-    assert_eq!(rt; counts(&ended), (0, 0, 1));
-    assert_eq!(rt; (ended.size(), has(&mut ended, 3)), (0, false));
+    equal(&rt, counts(&ended), (0, 0, 1));
+    equal(&rt, (ended.size(), has(&mut ended, 3)), (0, false));
     let (round, mut crew) = next_round(rt.alloc(), ended, 1, 1)?;
     let mut again = next_pass(&mut crew, &round).expect(&rt, "lane 0");
-    assert!(rt; insert(&mut again, 2, 3));
+    holds(&rt, insert(&mut again, 2, 3));
     Ok(())
 }
 
@@ -172,11 +173,15 @@ fn a_round_of_no_pass_ends_as_it_began(rt: HostRuntime) -> Result<(), BeginError
     let ended = five_and_nine(rt.alloc())?;
     let (round, crew) = next_round(rt.alloc(), ended, 64, 1)?;
     let mut ended = round.end(crew);
-    assert_eq!(rt; (ended.bits(), ended.universe(), ended.size()), (4, 16, 2));
-    assert_eq!(rt; counts(&ended), (0, 0, 0));
-    assert_eq!(rt; (size(&mut ended), select(&mut ended, 1)), (2, Some(9)));
+    equal(
+        &rt,
+        (ended.bits(), ended.universe(), ended.size()),
+        (4, 16, 2),
+    );
+    equal(&rt, counts(&ended), (0, 0, 0));
+    equal(&rt, (size(&mut ended), select(&mut ended, 1)), (2, Some(9)));
     let list = keys(rt.alloc(), &mut ended).expect(&rt, "memory");
-    assert_eq!(rt; list.as_slice(), [5, 9].as_slice());
+    equal(&rt, list.as_slice(), [5, 9].as_slice());
     Ok(())
 }
 
@@ -185,20 +190,20 @@ fn refused_memory_leaves_the_trie_as_it_was(rt: HostRuntime) -> Result<(), Begin
     let made = match five_and_nine(rt.alloc()) {
         Ok(ended) => ended,
         Err(cause) => {
-            assert_eq!(rt; cause, BeginError::OutOfMemory);
+            equal(&rt, cause, BeginError::OutOfMemory);
             five_and_nine(rt.alloc())?
         }
     };
     let (round, mut crew) = match Round::begin(rt.alloc(), made, 1, 1) {
         Ok(begun) => begun,
         Err((mut ended, cause)) => {
-            assert_eq!(rt; cause, BeginError::OutOfMemory);
-            assert_eq!(rt; (ended.size(), counts(&ended)), (2, (2, 0, 0)));
-            assert_eq!(rt; (has(&mut ended, 5), has(&mut ended, 9)), (true, true));
+            equal(&rt, cause, BeginError::OutOfMemory);
+            equal(&rt, (ended.size(), counts(&ended)), (2, (2, 0, 0)));
+            equal(&rt, (has(&mut ended, 5), has(&mut ended, 9)), (true, true));
             next_round(rt.alloc(), ended, 1, 1)?
         }
     };
     let mut pass = next_pass(&mut crew, &round).expect(&rt, "lane 0");
-    assert!(rt; sees(&mut pass, 9));
+    holds(&rt, sees(&mut pass, 9));
     Ok(())
 }

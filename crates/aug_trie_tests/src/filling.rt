@@ -4,6 +4,7 @@ ghost use Rattle.std.specs.Prelude.{◌≡◌};
 use super::ending::seen_size;
 use super::rounds::{Half, Table, opened};
 use super::working::{Deed, Task, done, four_halves};
+use aug_testing::equal_at;
 use aug_trie::BeginError;
 use std::sync::Wait;
 use std::thread;
@@ -92,7 +93,7 @@ fn each_thread_holds_all_keys_once_its_own_insertions_returned(
         let (round, mut crew) = opened(rt.alloc(), 4, 4, 16)?;
         let halves = four_halves(&mut crew, &round).expect(&rt, "four lanes");
         let (_, seen) = four_filled(&rt, &round, halves);
-        assert_eq!(rt; seen, [16; 4], "in round {number}");
+        equal_at(&rt, seen, [16; 4], format_args!("in round {number}"));
     }
     Ok(())
 }

@@ -7,6 +7,7 @@ use super::putting::seen_weight;
 use super::rounds::{Hands, Table, insert, next_pass, opened, put, remove};
 use super::turning::{to_the_end, turns};
 use aug_model::Outcome;
+use aug_testing::{equal, holds};
 use aug_trie::BeginError;
 use std::alloc::Global;
 
@@ -31,14 +32,14 @@ fn each_look_shows_what_another_pass_changed_since_the_last(
     let (round, mut crew) = opened(rt.alloc(), 4, 2, 2)?;
     let mut a = next_pass(&mut crew, &round).expect(&rt, "lane 0");
     let mut b = next_pass(&mut crew, &round).expect(&rt, "lane 1");
-    assert!(rt; !sees(&mut a, 1));
-    assert_eq!(rt; seen_size(&mut a), 0);
-    assert!(rt; insert(&mut b, 4, 1));
-    assert!(rt; sees(&mut a, 1));
-    assert_eq!(rt; seen_size(&mut a), 1);
-    assert!(rt; remove(&mut b, 4, 1));
-    assert!(rt; !sees(&mut a, 1));
-    assert_eq!(rt; seen_size(&mut a), 0);
+    holds(&rt, !sees(&mut a, 1));
+    equal(&rt, seen_size(&mut a), 0);
+    holds(&rt, insert(&mut b, 4, 1));
+    holds(&rt, sees(&mut a, 1));
+    equal(&rt, seen_size(&mut a), 1);
+    holds(&rt, remove(&mut b, 4, 1));
+    holds(&rt, !sees(&mut a, 1));
+    equal(&rt, seen_size(&mut a), 0);
     Ok(())
 }
 
@@ -49,15 +50,15 @@ fn a_refused_insertion_shows_the_key_that_it_found(rt: HostRuntime) -> Result<()
     let mut a = next_pass(&mut crew, &round).expect(&rt, "lane 0");
     let mut b = next_pass(&mut crew, &round).expect(&rt, "lane 1");
     let c = next_pass(&mut crew, &round).expect(&rt, "lane 2");
-    assert!(rt; sees(&mut a, 0));
-    assert!(rt; sees(&mut a, 0));
-    assert!(rt; remove(&mut b, 1, 0));
+    holds(&rt, sees(&mut a, 0));
+    holds(&rt, sees(&mut a, 0));
+    holds(&rt, remove(&mut b, 1, 0));
     let other = turns(c.start_insert(0), 2).expect(&rt, "two turns");
-    assert!(rt; !sees(&mut b, 0));
-    assert!(rt; !insert(&mut a, 1, 0));
-    assert!(rt; sees(&mut a, 0));
+    holds(&rt, !sees(&mut b, 0));
+    holds(&rt, !insert(&mut a, 1, 0));
+    holds(&rt, sees(&mut a, 0));
     let (mut c, outcome, _) = to_the_end(other).expect(&rt, "an end");
-    assert_eq!(rt; (outcome, seen_size(&mut c)), (Outcome::Accepted, 1));
+    equal(&rt, (outcome, seen_size(&mut c)), (Outcome::Accepted, 1));
     Ok(())
 }
 
@@ -67,12 +68,12 @@ fn a_refused_removal_shows_that_the_key_is_gone(rt: HostRuntime) -> Result<(), B
     let mut a = next_pass(&mut crew, &round).expect(&rt, "lane 0");
     let c = next_pass(&mut crew, &round).expect(&rt, "lane 1");
     let other = turns(c.start_remove(0), 2).expect(&rt, "two turns");
-    assert!(rt; sees(&mut a, 0));
-    assert!(rt; sees(&mut a, 0));
-    assert!(rt; !remove(&mut a, 1, 0));
-    assert!(rt; !sees(&mut a, 0));
+    holds(&rt, sees(&mut a, 0));
+    holds(&rt, sees(&mut a, 0));
+    holds(&rt, !remove(&mut a, 1, 0));
+    holds(&rt, !sees(&mut a, 0));
     let (mut c, outcome, _) = to_the_end(other).expect(&rt, "an end");
-    assert_eq!(rt; (outcome, seen_size(&mut c)), (Outcome::Accepted, 0));
+    equal(&rt, (outcome, seen_size(&mut c)), (Outcome::Accepted, 0));
     Ok(())
 }
 
@@ -84,16 +85,16 @@ fn a_refused_update_by_turns_shows_what_it_found(rt: HostRuntime) -> Result<(), 
     let c = next_pass(&mut crew, &round).expect(&rt, "lane 2");
     let removal = turns(c.start_remove(0), 2).expect(&rt, "two turns");
     let (mut a, outcome, _) = to_the_end(a.start_remove(0)).expect(&rt, "an end");
-    assert_eq!(rt; outcome, Outcome::Refused);
-    assert!(rt; !sees(&mut a, 0));
+    equal(&rt, outcome, Outcome::Refused);
+    holds(&rt, !sees(&mut a, 0));
     let insertion = turns(b.start_insert(0), 2).expect(&rt, "two turns");
-    assert!(rt; !sees(&mut a, 0));
+    holds(&rt, !sees(&mut a, 0));
     let (mut c, outcome, _) = to_the_end(removal).expect(&rt, "an end");
-    assert_eq!(rt; outcome, Outcome::Accepted);
-    assert!(rt; sees(&mut c, 0));
+    equal(&rt, outcome, Outcome::Accepted);
+    holds(&rt, sees(&mut c, 0));
     let (mut b, outcome, _) = to_the_end(insertion).expect(&rt, "an end");
-    assert_eq!(rt; outcome, Outcome::Accepted);
-    assert!(rt; sees(&mut b, 0));
+    equal(&rt, outcome, Outcome::Accepted);
+    holds(&rt, sees(&mut b, 0));
     Ok(())
 }
 
@@ -106,10 +107,10 @@ fn an_insertion_that_lost_its_leaf_shows_who_won(rt: HostRuntime) -> Result<(), 
     let late = turns(a.start_insert(0), 1).expect(&rt, "turn 1");
     let other = turns(c.start_insert(0), 2).expect(&rt, "two turns");
     let (mut a, outcome, _) = to_the_end(late).expect(&rt, "an end");
-    assert_eq!(rt; outcome, Outcome::Refused);
-    assert!(rt; sees(&mut a, 0));
+    equal(&rt, outcome, Outcome::Refused);
+    holds(&rt, sees(&mut a, 0));
     let (_, outcome, _) = to_the_end(other).expect(&rt, "an end");
-    assert_eq!(rt; outcome, Outcome::Accepted);
+    equal(&rt, outcome, Outcome::Accepted);
     Ok(())
 }
 
@@ -121,10 +122,10 @@ fn a_put_that_lost_its_leaf_shows_the_weight_that_won(rt: HostRuntime) -> Result
     let late = turns(a.start_put(0, 5), 1).expect(&rt, "turn 1");
     let other = turns(c.start_put(0, 7), 2).expect(&rt, "two turns");
     let (mut a, outcome, _) = to_the_end(late).expect(&rt, "an end");
-    assert_eq!(rt; outcome, Outcome::Refused);
-    assert_eq!(rt; seen_weight(&mut a, 0), Some(7));
+    equal(&rt, outcome, Outcome::Refused);
+    equal(&rt, seen_weight(&mut a, 0), Some(7));
     let (_, outcome, _) = to_the_end(other).expect(&rt, "an end");
-    assert_eq!(rt; outcome, Outcome::Replaced);
+    equal(&rt, outcome, Outcome::Replaced);
     Ok(())
 }
 
@@ -135,12 +136,12 @@ fn a_put_shows_its_weight_over_that_of_one_on_its_way(rt: HostRuntime) -> Result
     let mut a = next_pass(&mut crew, &round).expect(&rt, "lane 0");
     let c = next_pass(&mut crew, &round).expect(&rt, "lane 1");
     let other = turns(c.start_put(0, 7), 2).expect(&rt, "two turns");
-    assert_eq!(rt; seen_weight(&mut a, 0), None);
-    assert_eq!(rt; seen_weight(&mut a, 0), None);
-    assert_eq!(rt; put(&mut a, 1, 0, 9), Outcome::Replaced);
-    assert_eq!(rt; seen_weight(&mut a, 0), Some(9));
+    equal(&rt, seen_weight(&mut a, 0), None);
+    equal(&rt, seen_weight(&mut a, 0), None);
+    equal(&rt, put(&mut a, 1, 0, 9), Outcome::Replaced);
+    equal(&rt, seen_weight(&mut a, 0), Some(9));
     let (mut c, outcome, _) = to_the_end(other).expect(&rt, "an end");
-    assert_eq!(rt; outcome, Outcome::Accepted);
-    assert_eq!(rt; seen_weight(&mut c, 0), Some(9));
+    equal(&rt, outcome, Outcome::Accepted);
+    equal(&rt, seen_weight(&mut c, 0), Some(9));
     Ok(())
 }

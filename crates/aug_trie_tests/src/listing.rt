@@ -4,6 +4,7 @@ ghost use Rattle.std.specs.Prelude.{◌≡◌, IfOk};
 use super::requests::{assert_answers, played};
 use super::rounds::{Hands, Table, Trie, insert, next_pass};
 use aug_query::size;
+use aug_testing::{equal, holds};
 use aug_trie::{BeginError, Members, Round};
 use std::alloc::Global;
 use std::process::Abort;
@@ -36,7 +37,7 @@ fn begun_at_last(
     match begun(alloc, members) {
         Ok(begun) => Ok(begun),
         Err((members, cause)) => {
-            assert_eq!(rt; cause, BeginError::OutOfMemory);
+            equal(rt, cause, BeginError::OutOfMemory);
             assert_is_whole(rt, &members);
             match begun(alloc, members) {
                 Ok(begun) => Ok(begun),
@@ -48,8 +49,8 @@ fn begun_at_last(
 
 // The list of the trie that `played` gives.
 fn assert_is_whole(rt: &impl Abort, members: &Members) {
-    assert_eq!(rt; (members.bits(), members.size()), (4, 2));
-    assert_eq!(rt; members.as_slice(), [(5, 70), (9, 9)].as_slice());
+    equal(rt, (members.bits(), members.size()), (4, 2));
+    equal(rt, members.as_slice(), [(5, 70), (9, 9)].as_slice());
 }
 
 #[test]
@@ -74,7 +75,7 @@ fn refused_memory_leaves_the_list(rt: HostRuntime) -> Result<(), BeginError> {
     assert_is_whole(&rt, &members);
     let (round, crew) = begun_at_last(&rt, rt.alloc(), members)?;
     let mut ended = round.end(crew);
-    assert_eq!(rt; size(&mut ended), 2);
+    equal(&rt, size(&mut ended), 2);
     Ok(())
 }
 
@@ -93,7 +94,7 @@ fn given_back(
     match round {
         Ok(_) => panic!(rt; "{} bits, {} workers, {} updates", bits, workers, updates),
         Err((members, refused)) => {
-            assert_eq!(rt; refused, cause);
+            equal(rt, refused, cause);
             members
         }
     }
@@ -126,7 +127,7 @@ fn grown(rt: &impl Abort, round: &Table, crew: &mut Hands)
     ensures together { crew.new.round ≡ round.now }
 {
     let mut pass = next_pass(crew, round).expect(rt, "lane 0");
-    assert!(rt; insert(&mut pass, 6, 60));
+    holds(rt, insert(&mut pass, 6, 60));
     crew.back(pass);
 }
 
@@ -139,7 +140,11 @@ fn a_list_opens_wider_rounds(rt: HostRuntime) -> Result<(), BeginError> {
     };
     grown(&rt, &round, &mut crew);
     let members = listed(rt.alloc(), round.end(crew))?;
-    assert_eq!(rt; members.bits(), 6);
-    assert_eq!(rt; members.as_slice(), [(5, 70), (9, 9), (60, 60)].as_slice());
+    equal(&rt, members.bits(), 6);
+    equal(
+        &rt,
+        members.as_slice(),
+        [(5, 70), (9, 9), (60, 60)].as_slice(),
+    );
     Ok(())
 }

@@ -11,6 +11,7 @@ use super::rounds::{insert, next_pass, opened};
 use aug_model::Summary;
 use aug_monoid::{Extent, Monoid, Sum};
 use aug_query::rank;
+use aug_testing::{equal, holds};
 use aug_trie::{BeginError, Node, Pass, Snapshot};
 use std::alloc::{AllocError, Global};
 
@@ -102,11 +103,15 @@ fn a_snapshot_stays_what_it_was(rt: HostRuntime) -> Result<(), BeginError> {
     let (round, mut crew) = opened(rt.alloc(), 2, 1, 3)?;
     let mut pass = next_pass(&mut crew, &round).expect(&rt, "a lane");
     let (done, before, after, now) = changed(&mut pass);
-    assert_eq!(rt; done, (true, true, true));
-    assert_eq!(rt; before, (1, true, false));
-    assert_eq!(rt; after, (1, true, false));
-    assert_eq!(rt; now, (1, false, true));
-    assert_eq!(rt; (pass.budget(), pass.inserts(), pass.removals()), (0, 2, 1));
+    equal(&rt, done, (true, true, true));
+    equal(&rt, before, (1, true, false));
+    equal(&rt, after, (1, true, false));
+    equal(&rt, now, (1, false, true));
+    equal(
+        &rt,
+        (pass.budget(), pass.inserts(), pass.removals()),
+        (0, 2, 1),
+    );
     Ok(())
 }
 
@@ -169,19 +174,20 @@ fn listed(
 fn each_query_answers(rt: HostRuntime) -> Result<(), BeginError> {
     let (round, mut crew) = opened(rt.alloc(), 4, 1, 2)?;
     let mut pass = next_pass(&mut crew, &round).expect(&rt, "a lane");
-    assert!(rt; insert(&mut pass, 4, 9) && insert(&mut pass, 4, 5));
+    holds(&rt, insert(&mut pass, 4, 9) && insert(&mut pass, 4, 5));
     let s = pass.snapshot();
     let (counts, keys, there) = asked(&mut pass, s);
-    assert_eq!(rt; counts, [2, 1, 1, 1]);
-    assert_eq!(rt; keys, [Some(9), Some(5), None, None]);
-    assert_eq!(rt; there, [true, false]);
+    equal(&rt, counts, [2, 1, 1, 1]);
+    equal(&rt, keys, [Some(9), Some(5), None, None]);
+    equal(&rt, there, [true, false]);
     let (keys, range, rank) = listed(rt.alloc(), &mut pass).expect(&rt, "memory");
-    assert_eq!(rt; keys.as_slice(), [5, 9].as_slice());
-    assert_eq!(rt;
+    equal(&rt, keys.as_slice(), [5, 9].as_slice());
+    equal(
+        &rt,
         (range.count, range.a.value(), range.b.bounds()),
-        (1, 5, Some((5, 5)))
+        (1, 5, Some((5, 5))),
     );
-    assert_eq!(rt; rank, 2);
+    equal(&rt, rank, 2);
     Ok(())
 }
 
@@ -189,24 +195,26 @@ fn each_query_answers(rt: HostRuntime) -> Result<(), BeginError> {
 fn batches_answer_as_the_single_queries(rt: HostRuntime) -> Result<(), BeginError> {
     let (round, mut crew) = opened(rt.alloc(), 4, 1, 2)?;
     let mut pass = next_pass(&mut crew, &round).expect(&rt, "a lane");
-    assert!(rt; insert(&mut pass, 4, 9) && insert(&mut pass, 4, 5));
+    holds(&rt, insert(&mut pass, 4, 9) && insert(&mut pass, 4, 5));
     let s = pass.snapshot();
     let keys = [4, 5, 5, 9, 10, 16];
-    assert!(rt; keys.is_sorted());
+    holds(&rt, keys.is_sorted());
     let mut below = Vec::with_capacity(rt.alloc(), 6).expect(&rt, "memory");
     pass.ranks(s, &keys, &mut below);
-    assert_eq!(rt; below.as_slice(), [0, 0, 0, 1, 2, 2].as_slice());
+    equal(&rt, below.as_slice(), [0, 0, 0, 1, 2, 2].as_slice());
     let mut there = Vec::with_capacity(rt.alloc(), 6).expect(&rt, "memory");
     pass.memberships(s, &keys, &mut there);
-    assert_eq!(rt;
+    equal(
+        &rt,
         there.as_slice(),
-        [false, true, true, true, false, false].as_slice()
+        [false, true, true, true, false, false].as_slice(),
     );
     let mut weighed = Vec::with_capacity(rt.alloc(), 6).expect(&rt, "memory");
     pass.weights(s, &keys, &mut weighed);
-    assert_eq!(rt;
+    equal(
+        &rt,
         weighed.as_slice(),
-        [None, Some(5), Some(5), Some(9), None, None].as_slice()
+        [None, Some(5), Some(5), Some(9), None, None].as_slice(),
     );
     Ok(())
 }

@@ -7,6 +7,7 @@ use super::rounds::{insert, next_pass, opened, put, remove};
 use aug_model::Outcome;
 use aug_monoid::{Extent, Sum};
 use aug_query::range;
+use aug_testing::{equal, holds};
 use aug_trie::{BeginError, Pass, Snapshot};
 
 // What a key weighs in a new snapshot of the pass.
@@ -24,21 +25,21 @@ fn a_put_is_accepted_for_an_absent_key_and_replaces_a_member(
 ) -> Result<(), BeginError> {
     let (round, mut crew) = opened(rt.alloc(), 2, 1, 4)?;
     let mut pass = next_pass(&mut crew, &round).expect(&rt, "a lane");
-    assert_eq!(rt; seen_weight(&mut pass, 3), None);
-    assert_eq!(rt; put(&mut pass, 2, 3, 7), Outcome::Accepted);
-    assert_eq!(rt; seen_weight(&mut pass, 3), Some(7));
-    assert_eq!(rt; (pass.inserts(), pass.removals()), (1, 0));
-    assert_eq!(rt; put(&mut pass, 2, 3, 9), Outcome::Replaced);
-    assert_eq!(rt; seen_weight(&mut pass, 3), Some(9));
-    assert_eq!(rt; (pass.inserts(), pass.removals()), (2, 1));
-    assert_eq!(rt; put(&mut pass, 2, 3, 9), Outcome::Replaced);
-    assert_eq!(rt; seen_weight(&mut pass, 3), Some(9));
-    assert_eq!(rt; (pass.inserts(), pass.removals()), (3, 2));
-    assert_eq!(rt; put(&mut pass, 2, 1, 9), Outcome::Accepted);
-    assert_eq!(rt; (seen_size(&mut pass), pass.budget()), (2, 0));
+    equal(&rt, seen_weight(&mut pass, 3), None);
+    equal(&rt, put(&mut pass, 2, 3, 7), Outcome::Accepted);
+    equal(&rt, seen_weight(&mut pass, 3), Some(7));
+    equal(&rt, (pass.inserts(), pass.removals()), (1, 0));
+    equal(&rt, put(&mut pass, 2, 3, 9), Outcome::Replaced);
+    equal(&rt, seen_weight(&mut pass, 3), Some(9));
+    equal(&rt, (pass.inserts(), pass.removals()), (2, 1));
+    equal(&rt, put(&mut pass, 2, 3, 9), Outcome::Replaced);
+    equal(&rt, seen_weight(&mut pass, 3), Some(9));
+    equal(&rt, (pass.inserts(), pass.removals()), (3, 2));
+    equal(&rt, put(&mut pass, 2, 1, 9), Outcome::Accepted);
+    equal(&rt, (seen_size(&mut pass), pass.budget()), (2, 0));
     crew.back(pass);
     let ended = round.end(crew);
-    assert_eq!(rt; (ended.size(), counts(&ended)), (2, (4, 2, 0)));
+    equal(&rt, (ended.size(), counts(&ended)), (2, (4, 2, 0)));
     Ok(())
 }
 
@@ -48,14 +49,22 @@ fn each_weight_comes_back(rt: HostRuntime) -> Result<(), BeginError> {
     for weight in [0, 1, 2, u32::MAX - 1, u32::MAX] {
         let (round, mut crew) = opened(rt.alloc(), 1, 1, 2)?;
         let mut pass = next_pass(&mut crew, &round).expect(&rt, "a lane");
-        assert_eq!(rt; put(&mut pass, 1, 0, u32::MAX - weight), Outcome::Accepted);
-        assert_eq!(rt; put(&mut pass, 1, 0, weight), Outcome::Replaced);
+        equal(
+            &rt,
+            put(&mut pass, 1, 0, u32::MAX - weight),
+            Outcome::Accepted,
+        );
+        equal(&rt, put(&mut pass, 1, 0, weight), Outcome::Replaced);
         let snapshot = pass.snapshot();
         let summary = pass.range(snapshot, 0, 2);
-        assert_eq!(rt; (summary.count, summary.a.value()), (1, u64::from(weight)));
+        equal(
+            &rt,
+            (summary.count, summary.a.value()),
+            (1, u64::from(weight)),
+        );
         let list = pass.pairs(rt.alloc(), snapshot).expect(&rt, "memory");
-        assert_eq!(rt; list.as_slice(), [(0, weight)].as_slice());
-        assert_eq!(rt; seen_weight(&mut pass, 0), Some(weight));
+        equal(&rt, list.as_slice(), [(0, weight)].as_slice());
+        equal(&rt, seen_weight(&mut pass, 0), Some(weight));
     }
     Ok(())
 }
@@ -64,16 +73,20 @@ fn each_weight_comes_back(rt: HostRuntime) -> Result<(), BeginError> {
 fn an_insertion_weighs_its_key_and_changes_no_weight(rt: HostRuntime) -> Result<(), BeginError> {
     let (round, mut crew) = opened(rt.alloc(), 3, 1, 5)?;
     let mut pass = next_pass(&mut crew, &round).expect(&rt, "a lane");
-    assert!(rt; insert(&mut pass, 3, 6));
-    assert_eq!(rt; seen_weight(&mut pass, 6), Some(6));
-    assert_eq!(rt; put(&mut pass, 3, 6, 40), Outcome::Replaced);
-    assert!(rt; !insert(&mut pass, 3, 6));
-    assert_eq!(rt; seen_weight(&mut pass, 6), Some(40));
-    assert!(rt; remove(&mut pass, 3, 6));
-    assert_eq!(rt; seen_weight(&mut pass, 6), None);
-    assert!(rt; insert(&mut pass, 3, 6));
-    assert_eq!(rt; seen_weight(&mut pass, 6), Some(6));
-    assert_eq!(rt; (pass.inserts(), pass.removals(), pass.budget()), (3, 2, 0));
+    holds(&rt, insert(&mut pass, 3, 6));
+    equal(&rt, seen_weight(&mut pass, 6), Some(6));
+    equal(&rt, put(&mut pass, 3, 6, 40), Outcome::Replaced);
+    holds(&rt, !insert(&mut pass, 3, 6));
+    equal(&rt, seen_weight(&mut pass, 6), Some(40));
+    holds(&rt, remove(&mut pass, 3, 6));
+    equal(&rt, seen_weight(&mut pass, 6), None);
+    holds(&rt, insert(&mut pass, 3, 6));
+    equal(&rt, seen_weight(&mut pass, 6), Some(6));
+    equal(
+        &rt,
+        (pass.inserts(), pass.removals(), pass.budget()),
+        (3, 2, 0),
+    );
     Ok(())
 }
 
@@ -99,13 +112,15 @@ fn around_a_put(
 fn a_snapshot_keeps_the_weight_that_it_showed(rt: HostRuntime) -> Result<(), BeginError> {
     let (round, mut crew) = opened(rt.alloc(), 2, 1, 2)?;
     let mut pass = next_pass(&mut crew, &round).expect(&rt, "a lane");
-    assert_eq!(rt;
+    equal(
+        &rt,
         around_a_put(&mut pass, 5),
-        (None, Outcome::Accepted, None, Some(5))
+        (None, Outcome::Accepted, None, Some(5)),
     );
-    assert_eq!(rt;
+    equal(
+        &rt,
         around_a_put(&mut pass, 6),
-        (Some(5), Outcome::Replaced, Some(5), Some(6))
+        (Some(5), Outcome::Replaced, Some(5), Some(6)),
     );
     Ok(())
 }
@@ -144,13 +159,13 @@ fn a_pass_that_looks_never_misses_a_key_that_another_replaces(
     let (round, mut crew) = opened(rt.alloc(), 2, 2, 101)?;
     let mut a = next_pass(&mut crew, &round).expect(&rt, "lane 0");
     let mut b = next_pass(&mut crew, &round).expect(&rt, "lane 1");
-    assert_eq!(rt; put(&mut b, 2, 1, 1_000), Outcome::Accepted);
+    equal(&rt, put(&mut b, 2, 1, 1_000), Outcome::Accepted);
     let held = a.snapshot();
-    assert!(rt; sees_replacements(&mut a, held, &mut b));
+    holds(&rt, sees_replacements(&mut a, held, &mut b));
     crew.back(a);
     crew.back(b);
     let ended = round.end(crew);
-    assert_eq!(rt; (ended.size(), counts(&ended)), (1, (101, 100, 0)));
+    equal(&rt, (ended.size(), counts(&ended)), (1, (101, 100, 0)));
     Ok(())
 }
 
@@ -179,19 +194,20 @@ fn all_keys_of_16_bits_may_have_the_greatest_weight(rt: HostRuntime) -> Result<(
     let (round, mut crew) = opened(rt.alloc(), 16, 1, 65_536)?;
     let mut pass = next_pass(&mut crew, &round).expect(&rt, "a lane");
     put_all(&mut pass);
-    assert_eq!(rt; seen_sum(&mut pass), (65_536, 281_474_976_645_120));
+    equal(&rt, seen_sum(&mut pass), (65_536, 281_474_976_645_120));
     crew.back(pass);
     let mut ended = round.end(crew);
     let whole = range(&mut ended, 0, 65_536);
-    assert_eq!(rt;
+    equal(
+        &rt,
         (whole.count, whole.a.value()),
-        (65_536, 281_474_976_645_120)
+        (65_536, 281_474_976_645_120),
     );
-    assert_eq!(rt; whole.b.bounds(), Some((0, 65_535)));
+    equal(&rt, whole.b.bounds(), Some((0, 65_535)));
     let (round, mut crew) = next_round(rt.alloc(), ended, 1, 1)?;
     let mut pass = next_pass(&mut crew, &round).expect(&rt, "lane 0");
-    assert_eq!(rt; seen_sum(&mut pass), (65_536, 281_474_976_645_120));
-    assert_eq!(rt; put(&mut pass, 16, 65_535, 0), Outcome::Replaced);
-    assert_eq!(rt; seen_sum(&mut pass), (65_536, 281_470_681_677_825));
+    equal(&rt, seen_sum(&mut pass), (65_536, 281_474_976_645_120));
+    equal(&rt, put(&mut pass, 16, 65_535, 0), Outcome::Replaced);
+    equal(&rt, seen_sum(&mut pass), (65_536, 281_470_681_677_825));
     Ok(())
 }

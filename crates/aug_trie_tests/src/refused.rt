@@ -5,6 +5,7 @@ ghost use Rattle.std.specs.Prelude.{◌≡◌, IfOk};
 use super::rounds::{Hands, Table, Trie, insert, next_pass, opened};
 use aug_monoid::{Extent, Sum};
 use aug_query::{after, before, has, keys, range, rank, select, size};
+use aug_testing::equal;
 use aug_trie::{BeginError, Pass, Round};
 use std::alloc::{AllocError, Global};
 use std::process::Abort;
@@ -22,21 +23,23 @@ fn five_and_nine(alloc: Global) -> Result<Trie, BeginError> {
 
 // Asks such a trie every query.
 fn assert_answers(rt: &impl Abort, alloc: Global, ended: &mut Trie) {
-    assert_eq!(rt; (has(ended, 5), has(ended, 6)), (true, false));
-    assert_eq!(rt; (rank(ended, 9), size(ended)), (1, 2));
-    assert_eq!(rt; (select(ended, 1), select(ended, 2)), (Some(9), None));
-    assert_eq!(rt; (before(ended, 9), after(ended, 9)), (Some(5), None));
+    equal(rt, (has(ended, 5), has(ended, 6)), (true, false));
+    equal(rt, (rank(ended, 9), size(ended)), (1, 2));
+    equal(rt, (select(ended, 1), select(ended, 2)), (Some(9), None));
+    equal(rt, (before(ended, 9), after(ended, 9)), (Some(5), None));
     let whole = range(ended, 0, 65_536);
-    assert_eq!(rt;
+    equal(
+        rt,
         (whole.count, whole.a.value(), whole.b.bounds()),
-        (2, 14, Some((5, 9)))
+        (2, 14, Some((5, 9))),
     );
     let list = keys(alloc, ended).expect(rt, "memory");
-    assert_eq!(rt; list.as_slice(), [5, 9].as_slice());
-    assert_eq!(rt; (ended.bits(), ended.size()), (16, 2));
-    assert_eq!(rt;
+    equal(rt, list.as_slice(), [5, 9].as_slice());
+    equal(rt, (ended.bits(), ended.size()), (16, 2));
+    equal(
+        rt,
         (ended.inserts(), ended.removals(), ended.missing()),
-        (2, 0, 0)
+        (2, 0, 0),
     );
 }
 
@@ -47,7 +50,7 @@ fn begun(rt: &impl Abort, alloc: Global, ended: Trie) -> Result<(Table, Hands), 
     let mut ended = match Round::begin(alloc, ended, 1, 1) {
         Ok(begun) => return Ok(begun),
         Err((ended, cause)) => {
-            assert_eq!(rt; cause, BeginError::OutOfMemory);
+            equal(rt, cause, BeginError::OutOfMemory);
             ended
         }
     };
@@ -73,18 +76,19 @@ fn refused_memory_leaves_every_answer(rt: HostRuntime) -> Result<(), BeginError>
     let ended = match five_and_nine(rt.alloc()) {
         Ok(ended) => ended,
         Err(cause) => {
-            assert_eq!(rt; cause, BeginError::OutOfMemory);
+            equal(&rt, cause, BeginError::OutOfMemory);
             five_and_nine(rt.alloc())?
         }
     };
     let (round, mut crew) = begun(&rt, rt.alloc(), ended)?;
     let mut pass = next_pass(&mut crew, &round).expect(&rt, "lane 0");
     let list = listed(rt.alloc(), &mut pass).expect(&rt, "memory");
-    assert_eq!(rt; list.as_slice(), [5, 9].as_slice());
+    equal(&rt, list.as_slice(), [5, 9].as_slice());
     let snapshot = pass.snapshot();
-    assert_eq!(rt;
+    equal(
+        &rt,
         (pass.rank(snapshot, 65_536), pass.select(snapshot, 0)),
-        (2, Some(5))
+        (2, Some(5)),
     );
     Ok(())
 }
@@ -100,7 +104,7 @@ fn given_back(
     match Round::begin(alloc, ended, numbers.0, numbers.1) {
         Ok(_) => panic!(rt; "{} workers, {} updates", numbers.0, numbers.1),
         Err((ended, refused)) => {
-            assert_eq!(rt; refused, cause);
+            equal(rt, refused, cause);
             ended
         }
     }

@@ -7,6 +7,7 @@ use super::rounds::{Hands, Table, insert, next_pass, opened, put, remove};
 use super::turning::{Climber, Walker, last, to_the_end, turns};
 use aug_model::Outcome;
 use aug_query::{size, weight};
+use aug_testing::{equal, holds};
 use aug_trie::{BeginError, Turn};
 use std::alloc::Global;
 
@@ -18,16 +19,20 @@ fn turns_of_a_put_alone_in_a_round_are_as_many_whether_it_replaces(
         let (round, mut crew) = opened(rt.alloc(), bits, 1, 2)?;
         let pass = next_pass(&mut crew, &round).expect(&rt, "a lane");
         let climb = pass.start_put(0, 7);
-        assert_eq!(rt; climb.turns_left(), most);
+        equal(&rt, climb.turns_left(), most);
         let (pass, outcome, made) = to_the_end(climb).expect(&rt, "an end");
-        assert_eq!(rt; (outcome, made), (Outcome::Accepted, turned));
-        assert_eq!(rt; (pass.inserts(), pass.removals()), (1, 0));
+        equal(&rt, (outcome, made), (Outcome::Accepted, turned));
+        equal(&rt, (pass.inserts(), pass.removals()), (1, 0));
         let climb = pass.start_put(0, 8);
-        assert_eq!(rt; climb.turns_left(), most);
+        equal(&rt, climb.turns_left(), most);
         let (mut pass, outcome, made) = to_the_end(climb).expect(&rt, "an end");
-        assert_eq!(rt; (outcome, made), (Outcome::Replaced, turned));
-        assert_eq!(rt; (pass.inserts(), pass.removals(), pass.budget()), (2, 1, 0));
-        assert_eq!(rt; seen_weight(&mut pass, 0), Some(8));
+        equal(&rt, (outcome, made), (Outcome::Replaced, turned));
+        equal(
+            &rt,
+            (pass.inserts(), pass.removals(), pass.budget()),
+            (2, 1, 0),
+        );
+        equal(&rt, seen_weight(&mut pass, 0), Some(8));
     }
     Ok(())
 }
@@ -53,16 +58,16 @@ fn a_removal_that_meets_a_replacement_is_refused(rt: HostRuntime) -> Result<(), 
     let a = next_pass(&mut crew, &round).expect(&rt, "lane 0");
     let mut b = next_pass(&mut crew, &round).expect(&rt, "lane 1");
     let climb = turns(a.start_remove(0), 1).expect(&rt, "turn 1");
-    assert_eq!(rt; put(&mut b, 1, 0, 8), Outcome::Replaced);
+    equal(&rt, put(&mut b, 1, 0, 8), Outcome::Replaced);
     let climb = turns(climb, 9).expect(&rt, "turn 10");
     let (mut a, outcome) = last(climb).expect(&rt, "the end at turn 11");
-    assert_eq!(rt; outcome, Outcome::Refused);
-    assert_eq!(rt; seen_weight(&mut a, 0), Some(8));
+    equal(&rt, outcome, Outcome::Refused);
+    equal(&rt, seen_weight(&mut a, 0), Some(8));
     crew.back(a);
     crew.back(b);
     let mut ended = round.end(crew);
-    assert_eq!(rt; (size(&mut ended), weight(&mut ended, 0)), (1, Some(8)));
-    assert_eq!(rt; counts(&ended), (1, 1, 0));
+    equal(&rt, (size(&mut ended), weight(&mut ended, 0)), (1, Some(8)));
+    equal(&rt, counts(&ended), (1, 1, 0));
     Ok(())
 }
 
@@ -73,16 +78,16 @@ fn a_put_that_meets_one_of_the_same_weight_is_refused(rt: HostRuntime) -> Result
     let a = next_pass(&mut crew, &round).expect(&rt, "lane 0");
     let mut b = next_pass(&mut crew, &round).expect(&rt, "lane 1");
     let climb = turns(a.start_put(0, 9), 1).expect(&rt, "turn 1");
-    assert_eq!(rt; put(&mut b, 1, 0, 0), Outcome::Replaced);
+    equal(&rt, put(&mut b, 1, 0, 0), Outcome::Replaced);
     let climb = turns(climb, 9).expect(&rt, "turn 10");
     let (mut a, outcome) = last(climb).expect(&rt, "the end at turn 11");
-    assert_eq!(rt; outcome, Outcome::Refused);
-    assert_eq!(rt; (a.inserts(), a.removals()), (0, 0));
-    assert_eq!(rt; seen_weight(&mut a, 0), Some(0));
+    equal(&rt, outcome, Outcome::Refused);
+    equal(&rt, (a.inserts(), a.removals()), (0, 0));
+    equal(&rt, seen_weight(&mut a, 0), Some(0));
     crew.back(a);
     crew.back(b);
     let ended = round.end(crew);
-    assert_eq!(rt; (ended.size(), counts(&ended)), (1, (1, 1, 0)));
+    equal(&rt, (ended.size(), counts(&ended)), (1, (1, 1, 0)));
     Ok(())
 }
 
@@ -93,18 +98,18 @@ fn a_put_that_lost_its_leaf_is_refused(rt: HostRuntime) -> Result<(), BeginError
     let a = next_pass(&mut crew, &round).expect(&rt, "lane 0");
     let mut b = next_pass(&mut crew, &round).expect(&rt, "lane 1");
     let climb = turns(a.start_put(0, 9), 1).expect(&rt, "turn 1");
-    assert!(rt; insert(&mut b, 1, 0));
+    holds(&rt, insert(&mut b, 1, 0));
     let (a, outcome, _) = to_the_end(climb).expect(&rt, "an end");
-    assert_eq!(rt; outcome, Outcome::Refused);
+    equal(&rt, outcome, Outcome::Refused);
     let climb = turns(a.start_put(0, 9), 1).expect(&rt, "turn 1");
-    assert!(rt; remove(&mut b, 1, 0));
+    holds(&rt, remove(&mut b, 1, 0));
     let (mut a, outcome, _) = to_the_end(climb).expect(&rt, "an end");
-    assert_eq!(rt; outcome, Outcome::Refused);
-    assert_eq!(rt; seen_size(&mut a), 0);
+    equal(&rt, outcome, Outcome::Refused);
+    equal(&rt, seen_size(&mut a), 0);
     crew.back(a);
     crew.back(b);
     let ended = round.end(crew);
-    assert_eq!(rt; (ended.size(), counts(&ended)), (0, (1, 1, 0)));
+    equal(&rt, (ended.size(), counts(&ended)), (0, (1, 1, 0)));
     Ok(())
 }
 
@@ -148,11 +153,11 @@ fn no_turn_of_a_replacement_shows_the_key_gone(rt: HostRuntime) -> Result<(), Be
         let mut b = next_pass(&mut crew, &round).expect(&rt, "lane 1");
         let seen = watched(a.start_put(0, 8), &mut b);
         let (a, outcome, shown_from) = seen.expect(&rt, "an end, with the key there at each look");
-        assert_eq!(rt; (outcome, shown_from), (Outcome::Replaced, shown));
+        equal(&rt, (outcome, shown_from), (Outcome::Replaced, shown));
         crew.back(b);
         crew.back(a);
         let ended = round.end(crew);
-        assert_eq!(rt; (ended.size(), counts(&ended)), (1, (1, 1, 0)));
+        equal(&rt, (ended.size(), counts(&ended)), (1, (1, 1, 0)));
     }
     Ok(())
 }
@@ -184,9 +189,10 @@ fn given_up(alloc: Global, turned: u32) -> Option<GivenUp> {
 fn a_replacement_given_up_leaves_one_weight_or_the_other(rt: HostRuntime) {
     for turned in 0..26 {
         let weight = Some(if turned < 2 { 0 } else { 8 });
-        assert_eq!(rt;
+        equal(
+            &rt,
             given_up(rt.alloc(), turned),
-            Some((weight, weight, (1, 0, 1)))
+            Some((weight, weight, (1, 0, 1))),
         );
     }
 }

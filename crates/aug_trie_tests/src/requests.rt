@@ -10,6 +10,7 @@ use super::turning::to_the_end;
 use aug_model::Outcome;
 use aug_monoid::{Extent, Sum};
 use aug_query::{keys, pairs, size};
+use aug_testing::{equal, holds};
 use aug_trie::{BeginError, Ended, Pass, Snapshot};
 use std::alloc::Global;
 use std::process::Abort;
@@ -17,7 +18,7 @@ use std::process::Abort;
 #[test]
 fn an_empty_trie_asks_3_times_for_memory(rt: HostRuntime) -> Result<(), BeginError> {
     let mut ended: Trie = Ended::empty(rt.alloc(), 4)?;
-    assert_eq!(rt; (ended.bits(), size(&mut ended)), (4, 0));
+    equal(&rt, (ended.bits(), size(&mut ended)), (4, 0));
     Ok(())
 }
 
@@ -25,7 +26,7 @@ fn an_empty_trie_asks_3_times_for_memory(rt: HostRuntime) -> Result<(), BeginErr
 fn a_round_with_no_members_asks_6_times_for_memory(rt: HostRuntime) -> Result<(), BeginError> {
     let (round, crew) = opened(rt.alloc(), 4, 3, 5)?;
     let ended = round.end(crew);
-    assert_eq!(rt; ended.missing(), 0);
+    equal(&rt, ended.missing(), 0);
     Ok(())
 }
 
@@ -34,11 +35,15 @@ pub(super) fn assert_answers(rt: &impl Abort, pass: &mut Pass<Sum, Extent>, s: S
     requires { HasSnapshot pass.old s.number }
     ensures round { pass.new.round ≡ pass.old.round }
 {
-    assert_eq!(rt; (pass.has(s, 5), pass.weight(s, 5)), (true, Some(70)));
-    assert_eq!(rt; (pass.size(s), pass.rank(s, 9)), (2, 1));
-    assert_eq!(rt; pass.select(s, 1), Some(9));
-    assert_eq!(rt; (pass.before(s, 9), pass.after(s, 5)), (Some(5), Some(9)));
-    assert_eq!(rt; pass.range(s, 0, 16).count, 2);
+    equal(rt, (pass.has(s, 5), pass.weight(s, 5)), (true, Some(70)));
+    equal(rt, (pass.size(s), pass.rank(s, 9)), (2, 1));
+    equal(rt, pass.select(s, 1), Some(9));
+    equal(
+        rt,
+        (pass.before(s, 9), pass.after(s, 5)),
+        (Some(5), Some(9)),
+    );
+    equal(rt, pass.range(s, 0, 16).count, 2);
 }
 
 // A round of 4 bits whose passes update, look and come back, the one by way of a half: the trie after it, of 5, which weighs 70, and 9.
@@ -46,16 +51,16 @@ pub(super) fn played(rt: &impl Abort, alloc: Global) -> Result<Trie, BeginError>
     let (round, mut crew) = opened(alloc, 4, 2, 5)?;
     let first = next_pass(&mut crew, &round).expect(rt, "lane 0");
     let (mut first, outcome, _) = to_the_end(first.start_insert(9)).expect(rt, "an end");
-    assert_eq!(rt; outcome, Outcome::Accepted);
+    equal(rt, outcome, Outcome::Accepted);
     let mut second = next_pass(&mut crew, &round).expect(rt, "lane 1");
-    assert_eq!(rt; put(&mut second, 4, 5, 70), Outcome::Accepted);
-    assert!(rt; insert(&mut second, 4, 6));
-    assert!(rt; remove(&mut second, 4, 6));
+    equal(rt, put(&mut second, 4, 5, 70), Outcome::Accepted);
+    holds(rt, insert(&mut second, 4, 6));
+    holds(rt, remove(&mut second, 4, 6));
     let snapshot = second.snapshot();
     assert_answers(rt, &mut second, snapshot);
     let half = second.into_half();
     crew.back(round.pass(half));
-    assert!(rt; !remove(&mut first, 4, 6));
+    holds(rt, !remove(&mut first, 4, 6));
     crew.back(first);
     Ok(round.end(crew))
 }
@@ -65,7 +70,7 @@ fn a_round_of_updates_and_queries_asks_6_times_for_memory(
     rt: HostRuntime,
 ) -> Result<(), BeginError> {
     let mut ended = played(&rt, rt.alloc())?;
-    assert_eq!(rt; (ended.inserts(), size(&mut ended)), (3, 2));
+    equal(&rt, (ended.inserts(), size(&mut ended)), (3, 2));
     Ok(())
 }
 
@@ -84,8 +89,8 @@ fn two_lists_of_a_trie_at_rest_ask_8_times_for_memory(rt: HostRuntime) -> Result
     let mut ended = played(&rt, rt.alloc())?;
     let list = keys(rt.alloc(), &mut ended).expect(&rt, "memory");
     let weighted = pairs(rt.alloc(), &mut ended).expect(&rt, "memory");
-    assert_eq!(rt; list.as_slice(), [5, 9].as_slice());
-    assert_eq!(rt; weighted.as_slice(), [(5, 70), (9, 9)].as_slice());
+    equal(&rt, list.as_slice(), [5, 9].as_slice());
+    equal(&rt, weighted.as_slice(), [(5, 70), (9, 9)].as_slice());
     Ok(())
 }
 
@@ -97,7 +102,7 @@ fn two_lists_of_a_snapshot_ask_12_times_for_memory(rt: HostRuntime) -> Result<()
     let snapshot = pass.snapshot();
     let list = pass.keys(rt.alloc(), snapshot).expect(&rt, "memory");
     let weighted = pass.pairs(rt.alloc(), snapshot).expect(&rt, "memory");
-    assert_eq!(rt; list.as_slice(), [5, 9].as_slice());
-    assert_eq!(rt; weighted.as_slice(), [(5, 70), (9, 9)].as_slice());
+    equal(&rt, list.as_slice(), [5, 9].as_slice());
+    equal(&rt, weighted.as_slice(), [(5, 70), (9, 9)].as_slice());
     Ok(())
 }

@@ -7,6 +7,7 @@ use super::rounds::{Trie, next_pass};
 use aug_model::KeySet;
 use aug_monoid::{Extent, Sum};
 use aug_query::{after, before, has, keys, pairs, range, rank, select, size, weight};
+use aug_testing::{equal, holds};
 use aug_trie::{BeginError, Ended, Pass, Snapshot};
 use std::alloc::Global;
 use std::process::Abort;
@@ -70,9 +71,9 @@ fn update(
     let key = numbers.key(set.bits());
     let weight = numbers.weight();
     match numbers.next() % 8 {
-        0 | 1 => assert_eq!(rt; pass.insert(key), set.insert(key)),
-        2 | 3 | 4 => assert_eq!(rt; pass.remove(key), set.remove(key)),
-        _ => assert_eq!(rt; pass.put(key, weight), set.put(key, weight)),
+        0 | 1 => equal(rt, pass.insert(key), set.insert(key)),
+        2 | 3 | 4 => equal(rt, pass.remove(key), set.remove(key)),
+        _ => equal(rt, pass.put(key, weight), set.put(key, weight)),
     }
 }
 
@@ -90,29 +91,36 @@ pub(super) fn assert_agrees(
     ensures round { pass.new.round ≡ pass.old.round }
     ensures spent { pass.new.spent ≡ pass.old.spent }
 {
-    assert_eq!(rt;
+    equal(
+        rt,
         (pass.has(s, k), pass.weight(s, k)),
-        (set.has(k), set.weight(k))
+        (set.has(k), set.weight(k)),
     );
-    assert_eq!(rt; (pass.size(s), pass.rank(s, k)), (set.size(), set.rank(k)));
-    assert_eq!(rt; pass.select(s, k), set.select(k));
-    assert_eq!(rt;
+    equal(
+        rt,
+        (pass.size(s), pass.rank(s, k)),
+        (set.size(), set.rank(k)),
+    );
+    equal(rt, pass.select(s, k), set.select(k));
+    equal(
+        rt,
         (pass.before(s, k), pass.after(s, k)),
-        (set.before(k), set.after(k))
+        (set.before(k), set.after(k)),
     );
-    assert_eq!(rt; pass.range(s, k, end), set.range(k, end));
+    equal(rt, pass.range(s, k, end), set.range(k, end));
 }
 
 // The lists of keys and of pairs that the set has.
 pub(super) fn assert_lists(rt: &impl Abort, keys: &[u32], pairs: &[(u32, u32)], set: &KeySet) {
-    assert_eq!(rt;
+    equal(
+        rt,
         (keys.len(), pairs.len()),
-        (set.size() as usize, set.size() as usize)
+        (set.size() as usize, set.size() as usize),
     );
     for (place, pair) in pairs.iter().enumerate() {
-        assert_eq!(rt; keys.get(place), Some(&pair.0));
-        assert_eq!(rt; set.select(place as u32), Some(pair.0));
-        assert_eq!(rt; set.weight(pair.0), Some(pair.1));
+        equal(rt, keys.get(place), Some(&pair.0));
+        equal(rt, set.select(place as u32), Some(pair.0));
+        equal(rt, set.weight(pair.0), Some(pair.1));
     }
 }
 
@@ -132,7 +140,7 @@ fn step(
 {
     let early = pass.snapshot();
     plain.before.copy_from(&plain.set);
-    assert!(rt; pass.budget() > 0);
+    holds(rt, pass.budget() > 0);
     update(rt, pass, early, &mut plain.set, numbers);
     let (k, end) = (numbers.key(6), numbers.key(6));
     assert_agrees(rt, pass, early, &plain.before, k, end);
@@ -145,17 +153,19 @@ fn step(
 
 // Asks each query of a trie at rest about a key, and the same of the plain set.
 pub(super) fn assert_rests_at(rt: &impl Abort, ended: &mut Trie, set: &KeySet, k: u32) {
-    assert_eq!(rt;
+    equal(
+        rt,
         (has(ended, k), weight(ended, k)),
-        (set.has(k), set.weight(k))
+        (set.has(k), set.weight(k)),
     );
-    assert_eq!(rt; (size(ended), rank(ended, k)), (set.size(), set.rank(k)));
-    assert_eq!(rt; select(ended, k), set.select(k));
-    assert_eq!(rt;
+    equal(rt, (size(ended), rank(ended, k)), (set.size(), set.rank(k)));
+    equal(rt, select(ended, k), set.select(k));
+    equal(
+        rt,
         (before(ended, k), after(ended, k)),
-        (set.before(k), set.after(k))
+        (set.before(k), set.after(k)),
     );
-    assert_eq!(rt; range(ended, k / 2, k), set.range(k / 2, k));
+    equal(rt, range(ended, k / 2, k), set.range(k / 2, k));
 }
 
 // Asks a trie at rest about the first keys, and for the lists of all.
@@ -177,8 +187,8 @@ fn played(
     numbers: &mut Numbers,
     steps: u32,
 ) -> Result<Trie, BeginError> {
-    assert!(rt; plain.set.bits() == ended.bits());
-    assert!(rt; plain.before.bits() == ended.bits());
+    holds(rt, plain.set.bits() == ended.bits());
+    holds(rt, plain.before.bits() == ended.bits());
     let (round, mut crew) = next_round(alloc, ended, 1, steps)?;
     let mut pass = next_pass(&mut crew, &round).expect(rt, "a lane");
     for _ in 0..steps {

@@ -7,6 +7,7 @@ use super::rounds::{Trie, next_pass, opened, put};
 use super::scripts::assert_lists;
 use aug_model::KeySet;
 use aug_query::{has, pairs};
+use aug_testing::{equal, equal_at, holds};
 use aug_trie::{BeginError, Ended};
 use std::alloc::Global;
 use std::process::Abort;
@@ -15,9 +16,14 @@ use std::process::Abort;
 fn an_empty_trie_is_made_at_each_number_of_bits(rt: HostRuntime) -> Result<(), BeginError> {
     for bits in 1..=16 {
         let mut ended: Trie = Ended::empty(rt.alloc(), bits)?;
-        assert_eq!(rt; (ended.bits(), ended.size()), (bits, 0));
+        equal(&rt, (ended.bits(), ended.size()), (bits, 0));
         let list = pairs(rt.alloc(), &mut ended).expect(&rt, "memory");
-        assert_eq!(rt; (list.len(), has(&mut ended, 0)), (0, false), "{bits} bits");
+        equal_at(
+            &rt,
+            (list.len(), has(&mut ended, 0)),
+            (0, false),
+            format_args!("{bits} bits"),
+        );
     }
     Ok(())
 }
@@ -46,13 +52,14 @@ fn begun(
 ) -> Result<Trie, BeginError> {
     let (round, mut crew) = next_round(alloc, ended, workers, updates)?;
     let mut pass = next_pass(&mut crew, &round).expect(rt, "lane 0");
-    assert_eq!(rt; (pass.lane(), pass.budget()), (0, updates));
+    equal(rt, (pass.lane(), pass.budget()), (0, updates));
     let snapshot = pass.snapshot();
     let list = pass.pairs(alloc, snapshot).expect(rt, "memory");
-    assert_eq!(rt;
+    equal_at(
+        rt,
         list.as_slice(),
         [(0, 70), (1, u32::MAX)].as_slice(),
-        "{workers} workers, {updates} updates"
+        format_args!("{workers} workers, {updates} updates"),
     );
     crew.back(pass);
     Ok(round.end(crew))
@@ -137,12 +144,12 @@ fn grown(
     set: &mut KeySet,
     number: u32,
 ) -> Result<Trie, BeginError> {
-    assert!(rt; set.bits() == ended.bits());
+    holds(rt, set.bits() == ended.bits());
     let bits = set.bits();
     let (round, mut crew) = next_round(alloc, ended, 1, 1)?;
     let mut pass = next_pass(&mut crew, &round).expect(rt, "lane 0");
     let snapshot = pass.snapshot();
-    assert_eq!(rt; pass.size(snapshot), set.size());
+    equal(rt, pass.size(snapshot), set.size());
     let keys = pass.keys(alloc, snapshot).expect(rt, "memory");
     let pairs = pass.pairs(alloc, snapshot).expect(rt, "memory");
     assert_lists(rt, &keys, &pairs, set);
@@ -159,7 +166,7 @@ fn a_round_begins_over_each_number_of_members(rt: HostRuntime) -> Result<(), Beg
     let mut ended: Trie = Ended::empty(rt.alloc(), 9)?;
     let mut set = KeySet::try_new(rt.alloc(), 9).expect(&rt, "a set");
     for members in 0..=300 {
-        assert_eq!(rt; (ended.size(), set.size()), (members, members));
+        equal(&rt, (ended.size(), set.size()), (members, members));
         ended = grown(&rt, rt.alloc(), ended, &mut set, 77 * members)?;
     }
     Ok(())
@@ -186,10 +193,10 @@ fn rounds_over_many_members_begin(rt: HostRuntime) -> Result<(), BeginError> {
         let mut pass = next_pass(&mut crew, &round).expect(&rt, "lane 0");
         let snapshot = pass.snapshot();
         let list = pass.pairs(rt.alloc(), snapshot).expect(&rt, "memory");
-        assert_eq!(rt; list.len(), members as usize);
+        equal(&rt, list.len(), members as usize);
         for (place, pair) in list.iter().enumerate() {
             let key = place as u32;
-            assert_eq!(rt; *pair, (key, u32::MAX - key));
+            equal(&rt, *pair, (key, u32::MAX - key));
         }
     }
     Ok(())

@@ -6,6 +6,7 @@ use super::rounds::{insert, next_pass, opened, remove};
 use aug_model::Outcome;
 use aug_monoid::{Extent, Sum};
 use aug_query::size;
+use aug_testing::{equal, holds};
 use aug_trie::{BeginError, Climb, Pass, Turn};
 use std::alloc::Global;
 
@@ -59,15 +60,19 @@ fn turns_alone_in_a_round_are_the_least(rt: HostRuntime) -> Result<(), BeginErro
         let (round, mut crew) = opened(rt.alloc(), bits, 1, 2)?;
         let pass = next_pass(&mut crew, &round).expect(&rt, "a lane");
         let climb = pass.start_insert(0);
-        assert_eq!(rt; climb.turns_left(), most);
+        equal(&rt, climb.turns_left(), most);
         let (pass, outcome, made) = to_the_end(climb).expect(&rt, "an end");
-        assert_eq!(rt; (outcome, made), (Outcome::Accepted, new));
+        equal(&rt, (outcome, made), (Outcome::Accepted, new));
         let climb = pass.start_insert(0);
-        assert_eq!(rt; climb.turns_left(), most);
+        equal(&rt, climb.turns_left(), most);
         let (mut pass, outcome, made) = to_the_end(climb).expect(&rt, "an end");
-        assert_eq!(rt; (outcome, made), (Outcome::Refused, again));
-        assert_eq!(rt; (pass.inserts(), pass.removals(), pass.budget()), (1, 0, 0));
-        assert_eq!(rt; seen_size(&mut pass), 1);
+        equal(&rt, (outcome, made), (Outcome::Refused, again));
+        equal(
+            &rt,
+            (pass.inserts(), pass.removals(), pass.budget()),
+            (1, 0, 0),
+        );
+        equal(&rt, seen_size(&mut pass), 1);
     }
     Ok(())
 }
@@ -76,19 +81,23 @@ fn turns_alone_in_a_round_are_the_least(rt: HostRuntime) -> Result<(), BeginErro
 fn a_removal_by_turns_takes_the_key_out(rt: HostRuntime) -> Result<(), BeginError> {
     let (round, mut crew) = opened(rt.alloc(), 2, 1, 3)?;
     let mut pass = next_pass(&mut crew, &round).expect(&rt, "a lane");
-    assert!(rt; insert(&mut pass, 2, 3));
+    holds(&rt, insert(&mut pass, 2, 3));
     if pass.budget() < 2 {
         panic!(rt; "no budget")
     }
     let (pass, outcome, made) = to_the_end(pass.start_remove(3)).expect(&rt, "an end");
-    assert_eq!(rt; (outcome, made), (Outcome::Accepted, 26));
+    equal(&rt, (outcome, made), (Outcome::Accepted, 26));
     let (mut pass, outcome, made) = to_the_end(pass.start_remove(3)).expect(&rt, "an end");
-    assert_eq!(rt; (outcome, made), (Outcome::Refused, 25));
-    assert_eq!(rt; (pass.inserts(), pass.removals(), pass.budget()), (1, 1, 0));
-    assert_eq!(rt; seen_size(&mut pass), 0);
+    equal(&rt, (outcome, made), (Outcome::Refused, 25));
+    equal(
+        &rt,
+        (pass.inserts(), pass.removals(), pass.budget()),
+        (1, 1, 0),
+    );
+    equal(&rt, seen_size(&mut pass), 0);
     crew.back(pass);
     let ended = round.end(crew);
-    assert_eq!(rt; counts(&ended), (1, 1, 0));
+    equal(&rt, counts(&ended), (1, 1, 0));
     Ok(())
 }
 
@@ -100,26 +109,26 @@ fn an_update_whose_tries_all_fail_is_shown(rt: HostRuntime) -> Result<(), BeginE
     let mut b = next_pass(&mut crew, &round).expect(&rt, "lane 1");
     let mut c = next_pass(&mut crew, &round).expect(&rt, "lane 2");
     let climb = a.start_insert(0);
-    assert_eq!(rt; climb.turns_left(), 50);
+    equal(&rt, climb.turns_left(), 50);
     let climb = turns(climb, 10).expect(&rt, "before turn 11");
-    assert!(rt; insert(&mut b, 2, 1));
+    holds(&rt, insert(&mut b, 2, 1));
     let climb = turns(climb, 9).expect(&rt, "before turn 20");
-    assert!(rt; remove(&mut c, 2, 1));
+    holds(&rt, remove(&mut c, 2, 1));
     let climb = turns(climb, 15).expect(&rt, "before turn 35");
-    assert!(rt; insert(&mut b, 2, 1));
+    holds(&rt, insert(&mut b, 2, 1));
     let climb = turns(climb, 15).expect(&rt, "before turn 50");
-    assert!(rt; remove(&mut c, 2, 1));
-    assert_eq!(rt; climb.turns_left(), 1);
+    holds(&rt, remove(&mut c, 2, 1));
+    equal(&rt, climb.turns_left(), 1);
     let (mut a, outcome) = last(climb).expect(&rt, "the end at turn 50");
-    assert_eq!(rt; outcome, Outcome::Accepted);
-    assert!(rt; sees(&mut a, 0));
-    assert_eq!(rt; seen_size(&mut a), 1);
+    equal(&rt, outcome, Outcome::Accepted);
+    holds(&rt, sees(&mut a, 0));
+    equal(&rt, seen_size(&mut a), 1);
     crew.back(a);
     crew.back(b);
     crew.back(c);
     let mut ended = round.end(crew);
-    assert_eq!(rt; size(&mut ended), 1);
-    assert_eq!(rt; counts(&ended), (3, 2, 0));
+    equal(&rt, size(&mut ended), 1);
+    equal(&rt, counts(&ended), (3, 2, 0));
     Ok(())
 }
 
@@ -130,17 +139,17 @@ fn an_insertion_that_lost_its_leaf_is_refused(rt: HostRuntime) -> Result<(), Beg
     let a = next_pass(&mut crew, &round).expect(&rt, "lane 0");
     let mut b = next_pass(&mut crew, &round).expect(&rt, "lane 1");
     let climb = turns(a.start_insert(0), 1).expect(&rt, "turn 1");
-    assert!(rt; insert(&mut b, 1, 0));
-    assert!(rt; remove(&mut b, 1, 0));
+    holds(&rt, insert(&mut b, 1, 0));
+    holds(&rt, remove(&mut b, 1, 0));
     let climb = turns(climb, 9).expect(&rt, "turn 10");
     let (mut a, outcome) = last(climb).expect(&rt, "the end at turn 11");
-    assert_eq!(rt; outcome, Outcome::Refused);
-    assert_eq!(rt; seen_size(&mut a), 0);
+    equal(&rt, outcome, Outcome::Refused);
+    equal(&rt, seen_size(&mut a), 0);
     crew.back(a);
     crew.back(b);
     let mut ended = round.end(crew);
-    assert_eq!(rt; size(&mut ended), 0);
-    assert_eq!(rt; counts(&ended), (1, 1, 0));
+    equal(&rt, size(&mut ended), 0);
+    equal(&rt, counts(&ended), (1, 1, 0));
     Ok(())
 }
 
@@ -162,20 +171,20 @@ fn the_root_shows_three_changes_of_a_key_at_once(rt: HostRuntime) -> Result<(), 
     let b = turns(b.start_remove(0), 2).expect(&rt, "two turns");
     let c = turns(c.start_insert(0), 2).expect(&rt, "two turns");
     let (mut a, a_outcome) = nine_more(a).expect(&rt, "the end at turn 11");
-    assert!(rt; sees(&mut a, 0));
+    holds(&rt, sees(&mut a, 0));
     let (mut b, b_outcome) = nine_more(b).expect(&rt, "the end at turn 11");
-    assert!(rt; sees(&mut b, 0));
+    holds(&rt, sees(&mut b, 0));
     let (mut c, c_outcome) = nine_more(c).expect(&rt, "the end at turn 11");
-    assert!(rt; sees(&mut c, 0));
+    holds(&rt, sees(&mut c, 0));
     for outcome in [a_outcome, b_outcome, c_outcome] {
-        assert_eq!(rt; outcome, Outcome::Accepted);
+        equal(&rt, outcome, Outcome::Accepted);
     }
     crew.back(a);
     crew.back(b);
     crew.back(c);
     let mut ended = round.end(crew);
-    assert_eq!(rt; size(&mut ended), 1);
-    assert_eq!(rt; counts(&ended), (2, 1, 0));
+    equal(&rt, size(&mut ended), 1);
+    equal(&rt, counts(&ended), (2, 1, 0));
     Ok(())
 }
 
@@ -187,14 +196,14 @@ fn a_change_of_a_pass_given_up_is_shown_by_its_neighbour(
     let a = next_pass(&mut crew, &round).expect(&rt, "lane 0");
     let mut b = next_pass(&mut crew, &round).expect(&rt, "lane 1");
     drop(turns(a.start_insert(0), 2));
-    assert!(rt; insert(&mut b, 2, 1));
-    assert!(rt; sees(&mut b, 0));
-    assert!(rt; sees(&mut b, 1));
-    assert_eq!(rt; seen_size(&mut b), 2);
+    holds(&rt, insert(&mut b, 2, 1));
+    holds(&rt, sees(&mut b, 0));
+    holds(&rt, sees(&mut b, 1));
+    equal(&rt, seen_size(&mut b), 2);
     crew.back(b);
     let mut ended = round.end(crew);
-    assert_eq!(rt; size(&mut ended), 2);
-    assert_eq!(rt; counts(&ended), (1, 0, 1));
+    equal(&rt, size(&mut ended), 2);
+    equal(&rt, counts(&ended), (1, 0, 1));
     Ok(())
 }
 
@@ -264,7 +273,7 @@ fn a_pass_given_up_after_each_turn_harms_nobody(rt: HostRuntime) {
                 counts: (1, 0, 1),
                 again: !zero,
             };
-            assert_eq!(rt; given_up(rt.alloc(), turned, key), Some(expected));
+            equal(&rt, given_up(rt.alloc(), turned, key), Some(expected));
         }
     }
 }

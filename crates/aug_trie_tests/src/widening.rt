@@ -8,6 +8,7 @@ use super::scripts::{assert_agrees, assert_rests, assert_rests_at};
 use aug_model::{KeySet, Outcome};
 use aug_monoid::{Extent, Sum};
 use aug_query::{before, has, pairs, rank};
+use aug_testing::{equal, holds};
 use aug_trie::{BeginError, Ended, Pass, Round};
 use std::alloc::Global;
 use std::process::Abort;
@@ -65,7 +66,7 @@ fn assert_sees(rt: &impl Abort, pass: &mut Pass<Sum, Extent>, set: &KeySet, bits
 fn assert_ends(rt: &impl Abort, alloc: Global, ended: &mut Trie, set: &KeySet, bits: u32)
     requires { bits ≤ 16 }
 {
-    assert_eq!(rt; (ended.bits(), ended.universe()), (bits, 1 << bits));
+    equal(rt, (ended.bits(), ended.universe()), (bits, 1 << bits));
     assert_rests(rt, alloc, ended, set);
     for k in asked(bits) {
         assert_rests_at(rt, ended, set, k);
@@ -82,9 +83,9 @@ fn fill(rt: &impl Abort, pass: &mut Pass<Sum, Extent>, set: &mut KeySet, bits: u
     ensures set { set.new.bits ≡ set.old.bits }
 {
     for key in set.size()..1 << bits {
-        assert!(rt; key < 65_536);
+        holds(rt, key < 65_536);
         let weight = u32::MAX - key;
-        assert_eq!(rt; put(pass, bits, key, weight), Outcome::Accepted);
+        equal(rt, put(pass, bits, key, weight), Outcome::Accepted);
         set.put(key, weight);
     }
 }
@@ -119,7 +120,11 @@ fn a_full_universe_grows_by_each_step_from_1_to_16_bits(rt: HostRuntime) -> Resu
     for bits in 1..17 {
         ended = filled(&rt, rt.alloc(), ended, &mut set, bits)?;
     }
-    assert_eq!(rt; (ended.size(), counts(&ended)), (65_536, (32_768, 0, 0)));
+    equal(
+        &rt,
+        (ended.size(), counts(&ended)),
+        (65_536, (32_768, 0, 0)),
+    );
     Ok(())
 }
 
@@ -127,14 +132,14 @@ fn a_full_universe_grows_by_each_step_from_1_to_16_bits(rt: HostRuntime) -> Resu
 #[test]
 fn a_full_universe_grows_by_many_bits_at_once(rt: HostRuntime) -> Result<(), BeginError> {
     for (first, next) in [(1, 3), (1, 16), (4, 5), (4, 9), (4, 16), (6, 6), (9, 16)] {
-        assert!(rt; first <= next && next <= 16);
+        holds(&rt, first <= next && next <= 16);
         let mut set = KeySet::try_new(rt.alloc(), 16).expect(&rt, "a set");
         let empty: Trie = Ended::empty(rt.alloc(), first)?;
         let full = filled(&rt, rt.alloc(), empty, &mut set, first)?;
         let (round, crew) = wider(rt.alloc(), full, next, 64, 1)?;
         let mut grown = round.end(crew);
         assert_ends(&rt, rt.alloc(), &mut grown, &set, next);
-        assert_eq!(rt; counts(&grown), (0, 0, 0));
+        equal(&rt, counts(&grown), (0, 0, 0));
         let (round, crew) = next_round(rt.alloc(), grown, 1, 1)?;
         let mut grown = round.end(crew);
         assert_ends(&rt, rt.alloc(), &mut grown, &set, next);
@@ -146,20 +151,21 @@ fn a_full_universe_grows_by_many_bits_at_once(rt: HostRuntime) -> Result<(), Beg
 fn a_key_of_the_new_range_goes_in(rt: HostRuntime) -> Result<(), BeginError> {
     let (round, mut crew) = opened(rt.alloc(), 2, 1, 1)?;
     let mut pass = next_pass(&mut crew, &round).expect(&rt, "a lane");
-    assert!(rt; insert(&mut pass, 2, 3));
+    holds(&rt, insert(&mut pass, 2, 3));
     crew.back(pass);
     let (round, mut crew) = wider(rt.alloc(), round.end(crew), 5, 1, 1)?;
     let mut pass = next_pass(&mut crew, &round).expect(&rt, "a lane");
-    assert!(rt; insert(&mut pass, 5, 31));
-    assert_eq!(rt; (seen_size(&mut pass), sees(&mut pass, 3)), (2, true));
+    holds(&rt, insert(&mut pass, 5, 31));
+    equal(&rt, (seen_size(&mut pass), sees(&mut pass, 3)), (2, true));
     crew.back(pass);
     let mut ended = round.end(crew);
-    assert_eq!(rt;
+    equal(
+        &rt,
         (rank(&mut ended, 32), before(&mut ended, 31)),
-        (2, Some(3))
+        (2, Some(3)),
     );
-    assert_eq!(rt; (has(&mut ended, 3), ended.size()), (true, 2));
-    assert_eq!(rt; counts(&ended), (1, 0, 0));
+    equal(&rt, (has(&mut ended, 3), ended.size()), (true, 2));
+    equal(&rt, counts(&ended), (1, 0, 0));
     Ok(())
 }
 
@@ -175,7 +181,7 @@ fn given_back(
     match Round::begin_wider(alloc, ended, bits, workers, updates) {
         Ok(_) => panic!(rt; "{bits} bits, {workers} workers, {updates} updates"),
         Err((ended, refused)) => {
-            assert_eq!(rt; refused, cause);
+            equal(rt, refused, cause);
             ended
         }
     }
@@ -204,7 +210,7 @@ fn begin_wider_refuses_in_its_order_and_leaves_every_answer(
     ] {
         ended = given_back(&rt, rt.alloc(), ended, numbers, cause);
         assert_ends(&rt, rt.alloc(), &mut ended, &set, 4);
-        assert_eq!(rt; counts(&ended), (3, 1, 0));
+        equal(&rt, counts(&ended), (3, 1, 0));
     }
     let (round, crew) = wider(rt.alloc(), ended, 5, 1, 1)?;
     assert_ends(&rt, rt.alloc(), &mut round.end(crew), &set, 5);
@@ -219,11 +225,11 @@ fn begun(rt: &impl Abort, alloc: Global, ended: Trie) -> Result<(Table, Hands), 
     let mut ended = match Round::begin_wider(alloc, ended, 6, 1, 1) {
         Ok(begun) => return Ok(begun),
         Err((ended, cause)) => {
-            assert_eq!(rt; cause, BeginError::OutOfMemory);
+            equal(rt, cause, BeginError::OutOfMemory);
             ended
         }
     };
-    assert_eq!(rt; (ended.bits(), ended.universe()), (4, 16));
+    equal(rt, (ended.bits(), ended.universe()), (4, 16));
     assert_weights(rt, alloc, &mut ended);
     wider(alloc, ended, 6, 1, 1)
 }
@@ -234,23 +240,24 @@ fn refused_memory_leaves_the_narrower_trie(rt: HostRuntime) -> Result<(), BeginE
     let ended = match heavy(rt.alloc()) {
         Ok(ended) => ended,
         Err(cause) => {
-            assert_eq!(rt; cause, BeginError::OutOfMemory);
+            equal(&rt, cause, BeginError::OutOfMemory);
             heavy(rt.alloc())?
         }
     };
     let (round, mut crew) = begun(&rt, rt.alloc(), ended)?;
     let mut pass = next_pass(&mut crew, &round).expect(&rt, "lane 0");
-    assert_eq!(rt; put(&mut pass, 6, 63, 1), Outcome::Accepted);
+    equal(&rt, put(&mut pass, 6, 63, 1), Outcome::Accepted);
     crew.back(pass);
     let mut ended = round.end(crew);
-    assert_eq!(rt; (ended.bits(), ended.universe()), (6, 64));
+    equal(&rt, (ended.bits(), ended.universe()), (6, 64));
     let list = match pairs(rt.alloc(), &mut ended) {
         Ok(list) => list,
         Err(_) => pairs(rt.alloc(), &mut ended).expect(&rt, "memory"),
     };
-    assert_eq!(rt;
+    equal(
+        &rt,
         list.as_slice(),
-        [(5, 70), (9, u32::MAX), (63, 1)].as_slice()
+        [(5, 70), (9, u32::MAX), (63, 1)].as_slice(),
     );
     Ok(())
 }

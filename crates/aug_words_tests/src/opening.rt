@@ -8,6 +8,7 @@ ghost use Rattle.aug_monoid.specs.Weighted.{FitsPair};
 use super::tables::record_at;
 use aug_core::Layout;
 use aug_monoid::{Extent, Sum};
+use aug_testing::equal;
 use aug_words::{Rest, Words, WordsError};
 use std::alloc::{AllocError, Global};
 
@@ -48,9 +49,13 @@ fn opened(alloc: Global, bits: u32, first: u32, members: u32) -> Result<Rest, Wo
 fn a_table_of_one_bit_opens_with_no_keys(rt: HostRuntime) -> Result<(), WordsError> {
     for members in [0, 2] {
         let rest = opened(rt.alloc(), 1, 2, members)?;
-        assert_eq!(rt; (rest.leaf(0), rest.leaf(1), rest.node(1, 0)), (0, 0, 0));
-        assert_eq!(rt; record_at(&rest, 0), [0, 0, 0, 0, NO_KEYS]);
-        assert_eq!(rt; record_at(&rest, 1), [0; 5]);
+        equal(
+            &rt,
+            (rest.leaf(0), rest.leaf(1), rest.node(1, 0)),
+            (0, 0, 0),
+        );
+        equal(&rt, record_at(&rest, 0), [0, 0, 0, 0, NO_KEYS]);
+        equal(&rt, record_at(&rest, 1), [0; 5]);
     }
     Ok(())
 }
@@ -58,14 +63,16 @@ fn a_table_of_one_bit_opens_with_no_keys(rt: HostRuntime) -> Result<(), WordsErr
 #[test]
 fn a_table_of_one_bit_opens_with_one_key(rt: HostRuntime) -> Result<(), WordsError> {
     let rest = opened(rt.alloc(), 1, 1, 1)?;
-    assert_eq!(rt;
+    equal(
+        &rt,
         (rest.leaf(0), rest.leaf(1), rest.node(1, 0)),
-        (0, 4_294_967_297, 1)
+        (0, 4_294_967_297, 1),
     );
-    assert_eq!(rt; record_at(&rest, 0), [0, 0, 0, 0, NO_KEYS]);
-    assert_eq!(rt;
+    equal(&rt, record_at(&rest, 0), [0, 0, 0, 0, NO_KEYS]);
+    equal(
+        &rt,
         record_at(&rest, 1),
-        [0, 4_294_967_297, 1, 1, 4_294_967_297]
+        [0, 4_294_967_297, 1, 1, 4_294_967_297],
     );
     Ok(())
 }
@@ -73,14 +80,16 @@ fn a_table_of_one_bit_opens_with_one_key(rt: HostRuntime) -> Result<(), WordsErr
 #[test]
 fn a_table_of_one_bit_opens_with_all_keys(rt: HostRuntime) -> Result<(), WordsError> {
     let rest = opened(rt.alloc(), 1, 0, 2)?;
-    assert_eq!(rt;
+    equal(
+        &rt,
         (rest.leaf(0), rest.leaf(1), rest.node(1, 0)),
-        (4_294_967_296, 4_294_967_297, 1)
+        (4_294_967_296, 4_294_967_297, 1),
     );
-    assert_eq!(rt; record_at(&rest, 0), [0, 0, 0, 0, NO_KEYS]);
-    assert_eq!(rt;
+    equal(&rt, record_at(&rest, 0), [0, 0, 0, 0, NO_KEYS]);
+    equal(
+        &rt,
         record_at(&rest, 1),
-        [4_294_967_296, 4_294_967_297, 2, 1, 1]
+        [4_294_967_296, 4_294_967_297, 2, 1, 1],
     );
     Ok(())
 }
@@ -89,16 +98,17 @@ fn a_table_of_one_bit_opens_with_all_keys(rt: HostRuntime) -> Result<(), WordsEr
 fn a_table_of_sixteen_bits_opens_with_no_keys(rt: HostRuntime) -> Result<(), WordsError> {
     for members in [0, 65_536] {
         let rest = opened(rt.alloc(), 16, 65_536, members)?;
-        assert_eq!(rt; (rest.leaf(0), rest.leaf(65_535)), (0, 0));
-        assert_eq!(rt; (rest.node(1, 0), rest.node(1, 32_767)), (0, 0));
-        assert_eq!(rt;
+        equal(&rt, (rest.leaf(0), rest.leaf(65_535)), (0, 0));
+        equal(&rt, (rest.node(1, 0), rest.node(1, 32_767)), (0, 0));
+        equal(
+            &rt,
             (rest.node(2, 0), rest.node(15, 1), rest.node(16, 0)),
-            (1, 14, 15)
+            (1, 14, 15),
         );
-        assert_eq!(rt; record_at(&rest, 0), [0, 0, 0, 0, NO_KEYS]);
-        assert_eq!(rt; record_at(&rest, 1), [0, 0, 0, 0, NO_KEYS]);
-        assert_eq!(rt; record_at(&rest, 15), [14, 14, 0, 0, NO_KEYS]);
-        assert_eq!(rt; record_at(&rest, 16), [0; 5]);
+        equal(&rt, record_at(&rest, 0), [0, 0, 0, 0, NO_KEYS]);
+        equal(&rt, record_at(&rest, 1), [0, 0, 0, 0, NO_KEYS]);
+        equal(&rt, record_at(&rest, 15), [14, 14, 0, 0, NO_KEYS]);
+        equal(&rt, record_at(&rest, 16), [0; 5]);
     }
     Ok(())
 }
@@ -106,19 +116,26 @@ fn a_table_of_sixteen_bits_opens_with_no_keys(rt: HostRuntime) -> Result<(), Wor
 #[test]
 fn a_table_of_sixteen_bits_opens_with_the_last_key(rt: HostRuntime) -> Result<(), WordsError> {
     let rest = opened(rt.alloc(), 16, 65_535, 1)?;
-    assert_eq!(rt; (rest.leaf(65_534), rest.leaf(65_535)), (0, 4_295_032_831));
-    assert_eq!(rt; (rest.node(1, 32_766), rest.node(1, 32_767)), (0, 16));
-    assert_eq!(rt;
+    equal(
+        &rt,
+        (rest.leaf(65_534), rest.leaf(65_535)),
+        (0, 4_295_032_831),
+    );
+    equal(&rt, (rest.node(1, 32_766), rest.node(1, 32_767)), (0, 16));
+    equal(
+        &rt,
         (rest.node(15, 0), rest.node(15, 1), rest.node(16, 0)),
-        (14, 30, 31)
+        (14, 30, 31),
     );
-    assert_eq!(rt;
+    equal(
+        &rt,
         record_at(&rest, 16),
-        [0, 4_295_032_831, 1, 65_535, 281_470_681_808_895]
+        [0, 4_295_032_831, 1, 65_535, 281_470_681_808_895],
     );
-    assert_eq!(rt;
+    equal(
+        &rt,
         record_at(&rest, 31),
-        [14, 30, 1, 65_535, 281_470_681_808_895]
+        [14, 30, 1, 65_535, 281_470_681_808_895],
     );
     Ok(())
 }
@@ -126,33 +143,38 @@ fn a_table_of_sixteen_bits_opens_with_the_last_key(rt: HostRuntime) -> Result<()
 #[test]
 fn a_table_of_sixteen_bits_opens_with_all_keys(rt: HostRuntime) -> Result<(), WordsError> {
     let rest = opened(rt.alloc(), 16, 0, 65_536)?;
-    assert_eq!(rt;
+    equal(
+        &rt,
         (rest.leaf(0), rest.leaf(65_535)),
-        (4_294_967_296, 4_295_032_831)
+        (4_294_967_296, 4_295_032_831),
     );
-    assert_eq!(rt; (rest.node(1, 0), rest.node(1, 32_767)), (16, 32_783));
-    assert_eq!(rt;
+    equal(&rt, (rest.node(1, 0), rest.node(1, 32_767)), (16, 32_783));
+    equal(
+        &rt,
         (rest.node(2, 0), rest.node(15, 1), rest.node(16, 0)),
-        (32_784, 65_549, 65_550)
+        (32_784, 65_549, 65_550),
     );
-    assert_eq!(rt; record_at(&rest, 15), [14, 14, 0, 0, NO_KEYS]);
-    assert_eq!(rt;
+    equal(&rt, record_at(&rest, 15), [14, 14, 0, 0, NO_KEYS]);
+    equal(
+        &rt,
         record_at(&rest, 16),
-        [4_294_967_296, 4_294_967_297, 2, 1, 1]
+        [4_294_967_296, 4_294_967_297, 2, 1, 1],
     );
-    assert_eq!(rt;
+    equal(
+        &rt,
         record_at(&rest, 32_783),
         [
             4_295_032_830,
             4_295_032_831,
             2,
             131_069,
-            281_466_386_841_599
-        ]
+            281_466_386_841_599,
+        ],
     );
-    assert_eq!(rt;
+    equal(
+        &rt,
         record_at(&rest, 65_550),
-        [65_548, 65_549, 65_536, 2_147_450_880, 65_535]
+        [65_548, 65_549, 65_536, 2_147_450_880, 65_535],
     );
     Ok(())
 }
@@ -164,18 +186,21 @@ fn refused_memory_spoils_no_later_opening(rt: HostRuntime) -> Result<(), WordsEr
         Ok(rest) => rest,
         Err(WordsError::OutOfMemory) => opened(rt.alloc(), 2, 2, 2)?,
     };
-    assert_eq!(rt;
+    equal(
+        &rt,
         (rest.leaf(1), rest.leaf(2), rest.leaf(3)),
-        (0, 4_294_967_298, 4_294_967_299)
+        (0, 4_294_967_298, 4_294_967_299),
     );
-    assert_eq!(rt;
+    equal(
+        &rt,
         (rest.node(1, 0), rest.node(1, 1), rest.node(2, 0)),
-        (0, 2, 4)
+        (0, 2, 4),
     );
-    assert_eq!(rt;
+    equal(
+        &rt,
         record_at(&rest, 2),
-        [4_294_967_298, 4_294_967_299, 2, 5, 8_589_934_595]
+        [4_294_967_298, 4_294_967_299, 2, 5, 8_589_934_595],
     );
-    assert_eq!(rt; record_at(&rest, 4), [0, 2, 2, 5, 8_589_934_595]);
+    equal(&rt, record_at(&rest, 4), [0, 2, 2, 5, 8_589_934_595]);
     Ok(())
 }

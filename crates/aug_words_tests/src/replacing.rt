@@ -6,6 +6,7 @@ ghost use Rattle.aug_core.specs.Told.{MayChange};
 use super::tables::record_at;
 use aug_core::Layout;
 use aug_monoid::{Extent, Monoid, Sum};
+use aug_testing::{equal, holds};
 use aug_words::{Rest, WordPass, Words, WordsError};
 use std::alloc::Global;
 
@@ -42,10 +43,10 @@ fn replaced(alloc: Global, weight: u32) -> Result<(bool, Rest), WordsError>
 #[test]
 fn a_weight_is_replaced_by_one_exchange(rt: HostRuntime) -> Result<(), WordsError> {
     let (done, rest) = replaced(rt.alloc(), 8)?;
-    assert!(rt; done);
-    assert_eq!(rt; (rest.leaf(0), rest.leaf(1)), (12_884_901_896, 0));
-    assert_eq!(rt; rest.node(1, 0), 1);
-    assert_eq!(rt; record_at(&rest, 1), [4_294_967_296, 0, 1, 0, 0]);
+    holds(&rt, done);
+    equal(&rt, (rest.leaf(0), rest.leaf(1)), (12_884_901_896, 0));
+    equal(&rt, rest.node(1, 0), 1);
+    equal(&rt, record_at(&rest, 1), [4_294_967_296, 0, 1, 0, 0]);
     Ok(())
 }
 
@@ -58,8 +59,8 @@ fn the_word_of_a_leaf_has_its_serial_and_its_weight(rt: HostRuntime) -> Result<(
         (u32::MAX, 17_179_869_183),
     ] {
         let (done, rest) = replaced(rt.alloc(), weight)?;
-        assert!(rt; done);
-        assert_eq!(rt; rest.leaf(0), word);
+        holds(&rt, done);
+        equal(&rt, rest.leaf(0), word);
     }
     Ok(())
 }

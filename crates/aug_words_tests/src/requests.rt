@@ -2,6 +2,7 @@
 //! requests, for its words while they are made and for its two rows (one row is empty). Nothing else asks.
 use super::tables::small;
 use super::working::{Filled, next_half, work};
+use aug_testing::equal;
 use aug_words::WordsError;
 
 #[test]
@@ -10,7 +11,7 @@ fn a_table_that_is_opened_and_closed_asks_3_times_for_memory(
 ) -> Result<(), WordsError> {
     let (words, lead) = small(rt.alloc())?;
     let rest = words.close(lead);
-    assert_eq!(rt; (rest.leaf(0), rest.leaf(3)), (4_294_967_296, 0));
+    equal(&rt, (rest.leaf(0), rest.leaf(3)), (4_294_967_296, 0));
     Ok(())
 }
 
@@ -23,7 +24,7 @@ fn a_table_that_passes_work_on_asks_3_times_for_memory(rt: HostRuntime) -> Resul
     lead.join(words.pass(half));
     let Filled { half, words: two } = work(&words, second, 9, 20);
     lead.join(words.pass(half));
-    assert_eq!(rt; one, [10, 11, 12, 13, 14]);
-    assert_eq!(rt; two, [20, 21, 22, 23, 24]);
+    equal(&rt, one, [10, 11, 12, 13, 14]);
+    equal(&rt, two, [20, 21, 22, 23, 24]);
     Ok(())
 }

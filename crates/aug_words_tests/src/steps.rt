@@ -9,6 +9,7 @@ ghost use Rattle.aug_words.specs.Seats.{AreTogether};
 use super::tables::record_at;
 use aug_core::{Layout, RecordField};
 use aug_monoid::{Extent, Monoid, Sum, fold_slice};
+use aug_testing::equal;
 use aug_words::{Lead, WordPass, Words, WordsError};
 use std::alloc::Global;
 
@@ -170,6 +171,6 @@ fn a_record_is_filled_again_after_a_lost_exchange(rt: HostRuntime) -> Result<(),
         node: 2,
         records: [[4_294_967_296, 4_294_967_297, 2, 1, 1]; 2],
     };
-    assert_eq!(rt; race(rt.alloc())?, expected);
+    equal(&rt, race(rt.alloc())?, expected);
     Ok(())
 }

@@ -6,6 +6,7 @@ ghost use Rattle.aug_core.specs.Places.{shape_of};
 use super::opening::keys_from;
 use aug_core::Layout;
 use aug_monoid::{Extent, Sum};
+use aug_testing::{equal_at, holds};
 use aug_words::{Rest, Words, WordsError};
 use std::alloc::Global;
 use std::process::Abort;
@@ -50,7 +51,12 @@ fn assert_opens(
         } else {
             4_294_967_296 + u64::from(key)
         };
-        assert_eq!(rt; rest.leaf(key), word, "leaf {key} of {bits} bits");
+        equal_at(
+            rt,
+            rest.leaf(key),
+            word,
+            format_args!("leaf {key} of {bits} bits"),
+        );
     }
     Ok(())
 }
@@ -71,12 +77,12 @@ fn a_table_opens_with_each_number_of_members(rt: HostRuntime) -> Result<(), Word
 fn a_table_opens_with_many_members(rt: HostRuntime) -> Result<(), WordsError> {
     for bits in 11..=16 {
         for members in [0, 1, 100, 255, 256, 257, 1_000, 2_047, 2_048] {
-            assert!(rt; members <= 1 << bits);
+            holds(&rt, members <= 1 << bits);
             assert_opens(&rt, rt.alloc(), bits, members, 1, 1)?;
         }
     }
     for members in [4_096, 10_000, 32_768, 65_535, 65_536] {
-        assert!(rt; members <= 65_536);
+        holds(&rt, members <= 65_536);
         assert_opens(&rt, rt.alloc(), 16, members, 1, 1)?;
     }
     Ok(())

@@ -5,6 +5,7 @@ ghost use Rattle.aug_words.specs.Seats.{AreTogether};
 
 use aug_core::{Layout, RecordField};
 use aug_monoid::{Extent, Sum};
+use aug_testing::{equal, equal_at};
 use aug_words::{Lead, Rest, Words, WordsError};
 use std::alloc::{AllocError, Global};
 
@@ -40,21 +41,22 @@ fn a_table_opens_with_its_members(rt: HostRuntime) -> Result<(), WordsError> {
     let (words, lead) = small(rt.alloc())?;
     let root = lead.root();
     let rest = words.close(lead);
-    assert_eq!(rt; rest.node(2, 0), root);
+    equal(&rt, rest.node(2, 0), root);
     for (key, word) in [(0, 4_294_967_296), (1, 4_294_967_297), (2, 0), (3, 0)] {
-        assert_eq!(rt; rest.leaf(key), word, "leaf {key}");
+        equal_at(&rt, rest.leaf(key), word, format_args!("leaf {key}"));
     }
-    assert_eq!(rt; rest.node(1, 0), 2);
-    assert_eq!(rt; rest.node(1, 1), 0);
-    assert_eq!(rt; rest.node(2, 0), 4);
-    assert_eq!(rt; record_at(&rest, 0), [0, 0, 0, 0, 4_294_967_296]);
-    assert_eq!(rt; record_at(&rest, 1), [0, 0, 0, 0, 4_294_967_296]);
-    assert_eq!(rt;
+    equal(&rt, rest.node(1, 0), 2);
+    equal(&rt, rest.node(1, 1), 0);
+    equal(&rt, rest.node(2, 0), 4);
+    equal(&rt, record_at(&rest, 0), [0, 0, 0, 0, 4_294_967_296]);
+    equal(&rt, record_at(&rest, 1), [0, 0, 0, 0, 4_294_967_296]);
+    equal(
+        &rt,
         record_at(&rest, 2),
-        [4_294_967_296, 4_294_967_297, 2, 1, 1]
+        [4_294_967_296, 4_294_967_297, 2, 1, 1],
     );
-    assert_eq!(rt; record_at(&rest, 3), [0; 5]);
-    assert_eq!(rt; record_at(&rest, 4), [2, 0, 2, 1, 1]);
+    equal(&rt, record_at(&rest, 3), [0; 5]);
+    equal(&rt, record_at(&rest, 4), [2, 0, 2, 1, 1]);
     Ok(())
 }
 
@@ -62,8 +64,8 @@ fn a_table_opens_with_its_members(rt: HostRuntime) -> Result<(), WordsError> {
 fn a_refusal_is_printed_by_its_name(rt: HostRuntime) -> Result<(), AllocError> {
     let cause = WordsError::OutOfMemory;
     let clone = cause.clone()?;
-    assert_eq!(rt; clone, cause);
+    equal(&rt, clone, cause);
     let printed = format!(in rt.alloc(); "{clone} {clone:?}")?;
-    assert_eq!(rt; printed.as_str(), "OutOfMemory OutOfMemory");
+    equal(&rt, printed.as_str(), "OutOfMemory OutOfMemory");
     Ok(())
 }

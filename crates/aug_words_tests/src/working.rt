@@ -7,6 +7,7 @@ ghost use Rattle.aug_words.specs.Seats.{AreTogether};
 use super::tables::{Table, record_at, small};
 use aug_core::RecordField;
 use aug_monoid::{Extent, Sum};
+use aug_testing::equal;
 use aug_words::{Lead, WordHalf, WordPass, WordsError};
 use std::alloc::Global;
 use std::sync::Wait;
@@ -155,7 +156,7 @@ fn three_passes_fill_their_records(rt: HostRuntime) -> Result<(), WordsError> {
         [20, 21, 22, 23, 24],
         [30, 31, 32, 33, 34],
     ];
-    assert_eq!(rt; done.read, filled);
-    assert_eq!(rt; done.records, filled);
+    equal(&rt, done.read, filled);
+    equal(&rt, done.records, filled);
     Ok(())
 }

@@ -23,7 +23,10 @@ impl Model for Last {
 }
 
 impl Last {
-    pub fn value(self) -> Option<u32> {
+    /// The last key, if there is one.
+    pub fn value(self) -> Option<u32>
+        ensures { result ≡ self }
+    {
         self.key
     }
 }

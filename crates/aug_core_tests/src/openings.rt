@@ -1,4 +1,7 @@
-use super::*;
+//! The key of an opening.
+
+use aug_core::{Layout, OpeningKey};
+use aug_testing::equal;
 use std::mem::size_of;
 use std::test::Fail;
 
@@ -7,6 +10,6 @@ use std::test::Fail;
 fn an_opening_key_has_no_bytes(rt: HostRuntime) -> Result<(), Fail> {
     let layout = Layout::new(2, 3, 2, 2)?;
     let _key = OpeningKey::new(&layout, &[(0, 0), (1, 1)]);
-    assert_eq!(rt; size_of::<OpeningKey>(), 0);
+    equal(&rt, size_of::<OpeningKey>(), 0);
     Ok(())
 }

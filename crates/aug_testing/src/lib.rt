@@ -1,0 +1,8 @@
+//! What the tests of several crates use: assertions as calls, and a monoid whose join is not commutative.
+#![tactic(auto)]
+
+mod assertions;
+mod last;
+
+pub use assertions::{equal, equal_at, holds, holds_at};
+pub use last::Last;

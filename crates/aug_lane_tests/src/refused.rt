@@ -3,7 +3,7 @@
 use super::rounds::{Trie, Work, back, begun};
 use aug_lane::Running;
 use aug_query::{keys, pairs};
-use aug_testing::{equal, holds};
+use aug_testing::{equal, equal_length, holds};
 use aug_trie::{BeginError, Ended};
 use std::alloc::Global;
 use std::process::Abort;
@@ -55,7 +55,7 @@ fn refused_memory_leaves_the_set(rt: HostRuntime) -> Result<(), BeginError> {
         Ok(list) => list,
         Err(_) => keys(rt.alloc(), &mut ended).expect(&rt, "memory"),
     };
-    equal(&rt, list.len(), size as usize);
+    equal_length(&rt, list.len(), size as usize);
     Ok(())
 }
 

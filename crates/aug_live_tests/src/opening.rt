@@ -3,7 +3,7 @@
 use aug_live::{Handle, Live, LiveError, Plan};
 use aug_model::Outcome;
 use aug_monoid::{Extent, Sum};
-use aug_testing::{equal, holds};
+use aug_testing::{equal, equal_length, holds};
 use aug_trie::{BeginError, Ended, Members};
 use std::alloc::Global;
 use std::process::Abort;
@@ -214,10 +214,10 @@ fn a_trie_opens_over_the_set_that_another_closed_with(rt: HostRuntime) -> Result
     let Ok((live, mut hands)) = Live::<Sum, Extent>::open(&rt, rt.alloc(), set, 3, 1 << 20) else {
         panic!(rt; "not opened");
     };
-    equal(&rt, hands.len(), 3);
+    equal_length(&rt, hands.len(), 3);
     let hand = hands.pop().expect(&rt, "a handle");
     let (_, list) = listed(&rt, rt.alloc(), hand);
-    equal(&rt, list.len(), 10);
+    equal_length(&rt, list.len(), 10);
     equal(&rt, list.as_slice().first().copied(), Some((0, 0)));
     drop(hands);
     let (set, counts) = live.close(&rt);
@@ -242,7 +242,7 @@ fn open_refuses_numbers_in_their_order(rt: HostRuntime) -> Result<(), BeginError
         equal(&rt, opened.err(), Some(cause));
     }
     let (live, hands) = opened(&rt, rt.alloc(), 16, 64, 1)?;
-    equal(&rt, hands.len(), 64);
+    equal_length(&rt, hands.len(), 64);
     equal(&rt, live.close(&rt).0.size(), 0);
     Ok(())
 }

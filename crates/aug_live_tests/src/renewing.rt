@@ -3,7 +3,7 @@
 use super::opening::{Trie, insert, listed, opened, remove};
 use super::rolling::{jobs, work};
 use aug_live::LiveError;
-use aug_testing::{equal, holds};
+use aug_testing::{equal, equal_length, holds};
 use aug_trie::BeginError;
 use std::alloc::Global;
 use std::sync::Wait;
@@ -22,7 +22,7 @@ fn a_new_handle_goes_on_where_a_dropped_one_ended(rt: HostRuntime) -> Result<(),
     };
     equal(&rt, hand.universe(), 64);
     let (mut hand, list) = listed(&rt, rt.alloc(), hand);
-    equal(&rt, list.len(), 8);
+    equal_length(&rt, list.len(), 8);
     equal(&rt, insert(&rt, &mut hand, 0), Ok(false));
     for k in 8..16 {
         equal(&rt, insert(&rt, &mut hand, k), Ok(true));

@@ -3,7 +3,7 @@
 use super::opening::{Hand, Trie, insert, listed, no_keys, opened_with};
 use super::rolling::{jobs, work};
 use aug_live::{Live, Plan};
-use aug_testing::{equal, holds};
+use aug_testing::{equal, equal_length, holds};
 use aug_trie::BeginError;
 use std::process::Abort;
 use std::sync::Wait;
@@ -23,7 +23,7 @@ fn a_round_rolls_over_once_no_spare_lane_is_left(rt: HostRuntime) -> Result<(), 
         let mut hand = hands.pop().expect(&rt, "a handle");
         fill(&rt, &mut hand, 0, 21 + extra);
         let (hand, list) = listed(&rt, rt.alloc(), hand);
-        equal(&rt, list.len(), 21 + extra as usize);
+        equal_length(&rt, list.len(), 21 + extra as usize);
         drop(hand);
         let (set, counts) = live.close(&rt);
         equal(&rt, set.size(), 21 + extra);
@@ -180,7 +180,7 @@ fn a_trie_opens_within_the_memory_of_a_table(rt: HostRuntime) -> Result<(), Begi
     let Ok((live, mut hands)) = opened else {
         panic!(&rt; "not opened");
     };
-    equal(&rt, hands.len(), 4);
+    equal_length(&rt, hands.len(), 4);
     let mut hand = hands.pop().expect(&rt, "a handle");
     fill(&rt, &mut hand, 0, 64);
     let (set, counts) = live.close(&rt);

@@ -1,7 +1,7 @@
 //! Sources that are read to their end, or to the limit of a script.
 use aug_run::{ReadError, read_all};
 use aug_script::MemorySource;
-use aug_testing::{equal, equal_at};
+use aug_testing::{equal, equal_at, equal_length};
 use std::alloc::Global;
 use std::test::Fail;
 
@@ -34,7 +34,7 @@ fn one_byte_past_the_limit_is_too_long(rt: HostRuntime) -> Result<(), Fail> {
     let mut bytes = vec![in rt.alloc(); 0; 16_777_216]?;
     let mut source = MemorySource::new(bytes.as_slice(), usize::MAX, None);
     let read = read_all(rt.alloc(), &mut source).ok().ok_or("no bytes")?;
-    equal(&rt, read.len(), 16_777_216);
+    equal_length(&rt, read.len(), 16_777_216);
     bytes.extend_from_slice(&[0; 3])?;
     let mut source = MemorySource::new(bytes.as_slice(), usize::MAX, None);
     equal(
@@ -42,7 +42,7 @@ fn one_byte_past_the_limit_is_too_long(rt: HostRuntime) -> Result<(), Fail> {
         read_all(rt.alloc(), &mut source).err(),
         Some(ReadError::TooLong),
     );
-    equal(&rt, source.rest.len(), 2);
+    equal_length(&rt, source.rest.len(), 2);
     Ok(())
 }
 

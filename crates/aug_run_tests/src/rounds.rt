@@ -3,7 +3,7 @@ use crate::plain::plain_replies;
 use aug_query::pairs;
 use aug_run::{Gate, Open, Trie, run_round};
 use aug_script::{Limits, Reply, Report, Script, Verb};
-use aug_testing::{equal, holds_at};
+use aug_testing::{equal, equal_length, holds_at};
 use aug_trie::Ended;
 use std::alloc::{AllocError, Global};
 use std::process::Abort;
@@ -68,7 +68,7 @@ fn three_lanes<R: Threads + Wait + Abort>(rt: &R, alloc: Global) -> Result<(), A
         (report.size, report.inserts, report.removals),
         (12, 12, 0),
     );
-    equal(rt, report.rows.as_slice().len(), 27);
+    equal_length(rt, report.rows.as_slice().len(), 27);
     let mut next = 0u64;
     for (row, reply) in report.rows.as_slice() {
         next = next.wrapping_add(1);
@@ -232,7 +232,7 @@ fn a_round_goes_on_from_the_one_before(rt: HostRuntime) -> Result<(), Fail> {
     let run = run_text(&rt, rt.alloc(), 1, text, &Open)?;
     let (ended, mut reports) = run.expect(&rt, "reports");
     equal(&rt, (ended.size(), ended.missing()), (2, 0));
-    equal(&rt, reports.len(), 2);
+    equal_length(&rt, reports.len(), 2);
     let second = reports.pop().expect(&rt, "the second report");
     equal(&rt, second.number, 2);
     equal(
@@ -263,7 +263,7 @@ fn a_round_of_more_bits_goes_on_from_the_one_before(rt: HostRuntime) -> Result<(
         members.as_slice(),
         [(15, 80), (65_535, 65_535)].as_slice(),
     );
-    equal(&rt, reports.len(), 2);
+    equal_length(&rt, reports.len(), 2);
     Ok(())
 }
 
@@ -272,7 +272,7 @@ fn lanes_without_rows_come_back(rt: HostRuntime) -> Result<(), Fail> {
     let run = run_text(&rt, rt.alloc(), 64, "*,end\n", &Open)?;
     let (ended, reports) = run.expect(&rt, "a report");
     equal(&rt, (ended.size(), ended.missing()), (0, 0));
-    equal(&rt, reports.len(), 1);
+    equal_length(&rt, reports.len(), 1);
     Ok(())
 }
 

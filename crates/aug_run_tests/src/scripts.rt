@@ -1,7 +1,7 @@
 //! Whole scripts, with what they print.
 use aug_run::{RunError, run};
 use aug_script::{Limits, MemorySink, MemorySource, ScriptError};
-use aug_testing::{equal, equal_at, holds};
+use aug_testing::{equal, equal_at, equal_length, holds};
 use std::alloc::{AllocError, Global};
 use std::process::Abort;
 use std::sync::Wait;
@@ -452,7 +452,7 @@ fn a_source_that_fails_prints_nothing(rt: HostRuntime) -> Result<(), Fail> {
 fn a_sink_that_fails_has_a_beginning(rt: HostRuntime) -> Result<(), Fail> {
     let alloc = rt.alloc();
     let limits = Limits::try_new(4, 1, 64).ok().ok_or("limits")?;
-    equal(&rt, FIRST_REPORT.len(), 166);
+    equal_length(&rt, FIRST_REPORT.len(), 166);
     // The last of these calls is `finish`.
     for fault_at in 0..167u64 {
         let mut source = MemorySource::new(FIRST_SCRIPT.as_bytes(), usize::MAX, None);
@@ -558,7 +558,7 @@ fn refused_memory_is_told_behind_whole_reports(rt: HostRuntime) {
     let first =
         "1 0 insert 1 = new\n1 0 insert 2 = new\n1 0 insert 3 = new\n1 end size=3 in=3 out=0\n";
     let second = "2 0 remove 2 = gone\n2 0 look = ok\n2 0 select 1 = 3\n2 end size=2 in=0 out=1\n";
-    equal(&rt, first.len(), 81);
+    equal_length(&rt, first.len(), 81);
     let (mut result, mut sink) = into_room(&rt, rt.alloc(), script);
     if result.is_err() {
         equal(&rt, result, Err(RunError::OutOfMemory));
@@ -570,7 +570,7 @@ fn refused_memory_is_told_behind_whole_reports(rt: HostRuntime) {
         (result, sink) = into_room(&rt, rt.alloc(), script);
     }
     equal(&rt, result, Ok(()));
-    equal(&rt, sink.out.len(), first.len() + second.len());
+    equal_length(&rt, sink.out.len(), first.len() + second.len());
     holds(&rt, sink.out.as_slice().starts_with(first.as_bytes()));
     holds(&rt, sink.out.as_slice().ends_with(second.as_bytes()));
 }

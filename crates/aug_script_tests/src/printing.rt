@@ -3,7 +3,7 @@ use super::reading::{rounds_of, row};
 use aug_model::Summary;
 use aug_monoid::{Extent, Sum, fold_slice};
 use aug_script::{Fault, Listed, MemorySink, PrintError, Reply, Report, Verb, print};
-use aug_testing::{equal, equal_at, holds};
+use aug_testing::{equal, equal_at, equal_length, holds};
 use std::alloc::{AllocError, Global};
 use std::test::Fail;
 
@@ -116,8 +116,8 @@ fn rows_of_keys_with_weights_are_read_and_printed(rt: HostRuntime) -> Result<(),
         (row(8, 0, Verb::Range(0, 16)), span(2, &[(5, 7), (9, 9)])),
     ];
     let rounds = rounds_of(alloc, WEIGHED, 1, 64)?;
-    equal(&rt, rounds.len(), 1);
-    equal(&rt, rounds[0].as_slice().len(), lines.len());
+    equal_length(&rt, rounds.len(), 1);
+    equal_length(&rt, rounds[0].as_slice().len(), lines.len());
     let mut inserts = 0u32;
     let mut removals = 0u32;
     for (read, line) in rounds[0].as_slice().iter().zip(lines.as_slice()) {

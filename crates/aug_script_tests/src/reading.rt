@@ -1,7 +1,7 @@
 //! Scripts as they are read.
 use aug_core::LayoutError;
 use aug_script::{Limits, Listed, Row, Script, ScriptError, Verb};
-use aug_testing::{equal, equal_at};
+use aug_testing::{equal, equal_at, equal_length};
 use std::alloc::Global;
 use std::test::Fail;
 
@@ -76,7 +76,7 @@ fn every_verb_is_read(rt: HostRuntime) -> Result<(), Fail> {
     let script =
         "0,insert,1\n1,remove,2\n0,look\n1,has,3\n0,size\n1,rank,4\n0,select,5\n1,before,6\n0,after,7\n1,range,8,9\n0,put,10,11\n1,weight,12\n";
     let rounds = rounds_of(rt.alloc(), script, 2, 64)?;
-    equal(&rt, rounds.len(), 1);
+    equal_length(&rt, rounds.len(), 1);
     let rows = [
         row(1, 0, Verb::Insert(1)),
         row(2, 1, Verb::Remove(2)),
@@ -98,7 +98,7 @@ fn every_verb_is_read(rt: HostRuntime) -> Result<(), Fail> {
 #[test]
 fn quotes_blank_lines_line_ends_and_leading_zeros(rt: HostRuntime) -> Result<(), Fail> {
     let rounds = rounds_of(rt.alloc(), "\"0\",\"insert\",\"005\"\r\n\r\n0,look", 1, 64)?;
-    equal(&rt, rounds.len(), 1);
+    equal_length(&rt, rounds.len(), 1);
     let rows = [row(1, 0, Verb::Insert(5)), row(2, 0, Verb::Look)];
     equal(&rt, rounds[0].as_slice(), rows.as_slice());
     Ok(())
@@ -200,7 +200,7 @@ fn arguments_up_to_their_bounds_are_taken(rt: HostRuntime) -> Result<(), Fail> {
 #[test]
 fn a_weight_is_any_number(rt: HostRuntime) -> Result<(), Fail> {
     let rounds = rounds_of(rt.alloc(), "0,put,1,999999999\n0,put,1,0\n", 1, 64)?;
-    equal(&rt, rounds.len(), 1);
+    equal_length(&rt, rounds.len(), 1);
     let rows = [
         row(1, 0, Verb::Put(1, 999_999_999)),
         row(2, 0, Verb::Put(1, 0)),
@@ -212,7 +212,7 @@ fn a_weight_is_any_number(rt: HostRuntime) -> Result<(), Fail> {
 #[test]
 fn lanes_are_below_the_workers(rt: HostRuntime) -> Result<(), Fail> {
     let rounds = rounds_of(rt.alloc(), "63,look\n0,look\n", 64, 64)?;
-    equal(&rt, rounds.len(), 1);
+    equal_length(&rt, rounds.len(), 1);
     let rows = [row(1, 63, Verb::Look), row(2, 0, Verb::Look)];
     equal(&rt, rounds[0].as_slice(), rows.as_slice());
     let limits = Limits::try_new(4, 64, 64)?;
@@ -231,9 +231,9 @@ fn updates_are_limited_in_each_round(rt: HostRuntime) -> Result<(), Fail> {
         Some(ScriptError::TooManyUpdates(3)),
     );
     let two = rounds_of(alloc, "0,insert,1\n0,remove,1\n", 1, 2)?;
-    equal(&rt, two.len(), 1);
+    equal_length(&rt, two.len(), 1);
     let ended = rounds_of(alloc, "0,insert,1\n0,remove,1\n*,end\n0,insert,1\n", 1, 2)?;
-    equal(&rt, ended.len(), 2);
+    equal_length(&rt, ended.len(), 2);
     let first = [row(1, 0, Verb::Insert(1)), row(2, 0, Verb::Remove(1))];
     equal(&rt, ended[0].as_slice(), first.as_slice());
     equal(
@@ -305,7 +305,7 @@ fn rows_keep_their_numbers_past_the_end_of_a_round(rt: HostRuntime) -> Result<()
     let script =
         "0,insert,1\n0,insert,2\n0,insert,3\n*,end\n0,remove,2\n0,look\n0,select,1\n*,end\n";
     let rounds = rounds_of(rt.alloc(), script, 1, 64)?;
-    equal(&rt, rounds.len(), 2);
+    equal_length(&rt, rounds.len(), 2);
     let first = [
         row(1, 0, Verb::Insert(1)),
         row(2, 0, Verb::Insert(2)),
@@ -380,7 +380,7 @@ fn a_round_is_wider_than_the_one_before(rt: HostRuntime) -> Result<(), Fail> {
     let script =
         "0,insert,3\n*,end\n*,grow,5\n0,insert,31\n0,look\n0,rank,32\n0,before,31\n0,has,3\n";
     let script = Script::read(rt.alloc(), script.as_bytes(), &limits)?;
-    equal(&rt, script.rounds().len(), 2);
+    equal_length(&rt, script.rounds().len(), 2);
     let narrow = &script.rounds()[0];
     equal(&rt, narrow.bits, 2);
     equal(
@@ -501,7 +501,7 @@ fn refused_memory_is_told_by_reading(rt: HostRuntime) -> Result<(), Fail> {
     for _ in 0..2 {
         match Script::read(rt.alloc(), b"0,insert,5\n*,end\n1,look\n", &limits) {
             Ok(script) => {
-                equal(&rt, script.rounds().len(), 2);
+                equal_length(&rt, script.rounds().len(), 2);
                 let first = [row(1, 0, Verb::Insert(5))];
                 equal(&rt, script.rounds()[0].rows.as_slice(), first.as_slice());
                 let second = [row(3, 1, Verb::Look)];

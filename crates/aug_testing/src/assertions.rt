@@ -1,6 +1,6 @@
 //! Assertions as calls. A test is proved like any function, and a call takes a sixth of the time that `assert_eq!` takes, which branches in
 //! the test itself. If one fails, the line of the call is named, since this is a library.
-ghost use Rattle.std.specs.Prelude.{IsTrue};
+ghost use Rattle.std.specs.Prelude.{◌≡◌, IsTrue};
 
 use std::fmt::{Debug, Display};
 use std::process::Abort;
@@ -18,6 +18,13 @@ pub fn equal_at<T: PartialEq + Debug + Drop>(
     place: impl Display + Drop,
 ) {
     assert_eq!(rt; found, expected, "{place}");
+}
+
+/// Ends the test unless a length is the expected one. What follows may rely on it.
+pub fn equal_length(rt: &impl Abort, found: usize, expected: usize)
+    ensures { found ≡ expected }
+{
+    assert_eq!(rt; found, expected, "of a length");
 }
 
 /// Ends the test unless a condition holds. What follows may rely on it.

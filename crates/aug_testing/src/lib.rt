@@ -4,5 +4,5 @@
 mod assertions;
 mod last;
 
-pub use assertions::{equal, equal_at, holds, holds_at};
+pub use assertions::{equal, equal_at, equal_length, holds, holds_at};
 pub use last::Last;

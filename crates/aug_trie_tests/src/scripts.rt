@@ -7,7 +7,7 @@ use super::rounds::{Trie, next_pass};
 use aug_model::KeySet;
 use aug_monoid::{Extent, Sum};
 use aug_query::{after, before, has, keys, pairs, range, rank, select, size, weight};
-use aug_testing::{equal, holds};
+use aug_testing::{equal, equal_length, holds};
 use aug_trie::{BeginError, Ended, Pass, Snapshot};
 use std::alloc::Global;
 use std::process::Abort;
@@ -112,11 +112,8 @@ pub(super) fn assert_agrees(
 
 // The lists of keys and of pairs that the set has.
 pub(super) fn assert_lists(rt: &impl Abort, keys: &[u32], pairs: &[(u32, u32)], set: &KeySet) {
-    equal(
-        rt,
-        (keys.len(), pairs.len()),
-        (set.size() as usize, set.size() as usize),
-    );
+    equal_length(rt, keys.len(), set.size() as usize);
+    equal_length(rt, pairs.len(), set.size() as usize);
     for (place, pair) in pairs.iter().enumerate() {
         equal(rt, keys.get(place), Some(&pair.0));
         equal(rt, set.select(place as u32), Some(pair.0));

@@ -7,7 +7,7 @@ use super::rounds::{Trie, next_pass, opened, put};
 use super::scripts::assert_lists;
 use aug_model::KeySet;
 use aug_query::{has, pairs};
-use aug_testing::{equal, equal_at, holds};
+use aug_testing::{equal, equal_at, equal_length, holds};
 use aug_trie::{BeginError, Ended};
 use std::alloc::Global;
 use std::process::Abort;
@@ -193,7 +193,7 @@ fn rounds_over_many_members_begin(rt: HostRuntime) -> Result<(), BeginError> {
         let mut pass = next_pass(&mut crew, &round).expect(&rt, "lane 0");
         let snapshot = pass.snapshot();
         let list = pass.pairs(rt.alloc(), snapshot).expect(&rt, "memory");
-        equal(&rt, list.len(), members as usize);
+        equal_length(&rt, list.len(), members as usize);
         for (place, pair) in list.iter().enumerate() {
             let key = place as u32;
             equal(&rt, *pair, (key, u32::MAX - key));

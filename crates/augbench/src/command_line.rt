@@ -67,6 +67,25 @@ const OPERATIONS: [&str; 15] = [
     "keys", "live", "live_new", "roll",
 ];
 
+// The kinds, in the order of their words.
+const KINDS: [Operation; 15] = [
+    Operation::Nothing,
+    Operation::New,
+    Operation::Duplicate,
+    Operation::Put,
+    Operation::Has,
+    Operation::Rank,
+    Operation::Select,
+    Operation::Before,
+    Operation::After,
+    Operation::Range,
+    Operation::Size,
+    Operation::Keys,
+    Operation::Live,
+    Operation::LiveNew,
+    Operation::Roll,
+];
+
 fn count<'a>(alloc: Global) -> Result<Command<'a>, AllocError> {
     Command::new(alloc, "count")
         .about(
@@ -149,30 +168,23 @@ fn asked_of(alloc: Global, matches: &ArgMatches<'_>) -> Result<Asked, Stop> {
 }
 
 fn counting_of(alloc: Global, found: &ArgMatches<'_>) -> Result<Asked, Stop> {
-    let operation = match found.get_str("OP") {
-        Some("new") => Operation::New,
-        Some("dup") => Operation::Duplicate,
-        Some("put") => Operation::Put,
-        Some("has") => Operation::Has,
-        Some("rank") => Operation::Rank,
-        Some("select") => Operation::Select,
-        Some("before") => Operation::Before,
-        Some("after") => Operation::After,
-        Some("range") => Operation::Range,
-        Some("size") => Operation::Size,
-        Some("keys") => Operation::Keys,
-        Some("live") => Operation::Live,
-        Some("live_new") => Operation::LiveNew,
-        Some("roll") => Operation::Roll,
-        _ => Operation::Nothing,
-    };
     Ok(Asked::Count(Counting {
-        operation,
+        operation: operation_of(found),
         times: number_of(alloc, found, "N")?,
         bits: number_of(alloc, found, "bits")?,
         gap: number_of(alloc, found, "gap")?,
         updates: number_of(alloc, found, "updates")?,
     }))
+}
+
+// The kind of operations whose word was found.
+fn operation_of(found: &ArgMatches<'_>) -> Operation {
+    for place in 0..OPERATIONS.len() {
+        if found.get_str("OP") == Some(OPERATIONS[place]) {
+            return KINDS[place];
+        }
+    }
+    Operation::Nothing
 }
 
 // The workload whose letter was found.

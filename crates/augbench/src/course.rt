@@ -10,7 +10,7 @@ use std::{io, thread};
 const PATIENCE: u64 = 10_000_000_000;
 
 /// How long a round is: it ends once the first thread has made this many operations, or this many nanoseconds have gone.
-#[derive(Clone, Copy, Debug)]
+#[derive(Clone, Copy)]
 pub(crate) struct Length {
     pub(crate) operations: u64,
     pub(crate) nanoseconds: u64,

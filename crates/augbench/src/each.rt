@@ -1,7 +1,7 @@
 //! One value for each engine.
 
 /// One value for each engine.
-#[derive(Clone, Copy, Debug)]
+#[derive(Clone, Copy)]
 pub(crate) struct Each<T> {
     pub(crate) trie: T,
     pub(crate) mutex: T,

@@ -1,7 +1,7 @@
 //! The sets that are measured.
 
 /// A set that is measured.
-#[derive(Clone, Copy, Debug, PartialEq, Eq)]
+#[derive(Clone, Copy)]
 pub(crate) enum Engine {
     /// The shared trie.
     Trie,

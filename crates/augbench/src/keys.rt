@@ -20,7 +20,7 @@ const GAP: u32 = UNIVERSE / BATCH;
 pub(crate) const LANES: u32 = 64;
 
 /// A thread of a round: its number, counted from 0, and the seed of its keys.
-#[derive(Clone, Copy, Debug, PartialEq, Eq)]
+#[derive(Clone, Copy)]
 pub(crate) struct Lane {
     pub(crate) number: u32,
     pub(crate) seed: u64,

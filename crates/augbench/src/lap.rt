@@ -5,7 +5,7 @@ ghost use Rattle.augbench.specs.Laps.{no_lap, counted, joined};
 use crate::operation::{Answer, Operation};
 
 /// What the threads of a round did.
-#[derive(Clone, Copy, Debug, PartialEq, Eq)]
+#[derive(Clone, Copy)]
 pub(crate) struct Lap {
     /// How many operations they made.
     pub(crate) operations: u64,

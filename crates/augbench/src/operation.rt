@@ -8,7 +8,7 @@ use aug_model::Outcome;
 
 /// An operation with its keys: a put gives the key `one` the weight `two`, a range goes from `one` up to below `two`, a batch has the
 /// keys that `one` gives, and the others have only `one`.
-#[derive(Clone, Copy, Debug, PartialEq, Eq)]
+#[derive(Clone, Copy)]
 pub(crate) struct Operation {
     pub(crate) kind: Kind,
     pub(crate) one: u32,
@@ -16,7 +16,7 @@ pub(crate) struct Operation {
 }
 
 /// The totals of the members of a range.
-#[derive(Clone, Copy, Debug, PartialEq, Eq)]
+#[derive(Clone, Copy)]
 pub(crate) struct Span {
     /// How many there are.
     pub(crate) count: u32,
@@ -27,7 +27,7 @@ pub(crate) struct Span {
 }
 
 /// What an operation answers.
-#[derive(Clone, Copy, Debug, PartialEq, Eq)]
+#[derive(Clone, Copy)]
 pub(crate) enum Answer {
     /// Of an insert or a remove: whether it changed the set.
     Changed(bool),

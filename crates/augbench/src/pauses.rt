@@ -20,7 +20,7 @@ const TIMED: u64 = 50;
 const BETWEEN: u64 = 8_192;
 
 /// What roll-overs took.
-#[derive(Clone, Copy, Debug)]
+#[derive(Clone, Copy)]
 pub(crate) struct Pauses {
     /// How many came by themselves while threads only updated.
     pub(crate) rolls: u64,

@@ -14,7 +14,7 @@ use std::io;
 use std::time::Clock;
 
 /// What a round is to do.
-#[derive(Clone, Copy, Debug)]
+#[derive(Clone, Copy)]
 pub(crate) struct Plan {
     pub(crate) workload: Workload,
     pub(crate) length: Length,
@@ -24,7 +24,7 @@ pub(crate) struct Plan {
 }
 
 /// What a round came to.
-#[derive(Clone, Copy, Debug)]
+#[derive(Clone, Copy)]
 pub(crate) struct Ran {
     pub(crate) engine: Engine,
     pub(crate) lap: Lap,

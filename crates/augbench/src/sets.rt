@@ -29,7 +29,7 @@ pub(crate) struct Sets<'t, R: Wait> {
 }
 
 /// How long the rounds of the other engines are.
-#[derive(Clone, Copy, Debug, PartialEq, Eq)]
+#[derive(Clone, Copy, PartialEq, Eq)]
 pub(crate) enum Pace {
     /// As many operations as the trie's.
     SameOperations,

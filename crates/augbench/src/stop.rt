@@ -2,7 +2,7 @@
 use std::alloc::AllocError;
 
 /// Why the command line ends the program.
-#[derive(Debug, Drop)]
+#[derive(Drop)]
 pub(crate) enum Stop {
     /// Help was asked for. It has the parser's text.
     Help(String),

@@ -7,7 +7,7 @@ use crate::ran::Ran;
 use std::fmt;
 
 /// What the rounds of an engine came to.
-#[derive(Clone, Copy, Debug)]
+#[derive(Clone, Copy)]
 pub(crate) struct Total {
     pub(crate) engine: Engine,
     pub(crate) rounds: u64,
@@ -21,7 +21,7 @@ pub(crate) struct Total {
 }
 
 /// A number of thousandths, printed with three places behind its point.
-#[derive(Clone, Copy, Debug)]
+#[derive(Clone, Copy)]
 pub(crate) struct Thousandths(pub(crate) u64);
 
 impl Total {

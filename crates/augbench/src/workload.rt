@@ -24,7 +24,7 @@ pub(crate) enum Workload {
 }
 
 /// The kinds of operations.
-#[derive(Clone, Copy, Debug, PartialEq, Eq)]
+#[derive(Clone, Copy, PartialEq, Eq)]
 pub(crate) enum Kind {
     /// Puts a key in.
     Insert,
@@ -43,7 +43,7 @@ pub(crate) enum Kind {
 }
 
 /// The keys among which an operation's are drawn.
-#[derive(Clone, Copy, Debug, PartialEq, Eq)]
+#[derive(Clone, Copy)]
 pub(crate) enum Pool {
     /// All keys.
     Any,
@@ -56,7 +56,7 @@ pub(crate) enum Pool {
 }
 
 /// A kind of operation, and from which keys it draws.
-#[derive(Clone, Copy, Debug, PartialEq, Eq)]
+#[derive(Clone, Copy)]
 pub(crate) struct Action {
     pub(crate) kind: Kind,
     pub(crate) pool: Pool,

@@ -2,65 +2,18 @@
 //! copies of it.
 #![tactic(auto)]
 
-mod asked;
-mod check;
-mod command_line;
-mod copies;
-mod count;
-mod count_live;
-mod course;
-mod each;
-mod engine;
-mod fenwick;
-mod keys;
-mod lap;
-mod live_round;
-mod live_seat;
-mod locked;
-mod measure;
-mod operation;
-mod pauses;
-mod plain;
-mod ran;
-mod sets;
-mod stint;
-mod stop;
-#[cfg(test)]
-mod tests;
-mod total;
-mod trie;
-mod trie_round;
-mod trie_seat;
-mod workload;
-
-use asked::Asked;
-use std::alloc::Global;
+use aug_measure::asked::Asked;
+use aug_measure::command_line::asked;
+use aug_measure::program::carry_out;
+use aug_measure::stop::Stop;
 use std::env;
-use std::io::{ErrorKind, Print};
+use std::io::ErrorKind;
 use std::process::ExitCode;
-use std::sync::Wait;
-use std::thread::Threads;
-use std::time::Clock;
-use stop::Stop;
 
-// 0 if it did what was asked; 1 if it could not; 2 if the words are wrong.
+// The process gives its words; what is done with them is `carry_out`.
 fn main(rt: HostRuntime) -> ExitCode {
-    let done = match read_words(&rt) {
-        Ok(asked) => carry_out(&rt, rt.alloc(), asked),
-        Err(Stop::Help(text)) => rt.print(text).map_err(anyhow::Error::from),
-        Err(Stop::Usage(text)) => {
-            let _ = rt.eprint(text);
-            return ExitCode::from(2);
-        }
-        Err(Stop::OutOfMemory) => Err(std::alloc::AllocError.into()),
-    };
-    match done {
-        Ok(()) => ExitCode::SUCCESS,
-        Err(error) => {
-            let _ = eprintln!(rt; "augbench: {error}");
-            ExitCode::FAILURE
-        }
-    }
+    let words = read_words(&rt);
+    ExitCode::from(carry_out(&rt, rt.alloc(), words))
 }
 
 // What the words of the process ask for.
@@ -74,27 +27,5 @@ fn read_words(rt: &HostRuntime) -> Result<Asked, Stop> {
             return Err(Stop::Usage(text));
         }
     };
-    command_line::asked(alloc, words.as_slice())
-}
-
-// Does what was asked.
-fn carry_out<R: Threads + Wait + Clock + Sync + Print>(
-    rt: &R,
-    alloc: Global,
-    asked: Asked,
-) -> anyhow::Result<()> {
-    match asked {
-        Asked::Measure {
-            workload,
-            threads,
-            seconds,
-        } => measure::measure(rt, alloc, workload, threads, seconds),
-        Asked::Count(counting) => {
-            let (times, sum) = (counting.times, count::count(rt, alloc, counting)?);
-            println!(rt; "{times} operations, {sum} in all")?;
-            Ok(())
-        }
-        Asked::Check { without } => check::check(rt, alloc, without),
-        Asked::Roll { threads, seconds } => pauses::measure_pauses(rt, alloc, threads, seconds),
-    }
+    asked(alloc, words.as_slice())
 }

@@ -1,4 +1,0 @@
-use Rattle.augbench.proofs.check.check.Goals as goal
-
-pub loop-workload-preserved : goal.loop-workload-preserved
-loop-workload-preserved g c = c.in_ok-back.ensures.bits

@@ -19,6 +19,7 @@ use aug_measure::trie_round;
 use aug_measure::workload::{Action, Kind, Pool, Workload};
 use aug_model::KeySet;
 use aug_monoid::{Extent, Sum};
+use aug_testing::{equal, equal_at, holds, holds_at};
 use std::alloc::{AllocError, Global};
 use std::sync::Mutex;
 use std::sync::atomic::{AtomicBool, AtomicU64, Ordering};
@@ -66,27 +67,27 @@ fn the_plain_set_answers_as_a_key_set(rt: HostRuntime) -> Result<(), Fail> {
     for i in 0..2_000u32 {
         let key = any_key(&mut keys);
         if i % 3 == 0 {
-            assert_eq!(rt; fenwick.remove(key), plain.remove(key));
+            equal(&rt, fenwick.remove(key), plain.remove(key));
         } else if i % 3 == 1 {
-            assert_eq!(rt; fenwick.put(key, i), plain.put(key, i));
-            assert_eq!(rt; fenwick.put(key, !i), plain.put(key, !i));
+            equal(&rt, fenwick.put(key, i), plain.put(key, i));
+            equal(&rt, fenwick.put(key, !i), plain.put(key, !i));
         } else {
-            assert_eq!(rt; fenwick.insert(key), plain.insert(key));
+            equal(&rt, fenwick.insert(key), plain.insert(key));
         }
-        assert_eq!(rt; fenwick.has(key), plain.has(key));
-        assert_eq!(rt; fenwick.rank(key), plain.rank(key));
-        assert_eq!(rt; fenwick.select(i / 2), plain.select(i / 2));
+        equal(&rt, fenwick.has(key), plain.has(key));
+        equal(&rt, fenwick.rank(key), plain.rank(key));
+        equal(&rt, fenwick.select(i / 2), plain.select(i / 2));
         let (one, two) = (any_key(&mut keys), any_key(&mut keys));
         let (from, to) = (one.min(two), one.max(two));
         let (span, summary) = (
             fenwick.range(from, to),
             plain.range::<Sum, Extent>(from, to),
         );
-        assert_eq!(rt; span.count, summary.count);
-        assert_eq!(rt; span.sum, summary.a.value());
-        assert_eq!(rt; span.ends, summary.b.bounds());
+        equal(&rt, span.count, summary.count);
+        equal(&rt, span.sum, summary.a.value());
+        equal(&rt, span.ends, summary.b.bounds());
     }
-    assert_eq!(rt; fenwick.size(), plain.size());
+    equal(&rt, fenwick.size(), plain.size());
     Ok(())
 }
 
@@ -102,11 +103,11 @@ fn threads_draw_keys_of_their_own(rt: HostRuntime) -> Result<(), Fail> {
     };
     let (mut one, mut other) = (Keys::new(Lane::new(3, 5)), Keys::new(Lane::new(3, 6)));
     for _ in 0..100 {
-        assert_ne!(rt; any_key(&mut one), any_key(&mut other));
+        holds(&rt, any_key(&mut one) != any_key(&mut other));
         let (mine, theirs) = (one.draw(insert).one, other.draw(insert).one);
-        assert_eq!(rt; (mine % 128, theirs % 128), (11, 13));
-        assert_eq!(rt; one.draw(remove).one, mine);
-        assert_eq!(rt; other.draw(remove).one, theirs);
+        equal(&rt, (mine % 128, theirs % 128), (11, 13));
+        equal(&rt, one.draw(remove).one, mine);
+        equal(&rt, other.draw(remove).one, theirs);
     }
     Ok(())
 }
@@ -143,11 +144,12 @@ fn several_threads_run_each_workload(rt: HostRuntime) -> Result<(), Fail> {
             rans.left_right,
             rans.live,
         ] {
-            assert!(rt; ran.lap.operations >= 640);
-            assert!(rt; ran.time > 0);
-            assert_eq!(rt;
+            holds(&rt, ran.lap.operations >= 640);
+            holds(&rt, ran.time > 0);
+            equal(
+                &rt,
                 (ran.lap.idle == 0, ran.lap.updates > 0),
-                (changes, updates)
+                (changes, updates),
             );
         }
     }
@@ -197,7 +199,7 @@ fn a_round_ends_when_its_time_is_over(rt: HostRuntime) -> Result<(), Fail> {
             round: 0,
         };
         let ran = mutex_round(&rt, &Steps::new(1_000), rt.alloc(), &set, plan)?;
-        assert_eq!(rt; (ran.lap.operations, ran.time), (256, 6_000));
+        equal(&rt, (ran.lap.operations, ran.time), (256, 6_000));
     }
     Ok(())
 }
@@ -215,9 +217,10 @@ fn a_round_ends_after_its_operations(rt: HostRuntime) -> Result<(), Fail> {
         round: 0,
     };
     let ran = mutex_round(&rt, &Steps::new(1), rt.alloc(), &set, plan)?;
-    assert_eq!(rt;
+    equal(
+        &rt,
         (ran.lap.operations, ran.lap.updates, ran.time),
-        (100, 10, 3)
+        (100, 10, 3),
     );
     Ok(())
 }
@@ -249,8 +252,8 @@ fn threads_begin_together(rt: HostRuntime) -> Result<(), Fail> {
             course.meet(&clock)
         },
     );
-    assert!(rt; first.0? && first.1);
-    assert!(rt; second?);
+    holds(&rt, first.0? && first.1);
+    holds(&rt, second?);
     Ok(())
 }
 
@@ -258,7 +261,7 @@ fn threads_begin_together(rt: HostRuntime) -> Result<(), Fail> {
 fn a_thread_that_stays_alone_gives_up(rt: HostRuntime) -> Result<(), Fail> {
     let clock = Steps::new(1_000_000_000);
     let course = course_of(&clock, 2)?;
-    assert!(rt; !course.meet(&clock)?);
+    holds(&rt, !course.meet(&clock)?);
     Ok(())
 }
 
@@ -266,12 +269,12 @@ fn a_thread_that_stays_alone_gives_up(rt: HostRuntime) -> Result<(), Fail> {
 fn the_first_end_counts(rt: HostRuntime) -> Result<(), Fail> {
     let clock = Steps::new(10);
     let course = course_of(&clock, 1)?;
-    assert!(rt; course.meet(&clock)? && !course.is_over());
-    assert_eq!(rt; course.time(), 0);
+    holds(&rt, course.meet(&clock)? && !course.is_over());
+    equal(&rt, course.time(), 0);
     course.finish(&clock)?;
     course.finish(&clock)?;
-    assert!(rt; course.is_over());
-    assert_eq!(rt; course.time(), 10);
+    holds(&rt, course.is_over());
+    equal(&rt, course.time(), 10);
     Ok(())
 }
 
@@ -301,7 +304,7 @@ fn counts_operations_of_each_kind(rt: HostRuntime) -> Result<(), Fail> {
             gap: 1,
             updates: 5,
         };
-        assert_eq!(rt; count(&rt, rt.alloc(), asked)?, sum);
+        equal(&rt, count(&rt, rt.alloc(), asked)?, sum);
     }
     let more = Counting {
         operation: Operation::New,
@@ -310,7 +313,7 @@ fn counts_operations_of_each_kind(rt: HostRuntime) -> Result<(), Fail> {
         gap: 1,
         updates: 0,
     };
-    assert!(rt; count(&rt, rt.alloc(), more).is_err());
+    holds(&rt, count(&rt, rt.alloc(), more).is_err());
     Ok(())
 }
 
@@ -371,7 +374,7 @@ fn reads_what_is_asked(rt: HostRuntime) -> Result<(), Fail> {
         ),
     ] {
         let found = asked_by(rt.alloc(), line)?.ok().ok_or("refused")?;
-        assert_eq!(rt; found, want, "in {line}");
+        equal_at(&rt, found, want, format_args!("in {line}"));
     }
     Ok(())
 }
@@ -408,9 +411,10 @@ fn refuses_wrong_words(rt: HostRuntime) -> Result<(), Fail> {
         ("check 1", "error: unexpected argument '1' found\n"),
     ] {
         let said = refusal(rt.alloc(), line)?;
-        assert!(rt;
+        holds_at(
+            &rt,
             said.as_bytes().starts_with(text.as_bytes()),
-            "{said} in {line}"
+            format_args!("{said} in {line}"),
         );
     }
     Ok(())
@@ -439,7 +443,7 @@ fn prints_figures(rt: HostRuntime) -> Result<(), Fail> {
         total.speed(),
         total.unchanged()
     )?;
-    assert_eq!(rt; text.as_str(), "2.525 2.000 0.000 0.250");
-    assert_eq!(rt; total.time, 2_000);
+    equal(&rt, text.as_str(), "2.525 2.000 0.000 0.250");
+    equal(&rt, total.time, 2_000);
     Ok(())
 }

@@ -881,6 +881,22 @@ class OfTheToolchain(unittest.TestCase):
         self.assertIn("gate.py: the edits of low are tried one by one", said)
 
 
+class Assertions(unittest.TestCase):
+    """Each crate of tests asserts by a copy of the module `assertions` that aug_monoid_tests tests."""
+
+    def test_each_copy_is_the_one_that_is_tested(self):
+        crates = os.path.join(TOP, "crates")
+        copies = {}
+        for name in sorted(os.listdir(crates)):
+            if name.endswith("_tests"):
+                with open(os.path.join(crates, name, "src", "assertions.rt"), encoding="utf-8") as file:
+                    copies[name] = file.read()
+        self.assertGreaterEqual(len(copies), 11)
+        tested = copies["aug_monoid_tests"]
+        self.assertIn("fn equal<", tested)
+        self.assertEqual([name for name, text in copies.items() if text != tested], [])
+
+
 class Gate(InFolder):
     """.ci/run adds up what each of its commands counts, and tests each program as each compiler built it."""
 

@@ -1,7 +1,7 @@
 //! The key of an opening.
 
+use crate::assertions::equal;
 use aug_core::{Layout, OpeningKey};
-use aug_testing::equal;
 use std::mem::size_of;
 use std::test::Fail;
 

@@ -1,8 +1,8 @@
 //! Calls over many keys.
 
 use super::rounds::begun;
+use crate::assertions::equal;
 use aug_lane::LaneError;
-use aug_testing::equal;
 use aug_trie::{BeginError, Ended};
 
 #[test]

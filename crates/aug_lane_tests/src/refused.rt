@@ -1,9 +1,9 @@
 //! Rounds that do not begin for want of memory.
 
 use super::rounds::{Trie, Work, back, begun};
+use crate::assertions::{equal, equal_length, holds};
 use aug_lane::Running;
 use aug_query::{keys, pairs};
-use aug_testing::{equal, equal_length, holds};
 use aug_trie::{BeginError, Ended};
 use std::alloc::Global;
 use std::process::Abort;

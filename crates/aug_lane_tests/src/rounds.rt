@@ -2,11 +2,11 @@
 ghost use Rattle.std.specs.Prelude.{◌≡◌, IfOk};
 ghost use Rattle.std.specs.Arc.{arc_value};
 
+use crate::assertions::{equal, holds};
 use aug_lane::{Lane, LaneError, OpenError, Running};
 use aug_model::Outcome;
 use aug_monoid::{Extent, Sum};
 use aug_query::{keys, weight};
-use aug_testing::{equal, holds};
 use aug_trie::{BeginError, Ended};
 use std::alloc::Global;
 

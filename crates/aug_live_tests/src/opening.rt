@@ -1,9 +1,9 @@
 //! One thread: opening, each call of a handle and of a look, rolling over, closing.
 
+use crate::assertions::{equal, equal_length, holds};
 use aug_live::{Handle, Live, LiveError, Plan};
 use aug_model::Outcome;
 use aug_monoid::{Extent, Sum};
-use aug_testing::{equal, equal_length, holds};
 use aug_trie::{BeginError, Ended, Members};
 use std::alloc::Global;
 use std::process::Abort;

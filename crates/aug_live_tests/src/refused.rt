@@ -1,8 +1,8 @@
 //! Memory refused: nothing is lost, and a later call succeeds.
 
 use super::opening::{Hand, Trie, insert, listed, no_keys, opened, remove};
+use crate::assertions::equal;
 use aug_live::{Live, LiveError, Plan};
-use aug_testing::equal;
 use aug_trie::BeginError;
 use std::alloc::Global;
 use std::process::Abort;

@@ -2,8 +2,8 @@
 
 use super::opening::{Trie, insert, listed, opened, remove};
 use super::rolling::{jobs, work};
+use crate::assertions::{equal, equal_length, holds};
 use aug_live::LiveError;
-use aug_testing::{equal, equal_length, holds};
 use aug_trie::BeginError;
 use std::alloc::Global;
 use std::sync::Wait;

@@ -1,9 +1,9 @@
 //! Threads that update and look while rounds roll over.
 
 use super::opening::{Hand, insert, opened, remove};
+use crate::assertions::{equal, holds};
 use aug_live::LiveError;
 use aug_model::KeySet;
-use aug_testing::{equal, holds};
 use aug_trie::BeginError;
 use std::alloc::Global;
 use std::process::Abort;

@@ -2,8 +2,8 @@
 
 use super::opening::{Hand, Trie, insert, listed, no_keys, opened_with};
 use super::rolling::{jobs, work};
+use crate::assertions::{equal, equal_length, holds};
 use aug_live::{Live, Plan};
-use aug_testing::{equal, equal_length, holds};
 use aug_trie::BeginError;
 use std::process::Abort;
 use std::sync::Wait;

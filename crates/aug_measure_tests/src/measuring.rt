@@ -1,6 +1,7 @@
 //! What no clause says: the same answers as a plain set, texts, the clock, the start, and each engine with several threads.
 ghost use Rattle.std.specs.Prelude.{◌<◌};
 
+use crate::assertions::{equal, equal_at, holds, holds_at};
 use aug_measure::asked::{Asked, Counting, Operation};
 use aug_measure::command_line::asked;
 use aug_measure::count::count;
@@ -19,7 +20,6 @@ use aug_measure::trie_round;
 use aug_measure::workload::{Action, Kind, Pool, Workload};
 use aug_model::KeySet;
 use aug_monoid::{Extent, Sum};
-use aug_testing::{equal, equal_at, holds, holds_at};
 use std::alloc::{AllocError, Global};
 use std::sync::Mutex;
 use std::sync::atomic::{AtomicBool, AtomicU64, Ordering};

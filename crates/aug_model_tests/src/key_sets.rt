@@ -1,8 +1,8 @@
 //! The plain set by examples, at each number of bits, and without memory.
 
+use crate::assertions::{equal, equal_at, holds, holds_at};
 use aug_model::{KeySet, ModelError, Outcome, Summary};
 use aug_monoid::{Extent, Sum};
-use aug_testing::{equal, equal_at, holds, holds_at};
 use std::alloc::{AllocError, Global};
 use std::mem;
 use std::process::Abort;

@@ -1,6 +1,6 @@
 //! What the errors of a plain set print.
+use crate::assertions::equal;
 use aug_model::ModelError;
-use aug_testing::equal;
 use std::test::Fail;
 
 #[test]

@@ -1,7 +1,8 @@
 //! Each fold of examples, and the words that folds are stored as.
 
+use crate::assertions::{equal, equal_at, holds};
 use aug_monoid::{Count, Extent, Greatest, Least, Monoid, Nothing, Sum, fold_slice};
-use aug_testing::{Last, equal, equal_at, holds};
+use aug_testing::Last;
 
 const UPPER: u64 = 4_294_967_296;
 

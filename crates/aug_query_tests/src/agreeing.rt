@@ -1,8 +1,9 @@
 //! Trees of many sets, asked beside the plain set.
+use crate::assertions::{equal, equal_at, holds_at};
 use aug_model::{KeySet, ModelError};
 use aug_monoid::Sum;
 use aug_query::{FakeTree, after, before, has, keys, pairs, range, rank, select, size, weight};
-use aug_testing::{Last, equal, equal_at, holds_at};
+use aug_testing::Last;
 use std::alloc::{AllocError, Global};
 use std::process::Abort;
 use std::test::Fail;

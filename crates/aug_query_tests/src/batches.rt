@@ -1,8 +1,9 @@
 //! Batches of queries.
+use crate::assertions::{equal, holds};
 use aug_monoid::Extent;
 use aug_query::FakeTree;
 use aug_query::descent::{memberships, ranks, weights};
-use aug_testing::{Last, equal, holds};
+use aug_testing::Last;
 use std::test::Fail;
 
 #[test]

@@ -1,7 +1,8 @@
 //! The queries on a tree of two keys, and how often they ask for memory.
+use crate::assertions::equal;
 use aug_monoid::{Extent, Sum};
 use aug_query::{FakeTree, after, before, has, keys, pairs, range, rank, select, size, weight};
-use aug_testing::{Last, equal};
+use aug_testing::Last;
 use std::alloc::{AllocError, Global};
 use std::test::Fail;
 

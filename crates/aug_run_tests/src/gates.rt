@@ -1,9 +1,9 @@
 //! What no clause says of the gate: that it is called for each row of each lane, when it is called, and that the lanes run at the same
 //! time.
+use crate::assertions::{equal, equal_at, holds};
 use crate::rounds::report_of;
 use aug_run::Gate;
 use aug_script::Reply;
-use aug_testing::{equal, equal_at, holds};
 use std::alloc::{AllocError, Global};
 use std::process::Abort;
 use std::sync::atomic::AtomicU64;

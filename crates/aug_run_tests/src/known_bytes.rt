@@ -1,11 +1,11 @@
 //! The program over bytes that are known: what it puts out is known too, by its contract alone.
 ghost use Rattle.std.specs.Prelude.{◌≡◌, IfSome, codes};
 
+use crate::assertions::equal;
 use crate::test_input::TestInput;
 use aug_report::one_list;
 use aug_run::{Options, carry_out};
 use aug_script::{Limits, MemorySink};
-use aug_testing::equal;
 use std::alloc::Global;
 use std::sync::Wait;
 use std::test::Fail;

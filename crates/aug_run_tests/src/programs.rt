@@ -1,8 +1,8 @@
 //! The program over devices that are in memory.
+use crate::assertions::{equal, holds};
 use crate::test_input::TestInput;
 use aug_run::{Stop, carry_out, options};
 use aug_script::MemorySink;
-use aug_testing::{equal, holds};
 use std::alloc::{AllocError, Global};
 use std::sync::Wait;
 use std::test::Fail;

@@ -1,7 +1,7 @@
 //! Sources that are read to their end, or to the limit of a script.
+use crate::assertions::{equal, equal_at, equal_length};
 use aug_run::{ReadError, read_all};
 use aug_script::MemorySource;
-use aug_testing::{equal, equal_at, equal_length};
 use std::alloc::Global;
 use std::test::Fail;
 

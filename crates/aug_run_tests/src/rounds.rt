@@ -1,9 +1,9 @@
 //! What no clause says: that rounds run with ample memory.
+use crate::assertions::{equal, equal_length, holds_at};
 use crate::plain::plain_replies;
 use aug_query::pairs;
 use aug_run::{Gate, Open, Trie, run_round};
 use aug_script::{Limits, Reply, Report, Script, Verb};
-use aug_testing::{equal, equal_length, holds_at};
 use aug_trie::Ended;
 use std::alloc::{AllocError, Global};
 use std::process::Abort;

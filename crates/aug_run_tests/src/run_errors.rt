@@ -1,7 +1,7 @@
 //! Why a script was not run: its statuses and lines.
+use crate::assertions::equal;
 use aug_run::RunError;
 use aug_script::{Fault, MemorySink, ScriptError};
-use aug_testing::equal;
 
 const LINES: [(RunError, u8, &str); 14] = [
     (

@@ -1,7 +1,7 @@
 //! Whole scripts, with what they print.
+use crate::assertions::{equal, equal_at, equal_length, holds};
 use aug_run::{RunError, run};
 use aug_script::{Limits, MemorySink, MemorySource, ScriptError};
-use aug_testing::{equal, equal_at, equal_length, holds};
 use std::alloc::{AllocError, Global};
 use std::process::Abort;
 use std::sync::Wait;

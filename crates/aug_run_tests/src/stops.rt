@@ -1,7 +1,7 @@
 //! Why the command line ends the program: its statuses and texts.
+use crate::assertions::equal;
 use aug_run::Stop;
 use aug_script::{Fault, MemorySink};
-use aug_testing::equal;
 use std::alloc::{AllocError, Global};
 use std::test::Fail;
 

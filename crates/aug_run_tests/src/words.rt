@@ -1,6 +1,6 @@
 //! Words of the command line, and their results.
+use crate::assertions::{equal, equal_at, holds_at};
 use aug_run::{Options, Stop, options};
-use aug_testing::{equal, equal_at, holds_at};
 use std::alloc::{AllocError, Global};
 use std::test::Fail;
 

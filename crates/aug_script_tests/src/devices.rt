@@ -1,6 +1,6 @@
 //! Devices that read and write, and what goes to one byte by byte.
+use crate::assertions::{equal, equal_at, holds};
 use aug_script::{Fault, FromRead, MemorySink, Sink, Source, ToWrite, send};
-use aug_testing::{equal, equal_at, holds};
 use std::io;
 use std::io::{ErrorKind, Read, Write};
 use std::test::Fail;

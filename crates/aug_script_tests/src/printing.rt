@@ -1,9 +1,9 @@
 //! Reports as they are printed.
 use super::reading::{rounds_of, row};
+use crate::assertions::{equal, equal_at, equal_length, holds};
 use aug_model::Summary;
 use aug_monoid::{Extent, Sum, fold_slice};
 use aug_script::{Fault, Listed, MemorySink, PrintError, Reply, Report, Verb, print};
-use aug_testing::{equal, equal_at, equal_length, holds};
 use std::alloc::{AllocError, Global};
 use std::test::Fail;
 

@@ -1,7 +1,7 @@
 //! Scripts as they are read.
+use crate::assertions::{equal, equal_at, equal_length};
 use aug_core::LayoutError;
 use aug_script::{Limits, Listed, Row, Script, ScriptError, Verb};
-use aug_testing::{equal, equal_at, equal_length};
 use std::alloc::Global;
 use std::test::Fail;
 

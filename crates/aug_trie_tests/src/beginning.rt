@@ -1,7 +1,7 @@
 //! How rounds begin and hand out their lanes, what they are refused for, and what refusals print.
 
 use super::rounds::{Trie, insert, next_pass, opened, remove};
-use aug_testing::{equal, holds};
+use crate::assertions::{equal, holds};
 use aug_trie::{BeginError, CrewError, Ended, Round};
 use std::alloc::Global;
 

@@ -3,10 +3,10 @@ ghost use Rattle.std.specs.Prelude.{◌≡◌, ◌<◌};
 ghost use Rattle.aug_trie.specs.Snapshot.{HasSnapshot};
 
 use super::rounds::{Trie, next_pass, opened, put};
+use crate::assertions::{equal, holds};
 use aug_model::Summary;
 use aug_monoid::{Extent, Sum};
 use aug_query::Tree;
-use aug_testing::{equal, holds};
 use aug_trie::{BeginError, CrewError, Node, Pass, Snapshot};
 use std::alloc::AllocError;
 use std::process::Abort;

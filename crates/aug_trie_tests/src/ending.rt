@@ -4,9 +4,9 @@ ghost use Rattle.std.specs.Prelude.{◌≡◌, IfOk};
 use super::filling::four_filled;
 use super::rounds::{Hands, Table, Trie, insert, next_pass, opened, remove};
 use super::working::{Deed, Task, four_halves, work};
+use crate::assertions::{equal, holds};
 use aug_monoid::{Extent, Sum};
 use aug_query::{has, keys, select, size};
-use aug_testing::{equal, holds};
 use aug_trie::{BeginError, Pass, Round};
 use std::alloc::Global;
 

@@ -4,7 +4,7 @@ ghost use Rattle.std.specs.Prelude.{◌≡◌};
 use super::ending::seen_size;
 use super::rounds::{Half, Table, opened};
 use super::working::{Deed, Task, done, four_halves};
-use aug_testing::equal_at;
+use crate::assertions::equal_at;
 use aug_trie::BeginError;
 use std::sync::Wait;
 use std::thread;

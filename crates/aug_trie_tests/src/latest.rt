@@ -6,8 +6,8 @@ use super::ending::{next_round, seen_size, sees};
 use super::putting::seen_weight;
 use super::rounds::{Hands, Table, insert, next_pass, opened, put, remove};
 use super::turning::{to_the_end, turns};
+use crate::assertions::{equal, holds};
 use aug_model::Outcome;
-use aug_testing::{equal, holds};
 use aug_trie::BeginError;
 use std::alloc::Global;
 

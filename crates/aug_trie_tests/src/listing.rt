@@ -3,8 +3,8 @@ ghost use Rattle.std.specs.Prelude.{◌≡◌, IfOk};
 
 use super::requests::{assert_answers, played};
 use super::rounds::{Hands, Table, Trie, insert, next_pass};
+use crate::assertions::{equal, holds};
 use aug_query::size;
-use aug_testing::{equal, holds};
 use aug_trie::{BeginError, Members, Round};
 use std::alloc::Global;
 use std::process::Abort;

@@ -8,10 +8,10 @@ ghost use Rattle.aug_trie.specs.Node.{HasNode};
 ghost use Rattle.aug_trie.specs.TreeOf.{IsTreeOf};
 
 use super::rounds::{insert, next_pass, opened};
+use crate::assertions::{equal, holds};
 use aug_model::Summary;
 use aug_monoid::{Extent, Monoid, Sum};
 use aug_query::rank;
-use aug_testing::{equal, holds};
 use aug_trie::{BeginError, Node, Pass, Snapshot};
 use std::alloc::{AllocError, Global};
 

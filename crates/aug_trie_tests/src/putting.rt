@@ -4,10 +4,10 @@ ghost use Rattle.aug_trie.specs.Snapshot.{HasSnapshot};
 
 use super::ending::{counts, next_round, seen_size};
 use super::rounds::{insert, next_pass, opened, put, remove};
+use crate::assertions::{equal, holds};
 use aug_model::Outcome;
 use aug_monoid::{Extent, Sum};
 use aug_query::range;
-use aug_testing::{equal, holds};
 use aug_trie::{BeginError, Pass, Snapshot};
 
 // What a key weighs in a new snapshot of the pass.

@@ -3,9 +3,9 @@
 ghost use Rattle.std.specs.Prelude.{◌≡◌, IfOk};
 
 use super::rounds::{Hands, Table, Trie, insert, next_pass, opened};
+use crate::assertions::equal;
 use aug_monoid::{Extent, Sum};
 use aug_query::{after, before, has, keys, range, rank, select, size};
-use aug_testing::equal;
 use aug_trie::{BeginError, Pass, Round};
 use std::alloc::{AllocError, Global};
 use std::process::Abort;

@@ -5,9 +5,9 @@ use super::ending::{counts, next_round, seen_size};
 use super::putting::seen_weight;
 use super::rounds::{Hands, Table, insert, next_pass, opened, put, remove};
 use super::turning::{Climber, Walker, last, to_the_end, turns};
+use crate::assertions::{equal, holds};
 use aug_model::Outcome;
 use aug_query::{size, weight};
-use aug_testing::{equal, holds};
 use aug_trie::{BeginError, Turn};
 use std::alloc::Global;
 

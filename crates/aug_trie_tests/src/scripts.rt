@@ -4,10 +4,10 @@ ghost use Rattle.aug_trie.specs.Snapshot.{HasSnapshot};
 
 use super::ending::next_round;
 use super::rounds::{Trie, next_pass};
+use crate::assertions::{equal, equal_length, holds};
 use aug_model::KeySet;
 use aug_monoid::{Extent, Sum};
 use aug_query::{after, before, has, keys, pairs, range, rank, select, size, weight};
-use aug_testing::{equal, equal_length, holds};
 use aug_trie::{BeginError, Ended, Pass, Snapshot};
 use std::alloc::Global;
 use std::process::Abort;

@@ -3,10 +3,10 @@ ghost use Rattle.std.specs.Prelude.{◌≡◌, ◌+◌, IfSome};
 
 use super::ending::{counts, next_round, seen_size, sees};
 use super::rounds::{insert, next_pass, opened, remove};
+use crate::assertions::{equal, holds};
 use aug_model::Outcome;
 use aug_monoid::{Extent, Sum};
 use aug_query::size;
-use aug_testing::{equal, holds};
 use aug_trie::{BeginError, Climb, Pass, Turn};
 use std::alloc::Global;
 

@@ -6,9 +6,9 @@ ghost use Rattle.aug_model.specs.Keys.{IsKeySet, keys_of};
 ghost use Rattle.aug_monoid.specs.Weighted.{FitsPair};
 
 use super::tables::record_at;
+use crate::assertions::equal;
 use aug_core::Layout;
 use aug_monoid::{Extent, Sum};
-use aug_testing::equal;
 use aug_words::{Rest, Words, WordsError};
 use std::alloc::{AllocError, Global};
 

@@ -4,9 +4,9 @@ ghost use Rattle.aug_core.specs.Places.{shape_of};
 ghost use Rattle.aug_core.specs.Told.{MayChange};
 
 use super::tables::record_at;
+use crate::assertions::{equal, holds};
 use aug_core::Layout;
 use aug_monoid::{Extent, Monoid, Sum};
-use aug_testing::{equal, holds};
 use aug_words::{Rest, WordPass, Words, WordsError};
 use std::alloc::Global;
 

@@ -2,7 +2,7 @@
 //! requests, for its words while they are made and for its two rows (one row is empty). Nothing else asks.
 use super::tables::small;
 use super::working::{Filled, next_half, work};
-use aug_testing::equal;
+use crate::assertions::equal;
 use aug_words::WordsError;
 
 #[test]

@@ -7,9 +7,9 @@ ghost use Rattle.aug_core.specs.Told.{MayStore, MayChange, IsFilled};
 ghost use Rattle.aug_words.specs.Seats.{AreTogether};
 
 use super::tables::record_at;
+use crate::assertions::equal;
 use aug_core::{Layout, RecordField};
 use aug_monoid::{Extent, Monoid, Sum, fold_slice};
-use aug_testing::equal;
 use aug_words::{Lead, WordPass, Words, WordsError};
 use std::alloc::Global;
 

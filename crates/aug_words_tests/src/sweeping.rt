@@ -4,9 +4,9 @@ ghost use Rattle.std.specs.Prelude.{◌≡◌, ◌-◌, ◌^◌, ◌≤◌, IfOk
 ghost use Rattle.aug_core.specs.Places.{shape_of};
 
 use super::opening::keys_from;
+use crate::assertions::{equal_at, holds};
 use aug_core::Layout;
 use aug_monoid::{Extent, Sum};
-use aug_testing::{equal_at, holds};
 use aug_words::{Rest, Words, WordsError};
 use std::alloc::Global;
 use std::process::Abort;

@@ -3,9 +3,9 @@ ghost use Rattle.std.specs.Prelude.{◌≡◌, ◌<◌, Some, IfOk};
 ghost use Rattle.aug_core.specs.Places.{shape_of, record_count};
 ghost use Rattle.aug_words.specs.Seats.{AreTogether};
 
+use crate::assertions::{equal, equal_at};
 use aug_core::{Layout, RecordField};
 use aug_monoid::{Extent, Sum};
-use aug_testing::{equal, equal_at};
 use aug_words::{Lead, Rest, Words, WordsError};
 use std::alloc::{AllocError, Global};
 

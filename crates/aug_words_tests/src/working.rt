@@ -5,9 +5,9 @@ ghost use Rattle.aug_core.specs.Told.{MayStore};
 ghost use Rattle.aug_words.specs.Seats.{AreTogether};
 
 use super::tables::{Table, record_at, small};
+use crate::assertions::equal;
 use aug_core::RecordField;
 use aug_monoid::{Extent, Sum};
-use aug_testing::equal;
 use aug_words::{Lead, WordHalf, WordPass, WordsError};
 use std::alloc::Global;
 use std::sync::Wait;

@@ -9,7 +9,7 @@ fn equal_ends_a_test_of_two_numbers(rt: HostRuntime) {
 }
 
 #[test]
-#[should_panic(expected = "failed: in row 5")]
+#[should_panic(expected = "failed: at the key 5")]
 fn equal_at_says_where(rt: HostRuntime) {
-    equal_at(&rt, 3, 4, format_args!("in row {}", 5));
+    equal_at(&rt, 3, 4, format_args!("at the key {}", 5));
 }

@@ -198,7 +198,7 @@ class Run(Folder):
 class Quick(Folder):
     """tools/quick checks the functions that a change touched, and what names them."""
 
-    copied = ["tools/quick", "tests/bodies.py"]
+    copied = ["tools/quick"]
 
     SCRIPTS = ["tools/layout", *(f"tests/{name}.py" for name in ("surface", "promises", "refusals", "commands", "selftest"))]
 

@@ -12,12 +12,8 @@ import os
 import subprocess
 import sys
 import unittest
-import unittest.mock
 
-import bodies
 import edits
-import gate
-import must_fail
 import programs
 import promises
 import refused
@@ -708,179 +704,6 @@ class Edits(InFolder):
         self.assertIn("crates.txt has no two", said.getvalue())
 
 
-class Bodies(unittest.TestCase):
-    """tests/bodies.py finds the functions that a change gives another body."""
-
-    TEXT = """struct Shelf;
-
-impl<A: Fn(u32) -> u32> Shelf<A>
-where
-    A: Copy,
-{
-    /// Takes one.
-    pub fn take(&mut self) -> u32
-        ensures { result <= 9 }
-    {
-        one()
-    }
-}
-
-impl<'r> Ordered<'r, u32> for Shelf<u32> {
-    fn first(&self) -> u32 {
-        two()
-    }
-}
-
-#[unsafe(no_mangle)]
-pub unsafe extern "C" fn shelf_take() -> u32 {
-    three()
-}
-"""
-
-    def changed(self, old, new):
-        self.assertEqual(self.TEXT.count(old), 1)
-        return bodies.with_other_bodies("crates/low/src/shelves/shelf.rt", self.TEXT, self.TEXT.replace(old, new))
-
-    def test_each_kind_of_function_has_its_path(self):
-        module = "low::shelves::shelf"
-        for old, path in ("one()", "Shelf::take"), ("two()", f"{module}::ShelfOrdered::first"), ("three()", f"{module}::shelf_take"):
-            self.assertEqual(self.changed(old, "other()"), {path})
-
-    def test_what_changes_more_than_bodies_is_none(self):
-        for old, new in ("result <= 9", "result <= 8"), ("struct Shelf;", "struct Shelf(u32);"), ("fn first", "fn last"):
-            self.assertEqual(self.changed(old, new), set())
-
-    def test_function_that_is_added_is_not_named(self):
-        self.assertEqual(self.changed("        one()\n    }", "        other()\n    }\n\n    fn other() {\n    }"), {"Shelf::take"})
-
-    def test_function_around_a_change(self):
-        after = self.TEXT.replace("result <= 9", "result <= 8")
-        self.assertEqual(bodies.enclosing("crates/low/src/lib.rt", self.TEXT, after), {"Shelf::take"})
-
-
-class MustFail(InFolder):
-    """tests/must_fail.py tries many edits in one check, each of which a function that it changes has to refuse."""
-
-    SOURCE = "fn one() {\n    a();\n}\n\nfn two() {\n    b();\n}\n\nfn three() {\n    one();\n}\n\nfn four() {\n    d();\n}\n"
-
-    # Stands in for the prover: it does not prove a function whose body says that it is wrong, nor one that calls such a function, nor any where `all` stands.
-    PROVER = """#!/usr/bin/env python3
-import re, sys
-text = open("src/lib.rt").read()
-open({ran!r}, "a").write(" ".join(it for it in sys.argv if it.startswith("low::")) + "\\n")
-if "nonsense" in text:
-    sys.exit("src/lib.rt:1:1: error: no such word")
-bodies = dict(re.findall(r"fn (\\w+)\\(\\) {{\\n(.*?)\\n}}", text, re.S))
-wrong = [it for it in bodies if "wrong" in bodies[it] or "all" in text]
-for it in bodies:
-    called = [of for of in wrong if of + "()" in bodies[it]]
-    print(f"fn low::{{it}}: " + (f"not proved; it calls `{{called[0]}}`, which is not proved" if called else "not proved" if it in wrong else "proved"))
-print("only=3 proved=1")
-"""
-
-    def run_edits(self, *edits, names=()):
-        """What it answers and says of edits, each a file with a text of it and one in its place, the checks that it made, and the edits that it tried alone."""
-        self.write("low/src/lib.rt", self.SOURCE)
-        self.write("low/specs/Full.antt", "most = 9\n")
-        files = []
-        for number, (file, old, new) in enumerate(edits):
-            files.append(self.write(f"low/must-fail/{number}.edit", f"file: {file}\nold: {old}\nnew: {new}\n"))
-        ran, alone = self.write("ran", ""), []
-
-        def tried(crate, edit, flags, kept=None):
-            alone.append(os.path.basename(edit))
-            return "definition" in open(edit).read(), "by itself"
-
-        def read(edit, folder):
-            file, old, new = (line.partition(": ")[2] for line in open(edit).read().splitlines())
-            text = open(os.path.join(folder, file)).read()
-            return ({file: text.replace(old, new)}, None) if text.count(old) == 1 else (None, "an old text stands not once")
-
-        crate = SimpleNamespace(name="low", folder=os.path.join(self.folder, "low"), words=lambda flags, keeps: flags, below=lambda: [], count=len)
-        text_of = lambda path: open(path, encoding="utf-8").read()
-        prover = self.write("rattle", self.PROVER.format(ran=ran), 0o755)
-        rtlib = SimpleNamespace(PARTS=["src", "specs"], RATTLE=prover, guarded=lambda: [], STALE=must_fail.re.compile("stale"), text_of=text_of)
-        rtlib.crates_below = lambda top: [crate]
-        in_lanes = lambda tasks: {key: call({}, 1) for key, (_, _, _, call) in tasks.items()}
-        rt = SimpleNamespace(rtlib=rtlib, edits_of=lambda crate: (files, []), read_edit=read, must_fail=tried, in_lanes=in_lanes, need=lambda crate: 0)
-        status, said = quietly(must_fail.main, list(names), rt, self.folder)
-        with open(ran, encoding="utf-8") as file:
-            return status, said, file.read().splitlines(), alone
-
-    def test_edits_of_two_functions_take_one_check(self):
-        status, said, ran, alone = self.run_edits(("src/lib.rt", "a();", "wrong();"), ("src/lib.rt", "b();", "wrong(2);"))
-        self.assertEqual((status, said.splitlines()[-1], ran, alone), (0, "2 passed, 0 failed", ["low::one low::two"], []))
-        self.assertIn("must-fail low/0.edit: refused, as it must be: fn low::one: not proved", said)
-
-    def test_edits_of_one_function_take_two_checks(self):
-        status, said, ran, alone = self.run_edits(("src/lib.rt", "a();", "wrong();"), ("src/lib.rt", "a();", "wrong(2);"))
-        self.assertEqual((status, said.splitlines()[-1], ran, alone), (0, "2 passed, 0 failed", ["low::one"] * 2, []))
-
-    def test_edit_of_a_caller_waits_for_the_next_check(self):
-        status, said, ran, alone = self.run_edits(("src/lib.rt", "a();", "wrong();"), ("src/lib.rt", "    one();", "    one(); wrong();"))
-        self.assertEqual((status, said.splitlines()[-1], ran, alone), (0, "2 passed, 0 failed", ["low::one low::three", "low::three"], []))
-
-    def test_edit_that_is_proved_fails(self):
-        status, said, _, alone = self.run_edits(("src/lib.rt", "a();", "c();"), ("src/lib.rt", "b();", "wrong();"))
-        self.assertEqual((status, said.splitlines()[-1], alone), (1, "1 passed, 1 failed", ["0.edit"] * 2))
-        self.assertIn("FAILED: by itself", said)
-
-    def test_function_that_waits_for_another_refuses_nothing(self):
-        status, _, _, alone = self.run_edits(("src/lib.rt", "a();", "wrong();"), ("src/lib.rt", "    one();", "    one() ;"))
-        self.assertEqual((status, alone), (1, ["1.edit"] * 2))
-
-    def test_group_in_which_another_function_fails_is_not_judged(self):
-        status, _, ran, alone = self.run_edits(("src/lib.rt", "a();", "wrong(); // all"), ("src/lib.rt", "b();", "wrong();"))
-        self.assertEqual((status, ran[1:]), (1, ["low::one", "low::two"]))
-        self.assertEqual(alone, ["0.edit"] * 2)
-
-    def test_group_that_cannot_be_read_is_tried_one_by_one(self):
-        status, said, _, alone = self.run_edits(("src/lib.rt", "a();", "nonsense"), ("src/lib.rt", "b();", "wrong();"))
-        self.assertEqual((status, said.splitlines()[-1], alone), (1, "1 passed, 1 failed", ["0.edit"] * 2))
-
-    def test_wrong_definition_is_tried_alone(self):
-        status, said, ran, alone = self.run_edits(("specs/Full.antt", "most = 9", "most = 8 -- definition"))
-        self.assertEqual((status, said.splitlines()[-1], ran, alone), (0, "1 passed, 0 failed", [], ["0.edit"]))
-
-    def test_edit_that_is_named(self):
-        edits = ("src/lib.rt", "a();", "wrong();"), ("src/lib.rt", "b();", "c();")
-        self.assertEqual(self.run_edits(*edits, names=["low/0"])[:3:2], (0, ["low::one"]))
-        status, said, _, _ = self.run_edits(*edits, names=["low/2"])
-        self.assertEqual((status, said.splitlines()[0]), (1, "must-fail low/2: there is no such edit"))
-
-    def test_edit_that_cannot_be_applied_fails(self):
-        status, said, _, _ = self.run_edits(("src/lib.rt", "z();", "wrong();"))
-        self.assertEqual((status, said.splitlines()[-1]), (1, "0 passed, 1 failed"))
-        self.assertIn("BAD EDIT: an old text stands not once", said)
-
-    def test_no_edit_fails(self):
-        self.assertEqual(self.run_edits()[0], 1)
-
-    def test_crate_that_is_not_there(self):
-        with contextlib.redirect_stderr(io.StringIO()) as said:
-            self.assertEqual(self.run_edits(names=["two"])[0], 2)
-        self.assertIn("crates.txt has no two", said.getvalue())
-
-
-class OfTheToolchain(unittest.TestCase):
-    """tests/gate.py has `rt ci` try edits by tests/must_fail.py, and one by one if that fails."""
-
-    def answer(self, tried):
-        crate, files = SimpleNamespace(name="low"), ["b.edit", "a.edit"]
-        rt = SimpleNamespace(must_fail_all=lambda crate, edits, flags: [(True, f"{it} alone") for it in edits])
-        rt.ci = lambda: rt.must_fail_all(crate, files, ["--jobs", "1"])
-        with unittest.mock.patch.object(gate.must_fail, "tried", tried), contextlib.redirect_stdout(io.StringIO()) as said:
-            return gate.main(rt), said.getvalue()
-
-    def test_edits_are_tried_in_groups(self):
-        self.assertEqual(self.answer(lambda rt, crate, files: [(False, it) for it in files]), ([(False, "b.edit"), (False, "a.edit")], ""))
-
-    def test_groups_that_fail(self):
-        answer, said = self.answer(lambda rt, crate, files: [][0])
-        self.assertEqual(answer, [(True, "b.edit alone"), (True, "a.edit alone")])
-        self.assertIn("gate.py: the edits of low are tried one by one", said)
-
-
 class Assertions(unittest.TestCase):
     """Each crate of tests asserts by a copy of the module `assertions` that aug_monoid_tests tests."""
 
@@ -907,27 +730,27 @@ class Gate(InFolder):
         super().setUp()
         with open(os.path.join(TOP, ".ci", "run"), encoding="utf-8") as file:
             self.write(".ci/run", file.read(), 0o755)
-        entries = [it for it in os.scandir(TESTS) if it.is_file() and os.access(it.path, os.X_OK)]
-        self.scripts = sorted(it.name for it in entries if it.name != "gate.py")
+        self.scripts = sorted(it.name for it in os.scandir(TESTS) if it.is_file() and os.access(it.path, os.X_OK))
         for name in self.scripts:
             self.write(f"tests/{name}", f'#!/bin/sh\necho "{name} $*" >>{self.folder}/ran\necho "10 passed, 0 failed"\n', 0o755)
 
     def run_gate(self, said="7 passed, 0 failed", status=0, built=("augtrie", "augbench")):
-        """Runs it with a gate.py that says so and ends so: its last line, its status, and what it ran."""
+        """Runs it with an rt that says so and ends so: its last line, its status, and what it ran."""
         for name in "augtrie", "augbench":
             self.write(f"crates/{name}/out/{name}", "", 0o755)
         for name in built:
             self.write(f"crates/{name}/out/{name}.by-rattle", "", 0o755)
         self.write("said", said + "\n")
         self.write("ran", "")
-        self.write("tests/gate.py", f'#!/bin/sh\necho "gate.py $*" >>{self.folder}/ran\ncat said\nexit {status}\n', 0o755)
-        ran = subprocess.run([os.path.join(self.folder, ".ci", "run")], stdout=subprocess.PIPE, timeout=SECONDS)
+        self.write("bin/rt", f'#!/bin/sh\necho "rt $*" >>{self.folder}/ran\ncat said\nexit {status}\n', 0o755)
+        path = os.pathsep.join([os.path.join(self.folder, "bin"), os.environ["PATH"]])
+        ran = subprocess.run([os.path.join(self.folder, ".ci", "run")], stdout=subprocess.PIPE, timeout=SECONDS, env={**os.environ, "PATH": path})
         with open(os.path.join(self.folder, "ran"), encoding="utf-8") as file:
             return ran.stdout.decode().splitlines()[-1], ran.returncode, file.read().splitlines()
 
     def test_runs_every_script(self):
         line, status, ran = self.run_gate()
-        self.assertEqual(ran[0], "gate.py ")
+        self.assertEqual(ran[0], "rt ci")
         self.assertEqual(sorted(row.split()[0] for row in ran[1:]), self.scripts)
         self.assertEqual((line, status), (f"{7 + 10 * len(self.scripts)} passed, 0 failed", 0))
 
@@ -941,6 +764,10 @@ class Gate(InFolder):
         for said, ends, wanted in [("7 passed", 0, f"{rest} passed, 1 failed"), ("7 passed, 0 failed", 3, f"{rest + 7} passed, 1 failed")]:
             line, status, _ = self.run_gate(said, ends)
             self.assertEqual((line, status), (wanted, 1))
+
+    def test_bad_edits_fail(self):
+        said = "rt: must-fail low/one.edit: BAD EDIT: there is no such text\nrt: note: bad must-fail edits, as told above: 1. They fail nothing here\n7 passed, 0 failed"
+        self.assertEqual(self.run_gate(said)[:2], (f"{7 + 10 * len(self.scripts)} passed, 1 failed", 1))
 
     def programs_of(self, script, **given):
         """The programs that a script was given."""

@@ -1,7 +1,8 @@
 -- A crew as its round begins, and as it hands passes out.
-use Rattle.std.proofs.Common.{◌≡◌, ℕ, ◌+◌, ◌-◌, ◌*◌, ◌%◌, ◌^◌, ◌<◌, ◌≤◌, List, [], ◌∷◌, All, length, sym, refl, ap, ◌∙◌, subst, arith}
+use Rattle.std.proofs.Common.{◌≡◌, ◌≢◌, ℕ, ◌+◌, ◌-◌, ◌*◌, ◌%◌, ◌^◌, ◌<◌, ◌≤◌, List, [], ◌∷◌, All, length, sym, refl, ap, ◌∙◌, subst, arith}
 use Rattle.std.specs.Prelude.{unwrap_or, Some, map, Option, option_map}
 use Rattle.std.specs.List.{range_with_len}
+use Rattle.std.proofs.lemmas.Nat.{one_shl}
 use Rattle.aug_monoid.specs.Weighted.{FitsPair}
 use Rattle.aug_model.specs.Keys.{IsKeySet, keys_of}
 use Rattle.aug_model.proofs.Pairs.{length-keys_of}
@@ -16,19 +17,22 @@ use Rattle.aug_core.specs.Cuts.{Cut, opening_cut}
 use Rattle.aug_core.specs.inside.RootCuts.{root_cut}
 use Rattle.aug_core.specs.Opening.{Opening, opening_book}
 use Rattle.aug_core.specs.Rule.{newcomer}
-use Rattle.aug_core.specs.Told.{HoldsOnly, KnowsTable, LoadsNode, finishing, taking_back, handed_out, handing_out, taking}
+use Rattle.aug_core.specs.Told.{HoldsOnly, KnowsTable, LoadsNode, finishing, taking_back, handed_out, handing_out, taking, own_lane_place}
 use Rattle.aug_core.specs.declared.view.Entry.{Entry}
 use Rattle.aug_core.specs.declared.view.SeatView.{SeatView}
 use Rattle.aug_core.proofs.Openings.{newcomer_knows, inner_history}
 use Rattle.aug_core.proofs.OpeningCuts.{root_inner, opening_first}
 use Rattle.atomic_table.specs.Seated.{TableId}
+use Rattle.aug_words.specs.Leads.{HandsLaneOut}
+use Rattle.aug_words.specs.Seats.{Store, Known}
 use Rattle.aug_trie.specs.inside.Counted.{HasCounts}
 use Rattle.aug_trie.specs.inside.Goes.{HasLeaves}
 use Rattle.aug_trie.specs.inside.Knows.{knows, root_history, KnowsRound}
 use Rattle.aug_trie.specs.Pass.{PassFacts}
 use Rattle.aug_trie.specs.inside.PassState.{IsPass, pass_facts}
 use Rattle.aug_trie.specs.inside.CrewState.{IsCrew, crew_facts, HoldsCrew}
-use Rattle.aug_trie.specs.inside.RoundState.{round_of}
+use Rattle.aug_trie.specs.Round.{RoundFacts}
+use Rattle.aug_trie.specs.inside.RoundState.{round_of, store_round}
 use Rattle.aug_trie.specs.Passes.{HandedBack}
 use Rattle.aug_trie.specs.Knowledge.{inserts_of, removals_of}
 use Rattle.aug_trie.specs.Crew.{CrewFacts, HandsOut, TakesBack}
@@ -36,6 +40,7 @@ use Rattle.aug_trie.proofs.Counters.{counted_none, is_insertion, is_removal}
 use Rattle.aug_trie.proofs.Counting.{hits-append}
 use Rattle.aug_trie.proofs.Handing.{crew_begins, handed_out_is, handed_back_is, crew_after, pass_table, pass_begins, crew_out}
 use Rattle.aug_trie.proofs.Histories.{numbers_long}
+use Rattle.aug_trie.proofs.RoundLemmas.{of_round}
 
 module _ (face : ℕ → ℕ → List (ℕ × ℕ) → List ℕ) where
   -- the lead of a table that was just opened
@@ -114,6 +119,31 @@ module _ (face : ℕ → ℕ → List (ℕ × ℕ) → List ℕ) where
       named = numbers_long b.shape b.seen;
       knowledge = record { is_history = known.is_history; stands = known.stands };
     }
+
+  -- a lead that handed a pass out is a crew still, and the pass has its lane's records, and no change
+  pub record PassOut (now : CrewFacts) (lead pass : Known) (back inserts removals leaves bits next updates : ℕ) : Type 0 where
+    pub crew : HoldsCrew face lead.view back inserts removals
+    pub is_pass : IsPass face pass.view leaves bits next updates
+    pub counts : HasCounts (changes_of pass.view.held) 0 0
+    pub hands_out : HandsOut now (crew_facts lead) (pass_facts pass updates)
+
+  -- so it is after its words' call, if not all lanes of the round's table were handed out
+  pub pass_out : (store : Store) (old lead pass : Known) (s : Shape) (now : CrewFacts) (round : RoundFacts) (lane workers shift : ℕ) {back inserts removals bits next updates : ℕ} → crew_facts old ≡ now → now.round ≡ round → store_round store ≡ round → s ≡ store.opening.shape
+      → HoldsCrew face old.view back inserts removals → old.view.spare ≡ Some lane → workers ≡ s.workers → lane ≢ workers → HandsLaneOut face old.view lead.view pass.view → lead.table ≡ old.table → pass.table ≡ old.table
+      → shift ≡ s.bits → bits ≡ s.bits → next ≡ first_record s lane → next + lane_records s ≤ record_count s → updates ≡ s.updates → PassOut now lead pass back inserts removals (1 * 2 ^ shift % 18446744073709551616) bits next updates
+  pass_out store old lead pass s now round lane workers shift {back} {inserts} {removals} {bits} {next} {updates} is one store_is shape holds spare workers_are other h lead_table pass_table shift_is bits_are first within updates_are =
+      let v : SeatView = old.view in let place : ℕ = own_lane_place (handed_out h.between) in let leaves : ℕ = 1 * 2 ^ shift % 18446744073709551616 in let shaped : v.shape ≡ s = (of_round store old now round is one store_is).one_shape ∙ sym shape in
+      let at : holds.handed ≡ lane = ap (λ (z : Option ℕ). unwrap_or z 0) (sym holds.is_crew.hands_out ∙ spare) in
+      let low : holds.handed < v.shape.workers = let all : v.shape.workers ≡ s.workers = ap (λ (z : Shape). z.workers) shaped in let few = holds.few in omega arith in
+      let most = (subst IsLayout shaped holds.is_crew.knows_table.laid_out).bits.1 in let full : leaves ≡ 2 ^ s.bits = one_shl shift 64 (omega arith) ∙ ap (λ (z : ℕ). 2 ^ z) shift_is in
+      let p = hands_pass v h.between h.found back inserts removals place holds h.loaded s lane leaves next shaped spare full first within in
+      let out = hands_out_is v h.between h.found back inserts removals place holds h.loaded old.table updates low (updates_are ∙ sym (ap (λ (z : Shape). z.updates) shaped)) p.knowledge in record {
+        crew = subst (λ (z : SeatView). HoldsCrew face z back inserts removals) (sym h.lead_is) (hands_crew v h.between h.found back inserts removals place holds h.loaded low);
+        is_pass = subst (λ (z : SeatView × ℕ × ℕ). IsPass face z.0 leaves z.1 next z.2) (λ j. (sym h.pass_is j, sym bits_are j, sym updates_are j)) p;
+        counts = subst (λ (z : SeatView). HasCounts (changes_of z.held) 0 0) (sym h.pass_is) (hands_counts v h.between h.found back inserts removals place holds h.loaded);
+        hands_out = subst (λ (z : CrewFacts × Known × Known). HandsOut z.0 (crew_facts z.1) (pass_facts z.2 updates))
+            (λ j. (is j, record { table = sym lead_table j; view = sym h.lead_is j }, record { table = sym pass_table j; view = sym h.pass_is j })) out;
+      }
 
   -- a lead that took a pass in and loaded the root
   module _ (old p w : SeatView) (place r back inserts removals more less : ℕ) (c : HoldsCrew face old back inserts removals) (lane : Held) (only : HoldsOnly p lane) (one_shape : p.shape ≡ old.shape) (kp : KnowsTable face p) (known : KnowsRound p)

@@ -57,10 +57,14 @@ module _ (f : ℕ → ℕ → List (ℕ × ℕ) → List ℕ) where
     lane = ap (λ (z : SeatView). own_lane z.held) l.stepped;
   }
 
-  module _ (leaves bits number left key : ℕ) (request : Request) (u : SeatView) where
+  module _ {leaves bits number left key : ℕ} {request : Request} {u : SeatView} where
+    -- a stage is what it was matched with
+    pub stage_is : {v : SeatView} {stage same : Stage} → stage ≡ same → StageAt f leaves bits number left key request u stage v → StageAt f leaves bits number left key request u same v
+    stage_is {v} is t = subst (λ (z : Stage). StageAt f leaves bits number left key request u z v) is t
+
     -- ---- the leaf is loaded
 
-    module _ (old w : SeatView) (word : ℕ) (t : StageAt f leaves bits number left key request u Leaf old) (loaded : BeginsAtLeaf f old key word w) where
+    module _ {old w : SeatView} {word : ℕ} (t : StageAt f leaves bits number left key request u Leaf old) (loaded : BeginsAtLeaf f old key word w) where
       from_start : BeginsAtLeaf f u key word w
       from_start = subst (λ (z : SeatView). BeginsAtLeaf f z key word w) t.is_stage loaded
 
@@ -93,7 +97,7 @@ module _ (f : ℕ → ℕ → List (ℕ × ℕ) → List ℕ) where
 
     -- ---- the leaf is exchanged
 
-    module _ (old : SeatView) (word : ℕ) (t : StageAt f leaves bits number left key request u (Change word) old) where
+    module _ {old : SeatView} {word : ℕ} (t : StageAt f leaves bits number left key request u (Change word) old) where
       loaded : BeginsAtLeaf f u key word old
       loaded = t.is_stage.loaded
 
@@ -117,7 +121,7 @@ module _ (f : ℕ → ℕ → List (ℕ × ℕ) → List ℕ) where
           let l : length (changes_of old.held) ≡ length (changes_of u.held) = ap (λ (z : List changed.Change). length z) (g_old.changes ∙ append-nil (changes_of u.held)) in
           let up : old.shape.updates ≡ u.shape.updates = ap (λ (z : Shape). z.updates) g_old.shaped in omega arith)
 
-      module _ (w : SeatView) (ok : Bool) (tried : TriedLeaf f old key word (word_after request key word) ok w) where
+      module _ {w : SeatView} {ok : Bool} (tried : TriedLeaf f old key word (word_after request key word) ok w) where
         abbrev a : Advance
         a = advance_from request key word
 
@@ -161,14 +165,14 @@ module _ (f : ℕ → ℕ → List (ℕ × ℕ) → List ℕ) where
 
     -- ---- a step of the way to the root
 
-    module _ (old w : SeatView) (done : Outcome) (a : Ascent) (t : StageAt f leaves bits number left key request u (Up done a) old) where
+    module _ {old : SeatView} {done : Outcome} {a : Ascent} (t : StageAt f leaves bits number left key request u (Up done a) old) where
       abbrev r : IsRising f leaves bits number left key request u done a old
       r = t.is_stage
 
       pub leaves_old : HasLeaves old.shape leaves
       leaves_old = subst (λ (z : Shape). HasLeaves z leaves) (sym r.has_begun.shaped) t.is_pass.leaves_are
 
-      pub rising_on : (next : Ascent) → QuietStep old w → IsOnWay f bits number key r.leaf next w → StageAt f leaves bits number left key request u (Up done next) w
+      pub rising_on : {w : SeatView} (next : Ascent) → QuietStep old w → IsOnWay f bits number key r.leaf next w → StageAt f leaves bits number left key request u (Up done next) w
       rising_on next quiet way = let b = r.has_begun in let s = quiet.0 in record {
         is_pass = t.is_pass;
         some = t.some;
@@ -188,5 +192,5 @@ module _ (f : ℕ → ℕ → List (ℕ × ℕ) → List ℕ) where
         };
       }
 
-      pub risen_up : HasRisen f bits number key r.leaf bits w → Updated f (number + bits) u key request w done
-      risen_up risen = r.finish w risen
+      pub risen_up : {w : SeatView} → HasRisen f bits number key r.leaf bits w → Updated f (number + bits) u key request w done
+      risen_up {w} risen = r.finish w risen

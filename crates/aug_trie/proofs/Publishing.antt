@@ -1,53 +1,25 @@
 -- A record of the own lane is filled and published.
 use Rattle.std.proofs.Common.{◌≡◌, ◌≢◌, ◌↔◌, ℕ, ◌+◌, ◌≤◌, Bool, true, false, IsTrue, List, [], get_or, sym, refl, ap, ◌∙◌, subst, ⊎_elim, arith}
 use Rattle.std.proofs.lemmas.Bool.{cases_eq, false≢true}
+use Rattle.aug_monoid.specs.Parts.{Parts}
 use Rattle.aug_core.specs.Addresses.{IsInner}
+use Rattle.aug_core.specs.Faces.{face}
 use Rattle.aug_core.specs.Lanes.{first_record, IsOfLane, lane_records}
 use Rattle.aug_core.specs.inside.Refreshes.{SaysLoaded, Published}
-use Rattle.aug_core.specs.Told.{own_lane, storing, KnowsTable, IsFilled, TriesNode}
+use Rattle.aug_core.specs.Told.{own_lane, storing, KnowsTable, MayStore, IsFilled, TriesNode}
 use Rattle.aug_core.specs.declared.view.Held.{Held}
 use Rattle.aug_core.specs.declared.view.SeatView.{SeatView}
 use Rattle.aug_core.specs.Places.{record_words}
-use Rattle.aug_core.proofs.Filling.{put, filled_view, holds_filled, filled_lane, five_held, is_filled}
-use Rattle.aug_trie.specs.inside.Goes.{IsFree, HasRoom, Took, Goes}
-use Rattle.aug_trie.proofs.Going.{took_one, took_on, room_on, goes_on, goes_more, goes_storing, goes_seeing, goes_publishing}
+use Rattle.aug_core.proofs.FaceLemmas.{left_in, right_in}
+use Rattle.aug_core.proofs.Filling.{put, filled_view, filled_is, holds_filled, filled_lane, five_held, is_filled}
+use Rattle.aug_words.specs.Seats.{TriedNode}
+use Rattle.aug_trie.specs.inside.Goes.{IsFree, HasRoom, Took, Goes, publish_steps}
+use Rattle.aug_trie.proofs.Going.{took_one, took_on, room_on, goes_on, goes_more, goes_storing, goes_seeing, goes_publishing, may_store_room}
 
 -- a record that there is room for is the lane's
 pub of_lane : (v : SeatView) (number : ℕ) (room : HasRoom v number 1) → IsOfLane v.shape room.is_free.lane.lane number
 of_lane v number room = let first = room.is_free.from_first in let is : own_lane v.held ≡ room.is_free.lane.lane = ap own_lane room.is_free.only in
     let b = subst (λ (z : ℕ). number + 1 ≤ first_record v.shape z + lane_records v.shape) is room.room in record { from_first = omega arith; below_next = omega arith }
-
--- the views after each of the five stores of a record
-module _ (face : ℕ → ℕ → List (ℕ × ℕ) → List ℕ) (v v1 v2 v3 v4 v5 : SeatView) (number : ℕ) (five : List ℕ) (room : HasRoom v number 1) (kn : KnowsTable face v) (e1 : v1 ≡ put v number 0 (get_or five 0 0)) (e2 : v2 ≡ put v1 number 1 (get_or five 1 0))
-    (e3 : v3 ≡ put v2 number 2 (get_or five 2 0)) (e4 : v4 ≡ put v3 number 3 (get_or five 3 0)) (e5 : v5 ≡ put v4 number 4 (get_or five 4 0)) where
-  g1 : Goes face 0 [] v v1
-  g1 = goes_storing face v v1 _ _ e1 kn
-
-  g2 : Goes face 0 [] v v2
-  g2 = goes_on face 0 0 0 [] v v1 v2 (omega arith) (omega arith) g1 (goes_storing face v1 v2 _ _ e2 g1.knows_table)
-
-  g3 : Goes face 0 [] v v3
-  g3 = goes_on face 0 0 0 [] v v2 v3 (omega arith) (omega arith) g2 (goes_storing face v2 v3 _ _ e3 g2.knows_table)
-
-  g4 : Goes face 0 [] v v4
-  g4 = goes_on face 0 0 0 [] v v3 v4 (omega arith) (omega arith) g3 (goes_storing face v3 v4 _ _ e4 g3.knows_table)
-
-  -- they show nothing of the book
-  pub goes_filling : Goes face 0 [] v v5
-  goes_filling = goes_on face 0 0 0 [] v v4 v5 (omega arith) (omega arith) g4 (goes_storing face v4 v5 _ _ e5 g4.knows_table)
-
-  pub room_filled : HasRoom v5 number 1
-  room_filled = room_on face [] v v5 number 1 goes_filling room
-
-  -- and are five steps
-  pub took_filling : Took v v5 record_words
-  took_filling = let t1 = took_one v v1 _ refl (ap (λ (z : SeatView). z.steps) e1) in let t2 = took_on v v1 v2 1 1 2 refl t1 (took_one v1 v2 _ refl (ap (λ (z : SeatView). z.steps) e2)) in
-      let t3 = took_on v v2 v3 2 1 3 refl t2 (took_one v2 v3 _ refl (ap (λ (z : SeatView). z.steps) e3)) in let t4 = took_on v v3 v4 3 1 4 refl t3 (took_one v3 v4 _ refl (ap (λ (z : SeatView). z.steps) e4)) in
-      took_on v v4 v5 4 1 record_words refl t4 (took_one v4 v5 _ refl (ap (λ (z : SeatView). z.steps) e5))
-
--- a store leaves the record one that may be stored
-pub may_store_on : (face : ℕ → ℕ → List (ℕ × ℕ) → List ℕ) (v w : SeatView) (number place value : ℕ) → KnowsTable face v → w ≡ storing v place value → HasRoom v number 1 → HasRoom w number 1 × KnowsTable face w
-may_store_on face v w number place value kn is room = let g = goes_storing face v w place value is kn in (room_on face [] v w number 1 g room, g.knows_table)
 
 module _ (face : ℕ → ℕ → List (ℕ × ℕ) → List ℕ) where
   module _ (v : SeatView) (number : ℕ) (five : List ℕ) (room : HasRoom v number 1) where
@@ -87,3 +59,43 @@ module _ (face : ℕ → ℕ → List (ℕ × ℕ) → List ℕ) where
     pub free_again : done ≡ false → IsFree v number → IsFree w number
     free_again is f = let miss : found ≢ old = λ same. (let good : done ≡ true = decided.1 same in false≢true (sym is ∙ good)) in
         (goes_seeing face v w _ (told.miss miss).0 kn told.sees).still_free number (omega arith) f
+
+-- ---- both, by what the calls of the stores and of the try say
+
+module _ {A B : Type 0} (parts_a : Parts A) (parts_b : Parts B) where
+  abbrev f : ℕ → ℕ → List (ℕ × ℕ) → List ℕ
+  f = face parts_a parts_b
+
+  -- a store shows nothing of the book, and leaves the record one that may be stored
+  pub stored_on : {u v w : SeatView} (place value : ℕ) → w ≡ storing v place value → Goes f 0 [] u v → Goes f 0 [] u w
+  stored_on {u} {v} {w} place value is g = goes_on f 0 0 0 [] u v w (omega arith) (omega arith) g (goes_storing f v w place value is g.knows_table)
+
+  pub may_store_on : {v w : SeatView} {number : ℕ} → HasRoom v number 1 → Goes f 0 [] v w → MayStore w number
+  may_store_on {v} {w} {number} room g = may_store_room w number (room_on f [] v w number 1 g room)
+
+  -- what a try to publish a record that was filled leaves
+  pub record Publishes (v w : SeatView) (q old number left right : ℕ) (done : Bool) : Type 0 where
+    pub goes : Goes f (number + 1) [] v w
+    pub took : Took v w publish_steps
+    pub published : Published v.shape q old left right done w.seen
+    pub again : done ≡ false → IsFree w number
+
+  -- the views after each of the five stores of the record
+  module _ {v v1 v2 v3 v4 v5 : SeatView} {number : ℕ} (five : List ℕ) (room : HasRoom v number 1) (e1 : v1 ≡ put v number 0 (get_or five 0 0)) (e2 : v2 ≡ put v1 number 1 (get_or five 1 0)) (e3 : v3 ≡ put v2 number 2 (get_or five 2 0))
+      (e4 : v4 ≡ put v3 number 3 (get_or five 3 0)) (e5 : v5 ≡ put v4 number 4 (get_or five 4 0)) where
+    is_filled_view : v5 ≡ filled_view v number five
+    is_filled_view = filled_is v v1 v2 v3 v4 v5 number five e1 e2 e3 e4 e5
+
+    pub may_publish_filled : {q old : ℕ} → SaysLoaded f v.shape v.seen q old five → IsFilled f v5 q old number
+    may_publish_filled {q} {old} says = subst (λ (z : SeatView). IsFilled f z q old number) (sym is_filled_view) (may_publish f v number five room q old says)
+
+    pub publishes : {q old : ℕ} {done : Bool} {w : SeatView} → IsInner v.shape q → Goes f 0 [] v v5 → TriedNode f v5 q old number done w → Publishes v w q old number (get_or five 0 0) (get_or five 1 0) done
+    publishes {q} {old} {done} {w} inner g t =
+        let t1 = took_one v v1 _ refl (ap (λ (z : SeatView). z.steps) e1) in let t2 = took_on v v1 v2 1 1 2 refl t1 (took_one v1 v2 _ refl (ap (λ (z : SeatView). z.steps) e2)) in
+        let t3 = took_on v v2 v3 2 1 3 refl t2 (took_one v2 v3 _ refl (ap (λ (z : SeatView). z.steps) e3)) in let t4 = took_on v v3 v4 3 1 4 refl t3 (took_one v3 v4 _ refl (ap (λ (z : SeatView). z.steps) e4)) in
+        let t5 = took_on v v4 v5 4 1 record_words refl t4 (took_one v4 v5 _ refl (ap (λ (z : SeatView). z.steps) e5)) in record {
+          goes = goes_on f 0 (number + 1) (number + 1) [] v v5 w (omega arith) (omega arith) g (goes_tried f v5 w q old number t.found done t.decided t.told g.knows_table);
+          took = took_on v v5 w record_words 1 publish_steps refl t5 (took_one v5 w _ refl t.told.stepped);
+          published = published f v number five room w q old t.found done inner (left_in parts_a parts_b) (right_in parts_a parts_b) t.decided (subst (λ (z : SeatView). TriesNode f z q old number t.found w) is_filled_view t.told);
+          again = λ bad. free_again f v5 w q old number t.found done t.decided t.told g.knows_table bad (room_on f [] v v5 number 1 g room).is_free;
+        }

@@ -1,5 +1,5 @@
 -- One try as a whole: what was loaded is what the five words say.
-use Rattle.std.proofs.Common.{◌≡◌, ℕ, zero, suc, ◌+◌, ◌-◌, ◌*◌, ◌^◌, ◌<◌, ◌≤◌, Bool, false, ltb, lt-ltb, le-ltb, if◌then◌else◌, List, [], ◌∷◌, sym, ap, ◌∙◌, subst, ⊎_elim, arith}
+use Rattle.std.proofs.Common.{◌≡◌, ℕ, zero, suc, ◌+◌, ◌-◌, ◌*◌, ◌^◌, ◌<◌, ◌≤◌, Bool, false, ltb, lt-ltb, le-ltb, if◌then◌else◌, List, [], ◌∷◌, get_or, sym, refl, ap, ◌∙◌, subst, ⊎_elim, arith}
 use Rattle.std.proofs.lemmas.Bool.{cases_lt}
 use Rattle.std.proofs.Math.Nat.{two-pow-succ}
 use Rattle.aug_monoid.specs.Parts.{Parts}
@@ -13,9 +13,10 @@ use Rattle.aug_core.specs.Told.{KnowsTable, LoadsLeaf, LoadsNode}
 use Rattle.aug_core.specs.declared.view.SeatView.{SeatView}
 use Rattle.aug_core.proofs.Sizes.{twice}
 use Rattle.aug_core.proofs.EntryKeys.{are_small}
-use Rattle.aug_core.proofs.Refreshing.{is_loaded, refreshed}
-use Rattle.aug_trie.specs.inside.Goes.{IsFree, Goes, Took, Tries, IsPartOf, part_steps, publish_steps, try_steps}
-use Rattle.aug_trie.proofs.Going.{took_on}
+use Rattle.aug_core.proofs.Refreshing.{is_loaded, refreshed, has_entry}
+use Rattle.aug_trie.specs.inside.Goes.{IsFree, HasLeaves, HasRoom, Goes, Took, Tries, IsPartOf, part_steps, publish_steps, try_steps}
+use Rattle.aug_trie.specs.inside.Points.{TryOver}
+use Rattle.aug_trie.proofs.Going.{took_on, room_on, goes_on}
 use Rattle.aug_trie.proofs.Telling.{words_are}
 use Rattle.aug_core.proofs.PrefixLemmas.{book_trans, entry_stays}
 
@@ -92,3 +93,42 @@ took_refresh s q v w0 w1 w2 w3 w4 w inner s2 s3 t0 t1 t2 t3 t4 t5 = let n : ℕ 
     let t4' : Took w3 w4 n = subst (Took w3 w4) (same_steps s q inner) (subst (λ (z : Shape). Took w3 w4 (part_steps z (right_of s q))) s3 t4) in
     let a = took_on v w0 w1 1 1 2 (omega arith) t0 t1 in let b = took_on v w1 w2 2 1 3 (omega arith) a t2 in let c = took_on v w2 w3 3 n (3 + n) (omega arith) b t3' in
     let d = took_on v w3 w4 (3 + n) n (3 + 2 * n) (omega arith) c t4' in took_on v w4 w (3 + 2 * n) publish_steps (try_steps n) (omega arith) d t5
+
+module _ {A B : Type 0} (parts_a : Parts A) (parts_b : Parts B) where
+  abbrev f : ℕ → ℕ → List (ℕ × ℕ) → List ℕ
+  f = face parts_a parts_b
+
+  -- what was loaded at a node before the view `w`: the record `number` may be filled with it, and then published, which ends a try that began at `v`
+  pub record TryLoaded (v w : SeatView) (q number old left right m k : ℕ) (rest : List ℕ) : Type 0 where
+    pub room : HasRoom w number 1
+    pub few : m + k < 2 ^ 64
+    pub loaded : (five : List ℕ) → five ≡ left ∷ right ∷ (m + k) ∷ rest → SaysLoaded f w.shape w.seen q old five
+    pub over : (w' : SeatView) (done : Bool) (five : List ℕ) → five ≡ left ∷ right ∷ (m + k) ∷ rest → Goes f (number + 1) [] w w' → Took w w' publish_steps → Published w.shape q old (get_or five 0 0) (get_or five 1 0) done w'.seen → (done ≡ false → IsFree w' number)
+        → TryOver f v q number done w'
+
+  -- so it is after the loads of the words of a node and of its two children, and those of the children's parts
+  pub try_loaded : {v w0 w1 w2 w3 w4 : SeatView} {leaves q number old left right m k : ℕ} {x x' : A} {y y' : B} → IsMonoid parts_a → IsMonoid parts_b → HasLeaves v.shape leaves → IsInner v.shape q → HasRoom v number 1
+      → Goes f 0 [] v w0 → Took v w0 1 → HasNewest w0.seen q old → Goes f 0 [] w0 w1 → Took w0 w1 1 → HasNewest w1.seen (2 * (q - leaves)) left → Goes f 0 [] w1 w2 → Took w1 w2 1 → HasNewest w2.seen (2 * (q - leaves) + 1) right
+      → Goes f 0 [] w2 w3 → Took w2 w3 (part_steps w2.shape (2 * (q - leaves))) → IsPartOf parts_a parts_b w2 (2 * (q - leaves)) left m x y
+      → Goes f 0 [] w3 w4 → Took w3 w4 (part_steps w3.shape (2 * (q - leaves) + 1)) → IsPartOf parts_a parts_b w3 (2 * (q - leaves) + 1) right k x' y' → TryLoaded v w4 q number old left right m k (parts_a.to_word (parts_a.join x x') ∷ parts_b.to_word (parts_b.join y y') ∷ [])
+  try_loaded {v} {w0} {w1} {w2} {w3} {w4} {leaves} {q} {number} {old} {left} {right} {m} {k} {x} {x'} {y} {y'} laws_a laws_b table inner room g0 t0 at_node g1 t1 at_l g2 t2 at_r g3 t3 part_l g4 t4 part_r =
+      let s : Shape = v.shape in let past = inner.past_leaves in let inside = inner.inside in let are = table.are in let few = table.few in let t = twice s.bits in
+      let el : 2 * (q - leaves) ≡ left_of s q = omega arith in let er : 2 * (q - leaves) + 1 ≡ right_of s q = omega arith in
+      let s2 = g2.shaped ∙ g1.shaped ∙ g0.shaped in let s3 = g3.shaped ∙ s2 in let s4 = g4.shaped ∙ s3 in
+      let at_left = subst (λ (z : ℕ). HasNewest w1.seen z left) el at_l in let at_right = subst (λ (z : ℕ). HasNewest w2.seen z right) er at_r in
+      let part_left = subst (λ (z : ℕ). IsPartOf parts_a parts_b w2 z left m x y) el part_l in let part_right = subst (λ (z : ℕ). IsPartOf parts_a parts_b w3 z right k x' y') er part_r in
+      let few_left = part_few parts_a parts_b s w2 (left_of s q) left m x y s2 (omega arith) (omega arith) g2.knows_table (has_entry f s w2.seen w1.seen (left_of s q) left g2.later at_left) part_left in
+      let few_right = part_few parts_a parts_b s w3 (right_of s q) right k x' y' s3 (omega arith) (omega arith) g3.knows_table (has_entry f s w3.seen w2.seen (right_of s q) right g3.later at_right) part_right in
+      let h1 = goes_on f 0 0 0 [] v w0 w1 (omega arith) (omega arith) g0 g1 in let h2 = goes_on f 0 0 0 [] v w1 w2 (omega arith) (omega arith) h1 g2 in
+      let h3 = goes_on f 0 0 0 [] v w2 w3 (omega arith) (omega arith) h2 g3 in let h4 = goes_on f 0 0 0 [] v w3 w4 (omega arith) (omega arith) h3 g4 in record {
+        room = room_on f [] v w4 number 1 h4 room;
+        few = omega arith;
+        loaded = λ five is. subst (SaysLoaded f w4.shape w4.seen q old) (sym is)
+            (says parts_a parts_b laws_a laws_b v w0 w1 w2 w3 w4 q old left right m k x x' y y' _ _ inner (omega arith) g0 g1 g2 g3 g4 at_node at_left at_right part_left part_right refl refl);
+        over = λ w done five is g took p again. record {
+          goes = goes_on f 0 (number + 1) (number + 1) [] v w4 w (omega arith) (omega arith) h4 g;
+          took = took_refresh s q v w0 w1 w2 w3 w4 w inner s2 s3 t0 t1 t2 (subst (λ (z : ℕ). Took w2 w3 (part_steps w2.shape z)) el t3) (subst (λ (z : ℕ). Took w3 w4 (part_steps w3.shape z)) er t4) took;
+          tries = tries f v w0 w1 w2 w4 w q old left right number done inner g.knows_table (g.shaped ∙ s4) s4 g0.later g1.later g2.later (book_trans g3.later (book_trans g4.later g.later)) at_node at_left at_right
+              (subst (λ (z : List ℕ). Published w4.shape q old (get_or z 0 0) (get_or z 1 0) done w.seen) is p) again;
+        };
+      }

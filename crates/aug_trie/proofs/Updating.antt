@@ -195,3 +195,19 @@ module _ (f : ℕ → ℕ → List (ℕ × ℕ) → List ℕ) where
                   (λ (same : tried.found ≡ word). subst (CameTo f (number + bits) v key request w word) (sym (done_hit same ∙ outcome_is request key word)) (by_replaces a.replaces refl (went_up same)))
                   (λ other. subst (CameTo f (number + bits) v key request w word) (sym (done_miss other)) (stayed other)) (cases_eq tried.found word);
             }
+
+  -- a pass with room for the records of the way exchanged its leaf, or failed to: it may go up the way, and that ends the update
+  pub record LeafTried (v w1 : SeatView) (key word bits number : ℕ) (request : Request) (ok : Bool) : Type 0 where
+    pub same_shape : w1.shape ≡ v.shape
+    pub rises : MayRise f bits number key w1
+    pub updated : (w : SeatView) (done : Outcome) → HasRisen f bits number key w1 bits w → done ≡ (if ok then outcome_by request word else Refused) → Updated f (number + bits) v key request w done
+
+  pub leaf_tried : {v w0 w1 : SeatView} {key word bits number new : ℕ} {ok : Bool} (request : Request) → key < 2 ^ v.shape.bits → bits ≡ v.shape.bits → KnowsTable f v → HasRoom v number bits → BeginsAtLeaf f v key word w0
+      → FitsRequest request → goes_from request (serial_in_word word) ≡ true → new ≡ word_after request key word → TriedLeaf f w0 key word new ok w1 → LeafTried v w1 key word bits number request ok
+  leaf_tried {v} {w0} {w1} {key} {word} {bits} {number} {new} {ok} request low is kn room l fits lets is_new tries = let some = kn.laid_out.bits.0 in let few : 1 ≤ bits = omega arith in
+      let g0 = goes_begun v w0 key word kn l in let free = (room_on f [] v w0 number bits g0 room).is_free in let t = subst (λ (z : ℕ). TriedLeaf f w0 key word z ok w1) is_new tries in
+      let g1 = tried_goes v w0 key word request bits number low is few kn l fits lets w1 ok free.lane free.only t in let g = goes_after f 0 0 0 [] g1.0 g1.0 v w0 w1 (omega arith) (omega arith) refl g0 g1.1 in record {
+        same_shape = g.shaped;
+        rises = may_rise bits number key g1.0 v w1 low is room g;
+        updated = λ w done risen comes. updated v w0 key word request bits number low is few kn l fits lets w1 ok free.lane free.only t w risen done comes;
+      }

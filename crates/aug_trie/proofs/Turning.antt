@@ -1,6 +1,7 @@
 -- What contracts see of a turn.
-use Rattle.std.proofs.Common.{◌≡◌, ℕ, zero, suc, ◌+◌, ◌-◌, ◌*◌, ◌^◌, ◌<◌, ◌≤◌, Bool, true, false, if◌then◌else◌, le-ltb, ne_eqb, List, [], ◌∷◌, ◌++◌, length, sym, refl, ap, ◌∙◌, subst, arith, length-append}
+use Rattle.std.proofs.Common.{Some, ◌≡◌, ℕ, zero, suc, ◌+◌, ◌-◌, ◌*◌, ◌^◌, ◌<◌, ◌≤◌, Bool, true, false, if◌then◌else◌, le-ltb, ne_eqb, List, [], ◌∷◌, ◌++◌, length, sym, refl, ap, ◌∙◌, subst, arith, length-append}
 use Rattle.atomic_table.specs.Seated.{TableId}
+use Rattle.aug_words.specs.Seats.{Known}
 use Rattle.aug_monoid.specs.Parts.{Parts}
 use Rattle.aug_model.specs.Folds.{summary_of}
 use Rattle.aug_core.specs.Faces.{face}
@@ -22,18 +23,23 @@ use Rattle.aug_trie.specs.Node.{Keeps}
 use Rattle.aug_trie.specs.inside.Points.{OneStep, TryAt, point_turns}
 use Rattle.aug_trie.specs.Requests.{word_after, goes_from}
 use Rattle.aug_trie.specs.declared.updates.request.Request.{Request}
-use Rattle.aug_trie.specs.inside.Stages.{IsOnWay, HasBegun, StageAt, part_above, ascent_turns, stage_turns, MayTry, IsRising}
-use Rattle.aug_trie.specs.inside.ClimbState.{climb_facts, began_facts, start_facts}
-use Rattle.aug_trie.specs.Climb.{StepsOnce, TurnsOn, Finishes}
+use Rattle.aug_trie.specs.inside.Stages.{IsOnWay, HasBegun, StageAt, part_above, ascent_turns, stage_turns, MayTry, IsRising, Climbs, StageFalls}
+use Rattle.aug_trie.specs.inside.ClimbState.{climb_facts, began_facts, start_facts, HoldsClimb}
+use Rattle.aug_trie.specs.Climb.{ClimbFacts, StepsOnce, TurnsOn, Finishes}
+use Rattle.aug_trie.specs.declared.rounds.account.Account.{Account}
 use Rattle.aug_trie.specs.declared.turns.points.Point.{Point}
 use Rattle.aug_trie.specs.declared.turns.points.Point.TheVariants.{Node, Left, Right, Part, Record}
 use Rattle.aug_trie.specs.declared.turns.ascents.Ascent.{Ascent}
 use Rattle.aug_trie.specs.declared.turns.stages.Stage.{Stage}
 use Rattle.aug_trie.specs.declared.turns.stages.Stage.TheVariants.{Leaf, Change, Up}
+use Rattle.aug_trie.specs.declared.turns.stages.Next.{Next}
+use Rattle.aug_trie.specs.declared.turns.stages.Next.TheVariants.{More, Done}
 use Rattle.aug_trie.proofs.Accepting.{knows_on, comes_to}
 use Rattle.aug_trie.proofs.Advancing.{goes_at}
 use Rattle.aug_trie.proofs.Ascending.{part_is}
-use Rattle.aug_trie.proofs.Passing.{gained_by, goes_on_by, steps_of}
+use Rattle.aug_trie.proofs.Counters.{may_count, counted_by}
+use Rattle.aug_trie.proofs.PassCalls.{Holds, account_after}
+use Rattle.aug_trie.proofs.Passing.{gained_by, goes_on_by, steps_of, pass_after}
 use Rattle.aug_trie.proofs.Trees.{keeps_on}
 use Rattle.aug_trie.proofs.Updating.{goes_begun}
 use Rattle.std.specs.Prelude.{unwrap_or, slice_index_or, drop}
@@ -181,3 +187,42 @@ pub keeps_start : {A B : Type 0} (parts_a : Parts A) (parts_b : Parts B) (table 
 keeps_start parts_a parts_b table leaves bits number left key request u v w stage done t up = let f = face parts_a parts_b in let p = t.is_pass in let goes = (gained_by f u w leaves bits number left key request p t.some t.low done up).2 in
     subst (λ (z : PassFacts). Keeps (summary_of parts_a parts_b) z (pass_facts (record { table = table; view = w }) (left - 1))) (sym (start_is f leaves bits number left key request u table stage v t))
     (keeps_on parts_a parts_b (record { table = table; view = u }) (record { table = table; view = w }) left (left - 1) p.knows_table goes.knows_table goes.shaped goes.later)
+
+-- ---- a turn of a climb, by what the call of its next stage says
+
+module _ {A B : Type 0} (parts_a : Parts A) (parts_b : Parts B) where
+  abbrev both : ℕ → ℕ → List (ℕ × ℕ) → List ℕ
+  both = face parts_a parts_b
+
+  -- the last one made a pass of it again
+  pub record ClimbDone (now : ClimbFacts) (w : Known) (done : Outcome) (after : Account) : Type 0 where
+    pub holds : Holds parts_a parts_b (Some w) after
+    pub finish : Finishes done now (pass_facts w after.left)
+    pub keeps : Keeps (summary_of parts_a parts_b) now.start (pass_facts w after.left)
+
+  module _ (k : Known) (a : Account) (key : ℕ) (request : Request) (stage : Stage) (now : ClimbFacts) (held : HoldsClimb both k.view a.leaves a.bits a.next a.left a.inserts a.removals key request stage) (is : climb_facts k a.bits a.left key request stage ≡ now) where
+    -- one more change may be counted
+    pub has_room : (a.inserts + 1 < 2 ^ 32) × (a.removals + 1 < 2 ^ 32)
+    has_room = let few = may_count both held.began a.leaves a.bits a.next a.left a.inserts a.removals held.stage_at.is_pass held.counts in (omega (arith, few), omega (arith, few))
+
+    module _ (w : Known) (next : Next) (table : w.table ≡ k.table) (step : OneStep k.view w.view) (falls : StageFalls a.bits stage next)
+        (on : (left : ℕ) (u : SeatView) → StageAt both a.leaves a.bits a.next left key request u stage k.view → Climbs both a.leaves a.bits a.next left key request u next w.view) where
+      climbs : (same : Next) → next ≡ same → Climbs both a.leaves a.bits a.next a.left key request held.began same w.view
+      climbs same next_is = subst (λ (z : Next). Climbs both a.leaves a.bits a.next a.left key request held.began z w.view) next_is (on a.left held.began held.stage_at)
+
+      pub climb_on : (more : Stage) → next ≡ More more → (stage ≡ Leaf → (found : ℕ) × (w.view.steps ≡ k.view.steps ++ load_leaf key found ∷ []))
+          → ((word : ℕ) → stage ≡ Change word → (found : ℕ) × (w.view.steps ≡ k.view.steps ++ try_leaf key word (word_after request key word) found ∷ [])) → TurnsOn now (climb_facts w a.bits a.left key request more)
+      climb_on more next_is first second = let fewer = subst (StageFalls a.bits stage) next_is falls in
+          subst (λ (z : ClimbFacts × TableId). TurnsOn z.0 (climb_facts (record { table = z.1; view = w.view }) a.bits a.left key request more)) (λ j. (is j, sym table j))
+          (turns_on both a.leaves a.bits a.next a.left key request held.began k.table k.view w.view stage held.stage_at more (climbs (More more) next_is) step fewer.0 fewer.1 first second)
+
+      pub climb_done : (done : Outcome) (after : Account) → next ≡ Done done → after ≡ account_after a request done → ClimbDone now w done after
+      climb_done done after next_is after_is = let u = held.began in let t = held.stage_at in let up = climbs (Done done) next_is in
+          subst (λ (z : ClimbFacts × TableId × Account). ClimbDone z.0 (record { table = z.1; view = w.view }) done z.2) (λ j. (is j, sym table j, sym after_is j)) record {
+            holds = (
+              record { known = record { table = k.table; view = w.view }; there = refl; is_pass = pass_after both u w.view a.leaves a.bits a.next a.left key request t.is_pass t.some t.low done up },
+              counted_by both (a.next + a.bits) u w.view key a.inserts a.removals request done up held.counts,
+            );
+            finish = finishes both a.leaves a.bits a.next a.left key request u k.table k.view w.view stage t done step (subst (StageFalls a.bits stage) next_is falls) up;
+            keeps = keeps_start parts_a parts_b k.table a.leaves a.bits a.next a.left key request u k.view w.view stage done t up;
+          }

@@ -1,4 +1,4 @@
--- What a pass's update and its snapshot come to, each as one record, from the pass as it was and from what its words' call says.
+-- What a pass's update and its snapshot come to, each as one record, from the pass as it was and from what its words' call says; and its load of a node.
 use Rattle.std.proofs.Common.{◌≡◌, Option, Some, ℕ, ◌+◌, ◌-◌, ◌*◌, ◌^◌, ◌<◌, ◌≤◌, List, [], ◌∷◌, ◌++◌, length, sym, refl, subst, arith}
 use Rattle.atomic_table.specs.Seated.{TableId}
 use Rattle.aug_monoid.specs.Parts.{Parts}
@@ -6,19 +6,26 @@ use Rattle.aug_model.specs.Folds.{summary_of}
 use Rattle.aug_model.specs.declared.outcome.Outcome.{Outcome}
 use Rattle.aug_core.specs.Addresses.{IsInner}
 use Rattle.aug_core.specs.Counts.{changes_of}
+use Rattle.aug_core.specs.Cuts.{Cut}
 use Rattle.aug_core.specs.Faces.{face}
 use Rattle.aug_core.specs.Kinds.{load_node}
 use Rattle.aug_core.specs.Told.{LoadsNode}
 use Rattle.aug_words.specs.Seats.{Known}
-use Rattle.aug_trie.specs.Node.{Keeps}
+use Rattle.aug_trie.specs.Node.{HasNode, Keeps, Reads}
 use Rattle.aug_trie.specs.Pass.{PassFacts, GoesOn, StepsOf}
 use Rattle.aug_trie.specs.Round.{root_of}
 use Rattle.aug_trie.specs.Snapshot.{HasSnapshot, snapshot_cut}
+use Rattle.aug_trie.specs.TreeOf.{IsTreeOf}
 use Rattle.aug_trie.specs.Updates.{ComesTo, TakesSnapshot}
 use Rattle.aug_trie.specs.inside.Climbing.{Updated}
 use Rattle.aug_trie.specs.inside.Counted.{HasCounts, insertions_by, removals_by}
+use Rattle.aug_trie.specs.inside.Goes.{Looks}
 use Rattle.aug_trie.specs.inside.Knows.{knows}
+use Rattle.aug_trie.specs.inside.NamedCuts.{cut_named}
+use Rattle.aug_trie.specs.inside.NodeWords.{IsNodeAt}
 use Rattle.aug_trie.specs.inside.PassState.{pass_facts, known_in, IsPass, HoldsPass}
+use Rattle.aug_trie.specs.declared.queries.node.Node.{Node}
+use Rattle.aug_trie.specs.declared.queries.snapshot.Snapshot.{Snapshot}
 use Rattle.aug_trie.specs.declared.rounds.account.Account.{Account}
 use Rattle.aug_trie.specs.declared.updates.request.Request.{Request}
 use Rattle.aug_trie.proofs.Accepting.{comes_to}
@@ -26,7 +33,7 @@ use Rattle.aug_trie.proofs.Counters.{may_count, counted_by, counted_still}
 use Rattle.aug_trie.proofs.Going.{goes_seeing}
 use Rattle.aug_trie.proofs.Passing.{pass_told, pass_after, gained_by, goes_on_by, steps_of}
 use Rattle.aug_trie.proofs.Snapshots.{pass_still, root_node, takes_snapshot, has_snapshot, loads_root, looked_on}
-use Rattle.aug_trie.proofs.Trees.{keeps_on}
+use Rattle.aug_trie.proofs.Trees.{top_is, has_node, keeps_on, reads_by, still_by}
 
 -- the account of a pass once an update came to this
 abbrev pub account_after : Account → Request → Outcome → Account
@@ -113,3 +120,27 @@ module _ {A B : Type 0} (parts_a : Parts A) (parts_b : Parts B) where
           step = loads_root f k.view w.view number a.leaves a.bits a.next a.left p l;
           keeps = keeps_on parts_a parts_b k (record { table = k.table; view = w.view }) a.left a.left p.knows_table goes.knows_table goes.shaped goes.later;
         }
+
+    -- ---- a pass that looked
+
+    abbrev cut : ℕ → Cut
+    cut number = cut_named k.view.shape k.view.seen number
+
+    -- the top of a snapshot's tree is where its number says
+    pub top_at : (number : ℕ) → HasSnapshot now number → IsNodeAt k.view.shape k.view.seen (cut number) a.bits 0 number
+    top_at number has = subst (λ (z : ℕ). IsNodeAt k.view.shape k.view.seen (cut number) z 0 number) (sym told.0.bits_are) (top_is parts_a parts_b k a.left number told.0.knows_table (subst (λ (z : PassFacts). HasSnapshot z number) (sym told.1) has))
+
+    module _ (most : ℕ) (w : Known) (looks : Looks most k.view w.view) where
+      pub looked : Holds (Some w) a
+      looked = still_by f k w a.leaves a.bits a.next a.left a.inserts a.removals most told.0 counts looks
+
+      pub reads : w.table ≡ k.table → Reads (summary_of parts_a parts_b) most now (pass_facts w a.left)
+      reads table = subst (λ (z : PassFacts × TableId). Reads (summary_of parts_a parts_b) most z.0 (pass_facts (record { table = z.1; view = w.view }) a.left)) (λ j. (told.1 j, sym table j)) (reads_by parts_a parts_b k w.view a.left most looks)
+
+      -- what it loaded of a node is one of a snapshot of its own
+      pub node_read : (s : Snapshot) (n : Node A B) → w.table ≡ k.table → n.snapshot ≡ s → HasSnapshot now s.number → IsNodeAt k.view.shape k.view.seen (cut s.number) n.level n.place n.word
+          → IsTreeOf (summary_of parts_a parts_b) k.view.shape.bits (cut s.number) n.level n.place n.summary → HasNode (summary_of parts_a parts_b) (pass_facts w a.left) n
+      node_read s n table same has named tells = (reads table).stays.keeps.nodes n (subst (λ (z : PassFacts). HasNode (summary_of parts_a parts_b) z n) told.1
+          (has_node parts_a parts_b k a.left n told.0.knows_table (subst (λ (z : PassFacts × Snapshot). HasSnapshot z.0 z.1.number) (λ j. (sym told.1 j, sym same j)) has)
+          (subst (λ (z : Snapshot). IsNodeAt k.view.shape k.view.seen (cut z.number) n.level n.place n.word) (sym same) named)
+          (subst (λ (z : Snapshot). IsTreeOf (summary_of parts_a parts_b) k.view.shape.bits (cut z.number) n.level n.place n.summary) (sym same) tells)))

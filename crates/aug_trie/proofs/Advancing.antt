@@ -200,7 +200,8 @@ module _ {A B : Type 0} (parts_a : Parts A) (parts_b : Parts B) (laws_a : IsMono
 
 -- ---- a word of a child's record
 
-module _ (f : ℕ → ℕ → List (ℕ × ℕ) → List ℕ) (v : SeatView) (q number : ℕ) (r : Reading) (old w : SeatView) (field x : ℕ) (t : TryAt f v q number (Part r) old) (is_field : field ≡ field_after r.count) (l : LoadsRecordWord old (child_at r.left r.right r.count) field x w) where
+module _ (f : ℕ → ℕ → List (ℕ × ℕ) → List ℕ) {v : SeatView} {q number : ℕ} {r : Reading} {old w : SeatView} {place field x : ℕ} (t : TryAt f v q number (Part r) old) (is_field : field ≡ field_after r.count) (is_place : place ≡ child_at r.left r.right r.count)
+    (l : LoadsRecordWord old place field x w) where
   abbrev a : AfterWords f v q r old
   a = t.is_at
 
@@ -220,7 +221,7 @@ module _ (f : ℕ → ℕ → List (ℕ × ℕ) → List ℕ) (v : SeatView) (q 
   said k low = ⊎_elim
       (λ (same : k ≡ r.count). subst (λ (z : ℕ). Says a.third (child_at r.left r.right z) (field_after z) (get_or words_now z 0)) (sym same)
       (subst (Says a.third (child_at r.left r.right r.count) (field_after r.count)) (sym (get_or-set_same r.words r.count x 0 (let six = a.six in let few = a.few in omega arith)))
-      (subst (λ (z : ℕ). Says a.third (child_at r.left r.right r.count) z x) is_field (says_looking r.count a.third old (child_at r.left r.right r.count) field x a.looks l.known))))
+      (subst (λ (z : ℕ × ℕ). Says a.third z.0 z.1 x) (λ i. (is_place i, is_field i)) (says_looking r.count a.third old place field x a.looks l.known))))
       (λ other. subst (Says a.third (child_at r.left r.right k) (field_after k)) (sym (get_or-set_other r.words r.count k x 0 other)) (a.says k (omega arith)))
       (cases_eq k r.count)
 

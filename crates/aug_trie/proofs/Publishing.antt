@@ -83,11 +83,8 @@ module _ {A B : Type 0} (parts_a : Parts A) (parts_b : Parts B) where
   -- the views after each of the five stores of the record
   module _ {v v1 v2 v3 v4 v5 : SeatView} {number : ℕ} (five : List ℕ) (room : HasRoom v number 1) (e1 : v1 ≡ put v number 0 (get_or five 0 0)) (e2 : v2 ≡ put v1 number 1 (get_or five 1 0)) (e3 : v3 ≡ put v2 number 2 (get_or five 2 0))
       (e4 : v4 ≡ put v3 number 3 (get_or five 3 0)) (e5 : v5 ≡ put v4 number 4 (get_or five 4 0)) where
-    is_filled_view : v5 ≡ filled_view v number five
-    is_filled_view = filled_is v v1 v2 v3 v4 v5 number five e1 e2 e3 e4 e5
-
     pub may_publish_filled : {q old : ℕ} → SaysLoaded f v.shape v.seen q old five → IsFilled f v5 q old number
-    may_publish_filled {q} {old} says = subst (λ (z : SeatView). IsFilled f z q old number) (sym is_filled_view) (may_publish f v number five room q old says)
+    may_publish_filled {q} {old} says = subst (λ (z : SeatView). IsFilled f z q old number) (sym (filled_is v v1 v2 v3 v4 v5 number five e1 e2 e3 e4 e5)) (may_publish f v number five room q old says)
 
     pub publishes : {q old : ℕ} {done : Bool} {w : SeatView} → IsInner v.shape q → Goes f 0 [] v v5 → TriedNode f v5 q old number done w → Publishes v w q old number (get_or five 0 0) (get_or five 1 0) done
     publishes {q} {old} {done} {w} inner g t =
@@ -96,6 +93,6 @@ module _ {A B : Type 0} (parts_a : Parts A) (parts_b : Parts B) where
         let t5 = took_on v v4 v5 4 1 record_words refl t4 (took_one v4 v5 _ refl (ap (λ (z : SeatView). z.steps) e5)) in record {
           goes = goes_on f 0 (number + 1) (number + 1) [] v v5 w (omega arith) (omega arith) g (goes_tried f v5 w q old number t.found done t.decided t.told g.knows_table);
           took = took_on v v5 w record_words 1 publish_steps refl t5 (took_one v5 w _ refl t.told.stepped);
-          published = published f v number five room w q old t.found done inner (left_in parts_a parts_b) (right_in parts_a parts_b) t.decided (subst (λ (z : SeatView). TriesNode f z q old number t.found w) is_filled_view t.told);
+          published = published f v number five room w q old t.found done inner (left_in parts_a parts_b) (right_in parts_a parts_b) t.decided (subst (λ (z : SeatView). TriesNode f z q old number t.found w) (filled_is v v1 v2 v3 v4 v5 number five e1 e2 e3 e4 e5) t.told);
           again = λ bad. free_again f v5 w q old number t.found done t.decided t.told g.knows_table bad (room_on f [] v v5 number 1 g room).is_free;
         }

@@ -181,13 +181,6 @@ module _ (f : ℕ → ℕ → List (ℕ × ℕ) → List ℕ) where
         steps = subst (λ (z : PassFacts). StepsOf request key done z after) e (steps_of f u w leaves bits number left key request p t.some t.low table done up);
       }
 
--- what was a snapshot of the pass at the start is one still
-pub keeps_start : {A B : Type 0} (parts_a : Parts A) (parts_b : Parts B) (table : TableId) (leaves bits number left key : ℕ) (request : Request) (u v w : SeatView) (stage : Stage) (done : Outcome) (t : StageAt (face parts_a parts_b) leaves bits number left key request u stage v)
-    → Updated (face parts_a parts_b) (number + bits) u key request w done → Keeps (summary_of parts_a parts_b) (start_facts (record { table = table; view = v }) left stage) (pass_facts (record { table = table; view = w }) (left - 1))
-keeps_start parts_a parts_b table leaves bits number left key request u v w stage done t up = let f = face parts_a parts_b in let p = t.is_pass in let goes = (gained_by f u w leaves bits number left key request p t.some t.low done up).2 in
-    subst (λ (z : PassFacts). Keeps (summary_of parts_a parts_b) z (pass_facts (record { table = table; view = w }) (left - 1))) (sym (start_is f leaves bits number left key request u table stage v t))
-    (keeps_on parts_a parts_b (record { table = table; view = u }) (record { table = table; view = w }) left (left - 1) p.knows_table goes.knows_table goes.shaped goes.later)
-
 -- ---- a turn of a climb, by what the call of its next stage says
 
 module _ {A B : Type 0} (parts_a : Parts A) (parts_b : Parts B) where
@@ -224,5 +217,7 @@ module _ {A B : Type 0} (parts_a : Parts A) (parts_b : Parts B) where
               counted_by both (a.next + a.bits) u w.view key a.inserts a.removals request done up held.counts,
             );
             finish = finishes both a.leaves a.bits a.next a.left key request u k.table k.view w.view stage t done step (subst (StageFalls a.bits stage) next_is falls) up;
-            keeps = keeps_start parts_a parts_b k.table a.leaves a.bits a.next a.left key request u k.view w.view stage done t up;
+            keeps = let goes = (gained_by both u w.view a.leaves a.bits a.next a.left key request t.is_pass t.some t.low done up).2 in
+                subst (λ (z : PassFacts). Keeps (summary_of parts_a parts_b) z (pass_facts (record { table = k.table; view = w.view }) (a.left - 1))) (sym (start_is both a.leaves a.bits a.next a.left key request u k.table stage k.view t))
+                (keeps_on parts_a parts_b (record { table = k.table; view = u }) (record { table = k.table; view = w.view }) a.left (a.left - 1) t.is_pass.knows_table goes.knows_table goes.shaped goes.later);
           }

@@ -34,12 +34,12 @@ module _ {A B : Type 0} (parts_a : Parts A) (parts_b : Parts B) where
   opened e level place word has = let up : level + 1 ≡ suc level = omega arith in subst (λ (z : ℕ). IsVersion both e.rest e.members z place word) up has.is_version
 
   -- the record of an inner node is one of the table
-  pub inner_inside : (first e : EndedFacts) (level place word : ℕ) → first ≡ e → 1 ≤ level → NamesEnded both e level place word → word < record_count first.rest.shape
-  inner_inside first e level place word same inner has = subst (λ (z : EndedFacts). word < record_count z.rest.shape) (sym same) (inside_of parts_a parts_b e.rest e.members level place word inner has.is_version)
+  pub inner_inside : (first e : EndedFacts) (level place word : ℕ) → first ≡ e → 1 ≤ level → IsVersion both e.rest e.members level place word → word < record_count first.rest.shape
+  inner_inside first e level place word same inner version = subst (λ (z : EndedFacts). word < record_count z.rest.shape) (sym same) (inside_of parts_a parts_b e.rest e.members level place word inner version)
 
   -- also where it is its children whose level is given
   pub record_inside : (first e : EndedFacts) (level place word : ℕ) → first ≡ e → NamesEnded both e (level + 1) place word → word < record_count first.rest.shape
-  record_inside first e level place word same has = inner_inside first e (level + 1) place word same (omega arith) has
+  record_inside first e level place word same has = inner_inside first e (level + 1) place word same (omega arith) has.is_version
 
   -- its first word names its left child
   pub left_named : (first e : EndedFacts) (level place word r : ℕ) → first ≡ e → NamesEnded both e (level + 1) place word → r ≡ word_in first.rest word 0 → NamesEnded both e level (2 * place) r

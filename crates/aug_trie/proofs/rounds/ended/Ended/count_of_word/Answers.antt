@@ -12,7 +12,7 @@ returns-then-level-eq0 g c =
 
 pub record_word-requires : goal.record_word-requires
 record_word-requires g c = let i = c.self.inside in let first : EndedFacts = record { bits = i.bits; members = pairs_at_rest i.rest i.bits 0 i.root; inserts = i.inserts; removals = i.removals; missing = i.missing; loaded = i.loaded; rest = i.rest; root = i.root } in let inner : 1 ≤ c.args.level = search rules in
-    inner_inside g.A.Monoid.parts g.B.Monoid.parts first c.args.self.now c.args.level c.args.place c.args.word c.self.view_is inner c.requires
+    inner_inside g.A.Monoid.parts g.B.Monoid.parts first c.args.self.now c.args.level c.args.place c.args.word c.self.view_is inner c.requires.is_version
 
 pub overflow_cast-result-2 : goal.overflow_cast-result-2
 overflow_cast-result-2 g c = let i = c.self.inside in let first : EndedFacts = record { bits = i.bits; members = pairs_at_rest i.rest i.bits 0 i.root; inserts = i.inserts; removals = i.removals; missing = i.missing; loaded = i.loaded; rest = i.rest; root = i.root } in let inner : 1 ≤ c.args.level = search rules in

@@ -10,29 +10,23 @@ use Rattle.aug_trie.proofs.queries.snapshot_walk.SnapshotWalkDescend.past_left.G
 
 -- what the three loads leave
 three : (g : _) (c : goal.After-right_word-right g) → Looks 3 c.self.inside.words.view c.right_word-right.new.pass.view
-three g c = looks_on 2 1 3 c.self.inside.words.view c.count_at-passed.new.pass.view c.right_word-right.new.pass.view (omega arith)
-    (looks_on 1 1 2 c.self.inside.words.view c.left_word-left.new.pass.view c.count_at-passed.new.pass.view (omega arith) c.left_word-left.ensures.looks c.count_at-passed.ensures.looks) c.right_word-right.ensures.looks
+three g c = looks_on 2 1 3 _ _ _ (omega arith) (looks_on 1 1 2 _ _ _ (omega arith) c.left_word-left.ensures.looks c.count_at-passed.ensures.looks) c.right_word-right.ensures.looks
 
 pub count_at-passed-requires-clause-knows : goal.count_at-passed-requires-clause-knows
-count_at-passed-requires-clause-knows g c = let f = face g.A.Monoid.parts g.B.Monoid.parts in let i = c.self.inside in
-    knows_on f 1 i.words.view c.left_word-left.new.pass.view c.left_word-left.ensures.looks c.self.invariant.top.knows_table
+count_at-passed-requires-clause-knows g c = knows_on (face g.A.Monoid.parts g.B.Monoid.parts) 1 _ _ c.left_word-left.ensures.looks c.self.invariant.top.knows_table
 
 pub count_at-passed-requires-clause-node : goal.count_at-passed-requires-clause-node
-count_at-passed-requires-clause-node g c = let f = face g.A.Monoid.parts g.B.Monoid.parts in let i = c.self.inside in
-    node_on f 1 c.args.level (2 * c.args.place) c.left_word-left.result i.words.view c.left_word-left.new.pass.view i.snapshot c.left_word-left.ensures.looks c.left_word-left.ensures.node
+count_at-passed-requires-clause-node g c = node_on (face g.A.Monoid.parts g.B.Monoid.parts) 1 c.args.level (2 * c.args.place) c.left_word-left.result _ _ c.self.inside.snapshot c.left_word-left.ensures.looks c.left_word-left.ensures.node
 
 pub right_word-right-requires-clause-knows : goal.right_word-right-requires-clause-knows
-right_word-right-requires-clause-knows g c = let f = face g.A.Monoid.parts g.B.Monoid.parts in let i = c.self.inside in
-    knows_on f 2 i.words.view c.count_at-passed.new.pass.view (looks_on 1 1 2 i.words.view c.left_word-left.new.pass.view c.count_at-passed.new.pass.view (omega arith) c.left_word-left.ensures.looks c.count_at-passed.ensures.looks) c.self.invariant.top.knows_table
+right_word-right-requires-clause-knows g c = knows_on (face g.A.Monoid.parts g.B.Monoid.parts) 2 _ _ (looks_on 1 1 2 _ _ _ (omega arith) c.left_word-left.ensures.looks c.count_at-passed.ensures.looks) c.self.invariant.top.knows_table
 
 pub right_word-right-requires-clause-node : goal.right_word-right-requires-clause-node
-right_word-right-requires-clause-node g c = let f = face g.A.Monoid.parts g.B.Monoid.parts in let i = c.self.inside in
-    node_on f 2 (c.args.level + 1) c.args.place c.args.node.now i.words.view c.count_at-passed.new.pass.view i.snapshot (looks_on 1 1 2 i.words.view c.left_word-left.new.pass.view c.count_at-passed.new.pass.view (omega arith) c.left_word-left.ensures.looks c.count_at-passed.ensures.looks)
+right_word-right-requires-clause-node g c = node_on (face g.A.Monoid.parts g.B.Monoid.parts) 2 (c.args.level + 1) c.args.place c.args.node.now _ _ c.self.inside.snapshot (looks_on 1 1 2 _ _ _ (omega arith) c.left_word-left.ensures.looks c.count_at-passed.ensures.looks)
     (subst (λ (z : Walking). IsNodeAt z.words.view.shape z.words.view.seen (cut_named z.words.view.shape z.words.view.seen z.snapshot.number) (c.args.level + 1) c.args.place c.args.node.now) (sym c.self.view_is) c.requires.node)
 
 pub invariant_of-self : goal.invariant_of-self
-invariant_of-self g c = let f = face g.A.Monoid.parts g.B.Monoid.parts in let i = c.self.inside in
-    walk_on f 3 i.words.view c.right_word-right.new.pass.view i.snapshot i.bits (three g c) c.self.invariant
+invariant_of-self g c = walk_on (face g.A.Monoid.parts g.B.Monoid.parts) 3 _ _ c.self.inside.snapshot c.self.inside.bits (three g c) c.self.invariant
 
 pub returns-clause-descends : goal.returns-clause-descends
 returns-clause-descends g c = let f = face g.A.Monoid.parts g.B.Monoid.parts in let i = c.self.inside in
@@ -40,9 +34,8 @@ returns-clause-descends g c = let f = face g.A.Monoid.parts g.B.Monoid.parts in 
     descends_past f first c.args.self.now c.right_word-right.new.pass c.one_past.new.self c.self.view_is (c.right_word-right.ensures.table ∙ c.count_at-passed.ensures.table ∙ c.left_word-left.ensures.table) (three g c) c.one_past.ensures
 
 pub returns-clause-name : goal.returns-clause-name
-returns-clause-name g c = let f = face g.A.Monoid.parts g.B.Monoid.parts in let i = c.self.inside in
-    named_then f 3 c.args.level (2 * c.args.place + 1) c.right_word-right.result i.words.view c.right_word-right.new.pass.view i.snapshot i.bits (three g c) c.self.invariant
-    (node_back f 2 c.args.level (2 * c.args.place + 1) c.right_word-right.result i.words.view c.count_at-passed.new.pass.view i.snapshot (looks_on 1 1 2 i.words.view c.left_word-left.new.pass.view c.count_at-passed.new.pass.view (omega arith) c.left_word-left.ensures.looks c.count_at-passed.ensures.looks) c.right_word-right.ensures.node)
+returns-clause-name g c = let f = face g.A.Monoid.parts g.B.Monoid.parts in let s = c.self.inside.snapshot in
+    named_then f 3 c.args.level (2 * c.args.place + 1) c.right_word-right.result _ _ s c.self.inside.bits (three g c) c.self.invariant (node_back f 2 c.args.level (2 * c.args.place + 1) c.right_word-right.result _ _ s (looks_on 1 1 2 _ _ _ (omega arith) c.left_word-left.ensures.looks c.count_at-passed.ensures.looks) c.right_word-right.ensures.node)
 
 pub returns-clause-count : goal.returns-clause-count
 returns-clause-count g c = let f = face g.A.Monoid.parts g.B.Monoid.parts in let i = c.self.inside in let first : Walking = record { words = i.words; snapshot = i.snapshot; bits = i.bits; loaded = i.loaded } in

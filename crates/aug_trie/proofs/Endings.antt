@@ -1,5 +1,5 @@
 -- How a round ends, and the trie that no round ended.
-use Rattle.std.proofs.Common.{◌≡◌, ℕ, zero, suc, ◌+◌, ◌-◌, ◌*◌, ◌%◌, ◌^◌, ◌<◌, ◌≤◌, eqb, List, [], ◌∷◌, All, get_or, length, length-append, refl, sym, ap, ◌∙◌, subst, arith, Option}
+use Rattle.std.proofs.Common.{◌≡◌, ℕ, zero, suc, ◌+◌, ◌-◌, ◌*◌, ◌%◌, ◌^◌, ◌<◌, ◌≤◌, eqb, List, [], ◌∷◌, All, get_or, length, length-append, refl, sym, ap, ◌∙◌, subst, arith, Option, Some}
 use Rattle.std.specs.Prelude.{unwrap_or}
 use Rattle.std.proofs.Math.Nat.{mod-eq_of_lt}
 use mathlib.Core.Option.{some}
@@ -34,9 +34,12 @@ use Rattle.aug_trie.specs.inside.CrewState.{crew_facts, HoldsCrew}
 use Rattle.aug_query.specs.Descend.{nothing_loaded}
 use Rattle.aug_trie.specs.Ended.{EndedFacts}
 use Rattle.aug_trie.specs.inside.EndedTree.{word_in}
-use Rattle.aug_trie.specs.Crew.{Ends}
+use Rattle.aug_trie.specs.Crew.{CrewFacts, Ends}
+use Rattle.aug_trie.specs.Round.{RoundFacts}
+use Rattle.aug_trie.specs.inside.RoundState.{store_round}
 use Rattle.aug_trie.specs.Tallies.{TalliesWithLost}
 use Rattle.aug_trie.proofs.Counting.{filter_shorter}
+use Rattle.aug_trie.proofs.RoundLemmas.{of_round}
 use Rattle.aug_trie.proofs.Tallying.{held_few, tallies_at_end, none_lost_tallies}
 use Rattle.aug_trie.proofs.CutLemmas.{set_of_cut-opening, pairs_of_cut-opening}
 use Rattle.aug_trie.proofs.TallyLemmas.{sizes}
@@ -113,6 +116,22 @@ module _ (face : ℕ → ℕ → List (ℕ × ℕ) → List ℕ) (v : SeatView) 
 -- the rule at the end, for the opening that the lead knows
 pub kept_for : (face : ℕ → ℕ → List (ℕ × ℕ) → List ℕ) (store : Store) (lead : Known) (words : List ℕ) → AreTogether store lead → (e : EndWith face store.opening lead.view words) → Kept face (opening_of lead.view) e.state
 kept_for face store lead words t e = subst (λ (z : Opening). Kept face z e.state) (λ i. record { shape = sym t.one_shape i; members = sym t.same_members i }) e.kept
+
+-- the lead and the table of one round, whose table is at rest: what is left is the round's end, and its sizes tally where no pass is missing
+module _ (face : ℕ → ℕ → List (ℕ × ℕ) → List ℕ) (store : Store) (lead : Known) (now : CrewFacts) (round : RoundFacts) (handed : ℕ) {back inserts removals : ℕ} {words : List ℕ} (is : crew_facts lead ≡ now) (one : now.round ≡ round) (store_is : store_round store ≡ round)
+    (holds : HoldsCrew face lead.view back inserts removals) (spare : lead.view.spare ≡ Some handed) (e : EndWith face store.opening lead.view words) where
+  together : AreTogether store lead
+  together = of_round store lead now round is one store_is
+
+  pub no_more_back : back ≤ handed
+  no_more_back = let at : holds.handed ≡ handed = ap (λ (z : Option ℕ). unwrap_or z 0) (sym holds.is_crew.hands_out ∙ spare) in let few = back_few face lead.view back inserts removals holds e.state (kept_for face store lead words together e) e.seat e.view_is in omega arith
+
+  pub round_ended : (ended : EndedFacts) → ended.bits ≡ store.opening.shape.bits → ended.members ≡ pairs_of_cut (last_cut (knows lead.view).history) → ended.inserts ≡ inserts → ended.removals ≡ removals → ended.missing ≡ handed - back → ended.loaded ≡ nothing_loaded
+      → Ends now ended × (ended.missing ≡ 0 → length ended.members + ended.removals ≡ length round.members + ended.inserts)
+  round_ended ended bits members ins rem miss loads = let kept = kept_for face store lead words together e in
+      let ends = ends_so face lead.view back inserts removals holds e.state kept e.seat e.view_is lead.table ended (bits ∙ sym (ap (λ (z : Shape). z.bits) together.one_shape)) members ins rem (miss ∙ ap (λ (z : Option ℕ). unwrap_or z 0 - back) (sym spare ∙ holds.is_crew.hands_out)) loads in
+      let sizes = sizes_so face lead.view back inserts removals holds e.state kept e.seat e.view_is lead.table ended ends in
+      (subst (λ (z : CrewFacts). Ends z ended) is ends, subst (λ (z : RoundFacts). ended.missing ≡ 0 → length ended.members + ended.removals ≡ length z.members + ended.inserts) (ap (λ (z : CrewFacts). z.round) is ∙ one) sizes)
 
 -- ---- the empty trie
 

@@ -1,4 +1,4 @@
-use Rattle.std.proofs.Common.{arith, rules, ap, subst, sym, ◌∙◌, ◌≡◌, ℕ, List, [], ◌∷◌, length}
+use Rattle.std.proofs.Common.{arith, rules, ap, subst, sym, ◌∙◌, ◌≡◌, [], ◌∷◌, length}
 use Rattle.std.specs.Prelude.{unwrap_or}
 use Rattle.aug_core.specs.Cuts.{opening_cut}
 use Rattle.aug_core.specs.Faces.{face}

@@ -1,37 +1,15 @@
 //! Tables of all small numbers of bits, members, workers and updates, and of some great ones. Memory is at hand, so that each opens, and
 //! its leaves show its members.
-ghost use Rattle.std.specs.Prelude.{◌≡◌, ◌-◌, ◌^◌, ◌≤◌, IfOk};
-ghost use Rattle.aug_core.specs.Places.{shape_of};
+ghost use Rattle.std.specs.Prelude.{◌^◌, ◌≤◌};
 
-use super::opening::keys_from;
+use super::opening::opened;
 use crate::assertions::{equal_at, holds};
-use aug_core::Layout;
-use aug_monoid::{Extent, Sum};
-use aug_words::{Rest, Words, WordsError};
+use aug_words::WordsError;
 use std::alloc::Global;
 use std::process::Abort;
 
-// The words of a table of `bits` bits, `workers` workers and `updates` updates that was opened with the `members` greatest keys. Each
+// Opens a table of `bits` bits, `workers` workers and `updates` updates with the `members` greatest keys, and reads all its leaves. Each
 // key weighs itself.
-fn opened(
-    rt: &impl Abort,
-    alloc: Global,
-    bits: u32,
-    members: u32,
-    workers: u32,
-    updates: u32,
-) -> Result<Rest, WordsError>
-    requires bits { bits ≤ 16 }
-    requires members { members ≤ 2 ^ bits }
-    ensures { IfOk result (λ rest. rest.shape ≡ shape_of bits workers updates members) }
-{
-    let keys = keys_from(alloc, bits, (1 << bits) - members)?;
-    let layout = Layout::new(bits, workers, updates, members).expect(rt, "a layout");
-    let (words, lead) = Words::<Sum, Extent>::open(alloc, &layout, keys.as_slice())?;
-    Ok(words.close(lead))
-}
-
-// Opens such a table, and reads all its leaves.
 fn assert_opens(
     rt: &impl Abort,
     alloc: Global,
@@ -43,8 +21,8 @@ fn assert_opens(
     requires bits { bits ≤ 16 }
     requires members { members ≤ 2 ^ bits }
 {
-    let rest = opened(rt, alloc, bits, members, workers, updates)?;
     let first = (1 << bits) - members;
+    let rest = opened(alloc, bits, first, members, workers, updates)?;
     for key in 0..1 << bits {
         let word = if key < first {
             0

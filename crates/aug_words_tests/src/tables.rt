@@ -1,13 +1,14 @@
-//! A small table, and what the records of a table hold at rest.
-ghost use Rattle.std.specs.Prelude.{◌≡◌, ◌<◌, Some, IfOk};
+//! A small table, and what a table holds at rest.
+ghost use Rattle.std.specs.Prelude.{◌≡◌, ◌≤◌, ◌<◌, Some, IfOk};
 ghost use Rattle.aug_core.specs.Places.{shape_of, record_count};
 ghost use Rattle.aug_words.specs.Seats.{AreTogether};
 
-use crate::assertions::{equal, equal_at};
+use crate::assertions::{equal, equal_at, holds};
 use aug_core::{Layout, RecordField};
 use aug_monoid::{Extent, Sum};
 use aug_words::{Lead, Rest, Words, WordsError};
 use std::alloc::{AllocError, Global};
+use std::process::Abort;
 
 pub(super) type Table = Words<Sum, Extent>;
 
@@ -36,27 +37,79 @@ pub(super) fn record_at(rest: &Rest, number: u64) -> [u64; 5]
     ]
 }
 
+// Compares leaves by their keys: the words that a table of `bits` bits holds at rest.
+pub(super) fn assert_leaves(rt: &impl Abort, rest: &Rest, bits: u32, leaves: &[(u32, u64)])
+    requires bits { (bits ≡ rest.now.shape.bits) × (bits ≤ 16) }
+{
+    for (key, word) in leaves {
+        let key = *key;
+        holds(rt, key < 1 << bits);
+        equal_at(rt, rest.leaf(key), *word, format_args!("leaf {key}"));
+    }
+}
+
+// Compares nodes by their levels and their places there.
+pub(super) fn assert_nodes(rt: &impl Abort, rest: &Rest, bits: u32, nodes: &[(u32, u32, u64)])
+    requires bits { (bits ≡ rest.now.shape.bits) × (bits ≤ 16) }
+{
+    for (level, place, number) in nodes {
+        let (level, place) = (*level, *place);
+        holds(rt, 1 <= level);
+        holds(rt, level <= bits);
+        holds(rt, place < 1 << (bits - level));
+        equal_at(
+            rt,
+            rest.node(level, place),
+            *number,
+            format_args!("node {place} of level {level}"),
+        );
+    }
+}
+
+// Compares records by their numbers, which are below `count`.
+pub(super) fn assert_records(rt: &impl Abort, rest: &Rest, count: u64, records: &[(u64, [u64; 5])])
+    requires count { count ≤ record_count rest.now.shape }
+{
+    for (number, words) in records {
+        let number = *number;
+        holds(rt, number < count);
+        equal_at(
+            rt,
+            record_at(rest, number),
+            *words,
+            format_args!("record {number}"),
+        );
+    }
+}
+
+// The small table once it is closed, and the number of the root's record that its lead knew.
+fn closed(alloc: Global) -> Result<(u64, Rest), WordsError>
+    ensures { IfOk result (λ t. t.1.shape ≡ shape_of 2 3 2 2) }
+{
+    let (words, lead) = small(alloc)?;
+    let root = lead.root();
+    Ok((root, words.close(lead)))
+}
+
+const LEAVES: &[(u32, u64)] = &[(0, 4_294_967_296), (1, 4_294_967_297), (2, 0), (3, 0)];
+
+const NODES: &[(u32, u32, u64)] = &[(1, 0, 2), (1, 1, 0), (2, 0, 4)];
+
+const RECORDS: &[(u64, [u64; 5])] = &[
+    (0, [0, 0, 0, 0, 4_294_967_296]),
+    (1, [0, 0, 0, 0, 4_294_967_296]),
+    (2, [4_294_967_296, 4_294_967_297, 2, 1, 1]),
+    (3, [0; 5]),
+    (4, [2, 0, 2, 1, 1]),
+];
+
 #[test]
 fn a_table_opens_with_its_members(rt: HostRuntime) -> Result<(), WordsError> {
-    let (words, lead) = small(rt.alloc())?;
-    let root = lead.root();
-    let rest = words.close(lead);
+    let (root, rest) = closed(rt.alloc())?;
     equal(&rt, rest.node(2, 0), root);
-    for (key, word) in [(0, 4_294_967_296), (1, 4_294_967_297), (2, 0), (3, 0)] {
-        equal_at(&rt, rest.leaf(key), word, format_args!("leaf {key}"));
-    }
-    equal(&rt, rest.node(1, 0), 2);
-    equal(&rt, rest.node(1, 1), 0);
-    equal(&rt, rest.node(2, 0), 4);
-    equal(&rt, record_at(&rest, 0), [0, 0, 0, 0, 4_294_967_296]);
-    equal(&rt, record_at(&rest, 1), [0, 0, 0, 0, 4_294_967_296]);
-    equal(
-        &rt,
-        record_at(&rest, 2),
-        [4_294_967_296, 4_294_967_297, 2, 1, 1],
-    );
-    equal(&rt, record_at(&rest, 3), [0; 5]);
-    equal(&rt, record_at(&rest, 4), [2, 0, 2, 1, 1]);
+    assert_leaves(&rt, &rest, 2, LEAVES);
+    assert_nodes(&rt, &rest, 2, NODES);
+    assert_records(&rt, &rest, 14, RECORDS);
     Ok(())
 }
 

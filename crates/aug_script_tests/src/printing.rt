@@ -1,11 +1,18 @@
 //! Reports as they are printed.
-use super::reading::{rounds_of, row};
-use crate::assertions::{equal, equal_at, equal_length, holds};
+ghost use Rattle.std.specs.Prelude.{◌≡◌, IfOk};
+
+use super::reading::{FEW, assert_prints, read};
+use crate::assertions::{equal, equal_at, holds};
 use aug_model::Summary;
 use aug_monoid::{Extent, Sum, fold_slice};
-use aug_script::{Fault, Listed, MemorySink, PrintError, Reply, Report, Verb, print};
+use aug_script::{Fault, Listed, MemorySink, PrintError, Reply, Report, Row, Script, Verb, print};
 use std::alloc::{AllocError, Global};
+use std::process::Abort;
 use std::test::Fail;
+
+fn row(row: u64, lane: u32, verb: Verb) -> Row {
+    Row { row, lane, verb }
+}
 
 // The summary of these keys with their weights; `count` is their number.
 fn span(count: u32, keys: &[(u32, u32)]) -> Reply {
@@ -65,16 +72,17 @@ const TEXT: &str = "\
 12 end size=2 in=3 out=1
 ";
 
+// Prints a report, and compares what goes out.
+fn assert_report(rt: &impl Abort, alloc: Global, report: &Report, text: &str) {
+    let mut sink = MemorySink::new(alloc, 7, None);
+    equal(rt, print(alloc, report, &mut sink), Ok(()));
+    equal(rt, sink.out.as_slice(), text.as_bytes());
+    equal(rt, sink.finished, 1);
+}
+
 #[test]
 fn every_verb_and_every_reply_is_printed(rt: HostRuntime) -> Result<(), Fail> {
-    let mut sink = MemorySink::new(rt.alloc(), 7, None);
-    equal(
-        &rt,
-        print(rt.alloc(), &report(rt.alloc())?, &mut sink),
-        Ok(()),
-    );
-    equal(&rt, sink.out.as_slice(), TEXT.as_bytes());
-    equal(&rt, sink.finished, 1);
+    assert_report(&rt, rt.alloc(), &report(rt.alloc())?, TEXT);
     Ok(())
 }
 
@@ -102,9 +110,8 @@ const WEIGHED_TEXT: &str = "\
 1 end size=2 in=3 out=1
 ";
 
-#[test]
-fn rows_of_keys_with_weights_are_read_and_printed(rt: HostRuntime) -> Result<(), Fail> {
-    let alloc = rt.alloc();
+// A report of these rows with their replies. What it counts is what the replies say.
+fn weighed(alloc: Global) -> Result<Report, AllocError> {
     let lines = [
         (row(1, 0, Verb::Put(5, 100)), Reply::New),
         (row(2, 0, Verb::Put(5, 7)), Reply::Set),
@@ -115,31 +122,44 @@ fn rows_of_keys_with_weights_are_read_and_printed(rt: HostRuntime) -> Result<(),
         (row(7, 0, Verb::Look), Reply::Looked),
         (row(8, 0, Verb::Range(0, 16)), span(2, &[(5, 7), (9, 9)])),
     ];
-    let rounds = rounds_of(alloc, WEIGHED, 1, 64)?;
-    equal_length(&rt, rounds.len(), 1);
-    equal_length(&rt, rounds[0].as_slice().len(), lines.len());
     let mut inserts = 0u32;
     let mut removals = 0u32;
-    for (read, line) in rounds[0].as_slice().iter().zip(lines.as_slice()) {
-        equal(&rt, *read, line.0);
-        inserts = inserts.wrapping_add(u32::from(line.1.is_insertion()));
-        removals = removals.wrapping_add(u32::from(line.1.is_removal()));
+    for (_, reply) in lines.as_slice() {
+        inserts = inserts.wrapping_add(u32::from(reply.is_insertion()));
+        removals = removals.wrapping_add(u32::from(reply.is_removal()));
     }
-    let report = Report {
+    Ok(Report {
         number: 1,
         rows: Listed::from_vec(Vec::from_slice(alloc, lines.as_slice())?),
         size: 2,
         inserts,
         removals,
-    };
-    let mut sink = MemorySink::new(alloc, 7, None);
-    equal(&rt, print(alloc, &report, &mut sink), Ok(()));
-    equal(&rt, sink.out.as_slice(), WEIGHED_TEXT.as_bytes());
+    })
+}
+
+// Compares the rows of a script of one round with those of a report.
+fn assert_rows_of(rt: &impl Abort, script: &Script, report: &Report) {
+    equal(rt, script.rounds().len(), 1);
+    for round in script.rounds() {
+        let (rows, lines) = (round.rows.as_slice(), report.rows.as_slice());
+        equal(rt, rows.len(), lines.len());
+        for (row, (expected, _)) in rows.iter().zip(lines) {
+            equal(rt, *row, *expected);
+        }
+    }
+}
+
+#[test]
+fn rows_of_keys_with_weights_are_read_and_printed(rt: HostRuntime) -> Result<(), Fail> {
+    let report = weighed(rt.alloc())?;
+    let script = read(&rt, rt.alloc(), WEIGHED, FEW).expect(&rt, "a script");
+    assert_rows_of(&rt, &script, &report);
+    assert_report(&rt, rt.alloc(), &report, WEIGHED_TEXT);
     Ok(())
 }
 
 #[test]
-fn a_report_without_rows_is_its_last_line(rt: HostRuntime) -> Result<(), Fail> {
+fn a_report_without_rows_is_its_last_line(rt: HostRuntime) {
     let report = Report {
         number: 1,
         rows: Listed::from_vec(Vec::new(rt.alloc())),
@@ -147,45 +167,55 @@ fn a_report_without_rows_is_its_last_line(rt: HostRuntime) -> Result<(), Fail> {
         inserts: 0,
         removals: 0,
     };
-    let mut sink = MemorySink::new(rt.alloc(), 7, None);
-    equal(&rt, print(rt.alloc(), &report, &mut sink), Ok(()));
-    equal(
-        &rt,
-        sink.out.as_slice(),
-        b"1 end size=0 in=0 out=0\n".as_slice(),
+    let text = "1 end size=0 in=0 out=0\n";
+    assert_report(&rt, rt.alloc(), &report, text);
+}
+
+// Prints a report to a sink that fails at this call, and compares what went out before.
+fn assert_beginning(rt: &impl Abort, alloc: Global, report: &Report, fault_at: u64) {
+    let mut sink = MemorySink::new(alloc, 1, Some(fault_at));
+    equal_at(
+        rt,
+        print(alloc, report, &mut sink),
+        Err(PrintError::Output),
+        format_args!("at {fault_at}"),
     );
-    Ok(())
+    equal(rt, sink.out.len() as u64, fault_at);
+    holds(rt, TEXT.as_bytes().starts_with(sink.out.as_slice()));
 }
 
 #[test]
 fn a_sink_that_fails_has_a_beginning(rt: HostRuntime) -> Result<(), Fail> {
     for fault_at in 0..TEXT.len() as u64 + 1 {
-        let mut sink = MemorySink::new(rt.alloc(), 1, Some(fault_at));
-        let result = print(rt.alloc(), &report(rt.alloc())?, &mut sink);
-        equal_at(
-            &rt,
-            result,
-            Err(PrintError::Output),
-            format_args!("at {fault_at}"),
-        );
-        equal(&rt, sink.out.len() as u64, fault_at);
-        holds(&rt, TEXT.as_bytes().starts_with(sink.out.as_slice()));
+        assert_beginning(&rt, rt.alloc(), &report(rt.alloc())?, fault_at);
     }
     Ok(())
+}
+
+// The report, also if the first request for it is refused.
+fn report_at_last(alloc: Global) -> Result<Report, AllocError> {
+    match report(alloc) {
+        Ok(report) => Ok(report),
+        Err(_) => report(alloc),
+    }
+}
+
+// A sink that then asks for no memory, also if the first request for it is refused.
+fn sink_at_last(alloc: Global) -> Result<MemorySink, AllocError>
+    ensures { IfOk result (λ sink. sink.faults ≡ 0) }
+{
+    let mut sink = MemorySink::new(alloc, usize::MAX, None);
+    if sink.out.reserve(TEXT.len()).is_err() {
+        sink.out.reserve(TEXT.len())?;
+    }
+    Ok(sink)
 }
 
 // Passes whichever request for memory is refused: nothing then went out, and all does once it is printed again.
 #[test]
 fn refused_memory_leaves_the_sink_as_it_was(rt: HostRuntime) -> Result<(), Fail> {
-    let report = match report(rt.alloc()) {
-        Ok(report) => report,
-        Err(_) => report(rt.alloc())?,
-    };
-    let mut sink = MemorySink::new(rt.alloc(), usize::MAX, None);
-    // The sink itself then asks for no memory.
-    if sink.out.reserve(TEXT.len()).is_err() {
-        sink.out.reserve(TEXT.len())?;
-    }
+    let report = report_at_last(rt.alloc())?;
+    let mut sink = sink_at_last(rt.alloc())?;
     if print(rt.alloc(), &report, &mut sink) == Err(PrintError::OutOfMemory) {
         equal(&rt, (sink.calls, sink.out.len()), (0, 0));
         equal(&rt, print(rt.alloc(), &report, &mut sink), Ok(()));
@@ -196,15 +226,8 @@ fn refused_memory_leaves_the_sink_as_it_was(rt: HostRuntime) -> Result<(), Fail>
 }
 
 #[test]
-fn errors_say_what_is_wrong(rt: HostRuntime) -> Result<(), Fail> {
-    let alloc = rt.alloc();
-    let (output, memory) = (PrintError::Output, PrintError::OutOfMemory);
-    equal(&rt, format!(in alloc; "{output}")?.as_str(), "output");
-    equal(&rt, format!(in alloc; "{memory}")?.as_str(), "memory");
-    equal(
-        &rt,
-        format!(in alloc; "{}", Fault)?.as_str(),
-        "a device failed",
-    );
-    Ok(())
+fn errors_say_what_is_wrong(rt: HostRuntime) {
+    assert_prints(&rt, rt.alloc(), PrintError::Output, "output");
+    assert_prints(&rt, rt.alloc(), PrintError::OutOfMemory, "memory");
+    assert_prints(&rt, rt.alloc(), Fault, "a device failed");
 }

@@ -1,530 +1,563 @@
 //! Scripts as they are read.
-use crate::assertions::{equal, equal_at, equal_length};
+use crate::assertions::{equal, equal_at};
 use aug_core::LayoutError;
-use aug_script::{Limits, Listed, Row, Script, ScriptError, Verb};
+use aug_script::{Limits, Row, Script, ScriptError, Verb};
 use std::alloc::Global;
-use std::test::Fail;
+use std::fmt::Display;
+use std::process::Abort;
 
-// The rows of each round of a script under limits of 4 bits.
-pub(super) fn rounds_of(
+// Tables stand in constants, since a proof then need not look at their rows.
+
+// How many bits, workers and updates limits have.
+pub(super) type Bounds = (u32, u32, u32);
+
+pub(super) const FEW: Bounds = (4, 1, 64);
+
+// A row by its number, its lane and what it asks for.
+type Line = (u64, u32, Verb);
+
+// What a script is read as.
+pub(super) fn read(
+    rt: &impl Abort,
     alloc: Global,
     script: &str,
-    workers: u32,
-    updates: u32,
-) -> Result<Vec<Listed<Row>>, Fail> {
-    let limits = Limits::try_new(4, workers, updates)?;
-    let script = Script::read(alloc, script.as_bytes(), &limits)?;
-    let mut rounds = Vec::new(alloc);
-    for round in script.rounds() {
-        let rows = Vec::from_slice(alloc, round.rows.as_slice())?;
-        rounds.push(Listed::from_vec(rows))?;
+    bounds: Bounds,
+) -> Result<Script, ScriptError> {
+    let (bits, workers, updates) = bounds;
+    let limits = Limits::try_new(bits, workers, updates).expect(rt, "limits");
+    Script::read(alloc, script.as_bytes(), &limits)
+}
+
+// Compares the rows of a round.
+fn assert_rows(rt: &impl Abort, found: &[Row], expected: &[Line]) {
+    equal(rt, found.len(), expected.len());
+    for (row, line) in found.iter().zip(expected) {
+        equal(rt, (row.row, row.lane, row.verb), *line);
     }
-    Ok(rounds)
 }
 
-// The fault of a script of one worker, if it has one.
-fn fault_of(alloc: Global, script: &[u8], updates: u32) -> Result<Option<ScriptError>, Fail> {
-    let limits = Limits::try_new(4, 1, updates)?;
-    Ok(Script::read(alloc, script, &limits).err())
+// Compares the bits and the rows of each round of what was read.
+fn assert_script(rt: &impl Abort, script: &Script, rounds: &[(u32, &[Line])]) {
+    equal(rt, script.rounds().len(), rounds.len());
+    for (round, (bits, lines)) in script.rounds().iter().zip(rounds) {
+        equal(rt, round.bits, *bits);
+        assert_rows(rt, round.rows.as_slice(), lines);
+    }
 }
 
-pub(super) fn row(row: u64, lane: u32, verb: Verb) -> Row {
-    Row { row, lane, verb }
+// Reads a script, and compares the bits and the rows of each round.
+fn assert_reads(
+    rt: &impl Abort,
+    alloc: Global,
+    script: &str,
+    bounds: Bounds,
+    rounds: &[(u32, &[Line])],
+) {
+    let script = read(rt, alloc, script, bounds).expect(rt, "a script");
+    assert_script(rt, &script, rounds);
 }
+
+// Compares the fault of each script, if it has one.
+fn assert_faults(
+    rt: &impl Abort,
+    alloc: Global,
+    bounds: Bounds,
+    scripts: &[(&str, Option<ScriptError>)],
+) {
+    for (script, fault) in scripts {
+        equal_at(
+            rt,
+            read(rt, alloc, script, bounds).err(),
+            *fault,
+            format_args!("in {script}"),
+        );
+    }
+}
+
+// What refuses limits, if anything does.
+fn assert_limits(rt: &impl Abort, bounds: Bounds, error: Option<LayoutError>) {
+    let (bits, workers, updates) = bounds;
+    let place = format_args!("at {bits}, {workers}, {updates}");
+    match Limits::try_new(bits, workers, updates) {
+        Ok(limits) => {
+            equal_at(rt, None, error, place);
+            equal(
+                rt,
+                (limits.bits(), limits.workers(), limits.updates()),
+                bounds,
+            );
+        }
+        Err(cause) => equal_at(rt, Some(cause), error, place),
+    }
+}
+
+const LIMITS: &[(Bounds, Option<LayoutError>)] = &[
+    ((0, 1, 1), Some(LayoutError::BadBits)),
+    ((17, 0, 0), Some(LayoutError::BadBits)),
+    ((u32::MAX, 1, 1), Some(LayoutError::BadBits)),
+    ((4, 0, 1), Some(LayoutError::BadWorkers)),
+    ((4, 65, 0), Some(LayoutError::BadWorkers)),
+    ((4, 1, 0), Some(LayoutError::BadUpdates)),
+    ((4, 1, 65_537), Some(LayoutError::BadUpdates)),
+    ((16, 64, 13_108), Some(LayoutError::TooLarge)),
+    ((16, 64, 13_018), Some(LayoutError::TooLarge)),
+    ((16, 64, 13_017), None),
+    ((1, 64, 65_536), None),
+    ((16, 1, 65_536), None),
+    ((1, 1, 1), None),
+];
 
 #[test]
 fn a_script_may_ask_for_as_much_as_a_full_table_holds(rt: HostRuntime) {
-    for (bits, workers, updates, error) in [
-        (0, 1, 1, Some(LayoutError::BadBits)),
-        (17, 0, 0, Some(LayoutError::BadBits)),
-        (u32::MAX, 1, 1, Some(LayoutError::BadBits)),
-        (4, 0, 1, Some(LayoutError::BadWorkers)),
-        (4, 65, 0, Some(LayoutError::BadWorkers)),
-        (4, 1, 0, Some(LayoutError::BadUpdates)),
-        (4, 1, 65_537, Some(LayoutError::BadUpdates)),
-        (16, 64, 13_108, Some(LayoutError::TooLarge)),
-        (16, 64, 13_018, Some(LayoutError::TooLarge)),
-        (16, 64, 13_017, None),
-        (1, 64, 65_536, None),
-        (16, 1, 65_536, None),
-        (1, 1, 1, None),
-    ] {
-        match Limits::try_new(bits, workers, updates) {
-            Ok(limits) => {
-                equal_at(
-                    &rt,
-                    None,
-                    error,
-                    format_args!("at {bits}, {workers}, {updates}"),
-                );
-                equal(&rt, limits.bits(), bits);
-                equal(&rt, limits.workers(), workers);
-                equal(&rt, limits.updates(), updates);
-            }
-            Err(cause) => equal_at(
-                &rt,
-                Some(cause),
-                error,
-                format_args!("at {bits}, {workers}, {updates}"),
-            ),
-        }
+    for (bounds, error) in LIMITS {
+        assert_limits(&rt, *bounds, *error);
     }
 }
 
+const EACH_VERB: &str =
+    "0,insert,1\n1,remove,2\n0,look\n1,has,3\n0,size\n1,rank,4\n0,select,5\n1,before,6\n0,after,7\n1,range,8,9\n0,put,10,11\n1,weight,12\n";
+
+const EACH_VERB_READ: &[Line] = &[
+    (1, 0, Verb::Insert(1)),
+    (2, 1, Verb::Remove(2)),
+    (3, 0, Verb::Look),
+    (4, 1, Verb::Has(3)),
+    (5, 0, Verb::Size),
+    (6, 1, Verb::Rank(4)),
+    (7, 0, Verb::Select(5)),
+    (8, 1, Verb::Before(6)),
+    (9, 0, Verb::After(7)),
+    (10, 1, Verb::Range(8, 9)),
+    (11, 0, Verb::Put(10, 11)),
+    (12, 1, Verb::Weight(12)),
+];
+
 #[test]
-fn every_verb_is_read(rt: HostRuntime) -> Result<(), Fail> {
-    let script =
-        "0,insert,1\n1,remove,2\n0,look\n1,has,3\n0,size\n1,rank,4\n0,select,5\n1,before,6\n0,after,7\n1,range,8,9\n0,put,10,11\n1,weight,12\n";
-    let rounds = rounds_of(rt.alloc(), script, 2, 64)?;
-    equal_length(&rt, rounds.len(), 1);
-    let rows = [
-        row(1, 0, Verb::Insert(1)),
-        row(2, 1, Verb::Remove(2)),
-        row(3, 0, Verb::Look),
-        row(4, 1, Verb::Has(3)),
-        row(5, 0, Verb::Size),
-        row(6, 1, Verb::Rank(4)),
-        row(7, 0, Verb::Select(5)),
-        row(8, 1, Verb::Before(6)),
-        row(9, 0, Verb::After(7)),
-        row(10, 1, Verb::Range(8, 9)),
-        row(11, 0, Verb::Put(10, 11)),
-        row(12, 1, Verb::Weight(12)),
-    ];
-    equal(&rt, rounds[0].as_slice(), rows.as_slice());
-    Ok(())
+fn every_verb_is_read(rt: HostRuntime) {
+    assert_reads(
+        &rt,
+        rt.alloc(),
+        EACH_VERB,
+        (4, 2, 64),
+        &[(4, EACH_VERB_READ)],
+    );
 }
 
+const QUOTED: &str = "\"0\",\"insert\",\"005\"\r\n\r\n0,look";
+
+const QUOTED_READ: &[(u32, &[Line])] = &[(4, &[(1, 0, Verb::Insert(5)), (2, 0, Verb::Look)])];
+
 #[test]
-fn quotes_blank_lines_line_ends_and_leading_zeros(rt: HostRuntime) -> Result<(), Fail> {
-    let rounds = rounds_of(rt.alloc(), "\"0\",\"insert\",\"005\"\r\n\r\n0,look", 1, 64)?;
-    equal_length(&rt, rounds.len(), 1);
-    let rows = [row(1, 0, Verb::Insert(5)), row(2, 0, Verb::Look)];
-    equal(&rt, rounds[0].as_slice(), rows.as_slice());
-    Ok(())
+fn quotes_blank_lines_line_ends_and_leading_zeros(rt: HostRuntime) {
+    assert_reads(&rt, rt.alloc(), QUOTED, FEW, QUOTED_READ);
 }
 
+const FAULTY: &[(&str, Option<ScriptError>)] = &[
+    ("0,insert,16", Some(ScriptError::OutOfRange(1))),
+    ("1,look", Some(ScriptError::OutOfRange(1))),
+    ("0,insert", Some(ScriptError::BadArity(1))),
+    ("0,look,1", Some(ScriptError::BadArity(1))),
+    ("0,insert,x", Some(ScriptError::BadNumber(1))),
+    ("0,insert,1000000000", Some(ScriptError::BadNumber(1))),
+    ("x,fly", Some(ScriptError::BadLane(1))),
+    ("1,fly", Some(ScriptError::BadVerb(1))),
+    ("0", Some(ScriptError::BadVerb(1))),
+    ("*,look", Some(ScriptError::BadVerb(1))),
+    ("0,end", Some(ScriptError::BadVerb(1))),
+    ("0,insert,\u{e9}", Some(ScriptError::BadCsv(1))),
+
+    // The first fault of a row that has several.
+    ("*,end,\u{e9}", Some(ScriptError::BadCsv(1))),
+    ("**,end", Some(ScriptError::BadLane(1))),
+    ("*", Some(ScriptError::BadVerb(1))),
+    ("*,", Some(ScriptError::BadVerb(1))),
+    ("*,look,1", Some(ScriptError::BadVerb(1))),
+    ("0,end,1", Some(ScriptError::BadVerb(1))),
+    ("*,end,1", Some(ScriptError::BadArity(1))),
+    ("*,end,x", Some(ScriptError::BadArity(1))),
+    ("1,insert,x", Some(ScriptError::BadNumber(1))),
+
+    // The bounds of the arguments, and how many there are.
+    ("0,has,16", Some(ScriptError::OutOfRange(1))),
+    ("0,remove,16", Some(ScriptError::OutOfRange(1))),
+    ("0,rank,17", Some(ScriptError::OutOfRange(1))),
+    ("0,select,17", Some(ScriptError::OutOfRange(1))),
+    ("0,before,17", Some(ScriptError::OutOfRange(1))),
+    ("0,after,17", Some(ScriptError::OutOfRange(1))),
+    ("0,range,0,17", Some(ScriptError::OutOfRange(1))),
+    ("0,has", Some(ScriptError::BadArity(1))),
+    ("0,select", Some(ScriptError::BadArity(1))),
+    ("0,before,1,2", Some(ScriptError::BadArity(1))),
+    ("0,after", Some(ScriptError::BadArity(1))),
+    ("0,range,1", Some(ScriptError::BadArity(1))),
+
+    // The same of keys with weights.
+    ("0,put,16,1", Some(ScriptError::OutOfRange(1))),
+    ("1,put,1,1", Some(ScriptError::OutOfRange(1))),
+    ("0,weight,16", Some(ScriptError::OutOfRange(1))),
+    ("0,put", Some(ScriptError::BadArity(1))),
+    ("0,put,1", Some(ScriptError::BadArity(1))),
+    ("0,put,1,2,3", Some(ScriptError::BadArity(1))),
+    ("0,weight", Some(ScriptError::BadArity(1))),
+    ("0,weight,1,2", Some(ScriptError::BadArity(1))),
+    ("0,put,1,x", Some(ScriptError::BadNumber(1))),
+    ("0,put,16,x", Some(ScriptError::BadNumber(1))),
+    ("0,put,1,1000000000", Some(ScriptError::BadNumber(1))),
+    ("*,put,1,1", Some(ScriptError::BadVerb(1))),
+
+    // The same of rows that give keys more bits.
+    ("*,grow,3", Some(ScriptError::OutOfRange(1))),
+    ("*,grow,17", Some(ScriptError::OutOfRange(1))),
+    ("*,grow", Some(ScriptError::BadArity(1))),
+    ("0,grow,5", Some(ScriptError::BadVerb(1))),
+    ("*,grow,5,6", Some(ScriptError::BadArity(1))),
+    ("*,grow,x", Some(ScriptError::BadNumber(1))),
+    ("*,grow,", Some(ScriptError::BadNumber(1))),
+    ("*,grow,1000000000", Some(ScriptError::BadNumber(1))),
+    ("*,grow,x,6", Some(ScriptError::BadArity(1))),
+    ("*,grow,0", Some(ScriptError::OutOfRange(1))),
+    ("*,grow,999999999", Some(ScriptError::OutOfRange(1))),
+    ("x,grow,5", Some(ScriptError::BadLane(1))),
+    ("0,grow", Some(ScriptError::BadVerb(1))),
+    ("*,GROW,5", Some(ScriptError::BadVerb(1))),
+    ("grow,5", Some(ScriptError::BadLane(1))),
+];
+
 #[test]
-fn faulty_scripts_of_one_row(rt: HostRuntime) -> Result<(), Fail> {
-    let not_printable: &[u8] = &[48, 44, 105, 110, 115, 101, 114, 116, 44, 0xC3, 0xA9];
-    let ends_not_printable: &[u8] = &[42, 44, 101, 110, 100, 44, 0xC3, 0xA9];
-    let scripts: [(&[u8], ScriptError); 60] = [
-        (b"0,insert,16", ScriptError::OutOfRange(1)),
-        (b"1,look", ScriptError::OutOfRange(1)),
-        (b"0,insert", ScriptError::BadArity(1)),
-        (b"0,look,1", ScriptError::BadArity(1)),
-        (b"0,insert,x", ScriptError::BadNumber(1)),
-        (b"0,insert,1000000000", ScriptError::BadNumber(1)),
-        (b"x,fly", ScriptError::BadLane(1)),
-        (b"1,fly", ScriptError::BadVerb(1)),
-        (b"0", ScriptError::BadVerb(1)),
-        (b"*,look", ScriptError::BadVerb(1)),
-        (b"0,end", ScriptError::BadVerb(1)),
-        (not_printable, ScriptError::BadCsv(1)),
+fn faulty_scripts_of_one_row(rt: HostRuntime) {
+    assert_faults(&rt, rt.alloc(), FEW, FAULTY);
+}
 
-        // The first fault of a row that has several.
-        (ends_not_printable, ScriptError::BadCsv(1)),
-        (b"**,end", ScriptError::BadLane(1)),
-        (b"*", ScriptError::BadVerb(1)),
-        (b"*,", ScriptError::BadVerb(1)),
-        (b"*,look,1", ScriptError::BadVerb(1)),
-        (b"0,end,1", ScriptError::BadVerb(1)),
-        (b"*,end,1", ScriptError::BadArity(1)),
-        (b"*,end,x", ScriptError::BadArity(1)),
-        (b"1,insert,x", ScriptError::BadNumber(1)),
+const AT_THEIR_BOUNDS: &str =
+    "0,insert,15\n0,remove,15\n0,has,15\n0,rank,16\n0,select,16\n0,before,16\n0,after,16\n0,range,16,16\n0,put,15,1\n0,weight,15\n";
 
-        // The bounds of the arguments, and how many there are.
-        (b"0,has,16", ScriptError::OutOfRange(1)),
-        (b"0,remove,16", ScriptError::OutOfRange(1)),
-        (b"0,rank,17", ScriptError::OutOfRange(1)),
-        (b"0,select,17", ScriptError::OutOfRange(1)),
-        (b"0,before,17", ScriptError::OutOfRange(1)),
-        (b"0,after,17", ScriptError::OutOfRange(1)),
-        (b"0,range,0,17", ScriptError::OutOfRange(1)),
-        (b"0,has", ScriptError::BadArity(1)),
-        (b"0,select", ScriptError::BadArity(1)),
-        (b"0,before,1,2", ScriptError::BadArity(1)),
-        (b"0,after", ScriptError::BadArity(1)),
-        (b"0,range,1", ScriptError::BadArity(1)),
+#[test]
+fn arguments_up_to_their_bounds_are_taken(rt: HostRuntime) {
+    assert_faults(&rt, rt.alloc(), FEW, &[(AT_THEIR_BOUNDS, None)]);
+}
 
-        // The same of keys with weights.
-        (b"0,put,16,1", ScriptError::OutOfRange(1)),
-        (b"1,put,1,1", ScriptError::OutOfRange(1)),
-        (b"0,weight,16", ScriptError::OutOfRange(1)),
-        (b"0,put", ScriptError::BadArity(1)),
-        (b"0,put,1", ScriptError::BadArity(1)),
-        (b"0,put,1,2,3", ScriptError::BadArity(1)),
-        (b"0,weight", ScriptError::BadArity(1)),
-        (b"0,weight,1,2", ScriptError::BadArity(1)),
-        (b"0,put,1,x", ScriptError::BadNumber(1)),
-        (b"0,put,16,x", ScriptError::BadNumber(1)),
-        (b"0,put,1,1000000000", ScriptError::BadNumber(1)),
-        (b"*,put,1,1", ScriptError::BadVerb(1)),
+const WEIGHTS_READ: &[(u32, &[Line])] = &[(
+    4,
+    &[(1, 0, Verb::Put(1, 999_999_999)), (2, 0, Verb::Put(1, 0))],
+)];
 
-        // The same of rows that give keys more bits.
-        (b"*,grow,3", ScriptError::OutOfRange(1)),
-        (b"*,grow,17", ScriptError::OutOfRange(1)),
-        (b"*,grow", ScriptError::BadArity(1)),
-        (b"0,grow,5", ScriptError::BadVerb(1)),
-        (b"*,grow,5,6", ScriptError::BadArity(1)),
-        (b"*,grow,x", ScriptError::BadNumber(1)),
-        (b"*,grow,", ScriptError::BadNumber(1)),
-        (b"*,grow,1000000000", ScriptError::BadNumber(1)),
-        (b"*,grow,x,6", ScriptError::BadArity(1)),
-        (b"*,grow,0", ScriptError::OutOfRange(1)),
-        (b"*,grow,999999999", ScriptError::OutOfRange(1)),
-        (b"x,grow,5", ScriptError::BadLane(1)),
-        (b"0,grow", ScriptError::BadVerb(1)),
-        (b"*,GROW,5", ScriptError::BadVerb(1)),
-        (b"grow,5", ScriptError::BadLane(1)),
-    ];
-    for (place, (script, fault)) in scripts.into_iter().enumerate() {
+#[test]
+fn a_weight_is_any_number(rt: HostRuntime) {
+    let script = "0,put,1,999999999\n0,put,1,0\n";
+    assert_reads(&rt, rt.alloc(), script, FEW, WEIGHTS_READ);
+}
+
+const LAST_LANE_READ: &[(u32, &[Line])] = &[(4, &[(1, 63, Verb::Look), (2, 0, Verb::Look)])];
+
+const PAST_THE_LANES: &[(&str, Option<ScriptError>)] = &[(
+    "63,look\n64,look\n",
+    Some(ScriptError::OutOfRange(2)),
+)];
+
+#[test]
+fn lanes_are_below_the_workers(rt: HostRuntime) {
+    let bounds = (4, 64, 64);
+    assert_reads(&rt, rt.alloc(), "63,look\n0,look\n", bounds, LAST_LANE_READ);
+    assert_faults(&rt, rt.alloc(), bounds, PAST_THE_LANES);
+}
+
+const THREE_UPDATES: &[(&str, Option<ScriptError>)] = &[(
+    "0,insert,1\n0,remove,1\n0,insert,1\n",
+    Some(ScriptError::TooManyUpdates(3)),
+)];
+
+const TWO_UPDATES_READ: &[(u32, &[Line])] = &[(
+    4,
+    &[(1, 0, Verb::Insert(1)), (2, 0, Verb::Remove(1))],
+)];
+
+const ENDED_READ: &[(u32, &[Line])] = &[
+    (4, &[(1, 0, Verb::Insert(1)), (2, 0, Verb::Remove(1))]),
+    (4, &[(4, 0, Verb::Insert(1))]),
+];
+
+#[test]
+fn updates_are_limited_in_each_round(rt: HostRuntime) {
+    let bounds = (4, 1, 2);
+    assert_faults(&rt, rt.alloc(), bounds, THREE_UPDATES);
+    let two = "0,insert,1\n0,remove,1\n";
+    assert_reads(&rt, rt.alloc(), two, bounds, TWO_UPDATES_READ);
+    let ended = "0,insert,1\n0,remove,1\n*,end\n0,insert,1\n";
+    assert_reads(&rt, rt.alloc(), ended, bounds, ENDED_READ);
+}
+
+const THREE_PUTS: &str = "0,put,1,5\n0,put,1,5\n0,put,2,5\n";
+
+const TWO_UPDATES_ASKED: &str = "0,put,1,5\n0,weight,1\n0,weight,2\n0,insert,1\n";
+
+const UNDER_ONE_UPDATE: &[(&str, Option<ScriptError>)] = &[(
+    TWO_UPDATES_ASKED,
+    Some(ScriptError::TooManyUpdates(4)),
+)];
+
+const UNDER_TWO_UPDATES: &[(&str, Option<ScriptError>)] = &[
+    (THREE_PUTS, Some(ScriptError::TooManyUpdates(3))),
+    (TWO_UPDATES_ASKED, None),
+];
+
+#[test]
+fn a_put_is_one_update(rt: HostRuntime) {
+    assert_faults(&rt, rt.alloc(), (4, 1, 1), UNDER_ONE_UPDATE);
+    assert_faults(&rt, rt.alloc(), (4, 1, 2), UNDER_TWO_UPDATES);
+    assert_faults(&rt, rt.alloc(), (4, 1, 3), &[(THREE_PUTS, None)]);
+}
+
+const OF_THREE_LANES: &[(&str, Option<ScriptError>)] = &[
+    (
+        "2,insert,1\n0,insert,1\n1,remove,1\n*,end\n1,remove,1\n2,insert,1\n",
+        None,
+    ),
+    (
+        "2,insert,1\n0,insert,1\n*,end\n1,remove,1\n2,insert,1\n1,insert,1\n",
+        Some(ScriptError::TooManyUpdates(6)),
+    ),
+];
+
+#[test]
+fn updates_are_limited_in_each_lane(rt: HostRuntime) {
+    assert_faults(&rt, rt.alloc(), (4, 3, 1), OF_THREE_LANES);
+}
+
+// Compares how many bits each round of a script of one worker has, and how many rows.
+fn assert_rounds(
+    rt: &impl Abort,
+    alloc: Global,
+    script: &str,
+    bits: u32,
+    expected: &[(u32, usize)],
+) {
+    let script_read = read(rt, alloc, script, (bits, 1, 64)).expect(rt, "a script");
+    let rounds = script_read.rounds();
+    equal_at(
+        rt,
+        rounds.len(),
+        expected.len(),
+        format_args!("in {script}"),
+    );
+    for (round, pair) in rounds.iter().zip(expected) {
         equal_at(
-            &rt,
-            fault_of(rt.alloc(), script, 64)?,
-            Some(fault),
-            format_args!("at {place}"),
+            rt,
+            (round.bits, round.rows.as_slice().len()),
+            *pair,
+            format_args!("in {script}"),
         );
     }
-    Ok(())
 }
 
-#[test]
-fn arguments_up_to_their_bounds_are_taken(rt: HostRuntime) -> Result<(), Fail> {
-    let script =
-        "0,insert,15\n0,remove,15\n0,has,15\n0,rank,16\n0,select,16\n0,before,16\n0,after,16\n0,range,16,16\n0,put,15,1\n0,weight,15\n";
-    equal(&rt, fault_of(rt.alloc(), script.as_bytes(), 64)?, None);
-    Ok(())
-}
+const WITHOUT_ROWS: &[(&str, &[(u32, usize)])] = &[
+    ("", &[]),
+    ("\n\n", &[]),
+    ("*,end", &[(4, 0)]),
+    ("*,end\n*,end\n", &[(4, 0), (4, 0)]),
+    ("0,look", &[(4, 1)]),
+    ("0,look\n*,end", &[(4, 1)]),
+    ("0,look\n*,end\n*,end\n0,size", &[(4, 1), (4, 0), (4, 1)]),
+];
 
 #[test]
-fn a_weight_is_any_number(rt: HostRuntime) -> Result<(), Fail> {
-    let rounds = rounds_of(rt.alloc(), "0,put,1,999999999\n0,put,1,0\n", 1, 64)?;
-    equal_length(&rt, rounds.len(), 1);
-    let rows = [
-        row(1, 0, Verb::Put(1, 999_999_999)),
-        row(2, 0, Verb::Put(1, 0)),
-    ];
-    equal(&rt, rounds[0].as_slice(), rows.as_slice());
-    Ok(())
-}
-
-#[test]
-fn lanes_are_below_the_workers(rt: HostRuntime) -> Result<(), Fail> {
-    let rounds = rounds_of(rt.alloc(), "63,look\n0,look\n", 64, 64)?;
-    equal_length(&rt, rounds.len(), 1);
-    let rows = [row(1, 63, Verb::Look), row(2, 0, Verb::Look)];
-    equal(&rt, rounds[0].as_slice(), rows.as_slice());
-    let limits = Limits::try_new(4, 64, 64)?;
-    let fault = Script::read(rt.alloc(), b"63,look\n64,look\n", &limits).err();
-    equal(&rt, fault, Some(ScriptError::OutOfRange(2)));
-    Ok(())
-}
-
-#[test]
-fn updates_are_limited_in_each_round(rt: HostRuntime) -> Result<(), Fail> {
-    let alloc = rt.alloc();
-    let three = b"0,insert,1\n0,remove,1\n0,insert,1\n";
-    equal(
-        &rt,
-        fault_of(alloc, three, 2)?,
-        Some(ScriptError::TooManyUpdates(3)),
-    );
-    let two = rounds_of(alloc, "0,insert,1\n0,remove,1\n", 1, 2)?;
-    equal_length(&rt, two.len(), 1);
-    let ended = rounds_of(alloc, "0,insert,1\n0,remove,1\n*,end\n0,insert,1\n", 1, 2)?;
-    equal_length(&rt, ended.len(), 2);
-    let first = [row(1, 0, Verb::Insert(1)), row(2, 0, Verb::Remove(1))];
-    equal(&rt, ended[0].as_slice(), first.as_slice());
-    equal(
-        &rt,
-        ended[1].as_slice(),
-        [row(4, 0, Verb::Insert(1))].as_slice(),
-    );
-    Ok(())
-}
-
-#[test]
-fn a_put_is_one_update(rt: HostRuntime) -> Result<(), Fail> {
-    let alloc = rt.alloc();
-    let three = b"0,put,1,5\n0,put,1,5\n0,put,2,5\n";
-    equal(
-        &rt,
-        fault_of(alloc, three, 2)?,
-        Some(ScriptError::TooManyUpdates(3)),
-    );
-    equal(&rt, fault_of(alloc, three, 3)?, None);
-    let asked = b"0,put,1,5\n0,weight,1\n0,weight,2\n0,insert,1\n";
-    equal(
-        &rt,
-        fault_of(alloc, asked, 1)?,
-        Some(ScriptError::TooManyUpdates(4)),
-    );
-    equal(&rt, fault_of(alloc, asked, 2)?, None);
-    Ok(())
-}
-
-#[test]
-fn updates_are_limited_in_each_lane(rt: HostRuntime) -> Result<(), Fail> {
-    let limits = Limits::try_new(4, 3, 1)?;
-    let each = b"2,insert,1\n0,insert,1\n1,remove,1\n*,end\n1,remove,1\n2,insert,1\n";
-    equal(&rt, Script::read(rt.alloc(), each, &limits).err(), None);
-    let more = b"2,insert,1\n0,insert,1\n*,end\n1,remove,1\n2,insert,1\n1,insert,1\n";
-    let fault = Script::read(rt.alloc(), more, &limits).err();
-    equal(&rt, fault, Some(ScriptError::TooManyUpdates(6)));
-    Ok(())
-}
-
-#[test]
-fn a_round_may_have_no_rows(rt: HostRuntime) -> Result<(), Fail> {
-    for (script, rows) in [
-        ("", [].as_slice()),
-        ("\n\n", [].as_slice()),
-        ("*,end", [0].as_slice()),
-        ("*,end\n*,end\n", [0, 0].as_slice()),
-        ("0,look", [1].as_slice()),
-        ("0,look\n*,end", [1].as_slice()),
-        ("0,look\n*,end\n*,end\n0,size", [1, 0, 1].as_slice()),
-    ] {
-        let rounds = rounds_of(rt.alloc(), script, 1, 64)?;
-        equal_at(&rt, rounds.len(), rows.len(), format_args!("in {script}"));
-        for (round, count) in rounds.iter().zip(rows) {
-            equal_at(
-                &rt,
-                round.as_slice().len(),
-                *count,
-                format_args!("in {script}"),
-            );
-        }
+fn a_round_may_have_no_rows(rt: HostRuntime) {
+    for (script, rounds) in WITHOUT_ROWS {
+        assert_rounds(&rt, rt.alloc(), script, 4, rounds);
     }
-    Ok(())
 }
+
+const NUMBERED: &str =
+    "0,insert,1\n0,insert,2\n0,insert,3\n*,end\n0,remove,2\n0,look\n0,select,1\n*,end\n";
+
+const NUMBERED_READ: &[(u32, &[Line])] = &[
+    (
+        4,
+        &[
+            (1, 0, Verb::Insert(1)),
+            (2, 0, Verb::Insert(2)),
+            (3, 0, Verb::Insert(3)),
+        ],
+    ),
+    (
+        4,
+        &[
+            (5, 0, Verb::Remove(2)),
+            (6, 0, Verb::Look),
+            (7, 0, Verb::Select(1)),
+        ],
+    ),
+];
+
+const LATE_FAULT: &[(&str, Option<ScriptError>)] = &[(
+    "0,look\n*,end\n\n0,look\n0,fly\n",
+    Some(ScriptError::BadVerb(4)),
+)];
 
 #[test]
-fn rows_keep_their_numbers_past_the_end_of_a_round(rt: HostRuntime) -> Result<(), Fail> {
-    let script =
-        "0,insert,1\n0,insert,2\n0,insert,3\n*,end\n0,remove,2\n0,look\n0,select,1\n*,end\n";
-    let rounds = rounds_of(rt.alloc(), script, 1, 64)?;
-    equal_length(&rt, rounds.len(), 2);
-    let first = [
-        row(1, 0, Verb::Insert(1)),
-        row(2, 0, Verb::Insert(2)),
-        row(3, 0, Verb::Insert(3)),
-    ];
-    equal(&rt, rounds[0].as_slice(), first.as_slice());
-    let second = [
-        row(5, 0, Verb::Remove(2)),
-        row(6, 0, Verb::Look),
-        row(7, 0, Verb::Select(1)),
-    ];
-    equal(&rt, rounds[1].as_slice(), second.as_slice());
-    let late = b"0,look\n*,end\n\n0,look\n0,fly\n";
-    equal(
-        &rt,
-        fault_of(rt.alloc(), late, 64)?,
-        Some(ScriptError::BadVerb(4)),
-    );
-    Ok(())
+fn rows_keep_their_numbers_past_the_end_of_a_round(rt: HostRuntime) {
+    assert_reads(&rt, rt.alloc(), NUMBERED, FEW, NUMBERED_READ);
+    assert_faults(&rt, rt.alloc(), FEW, LATE_FAULT);
 }
 
-// The bits of each round of a script of one worker, with how many rows it has.
-fn growth_of(alloc: Global, script: &str, bits: u32) -> Result<Vec<(u32, usize)>, Fail> {
-    let limits = Limits::try_new(bits, 1, 64)?;
-    let script = Script::read(alloc, script.as_bytes(), &limits)?;
-    let mut rounds = Vec::new(alloc);
-    for round in script.rounds() {
-        rounds.push((round.bits, round.rows.as_slice().len()))?;
+const GROWING: &[(&str, u32, &[(u32, usize)])] = &[
+    ("*,grow,5", 4, &[]),
+    ("*,grow,4\n*,grow,4\n*,grow,16", 4, &[]),
+    ("*,grow,5\n*,end", 4, &[(5, 0)]),
+    ("*,grow,5\n0,look", 4, &[(5, 1)]),
+    ("*,grow,05\n\"*\",\"grow\",\"006\"\n*,end", 4, &[(6, 0)]),
+    ("*,grow,1\n*,grow,9\n*,grow,9\n0,look", 1, &[(9, 1)]),
+    ("0,look\n*,end\n*,grow,5", 4, &[(4, 1)]),
+    ("0,look\n*,end\n*,grow,5\n*,end", 4, &[(4, 1), (5, 0)]),
+    (
+        "*,end\n*,grow,5\n*,end\n*,end\n*,grow,16\n0,look\n0,size",
+        4,
+        &[(4, 0), (5, 0), (5, 0), (16, 2)],
+    ),
+];
+
+#[test]
+fn rounds_have_the_bits_that_hold_at_their_rows(rt: HostRuntime) {
+    for (script, bits, rounds) in GROWING {
+        assert_rounds(&rt, rt.alloc(), script, *bits, rounds);
     }
-    Ok(rounds)
 }
+
+const WIDER: &str =
+    "0,insert,3\n*,end\n*,grow,5\n0,insert,31\n0,look\n0,rank,32\n0,before,31\n0,has,3\n";
+
+const WIDER_READ: &[(u32, &[Line])] = &[
+    (2, &[(1, 0, Verb::Insert(3))]),
+    (
+        5,
+        &[
+            (4, 0, Verb::Insert(31)),
+            (5, 0, Verb::Look),
+            (6, 0, Verb::Rank(32)),
+            (7, 0, Verb::Before(31)),
+            (8, 0, Verb::Has(3)),
+        ],
+    ),
+];
 
 #[test]
-fn rounds_have_the_bits_that_hold_at_their_rows(rt: HostRuntime) -> Result<(), Fail> {
-    let none: &[(u32, usize)] = &[];
-    for (script, bits, rounds) in [
-        ("*,grow,5", 4, none),
-        ("*,grow,4\n*,grow,4\n*,grow,16", 4, none),
-        ("*,grow,5\n*,end", 4, [(5, 0)].as_slice()),
-        ("*,grow,5\n0,look", 4, [(5, 1)].as_slice()),
-        (
-            "*,grow,05\n\"*\",\"grow\",\"006\"\n*,end",
-            4,
-            [(6, 0)].as_slice(),
-        ),
-        (
-            "*,grow,1\n*,grow,9\n*,grow,9\n0,look",
-            1,
-            [(9, 1)].as_slice(),
-        ),
-        ("0,look\n*,end\n*,grow,5", 4, [(4, 1)].as_slice()),
-        (
-            "0,look\n*,end\n*,grow,5\n*,end",
-            4,
-            [(4, 1), (5, 0)].as_slice(),
-        ),
-        (
-            "*,end\n*,grow,5\n*,end\n*,end\n*,grow,16\n0,look\n0,size",
-            4,
-            [(4, 0), (5, 0), (5, 0), (16, 2)].as_slice(),
-        ),
-    ] {
-        let read = growth_of(rt.alloc(), script, bits)?;
-        equal_at(&rt, read.as_slice(), rounds, format_args!("in {script}"));
-    }
-    Ok(())
+fn a_round_is_wider_than_the_one_before(rt: HostRuntime) {
+    assert_reads(&rt, rt.alloc(), WIDER, (2, 1, 64), WIDER_READ);
 }
+
+const GROWN: &[(&str, Option<ScriptError>)] = &[
+    ("*,grow,5\n0,insert,31", None),
+    ("0,insert,31", Some(ScriptError::OutOfRange(1))),
+    ("*,grow,5\n0,insert,32", Some(ScriptError::OutOfRange(2))),
+    ("*,grow,5\n0,rank,32", None),
+    ("*,grow,5\n0,rank,33", Some(ScriptError::OutOfRange(2))),
+    ("*,grow,5\n*,end\n0,remove,31", None),
+    (
+        "0,insert,16\n*,end\n*,grow,5",
+        Some(ScriptError::OutOfRange(1)),
+    ),
+
+    // The bits never fall, also from round to round.
+    ("*,grow,6\n*,grow,5", Some(ScriptError::OutOfRange(2))),
+    (
+        "*,grow,6\n*,end\n*,grow,5",
+        Some(ScriptError::OutOfRange(3)),
+    ),
+
+    // A row that gives them takes a number, and ends no round.
+    ("*,grow,4\n\n*,grow,4\n0,fly", Some(ScriptError::BadVerb(3))),
+    (
+        "*,grow,5\n0,insert,1\n*,end\n*,grow,5\n0,insert,1\n0,remove,1",
+        Some(ScriptError::TooManyUpdates(6)),
+    ),
+    ("*,grow,5\n0,insert,1\n*,end\n*,grow,5\n0,insert,1", None),
+];
 
 #[test]
-fn a_round_is_wider_than_the_one_before(rt: HostRuntime) -> Result<(), Fail> {
-    let limits = Limits::try_new(2, 1, 64)?;
-    let script =
-        "0,insert,3\n*,end\n*,grow,5\n0,insert,31\n0,look\n0,rank,32\n0,before,31\n0,has,3\n";
-    let script = Script::read(rt.alloc(), script.as_bytes(), &limits)?;
-    equal_length(&rt, script.rounds().len(), 2);
-    let narrow = &script.rounds()[0];
-    equal(&rt, narrow.bits, 2);
-    equal(
-        &rt,
-        narrow.rows.as_slice(),
-        [row(1, 0, Verb::Insert(3))].as_slice(),
-    );
-    let wide = &script.rounds()[1];
-    equal(&rt, wide.bits, 5);
-    let rows = [
-        row(4, 0, Verb::Insert(31)),
-        row(5, 0, Verb::Look),
-        row(6, 0, Verb::Rank(32)),
-        row(7, 0, Verb::Before(31)),
-        row(8, 0, Verb::Has(3)),
-    ];
-    equal(&rt, wide.rows.as_slice(), rows.as_slice());
-    Ok(())
+fn arguments_have_the_bounds_that_hold_at_their_row(rt: HostRuntime) {
+    assert_faults(&rt, rt.alloc(), (4, 1, 1), GROWN);
 }
+
+const GROWN_LATE: &[(&str, Option<ScriptError>)] = &[
+    ("0,insert,1\n*,grow,5", Some(ScriptError::BadPlace(2))),
+    ("0,look\n*,grow,4", Some(ScriptError::BadPlace(2))),
+    (
+        "0,look\n*,end\n*,grow,5\n0,look\n*,grow,6\n",
+        Some(ScriptError::BadPlace(5)),
+    ),
+
+    // The bits are looked at first.
+    ("0,look\n*,grow,3", Some(ScriptError::OutOfRange(2))),
+    ("0,look\n*,grow,17", Some(ScriptError::OutOfRange(2))),
+];
 
 #[test]
-fn arguments_have_the_bounds_that_hold_at_their_row(rt: HostRuntime) -> Result<(), Fail> {
-    let alloc = rt.alloc();
-    let scripts: [(&[u8], Option<ScriptError>); 12] = [
-        (b"*,grow,5\n0,insert,31", None),
-        (b"0,insert,31", Some(ScriptError::OutOfRange(1))),
-        (b"*,grow,5\n0,insert,32", Some(ScriptError::OutOfRange(2))),
-        (b"*,grow,5\n0,rank,32", None),
-        (b"*,grow,5\n0,rank,33", Some(ScriptError::OutOfRange(2))),
-        (b"*,grow,5\n*,end\n0,remove,31", None),
-        (
-            b"0,insert,16\n*,end\n*,grow,5",
-            Some(ScriptError::OutOfRange(1)),
-        ),
-
-        // The bits never fall, also from round to round.
-        (b"*,grow,6\n*,grow,5", Some(ScriptError::OutOfRange(2))),
-        (
-            b"*,grow,6\n*,end\n*,grow,5",
-            Some(ScriptError::OutOfRange(3)),
-        ),
-
-        // A row that gives them takes a number, and ends no round.
-        (
-            b"*,grow,4\n\n*,grow,4\n0,fly",
-            Some(ScriptError::BadVerb(3)),
-        ),
-        (
-            b"*,grow,5\n0,insert,1\n*,end\n*,grow,5\n0,insert,1\n0,remove,1",
-            Some(ScriptError::TooManyUpdates(6)),
-        ),
-        (b"*,grow,5\n0,insert,1\n*,end\n*,grow,5\n0,insert,1", None),
-    ];
-    for (place, (script, fault)) in scripts.into_iter().enumerate() {
-        equal_at(
-            &rt,
-            fault_of(alloc, script, 1)?,
-            fault,
-            format_args!("at {place}"),
-        );
-    }
-    Ok(())
+fn keys_get_more_bits_before_the_rows_of_a_round(rt: HostRuntime) {
+    assert_faults(&rt, rt.alloc(), FEW, GROWN_LATE);
 }
+
+const UNDER_13_108: &[(&str, Option<ScriptError>)] = &[
+    ("*,grow,16", Some(ScriptError::TooWide(1))),
+    ("*,end\n*,grow,5\n*,grow,16", Some(ScriptError::TooWide(3))),
+    ("*,grow,15", None),
+    ("0,look\n*,grow,16", Some(ScriptError::BadPlace(2))),
+    ("*,grow,17", Some(ScriptError::OutOfRange(1))),
+];
+
+const UNDER_13_018: &[(&str, Option<ScriptError>)] = &[(
+    "*,grow,16",
+    Some(ScriptError::TooWide(1)),
+)];
 
 #[test]
-fn keys_get_more_bits_before_the_rows_of_a_round(rt: HostRuntime) -> Result<(), Fail> {
-    let scripts: [(&[u8], ScriptError); 5] = [
-        (b"0,insert,1\n*,grow,5", ScriptError::BadPlace(2)),
-        (b"0,look\n*,grow,4", ScriptError::BadPlace(2)),
-        (
-            b"0,look\n*,end\n*,grow,5\n0,look\n*,grow,6\n",
-            ScriptError::BadPlace(5),
-        ),
-
-        // The bits are looked at first.
-        (b"0,look\n*,grow,3", ScriptError::OutOfRange(2)),
-        (b"0,look\n*,grow,17", ScriptError::OutOfRange(2)),
-    ];
-    for (place, (script, fault)) in scripts.into_iter().enumerate() {
-        equal_at(
-            &rt,
-            fault_of(rt.alloc(), script, 64)?,
-            Some(fault),
-            format_args!("at {place}"),
-        );
-    }
-    Ok(())
+fn a_wider_round_has_a_table_too(rt: HostRuntime) {
+    assert_faults(&rt, rt.alloc(), (4, 64, 13_108), UNDER_13_108);
+    assert_faults(&rt, rt.alloc(), (4, 64, 13_018), UNDER_13_018);
+    assert_faults(&rt, rt.alloc(), (4, 64, 13_017), &[("*,grow,16", None)]);
 }
 
-#[test]
-fn a_wider_round_has_a_table_too(rt: HostRuntime) -> Result<(), Fail> {
-    let scripts: [(&[u8], u32, Option<ScriptError>); 7] = [
-        (b"*,grow,16", 13_108, Some(ScriptError::TooWide(1))),
-        (b"*,grow,16", 13_018, Some(ScriptError::TooWide(1))),
-        (b"*,grow,16", 13_017, None),
-        (
-            b"*,end\n*,grow,5\n*,grow,16",
-            13_108,
-            Some(ScriptError::TooWide(3)),
-        ),
-        (b"*,grow,15", 13_108, None),
-        (b"0,look\n*,grow,16", 13_108, Some(ScriptError::BadPlace(2))),
-        (b"*,grow,17", 13_108, Some(ScriptError::OutOfRange(1))),
-    ];
-    for (place, (script, updates, fault)) in scripts.into_iter().enumerate() {
-        let limits = Limits::try_new(4, 64, updates)?;
-        let read = Script::read(rt.alloc(), script, &limits);
-        equal_at(&rt, read.err(), fault, format_args!("at {place}"));
-    }
-    Ok(())
-}
+const OF_TWO_LANES: &str = "0,insert,5\n*,end\n1,look\n";
+
+const OF_TWO_LANES_READ: &[(u32, &[Line])] = &[
+    (4, &[(1, 0, Verb::Insert(5))]),
+    (4, &[(3, 1, Verb::Look)]),
+];
 
 // Passes whichever request for memory is refused: reading then answers `OutOfMemory`, and what is read after that is whole.
 #[test]
-fn refused_memory_is_told_by_reading(rt: HostRuntime) -> Result<(), Fail> {
-    let limits = Limits::try_new(4, 2, 64)?;
+fn refused_memory_is_told_by_reading(rt: HostRuntime) {
     let mut refused = 0u32;
     for _ in 0..2 {
-        match Script::read(rt.alloc(), b"0,insert,5\n*,end\n1,look\n", &limits) {
-            Ok(script) => {
-                equal_length(&rt, script.rounds().len(), 2);
-                let first = [row(1, 0, Verb::Insert(5))];
-                equal(&rt, script.rounds()[0].rows.as_slice(), first.as_slice());
-                let second = [row(3, 1, Verb::Look)];
-                equal(&rt, script.rounds()[1].rows.as_slice(), second.as_slice());
-            }
+        match read(&rt, rt.alloc(), OF_TWO_LANES, (4, 2, 64)) {
+            Ok(script) => assert_script(&rt, &script, OF_TWO_LANES_READ),
             Err(fault) => {
                 equal(&rt, (fault, refused), (ScriptError::OutOfMemory, 0));
                 refused = 1;
             }
         }
     }
-    Ok(())
 }
 
+// Compares what is printed for a value.
+pub(super) fn assert_prints(
+    rt: &impl Abort,
+    alloc: Global,
+    value: impl Display + Drop,
+    text: &str,
+) {
+    let printed = format!(in alloc; "{value}").expect(rt, "a text");
+    equal(rt, printed.as_str(), text);
+}
+
+const TEXTS: &[(ScriptError, &str)] = &[
+    (ScriptError::BadArity(12), "row 12: BadArity"),
+    (ScriptError::BadPlace(2), "row 2: BadPlace"),
+    (ScriptError::TooWide(1), "row 1: TooWide"),
+    (ScriptError::OutOfMemory, "memory"),
+];
+
 #[test]
-fn shows_its_row_and_its_name(rt: HostRuntime) -> Result<(), Fail> {
-    for (fault, text) in [
-        (ScriptError::BadArity(12), "row 12: BadArity"),
-        (ScriptError::BadPlace(2), "row 2: BadPlace"),
-        (ScriptError::TooWide(1), "row 1: TooWide"),
-        (ScriptError::OutOfMemory, "memory"),
-    ] {
-        equal(&rt, format!(in rt.alloc(); "{fault}")?.as_str(), text);
+fn shows_its_row_and_its_name(rt: HostRuntime) {
+    for (fault, text) in TEXTS {
+        assert_prints(&rt, rt.alloc(), *fault, text);
     }
-    Ok(())
 }

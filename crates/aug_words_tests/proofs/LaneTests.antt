@@ -1,8 +1,10 @@
 -- What the tests of several passes need: a table of 2 bits, 3 workers, 2 updates and 2 members has 5 opening records, and its lanes have 4
--- each behind them.
-use Rattle.std.proofs.Common.{◌≡◌, ℕ, ◌+◌, ◌*◌, ◌<◌, ◌≤◌, refl, sym, subst, arith}
-use Rattle.aug_core.specs.Places.{Shape, shape_of, own_records}
+-- each behind them. One of 1 bit, 1 worker, 1 update and 1 member has 2, and one more behind them.
+use Rattle.std.proofs.Common.{◌≡◌, ℕ, List, ◌+◌, ◌*◌, ◌<◌, ◌≤◌, refl, sym, ap, subst, ◌∙◌, arith}
+use Rattle.aug_core.specs.Places.{Shape, shape_of, own_records, record_count}
 use Rattle.aug_core.specs.Lanes.{IsOfLane}
+use Rattle.aug_core.specs.declared.view.SeatView.{SeatView}
+use Rattle.aug_words.specs.Leads.{HandsLaneOut, TakesLaneBack}
 
 own_of_small : own_records 2 2 2 ≡ 3
 unfolding own_records
@@ -10,3 +12,24 @@ own_of_small = refl
 
 pub small_lane : (s : Shape) → s ≡ shape_of 2 3 2 2 → (lane n : ℕ) → 5 + lane * 4 ≤ n → n < 9 + lane * 4 → IsOfLane s lane n
 small_lane s e lane n low high = subst (λ (z : Shape). IsOfLane z lane n) (sym e) (let own = own_of_small in record { from_first = omega arith; below_next = omega arith })
+
+pub records_of_small : (s : Shape) → s ≡ shape_of 2 3 2 2 → 15 ≤ record_count s
+records_of_small s e = subst (λ (z : Shape). 15 ≤ record_count z) (sym e) (let own = own_of_small in omega arith)
+
+own_of_least : own_records 1 1 1 ≡ 1
+unfolding own_records
+own_of_least = refl
+
+pub only_lane : (s : Shape) → s ≡ shape_of 1 1 1 1 → IsOfLane s 0 2
+only_lane s e = subst (λ (z : Shape). IsOfLane z 0 2) (sym e) (let own = own_of_least in record { from_first = omega arith; below_next = omega arith })
+
+-- what a lane that is handed out, and one that is taken back, leave
+pub pass_members : (face : ℕ → ℕ → List (ℕ × ℕ) → List ℕ) (lead after pass : SeatView) → HandsLaneOut face lead after pass → pass.members ≡ lead.members
+pass_members face lead after pass h = ap (λ (z : SeatView). z.members) h.pass_is ∙ ap (λ (z : SeatView). z.members) h.loaded.stepped
+
+module _ (face : ℕ → ℕ → List (ℕ × ℕ) → List ℕ) (lead pass after : SeatView) (h : TakesLaneBack face lead pass after) where
+  pub shape_back : after.shape ≡ lead.shape
+  shape_back = ap (λ (z : SeatView). z.shape) h.loaded.stepped
+
+  pub members_back : after.members ≡ lead.members
+  members_back = ap (λ (z : SeatView). z.members) h.loaded.stepped

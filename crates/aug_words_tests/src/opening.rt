@@ -5,10 +5,8 @@ ghost use Rattle.aug_core.specs.Places.{shape_of};
 ghost use Rattle.aug_model.specs.Keys.{IsKeySet, keys_of};
 ghost use Rattle.aug_monoid.specs.Weighted.{FitsPair};
 
-use super::tables::{assert_leaves, assert_nodes, assert_records};
-use aug_core::Layout;
-use aug_monoid::{Extent, Sum};
-use aug_words::{Rest, Words, WordsError};
+use super::tables::{assert_leaves, assert_nodes, assert_records, table_of};
+use aug_words::{Rest, WordsError};
 use std::alloc::{AllocError, Global};
 use std::process::Abort;
 
@@ -46,10 +44,7 @@ pub(super) fn opened(
     ensures { IfOk result (λ rest. rest.shape ≡ shape_of bits workers updates members) }
 {
     let keys = keys_from(alloc, bits, first)?;
-    let Ok(layout) = Layout::new(bits, workers, updates, members) else {
-        return Err(WordsError::OutOfMemory)
-    };
-    let (words, lead) = Words::<Sum, Extent>::open(alloc, &layout, keys.as_slice())?;
+    let (words, lead) = table_of(alloc, bits, workers, updates, members, keys.as_slice())?;
     Ok(words.close(lead))
 }
 

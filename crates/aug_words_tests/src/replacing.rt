@@ -3,12 +3,12 @@ ghost use Rattle.std.specs.Prelude.{◌≡◌, ◌<◌, IfOk};
 ghost use Rattle.aug_core.specs.Places.{shape_of};
 ghost use Rattle.aug_core.specs.Told.{MayChange};
 
-use super::tables::record_at;
-use crate::assertions::{equal, holds};
-use aug_core::Layout;
-use aug_monoid::{Extent, Monoid, Sum};
-use aug_words::{Rest, WordPass, Words, WordsError};
+use super::tables::{assert_leaves, assert_nodes, assert_records, join, next_pass, table_of};
+use crate::assertions::holds;
+use aug_monoid::Monoid;
+use aug_words::{Rest, WordPass, WordsError};
 use std::alloc::Global;
+use std::process::Abort;
 
 // What one serial adds to a leaf's word.
 const SERIAL: u64 = 1 << 32;
@@ -30,37 +30,45 @@ fn replace<A: Monoid, B: Monoid>(pass: &mut WordPass<'_, A, B>, leaf: usize, wei
 fn replaced(alloc: Global, weight: u32) -> Result<(bool, Rest), WordsError>
     ensures { IfOk result (λ r. r.1.shape ≡ shape_of 1 1 1 1) }
 {
-    let Ok(layout) = Layout::new(1, 1, 1, 1) else {
-        return Err(WordsError::OutOfMemory)
-    };
-    let (words, mut lead) = Words::<Sum, Extent>::open(alloc, &layout, &[(0, 0)])?;
-    let mut pass = lead.split(&words);
+    let (words, mut lead) = table_of(alloc, 1, 1, 1, 1, &[(0, 0)])?;
+    let mut pass = next_pass(&mut lead, &words, 0, 2);
     let done = replace(&mut pass, 0, weight);
-    lead.join(pass);
+    join(&mut lead, &words, pass);
     Ok((done, words.close(lead)))
 }
 
+// Replaces the weight, and compares leaves, nodes and records at rest.
+fn assert_replaces(
+    rt: &impl Abort,
+    alloc: Global,
+    weight: u32,
+    leaves: &[(u32, u64)],
+    nodes: &[(u32, u32, u64)],
+    records: &[(u64, [u64; 5])],
+) -> Result<(), WordsError> {
+    let (done, rest) = replaced(alloc, weight)?;
+    holds(rt, done);
+    assert_leaves(rt, &rest, 1, leaves);
+    assert_nodes(rt, &rest, 1, nodes);
+    assert_records(rt, &rest, 2, records);
+    Ok(())
+}
+
+const LEAVES: &[(u32, u64)] = &[(0, 12_884_901_896), (1, 0)];
+
+const NODES: &[(u32, u32, u64)] = &[(1, 0, 1)];
+
+const RECORDS: &[(u64, [u64; 5])] = &[(1, [4_294_967_296, 0, 1, 0, 0])];
+
 #[test]
 fn a_weight_is_replaced_by_one_exchange(rt: HostRuntime) -> Result<(), WordsError> {
-    let (done, rest) = replaced(rt.alloc(), 8)?;
-    holds(&rt, done);
-    equal(&rt, (rest.leaf(0), rest.leaf(1)), (12_884_901_896, 0));
-    equal(&rt, rest.node(1, 0), 1);
-    equal(&rt, record_at(&rest, 1), [4_294_967_296, 0, 1, 0, 0]);
-    Ok(())
+    assert_replaces(&rt, rt.alloc(), 8, LEAVES, NODES, RECORDS)
 }
 
 // At rest the upper half of the word is the serial, which was 1 and went up by two, and the lower half is the weight.
 #[test]
 fn the_word_of_a_leaf_has_its_serial_and_its_weight(rt: HostRuntime) -> Result<(), WordsError> {
-    for (weight, word) in [
-        (0, 12_884_901_888),
-        (1, 12_884_901_889),
-        (u32::MAX, 17_179_869_183),
-    ] {
-        let (done, rest) = replaced(rt.alloc(), weight)?;
-        holds(&rt, done);
-        equal(&rt, rest.leaf(0), word);
-    }
-    Ok(())
+    assert_replaces(&rt, rt.alloc(), 0, &[(0, 12_884_901_888)], &[], &[])?;
+    assert_replaces(&rt, rt.alloc(), 1, &[(0, 12_884_901_889)], &[], &[])?;
+    assert_replaces(&rt, rt.alloc(), u32::MAX, &[(0, 17_179_869_183)], &[], &[])
 }

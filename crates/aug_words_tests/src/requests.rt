@@ -1,7 +1,7 @@
 //! How often tables ask for memory. The number stands in a test's name: `tests/requests.py` counts. A table is opened with three
 //! requests, for its words while they are made and for its two rows (one row is empty). Nothing else asks.
 use super::tables::small;
-use super::working::{Filled, next_half, work};
+use super::working::{Filled, next_half, take_back, work};
 use crate::assertions::equal;
 use aug_words::WordsError;
 
@@ -21,9 +21,9 @@ fn a_table_that_passes_work_on_asks_3_times_for_memory(rt: HostRuntime) -> Resul
     let first = next_half(&mut lead, &words, 0, 5);
     let second = next_half(&mut lead, &words, 1, 9);
     let Filled { half, words: one } = work(&words, first, 5, 10);
-    lead.join(words.pass(half));
+    take_back(&mut lead, &words, half);
     let Filled { half, words: two } = work(&words, second, 9, 20);
-    lead.join(words.pass(half));
+    take_back(&mut lead, &words, half);
     equal(&rt, one, [10, 11, 12, 13, 14]);
     equal(&rt, two, [20, 21, 22, 23, 24]);
     Ok(())

@@ -1,16 +1,14 @@
 //! The steps of two passes on one node, driven one by one.
-ghost use Rattle.std.specs.Prelude.{◌≡◌, ◌<◌, ◌+◌, ◌/◌, ◌%◌, ◌^◌, ◌==◌, if◌then◌else◌, ◌++◌, ◌∷◌, [], ℕ, List, Some, false};
+ghost use Rattle.std.specs.Prelude.{◌≡◌, ◌<◌, ◌/◌, ◌%◌, ◌^◌, ◌==◌, if◌then◌else◌, ◌++◌, ◌∷◌, [], ℕ, List, IfOk, false};
 ghost use Rattle.aug_core.specs.Faces.{face};
-ghost use Rattle.aug_core.specs.Lanes.{IsOfLane};
 ghost use Rattle.aug_core.specs.Places.{shape_of};
 ghost use Rattle.aug_core.specs.Told.{MayStore, MayChange, IsFilled};
-ghost use Rattle.aug_words.specs.Seats.{AreTogether};
 
-use super::tables::record_at;
+use super::tables::{assert_leaves, assert_nodes, assert_records, join, next_pass, table_of};
 use crate::assertions::equal;
-use aug_core::{Layout, RecordField};
-use aug_monoid::{Extent, Monoid, Sum, fold_slice};
-use aug_words::{Lead, WordPass, Words, WordsError};
+use aug_core::RecordField;
+use aug_monoid::{Monoid, fold_slice};
+use aug_words::{Rest, WordPass, WordsError};
 use std::alloc::Global;
 
 // The word of the one node.
@@ -89,88 +87,91 @@ fn publish<A: Monoid, B: Monoid>(pass: &mut WordPass<'_, A, B>, from: u64, numbe
     pass.try_node(NODE, from, number)
 }
 
-// The pass of the next lane, which has this record and may make a change.
-fn next_pass<'r, A: Monoid, B: Monoid>(
-    lead: &mut Lead<A, B>,
-    words: &'r Words<A, B>,
-    lane: u32,
-    number: u64,
-) -> WordPass<'r, A, B>
-    requires together { AreTogether words.now lead.old }
-    requires shape { lead.old.view.shape ≡ shape_of 1 2 1 0 }
-    requires lane { (lead.old.view.spare ≡ Some lane) × (lane < 2) }
-    requires number { IsOfLane (shape_of 1 2 1 0) lane number }
-    ensures together { AreTogether words.now lead.new }
-    ensures lead { lead.new.view.spare ≡ Some (lane + 1) }
-    ensures table { result.table ≡ lead.new.table }
-    ensures shape { result.view.shape ≡ shape_of 1 2 1 0 }
-    ensures own { MayStore result.view number }
-    ensures change { MayChange result.view }
-{
-    lead.split(words)
-}
-
-// What two passes did, and what the words at rest say of it.
-#[derive(Drop, Debug, PartialEq, Eq)]
-struct Outcome {
-    lanes: [u32; 2],
-    handed: u32,
+// What two passes did.
+#[derive(Drop)]
+struct Played {
     inserted: [bool; 2],
     loaded: [u64; 3],
     published: [bool; 3],
-    leaves: [u64; 2],
-    node: u64,
-    records: [[u64; 5]; 2],
 }
 
 // Two passes put a key in each, load the node and its leaves, and fill a record each. The first publishes its own; the
 // second finds the node changed, loads it again with its leaves, fills its record again and publishes it.
-fn race(alloc: Global) -> Result<Outcome, WordsError> {
-    let Ok(layout) = Layout::new(1, 2, 1, 0) else {
-        return Err(WordsError::OutOfMemory)
-    };
-    let (words, mut lead) = Words::<Sum, Extent>::open(alloc, &layout, &[])?;
+fn play<A: Monoid, B: Monoid>(
+    first: &mut WordPass<'_, A, B>,
+    second: &mut WordPass<'_, A, B>,
+) -> Option<Played>
+    requires shapes { (first.old.view.shape ≡ shape_of 1 2 1 0) × (second.old.view.shape ≡ shape_of 1 2 1 0) }
+    requires room { MayChange first.old.view × MayChange second.old.view }
+    requires own { MayStore first.old.view 1 × MayStore second.old.view 2 }
+    ensures first { (first.new.table ≡ first.old.table) × (first.new.view.shape ≡ first.old.view.shape) }
+    ensures second { (second.new.table ≡ second.old.table) × (second.new.view.shape ≡ second.old.view.shape) }
+{
+    let inserted = [insert(first, 0), insert(second, 1)];
+    let of_first = refill(first, 1);
+    let of_second = refill(second, 2);
+    let first_done = publish(first, of_first, 1);
+    let second_done = publish(second, of_second, 2);
+    if second_done {
+        return None;
+    }
+    let of_again = refill(second, 2);
+    let again_done = publish(second, of_again, 2);
+    Some(Played {
+        inserted,
+        loaded: [of_first, of_second, of_again],
+        published: [first_done, second_done, again_done],
+    })
+}
+
+// What two passes did, and the words at rest.
+#[derive(Drop)]
+struct Outcome {
+    lanes: [u32; 2],
+    handed: u32,
+    played: Option<Played>,
+    rest: Rest,
+}
+
+// Two passes play on a table of one bit, two workers and one update.
+fn race(alloc: Global) -> Result<Outcome, WordsError>
+    ensures { IfOk result (λ done. done.rest.shape ≡ shape_of 1 2 1 0) }
+{
+    let (words, mut lead) = table_of(alloc, 1, 2, 1, 0, &[])?;
     let mut first = next_pass(&mut lead, &words, 0, 1);
     let mut second = next_pass(&mut lead, &words, 1, 2);
     let lanes = [first.lane(), second.lane()];
     let handed = lead.handed();
-    let inserted = [insert(&mut first, 0), insert(&mut second, 1)];
-    let of_first = refill(&mut first, 1);
-    let of_second = refill(&mut second, 2);
-    let first_done = publish(&mut first, of_first, 1);
-    let second_done = publish(&mut second, of_second, 2);
-    if second_done {
-        return Err(WordsError::OutOfMemory);
-    }
-    let of_again = refill(&mut second, 2);
-    let again_done = publish(&mut second, of_again, 2);
-    lead.join(first);
-    lead.join(second);
-    let rest = words.close(lead);
+    let played = play(&mut first, &mut second);
+    join(&mut lead, &words, first);
+    join(&mut lead, &words, second);
     Ok(Outcome {
         lanes,
         handed,
-        inserted,
-        loaded: [of_first, of_second, of_again],
-        published: [first_done, second_done, again_done],
-        leaves: [rest.leaf(0), rest.leaf(1)],
-        node: rest.node(1, 0),
-        records: [record_at(&rest, 1), record_at(&rest, 2)],
+        played,
+        rest: words.close(lead),
     })
 }
 
+const LEAVES: &[(u32, u64)] = &[(0, 4_294_967_296), (1, 4_294_967_297)];
+
+const NODES: &[(u32, u32, u64)] = &[(1, 0, 2)];
+
+const RECORDS: &[(u64, [u64; 5])] = &[
+    (1, [4_294_967_296, 4_294_967_297, 2, 1, 1]),
+    (2, [4_294_967_296, 4_294_967_297, 2, 1, 1]),
+];
+
 #[test]
 fn a_record_is_filled_again_after_a_lost_exchange(rt: HostRuntime) -> Result<(), WordsError> {
-    let expected = Outcome {
-        lanes: [0, 1],
-        handed: 2,
-        inserted: [true, true],
-        loaded: [0, 0, 1],
-        published: [true, false, true],
-        leaves: [4_294_967_296, 4_294_967_297],
-        node: 2,
-        records: [[4_294_967_296, 4_294_967_297, 2, 1, 1]; 2],
-    };
-    equal(&rt, race(rt.alloc())?, expected);
+    let done = race(rt.alloc())?;
+    equal(&rt, (done.lanes, done.handed), ([0, 1], 2));
+    let played = done.played.expect(&rt, "a lost exchange");
+    equal(&rt, played.inserted, [true, true]);
+    equal(&rt, played.loaded, [0, 0, 1]);
+    equal(&rt, played.published, [true, false, true]);
+    assert_leaves(&rt, &done.rest, 1, LEAVES);
+    assert_nodes(&rt, &done.rest, 1, NODES);
+    assert_records(&rt, &done.rest, 3, RECORDS);
     Ok(())
 }

@@ -1,27 +1,84 @@
 //! A small table, and what a table holds at rest.
-ghost use Rattle.std.specs.Prelude.{◌≡◌, ◌≤◌, ◌<◌, Some, IfOk};
+ghost use Rattle.std.specs.Prelude.{◌≡◌, ◌≤◌, ◌<◌, ◌+◌, All, Some, IfOk, length};
+ghost use Rattle.aug_core.specs.Lanes.{IsOfLane};
 ghost use Rattle.aug_core.specs.Places.{shape_of, record_count};
+ghost use Rattle.aug_core.specs.Told.{MayStore, MayChange};
+ghost use Rattle.aug_model.specs.Keys.{IsKeySet, keys_of};
+ghost use Rattle.aug_monoid.specs.Weighted.{FitsPair};
 ghost use Rattle.aug_words.specs.Seats.{AreTogether};
 
 use crate::assertions::{equal, equal_at, holds};
 use aug_core::{Layout, RecordField};
-use aug_monoid::{Extent, Sum};
-use aug_words::{Lead, Rest, Words, WordsError};
+use aug_monoid::{Extent, Monoid, Sum};
+use aug_words::{Lead, Rest, WordPass, Words, WordsError};
 use std::alloc::{AllocError, Global};
 use std::process::Abort;
 
 pub(super) type Table = Words<Sum, Extent>;
 
+// A table of `bits` bits, `workers` workers and `updates` updates, which opens with these members in a layout for `room` of them.
+pub(super) fn table_of(
+    alloc: Global,
+    bits: u32,
+    workers: u32,
+    updates: u32,
+    room: u32,
+    members: &[(u32, u32)],
+) -> Result<(Table, Lead<Sum, Extent>), WordsError>
+    requires keys { IsKeySet bits (keys_of members.now) }
+    requires fit { All FitsPair members.now }
+    requires few { length members.now ≤ room }
+    ensures together { IfOk result (λ t. AreTogether t.0 t.1) }
+    ensures shape { IfOk result (λ t. t.0.opening.shape ≡ shape_of bits workers updates room) }
+    ensures spare { IfOk result (λ t. t.1.view.spare ≡ Some 0) }
+{
+    let Ok(layout) = Layout::new(bits, workers, updates, room) else {
+        return Err(WordsError::OutOfMemory)
+    };
+    Words::open(alloc, &layout, members)
+}
+
 // A table of 2 bits, 3 workers and 2 updates, which opens with the keys 0 and 1.
 pub(super) fn small(alloc: Global) -> Result<(Table, Lead<Sum, Extent>), WordsError>
     ensures together { IfOk result (λ t. AreTogether t.0 t.1) }
-    ensures shape { IfOk result (λ t. (t.0.opening.shape ≡ shape_of 2 3 2 2) × (t.1.view.shape ≡ shape_of 2 3 2 2)) }
+    ensures shape { IfOk result (λ t. t.0.opening.shape ≡ shape_of 2 3 2 2) }
     ensures spare { IfOk result (λ t. t.1.view.spare ≡ Some 0) }
 {
-    let Ok(layout) = Layout::new(2, 3, 2, 2) else {
-        return Err(WordsError::OutOfMemory)
-    };
-    Words::open(alloc, &layout, &[(0, 0), (1, 1)])
+    table_of(alloc, 2, 3, 2, 2, &[(0, 0), (1, 1)])
+}
+
+// The pass of the next lane, which has this record and may make a change.
+pub(super) fn next_pass<'r, A: Monoid, B: Monoid>(
+    lead: &mut Lead<A, B>,
+    words: &'r Words<A, B>,
+    lane: u32,
+    number: u64,
+) -> WordPass<'r, A, B>
+    requires together { AreTogether words.now lead.old }
+    requires lane { (lead.old.view.spare ≡ Some lane) × (lane < words.now.opening.shape.workers) }
+    requires updates { 0 < words.now.opening.shape.updates }
+    requires number { IsOfLane words.now.opening.shape lane number }
+    ensures together { AreTogether words.now lead.new }
+    ensures lead { lead.new.view.spare ≡ Some (lane + 1) }
+    ensures pass { AreTogether words.now result }
+    ensures own { MayStore result.view number }
+    ensures change { MayChange result.view }
+{
+    lead.split(words)
+}
+
+// Takes a pass of the table back.
+pub(super) fn join<A: Monoid, B: Monoid>(
+    lead: &mut Lead<A, B>,
+    words: &Words<A, B>,
+    pass: WordPass<'_, A, B>,
+)
+    requires together { AreTogether words.now lead.old }
+    requires pass { (pass.table ≡ words.now.table) × (pass.view.shape ≡ words.now.opening.shape) }
+    ensures { AreTogether words.now lead.new }
+{
+    let _words = words;
+    lead.join(pass);
 }
 
 // The five words of a record at rest.

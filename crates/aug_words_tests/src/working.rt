@@ -1,14 +1,15 @@
 //! Passes at work in threads of their own: each fills a record and reads it.
-ghost use Rattle.std.specs.Prelude.{◌≡◌, ◌<◌, ◌+◌, Some};
+ghost use Rattle.std.specs.Prelude.{◌≡◌, ◌<◌, ◌+◌, Some, IfOk};
 ghost use Rattle.aug_core.specs.Lanes.{IsOfLane};
+ghost use Rattle.aug_core.specs.Places.{shape_of};
 ghost use Rattle.aug_core.specs.Told.{MayStore};
 ghost use Rattle.aug_words.specs.Seats.{AreTogether};
 
-use super::tables::{Table, record_at, small};
+use super::tables::{Table, assert_records, join, next_pass, small};
 use crate::assertions::equal;
 use aug_core::RecordField;
 use aug_monoid::{Extent, Sum};
-use aug_words::{Lead, WordHalf, WordPass, WordsError};
+use aug_words::{Lead, Rest, WordHalf, WordPass, WordsError};
 use std::alloc::Global;
 use std::sync::Wait;
 use std::thread;
@@ -21,13 +22,6 @@ pub(super) struct Filled {
     pub(super) words: [u64; 5],
 }
 
-// What three workers read of their records, and what the words at rest say of them.
-#[derive(Drop)]
-struct Outcome {
-    read: [[u64; 5]; 3],
-    records: [[u64; 5]; 3],
-}
-
 // The pass of the next lane, which has this record.
 pub(super) fn next_half(
     lead: &mut Lead<Sum, Extent>,
@@ -36,13 +30,24 @@ pub(super) fn next_half(
     number: u64,
 ) -> WordHalf<Sum, Extent>
     requires together { AreTogether words.now lead.old }
-    requires lane { (lead.old.view.spare ≡ Some lane) × (lane < lead.old.view.shape.workers) }
-    requires number { IsOfLane lead.old.view.shape lane number }
+    requires lane { (lead.old.view.spare ≡ Some lane) × (lane < words.now.opening.shape.workers) }
+    requires updates { 0 < words.now.opening.shape.updates }
+    requires number { IsOfLane words.now.opening.shape lane number }
     ensures together { AreTogether words.now lead.new }
-    ensures lead { (lead.new.table ≡ lead.old.table) × (lead.new.view.shape ≡ lead.old.view.shape) × (lead.new.view.members ≡ lead.old.view.members) × (lead.new.view.spare ≡ Some (lane + 1)) }
-    ensures half { (result.table ≡ lead.old.table) × (result.view.shape ≡ lead.old.view.shape) × (result.view.members ≡ lead.old.view.members) × MayStore result.view number }
+    ensures lead { lead.new.view.spare ≡ Some (lane + 1) }
+    ensures half { AreTogether words.now result }
+    ensures own { MayStore result.view number }
 {
-    lead.split(words).into_half()
+    next_pass(lead, words, lane, number).into_half()
+}
+
+// Takes a half of the table back.
+pub(super) fn take_back(lead: &mut Lead<Sum, Extent>, words: &Table, half: WordHalf<Sum, Extent>)
+    requires together { AreTogether words.now lead.old }
+    requires half { AreTogether words.now half }
+    ensures { AreTogether words.now lead.new }
+{
+    join(lead, words, words.pass(half));
 }
 
 // Stores one word of a record of the pass.
@@ -65,7 +70,7 @@ fn get(pass: &mut WordPass<Sum, Extent>, number: u64, field: RecordField) -> u64
 pub(super) fn work(words: &Table, half: WordHalf<Sum, Extent>, number: u64, first: u64) -> Filled
     requires together { AreTogether words.now half }
     requires number { MayStore half.view number × (first < 100) }
-    ensures { (result.half.table ≡ half.table) × (result.half.view.shape ≡ half.view.shape) × (result.half.view.members ≡ half.view.members) × MayStore result.half.view number }
+    ensures { AreTogether words.now result.half }
 {
     let mut pass = words.pass(half);
     put(&mut pass, number, RecordField::Left, first);
@@ -95,58 +100,86 @@ fn work_of_two<R: Threads + Wait + Sync>(
 ) -> (Filled, Filled)
     requires together { AreTogether words.now one × AreTogether words.now other }
     requires numbers { MayStore one.view 9 × MayStore other.view 14 }
-    ensures one { (result.0.half.table ≡ one.table) × (result.0.half.view.shape ≡ one.view.shape) × (result.0.half.view.members ≡ one.view.members) × MayStore result.0.half.view 9 }
-    ensures other { (result.1.half.table ≡ other.table) × (result.1.half.view.shape ≡ other.view.shape) × (result.1.half.view.members ≡ other.view.members) × MayStore result.1.half.view 14 }
+    ensures one { AreTogether words.now result.0.half }
+    ensures other { AreTogether words.now result.1.half }
 {
     thread::join(
         rt,
         move ||
             requires { AreTogether words.now one × MayStore one.view 9 }
-            ensures { (result.half.table ≡ one.table) × (result.half.view.shape ≡ one.view.shape) × (result.half.view.members ≡ one.view.members) × MayStore result.half.view 9 }
+            ensures { AreTogether words.entry.now result.half }
         { work(words, one, 9, 20) },
         move ||
             requires { AreTogether words.now other × MayStore other.view 14 }
-            ensures { (result.half.table ≡ other.table) × (result.half.view.shape ≡ other.view.shape) × (result.half.view.members ≡ other.view.members) × MayStore result.half.view 14 }
+            ensures { AreTogether words.entry.now result.half }
         { work(words, other, 14, 30) },
     )
 }
 
-// The work of three halves in three threads, and the words of their records at rest.
-fn three<R: Threads + Wait + Sync>(rt: &R, alloc: Global) -> Result<Outcome, WordsError> {
+// The work of three halves in three threads.
+fn work_of_three<R: Threads + Wait + Sync>(
+    rt: &R,
+    words: &Table,
+    first: WordHalf<Sum, Extent>,
+    second: WordHalf<Sum, Extent>,
+    third: WordHalf<Sum, Extent>,
+) -> (Filled, (Filled, Filled))
+    requires first { AreTogether words.now first × MayStore first.view 5 }
+    requires second { AreTogether words.now second × MayStore second.view 9 }
+    requires third { AreTogether words.now third × MayStore third.view 14 }
+    ensures one { AreTogether words.now result.0.half }
+    ensures two { AreTogether words.now result.1.0.half }
+    ensures other { AreTogether words.now result.1.1.half }
+{
+    thread::join(
+        rt,
+        move ||
+            requires { AreTogether words.now first × MayStore first.view 5 }
+            ensures { AreTogether words.entry.now result.half }
+        { work(words, first, 5, 10) },
+        move ||
+            requires together { AreTogether words.now second × AreTogether words.now third }
+            requires numbers { MayStore second.view 9 × MayStore third.view 14 }
+            ensures one { AreTogether words.entry.now result.0.half }
+            ensures other { AreTogether words.entry.now result.1.half }
+        { work_of_two(rt, words, second, third) },
+    )
+}
+
+// What three workers read of their records, and the words at rest.
+#[derive(Drop)]
+struct Outcome {
+    read: [[u64; 5]; 3],
+    rest: Rest,
+}
+
+// Hands three lanes out, and takes them back once their records were filled.
+fn three<R: Threads + Wait + Sync>(rt: &R, alloc: Global) -> Result<Outcome, WordsError>
+    ensures { IfOk result (λ done. done.rest.shape ≡ shape_of 2 3 2 2) }
+{
     let (words, mut lead) = small(alloc)?;
     let first = next_half(&mut lead, &words, 0, 5);
     let second = next_half(&mut lead, &words, 1, 9);
     let third = next_half(&mut lead, &words, 2, 14);
-    let table = &words;
-    let (one, (two, other)) = thread::join(
-        rt,
-        move ||
-            requires { AreTogether table.now first × MayStore first.view 5 }
-            ensures { (result.half.table ≡ first.table) × (result.half.view.shape ≡ first.view.shape) × (result.half.view.members ≡ first.view.members) × MayStore result.half.view 5 }
-        { work(table, first, 5, 10) },
-        move ||
-            requires together { AreTogether table.now second × AreTogether table.now third }
-            requires numbers { MayStore second.view 9 × MayStore third.view 14 }
-            ensures one { (result.0.half.table ≡ second.table) × (result.0.half.view.shape ≡ second.view.shape) × (result.0.half.view.members ≡ second.view.members) × MayStore result.0.half.view 9 }
-            ensures other { (result.1.half.table ≡ third.table) × (result.1.half.view.shape ≡ third.view.shape) × (result.1.half.view.members ≡ third.view.members) × MayStore result.1.half.view 14 }
-        { work_of_two(rt, table, second, third) },
-    );
+    let (one, (two, other)) = work_of_three(rt, &words, first, second, third);
     let Filled { half, words: one } = one;
-    lead.join(words.pass(half));
+    take_back(&mut lead, &words, half);
     let Filled { half, words: two } = two;
-    lead.join(words.pass(half));
+    take_back(&mut lead, &words, half);
     let Filled { half, words: other } = other;
-    lead.join(words.pass(half));
+    take_back(&mut lead, &words, half);
     let read = [one, two, other];
-    let rest = words.close(lead);
-    let (one, two, other) = (
-        record_at(&rest, 5),
-        record_at(&rest, 9),
-        record_at(&rest, 14),
-    );
-    let records = [one, two, other];
-    Ok(Outcome { read, records })
+    Ok(Outcome {
+        read,
+        rest: words.close(lead),
+    })
 }
+
+const RECORDS: &[(u64, [u64; 5])] = &[
+    (5, [10, 11, 12, 13, 14]),
+    (9, [20, 21, 22, 23, 24]),
+    (14, [30, 31, 32, 33, 34]),
+];
 
 #[test]
 fn three_passes_fill_their_records(rt: HostRuntime) -> Result<(), WordsError> {
@@ -157,6 +190,6 @@ fn three_passes_fill_their_records(rt: HostRuntime) -> Result<(), WordsError> {
         [30, 31, 32, 33, 34],
     ];
     equal(&rt, done.read, filled);
-    equal(&rt, done.records, filled);
+    assert_records(&rt, &done.rest, 15, RECORDS);
     Ok(())
 }

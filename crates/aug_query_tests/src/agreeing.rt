@@ -1,40 +1,56 @@
 //! Trees of many sets, asked beside the plain set.
+use super::asking::{Answer, Query, ask, ask_set, keys_of, pairs_of};
 use crate::assertions::{equal, equal_at, holds_at};
 use aug_model::{KeySet, ModelError};
 use aug_monoid::Sum;
-use aug_query::{FakeTree, after, before, has, keys, pairs, range, rank, select, size, weight};
+use aug_query::{FakeTree, range};
 use aug_testing::Last;
 use std::alloc::{AllocError, Global};
 use std::process::Abort;
 use std::test::Fail;
 
-// Compares the queries of one key or number.
+// Whether the queries of one key or number answer as those of the set do.
 fn agrees_at(tree: &mut FakeTree<Last, Sum>, set: &KeySet, k: u32) -> bool {
-    has(tree, k) == set.has(k)
-        && weight(tree, k) == set.weight(k)
-        && rank(tree, k) == set.rank(k)
-        && select(tree, k) == set.select(k)
-        && before(tree, k) == set.before(k)
-        && after(tree, k) == set.after(k)
-}
-
-// The set of the keys 0 to 3 whose bits are set in `code`. No key weighs itself.
-fn set_of(alloc: Global, code: u32) -> Result<KeySet, ModelError> {
-    let mut set = KeySet::try_new(alloc, 2)?;
-    for k in 0..4 {
-        if code >> k & 1 == 1 {
-            set.put(k, u32::MAX - k);
+    for query in [
+        Query::Has(k),
+        Query::Weight(k),
+        Query::Rank(k),
+        Query::Select(k),
+        Query::Before(k),
+        Query::After(k),
+    ] {
+        if ask(tree, query) != ask_set(set, query) {
+            return false;
         }
     }
-    Ok(set)
+    true
 }
 
-// The set of the keys of `wanted` bits that leave `rest` when `divisor` divides them.
-fn set_of_rests(alloc: Global, wanted: u32, divisor: u32, rest: u32) -> Result<KeySet, ModelError> {
-    let mut set = KeySet::try_new(alloc, wanted)?;
+// Which keys a set has.
+#[derive(Clone, Copy)]
+enum Wanted {
+    // Those whose bits are set in a number.
+    Coded(u32),
+    // Those that leave a rest, which stands behind, when a number divides them.
+    Rest(u32, u32),
+    // Those below a number.
+    Below(u32),
+}
+
+fn is_wanted(wanted: Wanted, k: u32) -> bool {
+    match wanted {
+        Wanted::Coded(code) => k < 32 && code >> k & 1 == 1,
+        Wanted::Rest(divisor, rest) => k.checked_rem(divisor) == Some(rest),
+        Wanted::Below(members) => k < members,
+    }
+}
+
+// The set of the wanted keys of `width` bits. No key weighs itself.
+fn set_of(alloc: Global, width: u32, wanted: Wanted) -> Result<KeySet, ModelError> {
+    let mut set = KeySet::try_new(alloc, width)?;
     let bits = set.bits();
     for k in 0..1u32 << bits {
-        if k.checked_rem(divisor) == Some(rest) {
+        if is_wanted(wanted, k) {
             set.put(k, u32::MAX - k);
         }
     }
@@ -53,17 +69,27 @@ fn tree_of(alloc: Global, set: &KeySet) -> Result<FakeTree<Last, Sum>, AllocErro
     FakeTree::try_new(alloc, bits, &list)
 }
 
-// Whether the lists of `tree` have the members of `set`, and no others.
-fn lists(alloc: Global, tree: &mut FakeTree<Last, Sum>, set: &KeySet) -> Result<bool, AllocError> {
-    let list = keys(alloc, tree)?;
-    let weighted = pairs(alloc, tree)?;
+// Whether two lists have the members of `set`, and no others.
+fn are_of(set: &KeySet, list: &[u32], weighted: &[(u32, u32)]) -> bool {
     let mut same = list.len() == set.size() as usize && weighted.len() == list.len();
     let mut i = 0u32;
-    for (&key, &(k, weight)) in list.iter().zip(&weighted) {
+    for (&key, &(k, weight)) in list.iter().zip(weighted) {
         same = same && set.select(i) == Some(key) && k == key && set.weight(k) == Some(weight);
         i = i.wrapping_add(1);
     }
-    Ok(same)
+    same
+}
+
+// Whether the lists of `tree` have the members of `set`, and no others.
+fn lists(alloc: Global, tree: &mut FakeTree<Last, Sum>, set: &KeySet) -> Result<bool, AllocError> {
+    let list = keys_of(alloc, tree)?;
+    let weighted = pairs_of(alloc, tree)?;
+    Ok(are_of(set, list.as_slice(), weighted.as_slice()))
+}
+
+// Whether a range is what it is of the set.
+fn spans(tree: &mut FakeTree<Last, Sum>, set: &KeySet, a: u32, b: u32) -> bool {
+    range(tree, a, b) == set.range(a, b)
 }
 
 // Checks that the tree of the keys that leave `rest` when `divisor` divides them answers as the plain set does.
@@ -74,15 +100,19 @@ fn assert_agrees(
     divisor: u32,
     rest: u32,
 ) -> Result<(), Fail> {
-    let set = set_of_rests(alloc, bits, divisor, rest)?;
+    let set = set_of(alloc, bits, Wanted::Rest(divisor, rest))?;
     let mut tree = tree_of(alloc, &set)?;
     holds_at(
         rt,
         lists(alloc, &mut tree, &set)?,
         format_args!("{rest} by {divisor}, {bits} bits"),
     );
-    equal(rt, size(&mut tree), set.size());
-    equal(rt, range(&mut tree, 0, 65536), set.range(0, 65536));
+    equal(rt, ask(&mut tree, Query::Size), ask_set(&set, Query::Size));
+    holds_at(
+        rt,
+        spans(&mut tree, &set, 0, 65_536),
+        format_args!("the range of {rest} by {divisor}, {bits} bits"),
+    );
     for k in [0, 1, 2, 32_767, 65_535, 65_536] {
         holds_at(
             rt,
@@ -122,58 +152,56 @@ fn trees_of_some_keys_of_sixteen_bits_answer(rt: HostRuntime) -> Result<(), Fail
     assert_agrees(&rt, rt.alloc(), 16, 257, 3)
 }
 
+// Compares the ranges between small keys, and the queries of each.
+fn assert_small_agree(rt: &impl Abort, tree: &mut FakeTree<Last, Sum>, set: &KeySet, code: u32) {
+    for a in 0..6 {
+        holds_at(rt, agrees_at(tree, set, a), format_args!("{a} in {code}"));
+        for b in 0..6 {
+            holds_at(
+                rt,
+                spans(tree, set, a, b),
+                format_args!("{a} to {b} in {code}"),
+            );
+        }
+    }
+}
+
+// Compares the tree of the keys 0 to 3 whose bits are set in `code` with their set.
+fn assert_code(rt: &impl Abort, alloc: Global, code: u32) -> Result<(), Fail> {
+    let set = set_of(alloc, 2, Wanted::Coded(code))?;
+    let mut tree = tree_of(alloc, &set)?;
+    holds_at(
+        rt,
+        lists(alloc, &mut tree, &set)?,
+        format_args!("lists of {code}"),
+    );
+    equal_at(
+        rt,
+        ask(&mut tree, Query::Size),
+        ask_set(&set, Query::Size),
+        format_args!("size of {code}"),
+    );
+    assert_small_agree(rt, &mut tree, &set, code);
+    Ok(())
+}
+
 #[test]
 fn every_query_agrees_with_the_plain_set(rt: HostRuntime) -> Result<(), Fail> {
     for code in 0..16u32 {
-        let set = set_of(rt.alloc(), code)?;
-        let mut tree = tree_of(rt.alloc(), &set)?;
-        holds_at(
-            &rt,
-            lists(rt.alloc(), &mut tree, &set)?,
-            format_args!("lists of {code}"),
-        );
-        equal_at(
-            &rt,
-            size(&mut tree),
-            set.size(),
-            format_args!("size of {code}"),
-        );
-        for a in 0..6 {
-            holds_at(
-                &rt,
-                agrees_at(&mut tree, &set, a),
-                format_args!("{a} in {code}"),
-            );
-            for b in 0..6 {
-                equal_at(
-                    &rt,
-                    range(&mut tree, a, b),
-                    set.range(a, b),
-                    format_args!("{a} to {b} in {code}"),
-                );
-            }
-        }
+        assert_code(&rt, rt.alloc(), code)?;
     }
     Ok(())
 }
 
-// The set of the `members` least keys of `wanted` bits.
-fn set_of_least(alloc: Global, wanted: u32, members: u32) -> Result<KeySet, ModelError> {
-    let mut set = KeySet::try_new(alloc, wanted)?;
-    let bits = set.bits();
-    for k in 0..1u32 << bits {
-        if k < members {
-            set.put(k, u32::MAX - k);
-        }
-    }
-    Ok(set)
-}
-
-// Compares the lists of the tree of such a set with the set.
+// Compares the lists of the tree of the `members` least keys with their set.
 fn assert_lists(rt: &impl Abort, alloc: Global, bits: u32, members: u32) -> Result<(), Fail> {
-    let set = set_of_least(alloc, bits, members)?;
+    let set = set_of(alloc, bits, Wanted::Below(members))?;
     let mut tree = tree_of(alloc, &set)?;
-    equal(rt, (size(&mut tree), set.size()), (members, members));
+    equal(
+        rt,
+        (ask(&mut tree, Query::Size), ask_set(&set, Query::Size)),
+        (Answer::Number(members), Answer::Number(members)),
+    );
     holds_at(
         rt,
         lists(alloc, &mut tree, &set)?,

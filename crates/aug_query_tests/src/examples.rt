@@ -1,151 +1,219 @@
 //! The queries on a tree of two keys, and how often they ask for memory.
+use super::asking::{Answer, Query, ask, keys_of, pairs_of};
 use crate::assertions::equal;
 use aug_monoid::{Extent, Sum};
-use aug_query::{FakeTree, after, before, has, keys, pairs, range, rank, select, size, weight};
+use aug_query::{FakeTree, range};
 use aug_testing::Last;
 use std::alloc::{AllocError, Global};
-use std::test::Fail;
+use std::process::Abort;
+
+type Small = FakeTree<Last, Extent>;
 
 // The tree of 5, which weighs 70, and 9, which weighs 30, of 4 bits.
-fn five_and_nine(alloc: Global) -> Result<FakeTree<Last, Extent>, AllocError> {
+pub(super) fn five_and_nine(alloc: Global) -> Result<Small, AllocError> {
     FakeTree::try_new(alloc, 4, &[(5, 70), (9, 30)])
 }
 
+// How many members there are in a range, the last of them, and the least and the greatest.
+fn spanned(tree: &mut Small, a: u32, b: u32) -> (u32, Option<u32>, Option<(u32, u32)>) {
+    let found = range(tree, a, b);
+    (found.count, found.a.value(), found.b.bounds())
+}
+
+// Compares the answers of a tree.
+fn assert_answers(rt: &impl Abort, tree: &mut Small, asked: &[(Query, Answer)]) {
+    for (query, expected) in asked {
+        equal(rt, ask(tree, *query), *expected);
+    }
+}
+
 #[test]
-fn a_range_joins_in_rising_order(rt: HostRuntime) -> Result<(), Fail> {
+fn a_range_joins_in_rising_order(rt: HostRuntime) -> Result<(), AllocError> {
     let mut tree = five_and_nine(rt.alloc())?;
-    let whole = range(&mut tree, 0, 16);
-    equal(&rt, whole.count, 2);
-    equal(&rt, whole.a.value(), Some(9));
-    equal(&rt, whole.b.bounds(), Some((5, 9)));
+    equal(&rt, spanned(&mut tree, 0, 16), (2, Some(9), Some((5, 9))));
     Ok(())
 }
 
 #[test]
-fn a_range_leaves_its_end_out(rt: HostRuntime) -> Result<(), Fail> {
+fn a_range_leaves_its_end_out(rt: HostRuntime) -> Result<(), AllocError> {
     let mut tree = five_and_nine(rt.alloc())?;
-    let front = range(&mut tree, 0, 9);
-    equal(&rt, front.count, 1);
-    equal(&rt, front.a.value(), Some(5));
+    let (count, last, _) = spanned(&mut tree, 0, 9);
+    equal(&rt, (count, last), (1, Some(5)));
     Ok(())
 }
 
-#[test]
-fn ranks_past_the_keys_count_every_member(rt: HostRuntime) -> Result<(), Fail> {
-    let mut tree = five_and_nine(rt.alloc())?;
-    equal(&rt, rank(&mut tree, 16), 2);
-    equal(&rt, rank(&mut tree, 4_000_000_000), 2);
+// Compares the answers of the tree of 5 and 9.
+fn assert_small(
+    rt: &impl Abort,
+    alloc: Global,
+    asked: &[(Query, Answer)],
+) -> Result<(), AllocError> {
+    let mut tree = five_and_nine(alloc)?;
+    assert_answers(rt, &mut tree, asked);
     Ok(())
 }
 
+const PAST_THE_KEYS: &[(Query, Answer)] = &[
+    (Query::Rank(16), Answer::Number(2)),
+    (Query::Rank(4_000_000_000), Answer::Number(2)),
+];
+
 #[test]
-fn nothing_is_past_the_last_member_or_before_the_first(rt: HostRuntime) -> Result<(), Fail> {
-    let mut tree = five_and_nine(rt.alloc())?;
-    equal(&rt, select(&mut tree, 2), None);
-    equal(&rt, before(&mut tree, 5), None);
-    equal(&rt, after(&mut tree, 9), None);
-    Ok(())
+fn ranks_past_the_keys_count_every_member(rt: HostRuntime) -> Result<(), AllocError> {
+    assert_small(&rt, rt.alloc(), PAST_THE_KEYS)
+}
+
+const PAST_THE_MEMBERS: &[(Query, Answer)] = &[
+    (Query::Select(2), Answer::Found(None)),
+    (Query::Before(5), Answer::Found(None)),
+    (Query::After(9), Answer::Found(None)),
+];
+
+#[test]
+fn nothing_is_past_the_last_member_or_before_the_first(rt: HostRuntime) -> Result<(), AllocError> {
+    assert_small(&rt, rt.alloc(), PAST_THE_MEMBERS)
 }
 
 #[test]
-fn keys_lists_the_members(rt: HostRuntime) -> Result<(), Fail> {
+fn keys_lists_the_members(rt: HostRuntime) -> Result<(), AllocError> {
     let mut tree = five_and_nine(rt.alloc())?;
-    let list = keys(rt.alloc(), &mut tree)?;
+    let list = keys_of(rt.alloc(), &mut tree)?;
     equal(&rt, list.as_slice(), [5, 9].as_slice());
     Ok(())
 }
 
+const OF_MEMBERS: &[(Query, Answer)] = &[
+    (Query::Weight(5), Answer::Found(Some(70))),
+    (Query::Weight(9), Answer::Found(Some(30))),
+];
+
 #[test]
-fn members_weigh_what_they_were_given(rt: HostRuntime) -> Result<(), Fail> {
-    let mut tree = five_and_nine(rt.alloc())?;
-    equal(&rt, weight(&mut tree, 5), Some(70));
-    equal(&rt, weight(&mut tree, 9), Some(30));
-    Ok(())
+fn members_weigh_what_they_were_given(rt: HostRuntime) -> Result<(), AllocError> {
+    assert_small(&rt, rt.alloc(), OF_MEMBERS)
+}
+
+const OF_NO_MEMBERS: &[(Query, Answer)] = &[
+    (Query::Weight(6), Answer::Found(None)),
+    (Query::Weight(16), Answer::Found(None)),
+    (Query::Weight(4_000_000_000), Answer::Found(None)),
+];
+
+#[test]
+fn what_is_no_member_has_no_weight(rt: HostRuntime) -> Result<(), AllocError> {
+    assert_small(&rt, rt.alloc(), OF_NO_MEMBERS)
 }
 
 #[test]
-fn what_is_no_member_has_no_weight(rt: HostRuntime) -> Result<(), Fail> {
+fn pairs_lists_the_members_with_their_weights(rt: HostRuntime) -> Result<(), AllocError> {
     let mut tree = five_and_nine(rt.alloc())?;
-    equal(&rt, weight(&mut tree, 6), None);
-    equal(&rt, weight(&mut tree, 16), None);
-    equal(&rt, weight(&mut tree, 4_000_000_000), None);
-    Ok(())
-}
-
-#[test]
-fn pairs_lists_the_members_with_their_weights(rt: HostRuntime) -> Result<(), Fail> {
-    let mut tree = five_and_nine(rt.alloc())?;
-    let list = pairs(rt.alloc(), &mut tree)?;
+    let list = pairs_of(rt.alloc(), &mut tree)?;
     equal(&rt, list.as_slice(), [(5, 70), (9, 30)].as_slice());
     Ok(())
 }
 
+// The tree of 5 and 9 of 4 bits, which both weigh the most.
+fn heaviest(alloc: Global) -> Result<FakeTree<Sum, Extent>, AllocError> {
+    FakeTree::try_new(alloc, 4, &[(5, u32::MAX), (9, u32::MAX)])
+}
+
+// The sum of the weights in a range.
+fn summed(tree: &mut FakeTree<Sum, Extent>, a: u32, b: u32) -> u64 {
+    range(tree, a, b).a.value()
+}
+
 #[test]
-fn a_range_adds_weights_past_32_bits(rt: HostRuntime) -> Result<(), Fail> {
-    let members = [(5, u32::MAX), (9, u32::MAX)];
-    let mut tree = FakeTree::<Sum, Extent>::try_new(rt.alloc(), 4, &members)?;
-    equal(&rt, range(&mut tree, 0, 9).a.value(), 4_294_967_295);
-    equal(&rt, range(&mut tree, 0, 16).a.value(), 8_589_934_590);
+fn a_range_adds_weights_past_32_bits(rt: HostRuntime) -> Result<(), AllocError> {
+    let mut tree = heaviest(rt.alloc())?;
+    equal(&rt, summed(&mut tree, 0, 9), 4_294_967_295);
+    equal(&rt, summed(&mut tree, 0, 16), 8_589_934_590);
     Ok(())
+}
+
+const WITHOUT_A_LIST: &[(Query, Answer)] = &[
+    (Query::Size, Answer::Number(2)),
+    (Query::Rank(9), Answer::Number(1)),
+    (Query::Has(9), Answer::Is(true)),
+    (Query::Has(6), Answer::Is(false)),
+];
+
+const WITHOUT_PAIRS: &[(Query, Answer)] = &[
+    (Query::Weight(9), Answer::Found(Some(30))),
+    (Query::Weight(6), Answer::Found(None)),
+];
+
+// The tree of 5 and 9, also if the first request for it is refused.
+fn small_at_last(alloc: Global) -> Result<Small, AllocError> {
+    match five_and_nine(alloc) {
+        Ok(tree) => Ok(tree),
+        Err(_) => five_and_nine(alloc),
+    }
+}
+
+// The members of the tree. What was asked for before a refusal is still so after it.
+fn keys_at_last(rt: &impl Abort, alloc: Global, tree: &mut Small) -> Result<Vec<u32>, AllocError> {
+    match keys_of(alloc, tree) {
+        Ok(list) => Ok(list),
+        Err(_) => {
+            assert_answers(rt, tree, WITHOUT_A_LIST);
+            keys_of(alloc, tree)
+        }
+    }
+}
+
+// The same of its members with their weights.
+fn pairs_at_last(
+    rt: &impl Abort,
+    alloc: Global,
+    tree: &mut Small,
+) -> Result<Vec<(u32, u32)>, AllocError> {
+    match pairs_of(alloc, tree) {
+        Ok(weighted) => Ok(weighted),
+        Err(_) => {
+            assert_answers(rt, tree, WITHOUT_PAIRS);
+            pairs_of(alloc, tree)
+        }
+    }
 }
 
 // A request that is refused is made again, and what was asked for before it is still so. `tests/refused.py` refuses each in turn.
 #[test]
-fn refused_memory_changes_no_answer(rt: HostRuntime) -> Result<(), Fail> {
-    let mut tree = match five_and_nine(rt.alloc()) {
-        Ok(tree) => tree,
-        Err(_) => five_and_nine(rt.alloc())?,
-    };
-    let list = match keys(rt.alloc(), &mut tree) {
-        Ok(list) => list,
-        Err(_) => {
-            equal(&rt, (size(&mut tree), rank(&mut tree, 9)), (2, 1));
-            equal(&rt, (has(&mut tree, 9), has(&mut tree, 6)), (true, false));
-            keys(rt.alloc(), &mut tree)?
-        }
-    };
+fn refused_memory_changes_no_answer(rt: HostRuntime) -> Result<(), AllocError> {
+    let mut tree = small_at_last(rt.alloc())?;
+    let list = keys_at_last(&rt, rt.alloc(), &mut tree)?;
     equal(&rt, list.as_slice(), [5, 9].as_slice());
-    let weighted = match pairs(rt.alloc(), &mut tree) {
-        Ok(weighted) => weighted,
-        Err(_) => {
-            equal(
-                &rt,
-                (weight(&mut tree, 9), weight(&mut tree, 6)),
-                (Some(30), None),
-            );
-            pairs(rt.alloc(), &mut tree)?
-        }
-    };
+    let weighted = pairs_at_last(&rt, rt.alloc(), &mut tree)?;
     equal(&rt, weighted.as_slice(), [(5, 70), (9, 30)].as_slice());
     Ok(())
 }
 
+const OF_EACH_QUERY: &[(Query, Answer)] = &[
+    (Query::Size, Answer::Number(2)),
+    (Query::Rank(9), Answer::Number(1)),
+    (Query::Has(9), Answer::Is(true)),
+    (Query::Weight(9), Answer::Found(Some(30))),
+    (Query::Select(1), Answer::Found(Some(9))),
+    (Query::Before(9), Answer::Found(Some(5))),
+    (Query::After(5), Answer::Found(Some(9))),
+];
+
 // The tree asks once for each of its 5 rows, once for their row and once for the weights. `tests/requests.py` counts.
 #[test]
-fn the_queries_of_a_tree_of_4_bits_ask_7_times_for_memory(rt: HostRuntime) -> Result<(), Fail> {
+fn the_queries_of_a_tree_of_4_bits_ask_7_times_for_memory(
+    rt: HostRuntime,
+) -> Result<(), AllocError> {
     let mut tree = five_and_nine(rt.alloc())?;
-    equal(&rt, (size(&mut tree), rank(&mut tree, 9)), (2, 1));
-    equal(
-        &rt,
-        (has(&mut tree, 9), weight(&mut tree, 9)),
-        (true, Some(30)),
-    );
-    equal(&rt, select(&mut tree, 1), Some(9));
-    equal(
-        &rt,
-        (before(&mut tree, 9), after(&mut tree, 5)),
-        (Some(5), Some(9)),
-    );
-    equal(&rt, range(&mut tree, 0, 16).count, 2);
+    assert_answers(&rt, &mut tree, OF_EACH_QUERY);
+    let (count, _, _) = spanned(&mut tree, 0, 16);
+    equal(&rt, count, 2);
     Ok(())
 }
 
 // Each list asks once more.
 #[test]
-fn the_lists_of_a_tree_of_4_bits_ask_9_times_for_memory(rt: HostRuntime) -> Result<(), Fail> {
+fn the_lists_of_a_tree_of_4_bits_ask_9_times_for_memory(rt: HostRuntime) -> Result<(), AllocError> {
     let mut tree = five_and_nine(rt.alloc())?;
-    let list = keys(rt.alloc(), &mut tree)?;
-    let weighted = pairs(rt.alloc(), &mut tree)?;
+    let list = keys_of(rt.alloc(), &mut tree)?;
+    let weighted = pairs_of(rt.alloc(), &mut tree)?;
     equal(&rt, list.as_slice(), [5, 9].as_slice());
     equal(&rt, weighted.as_slice(), [(5, 70), (9, 30)].as_slice());
     Ok(())

@@ -1,6 +1,6 @@
 use Rattle.std.proofs.Common.{◌^◌, refl, ap, arith}
 use Rattle.aug_query.proofs.Nodes.{wrapped_universe}
-use Rattle.aug_query_tests.proofs.agreeing.set_of_rests.Goals as goal
+use Rattle.aug_query_tests.proofs.agreeing.set_of.Goals as goal
 
 pub put-requires : goal.put-requires
 put-requires c =

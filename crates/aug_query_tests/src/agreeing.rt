@@ -69,12 +69,17 @@ fn tree_of(alloc: Global, set: &KeySet) -> Result<FakeTree<Last, Sum>, AllocErro
     FakeTree::try_new(alloc, bits, &list)
 }
 
+// Whether the member at a place is this one.
+fn is_member(set: &KeySet, place: u32, key: u32, weight: u32) -> bool {
+    set.select(place) == Some(key) && set.weight(key) == Some(weight)
+}
+
 // Whether two lists have the members of `set`, and no others.
 fn are_of(set: &KeySet, list: &[u32], weighted: &[(u32, u32)]) -> bool {
     let mut same = list.len() == set.size() as usize && weighted.len() == list.len();
     let mut i = 0u32;
     for (&key, &(k, weight)) in list.iter().zip(weighted) {
-        same = same && set.select(i) == Some(key) && k == key && set.weight(k) == Some(weight);
+        same = same && k == key && is_member(set, i, key, weight);
         i = i.wrapping_add(1);
     }
     same
@@ -92,6 +97,36 @@ fn spans(tree: &mut FakeTree<Last, Sum>, set: &KeySet, a: u32, b: u32) -> bool {
     range(tree, a, b) == set.range(a, b)
 }
 
+// Compares a tree with its set, which has the keys of `bits` bits that leave `rest` when `divisor` divides them.
+fn assert_same(
+    rt: &impl Abort,
+    alloc: Global,
+    tree: &mut FakeTree<Last, Sum>,
+    set: &KeySet,
+    place: (u32, u32, u32),
+) -> Result<(), AllocError> {
+    let (bits, divisor, rest) = place;
+    holds_at(
+        rt,
+        lists(alloc, tree, set)?,
+        format_args!("{rest} by {divisor}, {bits} bits"),
+    );
+    equal(rt, ask(tree, Query::Size), ask_set(set, Query::Size));
+    holds_at(
+        rt,
+        spans(tree, set, 0, 65_536),
+        format_args!("the range of {rest} by {divisor}, {bits} bits"),
+    );
+    for k in [0, 1, 2, 32_767, 65_535, 65_536] {
+        holds_at(
+            rt,
+            agrees_at(tree, set, k),
+            format_args!("{k} in {rest} by {divisor}, {bits} bits"),
+        );
+    }
+    Ok(())
+}
+
 // Checks that the tree of the keys that leave `rest` when `divisor` divides them answers as the plain set does.
 fn assert_agrees(
     rt: &impl Abort,
@@ -102,33 +137,23 @@ fn assert_agrees(
 ) -> Result<(), Fail> {
     let set = set_of(alloc, bits, Wanted::Rest(divisor, rest))?;
     let mut tree = tree_of(alloc, &set)?;
-    holds_at(
-        rt,
-        lists(alloc, &mut tree, &set)?,
-        format_args!("{rest} by {divisor}, {bits} bits"),
-    );
-    equal(rt, ask(&mut tree, Query::Size), ask_set(&set, Query::Size));
-    holds_at(
-        rt,
-        spans(&mut tree, &set, 0, 65_536),
-        format_args!("the range of {rest} by {divisor}, {bits} bits"),
-    );
-    for k in [0, 1, 2, 32_767, 65_535, 65_536] {
-        holds_at(
-            rt,
-            agrees_at(&mut tree, &set, k),
-            format_args!("{k} in {rest} by {divisor}, {bits} bits"),
-        );
+    assert_same(rt, alloc, &mut tree, &set, (bits, divisor, rest))?;
+    Ok(())
+}
+
+// The same of each number of bits with a divisor and a rest.
+fn assert_each(rt: &impl Abort, alloc: Global, trees: &[(u32, u32, u32)]) -> Result<(), Fail> {
+    for (bits, divisor, rest) in trees {
+        assert_agrees(rt, alloc, *bits, *divisor, *rest)?;
     }
     Ok(())
 }
 
+const OF_ONE_BIT: &[(u32, u32, u32)] = &[(1, 1, 1), (1, 1, 0), (1, 2, 0), (1, 2, 1)];
+
 #[test]
 fn trees_of_one_bit_answer(rt: HostRuntime) -> Result<(), Fail> {
-    assert_agrees(&rt, rt.alloc(), 1, 1, 1)?;
-    assert_agrees(&rt, rt.alloc(), 1, 1, 0)?;
-    assert_agrees(&rt, rt.alloc(), 1, 2, 0)?;
-    assert_agrees(&rt, rt.alloc(), 1, 2, 1)
+    assert_each(&rt, rt.alloc(), OF_ONE_BIT)
 }
 
 #[test]
@@ -146,23 +171,29 @@ fn a_tree_of_the_last_key_of_sixteen_bits_answers(rt: HostRuntime) -> Result<(),
     assert_agrees(&rt, rt.alloc(), 16, 65536, 65535)
 }
 
+const OF_SOME_KEYS: &[(u32, u32, u32)] = &[(16, 2, 1), (16, 257, 3)];
+
 #[test]
 fn trees_of_some_keys_of_sixteen_bits_answer(rt: HostRuntime) -> Result<(), Fail> {
-    assert_agrees(&rt, rt.alloc(), 16, 2, 1)?;
-    assert_agrees(&rt, rt.alloc(), 16, 257, 3)
+    assert_each(&rt, rt.alloc(), OF_SOME_KEYS)
 }
 
-// Compares the ranges between small keys, and the queries of each.
+// Compares the ranges from one small key to each.
+fn assert_spans(rt: &impl Abort, tree: &mut FakeTree<Last, Sum>, set: &KeySet, code: u32, a: u32) {
+    for b in 0..6 {
+        holds_at(
+            rt,
+            spans(tree, set, a, b),
+            format_args!("{a} to {b} in {code}"),
+        );
+    }
+}
+
+// Compares the queries of each small key, and the ranges between them.
 fn assert_small_agree(rt: &impl Abort, tree: &mut FakeTree<Last, Sum>, set: &KeySet, code: u32) {
     for a in 0..6 {
         holds_at(rt, agrees_at(tree, set, a), format_args!("{a} in {code}"));
-        for b in 0..6 {
-            holds_at(
-                rt,
-                spans(tree, set, a, b),
-                format_args!("{a} to {b} in {code}"),
-            );
-        }
+        assert_spans(rt, tree, set, code, a);
     }
 }
 
@@ -193,20 +224,30 @@ fn every_query_agrees_with_the_plain_set(rt: HostRuntime) -> Result<(), Fail> {
     Ok(())
 }
 
-// Compares the lists of the tree of the `members` least keys with their set.
+// Compares a tree's size and its lists with its set, which has the `members` least keys of `bits` bits.
+fn assert_listed(
+    rt: &impl Abort,
+    alloc: Global,
+    tree: &mut FakeTree<Last, Sum>,
+    set: &KeySet,
+    bits: u32,
+    members: u32,
+) -> Result<(), AllocError> {
+    equal(rt, ask(tree, Query::Size), Answer::Number(members));
+    equal(rt, ask_set(set, Query::Size), Answer::Number(members));
+    holds_at(
+        rt,
+        lists(alloc, tree, set)?,
+        format_args!("{members} members of {bits} bits"),
+    );
+    Ok(())
+}
+
+// Compares the tree of the `members` least keys with their set.
 fn assert_lists(rt: &impl Abort, alloc: Global, bits: u32, members: u32) -> Result<(), Fail> {
     let set = set_of(alloc, bits, Wanted::Below(members))?;
     let mut tree = tree_of(alloc, &set)?;
-    equal(
-        rt,
-        (ask(&mut tree, Query::Size), ask_set(&set, Query::Size)),
-        (Answer::Number(members), Answer::Number(members)),
-    );
-    holds_at(
-        rt,
-        lists(alloc, &mut tree, &set)?,
-        format_args!("{members} members of {bits} bits"),
-    );
+    assert_listed(rt, alloc, &mut tree, &set, bits, members)?;
     Ok(())
 }
 

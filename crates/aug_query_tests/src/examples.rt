@@ -74,12 +74,24 @@ fn nothing_is_past_the_last_member_or_before_the_first(rt: HostRuntime) -> Resul
     assert_small(&rt, rt.alloc(), PAST_THE_MEMBERS)
 }
 
+// Compares the list of the members.
+fn assert_keys(rt: &impl Abort, alloc: Global, tree: &mut Small) -> Result<(), AllocError> {
+    let list = keys_of(alloc, tree)?;
+    equal(rt, list.as_slice(), [5, 9].as_slice());
+    Ok(())
+}
+
+// The same with their weights.
+fn assert_pairs(rt: &impl Abort, alloc: Global, tree: &mut Small) -> Result<(), AllocError> {
+    let list = pairs_of(alloc, tree)?;
+    equal(rt, list.as_slice(), [(5, 70), (9, 30)].as_slice());
+    Ok(())
+}
+
 #[test]
 fn keys_lists_the_members(rt: HostRuntime) -> Result<(), AllocError> {
     let mut tree = five_and_nine(rt.alloc())?;
-    let list = keys_of(rt.alloc(), &mut tree)?;
-    equal(&rt, list.as_slice(), [5, 9].as_slice());
-    Ok(())
+    assert_keys(&rt, rt.alloc(), &mut tree)
 }
 
 const OF_MEMBERS: &[(Query, Answer)] = &[
@@ -106,9 +118,7 @@ fn what_is_no_member_has_no_weight(rt: HostRuntime) -> Result<(), AllocError> {
 #[test]
 fn pairs_lists_the_members_with_their_weights(rt: HostRuntime) -> Result<(), AllocError> {
     let mut tree = five_and_nine(rt.alloc())?;
-    let list = pairs_of(rt.alloc(), &mut tree)?;
-    equal(&rt, list.as_slice(), [(5, 70), (9, 30)].as_slice());
-    Ok(())
+    assert_pairs(&rt, rt.alloc(), &mut tree)
 }
 
 // The tree of 5 and 9 of 4 bits, which both weigh the most.
@@ -149,41 +159,28 @@ fn small_at_last(alloc: Global) -> Result<Small, AllocError> {
     }
 }
 
-// The members of the tree. What was asked for before a refusal is still so after it.
-fn keys_at_last(rt: &impl Abort, alloc: Global, tree: &mut Small) -> Result<Vec<u32>, AllocError> {
-    match keys_of(alloc, tree) {
-        Ok(list) => Ok(list),
-        Err(_) => {
-            assert_answers(rt, tree, WITHOUT_A_LIST);
-            keys_of(alloc, tree)
-        }
-    }
-}
-
-// The same of its members with their weights.
-fn pairs_at_last(
+// Compares the lists. One that is refused is made again, and what was asked for before it is still so.
+fn assert_lists_at_last(
     rt: &impl Abort,
     alloc: Global,
     tree: &mut Small,
-) -> Result<Vec<(u32, u32)>, AllocError> {
-    match pairs_of(alloc, tree) {
-        Ok(weighted) => Ok(weighted),
-        Err(_) => {
-            assert_answers(rt, tree, WITHOUT_PAIRS);
-            pairs_of(alloc, tree)
-        }
+) -> Result<(), AllocError> {
+    if assert_keys(rt, alloc, tree).is_err() {
+        assert_answers(rt, tree, WITHOUT_A_LIST);
+        assert_keys(rt, alloc, tree)?;
     }
+    if assert_pairs(rt, alloc, tree).is_err() {
+        assert_answers(rt, tree, WITHOUT_PAIRS);
+        assert_pairs(rt, alloc, tree)?;
+    }
+    Ok(())
 }
 
 // A request that is refused is made again, and what was asked for before it is still so. `tests/refused.py` refuses each in turn.
 #[test]
 fn refused_memory_changes_no_answer(rt: HostRuntime) -> Result<(), AllocError> {
     let mut tree = small_at_last(rt.alloc())?;
-    let list = keys_at_last(&rt, rt.alloc(), &mut tree)?;
-    equal(&rt, list.as_slice(), [5, 9].as_slice());
-    let weighted = pairs_at_last(&rt, rt.alloc(), &mut tree)?;
-    equal(&rt, weighted.as_slice(), [(5, 70), (9, 30)].as_slice());
-    Ok(())
+    assert_lists_at_last(&rt, rt.alloc(), &mut tree)
 }
 
 const OF_EACH_QUERY: &[(Query, Answer)] = &[
@@ -212,9 +209,6 @@ fn the_queries_of_a_tree_of_4_bits_ask_7_times_for_memory(
 #[test]
 fn the_lists_of_a_tree_of_4_bits_ask_9_times_for_memory(rt: HostRuntime) -> Result<(), AllocError> {
     let mut tree = five_and_nine(rt.alloc())?;
-    let list = keys_of(rt.alloc(), &mut tree)?;
-    let weighted = pairs_of(rt.alloc(), &mut tree)?;
-    equal(&rt, list.as_slice(), [5, 9].as_slice());
-    equal(&rt, weighted.as_slice(), [(5, 70), (9, 30)].as_slice());
-    Ok(())
+    assert_keys(&rt, rt.alloc(), &mut tree)?;
+    assert_pairs(&rt, rt.alloc(), &mut tree)
 }

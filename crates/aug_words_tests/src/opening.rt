@@ -6,6 +6,7 @@ ghost use Rattle.aug_model.specs.Keys.{IsKeySet, keys_of};
 ghost use Rattle.aug_monoid.specs.Weighted.{FitsPair};
 
 use super::tables::{assert_leaves, assert_nodes, assert_records, table_of};
+use crate::assertions::holds;
 use aug_words::{Rest, WordsError};
 use std::alloc::{AllocError, Global};
 use std::process::Abort;
@@ -63,11 +64,10 @@ fn assert_holds(
     first: u32,
     members: u32,
     held: &Held<'_>,
-) -> Result<(), WordsError>
-    requires bits { bits ≤ 16 }
-    requires first { first ≤ 2 ^ bits }
-    requires members { 2 ^ bits - first ≤ members }
-{
+) -> Result<(), WordsError> {
+    holds(rt, bits <= 16);
+    holds(rt, first <= 1 << bits);
+    holds(rt, (1 << bits) - first <= members);
     let rest = opened(alloc, bits, first, members, 1, 4_097)?;
     assert_leaves(rt, &rest, bits, held.leaves);
     assert_nodes(rt, &rest, bits, held.nodes);

@@ -1,7 +1,5 @@
 //! Tables of all small numbers of bits, members, workers and updates, and of some great ones. Memory is at hand, so that each opens, and
 //! its leaves show its members.
-ghost use Rattle.std.specs.Prelude.{◌^◌, ◌≤◌};
-
 use super::opening::opened;
 use crate::assertions::{equal_at, holds};
 use aug_words::WordsError;
@@ -17,10 +15,9 @@ fn assert_opens(
     members: u32,
     workers: u32,
     updates: u32,
-) -> Result<(), WordsError>
-    requires bits { bits ≤ 16 }
-    requires members { members ≤ 2 ^ bits }
-{
+) -> Result<(), WordsError> {
+    holds(rt, bits <= 16);
+    holds(rt, members <= 1 << bits);
     let first = (1 << bits) - members;
     let rest = opened(alloc, bits, first, members, workers, updates)?;
     for key in 0..1 << bits {
@@ -39,31 +36,48 @@ fn assert_opens(
     Ok(())
 }
 
-#[test]
-fn a_table_opens_with_each_number_of_members(rt: HostRuntime) -> Result<(), WordsError> {
-    for bits in 1..=10 {
-        for members in 0..=300 {
-            if members <= 1 << bits {
-                assert_opens(&rt, rt.alloc(), bits, members, 1, 1)?;
-            }
+// Opens tables of `bits` bits with the members up to `most`, as far as there are so many keys.
+fn assert_up_to(rt: &impl Abort, alloc: Global, bits: u32, most: u32) -> Result<(), WordsError> {
+    holds(rt, bits <= 16);
+    for members in 0..=most {
+        if members <= 1 << bits {
+            assert_opens(rt, alloc, bits, members, 1, 1)?;
         }
     }
     Ok(())
 }
 
 #[test]
-fn a_table_opens_with_many_members(rt: HostRuntime) -> Result<(), WordsError> {
-    for bits in 11..=16 {
-        for members in [0, 1, 100, 255, 256, 257, 1_000, 2_047, 2_048] {
-            holds(&rt, members <= 1 << bits);
-            assert_opens(&rt, rt.alloc(), bits, members, 1, 1)?;
-        }
-    }
-    for members in [4_096, 10_000, 32_768, 65_535, 65_536] {
-        holds(&rt, members <= 65_536);
-        assert_opens(&rt, rt.alloc(), 16, members, 1, 1)?;
+fn a_table_opens_with_each_number_of_members(rt: HostRuntime) -> Result<(), WordsError> {
+    for bits in 1..=10 {
+        assert_up_to(&rt, rt.alloc(), bits, 300)?;
     }
     Ok(())
+}
+
+// Opens tables of `bits` bits with each of these numbers of members.
+fn assert_each(
+    rt: &impl Abort,
+    alloc: Global,
+    bits: u32,
+    numbers: &[u32],
+) -> Result<(), WordsError> {
+    for members in numbers {
+        assert_opens(rt, alloc, bits, *members, 1, 1)?;
+    }
+    Ok(())
+}
+
+const FEW_MEMBERS: &[u32] = &[0, 1, 100, 255, 256, 257, 1_000, 2_047, 2_048];
+
+const MANY_MEMBERS: &[u32] = &[4_096, 10_000, 32_768, 65_535, 65_536];
+
+#[test]
+fn a_table_opens_with_many_members(rt: HostRuntime) -> Result<(), WordsError> {
+    for bits in 11..=16 {
+        assert_each(&rt, rt.alloc(), bits, FEW_MEMBERS)?;
+    }
+    assert_each(&rt, rt.alloc(), 16, MANY_MEMBERS)
 }
 
 #[test]

@@ -139,12 +139,17 @@ pub(super) fn assert_records(rt: &impl Abort, rest: &Rest, count: u64, records: 
     }
 }
 
+// The number of the root's record that a lead knows.
+fn root_of(lead: &Lead<Sum, Extent>) -> u64 {
+    lead.root()
+}
+
 // The small table once it is closed, and the number of the root's record that its lead knew.
 fn closed(alloc: Global) -> Result<(u64, Rest), WordsError>
     ensures { IfOk result (λ t. t.1.shape ≡ shape_of 2 3 2 2) }
 {
     let (words, lead) = small(alloc)?;
-    let root = lead.root();
+    let root = root_of(&lead);
     Ok((root, words.close(lead)))
 }
 

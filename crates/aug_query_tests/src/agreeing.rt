@@ -1,6 +1,6 @@
 //! Trees of many sets, asked beside the plain set.
 use super::asking::{Answer, Query, ask, ask_set, keys_of, pairs_of};
-use crate::assertions::{equal, equal_at, holds_at};
+use crate::assertions::{equal, holds_at};
 use aug_model::{KeySet, ModelError};
 use aug_monoid::Sum;
 use aug_query::{FakeTree, range};
@@ -27,7 +27,7 @@ fn agrees_at(tree: &mut FakeTree<Last, Sum>, set: &KeySet, k: u32) -> bool {
 }
 
 // Which keys a set has.
-#[derive(Clone, Copy)]
+#[derive(Clone, Copy, Debug)]
 enum Wanted {
     // Those whose bits are set in a number.
     Coded(u32),
@@ -97,54 +97,90 @@ fn spans(tree: &mut FakeTree<Last, Sum>, set: &KeySet, a: u32, b: u32) -> bool {
     range(tree, a, b) == set.range(a, b)
 }
 
-// Compares a tree with its set, which has the keys of `bits` bits that leave `rest` when `divisor` divides them.
+// What is compared of a tree beside its lists: its size, if it is known, the queries of each of some keys, and the ranges from each of
+// some keys to each of others.
+#[derive(Clone, Copy)]
+struct Compared<'a> {
+    size: Option<u32>,
+    keys: &'a [u32],
+    starts: &'a [u32],
+    ends: &'a [u32],
+}
+
+// Compares the ranges of a tree from one key.
+fn assert_spans(
+    rt: &impl Abort,
+    tree: &mut FakeTree<Last, Sum>,
+    set: &KeySet,
+    start: u32,
+    ends: &[u32],
+) {
+    for end in ends {
+        holds_at(
+            rt,
+            spans(tree, set, start, *end),
+            format_args!("{start} to {end}"),
+        );
+    }
+}
+
+// Compares a tree with its set. Its bits and its keys say which it is.
 fn assert_same(
     rt: &impl Abort,
     alloc: Global,
     tree: &mut FakeTree<Last, Sum>,
     set: &KeySet,
-    place: (u32, u32, u32),
+    which: (u32, Wanted),
+    compared: &Compared<'_>,
 ) -> Result<(), AllocError> {
-    let (bits, divisor, rest) = place;
     holds_at(
         rt,
         lists(alloc, tree, set)?,
-        format_args!("{rest} by {divisor}, {bits} bits"),
+        format_args!("the lists of {which:?}"),
     );
-    equal(rt, ask(tree, Query::Size), ask_set(set, Query::Size));
-    holds_at(
-        rt,
-        spans(tree, set, 0, 65_536),
-        format_args!("the range of {rest} by {divisor}, {bits} bits"),
-    );
-    for k in [0, 1, 2, 32_767, 65_535, 65_536] {
+    let size = ask_set(set, Query::Size);
+    equal(rt, ask(tree, Query::Size), size);
+    if let Some(known) = compared.size {
+        equal(rt, size, Answer::Number(known));
+    }
+    for key in compared.keys {
         holds_at(
             rt,
-            agrees_at(tree, set, k),
-            format_args!("{k} in {rest} by {divisor}, {bits} bits"),
+            agrees_at(tree, set, *key),
+            format_args!("{key} in {which:?}"),
         );
+    }
+    for start in compared.starts {
+        assert_spans(rt, tree, set, *start, compared.ends);
     }
     Ok(())
 }
 
-// Checks that the tree of the keys that leave `rest` when `divisor` divides them answers as the plain set does.
-fn assert_agrees(
+// Compares the tree of the wanted keys of `width` bits with their set.
+fn compare(
     rt: &impl Abort,
     alloc: Global,
-    bits: u32,
-    divisor: u32,
-    rest: u32,
+    width: u32,
+    wanted: Wanted,
+    compared: &Compared<'_>,
 ) -> Result<(), Fail> {
-    let set = set_of(alloc, bits, Wanted::Rest(divisor, rest))?;
+    let set = set_of(alloc, width, wanted)?;
     let mut tree = tree_of(alloc, &set)?;
-    assert_same(rt, alloc, &mut tree, &set, (bits, divisor, rest))?;
+    assert_same(rt, alloc, &mut tree, &set, (width, wanted), compared)?;
     Ok(())
 }
 
-// The same of each number of bits with a divisor and a rest.
-fn assert_each(rt: &impl Abort, alloc: Global, trees: &[(u32, u32, u32)]) -> Result<(), Fail> {
+const OF_RESTS: Compared<'static> = Compared {
+    size: None,
+    keys: &[0, 1, 2, 32_767, 65_535, 65_536],
+    starts: &[0],
+    ends: &[65_536],
+};
+
+// Compares the tree of the keys that leave a rest when a number divides them, for each number of bits with such a number and a rest.
+fn assert_rests(rt: &impl Abort, alloc: Global, trees: &[(u32, u32, u32)]) -> Result<(), Fail> {
     for (bits, divisor, rest) in trees {
-        assert_agrees(rt, alloc, *bits, *divisor, *rest)?;
+        compare(rt, alloc, *bits, Wanted::Rest(*divisor, *rest), &OF_RESTS)?;
     }
     Ok(())
 }
@@ -153,111 +189,66 @@ const OF_ONE_BIT: &[(u32, u32, u32)] = &[(1, 1, 1), (1, 1, 0), (1, 2, 0), (1, 2,
 
 #[test]
 fn trees_of_one_bit_answer(rt: HostRuntime) -> Result<(), Fail> {
-    assert_each(&rt, rt.alloc(), OF_ONE_BIT)
+    assert_rests(&rt, rt.alloc(), OF_ONE_BIT)
 }
 
 #[test]
 fn an_empty_tree_of_sixteen_bits_answers(rt: HostRuntime) -> Result<(), Fail> {
-    assert_agrees(&rt, rt.alloc(), 16, 1, 1)
+    assert_rests(&rt, rt.alloc(), &[(16, 1, 1)])
 }
 
 #[test]
 fn a_full_tree_of_sixteen_bits_answers(rt: HostRuntime) -> Result<(), Fail> {
-    assert_agrees(&rt, rt.alloc(), 16, 1, 0)
+    assert_rests(&rt, rt.alloc(), &[(16, 1, 0)])
 }
 
 #[test]
 fn a_tree_of_the_last_key_of_sixteen_bits_answers(rt: HostRuntime) -> Result<(), Fail> {
-    assert_agrees(&rt, rt.alloc(), 16, 65536, 65535)
+    assert_rests(&rt, rt.alloc(), &[(16, 65_536, 65_535)])
 }
 
 const OF_SOME_KEYS: &[(u32, u32, u32)] = &[(16, 2, 1), (16, 257, 3)];
 
 #[test]
 fn trees_of_some_keys_of_sixteen_bits_answer(rt: HostRuntime) -> Result<(), Fail> {
-    assert_each(&rt, rt.alloc(), OF_SOME_KEYS)
+    assert_rests(&rt, rt.alloc(), OF_SOME_KEYS)
 }
 
-// Compares the ranges from one small key to each.
-fn assert_spans(rt: &impl Abort, tree: &mut FakeTree<Last, Sum>, set: &KeySet, code: u32, a: u32) {
-    for b in 0..6 {
-        holds_at(
-            rt,
-            spans(tree, set, a, b),
-            format_args!("{a} to {b} in {code}"),
-        );
-    }
-}
-
-// Compares the queries of each small key, and the ranges between them.
-fn assert_small_agree(rt: &impl Abort, tree: &mut FakeTree<Last, Sum>, set: &KeySet, code: u32) {
-    for a in 0..6 {
-        holds_at(rt, agrees_at(tree, set, a), format_args!("{a} in {code}"));
-        assert_spans(rt, tree, set, code, a);
-    }
-}
-
-// Compares the tree of the keys 0 to 3 whose bits are set in `code` with their set.
-fn assert_code(rt: &impl Abort, alloc: Global, code: u32) -> Result<(), Fail> {
-    let set = set_of(alloc, 2, Wanted::Coded(code))?;
-    let mut tree = tree_of(alloc, &set)?;
-    holds_at(
-        rt,
-        lists(alloc, &mut tree, &set)?,
-        format_args!("lists of {code}"),
-    );
-    equal_at(
-        rt,
-        ask(&mut tree, Query::Size),
-        ask_set(&set, Query::Size),
-        format_args!("size of {code}"),
-    );
-    assert_small_agree(rt, &mut tree, &set, code);
-    Ok(())
-}
+const OF_CODES: Compared<'static> = Compared {
+    size: None,
+    keys: &[0, 1, 2, 3, 4, 5],
+    starts: &[0, 1, 2, 3, 4, 5],
+    ends: &[0, 1, 2, 3, 4, 5],
+};
 
 #[test]
 fn every_query_agrees_with_the_plain_set(rt: HostRuntime) -> Result<(), Fail> {
     for code in 0..16u32 {
-        assert_code(&rt, rt.alloc(), code)?;
+        compare(&rt, rt.alloc(), 2, Wanted::Coded(code), &OF_CODES)?;
     }
     Ok(())
 }
 
-// Compares a tree's size and its lists with its set, which has the `members` least keys of `bits` bits.
-fn assert_listed(
-    rt: &impl Abort,
-    alloc: Global,
-    tree: &mut FakeTree<Last, Sum>,
-    set: &KeySet,
-    bits: u32,
-    members: u32,
-) -> Result<(), AllocError> {
-    equal(rt, ask(tree, Query::Size), Answer::Number(members));
-    equal(rt, ask_set(set, Query::Size), Answer::Number(members));
-    holds_at(
-        rt,
-        lists(alloc, tree, set)?,
-        format_args!("{members} members of {bits} bits"),
-    );
-    Ok(())
+// Compares the lists and the size of the tree of the `members` least keys.
+fn assert_lists(rt: &impl Abort, alloc: Global, bits: u32, members: u32) -> Result<(), Fail> {
+    let compared = Compared {
+        size: Some(members),
+        keys: &[],
+        starts: &[],
+        ends: &[],
+    };
+    compare(rt, alloc, bits, Wanted::Below(members), &compared)
 }
 
-// Compares the tree of the `members` least keys with their set.
-fn assert_lists(rt: &impl Abort, alloc: Global, bits: u32, members: u32) -> Result<(), Fail> {
-    let set = set_of(alloc, bits, Wanted::Below(members))?;
-    let mut tree = tree_of(alloc, &set)?;
-    assert_listed(rt, alloc, &mut tree, &set, bits, members)?;
-    Ok(())
-}
+const MANY_MEMBERS: &[u32] = &[511, 512, 1_000, 4_095, 4_096];
 
 #[test]
 fn each_number_of_members_is_listed(rt: HostRuntime) -> Result<(), Fail> {
     for members in 0..=300 {
         assert_lists(&rt, rt.alloc(), 9, members)?;
     }
-    for members in [511, 512, 1_000, 4_095, 4_096] {
-        assert_lists(&rt, rt.alloc(), 12, members)?;
+    for members in MANY_MEMBERS {
+        assert_lists(&rt, rt.alloc(), 12, *members)?;
     }
     Ok(())
 }

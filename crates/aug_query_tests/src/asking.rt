@@ -1,8 +1,14 @@
 //! Queries and their answers as data, so that each call is proved once.
+ghost use Rattle.std.specs.List.Sorted.{IsNonDecreasing};
+
+use crate::assertions::{equal, holds};
 use aug_model::KeySet;
-use aug_monoid::Monoid;
-use aug_query::{FakeTree, after, before, has, keys, pairs, rank, select, size, weight};
+use aug_monoid::{Extent, Monoid};
+use aug_query::descent::{memberships, ranks, weights};
+use aug_query::{FakeTree, after, before, has, keys, pairs, range, rank, select, size, weight};
+use aug_testing::Last;
 use std::alloc::{AllocError, Global};
+use std::process::Abort;
 
 // A query that is answered with one value.
 #[derive(Clone, Copy)]
@@ -63,4 +69,134 @@ pub(super) fn pairs_of<A: Monoid, B: Monoid>(
     tree: &mut FakeTree<A, B>,
 ) -> Result<Vec<(u32, u32)>, AllocError> {
     pairs(alloc, tree)
+}
+
+pub(super) type Small = FakeTree<Last, Extent>;
+
+// The tree of 5, which weighs 70, and 9, which weighs 30, of 4 bits.
+pub(super) fn five_and_nine(alloc: Global) -> Result<Small, AllocError> {
+    FakeTree::try_new(alloc, 4, &[(5, 70), (9, 30)])
+}
+
+// How many members there are in a range, the last of them, and the least and the greatest.
+type Spanned = (u32, Option<u32>, Option<(u32, u32)>);
+
+fn spanned(tree: &mut Small, a: u32, b: u32) -> Spanned {
+    let found = range(tree, a, b);
+    (found.count, found.a.value(), found.b.bounds())
+}
+
+// Ends the test unless no key is below the one before it.
+fn assert_rising(rt: &impl Abort, keys: &[u32])
+    ensures { IsNonDecreasing keys.now }
+{
+    holds(rt, keys.is_sorted());
+}
+
+// The ranks of rising keys, behind the numbers that stand first.
+fn ranks_of(
+    rt: &impl Abort,
+    alloc: Global,
+    tree: &mut Small,
+    first: &[u32],
+    keys: &[u32],
+) -> Result<Vec<u32>, AllocError> {
+    assert_rising(rt, keys);
+    let mut out = Vec::with_capacity(alloc, first.len() + keys.len())?;
+    out.extend_from_slice(first)?;
+    holds(rt, out.len() + keys.len() <= out.capacity());
+    ranks(tree, keys, &mut out);
+    Ok(out)
+}
+
+// Whether each of some rising keys is a member.
+fn memberships_of(
+    rt: &impl Abort,
+    alloc: Global,
+    tree: &mut Small,
+    keys: &[u32],
+) -> Result<Vec<bool>, AllocError> {
+    assert_rising(rt, keys);
+    let mut out = Vec::with_capacity(alloc, keys.len())?;
+    memberships(tree, keys, &mut out);
+    Ok(out)
+}
+
+// The weight of each of some rising keys.
+fn weights_of(
+    rt: &impl Abort,
+    alloc: Global,
+    tree: &mut Small,
+    keys: &[u32],
+) -> Result<Vec<Option<u32>>, AllocError> {
+    assert_rising(rt, keys);
+    let mut out = Vec::with_capacity(alloc, keys.len())?;
+    weights(tree, keys, &mut out);
+    Ok(out)
+}
+
+// A call, with what it is to answer.
+#[derive(Clone, Copy)]
+pub(super) enum Step<'a> {
+    Asks(Query, Answer),
+    Spans(u32, u32, Spanned),
+    Keys(&'a [u32]),
+    Pairs(&'a [(u32, u32)]),
+    // Batches of keys. Ranks stand behind the numbers that come first.
+    Ranks(&'a [u32], &'a [u32], &'a [u32]),
+    Memberships(&'a [u32], &'a [bool]),
+    Weights(&'a [u32], &'a [Option<u32>]),
+}
+
+// Makes one call, and compares its answer.
+pub(super) fn take(
+    rt: &impl Abort,
+    alloc: Global,
+    tree: &mut Small,
+    step: &Step<'_>,
+) -> Result<(), AllocError> {
+    match step {
+        Step::Asks(query, answer) => equal(rt, ask(tree, *query), *answer),
+        Step::Spans(a, b, expected) => equal(rt, spanned(tree, *a, *b), *expected),
+        Step::Keys(expected) => {
+            let found = keys_of(alloc, tree)?;
+            equal(rt, found.as_slice(), *expected);
+        }
+        Step::Pairs(expected) => {
+            let found = pairs_of(alloc, tree)?;
+            equal(rt, found.as_slice(), *expected);
+        }
+        Step::Ranks(first, keys, expected) => {
+            let found = ranks_of(rt, alloc, tree, first, keys)?;
+            equal(rt, found.as_slice(), *expected);
+        }
+        Step::Memberships(keys, expected) => {
+            let found = memberships_of(rt, alloc, tree, keys)?;
+            equal(rt, found.as_slice(), *expected);
+        }
+        Step::Weights(keys, expected) => {
+            let found = weights_of(rt, alloc, tree, keys)?;
+            equal(rt, found.as_slice(), *expected);
+        }
+    }
+    Ok(())
+}
+
+// Makes some calls of a tree.
+pub(super) fn take_all(
+    rt: &impl Abort,
+    alloc: Global,
+    tree: &mut Small,
+    steps: &[Step<'_>],
+) -> Result<(), AllocError> {
+    for step in steps {
+        take(rt, alloc, tree, step)?;
+    }
+    Ok(())
+}
+
+// Makes some calls of the tree of 5 and 9.
+pub(super) fn play(rt: &impl Abort, alloc: Global, steps: &[Step<'_>]) -> Result<(), AllocError> {
+    let mut tree = five_and_nine(alloc)?;
+    take_all(rt, alloc, &mut tree, steps)
 }

@@ -1,8 +1,10 @@
 //! Devices that read and write, and what goes to one byte by byte.
 use crate::assertions::{equal, equal_at, holds};
 use aug_script::{Fault, FromRead, MemorySink, Sink, Source, ToWrite, send};
+use std::alloc::Global;
 use std::io;
 use std::io::{ErrorKind, Read, Write};
+use std::process::Abort;
 use std::test::Fail;
 
 // A reader that is interrupted at each call.
@@ -81,23 +83,27 @@ fn gives_byte_by_byte_and_finishes_once(rt: HostRuntime) {
     equal(&rt, sink.finished, 1);
 }
 
+// Sends three bytes to a sink that fails at a call, and compares what went out before and how many calls there were.
+fn assert_stops(rt: &impl Abort, alloc: Global, fault_at: u64, out: &str, calls: u64) {
+    let mut sink = MemorySink::new(alloc, 1, Some(fault_at));
+    equal_at(
+        rt,
+        send(b"abc", &mut sink),
+        Err(Fault),
+        format_args!("at {fault_at}"),
+    );
+    equal_at(
+        rt,
+        sink.out.as_slice(),
+        out.as_bytes(),
+        format_args!("at {fault_at}"),
+    );
+    equal(rt, (sink.calls, sink.finished), (calls, 0));
+}
+
 #[test]
 fn stops_at_the_first_fault(rt: HostRuntime) {
-    for (fault_at, out) in [(0, ""), (2, "ab"), (3, "abc")] {
-        let mut sink = MemorySink::new(rt.alloc(), 1, Some(fault_at));
-        equal_at(
-            &rt,
-            send(b"abc", &mut sink),
-            Err(Fault),
-            format_args!("at {fault_at}"),
-        );
-        equal_at(
-            &rt,
-            sink.out.as_slice(),
-            out.as_bytes(),
-            format_args!("at {fault_at}"),
-        );
-        equal(&rt, sink.calls, fault_at + 1);
-        equal(&rt, sink.finished, 0);
-    }
+    assert_stops(&rt, rt.alloc(), 0, "", 1);
+    assert_stops(&rt, rt.alloc(), 2, "ab", 3);
+    assert_stops(&rt, rt.alloc(), 3, "abc", 4);
 }

@@ -1,37 +1,44 @@
 //! How rounds begin and hand out their lanes, what they are refused for, and what refusals print.
 
-use super::rounds::{Trie, insert, next_pass, opened, remove};
+use super::playing::Act::{Back, Counts, Handed, Lane, Now, Open, Size};
+use super::playing::Change::{Insert, Remove};
+use super::playing::Reply::{Counted, Done, Is, Not, Number};
+use super::playing::Who::{A, B, C};
+use super::playing::played_from_empty;
+use super::rounds::Trie;
 use crate::assertions::{equal, holds};
 use aug_trie::{BeginError, CrewError, Ended, Round};
 use std::alloc::Global;
 
 #[test]
 fn a_pass_counts_its_changes(rt: HostRuntime) -> Result<(), BeginError> {
-    let (round, mut crew) = opened(rt.alloc(), 2, 1, 3)?;
-    let mut pass = next_pass(&mut crew, &round).expect(&rt, "a lane");
-    equal(&rt, pass.lane(), 0);
-    equal(&rt, pass.budget(), 3);
-    holds(&rt, insert(&mut pass, 2, 1));
-    pass.snapshot();
-    holds(&rt, insert(&mut pass, 2, 2));
-    holds(&rt, remove(&mut pass, 2, 1));
-    equal(&rt, pass.budget(), 0);
-    equal(&rt, pass.inserts(), 2);
-    equal(&rt, pass.removals(), 1);
+    let script = [
+        (A, Open, Done),
+        (A, Lane, Number(0)),
+        (A, Counts, Counted(0, 0, 3)),
+        (A, Now(Insert(1)), Is(true)),
+        (A, Size, Number(1)),
+        (A, Now(Insert(2)), Is(true)),
+        (A, Now(Remove(1)), Is(true)),
+        (A, Counts, Counted(2, 1, 0)),
+    ];
+    played_from_empty(&rt, rt.alloc(), 2, (1, 3), &script)?;
     Ok(())
 }
 
 #[test]
 fn each_lane_is_handed_out_once(rt: HostRuntime) -> Result<(), BeginError> {
-    let (round, mut crew) = opened(rt.alloc(), 1, 2, 1)?;
-    let first = next_pass(&mut crew, &round).expect(&rt, "lane 0");
-    equal(&rt, first.lane(), 0);
-    let second = next_pass(&mut crew, &round).expect(&rt, "lane 1");
-    equal(&rt, second.lane(), 1);
-    holds(&rt, next_pass(&mut crew, &round).is_err());
-    crew.back(first);
-    holds(&rt, next_pass(&mut crew, &round).is_err());
-    equal(&rt, crew.handed(), 2);
+    let script = [
+        (A, Open, Done),
+        (A, Lane, Number(0)),
+        (B, Open, Done),
+        (B, Lane, Number(1)),
+        (C, Open, Not),
+        (A, Back, Done),
+        (C, Open, Not),
+        (C, Handed, Number(2)),
+    ];
+    played_from_empty(&rt, rt.alloc(), 1, (2, 1), &script)?;
     Ok(())
 }
 

@@ -2,10 +2,15 @@
 ghost use Rattle.std.specs.Prelude.{◌≡◌, IfOk};
 
 use super::ending::{counts, next_round};
+use super::playing::Act::{Back, Now, Open};
+use super::playing::Change::{Insert, Put, Remove};
+use super::playing::Reply::{Came, Done, Is};
+use super::playing::Who::{A, B};
+use super::playing::{played, played_from_empty};
 use super::putting::seen_weight;
-use super::rounds::{Hands, Table, Trie, insert, next_pass, opened, put, remove};
-use crate::assertions::{equal, holds};
-use aug_model::Outcome;
+use super::rounds::{Hands, Table, Trie, next_pass};
+use crate::assertions::equal;
+use aug_model::Outcome::{Accepted, Replaced};
 use aug_monoid::{Extent, Sum};
 use aug_query::{pairs, range, weight};
 use aug_trie::{BeginError, Pass, Round};
@@ -13,15 +18,17 @@ use std::alloc::{AllocError, Global};
 use std::process::Abort;
 
 // A trie of 4 bits with the members 5, which weighs 70, and 9, which weighs 2^32 - 1.
-pub(super) fn heavy(alloc: Global) -> Result<Trie, BeginError> {
-    let (round, mut crew) = opened(alloc, 4, 1, 4)?;
-    if let Ok(mut pass) = next_pass(&mut crew, &round) {
-        put(&mut pass, 4, 9, u32::MAX);
-        put(&mut pass, 4, 5, 6);
-        put(&mut pass, 4, 5, 70);
-        crew.back(pass);
-    }
-    Ok(round.end(crew))
+pub(super) fn heavy(rt: &impl Abort, alloc: Global) -> Result<Trie, BeginError>
+    ensures { IfOk result (λ ended. ended.bits ≡ 4) }
+{
+    let script = [
+        (A, Open, Done),
+        (A, Now(Put(9, u32::MAX)), Came(Accepted)),
+        (A, Now(Put(5, 6)), Came(Accepted)),
+        (A, Now(Put(5, 70)), Came(Replaced)),
+        (A, Back, Done),
+    ];
+    played_from_empty(rt, alloc, 4, (1, 4), &script)
 }
 
 // Asks such a trie what its members weigh.
@@ -41,7 +48,7 @@ pub(super) fn assert_weights(rt: &impl Abort, alloc: Global, ended: &mut Trie) {
 
 #[test]
 fn the_next_round_has_the_weights(rt: HostRuntime) -> Result<(), BeginError> {
-    let mut ended = heavy(rt.alloc())?;
+    let mut ended = heavy(&rt, rt.alloc())?;
     assert_weights(&rt, rt.alloc(), &mut ended);
     let (round, mut crew) = next_round(rt.alloc(), ended, 2, 1)?;
     let mut first = next_pass(&mut crew, &round).expect(&rt, "lane 0");
@@ -57,34 +64,30 @@ fn the_next_round_has_the_weights(rt: HostRuntime) -> Result<(), BeginError> {
     Ok(())
 }
 
-// The pairs of a trie at rest, and what is counted of the round that ended it.
-fn rest(alloc: Global, ended: &mut Trie) -> Result<(Vec<(u32, u32)>, (u32, u32, u32)), AllocError> {
-    let list = pairs(alloc, ended)?;
-    Ok((list, counts(ended)))
+// A trie at rest has the members 9, which weighs 0, and 12, and this is counted of the round that ended it.
+fn assert_rest(rt: &impl Abort, alloc: Global, ended: &mut Trie, counted: (u32, u32, u32)) {
+    let list = pairs(alloc, ended).expect(rt, "memory");
+    equal(rt, list.as_slice(), [(9, 0), (12, 12)].as_slice());
+    equal(rt, counts(ended), counted);
 }
 
 #[test]
 fn weights_change_in_the_next_round(rt: HostRuntime) -> Result<(), BeginError> {
-    let ended = heavy(rt.alloc())?;
-    holds(&rt, ended.bits() == 4);
-    let (round, mut crew) = next_round(rt.alloc(), ended, 2, 2)?;
-    let mut first = next_pass(&mut crew, &round).expect(&rt, "lane 0");
-    let mut second = next_pass(&mut crew, &round).expect(&rt, "lane 1");
-    holds(&rt, !insert(&mut second, 4, 5));
-    equal(&rt, put(&mut second, 4, 9, 0), Outcome::Replaced);
-    holds(&rt, remove(&mut first, 4, 5));
-    holds(&rt, insert(&mut first, 4, 12));
-    crew.back(first);
-    crew.back(second);
-    let mut ended = round.end(crew);
-    let (list, counted) = rest(rt.alloc(), &mut ended).expect(&rt, "memory");
-    equal(&rt, list.as_slice(), [(9, 0), (12, 12)].as_slice());
-    equal(&rt, counted, (2, 2, 0));
-    let (round, crew) = next_round(rt.alloc(), ended, 1, 1)?;
-    let mut ended = round.end(crew);
-    let (list, counted) = rest(rt.alloc(), &mut ended).expect(&rt, "memory");
-    equal(&rt, list.as_slice(), [(9, 0), (12, 12)].as_slice());
-    equal(&rt, counted, (0, 0, 0));
+    let ended = heavy(&rt, rt.alloc())?;
+    let script = [
+        (A, Open, Done),
+        (B, Open, Done),
+        (B, Now(Insert(5)), Is(false)),
+        (B, Now(Put(9, 0)), Came(Replaced)),
+        (A, Now(Remove(5)), Is(true)),
+        (A, Now(Insert(12)), Is(true)),
+        (A, Back, Done),
+        (B, Back, Done),
+    ];
+    let mut ended = played(&rt, rt.alloc(), ended, (2, 2), &script)?;
+    assert_rest(&rt, rt.alloc(), &mut ended, (2, 2, 0));
+    let mut ended = played(&rt, rt.alloc(), ended, (1, 1), &[])?;
+    assert_rest(&rt, rt.alloc(), &mut ended, (0, 0, 0));
     Ok(())
 }
 
@@ -117,11 +120,11 @@ fn listed(alloc: Global, pass: &mut Pass<Sum, Extent>) -> Result<Vec<(u32, u32)>
 // Passes whichever request for memory is refused.
 #[test]
 fn refused_memory_leaves_the_weights(rt: HostRuntime) -> Result<(), BeginError> {
-    let ended = match heavy(rt.alloc()) {
+    let ended = match heavy(&rt, rt.alloc()) {
         Ok(ended) => ended,
         Err(cause) => {
             equal(&rt, cause, BeginError::OutOfMemory);
-            heavy(rt.alloc())?
+            heavy(&rt, rt.alloc())?
         }
     };
     let (round, mut crew) = begun(&rt, rt.alloc(), ended)?;

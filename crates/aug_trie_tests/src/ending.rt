@@ -2,13 +2,21 @@
 ghost use Rattle.std.specs.Prelude.{◌≡◌, IfOk};
 
 use super::filling::four_filled;
-use super::rounds::{Hands, Table, Trie, insert, next_pass, opened, remove};
+use super::playing::Act::{Back, GiveUp, Now, Open, Sees, Size};
+use super::playing::Change::{Insert, Remove};
+use super::playing::Reply::{Done, Is, Number};
+use super::playing::Who::{A, B, C};
+use super::playing::{
+    assert_plays, assert_plays_over, assert_rests_with, played, played_from_empty,
+};
+use super::rounds::{Hands, Table, Trie, next_pass, opened};
 use super::working::{Deed, Task, four_halves, work};
 use crate::assertions::{equal, holds};
 use aug_monoid::{Extent, Sum};
-use aug_query::{has, keys, select, size};
+use aug_query::{has, keys, select};
 use aug_trie::{BeginError, Pass, Round};
 use std::alloc::Global;
+use std::process::Abort;
 
 // How many members a new snapshot of the pass shows.
 pub(super) fn seen_size(pass: &mut Pass<Sum, Extent>) -> u32
@@ -63,17 +71,15 @@ fn four_threads_put_each_key_in_once_and_the_next_round_goes_on(
     let ended = round.end(crew);
     equal(&rt, ended.size(), 16);
     equal(&rt, counts(&ended), (16, 0, 0));
-    let (round, mut crew) = next_round(rt.alloc(), ended, 2, 1)?;
-    let mut first = next_pass(&mut crew, &round).expect(&rt, "lane 0");
-    let mut second = next_pass(&mut crew, &round).expect(&rt, "lane 1");
-    holds(&rt, remove(&mut first, 4, 0));
-    holds(&rt, !insert(&mut second, 4, 1));
-    crew.back(second);
-    crew.back(first);
-    let ended = round.end(crew);
-    equal(&rt, ended.size(), 15);
-    equal(&rt, counts(&ended), (0, 1, 0));
-    Ok(())
+    let script = [
+        (A, Open, Done),
+        (B, Open, Done),
+        (A, Now(Remove(0)), Is(true)),
+        (B, Now(Insert(1)), Is(false)),
+        (B, Back, Done),
+        (A, Back, Done),
+    ];
+    assert_plays_over(&rt, rt.alloc(), ended, (2, 1), &script, 15, (0, 1, 0))
 }
 
 #[test]
@@ -104,82 +110,73 @@ fn one_key_that_four_threads_put_in_and_take_out_is_accounted_for(
 
 #[test]
 fn a_pass_that_comes_back_tells_later_ones(rt: HostRuntime) -> Result<(), BeginError> {
-    let (round, mut crew) = opened(rt.alloc(), 4, 3, 2)?;
-    let mut first = next_pass(&mut crew, &round).expect(&rt, "lane 0");
-    let mut third = next_pass(&mut crew, &round).expect(&rt, "lane 1");
-    holds(&rt, insert(&mut first, 4, 3));
-    holds(&rt, sees(&mut third, 3));
-    holds(&rt, remove(&mut third, 4, 3));
-    holds(&rt, insert(&mut first, 4, 3));
-    crew.back(first);
-    let mut second = next_pass(&mut crew, &round).expect(&rt, "lane 2");
-    holds(&rt, sees(&mut second, 3));
-    crew.back(third);
-    crew.back(second);
-    let ended = round.end(crew);
-    equal(&rt, ended.size(), 1);
-    equal(&rt, counts(&ended), (2, 1, 0));
-    Ok(())
+    let script = [
+        (A, Open, Done),
+        (C, Open, Done),
+        (A, Now(Insert(3)), Is(true)),
+        (C, Sees(3), Is(true)),
+        (C, Now(Remove(3)), Is(true)),
+        (A, Now(Insert(3)), Is(true)),
+        (A, Back, Done),
+        (B, Open, Done),
+        (B, Sees(3), Is(true)),
+        (C, Back, Done),
+        (B, Back, Done),
+    ];
+    assert_plays(&rt, rt.alloc(), 4, (3, 2), &script, 1, (2, 1, 0))
 }
 
 #[test]
 fn a_dropped_pass_is_missing_and_harms_nobody(rt: HostRuntime) -> Result<(), BeginError> {
-    let (round, mut crew) = opened(rt.alloc(), 2, 2, 1)?;
-    let mut dropped = next_pass(&mut crew, &round).expect(&rt, "lane 0");
-    let mut other = next_pass(&mut crew, &round).expect(&rt, "lane 1");
-    holds(&rt, insert(&mut dropped, 2, 0));
-    drop(dropped);
-    holds(&rt, insert(&mut other, 2, 1));
-    equal(&rt, seen_size(&mut other), 2);
-    crew.back(other);
-    let ended = round.end(crew);
-    equal(&rt, ended.size(), 2);
-    equal(&rt, counts(&ended), (1, 0, 1));
-    Ok(())
+    let script = [
+        (A, Open, Done),
+        (B, Open, Done),
+        (A, Now(Insert(0)), Is(true)),
+        (A, GiveUp, Done),
+        (B, Now(Insert(1)), Is(true)),
+        (B, Size, Number(2)),
+        (B, Back, Done),
+    ];
+    assert_plays(&rt, rt.alloc(), 2, (2, 1), &script, 2, (1, 0, 1))
 }
 
 #[test]
 fn what_came_after_the_last_look_of_the_crew_is_not_in_the_end(
     rt: HostRuntime,
 ) -> Result<(), BeginError> {
-    let (round, mut crew) = opened(rt.alloc(), 2, 2, 2)?;
-    let first = next_pass(&mut crew, &round).expect(&rt, "lane 0");
-    let mut late = next_pass(&mut crew, &round).expect(&rt, "lane 1");
-    crew.back(first);
-    holds(&rt, insert(&mut late, 2, 3));
-    drop(late);
-    let mut ended = round.end(crew);
-    equal(&rt, counts(&ended), (0, 0, 1));
-    equal(&rt, (ended.size(), has(&mut ended, 3)), (0, false));
-    let (round, mut crew) = next_round(rt.alloc(), ended, 1, 1)?;
-    let mut again = next_pass(&mut crew, &round).expect(&rt, "lane 0");
-    holds(&rt, insert(&mut again, 2, 3));
+    let script = [
+        (A, Open, Done),
+        (B, Open, Done),
+        (A, Back, Done),
+        (B, Now(Insert(3)), Is(true)),
+        (B, GiveUp, Done),
+    ];
+    let mut ended = played_from_empty(&rt, rt.alloc(), 2, (2, 2), &script)?;
+    equal(&rt, has(&mut ended, 3), false);
+    assert_rests_with(&rt, &mut ended, 0, (0, 0, 1));
+    let again = [(A, Open, Done), (A, Now(Insert(3)), Is(true))];
+    played(&rt, rt.alloc(), ended, (1, 1), &again)?;
     Ok(())
 }
 
 // A trie with the members 5 and 9 of 4 bits.
-fn five_and_nine(alloc: Global) -> Result<Trie, BeginError> {
-    let (round, mut crew) = opened(alloc, 4, 1, 2)?;
-    if let Ok(mut pass) = next_pass(&mut crew, &round) {
-        insert(&mut pass, 4, 9);
-        insert(&mut pass, 4, 5);
-        crew.back(pass);
-    }
-    Ok(round.end(crew))
+fn five_and_nine(rt: &impl Abort, alloc: Global) -> Result<Trie, BeginError> {
+    let script = [
+        (A, Open, Done),
+        (A, Now(Insert(9)), Is(true)),
+        (A, Now(Insert(5)), Is(true)),
+        (A, Back, Done),
+    ];
+    played_from_empty(rt, alloc, 4, (1, 2), &script)
 }
 
 #[test]
 fn a_round_of_no_pass_ends_as_it_began(rt: HostRuntime) -> Result<(), BeginError> {
-    let ended = five_and_nine(rt.alloc())?;
-    let (round, crew) = next_round(rt.alloc(), ended, 64, 1)?;
-    let mut ended = round.end(crew);
-    equal(
-        &rt,
-        (ended.bits(), ended.universe(), ended.size()),
-        (4, 16, 2),
-    );
-    equal(&rt, counts(&ended), (0, 0, 0));
-    equal(&rt, (size(&mut ended), select(&mut ended, 1)), (2, Some(9)));
+    let ended = five_and_nine(&rt, rt.alloc())?;
+    let mut ended = played(&rt, rt.alloc(), ended, (64, 1), &[])?;
+    equal(&rt, (ended.bits(), ended.universe()), (4, 16));
+    assert_rests_with(&rt, &mut ended, 2, (0, 0, 0));
+    equal(&rt, select(&mut ended, 1), Some(9));
     let list = keys(rt.alloc(), &mut ended).expect(&rt, "memory");
     equal(&rt, list.as_slice(), [5, 9].as_slice());
     Ok(())
@@ -187,11 +184,11 @@ fn a_round_of_no_pass_ends_as_it_began(rt: HostRuntime) -> Result<(), BeginError
 
 #[test]
 fn refused_memory_leaves_the_trie_as_it_was(rt: HostRuntime) -> Result<(), BeginError> {
-    let made = match five_and_nine(rt.alloc()) {
+    let made = match five_and_nine(&rt, rt.alloc()) {
         Ok(ended) => ended,
         Err(cause) => {
             equal(&rt, cause, BeginError::OutOfMemory);
-            five_and_nine(rt.alloc())?
+            five_and_nine(&rt, rt.alloc())?
         }
     };
     let (round, mut crew) = match Round::begin(rt.alloc(), made, 1, 1) {

@@ -22,6 +22,8 @@ mod listing;
 #[cfg(test)]
 mod looking;
 #[cfg(test)]
+mod playing;
+#[cfg(test)]
 mod putting;
 #[cfg(test)]
 mod refused;

@@ -1,9 +1,14 @@
 //! Rounds over the list of a set, whose trie was given back.
 ghost use Rattle.std.specs.Prelude.{◌≡◌, IfOk};
 
-use super::requests::{assert_answers, played};
-use super::rounds::{Hands, Table, Trie, insert, next_pass};
-use crate::assertions::{equal, holds};
+use super::playing::Act::{Back, Now, Open};
+use super::playing::Change::Insert;
+use super::playing::Reply::{Done, Is};
+use super::playing::Who::A;
+use super::playing::steps;
+use super::requests::{answers, played_by_two};
+use super::rounds::{Hands, Table, Trie};
+use crate::assertions::equal;
 use aug_query::size;
 use aug_trie::{BeginError, Members, Round};
 use std::alloc::Global;
@@ -21,6 +26,7 @@ fn listed(alloc: Global, ended: Trie) -> Result<Members, BeginError> {
 
 // A round of two updates over such a list.
 fn begun(alloc: Global, members: Members) -> Result<(Table, Hands), (Members, BeginError)>
+    ensures bits { IfOk result (λ t. t.0.bits ≡ 4) }
     ensures together { IfOk result (λ t. t.1.round ≡ t.0) }
 {
     Round::begin_over(alloc, members, 4, 1, 2)
@@ -32,6 +38,7 @@ fn begun_at_last(
     alloc: Global,
     members: Members,
 ) -> Result<(Table, Hands), BeginError>
+    ensures bits { IfOk result (λ t. t.0.bits ≡ 4) }
     ensures together { IfOk result (λ t. t.1.round ≡ t.0) }
 {
     match begun(alloc, members) {
@@ -47,7 +54,7 @@ fn begun_at_last(
     }
 }
 
-// The list of the trie that `played` gives.
+// The list of the trie that `played_by_two` gives.
 fn assert_is_whole(rt: &impl Abort, members: &Members) {
     equal(rt, (members.bits(), members.size()), (4, 2));
     equal(rt, members.as_slice(), [(5, 70), (9, 9)].as_slice());
@@ -55,21 +62,19 @@ fn assert_is_whole(rt: &impl Abort, members: &Members) {
 
 #[test]
 fn a_round_over_a_list_asks_10_times_for_memory(rt: HostRuntime) -> Result<(), BeginError> {
-    let members = listed(rt.alloc(), played(&rt, rt.alloc())?)?;
+    let members = listed(rt.alloc(), played_by_two(&rt, rt.alloc())?)?;
     assert_is_whole(&rt, &members);
     let (round, mut crew) = begun_at_last(&rt, rt.alloc(), members)?;
-    let mut pass = next_pass(&mut crew, &round).expect(&rt, "lane 0");
-    let snapshot = pass.snapshot();
-    assert_answers(&rt, &mut pass, snapshot);
+    steps(&rt, &round, &mut crew, 16, &answers());
     Ok(())
 }
 
 // Passes whichever request for memory is refused.
 #[test]
 fn refused_memory_leaves_the_list(rt: HostRuntime) -> Result<(), BeginError> {
-    let ended = match played(&rt, rt.alloc()) {
+    let ended = match played_by_two(&rt, rt.alloc()) {
         Ok(ended) => ended,
-        Err(_) => played(&rt, rt.alloc())?,
+        Err(_) => played_by_two(&rt, rt.alloc())?,
     };
     let members = listed(rt.alloc(), ended)?;
     assert_is_whole(&rt, &members);
@@ -102,7 +107,7 @@ fn given_back(
 
 #[test]
 fn numbers_that_are_refused_leave_the_list(rt: HostRuntime) -> Result<(), BeginError> {
-    let mut members = listed(rt.alloc(), played(&rt, rt.alloc())?)?;
+    let mut members = listed(rt.alloc(), played_by_two(&rt, rt.alloc())?)?;
     for (numbers, cause) in [
         ((0, 1, 1), BeginError::BadBits),
         ((17, 1, 1), BeginError::BadBits),
@@ -120,26 +125,11 @@ fn numbers_that_are_refused_leave_the_list(rt: HostRuntime) -> Result<(), BeginE
     Ok(())
 }
 
-// Puts a key in by a pass of a round with keys of 6 bits.
-fn grown(rt: &impl Abort, round: &Table, crew: &mut Hands)
-    requires together { crew.old.round ≡ round.now }
-    requires bits { round.now.bits ≡ 6 }
-    ensures together { crew.new.round ≡ round.now }
-{
-    let mut pass = next_pass(crew, round).expect(rt, "lane 0");
-    holds(rt, insert(&mut pass, 6, 60));
-    crew.back(pass);
-}
-
 #[test]
 fn a_list_opens_wider_rounds(rt: HostRuntime) -> Result<(), BeginError> {
-    let members = listed(rt.alloc(), played(&rt, rt.alloc())?)?;
-    let (round, mut crew): (Table, Hands) = match Round::begin_over(rt.alloc(), members, 6, 1, 1) {
-        Ok(begun) => begun,
-        Err((_, cause)) => return Err(cause),
-    };
-    grown(&rt, &round, &mut crew);
-    let members = listed(rt.alloc(), round.end(crew))?;
+    let members = listed(rt.alloc(), played_by_two(&rt, rt.alloc())?)?;
+    let ended = widened(&rt, rt.alloc(), members)?;
+    let members = listed(rt.alloc(), ended)?;
     equal(&rt, members.bits(), 6);
     equal(
         &rt,
@@ -147,4 +137,19 @@ fn a_list_opens_wider_rounds(rt: HostRuntime) -> Result<(), BeginError> {
         [(5, 70), (9, 9), (60, 60)].as_slice(),
     );
     Ok(())
+}
+
+// A round of 6 bits over such a list, whose pass puts 60 in: the trie after it.
+fn widened(rt: &impl Abort, alloc: Global, members: Members) -> Result<Trie, BeginError> {
+    let (round, mut crew): (Table, Hands) = match Round::begin_over(alloc, members, 6, 1, 1) {
+        Ok(begun) => begun,
+        Err((_, cause)) => return Err(cause),
+    };
+    let script = [
+        (A, Open, Done),
+        (A, Now(Insert(60)), Is(true)),
+        (A, Back, Done),
+    ];
+    steps(rt, &round, &mut crew, 64, &script);
+    Ok(round.end(crew))
 }

@@ -2,10 +2,16 @@
 ghost use Rattle.std.specs.Prelude.{◌≡◌, ◌+◌, ◌<◌};
 ghost use Rattle.aug_trie.specs.Snapshot.{HasSnapshot};
 
-use super::ending::{counts, next_round, seen_size};
-use super::rounds::{insert, next_pass, opened, put, remove};
+use super::ending::{counts, next_round};
+use super::playing::Act::{Back, Counts, Now, Open, Size, Weight};
+use super::playing::Change::{Insert, Put, Remove};
+use super::playing::Reply::{Came, Counted, Done, Finds, Is, Number};
+use super::playing::Who::A;
+use super::playing::{assert_plays, played_from_empty};
+use super::rounds::{next_pass, opened, put};
 use crate::assertions::{equal, holds};
 use aug_model::Outcome;
+use aug_model::Outcome::{Accepted, Replaced};
 use aug_monoid::{Extent, Sum};
 use aug_query::range;
 use aug_trie::{BeginError, Pass, Snapshot};
@@ -23,24 +29,24 @@ pub(super) fn seen_weight(pass: &mut Pass<Sum, Extent>, key: u32) -> Option<u32>
 fn a_put_is_accepted_for_an_absent_key_and_replaces_a_member(
     rt: HostRuntime,
 ) -> Result<(), BeginError> {
-    let (round, mut crew) = opened(rt.alloc(), 2, 1, 4)?;
-    let mut pass = next_pass(&mut crew, &round).expect(&rt, "a lane");
-    equal(&rt, seen_weight(&mut pass, 3), None);
-    equal(&rt, put(&mut pass, 2, 3, 7), Outcome::Accepted);
-    equal(&rt, seen_weight(&mut pass, 3), Some(7));
-    equal(&rt, (pass.inserts(), pass.removals()), (1, 0));
-    equal(&rt, put(&mut pass, 2, 3, 9), Outcome::Replaced);
-    equal(&rt, seen_weight(&mut pass, 3), Some(9));
-    equal(&rt, (pass.inserts(), pass.removals()), (2, 1));
-    equal(&rt, put(&mut pass, 2, 3, 9), Outcome::Replaced);
-    equal(&rt, seen_weight(&mut pass, 3), Some(9));
-    equal(&rt, (pass.inserts(), pass.removals()), (3, 2));
-    equal(&rt, put(&mut pass, 2, 1, 9), Outcome::Accepted);
-    equal(&rt, (seen_size(&mut pass), pass.budget()), (2, 0));
-    crew.back(pass);
-    let ended = round.end(crew);
-    equal(&rt, (ended.size(), counts(&ended)), (2, (4, 2, 0)));
-    Ok(())
+    let script = [
+        (A, Open, Done),
+        (A, Weight(3), Finds(None)),
+        (A, Now(Put(3, 7)), Came(Accepted)),
+        (A, Weight(3), Finds(Some(7))),
+        (A, Counts, Counted(1, 0, 3)),
+        (A, Now(Put(3, 9)), Came(Replaced)),
+        (A, Weight(3), Finds(Some(9))),
+        (A, Counts, Counted(2, 1, 2)),
+        (A, Now(Put(3, 9)), Came(Replaced)),
+        (A, Weight(3), Finds(Some(9))),
+        (A, Counts, Counted(3, 2, 1)),
+        (A, Now(Put(1, 9)), Came(Accepted)),
+        (A, Size, Number(2)),
+        (A, Counts, Counted(4, 2, 0)),
+        (A, Back, Done),
+    ];
+    assert_plays(&rt, rt.alloc(), 2, (1, 4), &script, 2, (4, 2, 0))
 }
 
 // The weights 0, 1 and 2^32 - 1 are weights as others.
@@ -71,22 +77,20 @@ fn each_weight_comes_back(rt: HostRuntime) -> Result<(), BeginError> {
 
 #[test]
 fn an_insertion_weighs_its_key_and_changes_no_weight(rt: HostRuntime) -> Result<(), BeginError> {
-    let (round, mut crew) = opened(rt.alloc(), 3, 1, 5)?;
-    let mut pass = next_pass(&mut crew, &round).expect(&rt, "a lane");
-    holds(&rt, insert(&mut pass, 3, 6));
-    equal(&rt, seen_weight(&mut pass, 6), Some(6));
-    equal(&rt, put(&mut pass, 3, 6, 40), Outcome::Replaced);
-    holds(&rt, !insert(&mut pass, 3, 6));
-    equal(&rt, seen_weight(&mut pass, 6), Some(40));
-    holds(&rt, remove(&mut pass, 3, 6));
-    equal(&rt, seen_weight(&mut pass, 6), None);
-    holds(&rt, insert(&mut pass, 3, 6));
-    equal(&rt, seen_weight(&mut pass, 6), Some(6));
-    equal(
-        &rt,
-        (pass.inserts(), pass.removals(), pass.budget()),
-        (3, 2, 0),
-    );
+    let script = [
+        (A, Open, Done),
+        (A, Now(Insert(6)), Is(true)),
+        (A, Weight(6), Finds(Some(6))),
+        (A, Now(Put(6, 40)), Came(Replaced)),
+        (A, Now(Insert(6)), Is(false)),
+        (A, Weight(6), Finds(Some(40))),
+        (A, Now(Remove(6)), Is(true)),
+        (A, Weight(6), Finds(None)),
+        (A, Now(Insert(6)), Is(true)),
+        (A, Weight(6), Finds(Some(6))),
+        (A, Counts, Counted(3, 2, 0)),
+    ];
+    played_from_empty(&rt, rt.alloc(), 3, (1, 5), &script)?;
     Ok(())
 }
 

@@ -2,7 +2,12 @@
 //! begins a round.
 ghost use Rattle.std.specs.Prelude.{◌≡◌, IfOk};
 
-use super::rounds::{Hands, Table, Trie, insert, next_pass, opened};
+use super::playing::Act::{Back, Now, Open};
+use super::playing::Change::Insert;
+use super::playing::Reply::{Done, Is};
+use super::playing::Who::A;
+use super::playing::played_from_empty;
+use super::rounds::{Hands, Table, Trie, next_pass};
 use crate::assertions::equal;
 use aug_monoid::{Extent, Sum};
 use aug_query::{after, before, has, keys, range, rank, select, size};
@@ -11,14 +16,14 @@ use std::alloc::{AllocError, Global};
 use std::process::Abort;
 
 // A trie of 16 bits with the members 5 and 9.
-fn five_and_nine(alloc: Global) -> Result<Trie, BeginError> {
-    let (round, mut crew) = opened(alloc, 16, 1, 2)?;
-    if let Ok(mut pass) = next_pass(&mut crew, &round) {
-        insert(&mut pass, 16, 9);
-        insert(&mut pass, 16, 5);
-        crew.back(pass);
-    }
-    Ok(round.end(crew))
+fn five_and_nine(rt: &impl Abort, alloc: Global) -> Result<Trie, BeginError> {
+    let script = [
+        (A, Open, Done),
+        (A, Now(Insert(9)), Is(true)),
+        (A, Now(Insert(5)), Is(true)),
+        (A, Back, Done),
+    ];
+    played_from_empty(rt, alloc, 16, (1, 2), &script)
 }
 
 // Asks such a trie every query.
@@ -73,11 +78,11 @@ fn listed(alloc: Global, pass: &mut Pass<Sum, Extent>) -> Result<Vec<u32>, Alloc
 // Passes whichever request for memory is refused.
 #[test]
 fn refused_memory_leaves_every_answer(rt: HostRuntime) -> Result<(), BeginError> {
-    let ended = match five_and_nine(rt.alloc()) {
+    let ended = match five_and_nine(&rt, rt.alloc()) {
         Ok(ended) => ended,
         Err(cause) => {
             equal(&rt, cause, BeginError::OutOfMemory);
-            five_and_nine(rt.alloc())?
+            five_and_nine(&rt, rt.alloc())?
         }
     };
     let (round, mut crew) = begun(&rt, rt.alloc(), ended)?;
@@ -112,7 +117,7 @@ fn given_back(
 
 #[test]
 fn numbers_that_are_refused_leave_every_answer(rt: HostRuntime) -> Result<(), BeginError> {
-    let mut ended = five_and_nine(rt.alloc())?;
+    let mut ended = five_and_nine(&rt, rt.alloc())?;
     for (numbers, cause) in [
         ((0, 0), BeginError::BadWorkers),
         ((1, 0), BeginError::BadUpdates),

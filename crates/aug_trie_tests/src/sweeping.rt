@@ -3,10 +3,16 @@
 ghost use Rattle.std.specs.Prelude.{◌^◌, ◌<◌, ◌≤◌};
 
 use super::ending::next_round;
+use super::playing::Act::{Back, Now, Open};
+use super::playing::Change::Put;
+use super::playing::Reply::{Came, Done};
+use super::playing::Who::A;
+use super::playing::played_from_empty;
 use super::rounds::{Trie, next_pass, opened, put};
 use super::scripts::assert_lists;
 use crate::assertions::{equal, equal_at, equal_length, holds};
 use aug_model::KeySet;
+use aug_model::Outcome::Accepted;
 use aug_query::{has, pairs};
 use aug_trie::{BeginError, Ended};
 use std::alloc::Global;
@@ -29,17 +35,14 @@ fn an_empty_trie_is_made_at_each_number_of_bits(rt: HostRuntime) -> Result<(), B
 }
 
 // A trie of `bits` bits with the members 0, which weighs 70, and 1, which weighs 2^32 - 1.
-fn zero_and_one(alloc: Global, bits: u32) -> Result<Trie, BeginError> {
-    if bits == 0 {
-        return Err(BeginError::BadBits);
-    }
-    let (round, mut crew) = opened(alloc, bits, 1, 2)?;
-    if let Ok(mut pass) = next_pass(&mut crew, &round) {
-        put(&mut pass, bits, 1, u32::MAX);
-        put(&mut pass, bits, 0, 70);
-        crew.back(pass);
-    }
-    Ok(round.end(crew))
+fn zero_and_one(rt: &impl Abort, alloc: Global, bits: u32) -> Result<Trie, BeginError> {
+    let script = [
+        (A, Open, Done),
+        (A, Now(Put(1, u32::MAX)), Came(Accepted)),
+        (A, Now(Put(0, 70)), Came(Accepted)),
+        (A, Back, Done),
+    ];
+    played_from_empty(rt, alloc, bits, (1, 2), &script)
 }
 
 // Begins a round of `workers` workers and `updates` updates over such a trie, and looks: the trie after it.
@@ -68,7 +71,7 @@ fn begun(
 #[test]
 fn a_round_begins_with_each_number_of_updates(rt: HostRuntime) -> Result<(), BeginError> {
     for bits in [1, 2, 4, 8] {
-        let mut ended = zero_and_one(rt.alloc(), bits)?;
+        let mut ended = zero_and_one(&rt, rt.alloc(), bits)?;
         for updates in 1..=200 {
             ended = begun(&rt, rt.alloc(), ended, 1, updates)?;
         }
@@ -79,7 +82,7 @@ fn a_round_begins_with_each_number_of_updates(rt: HostRuntime) -> Result<(), Beg
 #[test]
 fn a_round_begins_with_each_number_of_workers(rt: HostRuntime) -> Result<(), BeginError> {
     for bits in [1, 2, 4, 8] {
-        let mut ended = zero_and_one(rt.alloc(), bits)?;
+        let mut ended = zero_and_one(&rt, rt.alloc(), bits)?;
         for workers in 1..=64 {
             ended = begun(&rt, rt.alloc(), ended, workers, 1)?;
         }
@@ -90,7 +93,7 @@ fn a_round_begins_with_each_number_of_workers(rt: HostRuntime) -> Result<(), Beg
 // Each number of workers comes three or four times, each time with another number of updates.
 #[test]
 fn a_round_begins_with_many_workers_of_many_updates(rt: HostRuntime) -> Result<(), BeginError> {
-    let mut ended = zero_and_one(rt.alloc(), 3)?;
+    let mut ended = zero_and_one(&rt, rt.alloc(), 3)?;
     for updates in 1..=200 {
         let workers = 1 + 7 * updates % 64;
         ended = begun(&rt, rt.alloc(), ended, workers, updates)?;
@@ -101,7 +104,7 @@ fn a_round_begins_with_many_workers_of_many_updates(rt: HostRuntime) -> Result<(
 #[test]
 fn a_round_begins_at_each_number_of_bits(rt: HostRuntime) -> Result<(), BeginError> {
     for bits in 1..=16 {
-        let mut ended = zero_and_one(rt.alloc(), bits)?;
+        let mut ended = zero_and_one(&rt, rt.alloc(), bits)?;
         for number in 1..=8 {
             ended = begun(&rt, rt.alloc(), ended, number, 3 * number)?;
         }
@@ -122,7 +125,7 @@ fn rounds_of_many_updates_begin(rt: HostRuntime) -> Result<(), BeginError> {
         (16, 64, 256),
         (16, 7, 257),
     ] {
-        let ended = zero_and_one(rt.alloc(), bits)?;
+        let ended = zero_and_one(&rt, rt.alloc(), bits)?;
         begun(&rt, rt.alloc(), ended, workers, updates)?;
     }
     Ok(())

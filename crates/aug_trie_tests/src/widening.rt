@@ -2,10 +2,16 @@
 ghost use Rattle.std.specs.Prelude.{◌≡◌, ◌≤◌, IfOk};
 
 use super::carrying::{assert_weights, heavy};
-use super::ending::{counts, next_round, seen_size, sees};
-use super::rounds::{Hands, Table, Trie, insert, next_pass, opened, put};
+use super::ending::{counts, next_round};
+use super::playing::Act::{Back, Now, Open, Sees, Size};
+use super::playing::Change::{Insert, Put};
+use super::playing::Reply::{Came, Done, Is, Number};
+use super::playing::Who::A;
+use super::playing::{Step, assert_rests_with, played_from_empty, steps};
+use super::rounds::{Hands, Table, Trie, next_pass, put};
 use super::scripts::{assert_agrees, assert_rests, assert_rests_at};
 use crate::assertions::{equal, holds};
+use aug_model::Outcome::Accepted;
 use aug_model::{KeySet, Outcome};
 use aug_monoid::{Extent, Sum};
 use aug_query::{before, has, pairs, rank};
@@ -147,25 +153,41 @@ fn a_full_universe_grows_by_many_bits_at_once(rt: HostRuntime) -> Result<(), Beg
     Ok(())
 }
 
+// A round of 5 bits over a trie of fewer, in which this happens: the trie after it.
+fn played_wider(
+    rt: &impl Abort,
+    alloc: Global,
+    ended: Trie,
+    script: &[Step],
+) -> Result<Trie, BeginError> {
+    let (round, mut crew) = wider(alloc, ended, 5, 1, 1)?;
+    steps(rt, &round, &mut crew, 32, script);
+    Ok(round.end(crew))
+}
+
 #[test]
 fn a_key_of_the_new_range_goes_in(rt: HostRuntime) -> Result<(), BeginError> {
-    let (round, mut crew) = opened(rt.alloc(), 2, 1, 1)?;
-    let mut pass = next_pass(&mut crew, &round).expect(&rt, "a lane");
-    holds(&rt, insert(&mut pass, 2, 3));
-    crew.back(pass);
-    let (round, mut crew) = wider(rt.alloc(), round.end(crew), 5, 1, 1)?;
-    let mut pass = next_pass(&mut crew, &round).expect(&rt, "a lane");
-    holds(&rt, insert(&mut pass, 5, 31));
-    equal(&rt, (seen_size(&mut pass), sees(&mut pass, 3)), (2, true));
-    crew.back(pass);
-    let mut ended = round.end(crew);
+    let script = [
+        (A, Open, Done),
+        (A, Now(Insert(3)), Is(true)),
+        (A, Back, Done),
+    ];
+    let ended = played_from_empty(&rt, rt.alloc(), 2, (1, 1), &script)?;
+    let script = [
+        (A, Open, Done),
+        (A, Now(Insert(31)), Is(true)),
+        (A, Size, Number(2)),
+        (A, Sees(3), Is(true)),
+        (A, Back, Done),
+    ];
+    let mut ended = played_wider(&rt, rt.alloc(), ended, &script)?;
     equal(
         &rt,
         (rank(&mut ended, 32), before(&mut ended, 31)),
         (2, Some(3)),
     );
-    equal(&rt, (has(&mut ended, 3), ended.size()), (true, 2));
-    equal(&rt, counts(&ended), (1, 0, 0));
+    equal(&rt, has(&mut ended, 3), true);
+    assert_rests_with(&rt, &mut ended, 2, (1, 0, 0));
     Ok(())
 }
 
@@ -194,7 +216,7 @@ fn begin_wider_refuses_in_its_order_and_leaves_every_answer(
     let mut set = KeySet::try_new(rt.alloc(), 4).expect(&rt, "a set");
     set.put(5, 70);
     set.put(9, u32::MAX);
-    let mut ended = heavy(rt.alloc())?;
+    let mut ended = heavy(&rt, rt.alloc())?;
     for (numbers, cause) in [
         ((17, 0, 0), BeginError::BadBits),
         ((0, 0, 0), BeginError::BadBits),
@@ -237,17 +259,20 @@ fn begun(rt: &impl Abort, alloc: Global, ended: Trie) -> Result<(Table, Hands), 
 // Passes whichever request for memory is refused.
 #[test]
 fn refused_memory_leaves_the_narrower_trie(rt: HostRuntime) -> Result<(), BeginError> {
-    let ended = match heavy(rt.alloc()) {
+    let ended = match heavy(&rt, rt.alloc()) {
         Ok(ended) => ended,
         Err(cause) => {
             equal(&rt, cause, BeginError::OutOfMemory);
-            heavy(rt.alloc())?
+            heavy(&rt, rt.alloc())?
         }
     };
     let (round, mut crew) = begun(&rt, rt.alloc(), ended)?;
-    let mut pass = next_pass(&mut crew, &round).expect(&rt, "lane 0");
-    equal(&rt, put(&mut pass, 6, 63, 1), Outcome::Accepted);
-    crew.back(pass);
+    let script = [
+        (A, Open, Done),
+        (A, Now(Put(63, 1)), Came(Accepted)),
+        (A, Back, Done),
+    ];
+    steps(&rt, &round, &mut crew, 64, &script);
     let mut ended = round.end(crew);
     equal(&rt, (ended.bits(), ended.universe()), (6, 64));
     let list = match pairs(rt.alloc(), &mut ended) {

@@ -1,0 +1,13 @@
+use Rattle.std.proofs.Common.{◌≡◌, IfSome}
+use Rattle.aug_trie_tests.proofs.playing.steps.Given as goal
+
+abbrev pub invariant-loop-number : goal.invariant-loop-number
+invariant-loop-number g l = record {
+  crew : l.crew.round ≡ l.round;
+  pass_a : IfSome l.a.pass (λ pass. pass.round ≡ l.round);
+  climb_a : IfSome l.a.climb (λ climb. climb.start.round ≡ l.round);
+  pass_b : IfSome l.b.pass (λ pass. pass.round ≡ l.round);
+  climb_b : IfSome l.b.climb (λ climb. climb.start.round ≡ l.round);
+  pass_c : IfSome l.c.pass (λ pass. pass.round ≡ l.round);
+  climb_c : IfSome l.c.climb (λ climb. climb.start.round ≡ l.round);
+}

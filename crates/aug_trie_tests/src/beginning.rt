@@ -6,7 +6,7 @@ use super::playing::Reply::{Counted, Done, Is, Not, Number};
 use super::playing::Who::{A, B, C};
 use super::playing::played_from_empty;
 use super::rounds::Trie;
-use crate::assertions::{equal, holds};
+use crate::assertions::{equal, equal_at};
 use aug_trie::{BeginError, CrewError, Ended, Round};
 use std::alloc::Global;
 
@@ -42,15 +42,28 @@ fn each_lane_is_handed_out_once(rt: HostRuntime) -> Result<(), BeginError> {
     Ok(())
 }
 
-// What `begin` refuses these numbers for, for the empty set of 16 bits, which comes back.
-fn refusal(alloc: Global, workers: u32, updates: u32) -> Option<(Trie, BeginError)> {
+// What `begin` refuses these numbers for, for the empty set of 16 bits; the bits, the universe and the size of the trie that comes back;
+// and whether a round begins over it.
+type Refusal = (BeginError, u32, u32, u32, bool);
+
+// That.
+fn refusal(alloc: Global, workers: u32, updates: u32) -> Option<Refusal> {
     let Ok(ended) = Ended::empty(alloc, 16) else {
         return None;
     };
     match Round::begin(alloc, ended, workers, updates) {
         Ok(_) => None,
-        Err(refused) => Some(refused),
+        Err((ended, cause)) => {
+            let ended: Trie = ended;
+            let (bits, universe, size) = (ended.bits(), ended.universe(), ended.size());
+            Some((cause, bits, universe, size, begins(alloc, ended)))
+        }
     }
+}
+
+// Whether a round of one update begins over a trie.
+fn begins(alloc: Global, ended: Trie) -> bool {
+    Round::begin(alloc, ended, 1, 1).is_ok()
 }
 
 #[test]
@@ -62,14 +75,12 @@ fn begin_refuses_in_its_order(rt: HostRuntime) {
         (64, 65_537, BeginError::BadUpdates),
         (64, 13_108, BeginError::TooLarge),
     ] {
-        let Some((ended, refused)) = refusal(rt.alloc(), workers, updates) else {
-            panic!(rt; "not refused: {workers} workers, {updates} updates")
-        };
-        equal(&rt, refused, cause);
-        equal(&rt, ended.bits(), 16);
-        equal(&rt, ended.universe(), 65_536);
-        equal(&rt, ended.size(), 0);
-        holds(&rt, Round::begin(rt.alloc(), ended, 1, 1).is_ok());
+        equal_at(
+            &rt,
+            refusal(rt.alloc(), workers, updates),
+            Some((cause, 16, 65_536, 0, true)),
+            format_args!("{workers} workers, {updates} updates"),
+        );
     }
 }
 

@@ -2,9 +2,9 @@
 ghost use Rattle.std.specs.Prelude.{◌≡◌, IfOk};
 
 use super::ending::{counts, next_round};
-use super::playing::Act::{Back, Now, Open};
+use super::playing::Act::{Back, Now, Open, Pairs, Weight};
 use super::playing::Change::{Insert, Put, Remove};
-use super::playing::Reply::{Came, Done, Is};
+use super::playing::Reply::{Came, Done, Finds, Is, Listed};
 use super::playing::Who::{A, B};
 use super::playing::{played, played_from_empty};
 use super::putting::seen_weight;
@@ -50,17 +50,14 @@ pub(super) fn assert_weights(rt: &impl Abort, alloc: Global, ended: &mut Trie) {
 fn the_next_round_has_the_weights(rt: HostRuntime) -> Result<(), BeginError> {
     let mut ended = heavy(&rt, rt.alloc())?;
     assert_weights(&rt, rt.alloc(), &mut ended);
-    let (round, mut crew) = next_round(rt.alloc(), ended, 2, 1)?;
-    let mut first = next_pass(&mut crew, &round).expect(&rt, "lane 0");
-    let mut second = next_pass(&mut crew, &round).expect(&rt, "lane 1");
-    let snapshot = first.snapshot();
-    let list = first.pairs(rt.alloc(), snapshot).expect(&rt, "memory");
-    equal(&rt, list.as_slice(), [(5, 70), (9, u32::MAX)].as_slice());
-    equal(
-        &rt,
-        (seen_weight(&mut second, 5), seen_weight(&mut second, 4)),
-        (Some(70), None),
-    );
+    let script = [
+        (A, Open, Done),
+        (B, Open, Done),
+        (A, Pairs, Listed(Some((5, 70)), Some((9, u32::MAX)))),
+        (B, Weight(5), Finds(Some(70))),
+        (B, Weight(4), Finds(None)),
+    ];
+    played(&rt, rt.alloc(), ended, (2, 1), &script)?;
     Ok(())
 }
 
@@ -117,23 +114,42 @@ fn listed(alloc: Global, pass: &mut Pass<Sum, Extent>) -> Result<Vec<(u32, u32)>
     }
 }
 
+// The heavy trie, made again if memory was refused.
+pub(super) fn heavy_at_last(rt: &impl Abort, alloc: Global) -> Result<Trie, BeginError>
+    ensures { IfOk result (λ ended. ended.bits ≡ 4) }
+{
+    match heavy(rt, alloc) {
+        Ok(ended) => Ok(ended),
+        Err(cause) => {
+            equal(rt, cause, BeginError::OutOfMemory);
+            heavy(rt, alloc)
+        }
+    }
+}
+
+// The pass of a round over the heavy trie shows its weights.
+fn assert_shows(rt: &impl Abort, alloc: Global, pass: &mut Pass<Sum, Extent>)
+    ensures round { pass.new.round ≡ pass.old.round }
+{
+    let list = listed(alloc, pass).expect(rt, "memory");
+    equal(rt, list.as_slice(), [(5, 70), (9, u32::MAX)].as_slice());
+    equal(rt, seen_weight(pass, 9), Some(u32::MAX));
+}
+
+// A round over the heavy trie: the trie after it.
+fn shown(rt: &impl Abort, alloc: Global, ended: Trie) -> Result<Trie, BeginError> {
+    let (round, mut crew) = begun(rt, alloc, ended)?;
+    let mut pass = next_pass(&mut crew, &round).expect(rt, "lane 0");
+    assert_shows(rt, alloc, &mut pass);
+    crew.back(pass);
+    Ok(round.end(crew))
+}
+
 // Passes whichever request for memory is refused.
 #[test]
 fn refused_memory_leaves_the_weights(rt: HostRuntime) -> Result<(), BeginError> {
-    let ended = match heavy(&rt, rt.alloc()) {
-        Ok(ended) => ended,
-        Err(cause) => {
-            equal(&rt, cause, BeginError::OutOfMemory);
-            heavy(&rt, rt.alloc())?
-        }
-    };
-    let (round, mut crew) = begun(&rt, rt.alloc(), ended)?;
-    let mut pass = next_pass(&mut crew, &round).expect(&rt, "lane 0");
-    let list = listed(rt.alloc(), &mut pass).expect(&rt, "memory");
-    equal(&rt, list.as_slice(), [(5, 70), (9, u32::MAX)].as_slice());
-    equal(&rt, seen_weight(&mut pass, 9), Some(u32::MAX));
-    crew.back(pass);
-    let mut ended = round.end(crew);
+    let ended = heavy_at_last(&rt, rt.alloc())?;
+    let mut ended = shown(&rt, rt.alloc(), ended)?;
     equal(
         &rt,
         (weight(&mut ended, 5), weight(&mut ended, 9)),

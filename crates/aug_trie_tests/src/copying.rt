@@ -2,13 +2,19 @@
 ghost use Rattle.std.specs.Prelude.{◌≡◌, ◌<◌};
 ghost use Rattle.aug_trie.specs.Snapshot.{HasSnapshot};
 
+use super::playing::Act::{Back, Now, Open};
+use super::playing::Change::Put;
+use super::playing::Reply::{Came, Done};
+use super::playing::Who::A;
+use super::playing::played_from_empty;
 use super::rounds::{Trie, next_pass, opened, put};
 use crate::assertions::{equal, holds};
+use aug_model::Outcome::Accepted;
 use aug_model::Summary;
 use aug_monoid::{Extent, Sum};
 use aug_query::Tree;
 use aug_trie::{BeginError, CrewError, Node, Pass, Snapshot};
-use std::alloc::AllocError;
+use std::alloc::{AllocError, Global};
 use std::process::Abort;
 
 // How many members a snapshot shows, what 1 and 2 weigh in it, and their sum.
@@ -40,13 +46,18 @@ fn cloned(rt: &impl Abort, pass: &mut Pass<Sum, Extent>) -> [Shown; 4]
     [first, second, third, shown(pass, clone)]
 }
 
+// The same in a round of 2 bits with the one member 1, which weighs 70.
+fn cloned_in_round(rt: &impl Abort, alloc: Global) -> Result<[Shown; 4], BeginError> {
+    let (round, mut crew) = opened(alloc, 2, 1, 2)?;
+    let mut pass = next_pass(&mut crew, &round).expect(rt, "a lane");
+    put(&mut pass, 2, 1, 70);
+    holds(rt, pass.budget() > 0);
+    Ok(cloned(rt, &mut pass))
+}
+
 #[test]
 fn a_clone_of_a_snapshot_answers_as_the_snapshot(rt: HostRuntime) -> Result<(), BeginError> {
-    let (round, mut crew) = opened(rt.alloc(), 2, 1, 2)?;
-    let mut pass = next_pass(&mut crew, &round).expect(&rt, "a lane");
-    put(&mut pass, 2, 1, 70);
-    holds(&rt, pass.budget() > 0);
-    for shown in cloned(&rt, &mut pass) {
+    for shown in cloned_in_round(&rt, rt.alloc())? {
         equal(&rt, shown, (1, Some(70), None, 70));
     }
     Ok(())
@@ -71,44 +82,52 @@ fn clones_of_top(rt: &impl Abort, pass: &mut Pass<Sum, Extent>) -> (Stand, Stand
     (stand(&clone), stand(&top), stand(&right))
 }
 
-#[test]
-fn a_clone_of_a_node_leads_where_the_node_does(rt: HostRuntime) -> Result<(), BeginError> {
-    let (round, mut crew) = opened(rt.alloc(), 2, 1, 2)?;
-    let mut pass = next_pass(&mut crew, &round).expect(&rt, "a lane");
+// The same stands in a round of 2 bits with the members 1, which weighs 70, and 3, which weighs 9.
+fn clones_in_round(rt: &impl Abort, alloc: Global) -> Result<(Stand, Stand, Stand), BeginError> {
+    let (round, mut crew) = opened(alloc, 2, 1, 2)?;
+    let mut pass = next_pass(&mut crew, &round).expect(rt, "a lane");
     put(&mut pass, 2, 1, 70);
     put(&mut pass, 2, 3, 9);
-    let (clone, top, right) = clones_of_top(&rt, &mut pass);
+    Ok(clones_of_top(rt, &mut pass))
+}
+
+// A node stands so, and its members have this sum.
+fn assert_stands(rt: &impl Abort, stand: Stand, expected: (u32, u32, u32, u64)) {
+    let (level, place, summary) = stand;
+    let found = (level, place, summary.count, summary.a.value());
+    equal(rt, found, expected);
+}
+
+#[test]
+fn a_clone_of_a_node_leads_where_the_node_does(rt: HostRuntime) -> Result<(), BeginError> {
+    let (clone, top, right) = clones_in_round(&rt, rt.alloc())?;
     holds(&rt, clone == top);
-    let (level, place, summary) = clone;
-    equal(
-        &rt,
-        (level, place, summary.count, summary.a.value()),
-        (2, 0, 2, 79),
-    );
-    equal(&rt, summary.b.bounds(), Some((1, 3)));
-    let (level, place, summary) = right;
-    equal(
-        &rt,
-        (level, place, summary.count, summary.a.value()),
-        (1, 1, 1, 9),
-    );
+    assert_stands(&rt, clone, (2, 0, 2, 79));
+    equal(&rt, clone.2.b.bounds(), Some((1, 3)));
+    assert_stands(&rt, right, (1, 1, 1, 9));
     Ok(())
+}
+
+// The top of a trie at rest of 1 bit has a clone that stands where it does.
+fn assert_clones_at_rest(rt: &impl Abort, ended: &mut Trie) {
+    holds(rt, ended.bits() == 1);
+    let top = ended.top();
+    let clone = top.clone().expect(rt, "a clone");
+    equal(rt, (Trie::level(&clone), Trie::place(&clone)), (1, 0));
+    equal(rt, Trie::summary(&clone), Trie::summary(&top));
+    equal(rt, Trie::summary(&clone).a.value(), 79);
 }
 
 #[test]
 fn a_clone_of_a_node_at_rest_stands_where_the_node_does(rt: HostRuntime) -> Result<(), BeginError> {
-    let (round, mut crew) = opened(rt.alloc(), 1, 1, 2)?;
-    let mut pass = next_pass(&mut crew, &round).expect(&rt, "a lane");
-    put(&mut pass, 1, 0, 70);
-    put(&mut pass, 1, 1, 9);
-    crew.back(pass);
-    let mut ended = round.end(crew);
-    holds(&rt, ended.bits() == 1);
-    let top = ended.top();
-    let clone = top.clone().expect(&rt, "a clone");
-    equal(&rt, (Trie::level(&clone), Trie::place(&clone)), (1, 0));
-    equal(&rt, Trie::summary(&clone), Trie::summary(&top));
-    equal(&rt, Trie::summary(&clone).a.value(), 79);
+    let script = [
+        (A, Open, Done),
+        (A, Now(Put(0, 70)), Came(Accepted)),
+        (A, Now(Put(1, 9)), Came(Accepted)),
+        (A, Back, Done),
+    ];
+    let mut ended = played_from_empty(&rt, rt.alloc(), 1, (1, 2), &script)?;
+    assert_clones_at_rest(&rt, &mut ended);
     Ok(())
 }
 

@@ -2,34 +2,37 @@
 ghost use Rattle.std.specs.Prelude.{◌≡◌, ◌^◌, ◌<◌, ◌≤◌};
 
 use super::ending::next_round;
-use super::rounds::{Half, Table, next_pass, opened};
-use super::working::{Deed, Task, four_halves, pair, work};
+use super::rounds::{Half, Table, Trie, next_pass, opened};
+use super::working::{Deed, Task, back, four_back, four_halves, next_half, pair, work};
 use crate::assertions::{equal, holds};
 use aug_monoid::{Extent, Sum};
 use aug_trie::{BeginError, Pass};
+use std::alloc::Global;
+use std::process::Abort;
 use std::sync::Wait;
 use std::thread;
 use std::thread::Threads;
 
-#[test]
-fn one_key_that_two_threads_put_in_is_accounted_for(rt: HostRuntime) -> Result<(), BeginError> {
-    let (round, mut crew) = opened(rt.alloc(), 1, 2, 200)?;
-    let one = next_pass(&mut crew, &round)
-        .expect(&rt, "lane 0")
-        .into_half();
-    let two = next_pass(&mut crew, &round)
-        .expect(&rt, "lane 1")
-        .into_half();
+// A round of 1 bit in which two threads put to the key 0: the trie after it.
+fn put_by_two<R: Threads + Wait + Sync + Abort>(rt: &R, alloc: Global) -> Result<Trie, BeginError> {
+    let (round, mut crew) = opened(alloc, 1, 2, 200)?;
+    let one = next_half(&mut crew, &round).expect(rt, "lane 0");
+    let two = next_half(&mut crew, &round).expect(rt, "lane 1");
     let task = Task {
         bits: 1,
         keys: 1,
         times: 200,
         deed: Deed::Put,
     };
-    let (one, two) = pair(&rt, &round, one, two, task);
-    crew.back(round.pass(one));
-    crew.back(round.pass(two));
-    let ended = round.end(crew);
+    let (one, two) = pair(rt, &round, one, two, task);
+    back(&mut crew, &round, one);
+    back(&mut crew, &round, two);
+    Ok(round.end(crew))
+}
+
+#[test]
+fn one_key_that_two_threads_put_in_is_accounted_for(rt: HostRuntime) -> Result<(), BeginError> {
+    let ended = put_by_two(&rt, rt.alloc())?;
     equal(&rt, (ended.size(), ended.missing()), (1, 0));
     let out = u64::from(ended.removals()) + 1;
     equal(&rt, out, u64::from(ended.inserts()));
@@ -112,30 +115,32 @@ fn watched_work<R: Threads + Wait + Sync>(
     )
 }
 
-#[test]
-fn each_snapshot_adds_up_while_four_threads_put(rt: HostRuntime) -> Result<(), BeginError> {
-    let (round, mut crew) = opened(rt.alloc(), 2, 5, 500)?;
-    let halves = four_halves(&mut crew, &round).expect(&rt, "four lanes");
-    let fifth = next_pass(&mut crew, &round)
-        .expect(&rt, "lane 4")
-        .into_half();
+// A round of 2 bits in which four threads put to all keys, and a fifth looks: the trie after it.
+fn put_and_watched<R: Threads + Wait + Sync + Abort>(
+    rt: &R,
+    alloc: Global,
+) -> Result<Trie, BeginError> {
+    let (round, mut crew) = opened(alloc, 2, 5, 500)?;
+    let halves = four_halves(&mut crew, &round).expect(rt, "four lanes");
+    let fifth = next_half(&mut crew, &round).expect(rt, "lane 4");
     let task = Task {
         bits: 2,
         keys: 4,
         times: 125,
         deed: Deed::Put,
     };
-    let (halves, (fifth, right)) = watched_work(&rt, &round, halves, fifth, task);
-    holds(&rt, right);
-    let (one, two, three, four) = halves;
+    let (halves, (fifth, right)) = watched_work(rt, &round, halves, fifth, task);
+    holds(rt, right);
     let mut pass = round.pass(fifth);
-    equal(&rt, adds_up(&mut pass), Some(4));
+    equal(rt, adds_up(&mut pass), Some(4));
     crew.back(pass);
-    crew.back(round.pass(one));
-    crew.back(round.pass(two));
-    crew.back(round.pass(three));
-    crew.back(round.pass(four));
-    let ended = round.end(crew);
+    four_back(&mut crew, &round, halves);
+    Ok(round.end(crew))
+}
+
+#[test]
+fn each_snapshot_adds_up_while_four_threads_put(rt: HostRuntime) -> Result<(), BeginError> {
+    let ended = put_and_watched(&rt, rt.alloc())?;
     equal(&rt, (ended.size(), ended.missing()), (4, 0));
     let out = u64::from(ended.removals()) + 4;
     equal(&rt, out, u64::from(ended.inserts()));

@@ -1,7 +1,7 @@
 //! Rounds that end, with passes back and with passes that were dropped, and the rounds after them.
 ghost use Rattle.std.specs.Prelude.{◌≡◌, IfOk};
 
-use super::filling::four_filled;
+use super::filling::filled_by_four;
 use super::playing::Act::{Back, GiveUp, Now, Open, Sees, Size};
 use super::playing::Change::{Insert, Remove};
 use super::playing::Reply::{Done, Is, Number};
@@ -10,13 +10,15 @@ use super::playing::{
     assert_plays, assert_plays_over, assert_rests_with, played, played_from_empty,
 };
 use super::rounds::{Hands, Table, Trie, next_pass, opened};
-use super::working::{Deed, Task, four_halves, work};
+use super::working::{Deed, Task, four_back, four_halves, work};
 use crate::assertions::{equal, holds};
 use aug_monoid::{Extent, Sum};
 use aug_query::{has, keys, select};
 use aug_trie::{BeginError, Pass, Round};
 use std::alloc::Global;
 use std::process::Abort;
+use std::sync::Wait;
+use std::thread::Threads;
 
 // How many members a new snapshot of the pass shows.
 pub(super) fn seen_size(pass: &mut Pass<Sum, Extent>) -> u32
@@ -60,17 +62,9 @@ pub(super) fn next_round(
 fn four_threads_put_each_key_in_once_and_the_next_round_goes_on(
     rt: HostRuntime,
 ) -> Result<(), BeginError> {
-    let (round, mut crew) = opened(rt.alloc(), 4, 4, 16)?;
-    let halves = four_halves(&mut crew, &round).expect(&rt, "four lanes");
-    let ((one, two, three, four), seen) = four_filled(&rt, &round, halves);
+    let (mut ended, seen) = filled_by_four(&rt, rt.alloc())?;
     equal(&rt, seen, [16; 4]);
-    crew.back(round.pass(one));
-    crew.back(round.pass(two));
-    crew.back(round.pass(three));
-    crew.back(round.pass(four));
-    let ended = round.end(crew);
-    equal(&rt, ended.size(), 16);
-    equal(&rt, counts(&ended), (16, 0, 0));
+    assert_rests_with(&rt, &mut ended, 16, (16, 0, 0));
     let script = [
         (A, Open, Done),
         (B, Open, Done),
@@ -82,24 +76,33 @@ fn four_threads_put_each_key_in_once_and_the_next_round_goes_on(
     assert_plays_over(&rt, rt.alloc(), ended, (2, 1), &script, 15, (0, 1, 0))
 }
 
+// A round of 1 bit in which four threads do the same: the trie after it.
+fn worked<R: Threads + Wait + Sync + Abort>(
+    rt: &R,
+    alloc: Global,
+    task: Task,
+) -> Result<Trie, BeginError>
+    requires bits { task.bits ≡ 1 }
+    requires keys { task.keys ≡ 1 }
+{
+    let (round, mut crew) = opened(alloc, 1, 4, 1_000)?;
+    let halves = four_halves(&mut crew, &round).expect(rt, "four lanes");
+    let halves = work(rt, &round, halves, task);
+    four_back(&mut crew, &round, halves);
+    Ok(round.end(crew))
+}
+
 #[test]
 fn one_key_that_four_threads_put_in_and_take_out_is_accounted_for(
     rt: HostRuntime,
 ) -> Result<(), BeginError> {
-    let (round, mut crew) = opened(rt.alloc(), 1, 4, 1_000)?;
-    let halves = four_halves(&mut crew, &round).expect(&rt, "four lanes");
     let task = Task {
         bits: 1,
         keys: 1,
         times: 500,
         deed: Deed::InsertAndRemove,
     };
-    let (one, two, three, four) = work(&rt, &round, halves, task);
-    crew.back(round.pass(four));
-    crew.back(round.pass(three));
-    crew.back(round.pass(two));
-    crew.back(round.pass(one));
-    let ended = round.end(crew);
+    let ended = worked(&rt, rt.alloc(), task)?;
     holds(&rt, ended.inserts() >= 500);
     let out = u64::from(ended.removals()) + u64::from(ended.size());
     equal(&rt, out, u64::from(ended.inserts()));
@@ -182,24 +185,37 @@ fn a_round_of_no_pass_ends_as_it_began(rt: HostRuntime) -> Result<(), BeginError
     Ok(())
 }
 
+// That trie, made again if memory was refused.
+fn five_and_nine_at_last(rt: &impl Abort, alloc: Global) -> Result<Trie, BeginError> {
+    match five_and_nine(rt, alloc) {
+        Ok(ended) => Ok(ended),
+        Err(cause) => {
+            equal(rt, cause, BeginError::OutOfMemory);
+            five_and_nine(rt, alloc)
+        }
+    }
+}
+
+// The next round of that trie, requested again if memory was refused: the trie that came back is then unchanged.
+fn begun(rt: &impl Abort, alloc: Global, made: Trie) -> Result<(Table, Hands), BeginError>
+    ensures together { IfOk result (λ t. t.1.round ≡ t.0) }
+{
+    let mut ended = match Round::begin(alloc, made, 1, 1) {
+        Ok(begun) => return Ok(begun),
+        Err((ended, cause)) => {
+            equal(rt, cause, BeginError::OutOfMemory);
+            ended
+        }
+    };
+    equal(rt, (ended.size(), counts(&ended)), (2, (2, 0, 0)));
+    equal(rt, (has(&mut ended, 5), has(&mut ended, 9)), (true, true));
+    next_round(alloc, ended, 1, 1)
+}
+
 #[test]
 fn refused_memory_leaves_the_trie_as_it_was(rt: HostRuntime) -> Result<(), BeginError> {
-    let made = match five_and_nine(&rt, rt.alloc()) {
-        Ok(ended) => ended,
-        Err(cause) => {
-            equal(&rt, cause, BeginError::OutOfMemory);
-            five_and_nine(&rt, rt.alloc())?
-        }
-    };
-    let (round, mut crew) = match Round::begin(rt.alloc(), made, 1, 1) {
-        Ok(begun) => begun,
-        Err((mut ended, cause)) => {
-            equal(&rt, cause, BeginError::OutOfMemory);
-            equal(&rt, (ended.size(), counts(&ended)), (2, (2, 0, 0)));
-            equal(&rt, (has(&mut ended, 5), has(&mut ended, 9)), (true, true));
-            next_round(rt.alloc(), ended, 1, 1)?
-        }
-    };
+    let made = five_and_nine_at_last(&rt, rt.alloc())?;
+    let (round, mut crew) = begun(&rt, rt.alloc(), made)?;
     let mut pass = next_pass(&mut crew, &round).expect(&rt, "lane 0");
     holds(&rt, sees(&mut pass, 9));
     Ok(())

@@ -2,10 +2,12 @@
 ghost use Rattle.std.specs.Prelude.{◌≡◌};
 
 use super::ending::seen_size;
-use super::rounds::{Half, Table, opened};
-use super::working::{Deed, Task, done, four_halves};
+use super::rounds::{Half, Table, Trie, opened};
+use super::working::{Deed, Task, done, four_back, four_halves};
 use crate::assertions::equal_at;
 use aug_trie::BeginError;
+use std::alloc::Global;
+use std::process::Abort;
 use std::sync::Wait;
 use std::thread;
 use std::thread::Threads;
@@ -84,15 +86,25 @@ pub(super) fn four_filled<R: Threads + Wait + Sync>(
     ((one, two, three, four), [first, second, third, fourth])
 }
 
+// A round in which four threads put all keys of 4 bits in: the trie after it, and how many members each of them saw.
+pub(super) fn filled_by_four<R: Threads + Wait + Sync + Abort>(
+    rt: &R,
+    alloc: Global,
+) -> Result<(Trie, [u32; 4]), BeginError> {
+    let (round, mut crew) = opened(alloc, 4, 4, 16)?;
+    let halves = four_halves(&mut crew, &round).expect(rt, "four lanes");
+    let (halves, seen) = four_filled(rt, &round, halves);
+    four_back(&mut crew, &round, halves);
+    Ok((round.end(crew), seen))
+}
+
 // The threads meet otherwise in each round.
 #[test]
 fn each_thread_holds_all_keys_once_its_own_insertions_returned(
     rt: HostRuntime,
 ) -> Result<(), BeginError> {
     for number in 0..500 {
-        let (round, mut crew) = opened(rt.alloc(), 4, 4, 16)?;
-        let halves = four_halves(&mut crew, &round).expect(&rt, "four lanes");
-        let (_, seen) = four_filled(&rt, &round, halves);
+        let (_, seen) = filled_by_four(&rt, rt.alloc())?;
         equal_at(&rt, seen, [16; 4], format_args!("in round {number}"));
     }
     Ok(())

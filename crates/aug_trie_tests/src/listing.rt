@@ -65,7 +65,7 @@ fn a_round_over_a_list_asks_10_times_for_memory(rt: HostRuntime) -> Result<(), B
     let members = listed(rt.alloc(), played_by_two(&rt, rt.alloc())?)?;
     assert_is_whole(&rt, &members);
     let (round, mut crew) = begun_at_last(&rt, rt.alloc(), members)?;
-    steps(&rt, &round, &mut crew, 16, &answers());
+    steps(&rt, rt.alloc(), &round, &mut crew, 16, &answers());
     Ok(())
 }
 
@@ -150,6 +150,6 @@ fn widened(rt: &impl Abort, alloc: Global, members: Members) -> Result<Trie, Beg
         (A, Now(Insert(60)), Is(true)),
         (A, Back, Done),
     ];
-    steps(rt, &round, &mut crew, 64, &script);
+    steps(rt, alloc, &round, &mut crew, 64, &script);
     Ok(round.end(crew))
 }

@@ -14,6 +14,7 @@ use aug_monoid::{Extent, Monoid, Sum};
 use aug_query::rank;
 use aug_trie::{BeginError, Node, Pass, Snapshot};
 use std::alloc::{AllocError, Global};
+use std::process::Abort;
 
 // The rank of a key in one snapshot, before and after the key is put in.
 fn rank_twice<A: Monoid, B: Monoid>(pass: &mut Pass<'_, A, B>, s: Snapshot, k: u32) -> (u32, u32)
@@ -170,25 +171,59 @@ fn listed(
     Ok((keys, range, rank(&mut pass.view(s), 16)))
 }
 
+// The answers on the members 5 and 9.
+fn assert_answers(rt: &impl Abort, pass: &mut Pass<'_, Sum, Extent>) {
+    let s = pass.snapshot();
+    let (counts, keys, there) = asked(pass, s);
+    equal(rt, counts, [2, 1, 1, 1]);
+    equal(rt, keys, [Some(9), Some(5), None, None]);
+    equal(rt, there, [true, false]);
+}
+
+// The lists of the members 5 and 9.
+fn assert_lists(rt: &impl Abort, alloc: Global, pass: &mut Pass<'_, Sum, Extent>) {
+    let (keys, range, rank) = listed(alloc, pass).expect(rt, "memory");
+    equal(rt, keys.as_slice(), [5, 9].as_slice());
+    equal(
+        rt,
+        (range.count, range.a.value(), range.b.bounds()),
+        (1, 5, Some((5, 5))),
+    );
+    equal(rt, rank, 2);
+}
+
 #[test]
 fn each_query_answers(rt: HostRuntime) -> Result<(), BeginError> {
     let (round, mut crew) = opened(rt.alloc(), 4, 1, 2)?;
     let mut pass = next_pass(&mut crew, &round).expect(&rt, "a lane");
     holds(&rt, insert(&mut pass, 4, 9) && insert(&mut pass, 4, 5));
-    let s = pass.snapshot();
-    let (counts, keys, there) = asked(&mut pass, s);
-    equal(&rt, counts, [2, 1, 1, 1]);
-    equal(&rt, keys, [Some(9), Some(5), None, None]);
-    equal(&rt, there, [true, false]);
-    let (keys, range, rank) = listed(rt.alloc(), &mut pass).expect(&rt, "memory");
-    equal(&rt, keys.as_slice(), [5, 9].as_slice());
-    equal(
-        &rt,
-        (range.count, range.a.value(), range.b.bounds()),
-        (1, 5, Some((5, 5))),
-    );
-    equal(&rt, rank, 2);
+    assert_answers(&rt, &mut pass);
+    assert_lists(&rt, rt.alloc(), &mut pass);
     Ok(())
+}
+
+// Each batch of queries on the members 5 and 9.
+fn assert_batches(rt: &impl Abort, alloc: Global, pass: &mut Pass<'_, Sum, Extent>) {
+    let s = pass.snapshot();
+    let keys = [4, 5, 5, 9, 10, 16];
+    holds(rt, keys.is_sorted());
+    let mut below = Vec::with_capacity(alloc, 6).expect(rt, "memory");
+    pass.ranks(s, &keys, &mut below);
+    equal(rt, below.as_slice(), [0, 0, 0, 1, 2, 2].as_slice());
+    let mut there = Vec::with_capacity(alloc, 6).expect(rt, "memory");
+    pass.memberships(s, &keys, &mut there);
+    equal(
+        rt,
+        there.as_slice(),
+        [false, true, true, true, false, false].as_slice(),
+    );
+    let mut weighed = Vec::with_capacity(alloc, 6).expect(rt, "memory");
+    pass.weights(s, &keys, &mut weighed);
+    equal(
+        rt,
+        weighed.as_slice(),
+        [None, Some(5), Some(5), Some(9), None, None].as_slice(),
+    );
 }
 
 #[test]
@@ -196,25 +231,6 @@ fn batches_answer_as_the_single_queries(rt: HostRuntime) -> Result<(), BeginErro
     let (round, mut crew) = opened(rt.alloc(), 4, 1, 2)?;
     let mut pass = next_pass(&mut crew, &round).expect(&rt, "a lane");
     holds(&rt, insert(&mut pass, 4, 9) && insert(&mut pass, 4, 5));
-    let s = pass.snapshot();
-    let keys = [4, 5, 5, 9, 10, 16];
-    holds(&rt, keys.is_sorted());
-    let mut below = Vec::with_capacity(rt.alloc(), 6).expect(&rt, "memory");
-    pass.ranks(s, &keys, &mut below);
-    equal(&rt, below.as_slice(), [0, 0, 0, 1, 2, 2].as_slice());
-    let mut there = Vec::with_capacity(rt.alloc(), 6).expect(&rt, "memory");
-    pass.memberships(s, &keys, &mut there);
-    equal(
-        &rt,
-        there.as_slice(),
-        [false, true, true, true, false, false].as_slice(),
-    );
-    let mut weighed = Vec::with_capacity(rt.alloc(), 6).expect(&rt, "memory");
-    pass.weights(s, &keys, &mut weighed);
-    equal(
-        &rt,
-        weighed.as_slice(),
-        [None, Some(5), Some(5), Some(9), None, None].as_slice(),
-    );
+    assert_batches(&rt, rt.alloc(), &mut pass);
     Ok(())
 }

@@ -94,12 +94,13 @@ pub(super) enum Act {
     Size,
     Sees(u32),
     Weight(u32),
-    // The further queries, and of a range how many members it has.
+    // The further queries.
     Rank(u32),
     Select(u32),
     Before(u32),
     After(u32),
     Range(u32, u32),
+    Pairs,
     // The number of the lane, and what its pass counts: insertions, removals, and updates that are left.
     Lane,
     Counts,
@@ -118,6 +119,10 @@ pub(super) enum Reply {
     Number(u32),
     Finds(Option<u32>),
     Counted(u32, u32, u32),
+    // How many members a range has, and their weights together.
+    Folded(u32, u64),
+    // A list of at most two pairs.
+    Listed(Option<(u32, u32)>, Option<(u32, u32)>),
 }
 
 // Who does what, and what it comes to.
@@ -159,8 +164,18 @@ fn start<'r>(round: &'r Table, pass: Walker<'r>, universe: u32, change: Change) 
     }
 }
 
+// A list of at most two pairs.
+fn listed(list: &[(u32, u32)]) -> Reply {
+    match (list.first(), list.get(1), list.len()) {
+        (Some(first), Some(second), 2) => Reply::Listed(Some(*first), Some(*second)),
+        (Some(first), None, _) => Reply::Listed(Some(*first), None),
+        (None, _, _) => Reply::Listed(None, None),
+        _ => Reply::Not,
+    }
+}
+
 // What the further queries answer on a new snapshot.
-fn look(pass: &mut Pass<Sum, Extent>, act: Act) -> Reply
+fn look(pass: &mut Pass<Sum, Extent>, alloc: Global, act: Act) -> Reply
     ensures { pass.new.round ≡ pass.old.round }
 {
     let s = pass.snapshot();
@@ -169,13 +184,20 @@ fn look(pass: &mut Pass<Sum, Extent>, act: Act) -> Reply
         Act::Select(i) => Reply::Finds(pass.select(s, i)),
         Act::Before(k) => Reply::Finds(pass.before(s, k)),
         Act::After(k) => Reply::Finds(pass.after(s, k)),
-        Act::Range(from, to) => Reply::Number(pass.range(s, from, to).count),
+        Act::Range(from, to) => {
+            let range = pass.range(s, from, to);
+            Reply::Folded(range.count, range.a.value())
+        }
+        Act::Pairs => match pass.pairs(alloc, s) {
+            Ok(list) => listed(&list),
+            Err(_) => Reply::Not,
+        },
         _ => Reply::Not,
     }
 }
 
 // What a pass does that stays with its lane.
-fn walk(pass: &mut Pass<Sum, Extent>, universe: u32, act: Act) -> Reply
+fn walk(pass: &mut Pass<Sum, Extent>, alloc: Global, universe: u32, act: Act) -> Reply
     requires { universe ≡ 2 ^ pass.old.round.bits }
     ensures { pass.new.round ≡ pass.old.round }
 {
@@ -186,7 +208,7 @@ fn walk(pass: &mut Pass<Sum, Extent>, universe: u32, act: Act) -> Reply
         Act::Weight(key) => Reply::Finds(seen_weight(pass, key)),
         Act::Lane => Reply::Number(pass.lane()),
         Act::Counts => Reply::Counted(pass.inserts(), pass.removals(), pass.budget()),
-        _ => look(pass, act),
+        _ => look(pass, alloc, act),
     }
 }
 
@@ -195,6 +217,7 @@ fn walked<'r>(
     round: &'r Table,
     crew: &mut Hands,
     pass: Walker<'r>,
+    alloc: Global,
     universe: u32,
     act: Act,
 ) -> (Lane<'r>, Reply)
@@ -218,7 +241,7 @@ fn walked<'r>(
         Act::Start(change) => start(round, pass, universe, change),
         _ => {
             let mut pass = pass;
-            let reply = walk(&mut pass, universe, act);
+            let reply = walk(&mut pass, alloc, universe, act);
             (walking(pass), reply)
         }
     }
@@ -261,6 +284,7 @@ fn done<'r>(
     round: &'r Table,
     crew: &mut Hands,
     lane: Lane<'r>,
+    alloc: Global,
     universe: u32,
     act: Act,
 ) -> (Lane<'r>, Reply)
@@ -274,7 +298,7 @@ fn done<'r>(
 {
     let Lane { pass, climb } = lane;
     if let Some(pass) = pass {
-        return walked(round, crew, pass, universe, act);
+        return walked(round, crew, pass, alloc, universe, act);
     }
     if let Some(climb) = climb {
         return climbed(round, climb, act);
@@ -292,6 +316,7 @@ fn done<'r>(
 // The steps of a script. Passes that are out at its end are given up.
 pub(super) fn steps(
     rt: &impl Abort,
+    alloc: Global,
     round: &Table,
     crew: &mut Hands,
     universe: u32,
@@ -306,17 +331,17 @@ pub(super) fn steps(
         let (who, act, expected) = *step;
         let reply = match who {
             Who::A => {
-                let (next, reply) = done(round, crew, a, universe, act);
+                let (next, reply) = done(round, crew, a, alloc, universe, act);
                 a = next;
                 reply
             }
             Who::B => {
-                let (next, reply) = done(round, crew, b, universe, act);
+                let (next, reply) = done(round, crew, b, alloc, universe, act);
                 b = next;
                 reply
             }
             Who::C => {
-                let (next, reply) = done(round, crew, c, universe, act);
+                let (next, reply) = done(round, crew, c, alloc, universe, act);
                 c = next;
                 reply
             }
@@ -337,7 +362,7 @@ pub(super) fn played(
 {
     let universe = ended.universe();
     let (round, mut crew) = next_round(alloc, ended, numbers.0, numbers.1)?;
-    steps(rt, &round, &mut crew, universe, script);
+    steps(rt, alloc, &round, &mut crew, universe, script);
     Ok(round.end(crew))
 }
 

@@ -2,19 +2,21 @@
 ghost use Rattle.std.specs.Prelude.{◌≡◌, ◌+◌, ◌<◌};
 ghost use Rattle.aug_trie.specs.Snapshot.{HasSnapshot};
 
-use super::ending::{counts, next_round};
-use super::playing::Act::{Back, Counts, Now, Open, Size, Weight};
+use super::ending::counts;
+use super::playing::Act::{Back, Counts, Now, Open, Pairs, Range, Size, Weight};
 use super::playing::Change::{Insert, Put, Remove};
-use super::playing::Reply::{Came, Counted, Done, Finds, Is, Number};
+use super::playing::Reply::{Came, Counted, Done, Finds, Folded, Is, Listed, Number};
 use super::playing::Who::A;
-use super::playing::{assert_plays, played_from_empty};
-use super::rounds::{next_pass, opened, put};
+use super::playing::{assert_plays, played, played_from_empty};
+use super::rounds::{Trie, next_pass, opened, put};
 use crate::assertions::{equal, holds};
 use aug_model::Outcome;
 use aug_model::Outcome::{Accepted, Replaced};
 use aug_monoid::{Extent, Sum};
 use aug_query::range;
 use aug_trie::{BeginError, Pass, Snapshot};
+use std::alloc::Global;
+use std::process::Abort;
 
 // What a key weighs in a new snapshot of the pass.
 pub(super) fn seen_weight(pass: &mut Pass<Sum, Extent>, key: u32) -> Option<u32>
@@ -53,24 +55,15 @@ fn a_put_is_accepted_for_an_absent_key_and_replaces_a_member(
 #[test]
 fn each_weight_comes_back(rt: HostRuntime) -> Result<(), BeginError> {
     for weight in [0, 1, 2, u32::MAX - 1, u32::MAX] {
-        let (round, mut crew) = opened(rt.alloc(), 1, 1, 2)?;
-        let mut pass = next_pass(&mut crew, &round).expect(&rt, "a lane");
-        equal(
-            &rt,
-            put(&mut pass, 1, 0, u32::MAX - weight),
-            Outcome::Accepted,
-        );
-        equal(&rt, put(&mut pass, 1, 0, weight), Outcome::Replaced);
-        let snapshot = pass.snapshot();
-        let summary = pass.range(snapshot, 0, 2);
-        equal(
-            &rt,
-            (summary.count, summary.a.value()),
-            (1, u64::from(weight)),
-        );
-        let list = pass.pairs(rt.alloc(), snapshot).expect(&rt, "memory");
-        equal(&rt, list.as_slice(), [(0, weight)].as_slice());
-        equal(&rt, seen_weight(&mut pass, 0), Some(weight));
+        let script = [
+            (A, Open, Done),
+            (A, Now(Put(0, u32::MAX - weight)), Came(Accepted)),
+            (A, Now(Put(0, weight)), Came(Replaced)),
+            (A, Range(0, 2), Folded(1, u64::from(weight))),
+            (A, Pairs, Listed(Some((0, weight)), None)),
+            (A, Weight(0), Finds(Some(weight))),
+        ];
+        played_from_empty(&rt, rt.alloc(), 1, (1, 2), &script)?;
     }
     Ok(())
 }
@@ -192,15 +185,20 @@ fn seen_sum(pass: &mut Pass<Sum, Extent>) -> (u32, u64)
     (whole.count, whole.a.value())
 }
 
+// The trie of all keys of 16 bits with the greatest weight.
+fn full(rt: &impl Abort, alloc: Global) -> Result<Trie, BeginError> {
+    let (round, mut crew) = opened(alloc, 16, 1, 65_536)?;
+    let mut pass = next_pass(&mut crew, &round).expect(rt, "a lane");
+    put_all(&mut pass);
+    equal(rt, seen_sum(&mut pass), (65_536, 281_474_976_645_120));
+    crew.back(pass);
+    Ok(round.end(crew))
+}
+
 // The sum is 2^48 - 2^16.
 #[test]
 fn all_keys_of_16_bits_may_have_the_greatest_weight(rt: HostRuntime) -> Result<(), BeginError> {
-    let (round, mut crew) = opened(rt.alloc(), 16, 1, 65_536)?;
-    let mut pass = next_pass(&mut crew, &round).expect(&rt, "a lane");
-    put_all(&mut pass);
-    equal(&rt, seen_sum(&mut pass), (65_536, 281_474_976_645_120));
-    crew.back(pass);
-    let mut ended = round.end(crew);
+    let mut ended = full(&rt, rt.alloc())?;
     let whole = range(&mut ended, 0, 65_536);
     equal(
         &rt,
@@ -208,10 +206,12 @@ fn all_keys_of_16_bits_may_have_the_greatest_weight(rt: HostRuntime) -> Result<(
         (65_536, 281_474_976_645_120),
     );
     equal(&rt, whole.b.bounds(), Some((0, 65_535)));
-    let (round, mut crew) = next_round(rt.alloc(), ended, 1, 1)?;
-    let mut pass = next_pass(&mut crew, &round).expect(&rt, "lane 0");
-    equal(&rt, seen_sum(&mut pass), (65_536, 281_474_976_645_120));
-    equal(&rt, put(&mut pass, 16, 65_535, 0), Outcome::Replaced);
-    equal(&rt, seen_sum(&mut pass), (65_536, 281_470_681_677_825));
+    let script = [
+        (A, Open, Done),
+        (A, Range(0, 65_536), Folded(65_536, 281_474_976_645_120)),
+        (A, Now(Put(65_535, 0)), Came(Replaced)),
+        (A, Range(0, 65_536), Folded(65_536, 281_470_681_677_825)),
+    ];
+    played(&rt, rt.alloc(), ended, (1, 1), &script)?;
     Ok(())
 }

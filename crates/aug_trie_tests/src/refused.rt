@@ -75,26 +75,36 @@ fn listed(alloc: Global, pass: &mut Pass<Sum, Extent>) -> Result<Vec<u32>, Alloc
     }
 }
 
-// Passes whichever request for memory is refused.
-#[test]
-fn refused_memory_leaves_every_answer(rt: HostRuntime) -> Result<(), BeginError> {
-    let ended = match five_and_nine(&rt, rt.alloc()) {
-        Ok(ended) => ended,
+// The trie of 5 and 9, made again if memory was refused.
+fn five_and_nine_at_last(rt: &impl Abort, alloc: Global) -> Result<Trie, BeginError> {
+    match five_and_nine(rt, alloc) {
+        Ok(ended) => Ok(ended),
         Err(cause) => {
-            equal(&rt, cause, BeginError::OutOfMemory);
-            five_and_nine(&rt, rt.alloc())?
+            equal(rt, cause, BeginError::OutOfMemory);
+            five_and_nine(rt, alloc)
         }
-    };
-    let (round, mut crew) = begun(&rt, rt.alloc(), ended)?;
-    let mut pass = next_pass(&mut crew, &round).expect(&rt, "lane 0");
-    let list = listed(rt.alloc(), &mut pass).expect(&rt, "memory");
-    equal(&rt, list.as_slice(), [5, 9].as_slice());
+    }
+}
+
+// The pass of a round over 5 and 9 shows them.
+fn assert_shows(rt: &impl Abort, alloc: Global, pass: &mut Pass<Sum, Extent>) {
+    let list = listed(alloc, pass).expect(rt, "memory");
+    equal(rt, list.as_slice(), [5, 9].as_slice());
     let snapshot = pass.snapshot();
     equal(
-        &rt,
+        rt,
         (pass.rank(snapshot, 65_536), pass.select(snapshot, 0)),
         (2, Some(5)),
     );
+}
+
+// Passes whichever request for memory is refused.
+#[test]
+fn refused_memory_leaves_every_answer(rt: HostRuntime) -> Result<(), BeginError> {
+    let ended = five_and_nine_at_last(&rt, rt.alloc())?;
+    let (round, mut crew) = begun(&rt, rt.alloc(), ended)?;
+    let mut pass = next_pass(&mut crew, &round).expect(&rt, "lane 0");
+    assert_shows(&rt, rt.alloc(), &mut pass);
     Ok(())
 }
 

@@ -8,7 +8,7 @@ use super::playing::Act::{
     After, Back, Before, Finish, Halve, Now, Open, Range, Rank, Sees, Select, Size, Start, Weight,
 };
 use super::playing::Change::{Insert, Put, Remove};
-use super::playing::Reply::{Came, Done, Finds, Is, Number};
+use super::playing::Reply::{Came, Done, Finds, Folded, Is, Number};
 use super::playing::Who::{A, B};
 use super::playing::{Step, played, played_from_empty};
 use super::rounds::{Trie, next_pass};
@@ -44,7 +44,7 @@ pub(super) fn answers() -> [Step; 9] {
         (A, Select(1), Finds(Some(9))),
         (A, Before(9), Finds(Some(5))),
         (A, After(5), Finds(Some(9))),
-        (A, Range(0, 16), Number(2)),
+        (A, Range(0, 16), Folded(2, 79)),
     ]
 }
 
@@ -67,7 +67,7 @@ pub(super) fn played_by_two(rt: &impl Abort, alloc: Global) -> Result<Trie, Begi
         (A, Select(1), Finds(Some(9))),
         (A, Before(9), Finds(Some(5))),
         (A, After(5), Finds(Some(9))),
-        (A, Range(0, 16), Number(2)),
+        (A, Range(0, 16), Folded(2, 79)),
         (A, Halve, Done),
         (A, Back, Done),
         (B, Now(Remove(6)), Is(false)),

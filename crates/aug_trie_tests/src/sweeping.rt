@@ -1,20 +1,21 @@
 //! Rounds of all small numbers of bits, workers, updates and members, and of some great ones. Memory is at hand, so that each begins, and
 //! shows the set.
-ghost use Rattle.std.specs.Prelude.{◌^◌, ◌<◌, ◌≤◌};
+ghost use Rattle.std.specs.Prelude.{◌≡◌, ◌^◌, ◌<◌, ◌≤◌};
 
 use super::ending::next_round;
-use super::playing::Act::{Back, Now, Open};
+use super::playing::Act::{Back, Counts, Lane, Now, Open, Pairs};
 use super::playing::Change::Put;
-use super::playing::Reply::{Came, Done};
+use super::playing::Reply::{Came, Counted, Done, Listed, Number};
 use super::playing::Who::A;
-use super::playing::played_from_empty;
+use super::playing::{played, played_from_empty};
 use super::rounds::{Trie, next_pass, opened, put};
 use super::scripts::assert_lists;
 use crate::assertions::{equal, equal_at, equal_length, holds};
 use aug_model::KeySet;
 use aug_model::Outcome::Accepted;
+use aug_monoid::{Extent, Sum};
 use aug_query::{has, pairs};
-use aug_trie::{BeginError, Ended};
+use aug_trie::{BeginError, Ended, Pass};
 use std::alloc::Global;
 use std::process::Abort;
 
@@ -53,19 +54,14 @@ fn begun(
     workers: u32,
     updates: u32,
 ) -> Result<Trie, BeginError> {
-    let (round, mut crew) = next_round(alloc, ended, workers, updates)?;
-    let mut pass = next_pass(&mut crew, &round).expect(rt, "lane 0");
-    equal(rt, (pass.lane(), pass.budget()), (0, updates));
-    let snapshot = pass.snapshot();
-    let list = pass.pairs(alloc, snapshot).expect(rt, "memory");
-    equal_at(
-        rt,
-        list.as_slice(),
-        [(0, 70), (1, u32::MAX)].as_slice(),
-        format_args!("{workers} workers, {updates} updates"),
-    );
-    crew.back(pass);
-    Ok(round.end(crew))
+    let script = [
+        (A, Open, Done),
+        (A, Lane, Number(0)),
+        (A, Counts, Counted(0, 0, updates)),
+        (A, Pairs, Listed(Some((0, 70)), Some((1, u32::MAX)))),
+        (A, Back, Done),
+    ];
+    played(rt, alloc, ended, (workers, updates), &script)
 }
 
 #[test]
@@ -139,6 +135,17 @@ fn key_of(bits: u32, number: u32) -> u32
     number % (1 << bits)
 }
 
+// A new snapshot of the pass lists the plain set.
+fn assert_shows(rt: &impl Abort, alloc: Global, pass: &mut Pass<Sum, Extent>, set: &KeySet)
+    ensures { pass.new.round ≡ pass.old.round }
+{
+    let snapshot = pass.snapshot();
+    equal(rt, pass.size(snapshot), set.size());
+    let keys = pass.keys(alloc, snapshot).expect(rt, "memory");
+    let pairs = pass.pairs(alloc, snapshot).expect(rt, "memory");
+    assert_lists(rt, &keys, &pairs, set);
+}
+
 // A round over a trie, in which a pass puts a key in: the trie after it, which the plain set follows.
 fn grown(
     rt: &impl Abort,
@@ -151,11 +158,7 @@ fn grown(
     let bits = set.bits();
     let (round, mut crew) = next_round(alloc, ended, 1, 1)?;
     let mut pass = next_pass(&mut crew, &round).expect(rt, "lane 0");
-    let snapshot = pass.snapshot();
-    equal(rt, pass.size(snapshot), set.size());
-    let keys = pass.keys(alloc, snapshot).expect(rt, "memory");
-    let pairs = pass.pairs(alloc, snapshot).expect(rt, "memory");
-    assert_lists(rt, &keys, &pairs, set);
+    assert_shows(rt, alloc, &mut pass, set);
     let key = key_of(bits, number);
     put(&mut pass, bits, key, number);
     set.put(key, number);

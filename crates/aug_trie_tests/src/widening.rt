@@ -1,7 +1,7 @@
 //! Rounds of more bits than the trie that they go on from.
 ghost use Rattle.std.specs.Prelude.{◌≡◌, ◌≤◌, IfOk};
 
-use super::carrying::{assert_weights, heavy};
+use super::carrying::{assert_weights, heavy, heavy_at_last};
 use super::ending::{counts, next_round};
 use super::playing::Act::{Back, Now, Open, Sees, Size};
 use super::playing::Change::{Insert, Put};
@@ -161,7 +161,7 @@ fn played_wider(
     script: &[Step],
 ) -> Result<Trie, BeginError> {
     let (round, mut crew) = wider(alloc, ended, 5, 1, 1)?;
-    steps(rt, &round, &mut crew, 32, script);
+    steps(rt, alloc, &round, &mut crew, 32, script);
     Ok(round.end(crew))
 }
 
@@ -259,20 +259,14 @@ fn begun(rt: &impl Abort, alloc: Global, ended: Trie) -> Result<(Table, Hands), 
 // Passes whichever request for memory is refused.
 #[test]
 fn refused_memory_leaves_the_narrower_trie(rt: HostRuntime) -> Result<(), BeginError> {
-    let ended = match heavy(&rt, rt.alloc()) {
-        Ok(ended) => ended,
-        Err(cause) => {
-            equal(&rt, cause, BeginError::OutOfMemory);
-            heavy(&rt, rt.alloc())?
-        }
-    };
+    let ended = heavy_at_last(&rt, rt.alloc())?;
     let (round, mut crew) = begun(&rt, rt.alloc(), ended)?;
     let script = [
         (A, Open, Done),
         (A, Now(Put(63, 1)), Came(Accepted)),
         (A, Back, Done),
     ];
-    steps(&rt, &round, &mut crew, 64, &script);
+    steps(&rt, rt.alloc(), &round, &mut crew, 64, &script);
     let mut ended = round.end(crew);
     equal(&rt, (ended.bits(), ended.universe()), (6, 64));
     let list = match pairs(rt.alloc(), &mut ended) {

@@ -8,6 +8,18 @@ use std::sync::Wait;
 use std::thread;
 use std::thread::Threads;
 
+// A half of the pass of the next lane.
+pub(super) fn next_half(crew: &mut Hands, round: &Table) -> Result<Half, CrewError>
+    requires together { crew.old.round ≡ round.now }
+    ensures together { crew.new.round ≡ round.now }
+    ensures round { IfOk result (λ half. half.round ≡ round.now) }
+{
+    match next_pass(crew, round) {
+        Ok(pass) => Ok(pass.into_half()),
+        Err(cause) => Err(cause),
+    }
+}
+
 // Halves of the passes of the next four lanes.
 pub(super) fn four_halves(
     crew: &mut Hands,
@@ -17,11 +29,33 @@ pub(super) fn four_halves(
     ensures together { crew.new.round ≡ round.now }
     ensures rounds { IfOk result (λ t. (t.0.round ≡ round.now) × (t.1.round ≡ round.now) × (t.2.round ≡ round.now) × (t.3.round ≡ round.now)) }
 {
-    let one = next_pass(crew, round)?.into_half();
-    let two = next_pass(crew, round)?.into_half();
-    let three = next_pass(crew, round)?.into_half();
-    let four = next_pass(crew, round)?.into_half();
+    let one = next_half(crew, round)?;
+    let two = next_half(crew, round)?;
+    let three = next_half(crew, round)?;
+    let four = next_half(crew, round)?;
     Ok((one, two, three, four))
+}
+
+// Takes the passes of four halves back.
+pub(super) fn four_back(crew: &mut Hands, round: &Table, halves: (Half, Half, Half, Half))
+    requires together { crew.old.round ≡ round.now }
+    requires rounds { (halves.0.round ≡ round.now) × (halves.1.round ≡ round.now) × (halves.2.round ≡ round.now) × (halves.3.round ≡ round.now) }
+    ensures { crew.new.round ≡ round.now }
+{
+    let (one, two, three, four) = halves;
+    back(crew, round, four);
+    back(crew, round, three);
+    back(crew, round, two);
+    back(crew, round, one);
+}
+
+// Takes the pass of a half back.
+pub(super) fn back(crew: &mut Hands, round: &Table, half: Half)
+    requires together { crew.old.round ≡ round.now }
+    requires round { half.round ≡ round.now }
+    ensures { crew.new.round ≡ round.now }
+{
+    crew.back(round.pass(half));
 }
 
 // What a lane does with a key.

@@ -82,7 +82,7 @@ pub(super) enum Act {
     // An update at once, or begun by turns.
     Now(Change),
     Start(Change),
-    // How many turns may be left, so many of them, the last one, and all up to the end, counted or not.
+    // How many turns may be left; this number of turns; the last one; all up to the end, counted or not.
     TurnsLeft,
     Turns(u32),
     Last,
@@ -350,7 +350,7 @@ pub(super) fn steps(
     }
 }
 
-// A round over a trie, with so many workers and updates, in which this happens: the trie after it.
+// A round over a trie, with these numbers of workers and updates, in which this happens: the trie after it.
 pub(super) fn played(
     rt: &impl Abort,
     alloc: Global,
@@ -366,7 +366,7 @@ pub(super) fn played(
     Ok(round.end(crew))
 }
 
-// The same over the empty set, with keys of so many bits.
+// The same over the empty set, with keys of this number of bits.
 pub(super) fn played_from_empty(
     rt: &impl Abort,
     alloc: Global,
@@ -380,7 +380,7 @@ pub(super) fn played_from_empty(
     played(rt, alloc, ended, numbers, script)
 }
 
-// A trie at rest has so many members, and this is what it says of the round that ended it.
+// A trie at rest has this number of members, and says this of the round that ended it.
 pub(super) fn assert_rests_with(
     rt: &impl Abort,
     ended: &mut Trie,

@@ -3,6 +3,7 @@
 use crate::asked::{Asked, Counting, Operation};
 use crate::stop::Stop;
 use crate::workload::Workload;
+use clap::builder::ValueParser;
 use clap::error::ErrorKind;
 use clap::{Arg, ArgAction, ArgMatches, Command, Error, value_parser};
 use std::alloc::{AllocError, Global};
@@ -21,20 +22,43 @@ fn parse<'a>(alloc: Global, words: &'a [String]) -> Result<ArgMatches<'a>, Error
     command(alloc)?.try_get_matches_from(words)
 }
 
-// The program's arguments.
+// The program's arguments. Each function below adds a few of them: one that adds many, or that may end with several commands at hand, takes
+// long to prove.
 fn command<'a>(alloc: Global) -> Result<Command<'a>, AllocError> {
+    let plain = measuring(alloc)?;
+    let counting = with(plain, count(alloc))?;
+    let checking = with(counting, check(alloc))?;
+    with(checking, roll(alloc))
+}
+
+// With one more of its commands.
+fn with<'a>(
+    program: Command<'a>,
+    command: Result<Command<'a>, AllocError>,
+) -> Result<Command<'a>, AllocError> {
+    program.subcommand(command?)
+}
+
+// With the words of a measurement.
+fn measuring<'a>(alloc: Global) -> Result<Command<'a>, AllocError> {
+    program(alloc)
+        .arg(workload(alloc))?
+        .arg(threads(alloc))?
+        .arg(number(alloc, "SECONDS", 1, 600).help("For how many seconds each engine is measured"))
+}
+
+// With no argument yet.
+fn program<'a>(alloc: Global) -> Command<'a> {
     Command::new(alloc, "augbench")
         .about("Measures the shared trie beside plain sets behind locks")
         .no_binary_name(true)
         .args_conflicts_with_subcommands(true)
         .subcommand_negates_reqs(true)
         .disable_help_subcommand(true)
-        .arg(workload(alloc))?
-        .arg(number(alloc, "THREADS", 1, 64).help("How many threads there are"))?
-        .arg(number(alloc, "SECONDS", 1, 600).help("For how many seconds each engine is measured"))?
-        .subcommand(count(alloc)?)?
-        .subcommand(check(alloc)?)?
-        .subcommand(roll(alloc)?)
+}
+
+fn threads<'a>(alloc: Global) -> Arg<'a> {
+    number(alloc, "THREADS", 1, 64).help("How many threads there are")
 }
 
 fn roll<'a>(alloc: Global) -> Result<Command<'a>, AllocError> {
@@ -42,7 +66,7 @@ fn roll<'a>(alloc: Global) -> Result<Command<'a>, AllocError> {
         .about(
             "Measures how long a roll-over stops all threads, and how often one comes while they only update",
         )
-        .arg(number(alloc, "THREADS", 1, 64).help("How many threads there are"))?
+        .arg(threads(alloc))?
         .arg(number(alloc, "SECONDS", 1, 600).help("For how many seconds they update"))
 }
 
@@ -50,14 +74,9 @@ fn check<'a>(alloc: Global) -> Result<Command<'a>, AllocError> {
     Command::new(alloc, "check")
         .about("Compares the answers of all engines")
         .arg(
-            Arg::new(alloc, "without")
-                .long("without")
-                .action(ArgAction::Set)
-                .value_name("KEY")
-                .value_parser(value_parser!(u32).range(0..=65_535))
-                .help(
-                    "Opens all engines but the trie without this key, so that they differ if it is even",
-                ),
+            long(alloc, "without", 0, 65_535).value_name("KEY").help(
+                "Opens all engines but the trie without this key, so that they differ if it is even",
+            ),
         )
 }
 
@@ -87,65 +106,83 @@ const KINDS: [Operation; 15] = [
 ];
 
 fn count<'a>(alloc: Global) -> Result<Command<'a>, AllocError> {
+    counting(alloc)?
+        .arg(option(alloc, "bits", "H", 1, 16, "16").help("Keys are below 2^H"))?
+        .arg(option(alloc, "gap", "G", 1, 16, "1").help(
+            "The members at the opening are the multiples of 2^G",
+        ))?
+        .arg(option(alloc, "updates", "U", 0, 65_536, "0").help(
+            "How many puts of members are made before them",
+        ))
+}
+
+// With the words that have to be there.
+fn counting<'a>(alloc: Global) -> Result<Command<'a>, AllocError> {
     Command::new(alloc, "count")
         .about(
             "Makes operations of one kind on the trie in one thread, for a counter of instructions",
         )
-        .arg(
-            Arg::new(alloc, "OP")
-                .required(true)
-                .action(ArgAction::Set)
-                .value_parser(OPERATIONS.as_slice())
-                .help(
-                    "Nothing, inserts of absent or of present keys, puts of present keys, or queries on one snapshot; where rounds roll over, nothing, inserts of absent keys, or roll-overs",
-                ),
-        )?
-        .arg(number(alloc, "N", 1, 65_536).help("How many of them"))?
-        .arg(option(alloc, "bits", "H", 16, "16").help("Keys are below 2^H"))?
-        .arg(option(alloc, "gap", "G", 16, "1").help(
-            "The members at the opening are the multiples of 2^G",
-        ))?
-        .arg(
-            Arg::new(alloc, "updates")
-                .long("updates")
-                .action(ArgAction::Set)
-                .value_name("U")
-                .value_parser(value_parser!(u32).range(0..=65_536))
-                .default_value("0")
-                .help("How many puts of members are made before them"),
+        .arg(kind(alloc))?
+        .arg(number(alloc, "N", 1, 65_536).help("How many of them"))
+}
+
+fn kind<'a>(alloc: Global) -> Arg<'a> {
+    Arg::new(alloc, "OP")
+        .required(true)
+        .action(ArgAction::Set)
+        .value_parser(OPERATIONS.as_slice())
+        .help(
+            "Nothing, inserts of absent or of present keys, puts of present keys, or queries on one snapshot; where rounds roll over, nothing, inserts of absent keys, or roll-overs",
         )
 }
+
+// The letters of the workloads.
+const LETTERS: [&str; 6] = ["U", "C", "M", "P", "Q", "S"];
 
 fn workload<'a>(alloc: Global) -> Arg<'a> {
     Arg::new(alloc, "WORKLOAD")
         .required(true)
         .action(ArgAction::Set)
-        .value_parser(["U", "C", "M", "P", "Q", "S"].as_slice())
+        .value_parser(LETTERS.as_slice())
         .help(
             "U updates; C updates that all change the set; M queries and a tenth updates; P the same, half of the updates being puts of members; Q queries; S batches of 32 ranks and a tenth updates",
         )
 }
 
+// An argument that has to be there, and is a number.
 fn number<'a>(alloc: Global, name: &'a str, least: i64, most: i64) -> Arg<'a> {
-    Arg::new(alloc, name)
-        .required(true)
-        .action(ArgAction::Set)
-        .value_parser(value_parser!(u32).range(least..=most))
+    ranged(alloc, name, least, most).required(true)
 }
 
+// An option with a number, which has this one if it is not given.
 fn option<'a>(
     alloc: Global,
     name: &'a str,
     value: &'a str,
+    least: i64,
     most: i64,
     default: &'a str,
 ) -> Arg<'a> {
-    Arg::new(alloc, name)
-        .long(name)
-        .action(ArgAction::Set)
+    long(alloc, name, least, most)
         .value_name(value)
-        .value_parser(value_parser!(u32).range(1..=most))
         .default_value(default)
+}
+
+// An option with a number within these.
+fn long<'a>(alloc: Global, name: &'a str, least: i64, most: i64) -> Arg<'a> {
+    ranged(alloc, name, least, most).long(name)
+}
+
+// An argument with a number within these.
+fn ranged<'a>(alloc: Global, name: &'a str, least: i64, most: i64) -> Arg<'a> {
+    Arg::new(alloc, name)
+        .action(ArgAction::Set)
+        .value_parser(numbers(least, most))
+}
+
+// The numbers from one to another.
+fn numbers<'a>(least: i64, most: i64) -> ValueParser<'a> {
+    value_parser!(u32).range(least..=most)
 }
 
 // What was found, as a request.

@@ -9,7 +9,7 @@ use crate::keys::Lane;
 use crate::lap::Lap;
 use crate::operation::{Answer, Operation, Seat};
 use crate::plain::{ask, change, foreseen, no_answer};
-use crate::ran::{Plan, Ran, join_all};
+use crate::ran::{Plan, Ran};
 use crate::stint::run;
 use left_right::{Absorb, ReadHandle, WriteHandle};
 use std::alloc::{AllocError, Global};
@@ -130,17 +130,8 @@ pub(crate) fn copies_round<R: Threads + Wait + Sync, C: Clock + Sync>(
 ) -> anyhow::Result<Ran>
     ensures { IfOk result (λ ran. ran.engine ≡ Engine.LeftRight) }
 {
-    let course = plan.course(clock)?;
+    let (course, lanes) = plan.begin(clock, alloc)?;
     let shared = &course;
-    let laps = thread::map_vec(
-        rt,
-        plan.lanes(alloc)?,
-        &|lane| { work(rt, clock, writer, lane, shared) },
-    )?;
-    Ok(Ran {
-        engine: Engine::LeftRight,
-        lap: join_all(laps)?,
-        time: course.time(),
-        opening: 0,
-    })
+    let laps = thread::map_vec(rt, lanes, &|lane| { work(rt, clock, writer, lane, shared) })?;
+    Ran::new(Engine::LeftRight, &course, laps)
 }

@@ -5,7 +5,7 @@ use crate::engine::Engine;
 use crate::fenwick::FenwickSet;
 use crate::operation::{Answer, Operation, Seat};
 use crate::plain::{ask, change};
-use crate::ran::{Plan, Ran, join_all};
+use crate::ran::{Plan, Ran};
 use crate::stint::run;
 use std::alloc::Global;
 use std::sync::{Mutex, RwLock, Wait};
@@ -86,19 +86,14 @@ pub fn mutex_round<R: Threads + Wait + Sync, C: Clock + Sync>(
 ) -> anyhow::Result<Ran>
     ensures { IfOk result (λ ran. ran.engine ≡ Engine.Mutex) }
 {
-    let course = plan.course(clock)?;
+    let (course, lanes) = plan.begin(clock, alloc)?;
     let shared = &course;
     let laps = thread::map_vec(
         rt,
-        plan.lanes(alloc)?,
+        lanes,
         &|lane| { run(clock, &mut LockedSeat { rt, set }, lane, shared) },
     )?;
-    Ok(Ran {
-        engine: Engine::Mutex,
-        lap: join_all(laps)?,
-        time: course.time(),
-        opening: 0,
-    })
+    Ran::new(Engine::Mutex, &course, laps)
 }
 
 /// Runs a round of the other lock.
@@ -112,17 +107,12 @@ pub(crate) fn rwlock_round<R: Threads + Wait + Sync, C: Clock + Sync>(
 ) -> anyhow::Result<Ran>
     ensures { IfOk result (λ ran. ran.engine ≡ Engine.RwLock) }
 {
-    let course = plan.course(clock)?;
+    let (course, lanes) = plan.begin(clock, alloc)?;
     let shared = &course;
     let laps = thread::map_vec(
         rt,
-        plan.lanes(alloc)?,
+        lanes,
         &|lane| { run(clock, &mut SharedSeat { rt, set }, lane, shared) },
     )?;
-    Ok(Ran {
-        engine: Engine::RwLock,
-        lap: join_all(laps)?,
-        time: course.time(),
-        opening: 0,
-    })
+    Ran::new(Engine::RwLock, &course, laps)
 }

@@ -35,16 +35,23 @@ pub struct Ran {
 }
 
 impl Plan {
-    /// What its threads share.
-    pub(crate) fn course(&self, clock: &impl Clock) -> io::Result<Course>
-        ensures workload { IfOk result (λ course. course.workload ≡ self.now.workload) }
-        ensures length { IfOk result (λ course. course.length ≡ self.now.length) }
+    /// What its threads share, and the threads.
+    pub(crate) fn begin(
+        &self,
+        clock: &impl Clock,
+        alloc: Global,
+    ) -> anyhow::Result<(Course, Vec<Lane>)>
+        ensures workload { IfOk result (λ both. both.0.workload ≡ self.now.workload) }
+        ensures length { IfOk result (λ both. both.0.length ≡ self.now.length) }
+        ensures lanes { IfOk result (λ both. both.1.items ≡ lanes_of self.now.round self.now.threads) }
     {
-        Course::new(clock, self.workload, self.length, self.threads)
+        let course = Course::new(clock, self.workload, self.length, self.threads)?;
+        let lanes = self.lanes(alloc)?;
+        Ok((course, lanes))
     }
 
-    /// Its threads.
-    pub(crate) fn lanes(&self, alloc: Global) -> Result<Vec<Lane>, AllocError>
+    // Its threads.
+    fn lanes(&self, alloc: Global) -> Result<Vec<Lane>, AllocError>
         ensures { IfOk result (λ lanes. lanes.items ≡ lanes_of self.now.round self.now.threads) }
     {
         let mut lanes = Vec::new(alloc);
@@ -56,6 +63,23 @@ impl Plan {
 }
 
 impl Ran {
+    /// What the threads of an engine's round came to, without its opening.
+    pub(crate) fn new(
+        engine: Engine,
+        course: &Course,
+        laps: Vec<io::Result<Option<Lap>>>,
+    ) -> anyhow::Result<Ran>
+        ensures { IfOk result (λ ran. ran.engine ≡ engine) }
+    {
+        let lap = join_all(laps)?;
+        Ok(Ran {
+            engine,
+            lap,
+            time: course.time(),
+            opening: 0,
+        })
+    }
+
     /// Both rounds together.
     pub(crate) fn join(self, other: Ran) -> Ran
         requires { other.engine ≡ self.engine }
@@ -71,8 +95,8 @@ impl Ran {
     }
 }
 
-/// What all threads did together.
-pub(crate) fn join_all(laps: Vec<io::Result<Option<Lap>>>) -> anyhow::Result<Lap> {
+// What all threads did together.
+fn join_all(laps: Vec<io::Result<Option<Lap>>>) -> anyhow::Result<Lap> {
     let mut all = Lap::new();
     let mut met = true;
     for lap in laps {

@@ -18,3 +18,9 @@ goes_over value before after x rest left all pushed taken was =
 pub one_more_lane : (round n : ℕ) (before after : List Lane) → before ≡ lanes_of round n → after ≡ before ++ seeded_lane round n ∷ [] → after ≡ lanes_of round (n + 1)
 unfolding lanes_of
 one_more_lane round n before after was pushed = rw add-one (pushed ∙ ap (λ lanes. lanes ++ seeded_lane round n ∷ []) was)
+
+-- the same, where the value is named
+pub goes_over_as : {X Y : Type 0} (value : X → Y) (before after : List X) (x : X) (y : Y) (rest left all : List Y)
+    → value x ≡ y → after ≡ before ++ x ∷ [] → left ≡ y ∷ rest → map value before ++ left ≡ all → map value after ++ rest ≡ all
+goes_over_as value before after x y rest left all is pushed taken was =
+    goes_over value before after x rest left all pushed (taken ∙ ap (λ z. z ∷ rest) (sym is)) was

@@ -28,15 +28,38 @@ pub(crate) fn check<R: Threads + Wait + Clock + Sync + Print>(
     alloc: Global,
     without: Option<u32>,
 ) -> anyhow::Result<()> {
+    let agree = all_agree(rt, alloc, without)?;
+    ensure!(agree, "the engines differ");
+    Ok(())
+}
+
+// Opens a set for each engine, and runs the rounds of each workload.
+fn all_agree<R: Threads + Wait + Clock + Sync + Print>(
+    rt: &R,
+    alloc: Global,
+    without: Option<u32>,
+) -> anyhow::Result<bool> {
     let sets = Sets::open(rt, alloc, without, 1, SMALL_TABLE)?;
-    let (mut trie, mut agree) = (half_full(alloc, None)?, true);
+    let trie = half_full(alloc, None)?;
+    agree_on_each(rt, alloc, trie, &sets)
+}
+
+// Runs the rounds of each workload.
+fn agree_on_each<R: Threads + Wait + Clock + Sync + Print>(
+    rt: &R,
+    alloc: Global,
+    mut trie: Trie,
+    sets: &Sets<'_, R>,
+) -> anyhow::Result<bool>
+    requires { trie.bits ≡ 16 }
+{
+    let mut agree = true;
     for workload in Workload::ALL {
-        let (back, rans) = rounds(rt, alloc, trie, &sets, workload)?;
+        let (back, rans) = rounds(rt, alloc, trie, sets, workload)?;
         trie = back;
         agree &= print_verdicts(rt, workload, &rans)?;
     }
-    ensure!(agree, "the engines differ");
-    Ok(())
+    Ok(agree)
 }
 
 // What the rounds of each engine came to.

@@ -8,7 +8,7 @@ use crate::fenwick::FenwickSet;
 use crate::keys::Lane;
 use crate::lap::Lap;
 use crate::operation::{Answer, Operation, Seat};
-use crate::plain::{ask, change, foreseen, no_answer};
+use crate::plain::{ask, both_half_full, change, foreseen, no_answer};
 use crate::ran::{Plan, Ran};
 use crate::stint::run;
 use left_right::{Absorb, ReadHandle, WriteHandle};
@@ -45,13 +45,13 @@ impl Absorb<Edit> for FenwickSet {
 /// The writer of both sets, which one thread has at a time.
 pub(crate) type Copies<'t, R> = Mutex<WriteHandle<FenwickSet, Edit, &'t R>>;
 
-/// Both sets, for this many readers.
-pub(crate) fn copies<'t, R: Wait>(
-    rt: &'t R,
+/// Both sets, of every second key, but without this one.
+pub(crate) fn copies<R: Wait>(
+    rt: &R,
     alloc: Global,
-    first: FenwickSet,
-    second: FenwickSet,
-) -> Result<Copies<'t, R>, AllocError> {
+    without: Option<u32>,
+) -> Result<Copies<'_, R>, AllocError> {
+    let (first, second) = both_half_full(alloc, without)?;
     Ok(Mutex::new(WriteHandle::new(alloc, rt, first, second, 64)?))
 }
 

@@ -5,10 +5,9 @@ ghost use Rattle.aug_trie.specs.Snapshot.{HasSnapshot};
 use crate::asked::{Counting, Operation};
 use crate::count_live::count_live;
 use crate::operation::Answer;
-use crate::trie::{Hand, Trie};
+use crate::trie::{Hand, Trie, begin, end, hand_out, take_back};
 use anyhow::ensure;
 use aug_model::Outcome;
-use aug_trie::Round;
 use std::alloc::{AllocError, Global};
 use std::sync::Wait;
 
@@ -62,6 +61,30 @@ fn count_trie(
     requires budget { asked.updates + asked.times ≤ UPDATES }
     requires bits { asked.bits ≤ 16 }
 {
+    let (table, mut crew) = begin(alloc, trie, 1, UPDATES)?;
+    let mut pass = hand_out(&mut crew, &table)?;
+    let sum = count_in(alloc, &mut pass, asked, members, step);
+    take_back(&mut crew, pass);
+    let _trie = end(table, crew);
+    Ok(sum?)
+}
+
+// Makes them in a pass.
+fn count_in(
+    alloc: Global,
+    pass: &mut Hand,
+    asked: Counting,
+    members: u32,
+    step: u32,
+) -> Result<u64, AllocError>
+    requires some { 0 < members }
+    requires step { 1 < step }
+    requires fits { members * step ≤ 2 ^ pass.old.round.bits }
+    requires small { members * step ≤ 65536 }
+    requires budget { pass.old.spent + asked.updates + asked.times ≤ pass.old.round.updates }
+    requires bits { asked.bits ≤ 16 }
+    ensures { pass.new.round ≡ pass.old.round }
+{
     let Counting {
         operation,
         times,
@@ -70,28 +93,21 @@ fn count_trie(
         ..
     } = asked;
     let universe = 1u32 << bits;
-    let (table, mut crew) = match Round::begin(alloc, trie, 1, UPDATES) {
-        Ok(begun) => begun,
-        Err((_, cause)) => return Err(cause.into()),
-    };
-    let mut pass = crew.pass(&table)?;
-    puts(&mut pass, updates, members, step);
+    puts(pass, updates, members, step);
     let sum = match operation {
-        Operation::New => inserts(&mut pass, times, members, step, 1),
-        Operation::Duplicate => inserts(&mut pass, times, members, step, 0),
-        Operation::Put => puts(&mut pass, times, members, step),
-        Operation::Has => memberships(&mut pass, times, universe),
-        Operation::Rank => ranks(&mut pass, times, universe),
-        Operation::Select => selects(&mut pass, times, members),
-        Operation::Before => befores(&mut pass, times, universe),
-        Operation::After => afters(&mut pass, times, universe),
-        Operation::Range => ranges(&mut pass, times, universe),
-        Operation::Size => sizes(&mut pass, times),
-        Operation::Keys => lists(alloc, &mut pass, times)?,
+        Operation::New => inserts(pass, times, members, step, 1),
+        Operation::Duplicate => inserts(pass, times, members, step, 0),
+        Operation::Put => puts(pass, times, members, step),
+        Operation::Has => memberships(pass, times, universe),
+        Operation::Rank => ranks(pass, times, universe),
+        Operation::Select => selects(pass, times, members),
+        Operation::Before => befores(pass, times, universe),
+        Operation::After => afters(pass, times, universe),
+        Operation::Range => ranges(pass, times, universe),
+        Operation::Size => sizes(pass, times),
+        Operation::Keys => return lists(alloc, pass, times),
         _ => 0,
     };
-    crew.back(pass);
-    let _trie = table.end(crew);
     Ok(sum)
 }
 
@@ -107,14 +123,11 @@ fn opening(alloc: Global, bits: u32, members: u32, step: u32) -> anyhow::Result<
     ensures small { IfOk result (λ _. members * step ≤ 65536) }
 {
     let empty = Trie::empty(alloc, bits)?;
-    let (table, mut crew) = match Round::begin(alloc, empty, 1, UPDATES) {
-        Ok(begun) => begun,
-        Err((_, cause)) => return Err(cause.into()),
-    };
-    let mut pass = crew.pass(&table)?;
+    let (table, mut crew) = begin(alloc, empty, 1, UPDATES)?;
+    let mut pass = hand_out(&mut crew, &table)?;
     inserts(&mut pass, members, members, step, 0);
-    crew.back(pass);
-    Ok(table.end(crew))
+    take_back(&mut crew, pass);
+    Ok(end(table, crew))
 }
 
 // Inserts the keys so far above the multiples of the step, in a spread order, and counts those that were not there.

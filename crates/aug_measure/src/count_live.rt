@@ -3,7 +3,7 @@ ghost use Rattle.std.specs.Prelude.{◌≡◌, ◌+◌, ◌*◌, ◌^◌, ◌<�
 
 use crate::asked::Operation;
 use crate::count::spread;
-use crate::live_round::{TABLE, members};
+use crate::live_round::{TABLE, open_live};
 use crate::trie::Trie;
 use anyhow::bail;
 use aug_live::{Handle, Live, LiveError};
@@ -22,30 +22,44 @@ pub(crate) fn count_live<R: Wait>(
     trie: Trie,
     operation: Operation,
     times: u32,
-    members_are: u32,
+    members: u32,
     step: u32,
 ) -> anyhow::Result<u64>
-    requires some { 0 < members_are }
+    requires some { 0 < members }
     requires step { 1 < step }
-    requires fits { members_are * step ≤ 2 ^ trie.bits }
-    requires small { members_are * step ≤ 65536 }
+    requires fits { members * step ≤ 2 ^ trie.bits }
+    requires small { members * step ≤ 65536 }
 {
-    let set = members(alloc, trie)?;
-    let (live, handles) = match Live::open(rt, alloc, set, HANDLES, TABLE) {
-        Ok(opened) => opened,
-        Err((_, cause)) => return Err(cause.into()),
-    };
+    let (live, handles) = open_live(rt, alloc, trie, HANDLES, TABLE)?;
     let mut handles = handles;
-    let Some(mut handle) = handles.pop() else {
+    let Some(handle) = handles.pop() else {
         bail!("there is no handle");
     };
-    let sum = match operation {
-        Operation::LiveNew => inserts(rt, &mut handle, times, members_are, step)?,
-        Operation::Roll => rolls(rt, &live, times)?,
-        _ => 0,
-    };
+    let sum = make(rt, &live, handle, operation, times, members, step);
     live.close(rt);
-    Ok(sum)
+    Ok(sum?)
+}
+
+// Makes the operations.
+fn make<R: Wait>(
+    rt: &R,
+    live: &Live<Sum, Extent>,
+    mut handle: Handle<Sum, Extent>,
+    operation: Operation,
+    times: u32,
+    members: u32,
+    step: u32,
+) -> Result<u64, LiveError>
+    requires some { 0 < members }
+    requires step { 1 < step }
+    requires fits { members * step ≤ 2 ^ handle.half.round.bits }
+    requires small { members * step ≤ 65536 }
+{
+    match operation {
+        Operation::LiveNew => inserts(rt, &mut handle, times, members, step),
+        Operation::Roll => rolls(rt, live, times),
+        _ => Ok(0),
+    }
 }
 
 // Inserts the keys after the multiples of the step, in a spread order, and counts those that were not there.

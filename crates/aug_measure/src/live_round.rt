@@ -1,5 +1,5 @@
 //! Rounds of a trie whose own rounds roll over by themselves, also while these go on.
-ghost use Rattle.std.specs.Prelude.{◌≡◌, ◌≤◌, ◌^◌, IfOk, map};
+ghost use Rattle.std.specs.Prelude.{◌≡◌, ◌≤◌, ◌^◌, All, IfOk, map};
 ghost use Rattle.aug_measure.specs.Workloads.{changes_among};
 
 use crate::course::{Course, nanoseconds};
@@ -7,11 +7,12 @@ use crate::engine::Engine;
 use crate::keys::Lane;
 use crate::lap::Lap;
 use crate::live_seat::{LiveSeat, Worker};
-use crate::ran::{Plan, Ran, join_all};
+use crate::ran::{Plan, Ran};
 use crate::stint::run;
 use crate::trie::Trie;
+use crate::trie_round::half_full;
 use anyhow::bail;
-use aug_live::{Live, LiveCounts};
+use aug_live::{Handle, Live, LiveCounts};
 use aug_monoid::{Extent, Sum};
 use aug_trie::Members;
 use std::alloc::{AllocError, Global};
@@ -45,8 +46,8 @@ struct Done {
     lap: io::Result<Option<Lap>>,
 }
 
-/// The set of a trie. It is an error if memory for it was refused.
-pub(crate) fn members(alloc: Global, trie: Trie) -> Result<Members, AllocError>
+// The set of a trie. It is an error if memory for it was refused.
+fn members(alloc: Global, trie: Trie) -> Result<Members, AllocError>
     ensures { IfOk result (λ set. set.bits ≡ trie.bits) }
 {
     match trie.into_members(alloc) {
@@ -55,26 +56,47 @@ pub(crate) fn members(alloc: Global, trie: Trie) -> Result<Members, AllocError>
     }
 }
 
+/// Has the rounds of a trie roll over by themselves, with so many handles. The table of a round takes at most `table` bytes.
+pub(crate) fn open_live<R: Wait>(
+    rt: &R,
+    alloc: Global,
+    trie: Trie,
+    handles: u32,
+    table: u64,
+) -> anyhow::Result<(Live<Sum, Extent>, Vec<Handle<Sum, Extent>>)>
+    ensures { IfOk result (λ both. All (λ handle. handle.half.round.bits ≡ trie.bits) both.1.items) }
+{
+    let set = members(alloc, trie)?;
+    let (live, handles) = match Live::open(rt, alloc, set, handles, table) {
+        Ok(opened) => opened,
+        Err((_, cause)) => return Err(cause.into()),
+    };
+    Ok((live, handles))
+}
+
+// The workers of handles.
+fn workers(alloc: Global, handles: Vec<Handle<Sum, Extent>>) -> Result<Vec<Worker>, AllocError>
+    requires { All (λ handle. handle.half.round.bits ≡ 16) handles.items }
+{
+    let mut workers = Vec::new(alloc);
+    for handle in handles {
+        workers.push(Worker::new(alloc, handle)?)?;
+    }
+    Ok(workers)
+}
+
 impl Rolling {
-    /// Opens it over the set of a trie, for `threads` threads. The table of a round takes at most `table` bytes.
+    /// Opens it over every second key, but without this one, for `threads` threads. The table of a round takes at most `table` bytes.
     pub(crate) fn open<R: Wait>(
         rt: &R,
         alloc: Global,
-        trie: Trie,
+        without: Option<u32>,
         threads: u32,
         table: u64,
-    ) -> anyhow::Result<Rolling>
-        requires { trie.bits ≡ 16 }
-    {
-        let set = members(alloc, trie)?;
-        let (live, handles) = match Live::open(rt, alloc, set, threads, table) {
-            Ok(opened) => opened,
-            Err((_, cause)) => return Err(cause.into()),
-        };
-        let mut workers = Vec::new(alloc);
-        for handle in handles {
-            workers.push(Worker::new(alloc, handle)?)?;
-        }
+    ) -> anyhow::Result<Rolling> {
+        let trie = half_full(alloc, without)?;
+        let (live, handles) = open_live(rt, alloc, trie, threads, table)?;
+        let workers = workers(alloc, handles)?;
         Ok(Rolling {
             live,
             workers: Mutex::new(workers),
@@ -161,15 +183,10 @@ pub(crate) fn live_round<R: Threads + Wait + Sync, C: Clock + Sync>(
 ) -> anyhow::Result<Ran>
     ensures { IfOk result (λ ran. ran.engine ≡ Engine.Live) }
 {
-    let course = plan.course(clock)?;
+    let (course, lanes) = plan.begin(clock, alloc)?;
     let shared = &course;
-    let jobs = set.jobs(rt, alloc, plan.lanes(alloc)?)?;
+    let jobs = set.jobs(rt, alloc, lanes)?;
     let done = thread::map_vec(rt, jobs, &|job| work(rt, clock, job, shared))?;
     let laps = set.take_back(rt, alloc, done)?;
-    Ok(Ran {
-        engine: Engine::Live,
-        lap: join_all(laps)?,
-        time: course.time(),
-        opening: 0,
-    })
+    Ran::new(Engine::Live, &course, laps)
 }

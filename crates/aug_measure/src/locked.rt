@@ -4,10 +4,10 @@ ghost use Rattle.std.specs.Prelude.{◌≡◌, IfOk};
 use crate::engine::Engine;
 use crate::fenwick::FenwickSet;
 use crate::operation::{Answer, Operation, Seat};
-use crate::plain::{ask, change};
+use crate::plain::{ask, both_half_full, change};
 use crate::ran::{Plan, Ran};
 use crate::stint::run;
-use std::alloc::Global;
+use std::alloc::{AllocError, Global};
 use std::sync::{Mutex, RwLock, Wait};
 use std::thread;
 use std::thread::Threads;
@@ -18,6 +18,12 @@ pub type Locked = Mutex<FenwickSet>;
 
 /// A plain set behind a lock that many threads may read under.
 pub(crate) type Shared = RwLock<FenwickSet>;
+
+/// Both, over sets of every second key, but without this one.
+pub(crate) fn locks(alloc: Global, without: Option<u32>) -> Result<(Locked, Shared), AllocError> {
+    let (one, other) = both_half_full(alloc, without)?;
+    Ok((Mutex::new(one), RwLock::new(other)))
+}
 
 // The one lock, as a thread works on it.
 #[derive(Drop)]

@@ -28,16 +28,25 @@ pub(crate) fn measure<R: Threads + Wait + Clock + Sync + Print>(
     threads: u32,
     seconds: u32,
 ) -> anyhow::Result<()> {
-    let trie = half_full(alloc, None)?;
-    let sets = Sets::open(rt, alloc, None, threads, TABLE)?;
-    let time = u64::from(seconds) * 1_000_000_000;
-    let totals = rounds(rt, rt, alloc, trie, &sets, workload, threads, time)?;
-    print_figures(rt, workload, threads, &totals.trie)?;
-    print_figures(rt, workload, threads, &totals.mutex)?;
-    print_figures(rt, workload, threads, &totals.rwlock)?;
-    print_figures(rt, workload, threads, &totals.left_right)?;
-    print_figures(rt, workload, threads, &totals.live)?;
+    let totals = totals_of(rt, alloc, workload, threads, seconds)?;
+    print_each(rt, workload, threads, &totals)?;
     Ok(())
+}
+
+// Opens a set for each engine, and runs their rounds.
+fn totals_of<R: Threads + Wait + Clock + Sync>(
+    rt: &R,
+    alloc: Global,
+    workload: Workload,
+    threads: u32,
+    seconds: u32,
+) -> anyhow::Result<Each<Total>>
+    ensures { IfOk result (λ totals. TotalsOfEach totals) }
+{
+    let sets = Sets::open(rt, alloc, None, threads, TABLE)?;
+    let trie = half_full(alloc, None)?;
+    let time = u64::from(seconds) * 1_000_000_000;
+    rounds(rt, rt, alloc, trie, &sets, workload, threads, time)
 }
 
 /// Runs a round of each engine in turn until the rounds of each took `time` nanoseconds. The other engines' rounds are as long as the
@@ -113,6 +122,22 @@ fn add(totals: &mut Each<Total>, rans: Each<Ran>)
     totals.rwlock.add(rans.rwlock);
     totals.left_right.add(rans.left_right);
     totals.live.add(rans.live);
+}
+
+// Prints the line of each engine.
+fn print_each(
+    out: &impl Print,
+    workload: Workload,
+    threads: u32,
+    totals: &Each<Total>,
+) -> io::Result<()>
+    requires { TotalsOfEach totals.now }
+{
+    print_figures(out, workload, threads, &totals.trie)?;
+    print_figures(out, workload, threads, &totals.mutex)?;
+    print_figures(out, workload, threads, &totals.rwlock)?;
+    print_figures(out, workload, threads, &totals.left_right)?;
+    print_figures(out, workload, threads, &totals.live)
 }
 
 // Prints an engine's line.

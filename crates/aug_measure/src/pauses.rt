@@ -4,7 +4,6 @@ use crate::course::Length;
 use crate::live_round::{Rolling, TABLE, live_round};
 use crate::ran::Plan;
 use crate::total::Thousandths;
-use crate::trie_round::half_full;
 use crate::workload::Workload;
 use std::alloc::Global;
 use std::io;
@@ -89,7 +88,7 @@ pub(crate) fn at_work<R: Threads + Wait + Sync, C: Clock + Sync>(
     threads: u32,
     time: u64,
 ) -> anyhow::Result<Pauses> {
-    let set = Rolling::open(rt, alloc, half_full(alloc, None)?, threads, TABLE)?;
+    let set = Rolling::open(rt, alloc, None, threads, TABLE)?;
     let ran = live_round(rt, clock, alloc, &set, updating(threads, u64::MAX, time, 0))?;
     let counts = set.close(rt);
     Ok(Pauses {
@@ -110,7 +109,7 @@ pub(crate) fn time_rolls<R: Threads + Wait + Sync, C: Clock + Sync>(
     threads: u32,
     pauses: &mut Pauses,
 ) -> anyhow::Result<()> {
-    let set = Rolling::open(rt, alloc, half_full(alloc, None)?, threads, TABLE)?;
+    let set = Rolling::open(rt, alloc, None, threads, TABLE)?;
     for round in 0..TIMED {
         let plan = updating(threads, BETWEEN, u64::MAX, round);
         live_round(rt, clock, alloc, &set, plan)?;

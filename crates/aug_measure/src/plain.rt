@@ -21,6 +21,14 @@ pub fn half_full(alloc: Global, without: Option<u32>) -> Result<FenwickSet, Allo
     Ok(set)
 }
 
+/// Two of them.
+pub(crate) fn both_half_full(
+    alloc: Global,
+    without: Option<u32>,
+) -> Result<(FenwickSet, FenwickSet), AllocError> {
+    Ok((half_full(alloc, without)?, half_full(alloc, without)?))
+}
+
 /// Makes an update.
 #[inline(always)]
 pub(crate) fn change(set: &mut FenwickSet, operation: Operation) -> Answer

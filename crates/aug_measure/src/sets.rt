@@ -6,16 +6,15 @@ ghost use Rattle.aug_measure.specs.Workloads.{changes_among};
 use crate::copies::{Copies, copies, copies_round};
 use crate::course::Length;
 use crate::each::Each;
+use crate::engine::Engine;
 use crate::live_round::{Rolling, live_round};
-use crate::locked::{Locked, Shared, mutex_round, rwlock_round};
-use crate::plain::half_full;
+use crate::locked::{Locked, Shared, locks, mutex_round, rwlock_round};
 use crate::ran::{Plan, Ran};
 use crate::trie::Trie;
-use crate::trie_round;
 use crate::trie_round::trie_round;
 use crate::workload::UPDATES;
 use std::alloc::Global;
-use std::sync::{Mutex, RwLock, Wait};
+use std::sync::Wait;
 use std::thread::Threads;
 use std::time::Clock;
 
@@ -47,18 +46,14 @@ impl<'t, R: Wait> Sets<'t, R> {
         threads: u32,
         table: u64,
     ) -> anyhow::Result<Sets<'t, R>> {
-        let (first, second) = (half_full(alloc, without)?, half_full(alloc, without)?);
+        let live = Rolling::open(rt, alloc, without, threads, table)?;
+        let left_right = copies(rt, alloc, without)?;
+        let (mutex, rwlock) = locks(alloc, without)?;
         Ok(Sets {
-            mutex: Mutex::new(half_full(alloc, without)?),
-            rwlock: RwLock::new(half_full(alloc, without)?),
-            left_right: copies(rt, alloc, first, second)?,
-            live: Rolling::open(
-                rt,
-                alloc,
-                trie_round::half_full(alloc, without)?,
-                threads,
-                table,
-            )?,
+            mutex,
+            rwlock,
+            left_right,
+            live,
         })
     }
 }
@@ -86,12 +81,27 @@ pub fn round_of_each<R: Threads + Wait + Sync, C: Clock + Sync>(
             nanoseconds: ran.time,
         };
     }
-    let rans = Each {
-        trie: ran,
-        mutex: mutex_round(rt, clock, alloc, &sets.mutex, rest)?,
-        rwlock: rwlock_round(rt, clock, alloc, &sets.rwlock, rest)?,
-        left_right: copies_round(rt, clock, alloc, &sets.left_right, rest)?,
-        live: live_round(rt, clock, alloc, &sets.live, rest)?,
-    };
+    let rans = with_the_others(rt, clock, alloc, ran, sets, rest)?;
     Ok((trie, rans))
+}
+
+// Runs a round of each other engine.
+fn with_the_others<R: Threads + Wait + Sync, C: Clock + Sync>(
+    rt: &R,
+    clock: &C,
+    alloc: Global,
+    trie: Ran,
+    sets: &Sets<'_, R>,
+    plan: Plan,
+) -> anyhow::Result<Each<Ran>>
+    requires { trie.engine ≡ Engine.Trie }
+    ensures { IfOk result (λ rans. AreOfEach rans) }
+{
+    Ok(Each {
+        trie,
+        mutex: mutex_round(rt, clock, alloc, &sets.mutex, plan)?,
+        rwlock: rwlock_round(rt, clock, alloc, &sets.rwlock, plan)?,
+        left_right: copies_round(rt, clock, alloc, &sets.left_right, plan)?,
+        live: live_round(rt, clock, alloc, &sets.live, plan)?,
+    })
 }

@@ -7,12 +7,12 @@ use crate::course::{Course, nanoseconds};
 use crate::engine::Engine;
 use crate::keys::{BITS, Lane, UNIVERSE};
 use crate::lap::Lap;
-use crate::ran::{Plan, Ran, join_all};
+use crate::ran::{Plan, Ran};
 use crate::stint::run;
-use crate::trie::{Half, Hands, Table, Trie};
+use crate::trie;
+use crate::trie::{Half, Hands, Table, Trie, begin, end, hand_out};
 use crate::trie_seat::{Batch, TrieSeat};
 use crate::workload::UPDATES;
-use aug_trie::Round;
 use std::alloc::{AllocError, Global};
 use std::thread::Threads;
 use std::time::{Clock, Instant};
@@ -38,18 +38,15 @@ pub fn half_full(alloc: Global, without: Option<u32>) -> anyhow::Result<Trie>
     ensures { IfOk result (λ trie. trie.bits ≡ 16) }
 {
     let empty = Trie::empty(alloc, BITS)?;
-    let (table, mut crew) = match Round::begin(alloc, empty, 1, UNIVERSE / 2) {
-        Ok(begun) => begun,
-        Err((_, cause)) => return Err(cause.into()),
-    };
-    let mut pass = crew.pass(&table)?;
+    let (table, mut crew) = begin(alloc, empty, 1, UNIVERSE / 2)?;
+    let mut pass = hand_out(&mut crew, &table)?;
     for i in 0..UNIVERSE / 2 {
         if without != Some(2 * i) {
             pass.insert(2 * i);
         }
     }
-    crew.back(pass);
-    Ok(table.end(crew))
+    trie::take_back(&mut crew, pass);
+    Ok(end(table, crew))
 }
 
 /// Runs a round, and gives the trie back.
@@ -66,20 +63,37 @@ pub(crate) fn trie_round<R: Threads + Sync, C: Clock + Sync>(
     ensures engine { IfOk result (λ both. both.1.engine ≡ Engine.Trie) }
 {
     let before = Instant::now(clock)?;
-    let (table, mut crew) = match Round::begin(alloc, trie, plan.threads, UPDATES) {
-        Ok(begun) => begun,
-        Err((_, cause)) => return Err(cause.into()),
-    };
+    let (table, crew) = begin(alloc, trie, plan.threads, UPDATES)?;
     let opening = nanoseconds(before.elapsed(clock)?);
-    let mut ran = race(rt, clock, alloc, &mut crew, &table, plan)?;
-    let before = Instant::now(clock)?;
-    let trie = table.end(crew);
-    let ending = nanoseconds(before.elapsed(clock)?);
-    ran.opening = opening.saturating_add(ending);
+    let (trie, mut ran) = race_to_end(rt, clock, alloc, table, crew, plan)?;
+    ran.opening = opening.saturating_add(ran.opening);
     Ok((trie, ran))
 }
 
-// Runs the threads of a round that was opened.
+// Runs the threads of a round that was opened, and ends it.
+fn race_to_end<R: Threads + Sync, C: Clock + Sync>(
+    rt: &R,
+    clock: &C,
+    alloc: Global,
+    table: Table,
+    mut crew: Hands,
+    plan: Plan,
+) -> anyhow::Result<(Trie, Ran)>
+    requires together { crew.round ≡ table }
+    requires bits { table.bits ≡ 16 }
+    requires updates { table.updates ≡ UPDATES }
+    requires budget { changes_among plan.workload plan.length.operations ≤ UPDATES }
+    ensures bits { IfOk result (λ both. both.0.bits ≡ 16) }
+    ensures engine { IfOk result (λ both. both.1.engine ≡ Engine.Trie) }
+{
+    let mut ran = race(rt, clock, alloc, &mut crew, &table, plan)?;
+    let before = Instant::now(clock)?;
+    let trie = end(table, crew);
+    ran.opening = nanoseconds(before.elapsed(clock)?);
+    Ok((trie, ran))
+}
+
+// Runs the threads of a round.
 fn race<R: Threads + Sync, C: Clock + Sync>(
     rt: &R,
     clock: &C,
@@ -95,17 +109,11 @@ fn race<R: Threads + Sync, C: Clock + Sync>(
     ensures round { IfOk result (λ ran. crew.new.round ≡ table.now) }
     ensures engine { IfOk result (λ ran. ran.engine ≡ Engine.Trie) }
 {
-    let lanes = plan.lanes(alloc)?;
+    let (course, lanes) = plan.begin(clock, alloc)?;
     let jobs = jobs(alloc, crew, table, lanes)?;
-    let course = plan.course(clock)?;
     let done = in_threads(rt, clock, table, jobs, &course)?;
     let laps = take_back(alloc, crew, table, done)?;
-    Ok(Ran {
-        engine: Engine::Trie,
-        lap: join_all(laps)?,
-        time: course.time(),
-        opening: 0,
-    })
+    Ran::new(Engine::Trie, &course, laps)
 }
 
 // A pass for each thread.
@@ -122,11 +130,22 @@ fn jobs(
 {
     let mut jobs = Vec::new(alloc);
     for lane in lanes {
-        let half = crew.pass(table)?.into_half();
-        let batch = Batch::new(alloc)?;
-        jobs.push(Job { half, lane, batch })?;
+        let job = next_job(alloc, crew, table, lane)?;
+        jobs.push(job)?;
     }
     Ok(jobs)
+}
+
+// A pass for a thread.
+fn next_job(alloc: Global, crew: &mut Hands, table: &Table, lane: Lane) -> anyhow::Result<Job>
+    requires together { crew.old.round ≡ table.now }
+    ensures ready { IfOk result (λ job. (job.half.round ≡ table.now) × (job.half.spent ≡ 0)) }
+    ensures lane { IfOk result (λ job. job.lane ≡ lane) }
+    ensures round { IfOk result (λ job. crew.new.round ≡ table.now) }
+{
+    let half = hand_out(crew, table)?.into_half();
+    let batch = Batch::new(alloc)?;
+    Ok(Job { half, lane, batch })
 }
 
 // Runs all jobs at the same time.
@@ -181,7 +200,7 @@ fn take_back(
     let mut laps = Vec::new(alloc);
     for one in done {
         let Done { half, lap } = one;
-        crew.back(table.pass(half));
+        trie::take_back(crew, table.pass(half));
         laps.push(lap)?;
     }
     Ok(laps)

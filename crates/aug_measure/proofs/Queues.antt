@@ -1,6 +1,7 @@
 -- What stands in a list that another one is emptied into.
-use Rattle.std.proofs.Common.{◌≡◌, ◌∙◌, ℕ, ◌+◌, List, [], ◌∷◌, ◌++◌, map, ap, sym, add-one}
+use Rattle.std.proofs.Common.{◌≡◌, ◌∙◌, ℕ, ◌+◌, List, [], ◌∷◌, ◌++◌, All, map, ap, subst, sym, add-one}
 use Rattle.std.proofs.lemmas.List.{map-append, append_assoc}
+use Rattle.std.proofs.lemmas.List.Elements.{All-push}
 use Rattle.aug_measure.specs.Threads.{seeded_lane, lanes_of}
 use Rattle.aug_measure.specs.declared.keys.Lane.{Lane}
 
@@ -24,3 +25,7 @@ pub goes_over_as : {X Y : Type 0} (value : X → Y) (before after : List X) (x :
     → value x ≡ y → after ≡ before ++ x ∷ [] → left ≡ y ∷ rest → map value before ++ left ≡ all → map value after ++ rest ≡ all
 goes_over_as value before after x y rest left all is pushed taken was =
     goes_over value before after x rest left all pushed (taken ∙ ap (λ z. z ∷ rest) (sym is)) was
+
+-- what all had, and the new one has, all have
+pub all_after : {X : Type 0} (P : X → Type 0) (before after : List X) (x : X) → after ≡ before ++ x ∷ [] → All P before → P x → All P after
+all_after P before after x pushed was now = subst (All P) (sym pushed) (All-push P before x was now)

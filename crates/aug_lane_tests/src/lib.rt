@@ -10,3 +10,5 @@ mod many;
 mod refused;
 #[cfg(test)]
 mod rounds;
+#[cfg(test)]
+mod steps;

@@ -1,0 +1,187 @@
+//! Calls of a lane as data, each with its answer. What a call of the library promises is met here once, in functions that promise at most
+//! that the lane stays one of its round, so that the proof of a test does not carry it along.
+ghost use Rattle.std.specs.Prelude.{◌≡◌, length};
+ghost use Rattle.std.specs.Arc.{arc_value};
+
+use super::rounds::{Trie, Work, Worker, back, begun};
+use crate::assertions::equal;
+use aug_lane::LaneError;
+use aug_model::Outcome;
+use aug_trie::{BeginError, Ended};
+use std::alloc::Global;
+use std::process::Abort;
+
+/// An update of a lane, and its answer.
+#[derive(Clone, Copy)]
+pub(super) enum Step {
+    Insert(u32, Result<bool, LaneError>),
+    Remove(u32, Result<bool, LaneError>),
+    Put(u32, u32, Result<Outcome, LaneError>),
+}
+
+/// A query of a lane, and its answer.
+#[derive(Clone, Copy)]
+pub(super) enum Query {
+    Size(u32),
+    Has(u32, bool),
+    Weight(u32, Option<u32>),
+    Rank(u32, u32),
+    Select(u32, Option<u32>),
+    Before(u32, Option<u32>),
+    After(u32, Option<u32>),
+}
+
+// Makes one update.
+fn make(rt: &impl Abort, lane: Worker, step: Step) -> Worker
+    ensures { result.round ≡ lane.round }
+{
+    match step {
+        Step::Insert(key, answer) => {
+            let (lane, done) = lane.insert(key);
+            equal(rt, done, answer);
+            lane
+        }
+        Step::Remove(key, answer) => {
+            let (lane, done) = lane.remove(key);
+            equal(rt, done, answer);
+            lane
+        }
+        Step::Put(key, weight, answer) => {
+            let (lane, done) = lane.put(key, weight);
+            equal(rt, done, answer);
+            lane
+        }
+    }
+}
+
+/// Makes updates in their order.
+pub(super) fn play(rt: &impl Abort, lane: Worker, steps: &[Step]) -> Worker
+    ensures { result.round ≡ lane.round }
+{
+    let mut worker = lane;
+    for step in steps {
+        worker = make(rt, worker, *step);
+    }
+    worker
+}
+
+// Asks one thing.
+fn ask(rt: &impl Abort, lane: Worker, query: Query) -> Worker {
+    match query {
+        Query::Size(answer) => {
+            let (lane, found) = lane.size();
+            equal(rt, found, answer);
+            lane
+        }
+        Query::Has(key, answer) => {
+            let (lane, found) = lane.has(key);
+            equal(rt, found, answer);
+            lane
+        }
+        Query::Weight(key, answer) => {
+            let (lane, found) = lane.weight(key);
+            equal(rt, found, answer);
+            lane
+        }
+        Query::Rank(key, answer) => {
+            let (lane, found) = lane.rank(key);
+            equal(rt, found, answer);
+            lane
+        }
+        _ => ask_for_a_key(rt, lane, query),
+    }
+}
+
+// Asks for a key.
+fn ask_for_a_key(rt: &impl Abort, lane: Worker, query: Query) -> Worker {
+    match query {
+        Query::Select(index, answer) => {
+            let (lane, found) = lane.select(index);
+            equal(rt, found, answer);
+            lane
+        }
+        Query::Before(key, answer) => {
+            let (lane, found) = lane.before(key);
+            equal(rt, found, answer);
+            lane
+        }
+        Query::After(key, answer) => {
+            let (lane, found) = lane.after(key);
+            equal(rt, found, answer);
+            lane
+        }
+        _ => lane,
+    }
+}
+
+/// Asks one thing after the other.
+pub(super) fn ask_all(rt: &impl Abort, lane: Worker, queries: &[Query]) -> Worker {
+    let mut worker = lane;
+    for query in queries {
+        worker = ask(rt, worker, *query);
+    }
+    worker
+}
+
+/// Takes a new snapshot.
+pub(super) fn look(lane: Worker) -> Worker {
+    lane.look()
+}
+
+/// The members of the snapshot with their weights.
+pub(super) fn pairs(rt: &impl Abort, alloc: Global, lane: Worker) -> (Worker, Vec<(u32, u32)>) {
+    let (lane, list) = lane.pairs(alloc);
+    (lane, list.expect(rt, "memory"))
+}
+
+/// Puts many keys in.
+pub(super) fn insert_all(lane: Worker, keys: &[u32]) -> (Worker, Result<u32, LaneError>) {
+    lane.insert_all(keys)
+}
+
+/// Takes many keys out.
+pub(super) fn remove_all(lane: Worker, keys: &[u32]) -> (Worker, Result<u32, LaneError>) {
+    lane.remove_all(keys)
+}
+
+/// Puts many keys in with weights.
+pub(super) fn put_all(
+    lane: Worker,
+    keys: &[u32],
+    weights: &[u32],
+) -> (Worker, Result<u32, LaneError>)
+    requires { length weights.now ≡ length keys.now }
+{
+    lane.put_all(keys, weights)
+}
+
+/// The next lane of a round.
+pub(super) fn opened(rt: &impl Abort, round: Work) -> (Work, Worker)
+    ensures of_round { arc_value result.1.round ≡ arc_value result.0.round }
+    ensures same { result.0.round ≡ round.round }
+{
+    let (round, lane) = round.open();
+    (round, lane.expect(rt, "a lane"))
+}
+
+/// The one lane of a round over no keys of 4 bits, with some updates.
+pub(super) fn one_lane(rt: &impl Abort, alloc: Global, updates: u32) -> Result<Worker, BeginError> {
+    let round = begun(alloc, Ended::empty(alloc, 4)?, 1, updates)?;
+    let (_, lane) = opened(rt, round);
+    Ok(lane)
+}
+
+/// Ends a round, none of whose lanes is out.
+pub(super) fn ended(rt: &impl Abort, round: Work) -> Trie {
+    let Ok(ended) = round.end() else {
+        panic!(rt; "a lane is out");
+    };
+    ended
+}
+
+/// The trie after a round in which one lane made updates and came back.
+pub(super) fn after(rt: &impl Abort, round: Work, steps: &[Step]) -> Trie {
+    let (round, lane) = opened(rt, round);
+    let lane = play(rt, lane, steps);
+    ended(rt, back(round, lane))
+}

@@ -14,3 +14,5 @@ mod renewing;
 mod rolling;
 #[cfg(test)]
 mod sparing;
+#[cfg(test)]
+mod steps;

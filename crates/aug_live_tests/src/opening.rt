@@ -1,5 +1,9 @@
 //! One thread: opening, each call of a handle and of a look, rolling over, closing.
 
+use super::steps::{
+    Query, Step, View, ask_all, closed, last, listed, looked, over, pairs, play,
+    take_newer_snapshot,
+};
 use crate::assertions::{equal, equal_length, holds};
 use aug_live::{Handle, Live, LiveError, Plan};
 use aug_model::Outcome;
@@ -84,111 +88,136 @@ pub(super) fn put<R: Wait>(
     }
 }
 
-// What a new look lists.
-pub(super) fn listed<R: Wait + Abort>(
-    rt: &R,
-    alloc: Global,
-    hand: Hand,
-) -> (Hand, Vec<(u32, u32)>) {
-    let Ok(mut look) = hand.look(rt) else {
-        panic!(rt; "no look");
-    };
-    let list = look.pairs(alloc).expect(rt, "memory");
-    (look.done(), list)
-}
-
 #[test]
 fn a_handle_updates_and_looks_over_many_rounds(rt: HostRuntime) -> Result<(), BeginError> {
     let (live, mut hands) = opened(&rt, rt.alloc(), 6, 2, 3)?;
     let idle = hands.pop();
-    let mut hand = hands.pop().expect(&rt, "a handle");
+    let mut hand = last(&rt, &mut hands);
     equal(&rt, hand.universe(), 64);
     for k in 0..64 {
-        equal(&rt, insert(&rt, &mut hand, k), Ok(true));
-        equal(&rt, insert(&rt, &mut hand, k), Ok(false));
+        play(
+            &rt,
+            &mut hand,
+            &[Step::Insert(k, Ok(true)), Step::Insert(k, Ok(false))],
+        );
         if k % 3 == 0 {
-            equal(&rt, put(&rt, &mut hand, k, 100 + k), Ok(Outcome::Replaced));
+            play(
+                &rt,
+                &mut hand,
+                &[Step::Put(k, 100 + k, Ok(Outcome::Replaced))],
+            );
         }
         if k % 2 == 0 {
-            equal(&rt, remove(&rt, &mut hand, k), Ok(true));
-            equal(&rt, remove(&rt, &mut hand, k), Ok(false));
+            play(
+                &rt,
+                &mut hand,
+                &[Step::Remove(k, Ok(true)), Step::Remove(k, Ok(false))],
+            );
         }
-        let Ok(mut look) = hand.look(&rt) else {
-            panic!(rt; "no look");
-        };
-        equal(&rt, look.has(k), k % 2 == 1);
-        equal(&rt, look.size(), (k + 1) / 2);
-        hand = look.done();
+        let mut look = looked(&rt, hand);
+        ask_all(
+            &rt,
+            &mut look,
+            &[Query::Has(k, k % 2 == 1), Query::Size((k + 1) / 2)],
+        );
+        hand = over(look);
     }
-    equal(&rt, put(&rt, &mut hand, 2, 7), Ok(Outcome::Accepted));
+    play(&rt, &mut hand, &[Step::Put(2, 7, Ok(Outcome::Accepted))]);
     drop(idle);
-    let (set, counts) = live.close(&rt);
-    equal(&rt, set.size(), 33);
+    let (size, counts) = closed(&rt, live);
+    equal(&rt, size, 33);
     equal(
         &rt,
         (counts.opened, counts.inserts, counts.removals),
         (0, 87, 54),
     );
     holds(&rt, counts.rounds > 60);
-    equal(&rt, insert(&rt, &mut hand, 1), Err(LiveError::Closed));
+    play(&rt, &mut hand, &[Step::Insert(1, Err(LiveError::Closed))]);
     Ok(())
+}
+
+// The whole range of a look: how many members, the sum of their weights, and the least and the greatest of them.
+fn whole(look: &mut View) -> (u32, u64, Option<(u32, u32)>) {
+    let whole = look.range(0, 16);
+    (whole.count, whole.a.value(), whole.b.bounds())
+}
+
+// The members that a look shows.
+fn keys(rt: &impl Abort, alloc: Global, look: &mut View) -> Vec<u32> {
+    look.keys(alloc).expect(rt, "memory")
+}
+
+fn asks_for_ranks(rt: &impl Abort, alloc: Global, look: &mut View) {
+    let mut ranks = Vec::with_capacity(alloc, 2).expect(rt, "memory");
+    look.ranks(&[4, 10], &mut ranks);
+    equal(rt, ranks.as_slice(), [1, 2].as_slice());
+}
+
+fn asks_for_memberships(rt: &impl Abort, alloc: Global, look: &mut View) {
+    let mut there = Vec::with_capacity(alloc, 2).expect(rt, "memory");
+    look.memberships(&[3, 5], &mut there);
+    equal(rt, there.as_slice(), [true, false].as_slice());
+}
+
+fn asks_for_weights(rt: &impl Abort, alloc: Global, look: &mut View) {
+    let mut weights = Vec::with_capacity(alloc, 2).expect(rt, "memory");
+    look.weights(&[5, 12], &mut weights);
+    equal(rt, weights.as_slice(), [None, Some(50)].as_slice());
 }
 
 #[test]
 fn a_look_answers_every_query_and_stays_what_it_is(rt: HostRuntime) -> Result<(), BeginError> {
     let (live, mut hands) = opened(&rt, rt.alloc(), 4, 2, 16)?;
-    let mut other = hands.pop().expect(&rt, "a handle");
-    let mut hand = hands.pop().expect(&rt, "a handle");
-    equal(&rt, insert(&rt, &mut hand, 3), Ok(true));
-    equal(&rt, insert(&rt, &mut hand, 9), Ok(true));
-    equal(&rt, put(&rt, &mut hand, 12, 50), Ok(Outcome::Accepted));
-    let Ok(mut look) = hand.look(&rt) else {
-        panic!(rt; "no look");
-    };
-    equal(&rt, insert(&rt, &mut other, 5), Ok(true));
+    let mut other = last(&rt, &mut hands);
+    let mut hand = last(&rt, &mut hands);
+    let steps = [
+        Step::Insert(3, Ok(true)),
+        Step::Insert(9, Ok(true)),
+        Step::Put(12, 50, Ok(Outcome::Accepted)),
+    ];
+    play(&rt, &mut hand, &steps);
+    let mut look = looked(&rt, hand);
+    play(&rt, &mut other, &[Step::Insert(5, Ok(true))]);
+    let queries = [
+        Query::Has(3, true),
+        Query::Has(5, false),
+        Query::Has(20, false),
+        Query::Weight(12, Some(50)),
+        Query::Weight(5, None),
+        Query::Size(3),
+        Query::Rank(12, 2),
+        Query::Select(1, Some(9)),
+        Query::Select(3, None),
+        Query::Before(9, Some(3)),
+        Query::After(9, Some(12)),
+    ];
+    ask_all(&rt, &mut look, &queries);
+    equal(&rt, whole(&mut look), (3, 62, Some((3, 12))));
+    let members = keys(&rt, rt.alloc(), &mut look);
+    equal(&rt, members.as_slice(), [3, 9, 12].as_slice());
+    let weighted = pairs(&rt, rt.alloc(), &mut look);
     equal(
         &rt,
-        (look.has(3), look.has(5), look.has(20)),
-        (true, false, false),
+        weighted.as_slice(),
+        [(3, 3), (9, 9), (12, 50)].as_slice(),
     );
-    equal(&rt, (look.weight(12), look.weight(5)), (Some(50), None));
-    equal(&rt, (look.size(), look.rank(12)), (3, 2));
-    equal(&rt, (look.select(1), look.select(3)), (Some(9), None));
-    equal(&rt, (look.before(9), look.after(9)), (Some(3), Some(12)));
-    let whole = look.range(0, 16);
-    equal(
-        &rt,
-        (whole.count, whole.a.value(), whole.b.bounds()),
-        (3, 62, Some((3, 12))),
-    );
-    let keys = look.keys(rt.alloc()).expect(&rt, "memory");
-    equal(&rt, keys.as_slice(), [3, 9, 12].as_slice());
-    let pairs = look.pairs(rt.alloc()).expect(&rt, "memory");
-    equal(&rt, pairs.as_slice(), [(3, 3), (9, 9), (12, 50)].as_slice());
-    let mut ranks = Vec::with_capacity(rt.alloc(), 2).expect(&rt, "memory");
-    look.ranks(&[4, 10], &mut ranks);
-    equal(&rt, ranks.as_slice(), [1, 2].as_slice());
-    let mut there = Vec::with_capacity(rt.alloc(), 2).expect(&rt, "memory");
-    look.memberships(&[3, 5], &mut there);
-    equal(&rt, there.as_slice(), [true, false].as_slice());
-    let mut weights = Vec::with_capacity(rt.alloc(), 2).expect(&rt, "memory");
-    look.weights(&[5, 12], &mut weights);
-    equal(&rt, weights.as_slice(), [None, Some(50)].as_slice());
-    look.again();
-    equal(&rt, (look.has(5), look.size()), (true, 4));
-    drop(look.done());
+    asks_for_ranks(&rt, rt.alloc(), &mut look);
+    asks_for_memberships(&rt, rt.alloc(), &mut look);
+    asks_for_weights(&rt, rt.alloc(), &mut look);
+    take_newer_snapshot(&mut look);
+    ask_all(&rt, &mut look, &[Query::Has(5, true), Query::Size(4)]);
+    drop(over(look));
     drop(other);
-    equal(&rt, live.close(&rt).0.size(), 4);
+    equal(&rt, closed(&rt, live).0, 4);
     Ok(())
 }
 
 #[test]
 fn a_trie_rolls_over_where_it_is_asked_to(rt: HostRuntime) -> Result<(), BeginError> {
     let (live, mut hands) = opened(&rt, rt.alloc(), 4, 1, 9)?;
-    let mut hand = hands.pop().expect(&rt, "a handle");
-    equal(&rt, insert(&rt, &mut hand, 7), Ok(true));
-    equal(&rt, live.roll(&rt), Ok(()));
-    equal(&rt, live.roll(&rt), Ok(()));
+    let mut hand = last(&rt, &mut hands);
+    play(&rt, &mut hand, &[Step::Insert(7, Ok(true))]);
+    equal(&rt, (live.roll(&rt), live.roll(&rt)), (Ok(()), Ok(())));
     let (hand, list) = listed(&rt, rt.alloc(), hand);
     equal(&rt, list.as_slice(), [(7, 7)].as_slice());
     drop(hand);
@@ -203,29 +232,40 @@ fn a_trie_rolls_over_where_it_is_asked_to(rt: HostRuntime) -> Result<(), BeginEr
     Ok(())
 }
 
+// Opens a trie over a set.
+fn opened_over<R: Wait + Abort>(
+    rt: &R,
+    alloc: Global,
+    set: Members,
+    handles: u32,
+) -> (Trie, Vec<Hand>) {
+    let Ok(opened) = Live::open(rt, alloc, set, handles, 1 << 20) else {
+        panic!(rt; "not opened");
+    };
+    opened
+}
+
 #[test]
 fn a_trie_opens_over_the_set_that_another_closed_with(rt: HostRuntime) -> Result<(), BeginError> {
     let (live, mut hands) = opened(&rt, rt.alloc(), 5, 1, 2)?;
-    let mut hand = hands.pop().expect(&rt, "a handle");
+    let mut hand = last(&rt, &mut hands);
     for k in 0..10 {
-        equal(&rt, put(&rt, &mut hand, 3 * k, k), Ok(Outcome::Accepted));
+        play(
+            &rt,
+            &mut hand,
+            &[Step::Put(3 * k, k, Ok(Outcome::Accepted))],
+        );
     }
     let (set, _) = live.close(&rt);
-    let Ok((live, mut hands)) = Live::<Sum, Extent>::open(&rt, rt.alloc(), set, 3, 1 << 20) else {
-        panic!(rt; "not opened");
-    };
+    let (live, mut hands) = opened_over(&rt, rt.alloc(), set, 3);
     equal_length(&rt, hands.len(), 3);
-    let hand = hands.pop().expect(&rt, "a handle");
+    let hand = last(&rt, &mut hands);
     let (_, list) = listed(&rt, rt.alloc(), hand);
     equal_length(&rt, list.len(), 10);
     equal(&rt, list.as_slice().first().copied(), Some((0, 0)));
     drop(hands);
-    let (set, counts) = live.close(&rt);
-    equal(
-        &rt,
-        (set.size(), counts.opened, counts.inserts),
-        (10, 10, 0),
-    );
+    let (size, counts) = closed(&rt, live);
+    equal(&rt, (size, counts.opened, counts.inserts), (10, 10, 0));
     Ok(())
 }
 
@@ -243,7 +283,7 @@ fn open_refuses_numbers_in_their_order(rt: HostRuntime) -> Result<(), BeginError
     }
     let (live, hands) = opened(&rt, rt.alloc(), 16, 64, 1)?;
     equal_length(&rt, hands.len(), 64);
-    equal(&rt, live.close(&rt).0.size(), 0);
+    equal(&rt, closed(&rt, live).0, 0);
     Ok(())
 }
 

@@ -1,6 +1,7 @@
 //! Threads that update and look while rounds roll over.
 
 use super::opening::{Hand, insert, opened, remove};
+use super::steps::{View, closed, has, over, try_look};
 use crate::assertions::{equal, holds};
 use aug_live::LiveError;
 use aug_model::KeySet;
@@ -35,19 +36,38 @@ fn next(seed: u64) -> u64 {
         .wrapping_add(1_442_695_040_888_963_407)
 }
 
-// Whether a new look shows each own key as the model has it, for some keys.
-fn looks_right<R: Wait>(rt: &R, hand: Hand, model: &KeySet, lane: u32) -> (Hand, bool) {
-    match hand.look(rt) {
+// Whether a look shows each own key as the model has it, for some keys.
+fn shows(look: &mut View, model: &KeySet, lane: u32) -> bool {
+    let mut right = true;
+    for i in 0..16 {
+        let k = 4 * i + lane % 4;
+        right &= has(look, k) == model.has(k);
+    }
+    right
+}
+
+// Whether a new look shows what the model has.
+fn looks_right<R: Wait>(rt: &R, job: Job) -> (Job, bool) {
+    let Job {
+        hand,
+        model,
+        lane,
+        steps,
+    } = job;
+    let (hand, right) = match try_look(rt, hand) {
         Ok(mut look) => {
-            let mut right = true;
-            for i in 0..16 {
-                let k = 4 * i + lane % 4;
-                right &= look.has(k) == model.has(k);
-            }
-            (look.done(), right)
+            let right = shows(&mut look, &model, lane);
+            (over(look), right)
         }
         Err((hand, cause)) => (hand, cause == LiveError::Closed),
-    }
+    };
+    let job = Job {
+        hand,
+        model,
+        lane,
+        steps,
+    };
+    (job, right)
 }
 
 // Makes one update of an own key, and says whether its answer is the model's.
@@ -99,20 +119,9 @@ pub(super) fn work<R: Wait>(rt: &R, job: Job) -> Did {
             return did;
         }
         if i % 64 == 0 {
-            let Job {
-                hand,
-                model,
-                lane,
-                steps,
-            } = job;
-            let (hand, right) = looks_right(rt, hand, &model, lane);
+            let (next, right) = looks_right(rt, job);
             did.right &= right;
-            job = Job {
-                hand,
-                model,
-                lane,
-                steps,
-            };
+            job = next;
         }
     }
     did
@@ -136,22 +145,38 @@ pub(super) fn jobs(rt: &impl Abort, alloc: Global, hands: Vec<Hand>, steps: u32)
     jobs
 }
 
+// How many keys threads put in, and how many more than they took out. All that they saw was right, and the trie was closed or not.
+pub(super) fn summed(rt: &impl Abort, done: Vec<Did>, closed: bool) -> (u64, u64) {
+    let mut inserts = 0u64;
+    let mut left = 0u64;
+    for did in done {
+        equal(rt, (did.right, did.closed), (true, closed));
+        inserts = inserts.saturating_add(did.inserts);
+        left = left
+            .saturating_add(did.inserts)
+            .saturating_sub(did.removals);
+    }
+    (inserts, left)
+}
+
+// What threads do with handles, and what they come to, as `summed` says it.
+pub(super) fn worked<R: Threads + Wait + Abort + Sync>(
+    rt: &R,
+    alloc: Global,
+    hands: Vec<Hand>,
+    steps: u32,
+) -> (u64, u64) {
+    let jobs = jobs(rt, alloc, hands, steps);
+    let done = thread::map_vec(rt, jobs, &|job| work(rt, job)).expect(rt, "memory");
+    summed(rt, done, false)
+}
+
 #[test]
 fn four_threads_see_their_own_updates_in_every_round(rt: HostRuntime) -> Result<(), BeginError> {
     let (live, hands) = opened(&rt, rt.alloc(), 6, 4, 1000)?;
-    let r = &rt;
-    let jobs = jobs(r, rt.alloc(), hands, 200_000);
-    let done = thread::map_vec(r, jobs, &|job| work(r, job)).expect(r, "memory");
-    let mut sum = 0u64;
-    let mut inserts = 0u64;
-    for did in done {
-        holds(&rt, did.right && !did.closed);
-        inserts = inserts.saturating_add(did.inserts);
-        sum = sum.saturating_add(did.inserts).saturating_sub(did.removals);
-    }
-    let (set, counts) = live.close(r);
-    equal(&rt, u64::from(set.size()), sum);
-    equal(&rt, counts.inserts, inserts);
+    let (inserts, left) = worked(&rt, rt.alloc(), hands, 200_000);
+    let (size, counts) = closed(&rt, live);
+    equal(&rt, (u64::from(size), counts.inserts), (left, inserts));
     holds(&rt, counts.rounds >= 200);
     Ok(())
 }
@@ -161,14 +186,9 @@ fn a_thread_with_few_updates_rolls_over_an_idle_one(rt: HostRuntime) -> Result<(
     let (live, mut hands) = opened(&rt, rt.alloc(), 6, 4, 1)?;
     let idle = hands.pop();
     drop(hands.pop());
-    let r = &rt;
-    let jobs = jobs(r, rt.alloc(), hands, 200);
-    let done = thread::map_vec(r, jobs, &|job| work(r, job)).expect(r, "memory");
-    for did in done {
-        holds(&rt, did.right && !did.closed);
-    }
+    worked(&rt, rt.alloc(), hands, 200);
     drop(idle);
-    holds(&rt, live.close(r).1.rounds >= 200);
+    holds(&rt, closed(&rt, live).1.rounds >= 200);
     Ok(())
 }
 
@@ -177,16 +197,12 @@ fn a_trie_is_closed_while_others_work(rt: HostRuntime) -> Result<(), BeginError>
     let (live, hands) = opened(&rt, rt.alloc(), 6, 4, 500)?;
     let r = &rt;
     let jobs = jobs(r, rt.alloc(), hands, 5_000_000);
-    let (done, closed) = thread::join(
+    let (done, end) = thread::join(
         r,
         || thread::map_vec(r, jobs, &|job| work(r, job)),
-        move || live.close(r),
+        move || closed(r, live),
     );
-    let mut sum = 0u64;
-    for did in done.expect(r, "memory") {
-        holds(&rt, did.right && did.closed);
-        sum = sum.saturating_add(did.inserts).saturating_sub(did.removals);
-    }
-    equal(&rt, u64::from(closed.0.size()), sum);
+    let (_, left) = summed(r, done.expect(r, "memory"), true);
+    equal(&rt, u64::from(end.0), left);
     Ok(())
 }

@@ -1,7 +1,7 @@
 //! The program over devices that are in memory.
 use crate::assertions::{equal, holds};
 use crate::test_input::TestInput;
-use aug_run::{Stop, carry_out, options};
+use aug_run::{Options, Stop, carry_out, options};
 use aug_script::MemorySink;
 use std::alloc::{AllocError, Global};
 use std::sync::Wait;
@@ -17,6 +17,29 @@ struct Left {
     opened: u64,
 }
 
+// Carries out what was asked for, over standard input and the file `a.csv`. Each sink fails at the call with its number.
+fn left_by<R: Threads + Wait>(
+    rt: &R,
+    alloc: Global,
+    asked: Result<Options, Stop>,
+    standard: &[u8],
+    file: &[u8],
+    output_fault: Option<u64>,
+    errors_fault: Option<u64>,
+) -> Left {
+    let mut input = TestInput::new(standard, "a.csv", file);
+    let mut output = MemorySink::new(alloc, 7, output_fault);
+    let mut errors = MemorySink::new(alloc, 7, errors_fault);
+    let status = carry_out(rt, alloc, asked, &mut input, &mut output, &mut errors);
+    let opened = input.opened;
+    Left {
+        status,
+        output,
+        errors,
+        opened,
+    }
+}
+
 // Standard input looks, and the file `a.csv` asks for the size. Each sink fails at the call with its number.
 fn run_line<R: Threads + Wait>(
     rt: &R,
@@ -30,17 +53,8 @@ fn run_line<R: Threads + Wait>(
         words.push(String::from_str(alloc, word)?)?;
     }
     let asked = options(alloc, words.as_slice());
-    let mut input = TestInput::new(b"0,look\n", "a.csv", b"0,size\n");
-    let mut output = MemorySink::new(alloc, 7, output_fault);
-    let mut errors = MemorySink::new(alloc, 7, errors_fault);
-    let status = carry_out(rt, alloc, asked, &mut input, &mut output, &mut errors);
-    let opened = input.opened;
-    Ok(Left {
-        status,
-        output,
-        errors,
-        opened,
-    })
+    let (standard, file) = (b"0,look\n", b"0,size\n");
+    Ok(left_by(rt, alloc, asked, standard, file, output_fault, errors_fault))
 }
 
 #[test]
@@ -126,19 +140,9 @@ fn limits_and_memory_have_lines_of_their_own(rt: HostRuntime) {
         (Stop::TooLarge, 2, "augtrie: TooLarge\n"),
         (Stop::OutOfMemory, 4, "augtrie: memory\n"),
     ] {
-        let mut input = TestInput::new(b"0,look", "a.csv", b"");
-        let mut output = MemorySink::new(rt.alloc(), 7, None);
-        let mut errors = MemorySink::new(rt.alloc(), 7, None);
-        let found = carry_out(
-            &rt,
-            rt.alloc(),
-            Err(stop),
-            &mut input,
-            &mut output,
-            &mut errors,
-        );
-        equal(&rt, found, status);
-        equal(&rt, errors.out.as_slice(), line.as_bytes());
-        equal(&rt, output.calls, 0);
+        let left = left_by(&rt, rt.alloc(), Err(stop), b"0,look", b"", None, None);
+        equal(&rt, left.status, status);
+        equal(&rt, left.errors.out.as_slice(), line.as_bytes());
+        equal(&rt, left.output.calls, 0);
     }
 }

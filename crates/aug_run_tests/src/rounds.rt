@@ -161,6 +161,31 @@ fn next(seed: u64) -> u64 {
         .wrapping_add(1_442_695_040_888_963_407)
 }
 
+// The verb of a row that names a key and nothing else, by a number below 15. The size comes with a rank.
+fn verb_of_a_key(number: u64) -> &'static str {
+    match number {
+        0..=2 => "insert",
+        3..=4 => "remove",
+        6 => "has",
+        7 => "size\n0,rank",
+        8 => "select",
+        9 => "before",
+        10 => "after",
+        _ => "weight",
+    }
+}
+
+// Writes a row with a key, or two, from a seed.
+fn write_row(text: &mut String, seed: u64, key: u64) -> Result<(), AllocError> {
+    match (seed >> 33) % 15 {
+        5 => writeln!(text, "0,look")?,
+        11..=12 => writeln!(text, "0,put,{key},{}", (seed >> 45) % 1_000)?,
+        14 => writeln!(text, "0,range,{},{key}", (seed >> 50) % 17)?,
+        number => writeln!(text, "0,{},{key}", verb_of_a_key(number))?,
+    }
+    Ok(())
+}
+
 // A script of one lane and three rounds, from a seed: of 4, 5 and 7 bits.
 fn random_script(alloc: Global, seed: u64) -> Result<String, AllocError> {
     let mut text = String::new(alloc);
@@ -169,20 +194,7 @@ fn random_script(alloc: Global, seed: u64) -> Result<String, AllocError> {
         writeln!(text, "*,grow,{bits}")?;
         for _ in 0..50u32 {
             seed = next(seed);
-            let key = (seed >> 40) % keys;
-            match (seed >> 33) % 15 {
-                0..=2 => writeln!(text, "0,insert,{key}")?,
-                3..=4 => writeln!(text, "0,remove,{key}")?,
-                5 => writeln!(text, "0,look")?,
-                6 => writeln!(text, "0,has,{key}")?,
-                7 => writeln!(text, "0,size\n0,rank,{key}")?,
-                8 => writeln!(text, "0,select,{key}")?,
-                9 => writeln!(text, "0,before,{key}")?,
-                10 => writeln!(text, "0,after,{key}")?,
-                11..=12 => writeln!(text, "0,put,{key},{}", (seed >> 45) % 1_000)?,
-                13 => writeln!(text, "0,weight,{key}")?,
-                _ => writeln!(text, "0,range,{},{key}", (seed >> 50) % 17)?,
-            }
+            write_row(&mut text, seed, (seed >> 40) % keys)?;
         }
         writeln!(text, "*,end")?;
     }

@@ -23,17 +23,32 @@ const FIRST_REPORT: &str = "\
 1 end size=2 in=2 out=0
 ";
 
+// A device of tests: the most that a call takes, and the call that fails.
+type Device = (usize, Option<u64>);
+
+// Runs a script from one device to another.
+fn ran(
+    rt: &(impl Threads + Wait),
+    alloc: Global,
+    script: &[u8],
+    limits: &Limits,
+    from: Device,
+    to: Device,
+) -> (Result<(), RunError>, MemorySink) {
+    let mut source = MemorySource::new(script, from.0, from.1);
+    let mut sink = MemorySink::new(alloc, to.0, to.1);
+    let result = run(rt, alloc, &mut source, &mut sink, limits);
+    (result, sink)
+}
+
 // Runs a script from one device of small pieces to another.
 fn outcome_under(
-    rt: &(impl Abort + Threads + Wait),
+    rt: &(impl Threads + Wait),
     alloc: Global,
     script: &[u8],
     limits: &Limits,
 ) -> (Result<(), RunError>, MemorySink) {
-    let mut source = MemorySource::new(script, 5, None);
-    let mut sink = MemorySink::new(alloc, 7, None);
-    let result = run(rt, alloc, &mut source, &mut sink, limits);
-    (result, sink)
+    ran(rt, alloc, script, limits, (5, None), (7, None))
 }
 
 // The same with 4 bits and one lane.
@@ -409,9 +424,7 @@ fn run_over<R: Threads + Wait>(
     bytes: &[u8],
 ) -> Result<(Result<(), RunError>, u64), Fail> {
     let limits = Limits::try_new(4, 1, 64).ok().ok_or("limits")?;
-    let mut source = MemorySource::new(bytes, usize::MAX, None);
-    let mut sink = MemorySink::new(alloc, 7, None);
-    let result = run(rt, alloc, &mut source, &mut sink, &limits);
+    let (result, sink) = ran(rt, alloc, bytes, &limits, (usize::MAX, None), (7, None));
     Ok((result, sink.calls))
 }
 
@@ -434,9 +447,8 @@ fn a_source_that_fails_prints_nothing(rt: HostRuntime) -> Result<(), Fail> {
     let limits = Limits::try_new(4, 1, 64).ok().ok_or("limits")?;
     // The last of these calls is the one that finds the end.
     for fault_at in 0..FIRST_SCRIPT.len() as u64 + 1 {
-        let mut source = MemorySource::new(FIRST_SCRIPT.as_bytes(), 1, Some(fault_at));
-        let mut sink = MemorySink::new(alloc, 7, None);
-        let result = run(&rt, alloc, &mut source, &mut sink, &limits);
+        let script = FIRST_SCRIPT.as_bytes();
+        let (result, sink) = ran(&rt, alloc, script, &limits, (1, Some(fault_at)), (7, None));
         equal_at(
             &rt,
             result,
@@ -455,9 +467,9 @@ fn a_sink_that_fails_has_a_beginning(rt: HostRuntime) -> Result<(), Fail> {
     equal_length(&rt, FIRST_REPORT.len(), 166);
     // The last of these calls is `finish`.
     for fault_at in 0..167u64 {
-        let mut source = MemorySource::new(FIRST_SCRIPT.as_bytes(), usize::MAX, None);
-        let mut sink = MemorySink::new(alloc, 1, Some(fault_at));
-        let result = run(&rt, alloc, &mut source, &mut sink, &limits);
+        let script = FIRST_SCRIPT.as_bytes();
+        let all = (usize::MAX, None);
+        let (result, sink) = ran(&rt, alloc, script, &limits, all, (1, Some(fault_at)));
         equal_at(
             &rt,
             result,
@@ -513,20 +525,15 @@ fn a_script_may_use_every_update_and_no_more(rt: HostRuntime) -> Result<(), Fail
     text.push_str("1 0 look = ok\n1 0 rank 65536 = 65536\n")?;
     text.push_str("1 0 range 0 65536 = 65536 2147450880 0 65535\n")?;
     text.push_str("1 end size=65536 in=65536 out=0\n")?;
-    let mut source = MemorySource::new(script.as_bytes(), usize::MAX, None);
-    let mut sink = MemorySink::new(alloc, usize::MAX, None);
-    equal(
-        &rt,
-        run(&rt, alloc, &mut source, &mut sink, &limits),
-        Ok(()),
-    );
+    let all = (usize::MAX, None);
+    let (result, sink) = ran(&rt, alloc, script.as_bytes(), &limits, all, all);
+    equal(&rt, result, Ok(()));
     equal(&rt, sink.out.as_slice(), text.as_bytes());
     script.push_str("0,remove,0\n")?;
-    let mut source = MemorySource::new(script.as_bytes(), usize::MAX, None);
-    let mut sink = MemorySink::new(alloc, 7, None);
+    let (result, sink) = ran(&rt, alloc, script.as_bytes(), &limits, all, (7, None));
     equal(
         &rt,
-        run(&rt, alloc, &mut source, &mut sink, &limits),
+        result,
         Err(RunError::Script(ScriptError::TooManyUpdates(65_540))),
     );
     equal(&rt, sink.calls, 0);

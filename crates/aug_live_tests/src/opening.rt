@@ -1,7 +1,7 @@
 //! One thread: opening, each call of a handle and of a look, rolling over, closing.
 
 use super::steps::{
-    Query, Step, View, ask_all, closed, last, listed, looked, over, pairs, play,
+    Call, Query, Step, View, ask_all, closed, go, last, listed, looked, over, pairs, play,
     take_newer_snapshot,
 };
 use crate::assertions::{equal, equal_length, holds};
@@ -35,6 +35,17 @@ pub(super) fn opened<R: Wait>(
     updates: u32,
 ) -> Result<(Trie, Vec<Hand>), BeginError> {
     opened_with(rt, alloc, bits, handles, 0, updates)
+}
+
+// The same with one handle.
+pub(super) fn opened_one<R: Wait + Abort>(
+    rt: &R,
+    alloc: Global,
+    bits: u32,
+    updates: u32,
+) -> Result<(Trie, Hand), BeginError> {
+    let (live, mut hands) = opened(rt, alloc, bits, 1, updates)?;
+    Ok((live, last(rt, &mut hands)))
 }
 
 // A trie over the empty set of keys of `bits` bits, with `spare` spare lanes.
@@ -88,51 +99,64 @@ pub(super) fn put<R: Wait>(
     }
 }
 
+// Puts a key in, with another weight if it is one of three, and takes it out if it is one of two; a look then shows that.
+fn update_and_look<R: Wait + Abort>(rt: &R, hand: Hand, k: u32) -> Hand {
+    let mut hand = hand;
+    play(
+        rt,
+        &mut hand,
+        &[Step::Insert(k, Ok(true)), Step::Insert(k, Ok(false))],
+    );
+    if k % 3 == 0 {
+        let weight = 100u32.saturating_add(k);
+        play(
+            rt,
+            &mut hand,
+            &[Step::Put(k, weight, Ok(Outcome::Replaced))],
+        );
+    }
+    if k % 2 == 0 {
+        play(
+            rt,
+            &mut hand,
+            &[Step::Remove(k, Ok(true)), Step::Remove(k, Ok(false))],
+        );
+    }
+    look_at(rt, hand, k)
+}
+
+// A look over the odd keys up to this one.
+fn look_at<R: Wait + Abort>(rt: &R, hand: Hand, k: u32) -> Hand {
+    let mut look = looked(rt, hand);
+    let size = k.saturating_add(1) / 2;
+    ask_all(
+        rt,
+        &mut look,
+        &[Query::Has(k, k % 2 == 1), Query::Size(size)],
+    );
+    over(look)
+}
+
 #[test]
 fn a_handle_updates_and_looks_over_many_rounds(rt: HostRuntime) -> Result<(), BeginError> {
-    let (live, mut hands) = opened(&rt, rt.alloc(), 6, 2, 3)?;
+    let r = &rt;
+    let (live, mut hands) = opened(r, r.alloc(), 6, 2, 3)?;
     let idle = hands.pop();
-    let mut hand = last(&rt, &mut hands);
-    equal(&rt, hand.universe(), 64);
+    let mut hand = last(r, &mut hands);
+    equal(r, hand.universe(), 64);
     for k in 0..64 {
-        play(
-            &rt,
-            &mut hand,
-            &[Step::Insert(k, Ok(true)), Step::Insert(k, Ok(false))],
-        );
-        if k % 3 == 0 {
-            play(
-                &rt,
-                &mut hand,
-                &[Step::Put(k, 100 + k, Ok(Outcome::Replaced))],
-            );
-        }
-        if k % 2 == 0 {
-            play(
-                &rt,
-                &mut hand,
-                &[Step::Remove(k, Ok(true)), Step::Remove(k, Ok(false))],
-            );
-        }
-        let mut look = looked(&rt, hand);
-        ask_all(
-            &rt,
-            &mut look,
-            &[Query::Has(k, k % 2 == 1), Query::Size((k + 1) / 2)],
-        );
-        hand = over(look);
+        hand = update_and_look(r, hand, k);
     }
-    play(&rt, &mut hand, &[Step::Put(2, 7, Ok(Outcome::Accepted))]);
+    play(r, &mut hand, &[Step::Put(2, 7, Ok(Outcome::Accepted))]);
     drop(idle);
-    let (size, counts) = closed(&rt, live);
-    equal(&rt, size, 33);
+    let (size, counts) = closed(r, live);
     equal(
-        &rt,
-        (counts.opened, counts.inserts, counts.removals),
-        (0, 87, 54),
+        r,
+        (size, counts.opened, counts.inserts, counts.removals),
+        (33, 0, 87, 54),
     );
-    holds(&rt, counts.rounds > 60);
-    play(&rt, &mut hand, &[Step::Insert(1, Err(LiveError::Closed))]);
+    holds(r, counts.rounds > 60);
+    play(r, &mut hand, &[Step::Insert(1, Err(LiveError::Closed))]);
     Ok(())
 }
 
@@ -165,67 +189,77 @@ fn asks_for_weights(rt: &impl Abort, alloc: Global, look: &mut View) {
     equal(rt, weights.as_slice(), [None, Some(50)].as_slice());
 }
 
-#[test]
-fn a_look_answers_every_query_and_stays_what_it_is(rt: HostRuntime) -> Result<(), BeginError> {
-    let (live, mut hands) = opened(&rt, rt.alloc(), 4, 2, 16)?;
-    let mut other = last(&rt, &mut hands);
-    let mut hand = last(&rt, &mut hands);
-    let steps = [
-        Step::Insert(3, Ok(true)),
-        Step::Insert(9, Ok(true)),
-        Step::Put(12, 50, Ok(Outcome::Accepted)),
-    ];
-    play(&rt, &mut hand, &steps);
-    let mut look = looked(&rt, hand);
-    play(&rt, &mut other, &[Step::Insert(5, Ok(true))]);
-    let queries = [
-        Query::Has(3, true),
-        Query::Has(5, false),
-        Query::Has(20, false),
-        Query::Weight(12, Some(50)),
-        Query::Weight(5, None),
-        Query::Size(3),
-        Query::Rank(12, 2),
-        Query::Select(1, Some(9)),
-        Query::Select(3, None),
-        Query::Before(9, Some(3)),
-        Query::After(9, Some(12)),
-    ];
-    ask_all(&rt, &mut look, &queries);
-    equal(&rt, whole(&mut look), (3, 62, Some((3, 12))));
-    let members = keys(&rt, rt.alloc(), &mut look);
-    equal(&rt, members.as_slice(), [3, 9, 12].as_slice());
-    let weighted = pairs(&rt, rt.alloc(), &mut look);
+// Asks for the range and for both lists of the members 3, 9 and 12, which weighs 50.
+fn lists_three(rt: &impl Abort, alloc: Global, look: &mut View) {
+    equal(rt, whole(look), (3, 62, Some((3, 12))));
+    let members = keys(rt, alloc, look);
+    equal(rt, members.as_slice(), [3, 9, 12].as_slice());
+    let weighted = pairs(rt, alloc, look);
     equal(
-        &rt,
+        rt,
         weighted.as_slice(),
         [(3, 3), (9, 9), (12, 50)].as_slice(),
     );
-    asks_for_ranks(&rt, rt.alloc(), &mut look);
-    asks_for_memberships(&rt, rt.alloc(), &mut look);
-    asks_for_weights(&rt, rt.alloc(), &mut look);
+}
+
+const UPDATES: [Step; 3] = [
+    Step::Insert(3, Ok(true)),
+    Step::Insert(9, Ok(true)),
+    Step::Put(12, 50, Ok(Outcome::Accepted)),
+];
+
+const QUERIES: [Query; 11] = [
+    Query::Has(3, true),
+    Query::Has(5, false),
+    Query::Has(20, false),
+    Query::Weight(12, Some(50)),
+    Query::Weight(5, None),
+    Query::Size(3),
+    Query::Rank(12, 2),
+    Query::Select(1, Some(9)),
+    Query::Select(3, None),
+    Query::Before(9, Some(3)),
+    Query::After(9, Some(12)),
+];
+
+#[test]
+fn a_look_answers_every_query_and_stays_what_it_is(rt: HostRuntime) -> Result<(), BeginError> {
+    let (r, alloc) = (&rt, rt.alloc());
+    let (live, mut hands) = opened(r, alloc, 4, 2, 16)?;
+    let mut other = last(r, &mut hands);
+    let mut hand = last(r, &mut hands);
+    play(r, &mut hand, &UPDATES);
+    let mut look = looked(r, hand);
+    play(r, &mut other, &[Step::Insert(5, Ok(true))]);
+    ask_all(r, &mut look, &QUERIES);
+    lists_three(r, alloc, &mut look);
+    asks_for_ranks(r, alloc, &mut look);
+    asks_for_memberships(r, alloc, &mut look);
+    asks_for_weights(r, alloc, &mut look);
     take_newer_snapshot(&mut look);
-    ask_all(&rt, &mut look, &[Query::Has(5, true), Query::Size(4)]);
+    ask_all(r, &mut look, &[Query::Has(5, true), Query::Size(4)]);
     drop(over(look));
     drop(other);
-    equal(&rt, closed(&rt, live).0, 4);
+    equal(r, closed(r, live).0, 4);
     Ok(())
 }
 
 #[test]
 fn a_trie_rolls_over_where_it_is_asked_to(rt: HostRuntime) -> Result<(), BeginError> {
-    let (live, mut hands) = opened(&rt, rt.alloc(), 4, 1, 9)?;
-    let mut hand = last(&rt, &mut hands);
-    play(&rt, &mut hand, &[Step::Insert(7, Ok(true))]);
-    equal(&rt, (live.roll(&rt), live.roll(&rt)), (Ok(()), Ok(())));
-    let (hand, list) = listed(&rt, rt.alloc(), hand);
-    equal(&rt, list.as_slice(), [(7, 7)].as_slice());
-    drop(hand);
-    equal(&rt, live.roll(&rt), Ok(()));
-    let (set, counts) = live.close(&rt);
-    equal(&rt, set.as_slice(), [(7, 7)].as_slice());
+    let (r, alloc) = (&rt, rt.alloc());
+    let (live, hand) = opened_one(r, alloc, 4, 9)?;
+    let calls = [
+        Call::Play(&[Step::Insert(7, Ok(true))]),
+        Call::Roll,
+        Call::Roll,
+        Call::Lists(&[(7, 7)]),
+    ];
+    go(r, alloc, &live, hand, &calls);
+    equal(r, live.roll(r), Ok(()));
+    let (set, counts) = live.close(r);
+    equal(r, set.as_slice(), [(7, 7)].as_slice());
     equal(
-        &rt,
+        r,
         (counts.rounds, counts.inserts, counts.removals),
         (4, 1, 0),
     );
@@ -245,27 +279,27 @@ fn opened_over<R: Wait + Abort>(
     opened
 }
 
+// The set of ten keys with weights, from a trie that was closed.
+fn ten<R: Wait + Abort>(rt: &R, alloc: Global) -> Result<Members, BeginError> {
+    let (live, hand) = opened_one(rt, alloc, 5, 2)?;
+    let mut hand = hand;
+    for k in 0..10 {
+        play(rt, &mut hand, &[Step::Put(3 * k, k, Ok(Outcome::Accepted))]);
+    }
+    Ok(live.close(rt).0)
+}
+
 #[test]
 fn a_trie_opens_over_the_set_that_another_closed_with(rt: HostRuntime) -> Result<(), BeginError> {
-    let (live, mut hands) = opened(&rt, rt.alloc(), 5, 1, 2)?;
-    let mut hand = last(&rt, &mut hands);
-    for k in 0..10 {
-        play(
-            &rt,
-            &mut hand,
-            &[Step::Put(3 * k, k, Ok(Outcome::Accepted))],
-        );
-    }
-    let (set, _) = live.close(&rt);
-    let (live, mut hands) = opened_over(&rt, rt.alloc(), set, 3);
-    equal_length(&rt, hands.len(), 3);
-    let hand = last(&rt, &mut hands);
-    let (_, list) = listed(&rt, rt.alloc(), hand);
-    equal_length(&rt, list.len(), 10);
-    equal(&rt, list.as_slice().first().copied(), Some((0, 0)));
+    let (r, alloc) = (&rt, rt.alloc());
+    let (live, mut hands) = opened_over(r, alloc, ten(r, alloc)?, 3);
+    equal_length(r, hands.len(), 3);
+    let (_, list) = listed(r, alloc, last(r, &mut hands));
+    equal_length(r, list.len(), 10);
+    equal(r, list.as_slice().first().copied(), Some((0, 0)));
     drop(hands);
-    let (size, counts) = closed(&rt, live);
-    equal(&rt, (size, counts.opened, counts.inserts), (10, 10, 0));
+    let (size, counts) = closed(r, live);
+    equal(r, (size, counts.opened, counts.inserts), (10, 10, 0));
     Ok(())
 }
 

@@ -129,19 +129,26 @@ fn refused_memory_loses_nothing_of_a_live_trie(rt: HostRuntime) -> Result<(), Be
     Ok(())
 }
 
-#[test]
-fn a_closed_trie_answers_so(rt: HostRuntime) -> Result<(), BeginError> {
-    let (live, mut hands) = opened(&rt, rt.alloc(), 4, 2, 5)?;
-    let mut hand = last(&rt, &mut hands);
-    play(&rt, &mut hand, &[Step::Insert(9, Ok(true))]);
-    let (mut hand, list) = listed(&rt, rt.alloc(), hand);
-    equal(&rt, list.as_slice(), [(9, 9)].as_slice());
-    equal(&rt, closed(&rt, live).0, 1);
+// Asks for an update and a look after the end.
+fn is_closed<R: Wait + Abort>(rt: &R, hand: Hand) {
+    let mut hand = hand;
     let refused = [
         Step::Insert(8, Err(LiveError::Closed)),
         Step::Remove(9, Err(LiveError::Closed)),
     ];
-    play(&rt, &mut hand, &refused);
-    equal(&rt, why_no_look(&rt, hand), Some(LiveError::Closed));
+    play(rt, &mut hand, &refused);
+    equal(rt, why_no_look(rt, hand), Some(LiveError::Closed));
+}
+
+#[test]
+fn a_closed_trie_answers_so(rt: HostRuntime) -> Result<(), BeginError> {
+    let (r, alloc) = (&rt, rt.alloc());
+    let (live, mut hands) = opened(r, alloc, 4, 2, 5)?;
+    let mut hand = last(r, &mut hands);
+    play(r, &mut hand, &[Step::Insert(9, Ok(true))]);
+    let (hand, list) = listed(r, alloc, hand);
+    equal(r, list.as_slice(), [(9, 9)].as_slice());
+    equal(r, closed(r, live).0, 1);
+    is_closed(r, hand);
     Ok(())
 }

@@ -1,64 +1,79 @@
 //! Lanes that are given to new handles.
 
-use super::opening::{Trie, insert, opened, remove};
+use super::opening::{Hand, Trie, insert, opened, opened_one, remove};
 use super::rolling::{jobs, summed, work};
-use super::steps::{Step, closed, fill, last, listed, play, renewed, why_no_look};
-use crate::assertions::{equal, equal_length, holds};
+use super::steps::{Call, Step, closed, go, last, play, renewed, why_no_look};
+use crate::assertions::{equal, holds};
 use aug_live::LiveError;
 use aug_trie::BeginError;
 use std::alloc::Global;
+use std::process::Abort;
 use std::sync::Wait;
 use std::thread;
 
 #[test]
 fn a_new_handle_goes_on_where_a_dropped_one_ended(rt: HostRuntime) -> Result<(), BeginError> {
-    let (live, mut hands) = opened(&rt, rt.alloc(), 6, 2, 3)?;
-    let mut hand = last(&rt, &mut hands);
-    fill(&rt, &mut hand, 0, 8);
-    drop(hand);
-    let hand = renewed(&rt, rt.alloc(), &live, 1).expect(&rt, "a new handle");
-    equal(&rt, hand.universe(), 64);
-    let (mut hand, list) = listed(&rt, rt.alloc(), hand);
-    equal_length(&rt, list.len(), 8);
-    play(&rt, &mut hand, &[Step::Insert(0, Ok(false))]);
-    fill(&rt, &mut hand, 8, 8);
-    equal(&rt, live.roll(&rt), Ok(()));
-    play(&rt, &mut hand, &[Step::Remove(0, Ok(true))]);
-    let (size, counts) = closed(&rt, live);
-    equal(&rt, (size, counts.inserts, counts.removals), (15, 16, 1));
+    let (r, alloc) = (&rt, rt.alloc());
+    let (live, mut hands) = opened(r, alloc, 6, 2, 3)?;
+    go(r, alloc, &live, last(r, &mut hands), &[Call::Fill(0, 8)]);
+    let hand = renewed(r, alloc, &live, 1).expect(r, "a new handle");
+    equal(r, hand.universe(), 64);
+    let calls = [
+        Call::ListsAsMany(8),
+        Call::Play(&[Step::Insert(0, Ok(false))]),
+        Call::Fill(8, 8),
+        Call::Roll,
+        Call::Play(&[Step::Remove(0, Ok(true))]),
+    ];
+    go(r, alloc, &live, hand, &calls);
+    let (size, counts) = closed(r, live);
+    equal(r, (size, counts.inserts, counts.removals), (15, 16, 1));
     Ok(())
+}
+
+// Puts a key in with an old handle, and asks for it once the handle's lane was given on.
+fn is_replaced<R: Wait + Abort>(rt: &R, live: &Trie, old: Hand) {
+    let mut old = old;
+    play(rt, &mut old, &[Step::Insert(6, Err(LiveError::Replaced))]);
+    equal(rt, live.roll(rt), Ok(()));
+    play(rt, &mut old, &[Step::Remove(5, Err(LiveError::Replaced))]);
+    equal(rt, why_no_look(rt, old), Some(LiveError::Replaced));
 }
 
 #[test]
 fn the_old_handle_of_a_lane_that_was_given_on_is_refused(
     rt: HostRuntime,
 ) -> Result<(), BeginError> {
-    let (live, mut hands) = opened(&rt, rt.alloc(), 6, 1, 3)?;
-    let mut old = last(&rt, &mut hands);
-    play(&rt, &mut old, &[Step::Insert(5, Ok(true))]);
-    let mut new = renewed(&rt, rt.alloc(), &live, 0).expect(&rt, "a new handle");
-    play(&rt, &mut old, &[Step::Insert(6, Err(LiveError::Replaced))]);
-    equal(&rt, live.roll(&rt), Ok(()));
-    play(&rt, &mut old, &[Step::Remove(5, Err(LiveError::Replaced))]);
-    equal(&rt, why_no_look(&rt, old), Some(LiveError::Replaced));
-    play(&rt, &mut new, &[Step::Remove(5, Ok(true))]);
-    equal(&rt, closed(&rt, live).0, 0);
+    let (r, alloc) = (&rt, rt.alloc());
+    let (live, hand) = opened_one(r, alloc, 6, 3)?;
+    let mut old = hand;
+    play(r, &mut old, &[Step::Insert(5, Ok(true))]);
+    let mut new = renewed(r, alloc, &live, 0).expect(r, "a new handle");
+    is_replaced(r, &live, old);
+    play(r, &mut new, &[Step::Remove(5, Ok(true))]);
+    equal(r, closed(r, live).0, 0);
     Ok(())
+}
+
+// Puts a key in with a new handle of the lane with its number.
+fn insert_anew<R: Wait + Abort>(rt: &R, alloc: Global, live: &Trie, lane: u32) {
+    let mut hand = renewed(rt, alloc, live, lane).expect(rt, "a new handle");
+    play(rt, &mut hand, &[Step::Insert(lane, Ok(true))]);
 }
 
 #[test]
 fn there_are_as_many_lanes_as_handles(rt: HostRuntime) -> Result<(), BeginError> {
-    let (live, hands) = opened(&rt, rt.alloc(), 6, 3, 3)?;
+    let (r, alloc) = (&rt, rt.alloc());
+    let (live, hands) = opened(r, alloc, 6, 3, 3)?;
     for lane in [3, 4, u32::MAX] {
-        let refused = renewed(&rt, rt.alloc(), &live, lane);
-        equal(&rt, refused.err(), Some(LiveError::NoLane));
+        let refused = renewed(r, alloc, &live, lane);
+        equal(r, refused.err(), Some(LiveError::NoLane));
     }
     drop(hands);
     for lane in 0..3 {
-        let mut hand = renewed(&rt, rt.alloc(), &live, lane).expect(&rt, "a new handle");
-        play(&rt, &mut hand, &[Step::Insert(lane, Ok(true))]);
+        insert_anew(r, alloc, &live, lane);
     }
-    equal(&rt, closed(&rt, live).0, 3);
+    equal(r, closed(r, live).0, 3);
     Ok(())
 }
 

@@ -2,7 +2,9 @@
 
 use super::opening::{Hand, Trie, no_keys, opened_with};
 use super::rolling::worked;
-use super::steps::{closed, fill, last, listed, looked, over, renewed, size, take_newer_snapshot};
+use super::steps::{
+    Call, closed, fill, go, last, looked, over, renewed, size, take_newer_snapshot,
+};
 use crate::assertions::{equal, equal_length, holds};
 use aug_live::{Live, Plan};
 use aug_trie::{BeginError, Members};
@@ -17,12 +19,9 @@ fn roll_over_after_21<R: Wait + Abort>(
     extra: u32,
 ) -> Result<(), BeginError> {
     let (live, mut hands) = opened_with(rt, alloc, 6, 2, 6, 3)?;
-    let mut hand = last(rt, &mut hands);
     let all = 21u32.saturating_add(extra);
-    fill(rt, &mut hand, 0, all);
-    let (hand, list) = listed(rt, alloc, hand);
-    equal_length(rt, list.len(), all as usize);
-    drop(hand);
+    let calls = [Call::Fill(0, all), Call::ListsAsMany(all as usize)];
+    go(rt, alloc, &live, last(rt, &mut hands), &calls);
     let (size, counts) = closed(rt, live);
     let rounds = u64::from(extra).saturating_add(1);
     equal(

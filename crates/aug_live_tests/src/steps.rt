@@ -32,6 +32,22 @@ pub(super) enum Query {
     After(u32, Option<u32>),
 }
 
+/// What is done with a trie and a handle.
+#[derive(Clone, Copy)]
+pub(super) enum Call<'a> {
+    Play(&'a [Step]),
+    /// Puts keys in, from the first number on as many as the second, none of which is a member yet.
+    Fill(u32, u32),
+    /// Takes a look, which lists these members with their weights.
+    Lists(&'a [(u32, u32)]),
+    /// Takes a look, which lists as many members.
+    ListsAsMany(usize),
+    /// Drops the handle, and goes on with a new one of the lane with this number.
+    Renew(u32),
+    /// Rolls the round over.
+    Roll,
+}
+
 /// Makes updates in their order.
 pub(super) fn play<R: Wait + Abort>(rt: &R, hand: &mut Hand, steps: &[Step]) {
     for step in steps {
@@ -149,4 +165,37 @@ pub(super) fn listed<R: Wait + Abort>(
     let mut look = looked(rt, hand);
     let list = pairs(rt, alloc, &mut look);
     (over(look), list)
+}
+
+// The last handle that comes of a call.
+fn act<R: Wait + Abort>(rt: &R, alloc: Global, live: &Trie, hand: Hand, call: Call) -> Hand {
+    let mut hand = hand;
+    match call {
+        Call::Play(steps) => play(rt, &mut hand, steps),
+        Call::Fill(from, count) => fill(rt, &mut hand, from, count),
+        Call::Roll => equal(rt, live.roll(rt), Ok(())),
+        Call::Lists(members) => {
+            let (same, list) = listed(rt, alloc, hand);
+            equal(rt, list.as_slice(), members);
+            return same;
+        }
+        Call::ListsAsMany(count) => {
+            let (same, list) = listed(rt, alloc, hand);
+            equal(rt, list.len(), count);
+            return same;
+        }
+        Call::Renew(lane) => {
+            drop(hand);
+            return renewed(rt, alloc, live, lane).expect(rt, "a new handle");
+        }
+    }
+    hand
+}
+
+/// Makes calls with a trie and a handle, which is dropped at the end.
+pub(super) fn go<R: Wait + Abort>(rt: &R, alloc: Global, live: &Trie, hand: Hand, calls: &[Call]) {
+    let mut hand = hand;
+    for call in calls {
+        hand = act(rt, alloc, live, hand, *call);
+    }
 }

@@ -60,23 +60,37 @@ fn run_line<R: Threads + Wait>(
 #[test]
 fn help_goes_to_the_output(rt: HostRuntime) -> Result<(), Fail> {
     let left = run_line(&rt, rt.alloc(), "--help a.csv", None, None)?;
-    equal(&rt, left.status, 0);
+    equal(
+        &rt,
+        (
+            left.status,
+            left.output.finished,
+            left.errors.calls,
+            left.opened,
+        ),
+        (0, 1, 0, 0),
+    );
     holds(&rt, left.output.out.starts_with(b"Runs a script"));
-    equal(&rt, (left.output.finished, left.errors.calls), (1, 0));
-    equal(&rt, left.opened, 0);
     Ok(())
 }
 
 #[test]
 fn wrong_words_are_told_before_the_file_is_opened(rt: HostRuntime) -> Result<(), Fail> {
     let left = run_line(&rt, rt.alloc(), "--bits 17 a.csv", None, None)?;
-    equal(&rt, left.status, 2);
+    equal(
+        &rt,
+        (
+            left.status,
+            left.output.calls,
+            left.errors.finished,
+            left.opened,
+        ),
+        (2, 0, 1, 0),
+    );
     holds(
         &rt,
         left.errors.out.starts_with(b"error: invalid value '17'"),
     );
-    equal(&rt, (left.output.calls, left.errors.finished), (0, 1));
-    equal(&rt, left.opened, 0);
     Ok(())
 }
 
@@ -87,10 +101,17 @@ fn a_script_comes_from_standard_input_or_the_file(rt: HostRuntime) -> Result<(),
         ("a.csv", "1 0 size = 0\n1 end size=0 in=0 out=0\n", 1),
     ] {
         let left = run_line(&rt, rt.alloc(), line, None, None)?;
-        equal(&rt, left.status, 0);
+        equal(
+            &rt,
+            (
+                left.status,
+                left.output.finished,
+                left.errors.calls,
+                left.opened,
+            ),
+            (0, 1, 0, opened),
+        );
         equal(&rt, left.output.out.as_slice(), text.as_bytes());
-        equal(&rt, (left.output.finished, left.errors.calls), (1, 0));
-        equal(&rt, left.opened, opened);
     }
     Ok(())
 }
@@ -98,13 +119,12 @@ fn a_script_comes_from_standard_input_or_the_file(rt: HostRuntime) -> Result<(),
 #[test]
 fn a_file_that_is_not_there_is_a_fault_of_the_input(rt: HostRuntime) -> Result<(), Fail> {
     let left = run_line(&rt, rt.alloc(), "b.csv", None, None)?;
-    equal(&rt, left.status, 3);
+    equal(&rt, (left.status, left.output.calls), (3, 0));
     equal(
         &rt,
         left.errors.out.as_slice(),
         b"augtrie: input\n".as_slice(),
     );
-    equal(&rt, left.output.calls, 0);
     Ok(())
 }
 
@@ -141,8 +161,7 @@ fn limits_and_memory_have_lines_of_their_own(rt: HostRuntime) {
         (Stop::OutOfMemory, 4, "augtrie: memory\n"),
     ] {
         let left = left_by(&rt, rt.alloc(), Err(stop), b"0,look", b"", None, None);
-        equal(&rt, left.status, status);
+        equal(&rt, (left.status, left.output.calls), (status, 0));
         equal(&rt, left.errors.out.as_slice(), line.as_bytes());
-        equal(&rt, left.output.calls, 0);
     }
 }

@@ -2,6 +2,7 @@
 use crate::assertions::{equal, equal_at, holds_at};
 use aug_run::{Options, Stop, options};
 use std::alloc::{AllocError, Global};
+use std::process::Abort;
 use std::test::Fail;
 
 // What the words of a line, parted by blanks, ask for.
@@ -27,6 +28,34 @@ fn refusal(alloc: Global, line: &str) -> Result<(u8, String), AllocError> {
     }
 }
 
+// The path that was asked for.
+fn path_of(options: &Options) -> Option<&str> {
+    match &options.file {
+        Some(path) => Some(path.as_str()),
+        None => None,
+    }
+}
+
+// Compares what the words of a line ask for with bits, workers and updates, and a path.
+fn reads(
+    rt: &impl Abort,
+    alloc: Global,
+    line: &str,
+    numbers: (u32, u32, u32),
+    file: Option<&str>,
+) -> Result<(), Fail> {
+    let found = asked(alloc, line)?.ok().ok_or("no options")?;
+    let limits = &found.limits;
+    equal_at(
+        rt,
+        (limits.bits(), limits.workers(), limits.updates()),
+        numbers,
+        format_args!("in {line}"),
+    );
+    equal_at(rt, path_of(&found), file, format_args!("in {line}"));
+    Ok(())
+}
+
 #[test]
 fn reads_options_and_a_file(rt: HostRuntime) -> Result<(), Fail> {
     for (line, bits, updates, file) in [
@@ -41,24 +70,7 @@ fn reads_options_and_a_file(rt: HostRuntime) -> Result<(), Fail> {
         ),
         ("-- --bits", 4, 64, Some("--bits")),
     ] {
-        let found = asked(rt.alloc(), line)?.ok().ok_or("no options")?;
-        equal_at(&rt, found.limits.bits(), bits, format_args!("in {line}"));
-        equal_at(&rt, found.limits.workers(), 1, format_args!("in {line}"));
-        equal_at(
-            &rt,
-            found.limits.updates(),
-            updates,
-            format_args!("in {line}"),
-        );
-        equal_at(
-            &rt,
-            found.file.is_some(),
-            file.is_some(),
-            format_args!("in {line}"),
-        );
-        if let (Some(path), Some(want)) = (&found.file, file) {
-            equal_at(&rt, path.as_str(), want, format_args!("in {line}"));
-        }
+        reads(&rt, rt.alloc(), line, (bits, 1, updates), file)?;
     }
     Ok(())
 }

@@ -4,7 +4,7 @@ ghost use Rattle.std.specs.Prelude.{◌≡◌, length};
 ghost use Rattle.std.specs.Arc.{arc_value};
 
 use super::rounds::{Trie, Work, Worker, back, begun};
-use crate::assertions::equal;
+use crate::assertions::{equal, holds};
 use aug_lane::LaneError;
 use aug_model::Outcome;
 use aug_trie::{BeginError, Ended};
@@ -110,7 +110,11 @@ fn ask_for_a_key(rt: &impl Abort, lane: Worker, query: Query) -> Worker {
             equal(rt, found, answer);
             lane
         }
-        _ => lane,
+        // The others are asked above: one that is not must not pass unasked.
+        _ => {
+            holds(rt, false);
+            lane
+        }
     }
 }
 

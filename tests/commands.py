@@ -1,5 +1,5 @@
 #!/usr/bin/env python3
-"""Runs ./run and the scripts of tools/ over programs that stand in for the toolchain, the built programs, git and gnuplot, and holds what is
+"""Runs ./run and the scripts of tools/ over programs that stand in for the toolchain, the built program and git, and holds what is
 called, what is written and the exit status to what they should be.
 
 usage: tests/commands.py
@@ -36,37 +36,6 @@ PROGRAM = r"""#!/bin/bash
 printf '[%s]' "$@"
 echo " $(cat)"
 exit 3
-"""
-
-# Stands in for the measuring program: it shows its words, and the processors that it and each of its further threads may run on.
-MEASURING = r"""#!/usr/bin/env python3
-import os, sys, threading
-found = [os.sched_getaffinity(0)]
-all_here = threading.Barrier(int(sys.argv[2]))
-def look():
-    all_here.wait()
-    found.append(os.sched_getaffinity(0))
-threads = [threading.Thread(target=look) for _ in range(int(sys.argv[2]) - 1)]
-for thread in threads: thread.start()
-all_here.wait()
-for thread in threads: thread.join()
-print("trie", *sys.argv[1:], "on", *sorted(processor for it in found if len(it) == 1 for processor in it))
-sys.exit(sys.argv[1] == os.environ.get("FAILS"))
-"""
-
-# Stands in for the compiler of Rust: it makes the file behind -o.
-COMPILER = r"""#!/bin/bash
-while (($#)); do if [[ $1 == -o ]]; then printf '#!/bin/bash\necho plain "${@:2}"\n' >"$2" && chmod +x "$2"; fi; shift; done
-"""
-
-# Stands in for valgrind: the program executes 1,000 instructions, and for each operation as many as the length of the operation's name.
-VALGRIND = r"""#!/bin/bash
-shift 2
-if [[ $2 == count ]]; then shift; fi
-all=1000
-if [[ $2 != none && $2 != live ]]; then all=$((1000 + $3 * ${#2})); fi
-echo "${1##*/} $*" >>"$ROOM/called"
-echo "==1== Collected : $all" >&2
 """
 
 # Stands in for git: the commit `base` is the folder of that name, and the file `changed` names what was changed since.
@@ -246,7 +215,7 @@ mod tests {
         "crates/low/proofs/shelf/empty/Answers.antt": "use Rattle.low.proofs.Counting.{one_less}\n",
         "crates/low/proofs/shelf/Shelf/take/Answers.antt": "is_some = refl\n",
         "crates/low/must-fail/take_keeps_the_book.edit": "file: src/shelf.rt\nold: self.books -= 1;\nnew: self.books -= 0;\n",
-        "crates/low/must-fail/empty_is_full.edit": "file: src/shelf.rt\nold: self.books == 0\nnew: self.books == 9\n",
+        "edits/low/empty_is_full.edit": "file: src/shelf.rt\nold: self.books == 0\nnew: self.books == 9\n",
         "crates/middle/src/lib.rt": "fn of(shelf: &Shelf) -> bool {\n    shelf.is_empty()\n}\n",
         "crates/high/src/main.rt": "fn main() {\n    shelf.take();\n}\n",
         "crates/high/src/other.rt": "// take() is not called here\nfn other() {}\n",
@@ -288,7 +257,7 @@ mod tests {
         called, out = self.quick(("crates/low/src/shelf.rt", "self.books -= 1;", "self.books -= 1; "))
         self.assertEqual(called, ["low: [check] [--only] [Shelf::take]"])
         self.assertIn("rt check in low: Shelf::take: only=1 proved=1; not its other files", out)
-        self.assertIn("the old texts of 2 stand once each, and none was tried; in changed functions: take_keeps_the_book (rt must-fail low)\n", out)
+        self.assertIn("the old texts of 2 stand once each, and none was tried; in changed functions: take_keeps_the_book (rt must-fail low, tools/edits low)\n", out)
 
     def test_module_of_a_trait_is_checked(self):
         self.assertEqual(self.quick(("crates/low/src/shelf.rt", "        empty(self);", ""))[0], ["low: [check] [--only] [low::shelf]"])
@@ -350,126 +319,5 @@ mod tests {
         self.assertEqual(self.read("called").splitlines(), ["low: [check] [--only] [Shelf::take]"])
 
 
-class Measure(Folder):
-    """tools/measure runs each workload with each number of threads, each in its place, or counts instructions."""
-
-    copied = ["tools/measure", "tools/place.c"]
-
-    def setUp(self):
-        super().setUp()
-        self.write("bin/rustc", COMPILER, 0o755)
-        self.write("bin/valgrind", VALGRIND, 0o755)
-        self.write("crates/augbench/out/augbench", MEASURING, 0o755)
-
-    def test_measures_each_workload_with_threads_in_their_places(self):
-        first, *more = sorted(os.sched_getaffinity(0))
-        out, err, status = self.run_script("tools/measure", str(first), SECONDS_EACH="3")
-        self.assertEqual((err, status), ("", 0))
-        lines = out.splitlines()
-        engines = {name: ["trie", "plain"] if name in "UMQ" else ["trie"] for name in "UCMPQS"}
-        names = [f"{engine} {name} {count} 3" for name in engines for count in (1, 2, 4) for engine in engines[name]]
-        self.assertEqual([line.split(" on ")[0] for line in lines], names)
-        self.assertEqual(lines[0].split(" on ")[1], f"{first}")
-        if first + 1 in more:
-            self.assertEqual(lines[2].split(" on ")[1], f"{first} {first + 1}")
-
-    def test_measures_the_named_workloads_without_rustc(self):
-        for name in ["env", "bash", "mktemp", "rm", "cc", "as", "ld", "dirname", "python3"]:
-            os.symlink(shutil.which(name), os.path.join(self.folder, "bin", name))
-        os.remove(os.path.join(self.folder, "bin/rustc"))
-        first = str(min(os.sched_getaffinity(0)))
-        out, err, status = self.run_script("tools/measure", first, path=os.path.join(self.folder, "bin"), WORKLOADS="Q M", SECONDS_EACH="3")
-        self.assertEqual([line.split(" on ")[0] for line in out.splitlines()], [f"trie {name} {count} 3" for name in "QM" for count in (1, 2, 4)])
-        self.assertEqual((err, status), ("tools/measure: no rustc, so plain Rust is left out\n", 0))
-
-    def test_program_that_fails_ends_it(self):
-        first = min(os.sched_getaffinity(0))
-        out, _, status = self.run_script("tools/measure", str(first), FAILS="P")
-        self.assertEqual((out.splitlines()[-1], status), (f"trie P 1 2 on {first}", 1))
-
-    def test_program_that_is_not_built(self):
-        os.remove(os.path.join(self.folder, "crates/augbench/out/augbench"))
-        out, err, status = self.run_script("tools/measure", "0")
-        self.assertEqual(out, "")
-        self.assertIn("augbench", err)
-        self.assertNotEqual(status, 0)
-
-    def test_no_processor_named(self):
-        out, err, status = self.run_script("tools/measure")
-        self.assertEqual((out, status), ("", 1))
-        self.assertIn("usage: tools/measure CPU0", err)
-
-    def test_counts_instructions_of_each_operation(self):
-        out, err, status = self.run_script("tools/measure", "counts")
-        updates, queries = ["new", "dup", "put"], ["has", "rank", "select", "before", "after", "range"]
-        named = [("trie", updates + queries + ["size"]), ("updated", queries + ["size"])]
-        lines = [f"{name} {operation} {len(operation)}" for name, operations in named for operation in operations]
-        lines += ["trie keys 4", "live live_new 8", "live roll 4"]
-        lines += [f"{name} {operation} {len(operation)}" for name in ("checked", "unchecked") for operation in updates + queries]
-        self.assertEqual((out.splitlines(), err, status), (lines, "", 0))
-        called = self.read("called").splitlines()
-        self.assertEqual(len(called), 2 * len(lines))
-        self.assertTrue(called[0].endswith(" new 8000 --bits 16 --gap 1"), called[0])
-        self.assertTrue(called[-1].endswith(" none 8000 16 1"), called[-1])
-        self.assertEqual(sum(" live 8000 --bits 16 --gap 1" in line for line in called), 1)
-
-    def test_counts_without_rustc_leave_plain_rust_out(self):
-        for name in ["env", "bash", "mktemp", "rm", "awk", "dirname"]:
-            os.symlink(shutil.which(name), os.path.join(self.folder, "bin", name))
-        os.remove(os.path.join(self.folder, "bin/rustc"))
-        out, err, status = self.run_script("tools/measure", "counts", path=os.path.join(self.folder, "bin"))
-        self.assertEqual([line.split()[0] for line in out.splitlines()], ["trie"] * 10 + ["updated"] * 7 + ["trie"] + ["live"] * 2)
-        self.assertEqual((err, status), ("tools/measure: no rustc, so plain Rust is left out\n", 0))
-
-
-class Picture(Folder):
-    """tools/picture has gnuplot draw the middle one of each ratio of its files."""
-
-    copied = ["tools/picture"]
-
-    # What it calls beside gnuplot.
-    CALLED = ["env", "bash", "mktemp", "rm", "awk", "sort", "cat"]
-
-    def setUp(self):
-        super().setUp()
-        # with one thread the mutex makes 2, 4 and 5 million a second, and the trie 3, 3 and 10, a third of that with openings
-        for name, mutex, trie in ("one", 2, 3), ("two", 4, 3), ("three", 5, 10):
-            rows = [("mutex", 1, mutex, mutex), ("trie", 1, trie, trie / 3), ("trie", 2, 2 * trie, trie)]
-            lines = [f"{engine} U {threads} mops={speed:.3f} with_openings={slow:.3f} opening_ms=0.000 unchanged=0.500\n" for engine, threads, speed, slow in rows]
-            self.write(name, "".join(lines))
-        for name in self.CALLED:
-            os.makedirs(os.path.join(self.folder, "bin"), exist_ok=True)
-            os.symlink(shutil.which(name), os.path.join(self.folder, "bin", name))
-
-    def draw(self, *files):
-        return self.run_script("tools/picture", *files, path=os.path.join(self.folder, "bin"))
-
-    def test_draws_the_middle_of_each_ratio(self):
-        shown = r"""#!/bin/bash
-while read -r line; do
-    if [[ $line =~ ^plot\ \"([^\"]*)/\" ]]; then echo "U: $(cat "${BASH_REMATCH[1]}/U-trie"), $(cat "${BASH_REMATCH[1]}/U-mutex")"; fi
-done
-"""
-        self.write("bin/gnuplot", shown, 0o755)
-        out, err, status = self.draw("one", "two", "three")
-        self.assertEqual((out, status), ("U: 1 1.5\n2 3, 1 1\n", 0))
-        self.assertEqual(err, "U mutex 1 1\nU trie 1 1.5\nU trie 2 3\nU with_openings 1 0.5\nU with_openings 2 1.5\n")
-
-    def test_without_gnuplot_it_fails_and_draws_nothing(self):
-        out, err, status = self.draw("one")
-        self.assertEqual((out, status), ("", 127))
-        self.assertIn("gnuplot: command not found", err)
-
-    def test_gnuplot_that_fails_is_told(self):
-        self.write("bin/gnuplot", "#!/bin/bash\ncat >/dev/null\nexit 5\n", 0o755)
-        self.assertEqual(self.draw("one")[2], 5)
-
-    def test_no_file_named(self):
-        self.write("bin/gnuplot", "#!/bin/bash\ncat\n", 0o755)
-        out, err, status = self.draw()
-        self.assertEqual((out, status), ("", 1))
-        self.assertIn("usage: tools/picture FILE..", err)
-
-
 if __name__ == "__main__":
-    sys.exit(programs.run_classes("commands.py", [Run, Quick, Measure, Picture]))
+    sys.exit(programs.run_classes("commands.py", [Run, Quick]))

@@ -675,20 +675,40 @@ class Edits(InFolder):
 
     def run_edits(self, *new, names=()):
         self.write("one/src/lib.rt", "fn nothing() {}\n")
-        rows = [self.write(f"one/must-fail/{number}.edit", f"file: src/lib.rt\nold: nothing\nnew: {text}\n") for number, text in enumerate(new)]
+        self.write("rattle", self.COMPILER, 0o755)
+        for number, text in enumerate(new):
+            tier = "edits/one" if number else "one/must-fail"
+            self.write(f"{tier}/{number}.edit", f"{text} {number}")
         crate = SimpleNamespace(name="one", folder=os.path.join(self.folder, "one"), words=lambda flags: flags)
-        rtlib = SimpleNamespace(PARTS=["src", "proofs"], RATTLE=self.write("rattle", self.COMPILER, 0o755), crates_below=lambda top: [crate])
-        read = lambda edit, folder: ({}, "it cannot be applied") if "odd" in open(edit).read() else ({"src/lib.rt": open(edit).read()}, None)
-        rt = SimpleNamespace(rtlib=rtlib, edits_of=lambda crate: (rows, []), read_edit=read)
+        rtlib = SimpleNamespace(PARTS=["src", "proofs"], RATTLE=os.path.join(self.folder, "rattle"), crates_below=lambda top: [crate])
+        first = [os.path.join(self.folder, "one/must-fail/0.edit")] if new else []
+        rt = SimpleNamespace(rtlib=rtlib, edits_of=lambda crate: (first, []), read_edit=self.read_edit)
         return quietly(edits.main, list(names), rt, self.folder)
 
-    def test_edits_that_are_taken(self):
-        self.assertEqual(self.run_edits("something", "anything", names=["one"]), (0, "2 passed, 0 failed\n"))
+    def read_edit(self, edit, folder):
+        """An edit adds its line to the source. An odd one cannot be applied, and one that is jealous not where another was."""
+        with open(edit) as file, open(os.path.join(folder, "src/lib.rt")) as source:
+            line, text = file.read(), source.read()
+        if "odd" in line or "jealous" in line and text != "fn nothing() {}\n":
+            return None, "it cannot be applied"
+        return {"src/lib.rt": text + line}, None
+
+    def test_edits_of_both_tiers_that_are_taken(self):
+        self.assertEqual(self.run_edits("something", "anything", "more", names=["one"]), (0, "3 passed, 0 failed\n"))
+
+    def test_edits_that_are_in_each_other_s_way(self):
+        self.assertEqual(self.run_edits("something", "jealous", "jealous"), (0, "3 passed, 0 failed\n"))
 
     def test_edit_that_the_compiler_does_not_take(self):
-        status, said = self.run_edits("something", "nonsense")
-        self.assertEqual((status, said.splitlines()[-1]), (1, "1 passed, 1 failed"))
-        self.assertIn("1.edit: src/lib.rt:1:1: error: no such word", said)
+        for at in range(3):
+            status, said = self.run_edits(*(["something"] * at + ["nonsense"] + ["something"] * (2 - at)))
+            self.assertEqual((status, said.splitlines()[-1]), (1, "2 passed, 1 failed"))
+            self.assertIn(f"/{at}.edit: src/lib.rt:1:1: error: no such word", said)
+
+    def test_edits_of_no_crate(self):
+        self.write("edits/two/0.edit", "something")
+        status, said = self.run_edits("something", "something")
+        self.assertEqual((status, said.splitlines()), (1, ["edits/two: crates.txt has no such crate", "1 passed, 1 failed"]))
 
     def test_edit_that_cannot_be_applied(self):
         status, said = self.run_edits("odd")
@@ -714,7 +734,7 @@ class Assertions(unittest.TestCase):
             if name.endswith("_tests"):
                 with open(os.path.join(crates, name, "src", "assertions.rt"), encoding="utf-8") as file:
                     copies[name] = file.read()
-        self.assertGreaterEqual(len(copies), 11)
+        self.assertGreaterEqual(len(copies), 10)
         tested = copies["aug_monoid_tests"]
         self.assertIn("fn equal<", tested)
         self.assertEqual([name for name, text in copies.items() if text != tested], [])
@@ -734,12 +754,10 @@ class Gate(InFolder):
         for name in self.scripts:
             self.write(f"tests/{name}", f'#!/bin/sh\necho "{name} $*" >>{self.folder}/ran\necho "10 passed, 0 failed"\n', 0o755)
 
-    def run_gate(self, said="7 passed, 0 failed", status=0, built=("augtrie", "augbench")):
+    def run_gate(self, said="7 passed, 0 failed", status=0, is_built=True):
         """Runs it with an rt that says so and ends so: its last line, its status, and what it ran."""
-        for name in "augtrie", "augbench":
-            self.write(f"crates/{name}/out/{name}", "", 0o755)
-        for name in built:
-            self.write(f"crates/{name}/out/{name}.by-rattle", "", 0o755)
+        for ending in ["", ".by-rattle"] if is_built else [""]:
+            self.write(f"crates/augtrie/out/augtrie{ending}", "", 0o755)
         self.write("said", said + "\n")
         self.write("ran", "")
         self.write("bin/rt", f'#!/bin/sh\necho "rt $*" >>{self.folder}/ran\ncat said\nexit {status}\n', 0o755)
@@ -780,13 +798,13 @@ class Gate(InFolder):
 
     def test_build_that_is_not_there_is_asked_for(self):
         # so that the script counts it as one that failed
-        for said in "7 passed, 0 failed", f"== augbench\n{self.NOTE}\n== augtrie\n7 passed, 0 failed":
-            asked = self.programs_of("outside.py", said=said, built=())
+        for said in "7 passed, 0 failed", f"== other\n{self.NOTE}\n== augtrie\n7 passed, 0 failed":
+            asked = self.programs_of("outside.py", said=said, is_built=False)
             self.assertEqual(asked, ["crates/augtrie/out/augtrie", "crates/augtrie/out/augtrie.by-rattle"])
 
     def test_build_that_was_refused_is_not_asked_for(self):
-        said = f"== augtrie\n{self.NOTE}\nrt: augtrie proved\n== augbench\nrt: augbench proved\n7 passed, 0 failed"
-        self.assertEqual(self.programs_of("outside.py", said=said, built=("augbench",)), ["crates/augtrie/out/augtrie"])
+        said = f"== augtrie\n{self.NOTE}\nrt: augtrie proved\n== other\nrt: other proved\n7 passed, 0 failed"
+        self.assertEqual(self.programs_of("outside.py", said=said, is_built=False), ["crates/augtrie/out/augtrie"])
 
 
 def main():

@@ -98,7 +98,7 @@ def wrong_names(text, top):
     sources = files(top, "crates/*/src/**/*.rt")
     tests = {name for path in sources for name in re.findall(r"#\[test\]\s*(?:#\[.*\]\s*)*fn (\w+)", read(path))}
     tests |= {name for path in files(top, "tests/*.py") for name in re.findall(r"def test_(\w+)", read(path))}
-    edits = {os.path.basename(path).removesuffix(".edit") for path in files(top, "crates/*/must-fail/*.edit")}
+    edits = {os.path.basename(path)[:-5] for tier in ("crates/*/must-fail", "edits/*") for path in files(top, f"{tier}/*.edit")}
     of_tests = [cells[4] for cells in rows(text, "Call")] + [cells[1] for cells in rows(text, "What is tested")]
     of_tests += [cells[3] for cells in rows(text, "Crate") if cells[3].startswith("none")]
     of_edits = [cells[5] for cells in rows(text, "Call")]

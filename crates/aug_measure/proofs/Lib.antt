@@ -1,3 +1,0 @@
-pub mod Budgets
-pub mod Queues
-pub mod Spreads

@@ -1,5 +1,0 @@
-pub mod Answers
-pub mod Threads
-pub mod Laps
-pub mod Totals
-pub mod Workloads

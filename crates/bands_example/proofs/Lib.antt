@@ -1,2 +1,0 @@
-mod Descent
-mod Halving

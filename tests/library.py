@@ -1,6 +1,6 @@
 #!/usr/bin/env python3
 """Installs the library for other languages below a folder of its own, as both compilers of the toolchain build it, and runs the tests and
-examples of bindings/ over it, and those in C under valgrind as well.
+examples of bindings/ over it, and those in C under valgrind as well. The benchmark in bench/ runs briefly over the library as LLVM builds it.
 
 usage: tests/library.py [--names | --after-ci]
 
@@ -10,6 +10,7 @@ the codes alone. It says what it leaves out where a C compiler, cargo or valgrin
 status is 0 where none failed. It needs Python 3.8 or later and the toolchain.
 """
 
+import glob
 import os
 import re
 import shutil
@@ -17,6 +18,7 @@ import subprocess
 import sys
 import tempfile
 import unittest
+import xml.etree.ElementTree
 
 import kit
 from programs import run_classes
@@ -26,8 +28,22 @@ BINDINGS = os.path.join(TOP, "bindings")
 BACKENDS = ["llvm", "rattle"]
 CC = os.environ.get("CC", "cc")
 
-# The fewest tests that each part must have run in one folder.
-LEAST_PYTHON, LEAST_RUST = 7, 6
+# The fewest tests that each part must have run in one folder, and the fewest answers that the benchmark compares of an engine and a workload.
+LEAST_PYTHON, LEAST_RUST, LEAST_ANSWERS = 7, 6, 2001
+
+# The engines of the benchmark, and the types that their threads work with. The last one needs a crate that may not be there.
+ENGINES = {
+    "trie": r"&mut augtrie::lane::Lane",
+    "plain": r"augtrie_bench::plain::pass::Pass<.*false>",
+    "mutex": r"&std::[\w:]*::Mutex<augtrie_bench::sums::Sums>",
+    "rwlock": r"&std::[\w:]*::RwLock<augtrie_bench::sums::Sums>",
+    "btree": r"&std::[\w:]*::RwLock<alloc::[\w:]*::BTreeMap<u32, u32>>",
+    "copies": r"&augtrie_bench::copies::Copies",
+}
+if not glob.glob("/usr/share/cargo/registry/arc-swap-*"):
+    del ENGINES["copies"]
+
+WORKLOADS = ["updates", "tenth", "queries", "batches"]
 
 # What the examples print.
 PRINTED = {
@@ -178,6 +194,105 @@ class Crate:
         self.assertEqual(self.cargo("run", "--example", "order_book").splitlines(), PRINTED["order_book"])
 
 
+def table(lines, first):
+    """The rows of the table whose head begins with a cell, by their first cells: each has its cells by the names of the columns, the first of those
+    that have a name twice."""
+    rows = [[cell.strip() for cell in line.strip("|").split("|")] for line in lines if line.startswith("|")]
+    at = next(number for number, row in enumerate(rows) if row[0] == first)
+    found = {}
+    for row in rows[at + 2 :]:
+        if len(row) != len(rows[at]) or row[0] in found:
+            break
+        found[row[0]] = dict(reversed(list(zip(rows[at], row))))
+    return found
+
+
+class Bench:
+    """The benchmark, which works with what callers in Rust have."""
+
+    def script(self, name, *words, status=0):
+        env = {**os.environ, "AUGTRIE_LIB": os.path.join(self.folder, "lib"), "CARGO_TARGET_DIR": os.path.join(self.folder, "bench")}
+        return said_by(os.path.join(TOP, "bench", name), *words, status=status, env=env)
+
+    def verdicts(self, *words, **how):
+        """The engines that were compared with the trie, and the answers in which they agreed, or None."""
+        said = self.script("run", "--check", *words, **how)
+        found = re.findall(r"^(\w+): trie and (\w+) (?:agree in (\d+)|DIFFER after \d+) answers$", said, re.M)
+        self.assertEqual([it[:2] for it in found], [(workload, engine) for workload in WORKLOADS for engine in list(ENGINES)[1:]], said)
+        return [int(it[2]) if it[2] else None for it in found]
+
+    def test_bench_engines_agree(self):
+        # An odd key is no member at first.
+        for words in [], ["--without", "1"]:
+            self.assertGreaterEqual(min(self.verdicts(*words)), LEAST_ANSWERS)
+
+    def test_bench_finds_that_a_key_is_missing(self):
+        self.assertEqual(set(self.verdicts("--without", "0", status=1)), {None})
+
+    def test_bench_finds_an_engine_under_the_name_of_another(self):
+        for one, other in (2, 3), (0, 1):
+            names = [list(ENGINES)[number] for number in (one, other)]
+            said = self.script("run", "--rename", str(one), str(other), "--passes", "1", "--slice", "1", "--workload", "queries", status=1)
+            self.assertIn(f"bench: {names[0]} was run under the name of {names[1]}\n", said)
+
+    def test_bench_measures_each_engine(self):
+        said = self.script("run", "--passes", "1", "--slice", "2", "--updates", "64", "--into", os.path.join(self.folder, "measured"))
+        with open(os.path.join(self.folder, "measured", "throughput.md"), encoding="utf-8") as file:
+            lines = file.read().splitlines()
+        self.assertIn("\n".join(lines), said)
+        seats = table(lines, "Engine")
+        self.assertEqual(list(seats), list(ENGINES))
+        for name, seat in ENGINES.items():
+            self.assertRegex(seats[name]["What its threads work with"], f"^`{seat}`$")
+        rates, ratios = table(lines, "Million operations a second"), table(lines, "The trie's throughput as a part of")
+        processors = len(os.sched_getaffinity(0))
+        cases = [f"{workload}, {count} thread{'s' * (count > 1)}" for workload in WORKLOADS for count in (1, 2, 4) if count <= processors]
+        self.assertEqual((list(rates), list(ratios)), (cases, cases))
+        for case in cases:
+            self.check_case(rates[case], ratios[case], case.startswith("queries"))
+        self.check_picture(os.path.join(self.folder, "measured", "throughput.svg"), len(cases) // len(WORKLOADS))
+
+    def check_case(self, rates, ratios, is_queries):
+        """Holds the numbers of a case to one another. Of one pass, each median is the number itself."""
+        number = lambda text: float(text.partition(" ")[0])
+        rate = {name: number(rates[name]) for name in ENGINES}
+        self.assertTrue(all(0 < it < 1000 for it in rate.values()), rates)
+        for name in list(ENGINES)[1:]:
+            self.assertAlmostEqual(number(ratios[name]) / (rate["trie"] / rate[name]), 1, delta=0.02, msg=name)
+        best = max(list(ENGINES)[2:], key=lambda name: rate[name])
+        best_ratio = re.fullmatch(r"(\S+) \(.*\) of (\w+)", ratios["the best lock's"])
+        self.assertLessEqual(rate[best] / rate[best_ratio[2]], 1.01)
+        self.assertEqual(number(ratios[best_ratio[2]]), float(best_ratio[1]))
+        opened = rates["openings counted in"], ratios["this with openings counted in"]
+        if is_queries:
+            self.assertEqual(opened, ("", ""))
+        else:
+            self.assertLess(number(opened[0]), rate["trie"])
+            self.assertLessEqual(number(opened[1]), float(best_ratio[1]))
+
+    def check_picture(self, path, points):
+        """There is a panel a workload, and in it a line an engine, and another one for its openings, through as many points as there are cases."""
+        name = "{http://www.w3.org/2000/svg}"
+        panels = xml.etree.ElementTree.parse(path).getroot().findall(f"{name}g")
+        self.assertEqual(len(panels), len(WORKLOADS))
+        for workload, panel in zip(WORKLOADS, panels):
+            lines = [it.get("d") for it in panel.findall(f"{name}path") if it.get("stroke-width") == "2"]
+            self.assertEqual(len(lines), len(ENGINES) + (0 if workload == "queries" else 2))
+            self.assertEqual({line.count("L") + 1 for line in lines}, {points})
+
+
+class Counted:
+    """The instructions of calls."""
+
+    def test_bench_counts_instructions(self):
+        lines = self.script("counts", "size", "rank").splitlines()
+        counts = table(lines, "Instructions of a call")
+        self.assertEqual(list(counts), ["the library through C", "plain Rust, bounds checks", "plain Rust, no bounds checks"])
+        for row in counts.values():
+            # A rank goes down 16 levels.
+            self.assertTrue(0 < 3 * int(row["`size`"]) < int(row["`rank`"]) < 2000, counts)
+
+
 def main(words):
     if words == ["--names"]:
         print("library.py: the library is not built, and what runs over it is left out: tests/library.py alone runs all")
@@ -185,20 +300,24 @@ def main(words):
     if words not in ([], ["--after-ci"]):
         print("usage: tests/library.py [--names | --after-ci]", file=sys.stderr)
         return 2
-    parts = []
-    if runs(CC) and runs("ar"):
-        parts.append(Installed)
-        for tool, part in (("valgrind", Checked), ("cargo", Crate)):
-            if runs(tool):
-                parts.append(part)
-            else:
-                print(f"library.py: no {tool}: its tests are left out")
+    # The benchmark runs over one of the builds alone.
+    needed = [([], Installed, BACKENDS), (["valgrind"], Checked, BACKENDS), (["cargo"], Crate, BACKENDS)]
+    needed += [(["cargo"], Bench, ["llvm"]), (["cargo", "valgrind"], Counted, ["llvm"])]
+    found = runs(CC) and runs("ar")
+    if found:
+        missing = [tool for tool in ("valgrind", "cargo") if not runs(tool)]
+        for tool in missing:
+            print(f"library.py: no {tool}: its tests are left out")
+        needed = [it for it in needed if not set(it[0]) & set(missing)]
     else:
         print(f"library.py: no C compiler {CC}, or no ar: the library is not built, and what runs over it is left out")
     with tempfile.TemporaryDirectory() as folder:
-        made = archives(folder) if parts and words else {}
-        given = [{"backend": backend, "archives": made} for backend in BACKENDS if parts]
-        return run_classes("library.py", [Names, *(type(f"By_{it['backend']}", (*parts, unittest.TestCase), it) for it in given)])
+        made = archives(folder) if found and words else {}
+        classes = [Names]
+        for backend in BACKENDS if found else []:
+            parts = [part for _, part, backends in needed if backend in backends]
+            classes.append(type(f"By_{backend}", (*parts, unittest.TestCase), {"backend": backend, "archives": made}))
+        return run_classes("library.py", classes)
 
 
 if __name__ == "__main__":

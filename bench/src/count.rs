@@ -1,0 +1,46 @@
+use crate::operation::{BITS, KEYS};
+use crate::plain::{Pass, Words, room};
+
+const UPDATES: u32 = 65_536;
+
+/// Makes an operation of the plain algorithm so many times, for a counter of instructions: the sum of the answers. `ops.c` does the same of the
+/// library.
+pub fn count<const CHECKED: bool>(operation: &str, times: u32) -> Option<u64> {
+    let room = room(BITS as usize, UPDATES as usize);
+    let words = Words::<CHECKED> { words: &room, bits: BITS as usize };
+    let first = words.open(|_| 0);
+    let mut pass = Pass { words, next: first, end: first + u64::from(UPDATES * BITS) };
+    for i in 0..KEYS / 2 {
+        pass.insert(u64::from(2 * i));
+    }
+    let now = words.snapshot();
+    let half = |i: u32| u64::from(i.wrapping_mul(20_011) % (KEYS / 2));
+    let key = |i: u32| u64::from(i.wrapping_mul(40_503) % KEYS);
+    let mut sum = 0u64;
+    macro_rules! each {
+        ($i:ident, $answer:expr) => {
+            for $i in 0..times {
+                sum = sum.wrapping_add($answer)
+            }
+        };
+    }
+    match operation {
+        "none" => {}
+        "insert_new" => each!(i, u64::from(pass.insert(2 * half(i) + 1))),
+        "insert_present" => each!(i, u64::from(pass.insert(2 * half(i)))),
+        "put" => each!(i, pass.put(2 * half(i), u64::from(i))),
+        "has" => each!(i, u64::from(words.has(now, key(i)))),
+        "rank" => each!(i, words.rank(now, key(i))),
+        "select" => each!(i, words.select(now, half(i)).unwrap_or(u64::MAX)),
+        "before" => each!(i, words.beside::<false>(now, key(i)).unwrap_or(u64::MAX)),
+        "after" => each!(i, words.beside::<true>(now, key(i)).unwrap_or(u64::MAX)),
+        "range" => each!(i, words.range(now, half(i), u64::from(KEYS / 2) + key(i) % u64::from(KEYS / 2)).count),
+        "size" => each!(i, {
+            let _ = i;
+            words.size(now)
+        }),
+        "look" => each!(i, u64::from(i > times + (words.snapshot() >> 60) as u32)),
+        _ => return None,
+    }
+    Some(sum)
+}

@@ -1,0 +1,64 @@
+use crate::case::Case;
+use crate::workload::Workload;
+use std::path::PathBuf;
+use std::time::Duration;
+
+/// What the command line asks for.
+pub struct Options {
+    pub check: bool,
+    pub without: Option<u32>,
+    /// The engine of the first number gets the name of that of the second.
+    pub renamed: Option<(usize, usize)>,
+    pub passes: usize,
+    pub slice: Duration,
+    pub updates: u32,
+    pub workloads: Vec<Workload>,
+    pub threads: Vec<usize>,
+    pub into: PathBuf,
+}
+
+pub const USAGE: &str = "\
+usage: bench/run [OPTION..]
+  --into FOLDER       where throughput.md and throughput.svg go (bench/out if not given)
+  --passes N          how often each engine gets its turn (9)
+  --slice MS          how long a turn is at least, in milliseconds (100)
+  --updates N         updates of a thread in a round of the trie, 1 to 65536 (4096)
+  --workload NAME     updates, tenth, queries or batches alone
+  --threads N         so many threads alone, and not 1, 2 and 4
+  --check             compares the answers of all engines, and measures nothing
+tries what has to be found out:
+  --without KEY       all engines but the trie begin without this key
+  --rename N M        the engine of number N gets the name of that of number M";
+
+impl Options {
+    pub fn cases(&self) -> impl Iterator<Item = Case> {
+        self.workloads.iter().flat_map(move |&workload| self.threads.iter().map(move |&threads| Case { workload, threads, updates: self.updates }))
+    }
+
+    /// None if the words are wrong.
+    pub fn of(mut words: impl Iterator<Item = String>) -> Option<Options> {
+        let (check, without, renamed, into) = (false, None, None, PathBuf::from("."));
+        let (passes, slice, updates) = (9, Duration::from_millis(100), 4096);
+        let mut options = Options { check, without, renamed, passes, slice, updates, workloads: Workload::ALL.into(), threads: vec![1, 2, 4], into };
+        while let Some(word) = words.next() {
+            if word == "--check" {
+                options.check = true;
+                continue;
+            }
+            let value = words.next()?;
+            let number = || value.parse::<u32>().ok();
+            match word.as_str() {
+                "--without" => options.without = Some(number()?),
+                "--rename" => options.renamed = Some((number()? as usize, words.next()?.parse().ok()?)),
+                "--passes" => options.passes = number().filter(|&it| it > 0)? as usize,
+                "--slice" => options.slice = Duration::from_millis(number().filter(|&it| it > 0)?.into()),
+                "--updates" => options.updates = number().filter(|it| (1..=65_536).contains(it))?,
+                "--workload" => options.workloads = vec![Workload::ALL.into_iter().find(|it| it.name() == value)?],
+                "--threads" => options.threads = vec![number().filter(|it| (1..=64).contains(it))? as usize],
+                "--into" => options.into = value.into(),
+                _ => return None,
+            }
+        }
+        Some(options)
+    }
+}

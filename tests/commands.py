@@ -9,8 +9,10 @@ The last line is 'N passed, M failed', and the exit status is 0 where none faile
 
 import os
 import shutil
+import signal
 import subprocess
 import sys
+import time
 
 import programs
 from folders import InFolder
@@ -20,14 +22,33 @@ TOP = os.path.dirname(os.path.dirname(os.path.abspath(__file__)))
 # The most seconds that one run gets.
 SECONDS = 60
 
-# Stands in for rt: it notes its folder and words, says what the file said.rt holds, and ends as status.VERB does. `rt run` builds a program.
+# Stands in for rt: it notes its folder and words, says what the file said.rt holds, and ends as status.VERB does.
 RT = r"""#!/bin/bash
 printf '%s:' "${PWD##*/}" >>"$ROOM/called"
 printf ' [%s]' "$@" >>"$ROOM/called"
 echo >>"$ROOM/called"
 cat "$ROOM/said.rt"
-status=$(cat "$ROOM/status.$1")
-if [[ $1 == run ]] && ((status == 0)); then mkdir -p out && cp "$ROOM/program" out/augtrie; fi
+exit "$(cat "$ROOM/status.$1")"
+"""
+
+# The same under ./run: it also does what the file meanwhile holds, and says told.rt on its errors. `rt try` notes the script and the input that it was
+# given. `rt lib` and `rt run` leave the names of the libraries that stand there, and `rt run` builds a program.
+PROVER = r"""#!/bin/bash
+crate=${PWD##*/}
+verb=$1
+for word; do if [[ $word == script=* ]]; then script=$(cat "${word#script=}"); fi; done
+noted="$crate:$(printf ' [%s]' "${@/#script=*/script}")"
+if [[ $verb == try ]]; then noted+=" script=$script input=$(cat)"; fi
+echo "$noted" >>"$ROOM/called"
+. "$ROOM/meanwhile"
+cat "$ROOM/said.rt"
+cat "$ROOM/told.rt" >&2
+status=$(cat "$ROOM/status.$verb")
+if [[ $verb != try ]] && ((status == 0)); then
+    mkdir -p out/rlib
+    (cd .. && echo */out/rlib) >out/rlib/over
+    if [[ $verb == run ]]; then cp "$ROOM/program" out/augtrie; fi
+fi
 exit "$status"
 """
 
@@ -87,104 +108,229 @@ class Folder(InFolder):
         with open(os.path.join(self.folder, name), encoding="utf-8") as file:
             return file.read()
 
-    def run_script(self, *words, given="", path=None, **variables):
+    def run_script(self, *words, given="", path=None, seconds=SECONDS, **variables):
         """What a script wrote to its output and to its errors, and its status."""
         path = path or f"{self.folder}/bin:{os.environ['PATH']}"
         env = {**os.environ, "PATH": path, "ROOM": self.folder, **variables}
-        how = {"cwd": self.folder, "input": given, "capture_output": True, "text": True, "timeout": SECONDS}
+        how = {"cwd": self.folder, "input": given, "capture_output": True, "text": True, "timeout": seconds}
         ran = subprocess.run([os.path.join(self.folder, words[0]), *words[1:]], env=env, **how)
         return ran.stdout, ran.stderr, ran.returncode
 
 
 class Run(Folder):
-    """./run proves and builds what is not there yet, and runs the program."""
+    """./run runs the program with checks at run time where the proved one is not there, and --proved proves and builds that first."""
 
     copied = ["run"]
 
+    CRATES = {"low": "", "left": "low", "right": "low of_the_kit", "augtrie may_wait=9": "left low right", "apart": "low"}
+    PROVED = ["augtrie: [run] [--] [--help]", "left: [lib]", "low: [lib]", "right: [lib]"]
+    ENDED = "checked: ended status=3\nraces: not looked for\nrun=ended status=3 runners=1 proved=no\n"
+
     def setUp(self):
         super().setUp()
-        self.write("bin/rt", RT, 0o755)
+        self.write("bin/rt", PROVER, 0o755)
         self.write("program", PROGRAM, 0o755)
-        self.write("crates.txt", "low:\nmiddle: low of_the_kit\naugtrie may_wait=9: low middle\n")
-        for crate in "low", "middle", "augtrie":
+        self.write("crates.txt", "".join(f"{crate}: {below}\n" for crate, below in self.CRATES.items()))
+        for crate in self.CRATES:
             for name in "src/lib.rt", "specs/Lib.antt", "proofs/Lemmas.antt":
-                self.write(f"crates/{crate}/{name}", "")
+                self.write(f"crates/{crate.split()[0]}/{name}", "as it was\n")
+        os.mkdir(os.path.join(self.folder, "tmp"))
         self.behave()
 
-    def behave(self, said="", **ends):
-        """Has rt say so, and end with a status for each of its verbs, and forgets how it was called."""
+    def behave(self, said="", told="", meanwhile="", **ends):
+        """Has rt say and do so, and end with a status for each of its verbs, and forgets how it was called."""
         for verb in "lib", "run", "try":
             self.write(f"status.{verb}", str(ends.get(verb, 0)))
-        self.write("said.rt", said)
-        self.write("called", "")
+        for name, text in (("said.rt", said), ("told.rt", told), ("meanwhile", meanwhile), ("called", "")):
+            self.write(name, text)
+
+    def run_script(self, *words, **how):
+        return super().run_script(*words, TMPDIR=os.path.join(self.folder, "tmp"), **how)
 
     def called(self):
         return self.read("called").splitlines()
 
-    PROVED = ["low: [lib]", "middle: [lib]", "augtrie: [run] [--] [--help]"]
-    BUILT = PROVED[-1:]
+    def path(self, name):
+        return os.path.join(self.folder, name)
+
+    def prove(self):
+        self.behave()
+        self.assertEqual(self.run_script("./run", "--proved")[2], 3)
+        self.assertEqual(sorted(self.called()), self.PROVED)
+        self.behave("a report\n", self.ENDED, **{"try": 3})
+
+    def assert_checked(self, *words, is_so=True):
+        """Whether it runs the program built with checks, and not the proved one."""
+        out, err, status = self.run_script("./run", *words)
+        self.assertEqual((out, err.count("\n"), status), ("a report\n", 1, 3) if is_so else (f"{''.join(map('[{}]'.format, words)) or '[]'} \n", 0, 3), err)
+
+    def assert_proved(self, *words):
+        self.assert_checked(*words, is_so=False)
+
+    def age(self):
+        """Makes all that is there, but for what was built, older than that."""
+        for at, folders, files in os.walk(self.folder):
+            for name in files + folders:
+                if "/out" not in f"{at}/{name}":
+                    os.utime(os.path.join(at, name), (0, 1e8))
+
+    # Before the proof.
+
+    def test_fresh_checkout_runs_with_checks_and_says_so_in_a_line(self):
+        self.write("first.csv", "0,look\n")
+        self.behave("a report\n", f"augtrie: what the program says\n{self.ENDED}", **{"try": 3})
+        for words in ["./run"], ["./run", "--unproved"]:
+            out, err, status = self.run_script(*words, "first.csv")
+            self.assertEqual((out, status), ("a report\n", 3))
+            self.assertRegex(err, r"^run: NOT PROVED: .* \./run --proved .* in about 1 min\naugtrie: what the program says\n$")
+            self.assertEqual(self.called(), ["augtrie: [try] [--data] [script] [--] [script] script=0,look input="])
+            self.write("called", "")
+        self.assertEqual(os.listdir(self.path("tmp")), [])
+
+    def test_words_are_passed_on_and_the_file_is_copied(self):
+        self.behave("a report\n", self.ENDED, **{"try": 3})
+        for name in "a script.csv", "5":
+            self.write(name, f"{name}\n")
+        for words, given, noted in (
+            (["--workers", "5", "a script.csv", ""], "no", "[--data] [script] [--] [--workers] [5] [script] [] script=a script.csv input="),
+            (["/dev/stdin", "--bits=5"], "0,look\n", "[--data] [script] [--] [script] [--bits=5] script=0,look input="),
+            (["--bits", "5"], "0,size\n", "[--] [--bits] [5] script= input=0,size"),
+            (["not there.csv"], "no", "[--] [script] script= input="),
+            (["tmp"], "no", "[--] [script] script= input="),
+            (["--help"], "no", "[--] [--help] script= input="),
+            ([], "0,rank,9\n", "[--] script= input=0,rank,9"),
+        ):
+            self.write("called", "")
+            self.run_script("./run", *words, given=given)
+            self.assertEqual(self.called(), [f"augtrie: [try] {noted}"])
+
+    def test_what_the_checks_cannot_take_ends_in_a_line_and_no_report(self):
+        why = "the program wrote more than 1048576 bytes to standard output"
+        for status in 0, 6:
+            self.behave("a part of a report\n", f"the end:\n| 1 0 look = ok\nchecked: no-answer: {why}\nrun=no-answer proved=no\n", **{"try": status})
+            out, err, ended = self.run_script("./run")
+            self.assertEqual((out, ended, err.count("\n")), ("", 5, 2), err)
+            self.assertRegex(err, f"\nrun: no report: {why}; ./run --proved .*\n$")
+
+    def test_checked_build_that_fails_is_told(self):
+        for told in "src/main.rt:1: error: no such name\nrun=none proved=no\n", "checked: fault: an overflow\nrun=fault proved=no\n", "", self.ENDED:
+            self.behave("a part of a report\n", told, **{"try": 1})
+            out, err, ended = self.run_script("./run")
+            self.assertEqual((out, ended), ("", 5))
+            self.assertIn(f"\n{told}run: no report: ", err)
+            self.assertIn("--proved", err.splitlines()[-1])
+
+    # The proof.
 
     def test_proves_the_crates_lowest_first_and_runs_the_program(self):
-        out, err, status = self.run_script("./run", "--bits", "5", "a name", "", given="rows")
+        out, err, status = self.run_script("./run", "--proved", "--bits", "5", "a name", "", given="rows")
         self.assertEqual((out, status), ("[--bits][5][a name][] rows\n", 3))
-        self.assertEqual(self.called(), self.PROVED)
-        self.assertIn("run: proves and builds low middle augtrie ", err)
+        self.assertEqual(sorted(self.called()), self.PROVED)
+        self.assertEqual((self.called()[0], self.called()[-1]), ("low: [lib]", self.PROVED[0]))
+        self.assertIn("run: proves 4 crates ", err)
+        for crate, below in ("low", []), ("left", ["low"]), ("augtrie", ["left", "low", "right"]):
+            over = self.read(f"crates/{crate}/out/rlib/over").split()
+            self.assertEqual(over, sorted(f"{it}/out/rlib" for it in [*below, crate]))
+        self.assertEqual(os.listdir(self.path("tmp")), [])
 
-    def test_runs_what_is_built_already(self):
-        self.run_script("./run")
-        self.behave()
-        self.assertEqual(self.run_script("./run", "first.csv"), ("[first.csv] \n", "", 3))
-        self.assertEqual(self.called(), self.BUILT)
+    def test_crates_apart_are_proved_at_the_same_time(self):
+        both = "for _ in {1..50}; do if [[ -e $ROOM/left && -e $ROOM/right ]]; then break; fi; sleep 0.1; done; [[ -e $ROOM/left && -e $ROOM/right ]] || exit 1"
+        self.behave(meanwhile=f': >"$ROOM/$crate"; if [[ $crate == left || $crate == right ]]; then {both}; fi\n')
+        self.assertEqual(self.run_script("./run", "--proved")[2], 3)
 
-    def test_what_is_older_than_a_source_is_proved_again(self):
-        for name in "crates.txt", "crates/low/src/lib.rt", "crates/middle/specs/Lib.antt", "crates/augtrie/proofs/Lemmas.antt":
-            self.run_script("./run")
-            os.utime(os.path.join(self.folder, "crates/augtrie/out/augtrie.current"), (0, 1e9))
-            for other in "crates", "crates.txt":
-                self.age(other)
-            self.behave()
-            self.run_script("./run")
-            self.assertEqual(self.called(), self.BUILT)
-            os.utime(os.path.join(self.folder, "crates/augtrie/out/augtrie.current"), (0, 1e9))
-            os.utime(os.path.join(self.folder, name), (0, 2e9))
-            self.behave()
-            self.run_script("./run")
-            self.assertEqual(self.called(), self.PROVED, name)
+    def test_says_how_far_it_is_within_ten_seconds(self):
+        self.behave(meanwhile='if [[ $crate == low ]]; then echo "so far: 1 of 2 functions checked"; sleep 9; fi\n')
+        err = self.run_script("./run", "--proved")[1]
+        self.assertRegex(err, r"\nrun: after [89] s 0 of 4 crates are proved, now low \(1 of 2 functions\)\n")
 
-    def age(self, name):
-        """Makes a file or all of a folder older than anything else."""
-        path = os.path.join(self.folder, name)
-        for at, folders, files in [(path, [], [""]), *os.walk(path)]:
-            for file in [*folders, *files]:
-                os.utime(os.path.join(at, file).rstrip("/"), (0, 1e8))
+    def test_runs_what_is_proved_already(self):
+        self.prove()
+        self.assert_proved("first.csv")
+        self.assertEqual(self.run_script("./run", "--proved", "first.csv"), ("[first.csv] \n", "", 3))
+        self.assertEqual(self.called(), [])
+
+    def test_unproved_runs_with_checks_also_then(self):
+        self.prove()
+        self.assert_checked("--unproved")
+
+    def test_changed_source_takes_the_proof_away(self):
+        self.prove()
+        for name in "crates/low/src/lib.rt", "crates/left/specs/Lib.antt", "crates/augtrie/proofs/Lemmas.antt", "crates.txt":
+            text = self.read(name)
+            self.write(name, text.replace("\n", " \n"))
+            self.age()
+            self.assert_checked("first.csv")
+            self.write(name, text)
+            self.assert_proved("first.csv")
+        self.write("crates/right/src/new.rt", "")
+        self.assert_checked("first.csv")
+        self.prove()
+        os.remove(self.path("crates/right/src/new.rt"))
+        self.assert_checked("first.csv")
+
+    def test_source_that_is_not_the_programs_counts_for_nothing(self):
+        self.prove()
+        self.write("crates/apart/src/lib.rt", "changed\n")
+        self.assert_proved("first.csv")
+
+    def test_source_that_changes_during_the_proof_is_not_proved(self):
+        self.behave(meanwhile='if [[ $crate == augtrie ]]; then echo changed >"$ROOM/crates/low/src/lib.rt"; fi\n')
+        self.assertEqual(self.run_script("./run", "--proved")[2], 3)
+        self.behave("a report\n", self.ENDED, **{"try": 3})
+        self.assert_checked()
+
+    def test_program_that_the_gate_left_is_held_to_the_times_of_the_sources(self):
+        shutil.copy(self.path("program"), self.write("crates/augtrie/out/augtrie", "", 0o755))
+        self.behave("a report\n", self.ENDED, **{"try": 3})
+        for name in "crates/low/src/lib.rt", "crates/left/specs", "crates/augtrie/proofs/Lemmas.antt", "crates.txt":
+            self.age()
+            self.assert_proved("first.csv")
+            os.utime(self.path(name))
+            self.assert_checked("first.csv")
 
     def test_proof_that_fails_is_told(self):
         said = "so far: 1 of 2 functions checked\nfn low::good: proved\nfn low::bad: NOT PROVED\n"
-        for verb, crate, called in ("lib", "low", self.PROVED[:1]), ("run", "augtrie", self.PROVED):
+        for verb, crate in ("lib", "low"), ("run", "augtrie"):
             self.behave(said, **{verb: 1})
-            out, err, status = self.run_script("./run", "first.csv")
-            self.assertEqual((out, status), ("", 1))
-            self.assertIn("so far: 1 of 2 functions checked\n", err)
+            out, err, status = self.run_script("./run", "--proved", "first.csv")
+            self.assertEqual((out, status), ("", 5))
             self.assertIn("fn low::bad: NOT PROVED\n", err)
             self.assertNotIn("low::good", err)
             self.assertIn(f"run: {crate} was not proved or not built", err)
-            self.assertEqual(self.called(), called)
-        # and not taken for proved afterwards
-        self.behave()
-        self.run_script("./run")
-        self.assertEqual(self.called(), self.PROVED)
+            self.behave("a report\n", self.ENDED, **{"try": 3})
+            self.assert_checked()
 
-    def test_unproved_passes_words_on_and_the_file_as_data(self):
-        file = self.write("a script.csv", "0,look\n")
-        self.behave("what it printed\n", **{"try": 4})
-        out, err, status = self.run_script("./run", "--unproved", "--workers", "2", "a script.csv", "")
-        self.assertEqual((out, status), ("what it printed\n", 4))
-        self.assertIn("run: NOT PROVED: ", err)
-        self.assertEqual(self.called(), [f"augtrie: [try] [--data] [script={file}] [--] [--workers] [2] [script] []"])
+    def test_proof_that_is_interrupted_leaves_no_program_and_nothing_that_runs(self):
+        for number, crate, is_older in (signal.SIGINT, "low", False), (signal.SIGTERM, "augtrie", False), (signal.SIGINT, "augtrie", True):
+            if is_older:
+                self.prove()
+                self.write("crates/low/src/lib.rt", "changed\n")
+            self.behave(meanwhile=f'if [[ $crate == {crate} ]]; then mkdir -p out; cp "$ROOM/program" out; echo $$ >"$ROOM/pid"; exec sleep 50; fi\n')
+            env = {**os.environ, "PATH": f"{self.folder}/bin:{os.environ['PATH']}", "ROOM": self.folder, "TMPDIR": self.path("tmp")}
+            ran = subprocess.Popen([self.path("run"), "--proved"], env=env, stdout=subprocess.PIPE, stderr=subprocess.DEVNULL)
+            until = time.monotonic() + SECONDS
+            while not (os.path.exists(self.path("pid")) and self.read("pid")) and time.monotonic() < until:
+                time.sleep(0.05)
+            ran.send_signal(number)
+            self.assertEqual(ran.communicate(timeout=SECONDS)[0], b"")
+            self.assertEqual((ran.returncode, os.listdir(self.path("tmp"))), (128 + number, []))
+            self.assertFalse(os.path.exists(f"/proc/{int(self.read('pid'))}"))
+            os.remove(self.path("pid"))
+            self.behave("a report\n", self.ENDED, **{"try": 3})
+            self.assert_checked()
+            self.assertEqual(os.path.exists(self.path("crates/augtrie/out/augtrie")), is_older)
 
-    def test_unproved_without_a_file(self):
-        self.assertEqual(self.run_script("./run", "--unproved", "--help")[2], 0)
-        self.assertEqual(self.called(), ["augtrie: [try] [--] [--help]"])
+
+class FreshCheckout(Folder):
+    """./run of these sources, by the toolchain."""
+
+    copied = ["run", "crates.txt", "HANDLES", "examples/first.csv", "examples/first.out"]
+
+    def test_first_answer(self):
+        shutil.copytree(os.path.join(TOP, "crates"), os.path.join(self.folder, "crates"), ignore=shutil.ignore_patterns("out"))
+        out, err, status = self.run_script("./run", "examples/first.csv", seconds=240)
+        self.assertEqual((out, status), (self.read("examples/first.out"), 0), err)
+        self.assertRegex(err, r"^run: NOT PROVED: [^\n]*\n$")
 
 
 class Quick(Folder):
@@ -402,4 +548,4 @@ class Bench(Folder):
 
 
 if __name__ == "__main__":
-    sys.exit(programs.run_classes("commands.py", [Run, Quick, Bench]))
+    sys.exit(programs.run_classes("commands.py", [Run, FreshCheckout, Quick, Bench]))

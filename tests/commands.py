@@ -117,8 +117,8 @@ class Folder(InFolder):
         return ran.stdout, ran.stderr, ran.returncode
 
 
-class Run(Folder):
-    """./run runs the program with checks at run time where the proved one is not there, and --proved proves and builds that first."""
+class Proving(Folder):
+    """A test of ./run over four crates and a fifth that the program does not stand on, and a toolchain that does as it is told."""
 
     copied = ["run"]
 
@@ -174,7 +174,9 @@ class Run(Folder):
                 if "/out" not in f"{at}/{name}":
                     os.utime(os.path.join(at, name), (0, 1e8))
 
-    # Before the proof.
+
+class Run(Proving):
+    """./run runs the program with checks at run time where the proved one is not there, and --proved proves and builds that first."""
 
     def test_fresh_checkout_runs_with_checks_and_says_so_in_a_line(self):
         self.write("first.csv", "0,look\n")
@@ -220,8 +222,6 @@ class Run(Folder):
             self.assertIn(f"\n{told}run: no report: ", err)
             self.assertIn("--proved", err.splitlines()[-1])
 
-    # The proof.
-
     def test_proves_the_crates_lowest_first_and_runs_the_program(self):
         out, err, status = self.run_script("./run", "--proved", "--bits", "5", "a name", "", given="rows")
         self.assertEqual((out, status), ("[--bits][5][a name][] rows\n", 3))
@@ -237,11 +237,6 @@ class Run(Folder):
         both = "for _ in {1..50}; do if [[ -e $ROOM/left && -e $ROOM/right ]]; then break; fi; sleep 0.1; done; [[ -e $ROOM/left && -e $ROOM/right ]] || exit 1"
         self.behave(meanwhile=f': >"$ROOM/$crate"; if [[ $crate == left || $crate == right ]]; then {both}; fi\n')
         self.assertEqual(self.run_script("./run", "--proved")[2], 3)
-
-    def test_says_how_far_it_is_within_ten_seconds(self):
-        self.behave(meanwhile='if [[ $crate == low ]]; then echo "so far: 1 of 2 functions checked"; sleep 9; fi\n')
-        err = self.run_script("./run", "--proved")[1]
-        self.assertRegex(err, r"\nrun: after [89] s 0 of 4 crates are proved, now low \(1 of 2 functions\)\n")
 
     def test_runs_what_is_proved_already(self):
         self.prove()
@@ -319,18 +314,6 @@ class Run(Folder):
             self.behave("a report\n", self.ENDED, **{"try": 3})
             self.assert_checked()
             self.assertEqual(os.path.exists(self.path("crates/augtrie/out/augtrie")), is_older)
-
-
-class FreshCheckout(Folder):
-    """./run of these sources, by the toolchain."""
-
-    copied = ["run", "crates.txt", "HANDLES", "examples/first.csv", "examples/first.out"]
-
-    def test_first_answer(self):
-        shutil.copytree(os.path.join(TOP, "crates"), os.path.join(self.folder, "crates"), ignore=shutil.ignore_patterns("out"))
-        out, err, status = self.run_script("./run", "examples/first.csv", seconds=240)
-        self.assertEqual((out, status), (self.read("examples/first.out"), 0), err)
-        self.assertRegex(err, r"^run: NOT PROVED: [^\n]*\n$")
 
 
 class Quick(Folder):
@@ -548,4 +531,4 @@ class Bench(Folder):
 
 
 if __name__ == "__main__":
-    sys.exit(programs.run_classes("commands.py", [Run, FreshCheckout, Quick, Bench]))
+    sys.exit(programs.run_classes("commands.py", [Run, Quick, Bench]))

@@ -37,7 +37,7 @@ class LongProof(commands.Proving):
     def test_a_line_at_least_every_ten_seconds(self):
         self.behave(meanwhile='if [[ $crate == low ]]; then echo "so far: 1 of 2 functions checked"; sleep 9; fi\n')
         err = self.run_script("./run", "--proved")[1]
-        self.assertRegex(err, r"\nrun: after [89] s 0 of 4 crates are proved, now low \(1 of 2 functions\)\n")
+        self.assertRegex(err, r"\nrun: after [5-9] s 0 of 4 crates are proved, now low \(1 of 2 functions\)\n")
 
 
 if __name__ == "__main__":

@@ -14,7 +14,7 @@ import commands
 import programs
 
 # The most seconds that a first answer gets here, where other work may run beside it.
-SECONDS = 240
+SECONDS = 600
 
 
 class FreshCheckout(commands.Folder):

@@ -7,6 +7,7 @@ usage: tests/commands.py
 The last line is 'N passed, M failed', and the exit status is 0 where none failed. It needs Python 3.8 or later.
 """
 
+import functools
 import os
 import shutil
 import signal
@@ -302,7 +303,9 @@ class Run(Proving):
                 self.write("crates/low/src/lib.rt", "changed\n")
             self.behave(meanwhile=f'if [[ $crate == {crate} ]]; then mkdir -p out; cp "$ROOM/program" out; echo $$ >"$ROOM/pid"; exec sleep 50; fi\n')
             env = {**os.environ, "PATH": f"{self.folder}/bin:{os.environ['PATH']}", "ROOM": self.folder, "TMPDIR": self.path("tmp")}
-            ran = subprocess.Popen([self.path("run"), "--proved"], env=env, stdout=subprocess.PIPE, stderr=subprocess.DEVNULL)
+            # A gate in the background hands on that interrupts are ignored.
+            takes_interrupts = functools.partial(signal.signal, signal.SIGINT, signal.SIG_DFL)
+            ran = subprocess.Popen([self.path("run"), "--proved"], env=env, stdout=subprocess.PIPE, stderr=subprocess.DEVNULL, preexec_fn=takes_interrupts)
             until = time.monotonic() + SECONDS
             while not (os.path.exists(self.path("pid")) and self.read("pid")) and time.monotonic() < until:
                 time.sleep(0.05)

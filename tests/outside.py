@@ -647,25 +647,31 @@ class Outside(Sweeps):
                 self.assertEqual(it.result(), wanted)
 
 
-# An excerpt in the README: the path in the sentence before it, and its lines, where `// ..` stands for lines that are left out.
+# An excerpt in the README or in docs/using.md: the path in the sentence before it, and its lines, where `// ..` stands for lines that are left out.
 EXCERPT = re.compile(rb"`(crates/[^`]+)`(?:[^`]|`// \.\.`)*:\n\n```rust\n(.*?)```\n", re.S)
 
 
 class Shown(unittest.TestCase):
-    """The README and the list of public calls show what stands in the repository."""
+    """The README and docs/using.md show what stands in the repository."""
 
     def setUp(self):
         self.readme = read(os.path.join(TOP, "README.md"))
 
-    def test_excerpts_in_the_readme(self):
-        excerpts = EXCERPT.findall(self.readme)
-        self.assertEqual(len(excerpts), self.readme.count(b"```rust\n"))
+    def check_excerpts(self, page):
+        excerpts = EXCERPT.findall(page)
+        self.assertEqual(len(excerpts), page.count(b"```rust\n"))
         self.assertTrue(excerpts)
         for file, code in excerpts:
             program = read(os.path.join(TOP, file.decode()))
             for part in re.split(rb"^ *// \.\.\n", code, flags=re.M):
                 self.assertTrue(part.strip())
                 self.assertIn(b"\n" + part, program)
+
+    def test_excerpts_in_the_readme(self):
+        self.check_excerpts(self.readme)
+
+    def test_excerpts_in_the_guide(self):
+        self.check_excerpts(read(os.path.join(TOP, "docs", "using.md")))
 
     def test_script_in_the_readme(self):
         script, report = (read(os.path.join(EXAMPLES, f"first.{kind}")).decode().splitlines() for kind in ("csv", "out"))

@@ -1,6 +1,5 @@
 -- What the calls on a lane do to it, and what they answer.
 use Rattle.std.specs.Prelude.{◌≡◌, ℕ, ◌+◌, ◌^◌, ◌<◌, ◌≤◌, ◌↔◌, ℤ, pos, Bool, true, false, Option, Some, None, Result, Ok, Err, IfOk, IfErr, IsErrOf, List, length, All}
-use Rattle.std.specs.Bool.{OnTrue, OnFalse}
 use Rattle.aug_monoid.specs.Sum.{sum_parts}
 use Rattle.aug_monoid.specs.Extent.{extent_parts}
 use Rattle.aug_monoid.specs.declared.sum.Sum.{Sum}
@@ -10,11 +9,12 @@ use Rattle.aug_model.specs.Keys.{SetFacts}
 use Rattle.aug_model.specs.declared.summary.Summary.{Summary}
 use Rattle.aug_model.specs.declared.outcome.Outcome.{Outcome}
 use Rattle.aug_model.specs.declared.outcome.Outcome.TheVariants.{Accepted, Replaced, Refused}
-use Rattle.aug_trie.specs.declared.updates.request.Request.TheVariants as request
-use Rattle.aug_trie.specs.Updates.{AcceptedUpdate, RefusedUpdate, ComesTo, TakesSnapshot}
+use Rattle.aug_trie.specs.declared.updates.request.Request.{Request}
+use Rattle.aug_trie.specs.Updates.{TakesSnapshot}
 use Rattle.aug_trie.specs.Pass.{PassFacts, GoesOn}
 use Rattle.aug_trie.specs.Node.{Keeps, Stays}
 use Rattle.aug_trie.specs.Snapshot.{set_at, snapshot_cut}
+use Rattle.aug_lane.specs.EachInTurn.{OneUpdate}
 use Rattle.aug_lane.specs.declared.error.LaneError.{LaneError}
 use Rattle.aug_lane.specs.declared.error.LaneError.TheVariants.{BadKey, Spent}
 use Rattle.aug_lane.specs.declared.lane.Lane.{Lane}
@@ -29,20 +29,13 @@ span_of pairs = summary_of sum_parts extent_parts pairs
 abbrev pub shown : Lane Sum Extent → SetFacts
 shown lane = set_at lane.half lane.held
 
--- what an update answers: 1 if it changed the key, 0 if the set had it so
-abbrev pub update_code : Result Bool LaneError → ℤ
-update_code (Ok true) = pos 1
-update_code (Ok false) = pos 0
+-- what an update answers: 1 if it changed the key, or 2 if it gave a member a weight, and 0 if it changed nothing
+abbrev pub update_code : Result Outcome LaneError → ℤ
+update_code (Ok Accepted) = pos 1
+update_code (Ok Replaced) = pos 2
+update_code (Ok Refused) = pos 0
 update_code (Err BadKey) = bad_key
 update_code (Err Spent) = lane_spent
-
--- what a put answers: 1 if it put the key in, 2 if it gave a member the weight, 0 if another change came in between
-abbrev pub put_code : Result Outcome LaneError → ℤ
-put_code (Ok Accepted) = pos 1
-put_code (Ok Replaced) = pos 2
-put_code (Ok Refused) = pos 0
-put_code (Err BadKey) = bad_key
-put_code (Err Spent) = lane_spent
 
 -- what many updates in one call answer: how many changed the set
 abbrev pub all_code : Result ℕ LaneError → ℤ
@@ -60,31 +53,17 @@ abbrev pub truth : Bool → ℤ
 truth true = pos 1
 truth false = pos 0
 
--- when an update is refused, and that it then changes nothing. Otherwise it is one more update, and keeps all snapshots. The lane looks at the same
--- snapshot as before
-pub record MakesUpdate {T : Type 0} (key : ℕ) (old new : Lane Sum Extent) (answer : Result T LaneError) : Type 0 where
+-- an update of a key: when it is refused, and that it then changes nothing. Otherwise it is one more update, and keeps all snapshots. The lane looks
+-- at the same snapshot as before
+pub record UpdatesKey (asked : Request) (key : ℕ) (old new : Lane Sum Extent) (code : ℤ) : Type 0 where
+  pub answer : Result Outcome LaneError
+  pub says : code ≡ update_code answer
   pub bad_key : IsErrOf answer BadKey ↔ (2 ^ old.half.round.bits ≤ key)
   pub spent : IsErrOf answer Spent ↔ ((key < 2 ^ old.half.round.bits) × (old.half.spent ≡ old.half.round.updates))
   pub same : IfErr answer (λ _. new ≡ old)
-  pub goes_on : IfOk answer (λ _. (steps : ℕ) × GoesOn 1 steps old.half new.half)
-  pub keeps : IfOk answer (λ _. Keeps span_of old.half new.half)
+  pub made : IfOk answer (λ done. OneUpdate span_of asked key done old.half new.half)
   pub held : new.held ≡ old.held
   pub round : new.round ≡ old.round
-
--- an insertion or a removal
-pub record UpdatesKey (parity key weight : ℕ) (old new : Lane Sum Extent) (code : ℤ) : Type 0 where
-  pub answer : Result Bool LaneError
-  pub says : code ≡ update_code answer
-  pub makes : MakesUpdate key old new answer
-  pub accepted : IfOk answer (λ done. OnTrue done (AcceptedUpdate parity key weight old.half.knows new.half.knows))
-  pub refused : IfOk answer (λ done. OnFalse done (RefusedUpdate parity key old.half.knows new.half.knows))
-
--- a put of a weight
-pub record PutsWeight (key weight : ℕ) (old new : Lane Sum Extent) (code : ℤ) : Type 0 where
-  pub answer : Result Outcome LaneError
-  pub says : code ≡ put_code answer
-  pub makes : MakesUpdate key old new answer
-  pub puts : IfOk answer (λ done. ComesTo (request.Put weight) key done old.half.knows new.half.knows)
 
 -- an update for each of `keys`, in turn. The fields say when all of them are refused, and that then nothing changes. Otherwise they are made one
 -- after another, and the answer is the number of updates that changed the set. The lane keeps its snapshot

@@ -1,5 +1,5 @@
 //! The queries of a lane, answered from its last snapshot.
-ghost use Rattle.std.specs.Prelude.{◌≡◌, ◌<◌, ◌≤◌, ◌++◌, pos, length, map, take, drop, min, Some, None, IsSome, IsNone};
+ghost use Rattle.std.specs.Prelude.{◌≡◌, ℤ, ◌<◌, ◌≤◌, ◌++◌, pos, length, map, take, drop, min, Some, None, IsSome, IsNone};
 ghost use Rattle.aug_model.specs.Keys.{is_member, list_of};
 ghost use Rattle.aug_model.specs.Queries.{rank_of, select_of, before_of, after_of, weight_of, weighted_range_of};
 ghost use Rattle.aug_monoid.specs.declared.sum.Sum.{Sum};
@@ -8,30 +8,72 @@ ghost use Rattle.aug_lane.specs.declared.lane.Lane.{Lane};
 ghost use Rattle.aug_lane.specs.ManyKeys.{bit_of, from_of};
 ghost use Rattle.aug_c.specs.Codes.{closed, no_room};
 ghost use Rattle.aug_c.specs.Handles.{lane_of, On};
-ghost use Rattle.aug_c.specs.LaneCalls.{found as number_of, truth, span_of, shown, Asks, IsSpan};
+ghost use Rattle.aug_c.specs.LaneCalls.{found, truth, span_of, shown, Asks, IsSpan};
+ghost use Rattle.aug_c.specs.inside.Answered.{AnsweredBy};
 
 use crate::codes::{CLOSED, NO_ROOM, NONE};
 use crate::lane_handle::LaneHandle;
 use crate::span::Span;
 use aug_model::Summary;
 use aug_monoid::{Extent, Sum};
+use aug_query::Query;
+use aug_query::descent::{After, Before, Has, Range, Rank, Select, Size, Weight};
 use std::alloc::Global;
 
-#[inline(always)]
-fn found(answer: Option<u32>) -> i64
-    ensures { result ≡ number_of answer }
-{
-    match answer {
-        Some(number) => i64::from(number),
-        None => NONE,
+// An answer that C has as one number.
+trait Number {
+    ghost number_of: { Self → ℤ };
+
+    fn number(self) -> i64
+        ensures { result ≡ number_of self };
+}
+
+impl Number for u32 {
+    ghost number_of = { λ n. pos n };
+
+    #[inline(always)]
+    fn number(self) -> i64 {
+        i64::from(self)
     }
 }
 
+impl Number for Option<u32> {
+    ghost number_of = { λ n. found n };
+
+    #[inline(always)]
+    fn number(self) -> i64 {
+        match self {
+            Some(number) => i64::from(number),
+            None => NONE,
+        }
+    }
+}
+
+impl Number for bool {
+    ghost number_of = { λ b. truth b };
+
+    #[inline(always)]
+    fn number(self) -> i64 {
+        if self { 1 } else { 0 }
+    }
+}
+
+// Asks the snapshot of a handle's lane.
 #[inline(always)]
-fn bit(answer: bool) -> i64
-    ensures { result ≡ truth answer }
+fn ask<X: Number, Q: Query<Sum, Extent, Answer = X> + Drop>(
+    alloc: Global,
+    lane: &mut LaneHandle,
+    query: Q,
+) -> i64
+    ensures asks { On (AnsweredBy (λ set answer. Q.Answers query set answer) X.number_of) (lane_of lane.old) (lane_of lane.new) result }
+    ensures foreign { IsNone lane.old.held.value → lane.new ≡ lane.old }
 {
-    if answer { 1 } else { 0 }
+    let Some((slot, old)) = lane.lend(alloc) else {
+        return CLOSED;
+    };
+    let (new, answer) = old.ask(query);
+    lane.give(slot, new);
+    answer.number()
 }
 
 fn span(told: Summary<Sum, Extent>) -> Span
@@ -55,26 +97,16 @@ pub extern "C" fn aug_has(alloc: Global, lane: &mut LaneHandle, key: u32) -> i64
     ensures asks { On (Asks (λ set. truth (is_member (list_of set) key))) (lane_of lane.old) (lane_of lane.new) result }
     ensures foreign { IsNone lane.old.held.value → lane.new ≡ lane.old }
 {
-    let Some((slot, old)) = lane.lend(alloc) else {
-        return CLOSED;
-    };
-    let (new, answer) = old.has(key);
-    lane.give(slot, new);
-    bit(answer)
+    ask(alloc, lane, Has(key))
 }
 
 /// The weight of a member of the snapshot.
 #[unsafe(no_mangle)]
 pub extern "C" fn aug_weight(alloc: Global, lane: &mut LaneHandle, key: u32) -> i64
-    ensures asks { On (Asks (λ set. number_of (weight_of set.pairs key))) (lane_of lane.old) (lane_of lane.new) result }
+    ensures asks { On (Asks (λ set. found (weight_of set.pairs key))) (lane_of lane.old) (lane_of lane.new) result }
     ensures foreign { IsNone lane.old.held.value → lane.new ≡ lane.old }
 {
-    let Some((slot, old)) = lane.lend(alloc) else {
-        return CLOSED;
-    };
-    let (new, answer) = old.weight(key);
-    lane.give(slot, new);
-    found(answer)
+    ask(alloc, lane, Weight(key))
 }
 
 /// How many members the snapshot has.
@@ -83,12 +115,7 @@ pub extern "C" fn aug_size(alloc: Global, lane: &mut LaneHandle) -> i64
     ensures asks { On (Asks (λ set. pos (length (list_of set)))) (lane_of lane.old) (lane_of lane.new) result }
     ensures foreign { IsNone lane.old.held.value → lane.new ≡ lane.old }
 {
-    let Some((slot, old)) = lane.lend(alloc) else {
-        return CLOSED;
-    };
-    let (new, answer) = old.size();
-    lane.give(slot, new);
-    i64::from(answer)
+    ask(alloc, lane, Size)
 }
 
 /// How many members of the snapshot are below the key.
@@ -97,54 +124,34 @@ pub extern "C" fn aug_rank(alloc: Global, lane: &mut LaneHandle, key: u32) -> i6
     ensures asks { On (Asks (λ set. pos (rank_of (list_of set) key))) (lane_of lane.old) (lane_of lane.new) result }
     ensures foreign { IsNone lane.old.held.value → lane.new ≡ lane.old }
 {
-    let Some((slot, old)) = lane.lend(alloc) else {
-        return CLOSED;
-    };
-    let (new, answer) = old.rank(key);
-    lane.give(slot, new);
-    i64::from(answer)
+    ask(alloc, lane, Rank(key))
 }
 
 /// The member of the snapshot with exactly `index` members below it.
 #[unsafe(no_mangle)]
 pub extern "C" fn aug_select(alloc: Global, lane: &mut LaneHandle, index: u32) -> i64
-    ensures asks { On (Asks (λ set. number_of (select_of (list_of set) index))) (lane_of lane.old) (lane_of lane.new) result }
+    ensures asks { On (Asks (λ set. found (select_of (list_of set) index))) (lane_of lane.old) (lane_of lane.new) result }
     ensures foreign { IsNone lane.old.held.value → lane.new ≡ lane.old }
 {
-    let Some((slot, old)) = lane.lend(alloc) else {
-        return CLOSED;
-    };
-    let (new, answer) = old.select(index);
-    lane.give(slot, new);
-    found(answer)
+    ask(alloc, lane, Select(index))
 }
 
 /// The greatest member of the snapshot below the key.
 #[unsafe(no_mangle)]
 pub extern "C" fn aug_before(alloc: Global, lane: &mut LaneHandle, key: u32) -> i64
-    ensures asks { On (Asks (λ set. number_of (before_of (list_of set) key))) (lane_of lane.old) (lane_of lane.new) result }
+    ensures asks { On (Asks (λ set. found (before_of (list_of set) key))) (lane_of lane.old) (lane_of lane.new) result }
     ensures foreign { IsNone lane.old.held.value → lane.new ≡ lane.old }
 {
-    let Some((slot, old)) = lane.lend(alloc) else {
-        return CLOSED;
-    };
-    let (new, answer) = old.before(key);
-    lane.give(slot, new);
-    found(answer)
+    ask(alloc, lane, Before(key))
 }
 
 /// The least member of the snapshot above the key.
 #[unsafe(no_mangle)]
 pub extern "C" fn aug_after(alloc: Global, lane: &mut LaneHandle, key: u32) -> i64
-    ensures asks { On (Asks (λ set. number_of (after_of (list_of set) key))) (lane_of lane.old) (lane_of lane.new) result }
+    ensures asks { On (Asks (λ set. found (after_of (list_of set) key))) (lane_of lane.old) (lane_of lane.new) result }
     ensures foreign { IsNone lane.old.held.value → lane.new ≡ lane.old }
 {
-    let Some((slot, old)) = lane.lend(alloc) else {
-        return CLOSED;
-    };
-    let (new, answer) = old.after(key);
-    lane.give(slot, new);
-    found(answer)
+    ask(alloc, lane, After(key))
 }
 
 /// The summary of the members of the snapshot from `from` on that are below `to`. Answers how many they are.
@@ -164,7 +171,7 @@ pub extern "C" fn aug_range(
     let Some((slot, old)) = lane.lend(alloc) else {
         return CLOSED;
     };
-    let (new, answer) = old.range(from, to);
+    let (new, answer) = old.ask(Range(from, to));
     lane.give(slot, new);
     let count = answer.count;
     *out = span(answer);

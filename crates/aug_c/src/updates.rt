@@ -1,32 +1,21 @@
 //! The updates of a lane.
 ghost use Rattle.std.specs.Prelude.{◌≡◌, ◌≢◌, length, IsNone};
-ghost use Rattle.aug_trie.specs.Knowledge.{insertion, removal};
-ghost use Rattle.aug_lane.specs.EachInTurn.{Inserts, Removes, Puts};
+ghost use Rattle.aug_trie.specs.declared.updates.request.Request.TheVariants as request;
+ghost use Rattle.aug_lane.specs.EachInTurn.{UpdatesEach, Puts};
 ghost use Rattle.aug_c.specs.Codes.{no_room};
 ghost use Rattle.aug_c.specs.Handles.{lane_of, On};
-ghost use Rattle.aug_c.specs.LaneCalls.{span_of, update_code, put_code, all_code, UpdatesKey, PutsWeight, UpdatesAll, TakesLook, TellsLeft};
+ghost use Rattle.aug_c.specs.LaneCalls.{span_of, update_code, all_code, UpdatesKey, UpdatesAll, TakesLook, TellsLeft};
 
 use crate::codes::{BAD_KEY, CLOSED, NO_ROOM, SPENT};
 use crate::lane_handle::LaneHandle;
 use aug_lane::LaneError;
 use aug_model::Outcome;
+use aug_trie::Request;
 use std::alloc::Global;
 
 #[inline(always)]
-fn code_of(answer: Result<bool, LaneError>) -> i64
+fn code_of(answer: Result<Outcome, LaneError>) -> i64
     ensures { result ≡ update_code answer }
-{
-    match answer {
-        Ok(true) => 1,
-        Ok(false) => 0,
-        Err(LaneError::BadKey) => BAD_KEY,
-        Err(LaneError::Spent) => SPENT,
-    }
-}
-
-#[inline(always)]
-fn code_of_put(answer: Result<Outcome, LaneError>) -> i64
-    ensures { result ≡ put_code answer }
 {
     match answer {
         Ok(Outcome::Accepted) => 1,
@@ -48,47 +37,46 @@ fn code_of_all(answer: Result<u32, LaneError>) -> i64
     }
 }
 
-/// Puts a key in, with the key itself as its weight: 1 if it was not there, 0 if it was.
-#[unsafe(no_mangle)]
-pub extern "C" fn aug_insert(alloc: Global, lane: &mut LaneHandle, key: u32) -> i64
-    ensures updates { On (UpdatesKey insertion key key) (lane_of lane.old) (lane_of lane.new) result }
+// Makes an update of a key in a handle's lane.
+#[inline(always)]
+fn update(alloc: Global, lane: &mut LaneHandle, key: u32, request: Request) -> i64
+    ensures updates { On (UpdatesKey request key) (lane_of lane.old) (lane_of lane.new) result }
     ensures foreign { IsNone lane.old.held.value → lane.new ≡ lane.old }
 {
     let Some((slot, old)) = lane.lend(alloc) else {
         return CLOSED;
     };
-    let (new, answer) = old.insert(key);
+    let (new, answer) = old.update(key, request);
     lane.give(slot, new);
     code_of(answer)
+}
+
+/// Puts a key in, with the key itself as its weight: 1 if it was not there, 0 if it was.
+#[unsafe(no_mangle)]
+pub extern "C" fn aug_insert(alloc: Global, lane: &mut LaneHandle, key: u32) -> i64
+    ensures updates { On (UpdatesKey request.Insert key) (lane_of lane.old) (lane_of lane.new) result }
+    ensures foreign { IsNone lane.old.held.value → lane.new ≡ lane.old }
+{
+    update(alloc, lane, key, Request::Insert)
 }
 
 /// Takes a key out: 1 if it was there, 0 if it was not.
 #[unsafe(no_mangle)]
 pub extern "C" fn aug_remove(alloc: Global, lane: &mut LaneHandle, key: u32) -> i64
-    ensures updates { On (UpdatesKey removal key 0) (lane_of lane.old) (lane_of lane.new) result }
+    ensures updates { On (UpdatesKey request.Remove key) (lane_of lane.old) (lane_of lane.new) result }
     ensures foreign { IsNone lane.old.held.value → lane.new ≡ lane.old }
 {
-    let Some((slot, old)) = lane.lend(alloc) else {
-        return CLOSED;
-    };
-    let (new, answer) = old.remove(key);
-    lane.give(slot, new);
-    code_of(answer)
+    update(alloc, lane, key, Request::Remove)
 }
 
 /// Puts a key in with a weight, or gives a member this weight: 1 if it was not there, 2 if it was, 0 if another change of the
 /// key came in between and nothing was stored.
 #[unsafe(no_mangle)]
 pub extern "C" fn aug_put(alloc: Global, lane: &mut LaneHandle, key: u32, weight: u32) -> i64
-    ensures puts { On (PutsWeight key weight) (lane_of lane.old) (lane_of lane.new) result }
+    ensures updates { On (UpdatesKey (request.Put weight) key) (lane_of lane.old) (lane_of lane.new) result }
     ensures foreign { IsNone lane.old.held.value → lane.new ≡ lane.old }
 {
-    let Some((slot, old)) = lane.lend(alloc) else {
-        return CLOSED;
-    };
-    let (new, answer) = old.put(key, weight);
-    lane.give(slot, new);
-    code_of_put(answer)
+    update(alloc, lane, key, Request::Put(weight))
 }
 
 /// Takes a new snapshot, which the queries are answered from.
@@ -119,32 +107,36 @@ pub extern "C" fn aug_budget(alloc: Global, lane: &mut LaneHandle) -> i64
     i64::from(left)
 }
 
-/// Puts each key in, in their order, with itself as its weight: one update for each. Answers how many changed the set.
-#[unsafe(no_mangle)]
-pub extern "C" fn aug_insert_all(alloc: Global, lane: &mut LaneHandle, keys: &[u32]) -> i64
-    ensures updates { On (UpdatesAll keys.now (Inserts span_of keys.now)) (lane_of lane.old) (lane_of lane.new) result }
+// Makes the same update of each key in a handle's lane.
+#[inline(always)]
+fn update_all(alloc: Global, lane: &mut LaneHandle, keys: &[u32], request: Request) -> i64
+    ensures updates { On (UpdatesAll keys.now (UpdatesEach span_of request keys.now)) (lane_of lane.old) (lane_of lane.new) result }
     ensures foreign { IsNone lane.old.held.value → lane.new ≡ lane.old }
 {
     let Some((slot, old)) = lane.lend(alloc) else {
         return CLOSED;
     };
-    let (new, answer) = old.insert_all(keys);
+    let (new, answer) = old.update_all(keys, request);
     lane.give(slot, new);
     code_of_all(answer)
+}
+
+/// Puts each key in, in their order, with itself as its weight: one update for each. Answers how many changed the set.
+#[unsafe(no_mangle)]
+pub extern "C" fn aug_insert_all(alloc: Global, lane: &mut LaneHandle, keys: &[u32]) -> i64
+    ensures updates { On (UpdatesAll keys.now (UpdatesEach span_of request.Insert keys.now)) (lane_of lane.old) (lane_of lane.new) result }
+    ensures foreign { IsNone lane.old.held.value → lane.new ≡ lane.old }
+{
+    update_all(alloc, lane, keys, Request::Insert)
 }
 
 /// Takes each key out, in their order: one update for each. Answers how many changed the set.
 #[unsafe(no_mangle)]
 pub extern "C" fn aug_remove_all(alloc: Global, lane: &mut LaneHandle, keys: &[u32]) -> i64
-    ensures updates { On (UpdatesAll keys.now (Removes span_of keys.now)) (lane_of lane.old) (lane_of lane.new) result }
+    ensures updates { On (UpdatesAll keys.now (UpdatesEach span_of request.Remove keys.now)) (lane_of lane.old) (lane_of lane.new) result }
     ensures foreign { IsNone lane.old.held.value → lane.new ≡ lane.old }
 {
-    let Some((slot, old)) = lane.lend(alloc) else {
-        return CLOSED;
-    };
-    let (new, answer) = old.remove_all(keys);
-    lane.give(slot, new);
-    code_of_all(answer)
+    update_all(alloc, lane, keys, Request::Remove)
 }
 
 /// Puts each key in with the weight that has its index, or gives a member this weight, in their order: one update for each.

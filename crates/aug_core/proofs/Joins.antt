@@ -32,7 +32,7 @@ module _ {A : Type 0} where
   at_right (x ∷ xs) m a j e = let is : suc (length xs + j) ≡ length (x ∷ xs) + j = omega arith in subst (λ (z : ℕ). get_elem? (x ∷ (xs ++ m)) z ≡ some a) is (at_right xs m a j e)
 
 -- the view of a seat that was joined knows nothing
-spent_knows : (o : Opening) (words : List ℕ) (book : List (List Entry)) → Knows o words book spent
+pub spent_knows : (o : Opening) (words : List ℕ) (book : List (List Entry)) → Knows o words book spent
 spent_knows o words book = record {
   shaped = λ l. let clash : false ≡ true = l in cc;
   same_members = λ l. let clash : false ≡ true = l in cc;
@@ -41,6 +41,7 @@ spent_knows o words book = record {
   fresh = record { covers = λ q i e inner past p. record { left = omega arith; right = omega arith } };
   holds = λ a h p. absurd (some-ne-none h (sym p));
   spares = λ n lane e le low. let clash : None ≡ Some n = e in cc;
+  blocks = λ n lane k e le low small. let clash : None ≡ Some n = e in cc;
 }
 
 module _ (face : ℕ → ℕ → List (ℕ × ℕ) → List ℕ) (o : Opening) (s : St) (r : Kept face o s) (id : ℕ) (v : SeatView) (at : get_elem? s.views id ≡ some v) (other : ℕ) (w : SeatView) (ne : other ≢ id) (at' : get_elem? s.views other ≡ some w) where
@@ -127,6 +128,7 @@ module _ (face : ℕ → ℕ → List (ℕ × ℕ) → List ℕ) (o : Opening) (
           fresh = kn.fresh;
           holds = λ a h q. ⊎_elim (λ old. kn.holds a h old) (λ new. kw.holds new.0 h new.2) (append_at v.held w.held h a q);
           spares = kn.spares;
+          blocks = kn.blocks;
         }) (λ t'. r.each_view j u t'.1) t) (came j u p);
     apart = apart_on s.views views From (λ i a h. ⊥) r.apart record {
       came = λ i a x h p q. ⊎_elim

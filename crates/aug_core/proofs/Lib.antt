@@ -16,6 +16,12 @@ pub mod Openings
 pub mod Leaves
 pub mod Splits
 pub mod Joins
+pub mod Eras
+pub mod EraSteps
+pub mod Notes
+pub mod Counting
+pub mod Missing
+pub mod Renewals
 pub mod Clients
 pub mod CutLists
 pub mod Showing

@@ -11,6 +11,7 @@ use Rattle.aug_core.specs.Opening.{Opening}
 use Rattle.aug_core.specs.Rule.{NamesNewest, Knows, Kept}
 use Rattle.aug_core.specs.Kinds.{load_leaf, load_node, load_record_word}
 use Rattle.aug_core.specs.Told.{Sat, stepping, held_word, read_record, seeing, beginning, Sees, loaded_leaf, began_at_leaf, loaded_node}
+use Rattle.aug_core.specs.inside.EraSteps.{WithEra}
 use Rattle.aug_core.specs.declared.view.Entry.{Entry}
 use Rattle.aug_core.specs.declared.view.Held.{Held}
 use Rattle.aug_core.specs.declared.view.SeatView.{SeatView}
@@ -29,7 +30,7 @@ module _ (face : ℕ → ℕ → List (ℕ × ℕ) → List ℕ) (o : Opening) w
     of_own number field small is a h p of_lane = let b = in_block o.shape h.lane number field of_lane small in
         ap (λ (z : ℕ). get_or s.words z 0) (is ∙ b.0) ∙ (kn.holds a h p).exact (record_words * (number - first_record o.shape h.lane) + field) b.1
 
-  pub loads_record_word : (n id place : ℕ) (me : Sat) → me.0.live ≡ true → me.1 ≡ [] → Allows (Kept face o) n id me place (λ x. x) (read_record (step n place 0 0 none) me)
+  pub loads_record_word : (n id place : ℕ) (me : Sat) → me.0.live ≡ true → me.1 ≡ [] → Allows (Kept face o) n id me place (λ x. x) (WithEra me (read_record (step n place 0 0 none) me))
   loads_record_word n id place me live empty s r _ at _ =
       let v : SeatView = me.0 in let kn = r.each_view id v at in let found : ℕ = get_or s.words place 0 in let shaped : o.shape ≡ v.shape = sym (kn.shaped live) in
       let w : SeatView = stepping v (load_record_word place found) in (
@@ -38,12 +39,15 @@ module _ (face : ℕ → ℕ → List (ℕ × ℕ) → List ℕ) (o : Opening) w
         tt,
         stands face o s r id v at w record { back = λ a h p. (h, p, refl, refl); forth = λ a h p. (h, p, refl, refl); spare = refl } (knows_keeping face o s r id v s.words r.book (rests face o s r id v at) at v.held (v.steps ++ load_record_word place found ∷ []) kn.holds) place,
         (
-          empty,
-          record {
-            stepped = refl;
-            known = subst (λ (z : Shape). (number field : ℕ) → field < record_words → place ≡ record_start z number + field → (q i : ℕ) (e : Entry) → IsInner z q → At v.seen q i e → e.number ≡ number → found ≡ get_or e.words field 0) shaped (of_entry s r v kn place);
-            own = subst (λ (z : Shape). (number field : ℕ) → field < record_words → place ≡ record_start z number + field → (a : ℕ) (h : Held) → get_elem? v.held a ≡ some h → IsOfLane z h.lane number → found ≡ held_word z h number field) shaped (of_own s r v kn place);
-          },
+          (
+            empty,
+            record {
+              stepped = refl;
+              known = subst (λ (z : Shape). (number field : ℕ) → field < record_words → place ≡ record_start z number + field → (q i : ℕ) (e : Entry) → IsInner z q → At v.seen q i e → e.number ≡ number → found ≡ get_or e.words field 0) shaped (of_entry s r v kn place);
+              own = subst (λ (z : Shape). (number field : ℕ) → field < record_words → place ≡ record_start z number + field → (a : ℕ) (h : Held) → get_elem? v.held a ≡ some h → IsOfLane z h.lane number → found ≡ held_word z h number field) shaped (of_own s r v kn place);
+            },
+          ),
+          record { era = refl; renews = refl },
         ),
       )
 
@@ -59,7 +63,7 @@ module _ (face : ℕ → ℕ → List (ℕ × ℕ) → List ℕ) (o : Opening) w
     finds_leaf : (place : ℕ) → place < 2 ^ v.shape.bits → NamesNewest s.words r.book place
     finds_leaf place low = let low' : place < 2 ^ o.shape.bits = subst (λ (z : Shape). place < 2 ^ z.bits) ((r.each_view id v at).shaped live) low in let t2 = twice o.shape.bits in r.tree.newest place (omega arith)
 
-  pub loads_leaf : (n id place : ℕ) (me : Sat) → me.0.live ≡ true → me.1 ≡ [] → Allows (Kept face o) n id me place (λ x. x) (loaded_leaf face (step n place 0 0 none) me)
+  pub loads_leaf : (n id place : ℕ) (me : Sat) → me.0.live ≡ true → me.1 ≡ [] → Allows (Kept face o) n id me place (λ x. x) (WithEra me (loaded_leaf face (step n place 0 0 none) me))
   loads_leaf n id place me live empty s r _ at _ =
       let v : SeatView = me.0 in let found : ℕ = get_or s.words place 0 in let w : SeatView = seeing v r.book (load_leaf place found) in (
         w,
@@ -67,21 +71,24 @@ module _ (face : ℕ → ℕ → List (ℕ × ℕ) → List ℕ) (o : Opening) w
         tt,
         watches face o s r id v at v.began (load_leaf place found) place,
         (
-          empty,
-          λ low. let t = finds_leaf s r id v at live place low in record {
-            stepped = refl;
-            sees = sees_it s r id v at live w refl;
-            index = t.index;
-            entry = t.entry;
-            newest = t.newest;
-            found = t.word;
-            shown = t.shown;
-          },
+          (
+            empty,
+            λ low. let t = finds_leaf s r id v at live place low in record {
+              stepped = refl;
+              sees = sees_it s r id v at live w refl;
+              index = t.index;
+              entry = t.entry;
+              newest = t.newest;
+              found = t.word;
+              shown = t.shown;
+            },
+          ),
+          record { era = refl; renews = refl },
         ),
       )
 
   -- the same, where an update begins with it
-  pub begins_at_leaf : (n id place : ℕ) (me : Sat) → me.0.live ≡ true → me.1 ≡ [] → Allows (Kept face o) n id me place (λ x. x) (began_at_leaf face (step n place 0 0 none) me)
+  pub begins_at_leaf : (n id place : ℕ) (me : Sat) → me.0.live ≡ true → me.1 ≡ [] → Allows (Kept face o) n id me place (λ x. x) (WithEra me (began_at_leaf face (step n place 0 0 none) me))
   begins_at_leaf n id place me live empty s r _ at _ =
       let v : SeatView = me.0 in let found : ℕ = get_or s.words place 0 in let w : SeatView = beginning v r.book (load_leaf place found) in (
         w,
@@ -89,20 +96,23 @@ module _ (face : ℕ → ℕ → List (ℕ × ℕ) → List ℕ) (o : Opening) w
         tt,
         watches face o s r id v at w.began (load_leaf place found) place,
         (
-          empty,
-          λ low. let t = finds_leaf s r id v at live place low in record {
-            stepped = refl;
-            sees = sees_it s r id v at live w refl;
-            index = t.index;
-            entry = t.entry;
-            newest = t.newest;
-            found = t.word;
-            shown = t.shown;
-          },
+          (
+            empty,
+            λ low. let t = finds_leaf s r id v at live place low in record {
+              stepped = refl;
+              sees = sees_it s r id v at live w refl;
+              index = t.index;
+              entry = t.entry;
+              newest = t.newest;
+              found = t.word;
+              shown = t.shown;
+            },
+          ),
+          record { era = refl; renews = refl },
         ),
       )
 
-  pub loads_node : (n id place : ℕ) (me : Sat) → me.0.live ≡ true → me.1 ≡ [] → Allows (Kept face o) n id me place (λ x. x) (loaded_node face (step n place 0 0 none) me)
+  pub loads_node : (n id place : ℕ) (me : Sat) → me.0.live ≡ true → me.1 ≡ [] → Allows (Kept face o) n id me place (λ x. x) (WithEra me (loaded_node face (step n place 0 0 none) me))
   loads_node n id place me live empty s r _ at _ =
       let v : SeatView = me.0 in let kn = r.each_view id v at in let found : ℕ = get_or s.words place 0 in let w : SeatView = seeing v r.book (load_node place found) in (
         w,
@@ -110,15 +120,18 @@ module _ (face : ℕ → ℕ → List (ℕ × ℕ) → List ℕ) (o : Opening) w
         tt,
         watches face o s r id v at v.began (load_node place found) place,
         (
-          empty,
-          λ inner. let inner' = subst (λ (z : Shape). IsInner z place) (kn.shaped live) inner in let t = r.tree.newest place inner'.inside in record {
-            stepped = refl;
-            sees = sees_it s r id v at live w refl;
-            index = t.index;
-            entry = t.entry;
-            newest = t.newest;
-            found = t.word ∙ r.tree.is_book.named place t.index t.entry inner' t.newest.at;
-            shown = t.shown;
-          },
+          (
+            empty,
+            λ inner. let inner' = subst (λ (z : Shape). IsInner z place) (kn.shaped live) inner in let t = r.tree.newest place inner'.inside in record {
+              stepped = refl;
+              sees = sees_it s r id v at live w refl;
+              index = t.index;
+              entry = t.entry;
+              newest = t.newest;
+              found = t.word ∙ r.tree.is_book.named place t.index t.entry inner' t.newest.at;
+              shown = t.shown;
+            },
+          ),
+          record { era = refl; renews = refl },
         ),
       )

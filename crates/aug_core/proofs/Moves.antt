@@ -81,12 +81,22 @@ module _ (face : ℕ → ℕ → List (ℕ × ℕ) → List ℕ) (o : Opening) (
       spares = λ n lane e le low. ⊎_elim
           (λ (stays : Stays o.shape s.words after lane). stays.state ∙ kn.spares n lane e le low)
           (λ (mine : IsMine o.shape after v lane). let below : mine.held.lane < n = r.apart.handed_out j id mine.index n u v mine.held p at e mine.at in let is = mine.is in absurd (omega arith)) (m.lanes lane low);
+      blocks = λ n lane k e le low small. ⊎_elim
+          (λ (stays : Stays o.shape s.words after lane). stays.block k small ∙ kn.blocks n lane k e le low small)
+          (λ (mine : IsMine o.shape after v lane). let below : mine.held.lane < n = r.apart.handed_out j id mine.index n u v mine.held p at e mine.at in let is = mine.is in absurd (omega arith)) (m.lanes lane low);
     }
 
     -- the lanes that the view may still hand out are free
     pub still_spare : (w : SeatView) → v.spare ≡ w.spare → (n lane : ℕ) → w.spare ≡ Some n → n ≤ lane → lane < o.shape.workers → get_or after (lane_place o.shape lane) 0 ≡ word_of_state Free
     still_spare w same n lane e le low = let kn = r.each_view id v at in ⊎_elim
         (λ (stays : Stays o.shape s.words after lane). stays.state ∙ kn.spares n lane (same ∙ e) le low)
+        (λ (mine : IsMine o.shape after v lane). let below : mine.held.lane < n = r.apart.handed_out id id mine.index n v v mine.held at at (same ∙ e) mine.at in let is = mine.is in absurd (omega arith)) (m.lanes lane low)
+
+    -- and their records hold what they held
+    pub still_blocks : (w : SeatView) → v.spare ≡ w.spare → v.words ≡ w.words → (n lane k : ℕ) → w.spare ≡ Some n → n ≤ lane → lane < o.shape.workers → k < block_size o.shape
+        → get_or after (block_start o.shape lane + k) 0 ≡ get_or w.words (block_start o.shape lane + k) 0
+    still_blocks w same words n lane k e le low small = let kn = r.each_view id v at in ⊎_elim
+        (λ (stays : Stays o.shape s.words after lane). stays.block k small ∙ kn.blocks n lane k (same ∙ e) le low small ∙ ap (λ (z : List ℕ). get_or z (block_start o.shape lane + k) 0) words)
         (λ (mine : IsMine o.shape after v lane). let below : mine.held.lane < n = r.apart.handed_out id id mine.index n v v mine.held at at (same ∙ e) mine.at in let is = mine.is in absurd (omega arith)) (m.lanes lane low)
 
     -- no lane that was not free is free now
@@ -104,9 +114,6 @@ module _ (face : ℕ → ℕ → List (ℕ × ℕ) → List ℕ) (o : Opening) (
         states = λ lane low. ⊎_elim
             (λ (stays : Stays o.shape s.words after lane). let t = r.lanes.states lane low in subst (λ (z : ℕ). z ≤ word_of_state Ended) (sym stays.state) t)
             (λ (mine : IsMine o.shape after v lane). mine.last_state) (m.lanes lane low);
-        blank = λ lane low free k small. ⊎_elim
-            (λ (stays : Stays o.shape s.words after lane). stays.block k small ∙ r.lanes.blank lane low (sym stays.state ∙ free) k small)
-            (λ (mine : IsMine o.shape after v lane). let pos = mine.some_state in absurd (omega arith)) (m.lanes lane low);
         unused = λ lane q i e low free inner p of_lane. ⊎_elim
             (λ old. r.lanes.unused lane q i e low (was_free lane low free) inner old of_lane)
             (λ (mine : IsOwn o.shape after v e.number). let same : mine.held.lane ≡ lane = lanes_apart o.shape mine.held.lane lane e.number mine.of_lane of_lane in
@@ -178,6 +185,7 @@ module _ (face : ℕ → ℕ → List (ℕ × ℕ) → List ℕ) (o : Opening) (
       fresh = fresh_now o.shape book';
       holds = holds;
       spares = still_spare record v { seen = book'; held = held; began = began; steps = steps } refl;
+      blocks = still_blocks record v { seen = book'; held = held; began = began; steps = steps } refl refl;
     }
 
     -- a view that was shown nothing of it
@@ -190,6 +198,7 @@ module _ (face : ℕ → ℕ → List (ℕ × ℕ) → List ℕ) (o : Opening) (
       fresh = m.fresh v.seen kn.saw kn.fresh;
       holds = holds;
       spares = still_spare record v { held = held; steps = steps } refl;
+      blocks = still_blocks record v { held = held; steps = steps } refl refl;
     }
 
 module _ (face : ℕ → ℕ → List (ℕ × ℕ) → List ℕ) (o : Opening) (s : St) (r : Kept face o s) (id : ℕ) (v : SeatView) (at : get_elem? s.views id ≡ some v) where

@@ -13,6 +13,7 @@ use Rattle.aug_core.specs.Opening.{Opening}
 use Rattle.aug_core.specs.Rule.{Lists, NamesNewest, HoldsLane, Kept}
 use Rattle.aug_core.specs.Kinds.{try_node}
 use Rattle.aug_core.specs.Told.{Sat, HoldsOnly, MayStore, held_word, on_first, with_published, seeing, publishing, IsFilled, tried_node}
+use Rattle.aug_core.specs.inside.EraSteps.{WithEra}
 use Rattle.aug_core.specs.inside.LaneStates.{HasTakenLane}
 use Rattle.aug_core.specs.declared.step.StepTaken.{StepTaken}
 use Rattle.aug_core.specs.declared.view.Entry.{Entry}
@@ -132,7 +133,7 @@ module _ (face : ℕ → ℕ → List (ℕ × ℕ) → List ℕ) (o : Opening) w
     says g one k small = c.full g one k small
 
   pub tries_node : (n id q old number : ℕ) (me : Sat) → me.0.live ≡ true → me.1 ≡ [] → IsInner me.0.shape q → HasTakenLane me.0 → MayStore me.0 number → IsFilled face me.0 q old number
-      → Allows (Kept face o) n id me q (λ x. either (eqb x old) number x) (tried_node face (step n q old number none) me)
+      → Allows (Kept face o) n id me q (λ x. either (eqb x old) number x) (WithEra me (tried_node face (step n q old number none) me))
   tries_node n id q old number me live empty inner has may c s r _ at _ =
       let v : SeatView = me.0 in let taken0 = is_taken v may.lane may.only has in let h : Held = may.lane in let kn = r.each_view id v at in let shaped : v.shape ≡ o.shape = kn.shaped live in
       let of_lane : IsOfLane o.shape h.lane number = subst (λ (z : Shape). IsOfLane z h.lane number) shaped may.of_lane in
@@ -140,7 +141,7 @@ module _ (face : ℕ → ℕ → List (ℕ × ℕ) → List ℕ) (o : Opening) w
       let found : ℕ = get_or s.words q 0 in
       let taken : StepTaken = try_node q old number found in let steps : List StepTaken = v.steps ++ taken ∷ [] in
       let held : on_first (with_published number) v.held ≡ with_published number h ∷ [] = ap (on_first (with_published number)) may.only in
-      exchanged found old number (Did face o s q id me (tried_node face (step n q old number none) me))
+      exchanged found old number (Did face o s q id me (WithEra me (tried_node face (step n q old number none) me)))
       (λ hit. let book2 : Book = longer_book s r id v at shaped h may.only taken0 number of_lane may.unpublished q inner' old c in
       let e : Entry = entry s r id v at shaped h may.only taken0 number of_lane may.unpublished q inner' old c in
       let longer = later s r id v at shaped h may.only taken0 number of_lane may.unpublished q inner' old c in
@@ -151,19 +152,22 @@ module _ (face : ℕ → ℕ → List (ℕ × ℕ) → List ℕ) (o : Opening) w
         subst (λ (z : List Held). Kept face o record { words = set s.words q number; homes = s.homes; views = set s.views id record v { seen = book2; held = z; steps = steps } }) (sym held)
             (publishes s r id v at shaped h may.only taken0 number of_lane may.unpublished q inner' old c hit steps),
         (
-          empty,
-          record {
-            sees = sees_after face v w o.shape shaped (book_trans kn.saw longer) (book_trans kn.also_saw longer)
-                (later_fresh s r id v at shaped h may.only taken0 number of_lane may.unpublished q inner' old c hit) (is_book' s r id v at shaped h may.only taken0 number of_lane may.unpublished q inner' old c hit)
-                (fits s r id v at shaped h may.only taken0 number of_lane may.unpublished q inner' old c);
-            shaped = refl;
-            stepped = refl;
-            index = length (history_of r.book q);
-            entry = e;
-            newest = newest_now s r id v at shaped h may.only taken0 number of_lane may.unpublished q inner' old c;
-            hit = λ _. (refl, refl, says s r id v at shaped h may.only taken0 number of_lane may.unpublished q inner' old c);
-            miss = λ miss. absurd (miss hit);
-          },
+          (
+            empty,
+            record {
+              sees = sees_after face v w o.shape shaped (book_trans kn.saw longer) (book_trans kn.also_saw longer)
+                  (later_fresh s r id v at shaped h may.only taken0 number of_lane may.unpublished q inner' old c hit) (is_book' s r id v at shaped h may.only taken0 number of_lane may.unpublished q inner' old c hit)
+                  (fits s r id v at shaped h may.only taken0 number of_lane may.unpublished q inner' old c);
+              shaped = refl;
+              stepped = refl;
+              index = length (history_of r.book q);
+              entry = e;
+              newest = newest_now s r id v at shaped h may.only taken0 number of_lane may.unpublished q inner' old c;
+              hit = λ _. (refl, refl, says s r id v at shaped h may.only taken0 number of_lane may.unpublished q inner' old c);
+              miss = λ miss. absurd (miss hit);
+            },
+          ),
+          record { era = refl; renews = refl },
         ),
       ))
       (λ miss. let w : SeatView = seeing v r.book taken in let top = r.tree.newest q inner'.inside in (
@@ -172,16 +176,19 @@ module _ (face : ℕ → ℕ → List (ℕ × ℕ) → List ℕ) (o : Opening) w
         tt,
         watches face o s r id v at v.began taken q,
         (
-          empty,
-          record {
-            sees = sees_it face o s r id v at live w refl;
-            shaped = refl;
-            stepped = refl;
-            index = top.index;
-            entry = top.entry;
-            newest = top.newest;
-            hit = λ hit. absurd (miss hit);
-            miss = λ _. (refl, top.word ∙ r.tree.is_book.named q top.index top.entry inner' top.newest.at);
-          },
+          (
+            empty,
+            record {
+              sees = sees_it face o s r id v at live w refl;
+              shaped = refl;
+              stepped = refl;
+              index = top.index;
+              entry = top.entry;
+              newest = top.newest;
+              hit = λ hit. absurd (miss hit);
+              miss = λ _. (refl, top.word ∙ r.tree.is_book.named q top.index top.entry inner' top.newest.at);
+            },
+          ),
+          record { era = refl; renews = refl },
         ),
       ))

@@ -1,33 +1,32 @@
 -- The rule holds of a table that was just opened.
-use Rattle.std.proofs.Common.{true, false, ◌≡◌, ℕ, zero, suc, ◌+◌, ◌*◌, ◌^◌, ◌<◌, ◌≤◌, Bool, le-ltb, lt-ltb, if◌then◌else◌, List, [], ◌∷◌, ◌++◌, length, get_or, replicate, All, sym, refl, ap, ◌∙◌, subst, ⊎_elim, arith}
+use Rattle.std.proofs.Common.{true, false, ◌≡◌, ℕ, zero, suc, ◌+◌, ◌*◌, ◌^◌, ◌<◌, ◌≤◌, Bool, le-ltb, lt-ltb, if◌then◌else◌, List, [], ◌∷◌, ◌++◌, length, get_or, replicate, All, sym, refl, ap, ◌∙◌, subst, ⊎_elim, arith, ◌⊎◌, Some, None}
 use Rattle.std.proofs.lemmas.Bool.{cases_lt}
 use Rattle.std.proofs.lemmas.List.FromFn.{length-map-range_with_len, get_or-map-range_with_len}
-use mathlib.Core.Option.{some, some-injective, some-ne-none}
+use mathlib.Core.Option.{Option, some, some-injective, some-ne-none}
 use lib.ListN.{get_elem?}
-use Rattle.atomic_table.specs.Table.{opening}
-use Rattle.aug_core.specs.Places.{opening_count, lane_place, record_start, word_count, record_words}
+use Rattle.aug_core.specs.Places.{opening_count, record_start}
 use Rattle.aug_core.specs.Addresses.{place_count, IsInner, left_of, right_of}
-use Rattle.aug_core.specs.Lanes.{block_size, word_of_state}
+use Rattle.aug_core.specs.Lanes.{block_start, block_size}
 use Rattle.aug_core.specs.Book.{Book, history_of, At, IsNewest, StandsOver, IsSerial, SerialsFit, IsBook, word_of_leaf}
 use Rattle.aug_model.specs.Keys.{is_member, keys_of, IsKeySet}
 use Rattle.aug_model.specs.Queries.{weight_in}
 use Rattle.aug_model.proofs.Pairs.{length-keys_of, weight_fits, weight-none}
 use Rattle.aug_monoid.specs.Weighted.{FitsPair}
-use Rattle.aug_core.specs.Opening.{opening_serial, Opening, IsIdle, opening_pairs, opening_number, opening_index, serial_entry, opening_words, shared_words, opening_entry, opening_history, opening_book}
+use Rattle.aug_core.specs.Opening.{opening_serial, Opening, opening_pairs, opening_number, opening_index, serial_entry, opening_entry, opening_history, opening_book}
 use Rattle.aug_core.specs.Layout.{IsLayout}
-use Rattle.aug_core.specs.Told.{KnowsTable}
-use Rattle.aug_core.specs.Rule.{BlockIs, Knows, Kept, newcomer}
+use Rattle.aug_core.specs.Told.{KnowsTable, spent}
+use Rattle.aug_core.specs.Renewals.{IsOpened}
+use Rattle.aug_core.specs.Rule.{Knows, Kept, no_beginning, newcomer}
 use Rattle.aug_core.specs.declared.view.Entry.{Entry}
 use Rattle.aug_core.specs.declared.view.SeatView.{SeatView}
 use Rattle.aug_model.proofs.Ranges.{Rises, rises_from}
 use Rattle.aug_core.proofs.Sizes.{twice}
 use Rattle.aug_core.proofs.Below.{pairs_over, pairs_of_leaf, number_of_leaf, number_below}
 use Rattle.aug_core.proofs.Stores.{alone}
+use Rattle.aug_core.proofs.Joins.{spent_knows}
 use Rattle.aug_core.proofs.Books.{fresh_now, at_below}
 use Rattle.aug_core.proofs.Fits.{at_most_one}
-use Rattle.aug_core.specs.Counts.{StandsAt}
-use Rattle.aug_core.specs.declared.view.Change.{Change}
-use Rattle.aug_core.specs.declared.view.LaneState.TheVariants.{Free}
+use Rattle.aug_core.specs.declared.view.Held.{Held}
 use Rattle.std.proofs.lemmas.List.{length-replicate, get_or-replicate}
 use Rattle.aug_core.proofs.PrefixLemmas.{book_none, book_refl}
 
@@ -169,66 +168,96 @@ module _ (face : ℕ → ℕ → List (ℕ × ℕ) → List ℕ) (o : Opening) w
   pub opening_fits : SerialsFit o.shape book
   opening_fits = record { few = λ key low. let long = leaf_long key low in let one = at_most_one (is_member (keys_of o.members) key) in omega arith }
 
-  -- no change was made
-  stands_nowhere : (i a k : ℕ) (c : Change) → StandsAt (newcomer face o ∷ []) i a k c → ⊥
-  stands_nowhere i a k c t = let out : get_elem? ((newcomer face o).held) a ≡ some t.lane = subst (λ (z : SeatView). get_elem? z.held a ≡ some t.lane) (sym (alone (newcomer face o) t.view i t.sits).1) t.held in some-ne-none t.lane (sym out)
-
-  -- the rule holds of these words
-  pub opens : (words : List ℕ) → Rises (keys_of o.members) → All FitsPair o.members → length (keys_of o.members) ≤ o.shape.members → length words ≡ word_count o.shape
-      → ((q : ℕ) → q < place_count o.shape → get_or words q 0 ≡ opening_number o q)
-      → ((q k : ℕ) → IsInner o.shape q → k < record_words → get_or words (record_start o.shape (opening_number o q) + k) 0 ≡ get_or (opening_words face o q) k 0)
-      → ((level k : ℕ) → level < o.shape.bits → k < record_words → get_or words (record_start o.shape level + k) 0 ≡ get_or (shared_words face level) k 0)
-      → ((number k : ℕ) → IsIdle o number → k < record_words → get_or words (record_start o.shape number + k) 0 ≡ 0)
-      → ((lane : ℕ) → lane < o.shape.workers → get_or words (lane_place o.shape lane) 0 ≡ word_of_state Free)
-      → ((lane : ℕ) → lane < o.shape.workers → BlockIs o.shape words lane (replicate (block_size o.shape) 0))
-      → Kept face o (opening words [] (newcomer face o))
-  opens words rises pairs_fit fit wide nodes records shared idle lanes blocks = record {
-    book = book;
-    tree = record {
-      wide = wide;
-      is_book = is_book rises pairs_fit fit;
-      opened = book_refl book;
-      newest = λ q low. let t = newly q low in record { index = opening_index o q; entry = t.entry; newest = t.newest; word = nodes q low ∙ sym t.named; shown = t.shown };
-      written = λ q i k e inner p small. subst (λ (z : Entry). get_or words (record_start o.shape z.number + k) 0 ≡ get_or z.words k 0) (inner_at q i e inner p).1 (records q k inner small);
-      shared = shared;
-      idle = idle;
-    };
-    lanes = record {
-      states = λ lane low. let z = lanes lane low in omega arith;
-      blank = λ lane low free. blocks lane low;
-      unused = λ lane q i e _ free inner p of_lane. let from = of_lane.from_first in let few = low rises fit q i e inner p in omega arith;
-    };
-    each_view = λ j v p. subst (Knows o words book) (alone (newcomer face o) v j p).1 record {
-      shaped = λ _. refl;
-      same_members = λ _. refl;
-      saw = book_refl book;
-      also_saw = book_none book;
-      fresh = fresh_now o.shape book;
-      holds = λ a h at. absurd (some-ne-none h (sym at));
-      spares = λ n lane e le low. lanes lane low;
-    };
-    apart = record {
-      one_holder = λ i j a b x y h g px py ph pg same. let out : get_elem? ((newcomer face o).held) a ≡ some h = subst (λ (z : SeatView). get_elem? z.held a ≡ some h) (sym (alone (newcomer face o) x i px).1) ph in absurd (some-ne-none h (sym out));
-      one_lead = λ i j n m x y px py ex ey. (alone (newcomer face o) x i px).0 ∙ sym (alone (newcomer face o) y j py).0;
-      handed_out = λ i j a n x y h px py ex ph. let out : get_elem? ((newcomer face o).held) a ≡ some h = subst (λ (z : SeatView). get_elem? z.held a ≡ some h) (sym (alone (newcomer face o) y j py).1) ph in absurd (some-ne-none h (sym out));
-    };
-    changes = record {
-      counted = record {
-        all = λ c m. let long = leaf_long c.key m.exists in let past = m.past_opening in let reached = at_below (history_of book c.key) c.serial m.entry m.reached in absurd (omega arith);
-        once = λ i j a b k l c p q. absurd (stands_nowhere i a k c p);
-        none_else = λ i a k c p. absurd (stands_nowhere i a k c p);
-      };
-      tally = replicate o.shape.workers 0;
-      tallied = record {
-        long = length-replicate o.shape.workers 0;
-        each = λ i a v h p held. let out : get_elem? ((newcomer face o).held) a ≡ some h = subst (λ (z : SeatView). get_elem? z.held a ≡ some h) (sym (alone (newcomer face o) v i p).1) held in absurd (some-ne-none h (sym out));
-        few = λ lane low. subst (λ (z : ℕ). z ≤ 2 * o.shape.updates) (sym (get_or-replicate o.shape.workers lane 0 0 low)) (omega arith);
-        free = λ lane low free. get_or-replicate o.shape.workers lane 0 0 low;
-        enough = λ key low. let long = leaf_long key low in omega arith;
-      };
-    };
+  -- the view of the seat that opens the table, in an era of the table, whose words are known to it
+  abbrev pub opener : ℕ → List ℕ → SeatView
+  opener era known = record {
+    live = true;
+    era = era;
+    shape = o.shape;
+    members = o.members;
+    seen = book;
+    also = [];
+    held = [];
+    spare = Some 0;
+    renews = false;
+    words = known;
+    began = no_beginning;
+    steps = [];
   }
+
+  -- of these views one opens the table, and the others are those of seats that were joined
+  pub record IsAlone (views : List SeatView) (id : ℕ) (first : SeatView) : Type 0 where
+    pub each : (j : ℕ) (x : SeatView) → get_elem? views j ≡ some x → ((j ≡ id) × (first ≡ x)) ⊎ (spent ≡ x)
+
+  module _ (views : List SeatView) (id era : ℕ) (known : List ℕ) (one : IsAlone views id (opener era known)) where
+    -- nobody holds a lane
+    holds_none : (j a : ℕ) (x : SeatView) (h : Held) → get_elem? views j ≡ some x → get_elem? x.held a ≡ some h → ⊥
+    holds_none j a x h p q = ⊎_elim
+        (λ t. let out : get_elem? (opener era known).held a ≡ some h = subst (λ (z : SeatView). get_elem? z.held a ≡ some h) (sym t.1) q in some-ne-none h (sym out))
+        (λ t. let out : get_elem? spent.held a ≡ some h = subst (λ (z : SeatView). get_elem? z.held a ≡ some h) (sym t) q in some-ne-none h (sym out)) (one.each j x p)
+
+    -- and one hands lanes out
+    leads : (j n : ℕ) (x : SeatView) → get_elem? views j ≡ some x → x.spare ≡ Some n → j ≡ id
+    leads j n x p e = ⊎_elim (λ t. t.0) (λ t. let clash : None ≡ Some n = ap (λ (z : SeatView). z.spare) t ∙ e in cc) (one.each j x p)
+
+    -- the rule holds of these words
+    pub opens : (words : List ℕ) (homes : List (Option (Unit {0}))) → IsOpened face o words
+        → ((lane k : ℕ) → lane < o.shape.workers → k < block_size o.shape → get_or words (block_start o.shape lane + k) 0 ≡ get_or known (block_start o.shape lane + k) 0)
+        → Kept face o record { words = words; homes = homes; views = views }
+    opens words homes opened blocks =
+        let rises : Rises (keys_of o.members) = rises_from (keys_of o.members) opened.key_set.rising in record {
+          book = book;
+          tree = record {
+            wide = opened.wide;
+            is_book = is_book rises opened.members_fit opened.few;
+            opened = book_refl book;
+            newest = λ q inside. let t = newly q inside in record { index = opening_index o q; entry = t.entry; newest = t.newest; word = opened.named q inside ∙ sym t.named; shown = t.shown };
+            written = λ q i k e inner p small. subst (λ (z : Entry). get_or words (record_start o.shape z.number + k) 0 ≡ get_or z.words k 0) (inner_at q i e inner p).1 (opened.records q k inner small);
+            shared = opened.shared;
+            idle = opened.idle;
+          };
+          lanes = record {
+            states = λ lane inside. let z = opened.lanes lane inside in omega arith;
+            unused = λ lane q i e _ free inner p of_lane. let from = of_lane.from_first in let few = low rises opened.few q i e inner p in omega arith;
+          };
+          each_view = λ j v p. ⊎_elim
+              (λ t. subst (Knows o words book) t.1 record {
+                shaped = λ _. refl;
+                same_members = λ _. refl;
+                saw = book_refl book;
+                also_saw = book_none book;
+                fresh = fresh_now o.shape book;
+                holds = λ a h at. absurd (some-ne-none h (sym at));
+                spares = λ n lane e le inside. opened.lanes lane inside;
+                blocks = λ n lane k e le inside small. blocks lane k inside small;
+              })
+              (λ t. subst (Knows o words book) t (spent_knows o words book)) (one.each j v p);
+          apart = record {
+            one_holder = λ i j a b x y h g px py ph pg same. absurd (holds_none i a x h px ph);
+            one_lead = λ i j n m x y px py ex ey. leads i n x px ex ∙ sym (leads j m y py ey);
+            handed_out = λ i j a n x y h px py ex ph. absurd (holds_none j a y h py ph);
+          };
+          changes = record {
+            counted = record {
+              all = λ c m. let long = leaf_long c.key m.exists in let past = m.past_opening in let reached = at_below (history_of book c.key) c.serial m.entry m.reached in absurd (omega arith);
+              once = λ i j a b k l c p q. absurd (holds_none i a p.view p.lane p.sits p.held);
+              none_else = λ i a k c p. absurd (holds_none i a p.view p.lane p.sits p.held);
+            };
+            tally = replicate o.shape.workers 0;
+            tallied = record {
+              long = length-replicate o.shape.workers 0;
+              each = λ i a v h p held. absurd (holds_none i a v h p held);
+              few = λ lane inside. subst (λ (z : ℕ). z ≤ 2 * o.shape.updates) (sym (get_or-replicate o.shape.workers lane 0 0 inside)) (omega arith);
+              free = λ lane inside free. get_or-replicate o.shape.workers lane 0 0 inside;
+              enough = λ key inside. let long = leaf_long key inside in omega arith;
+            };
+          };
+        }
+
+  -- what such a seat knows of its table
+  pub opener_knows : (era : ℕ) (known : List ℕ) → IsLayout o.shape → IsKeySet o.shape.bits (keys_of o.members) → All FitsPair o.members → length (keys_of o.members) ≤ o.shape.members → KnowsTable face (opener era known)
+  opener_knows era known laid_out key_set fit few = record { laid_out = laid_out; key_set = key_set; members_fit = fit; few_members = let long = length-keys_of o.members in omega arith; book = is_book (rises_from (keys_of o.members) key_set.rising) fit few; opened = book_refl book; fits = opening_fits }
 
   -- the first seat knows its table
   pub newcomer_knows : IsLayout o.shape → IsKeySet o.shape.bits (keys_of o.members) → All FitsPair o.members → length (keys_of o.members) ≤ o.shape.members → KnowsTable face (newcomer face o)
-  newcomer_knows laid_out key_set fit few = record { laid_out = laid_out; key_set = key_set; members_fit = fit; few_members = let long = length-keys_of o.members in omega arith; book = is_book (rises_from (keys_of o.members) key_set.rising) fit few; opened = book_refl book; fits = opening_fits }
+  newcomer_knows = opener_knows 0 []

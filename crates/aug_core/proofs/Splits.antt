@@ -1,16 +1,16 @@
 -- A view hands its next lane out to a new view.
-use Rattle.std.proofs.Common.{true, ◌≡◌, ℕ, ◌+◌, ◌<◌, ◌⊎◌, inl, inr, List, [], ◌∷◌, ◌++◌, length, get_or, set, option_map, sym, refl, ap, ◌∙◌, subst, ⊎_elim, arith, Some, None}
+use Rattle.std.proofs.Common.{true, false, ◌≡◌, ℕ, ◌+◌, ◌<◌, ◌⊎◌, inl, inr, List, [], ◌∷◌, ◌++◌, length, get_or, set, option_map, sym, refl, ap, ◌∙◌, subst, ⊎_elim, arith, Some, None}
 use Rattle.std.specs.Prelude.{unwrap_or}
-use Rattle.std.proofs.lemmas.List.{length-replicate}
+use Rattle.std.proofs.lemmas.List.FromFn.{length-map-range_with_len, get_or-map-range_with_len}
 use mathlib.Core.Option.{some, some-ne-none}
 use lib.ListN.{get_elem?}
 use Rattle.atomic_table.specs.Table.{Splits}
 use Rattle.atomic_table.proofs.Lists.{at_set}
 use Rattle.aug_core.specs.Places.{Shape, lane_place}
-use Rattle.aug_core.specs.Lanes.{block_size, word_of_state}
+use Rattle.aug_core.specs.Lanes.{block_start, block_size, word_of_state}
 use Rattle.aug_core.specs.Opening.{Opening}
 use Rattle.aug_core.specs.Rule.{HoldsLane, Knows, Kept, no_beginning}
-use Rattle.aug_core.specs.Told.{new_lane, handing_out, handed_out}
+use Rattle.aug_core.specs.Told.{block_of, new_lane, handing_out, handed_out}
 use Rattle.aug_core.specs.declared.view.Held.{Held}
 use Rattle.aug_core.specs.declared.view.SeatView.{SeatView}
 use Rattle.aug_core.proofs.Moves.{St}
@@ -24,12 +24,19 @@ use Rattle.atomic_table.proofs.Lists.{at_longer}
 use Rattle.aug_core.proofs.Stores.{alone}
 use Rattle.aug_core.proofs.PrefixLemmas.{book_none}
 
+-- the words of a lane's records in those of a table
+pub block_long : (s : Shape) (words : List ℕ) (lane : ℕ) → length (block_of s words lane) ≡ block_size s
+block_long s words lane = length-map-range_with_len (λ k. get_or words (block_start s lane + k) 0) 0 (block_size s)
+
+pub block_word : (s : Shape) (words : List ℕ) (lane k : ℕ) → k < block_size s → get_or (block_of s words lane) k 0 ≡ get_or words (block_start s lane + k) 0
+block_word s words lane k small = get_or-map-range_with_len (λ j. get_or words (block_start s lane + j) 0) 0 (block_size s) k k 0 small (omega arith)
+
 module _ (face : ℕ → ℕ → List (ℕ × ℕ) → List ℕ) (o : Opening) (s : St) (r : Kept face o s) (id : ℕ) (v : SeatView) (at : get_elem? s.views id ≡ some v) (live : v.live ≡ true) (n : ℕ) (spare : v.spare ≡ Some n) (room : n < o.shape.workers) where
   abbrev fresh : Held
-  fresh = new_lane o.shape n
+  fresh = new_lane o.shape v.words n
 
   abbrev newer : SeatView
-  newer = record { live = v.live; shape = v.shape; members = v.members; seen = v.seen; also = []; held = fresh ∷ []; spare = None; began = no_beginning; steps = [] }
+  newer = record { live = v.live; era = v.era; shape = v.shape; members = v.members; seen = v.seen; also = []; held = fresh ∷ []; spare = None; renews = false; words = []; began = no_beginning; steps = [] }
 
   abbrev views : List SeatView
   views = set s.views id (handing_out v) ++ newer ∷ []
@@ -69,8 +76,8 @@ module _ (face : ℕ → ℕ → List (ℕ × ℕ) → List ℕ) (o : Opening) (
   holds_new = record {
     exists = room;
     state = free;
-    long = length-replicate (block_size o.shape) 0;
-    exact = r.lanes.blank n room free;
+    long = block_long o.shape v.words n;
+    exact = λ k small. (r.each_view id v at).blocks n n k spare (omega arith) room small ∙ sym (block_word o.shape v.words n k small);
     published = λ q i e inner p of_lane. absurd (r.lanes.unused n q i e room free inner p of_lane);
   }
 
@@ -106,6 +113,7 @@ module _ (face : ℕ → ℕ → List (ℕ × ℕ) → List ℕ) (o : Opening) (
           fresh = kn.fresh;
           holds = kn.holds;
           spares = λ m lane e le low. let same : Some (n + 1) ≡ Some m = ap (option_map (λ k. k + 1)) (sym spare) ∙ e in let is : n + 1 ≡ m = cc same in kn.spares n lane spare (omega arith) low;
+          blocks = λ m lane k e le low small. let same : Some (n + 1) ≡ Some m = ap (option_map (λ k. k + 1)) (sym spare) ∙ e in let is : n + 1 ≡ m = cc same in kn.blocks n lane k spare (omega arith) low small;
         })
         (λ t. r.each_view j u t.1) (at_set s.views id j (handing_out v) u q))
         (λ t. subst (Knows o s.words r.book) t.1 record {
@@ -116,6 +124,7 @@ module _ (face : ℕ → ℕ → List (ℕ × ℕ) → List ℕ) (o : Opening) (
           fresh = kn.fresh;
           holds = λ a h q. subst (HoldsLane o.shape s.words r.book) (alone fresh h a q).1 holds_new;
           spares = λ m lane e le low. let clash : None ≡ Some m = e in cc;
+          blocks = λ m lane k e le low small. let clash : None ≡ Some m = e in cc;
         }) (snoc_at (set s.views id (handing_out v)) newer u j p);
     apart = apart_on s.views views (λ i a j b. (i ≡ j) × (a ≡ b)) (λ i a h. (i ≡ last) × (a ≡ 0) × (n ≡ h.lane)) r.apart record {
       came = λ i a x h p q. ⊎_elim
@@ -149,6 +158,6 @@ module _ (face : ℕ → ℕ → List (ℕ × ℕ) → List ℕ) (o : Opening) w
   pub splits_seat : (id n : ℕ) (v : SeatView) → v.live ≡ true → v.spare ≡ Some n → n < v.shape.workers → Splits (Kept face o) id v (handing_out v) (handed_out v)
   splits_seat id n v live spare room s r at =
       let shaped : v.shape ≡ o.shape = (r.each_view id v at).shaped live in
-      subst (λ (z : Held). Kept face o record { words = s.words; homes = s.homes; views = set s.views id (handing_out v) ++ record { live = v.live; shape = v.shape; members = v.members; seen = v.seen; also = []; held = z ∷ []; spare = None; began = no_beginning; steps = [] } ∷ [] })
-      (λ i. new_lane (sym shaped i) (unwrap_or (sym spare i) 0))
+      subst (λ (z : Held). Kept face o record { words = s.words; homes = s.homes; views = set s.views id (handing_out v) ++ record { live = v.live; era = v.era; shape = v.shape; members = v.members; seen = v.seen; also = []; held = z ∷ []; spare = None; renews = false; words = []; began = no_beginning; steps = [] } ∷ [] })
+      (λ i. new_lane (sym shaped i) v.words (unwrap_or (sym spare i) 0))
       (hands_out face o s r id v at live n spare (subst (λ (z : Shape). n < z.workers) shaped room))

@@ -11,6 +11,7 @@ use Rattle.aug_core.specs.Opening.{Opening}
 use Rattle.aug_core.specs.Rule.{HoldsLane, Kept}
 use Rattle.aug_core.specs.Kinds.{take_lane, finish_lane}
 use Rattle.aug_core.specs.Told.{Sat, on_first, in_state, own_lane, own_lane_place, taking, took_lane, finishing, finished_lane}
+use Rattle.aug_core.specs.inside.EraSteps.{WithEra}
 use Rattle.aug_core.specs.inside.LaneStates.{MayTake, HasTakenLane}
 use Rattle.aug_core.specs.declared.step.StepTaken.{StepTaken}
 use Rattle.aug_core.specs.declared.view.Held.{Held}
@@ -71,14 +72,14 @@ module _ (face : ℕ → ℕ → List (ℕ × ℕ) → List ℕ) (o : Opening) w
   Did s i id me then x = (w : SeatView) × (a : Act (Unit {0})) × Valid s.homes me.1 a × Kept face o (stepped s i x id me.1 w a) × then (get_or s.words i 0) (w, carried_after me.1 a)
 
   pub takes_lane : (n id place : ℕ) (me : Sat) → me.0.live ≡ true → me.1 ≡ [] → MayTake me.0 → place ≡ own_lane_place me.0
-      → Allows (Kept face o) n id me place (λ x. either (eqb x (word_of_state Free)) (word_of_state Taken) x) (took_lane (step n place (word_of_state Free) (word_of_state Taken) none) me)
+      → Allows (Kept face o) n id me place (λ x. either (eqb x (word_of_state Free)) (word_of_state Taken) x) (WithEra me (took_lane (step n place (word_of_state Free) (word_of_state Taken) none) me))
   takes_lane n id place me live empty may is s r _ at _ =
       let v : SeatView = me.0 in let h : Held = may.lane in let kn = r.each_view id v at in let shaped : v.shape ≡ o.shape = kn.shaped live in
       let is' : place ≡ lane_place o.shape h.lane = is ∙ ap (λ (z : Shape). lane_place z (own_lane v.held)) shaped ∙ ap (λ (z : List Held). lane_place o.shape (own_lane z)) may.only in
       let steps : List StepTaken = v.steps ++ take_lane place (word_of_state Free) ∷ [] in
       let found : get_or s.words place 0 ≡ word_of_state Free = ap (λ (z : ℕ). get_or s.words z 0) is' ∙ found_state s r id v at h may.only Taken (omega arith) (omega arith) steps ∙ ap word_of_state may.free in
       let held : on_first (in_state Taken) v.held ≡ in_state Taken h ∷ [] = ap (on_first (in_state Taken)) may.only in
-      exchanged (get_or s.words place 0) (word_of_state Free) (word_of_state Taken) (Did s place id me (took_lane (step n place (word_of_state Free) (word_of_state Taken) none) me))
+      exchanged (get_or s.words place 0) (word_of_state Free) (word_of_state Taken) (Did s place id me (WithEra me (took_lane (step n place (word_of_state Free) (word_of_state Taken) none) me)))
       (λ _. (
         taking v place,
         keeps,
@@ -86,12 +87,12 @@ module _ (face : ℕ → ℕ → List (ℕ × ℕ) → List ℕ) (o : Opening) w
         subst (λ (z : List Held). Kept face o record { words = set s.words place (word_of_state Taken); homes = s.homes; views = set s.views id record v { held = z; steps = steps } }) (sym held)
             (subst (λ (z : ℕ). Kept face o record { words = set s.words z (word_of_state Taken); homes = s.homes; views = set s.views id record v { held = in_state Taken h ∷ []; steps = steps } }) (sym is')
             (restates s r id v at h may.only Taken (omega arith) (omega arith) steps)),
-        (empty, found, refl),
+        ((empty, found, refl), record { era = refl; renews = refl }),
       ))
       (λ miss. absurd (miss found))
 
   pub finishes_lane : (n id place : ℕ) (me : Sat) → me.0.live ≡ true → me.1 ≡ [] → HasTakenLane me.0 → place ≡ own_lane_place me.0
-      → Allows (Kept face o) n id me place (λ _. word_of_state Ended) (λ _ m. finished_lane (step n place (word_of_state Ended) 0 none) me (word_of_state Ended) m)
+      → Allows (Kept face o) n id me place (λ _. word_of_state Ended) (WithEra me (λ _ m. finished_lane (step n place (word_of_state Ended) 0 none) me (word_of_state Ended) m))
   finishes_lane n id place me live empty may is s r _ at _ =
       let v : SeatView = me.0 in let h : Held = may.lane in let kn = r.each_view id v at in let shaped : v.shape ≡ o.shape = kn.shaped live in
       let is' : place ≡ lane_place o.shape h.lane = is ∙ ap (λ (z : Shape). lane_place z (own_lane v.held)) shaped ∙ ap (λ (z : List Held). lane_place o.shape (own_lane z)) may.only in
@@ -103,5 +104,5 @@ module _ (face : ℕ → ℕ → List (ℕ × ℕ) → List ℕ) (o : Opening) w
         subst (λ (z : List Held). Kept face o record { words = set s.words place (word_of_state Ended); homes = s.homes; views = set s.views id record v { held = z; steps = steps } }) (sym held)
             (subst (λ (z : ℕ). Kept face o record { words = set s.words z (word_of_state Ended); homes = s.homes; views = set s.views id record v { held = in_state Ended h ∷ []; steps = steps } }) (sym is')
             (restates s r id v at h may.only Ended (omega arith) (omega arith) steps)),
-        (empty, refl),
+        ((empty, refl), record { era = refl; renews = refl }),
       )

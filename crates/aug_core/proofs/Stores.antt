@@ -10,6 +10,7 @@ use Rattle.aug_core.specs.Opening.{Opening}
 use Rattle.aug_core.specs.Rule.{Lists, HoldsLane, Kept}
 use Rattle.aug_core.specs.Kinds.{store_record_word}
 use Rattle.aug_core.specs.Told.{Sat, on_first, with_word, HoldsOnly, MayStore, storing, stored_record}
+use Rattle.aug_core.specs.inside.EraSteps.{WithEra}
 use Rattle.aug_core.specs.inside.LaneStates.{HasTakenLane}
 use Rattle.aug_core.specs.declared.step.StepTaken.{StepTaken}
 use Rattle.aug_core.specs.declared.view.Held.{Held}
@@ -96,7 +97,7 @@ module _ (face : ℕ → ℕ → List (ℕ × ℕ) → List ℕ) (o : Opening) w
         (knows_keeping face o s r id v after r.book moved at (lane' ∷ []) steps (λ a g p. subst (HoldsLane o.shape after r.book) (alone lane' g a p).1 holds_it)) (λ key low. refl)
 
   pub stores_record_word : (n id place number field x : ℕ) (me : Sat) → me.0.live ≡ true → me.1 ≡ [] → HasTakenLane me.0 → MayStore me.0 number → field < record_words → place ≡ record_start me.0.shape number + field
-      → Allows (Kept face o) n id me place (λ _. x) (λ _ m. stored_record (step n place x 0 none) me x m)
+      → Allows (Kept face o) n id me place (λ _. x) (WithEra me (λ _ m. stored_record (step n place x 0 none) me x m))
   stores_record_word n id place number field x me live empty has may small is s r _ at _ =
       let v : SeatView = me.0 in let h : Held = may.lane in let kn = r.each_view id v at in let shaped : v.shape ≡ o.shape = kn.shaped live in
       let of_lane : IsOfLane o.shape h.lane number = subst (λ (z : Shape). IsOfLane z h.lane number) shaped may.of_lane in
@@ -111,5 +112,5 @@ module _ (face : ℕ → ℕ → List (ℕ × ℕ) → List ℕ) (o : Opening) w
         subst (λ (z : List Held). Kept face o record { words = set s.words place x; homes = s.homes; views = set s.views id record v { held = z; steps = steps } }) (sym held)
             (subst (λ (z : ℕ). Kept face o record { words = set s.words z x; homes = s.homes; views = set s.views id record v { held = record h { words = set h.words (record_words * (number - first_record o.shape h.lane) + field) x } ∷ []; steps = steps } }) (sym is')
             (writes s r id v at h may.only (is_taken v h may.only has) number field x of_lane may.unpublished small steps)),
-        (empty, refl),
+        ((empty, refl), record { era = refl; renews = refl }),
       )

@@ -12,5 +12,7 @@ pub mod Kinds
 pub mod Counts
 pub mod Rule
 pub mod Told
+pub mod Eras
+pub mod Renewals
 pub mod Cuts
 pub mod inside

@@ -1,5 +1,5 @@
--- The rule of the table: what its words and the views of its seats are between any two atomic steps.
-use Rattle.std.specs.Prelude.{◌≡◌, ℕ, ◌+◌, ◌<◌, ◌≤◌, List, [], length, slice_index, replicate, Some, true, false}
+-- The rule of a table that was opened once: what its words and the views of its seats are between any two atomic steps.
+use Rattle.std.specs.Prelude.{◌≡◌, ℕ, ◌+◌, ◌<◌, ◌≤◌, List, [], length, slice_index, Some, true, false}
 use mathlib.Core.Option.{some}
 use lib.ListN.{get_elem?}
 use Rattle.atomic_table.specs.Table.{State}
@@ -59,6 +59,8 @@ pub record Knows (o : Opening) (words : List ℕ) (book : Book) (v : SeatView) :
   pub holds : (a : ℕ) (h : Held) → get_elem? v.held a ≡ some h → HoldsLane o.shape words book h
   -- the lanes that it may still hand out are free
   pub spares : (n lane : ℕ) → v.spare ≡ Some n → n ≤ lane → lane < o.shape.workers → slice_index words (lane_place o.shape lane) ≡ word_of_state Free
+  -- and their records hold what they held when it opened the table
+  pub blocks : (n lane k : ℕ) → v.spare ≡ Some n → n ≤ lane → lane < o.shape.workers → k < block_size o.shape → slice_index words (block_start o.shape lane + k) ≡ slice_index v.words (block_start o.shape lane + k)
 
 -- the words of the leaves, of the nodes and of the published records are as the book says
 pub record KeepsTree (face : ℕ → ℕ → List (ℕ × ℕ) → List ℕ) (o : Opening) (words : List ℕ) (book : Book) : Type 0 where
@@ -80,9 +82,7 @@ pub record KeepsTree (face : ℕ → ℕ → List (ℕ × ℕ) → List ℕ) (o 
 pub record KeepsLanes (o : Opening) (words : List ℕ) (book : Book) : Type 0 where
   -- a lane is free, taken or ended
   pub states : (lane : ℕ) → lane < o.shape.workers → slice_index words (lane_place o.shape lane) ≤ word_of_state Ended
-  -- the records of a free lane are blank
-  pub blank : (lane : ℕ) → lane < o.shape.workers → slice_index words (lane_place o.shape lane) ≡ word_of_state Free → BlockIs o.shape words lane (replicate (block_size o.shape) 0)
-  -- and none of them was published
+  -- no record of a free lane was published
   pub unused : (lane q i : ℕ) (e : Entry) → lane < o.shape.workers → slice_index words (lane_place o.shape lane) ≡ word_of_state Free → IsInner o.shape q → At book q i e → IsOfLane o.shape lane e.number → ⊥
 
 -- which view holds which lane
@@ -122,4 +122,4 @@ no_beginning = record { seen = []; steps = []; changes = [] }
 
 -- the view of the first seat, which hands all lanes out
 abbrev pub newcomer : (ℕ → ℕ → List (ℕ × ℕ) → List ℕ) → Opening → SeatView
-newcomer face o = record { live = true; shape = o.shape; members = o.members; seen = opening_book face o; also = []; held = []; spare = Some 0; began = no_beginning; steps = [] }
+newcomer face o = record { live = true; era = 0; shape = o.shape; members = o.members; seen = opening_book face o; also = []; held = []; spare = Some 0; renews = false; words = []; began = no_beginning; steps = [] }

@@ -1,5 +1,6 @@
 -- What no promise rests on: what private fields keep, what private calls leave, how views come of fields, and lemmas.
 pub mod EntryCuts
+pub mod EraSteps
 pub mod LaneStates
 pub mod LayoutState
 pub mod Refreshes

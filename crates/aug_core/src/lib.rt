@@ -15,8 +15,9 @@ pub use lane::{LANE_ENDED, LANE_FREE, LANE_TAKEN};
 pub use layout::{Layout, LayoutError};
 pub use opening::OpeningKey;
 pub use plays::{
-    BeginAtLeaf, FinishOwnLane, HandOut, LoadAnyLeaf, LoadAnyNode, LoadAnyRecord, StoreOwnRecord,
-    TakeBack, TakeOwnLane, TryAnyLeaf, TryAnyNode,
+    BeginAtLeaf, BeginRenewal, FinishOwnLane, HandOut, LoadAnyLeaf, LoadAnyNode, LoadAnyRecord,
+    LoadAnyWord, MakeNote, OpenAgain, StoreAnyWord, StoreOwnRecord, TakeBack, TakeNote,
+    TakeOwnLane, TryAnyLeaf, TryAnyNode,
 };
 pub use rule::{SharedWords, WordsRule};
 pub use step::{StepKind, StepTaken};

@@ -1,5 +1,6 @@
 //! What each step shows. These types are only for the proofs.
-ghost use Rattle.aug_core.specs.Told.{read_record, stored_record, took_lane, finished_lane, handing_out, handed_out, taking_back, spent, loaded_leaf, began_at_leaf, tried_leaf, loaded_node, tried_node};
+ghost use Rattle.aug_core.specs.Told.{read_record, stored_record, took_lane, finished_lane, handing_out, handed_out, taking_back, noting, noted, learning, spent, loaded_leaf, began_at_leaf, tried_leaf, loaded_node, tried_node};
+ghost use Rattle.aug_core.specs.Renewals.{rewrote, reread, began_renewal, reopened};
 ghost use Rattle.aug_core.specs.Faces.{face};
 
 use crate::view::SeatView;
@@ -53,6 +54,24 @@ impl Join<SeatView> for TakeBack {
     ghost spent = { spent };
 }
 
+/// A view makes a note of what it has seen: a new view that holds no lane.
+pub struct MakeNote;
+
+impl Split<SeatView> for MakeNote {
+    ghost left = { noting };
+
+    ghost right = { noted };
+}
+
+/// A view takes in a note.
+pub struct TakeNote;
+
+impl Join<SeatView> for TakeNote {
+    ghost both = { learning };
+
+    ghost spent = { spent };
+}
+
 /// A load of a leaf's word.
 pub struct LoadAnyLeaf<A, B> {
     sums: PhantomData<(A, B)>,
@@ -96,4 +115,36 @@ pub struct TryAnyNode<A, B> {
 
 impl<A: Monoid, B: Monoid> Play<(), SeatView> for TryAnyNode<A, B> {
     ghost then = { tried_node (face A.parts B.parts) };
+}
+
+/// A load of any word, by which a lead that holds all lanes begins to renew its table.
+pub struct BeginRenewal<A, B> {
+    sums: PhantomData<(A, B)>,
+}
+
+impl<A: Monoid, B: Monoid> Play<(), SeatView> for BeginRenewal<A, B> {
+    ghost then = { began_renewal (face A.parts B.parts) };
+}
+
+/// A store of any word by the seat that renews the table.
+pub struct StoreAnyWord;
+
+impl Play<(), SeatView> for StoreAnyWord {
+    ghost then = { rewrote };
+}
+
+/// A load of any word by that seat.
+pub struct LoadAnyWord;
+
+impl Play<(), SeatView> for LoadAnyWord {
+    ghost then = { reread };
+}
+
+/// A load of any word, by which that seat opens the table again.
+pub struct OpenAgain<A, B> {
+    sums: PhantomData<(A, B)>,
+}
+
+impl<A: Monoid, B: Monoid> Play<(), SeatView> for OpenAgain<A, B> {
+    ghost then = { reopened (face A.parts B.parts) };
 }

@@ -82,9 +82,11 @@ pub struct Beginning {
 pub struct SeatView {
     /// False once another seat took it in.
     pub live: bool,
+    /// How often the table had been renewed when the seat came to it, or renewed it itself.
+    pub era: u64,
     /// How the table is laid out.
     pub shape: Layout,
-    /// The keys that were there when it was opened, rising, each with its weight.
+    /// The keys that were there when it was opened last, rising, each with its weight.
     pub members: LinkedList<(u64, u64)>,
     /// The book as far as it was seen: for each leaf and inner node its entries.
     pub seen: LinkedList<LinkedList<Entry>>,
@@ -94,6 +96,11 @@ pub struct SeatView {
     pub held: LinkedList<Held>,
     /// The first lane that was not handed out, if the seat is the one that hands lanes out.
     pub spare: Option<u64>,
+    /// Whether the seat alone renews the table.
+    pub renews: bool,
+    /// The words of the table: as they are now while the seat renews it, and afterwards as they were when the seat opened it again. None, if it was
+    /// not renewed: then the records of its lanes were blank.
+    pub words: LinkedList<u64>,
     /// The beginning of the update that the seat is in, or was in last.
     pub began: Beginning,
     /// The seat's steps, the last one last.

@@ -11,5 +11,6 @@ fn an_opening_key_has_no_bytes(rt: HostRuntime) -> Result<(), Fail> {
     let layout = Layout::new(2, 3, 2, 2)?;
     let _key = OpeningKey::new(&layout, &[(0, 0), (1, 1)]);
     equal(&rt, size_of::<OpeningKey>(), 0);
+    equal(&rt, layout.clone()?, layout);
     Ok(())
 }

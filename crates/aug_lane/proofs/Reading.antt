@@ -37,6 +37,10 @@ module _ {A B : Type 0} (summary_of : List (ℕ × ℕ) → Summary A B) where
     few_steps = omega (arith, e, f);
   }
 
+-- reading within a wider bound
+pub reads_within : {A B : Type 0} (summary_of : List (ℕ × ℕ) → Summary A B) (few most : ℕ) (p q : PassFacts) → few ≤ most → Reads summary_of few p q → Reads summary_of most p q
+reads_within summary_of few most p q le r = let steps = r.few_steps in record { stays = r.stays; few_steps = omega (arith, steps, le) }
+
 -- one more place of a list is written
 pub told_more : (f : ℕ → ℕ) (asked before : List ℕ) (i answer : ℕ) → i < length asked → length asked ≤ length before → answer ≡ f (get_or asked i 0)
     → set (map f (take i asked) ++ drop i before) i answer ≡ map f (take (i + 1) asked) ++ drop (i + 1) before

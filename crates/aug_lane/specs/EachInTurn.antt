@@ -46,13 +46,9 @@ module _ {A B : Type 0} (summary_of : List (ℕ × ℕ) → Summary A B) where
     pub spent : new.spent ≡ old.spent + length asked
     pub keeps : Keeps summary_of old new
 
-  -- the keys are put in, each with itself as its weight
-  abbrev pub Inserts : List ℕ → ℕ → PassFacts → PassFacts → Type 0
-  Inserts keys changed old new = Updates (λ key done. OneUpdate request.Insert key done) keys changed old new
-
-  -- the keys are taken out
-  abbrev pub Removes : List ℕ → ℕ → PassFacts → PassFacts → Type 0
-  Removes keys changed old new = Updates (λ key done. OneUpdate request.Remove key done) keys changed old new
+  -- the same update of each of the keys
+  abbrev pub UpdatesEach : Request → List ℕ → ℕ → PassFacts → PassFacts → Type 0
+  UpdatesEach asked keys changed old new = Updates (λ key done. OneUpdate asked key done) keys changed old new
 
   -- the keys are put in with the weights that have their indices
   abbrev pub Puts : List ℕ → List ℕ → ℕ → PassFacts → PassFacts → Type 0

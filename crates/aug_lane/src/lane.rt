@@ -1,26 +1,54 @@
 //! A pass together with its round, which no lifetime ties to a caller.
-ghost use Rattle.std.specs.Prelude.{if◌then◌else◌, ◌≡◌, ◌↔◌, ℕ, ◌+◌, ◌*◌, ◌^◌, ◌<◌, ◌≤◌, ◌++◌, [], ◌∷◌, IfOk, IfErr, IsErrOf};
-ghost use Rattle.std.specs.Bool.{OnTrue, OnFalse};
+ghost use Rattle.std.specs.Prelude.{if◌then◌else◌, ◌≡◌, ◌↔◌, ℕ, ◌+◌, ◌^◌, ◌<◌, ◌≤◌, ◌++◌, [], ◌∷◌, IfOk, IfErr, IsErrOf};
 ghost use Rattle.std.specs.Arc.{arc_value};
 ghost use Rattle.aug_core.specs.Kinds.{load_node};
 ghost use Rattle.aug_model.specs.Folds.{summary_of};
-ghost use Rattle.aug_trie.specs.Knowledge.{IsKnowledge, insertion, removal, inserts_of, removals_of};
-ghost use Rattle.aug_trie.specs.Updates.{AcceptedUpdate, RefusedUpdate, ComesTo, TakesSnapshot};
+ghost use Rattle.aug_trie.specs.Knowledge.{IsKnowledge, inserts_of, removals_of};
+ghost use Rattle.aug_trie.specs.Updates.{TakesSnapshot};
 ghost use Rattle.aug_trie.specs.Round.{root_of};
-ghost use Rattle.aug_trie.specs.Pass.{GoesOn, StepsOf};
-ghost use Rattle.aug_trie.specs.Node.{Keeps};
-ghost use Rattle.aug_trie.specs.Snapshot.{HasSnapshot, snapshot_cut};
-ghost use Rattle.aug_trie.specs.declared.updates.request.Request.TheVariants as request;
+ghost use Rattle.aug_trie.specs.Pass.{GoesOn};
+ghost use Rattle.aug_trie.specs.Node.{Keeps, Reads, steps_for};
+ghost use Rattle.aug_trie.specs.Snapshot.{HasSnapshot, set_at, snapshot_cut};
+ghost use Rattle.aug_trie.specs.Crew.{TakesBack};
+ghost use Rattle.aug_lane.specs.EachInTurn.{OneUpdate};
+ghost use Rattle.aug_lane.specs.Rounds.{OpensLane};
 
 use crate::error::LaneError;
 use aug_model::Outcome;
 use aug_monoid::Monoid;
-use aug_trie::{PassHalf, Round, Snapshot};
+use aug_query::Query;
+use aug_trie::{Crew, Pass, PassHalf, Request, Round, Snapshot};
 use std::alloc::Global;
 use std::sync::Arc;
 
 /// A round that its lanes share.
 pub type Table<A, B> = Arc<Round<A, B>, Global>;
+
+// What an update comes to that was accepted, or was not.
+#[inline(always)]
+fn accepted_if(done: bool) -> Outcome
+    ensures { result ≡ (if done then Outcome.Accepted else Outcome.Refused) }
+{
+    if done {
+        Outcome::Accepted
+    } else {
+        Outcome::Refused
+    }
+}
+
+// Makes an update that a pass has left.
+#[inline(always)]
+fn make<A: Monoid, B: Monoid>(pass: &mut Pass<'_, A, B>, key: u32, request: Request) -> Outcome
+    requires key { key < 2 ^ pass.old.round.bits }
+    requires budget { pass.old.spent < pass.old.round.updates }
+    ensures { OneUpdate (summary_of A.parts B.parts) request key result pass.old pass.new }
+{
+    match request {
+        Request::Insert => accepted_if(pass.insert(key)),
+        Request::Remove => accepted_if(pass.remove(key)),
+        Request::Put(weight) => pass.put(key, weight),
+    }
+}
 
 /// A lane of a round: a pass, its round, and the snapshot that answers its queries. It borrows nothing, so it may go to another
 /// thread and into a struct. Each call takes the lane and gives it back.
@@ -29,138 +57,76 @@ pub struct Lane<A: Monoid, B: Monoid> {
     pub(crate) round: Table<A, B>,
     pub(crate) half: PassHalf<A, B>,
     pub(crate) held: Snapshot,
-    // How many keys there may be, and how many updates are left.
-    pub(crate) keys: u32,
-    pub(crate) left: u32,
     pub(crate) ghost of_round: { half.round ≡ arc_value round },
     pub(crate) ghost shows: { HasSnapshot half held.number },
-    pub(crate) ghost keys_are: { keys ≡ 2 ^ half.round.bits },
-    pub(crate) ghost left_are: { left + half.spent ≡ half.round.updates },
 }
 
 impl<A: Monoid, B: Monoid> Lane<A, B> {
-    /// Puts a key in, with the key itself as its weight. True if this call put it in. False if it was a member already,
-    /// or somebody else put it in meanwhile; then its weight stays.
+    /// The next lane of a round, with a first snapshot. It keeps this owner of the round.
+    pub fn open(round: Table<A, B>, crew: &mut Crew<A, B>) -> Lane<A, B>
+        requires together { crew.old.round ≡ arc_value round }
+        requires lane_left { crew.old.handed < crew.old.round.workers }
+        ensures opens { OpensLane crew.old crew.new result.half result.held.number }
+        ensures round { result.round ≡ round }
+    {
+        let Ok(mut pass) = crew.pass(&round) else {
+            unreachable!()
+        };
+        let held = pass.snapshot();
+        let half = pass.into_half();
+        Lane { round, half, held }
+    }
+
+    /// Gives the lane back to the crew of its round, which learns what it knows.
+    pub fn give_back(self, crew: &mut Crew<A, B>)
+        requires { self.half.round ≡ crew.old.round }
+        ensures { TakesBack crew.old crew.new self.half }
+    {
+        let Lane { round, half, .. } = self;
+        crew.back(round.pass(half));
+    }
+
+    /// Makes an update of a key, which comes to what that of a pass does: `Accepted` or `Refused` where `Pass::insert` and `remove`
+    /// answer true or false.
     ///
     /// Refused, in this order, with `BadKey` and `Spent`. After a refusal the same lane comes back. The lane's snapshot
     /// stays what it was.
-    pub fn insert(self, key: u32) -> (Lane<A, B>, Result<bool, LaneError>)
+    #[inline(always)]
+    pub fn update(self, key: u32, request: Request) -> (Lane<A, B>, Result<Outcome, LaneError>)
         ensures bad_key { IsErrOf result.1 LaneError.BadKey ↔ (2 ^ self.half.round.bits ≤ key) }
         ensures spent { IsErrOf result.1 LaneError.Spent ↔ (key < 2 ^ self.half.round.bits) × (self.half.spent ≡ self.half.round.updates) }
         ensures same { IfErr result.1 (λ _. result.0 ≡ self) }
-        ensures accepted { IfOk result.1 (λ done. OnTrue done (AcceptedUpdate insertion key key self.half.knows result.0.half.knows)) }
-        ensures refused { IfOk result.1 (λ done. OnFalse done (RefusedUpdate insertion key self.half.knows result.0.half.knows)) }
-        ensures goes_on { IfOk result.1 (λ _. (steps : ℕ) × GoesOn 1 steps self.half result.0.half) }
-        ensures keeps { IfOk result.1 (λ _. Keeps (summary_of A.parts B.parts) self.half result.0.half) }
-        ensures steps { IfOk result.1 (λ done. StepsOf request.Insert key (if done then Outcome.Accepted else Outcome.Refused) self.half result.0.half) }
+        ensures made { IfOk result.1 (λ done. OneUpdate (summary_of A.parts B.parts) request key done self.half result.0.half) }
         ensures held { result.0.held ≡ self.held }
         ensures round { result.0.round ≡ self.round }
     {
-        if key >= self.keys {
+        if key >= self.half.universe() {
             return (self, Err(LaneError::BadKey));
         }
-        if self.left == 0 {
+        if self.half.budget() == 0 {
             return (self, Err(LaneError::Spent));
         }
-        let Lane {
-            round,
-            half,
-            held,
-            keys,
-            left,
-        } = self;
+        let Lane { round, half, held } = self;
         let mut pass = round.pass(half);
-        let done = pass.insert(key);
+        let done = make(&mut pass, key, request);
         let half = pass.into_half();
-        let lane = Lane {
-            round,
-            half,
-            held,
-            keys,
-            left: left - 1,
-        };
+        let lane = Lane { round, half, held };
         (lane, Ok(done))
     }
 
-    /// Takes a key out. True if this call took it out. False if it was no member, or somebody else took it out meanwhile.
-    ///
-    /// Refused as `insert` is.
-    pub fn remove(self, key: u32) -> (Lane<A, B>, Result<bool, LaneError>)
-        ensures bad_key { IsErrOf result.1 LaneError.BadKey ↔ (2 ^ self.half.round.bits ≤ key) }
-        ensures spent { IsErrOf result.1 LaneError.Spent ↔ (key < 2 ^ self.half.round.bits) × (self.half.spent ≡ self.half.round.updates) }
-        ensures same { IfErr result.1 (λ _. result.0 ≡ self) }
-        ensures accepted { IfOk result.1 (λ done. OnTrue done (AcceptedUpdate removal key 0 self.half.knows result.0.half.knows)) }
-        ensures refused { IfOk result.1 (λ done. OnFalse done (RefusedUpdate removal key self.half.knows result.0.half.knows)) }
-        ensures goes_on { IfOk result.1 (λ _. (steps : ℕ) × GoesOn 1 steps self.half result.0.half) }
-        ensures keeps { IfOk result.1 (λ _. Keeps (summary_of A.parts B.parts) self.half result.0.half) }
-        ensures steps { IfOk result.1 (λ done. StepsOf request.Remove key (if done then Outcome.Accepted else Outcome.Refused) self.half result.0.half) }
+    /// Asks the lane's snapshot, in so many steps as a pass takes for that.
+    pub fn ask<Q: Query<A, B>>(self, query: Q) -> (Lane<A, B>, Q::Answer)
+        ensures answer { Q.Answers query (set_at self.half self.held) result.1 }
+        ensures reads { Reads (summary_of A.parts B.parts) (steps_for (Q.most query (set_at self.half self.held))) self.half result.0.half }
         ensures held { result.0.held ≡ self.held }
         ensures round { result.0.round ≡ self.round }
     {
-        if key >= self.keys {
-            return (self, Err(LaneError::BadKey));
-        }
-        if self.left == 0 {
-            return (self, Err(LaneError::Spent));
-        }
-        let Lane {
-            round,
-            half,
-            held,
-            keys,
-            left,
-        } = self;
+        let Lane { round, half, held } = self;
         let mut pass = round.pass(half);
-        let done = pass.remove(key);
+        let answer = pass.ask(held, query);
         let half = pass.into_half();
-        let lane = Lane {
-            round,
-            half,
-            held,
-            keys,
-            left: left - 1,
-        };
-        (lane, Ok(done))
-    }
-
-    /// Puts a key in with a weight, or gives a member this weight. The outcome is that of `Pass::put`.
-    ///
-    /// Refused as `insert` is.
-    pub fn put(self, key: u32, weight: u32) -> (Lane<A, B>, Result<Outcome, LaneError>)
-        ensures bad_key { IsErrOf result.1 LaneError.BadKey ↔ (2 ^ self.half.round.bits ≤ key) }
-        ensures spent { IsErrOf result.1 LaneError.Spent ↔ (key < 2 ^ self.half.round.bits) × (self.half.spent ≡ self.half.round.updates) }
-        ensures same { IfErr result.1 (λ _. result.0 ≡ self) }
-        ensures puts { IfOk result.1 (λ done. ComesTo (request.Put weight) key done self.half.knows result.0.half.knows) }
-        ensures goes_on { IfOk result.1 (λ _. (steps : ℕ) × GoesOn 1 steps self.half result.0.half) }
-        ensures keeps { IfOk result.1 (λ _. Keeps (summary_of A.parts B.parts) self.half result.0.half) }
-        ensures steps { IfOk result.1 (λ done. StepsOf (request.Put weight) key done self.half result.0.half) }
-        ensures held { result.0.held ≡ self.held }
-        ensures round { result.0.round ≡ self.round }
-    {
-        if key >= self.keys {
-            return (self, Err(LaneError::BadKey));
-        }
-        if self.left == 0 {
-            return (self, Err(LaneError::Spent));
-        }
-        let Lane {
-            round,
-            half,
-            held,
-            keys,
-            left,
-        } = self;
-        let mut pass = round.pass(half);
-        let done = pass.put(key, weight);
-        let half = pass.into_half();
-        let lane = Lane {
-            round,
-            half,
-            held,
-            keys,
-            left: left - 1,
-        };
-        (lane, Ok(done))
+        let lane = Lane { round, half, held };
+        (lane, answer)
     }
 
     /// Takes a new snapshot, which answers the queries from then on. It shows every change that the lane knows.
@@ -171,23 +137,11 @@ impl<A: Monoid, B: Monoid> Lane<A, B> {
         ensures keeps { Keeps (summary_of A.parts B.parts) self.half result.half }
         ensures round { result.round ≡ self.round }
     {
-        let Lane {
-            round,
-            half,
-            keys,
-            left,
-            ..
-        } = self;
+        let Lane { round, half, .. } = self;
         let mut pass = round.pass(half);
         let held = pass.snapshot();
         let half = pass.into_half();
-        Lane {
-            round,
-            half,
-            held,
-            keys,
-            left,
-        }
+        Lane { round, half, held }
     }
 
     /// The snapshot that answers the queries. It can still be queried after a later `look`, by `look_back`.
@@ -205,34 +159,36 @@ impl<A: Monoid, B: Monoid> Lane<A, B> {
         ensures same { result.half ≡ self.half }
         ensures round { result.round ≡ self.round }
     {
-        let Lane {
-            round,
-            half,
-            keys,
-            left,
-            ..
-        } = self;
-        Lane {
-            round,
-            half,
-            held,
-            keys,
-            left,
-        }
+        let Lane { round, half, .. } = self;
+        Lane { round, half, held }
     }
 
     /// How many keys there are: `2^bits`. The keys are the numbers below it.
     pub fn universe(&self) -> u32
         ensures { result ≡ 2 ^ self.now.half.round.bits }
     {
-        self.keys
+        self.half.universe()
     }
 
     /// How many updates are left.
     pub fn budget(&self) -> u32
         ensures { result + self.now.half.spent ≡ self.now.half.round.updates }
     {
-        self.left
+        self.half.budget()
+    }
+
+    /// How many keys this lane put in. A weight that a put replaced counts here and as a removal.
+    pub fn inserts(&self) -> u32
+        ensures { result ≡ inserts_of self.now.half.knows.accepted }
+    {
+        self.half.inserts()
+    }
+
+    /// How many keys this lane took out. A weight that a put replaced counts here and as an insertion.
+    pub fn removals(&self) -> u32
+        ensures { result ≡ removals_of self.now.half.knows.accepted }
+    {
+        self.half.removals()
     }
 
     /// The number of the lane, counted from 0.
@@ -243,77 +199,11 @@ impl<A: Monoid, B: Monoid> Lane<A, B> {
         ensures held { result.0.held ≡ self.held }
         ensures round { result.0.round ≡ self.round }
     {
-        let Lane {
-            round,
-            half,
-            held,
-            keys,
-            left,
-        } = self;
+        let Lane { round, half, held } = self;
         let pass = round.pass(half);
         let number = pass.lane();
         let half = pass.into_half();
-        let lane = Lane {
-            round,
-            half,
-            held,
-            keys,
-            left,
-        };
+        let lane = Lane { round, half, held };
         (lane, number)
-    }
-
-    /// How many keys this lane put in. A weight that `put` replaced counts here and as a removal.
-    pub fn inserts(self) -> (Lane<A, B>, u32)
-        ensures answer { result.1 ≡ inserts_of self.half.knows.accepted }
-        ensures same { result.0.half ≡ self.half }
-        ensures held { result.0.held ≡ self.held }
-        ensures round { result.0.round ≡ self.round }
-    {
-        let Lane {
-            round,
-            half,
-            held,
-            keys,
-            left,
-        } = self;
-        let pass = round.pass(half);
-        let inserts = pass.inserts();
-        let half = pass.into_half();
-        let lane = Lane {
-            round,
-            half,
-            held,
-            keys,
-            left,
-        };
-        (lane, inserts)
-    }
-
-    /// How many keys this lane took out. A weight that `put` replaced counts here and as an insertion.
-    pub fn removals(self) -> (Lane<A, B>, u32)
-        ensures answer { result.1 ≡ removals_of self.half.knows.accepted }
-        ensures same { result.0.half ≡ self.half }
-        ensures held { result.0.held ≡ self.held }
-        ensures round { result.0.round ≡ self.round }
-    {
-        let Lane {
-            round,
-            half,
-            held,
-            keys,
-            left,
-        } = self;
-        let pass = round.pass(half);
-        let removals = pass.removals();
-        let half = pass.into_half();
-        let lane = Lane {
-            round,
-            half,
-            held,
-            keys,
-            left,
-        };
-        (lane, removals)
     }
 }

@@ -2,12 +2,11 @@
 //! called from C.
 #![tactic(auto)]
 
-mod batches;
 mod error;
 mod lane;
 mod listing;
 mod many;
-mod queries;
+mod note;
 mod running;
 mod updating;
 

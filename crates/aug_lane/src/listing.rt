@@ -9,6 +9,7 @@ ghost use Rattle.aug_lane.specs.ManyKeys.{from_of};
 
 use crate::lane::Lane;
 use aug_monoid::Monoid;
+use aug_query::descent::{Rank, Select, Size};
 
 // The lesser of two numbers.
 fn lesser(room: usize, left: u32) -> u32
@@ -29,23 +30,11 @@ impl<A: Monoid, B: Monoid> Lane<A, B> {
         ensures held { result.held ≡ self.held }
         ensures round { result.round ≡ self.round }
     {
-        let Lane {
-            round,
-            half,
-            held,
-            keys,
-            left,
-        } = self;
+        let Lane { round, half, held } = self;
         let mut pass = round.pass(half);
         let _ = pass.top(&held);
         let half = pass.into_half();
-        Lane {
-            round,
-            half,
-            held,
-            keys,
-            left,
-        }
+        Lane { round, half, held }
     }
 
     // Writes `count` members, those from the index `below` on.
@@ -61,7 +50,7 @@ impl<A: Monoid, B: Monoid> Lane<A, B> {
     {
         let mut lane = self;
         for place in 0..count {
-            let (next, found) = lane.select(below + place);
+            let (next, found) = lane.ask(Select(below + place));
             lane = next;
             let Some(member) = found else { unreachable!() };
             out[place as usize] = member;
@@ -78,8 +67,8 @@ impl<A: Monoid, B: Monoid> Lane<A, B> {
         ensures held { result.0.held ≡ self.held }
         ensures round { result.0.round ≡ self.round }
     {
-        let (lane, size) = self.rising().size();
-        let (lane, below) = lane.rank(from);
+        let (lane, size) = self.rising().ask(Size);
+        let (lane, below) = lane.ask(Rank(from));
         let count = lesser(out.len(), size - below);
         (lane.copied(below, count, out), count)
     }

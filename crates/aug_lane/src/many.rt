@@ -9,6 +9,7 @@ ghost use Rattle.aug_lane.specs.ManyKeys.{bit_of};
 
 use crate::lane::Lane;
 use aug_monoid::Monoid;
+use aug_query::descent::{Has, Rank};
 
 // 1 or 0.
 fn bit(answer: bool) -> u8
@@ -19,7 +20,7 @@ fn bit(answer: bool) -> u8
 
 impl<A: Monoid, B: Monoid> Lane<A, B> {
     /// Writes how many members are below each of `asked` to the place with its index. The keys may have any order, and the call
-    /// walks once for each; `ranks` requires keys that do not fall, and walks once over what their ways share. The rest of `out`
+    /// walks once for each; `Ranks` requires keys that do not fall, and walks once over what their ways share. The rest of `out`
     /// stays.
     pub fn rank_all(self, asked: &[u32], out: &mut [u32]) -> Lane<A, B>
         requires room { length asked.now ≤ length out.old }
@@ -30,7 +31,7 @@ impl<A: Monoid, B: Monoid> Lane<A, B> {
     {
         let mut lane = self;
         for place in 0..asked.len() {
-            let (next, answer) = lane.rank(asked[place]);
+            let (next, answer) = lane.ask(Rank(asked[place]));
             lane = next;
             out[place] = answer;
         }
@@ -38,7 +39,7 @@ impl<A: Monoid, B: Monoid> Lane<A, B> {
     }
 
     /// Writes 1 for each of `asked` that is a member, and 0 for each other, to the place with its index. The keys may have any
-    /// order, and the call walks once for each; `memberships` requires keys that do not fall, and walks once over what their ways
+    /// order, and the call walks once for each; `Memberships` requires keys that do not fall, and walks once over what their ways
     /// share. The rest of `out` stays.
     pub fn has_all(self, asked: &[u32], out: &mut [u8]) -> Lane<A, B>
         requires room { length asked.now ≤ length out.old }
@@ -49,7 +50,7 @@ impl<A: Monoid, B: Monoid> Lane<A, B> {
     {
         let mut lane = self;
         for place in 0..asked.len() {
-            let (next, answer) = lane.has(asked[place]);
+            let (next, answer) = lane.ask(Has(asked[place]));
             lane = next;
             out[place] = bit(answer);
         }

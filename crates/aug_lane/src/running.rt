@@ -138,19 +138,7 @@ impl<A: Monoid, B: Monoid> Running<A, B> {
             workers,
             keys,
         } = self;
-        let Ok(mut pass) = crew.pass(&shared) else {
-            unreachable!()
-        };
-        let held = pass.snapshot();
-        let left = pass.budget();
-        let half = pass.into_half();
-        let lane = Lane {
-            round: shared,
-            half,
-            held,
-            keys,
-            left,
-        };
+        let lane = Lane::open(shared, &mut crew);
         let running = Running {
             round,
             crew,
@@ -172,12 +160,7 @@ impl<A: Monoid, B: Monoid> Running<A, B> {
             workers,
             keys,
         } = self;
-        let Lane {
-            round: shared,
-            half,
-            ..
-        } = lane;
-        crew.back(shared.pass(half));
+        lane.give_back(&mut crew);
         Running {
             round,
             crew,

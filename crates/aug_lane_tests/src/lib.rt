@@ -12,3 +12,5 @@ mod refused;
 mod rounds;
 #[cfg(test)]
 mod steps;
+#[cfg(test)]
+mod telling;

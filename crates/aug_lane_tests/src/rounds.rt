@@ -7,6 +7,7 @@ use crate::assertions::{equal, holds};
 use aug_lane::{Lane, LaneError, OpenError, Running};
 use aug_model::Outcome;
 use aug_monoid::{Extent, Sum};
+use aug_query::descent::{Keys, Range};
 use aug_query::{keys, weight};
 use aug_trie::{BeginError, Ended};
 use std::alloc::{AllocError, Global};
@@ -34,6 +35,7 @@ pub(super) fn begun(
 // Gives a lane back to its round.
 pub(super) fn back(round: Work, lane: Worker) -> Work
     requires { arc_value lane.round ≡ arc_value round.round }
+    ensures { result.round ≡ round.round }
 {
     round.back(lane)
 }
@@ -89,21 +91,19 @@ fn each_lane_is_opened_once(rt: HostRuntime) -> Result<(), BeginError> {
 
 // The number and the folds of all members of 4 bits.
 fn whole(lane: Worker) -> (Worker, (u32, u64, Option<(u32, u32)>)) {
-    let (lane, span) = lane.range(0, 16);
+    let (lane, span) = lane.ask(Range(0, 16));
     (lane, (span.count, span.a.value(), span.b.bounds()))
 }
 
 // The members of the snapshot.
 fn listed(rt: &impl Abort, alloc: Global, lane: Worker) -> (Worker, Vec<u32>) {
-    let (lane, list) = lane.keys(alloc);
+    let (lane, list) = lane.ask(Keys(alloc));
     (lane, list.expect(rt, "memory"))
 }
 
 // How many keys all lanes put in and took out, as a lane knows it.
 fn counts(lane: Worker) -> (u32, u32) {
-    let (lane, inserts) = lane.inserts();
-    let (_, removals) = lane.removals();
-    (inserts, removals)
+    (lane.inserts(), lane.removals())
 }
 
 // The updates of a lane of four updates, up to its first look.

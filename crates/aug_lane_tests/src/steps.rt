@@ -7,7 +7,8 @@ use super::rounds::{Trie, Work, Worker, back, begun};
 use crate::assertions::{equal, holds};
 use aug_lane::LaneError;
 use aug_model::Outcome;
-use aug_trie::{BeginError, Ended};
+use aug_query::descent::{After, Before, Has, Pairs, Rank, Select, Size, Weight};
+use aug_trie::{BeginError, Ended, Request};
 use std::alloc::Global;
 use std::process::Abort;
 
@@ -31,23 +32,31 @@ pub(super) enum Query {
     After(u32, Option<u32>),
 }
 
+// Whether an update was accepted.
+fn accepted(done: Result<Outcome, LaneError>) -> Result<bool, LaneError> {
+    match done {
+        Ok(outcome) => Ok(outcome == Outcome::Accepted),
+        Err(cause) => Err(cause),
+    }
+}
+
 // Makes one update.
 fn make(rt: &impl Abort, lane: Worker, step: Step) -> Worker
     ensures { result.round ≡ lane.round }
 {
     match step {
         Step::Insert(key, answer) => {
-            let (lane, done) = lane.insert(key);
-            equal(rt, done, answer);
+            let (lane, done) = lane.update(key, Request::Insert);
+            equal(rt, accepted(done), answer);
             lane
         }
         Step::Remove(key, answer) => {
-            let (lane, done) = lane.remove(key);
-            equal(rt, done, answer);
+            let (lane, done) = lane.update(key, Request::Remove);
+            equal(rt, accepted(done), answer);
             lane
         }
         Step::Put(key, weight, answer) => {
-            let (lane, done) = lane.put(key, weight);
+            let (lane, done) = lane.update(key, Request::Put(weight));
             equal(rt, done, answer);
             lane
         }
@@ -69,22 +78,22 @@ pub(super) fn play(rt: &impl Abort, lane: Worker, steps: &[Step]) -> Worker
 fn ask(rt: &impl Abort, lane: Worker, query: Query) -> Worker {
     match query {
         Query::Size(answer) => {
-            let (lane, found) = lane.size();
+            let (lane, found) = lane.ask(Size);
             equal(rt, found, answer);
             lane
         }
         Query::Has(key, answer) => {
-            let (lane, found) = lane.has(key);
+            let (lane, found) = lane.ask(Has(key));
             equal(rt, found, answer);
             lane
         }
         Query::Weight(key, answer) => {
-            let (lane, found) = lane.weight(key);
+            let (lane, found) = lane.ask(Weight(key));
             equal(rt, found, answer);
             lane
         }
         Query::Rank(key, answer) => {
-            let (lane, found) = lane.rank(key);
+            let (lane, found) = lane.ask(Rank(key));
             equal(rt, found, answer);
             lane
         }
@@ -96,17 +105,17 @@ fn ask(rt: &impl Abort, lane: Worker, query: Query) -> Worker {
 fn ask_for_a_key(rt: &impl Abort, lane: Worker, query: Query) -> Worker {
     match query {
         Query::Select(index, answer) => {
-            let (lane, found) = lane.select(index);
+            let (lane, found) = lane.ask(Select(index));
             equal(rt, found, answer);
             lane
         }
         Query::Before(key, answer) => {
-            let (lane, found) = lane.before(key);
+            let (lane, found) = lane.ask(Before(key));
             equal(rt, found, answer);
             lane
         }
         Query::After(key, answer) => {
-            let (lane, found) = lane.after(key);
+            let (lane, found) = lane.ask(After(key));
             equal(rt, found, answer);
             lane
         }
@@ -134,18 +143,18 @@ pub(super) fn look(lane: Worker) -> Worker {
 
 /// The members of the snapshot with their weights.
 pub(super) fn pairs(rt: &impl Abort, alloc: Global, lane: Worker) -> (Worker, Vec<(u32, u32)>) {
-    let (lane, list) = lane.pairs(alloc);
+    let (lane, list) = lane.ask(Pairs(alloc));
     (lane, list.expect(rt, "memory"))
 }
 
 /// Puts many keys in.
 pub(super) fn insert_all(lane: Worker, keys: &[u32]) -> (Worker, Result<u32, LaneError>) {
-    lane.insert_all(keys)
+    lane.update_all(keys, Request::Insert)
 }
 
 /// Takes many keys out.
 pub(super) fn remove_all(lane: Worker, keys: &[u32]) -> (Worker, Result<u32, LaneError>) {
-    lane.remove_all(keys)
+    lane.update_all(keys, Request::Remove)
 }
 
 /// Puts many keys in with weights.

@@ -4,58 +4,22 @@ use Rattle.aug_model.specs.Keys.{SetFacts}
 use Rattle.aug_core.specs.Layout.{IsLayout}
 use Rattle.aug_core.specs.Places.{shape_of}
 use Rattle.aug_trie.specs.Round.{RoundFacts}
-use Rattle.aug_trie.specs.Ended.{EndedFacts, set_of_ended}
-use Rattle.aug_trie.specs.Crew.{CrewFacts, BeginsRound}
+use Rattle.aug_trie.specs.Crew.{CrewFacts, BeginsIn, RollsOver}
 use Rattle.aug_live.specs.declared.counts.LiveCounts.{LiveCounts}
 use Rattle.aug_live.specs.LiveHandles.{HandleFacts, IsNew}
 use Rattle.aug_live.specs.inside.LaneKnowledge.{KnownFacts}
-use Rattle.aug_live.specs.inside.Rolls.{IsOf, HasCarried, IsFirst}
-use Rattle.aug_live.specs.inside.Desks.{IsWorking, IsResting}
+use Rattle.aug_live.specs.inside.Rolls.{IsOf, IsBackIn, HasCarried, IsFirst}
+use Rattle.aug_live.specs.inside.Desks.{IsWorking}
 use Rattle.std.specs.List.{insert, remove}
-use Rattle.aug_live.proofs.Moving.{put_in}
+use Rattle.aug_live.proofs.Moving.{put_in, all_ready}
 
-pub stopped : (lanes updates : ℕ) (counts new : LiveCounts) (round : RoundFacts) (crew : CrewFacts) (ports back : List KnownFacts) (count count' : ℕ) (ended : EndedFacts) (set : SetFacts)
-    → IsWorking lanes updates counts round crew ports count → All (HasCarried ended.bits counts.rounds ended.members) back → count' ≡ count → ended.bits ≡ round.bits
-    → length ended.members + ended.removals ≡ length round.members + ended.inserts → length ended.members ≤ 2 ^ round.bits
-    → new.rounds ≡ counts.rounds → new.opened ≡ counts.opened → new.inserts ≡ counts.inserts + ended.inserts → new.removals ≡ counts.removals + ended.removals → set ≡ set_of_ended ended
-    → IsResting lanes updates new set back count'
-stopped lanes updates counts new round crew ports back count count' ended set w ready len bits sizes few rounds opened inserts removals set_is =
-    let long : length set.pairs ≡ length ended.members = ap (λ (z : SetFacts). length z.pairs) set_is in
-    let set_bits : set.bits ≡ round.bits = ap (λ (z : SetFacts). z.bits) set_is ∙ bits in
-    let all_out = w.all_out in let within = w.within in let some = w.counted.some in let sum = w.counted.sizes in record {
-      ready = subst (λ (z : SetFacts × ℕ). All (HasCarried z.0.bits z.1 z.0.pairs) back) (λ i. (sym set_is i, sym rounds i)) ready;
-      enough = omega arith;
-      counted = record { some = omega arith; sizes = omega arith };
-      few = subst (λ (z : ℕ × ℕ). z.0 ≤ 2 ^ z.1) (λ i. (sym long i, sym set_bits i)) few;
-      laid_out = subst (λ (z : ℕ). IsLayout (shape_of z lanes updates (2 ^ z))) (sym set_bits) w.laid_out;
-    }
+-- a round over a set that has room for all keys
+room_for : (set : SetFacts) (round : RoundFacts) {workers updates : ℕ} → round ≡ record { table = round.table; era = 0; bits = set.bits; members = set.pairs; workers = workers; updates = updates; room = 2 ^ set.bits } → 2 ^ round.bits ≤ round.room
+room_for set round is = subst (λ (z : RoundFacts). 2 ^ z.bits ≤ z.room) (sym is) (omega arith)
 
--- what lies in the lanes is ready for a round over the set
-pub ready_for : (lanes updates : ℕ) (counts : LiveCounts) (set : SetFacts) (round : RoundFacts) (crew : CrewFacts) (ports : List KnownFacts) (count : ℕ)
-    → IsResting lanes updates counts set ports count → BeginsRound set.pairs set.bits lanes updates round crew → All (HasCarried round.bits counts.rounds round.members) ports
-ready_for lanes updates counts set round crew ports count r b = subst (λ (z : ℕ × List (ℕ × ℕ)). All (HasCarried z.0 counts.rounds z.1) ports) (λ i. let back = sym b.round_is in ((back i).bits, (back i).members)) r.ready
-
-pub begun_on : (lanes updates : ℕ) (counts new : LiveCounts) (set : SetFacts) (round : RoundFacts) (first crew : CrewFacts) (old ports : List KnownFacts) (count count' : ℕ)
-    → IsResting lanes updates counts set old count → BeginsRound set.pairs set.bits lanes updates round first → All (IsOf round (counts.rounds + 1)) ports → count' ≡ count
-    → crew.round ≡ round → crew.handed ≡ count → crew.back ≡ first.back
-    → new.rounds ≡ counts.rounds + 1 → new.opened ≡ counts.opened → new.inserts ≡ counts.inserts → new.removals ≡ counts.removals
-    → counts.inserts + 2 ^ 32 ≤ 2 ^ 64 → counts.removals + 2 ^ 32 ≤ 2 ^ 64 → IsWorking lanes updates new round crew ports count'
-begun_on lanes updates counts new set round first crew old ports count count' r b of_round len together handed back rounds opened inserts removals few_inserts few_removals =
-    let long : length round.members ≡ length set.pairs = ap (λ (z : RoundFacts). length z.members) b.round_is in
-    let enough = r.enough in let sum = r.counted.sizes in let none : first.back ≡ 0 = ap (λ (z : CrewFacts). z.back) b.crew_is in record {
-      together = together;
-      workers = ap (λ (z : RoundFacts). z.workers) b.round_is;
-      all_out = omega arith;
-      within = omega arith;
-      of_round = subst (λ (z : ℕ). All (IsOf round z) ports) (sym rounds) of_round;
-      counted = record { some = omega arith; sizes = omega arith };
-      few_inserts = omega arith;
-      few_removals = omega arith;
-      laid_out = subst (λ (z : ℕ). IsLayout (shape_of z lanes updates (2 ^ z))) (sym (ap (λ (z : RoundFacts). z.bits) b.round_is)) r.laid_out;
-    }
-
+-- the desk as the first round begins
 pub opened_at : (lanes updates : ℕ) (counts : LiveCounts) (set : SetFacts) (round : RoundFacts) (first crew : CrewFacts) (ports : List KnownFacts) (count : ℕ)
-    → IsLayout (shape_of set.bits lanes updates (2 ^ set.bits)) → BeginsRound set.pairs set.bits lanes updates round first → All (IsOf round 1) ports → count ≤ lanes
+    → IsLayout (shape_of set.bits lanes updates (2 ^ set.bits)) → BeginsIn (2 ^ set.bits) set.pairs set.bits lanes updates round first → All (IsOf round 1) ports → count ≤ lanes
     → crew.round ≡ round → crew.handed ≡ count → crew.back ≡ first.back
     → counts.rounds ≡ 1 → counts.opened ≡ length set.pairs → counts.inserts ≡ 0 → counts.removals ≡ 0 → IsWorking lanes updates counts round crew ports count
 opened_at lanes updates counts set round first crew ports count laid b of_round len together handed back rounds opened inserts removals =
@@ -69,6 +33,34 @@ opened_at lanes updates counts set round first crew ports count laid b of_round 
       few_inserts = omega arith;
       few_removals = omega arith;
       laid_out = subst (λ (z : ℕ). IsLayout (shape_of z lanes updates (2 ^ z))) (sym (ap (λ (z : RoundFacts). z.bits) b.round_is)) laid;
+      room = room_for set round b.round_is;
+    }
+
+-- what went back to the crew of a round is carried into the set of the next one, which goes on in its memory
+pub carried_on : (era : ℕ) (round round' : RoundFacts) (crew first : CrewFacts) (list : List (ℕ × ℕ)) (inserts removals : ℕ) (back : List KnownFacts)
+    → RollsOver crew round round' first list inserts removals → crew.round ≡ round → All (IsBackIn round era crew.knows.history) back → All (HasCarried round'.bits era round'.members) back
+carried_on era round round' crew first list inserts removals back r same all = subst (λ (z : ℕ × List (ℕ × ℕ)). All (HasCarried z.0 era z.1) back)
+    (λ i. ((r.ends.bits ∙ ap (λ (z : RoundFacts). z.bits) same ∙ ap (λ (z : RoundFacts). z.bits) (sym r.round_is)) i, ap (λ (z : RoundFacts). z.members) (sym r.round_is) i)) (all_ready era round crew r.ended back r.ends same all)
+
+-- the desk goes on with it
+pub rolled_on : (lanes updates : ℕ) (counts new : LiveCounts) (round round' : RoundFacts) (crew end first crew' : CrewFacts) (ports ports' : List KnownFacts) (count count' : ℕ) (list : List (ℕ × ℕ)) (inserts removals : ℕ)
+    → IsWorking lanes updates counts round crew ports count → RollsOver end round round' first list inserts removals → All (IsOf round' (counts.rounds + 1)) ports' → count' ≡ count
+    → crew'.round ≡ round' → crew'.handed ≡ count → crew'.back ≡ first.back
+    → new.rounds ≡ counts.rounds + 1 → new.opened ≡ counts.opened → new.inserts ≡ counts.inserts + inserts → new.removals ≡ counts.removals + removals
+    → new.inserts + 2 ^ 32 ≤ 2 ^ 64 → new.removals + 2 ^ 32 ≤ 2 ^ 64 → IsWorking lanes updates new round' crew' ports' count'
+rolled_on lanes updates counts new round round' crew end first crew' ports ports' count count' list inserts removals w r of_round len together handed back rounds opened ins rem few_inserts few_removals =
+    let long : length round'.members ≡ length r.ended.members = ap (λ (z : RoundFacts). length z.members) r.round_is in let bits : round'.bits ≡ round.bits = ap (λ (z : RoundFacts). z.bits) r.round_is in
+    let out = w.all_out in let within = w.within in let sum = w.counted.sizes in let more = r.sizes in let put = r.inserts_are in let took = r.removals_are in let none : first.back ≡ 0 = ap (λ (z : CrewFacts). z.back) r.crew_is in record {
+      together = together;
+      workers = ap (λ (z : RoundFacts). z.workers) r.round_is ∙ w.workers;
+      all_out = omega arith;
+      within = omega arith;
+      of_round = subst (λ (z : ℕ). All (IsOf round' z) ports') (sym rounds) of_round;
+      counted = record { some = omega arith; sizes = omega arith };
+      few_inserts = few_inserts;
+      few_removals = few_removals;
+      laid_out = subst (λ (z : ℕ). IsLayout (shape_of z lanes updates (2 ^ z))) (sym bits) w.laid_out;
+      room = subst (λ (z : RoundFacts). 2 ^ z.bits ≤ z.room) (sym r.round_is) w.room;
     }
 
 -- other ends of the same lanes, as the crew took so many passes back and handed as many out
@@ -85,6 +77,7 @@ kept_on lanes updates counts round crew crew' ports new count count' more w all 
   few_inserts = w.few_inserts;
   few_removals = w.few_removals;
   laid_out = w.laid_out;
+  room = w.room;
 }
 
 -- an end of one of the lanes is taken out, and another is put in its place
@@ -93,7 +86,7 @@ pub all_of_round : (round : RoundFacts) (era : ℕ) (ports rest new : List Known
 all_of_round round era ports rest new at port all out back this = subst (All (IsOf round era)) (sym (back ∙ ap (λ xs. insert xs at port) out)) (put_in (IsOf round era) ports at port all this)
 
 -- each handle of the first round is new
-pub all_new : (set : SetFacts) (lanes updates : ℕ) (round : RoundFacts) (first : CrewFacts) (ends : List HandleFacts) → BeginsRound set.pairs set.bits lanes updates round first → All (IsFirst round) ends → All (IsNew set updates) ends
+pub all_new : (set : SetFacts) (lanes updates : ℕ) (round : RoundFacts) (first : CrewFacts) (ends : List HandleFacts) → BeginsIn (2 ^ set.bits) set.pairs set.bits lanes updates round first → All (IsFirst round) ends → All (IsNew set updates) ends
 all_new set lanes updates round first ends b all k d low = let f = all k d low in record {
   era = f.era_is;
   bits = ap (λ (z : RoundFacts). z.bits) f.fresh.round_is ∙ ap (λ (z : RoundFacts). z.bits) b.round_is;

@@ -1,7 +1,7 @@
 pub mod Carries
 pub mod Tied
 pub mod Moving
-pub mod Asked
+pub mod Looked
 pub mod Beginning
 pub mod Desks
 pub mod Planning

@@ -1,5 +1,7 @@
 -- A fact of each element, from the list that is taken apart to the list that grows; and what went back to a crew.
-use Rattle.std.proofs.Common.{◌≡◌, ℕ, zero, suc, ◌+◌, ◌<◌, List, [], ◌∷◌, ◌++◌, get_or, sym, ap, ◌∙◌, subst, arith}
+use Rattle.std.proofs.Common.{◌≡◌, ℕ, zero, suc, ◌+◌, ◌<◌, List, [], ◌∷◌, ◌++◌, get_or, length, length-append, sym, ap, ◌∙◌, subst, arith}
+use Rattle.std.proofs.Math.ListN.{get_or-append}
+use Rattle.std.proofs.Math.Seq.{get_or-append_seam}
 use Rattle.std.specs.Prelude.{All, take, drop}
 use Rattle.std.specs.List.{insert, remove}
 use Rattle.std.proofs.lemmas.List.Elements.{All-append, All-take, All-drop}
@@ -27,6 +29,13 @@ module _ {A : Type 0} (P : A → Type 0) where
 
   pub one_more : (xs ys : List A) (x : A) → ys ≡ xs ++ x ∷ [] → All P xs → P x → All P ys
   one_more xs ys x is all this = subst (All P) (sym is) (All-append P xs (x ∷ []) all (one x this))
+
+  -- a fact of each element, from the list to what is left of it without its last one, and of that one
+  pub all_but_last : (xs ys : List A) (x : A) → ys ≡ xs ++ x ∷ [] → All P ys → All P xs
+  all_but_last xs ys x is all k d low = subst P (ap (λ (z : List A). get_or z k d) is ∙ get_or-append xs (x ∷ []) d k low) (all k d (let long = ap length is ∙ length-append xs (x ∷ []) in omega arith))
+
+  pub last_one : (xs ys : List A) (x : A) → ys ≡ xs ++ x ∷ [] → All P ys → P x
+  last_one xs ys x is all = subst P (ap (λ (z : List A). get_or z (length xs) x) is ∙ get_or-append_seam xs x [] x) (all (length xs) x (let long = ap length is ∙ length-append xs (x ∷ []) in omega arith))
 
   -- a fact of each element, where one is taken out and another is put in its place
   pub put_in : (xs : List A) (i : ℕ) (x : A) → All P xs → P x → All P (insert (remove xs i) i x)

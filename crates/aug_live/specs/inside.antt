@@ -1,5 +1,4 @@
 -- What no promise rests on: what private fields keep, and what private calls leave.
-pub mod Changes
 pub mod Desks
 pub mod LaneKnowledge
 pub mod Looks

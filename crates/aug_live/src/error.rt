@@ -7,13 +7,13 @@ use std::fmt;
 /// Why an update or a look was not made. The set is then unchanged.
 #[derive(Clone, Copy, Debug, PartialEq, Eq)]
 pub enum LiveError {
-    /// Refusal 1: memory for the next round was refused. The trie is at rest, and the next call tries again.
+    /// Refusal 1: memory for the lane of a new handle was refused.
     OutOfMemory,
 
     /// Refusal 2: the trie was closed.
     Closed,
 
-    /// Refusal 3: more than 2^64 - 2^32 rounds were begun, or keys put in or taken out. No machine gets there.
+    /// Refusal 3: 2^64 - 1 rounds were begun, or nearly as many keys put in or taken out. No machine gets there. The round goes on, and looks of it.
     Exhausted,
 
     /// Refusal 4: the lane of the handle was given to a newer one.

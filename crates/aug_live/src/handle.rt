@@ -2,27 +2,25 @@
 ghost use Rattle.std.specs.Prelude.{◌≡◌, ℕ, ◌^◌, ◌<◌, IfOk, IfErr};
 ghost use Rattle.std.specs.Bool.{OnTrue, OnFalse};
 ghost use Rattle.aug_trie.specs.Knowledge.{insertion, removal};
-ghost use Rattle.aug_trie.specs.declared.updates.request.Request.TheVariants as request;
+ghost use Rattle.aug_trie.specs.declared.updates.request.Request.TheVariants as asked;
 ghost use Rattle.aug_trie.specs.Updates.{AcceptedUpdate, RefusedUpdate, ComesTo, TakesSnapshot};
 ghost use Rattle.aug_trie.specs.Snapshot.{snapshot_cut};
 ghost use Rattle.aug_live.specs.LiveHandles.{Follows, Makes, handle_of};
-ghost use Rattle.aug_live.specs.inside.Changes.{ChangesTo};
 
-use crate::desk::Place;
+use crate::desk::Working;
 use crate::end::End;
 use crate::error::LiveError;
 use crate::lane::{Lane, Missed};
 use crate::look::Look;
-use crate::update::Update;
-use crate::work::Work;
 use aug_model::Outcome;
 use aug_monoid::Monoid;
+use aug_trie::Request;
 use std::alloc::Global;
 use std::marker::Model;
 use std::sync::{Arc, Mutex, Wait};
 
 /// The desk under its lock: nothing once the trie was closed.
-pub(crate) type Desk<A, B> = Mutex<Option<Place<A, B>>>;
+pub(crate) type Desk<A, B> = Mutex<Option<Working<A, B>>>;
 
 /// A thread's access to a trie, for updates and looks. It may go to another thread, and has a lane of its own. A handle that is
 /// dropped leaves its lane behind, and holds nobody up; `Live::handle` gives the lane to a new one.
@@ -61,7 +59,7 @@ impl<A: Monoid, B: Monoid> Handle<A, B> {
         ensures made { IfOk result (λ done. Makes 1 (λ a b. OnTrue done (AcceptedUpdate insertion k k a.knows b.knows) × OnFalse done (RefusedUpdate insertion k a.knows b.knows)) self.old self.new) }
         ensures not_made { IfErr result (λ _. Follows self.old self.new) }
     {
-        match self.update(rt, k, Update::Insert)? {
+        match self.update(rt, k, Request::Insert)? {
             Outcome::Accepted => Ok(true),
             _ => Ok(false),
         }
@@ -74,7 +72,7 @@ impl<A: Monoid, B: Monoid> Handle<A, B> {
         ensures made { IfOk result (λ done. Makes 1 (λ a b. OnTrue done (AcceptedUpdate removal k 0 a.knows b.knows) × OnFalse done (RefusedUpdate removal k a.knows b.knows)) self.old self.new) }
         ensures not_made { IfErr result (λ _. Follows self.old self.new) }
     {
-        match self.update(rt, k, Update::Remove)? {
+        match self.update(rt, k, Request::Remove)? {
             Outcome::Accepted => Ok(true),
             _ => Ok(false),
         }
@@ -84,10 +82,10 @@ impl<A: Monoid, B: Monoid> Handle<A, B> {
     #[inline(always)]
     pub fn put<R: Wait>(&mut self, rt: &R, k: u32, weight: u32) -> Result<Outcome, LiveError>
         requires key { k < 2 ^ self.old.half.round.bits }
-        ensures made { IfOk result (λ done. Makes 1 (λ a b. ComesTo (request.Put weight) k done a.knows b.knows) self.old self.new) }
+        ensures made { IfOk result (λ done. Makes 1 (λ a b. ComesTo (asked.Put weight) k done a.knows b.knows) self.old self.new) }
         ensures not_made { IfErr result (λ _. Follows self.old self.new) }
     {
-        self.update(rt, k, Update::Put(weight))
+        self.update(rt, k, Request::Put(weight))
     }
 
     /// Takes a snapshot to query. The look owns the handle, and `Look::done` gives it back; after a refusal it comes back at once. As
@@ -121,13 +119,13 @@ impl<A: Monoid, B: Monoid> Handle<A, B> {
 
     // Makes an update, and rolls the round over if it must.
     #[inline(always)]
-    fn update<R: Wait>(&mut self, rt: &R, k: u32, update: Update) -> Result<Outcome, LiveError>
+    fn update<R: Wait>(&mut self, rt: &R, k: u32, request: Request) -> Result<Outcome, LiveError>
         requires key { k < 2 ^ self.old.half.round.bits }
-        ensures made { IfOk result (λ done. Makes 1 (ChangesTo update k done) self.old self.new) }
+        ensures made { IfOk result (λ done. Makes 1 (λ a b. ComesTo request k done a.knows b.knows) self.old self.new) }
         ensures not_made { IfErr result (λ _. Follows self.old self.new) }
     {
         for _ in rt.forever() {
-            let missed = match self.try_update(rt, k, update) {
+            let missed = match self.try_update(rt, k, request) {
                 Ok(done) => return Ok(done),
                 Err(missed) => missed,
             };
@@ -140,16 +138,16 @@ impl<A: Monoid, B: Monoid> Handle<A, B> {
 
     // Makes an update, unless the round has to roll over first, or a newer handle has the lane.
     #[inline(always)]
-    fn try_update<R: Wait>(&mut self, rt: &R, k: u32, update: Update) -> Result<Outcome, Missed>
+    fn try_update<R: Wait>(&mut self, rt: &R, k: u32, request: Request) -> Result<Outcome, Missed>
         requires key { k < 2 ^ self.old.half.round.bits }
-        ensures made { IfOk result (λ done. Makes 1 (ChangesTo update k done) self.old self.new) }
+        ensures made { IfOk result (λ done. Makes 1 (λ a b. ComesTo request k done a.knows b.knows) self.old self.new) }
         ensures not_made { IfErr result (λ _. Follows self.old self.new) }
     {
         let Some(end) = self.end.take() else {
             unreachable!()
         };
         let (out, lane) = end.take_to_work(rt);
-        let (lane, done) = lane.update(k, update);
+        let (lane, done) = lane.update(k, request);
         self.end = Some(out.put(lane));
         done
     }
@@ -179,16 +177,10 @@ impl<A: Monoid, B: Monoid> Handle<A, B> {
             return Err((handle, missed));
         }
         let (work, Lane { era, .. }) = lane.into_work();
-        let Work { round, half } = work;
-        let mut pass = round.pass(half);
-        let snapshot = pass.snapshot();
-        let half = Some(pass.into_half());
         Ok(Look {
             out,
             era,
-            round,
-            half,
-            snapshot,
+            work: Some(work.look()),
             bits,
             lane: number,
             desk,
@@ -201,11 +193,11 @@ impl<A: Monoid, B: Monoid> Handle<A, B> {
             return Err(LiveError::Replaced);
         };
         let mut guard = self.desk.lock(rt);
-        let Some(place) = guard.take() else {
+        let Some(working) = guard.take() else {
             return Err(LiveError::Closed);
         };
-        let (place, rolled) = place.past(rt, era, self.lane);
-        *guard = Some(place);
+        let (working, rolled) = working.past(rt, era, self.lane);
+        *guard = Some(working);
         rolled
     }
 }

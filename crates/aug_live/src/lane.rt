@@ -1,15 +1,14 @@
 //! What lies in a lane.
 ghost use Rattle.std.specs.Prelude.{◌≡◌, ℕ, ◌^◌, ◌<◌, IfOk, IfErr, true, false};
+ghost use Rattle.aug_trie.specs.Updates.{ComesTo};
 ghost use Rattle.aug_live.specs.LiveHandles.{Makes};
-ghost use Rattle.aug_live.specs.inside.Changes.{ChangesTo};
 ghost use Rattle.aug_live.specs.inside.LaneKnowledge.{Worked};
 
 use crate::seen::Seen;
-use crate::update::Update;
 use crate::work::Work;
 use aug_model::Outcome;
 use aug_monoid::Monoid;
-use aug_trie::PassHalf;
+use aug_trie::Request;
 use std::marker::Model;
 
 /// What lies in a lane: the number of its round, counted from 1, what its last pass knew, and that pass, unless the trie is at
@@ -17,7 +16,7 @@ use std::marker::Model;
 #[derive(Drop)]
 pub(crate) struct Lane<A: Monoid, B: Monoid> {
     pub(crate) era: u64,
-    pub(crate) last: Seen<Option<PassHalf<A, B>>>,
+    pub(crate) last: Seen<Option<Work<A, B>>>,
     pub(crate) work: Option<Work<A, B>>,
     pub(crate) is_given_on: bool,
 }
@@ -32,23 +31,23 @@ pub(crate) enum Missed {
 impl<A: Monoid, B: Monoid> Model for Lane<A, B> {
     ghost use Rattle.std.specs.Prelude.{◌≡◌, IfSome};
     ghost use Rattle.std.specs.Option.{is_some};
-    ghost use Rattle.aug_live.specs.inside.LaneKnowledge.{LaneFacts, half_of};
+    ghost use Rattle.aug_live.specs.inside.LaneKnowledge.{LaneFacts, half_in};
 
     ghost Value = { LaneFacts };
 
-    ghost view = { λ l. record { works = is_some l.work; at = record { era = l.era; half = half_of l.last.value } } };
+    ghost view = { λ l. record { works = is_some l.work; at = record { era = l.era; half = half_in l.last.value } } };
 
-    ghost invariant = { λ l. IfSome l.work (λ w. w ≡ half_of l.last.value) };
+    ghost invariant = { λ l. IfSome l.work (λ w. w.half ≡ half_in l.last.value) };
 }
 
 impl<A: Monoid, B: Monoid> Lane<A, B> {
     /// A lane before the first round.
     pub(crate) fn new() -> Lane<A, B> {
-        let none: Option<PassHalf<A, B>> = None;
+        let none: Option<Work<A, B>> = None;
         Lane {
             era: 0,
             last: Seen::of(&none),
-            work: None,
+            work: none,
             is_given_on: false,
         }
     }
@@ -56,16 +55,13 @@ impl<A: Monoid, B: Monoid> Lane<A, B> {
     /// A lane with a pass of a round.
     #[inline(always)]
     pub(crate) fn working(era: u64, work: Work<A, B>) -> Lane<A, B>
-        ensures { result ≡ record { works = true; at = record { era = era; half = work } } }
+        ensures { result ≡ record { works = true; at = record { era = era; half = work.half } } }
     {
-        let Work { round, half } = work;
-        let half = Some(half);
-        let last = Seen::of(&half);
-        let Some(half) = half else { unreachable!() };
+        let work = Some(work);
         Lane {
             era,
-            last,
-            work: Some(Work { round, half }),
+            last: Seen::of(&work),
+            work,
             is_given_on: false,
         }
     }
@@ -74,7 +70,7 @@ impl<A: Monoid, B: Monoid> Lane<A, B> {
     #[inline(always)]
     pub(crate) fn into_work(self) -> (Work<A, B>, Lane<A, B>)
         requires { self.works ≡ true }
-        ensures work { result.0 ≡ self.at.half }
+        ensures work { result.0.half ≡ self.at.half }
         ensures rest { result.1 ≡ record { works = false; at = self.at } }
     {
         let Lane {
@@ -122,9 +118,9 @@ impl<A: Monoid, B: Monoid> Lane<A, B> {
 
     /// Makes an update of a key, unless the updates are spent or no pass lies in the lane.
     #[inline(always)]
-    pub(crate) fn update(self, k: u32, update: Update) -> (Lane<A, B>, Result<Outcome, Missed>)
+    pub(crate) fn update(self, k: u32, request: Request) -> (Lane<A, B>, Result<Outcome, Missed>)
         requires { k < 2 ^ self.at.half.round.bits }
-        ensures made { IfOk result.1 (λ done. Makes 1 (ChangesTo update k done) self.at result.0.at) }
+        ensures made { IfOk result.1 (λ done. Makes 1 (λ a b. ComesTo request k done a.knows b.knows) self.at result.0.at) }
         ensures same { IfErr result.1 (λ _. result.0.at ≡ self.at) }
         ensures worked { Worked self result.0 }
     {
@@ -133,8 +129,8 @@ impl<A: Monoid, B: Monoid> Lane<A, B> {
             return (self, Err(missed));
         }
         let (work, Lane { era, last, .. }) = self.into_work();
-        let (work, done) = work.update(k, update);
-        let Some(done) = done else {
+        let (work, made) = work.update(k, request);
+        let Ok(done) = made else {
             let lane = Lane {
                 era,
                 last,

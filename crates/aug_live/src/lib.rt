@@ -11,11 +11,9 @@ mod lane;
 mod live;
 mod look;
 mod plan;
-mod queries;
 mod rolling;
 mod seen;
 mod tie;
-mod update;
 mod work;
 
 pub use counts::LiveCounts;

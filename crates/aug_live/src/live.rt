@@ -2,14 +2,13 @@
 ghost use Rattle.std.specs.Prelude.{◌≡◌, ◌⊎◌, ◌↔◌, ℕ, ◌+◌, ◌<◌, ◌≤◌, ◌^◌, [], All, IsErrOf, IfOk, IfErr, length, vec_len, vec_capacity};
 ghost use Rattle.std.specs.Arc.{arc_value};
 ghost use Rattle.aug_core.specs.Layout.{IsRefused, IsLayout, IsWithin, IsOutside};
-ghost use Rattle.aug_trie.specs.Crew.{BeginsRound};
 ghost use Rattle.aug_live.specs.LiveHandles.{IsNew};
 ghost use Rattle.aug_live.specs.Plans.{Fits, least_plan};
 ghost use Rattle.aug_live.specs.inside.Rolls.{IsOf, IsFirst};
 ghost use Rattle.aug_live.specs.declared.known.Whose.TheVariants.{Nobody};
 
 use crate::counts::LiveCounts;
-use crate::desk::{Place, Working};
+use crate::desk::Working;
 use crate::end::End;
 use crate::error::LiveError;
 use crate::handle::{Desk, Handle};
@@ -89,7 +88,6 @@ impl<A: Monoid, B: Monoid> Live<A, B> {
         };
         let (ports, ends) = open_lanes(rt, bits, &round, &mut crew, &desk, firsts, ports, ends);
         let working = Working {
-            alloc,
             plan,
             counts: LiveCounts {
                 rounds: 1,
@@ -109,7 +107,7 @@ impl<A: Monoid, B: Monoid> Live<A, B> {
     }
 
     /// Opens a trie over a set, for `handles` handles, whose rounds have a table of at most `memory` bytes: `Plan::new` computes their
-    /// lanes and updates. While a round begins, a list of the table's words takes as much again.
+    /// lanes and updates. While the trie is opened, a list of the table's words takes as much again; all later rounds are in this table.
     ///
     /// Refused with `BadWorkers` for no handle and for more than 64, with `TooLarge` if a table with one update of each handle takes more
     /// bytes, and with `OutOfMemory`. After a refusal the same set comes back.
@@ -135,14 +133,14 @@ impl<A: Monoid, B: Monoid> Live<A, B> {
         Self::open_with(rt, alloc, set, handles, plan)
     }
 
-    /// Rolls the round over now, as in a quiet hour. It waits for the update or look that each handle is in.
+    /// Rolls the round over now, as in a quiet hour. It waits for the update or look that each handle is in. Refused with `Exhausted`.
     pub fn roll<R: Wait>(&self, rt: &R) -> Result<(), LiveError> {
         let mut guard = self.desk.lock(rt);
-        let Some(place) = guard.take() else {
+        let Some(working) = guard.take() else {
             return Err(LiveError::Closed);
         };
-        let (place, rolled) = place.next(rt);
-        *guard = Some(place);
+        let (working, rolled) = working.roll(rt);
+        *guard = Some(working);
         rolled
     }
 
@@ -151,8 +149,7 @@ impl<A: Monoid, B: Monoid> Live<A, B> {
     /// old one is still there, it answers `Replaced` from then on, and the call waits for the update or look that it is in. No round
     /// ends for it.
     ///
-    /// Refused with `NoLane` and with `OutOfMemory`, and as `roll` is if the trie is at rest. After a refusal nothing has
-    /// changed.
+    /// Refused with `OutOfMemory`, where a new lane is refused, and with `NoLane`. After a refusal nothing has changed.
     pub fn handle<R: Wait>(
         &self,
         rt: &R,
@@ -166,12 +163,14 @@ impl<A: Monoid, B: Monoid> Live<A, B> {
             return Err(LiveError::OutOfMemory);
         };
         let mut guard = self.desk.lock(rt);
-        let Some(place) = guard.take() else {
+        let Some(mut working) = guard.take() else {
             return Err(LiveError::Closed);
         };
-        let (place, renewed) = place.renew(rt, lane, first);
-        *guard = Some(place);
-        let (end, bits) = renewed?;
+        let renewed = working.renew(rt, lane, first);
+        *guard = Some(working);
+        let Some((end, bits)) = renewed else {
+            return Err(LiveError::NoLane);
+        };
         Ok(Handle {
             end: Some(end),
             bits,
@@ -186,9 +185,9 @@ impl<A: Monoid, B: Monoid> Live<A, B> {
         ensures sizes { length result.0.pairs + result.1.removals ≡ result.1.opened + result.1.inserts }
     {
         for _ in rt.forever() {
-            let place = self.desk.lock(rt).take();
-            if let Some(place) = place {
-                return place.stop(rt).into_set();
+            let working = self.desk.lock(rt).take();
+            if let Some(working) = working {
+                return working.stop(rt);
             }
             yield_now();
         }
@@ -277,5 +276,5 @@ fn place<R: Wait, A: Monoid, B: Monoid>(
     desk: &Arc<Desk<A, B>, Global>,
     working: Working<A, B>,
 ) {
-    *desk.lock(rt) = Some(Place::On(working));
+    *desk.lock(rt) = Some(working);
 }

@@ -1,56 +1,66 @@
 //! A look of a handle: a snapshot to query.
 ghost use Rattle.std.specs.Prelude.{◌≡◌};
-ghost use Rattle.aug_live.specs.LiveHandles.{handle_of, LooksAgain};
+ghost use Rattle.aug_model.specs.Folds.{summary_of};
+ghost use Rattle.aug_trie.specs.Node.{steps_for};
+ghost use Rattle.aug_live.specs.LiveHandles.{handle_of, set_of_look, IsAsked, LooksAgain};
 
 use crate::end::Out;
 use crate::handle::{Desk, Handle};
 use crate::lane::Lane;
 use crate::work::Work;
 use aug_monoid::Monoid;
-use aug_trie::{PassHalf, Round, Snapshot};
+use aug_query::Query;
 use std::alloc::Global;
 use std::marker::Model;
 use std::sync::Arc;
 
-/// A look of a handle: a snapshot, and the queries of a pass on it. Nothing that anybody does changes what it shows. As long as
+/// A look of a handle: a snapshot, which is asked as a pass's is. Nothing that anybody does changes what it shows. As long as
 /// it is there a roll-over waits for it, and with that each handle whose updates are spent. So a look cannot be dropped: the
 /// check refuses a program that does not end it by `done`, which gives the handle back.
 pub struct Look<A: Monoid, B: Monoid> {
     pub(crate) out: Out<A, B>,
     pub(crate) era: u64,
-    pub(crate) round: Arc<Round<A, B>, Global>,
-    // A call takes it out and puts it back.
-    pub(crate) half: Option<PassHalf<A, B>>,
-    pub(crate) snapshot: Snapshot,
+    // A call takes it out and puts it back. Its snapshot is the look's.
+    pub(crate) work: Option<Work<A, B>>,
     pub(crate) bits: u32,
     pub(crate) lane: usize,
     pub(crate) desk: Arc<Desk<A, B>, Global>,
 }
 
 impl<A: Monoid, B: Monoid> Model for Look<A, B> {
-    ghost use Rattle.std.specs.Arc.{arc_value};
     ghost use Rattle.aug_live.specs.LiveHandles.{LookFacts};
-    ghost use Rattle.aug_live.specs.inside.LaneKnowledge.{half_of};
-    ghost use Rattle.aug_live.specs.inside.Looks.{HoldsLook};
+    ghost use Rattle.aug_live.specs.inside.LaneKnowledge.{half_in};
+    ghost use Rattle.aug_live.specs.inside.Looks.{HoldsLook, held_in};
 
     ghost Value = { LookFacts };
 
-    ghost view = { λ l. record { era = l.era; half = half_of l.half; snapshot = l.snapshot } };
+    ghost view = { λ l. record { era = l.era; half = half_in l.work; snapshot = held_in l.work } };
 
-    ghost invariant = { λ l. HoldsLook l.out l.era (arc_value l.round) l.half l.snapshot l.bits };
+    ghost invariant = { λ l. HoldsLook l.out l.era l.work l.bits };
 }
 
 impl<A: Monoid, B: Monoid> Look<A, B> {
+    /// Asks the snapshot, in so many steps as a pass takes for that.
+    pub fn ask<Q: Query<A, B>>(&mut self, query: Q) -> Q::Answer
+        ensures answer { Q.Answers query (set_of_look self.old) result }
+        ensures asked { IsAsked (summary_of A.parts B.parts) (steps_for (Q.most query (set_of_look self.old))) self.old self.new }
+    {
+        let Some(work) = self.work.take() else {
+            unreachable!()
+        };
+        let (work, answer) = work.ask(query);
+        self.work = Some(work);
+        answer
+    }
+
     /// Takes a newer snapshot, in the same round, without letting the lane go.
     pub fn again(&mut self)
         ensures { LooksAgain self.old self.new }
     {
-        let Some(half) = self.half.take() else {
+        let Some(work) = self.work.take() else {
             unreachable!()
         };
-        let mut pass = self.round.pass(half);
-        self.snapshot = pass.snapshot();
-        self.half = Some(pass.into_half());
+        self.work = Some(work.look());
     }
 
     /// Ends the look, and gives its handle back.
@@ -60,15 +70,13 @@ impl<A: Monoid, B: Monoid> Look<A, B> {
         let Look {
             out,
             era,
-            round,
-            half,
-            snapshot: _,
+            work,
             bits,
             lane,
             desk,
         } = self;
-        let Some(half) = half else { unreachable!() };
-        let end = out.put(Lane::working(era, Work { round, half }));
+        let Some(work) = work else { unreachable!() };
+        let end = out.put(Lane::working(era, work));
         Handle {
             end: Some(end),
             bits,

@@ -4,7 +4,7 @@ ghost use Rattle.std.specs.Arc.{arc_value};
 ghost use Rattle.aug_model.specs.Keys.{IsKeySet, keys_of};
 ghost use Rattle.aug_core.specs.Layout.{IsLayout};
 ghost use Rattle.aug_core.specs.Places.{shape_of};
-ghost use Rattle.aug_trie.specs.Crew.{BeginsRound};
+ghost use Rattle.aug_trie.specs.Crew.{BeginsIn, RollsOver};
 ghost use Rattle.aug_core.specs.Prefixes.{IsPrefix};
 ghost use Rattle.aug_live.specs.inside.LaneKnowledge.{known_of};
 ghost use Rattle.aug_live.specs.inside.Rolls.{IsOf, IsBackIn, HasCarried, Starts};
@@ -13,35 +13,13 @@ ghost use Rattle.aug_live.specs.declared.known.Whose.TheVariants.{Nobody, Roller
 use crate::end::End;
 use crate::lane::Lane;
 use crate::plan::Plan;
-use crate::work::Work;
+use crate::work::start;
 use aug_monoid::Monoid;
-use aug_trie::{BeginError, Crew, Ended, Members, Round};
+use aug_trie::{Crew, Ended, Members, Round};
 use std::alloc::{AllocFailed, Global};
 use std::snapshot::Snapshot;
 use std::sync::{Arc, Wait};
 use std::thread::yield_now;
-
-// Begins a round over a set, with the numbers of a table for the full set. It is refused only for lack of memory, and then the
-// same set comes back.
-fn begun<A: Monoid, B: Monoid>(
-    alloc: Global,
-    set: Members,
-    plan: Plan,
-) -> Result<(Round<A, B>, Crew<A, B>), Members>
-    requires laid_out { IsLayout (shape_of set.bits plan.lanes plan.updates (2 ^ set.bits)) }
-    requires few { length set.pairs ≤ 2 ^ set.bits }
-    ensures begun { IfOk result (λ t. BeginsRound set.pairs set.bits plan.lanes plan.updates t.0 t.1) }
-    ensures same { IfErr result (λ e. e ≡ set) }
-{
-    let bits = set.bits();
-    match Round::begin_over(alloc, set, bits, plan.lanes, plan.updates) {
-        Ok(begun) => Ok(begun),
-        Err((old, cause)) => match cause {
-            BeginError::OutOfMemory => Err(old),
-            _ => unreachable!(),
-        },
-    }
-}
 
 // Ends a round that nobody worked in.
 fn taken_back<A: Monoid, B: Monoid>(
@@ -51,7 +29,7 @@ fn taken_back<A: Monoid, B: Monoid>(
     list: Vec<(u32, u32)>,
 ) -> Members
     requires keys { IsKeySet set.value.bits (keys_of set.value.pairs) }
-    requires begun { (lanes updates : ℕ) × BeginsRound set.value.pairs set.value.bits lanes updates round crew }
+    requires begun { (lanes updates : ℕ) × BeginsIn (2 ^ set.value.bits) set.value.pairs set.value.bits lanes updates round crew }
     requires list { (list.items ≡ []) × (2 ^ set.value.bits ≤ vec_capacity list) }
     ensures { result ≡ set.value }
 {
@@ -68,13 +46,13 @@ pub(crate) fn next_round<A: Monoid, B: Monoid>(
     requires laid_out { IsLayout (shape_of set.bits plan.lanes plan.updates (2 ^ set.bits)) }
     requires few { length set.pairs ≤ 2 ^ set.bits }
     requires list { (list.items ≡ []) × (2 ^ set.bits ≤ vec_capacity list) }
-    ensures begun { IfOk result (λ t. BeginsRound set.pairs set.bits plan.lanes plan.updates (arc_value t.0) t.1) }
+    ensures begun { IfOk result (λ t. BeginsIn (2 ^ set.bits) set.pairs set.bits plan.lanes plan.updates (arc_value t.0) t.1) }
     ensures list { IfOk result (λ t. t.2 ≡ list) }
     ensures same { IfErr result (λ e. e ≡ set) }
 {
     let _universe = set.universe();
     let old = Snapshot::of(&set);
-    let (round, crew) = begun(alloc, set, plan)?;
+    let (round, crew) = Round::begin_for_all(alloc, set, plan.lanes, plan.updates)?;
     match Arc::new(alloc, round) {
         Ok(round) => Ok((round, crew, list)),
         Err(failed) => {
@@ -114,24 +92,18 @@ fn whole<R: Wait, A: Monoid, B: Monoid>(rt: &R, round: Arc<Round<A, B>, Global>)
 
 impl<A: Monoid, B: Monoid> End<A, B> {
     // Takes the pass out of the lane, and gives it back to its crew.
-    fn give_back<R: Wait>(self, rt: &R, round: &Round<A, B>, crew: &mut Crew<A, B>) -> End<A, B>
-        requires of_round { IsOf round.now self.at.era self }
+    fn give_back<R: Wait>(self, rt: &R, crew: &mut Crew<A, B>) -> End<A, B>
+        requires of_round { IsOf crew.old.round self.at.era self }
         requires some { 0 < self.at.era }
-        requires together { crew.old.round ≡ round.now }
-        ensures back { IsBackIn round.now self.at.era crew.new.knows.history result }
+        ensures back { IsBackIn crew.old.round self.at.era crew.new.knows.history result }
         ensures goes_on { IsPrefix crew.old.knows.history crew.new.knows.history }
-        ensures round { crew.new.round ≡ round.now }
+        ensures round { crew.new.round ≡ crew.old.round }
         ensures handed { crew.new.handed ≡ crew.old.handed }
         ensures counted { crew.new.back ≡ crew.old.back + 1 }
     {
         let (out, lane) = self.take_to_roll(rt);
         let (work, lane) = lane.into_work();
-        let Work {
-            round: theirs,
-            half,
-        } = work;
-        crew.back(round.pass(half));
-        drop(theirs);
+        work.give_back(crew);
         out.leave(lane)
     }
 
@@ -153,10 +125,9 @@ impl<A: Monoid, B: Monoid> End<A, B> {
     {
         let (out, lane) = self.take_to_roll(rt);
         let era = lane.era;
-        let (work, _) = lane.into_work();
-        let Work { half: spent, .. } = work;
-        crew.back(round.pass(spent));
-        let work = Work::start(rt, round, crew);
+        let (spent, _) = lane.into_work();
+        spent.give_back(crew);
+        let work = start(rt, round, crew);
         out.leave(Lane::working(era, work))
     }
 
@@ -179,7 +150,7 @@ impl<A: Monoid, B: Monoid> End<A, B> {
         ensures back { crew.new.back ≡ crew.old.back }
     {
         let (out, _) = self.take_to_roll(rt);
-        let work = Work::start(rt, round, crew);
+        let work = start(rt, round, crew);
         out.leave(Lane::working(era + 1, work))
     }
 
@@ -218,89 +189,112 @@ impl<A: Monoid, B: Monoid> End<A, B> {
         ensures back { crew.new.back ≡ crew.old.back }
     {
         let (out, _) = self.take(rt);
-        let work = Work::start(rt, round, crew);
+        let work = start(rt, round, crew);
         out.open(Lane::working(1, work)).fork(rt)
     }
 }
 
-/// Takes the pass out of each lane, and gives it back to its crew. It waits for each handle that works or looks.
-fn take_back<R: Wait, A: Monoid, B: Monoid>(
+/// Takes the pass out of each lane and gives it back to its crew, from the last lane on. It waits for each handle that works or looks.
+pub(crate) fn take_all<R: Wait, A: Monoid, B: Monoid>(
     rt: &R,
     era: u64,
-    round: &Round<A, B>,
     crew: &mut Crew<A, B>,
-    ports: Vec<End<A, B>>,
-    mut back: Vec<End<A, B>>,
-) -> Vec<End<A, B>>
-    requires of_round { All (IsOf round.now era) ports.items }
+    ports: &mut Vec<End<A, B>>,
+    back: &mut Vec<End<A, B>>,
+)
+    requires of_round { All (IsOf crew.old.round era) ports.old.items }
     requires some { 0 < era }
-    requires together { crew.old.round ≡ round.now }
-    requires empty { back.items ≡ [] }
-    requires room { vec_len ports ≤ vec_capacity back }
-    ensures back { All (IsBackIn round.now era crew.new.knows.history) result.items }
-    ensures len { vec_len result ≡ vec_len ports }
-    ensures round { crew.new.round ≡ round.now }
+    requires empty { back.old.items ≡ [] }
+    requires room { vec_len ports.old ≤ vec_capacity back.old }
+    ensures back { All (IsBackIn crew.old.round era crew.new.knows.history) back.new.items }
+    ensures len { vec_len back.new ≡ vec_len ports.old }
+    ensures none_left { ports.new.items ≡ [] }
+    ensures room { vec_capacity ports.new ≡ vec_capacity ports.old }
+    ensures back_room { vec_capacity back.new ≡ vec_capacity back.old }
+    ensures round { crew.new.round ≡ crew.old.round }
     ensures handed { crew.new.handed ≡ crew.old.handed }
-    ensures counted { crew.new.back ≡ crew.old.back + vec_len ports }
+    ensures counted { crew.new.back ≡ crew.old.back + vec_len ports.old }
 {
-    for port in ports {
-        back.push_reserved(port.give_back(rt, round, crew));
+    while let Some(port) = ports.pop() {
+        back.push_reserved(port.give_back(rt, crew));
     }
-    back
 }
 
-/// Ends the round whose passes lie in the lanes. What they knew is carried into the set that comes out.
+/// Ends a round to which all passes are back, and begins the next over its set in the same memory, once no lane shares it. The list has that set
+/// afterwards.
+pub(crate) fn renewed<R: Wait, A: Monoid, B: Monoid>(
+    rt: &R,
+    round: &mut Arc<Round<A, B>, Global>,
+    crew: Crew<A, B>,
+    list: &mut Vec<(u32, u32)>,
+) -> (Crew<A, B>, u32, u32)
+    requires together { crew.round ≡ arc_value round.old }
+    requires all_back { crew.back ≡ crew.handed }
+    requires room { 2 ^ (arc_value round.old).bits ≤ (arc_value round.old).room }
+    requires empty { list.old.items ≡ [] }
+    requires list_room { 2 ^ (arc_value round.old).bits ≤ vec_capacity list.old }
+    ensures rolls { RollsOver crew (arc_value round.old) (arc_value round.new) result.0 list.new.items result.1 result.2 }
+    ensures list_room { vec_capacity list.new ≡ vec_capacity list.old }
+{
+    for _ in rt.forever() {
+        if let Some(whole) = Arc::get_mut(round) {
+            return whole.renew(crew, list);
+        }
+        yield_now();
+    }
+    unreachable!()
+}
+
+/// Puts a pass of the next round into each lane, the last lane of the list first.
+pub(crate) fn deal_all<R: Wait, A: Monoid, B: Monoid>(
+    rt: &R,
+    era: u64,
+    round: &Arc<Round<A, B>, Global>,
+    crew: &mut Crew<A, B>,
+    back: &mut Vec<End<A, B>>,
+    ports: &mut Vec<End<A, B>>,
+)
+    requires ready { All (HasCarried (arc_value round.now).bits era (arc_value round.now).members) back.old.items }
+    requires some { 0 < era }
+    requires small { era + 1 < 2 ^ 64 }
+    requires together { crew.old.round ≡ arc_value round.now }
+    requires none_out { crew.old.handed ≡ 0 }
+    requires lanes { vec_len back.old ≤ (arc_value round.now).workers }
+    requires empty { ports.old.items ≡ [] }
+    requires room { vec_len back.old ≤ vec_capacity ports.old }
+    ensures of_round { All (IsOf (arc_value round.now) (era + 1)) ports.new.items }
+    ensures len { vec_len ports.new ≡ vec_len back.old }
+    ensures none_left { back.new.items ≡ [] }
+    ensures room { vec_capacity ports.new ≡ vec_capacity ports.old }
+    ensures back_room { vec_capacity back.new ≡ vec_capacity back.old }
+    ensures round { crew.new.round ≡ arc_value round.now }
+    ensures handed { crew.new.handed ≡ vec_len back.old }
+    ensures back { crew.new.back ≡ crew.old.back }
+{
+    while let Some(port) = back.pop() {
+        ports.push_reserved(port.begin(rt, era, round, crew));
+    }
+}
+
+/// Ends the round whose passes lie in the lanes.
 pub(crate) fn finish<R: Wait, A: Monoid, B: Monoid>(
     rt: &R,
     era: u64,
     round: Arc<Round<A, B>, Global>,
     crew: Crew<A, B>,
     ports: Vec<End<A, B>>,
-    room: Vec<End<A, B>>,
-) -> (Ended<A, B>, Vec<End<A, B>>)
+    back: Vec<End<A, B>>,
+) -> Ended<A, B>
     requires of_round { All (IsOf (arc_value round) era) ports.items }
     requires some { 0 < era }
     requires together { crew.round ≡ arc_value round }
     requires all_out { crew.handed ≡ vec_len ports + crew.back }
-    requires empty { room.items ≡ [] }
-    requires room { vec_len ports ≤ vec_capacity room }
-    ensures ready { All (HasCarried result.0.bits era result.0.members) result.1.items }
-    ensures len { vec_len result.1 ≡ vec_len ports }
-    ensures bits { result.0.bits ≡ (arc_value round).bits }
-    ensures sizes { length result.0.members + result.0.removals ≡ length (arc_value round).members + result.0.inserts }
-    ensures few { length result.0.members ≤ 2 ^ (arc_value round).bits }
+    requires empty { back.items ≡ [] }
+    requires room { vec_len ports ≤ vec_capacity back }
+    ensures sizes { length result.members + result.removals ≡ length (arc_value round).members + result.inserts }
+    ensures few { length result.members ≤ 2 ^ (arc_value round).bits }
 {
-    let mut crew = crew;
-    let back = take_back(rt, era, &round, &mut crew, ports, room);
-    let round = whole(rt, round);
-    (round.end(crew), back)
-}
-
-/// Puts a pass of the next round into each lane.
-pub(crate) fn deal<R: Wait, A: Monoid, B: Monoid>(
-    rt: &R,
-    era: u64,
-    round: &Arc<Round<A, B>, Global>,
-    crew: &mut Crew<A, B>,
-    back: Vec<End<A, B>>,
-    mut ports: Vec<End<A, B>>,
-) -> Vec<End<A, B>>
-    requires ready { All (HasCarried (arc_value round.now).bits era (arc_value round.now).members) back.items }
-    requires some { 0 < era }
-    requires small { era + 1 < 2 ^ 64 }
-    requires together { crew.old.round ≡ arc_value round.now }
-    requires none_out { crew.old.handed ≡ 0 }
-    requires lanes { vec_len back ≤ (arc_value round.now).workers }
-    requires empty { ports.items ≡ [] }
-    requires room { vec_len back ≤ vec_capacity ports }
-    ensures of_round { All (IsOf (arc_value round.now) (era + 1)) result.items }
-    ensures len { vec_len result ≡ vec_len back }
-    ensures round { crew.new.round ≡ arc_value round.now }
-    ensures handed { crew.new.handed ≡ vec_len back }
-    ensures back { crew.new.back ≡ crew.old.back }
-{
-    for port in back {
-        ports.push_reserved(port.begin(rt, era, round, crew));
-    }
-    ports
+    let (mut crew, mut ports, mut back) = (crew, ports, back);
+    take_all(rt, era, &mut crew, &mut ports, &mut back);
+    whole(rt, round).end(crew)
 }

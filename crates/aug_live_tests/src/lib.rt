@@ -3,9 +3,13 @@
 #![tactic(auto)]
 
 #[cfg(test)]
+mod asking;
+#[cfg(test)]
 mod assertions;
 #[cfg(test)]
 mod opening;
+#[cfg(test)]
+mod own;
 #[cfg(test)]
 mod refused;
 #[cfg(test)]
@@ -16,3 +20,5 @@ mod rolling;
 mod sparing;
 #[cfg(test)]
 mod steps;
+#[cfg(test)]
+mod thousand;

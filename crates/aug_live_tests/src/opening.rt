@@ -8,6 +8,7 @@ use crate::assertions::{equal, equal_length, holds};
 use aug_live::{Handle, Live, LiveError, Plan};
 use aug_model::Outcome;
 use aug_monoid::{Extent, Sum};
+use aug_query::descent::{Keys, Memberships, Range, Ranks, Weights};
 use aug_trie::{BeginError, Ended, Members};
 use std::alloc::Global;
 use std::process::Abort;
@@ -162,30 +163,36 @@ fn a_handle_updates_and_looks_over_many_rounds(rt: HostRuntime) -> Result<(), Be
 
 // The whole range of a look: how many members, the sum of their weights, and the least and the greatest of them.
 fn whole(look: &mut View) -> (u32, u64, Option<(u32, u32)>) {
-    let whole = look.range(0, 16);
+    let whole = look.ask(Range(0, 16));
     (whole.count, whole.a.value(), whole.b.bounds())
 }
 
 // The members that a look shows.
 fn keys(rt: &impl Abort, alloc: Global, look: &mut View) -> Vec<u32> {
-    look.keys(alloc).expect(rt, "memory")
+    look.ask(Keys(alloc)).expect(rt, "memory")
 }
 
 fn asks_for_ranks(rt: &impl Abort, alloc: Global, look: &mut View) {
-    let mut ranks = Vec::with_capacity(alloc, 2).expect(rt, "memory");
-    look.ranks(&[4, 10], &mut ranks);
+    let out = Vec::with_capacity(alloc, 2).expect(rt, "memory");
+    let ranks = look.ask(Ranks {
+        keys: &[4, 10],
+        out,
+    });
     equal(rt, ranks.as_slice(), [1, 2].as_slice());
 }
 
 fn asks_for_memberships(rt: &impl Abort, alloc: Global, look: &mut View) {
-    let mut there = Vec::with_capacity(alloc, 2).expect(rt, "memory");
-    look.memberships(&[3, 5], &mut there);
+    let out = Vec::with_capacity(alloc, 2).expect(rt, "memory");
+    let there = look.ask(Memberships { keys: &[3, 5], out });
     equal(rt, there.as_slice(), [true, false].as_slice());
 }
 
 fn asks_for_weights(rt: &impl Abort, alloc: Global, look: &mut View) {
-    let mut weights = Vec::with_capacity(alloc, 2).expect(rt, "memory");
-    look.weights(&[5, 12], &mut weights);
+    let out = Vec::with_capacity(alloc, 2).expect(rt, "memory");
+    let weights = look.ask(Weights {
+        keys: &[5, 12],
+        out,
+    });
     equal(rt, weights.as_slice(), [None, Some(50)].as_slice());
 }
 

@@ -1,61 +1,15 @@
-//! Memory refused: nothing is lost, and a later call succeeds.
+//! Memory refused, and a trie that was closed: nothing is lost, and a later call succeeds.
 
-use super::opening::{Hand, Trie, insert, no_keys, opened, remove};
-use super::steps::{Step, closed, last, listed, over, play, renewed, size, try_look, why_no_look};
+use super::opening::{Hand, Trie, no_keys, opened};
+use super::steps::{
+    Step, closed, fill, last, listed, looked, over, play, renewed, size, why_no_look,
+};
 use crate::assertions::equal;
 use aug_live::{Live, LiveError, Plan};
 use aug_trie::{BeginError, Members};
 use std::alloc::Global;
 use std::process::Abort;
 use std::sync::Wait;
-
-// Puts a key in, again if memory for the next round was refused.
-fn put_in<R: Wait + Abort>(rt: &R, hand: &mut Hand, k: u32) -> bool {
-    match insert(rt, hand, k) {
-        Ok(done) => done,
-        Err(cause) => {
-            equal(rt, cause, LiveError::OutOfMemory);
-            insert(rt, hand, k).expect(rt, "a second refusal")
-        }
-    }
-}
-
-// Takes a key out, again if memory for the next round was refused.
-fn take_out<R: Wait + Abort>(rt: &R, hand: &mut Hand, k: u32) -> bool {
-    match remove(rt, hand, k) {
-        Ok(done) => done,
-        Err(cause) => {
-            equal(rt, cause, LiveError::OutOfMemory);
-            remove(rt, hand, k).expect(rt, "a second refusal")
-        }
-    }
-}
-
-// How many members a look shows.
-fn seen_once<R: Wait>(rt: &R, hand: Hand) -> Result<(Hand, u32), (Hand, LiveError)> {
-    match try_look(rt, hand) {
-        Ok(mut look) => {
-            let size = size(&mut look);
-            Ok((over(look), size))
-        }
-        Err(refused) => Err(refused),
-    }
-}
-
-// The same, again if memory for the next round was refused.
-fn seen<R: Wait + Abort>(rt: &R, hand: Hand) -> (Hand, u32) {
-    let hand = match seen_once(rt, hand) {
-        Ok(seen) => return seen,
-        Err((hand, cause)) => {
-            equal(rt, cause, LiveError::OutOfMemory);
-            hand
-        }
-    };
-    let Ok(seen) = seen_once(rt, hand) else {
-        panic!(rt; "a second refusal");
-    };
-    seen
-}
 
 // A new handle for the one lane, again if memory was refused.
 fn new_handle<R: Wait + Abort>(rt: &R, alloc: Global, live: &Trie) -> Hand {
@@ -101,31 +55,22 @@ fn opened_again<R: Wait + Abort>(rt: &R, alloc: Global) -> Result<(Trie, Vec<Han
     }
 }
 
-// Rolls the round over, again if memory for the next round was refused.
-fn roll<R: Wait + Abort>(rt: &R, live: &Trie) {
-    let rolled = live.roll(rt);
-    if rolled == Err(LiveError::OutOfMemory) {
-        equal(rt, live.roll(rt), Ok(()));
-    }
-}
-
-// Passes whichever request for memory is refused.
+// Passes whichever request for memory is refused. Updates, looks and roll-overs ask for none, so that none of them is refused.
 #[test]
 fn refused_memory_loses_nothing_of_a_live_trie(rt: HostRuntime) -> Result<(), BeginError> {
-    let (live, mut hands) = opened_again(&rt, rt.alloc())?;
-    let mut hand = last(&rt, &mut hands);
-    for k in 0..5 {
-        equal(&rt, put_in(&rt, &mut hand, k), true);
-    }
-    equal(&rt, take_out(&rt, &mut hand, 2), true);
-    let (hand, size) = seen(&rt, hand);
-    equal(&rt, size, 4);
-    drop(hand);
-    let mut hand = new_handle(&rt, rt.alloc(), &live);
-    equal(&rt, put_in(&rt, &mut hand, 4), false);
-    roll(&rt, &live);
-    let (size, counts) = closed(&rt, live);
-    equal(&rt, (size, counts.inserts, counts.removals), (4, 5, 1));
+    let (r, alloc) = (&rt, rt.alloc());
+    let (live, mut hands) = opened_again(r, alloc)?;
+    let mut hand = last(r, &mut hands);
+    fill(r, &mut hand, 0, 5);
+    play(r, &mut hand, &[Step::Remove(2, Ok(true))]);
+    let mut look = looked(r, hand);
+    equal(r, size(&mut look), 4);
+    drop(over(look));
+    let mut hand = new_handle(r, alloc, &live);
+    play(r, &mut hand, &[Step::Insert(4, Ok(false))]);
+    equal(r, live.roll(r), Ok(()));
+    let (size, counts) = closed(r, live);
+    equal(r, (size, counts.inserts, counts.removals), (4, 5, 1));
     Ok(())
 }
 

@@ -31,7 +31,7 @@ pub(super) struct Did {
 }
 
 // The next number from a seed.
-fn next(seed: u64) -> u64 {
+pub(super) fn next(seed: u64) -> u64 {
     seed.wrapping_mul(6_364_136_223_846_793_005)
         .wrapping_add(1_442_695_040_888_963_407)
 }

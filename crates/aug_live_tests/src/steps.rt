@@ -6,6 +6,7 @@ use crate::assertions::equal;
 use aug_live::{LiveCounts, LiveError, Look};
 use aug_model::Outcome;
 use aug_monoid::{Extent, Sum};
+use aug_query::descent::{After, Before, Has, Pairs, Rank, Select, Size, Weight};
 use std::alloc::Global;
 use std::process::Abort;
 use std::sync::Wait;
@@ -123,24 +124,24 @@ pub(super) fn why_no_look<R: Wait>(rt: &R, hand: Hand) -> Option<LiveError> {
 
 // Whether a key is a member.
 pub(super) fn has(look: &mut View, k: u32) -> bool {
-    look.has(k)
+    look.ask(Has(k))
 }
 
 /// How many members a look shows.
 pub(super) fn size(look: &mut View) -> u32 {
-    look.size()
+    look.ask(Size)
 }
 
 // Asks one thing.
 fn ask(rt: &impl Abort, look: &mut View, query: Query) {
     match query {
         Query::Has(k, answer) => equal(rt, has(look, k), answer),
-        Query::Weight(k, answer) => equal(rt, look.weight(k), answer),
+        Query::Weight(k, answer) => equal(rt, look.ask(Weight(k)), answer),
         Query::Size(answer) => equal(rt, size(look), answer),
-        Query::Rank(k, answer) => equal(rt, look.rank(k), answer),
-        Query::Select(index, answer) => equal(rt, look.select(index), answer),
-        Query::Before(k, answer) => equal(rt, look.before(k), answer),
-        Query::After(k, answer) => equal(rt, look.after(k), answer),
+        Query::Rank(k, answer) => equal(rt, look.ask(Rank(k)), answer),
+        Query::Select(index, answer) => equal(rt, look.ask(Select(index)), answer),
+        Query::Before(k, answer) => equal(rt, look.ask(Before(k)), answer),
+        Query::After(k, answer) => equal(rt, look.ask(After(k)), answer),
     }
 }
 
@@ -153,7 +154,7 @@ pub(super) fn ask_all(rt: &impl Abort, look: &mut View, queries: &[Query]) {
 
 /// The members that a look shows, with their weights.
 pub(super) fn pairs(rt: &impl Abort, alloc: Global, look: &mut View) -> Vec<(u32, u32)> {
-    look.pairs(alloc).expect(rt, "memory")
+    look.ask(Pairs(alloc)).expect(rt, "memory")
 }
 
 /// What a new look lists.

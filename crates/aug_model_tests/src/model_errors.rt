@@ -1,22 +1,21 @@
 //! What the errors of a plain set print.
 use crate::assertions::equal;
 use aug_model::ModelError;
-use std::test::Fail;
+
+const TEXTS: &[(ModelError, u8, &str)] = &[
+    (
+        ModelError::BadBits,
+        1,
+        "the number of bits is not from 1 to 16",
+    ),
+    (ModelError::OutOfMemory, 2, "out of memory"),
+];
 
 #[test]
-fn says_its_cause_and_its_number(rt: HostRuntime) -> Result<(), Fail> {
-    let bad_bits = format!(in rt.alloc(); "{}", ModelError::BadBits)?;
-    equal(
-        &rt,
-        bad_bits.as_str(),
-        "the number of bits is not from 1 to 16",
-    );
-    let out_of_memory = format!(in rt.alloc(); "{}", ModelError::OutOfMemory)?;
-    equal(&rt, out_of_memory.as_str(), "out of memory");
-    equal(
-        &rt,
-        (ModelError::BadBits as u8, ModelError::OutOfMemory as u8),
-        (1, 2),
-    );
-    Ok(())
+fn says_its_cause_and_its_number(rt: HostRuntime) {
+    for (cause, number, text) in TEXTS {
+        let printed = format!(in rt.alloc(); "{cause}").expect(&rt, "a text");
+        equal(&rt, printed.as_str(), *text);
+        equal(&rt, *cause as u8, *number);
+    }
 }

@@ -1,6 +1,6 @@
 -- Loads of a tree one after another.
-use Rattle.std.proofs.Common.{◌≡◌, ◌≢◌, ℕ, ◌+◌, ◌*◌, ◌/◌, ◌%◌, ◌^◌, ◌<◌, ◌≤◌, List, length, add-one, refl, ap, sym, ◌∙◌, arith}
-use Rattle.std.proofs.Math.Nat.{pow-suc, div-div-eq-div-mul, div-mul-le_self, mod-lt, mul-le-mul_right}
+use Rattle.std.proofs.Common.{◌≡◌, ◌≢◌, ℕ, ◌+◌, ◌-◌, ◌*◌, ◌/◌, ◌%◌, ◌^◌, ◌<◌, ◌≤◌, min, List, length, add-one, refl, ap, sym, ◌∙◌, arith}
+use Rattle.std.proofs.Math.Nat.{pow-suc, div-div-eq-div-mul, div-mul-le_self, mod-lt, mul-le-mul_right, le-min}
 use Rattle.std.proofs.Math.Pow.{split}
 use Rattle.std.proofs.lemmas.Nat.{pow_pos}
 use Rattle.aug_model.specs.Keys.{SetFacts}
@@ -11,6 +11,10 @@ use Rattle.aug_query.specs.Descend.{Descends}
 use Rattle.aug_query.proofs.Nodes.{node_width, left_low, right_high}
 use Rattle.aug_query.proofs.Orders.{rank_cut}
 use Rattle.aug_query.specs.declared.loaded.Loaded.{Loaded}
+
+-- what is within two bounds is within the lesser of them
+lesser : (x y a b c : ℕ) → x ≤ y + a → x ≤ y + b → min a b ≤ c → x ≤ y + c
+lesser x y a b c one two few = let more : x - y ≤ min a b = le-min (omega (arith, one)) (omega (arith, two)) in omega (arith, more, few)
 
 module _ {Tree Name : Type 0} {set_of : Tree → SetFacts} {loads_of : Tree → Loaded} {Names : Tree → ℕ → ℕ → Name → Type 0} {KeepsRest : Tree → Tree → Type 0} where
   -- nothing was loaded
@@ -46,6 +50,19 @@ module _ {Tree Name : Type 0} {set_of : Tree → SetFacts} {loads_of : Tree → 
     few_counts = omega (arith, walk.few_counts);
     few_summaries = omega (arith, walk.few_summaries);
     few_passed = omega (arith, walk.few_passed);
+    keeps_names = walk.keeps_names;
+    keeps_rest = walk.keeps_rest;
+  }
+
+  -- within each of two bounds
+  pub within_both : {n c s p j k l o m d t q : ℕ} {old new : Tree} → Descends set_of loads_of Names KeepsRest n c s p old new → Descends set_of loads_of Names KeepsRest j k l o old new
+      → min n j ≤ m → min c k ≤ d → min s l ≤ t → min p o ≤ q → Descends set_of loads_of Names KeepsRest m d t q old new
+  within_both walk again a b e f = record {
+    same_set = walk.same_set;
+    few_nodes = lesser _ _ _ _ _ walk.few_nodes again.few_nodes a;
+    few_counts = lesser _ _ _ _ _ walk.few_counts again.few_counts b;
+    few_summaries = lesser _ _ _ _ _ walk.few_summaries again.few_summaries e;
+    few_passed = lesser _ _ _ _ _ walk.few_passed again.few_passed f;
     keeps_names = walk.keeps_names;
     keeps_rest = walk.keeps_rest;
   }

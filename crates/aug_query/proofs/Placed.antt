@@ -6,7 +6,7 @@ use Rattle.std.proofs.lemmas.Bool.{cases_lt, cases_eq, eq-eqb, ne_eqb}
 use Rattle.std.proofs.lemmas.List.{get_or_push, get_or_append_left, get_or-set_same, get_or-set_other}
 use Rattle.std.proofs.Math.ListN.{set, length-set}
 use Rattle.std.specs.List.{All}
-use Rattle.aug_model.specs.Keys.{SetFacts, keys_of, pairs_of}
+use Rattle.aug_model.specs.Keys.{keys_of, pairs_of}
 use Rattle.aug_model.specs.Queries.{range_of}
 use Rattle.aug_model.specs.declared.summary.Summary.{Summary}
 use Rattle.aug_monoid.specs.Weighted.{FitsPair}
@@ -15,11 +15,10 @@ use Rattle.aug_model.proofs.Pairs.{pairs_of-append}
 use Rattle.aug_query.proofs.Cover.{range_fits, range_is_few}
 use Rattle.aug_query.specs.Tree.{IsTreeSet, sum_of, IsNodeOf}
 use Rattle.aug_model.specs.NodeKeys.{keys_below, first_key, end_key}
-use Rattle.aug_query.specs.inside.FakeNodes.{IsFakePlace}
 use Rattle.aug_query.specs.inside.NodePlaces.{middle_key}
 use Rattle.aug_query.specs.inside.Rows.{IsRow, HoldsTree, JoinsPairs}
 use Rattle.aug_model.proofs.Ranges.{Rises, AllBelow, added_same, added_other, rises_from}
-use Rattle.aug_query.proofs.Nodes.{leaf_is, left_covers, right_covers, right_high, node_cut}
+use Rattle.aug_query.proofs.Nodes.{leaf_is, left_covers, right_covers, node_cut}
 
 -- how many nodes a level has, each so wide
 widths : (bits level : ℕ) → level ≤ bits → 2 ^ bits ≡ 2 ^ (bits - level) * 2 ^ level
@@ -137,9 +136,3 @@ row_above {sum = sum} {bits = bits} {level = level} {pairs = pairs} set h is_row
           (is_row.tells (2 * place) default (omega (arith, within, joined.all))) (is_row.tells (2 * place + 1) default (omega (arith, within, joined.all)))
           ∙ ap sum (sym (pairs_of-append (weight_in pairs) (keys_below (keys_of pairs) level (2 * place)) (keys_below (keys_of pairs) level (2 * place + 1)))) ∙ ap (sum_of sum pairs) (children_cover (keys_of pairs) level place (rises_from (keys_of pairs) set.is_key_set.rising));
     }
-
--- the right child of a node of a tree stands in it too
-pub right_stands : {A B : Type 0} (sum : List (ℕ × ℕ) → Summary A B) (set : SetFacts) (level place : ℕ) → IsFakePlace sum set (level + 1) place → IsFakePlace sum set level (2 * place + 1)
-right_stands sum set level place has =
-    let ends : end_key level (2 * place + 1) ≡ end_key (level + 1) place = right_high (level + 1) place level (2 * place + 1) refl refl in
-    record { is_tree_set = has.is_tree_set; level_fits = omega (arith, has.level_fits); place_fits = omega (arith, ends, has.place_fits); tells = refl }

@@ -20,6 +20,16 @@ one_more_count l = record l { counts = record { made = l.counts.made + 1 } }
 abbrev pub one_more_summary : Loaded → Loaded
 one_more_summary l = record l { summaries = record { made = l.summaries.made + 1 } }
 
+-- how much is loaded at most: nodes, counts of the members of a node, whole summaries, and nodes that are passed
+pub record Loads : Type 0 where
+  pub nodes : ℕ
+  pub counts : ℕ
+  pub summaries : ℕ
+  pub passed : ℕ
+
+abbrev pub loads : ℕ → ℕ → ℕ → ℕ → Loads
+loads nodes counts summaries passed = record { nodes = nodes; counts = counts; summaries = summaries; passed = passed }
+
 module _ {Tree Name : Type 0} (set_of : Tree → SetFacts) (loads_of : Tree → Loaded) (Names : Tree → ℕ → ℕ → Name → Type 0) (KeepsRest : Tree → Tree → Type 0) where
   -- a tree after at most `nodes`, `counts`, `summaries` and `passed` loads of the four kinds: it has the same set, names of nodes are still names of
   -- them, and the rest is kept
@@ -31,3 +41,7 @@ module _ {Tree Name : Type 0} (set_of : Tree → SetFacts) (loads_of : Tree → 
     pub few_passed : (loads_of new).passed.made ≤ (loads_of old).passed.made + passed
     pub keeps_names : (level place : ℕ) (name : Name) → Names old level place name → Names new level place name
     pub keeps_rest : KeepsRest old new
+
+  -- the same of loads by one value
+  abbrev pub DescendsBy : Loads → Tree → Tree → Type 0
+  DescendsBy most old new = Descends most.nodes most.counts most.summaries most.passed old new

@@ -1,8 +1,8 @@
 -- What contracts see of a tree in memory.
+use Rattle.std.specs.Prelude.{ℕ}
 use Rattle.aug_model.specs.Keys.{SetFacts}
-use Rattle.aug_query.specs.declared.loaded.Loaded.{Loaded}
 
--- a tree in memory as contracts see it: the set that it is of, and how much was loaded of it
+-- a tree in memory as contracts see it: the set that it is of, and how often it was called
 pub record Asked : Type 0 where
   pub set : SetFacts
-  pub loads : Loaded
+  pub calls : ℕ

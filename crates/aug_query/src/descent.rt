@@ -1,10 +1,10 @@
-//! The queries on whatever a descent walks.
+//! The queries, each with the descent that answers it.
 //!
-//! In a tree of keys of `bits` bits they load at most this: `size` the top and its count; `has` and `weight` `bits + 1` nodes and one
-//! count; `rank` `bits + 1` nodes, `bits` of them beside one whose members are counted, and one count; `select` `2 * bits + 1` nodes and
-//! `bits + 1` counts; `before` and `after` `3 * bits` nodes, `bits` of them beside a counted one, and `bits + 1` counts; `range`
-//! `4 * bits - 1` nodes and `2 * bits` summaries; `keys` and `pairs`, for `n` members, `2 * bits * n + 1` nodes and `bits * n + 1`
-//! counts. `ranks`, `memberships` and `weights` take `n` rising keys and go to `n * (bits + 1)` nodes, and to no node twice.
+//! In a tree of keys of `bits` bits they load at most this: `Size` the top and its count; `Has` and `Weight` `bits + 1` nodes and one
+//! count; `Rank` `bits + 1` nodes, `bits` of them beside one whose members are counted, and one count; `Select` `2 * bits + 1` nodes and
+//! `bits + 1` counts; `Before` and `After` `3 * bits` nodes, `bits` of them beside a counted one, and `bits + 1` counts; `Range`
+//! `4 * bits - 1` nodes and `2 * bits` summaries; `Keys` and `Pairs`, for `n` members, `2 * bits * n + 1` nodes and `bits * n + 1`
+//! counts. `Ranks`, `Memberships` and `Weights` take `n` rising keys and go to `n * (bits + 1)` nodes, and to no node twice.
 
 mod batches;
 mod counts;
@@ -14,10 +14,10 @@ mod members;
 mod neighbours;
 mod positions;
 
-pub use batches::{memberships, ranks, weights};
-pub use counts::{rank, size};
-pub use intervals::range;
-pub use listing::{keys, pairs, pairs_into};
-pub use members::{has, weight};
-pub use neighbours::{after, before};
-pub use positions::select;
+pub use batches::{Memberships, Ranks, Weights};
+pub use counts::{Rank, Size};
+pub use intervals::Range;
+pub use listing::{Keys, Pairs, put_pairs};
+pub use members::{Has, Weight};
+pub use neighbours::{After, Before};
+pub use positions::Select;

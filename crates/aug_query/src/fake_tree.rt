@@ -3,12 +3,11 @@ ghost use Rattle.std.specs.Prelude.{◌≡◌, ℕ, ◌+◌, ◌-◌, ◌*◌, �
 ghost use Rattle.aug_model.specs.Folds.{summary_of};
 ghost use Rattle.aug_model.specs.Keys.{IsKeySet, keys_of};
 ghost use Rattle.aug_monoid.specs.Weighted.{FitsPair};
-ghost use Rattle.aug_query.specs.Descend.{nothing_loaded};
 ghost use Rattle.aug_query.specs.inside.FakeNodes.{IsFakeNode};
 
 use crate::noted::NotedPairs;
 use crate::rows::{leaf_row, leaf_weights, parent_row};
-use crate::{Descend, Loaded, Tree};
+use crate::{Calls, Tree};
 use aug_model::Summary;
 use aug_monoid::Monoid;
 use std::alloc::{AllocError, Global};
@@ -31,7 +30,7 @@ pub struct FakeTree<A: Monoid, B: Monoid> {
     rows: Vec<Vec<Summary<A, B>>>,
     weights: Vec<u32>,
     pairs: NotedPairs,
-    loaded: Loaded,
+    calls: Calls,
 }
 
 impl<A: Monoid, B: Monoid> Model for FakeTree<A, B> {
@@ -42,7 +41,7 @@ impl<A: Monoid, B: Monoid> Model for FakeTree<A, B> {
 
     ghost Value = { Asked };
 
-    ghost view = { λ t. record { set = record { bits = t.bits; pairs = t.pairs.list }; loads = t.loaded } };
+    ghost view = { λ t. record { set = record { bits = t.bits; pairs = t.pairs.list }; calls = t.calls.made } };
 
     ghost invariant = { λ t. HoldsTree (summary_of A.parts B.parts) t.bits t.pairs.list (map (λ row. row.items) t.rows.items) t.weights.items };
 }
@@ -60,7 +59,7 @@ impl<A: Monoid, B: Monoid> FakeTree<A, B> {
         requires keys { IsKeySet bits (keys_of pairs.now) }
         requires fit { All FitsPair pairs.now }
         ensures set { IfOk result (λ tree. tree.set ≡ record { bits = bits; pairs = pairs.now }) }
-        ensures loads { IfOk result (λ tree. tree.loads ≡ nothing_loaded) }
+        ensures calls { IfOk result (λ tree. tree.calls ≡ 0) }
     {
         let mut rows = Vec::with_capacity(alloc, bits as usize + 1)?;
         rows.push(leaf_row(alloc, bits, pairs)?)?;
@@ -74,7 +73,7 @@ impl<A: Monoid, B: Monoid> FakeTree<A, B> {
             rows,
             weights,
             pairs: NotedPairs::of(pairs),
-            loaded: Loaded::nothing(),
+            calls: Calls::new(),
         })
     }
 
@@ -110,7 +109,7 @@ impl<A: Monoid, B: Monoid> Tree<A, B> for FakeTree<A, B> {
 
     ghost set_of = { λ t. t.set };
 
-    ghost calls_of = { λ t. t.loads.nodes.made };
+    ghost calls_of = { λ t. t.calls };
 
     ghost HasNode = { λ t n. IsFakeNode (summary_of A.parts B.parts) t.set n.level n.place n.weight n.summary };
 
@@ -137,17 +136,17 @@ impl<A: Monoid, B: Monoid> Tree<A, B> for FakeTree<A, B> {
     }
 
     fn top(&mut self) -> FakeNode<A, B> {
-        self.loaded.one_node();
+        self.calls = self.calls.one_more();
         self.node(self.bits, 0)
     }
 
     fn left(&mut self, node: &FakeNode<A, B>) -> FakeNode<A, B> {
-        self.loaded.one_node();
+        self.calls = self.calls.one_more();
         self.node(node.level - 1, 2 * node.place)
     }
 
     fn right(&mut self, node: &FakeNode<A, B>) -> FakeNode<A, B> {
-        self.loaded.one_node();
+        self.calls = self.calls.one_more();
         self.node(node.level - 1, 2 * node.place + 1)
     }
 
@@ -165,67 +164,5 @@ impl<A: Monoid, B: Monoid> Tree<A, B> for FakeTree<A, B> {
 
     fn weight(node: &FakeNode<A, B>) -> u32 {
         node.weight
-    }
-}
-
-impl<A: Monoid, B: Monoid> Descend<A, B> for FakeTree<A, B> {
-    type Name = ();
-
-    ghost use Rattle.std.specs.Prelude.{ℕ, ⊤};
-    ghost use Rattle.aug_model.specs.Folds.{summary_of};
-    ghost use Rattle.aug_query.specs.inside.FakeNodes.{IsFakePlace};
-
-    ghost set_of = { λ t. t.set };
-
-    ghost loads_of = { λ t. t.loads };
-
-    ghost Names = { λ t level place name. IsFakePlace (summary_of A.parts B.parts) t.set level place };
-
-    ghost KeepsRest = { λ old new. ⊤ };
-
-    ghost keeps_so = { λ t. tt };
-
-    ghost keeps_on = { λ first t last a b. tt };
-
-    ghost name_stands = { λ t level place name has. has };
-
-    fn bits(&self) -> u32 {
-        self.bits
-    }
-
-    fn top(&mut self) {
-        self.loaded.one_node();
-    }
-
-    fn left(&mut self, _level: u32, _place: u32, _node: &()) {
-        self.loaded.one_node();
-    }
-
-    fn right(&mut self, _level: u32, _place: u32, _node: &()) {
-        self.loaded.one_node();
-    }
-
-    fn past_left(&mut self, level: u32, place: u32, _node: &()) -> ((), u32) {
-        self.loaded.one_past();
-        ((), self.node(level, 2 * place).summary.count)
-    }
-
-    fn past_right(&mut self, level: u32, place: u32, _node: &()) -> ((), u32) {
-        self.loaded.one_past();
-        ((), self.node(level, 2 * place + 1).summary.count)
-    }
-
-    fn count(&mut self, level: u32, place: u32, _node: &()) -> u32 {
-        self.loaded.one_count();
-        self.node(level, place).summary.count
-    }
-
-    fn summary(&mut self, level: u32, place: u32, _node: &()) -> Summary<A, B> {
-        self.loaded.one_summary();
-        self.node(level, place).summary
-    }
-
-    fn weight(&self, place: u32, _node: &()) -> u32 {
-        self.node(0, place).weight
     }
 }

@@ -1,8 +1,8 @@
 //! Queries on a tree of a set of keys with weights, by descent from its top (after Fatourou and Ruppert 2024).
 //!
-//! Each query is written once, over [`Descend`], in [`descent`]: it descends by the counts of the nodes, and loads no more than it needs.
-//! The functions here query a [`Tree`], whose nodes are loaded whole; they go the same way. Only `keys` and `pairs` take memory. If keys
-//! have `bits` bits, a query makes at most this many calls of `top`, `left` and `right` of a tree: `size` 1; `has`, `weight` and `rank`
+//! Each query is a value, a [`Query`], and is written once, in [`descent`]: it descends by the counts of the nodes, and loads no more than it
+//! needs. The functions here ask a [`Tree`], whose nodes are loaded whole. Only `keys` and `pairs` take memory. If keys have
+//! `bits` bits, a query makes at most this many calls of `top`, `left` and `right` of a tree: `size` 1; `has`, `weight` and `rank`
 //! `bits + 1`; `select` `2 * bits + 1`; `before` and `after` `3 * bits`; `range` `4 * bits - 1`; `keys` and `pairs`, which visit each of
 //! `n` members, `2 * bits * n + 1`.
 #![tactic(auto)]
@@ -14,6 +14,7 @@ mod loaded;
 mod node_walk;
 mod noted;
 mod queries;
+mod query;
 mod rows;
 mod summaries;
 mod toward;
@@ -24,5 +25,6 @@ pub use descend::Descend;
 pub use fake_tree::{FakeNode, FakeTree};
 pub use loaded::Loaded;
 pub use node_walk::NodeWalk;
-pub use queries::{after, before, has, keys, pairs, range, rank, select, size, weight};
+pub use queries::{after, before, has, keys, pairs, pairs_into, range, rank, select, size, weight};
+pub use query::{Query, ask};
 pub use tree::Tree;

@@ -1,11 +1,14 @@
-//! The queries on a tree.
-ghost use Rattle.std.specs.Prelude.{◌≡◌, ◌+◌, ◌-◌, ◌*◌, length, IfOk, vec_capacity};
+//! The queries on a tree, by name.
+ghost use Rattle.std.specs.Prelude.{◌≡◌, ◌+◌, ◌-◌, ◌*◌, ◌≤◌, ◌++◌, length, IfOk, vec_len, vec_capacity};
 ghost use Rattle.aug_model.specs.Folds.{summary_of};
 ghost use Rattle.aug_model.specs.Keys.{is_member, list_of};
 ghost use Rattle.aug_model.specs.Queries.{rank_of, select_of, before_of, after_of, weight_of, weighted_range_of};
 ghost use Rattle.aug_query.specs.Tree.{WalksAtMost};
 
-use crate::{Loaded, NodeWalk, Tree, descent};
+use crate::descent::{
+    After, Before, Has, Keys, Pairs, Range, Rank, Select, Size, Weight, put_pairs,
+};
+use crate::{Loaded, NodeWalk, Tree, ask};
 use aug_model::Summary;
 use aug_monoid::Monoid;
 use std::alloc::{AllocError, Global};
@@ -16,12 +19,7 @@ pub fn has<A: Monoid, B: Monoid, T: Tree<A, B>>(tree: &mut T, k: u32) -> bool
     ensures answer { result ≡ is_member (list_of (T.set_of tree.old)) k }
     ensures walks { WalksAtMost T.set_of T.calls_of T.HasNode T.KeepsRest ((T.set_of tree.old).bits + 1) tree.old tree.new }
 {
-    let mut walk = NodeWalk {
-        tree,
-        loaded: Loaded::nothing(),
-        monoids: PhantomData,
-    };
-    descent::has(&mut walk, k)
+    ask(tree, Has(k))
 }
 
 /// The weight of `k` in the set of `tree`, if it is a member.
@@ -29,12 +27,7 @@ pub fn weight<A: Monoid, B: Monoid, T: Tree<A, B>>(tree: &mut T, k: u32) -> Opti
     ensures answer { result ≡ weight_of (T.set_of tree.old).pairs k }
     ensures walks { WalksAtMost T.set_of T.calls_of T.HasNode T.KeepsRest ((T.set_of tree.old).bits + 1) tree.old tree.new }
 {
-    let mut walk = NodeWalk {
-        tree,
-        loaded: Loaded::nothing(),
-        monoids: PhantomData,
-    };
-    descent::weight(&mut walk, k)
+    ask(tree, Weight(k))
 }
 
 /// How many members the set of `tree` has.
@@ -42,12 +35,7 @@ pub fn size<A: Monoid, B: Monoid, T: Tree<A, B>>(tree: &mut T) -> u32
     ensures answer { result ≡ length (list_of (T.set_of tree.old)) }
     ensures walks { WalksAtMost T.set_of T.calls_of T.HasNode T.KeepsRest 1 tree.old tree.new }
 {
-    let mut walk = NodeWalk {
-        tree,
-        loaded: Loaded::nothing(),
-        monoids: PhantomData,
-    };
-    descent::size(&mut walk)
+    ask(tree, Size)
 }
 
 /// How many members of the set of `tree` are below `k`.
@@ -55,12 +43,7 @@ pub fn rank<A: Monoid, B: Monoid, T: Tree<A, B>>(tree: &mut T, k: u32) -> u32
     ensures answer { result ≡ rank_of (list_of (T.set_of tree.old)) k }
     ensures walks { WalksAtMost T.set_of T.calls_of T.HasNode T.KeepsRest ((T.set_of tree.old).bits + 1) tree.old tree.new }
 {
-    let mut walk = NodeWalk {
-        tree,
-        loaded: Loaded::nothing(),
-        monoids: PhantomData,
-    };
-    descent::rank(&mut walk, k)
+    ask(tree, Rank(k))
 }
 
 /// The member of the set of `tree` with exactly `i` members below it, if there is one.
@@ -68,12 +51,7 @@ pub fn select<A: Monoid, B: Monoid, T: Tree<A, B>>(tree: &mut T, i: u32) -> Opti
     ensures answer { result ≡ select_of (list_of (T.set_of tree.old)) i }
     ensures walks { WalksAtMost T.set_of T.calls_of T.HasNode T.KeepsRest (2 * (T.set_of tree.old).bits + 1) tree.old tree.new }
 {
-    let mut walk = NodeWalk {
-        tree,
-        loaded: Loaded::nothing(),
-        monoids: PhantomData,
-    };
-    descent::select(&mut walk, i)
+    ask(tree, Select(i))
 }
 
 /// The greatest member of the set of `tree` below `k`, if there is one.
@@ -81,12 +59,7 @@ pub fn before<A: Monoid, B: Monoid, T: Tree<A, B>>(tree: &mut T, k: u32) -> Opti
     ensures answer { result ≡ before_of (list_of (T.set_of tree.old)) k }
     ensures walks { WalksAtMost T.set_of T.calls_of T.HasNode T.KeepsRest (3 * (T.set_of tree.old).bits) tree.old tree.new }
 {
-    let mut walk = NodeWalk {
-        tree,
-        loaded: Loaded::nothing(),
-        monoids: PhantomData,
-    };
-    descent::before(&mut walk, k)
+    ask(tree, Before(k))
 }
 
 /// The least member of the set of `tree` above `k`, if there is one.
@@ -94,12 +67,7 @@ pub fn after<A: Monoid, B: Monoid, T: Tree<A, B>>(tree: &mut T, k: u32) -> Optio
     ensures answer { result ≡ after_of (list_of (T.set_of tree.old)) k }
     ensures walks { WalksAtMost T.set_of T.calls_of T.HasNode T.KeepsRest (3 * (T.set_of tree.old).bits) tree.old tree.new }
 {
-    let mut walk = NodeWalk {
-        tree,
-        loaded: Loaded::nothing(),
-        monoids: PhantomData,
-    };
-    descent::after(&mut walk, k)
+    ask(tree, After(k))
 }
 
 /// The number and the folds of the members of the set of `tree` from `a` on that are below `b`. If `a >= b` there
@@ -108,12 +76,7 @@ pub fn range<A: Monoid, B: Monoid, T: Tree<A, B>>(tree: &mut T, a: u32, b: u32) 
     ensures answer { result ≡ summary_of A.parts B.parts (weighted_range_of (T.set_of tree.old).pairs a b) }
     ensures walks { WalksAtMost T.set_of T.calls_of T.HasNode T.KeepsRest (4 * (T.set_of tree.old).bits - 1) tree.old tree.new }
 {
-    let mut walk = NodeWalk {
-        tree,
-        loaded: Loaded::nothing(),
-        monoids: PhantomData,
-    };
-    descent::range(&mut walk, a, b)
+    ask(tree, Range(a, b))
 }
 
 /// The members of the set of `tree`, rising. Room for all of them is made at the beginning, and only that can be
@@ -126,12 +89,7 @@ pub fn keys<A: Monoid, B: Monoid, T: Tree<A, B>>(
     ensures room { IfOk result (λ list. vec_capacity list ≡ length (list_of (T.set_of tree.old))) }
     ensures walks { WalksAtMost T.set_of T.calls_of T.HasNode T.KeepsRest (2 * (T.set_of tree.old).bits * length (list_of (T.set_of tree.old)) + 1) tree.old tree.new }
 {
-    let mut walk = NodeWalk {
-        tree,
-        loaded: Loaded::nothing(),
-        monoids: PhantomData,
-    };
-    descent::keys(alloc, &mut walk)
+    ask(tree, Keys(alloc))
 }
 
 /// The members of the set of `tree`, rising, each with its weight. Room for all of them is made at the beginning,
@@ -144,10 +102,20 @@ pub fn pairs<A: Monoid, B: Monoid, T: Tree<A, B>>(
     ensures room { IfOk result (λ list. vec_capacity list ≡ length (T.set_of tree.old).pairs) }
     ensures walks { WalksAtMost T.set_of T.calls_of T.HasNode T.KeepsRest (2 * (T.set_of tree.old).bits * length (T.set_of tree.old).pairs + 1) tree.old tree.new }
 {
+    ask(tree, Pairs(alloc))
+}
+
+/// Puts the members of the set of `tree`, rising, each with its weight, at the end of `list`, which has room for them.
+pub fn pairs_into<A: Monoid, B: Monoid, T: Tree<A, B>>(tree: &mut T, list: &mut Vec<(u32, u32)>)
+    requires room { vec_len list.old + length (T.set_of tree.old).pairs ≤ vec_capacity list.old }
+    ensures answer { list.new.items ≡ list.old.items ++ (T.set_of tree.old).pairs }
+    ensures room { vec_capacity list.new ≡ vec_capacity list.old }
+    ensures walks { WalksAtMost T.set_of T.calls_of T.HasNode T.KeepsRest (2 * (T.set_of tree.old).bits * length (T.set_of tree.old).pairs + 1) tree.old tree.new }
+{
     let mut walk = NodeWalk {
         tree,
         loaded: Loaded::nothing(),
         monoids: PhantomData,
     };
-    descent::pairs(alloc, &mut walk)
+    put_pairs(&mut walk, list);
 }

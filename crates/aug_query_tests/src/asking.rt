@@ -2,10 +2,11 @@
 ghost use Rattle.std.specs.List.Sorted.{IsNonDecreasing};
 
 use crate::assertions::{equal, holds};
-use aug_model::KeySet;
 use aug_monoid::{Extent, Monoid};
-use aug_query::descent::{memberships, ranks, weights};
-use aug_query::{FakeTree, after, before, has, keys, pairs, range, rank, select, size, weight};
+use aug_query::descent::{Memberships, Ranks, Weights};
+use aug_query::{
+    FakeTree, after, ask as ask_tree, before, has, keys, pairs, range, rank, select, size, weight,
+};
 use aug_testing::Last;
 use std::alloc::{AllocError, Global};
 use std::process::Abort;
@@ -22,7 +23,7 @@ pub(super) enum Query {
     After(u32),
 }
 
-#[derive(Clone, Copy, Debug, PartialEq, Eq)]
+#[derive(Clone, Copy, Debug, PartialEq)]
 pub(super) enum Answer {
     Is(bool),
     Number(u32),
@@ -30,7 +31,7 @@ pub(super) enum Answer {
 }
 
 // What a tree answers.
-pub(super) fn ask<A: Monoid, B: Monoid>(tree: &mut FakeTree<A, B>, query: Query) -> Answer {
+fn ask<A: Monoid, B: Monoid>(tree: &mut FakeTree<A, B>, query: Query) -> Answer {
     match query {
         Query::Size => Answer::Number(size(tree)),
         Query::Has(k) => Answer::Is(has(tree, k)),
@@ -39,19 +40,6 @@ pub(super) fn ask<A: Monoid, B: Monoid>(tree: &mut FakeTree<A, B>, query: Query)
         Query::Select(i) => Answer::Found(select(tree, i)),
         Query::Before(k) => Answer::Found(before(tree, k)),
         Query::After(k) => Answer::Found(after(tree, k)),
-    }
-}
-
-// What the plain set answers.
-pub(super) fn ask_set(set: &KeySet, query: Query) -> Answer {
-    match query {
-        Query::Size => Answer::Number(set.size()),
-        Query::Has(k) => Answer::Is(set.has(k)),
-        Query::Weight(k) => Answer::Found(set.weight(k)),
-        Query::Rank(k) => Answer::Number(set.rank(k)),
-        Query::Select(i) => Answer::Found(set.select(i)),
-        Query::Before(k) => Answer::Found(set.before(k)),
-        Query::After(k) => Answer::Found(set.after(k)),
     }
 }
 
@@ -105,8 +93,7 @@ fn ranks_of(
     let mut out = Vec::with_capacity(alloc, first.len() + keys.len())?;
     out.extend_from_slice(first)?;
     holds(rt, out.len() + keys.len() <= out.capacity());
-    ranks(tree, keys, &mut out);
-    Ok(out)
+    Ok(ask_tree(tree, Ranks { keys, out }))
 }
 
 // Whether each of some rising keys is a member.
@@ -117,9 +104,8 @@ fn memberships_of(
     keys: &[u32],
 ) -> Result<Vec<bool>, AllocError> {
     assert_rising(rt, keys);
-    let mut out = Vec::with_capacity(alloc, keys.len())?;
-    memberships(tree, keys, &mut out);
-    Ok(out)
+    let out = Vec::with_capacity(alloc, keys.len())?;
+    Ok(ask_tree(tree, Memberships { keys, out }))
 }
 
 // The weight of each of some rising keys.
@@ -130,9 +116,8 @@ fn weights_of(
     keys: &[u32],
 ) -> Result<Vec<Option<u32>>, AllocError> {
     assert_rising(rt, keys);
-    let mut out = Vec::with_capacity(alloc, keys.len())?;
-    weights(tree, keys, &mut out);
-    Ok(out)
+    let out = Vec::with_capacity(alloc, keys.len())?;
+    Ok(ask_tree(tree, Weights { keys, out }))
 }
 
 // A call, with what it is to answer.

@@ -1,97 +1,39 @@
 //! The queries on a tree of two keys, and how often they ask for memory.
 use super::asking::{Answer, Query, Small, Step, five_and_nine, play, take, take_all};
-use crate::assertions::equal;
-use aug_monoid::{Extent, Sum};
-use aug_query::{FakeTree, range};
 use std::alloc::{AllocError, Global};
 use std::process::Abort;
 
-const WHOLE: &[Step<'static>] = &[Step::Spans(0, 16, (2, Some(9), Some((5, 9))))];
+const KEYS: &[u32] = &[4, 5, 5, 9, 10, 16];
 
-#[test]
-fn a_range_joins_in_rising_order(rt: HostRuntime) -> Result<(), AllocError> {
-    play(&rt, rt.alloc(), WHOLE)
-}
+const EACH: &[Step<'static>] = &[
+    // A range joins in rising order, and leaves its end out.
+    Step::Spans(0, 16, (2, Some(9), Some((5, 9)))),
+    Step::Spans(0, 9, (1, Some(5), Some((5, 5)))),
 
-const WITHOUT_ITS_END: &[Step<'static>] = &[Step::Spans(0, 9, (1, Some(5), Some((5, 5))))];
-
-#[test]
-fn a_range_leaves_its_end_out(rt: HostRuntime) -> Result<(), AllocError> {
-    play(&rt, rt.alloc(), WITHOUT_ITS_END)
-}
-
-const PAST_THE_KEYS: &[Step<'static>] = &[
+    // Past the keys.
     Step::Asks(Query::Rank(16), Answer::Number(2)),
     Step::Asks(Query::Rank(4_000_000_000), Answer::Number(2)),
-];
 
-#[test]
-fn ranks_past_the_keys_count_every_member(rt: HostRuntime) -> Result<(), AllocError> {
-    play(&rt, rt.alloc(), PAST_THE_KEYS)
-}
-
-const PAST_THE_MEMBERS: &[Step<'static>] = &[
+    // Past the last member and before the first.
     Step::Asks(Query::Select(2), Answer::Found(None)),
     Step::Asks(Query::Before(5), Answer::Found(None)),
     Step::Asks(Query::After(9), Answer::Found(None)),
-];
-
-#[test]
-fn nothing_is_past_the_last_member_or_before_the_first(rt: HostRuntime) -> Result<(), AllocError> {
-    play(&rt, rt.alloc(), PAST_THE_MEMBERS)
-}
-
-const LISTED: &[Step<'static>] = &[Step::Keys(&[5, 9])];
-
-#[test]
-fn keys_lists_the_members(rt: HostRuntime) -> Result<(), AllocError> {
-    play(&rt, rt.alloc(), LISTED)
-}
-
-const OF_MEMBERS: &[Step<'static>] = &[
     Step::Asks(Query::Weight(5), Answer::Found(Some(70))),
-    Step::Asks(Query::Weight(9), Answer::Found(Some(30))),
-];
-
-#[test]
-fn members_weigh_what_they_were_given(rt: HostRuntime) -> Result<(), AllocError> {
-    play(&rt, rt.alloc(), OF_MEMBERS)
-}
-
-const OF_NO_MEMBERS: &[Step<'static>] = &[
-    Step::Asks(Query::Weight(6), Answer::Found(None)),
     Step::Asks(Query::Weight(16), Answer::Found(None)),
     Step::Asks(Query::Weight(4_000_000_000), Answer::Found(None)),
+    Step::Keys(&[5, 9]),
+    Step::Pairs(&[(5, 70), (9, 30)]),
+
+    // Batches. Ranks stand behind what was there.
+    Step::Ranks(&[], KEYS, &[0, 0, 0, 1, 2, 2]),
+    Step::Ranks(&[7], &[5, 6, 16], &[7, 0, 1, 2]),
+    Step::Memberships(KEYS, &[false, true, true, true, false, false]),
+    Step::Weights(KEYS, &[None, Some(70), Some(70), Some(30), None, None]),
 ];
 
 #[test]
-fn what_is_no_member_has_no_weight(rt: HostRuntime) -> Result<(), AllocError> {
-    play(&rt, rt.alloc(), OF_NO_MEMBERS)
-}
-
-const WEIGHED: &[Step<'static>] = &[Step::Pairs(&[(5, 70), (9, 30)])];
-
-#[test]
-fn pairs_lists_the_members_with_their_weights(rt: HostRuntime) -> Result<(), AllocError> {
-    play(&rt, rt.alloc(), WEIGHED)
-}
-
-// The tree of 5 and 9 of 4 bits, which both weigh the most.
-fn heaviest(alloc: Global) -> Result<FakeTree<Sum, Extent>, AllocError> {
-    FakeTree::try_new(alloc, 4, &[(5, u32::MAX), (9, u32::MAX)])
-}
-
-// The sum of the weights in a range.
-fn summed(tree: &mut FakeTree<Sum, Extent>, a: u32, b: u32) -> u64 {
-    range(tree, a, b).a.value()
-}
-
-#[test]
-fn a_range_adds_weights_past_32_bits(rt: HostRuntime) -> Result<(), AllocError> {
-    let mut tree = heaviest(rt.alloc())?;
-    equal(&rt, summed(&mut tree, 0, 9), 4_294_967_295);
-    equal(&rt, summed(&mut tree, 0, 16), 8_589_934_590);
-    Ok(())
+fn each_query_and_each_batch_answers(rt: HostRuntime) -> Result<(), AllocError> {
+    play(&rt, rt.alloc(), EACH)
 }
 
 const WITHOUT_A_LIST: &[Step<'static>] = &[

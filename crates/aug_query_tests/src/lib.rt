@@ -1,4 +1,4 @@
-//! The tests of `aug_query`: its queries by examples, and beside the plain set.
+//! The tests of `aug_query`: its queries by examples, and the lists of many members.
 #![tactic(auto)]
 
 #[cfg(test)]
@@ -7,7 +7,5 @@ mod agreeing;
 mod asking;
 #[cfg(test)]
 mod assertions;
-#[cfg(test)]
-mod batches;
 #[cfg(test)]
 mod examples;

@@ -4,7 +4,7 @@ use Rattle.std.proofs.lemmas.Bool.{cases_eq, cases_lt, eq-eqb, ne_eqb}
 use Rattle.std.proofs.lemmas.List.{length-set, length-replicate, length-take-le, get_or-set_same, get_or-set_other, get_or-replicate, get_or_past}
 use Rattle.std.proofs.lemmas.List.Elements.{All-get_or}
 use Rattle.std.proofs.lemmas.List.Filters.{length-filter_more}
-use Rattle.aug_trie.proofs.Counting.{filter_shorter}
+use Rattle.aug_core.proofs.Counting.{filter_shorter}
 use Rattle.aug_run.specs.inside.Workers.{AreRowCounts}
 use Rattle.aug_script.specs.declared.row.Row.{Row}
 use Rattle.aug_run.proofs.Working.{no_row}

@@ -1,6 +1,6 @@
 //! What no clause says of the gate: that it is called for each row of each lane, when it is called, and that the lanes run at the same
 //! time.
-use crate::assertions::{equal, equal_at, holds};
+use crate::assertions::{equal, holds};
 use crate::rounds::report_of;
 use aug_run::Gate;
 use aug_script::Reply;
@@ -131,18 +131,6 @@ impl Gate for Told {
 }
 
 #[test]
-fn the_gate_is_told_of_each_row(rt: HostRuntime) -> Result<(), Fail> {
-    let gate = Told::of_no_row(rt.alloc(), 4)?;
-    let run = report_of(&rt, rt.alloc(), 4, "3,insert,1\n3,look\n3,size\n", &gate)?;
-    holds(&rt, run.is_some());
-    for lane in 0..3u32 {
-        equal(&rt, gate.of_lane(lane), Some(0));
-    }
-    equal(&rt, gate.of_lane(3), Some(2_003_004_005_006_007));
-    Ok(())
-}
-
-#[test]
 fn the_gate_is_told_of_each_lane(rt: HostRuntime) -> Result<(), Fail> {
     let gate = Told::of_no_row(rt.alloc(), 64)?;
     let text = looks_in_turn(rt.alloc(), 64)?;
@@ -151,7 +139,7 @@ fn the_gate_is_told_of_each_lane(rt: HostRuntime) -> Result<(), Fail> {
     // The rows of lane 0 are 1, 65 and 129, and a lane's are one more each than those of the lane before it.
     let mut calls = 2_003_130_131_258_259u64;
     for lane in 0..64u32 {
-        equal_at(&rt, gate.of_lane(lane), Some(calls), format_args!("{lane}"));
+        equal(&rt, (lane, gate.of_lane(lane)), (lane, Some(calls)));
         calls = calls.wrapping_add(2_002_002_002_002_002);
     }
     Ok(())

@@ -8,8 +8,6 @@ mod gates;
 #[cfg(test)]
 mod known_bytes;
 #[cfg(test)]
-mod plain;
-#[cfg(test)]
 mod programs;
 #[cfg(test)]
 mod reading;
@@ -19,8 +17,6 @@ mod rounds;
 mod run_errors;
 #[cfg(test)]
 mod scripts;
-#[cfg(test)]
-mod stops;
 #[cfg(test)]
 mod test_input;
 #[cfg(test)]

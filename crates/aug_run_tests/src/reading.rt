@@ -1,5 +1,5 @@
 //! Sources that are read to their end, or to the limit of a script.
-use crate::assertions::{equal, equal_at, equal_length};
+use crate::assertions::equal;
 use aug_run::{ReadError, read_all};
 use aug_script::MemorySource;
 use std::alloc::Global;
@@ -24,26 +24,27 @@ fn read_from(alloc: Global, bytes: &[u8], piece: usize, fault_at: Option<u64>) -
     }
 }
 
-#[test]
-fn reads_to_the_end_byte_by_byte(rt: HostRuntime) -> Result<(), Fail> {
-    let read = read_from(rt.alloc(), b"abc", 1, None);
-    let bytes = read.bytes.ok().ok_or("no bytes")?;
-    equal(&rt, bytes.as_slice(), b"abc".as_slice());
-    equal(&rt, read.calls, 4);
-    Ok(())
+// How many bytes were read, or what refused them.
+fn length_of(read: Read) -> Result<usize, ReadError> {
+    match read.bytes {
+        Ok(bytes) => Ok(bytes.len()),
+        Err(error) => Err(error),
+    }
 }
+
+// The call that fails, if any does, how many bytes are read or what refuses them, and how often the source is called.
+const READS: &[(Option<u64>, Result<usize, ReadError>, u64)] = &[
+    (None, Ok(3), 4),
+    (Some(0), Err(ReadError::Input), 1),
+    (Some(2), Err(ReadError::Input), 3),
+    (Some(3), Err(ReadError::Input), 4),
+];
 
 #[test]
 fn a_fault_is_not_the_end(rt: HostRuntime) {
-    for fault_at in [0, 2, 3] {
-        let read = read_from(rt.alloc(), b"abc", 1, Some(fault_at));
-        equal_at(
-            &rt,
-            read.bytes.err(),
-            Some(ReadError::Input),
-            format_args!("at {fault_at}"),
-        );
-        equal(&rt, read.calls, fault_at + 1);
+    for (fault_at, result, calls) in READS {
+        let read = read_from(rt.alloc(), b"abc", 1, *fault_at);
+        equal(&rt, (read.calls, length_of(read)), (*calls, *result));
     }
 }
 
@@ -51,11 +52,11 @@ fn a_fault_is_not_the_end(rt: HostRuntime) {
 fn one_byte_past_the_limit_is_too_long(rt: HostRuntime) -> Result<(), Fail> {
     let mut bytes = vec![in rt.alloc(); 0; 16_777_216]?;
     let all = read_from(rt.alloc(), bytes.as_slice(), usize::MAX, None);
-    equal_length(&rt, all.bytes.ok().ok_or("no bytes")?.len(), 16_777_216);
+    equal(&rt, all.bytes.ok().ok_or("no bytes")?.len(), 16_777_216);
     bytes.extend_from_slice(&[0; 3])?;
     let more = read_from(rt.alloc(), bytes.as_slice(), usize::MAX, None);
     equal(&rt, more.bytes.err(), Some(ReadError::TooLong));
-    equal_length(&rt, more.left, 2);
+    equal(&rt, more.left, 2);
     Ok(())
 }
 

@@ -18,7 +18,7 @@ use Rattle.aug_trie.proofs.Requesting.{made_one, made_two}
 use Rattle.aug_trie.specs.inside.PassState.{IsPass}
 use Rattle.aug_trie.specs.inside.Goes.{Goes}
 use Rattle.aug_trie.specs.Knowledge.{insertion, removal, inserts_of, removals_of}
-use Rattle.aug_trie.proofs.Counting.{hits-append, hits_yes, hits_no, filter_shorter}
+use Rattle.aug_core.proofs.Counting.{hits-append, hits_yes, hits_no, filter_shorter}
 
 abbrev pub is_insertion : Change → Bool
 is_insertion c = eqb (c.serial % 2) insertion

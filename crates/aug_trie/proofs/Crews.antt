@@ -16,11 +16,10 @@ use Rattle.aug_core.specs.Addresses.{root_place}
 use Rattle.aug_core.specs.Cuts.{Cut, opening_cut}
 use Rattle.aug_core.specs.inside.RootCuts.{root_cut}
 use Rattle.aug_core.specs.Opening.{Opening, opening_book}
-use Rattle.aug_core.specs.Rule.{newcomer}
 use Rattle.aug_core.specs.Told.{HoldsOnly, KnowsTable, LoadsNode, finishing, taking_back, handed_out, handing_out, taking, own_lane_place}
 use Rattle.aug_core.specs.declared.view.Entry.{Entry}
 use Rattle.aug_core.specs.declared.view.SeatView.{SeatView}
-use Rattle.aug_core.proofs.Openings.{newcomer_knows, inner_history}
+use Rattle.aug_core.proofs.Openings.{inner_history, opener, opener_knows}
 use Rattle.aug_core.proofs.OpeningCuts.{root_inner, opening_first}
 use Rattle.atomic_table.specs.Seated.{TableId}
 use Rattle.aug_words.specs.Leads.{HandsLaneOut}
@@ -37,7 +36,7 @@ use Rattle.aug_trie.specs.Passes.{HandedBack}
 use Rattle.aug_trie.specs.Knowledge.{inserts_of, removals_of}
 use Rattle.aug_trie.specs.Crew.{CrewFacts, HandsOut, TakesBack}
 use Rattle.aug_trie.proofs.Counters.{counted_none, is_insertion, is_removal}
-use Rattle.aug_trie.proofs.Counting.{hits-append}
+use Rattle.aug_core.proofs.Counting.{hits-append}
 use Rattle.aug_trie.proofs.Handing.{crew_begins, handed_out_is, handed_back_is, crew_after, pass_table, pass_begins, crew_out}
 use Rattle.aug_trie.proofs.Histories.{numbers_long}
 use Rattle.aug_trie.proofs.RoundLemmas.{of_round}
@@ -45,10 +44,10 @@ use Rattle.aug_trie.proofs.RoundLemmas.{of_round}
 module _ (face : ℕ → ℕ → List (ℕ × ℕ) → List ℕ) where
   -- the lead of a table that was just opened
   module _ (o : Opening) (laid_out : IsLayout o.shape) (set : IsKeySet o.shape.bits (keys_of o.members)) (fit : All FitsPair o.members) (few : length o.members ≤ o.shape.members) where
-    pub begins_crew : HoldsCrew face (newcomer face o) 0 0 0
-    begins_crew = record {
+    pub begins_crew : (era : ℕ) (words : List ℕ) → HoldsCrew face (opener face o era words) 0 0 0
+    begins_crew era words = record {
       handed = 0;
-      is_crew = crew_begins face (newcomer face o) (newcomer_knows face o laid_out set fit (let long = length-keys_of o.members in omega arith)) refl refl;
+      is_crew = crew_begins face (opener face o era words) (opener_knows face o era words laid_out set fit (let long = length-keys_of o.members in omega arith)) refl refl;
       few = omega arith;
       back_is = refl;
       inserts_are = refl;
@@ -74,6 +73,9 @@ module _ (face : ℕ → ℕ → List (ℕ × ℕ) → List ℕ) where
 
     same_members : b.members ≡ old.members
     same_members = ap (λ (z : SeatView). z.members) l.stepped
+
+    same_era : b.era ≡ old.era
+    same_era = ap (λ (z : SeatView). z.era) l.stepped
 
     same_spare : b.spare ≡ old.spare
     same_spare = ap (λ (z : SeatView). z.spare) l.stepped
@@ -110,10 +112,10 @@ module _ (face : ℕ → ℕ → List (ℕ × ℕ) → List ℕ) where
       knows = handed_out_is face old b r c.is_crew.knows_table l place;
       crew_is = let one_more : unwrap_or new.spare 0 ≡ unwrap_or old.spare 0 + 1 = ap (λ (z : Option ℕ). unwrap_or (option_map (λ n. n + 1) z) 0) (same_spare ∙ out) ∙ ap (λ n. n + 1) (sym at) in
           let facts : CrewFacts = crew_facts (record { table = table; view = new }) in
-          λ i. record facts { round = round_of table (record old { shape = same_shape i; members = same_members i }); handed = one_more i; back = length (same_held i) };
+          λ i. record facts { round = round_of table (record old { era = same_era i; shape = same_shape i; members = same_members i }); handed = one_more i; back = length (same_held i) };
       pass_is = let fresh : b.shape.updates - left ≡ 0 = let e : b.shape.updates ≡ old.shape.updates = ap (λ (z : Shape). z.updates) same_shape in omega arith in
           let facts : PassFacts = pass_facts (record { table = table; view = pass }) left in
-          λ i. record facts { round = round_of table (record old { shape = same_shape i; members = same_members i }); lane = unwrap_or (same_spare i) 0; spent = fresh i };
+          λ i. record facts { round = round_of table (record old { era = same_era i; shape = same_shape i; members = same_members i }); lane = unwrap_or (same_spare i) 0; spent = fresh i };
       exists = omega arith;
       loads = (r, ap (λ (z : SeatView). z.steps) l.stepped);
       named = numbers_long b.shape b.seen;
@@ -128,10 +130,10 @@ module _ (face : ℕ → ℕ → List (ℕ × ℕ) → List ℕ) where
     pub hands_out : HandsOut now (crew_facts lead) (pass_facts pass updates)
 
   -- so it is after its words' call, if not all lanes of the round's table were handed out
-  pub pass_out : (store : Store) (old lead pass : Known) (s : Shape) (now : CrewFacts) (round : RoundFacts) (lane workers shift : ℕ) {back inserts removals bits next updates : ℕ} → crew_facts old ≡ now → now.round ≡ round → store_round store ≡ round → s ≡ store.opening.shape
+  pub pass_out : (store : Store) (old lead pass : Known) (s : Shape) (now : CrewFacts) (round : RoundFacts) (lane workers shift : ℕ) {era back inserts removals bits next updates : ℕ} → crew_facts old ≡ now → now.round ≡ round → store_round store era ≡ round → s ≡ store.opening.shape
       → HoldsCrew face old.view back inserts removals → old.view.spare ≡ Some lane → workers ≡ s.workers → lane ≢ workers → HandsLaneOut face old.view lead.view pass.view → lead.table ≡ old.table → pass.table ≡ old.table
       → shift ≡ s.bits → bits ≡ s.bits → next ≡ first_record s lane → next + lane_records s ≤ record_count s → updates ≡ s.updates → PassOut now lead pass back inserts removals (1 * 2 ^ shift % 18446744073709551616) bits next updates
-  pass_out store old lead pass s now round lane workers shift {back} {inserts} {removals} {bits} {next} {updates} is one store_is shape holds spare workers_are other h lead_table pass_table shift_is bits_are first within updates_are =
+  pass_out store old lead pass s now round lane workers shift {era} {back} {inserts} {removals} {bits} {next} {updates} is one store_is shape holds spare workers_are other h lead_table pass_table shift_is bits_are first within updates_are =
       let v : SeatView = old.view in let place : ℕ = own_lane_place (handed_out h.between) in let leaves : ℕ = 1 * 2 ^ shift % 18446744073709551616 in let shaped : v.shape ≡ s = (of_round store old now round is one store_is).one_shape ∙ sym shape in
       let at : holds.handed ≡ lane = ap (λ (z : Option ℕ). unwrap_or z 0) (sym holds.is_crew.hands_out ∙ spare) in
       let low : holds.handed < v.shape.workers = let all : v.shape.workers ≡ s.workers = ap (λ (z : Shape). z.workers) shaped in let few = holds.few in omega arith in

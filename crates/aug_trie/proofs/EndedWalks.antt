@@ -1,4 +1,4 @@
--- How a descent over a trie at rest comes of the words that it loaded.
+-- How a walk over a trie at rest comes of the words that it loaded.
 use Rattle.std.proofs.Common.{◌≡◌, ℕ, zero, suc, ◌+◌, ◌-◌, ◌*◌, ◌%◌, ◌<◌, ◌≤◌, List, length, refl, sym, ap, ◌∙◌, subst, arith}
 use Rattle.aug_monoid.specs.Parts.{Parts}
 use Rattle.aug_core.specs.Faces.{face}
@@ -10,7 +10,6 @@ use Rattle.aug_model.proofs.Pairs.{range-again, length-pairs_of}
 use Rattle.aug_model.proofs.Ranges.{rises_from}
 use Rattle.aug_query.specs.Tree.{IsTreeSet}
 use Rattle.aug_model.specs.NodeKeys.{first_key, end_key, keys_below, pairs_below}
-use Rattle.aug_query.specs.declared.loaded.Loaded.{Loaded}
 use Rattle.aug_query.proofs.Nodes.{left_high, right_high, middle_high}
 use Rattle.aug_trie.specs.LeafWords.{serial_in_word}
 use Rattle.aug_trie.specs.Ended.{EndedFacts, set_of_ended}
@@ -83,16 +82,16 @@ module _ {A B : Type 0} (parts_a : Parts A) (parts_b : Parts B) where
       let few = count_fits parts_a parts_b e.rest e.members level place word inner has.is_version e.bits has.is_tree_set.some_bits has.is_tree_set.few_bits has.is_tree_set.is_key_set in
       let n_is : n ≡ word_in e.rest word 2 = is ∙ ap (λ (z : EndedFacts). word_in z.rest word 2) same in omega (arith, few, n_is)
 
-  -- what names a node of the tree names it after loads
-  pub node_named : (first e : EndedFacts) (loaded : Loaded) (node : EndedNode A B) → first ≡ e → 1 ≤ node.level → HasEndedNode both (summary_of parts_a parts_b) e node → NamesEnded both (record first { loaded = loaded }) (node.level - 1 + 1) node.place node.word
-  node_named first e loaded node same inner has = let up : node.level ≡ node.level - 1 + 1 = omega arith in
+  -- what names a node of the tree names it after calls
+  pub node_named : (first e : EndedFacts) (calls : ℕ) (node : EndedNode A B) → first ≡ e → 1 ≤ node.level → HasEndedNode both (summary_of parts_a parts_b) e node → NamesEnded both (record first { calls = calls }) (node.level - 1 + 1) node.place node.word
+  node_named first e calls node same inner has = let up : node.level ≡ node.level - 1 + 1 = omega arith in
       let named : NamesEnded both e node.level node.place node.word = record { is_tree_set = has.is_node.is_tree_set; level_fits = has.is_node.level_fits; place_fits = has.is_node.place_fits; is_version = has.is_version } in
       let then : NamesEnded both first node.level node.place node.word = subst (λ (z : EndedFacts). NamesEnded both z node.level node.place node.word) (sym same) named in
-      subst (λ (z : ℕ). NamesEnded both (record first { loaded = loaded }) z node.place node.word) up
+      subst (λ (z : ℕ). NamesEnded both (record first { calls = calls }) z node.place node.word) up
       record { is_tree_set = then.is_tree_set; level_fits = then.level_fits; place_fits = then.place_fits; is_version = then.is_version }
 
-  -- names are names still after loads
-  pub named_on : (first e : EndedFacts) (loaded : Loaded) (level place word : ℕ) → first ≡ e → NamesEnded both e level place word → NamesEnded both (record first { loaded = loaded }) level place word
-  named_on first e loaded level place word same has =
+  -- names are names still after calls
+  pub named_on : (first e : EndedFacts) (calls : ℕ) (level place word : ℕ) → first ≡ e → NamesEnded both e level place word → NamesEnded both (record first { calls = calls }) level place word
+  named_on first e calls level place word same has =
       let then : NamesEnded both first level place word = subst (λ (z : EndedFacts). NamesEnded both z level place word) (sym same) has in
       record { is_tree_set = then.is_tree_set; level_fits = then.level_fits; place_fits = then.place_fits; is_version = then.is_version }

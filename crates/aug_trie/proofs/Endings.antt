@@ -24,21 +24,21 @@ use Rattle.aug_core.specs.declared.view.SeatView.{SeatView}
 use Rattle.aug_core.proofs.PlaceLemmas.{keys-within}
 use Rattle.aug_core.proofs.Sizes.{twice}
 use Rattle.aug_core.proofs.Moves.{St}
-use Rattle.aug_words.specs.Rests.{AtRest, EndWith, ShowAll}
+use Rattle.aug_core.specs.Renewals.{EndWith}
+use Rattle.aug_words.specs.Rests.{AtRest, ShowAll}
 use Rattle.aug_words.specs.Seats.{Store, Known, AreTogether}
 use Rattle.aug_trie.specs.History.{last_cut}
 use Rattle.aug_trie.specs.Knowledge.{insertion, removal, inserts_of, removals_of}
 use Rattle.aug_core.specs.declared.view.Change.{Change}
 use Rattle.aug_trie.specs.inside.Knows.{knows}
 use Rattle.aug_trie.specs.inside.CrewState.{crew_facts, HoldsCrew}
-use Rattle.aug_query.specs.Descend.{nothing_loaded}
 use Rattle.aug_trie.specs.Ended.{EndedFacts}
 use Rattle.aug_trie.specs.inside.EndedTree.{word_in}
 use Rattle.aug_trie.specs.Crew.{CrewFacts, Ends}
 use Rattle.aug_trie.specs.Round.{RoundFacts}
 use Rattle.aug_trie.specs.inside.RoundState.{store_round}
 use Rattle.aug_trie.specs.Tallies.{TalliesWithLost}
-use Rattle.aug_trie.proofs.Counting.{filter_shorter}
+use Rattle.aug_core.proofs.Counting.{filter_shorter}
 use Rattle.aug_trie.proofs.RoundLemmas.{of_round}
 use Rattle.aug_trie.proofs.Tallying.{held_few, tallies_at_end, none_lost_tallies}
 use Rattle.aug_trie.proofs.CutLemmas.{set_of_cut-opening, pairs_of_cut-opening}
@@ -70,7 +70,7 @@ module _ (face : ℕ → ℕ → List (ℕ × ℕ) → List ℕ) (v : SeatView) 
   all_held : length v.held ≤ c.handed
   all_held = held_few face s id c.handed v r at c.is_crew.hands_out c.is_crew.knows_table c.is_crew.knowledge.stands
 
-  back_exact : back ≡ length v.held
+  pub back_exact : back ≡ length v.held
   back_exact = let few = all_held in let most = c.few in let workers = c.is_crew.knows_table.laid_out.workers.1 in c.back_is ∙ mod-eq_of_lt (omega arith)
 
   pub back_few : back ≤ c.handed
@@ -86,7 +86,7 @@ module _ (face : ℕ → ℕ → List (ℕ × ℕ) → List ℕ) (v : SeatView) 
   removals_exact : removals ≡ removals_of (changes_of v.held)
   removals_exact = let fit = changes_fit in let le : removals_of (changes_of v.held) ≤ length (changes_of v.held) = filter_shorter (λ (z : Change). eqb (z.serial % 2) removal) (changes_of v.held) in c.removals_are ∙ mod-eq_of_lt (omega arith)
 
-  pub ends_so : (table : TableId) (ended : EndedFacts) → ended.bits ≡ v.shape.bits → ended.members ≡ pairs_of_cut (last_cut (knows v).history) → ended.inserts ≡ inserts → ended.removals ≡ removals → ended.missing ≡ c.handed - back → ended.loaded ≡ nothing_loaded
+  pub ends_so : (table : TableId) (ended : EndedFacts) → ended.bits ≡ v.shape.bits → ended.members ≡ pairs_of_cut (last_cut (knows v).history) → ended.inserts ≡ inserts → ended.removals ≡ removals → ended.missing ≡ c.handed - back → ended.calls ≡ 0
       → Ends (crew_facts (record { table = table; view = v })) ended
   ends_so table ended bits members ins rem miss loads = let spare : unwrap_or v.spare 0 ≡ c.handed = ap (λ (z : Option ℕ). unwrap_or z 0) c.is_crew.hands_out in record {
     bits = bits;
@@ -94,7 +94,7 @@ module _ (face : ℕ → ℕ → List (ℕ × ℕ) → List ℕ) (v : SeatView) 
     inserts = ins ∙ inserts_exact;
     removals = rem ∙ removals_exact;
     missing = let few = back_few in let is = back_exact in omega arith;
-    no_loads = loads;
+    no_calls = loads;
     is_history = c.is_crew.knowledge.is_history;
     tallies = subst (λ (z : ℕ). TalliesWithLost v.shape.updates z (opening_cut v.shape.bits v.members) (last_cut (knows v).history) (knows v).history (changes_of v.held)) (ap (λ (z : ℕ). c.handed - z) (sym back_exact) ∙ sym miss)
         (tallies_at_end face s id c.handed v r at c.is_crew.hands_out c.is_crew.knows_table c.is_crew.knowledge.stands (length v.held) refl);
@@ -118,7 +118,7 @@ pub kept_for : (face : ℕ → ℕ → List (ℕ × ℕ) → List ℕ) (store : 
 kept_for face store lead words t e = subst (λ (z : Opening). Kept face z e.state) (λ i. record { shape = sym t.one_shape i; members = sym t.same_members i }) e.kept
 
 -- the lead and the table of one round, whose table is at rest: what is left is the round's end, and its sizes tally where no pass is missing
-module _ (face : ℕ → ℕ → List (ℕ × ℕ) → List ℕ) (store : Store) (lead : Known) (now : CrewFacts) (round : RoundFacts) (handed : ℕ) {back inserts removals : ℕ} {words : List ℕ} (is : crew_facts lead ≡ now) (one : now.round ≡ round) (store_is : store_round store ≡ round)
+module _ (face : ℕ → ℕ → List (ℕ × ℕ) → List ℕ) (store : Store) (lead : Known) (now : CrewFacts) (round : RoundFacts) (handed : ℕ) {era back inserts removals : ℕ} {words : List ℕ} (is : crew_facts lead ≡ now) (one : now.round ≡ round) (store_is : store_round store era ≡ round)
     (holds : HoldsCrew face lead.view back inserts removals) (spare : lead.view.spare ≡ Some handed) (e : EndWith face store.opening lead.view words) where
   together : AreTogether store lead
   together = of_round store lead now round is one store_is
@@ -126,7 +126,11 @@ module _ (face : ℕ → ℕ → List (ℕ × ℕ) → List ℕ) (store : Store)
   pub no_more_back : back ≤ handed
   no_more_back = let at : holds.handed ≡ handed = ap (λ (z : Option ℕ). unwrap_or z 0) (sym holds.is_crew.hands_out ∙ spare) in let few = back_few face lead.view back inserts removals holds e.state (kept_for face store lead words together e) e.seat e.view_is in omega arith
 
-  pub round_ended : (ended : EndedFacts) → ended.bits ≡ store.opening.shape.bits → ended.members ≡ pairs_of_cut (last_cut (knows lead.view).history) → ended.inserts ≡ inserts → ended.removals ≡ removals → ended.missing ≡ handed - back → ended.loaded ≡ nothing_loaded
+  -- no pass is left out where as many came back as were handed out
+  pub none_left : length lead.view.held ≡ handed → 0 ≡ handed - back
+  none_left all = let exact = back_exact face lead.view back inserts removals holds e.state (kept_for face store lead words together e) e.seat e.view_is in omega arith
+
+  pub round_ended : (ended : EndedFacts) → ended.bits ≡ store.opening.shape.bits → ended.members ≡ pairs_of_cut (last_cut (knows lead.view).history) → ended.inserts ≡ inserts → ended.removals ≡ removals → ended.missing ≡ handed - back → ended.calls ≡ 0
       → Ends now ended × (ended.missing ≡ 0 → length ended.members + ended.removals ≡ length round.members + ended.inserts)
   round_ended ended bits members ins rem miss loads = let kept = kept_for face store lead words together e in
       let ends = ends_so face lead.view back inserts removals holds e.state kept e.seat e.view_is lead.table ended (bits ∙ sym (ap (λ (z : Shape). z.bits) together.one_shape)) members ins rem (miss ∙ ap (λ (z : Option ℕ). unwrap_or z 0 - back) (sym spare ∙ holds.is_crew.hands_out)) loads in

@@ -1,18 +1,18 @@
 -- What a lead knows as it hands a lane out and takes a pass back.
 use Rattle.std.proofs.Common.{◌≡◌, ℕ, ◌+◌, ◌*◌, ◌^◌, ◌<◌, List, [], ◌∷◌, ◌++◌, append_assoc, length, length-append, All, sym, refl, ap, ◌∙◌, subst, arith}
 use Rattle.std.specs.Prelude.{unwrap_or, Some}
-use Rattle.std.proofs.lemmas.List.{length-replicate}
 use Rattle.std.proofs.lemmas.List.Elements.{All-nil, All-append}
 use mathlib.Core.Option.{some-ne-none}
 use Rattle.aug_core.specs.Addresses.{root_place}
-use Rattle.aug_core.specs.Lanes.{first_record, block_size, lane_records}
+use Rattle.aug_core.specs.Lanes.{first_record, lane_records}
 use Rattle.aug_core.specs.Counts.{changes_of}
 use Rattle.aug_core.specs.Told.{HoldsOnly, KnowsTable, LoadsNode, in_state, on_first, new_lane, handing_out, handed_out, taking, finishing, taking_back}
 use Rattle.aug_core.specs.declared.view.Change.{Change}
 use Rattle.aug_core.specs.declared.view.Held.{Held}
 use Rattle.aug_core.specs.declared.view.LaneState.TheVariants.{Taken, Ended}
 use Rattle.aug_core.specs.declared.view.SeatView.{SeatView}
-use Rattle.aug_core.proofs.Fits.{knows_shown, knows_same}
+use Rattle.aug_core.proofs.Fits.{knows_shown, knows_same, knows_taken}
+use Rattle.aug_core.proofs.Splits.{block_long}
 use Rattle.aug_trie.specs.inside.Goes.{HasRoom, HasLeaves}
 use Rattle.aug_trie.specs.History.{last_cut}
 use Rattle.aug_trie.specs.Knowledge.{StandsIn}
@@ -60,7 +60,7 @@ module _ (face : ℕ → ℕ → List (ℕ × ℕ) → List ℕ) where
     handed_out_is place = record { goes_on = knows_on face v w kn same_shape t.sees.later; same_changes = loaded_changes; pass_knows = refl }
 
     pub pass_table : (place : ℕ) → KnowsTable face (taking (handed_out w) place)
-    pass_table place = let p : SeatView = taking (handed_out w) place in knows_same face w p.live p.also p.held p.spare p.began p.steps loaded_table
+    pass_table place = knows_taken face w place loaded_table
 
     pub crew_out : (handed back : ℕ) → IsCrew face v handed back → IsCrew face (handing_out w) (handed + 1) back
     crew_out handed back c = let p : SeatView = handing_out w in record {
@@ -74,11 +74,11 @@ module _ (face : ℕ → ℕ → List (ℕ × ℕ) → List ℕ) where
   pub pass_room : (v : SeatView) (place : ℕ) → HasRoom (taking (handed_out v) place) (first_record v.shape (unwrap_or v.spare 0)) (lane_records v.shape)
   pass_room v place = record {
     is_free = record {
-      lane = in_state Taken (new_lane v.shape (unwrap_or v.spare 0));
+      lane = in_state Taken (new_lane v.shape v.words (unwrap_or v.spare 0));
       only = refl;
       from_first = omega arith;
       unpublished = λ n up listed. some-ne-none n (sym listed.1);
-      long = length-replicate (block_size v.shape) 0;
+      long = block_long v.shape v.words (unwrap_or v.spare 0);
     };
     room = omega arith;
   }

@@ -4,9 +4,7 @@ pub mod Requesting
 pub mod Histories
 pub mod Standing
 pub mod Accepting
-pub mod Counting
 pub mod Counters
-pub mod Missing
 pub mod Tallying
 pub mod Telling
 pub mod Publishing
@@ -22,6 +20,7 @@ pub mod Passing
 pub mod Snapshots
 pub mod Asking
 pub mod PassCalls
+pub mod Noting
 pub mod SnapshotWalks
 pub mod RoundLemmas
 pub mod Crews
@@ -30,6 +29,7 @@ pub mod CutLemmas
 pub mod TallyLemmas
 pub mod Versions
 pub mod Endings
+pub mod RollingOver
 pub mod EndedWalks
 pub mod Ranking
 pub mod Advancing

@@ -62,7 +62,7 @@ module _ (face : ℕ → ℕ → List (ℕ × ℕ) → List ℕ) where
     goes_on_by table done u = let g = (gained_by done u).2 in let updates : w.shape.updates ≡ v.shape.updates = ap (λ (z : Shape). z.updates) g.shaped in let b = p.budget in record {
       same = let spent : w.shape.updates - (left - 1) ≡ v.shape.updates - left + 1 = omega arith in
           let facts : PassFacts = pass_facts (record { table = table; view = w }) (left - 1) in
-          λ i. record facts { round = round_of table (record w { shape = g.shaped i; members = g.same_members i }); lane = g.lane i; spent = spent i };
+          λ i. record facts { round = round_of table (record w { era = g.same_era i; shape = g.shaped i; members = g.same_members i }); lane = g.lane i; spent = spent i };
       step_count = ap (λ (z : List StepTaken). length z) u.steps ∙ length-append v.steps (load_leaf key u.loaded ∷ u.more) ∙ (let e : length v.steps + suc (length u.more) ≡ length v.steps + (length u.more + 1) = omega arith in e);
       steps_stay = (load_leaf key u.loaded ∷ u.more, u.steps);
       knowledge = known_after done u;

@@ -32,8 +32,8 @@ use Rattle.aug_core.proofs.CutLists.{read}
 use Rattle.aug_trie.proofs.CutLemmas.{serial_past, serial_rises, serial-opening}
 use Rattle.aug_trie.proofs.Histories.{history_long, cut_at, last_is, root_serial, root_some}
 use Rattle.aug_trie.proofs.Standing.{at_least, shown_stands}
-use Rattle.aug_trie.proofs.Counting.{and_left, and_right, hits-append, hits_none, hits_one, hits_all, filter_shorter, flat_none, flat_one, twice_same, twice_none, twice_less, filter_place, at_longer, at_after, flat_place, IsIn, all_at, all_map, map_at, at_map}
-use Rattle.aug_trie.proofs.Missing.{HeldIn, search_views, Missing, missing}
+use Rattle.aug_core.proofs.Counting.{and_left, and_right, hits-append, hits_none, hits_one, hits_all, filter_shorter, flat_none, flat_one, twice_same, twice_none, twice_less, filter_place, at_longer, at_after, flat_place, IsIn, all_at, all_map, map_at, at_map}
+use Rattle.aug_core.proofs.Missing.{HeldIn, search_views, Missing, missing}
 use Rattle.aug_core.proofs.PrefixLemmas.{entry_stays}
 
 abbrev test : ℕ → ℕ → Change → Bool

@@ -39,7 +39,7 @@ use Rattle.aug_trie.specs.LeafWords.{serial_in_word, weight_in_word}
 use Rattle.aug_trie.specs.inside.LeafPairs.{leaf_pairs}
 use Rattle.aug_trie.specs.inside.EndedTree.{word_in, IsLeafOf, IsVersion}
 use Rattle.aug_trie.specs.inside.EndedState.{pairs_at_rest, HoldsVersion}
-use Rattle.aug_trie.proofs.Counting.{filter_shorter}
+use Rattle.aug_core.proofs.Counting.{filter_shorter}
 use Rattle.aug_trie.proofs.Histories.{last_is}
 use Rattle.aug_trie.proofs.LeafWords.{serial_of_entry, weight_of_entry, pairs_of_serial}
 use Rattle.aug_trie.proofs.Trees.{tree_set, inner_root}

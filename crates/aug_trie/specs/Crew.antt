@@ -5,12 +5,12 @@ use Rattle.aug_core.specs.Kinds.{load_node}
 use Rattle.aug_core.specs.declared.step.StepTaken.{StepTaken}
 use Rattle.aug_trie.specs.History.{IsHistory, last_cut}
 use Rattle.aug_trie.specs.Knowledge.{Knowledge, IsKnowledge, inserts_of, removals_of}
-use Rattle.aug_trie.specs.Passes.{HandedOut, HandedBack}
+use Rattle.aug_trie.specs.Passes.{HandedOut, HandedBack, HasLearnt}
 use Rattle.aug_trie.specs.Round.{RoundFacts, root_of}
+use Rattle.aug_trie.specs.Note.{NoteFacts}
 use Rattle.aug_trie.specs.Pass.{PassFacts}
 use Rattle.aug_trie.specs.Tallies.{TalliesWithLost}
 use Rattle.aug_trie.specs.Ended.{EndedFacts}
-use Rattle.aug_query.specs.Descend.{nothing_loaded}
 
 -- a crew: its round, what it knows, its atomic steps, and how many passes it handed out and took back
 pub record CrewFacts : Type 0 where
@@ -22,7 +22,12 @@ pub record CrewFacts : Type 0 where
 
 -- a round of keys of `bits` bits over a set with these members, and its crew, which knows only the opening cut and has handed nothing out
 pub record BeginsRound (members : List (ℕ × ℕ)) (bits workers updates : ℕ) (round : RoundFacts) (crew : CrewFacts) : Type 0 where
-  pub round_is : round ≡ record { table = round.table; bits = bits; members = members; workers = workers; updates = updates; room = length members }
+  pub round_is : round ≡ record { table = round.table; era = 0; bits = bits; members = members; workers = workers; updates = updates; room = length members }
+  pub crew_is : crew ≡ record { round = round; knows = record { history = opening_cut bits members ∷ []; accepted = [] }; steps = crew.steps; handed = 0; back = 0 }
+
+-- the same for a round that is laid out for `room` members
+pub record BeginsIn (room : ℕ) (members : List (ℕ × ℕ)) (bits workers updates : ℕ) (round : RoundFacts) (crew : CrewFacts) : Type 0 where
+  pub round_is : round ≡ record { table = round.table; era = 0; bits = bits; members = members; workers = workers; updates = updates; room = room }
   pub crew_is : crew ≡ record { round = round; knows = record { history = opening_cut bits members ∷ []; accepted = [] }; steps = crew.steps; handed = 0; back = 0 }
 
 -- the crew's one step loads the root's word
@@ -46,6 +51,13 @@ pub record TakesBack (old new : CrewFacts) (pass : PassFacts) : Type 0 where
   pub knowledge : IsKnowledge new.round.bits new.round.members new.knows
   pub loads : LoadsRoot old new
 
+-- the crew learns a note, and then loads the root
+pub record CrewLearns (old new : CrewFacts) (note : NoteFacts) : Type 0 where
+  pub knows : HasLearnt old.knows note.history new.knows
+  pub crew_is : new ≡ record old { knows = new.knows; steps = new.steps }
+  pub knowledge : IsKnowledge new.round.bits new.round.members new.knows
+  pub loads : LoadsRoot old new
+
 -- a round ends: its set is that of the last cut that the crew knows; the changes that the crew knows, with lists of those of the passes that did not come back,
 -- are all that happened from the opening cut to that one; and the counts are the crew's
 pub record Ends (crew : CrewFacts) (ended : EndedFacts) : Type 0 where
@@ -54,6 +66,19 @@ pub record Ends (crew : CrewFacts) (ended : EndedFacts) : Type 0 where
   pub inserts : ended.inserts ≡ inserts_of crew.knows.accepted
   pub removals : ended.removals ≡ removals_of crew.knows.accepted
   pub missing : ended.missing + crew.back ≡ crew.handed
-  pub no_loads : ended.loaded ≡ nothing_loaded
+  pub no_calls : ended.calls ≡ 0
   pub is_history : IsHistory crew.round.bits crew.round.members crew.knows.history
   pub tallies : TalliesWithLost crew.round.updates ended.missing (opening_cut crew.round.bits crew.round.members) (last_cut crew.knows.history) crew.knows.history crew.knows.accepted
+
+-- a round ends to which all passes came back, and the next one begins over its set, in the same table: the list has the set, and the counts are those of
+-- the round that ended
+pub record RollsOver (old : CrewFacts) (round new_round : RoundFacts) (crew : CrewFacts) (list : List (ℕ × ℕ)) (inserts removals : ℕ) : Type 0 where
+  pub ended : EndedFacts
+  pub ends : Ends old ended
+  pub none_missing : ended.missing ≡ 0
+  pub sizes : length ended.members + ended.removals ≡ length round.members + ended.inserts
+  pub list_is : list ≡ ended.members
+  pub inserts_are : inserts ≡ ended.inserts
+  pub removals_are : removals ≡ ended.removals
+  pub round_is : new_round ≡ record round { era = round.era + 1; members = ended.members }
+  pub crew_is : crew ≡ record { round = new_round; knows = record { history = opening_cut round.bits ended.members ∷ []; accepted = [] }; steps = crew.steps; handed = 0; back = 0 }

@@ -2,10 +2,8 @@
 use Rattle.std.specs.Prelude.{◌≡◌, ℕ, List, []}
 use Rattle.aug_model.specs.Keys.{SetFacts}
 use Rattle.aug_words.specs.Rests.{AtRest}
-use Rattle.aug_query.specs.Descend.{nothing_loaded}
-use Rattle.aug_query.specs.declared.loaded.Loaded.{Loaded}
 
--- a trie at rest: its bits and members with their weights, the result of the round that ended with it, how much queries loaded of it, and the words
+-- a trie at rest: its bits and members with their weights, the result of the round that ended with it, how often queries called it, and the words
 -- and the root's record that its members are read from
 pub record EndedFacts : Type 0 where
   pub bits : ℕ
@@ -13,7 +11,7 @@ pub record EndedFacts : Type 0 where
   pub inserts : ℕ
   pub removals : ℕ
   pub missing : ℕ
-  pub loaded : Loaded
+  pub calls : ℕ
   pub rest : AtRest
   pub root : ℕ
 
@@ -23,8 +21,8 @@ set_of_ended ended = record { bits = ended.bits; pairs = ended.members }
 
 -- the trie of the empty set, which no round ended
 abbrev pub IsEmptyTrie : ℕ → EndedFacts → Type 0
-IsEmptyTrie bits ended = ended ≡ record ended { bits = bits; members = []; inserts = 0; removals = 0; missing = 0; loaded = nothing_loaded }
+IsEmptyTrie bits ended = ended ≡ record ended { bits = bits; members = []; inserts = 0; removals = 0; missing = 0; calls = 0 }
 
--- a walk changes nothing of the trie but how much was loaded of it
+-- a walk changes nothing of the trie but how often it was called
 abbrev pub KeepsEnded : EndedFacts → EndedFacts → Type 0
-KeepsEnded old new = new ≡ record old { loaded = new.loaded }
+KeepsEnded old new = new ≡ record old { calls = new.calls }

@@ -7,6 +7,7 @@ pub mod Passes
 pub mod Tallies
 pub mod TreeOf
 pub mod Round
+pub mod Note
 pub mod Pass
 pub mod Snapshot
 pub mod Node

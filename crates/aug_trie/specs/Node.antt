@@ -1,8 +1,9 @@
 -- What contracts see of the nodes of a snapshot's tree, and which snapshots and nodes of a pass stay valid after a call.
-use Rattle.std.specs.Prelude.{◌≡◌, ℕ, ◌+◌, ◌≤◌, List, length}
+use Rattle.std.specs.Prelude.{◌≡◌, ℕ, ◌+◌, ◌*◌, ◌≤◌, List, length}
 use Rattle.aug_model.specs.declared.summary.Summary.{Summary}
 use Rattle.aug_model.specs.Queries.{weight_in}
 use Rattle.aug_query.specs.Tree.{IsTreeSet}
+use Rattle.aug_query.specs.Descend.{Loads}
 use Rattle.aug_core.specs.Prefixes.{IsPrefix}
 use Rattle.aug_trie.specs.LeafWords.{weight_in_word}
 use Rattle.aug_trie.specs.TreeOf.{IsTreeOf}
@@ -11,6 +12,10 @@ use Rattle.aug_trie.specs.inside.NodeWords.{IsNodeAt}
 use Rattle.aug_trie.specs.Snapshot.{HasSnapshot, snapshot_cut, set_at}
 use Rattle.aug_trie.specs.declared.queries.node.Node.{Node}
 use Rattle.aug_trie.specs.declared.queries.snapshot.Snapshot.{Snapshot}
+
+-- how many steps such loads are: one for each node and count, three for a summary, and two more for a node that is passed
+abbrev pub steps_for : Loads → ℕ
+steps_for most = most.nodes + most.counts + 3 * most.summaries + 2 * most.passed
 
 module _ {A B : Type 0} (summary_of : List (ℕ × ℕ) → Summary A B) where
   -- the node belongs to the tree of a snapshot of the pass and has the summary of the members that it covers, and a leaf has the weight of its key

@@ -2,9 +2,11 @@
 use Rattle.std.specs.Prelude.{ℕ, ◌+◌, ◌-◌, ◌^◌, List}
 use Rattle.atomic_table.specs.Seated.{TableId}
 
--- a round: its table, the bits of its keys, the set that it opened with, its lanes, the updates of each, and for how many members it was laid out
+-- a round: its table and how often that was renewed before, the bits of its keys, the set that it opened with, its lanes, the updates of each, and for how
+-- many members it was laid out
 pub record RoundFacts : Type 0 where
   pub table : TableId
+  pub era : ℕ
   pub bits : ℕ
   pub members : List (ℕ × ℕ)
   pub workers : ℕ

@@ -11,8 +11,11 @@ pub mod Knows
 pub mod LeafPairs
 pub mod NamedCuts
 pub mod NodeWords
+pub mod NoteState
 pub mod PassState
 pub mod Points
+pub mod RestWalkLaws
+pub mod RestWalks
 pub mod RoundState
 pub mod SnapshotWalk
 pub mod SnapshotWalkLaws

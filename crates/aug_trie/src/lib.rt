@@ -16,6 +16,8 @@ pub use rounds::ended::Ended;
 pub use rounds::ended_tree::EndedNode;
 pub use rounds::half::PassHalf;
 pub use rounds::members::Members;
+pub use rounds::note::Note;
 pub use rounds::pass::Pass;
 pub use rounds::round::Round;
 pub use turns::climb::{Climb, Turn};
+pub use updates::request::Request;

@@ -12,7 +12,7 @@ use super::rounds::{Hands, Table, Trie, next_pass};
 use crate::assertions::equal;
 use aug_model::Outcome::{Accepted, Replaced};
 use aug_monoid::{Extent, Sum};
-use aug_query::{pairs, range, weight};
+use aug_query::{descent, pairs, range, weight};
 use aug_trie::{BeginError, Pass, Round};
 use std::alloc::{AllocError, Global};
 use std::process::Abort;
@@ -108,9 +108,9 @@ fn listed(alloc: Global, pass: &mut Pass<Sum, Extent>) -> Result<Vec<(u32, u32)>
     ensures round { pass.new.round ≡ pass.old.round }
 {
     let snapshot = pass.snapshot();
-    match pass.pairs(alloc, snapshot) {
+    match pass.ask(snapshot, descent::Pairs(alloc)) {
         Ok(list) => Ok(list),
-        Err(_) => pass.pairs(alloc, snapshot),
+        Err(_) => pass.ask(snapshot, descent::Pairs(alloc)),
     }
 }
 

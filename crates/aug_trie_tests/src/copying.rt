@@ -13,6 +13,7 @@ use aug_model::Outcome::Accepted;
 use aug_model::Summary;
 use aug_monoid::{Extent, Sum};
 use aug_query::Tree;
+use aug_query::descent::{Range, Size, Weight};
 use aug_trie::{BeginError, CrewError, Node, Pass, Snapshot};
 use std::alloc::{AllocError, Global};
 use std::process::Abort;
@@ -27,8 +28,13 @@ fn shown(pass: &mut Pass<Sum, Extent>, s: Snapshot) -> Shown
     ensures round { pass.new.round ≡ pass.old.round }
     ensures spent { pass.new.spent ≡ pass.old.spent }
 {
-    let sum = pass.range(s, 0, 4).a.value();
-    (pass.size(s), pass.weight(s, 1), pass.weight(s, 2), sum)
+    let sum = pass.ask(s, Range(0, 4)).a.value();
+    (
+        pass.ask(s, Size),
+        pass.ask(s, Weight(1)),
+        pass.ask(s, Weight(2)),
+        sum,
+    )
 }
 
 // What a snapshot and a clone of it show, the clone asked first and last, with a put of 2 in between.

@@ -6,6 +6,7 @@ use super::rounds::{Half, Table, Trie, next_pass, opened};
 use super::working::{Deed, Task, back, four_back, four_halves, next_half, pair, work};
 use crate::assertions::{equal, holds};
 use aug_monoid::{Extent, Sum};
+use aug_query::descent::{Range, Size, Weight};
 use aug_trie::{BeginError, Pass};
 use std::alloc::Global;
 use std::process::Abort;
@@ -58,14 +59,14 @@ fn adds_up(pass: &mut Pass<Sum, Extent>) -> Option<u32>
     ensures round { pass.new.round ≡ pass.old.round }
 {
     let snapshot = pass.snapshot();
-    let whole = pass.range(snapshot, 0, 4);
-    let zero = weighed(pass.weight(snapshot, 0));
-    let one = weighed(pass.weight(snapshot, 1));
-    let two = weighed(pass.weight(snapshot, 2));
-    let three = weighed(pass.weight(snapshot, 3));
+    let whole = pass.ask(snapshot, Range(0, 4));
+    let zero = weighed(pass.ask(snapshot, Weight(0)));
+    let one = weighed(pass.ask(snapshot, Weight(1)));
+    let two = weighed(pass.ask(snapshot, Weight(2)));
+    let three = weighed(pass.ask(snapshot, Weight(3)));
     let count = zero.0 + one.0 + two.0 + three.0;
     let sum = zero.1 + one.1 + two.1 + three.1;
-    (whole.count == count && whole.a.value() == sum && pass.size(snapshot) == count).then_some(
+    (whole.count == count && whole.a.value() == sum && pass.ask(snapshot, Size) == count).then_some(
         count,
     )
 }

@@ -13,7 +13,7 @@ use super::rounds::{Hands, Table, Trie, next_pass, opened};
 use super::working::{Deed, Task, four_back, four_halves, work};
 use crate::assertions::{equal, holds};
 use aug_monoid::{Extent, Sum};
-use aug_query::{has, keys, select};
+use aug_query::{descent, has, keys, select};
 use aug_trie::{BeginError, Pass, Round};
 use std::alloc::Global;
 use std::process::Abort;
@@ -25,7 +25,7 @@ pub(super) fn seen_size(pass: &mut Pass<Sum, Extent>) -> u32
     ensures round { pass.new.round ≡ pass.old.round }
 {
     let snapshot = pass.snapshot();
-    pass.size(snapshot)
+    pass.ask(snapshot, descent::Size)
 }
 
 // Whether a new snapshot of the pass shows the key.
@@ -33,7 +33,7 @@ pub(super) fn sees(pass: &mut Pass<Sum, Extent>, key: u32) -> bool
     ensures round { pass.new.round ≡ pass.old.round }
 {
     let snapshot = pass.snapshot();
-    pass.has(snapshot, key)
+    pass.ask(snapshot, descent::Has(key))
 }
 
 // What the trie says of the round that ended it: insertions, removals, passes that did not come back.

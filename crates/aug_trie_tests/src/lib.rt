@@ -28,6 +28,8 @@ mod putting;
 #[cfg(test)]
 mod refused;
 #[cfg(test)]
+mod renewing;
+#[cfg(test)]
 mod replacing;
 #[cfg(test)]
 mod requests;
@@ -37,6 +39,8 @@ mod rounds;
 mod scripts;
 #[cfg(test)]
 mod sweeping;
+#[cfg(test)]
+mod telling;
 #[cfg(test)]
 mod turning;
 #[cfg(test)]

@@ -61,7 +61,7 @@ fn assert_is_whole(rt: &impl Abort, members: &Members) {
 }
 
 #[test]
-fn a_round_over_a_list_asks_10_times_for_memory(rt: HostRuntime) -> Result<(), BeginError> {
+fn a_round_over_a_list_asks_13_times_for_memory(rt: HostRuntime) -> Result<(), BeginError> {
     let members = listed(rt.alloc(), played_by_two(&rt, rt.alloc())?)?;
     assert_is_whole(&rt, &members);
     let (round, mut crew) = begun_at_last(&rt, rt.alloc(), members)?;

@@ -11,6 +11,9 @@ use super::rounds::{insert, next_pass, opened};
 use crate::assertions::{equal, holds};
 use aug_model::Summary;
 use aug_monoid::{Extent, Monoid, Sum};
+use aug_query::descent::{
+    After, Before, Has, Keys, Memberships, Range, Rank, Ranks, Select, Size, Weight, Weights,
+};
 use aug_query::rank;
 use aug_trie::{BeginError, Node, Pass, Snapshot};
 use std::alloc::{AllocError, Global};
@@ -26,9 +29,9 @@ fn rank_twice<A: Monoid, B: Monoid>(pass: &mut Pass<'_, A, B>, s: Snapshot, k: u
     ensures snapshot { HasSnapshot pass.new s.number }
     ensures same_cut { snapshot_cut pass.new s.number ≡ snapshot_cut pass.old s.number }
 {
-    let first = pass.rank(s, k);
+    let first = pass.ask(s, Rank(k));
     pass.insert(k);
-    (first, pass.rank(s, k))
+    (first, pass.ask(s, Rank(k)))
 }
 
 // The weight of a key in one snapshot, before and after the key is put in with another.
@@ -46,9 +49,9 @@ fn weight_twice<A: Monoid, B: Monoid>(
     ensures snapshot { HasSnapshot pass.new s.number }
     ensures same_cut { snapshot_cut pass.new s.number ≡ snapshot_cut pass.old s.number }
 {
-    let first = pass.weight(s, k);
+    let first = pass.ask(s, Weight(k));
     pass.put(k, weight);
-    (first, pass.weight(s, k))
+    (first, pass.ask(s, Weight(k)))
 }
 
 // The left child of a node, loaded after a key was taken out: it is of the tree that the node is of.
@@ -78,7 +81,7 @@ fn seen<A: Monoid, B: Monoid>(pass: &mut Pass<'_, A, B>, s: Snapshot) -> Seen
     ensures round { pass.new.round ≡ pass.old.round }
     ensures spent { pass.new.spent ≡ pass.old.spent }
 {
-    (pass.size(s), pass.has(s, 1), pass.has(s, 2))
+    (pass.ask(s, Size), pass.ask(s, Has(1)), pass.ask(s, Has(2)))
 }
 
 // Puts 1 in, takes a snapshot, puts 2 in and takes 1 out: the answers, what the snapshot shows before and after, and what a new
@@ -137,10 +140,10 @@ fn neighbours<A: Monoid, B: Monoid>(pass: &mut Pass<'_, A, B>, s: Snapshot) -> [
     ensures snapshot { HasSnapshot pass.new s.number }
 {
     [
-        pass.select(s, 1),
-        pass.before(s, 9),
-        pass.after(s, 9),
-        pass.select(s, 2),
+        pass.ask(s, Select(1)),
+        pass.ask(s, Before(9)),
+        pass.ask(s, After(9)),
+        pass.ask(s, Select(2)),
     ]
 }
 
@@ -154,9 +157,9 @@ fn asked<A: Monoid, B: Monoid>(
     let (left, right) = halves(pass, s);
     let keys = neighbours(pass, s);
     (
-        [pass.size(s), pass.rank(s, 9), left, right],
+        [pass.ask(s, Size), pass.ask(s, Rank(9)), left, right],
         keys,
-        [pass.has(s, 5), pass.has(s, 6)],
+        [pass.ask(s, Has(5)), pass.ask(s, Has(6))],
     )
 }
 
@@ -166,8 +169,8 @@ fn listed(
     pass: &mut Pass<'_, Sum, Extent>,
 ) -> Result<(Vec<u32>, Summary<Sum, Extent>, u32), AllocError> {
     let s = pass.snapshot();
-    let keys = pass.keys(alloc, s)?;
-    let range = pass.range(s, 5, 9);
+    let keys = pass.ask(s, Keys(alloc))?;
+    let range = pass.ask(s, Range(5, 9));
     Ok((keys, range, rank(&mut pass.view(s), 16)))
 }
 
@@ -207,18 +210,18 @@ fn assert_batches(rt: &impl Abort, alloc: Global, pass: &mut Pass<'_, Sum, Exten
     let s = pass.snapshot();
     let keys = [4, 5, 5, 9, 10, 16];
     holds(rt, keys.is_sorted());
-    let mut below = Vec::with_capacity(alloc, 6).expect(rt, "memory");
-    pass.ranks(s, &keys, &mut below);
+    let out = Vec::with_capacity(alloc, 6).expect(rt, "memory");
+    let below = pass.ask(s, Ranks { keys: &keys, out });
     equal(rt, below.as_slice(), [0, 0, 0, 1, 2, 2].as_slice());
-    let mut there = Vec::with_capacity(alloc, 6).expect(rt, "memory");
-    pass.memberships(s, &keys, &mut there);
+    let out = Vec::with_capacity(alloc, 6).expect(rt, "memory");
+    let there = pass.ask(s, Memberships { keys: &keys, out });
     equal(
         rt,
         there.as_slice(),
         [false, true, true, true, false, false].as_slice(),
     );
-    let mut weighed = Vec::with_capacity(alloc, 6).expect(rt, "memory");
-    pass.weights(s, &keys, &mut weighed);
+    let out = Vec::with_capacity(alloc, 6).expect(rt, "memory");
+    let weighed = pass.ask(s, Weights { keys: &keys, out });
     equal(
         rt,
         weighed.as_slice(),

@@ -9,6 +9,7 @@ use super::turning::{Climber, Walker, last, to_the_end, turns};
 use crate::assertions::{equal, equal_at};
 use aug_model::Outcome;
 use aug_monoid::{Extent, Sum};
+use aug_query::descent::{After, Before, Pairs, Range, Rank, Select};
 use aug_query::size;
 use aug_trie::{BeginError, Ended, Pass};
 use std::alloc::Global;
@@ -180,15 +181,15 @@ fn look(pass: &mut Pass<Sum, Extent>, alloc: Global, act: Act) -> Reply
 {
     let s = pass.snapshot();
     match act {
-        Act::Rank(k) => Reply::Number(pass.rank(s, k)),
-        Act::Select(i) => Reply::Finds(pass.select(s, i)),
-        Act::Before(k) => Reply::Finds(pass.before(s, k)),
-        Act::After(k) => Reply::Finds(pass.after(s, k)),
+        Act::Rank(k) => Reply::Number(pass.ask(s, Rank(k))),
+        Act::Select(i) => Reply::Finds(pass.ask(s, Select(i))),
+        Act::Before(k) => Reply::Finds(pass.ask(s, Before(k))),
+        Act::After(k) => Reply::Finds(pass.ask(s, After(k))),
         Act::Range(from, to) => {
-            let range = pass.range(s, from, to);
+            let range = pass.ask(s, Range(from, to));
             Reply::Folded(range.count, range.a.value())
         }
-        Act::Pairs => match pass.pairs(alloc, s) {
+        Act::Pairs => match pass.ask(s, Pairs(alloc)) {
             Ok(list) => listed(&list),
             Err(_) => Reply::Not,
         },

@@ -13,7 +13,7 @@ use crate::assertions::{equal, holds};
 use aug_model::Outcome;
 use aug_model::Outcome::{Accepted, Replaced};
 use aug_monoid::{Extent, Sum};
-use aug_query::range;
+use aug_query::{descent, range};
 use aug_trie::{BeginError, Pass, Snapshot};
 use std::alloc::Global;
 use std::process::Abort;
@@ -23,7 +23,7 @@ pub(super) fn seen_weight(pass: &mut Pass<Sum, Extent>, key: u32) -> Option<u32>
     ensures round { pass.new.round ≡ pass.old.round }
 {
     let snapshot = pass.snapshot();
-    pass.weight(snapshot, key)
+    pass.ask(snapshot, descent::Weight(key))
 }
 
 // A put of the same weight replaces too.
@@ -98,11 +98,11 @@ fn around_a_put(
     ensures spent { pass.new.spent ≡ pass.old.spent + 1 }
 {
     let early = pass.snapshot();
-    let before = pass.weight(early, 1);
+    let before = pass.ask(early, descent::Weight(1));
     let outcome = pass.put(1, weight);
-    let after = pass.weight(early, 1);
+    let after = pass.ask(early, descent::Weight(1));
     let late = pass.snapshot();
-    (before, outcome, after, pass.weight(late, 1))
+    (before, outcome, after, pass.ask(late, descent::Weight(1)))
 }
 
 #[test]
@@ -129,7 +129,10 @@ fn looked(pass: &mut Pass<Sum, Extent>, held: Snapshot, key: u32) -> (Option<u32
     ensures round { pass.new.round ≡ pass.old.round }
 {
     let new = pass.snapshot();
-    (pass.weight(held, key), pass.weight(new, key))
+    (
+        pass.ask(held, descent::Weight(key)),
+        pass.ask(new, descent::Weight(key)),
+    )
 }
 
 // Whether a pass that held a snapshot in which 1 weighs 1,000 sees each of a hundred replacements by another pass, and none in that snapshot.
@@ -181,7 +184,7 @@ fn seen_sum(pass: &mut Pass<Sum, Extent>) -> (u32, u64)
     ensures round { pass.new.round ≡ pass.old.round }
 {
     let snapshot = pass.snapshot();
-    let whole = pass.range(snapshot, 0, 65_536);
+    let whole = pass.ask(snapshot, descent::Range(0, 65_536));
     (whole.count, whole.a.value())
 }
 

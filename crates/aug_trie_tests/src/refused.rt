@@ -10,6 +10,7 @@ use super::playing::played_from_empty;
 use super::rounds::{Hands, Table, Trie, next_pass};
 use crate::assertions::equal;
 use aug_monoid::{Extent, Sum};
+use aug_query::descent::{Keys, Rank, Select};
 use aug_query::{after, before, has, keys, range, rank, select, size};
 use aug_trie::{BeginError, Pass, Round};
 use std::alloc::{AllocError, Global};
@@ -69,9 +70,9 @@ fn begun(rt: &impl Abort, alloc: Global, ended: Trie) -> Result<(Table, Hands), 
 // All keys of a new snapshot, requested again if memory was refused.
 fn listed(alloc: Global, pass: &mut Pass<Sum, Extent>) -> Result<Vec<u32>, AllocError> {
     let snapshot = pass.snapshot();
-    match pass.keys(alloc, snapshot) {
+    match pass.ask(snapshot, Keys(alloc)) {
         Ok(list) => Ok(list),
-        Err(_) => pass.keys(alloc, snapshot),
+        Err(_) => pass.ask(snapshot, Keys(alloc)),
     }
 }
 
@@ -93,7 +94,10 @@ fn assert_shows(rt: &impl Abort, alloc: Global, pass: &mut Pass<Sum, Extent>) {
     let snapshot = pass.snapshot();
     equal(
         rt,
-        (pass.rank(snapshot, 65_536), pass.select(snapshot, 0)),
+        (
+            pass.ask(snapshot, Rank(65_536)),
+            pass.ask(snapshot, Select(0)),
+        ),
         (2, Some(5)),
     );
 }

@@ -1,5 +1,5 @@
-//! How often rounds ask for memory. The number stands in a test's name: `tests/requests.py` counts. An empty trie asks three times, for its
-//! words while they are made and for the two rows of its table (one row is empty), and so does a round over no members. A round over some
+//! How often rounds ask for memory. The number stands in a test's name: `tests/requests.py` counts. An empty trie asks four times, for its
+//! words while they are made, for the room in which they are made anew, and for the two rows of its table (one row is empty), and so does a round over no members. A round over some
 //! members asks once more, for their list. Nothing else asks except a list, once.
 ghost use Rattle.std.specs.Prelude.{◌≡◌, IfOk};
 
@@ -14,20 +14,21 @@ use super::playing::{Step, played, played_from_empty};
 use super::rounds::{Trie, next_pass};
 use crate::assertions::equal;
 use aug_model::Outcome::Accepted;
+use aug_query::descent::{Keys, Pairs};
 use aug_query::{keys, pairs, size};
 use aug_trie::{BeginError, Ended};
 use std::alloc::Global;
 use std::process::Abort;
 
 #[test]
-fn an_empty_trie_asks_3_times_for_memory(rt: HostRuntime) -> Result<(), BeginError> {
+fn an_empty_trie_asks_4_times_for_memory(rt: HostRuntime) -> Result<(), BeginError> {
     let mut ended: Trie = Ended::empty(rt.alloc(), 4)?;
     equal(&rt, (ended.bits(), size(&mut ended)), (4, 0));
     Ok(())
 }
 
 #[test]
-fn a_round_with_no_members_asks_6_times_for_memory(rt: HostRuntime) -> Result<(), BeginError> {
+fn a_round_with_no_members_asks_8_times_for_memory(rt: HostRuntime) -> Result<(), BeginError> {
     let ended = played_from_empty(&rt, rt.alloc(), 4, (3, 5), &[])?;
     equal(&rt, ended.missing(), 0);
     Ok(())
@@ -77,7 +78,7 @@ pub(super) fn played_by_two(rt: &impl Abort, alloc: Global) -> Result<Trie, Begi
 }
 
 #[test]
-fn a_round_of_updates_and_queries_asks_6_times_for_memory(
+fn a_round_of_updates_and_queries_asks_8_times_for_memory(
     rt: HostRuntime,
 ) -> Result<(), BeginError> {
     let mut ended = played_by_two(&rt, rt.alloc())?;
@@ -86,14 +87,14 @@ fn a_round_of_updates_and_queries_asks_6_times_for_memory(
 }
 
 #[test]
-fn a_second_round_over_members_asks_10_times_for_memory(rt: HostRuntime) -> Result<(), BeginError> {
+fn a_second_round_over_members_asks_13_times_for_memory(rt: HostRuntime) -> Result<(), BeginError> {
     let ended = played_by_two(&rt, rt.alloc())?;
     played(&rt, rt.alloc(), ended, (64, 1), &answers())?;
     Ok(())
 }
 
 #[test]
-fn two_lists_of_a_trie_at_rest_ask_8_times_for_memory(rt: HostRuntime) -> Result<(), BeginError> {
+fn two_lists_of_a_trie_at_rest_ask_10_times_for_memory(rt: HostRuntime) -> Result<(), BeginError> {
     let mut ended = played_by_two(&rt, rt.alloc())?;
     let list = keys(rt.alloc(), &mut ended).expect(&rt, "memory");
     let weighted = pairs(rt.alloc(), &mut ended).expect(&rt, "memory");
@@ -103,13 +104,13 @@ fn two_lists_of_a_trie_at_rest_ask_8_times_for_memory(rt: HostRuntime) -> Result
 }
 
 #[test]
-fn two_lists_of_a_snapshot_ask_12_times_for_memory(rt: HostRuntime) -> Result<(), BeginError> {
+fn two_lists_of_a_snapshot_ask_15_times_for_memory(rt: HostRuntime) -> Result<(), BeginError> {
     let ended = played_by_two(&rt, rt.alloc())?;
     let (round, mut crew) = next_round(rt.alloc(), ended, 1, 1)?;
     let mut pass = next_pass(&mut crew, &round).expect(&rt, "lane 0");
     let snapshot = pass.snapshot();
-    let list = pass.keys(rt.alloc(), snapshot).expect(&rt, "memory");
-    let weighted = pass.pairs(rt.alloc(), snapshot).expect(&rt, "memory");
+    let list = pass.ask(snapshot, Keys(rt.alloc())).expect(&rt, "memory");
+    let weighted = pass.ask(snapshot, Pairs(rt.alloc())).expect(&rt, "memory");
     equal(&rt, list.as_slice(), [5, 9].as_slice());
     equal(&rt, weighted.as_slice(), [(5, 70), (9, 9)].as_slice());
     Ok(())

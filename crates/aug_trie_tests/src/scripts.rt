@@ -7,6 +7,7 @@ use super::rounds::{Trie, next_pass};
 use crate::assertions::{equal, equal_length, holds};
 use aug_model::KeySet;
 use aug_monoid::{Extent, Sum};
+use aug_query::descent::{After, Before, Has, Keys, Pairs, Range, Rank, Select, Size, Weight};
 use aug_query::{after, before, has, keys, pairs, range, rank, select, size, weight};
 use aug_trie::{BeginError, Ended, Pass, Snapshot};
 use std::alloc::Global;
@@ -93,21 +94,21 @@ pub(super) fn assert_agrees(
 {
     equal(
         rt,
-        (pass.has(s, k), pass.weight(s, k)),
+        (pass.ask(s, Has(k)), pass.ask(s, Weight(k))),
         (set.has(k), set.weight(k)),
     );
     equal(
         rt,
-        (pass.size(s), pass.rank(s, k)),
+        (pass.ask(s, Size), pass.ask(s, Rank(k))),
         (set.size(), set.rank(k)),
     );
-    equal(rt, pass.select(s, k), set.select(k));
+    equal(rt, pass.ask(s, Select(k)), set.select(k));
     equal(
         rt,
-        (pass.before(s, k), pass.after(s, k)),
+        (pass.ask(s, Before(k)), pass.ask(s, After(k))),
         (set.before(k), set.after(k)),
     );
-    equal(rt, pass.range(s, k, end), set.range(k, end));
+    equal(rt, pass.ask(s, Range(k, end)), set.range(k, end));
 }
 
 // The lists of keys and of pairs that the set has.
@@ -141,8 +142,8 @@ fn step(
     update(rt, pass, early, &mut plain.set, numbers);
     let (k, end) = (numbers.key(6), numbers.key(6));
     assert_agrees(rt, pass, early, &plain.before, k, end);
-    let keys = pass.keys(alloc, early).expect(rt, "memory");
-    let pairs = pass.pairs(alloc, early).expect(rt, "memory");
+    let keys = pass.ask(early, Keys(alloc)).expect(rt, "memory");
+    let pairs = pass.ask(early, Pairs(alloc)).expect(rt, "memory");
     assert_lists(rt, &keys, &pairs, &plain.before);
     let late = pass.snapshot();
     assert_agrees(rt, pass, late, &plain.set, k, end);

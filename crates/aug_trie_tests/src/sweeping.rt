@@ -14,7 +14,7 @@ use crate::assertions::{equal, equal_at, equal_length, holds};
 use aug_model::KeySet;
 use aug_model::Outcome::Accepted;
 use aug_monoid::{Extent, Sum};
-use aug_query::{has, pairs};
+use aug_query::{descent, has, pairs};
 use aug_trie::{BeginError, Ended, Pass};
 use std::alloc::Global;
 use std::process::Abort;
@@ -140,9 +140,13 @@ fn assert_shows(rt: &impl Abort, alloc: Global, pass: &mut Pass<Sum, Extent>, se
     ensures { pass.new.round ≡ pass.old.round }
 {
     let snapshot = pass.snapshot();
-    equal(rt, pass.size(snapshot), set.size());
-    let keys = pass.keys(alloc, snapshot).expect(rt, "memory");
-    let pairs = pass.pairs(alloc, snapshot).expect(rt, "memory");
+    equal(rt, pass.ask(snapshot, descent::Size), set.size());
+    let keys = pass
+        .ask(snapshot, descent::Keys(alloc))
+        .expect(rt, "memory");
+    let pairs = pass
+        .ask(snapshot, descent::Pairs(alloc))
+        .expect(rt, "memory");
     assert_lists(rt, &keys, &pairs, set);
 }
 
@@ -198,7 +202,9 @@ fn rounds_over_many_members_begin(rt: HostRuntime) -> Result<(), BeginError> {
         let (round, mut crew) = next_round(rt.alloc(), ended, 3, 5)?;
         let mut pass = next_pass(&mut crew, &round).expect(&rt, "lane 0");
         let snapshot = pass.snapshot();
-        let list = pass.pairs(rt.alloc(), snapshot).expect(&rt, "memory");
+        let list = pass
+            .ask(snapshot, descent::Pairs(rt.alloc()))
+            .expect(&rt, "memory");
         equal_length(&rt, list.len(), members as usize);
         for (place, pair) in list.iter().enumerate() {
             let key = place as u32;

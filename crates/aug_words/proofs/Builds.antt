@@ -1,7 +1,7 @@
 -- The words of a table are filled node by node.
 use Rattle.std.proofs.Common.{true, false, ◌≡◌, ℕ, zero, suc, ◌+◌, ◌-◌, ◌*◌, ◌%◌, ◌^◌, ◌<◌, ◌≤◌, ◌≢◌, ◌⊎◌, inl, inr, max, Bool, ◌||◌, eqb, eq-eqb, ne_eqb, leb, le-leb, le-ltb, lt-ltb, if◌then◌else◌, List, [], ◌∷◌, ◌++◌, length, get_or, set, take, All, refl, sym, ap, ◌∙◌, subst, ⊎_elim, arith, length-set, length-append, get_or-set_other, get_or-set_same}
 use Rattle.std.proofs.lemmas.Bool.{cases_eq, cases_lt, lt-leb}
-use Rattle.std.proofs.lemmas.List.{take_all, take_more, get_or_read, get_or-replicate}
+use Rattle.std.proofs.lemmas.List.{take_all, take_more, get_or_read}
 use Rattle.std.proofs.lemmas.List.Elements.{All-filter, All-contains}
 use Rattle.std.proofs.lemmas.List.Folds.{list_any_at, list_any-append}
 use Rattle.std.specs.List.Sorted.{IsStrictlyIncreasing}
@@ -18,7 +18,7 @@ use Rattle.aug_model.proofs.Ranges.{Rises, rises_from, all_below_from, count_few
 use Rattle.aug_core.specs.Places.{Shape, own_records, lane_place, record_start, word_count, level_start, record_words}
 use Rattle.aug_core.specs.Addresses.{place_count, IsInner, left_of, right_of, level_of, place_on}
 use Rattle.aug_core.specs.inside.WordPlaces.{IsWord}
-use Rattle.aug_core.specs.Lanes.{block_start, block_size}
+use Rattle.aug_core.specs.Lanes.{block_start}
 use Rattle.aug_core.specs.Opening.{Opening, opening_leaf_word, has_members, own_before, number_at, opening_pairs, opening_number, opening_words, shared_words}
 use Rattle.aug_model.specs.NodeKeys.{keys_below, pairs_below}
 use Rattle.aug_core.specs.Faces.{face}
@@ -26,9 +26,11 @@ use Rattle.aug_core.proofs.FaceLemmas.{face_is}
 use Rattle.aug_core.proofs.Sizes.{twice, own_more}
 use Rattle.aug_core.proofs.Levels.{level_rises, room_above, above, inner_word, left_word, right_word}
 use Rattle.aug_core.proofs.Below.{own_room, own_rises, number_own, number_shared, number_low, number_below, number_is, pairs_are, below_both, true_or_false, pairs_over, pairs_of_leaf, number_of_leaf}
-use Rattle.aug_core.specs.Rule.{Kept, newcomer}
+use Rattle.aug_core.specs.Rule.{newcomer}
+use Rattle.aug_core.specs.Eras.{Ruled}
+use Rattle.aug_core.specs.Renewals.{IsOpened}
 use Rattle.atomic_table.specs.Table.{opening}
-use Rattle.aug_core.proofs.Openings.{opens}
+use Rattle.aug_core.proofs.Renewals.{first_opening}
 use Rattle.aug_words.specs.declared.building.Plan.{Plan}
 use Rattle.aug_words.specs.inside.Builds.{WritesFive, MarksMembers, IsMarked, next_own, IsOwn, HasRecord, IsReady, IsBuilt, IsNextNode}
 
@@ -415,9 +417,22 @@ next_same o l p none = let e : p + 1 ≡ suc p = omega arith in let f = ap (own_
 pub next_more : (o : Opening) (l p : ℕ) → has_members o (suc l) p ≡ true → next_own o l p + 1 ≡ next_own o l (p + 1)
 next_more o l p has = let e : p + 1 ≡ suc p = omega arith in let f = ap (own_before o (suc l)) e in let g = own_after o (suc l) p has in omega arith
 
--- the rule holds of the words when all nodes are built
+-- the words open a table when all nodes are built
+pub built_is_opened : (face : ℕ → ℕ → List (ℕ × ℕ) → List ℕ) (o : Opening) (words : List ℕ) → IsKeySet o.shape.bits (keys_of o.members) → All FitsPair o.members → length (keys_of o.members) ≤ o.shape.members
+    → IsBuilt face o o.shape.bits (place_count o.shape) words → IsOpened face o words
+built_is_opened face o words set fit few built = record {
+  key_set = set;
+  members_fit = fit;
+  few = few;
+  wide = built.long;
+  named = built.named;
+  records = λ q k inner small. built.records q inner.past_leaves inner.inside k small;
+  shared = λ level k low small. built.shared level low k small;
+  idle = built.idle;
+  lanes = built.lanes;
+}
+
+-- and the rule holds of them, where the records of the lanes are blank
 pub built_opens : (face : ℕ → ℕ → List (ℕ × ℕ) → List ℕ) (o : Opening) (words : List ℕ) → IsKeySet o.shape.bits (keys_of o.members) → All FitsPair o.members → length (keys_of o.members) ≤ o.shape.members
-    → IsBuilt face o o.shape.bits (place_count o.shape) words → Kept face o (opening words [] (newcomer face o))
-built_opens face o words set fit few built =
-    opens face o words (rises o set) fit few built.long built.named (λ q k inner small. built.records q inner.past_leaves inner.inside k small) (λ level k low small. built.shared level low k small) built.idle built.lanes
-    (λ lane low k small. built.blocks lane k low small ∙ sym (get_or-replicate (block_size o.shape) k 0 0 small))
+    → IsBuilt face o o.shape.bits (place_count o.shape) words → Ruled face o.shape (opening words [] (newcomer face o))
+built_opens face o words set fit few built = first_opening face o words (built_is_opened face o words set fit few built) (λ lane k low small. built.blocks lane k low small)

@@ -1,8 +1,13 @@
 -- What the words of a table at rest are.
-use Rattle.std.proofs.Common.{◌≡◌, ℕ, zero, suc, ◌+◌, ◌-◌, ◌*◌, List, [], ◌∷◌, get_or, refl, sym, ap, ◌∙◌, subst}
+use Rattle.std.proofs.Common.{true, ⊎_elim, ◌≡◌, ℕ, zero, suc, ◌+◌, ◌-◌, ◌*◌, List, [], ◌∷◌, get_or, refl, sym, ap, ◌∙◌, subst}
 use mathlib.Core.Option.{some, some-injective, some-ne-none}
 use lib.ListN.{get_elem?}
 use Rattle.atomic_table.specs.Table.{Final, Seen}
+use Rattle.aug_core.specs.Eras.{IsAtWork, Works, Renews, Ruled}
+use Rattle.aug_core.specs.Renewals.{EndWith}
+use Rattle.aug_core.specs.Told.{opening_of}
+use Rattle.aug_core.proofs.Eras.{none_renews}
+use Rattle.aug_core.proofs.Renewals.{met_rule}
 use Rattle.aug_core.specs.Addresses.{IsInner}
 use Rattle.aug_core.specs.Lanes.{first_record}
 use Rattle.aug_core.specs.Book.{At}
@@ -10,11 +15,11 @@ use Rattle.aug_core.specs.Opening.{Opening, opening_entry}
 use Rattle.aug_core.specs.Rule.{Kept}
 use Rattle.aug_core.specs.declared.view.Entry.{Entry}
 use Rattle.aug_core.specs.declared.view.SeatView.{SeatView}
-use Rattle.aug_core.specs.Places.{record_words}
+use Rattle.aug_core.specs.Places.{Shape, record_words}
 use Rattle.aug_core.proofs.Sizes.{in_block}
 use Rattle.aug_core.proofs.Moves.{St}
 use Rattle.aug_core.proofs.Openings.{inner_history}
-use Rattle.aug_words.specs.Rests.{EndWith, ShowAll}
+use Rattle.aug_words.specs.Rests.{ShowAll}
 use Rattle.aug_core.proofs.PrefixLemmas.{entry_stays}
 
 module _ (face : ℕ → ℕ → List (ℕ × ℕ) → List ℕ) (o : Opening) where
@@ -34,12 +39,15 @@ module _ (face : ℕ → ℕ → List (ℕ × ℕ) → List ℕ) (o : Opening) w
           ap (λ (z : ℕ). get_or s.words z 0) b.0 ∙ (kn.holds a h p).exact (record_words * (number - first_record o.shape h.lane) + field) b.1;
     }
 
-  module _ (id : ℕ) (v : SeatView) (words : List ℕ) (slots : List (Unit {0})) (end : Final (Seen (Kept face o) id v) words slots) where
-    pub ends_with : EndWith face o v words
-    ends_with = record { state = end.0; kept = end.1.0; words_are = end.2; seat = id; view_is = end.1.1 }
-
+  module _ (v : SeatView) (words : List ℕ) (end : EndWith face o v words) where
     pub ends_showing : ShowAll face o v words
-    ends_showing = subst (λ (z : List ℕ). ShowAll face o v z) end.2 (shows_all end.0 end.1.0 id v end.1.1)
+    ends_showing = subst (λ (z : List ℕ). ShowAll face o v z) end.words_are (shows_all end.state end.kept end.seat v end.view_is)
+
+-- a table that a lead closes met the rule of the opening that the lead knows
+pub ends_with : (face : ℕ → ℕ → List (ℕ × ℕ) → List ℕ) (made : Shape) (id : ℕ) (v : SeatView) (words : List ℕ) (slots : List (Unit {0})) → Final (Seen (Ruled face made) id v) words slots → v.live ≡ true → IsAtWork v → EndWith face (opening_of v) v words
+ends_with face made id v words slots end live work = ⊎_elim
+    (λ (w : Works face made end.0). subst (EndWith face (opening_of v) v) end.2 (met_rule face made end.0 w id v end.1.1 live (w.present id v end.1.1 work)))
+    (λ (r : Renews made end.0). absurd (none_renews face made end.0 id v end.1.1 work r)) end.1.0
 
 -- a word that was found is the word there
 pub found_at : (words : List ℕ) (i x : ℕ) → get_elem? words i ≡ some x → x ≡ get_or words i 0

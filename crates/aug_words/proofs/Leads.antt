@@ -1,57 +1,57 @@
 -- The seat of a lead, and the table that it sits at.
-use Rattle.std.proofs.Common.{◌≡◌, ℕ, ◌+◌, ◌<◌, ◌≤◌, List, [], ◌∷◌, ◌++◌, length, All, Option, None, Some, option_map, sym, refl, ap, ◌∙◌, subst, arith}
+use Rattle.std.proofs.Common.{◌≡◌, ℕ, ◌+◌, ◌<◌, ◌≤◌, List, [], ◌++◌, length, All, Option, Some, option_map, sym, refl, ap, ◌∙◌, subst, arith}
 use Rattle.std.specs.Prelude.{unwrap_or}
-use Rattle.std.proofs.lemmas.List.{length-replicate}
-use Rattle.aug_core.specs.Lanes.{IsOfLane, block_size, word_of_state}
+use Rattle.aug_core.specs.Lanes.{IsOfLane}
 use Rattle.aug_core.specs.Addresses.{IsInner, root_place}
 use Rattle.aug_core.specs.Places.{word_count}
 use Rattle.aug_core.specs.Book.{Book, ArePrefixes, IsNewest, GoesOnFromBoth}
-use Rattle.aug_core.specs.Kinds.{take_lane}
-use Rattle.aug_core.specs.Rule.{newcomer, no_beginning}
-use Rattle.aug_core.specs.Told.{Sat, LoadsNode, handing_out, handed_out, taking, taking_back, in_state, new_lane, own_lane_place, MayStore, MayChange}
-use Rattle.aug_core.specs.declared.view.LaneState.TheVariants.{Taken, Free}
+use Rattle.aug_core.specs.Told.{Sat, LoadsNode, handing_out, handed_out, taking, taking_back, learning, in_state, new_lane, own_lane_place, MayStore, MayChange}
+use Rattle.aug_core.specs.declared.view.LaneState.TheVariants.{Taken}
 use Rattle.aug_core.specs.declared.view.SeatView.{SeatView}
 use Rattle.aug_core.proofs.PlaceLemmas.{keys-within}
 use Rattle.aug_core.proofs.Sizes.{twice}
 use Rattle.aug_core.proofs.Books.{goes_on_from_both}
+use Rattle.aug_core.proofs.Splits.{block_long}
 use Rattle.aug_core.proofs.Clients.{new_pass_may_store, new_pass_may_change}
-use Rattle.aug_core.proofs.Fits.{knows_shown, knows_same}
+use Rattle.aug_core.proofs.Fits.{knows_shown, knows_same, knows_taken}
 use Rattle.atomic_table.specs.Seated.{TableId}
 use Rattle.aug_core.specs.Places.{Shape}
 use Rattle.aug_core.specs.Opening.{Opening, opening_number, opening_entry}
 use Rattle.aug_core.specs.declared.view.Entry.{Entry}
 use Rattle.aug_core.specs.Layout.{IsLayout}
-use Rattle.aug_core.proofs.Openings.{newcomer_knows, inner_history}
+use Rattle.aug_core.proofs.Openings.{inner_history, opener, opener_knows}
 use Rattle.aug_model.specs.Keys.{IsKeySet, keys_of}
 use Rattle.aug_monoid.specs.Weighted.{FitsPair}
 use mathlib.Core.Option.{some}
 use lib.ListN.{get_elem?}
 use Rattle.aug_words.specs.Leads.{HandsLaneOut}
+use Rattle.aug_words.specs.Notes.{LearnsNote}
 use Rattle.aug_words.specs.inside.SeatState.{SitsAt, IsPassSeat, IsLeadSeat, IsStore}
 use Rattle.aug_words.specs.Seats.{IsNextLane}
 
 -- a table has a word
-pub some_words : (table : TableId) (opening : Opening) (layout : Shape) (lanes records : ℕ) → IsStore table opening layout lanes records → 0 < table.words
-some_words table opening layout lanes records store = let wide = store.wide in let workers = store.laid_out.workers.0 in omega arith
+pub some_words : (table : TableId) (made opening : Opening) (layout : Shape) (lanes records : ℕ) (draft : List ℕ) → IsStore table made opening layout lanes records draft → 0 < table.words
+some_words table made opening layout lanes records draft store = let wide = store.wide in let workers = store.laid_out.workers.0 in omega arith
 
 pub pass_has_words : (face : ℕ → ℕ → List (ℕ × ℕ) → List ℕ) (seat_table table : TableId) (lanes records lane : ℕ) (me : Sat) → SitsAt seat_table table lanes records me.0.shape → IsPassSeat face lane me → 0 < table.words
 pass_has_words face seat_table table lanes records lane me sits seat = let wide = sits.wide in let low = seat.exists in omega arith
 
 -- the first lane's word comes after the root's
-pub lanes_at : (table : TableId) (opening : Opening) (layout : Shape) (lanes records : ℕ) → IsStore table opening layout lanes records → (lanes ≡ root_place opening.shape + 1) × (2 ≤ lanes) × (lanes < word_count opening.shape)
-lanes_at table opening layout lanes records store = let begins = store.lanes_are in let workers = store.laid_out.workers.0 in let bits = keys-within opening.shape.bits store.laid_out.bits.0 store.laid_out.bits.1 in let b = bits.0 in let t = twice opening.shape.bits in (omega arith, omega arith, omega arith)
+pub lanes_at : (table : TableId) (made opening : Opening) (layout : Shape) (lanes records : ℕ) (draft : List ℕ) → IsStore table made opening layout lanes records draft → (lanes ≡ root_place opening.shape + 1) × (2 ≤ lanes) × (lanes < word_count opening.shape)
+lanes_at table made opening layout lanes records draft store = let begins = store.lanes_are in let workers = store.laid_out.workers.0 in let bits = keys-within opening.shape.bits store.laid_out.bits.0 store.laid_out.bits.1 in let b = bits.0 in let t = twice opening.shape.bits in (omega arith, omega arith, omega arith)
 
 -- the root is an inner node
 pub root_inner : (s : Shape) → 1 ≤ s.bits → s.bits ≤ 16 → IsInner s (root_place s)
 root_inner s some_bits few = let b = (keys-within s.bits some_bits few).0 in let t = twice s.bits in record { past_leaves = omega arith; inside = omega arith }
 
--- the first seat, which has the number of the root's opening record
-pub first_seat : (face : ℕ → ℕ → List (ℕ × ℕ) → List ℕ) (o : Opening) (number : ℕ) → IsLayout o.shape → IsKeySet o.shape.bits (keys_of o.members) → All FitsPair o.members → length (keys_of o.members) ≤ o.shape.members → number ≡ opening_number o (root_place o.shape) → IsLeadSeat face 0 number (newcomer face o, [])
-first_seat face o number laid_out set fit few named = let inner = root_inner o.shape laid_out.bits.0 laid_out.bits.1 in let only = inner_history face o (root_place o.shape) inner in record {
+-- the seat that opens a table, which has the number of the root's opening record
+pub opening_seat : (face : ℕ → ℕ → List (ℕ × ℕ) → List ℕ) (o : Opening) (era : ℕ) (words : List ℕ) (number : ℕ) → IsLayout o.shape → IsKeySet o.shape.bits (keys_of o.members) → All FitsPair o.members → length (keys_of o.members) ≤ o.shape.members
+    → number ≡ opening_number o (root_place o.shape) → IsLeadSeat face 0 number (opener face o era words, [])
+opening_seat face o era words number laid_out set fit few named = let inner = root_inner o.shape laid_out.bits.0 laid_out.bits.1 in let only = inner_history face o (root_place o.shape) inner in record {
   live = refl;
   no_slot = refl;
   hands_out = refl;
-  knows = newcomer_knows face o laid_out set fit few;
+  knows = opener_knows face o era words laid_out set fit few;
   names_root = record {
     index = 0;
     entry = opening_entry face o (root_place o.shape);
@@ -96,6 +96,16 @@ module _ (face : ℕ → ℕ → List (ℕ × ℕ) → List ℕ) (next root : �
     names_root = let at = seat.names_root in record { index = at.index; entry = at.entry; newest = at.newest; named = at.named };
   }
 
+  -- one that took in a note
+  pub lead_learnt : (w : SeatView) → me'.0 ≡ learning me.0 w → me'.1 ≡ me.1 → IsLeadSeat face next root me'
+  lead_learnt w is same = subst (IsLeadSeat face next root) (λ i. (sym is i, sym same i)) record {
+    live = seat.live;
+    no_slot = seat.no_slot;
+    hands_out = seat.hands_out;
+    knows = knows_same face me.0 me.0.live w.seen me.0.held me.0.spare me.0.began me.0.steps seat.knows;
+    names_root = let at = seat.names_root in record { index = at.index; entry = at.entry; newest = at.newest; named = at.named };
+  }
+
 -- a lead that may hand a lane out may do so after it loaded a node
 pub may_hand_out : (face : ℕ → ℕ → List (ℕ × ℕ) → List ℕ) (old new : SeatView) (q found lane next : ℕ) → LoadsNode face old q found new → IsNextLane old lane → new.spare ≡ Some next → next < new.shape.workers
 may_hand_out face old new q found lane next did room spare =
@@ -109,14 +119,18 @@ new_pass face next root place lead me seat low empty is =
     subst (IsPassSeat face next) (λ i. (sym is i, sym empty i)) record {
       live = seat.live;
       no_slot = refl;
-      held = in_state Taken (new_lane lead.0.shape (unwrap_or lead.0.spare 0));
+      held = in_state Taken (new_lane lead.0.shape lead.0.words (unwrap_or lead.0.spare 0));
       only = refl;
       named = which;
       taken = refl;
-      long = length-replicate (block_size lead.0.shape) 0;
+      long = block_long lead.0.shape lead.0.words (unwrap_or lead.0.spare 0);
       exists = low;
-      knows = knows_same face lead.0 lead.0.live [] (in_state Taken (new_lane lead.0.shape (unwrap_or lead.0.spare 0)) ∷ []) None no_beginning (take_lane place (word_of_state Free) ∷ []) seat.knows;
+      knows = knows_taken face lead.0 place seat.knows;
     }
+
+-- what is known once a note was taken in and the root was loaded
+pub learnt_note : (face : ℕ → ℕ → List (ℕ × ℕ) → List ℕ) (v note w : SeatView) (found : ℕ) → LoadsNode face (learning v note) (root_place v.shape) found w → LearnsNote face v note found w
+learnt_note face v note w found did = record { loaded = did; of_both = goes_on_from_both w.seen v.seen note.seen did.sees.later did.sees.also_later }
 
 -- what the lead knows once it took a pass back and loaded the root
 pub took_back : (face : ℕ → ℕ → List (ℕ × ℕ) → List ℕ) (v w u x : SeatView) (q found : ℕ) → LoadsNode face (taking_back v w) q found u → w.seen ≡ x.seen → GoesOnFromBoth v.seen x.seen u.seen

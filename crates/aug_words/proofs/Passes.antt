@@ -9,7 +9,8 @@ use Rattle.aug_core.specs.Book.{Book, history_of}
 use Rattle.aug_core.proofs.Books.{at_below}
 use Rattle.std.proofs.Math.Nat.{mul_comm}
 use Rattle.std.proofs.lemmas.Bool.{cases_eq}
-use Rattle.aug_core.specs.Told.{Sat, stepping, old_word, new_word, made_by, with_changes, with_published, Sees, LoadsLeaf, BeginsAtLeaf, LoadsNode, TriesLeaf, TriesNode, HoldsOnly, HasSeen, Owns, MayStore, ReadsRecord, on_first, with_word, storing, beginning, own_lane}
+use Rattle.aug_core.specs.Told.{Sat, stepping, learning, old_word, new_word, made_by, with_changes, with_published, Sees, LoadsLeaf, BeginsAtLeaf, LoadsNode, TriesLeaf, TriesNode, HoldsOnly, HasSeen, Owns, MayStore, ReadsRecord, on_first, with_word, storing, beginning, own_lane}
+use Rattle.aug_core.specs.Eras.{IsAtWork}
 use Rattle.aug_core.specs.inside.LaneStates.{HasTakenLane}
 use Rattle.aug_core.specs.Kinds.{load_leaf, try_leaf, load_node, try_node, load_record_word, store_record_word}
 use Rattle.aug_core.specs.declared.step.StepTaken.{StepTaken}
@@ -21,6 +22,7 @@ use Rattle.aug_core.specs.declared.view.SeatView.{SeatView}
 use Rattle.aug_core.proofs.Sizes.{record_inside}
 use Rattle.aug_core.proofs.Fits.{knows_shown, knows_same}
 use Rattle.aug_core.proofs.Stores.{alone, one_held}
+use Rattle.aug_core.proofs.Eras.{holds_lane}
 use Rattle.aug_words.specs.inside.SeatState.{SitsAt, IsPassSeat, HasReached}
 use Rattle.aug_words.specs.Seats.{MayLoad, LoadsRecordWord}
 
@@ -92,6 +94,23 @@ module _ (face : ℕ → ℕ → List (ℕ × ℕ) → List ℕ) (a a' t : Table
     },
   )
 
+  -- a pass that took in a note
+  pub pass_learnt : (w : SeatView) → me'.0 ≡ learning me.0 w → me'.1 ≡ me.1 → IsPass
+  pass_learnt w is same = let seat = is_pass.1 in (
+    sits_on a a' t l r me.0.shape me'.0.shape is_pass.0 one (ap (λ (z : SeatView). z.shape) is),
+    subst (IsPassSeat face lane) (λ i. (sym is i, sym same i)) record {
+      live = seat.live;
+      no_slot = seat.no_slot;
+      held = seat.held;
+      only = seat.only;
+      named = seat.named;
+      taken = seat.taken;
+      long = seat.long;
+      exists = seat.exists;
+      knows = knows_same face me.0 me.0.live w.seen me.0.held me.0.spare me.0.began me.0.steps seat.knows;
+    },
+  )
+
   pub pass_loaded : (place word : ℕ) → (me'.1 ≡ []) × ReadsRecord me.0 place word me'.0 → IsPass
   pass_loaded place word did = let seat = is_pass.1 in kept seat.held me.0.held (me.0.steps ++ load_record_word place word ∷ []) seat.only seat.named seat.taken seat.long did.0 did.1.stepped
 
@@ -107,6 +126,10 @@ module _ (face : ℕ → ℕ → List (ℕ × ℕ) → List ℕ) (lane : ℕ) (m
 
   pub own_lane_is : own_lane me.0.held ≡ lane
   own_lane_is = ap own_lane seat.only ∙ seat.named
+
+  -- so that it is at work
+  pub works_on : IsAtWork me.0
+  works_on = holds_lane me.0 seat.held seat.only
 
   -- and what is said of the lane that it holds is said of that one
   pub lane_named : (h : Held) → HoldsOnly me.0 h → (h.lane ≡ lane) × (h.state ≡ Taken) × (length h.words ≡ block_size me.0.shape)

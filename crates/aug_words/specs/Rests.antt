@@ -2,13 +2,11 @@
 use Rattle.std.specs.Prelude.{◌≡◌, ℕ, ◌+◌, ◌<◌, List, slice_index}
 use mathlib.Core.Option.{some}
 use lib.ListN.{get_elem?}
-use Rattle.atomic_table.specs.Table.{State}
 use Rattle.aug_core.specs.Places.{Shape, lane_place, record_start, record_words}
 use Rattle.aug_core.specs.Addresses.{IsInner}
 use Rattle.aug_core.specs.Lanes.{IsOfLane, word_of_state}
 use Rattle.aug_core.specs.Book.{At}
 use Rattle.aug_core.specs.Opening.{Opening, IsIdle, opening_number, opening_words, shared_words}
-use Rattle.aug_core.specs.Rule.{Kept}
 use Rattle.aug_core.specs.Told.{held_word}
 use Rattle.aug_core.specs.declared.view.Entry.{Entry}
 use Rattle.aug_core.specs.declared.view.Held.{Held}
@@ -20,14 +18,6 @@ pub record AtRest : Type 0 where
   pub words : List ℕ
 
 module _ (face : ℕ → ℕ → List (ℕ × ℕ) → List ℕ) (o : Opening) (v : SeatView) (words : List ℕ) where
-  -- the words meet the rule, and one of the views is this one
-  pub record EndWith : Type 0 where
-    pub state : State (Unit {0}) SeatView
-    pub kept : Kept face o state
-    pub words_are : state.words ≡ words
-    pub seat : ℕ
-    pub view_is : get_elem? state.views seat ≡ some v
-
   -- what a reader of the words learns
   pub record ShowAll : Type 0 where
     -- the words of a node's opening record, its own one or the empty one of its level, say what was there below it at the opening

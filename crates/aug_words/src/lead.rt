@@ -97,8 +97,8 @@ impl<A: Monoid, B: Monoid> Lead<A, B> {
         self.root
     }
 
-    // Loads the root's word: the lead then knows all that was published, and all that a pass that it took back knew.
-    fn load_root(&mut self, words: &SharedWords<A, B>, root: usize)
+    // Loads the root's word: the lead then knows all that was published, and all that a pass or a note that it took in knew.
+    pub(crate) fn load_root(&mut self, words: &SharedWords<A, B>, root: usize)
         requires table { self.old.table ≡ words.now.table_id }
         requires inside { root < words.now.table_id.words }
         requires root { root ≡ root_place self.old.view.shape }

@@ -18,7 +18,7 @@ use aug_core::{
 use aug_monoid::Monoid;
 use std::marker::Model;
 
-/// What one thread knows of a table, with a lane of its own. Each call is exactly one atomic step and takes no memory.
+/// What one thread knows of a table, with a lane of its own. Each call is exactly one atomic step and takes no memory, but for those with notes.
 #[derive(Drop)]
 pub struct WordPass<'r, A: Monoid, B: Monoid> {
     pub(crate) seat: Seat<(), SeatView>,

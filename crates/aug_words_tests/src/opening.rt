@@ -81,12 +81,6 @@ const ONE_BIT_NO_KEYS: Held<'static> = Held {
     records: &[(0, [0, 0, 0, 0, NO_KEYS]), (1, [0; 5])],
 };
 
-#[test]
-fn a_table_of_one_bit_opens_with_no_keys(rt: HostRuntime) -> Result<(), WordsError> {
-    assert_holds(&rt, rt.alloc(), 1, 2, 0, &ONE_BIT_NO_KEYS)?;
-    assert_holds(&rt, rt.alloc(), 1, 2, 2, &ONE_BIT_NO_KEYS)
-}
-
 const ONE_BIT_ONE_KEY: Held<'static> = Held {
     leaves: &[(0, 0), (1, 4_294_967_297)],
     nodes: &[(1, 0, 1)],
@@ -96,11 +90,6 @@ const ONE_BIT_ONE_KEY: Held<'static> = Held {
     ],
 };
 
-#[test]
-fn a_table_of_one_bit_opens_with_one_key(rt: HostRuntime) -> Result<(), WordsError> {
-    assert_holds(&rt, rt.alloc(), 1, 1, 1, &ONE_BIT_ONE_KEY)
-}
-
 const ONE_BIT_ALL_KEYS: Held<'static> = Held {
     leaves: &[(0, 4_294_967_296), (1, 4_294_967_297)],
     nodes: &[(1, 0, 1)],
@@ -109,11 +98,6 @@ const ONE_BIT_ALL_KEYS: Held<'static> = Held {
         (1, [4_294_967_296, 4_294_967_297, 2, 1, 1]),
     ],
 };
-
-#[test]
-fn a_table_of_one_bit_opens_with_all_keys(rt: HostRuntime) -> Result<(), WordsError> {
-    assert_holds(&rt, rt.alloc(), 1, 0, 2, &ONE_BIT_ALL_KEYS)
-}
 
 const SIXTEEN_BITS_NO_KEYS: Held<'static> = Held {
     leaves: &[(0, 0), (65_535, 0)],
@@ -132,12 +116,6 @@ const SIXTEEN_BITS_NO_KEYS: Held<'static> = Held {
     ],
 };
 
-#[test]
-fn a_table_of_sixteen_bits_opens_with_no_keys(rt: HostRuntime) -> Result<(), WordsError> {
-    assert_holds(&rt, rt.alloc(), 16, 65_536, 0, &SIXTEEN_BITS_NO_KEYS)?;
-    assert_holds(&rt, rt.alloc(), 16, 65_536, 65_536, &SIXTEEN_BITS_NO_KEYS)
-}
-
 const SIXTEEN_BITS_LAST_KEY: Held<'static> = Held {
     leaves: &[(65_534, 0), (65_535, 4_295_032_831)],
     nodes: &[
@@ -152,11 +130,6 @@ const SIXTEEN_BITS_LAST_KEY: Held<'static> = Held {
         (31, [14, 30, 1, 65_535, 281_470_681_808_895]),
     ],
 };
-
-#[test]
-fn a_table_of_sixteen_bits_opens_with_the_last_key(rt: HostRuntime) -> Result<(), WordsError> {
-    assert_holds(&rt, rt.alloc(), 16, 65_535, 1, &SIXTEEN_BITS_LAST_KEY)
-}
 
 const SIXTEEN_BITS_ALL_KEYS: Held<'static> = Held {
     leaves: &[(0, 4_294_967_296), (65_535, 4_295_032_831)],
@@ -184,9 +157,24 @@ const SIXTEEN_BITS_ALL_KEYS: Held<'static> = Held {
     ],
 };
 
+// The bits, the first key, and how many members the layout is for.
+const OPENED: &[(u32, u32, u32, Held<'static>)] = &[
+    (1, 2, 0, ONE_BIT_NO_KEYS),
+    (1, 2, 2, ONE_BIT_NO_KEYS),
+    (1, 1, 1, ONE_BIT_ONE_KEY),
+    (1, 0, 2, ONE_BIT_ALL_KEYS),
+    (16, 65_536, 0, SIXTEEN_BITS_NO_KEYS),
+    (16, 65_536, 65_536, SIXTEEN_BITS_NO_KEYS),
+    (16, 65_535, 1, SIXTEEN_BITS_LAST_KEY),
+    (16, 0, 65_536, SIXTEEN_BITS_ALL_KEYS),
+];
+
 #[test]
-fn a_table_of_sixteen_bits_opens_with_all_keys(rt: HostRuntime) -> Result<(), WordsError> {
-    assert_holds(&rt, rt.alloc(), 16, 0, 65_536, &SIXTEEN_BITS_ALL_KEYS)
+fn tables_of_one_and_of_sixteen_bits_open(rt: HostRuntime) -> Result<(), WordsError> {
+    for (bits, first, members, held) in OPENED {
+        assert_holds(&rt, rt.alloc(), *bits, *first, *members, held)?;
+    }
+    Ok(())
 }
 
 const TWO_BITS_UPPER_KEYS: Held<'static> = Held {

@@ -37,38 +37,37 @@ fn replaced(alloc: Global, weight: u32) -> Result<(bool, Rest), WordsError>
     Ok((done, words.close(lead)))
 }
 
-// Replaces the weight, and compares leaves, nodes and records at rest.
-fn assert_replaces(
-    rt: &impl Abort,
-    alloc: Global,
-    weight: u32,
-    leaves: &[(u32, u64)],
-    nodes: &[(u32, u32, u64)],
-    records: &[(u64, [u64; 5])],
-) -> Result<(), WordsError> {
-    let (done, rest) = replaced(alloc, weight)?;
-    holds(rt, done);
-    assert_leaves(rt, &rest, 1, leaves);
-    assert_nodes(rt, &rest, 1, nodes);
-    assert_records(rt, &rest, 2, records);
-    Ok(())
-}
-
-const LEAVES: &[(u32, u64)] = &[(0, 12_884_901_896), (1, 0)];
-
 const NODES: &[(u32, u32, u64)] = &[(1, 0, 1)];
 
 const RECORDS: &[(u64, [u64; 5])] = &[(1, [4_294_967_296, 0, 1, 0, 0])];
 
-#[test]
-fn a_weight_is_replaced_by_one_exchange(rt: HostRuntime) -> Result<(), WordsError> {
-    assert_replaces(&rt, rt.alloc(), 8, LEAVES, NODES, RECORDS)
+// Replaces the weight, and compares the word of its leaf, the other leaf, the node and the record at rest.
+fn assert_replaces(
+    rt: &impl Abort,
+    alloc: Global,
+    weight: u32,
+    word: u64,
+) -> Result<(), WordsError> {
+    let (done, rest) = replaced(alloc, weight)?;
+    holds(rt, done);
+    assert_leaves(rt, &rest, 1, &[(0, word), (1, 0)]);
+    assert_nodes(rt, &rest, 1, NODES);
+    assert_records(rt, &rest, 2, RECORDS);
+    Ok(())
 }
 
-// At rest the upper half of the word is the serial, which was 1 and went up by two, and the lower half is the weight.
+// A weight, and the word of its leaf at rest. The upper half is the serial, which was 1 and went up by two, and the lower half is the weight.
+const WEIGHTS: &[(u32, u64)] = &[
+    (8, 12_884_901_896),
+    (0, 12_884_901_888),
+    (1, 12_884_901_889),
+    (u32::MAX, 17_179_869_183),
+];
+
 #[test]
-fn the_word_of_a_leaf_has_its_serial_and_its_weight(rt: HostRuntime) -> Result<(), WordsError> {
-    assert_replaces(&rt, rt.alloc(), 0, &[(0, 12_884_901_888)], &[], &[])?;
-    assert_replaces(&rt, rt.alloc(), 1, &[(0, 12_884_901_889)], &[], &[])?;
-    assert_replaces(&rt, rt.alloc(), u32::MAX, &[(0, 17_179_869_183)], &[], &[])
+fn a_weight_is_replaced_by_one_exchange(rt: HostRuntime) -> Result<(), WordsError> {
+    for (weight, word) in WEIGHTS {
+        assert_replaces(&rt, rt.alloc(), *weight, *word)?;
+    }
+    Ok(())
 }

@@ -1,23 +1,14 @@
-//! How often tables ask for memory. The number stands in a test's name: `tests/requests.py` counts. A table is opened with three
-//! requests, for its words while they are made and for its two rows (one row is empty). Nothing else asks.
-use super::tables::small;
+//! How often tables ask for memory. The number stands in a test's name: `tests/requests.py` counts. A table is opened with four
+//! requests, for its words while they are made, for the room in which it is opened again, and for its two rows (one row is empty). Nothing else asks.
+use super::tables::{root_of, small};
 use super::working::{Filled, next_half, take_back, work};
 use crate::assertions::equal;
 use aug_words::WordsError;
 
 #[test]
-fn a_table_that_is_opened_and_closed_asks_3_times_for_memory(
-    rt: HostRuntime,
-) -> Result<(), WordsError> {
-    let (words, lead) = small(rt.alloc())?;
-    let rest = words.close(lead);
-    equal(&rt, (rest.leaf(0), rest.leaf(3)), (4_294_967_296, 0));
-    Ok(())
-}
-
-#[test]
-fn a_table_that_passes_work_on_asks_3_times_for_memory(rt: HostRuntime) -> Result<(), WordsError> {
+fn a_table_that_passes_work_on_asks_4_times_for_memory(rt: HostRuntime) -> Result<(), WordsError> {
     let (words, mut lead) = small(rt.alloc())?;
+    equal(&rt, root_of(&lead), 4);
     let first = next_half(&mut lead, &words, 0, 5);
     let second = next_half(&mut lead, &words, 1, 9);
     let Filled { half, words: one } = work(&words, first, 5, 10);

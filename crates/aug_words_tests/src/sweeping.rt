@@ -1,7 +1,7 @@
 //! Tables of all small numbers of bits, members, workers and updates, and of some great ones. Memory is at hand, so that each opens, and
 //! its leaves show its members.
 use super::opening::opened;
-use crate::assertions::{equal_at, holds};
+use crate::assertions::{equal, holds};
 use aug_words::WordsError;
 use std::alloc::Global;
 use std::process::Abort;
@@ -26,12 +26,7 @@ fn assert_opens(
         } else {
             4_294_967_296 + u64::from(key)
         };
-        equal_at(
-            rt,
-            rest.leaf(key),
-            word,
-            format_args!("leaf {key} of {bits} bits"),
-        );
+        equal(rt, (bits, key, rest.leaf(key)), (bits, key, word));
     }
     Ok(())
 }
@@ -55,44 +50,50 @@ fn a_table_opens_with_each_number_of_members(rt: HostRuntime) -> Result<(), Word
     Ok(())
 }
 
-// Opens tables of `bits` bits with each of these numbers of members.
-fn assert_each(
-    rt: &impl Abort,
-    alloc: Global,
-    bits: u32,
-    numbers: &[u32],
-) -> Result<(), WordsError> {
-    for members in numbers {
-        assert_opens(rt, alloc, bits, *members, 1, 1)?;
-    }
-    Ok(())
-}
-
-const FEW_MEMBERS: &[u32] = &[0, 1, 100, 255, 256, 257, 1_000, 2_047, 2_048];
-
-const MANY_MEMBERS: &[u32] = &[4_096, 10_000, 32_768, 65_535, 65_536];
+// Bits, members, workers and updates.
+const GREAT: &[(u32, u32, u32, u32)] = &[
+    (11, 0, 1, 1),
+    (11, 257, 1, 1),
+    (11, 2_047, 1, 1),
+    (11, 2_048, 1, 1),
+    (12, 255, 1, 1),
+    (12, 1_000, 1, 1),
+    (13, 1, 1, 1),
+    (13, 2_048, 1, 1),
+    (14, 100, 1, 1),
+    (14, 2_047, 1, 1),
+    (15, 256, 1, 1),
+    (15, 2_048, 1, 1),
+    (16, 0, 1, 1),
+    (16, 1, 1, 1),
+    (16, 4_096, 1, 1),
+    (16, 10_000, 1, 1),
+    (16, 32_768, 1, 1),
+    (16, 65_535, 1, 1),
+    (16, 65_536, 1, 1),
+    (3, 5, 5, 999),
+    (3, 5, 5, 1_000),
+    (3, 5, 5, 4_096),
+    (3, 5, 5, 10_000),
+    (3, 5, 5, 65_535),
+    (3, 5, 5, 65_536),
+];
 
 #[test]
-fn a_table_opens_with_many_members(rt: HostRuntime) -> Result<(), WordsError> {
-    for bits in 11..=16 {
-        assert_each(&rt, rt.alloc(), bits, FEW_MEMBERS)?;
+fn a_table_opens_with_many_members_or_updates(rt: HostRuntime) -> Result<(), WordsError> {
+    for (bits, members, workers, updates) in GREAT {
+        assert_opens(&rt, rt.alloc(), *bits, *members, *workers, *updates)?;
     }
-    assert_each(&rt, rt.alloc(), 16, MANY_MEMBERS)
+    Ok(())
 }
 
 #[test]
 fn a_table_opens_for_each_number_of_workers_and_of_updates(
     rt: HostRuntime,
 ) -> Result<(), WordsError> {
-    for workers in 1..=64 {
-        assert_opens(&rt, rt.alloc(), 3, 5, workers, 1)?;
-    }
-    for updates in 1..=300 {
-        assert_opens(&rt, rt.alloc(), 3, 5, 1, updates)?;
-        assert_opens(&rt, rt.alloc(), 3, 5, 1 + 7 * updates % 64, updates)?;
-    }
-    for updates in [999, 1_000, 4_096, 10_000, 65_535, 65_536] {
-        assert_opens(&rt, rt.alloc(), 3, 5, 5, updates)?;
+    for number in 0..300 {
+        assert_opens(&rt, rt.alloc(), 3, 5, 1, 1 + number)?;
+        assert_opens(&rt, rt.alloc(), 3, 5, 1 + number % 64, 1 + number / 64)?;
     }
     Ok(())
 }

@@ -7,7 +7,7 @@ ghost use Rattle.aug_model.specs.Keys.{IsKeySet, keys_of};
 ghost use Rattle.aug_monoid.specs.Weighted.{FitsPair};
 ghost use Rattle.aug_words.specs.Seats.{AreTogether};
 
-use crate::assertions::{equal, equal_at, holds};
+use crate::assertions::{equal, holds};
 use aug_core::{Layout, RecordField};
 use aug_monoid::{Extent, Monoid, Sum};
 use aug_words::{Lead, Rest, WordPass, Words, WordsError};
@@ -82,7 +82,7 @@ pub(super) fn join<A: Monoid, B: Monoid>(
 }
 
 // The five words of a record at rest.
-pub(super) fn record_at(rest: &Rest, number: u64) -> [u64; 5]
+fn record_at(rest: &Rest, number: u64) -> [u64; 5]
     requires { number < record_count rest.now.shape }
 {
     [
@@ -101,7 +101,7 @@ pub(super) fn assert_leaves(rt: &impl Abort, rest: &Rest, bits: u32, leaves: &[(
     for (key, word) in leaves {
         let key = *key;
         holds(rt, key < 1 << bits);
-        equal_at(rt, rest.leaf(key), *word, format_args!("leaf {key}"));
+        equal(rt, (key, rest.leaf(key)), (key, *word));
     }
 }
 
@@ -114,12 +114,8 @@ pub(super) fn assert_nodes(rt: &impl Abort, rest: &Rest, bits: u32, nodes: &[(u3
         holds(rt, 1 <= level);
         holds(rt, level <= bits);
         holds(rt, place < 1 << (bits - level));
-        equal_at(
-            rt,
-            rest.node(level, place),
-            *number,
-            format_args!("node {place} of level {level}"),
-        );
+        let found = rest.node(level, place);
+        equal(rt, (level, place, found), (level, place, *number));
     }
 }
 
@@ -130,49 +126,13 @@ pub(super) fn assert_records(rt: &impl Abort, rest: &Rest, count: u64, records: 
     for (number, words) in records {
         let number = *number;
         holds(rt, number < count);
-        equal_at(
-            rt,
-            record_at(rest, number),
-            *words,
-            format_args!("record {number}"),
-        );
+        equal(rt, (number, record_at(rest, number)), (number, *words));
     }
 }
 
 // The number of the root's record that a lead knows.
-fn root_of(lead: &Lead<Sum, Extent>) -> u64 {
+pub(super) fn root_of(lead: &Lead<Sum, Extent>) -> u64 {
     lead.root()
-}
-
-// The small table once it is closed, and the number of the root's record that its lead knew.
-fn closed(alloc: Global) -> Result<(u64, Rest), WordsError>
-    ensures { IfOk result (λ t. t.1.shape ≡ shape_of 2 3 2 2) }
-{
-    let (words, lead) = small(alloc)?;
-    let root = root_of(&lead);
-    Ok((root, words.close(lead)))
-}
-
-const LEAVES: &[(u32, u64)] = &[(0, 4_294_967_296), (1, 4_294_967_297), (2, 0), (3, 0)];
-
-const NODES: &[(u32, u32, u64)] = &[(1, 0, 2), (1, 1, 0), (2, 0, 4)];
-
-const RECORDS: &[(u64, [u64; 5])] = &[
-    (0, [0, 0, 0, 0, 4_294_967_296]),
-    (1, [0, 0, 0, 0, 4_294_967_296]),
-    (2, [4_294_967_296, 4_294_967_297, 2, 1, 1]),
-    (3, [0; 5]),
-    (4, [2, 0, 2, 1, 1]),
-];
-
-#[test]
-fn a_table_opens_with_its_members(rt: HostRuntime) -> Result<(), WordsError> {
-    let (root, rest) = closed(rt.alloc())?;
-    equal(&rt, rest.node(2, 0), root);
-    assert_leaves(&rt, &rest, 2, LEAVES);
-    assert_nodes(&rt, &rest, 2, NODES);
-    assert_records(&rt, &rest, 14, RECORDS);
-    Ok(())
 }
 
 #[test]

@@ -6,7 +6,8 @@ ghost use Rattle.aug_trie.specs.Snapshot.{HasSnapshot, set_at};
 ghost use Rattle.book_example.specs.Bids.{bids_agree};
 
 use aug_monoid::{Extent, Sum};
-use aug_query::{after, before, range, weight};
+use aug_query::ask;
+use aug_query::descent::{After, Before, Range, Weight};
 use aug_trie::{Ended, Pass, PassHalf, Round, Snapshot};
 use std::alloc::Global;
 use std::thread;
@@ -50,11 +51,11 @@ fn agrees(pass: &mut Pass<Sum, Extent>, now: Snapshot) -> bool
     ensures round { pass.new.round ≡ pass.old.round }
     ensures agrees { result ≡ bids_agree (set_at pass.old now) }
 {
-    let bids = pass.range(now, 0, MIDDLE);
-    match (pass.before(now, MIDDLE), bids.b.bounds()) {
+    let bids = pass.ask(now, Range(0, MIDDLE));
+    match (pass.ask(now, Before(MIDDLE)), bids.b.bounds()) {
         (Some(best), Some((_, greatest))) => {
-            let depth = pass.range(now, best, MIDDLE).a.value();
-            let volume = pass.weight(now, best).unwrap_or(0);
+            let depth = pass.ask(now, Range(best, MIDDLE)).a.value();
+            let volume = pass.ask(now, Weight(best)).unwrap_or(0);
             best == greatest && u64::from(volume) == depth
         }
         (None, None) => bids.count == 0,
@@ -131,13 +132,16 @@ fn main(rt: HostRuntime) -> anyhow::Result<()> {
     println!(rt; "each snapshot agreed with itself: {answer}")?;
     let missing = ended.missing();
     println!(rt; "{missing} passes missing")?;
-    let near = range(&mut ended, 1_950, 2_050);
+    let near = ask(&mut ended, Range(1_950, 2_050));
     let (count, sum) = (near.count, near.a.value());
     println!(rt; "{count} from 1950 to 2049, volume {sum}")?;
-    let (bid, offer) = (before(&mut ended, MIDDLE), after(&mut ended, MIDDLE));
+    let (bid, offer) = (
+        ask(&mut ended, Before(MIDDLE)),
+        ask(&mut ended, After(MIDDLE)),
+    );
     for (side, best) in [("bid", bid), ("offer", offer)] {
         if let Some(price) = best {
-            let volume = weight(&mut ended, price).unwrap_or(0);
+            let volume = ask(&mut ended, Weight(price)).unwrap_or(0);
             println!(rt; "best {side} {price}, volume {volume}")?;
         }
     }

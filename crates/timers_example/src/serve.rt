@@ -4,6 +4,7 @@ ghost use Rattle.std.specs.Prelude.{◌≡◌, ◌<◌, IfOk, vec_len};
 use aug_live::{Handle, Live};
 use aug_model::Outcome;
 use aug_monoid::{Nothing, Sum};
+use aug_query::descent::{After, Range, Weight};
 use std::alloc::{AllocError, Global};
 use std::sync::Wait;
 use std::time::{Clock, Duration, Instant};
@@ -80,10 +81,10 @@ impl Server {
         let tick = 4 * i + lane;
         match handle.look(rt) {
             Ok(mut look) => {
-                let here = look.weight(tick).unwrap_or(0) == due[i as usize];
-                let next = look.after(tick).unwrap_or(1024);
-                let soon = look.range(0, tick + 1).a.value();
-                let right = here && look.range(0, next).a.value() == soon;
+                let here = look.ask(Weight(tick)).unwrap_or(0) == due[i as usize];
+                let next = look.ask(After(tick)).unwrap_or(1024);
+                let soon = look.ask(Range(0, tick + 1)).a.value();
+                let right = here && look.ask(Range(0, next)).a.value() == soon;
                 let handle = look.done();
                 (Server { handle, lane, due }, right)
             }

@@ -2,12 +2,11 @@
 use Rattle.std.specs.Prelude.{◌≡◌, ℕ, ◌+◌, ◌<◌, ◌≤◌, ◌^◌, List, length, All}
 use Rattle.aug_core.specs.Layout.{IsLayout}
 use Rattle.aug_core.specs.Places.{shape_of}
-use Rattle.aug_model.specs.Keys.{SetFacts}
 use Rattle.aug_trie.specs.Round.{RoundFacts}
 use Rattle.aug_trie.specs.Crew.{CrewFacts}
 use Rattle.aug_live.specs.declared.counts.LiveCounts.{LiveCounts}
 use Rattle.aug_live.specs.inside.LaneKnowledge.{KnownFacts}
-use Rattle.aug_live.specs.inside.Rolls.{IsOf, HasCarried}
+use Rattle.aug_live.specs.inside.Rolls.{IsOf}
 
 -- the counts of the rounds so far, at a set with so many members
 pub record AreCounts (counts : LiveCounts) (members : ℕ) : Type 0 where
@@ -25,15 +24,4 @@ pub record IsWorking (lanes updates : ℕ) (counts : LiveCounts) (round : RoundF
   pub few_inserts : counts.inserts + 2 ^ 32 ≤ 2 ^ 64
   pub few_removals : counts.removals + 2 ^ 32 ≤ 2 ^ 64
   pub laid_out : IsLayout (shape_of round.bits lanes updates (2 ^ round.bits))
-
--- a set at rest: what lay in each lane is carried into it
-pub record IsResting (lanes updates : ℕ) (counts : LiveCounts) (set : SetFacts) (ports : List KnownFacts) (count : ℕ) : Type 0 where
-  pub ready : All (HasCarried set.bits counts.rounds set.pairs) ports
-  pub enough : count ≤ lanes
-  pub counted : AreCounts counts (length set.pairs)
-  pub few : length set.pairs ≤ 2 ^ set.bits
-  pub laid_out : IsLayout (shape_of set.bits lanes updates (2 ^ set.bits))
-
-pub record RestFacts : Type 0 where
-  pub set : SetFacts
-  pub counts : LiveCounts
+  pub room : 2 ^ round.bits ≤ round.room

@@ -1,5 +1,6 @@
 -- What lies in a lane, what the passes of its lock know, and the rule between them.
 use Rattle.std.specs.Prelude.{◌≡◌, ◌≢◌, ◌⊎◌, ℕ, ◌<◌, List, [], Option, Some, None, unwrap_or, Bool, false}
+use Rattle.aug_lane.specs.declared.lane.Lane.{Lane as Work}
 use mathlib.Core.Option.{some}
 use lib.ListN.{get_elem?}
 use Rattle.aug_trie.specs.Pass.{PassFacts}
@@ -12,6 +13,7 @@ abbrev pub no_half : PassFacts
 no_half = record {
   round = record {
     table = record { words = 0; slots = 0; views_name = 0; atom = 0; block = 0; offset = 0; slot_names = [] };
+    era = 0;
     bits = 0;
     members = [];
     workers = 0;
@@ -26,8 +28,10 @@ no_half = record {
   words = record { shape = record { bits = 0; workers = 0; updates = 0; members = 0 }; book = [] };
 }
 
-abbrev pub half_of : Option PassFacts → PassFacts
-half_of half = unwrap_or half no_half
+-- what a lane's pass knows, if there is a lane
+abbrev pub half_in : {A B : Type 0} → Option (Work A B) → PassFacts
+half_in None = no_half
+half_in (Some work) = work.half
 
 abbrev pub nothing_known : HandleFacts
 nothing_known = record { era = 0; half = no_half }

@@ -1,25 +1,26 @@
 -- What the fields of a handle and of a look keep.
-use Rattle.std.specs.Prelude.{◌≡◌, ℕ, ◌<◌, ◌≤◌, Option, Some, true}
-use Rattle.aug_trie.specs.Pass.{PassFacts}
-use Rattle.aug_trie.specs.Round.{RoundFacts}
-use Rattle.aug_trie.specs.Snapshot.{HasSnapshot}
+use Rattle.std.specs.Prelude.{◌≡◌, ℕ, ◌<◌, ◌≤◌, Option, Some, None, true}
 use Rattle.aug_trie.specs.declared.queries.snapshot.Snapshot.{Snapshot}
+use Rattle.aug_lane.specs.declared.lane.Lane.{Lane as Work}
 use Rattle.aug_live.specs.inside.LaneKnowledge.{KnownFacts, OutFacts}
 use Rattle.aug_live.specs.declared.known.Whose.TheVariants.{Handle}
 
--- the handle took a lane of this era with a pass of this round, whose snapshot it has
-pub record HoldsLook (out : OutFacts) (era : ℕ) (round : RoundFacts) (half : Option PassFacts) (snapshot : Snapshot) (bits : ℕ) : Type 0 where
+-- the snapshot of a lane, if there is a lane
+abbrev pub held_in : {A B : Type 0} → Option (Work A B) → Snapshot
+held_in None = record { number = 0 }
+held_in (Some work) = work.held
+
+-- the handle took a lane of this era, whose pass it has
+pub record HoldsLook {A B : Type 0} (out : OutFacts) (era : ℕ) (work : Option (Work A B)) (bits : ℕ) : Type 0 where
   pub whose : out.known.whose ≡ Handle
   pub works : out.taken.works ≡ true
   pub era_is : out.taken.at.era ≡ era
   pub some_era : 0 < era
-  pub taken_round : out.taken.at.half.round ≡ round
-  pub pass : PassFacts
-  pub there : half ≡ Some pass
-  pub round_is : pass.round ≡ round
-  pub bits_are : pass.round.bits ≡ bits
+  pub lane : Work A B
+  pub there : work ≡ Some lane
+  pub round_is : lane.half.round ≡ out.taken.at.half.round
+  pub bits_are : lane.half.round.bits ≡ bits
   pub few_bits : bits ≤ 16
-  pub has : HasSnapshot pass snapshot.number
 
 -- the handle has its end of a lane, and knows the bits of its keys
 pub record HoldsHandle (end : Option KnownFacts) (bits : ℕ) : Type 0 where

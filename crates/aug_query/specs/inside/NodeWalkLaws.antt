@@ -1,6 +1,6 @@
 -- What a walk over a tree keeps of it: lemmas for no walk at all, and for two walks one after the other; and that the nodes which they name stand in
 -- the tree.
-use Rattle.std.proofs.Common.{◌≡◌, ℕ, ◌+◌, ◌≤◌, List, refl, ap, subst, sym, ◌∙◌, arith}
+use Rattle.std.proofs.Common.{ℕ, List, refl, subst, ◌∙◌, arith}
 use Rattle.std.specs.Borrow.{MutBor}
 use Rattle.aug_model.specs.Keys.{SetFacts, list_of}
 use Rattle.aug_model.specs.declared.summary.Summary.{Summary}

@@ -4,19 +4,104 @@ ghost use Rattle.std.specs.List.Sorted.{IsNonDecreasing};
 ghost use Rattle.aug_model.specs.Keys.{is_member, list_of};
 ghost use Rattle.aug_model.specs.Queries.{rank_of, weight_of};
 ghost use Rattle.aug_model.specs.NodeKeys.{first_key, end_key};
-ghost use Rattle.aug_query.specs.Descend.{Descends};
+ghost use Rattle.aug_query.specs.Descend.{Descends, loads};
 ghost use Rattle.aug_query.specs.inside.Batches.{AreBetween, nodes_below, leaves_below};
 ghost use Rattle.aug_query.specs.inside.NodePlaces.{IsPlace};
 
 use super::counts::toward_counting;
 use super::members::weight_of_leaf;
-use crate::Descend;
 use crate::toward::{toward, universe};
+use crate::{Descend, Query};
 use aug_monoid::Monoid;
 
-/// Puts how many members are below each of `keys` at the end of `out`, which has room for that. No key is below the one
+/// How many members are below each of the keys, put at the end of a list that has room for that. No key is below the one before it.
+#[derive(Drop)]
+pub struct Ranks<'k> {
+    pub keys: &'k [u32],
+    pub out: Vec<u32>,
+    pub ghost rising: { IsNonDecreasing keys.now },
+    pub ghost room: { vec_len out + length keys.now ≤ vec_capacity out },
+}
+
+impl<A: Monoid, B: Monoid> Query<A, B> for Ranks<'_> {
+    type Answer = Vec<u32>;
+
+    ghost use Rattle.std.specs.Prelude.{◌≡◌, ◌+◌, ◌-◌, ◌*◌, ◌^◌, ◌++◌, min, length, map, vec_capacity};
+    ghost use Rattle.aug_model.specs.Keys.{list_of};
+    ghost use Rattle.aug_model.specs.Queries.{rank_of};
+    ghost use Rattle.aug_query.specs.Descend.{loads};
+
+    ghost Answers = { λ q set out. (out.items ≡ q.out.items ++ map (λ k. rank_of (list_of set) k) q.keys.now) × (vec_capacity out ≡ vec_capacity q.out) };
+
+    // No node twice.
+    ghost most = { λ q set. loads (min (length q.keys.now * (set.bits + 1)) (2 * 2 ^ set.bits - 1)) (min (length q.keys.now) 1) 0 (min (length q.keys.now * set.bits) (2 * 2 ^ set.bits - 2)) };
+
+    fn run<D: Descend<A, B>>(self, tree: &mut D) -> Vec<u32> {
+        let Ranks { keys, mut out } = self;
+        rank_all(tree, keys, &mut out);
+        out
+    }
+}
+
+/// Whether each of the keys is a member, put at the end of a list that has room for that. No key is below the one before it.
+#[derive(Drop)]
+pub struct Memberships<'k> {
+    pub keys: &'k [u32],
+    pub out: Vec<bool>,
+    pub ghost rising: { IsNonDecreasing keys.now },
+    pub ghost room: { vec_len out + length keys.now ≤ vec_capacity out },
+}
+
+impl<A: Monoid, B: Monoid> Query<A, B> for Memberships<'_> {
+    type Answer = Vec<bool>;
+
+    ghost use Rattle.std.specs.Prelude.{◌≡◌, ◌+◌, ◌-◌, ◌*◌, ◌^◌, ◌++◌, min, length, map, vec_capacity};
+    ghost use Rattle.aug_model.specs.Keys.{is_member, list_of};
+    ghost use Rattle.aug_query.specs.Descend.{loads};
+
+    ghost Answers = { λ q set out. (out.items ≡ q.out.items ++ map (λ k. is_member (list_of set) k) q.keys.now) × (vec_capacity out ≡ vec_capacity q.out) };
+
+    // No node twice.
+    ghost most = { λ q set. loads (min (length q.keys.now * (set.bits + 1)) (2 * 2 ^ set.bits - 1)) (min (length q.keys.now) (2 ^ set.bits)) 0 0 };
+
+    fn run<D: Descend<A, B>>(self, tree: &mut D) -> Vec<bool> {
+        let Memberships { keys, mut out } = self;
+        tell_all(tree, keys, &mut out);
+        out
+    }
+}
+
+/// The weight of each of the keys, if it is a member, put at the end of a list that has room for that. No key is below the one
 /// before it.
-pub fn ranks<A: Monoid, B: Monoid, D: Descend<A, B>>(tree: &mut D, keys: &[u32], out: &mut Vec<u32>)
+#[derive(Drop)]
+pub struct Weights<'k> {
+    pub keys: &'k [u32],
+    pub out: Vec<Option<u32>>,
+    pub ghost rising: { IsNonDecreasing keys.now },
+    pub ghost room: { vec_len out + length keys.now ≤ vec_capacity out },
+}
+
+impl<A: Monoid, B: Monoid> Query<A, B> for Weights<'_> {
+    type Answer = Vec<Option<u32>>;
+
+    ghost use Rattle.std.specs.Prelude.{◌≡◌, ◌+◌, ◌-◌, ◌*◌, ◌^◌, ◌++◌, min, length, map, vec_capacity};
+    ghost use Rattle.aug_model.specs.Queries.{weight_of};
+    ghost use Rattle.aug_query.specs.Descend.{loads};
+
+    ghost Answers = { λ q set out. (out.items ≡ q.out.items ++ map (λ k. weight_of set.pairs k) q.keys.now) × (vec_capacity out ≡ vec_capacity q.out) };
+
+    // No node twice.
+    ghost most = { λ q set. loads (min (length q.keys.now * (set.bits + 1)) (2 * 2 ^ set.bits - 1)) (min (length q.keys.now) (2 ^ set.bits)) 0 0 };
+
+    fn run<D: Descend<A, B>>(self, tree: &mut D) -> Vec<Option<u32>> {
+        let Weights { keys, mut out } = self;
+        tell_all(tree, keys, &mut out);
+        out
+    }
+}
+
+// Puts the rank of each key at the end of `out`.
+fn rank_all<A: Monoid, B: Monoid, D: Descend<A, B>>(tree: &mut D, keys: &[u32], out: &mut Vec<u32>)
     requires rising { IsNonDecreasing keys.now }
     requires room { vec_len out.old + length keys.now ≤ vec_capacity out.old }
     ensures answer { out.new.items ≡ out.old.items ++ map (λ k. rank_of (list_of (D.set_of tree.old)) k) keys.now }
@@ -35,39 +120,6 @@ pub fn ranks<A: Monoid, B: Monoid, D: Descend<A, B>>(tree: &mut D, keys: &[u32],
         let size = tree.count(bits, 0, &top);
         repeat(size, past.len(), out);
     }
-}
-
-/// Puts whether each of `keys` is a member at the end of `out`, which has room for that. No key is below the one before it.
-pub fn memberships<A: Monoid, B: Monoid, D: Descend<A, B>>(
-    tree: &mut D,
-    keys: &[u32],
-    out: &mut Vec<bool>,
-)
-    requires rising { IsNonDecreasing keys.now }
-    requires room { vec_len out.old + length keys.now ≤ vec_capacity out.old }
-    ensures answer { out.new.items ≡ out.old.items ++ map (λ k. is_member (list_of (D.set_of tree.old)) k) keys.now }
-    ensures room { vec_capacity out.new ≡ vec_capacity out.old }
-    ensures descends { Descends D.set_of D.loads_of D.Names D.KeepsRest (length keys.now * ((D.set_of tree.old).bits + 1)) (length keys.now) 0 0 tree.old tree.new }
-    ensures once { Descends D.set_of D.loads_of D.Names D.KeepsRest (2 * 2 ^ (D.set_of tree.old).bits - 1) (2 ^ (D.set_of tree.old).bits) 0 0 tree.old tree.new }
-{
-    tell_all(tree, keys, out);
-}
-
-/// Puts the weight of each of `keys`, if it is a member, at the end of `out`, which has room for that. No key is below the
-/// one before it.
-pub fn weights<A: Monoid, B: Monoid, D: Descend<A, B>>(
-    tree: &mut D,
-    keys: &[u32],
-    out: &mut Vec<Option<u32>>,
-)
-    requires rising { IsNonDecreasing keys.now }
-    requires room { vec_len out.old + length keys.now ≤ vec_capacity out.old }
-    ensures answer { out.new.items ≡ out.old.items ++ map (λ k. weight_of (D.set_of tree.old).pairs k) keys.now }
-    ensures room { vec_capacity out.new ≡ vec_capacity out.old }
-    ensures descends { Descends D.set_of D.loads_of D.Names D.KeepsRest (length keys.now * ((D.set_of tree.old).bits + 1)) (length keys.now) 0 0 tree.old tree.new }
-    ensures once { Descends D.set_of D.loads_of D.Names D.KeepsRest (2 * 2 ^ (D.set_of tree.old).bits - 1) (2 ^ (D.set_of tree.old).bits) 0 0 tree.old tree.new }
-{
-    tell_all(tree, keys, out);
 }
 
 // The answer for a key.

@@ -5,36 +5,45 @@ ghost use Rattle.aug_model.specs.Keys.{list_of};
 ghost use Rattle.aug_model.specs.Queries.{range_of, weighted_range_of};
 ghost use Rattle.aug_query.specs.Tree.{sum_of};
 ghost use Rattle.aug_model.specs.NodeKeys.{first_key, end_key};
-ghost use Rattle.aug_query.specs.Descend.{Descends};
+ghost use Rattle.aug_query.specs.Descend.{Descends, loads};
 
-use crate::Descend;
 use crate::summaries::{joined, of_none};
 use crate::toward::{toward, universe};
+use crate::{Descend, Query};
 use aug_model::Summary;
 use aug_monoid::Monoid;
 
-/// The number and the folds of the members from `a` on that are below `b`. If `a >= b` there are none. A summary is read
-/// only of nodes that are wholly inside: those beside the ways to the two ends.
-#[inline(always)]
-pub fn range<A: Monoid, B: Monoid, D: Descend<A, B>>(tree: &mut D, a: u32, b: u32) -> Summary<A, B>
-    ensures answer { result ≡ summary_of A.parts B.parts (weighted_range_of (D.set_of tree.old).pairs a b) }
-    ensures descends { Descends D.set_of D.loads_of D.Names D.KeepsRest (4 * (D.set_of tree.old).bits - 1) 0 (2 * (D.set_of tree.old).bits) 0 tree.old tree.new }
-{
-    let b = b.min(universe(tree));
-    if b <= a {
-        return of_none();
+/// The number and the folds of the members from the first key on that are below the second. A summary is read only of nodes that are
+/// wholly inside: those beside the ways to the two ends.
+#[derive(Clone, Copy)]
+pub struct Range(pub u32, pub u32);
+
+impl<A: Monoid, B: Monoid> Query<A, B> for Range {
+    type Answer = Summary<A, B>;
+
+    ghost Answers = { λ q set answer. answer ≡ summary_of A.parts B.parts (weighted_range_of set.pairs q.0 q.1) };
+
+    ghost most = { λ q set. loads (4 * set.bits - 1) 0 (2 * set.bits) 0 };
+
+    #[inline(always)]
+    fn run<D: Descend<A, B>>(self, tree: &mut D) -> Summary<A, B> {
+        let Range(a, b) = self;
+        let b = b.min(universe(tree));
+        if b <= a {
+            return of_none();
+        }
+        let (level, node) = spanning(tree, a, b - 1);
+        if b - a == 1 << level {
+            return tree.summary(level, a >> level, &node);
+        }
+        let level = level - 1;
+        let place = a >> (level + 1);
+        let left = tree.left(level, place, &node);
+        let low = from(tree, level, left, a);
+        let right = tree.right(level, place, &node);
+        let high = until(tree, level, right, b - 1);
+        joined(low, high)
     }
-    let (level, node) = spanning(tree, a, b - 1);
-    if b - a == 1 << level {
-        return tree.summary(level, a >> level, &node);
-    }
-    let level = level - 1;
-    let place = a >> (level + 1);
-    let left = tree.left(level, place, &node);
-    let low = from(tree, level, left, a);
-    let right = tree.right(level, place, &node);
-    let high = until(tree, level, right, b - 1);
-    joined(low, high)
 }
 
 // The lowest node that covers both keys, and its level.

@@ -4,39 +4,46 @@ ghost use Rattle.aug_model.specs.Keys.{list_of};
 ghost use Rattle.aug_model.specs.Queries.{weight_in};
 ghost use Rattle.aug_query.specs.Tree.{IsTreeSet};
 ghost use Rattle.aug_model.specs.NodeKeys.{keys_below};
-ghost use Rattle.aug_query.specs.Descend.{Descends};
+ghost use Rattle.aug_query.specs.Descend.{Descends, loads};
 
-use crate::Descend;
+use crate::{Descend, Query};
 use aug_monoid::Monoid;
 use std::alloc::{AllocError, Global};
 
 /// The members, rising. Room for all of them is made at the beginning, and only that can be refused.
-pub fn keys<A: Monoid, B: Monoid, D: Descend<A, B>>(
-    alloc: Global,
-    tree: &mut D,
-) -> Result<Vec<u32>, AllocError>
-    ensures answer { IfOk result (λ list. list.items ≡ list_of (D.set_of tree.old)) }
-    ensures room { IfOk result (λ list. vec_capacity list ≡ length (list_of (D.set_of tree.old))) }
-    ensures descends { Descends D.set_of D.loads_of D.Names D.KeepsRest (2 * (D.set_of tree.old).bits * length (list_of (D.set_of tree.old)) + 1) ((D.set_of tree.old).bits * length (list_of (D.set_of tree.old)) + 1) 0 0 tree.old tree.new }
-{
-    list(alloc, tree)
+#[derive(Clone, Copy)]
+pub struct Keys(pub Global);
+
+impl<A: Monoid, B: Monoid> Query<A, B> for Keys {
+    type Answer = Result<Vec<u32>, AllocError>;
+
+    ghost Answers = { λ q set answer. IfOk answer (λ list. list.items ≡ list_of set) × IfOk answer (λ list. vec_capacity list ≡ length (list_of set)) };
+
+    ghost most = { λ q set. loads (2 * set.bits * length (list_of set) + 1) (set.bits * length (list_of set) + 1) 0 0 };
+
+    fn run<D: Descend<A, B>>(self, tree: &mut D) -> Result<Vec<u32>, AllocError> {
+        list(self.0, tree)
+    }
 }
 
-/// The members, rising, each with its weight. Room for all of them is made at the beginning, and only that can be
-/// refused.
-pub fn pairs<A: Monoid, B: Monoid, D: Descend<A, B>>(
-    alloc: Global,
-    tree: &mut D,
-) -> Result<Vec<(u32, u32)>, AllocError>
-    ensures answer { IfOk result (λ list. list.items ≡ (D.set_of tree.old).pairs) }
-    ensures room { IfOk result (λ list. vec_capacity list ≡ length (D.set_of tree.old).pairs) }
-    ensures descends { Descends D.set_of D.loads_of D.Names D.KeepsRest (2 * (D.set_of tree.old).bits * length (D.set_of tree.old).pairs + 1) ((D.set_of tree.old).bits * length (D.set_of tree.old).pairs + 1) 0 0 tree.old tree.new }
-{
-    list(alloc, tree)
+/// The members, rising, each with its weight. Room for all of them is made at the beginning, and only that can be refused.
+#[derive(Clone, Copy)]
+pub struct Pairs(pub Global);
+
+impl<A: Monoid, B: Monoid> Query<A, B> for Pairs {
+    type Answer = Result<Vec<(u32, u32)>, AllocError>;
+
+    ghost Answers = { λ q set answer. IfOk answer (λ list. list.items ≡ set.pairs) × IfOk answer (λ list. vec_capacity list ≡ length set.pairs) };
+
+    ghost most = { λ q set. loads (2 * set.bits * length set.pairs + 1) (set.bits * length set.pairs + 1) 0 0 };
+
+    fn run<D: Descend<A, B>>(self, tree: &mut D) -> Result<Vec<(u32, u32)>, AllocError> {
+        list(self.0, tree)
+    }
 }
 
 /// Puts the members, rising, each with its weight, at the end of `list`, which has room for them.
-pub fn pairs_into<A: Monoid, B: Monoid, D: Descend<A, B>>(tree: &mut D, list: &mut Vec<(u32, u32)>)
+pub fn put_pairs<A: Monoid, B: Monoid, D: Descend<A, B>>(tree: &mut D, list: &mut Vec<(u32, u32)>)
     requires room { vec_len list.old + length (D.set_of tree.old).pairs ≤ vec_capacity list.old }
     ensures answer { list.new.items ≡ list.old.items ++ (D.set_of tree.old).pairs }
     ensures room { vec_capacity list.new ≡ vec_capacity list.old }

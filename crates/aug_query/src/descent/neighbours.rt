@@ -3,63 +3,81 @@ ghost use Rattle.std.specs.Prelude.{◌≡◌, ◌+◌, ◌*◌, ◌<◌, Some, 
 ghost use Rattle.aug_model.specs.Keys.{list_of};
 ghost use Rattle.aug_model.specs.Queries.{before_of, after_of, first_of, last_of};
 ghost use Rattle.aug_model.specs.NodeKeys.{keys_below};
-ghost use Rattle.aug_query.specs.Descend.{Descends};
+ghost use Rattle.aug_query.specs.Descend.{Descends, loads};
 
-use crate::Descend;
 use crate::toward::{toward_from_left, toward_from_right, universe};
+use crate::{Descend, Query};
 use aug_monoid::Monoid;
 
-/// The greatest member below `k`, if there is one. On the way down to `k` it counts the members that it passes, and it descends
-/// once more below the last node at which it passed some.
-#[inline(always)]
-pub fn before<A: Monoid, B: Monoid, D: Descend<A, B>>(tree: &mut D, k: u32) -> Option<u32>
-    ensures answer { result ≡ before_of (list_of (D.set_of tree.old)) k }
-    ensures descends { Descends D.set_of D.loads_of D.Names D.KeepsRest (3 * (D.set_of tree.old).bits) ((D.set_of tree.old).bits + 1) 0 (D.set_of tree.old).bits tree.old tree.new }
-{
-    let mut level = tree.bits();
-    let mut node = tree.top();
-    if universe(tree) <= k {
-        return last_below(tree, level, node);
-    }
-    let mut parent = None;
-    while level > 0 {
-        level -= 1;
-        let (child, before) = toward_from_left(tree, level, k, &node);
-        if before > 0 {
-            parent = Some((level, node));
+/// The greatest member below a key, if there is one. On the way down to the key it counts the members that it passes, and it
+/// descends once more below the last node at which it passed some.
+#[derive(Clone, Copy)]
+pub struct Before(pub u32);
+
+impl<A: Monoid, B: Monoid> Query<A, B> for Before {
+    type Answer = Option<u32>;
+
+    ghost Answers = { λ q set answer. answer ≡ before_of (list_of set) q.0 };
+
+    ghost most = { λ q set. loads (3 * set.bits) (set.bits + 1) 0 set.bits };
+
+    #[inline(always)]
+    fn run<D: Descend<A, B>>(self, tree: &mut D) -> Option<u32> {
+        let Before(k) = self;
+        let mut level = tree.bits();
+        let mut node = tree.top();
+        if universe(tree) <= k {
+            return last_below(tree, level, node);
         }
-        node = child;
+        let mut parent = None;
+        while level > 0 {
+            level -= 1;
+            let (child, before) = toward_from_left(tree, level, k, &node);
+            if before > 0 {
+                parent = Some((level, node));
+            }
+            node = child;
+        }
+        let (level, node) = parent?;
+        let place = k >> (level + 1);
+        let left = tree.left(level, place, &node);
+        Some(greatest(tree, level, 2 * place, left))
     }
-    let (level, node) = parent?;
-    let place = k >> (level + 1);
-    let left = tree.left(level, place, &node);
-    Some(greatest(tree, level, 2 * place, left))
 }
 
-/// The least member above `k`, if there is one. It goes the way of `before`, with the sides exchanged.
-#[inline(always)]
-pub fn after<A: Monoid, B: Monoid, D: Descend<A, B>>(tree: &mut D, k: u32) -> Option<u32>
-    ensures answer { result ≡ after_of (list_of (D.set_of tree.old)) k }
-    ensures descends { Descends D.set_of D.loads_of D.Names D.KeepsRest (3 * (D.set_of tree.old).bits) ((D.set_of tree.old).bits + 1) 0 (D.set_of tree.old).bits tree.old tree.new }
-{
-    if universe(tree) <= k {
-        return None;
-    }
-    let mut level = tree.bits();
-    let mut node = tree.top();
-    let mut parent = None;
-    while level > 0 {
-        level -= 1;
-        let (child, after) = toward_from_right(tree, level, k, &node);
-        if after > 0 {
-            parent = Some((level, node));
+/// The least member above a key, if there is one. It goes the way of `Before`, with the sides exchanged.
+#[derive(Clone, Copy)]
+pub struct After(pub u32);
+
+impl<A: Monoid, B: Monoid> Query<A, B> for After {
+    type Answer = Option<u32>;
+
+    ghost Answers = { λ q set answer. answer ≡ after_of (list_of set) q.0 };
+
+    ghost most = { λ q set. loads (3 * set.bits) (set.bits + 1) 0 set.bits };
+
+    #[inline(always)]
+    fn run<D: Descend<A, B>>(self, tree: &mut D) -> Option<u32> {
+        let After(k) = self;
+        if universe(tree) <= k {
+            return None;
         }
-        node = child;
+        let mut level = tree.bits();
+        let mut node = tree.top();
+        let mut parent = None;
+        while level > 0 {
+            level -= 1;
+            let (child, after) = toward_from_right(tree, level, k, &node);
+            if after > 0 {
+                parent = Some((level, node));
+            }
+            node = child;
+        }
+        let (level, node) = parent?;
+        let place = k >> (level + 1);
+        let right = tree.right(level, place, &node);
+        Some(least(tree, level, 2 * place + 1, right))
     }
-    let (level, node) = parent?;
-    let place = k >> (level + 1);
-    let right = tree.right(level, place, &node);
-    Some(least(tree, level, 2 * place + 1, right))
 }
 
 // The greatest member of all, if there is one: the top is at this level.

@@ -3,32 +3,41 @@ ghost use Rattle.std.specs.Prelude.{◌≡◌, ◌+◌, ◌*◌, ◌<◌, length
 ghost use Rattle.aug_model.specs.Keys.{list_of};
 ghost use Rattle.aug_model.specs.Queries.{rank_of, select_of};
 ghost use Rattle.aug_model.specs.NodeKeys.{keys_below, first_key};
-ghost use Rattle.aug_query.specs.Descend.{Descends};
+ghost use Rattle.aug_query.specs.Descend.{Descends, loads};
 
-use crate::Descend;
+use crate::{Descend, Query};
 use aug_monoid::Monoid;
 
-/// The member with exactly `i` members below it, if there is one.
-#[inline(always)]
-pub fn select<A: Monoid, B: Monoid, D: Descend<A, B>>(tree: &mut D, i: u32) -> Option<u32>
-    ensures answer { result ≡ select_of (list_of (D.set_of tree.old)) i }
-    ensures descends { Descends D.set_of D.loads_of D.Names D.KeepsRest (2 * (D.set_of tree.old).bits + 1) ((D.set_of tree.old).bits + 1) 0 0 tree.old tree.new }
-{
-    let mut level = tree.bits();
-    let mut node = tree.top();
-    if tree.count(level, 0, &node) <= i {
-        return None;
+/// The member with exactly so many members below it, if there is one.
+#[derive(Clone, Copy)]
+pub struct Select(pub u32);
+
+impl<A: Monoid, B: Monoid> Query<A, B> for Select {
+    type Answer = Option<u32>;
+
+    ghost Answers = { λ q set answer. answer ≡ select_of (list_of set) q.0 };
+
+    ghost most = { λ q set. loads (2 * set.bits + 1) (set.bits + 1) 0 0 };
+
+    #[inline(always)]
+    fn run<D: Descend<A, B>>(self, tree: &mut D) -> Option<u32> {
+        let Select(i) = self;
+        let mut level = tree.bits();
+        let mut node = tree.top();
+        if tree.count(level, 0, &node) <= i {
+            return None;
+        }
+        let mut place = 0;
+        let mut rest = i;
+        while level > 0 {
+            level -= 1;
+            let (child, at, more) = child_at(tree, level, place, &node, rest);
+            node = child;
+            place = at;
+            rest = more;
+        }
+        Some(place)
     }
-    let mut place = 0;
-    let mut rest = i;
-    while level > 0 {
-        level -= 1;
-        let (child, at, more) = child_at(tree, level, place, &node, rest);
-        node = child;
-        place = at;
-        rest = more;
-    }
-    Some(place)
 }
 
 // The child that covers the `i`-th member of the node above it, its place, and how many members of the child are below that one.

@@ -7,6 +7,7 @@ ghost use Rattle.aug_run.specs.inside.Workers.{lane_at};
 
 use crate::trie::Hand;
 use aug_model::Outcome;
+use aug_query::descent::{After, Before, Has, Range, Rank, Select, Size, Weight};
 use aug_script::{Reply, Verb};
 use aug_trie::Snapshot;
 
@@ -41,19 +42,19 @@ pub(crate) fn answer(pass: &mut Hand, held: &mut Snapshot, verb: Verb) -> Reply
             Reply::Looked
         }
         Verb::Has(key) => {
-            if pass.has(*held, key) {
+            if pass.ask(*held, Has(key)) {
                 Reply::Yes
             } else {
                 Reply::No
             }
         }
-        Verb::Weight(key) => Reply::Found(pass.weight(*held, key)),
-        Verb::Size => Reply::Number(pass.size(*held)),
-        Verb::Rank(key) => Reply::Number(pass.rank(*held, key)),
-        Verb::Select(index) => Reply::Found(pass.select(*held, index)),
-        Verb::Before(key) => Reply::Found(pass.before(*held, key)),
-        Verb::After(key) => Reply::Found(pass.after(*held, key)),
-        Verb::Range(from, to) => Reply::Span(pass.range(*held, from, to)),
+        Verb::Weight(key) => Reply::Found(pass.ask(*held, Weight(key))),
+        Verb::Size => Reply::Number(pass.ask(*held, Size)),
+        Verb::Rank(key) => Reply::Number(pass.ask(*held, Rank(key))),
+        Verb::Select(index) => Reply::Found(pass.ask(*held, Select(index))),
+        Verb::Before(key) => Reply::Found(pass.ask(*held, Before(key))),
+        Verb::After(key) => Reply::Found(pass.ask(*held, After(key))),
+        Verb::Range(from, to) => Reply::Span(pass.ask(*held, Range(from, to))),
     }
 }
 

@@ -57,6 +57,7 @@ module _ (face : ℕ → ℕ → List (ℕ × ℕ) → List ℕ) where
     pub knows_table : KnowsTable face w
     pub shaped : w.shape ≡ v.shape
     pub same_members : w.members ≡ v.members
+    pub same_era : w.era ≡ v.era
     pub lane : own_lane w.held ≡ own_lane v.held
     pub changes : changes_of w.held ≡ changes_of v.held ++ gained
     pub still_free : (n : ℕ) → used ≤ n → IsFree v n → IsFree w n

@@ -24,6 +24,7 @@ pub record OneStep (v w : SeatView) : Type 0 where
   pub later : ArePrefixes v.seen w.seen
   pub shaped : w.shape ≡ v.shape
   pub same_members : w.members ≡ v.members
+  pub same_era : w.era ≡ v.era
   pub lane : own_lane w.held ≡ own_lane v.held
 
 -- and its update has the same beginning as before

@@ -91,6 +91,7 @@ module _ (face : ℕ → ℕ → List (ℕ × ℕ) → List ℕ) where
       pub began : w.began ≡ record { seen = u.seen; steps = u.steps; changes = changes_of u.held }
       pub shaped : w.shape ≡ u.shape
       pub same_members : w.members ≡ u.members
+      pub same_era : w.era ≡ u.era
       pub lane : own_lane w.held ≡ own_lane u.held
 
     -- its leaf was loaded, and it may exchange it

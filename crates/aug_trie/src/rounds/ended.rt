@@ -3,9 +3,8 @@ ghost use Rattle.std.specs.Prelude.{◌≡◌, ◌⊎◌, ◌↔◌, ◌^◌, �
 ghost use Rattle.aug_core.specs.Faces.{face};
 ghost use Rattle.aug_core.specs.Layout.{IsOutside};
 ghost use Rattle.aug_core.specs.Cuts.{pairs_of_cut};
-ghost use Rattle.aug_query.specs.Descend.{nothing_loaded};
 ghost use Rattle.aug_words.specs.Seats.{AreTogether};
-ghost use Rattle.aug_words.specs.Rests.{EndWith};
+ghost use Rattle.aug_core.specs.Renewals.{EndWith};
 ghost use Rattle.aug_trie.specs.History.{last_cut};
 ghost use Rattle.aug_trie.specs.inside.Knows.{knows};
 ghost use Rattle.aug_trie.specs.Ended.{IsEmptyTrie, set_of_ended};
@@ -14,13 +13,12 @@ use crate::error::BeginError;
 use crate::rounds::members::Members;
 use aug_core::{Layout, RecordField};
 use aug_monoid::Monoid;
-use aug_query::{Loaded, descent, pairs};
+use aug_query::{Calls, pairs, pairs_into};
 use aug_words::{Lead, Rest, Words, WordsError};
 use std::alloc::Global;
 use std::marker::{Model, PhantomData};
 
-/// A trie at rest: a set of keys with weights that no round works on. It is a `Descend`, and a `Tree` too, so all queries of
-/// `aug_query` answer over it.
+/// A trie at rest: a set of keys with weights that no round works on. It is a `Tree`, so all queries of `aug_query` answer over it.
 #[derive(Drop)]
 pub struct Ended<A: Monoid, B: Monoid> {
     // The words of the round that ended, and the record of the root that its crew knew last: the set is that of this version.
@@ -31,7 +29,8 @@ pub struct Ended<A: Monoid, B: Monoid> {
     pub(crate) inserts: u32,
     pub(crate) removals: u32,
     pub(crate) missing: u32,
-    pub(crate) loaded: Loaded,
+    // How often queries called it. Only contracts read it.
+    pub(crate) calls: Calls,
     pub(crate) sums: PhantomData<(A, B)>,
 }
 
@@ -42,7 +41,7 @@ impl<A: Monoid, B: Monoid> Model for Ended<A, B> {
 
     ghost Value = { EndedFacts };
 
-    ghost view = { λ e. record { bits = e.bits; members = pairs_at_rest e.rest e.bits 0 e.root; inserts = e.inserts; removals = e.removals; missing = e.missing; loaded = e.loaded; rest = e.rest; root = e.root } };
+    ghost view = { λ e. record { bits = e.bits; members = pairs_at_rest e.rest e.bits 0 e.root; inserts = e.inserts; removals = e.removals; missing = e.missing; calls = e.calls.made; rest = e.rest; root = e.root } };
 
     ghost invariant = { λ e. HoldsVersion (face A.parts B.parts) e.rest e.root e.bits };
 }
@@ -73,7 +72,7 @@ impl<A: Monoid, B: Monoid> Ended<A, B> {
         ensures no_inserts { result.inserts ≡ 0 }
         ensures no_removals { result.removals ≡ 0 }
         ensures none_missing { result.missing ≡ 0 }
-        ensures no_loads { result.loaded ≡ nothing_loaded }
+        ensures no_calls { result.calls ≡ 0 }
         ensures rule { EndWith (face A.parts B.parts) words.opening lead.view result.rest.words }
     {
         let root = lead.root();
@@ -85,7 +84,7 @@ impl<A: Monoid, B: Monoid> Ended<A, B> {
             inserts: 0,
             removals: 0,
             missing: 0,
-            loaded: Loaded::nothing(),
+            calls: Calls::new(),
             sums: PhantomData,
         }
     }
@@ -93,7 +92,7 @@ impl<A: Monoid, B: Monoid> Ended<A, B> {
     /// Lists the set, and gives the memory of the trie back. If memory for the list is refused, the same trie comes back.
     pub fn into_members(self, alloc: Global) -> Result<Members, Self>
         ensures set { IfOk result (λ members. members ≡ set_of_ended self) }
-        ensures same { IfErr result (λ ended. ended ≡ record self { loaded = ended.loaded }) }
+        ensures same { IfErr result (λ ended. ended ≡ record self { calls = ended.calls }) }
     {
         let mut ended = self;
         let Ok(pairs) = pairs(alloc, &mut ended) else {
@@ -112,7 +111,7 @@ impl<A: Monoid, B: Monoid> Ended<A, B> {
     {
         let mut ended = self;
         let mut pairs = room;
-        descent::pairs_into(&mut ended, &mut pairs);
+        pairs_into(&mut ended, &mut pairs);
         let bits = ended.bits;
         Members { bits, pairs }
     }

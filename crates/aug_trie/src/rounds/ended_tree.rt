@@ -1,5 +1,5 @@
 //! A trie at rest as a tree that queries walk.
-ghost use Rattle.std.specs.Prelude.{◌≡◌};
+ghost use Rattle.std.specs.Prelude.{◌≡◌, ◌+◌, ◌*◌};
 ghost use Rattle.aug_core.specs.Faces.{face};
 ghost use Rattle.aug_model.specs.Folds.{summary_of};
 ghost use Rattle.aug_trie.specs.inside.EndedTree.{HasEndedNode, IsVersion, NamesEnded};
@@ -24,8 +24,26 @@ pub struct EndedNode<A, B> {
 }
 
 impl<A: Monoid, B: Monoid> Ended<A, B> {
+    // The word of the left child, at this level, of the node above it at this place, by that node's word.
+    fn left_word(&self, level: u32, place: u32, word: u64) -> u64
+        requires { NamesEnded (face A.parts B.parts) self.now (level + 1) place word }
+        ensures { NamesEnded (face A.parts B.parts) self.now level (2 * place) result }
+    {
+        let _ = (level, place);
+        self.rest.record_word(word, RecordField::Left)
+    }
+
+    // The word of the right child.
+    fn right_word(&self, level: u32, place: u32, word: u64) -> u64
+        requires { NamesEnded (face A.parts B.parts) self.now (level + 1) place word }
+        ensures { NamesEnded (face A.parts B.parts) self.now level (2 * place + 1) result }
+    {
+        let _ = (level, place);
+        self.rest.record_word(word, RecordField::Right)
+    }
+
     // The summary of the node at a level and a place, by its word.
-    pub(crate) fn summary_of_word(&self, level: u32, place: u32, word: u64) -> Summary<A, B>
+    fn summary_of_word(&self, level: u32, place: u32, word: u64) -> Summary<A, B>
         requires version { IsVersion (face A.parts B.parts) self.now.rest self.now.members level place word }
         ensures { result ≡ summary_of A.parts B.parts (pairs_below self.now.members level place) }
     {
@@ -70,7 +88,7 @@ impl<A: Monoid, B: Monoid> Tree<A, B> for Ended<A, B> {
 
     ghost set_of = { λ e. set_of_ended e };
 
-    ghost calls_of = { λ e. e.loaded.nodes.made };
+    ghost calls_of = { λ e. e.calls };
 
     ghost HasNode = { λ e n. HasEndedNode (face A.parts B.parts) (summary_of A.parts B.parts) e n };
 
@@ -97,18 +115,18 @@ impl<A: Monoid, B: Monoid> Tree<A, B> for Ended<A, B> {
     }
 
     fn top(&mut self) -> EndedNode<A, B> {
-        self.loaded.one_node();
+        self.calls = self.calls.one_more();
         self.node(self.bits, 0, self.root)
     }
 
     fn left(&mut self, node: &EndedNode<A, B>) -> EndedNode<A, B> {
-        self.loaded.one_node();
+        self.calls = self.calls.one_more();
         let word = self.left_word(node.level - 1, node.place, node.word);
         self.node(node.level - 1, 2 * node.place, word)
     }
 
     fn right(&mut self, node: &EndedNode<A, B>) -> EndedNode<A, B> {
-        self.loaded.one_node();
+        self.calls = self.calls.one_more();
         let word = self.right_word(node.level - 1, node.place, node.word);
         self.node(node.level - 1, 2 * node.place + 1, word)
     }

@@ -1,5 +1,6 @@
 //! A pass without its round, for the way into a thread.
-ghost use Rattle.std.specs.Prelude.{◌≡◌};
+ghost use Rattle.std.specs.Prelude.{◌≡◌, ◌+◌, ◌^◌};
+ghost use Rattle.aug_trie.specs.Knowledge.{inserts_of, removals_of};
 
 use crate::rounds::account::Account;
 use crate::rounds::pass::Pass;
@@ -27,6 +28,36 @@ impl<A: Monoid, B: Monoid> Model for PassHalf<A, B> {
     ghost view = { λ p. pass_facts p.words p.account.left };
 
     ghost invariant = { λ p. IsPass (face A.parts B.parts) p.words.view p.account.leaves p.account.bits p.account.next p.account.left × HasCounts (changes_of p.words.view.held) p.account.inserts p.account.removals };
+}
+
+impl<A: Monoid, B: Monoid> PassHalf<A, B> {
+    /// How many keys there are: `2^bits`. The keys are the numbers below it.
+    pub fn universe(&self) -> u32
+        ensures { result ≡ 2 ^ self.now.round.bits }
+    {
+        1 << self.account.bits
+    }
+
+    /// How many updates are left.
+    pub fn budget(&self) -> u32
+        ensures { result + self.now.spent ≡ self.now.round.updates }
+    {
+        self.account.left
+    }
+
+    /// How many keys the pass put in. A weight that `put` replaced counts here and as a removal.
+    pub fn inserts(&self) -> u32
+        ensures { result ≡ inserts_of self.now.knows.accepted }
+    {
+        self.account.inserts
+    }
+
+    /// How many keys it took out. A weight that `put` replaced counts here and as an insertion.
+    pub fn removals(&self) -> u32
+        ensures { result ≡ removals_of self.now.knows.accepted }
+    {
+        self.account.removals
+    }
 }
 
 impl<'r, A: Monoid, B: Monoid> Pass<'r, A, B> {

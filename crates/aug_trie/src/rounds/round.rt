@@ -1,9 +1,16 @@
 //! A round: the table that its passes work on.
-ghost use Rattle.std.specs.Prelude.{◌≡◌, ◌≢◌, ◌↔◌, ◌+◌, ◌^◌, ◌<◌, ◌≤◌, length, All, IsErrOf, IfOk, IfErr};
+ghost use Rattle.std.specs.Prelude.{◌≡◌, ◌≢◌, ◌↔◌, ◌+◌, ◌^◌, ◌<◌, ◌≤◌, ℕ, List, [], length, All, IsErrOf, IfOk, IfErr, vec_capacity};
 ghost use Rattle.aug_monoid.specs.Weighted.{FitsPair};
 ghost use Rattle.aug_model.specs.Keys.{IsKeySet, keys_of};
-ghost use Rattle.aug_core.specs.Layout.{IsWithin, IsOutside, IsRefused};
-ghost use Rattle.aug_trie.specs.Crew.{BeginsRound, Ends};
+ghost use Rattle.aug_core.specs.Layout.{IsLayout, IsWithin, IsOutside, IsRefused};
+ghost use Rattle.aug_core.specs.Places.{shape_of};
+ghost use Rattle.aug_core.specs.Cuts.{pairs_of_cut};
+ghost use Rattle.aug_core.specs.Faces.{face};
+ghost use Rattle.aug_core.specs.Renewals.{HoldsAll, EndWith};
+ghost use Rattle.aug_words.specs.Seats.{AreTogether};
+ghost use Rattle.aug_trie.specs.Crew.{BeginsRound, BeginsIn, Ends, RollsOver};
+ghost use Rattle.aug_trie.specs.History.{last_cut};
+ghost use Rattle.aug_trie.specs.inside.Knows.{knows};
 
 use crate::error::BeginError;
 use crate::rounds::crew::Crew;
@@ -11,10 +18,11 @@ use crate::rounds::ended::Ended;
 use crate::rounds::half::PassHalf;
 use crate::rounds::members::Members;
 use crate::rounds::pass::Pass;
+use crate::rounds::rest_walk::RestWalk;
 use aug_core::{Layout, LayoutError};
 use aug_monoid::Monoid;
-use aug_query::pairs;
-use aug_words::{Words, WordsError};
+use aug_query::{Calls, Loaded, descent, pairs};
+use aug_words::{IdleLead, Lead, Words, WordsError};
 use std::alloc::Global;
 use std::marker::Model;
 
@@ -23,6 +31,8 @@ use std::marker::Model;
 pub struct Round<A: Monoid, B: Monoid> {
     pub(crate) words: Words<A, B>,
     pub(crate) layout: Layout,
+    // How often the round was renewed. Only contracts read it.
+    pub(crate) renewals: Calls,
 }
 
 impl<A: Monoid, B: Monoid> Model for Round<A, B> {
@@ -32,7 +42,7 @@ impl<A: Monoid, B: Monoid> Model for Round<A, B> {
 
     ghost Value = { RoundFacts };
 
-    ghost view = { λ r. store_round r.words };
+    ghost view = { λ r. store_round r.words r.renewals.made };
 
     ghost invariant = { λ r. r.layout ≡ r.words.opening.shape };
 }
@@ -46,7 +56,7 @@ impl<A: Monoid, B: Monoid> Round<A, B> {
         updates: u32,
     ) -> Result<(Round<A, B>, Crew<A, B>), (Ended<A, B>, BeginError)>
         ensures begun { IfOk result (λ t. BeginsRound ended.members ended.bits workers updates t.0 t.1) }
-        ensures same { IfErr result (λ e. e.0 ≡ record ended { loaded = e.0.loaded }) }
+        ensures same { IfErr result (λ e. e.0 ≡ record ended { calls = e.0.calls }) }
         ensures not_walked { IfErr result (λ e. e.1 ≢ BeginError.OutOfMemory → e.0 ≡ ended) }
         ensures bad_workers { IsErrOf result (ended, BeginError.BadWorkers)
             ↔ IsRefused LayoutError.BadWorkers ended.bits workers updates (length ended.members) }
@@ -78,7 +88,7 @@ impl<A: Monoid, B: Monoid> Round<A, B> {
         updates: u32,
     ) -> Result<(Round<A, B>, Crew<A, B>), (Ended<A, B>, BeginError)>
         ensures begun { IfOk result (λ t. BeginsRound ended.members bits workers updates t.0 t.1) }
-        ensures same { IfErr result (λ e. e.0 ≡ record ended { loaded = e.0.loaded }) }
+        ensures same { IfErr result (λ e. e.0 ≡ record ended { calls = e.0.calls }) }
         ensures not_walked { IfErr result (λ e. e.1 ≢ BeginError.OutOfMemory → e.0 ≡ ended) }
         ensures bad_bits { IsErrOf result (ended, BeginError.BadBits) ↔ IsOutside 1 16 bits }
         ensures narrower { IsErrOf result (ended, BeginError.Narrower) ↔ IsWithin 1 16 bits × (bits < ended.bits) }
@@ -154,6 +164,42 @@ impl<A: Monoid, B: Monoid> Round<A, B> {
         requires room { layout.members ≡ length members.now }
         ensures { IfOk result (λ t. BeginsRound members.now layout.bits layout.workers layout.updates t.0 t.1) }
     {
+        Round::in_room(alloc, layout, members)
+    }
+
+    /// Begins a round over a set that was listed, with its bits and with room for all keys. Such a round can be renewed (`renew`). The
+    /// numbers are those of a table that can be laid out, so it is refused only for lack of memory, and then the same list comes back.
+    pub fn begin_for_all(
+        alloc: Global,
+        members: Members,
+        workers: u32,
+        updates: u32,
+    ) -> Result<(Round<A, B>, Crew<A, B>), Members>
+        requires { IsLayout (shape_of members.bits workers updates (2 ^ members.bits)) }
+        ensures begun { IfOk result (λ t. BeginsIn (2 ^ members.bits) members.pairs members.bits workers updates t.0 t.1) }
+        ensures same { IfErr result (λ e. e ≡ members) }
+    {
+        let bits = members.bits();
+        let Ok(layout) = Layout::new(bits, workers, updates, members.universe()) else {
+            unreachable!()
+        };
+        match Round::in_room(alloc, layout, members.as_slice()) {
+            Ok(begun) => Ok(begun),
+            Err(WordsError::OutOfMemory) => Err(members),
+        }
+    }
+
+    // The round of a layout over a set, for which it has room.
+    fn in_room(
+        alloc: Global,
+        layout: Layout,
+        members: &[(u32, u32)],
+    ) -> Result<(Round<A, B>, Crew<A, B>), WordsError>
+        requires keys { IsKeySet layout.bits (keys_of members.now) }
+        requires fit { All FitsPair members.now }
+        requires few { length members.now ≤ layout.members }
+        ensures { IfOk result (λ t. BeginsIn layout.members members.now layout.bits layout.workers layout.updates t.0 t.1) }
+    {
         let (words, lead) = Words::open(alloc, &layout, members)?;
         let crew = Crew {
             lead,
@@ -161,7 +207,13 @@ impl<A: Monoid, B: Monoid> Round<A, B> {
             inserts: 0,
             removals: 0,
         };
-        Ok((Round { words, layout }, crew))
+        let renewals = Calls::new();
+        let round = Round {
+            words,
+            layout,
+            renewals,
+        };
+        Ok((round, crew))
     }
 
     /// Ends the round, also if passes did not come back. The set is that of the last version of the root that the crew
@@ -172,7 +224,11 @@ impl<A: Monoid, B: Monoid> Round<A, B> {
         ensures sizes { result.missing ≡ 0 → length result.members + result.removals ≡ length self.members + result.inserts }
         ensures few { length result.members ≤ 2 ^ result.bits }
     {
-        let Round { words, layout } = self;
+        let Round {
+            words,
+            layout,
+            renewals: _,
+        } = self;
         let Crew {
             lead,
             back,
@@ -187,6 +243,36 @@ impl<A: Monoid, B: Monoid> Round<A, B> {
         ended
     }
 
+    /// Ends the round, to which all passes have come back, and begins the next over its set, in the same memory and with the same
+    /// numbers. `list` is empty and has room for all keys; it has the set afterwards. Returns the crew of the next round, and how many keys
+    /// the round that ended put in and took out. The call takes no memory and has no refusal.
+    pub fn renew(&mut self, crew: Crew<A, B>, list: &mut Vec<(u32, u32)>) -> (Crew<A, B>, u32, u32)
+        requires together { crew.round ≡ self.old }
+        requires all_back { crew.back ≡ crew.handed }
+        requires room { 2 ^ self.old.bits ≤ self.old.room }
+        requires empty { list.old.items ≡ [] }
+        requires list_room { 2 ^ self.old.bits ≤ vec_capacity list.old }
+        ensures rolls { RollsOver crew self.old self.new result.0 list.new.items result.1 result.2 }
+        ensures list_room { vec_capacity list.new ≡ vec_capacity list.old }
+    {
+        let Crew {
+            lead,
+            back: _,
+            inserts,
+            removals,
+        } = crew;
+        let idle = rest_and_list(&self.words, lead, self.layout.bits(), list);
+        let lead = self.words.open_again(idle, list.as_slice());
+        self.renewals = self.renewals.one_more();
+        let crew = Crew {
+            lead,
+            back: 0,
+            inserts: 0,
+            removals: 0,
+        };
+        (crew, inserts, removals)
+    }
+
     /// The pass of a half that was taken from a pass of this round.
     pub fn pass<'r>(&'r self, half: PassHalf<A, B>) -> Pass<'r, A, B>
         requires { half.round ≡ self.now }
@@ -198,4 +284,39 @@ impl<A: Monoid, B: Monoid> Round<A, B> {
             account,
         }
     }
+}
+
+// Brings the table of a round to rest to which all passes have come back, and lists its set in a list that is empty and has room for it.
+fn rest_and_list<A: Monoid, B: Monoid>(
+    words: &Words<A, B>,
+    lead: Lead<A, B>,
+    bits: u32,
+    list: &mut Vec<(u32, u32)>,
+) -> IdleLead<A, B>
+    requires bits { bits ≡ words.now.opening.shape.bits }
+    requires together { AreTogether words.now lead }
+    requires all { HoldsAll lead.view }
+    requires empty { list.old.items ≡ [] }
+    requires room { 2 ^ words.now.opening.shape.bits ≤ vec_capacity list.old }
+    ensures table { result.table ≡ words.now.table }
+    ensures shape { result.view.shape ≡ words.now.opening.shape }
+    ensures era { result.view.era ≡ lead.view.era + 1 }
+    ensures set { list.new.items ≡ pairs_of_cut (last_cut (knows lead.view).history) }
+    ensures keys { IsKeySet words.now.opening.shape.bits (keys_of list.new.items) }
+    ensures fit { All FitsPair list.new.items }
+    ensures room { vec_capacity list.new ≡ vec_capacity list.old }
+    ensures rule { (rest : List ℕ) × EndWith (face A.parts B.parts) words.now.opening lead.view rest }
+{
+    let root = lead.root();
+    let idle = words.rest(lead);
+    let mut walk = RestWalk {
+        words,
+        idle,
+        root,
+        bits,
+        loaded: Loaded::nothing(),
+    };
+    descent::put_pairs(&mut walk, list);
+    let RestWalk { idle, .. } = walk;
+    idle
 }

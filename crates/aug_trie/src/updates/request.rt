@@ -4,14 +4,14 @@ ghost use Rattle.aug_trie.specs.inside.Counted.{insertions_by as insertions, rem
 
 use aug_model::Outcome;
 
-// What an update does to its key.
+/// What an update does to its key.
 #[derive(Clone, Copy)]
-pub(crate) enum Request {
-    // It puts the key in, with the key itself as its weight, if it is not there.
+pub enum Request {
+    /// It puts the key in, with the key itself as its weight, if it is not there.
     Insert,
-    // It takes the key out, if it is there.
+    /// It takes the key out, if it is there.
     Remove,
-    // It puts the key in with this weight, or gives this weight to it if it is there.
+    /// It puts the key in with this weight, or gives this weight to it if it is there.
     Put(u32),
 }
 

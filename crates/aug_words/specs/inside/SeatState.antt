@@ -1,5 +1,5 @@
 -- What the fields of a table, of a lead and of a pass keep.
-use Rattle.std.specs.Prelude.{◌≡◌, ℕ, ◌<◌, true, Some, List, [], length}
+use Rattle.std.specs.Prelude.{◌≡◌, ℕ, ◌<◌, true, false, Some, List, [], length}
 use Rattle.atomic_table.specs.Seated.{TableId}
 use Rattle.aug_core.specs.Places.{Shape, lane_place, record_start, word_count}
 use Rattle.aug_core.specs.Layout.{IsLayout}
@@ -13,14 +13,16 @@ use Rattle.aug_core.specs.declared.view.SeatView.{SeatView}
 use Rattle.aug_core.specs.declared.view.LaneState.TheVariants.{Taken}
 use Rattle.aug_words.specs.Seats.{NamesRoot}
 
--- what a table's fields keep
-pub record IsStore (table : TableId) (opening : Opening) (layout : Shape) (lanes records : ℕ) : Type 0 where
+-- what a table's fields keep: how it was made, how it was opened last, and room for the words with which it is opened again
+pub record IsStore (table : TableId) (made opening : Opening) (layout : Shape) (lanes records : ℕ) (draft : List ℕ) : Type 0 where
   pub laid_out : IsLayout opening.shape
+  pub one_shape : made.shape ≡ opening.shape
   pub one_layout : layout ≡ opening.shape
   pub wide : table.words ≡ word_count opening.shape
   pub no_slots : table.slots ≡ 0
   pub lanes_are : lanes ≡ lane_place opening.shape 0
   pub records_are : records ≡ record_start opening.shape 0
+  pub draft_long : length draft ≡ word_count record opening.shape { updates = 1 }
 
 -- a seat sits at its table, whose lanes and records begin at these words
 pub record SitsAt (seat_table table : TableId) (lanes records : ℕ) (s : Shape) : Type 0 where
@@ -33,6 +35,12 @@ pub record SitsAt (seat_table table : TableId) (lanes records : ℕ) (s : Shape)
 pub record HasReached (v : SeatView) (key serial : ℕ) : Type 0 where
   pub entry : Entry
   pub at : At v.seen key serial entry
+
+-- what holds for the seat of a note: it holds no lane, and does not renew the table
+pub record IsNoteSeat (me : Sat) : Type 0 where
+  pub no_slot : me.1 ≡ []
+  pub no_lane : me.0.held ≡ []
+  pub no_renewal : me.0.renews ≡ false
 
 module _ (face : ℕ → ℕ → List (ℕ × ℕ) → List ℕ) where
   -- what holds for the seat of a pass: it has one lane, which is taken, and all words of its records, and knows its table
@@ -54,3 +62,9 @@ module _ (face : ℕ → ℕ → List (ℕ × ℕ) → List ℕ) where
     pub hands_out : me.0.spare ≡ Some next
     pub knows : KnowsTable face me.0
     pub names_root : NamesRoot me.0 root
+
+-- what holds for the seat of a lead at rest: it renews the table, and knows all words
+pub record IsIdleSeat (me : Sat) : Type 0 where
+  pub renews : me.0.renews ≡ true
+  pub no_slot : me.1 ≡ []
+  pub wide : length me.0.words ≡ word_count me.0.shape

@@ -1,4 +1,4 @@
-use Rattle.aug_core.proofs.States.{finishes_lane}
+use Rattle.aug_core.proofs.EraSteps.{finishes_lane}
 use Rattle.aug_words.proofs.lead.finish_lane.Goals as goal
 
 pub store-requires : goal.store-requires

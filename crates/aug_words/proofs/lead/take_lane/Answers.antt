@@ -1,4 +1,4 @@
-use Rattle.aug_core.proofs.States.{takes_lane}
+use Rattle.aug_core.proofs.EraSteps.{takes_lane}
 use Rattle.aug_words.proofs.lead.take_lane.Goals as goal
 
 pub compare_exchange-requires : goal.compare_exchange-requires

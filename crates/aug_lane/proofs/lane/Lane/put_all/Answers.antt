@@ -9,8 +9,8 @@ use Rattle.aug_lane.specs.EachInTurn.{OneUpdate, Updates}
 use Rattle.aug_lane.proofs.Turns.{updates_more, pairs_long, pair_at}
 use Rattle.aug_lane.proofs.lane.Lane.put_all.Goals as goal
 
-pub put_one-next-requires-clause-left : goal.put_one-next-requires-clause-left
-put_one-next-requires-clause-left g c =
+pub update_one-next-requires-clause-left : goal.update_one-next-requires-clause-left
+update_one-next-requires-clause-left g c =
     let keys = c.args.keys.now in let weights = c.args.weights.now in let u = c.loop-place.invariant.3 in let spent = u.spent in
     let within : c.loop-place.place < length keys = search rules in
     let long = pairs_long keys weights c.requires.pairs in
@@ -20,7 +20,7 @@ put_one-next-requires-clause-left g c =
     omega (arith, within, spent, made, same, left)
 
 pub loop-place-preserved : goal.loop-place-preserved
-loop-place-preserved g c = let l = c.args.self in let i = c.loop-place.invariant in let one = c.put_one-next in let e = one.ensures in let u = e.update in
+loop-place-preserved g c = let l = c.args.self in let i = c.loop-place.invariant in let one = c.update_one-next in let e = one.ensures in let u = e.update in
     let s = summary_of g.A.Monoid.parts g.B.Monoid.parts in let keys = c.args.keys.now in let weights = c.args.weights.now in let few = c.changed_by-changed.ensures.few in let j = i.2 in
     let does = λ (pair : ℕ × ℕ) (done : Outcome). OneUpdate s (request.Put pair.1) pair.0 done in let place = c.loop-place.place in
     let within : place < length keys = search rules in let long = pairs_long keys weights c.requires.pairs in (

@@ -11,6 +11,6 @@ returns-clause-rises g c = let l = c.args.self in let e = c.top.ensures in
 
 pub invariant_of-result : goal.invariant_of-result
 invariant_of-result g c = let l = c.args.self in
-    let k = kept_reading (summary_of g.A.Monoid.parts g.B.Monoid.parts) 4 l.half c.pass-pass.result c.top.new.self c.into_half-half.result (arc_value l.round) l.held l.keys l.left
-    (record { of_round = l.of_round; shows = l.shows; keys_are = l.keys_are; left_are = l.left_are }) c.pass-pass.ensures c.top.ensures.reads c.into_half-half.ensures in
-    record { of_round = k.of_round; shows = k.shows; keys_are = k.keys_are; left_are = k.left_are }
+    let k = kept_reading (summary_of g.A.Monoid.parts g.B.Monoid.parts) l.half c.pass-pass.result c.top.new.self c.into_half-half.result (arc_value l.round) l.held
+    (record { of_round = l.of_round; shows = l.shows }) c.pass-pass.ensures c.into_half-half.ensures 4 c.top.ensures.reads in
+    record { of_round = k.of_round; shows = k.shows }

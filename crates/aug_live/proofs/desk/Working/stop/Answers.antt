@@ -1,7 +1,5 @@
-use Rattle.std.proofs.Common.{rules, refl}
-use Rattle.aug_live.proofs.Desks.{stopped}
+use Rattle.std.proofs.Common.{arith}
 use Rattle.aug_live.proofs.desk.Working.stop.Goals as goal
 
-pub invariant_of-result : goal.invariant_of-result
-invariant_of-result g c = let ended = c.finish-ended.ensures in stopped _ _ _ _ _ _ _ _ _ _ c.finish-ended.result.0 _ c.self.invariant.0 ended.ready ended.len ended.bits ended.sizes ended.few refl refl
-    (search rules) (search rules) c.into_members_in.ensures
+pub into_members_in-requires-clause-room : goal.into_members_in-requires-clause-room
+into_members_in-requires-clause-room g c = omega (arith, c.finish-ended.ensures.few, c.self.invariant.4)

@@ -32,43 +32,43 @@ returns-else-remove-clause-answers c =
 pub returns-in-Look-clause-answers : goal.returns-in-Look-clause-answers
 returns-in-Look-clause-answers c = rw c.in-Look.is (refl, c.snapshot.ensures.takes)
 
-pub returns-then-has-clause-answers : goal.returns-then-has-clause-answers
-returns-then-has-clause-answers c =
-    rw c.in-Has.is (asked _ _ _ c.args.held.now c.requires.held (λ pairs. if is_member (keys_of pairs) c.in-Has.key then reply.Yes else reply.No) reply.Yes c.has.ensures.reads.stays
-    (ap (λ b. if b then reply.Yes else reply.No) c.if-has.ensures.answer))
+pub returns-then-ask-clause-answers : goal.returns-then-ask-clause-answers
+returns-then-ask-clause-answers c =
+    rw c.in-Has.is (asked _ _ _ c.args.held.now c.requires.held (λ pairs. if is_member (keys_of pairs) c.in-Has.key then reply.Yes else reply.No) reply.Yes c.ask.ensures.reads.stays
+    (ap (λ b. if b then reply.Yes else reply.No) c.if-ask.ensures.answer))
 
-pub returns-else-has-clause-answers : goal.returns-else-has-clause-answers
-returns-else-has-clause-answers c =
-    rw c.in-Has.is (asked _ _ _ c.args.held.now c.requires.held (λ pairs. if is_member (keys_of pairs) c.in-Has.key then reply.Yes else reply.No) reply.No c.has.ensures.reads.stays
-    (ap (λ b. if b then reply.Yes else reply.No) c.if-has.ensures.answer))
+pub returns-else-ask-clause-answers : goal.returns-else-ask-clause-answers
+returns-else-ask-clause-answers c =
+    rw c.in-Has.is (asked _ _ _ c.args.held.now c.requires.held (λ pairs. if is_member (keys_of pairs) c.in-Has.key then reply.Yes else reply.No) reply.No c.ask.ensures.reads.stays
+    (ap (λ b. if b then reply.Yes else reply.No) c.if-ask.ensures.answer))
 
 pub returns-in-Weight-clause-answers : goal.returns-in-Weight-clause-answers
 returns-in-Weight-clause-answers c =
-    rw c.in-Weight.is (asked _ _ _ c.args.held.now c.requires.held (λ pairs. reply.Found (weight_of pairs c.in-Weight.key)) (reply.Found c.weight.result) c.weight.ensures.reads.stays (ap reply.Found c.weight.ensures.answer))
+    rw c.in-Weight.is (asked _ _ _ c.args.held.now c.requires.held (λ pairs. reply.Found (weight_of pairs c.in-Weight.key)) (reply.Found c.ask-in-Weight.result) c.ask-in-Weight.ensures.reads.stays (ap reply.Found c.ask-in-Weight.ensures.answer))
 
 pub returns-in-Size-clause-answers : goal.returns-in-Size-clause-answers
 returns-in-Size-clause-answers c =
-    rw c.in-Size.is (asked _ _ _ c.args.held.now c.requires.held (λ pairs. reply.Number (length (keys_of pairs))) (reply.Number c.size.result) c.size.ensures.reads.stays (ap reply.Number c.size.ensures.answer))
+    rw c.in-Size.is (asked _ _ _ c.args.held.now c.requires.held (λ pairs. reply.Number (length (keys_of pairs))) (reply.Number c.ask-in-Size.result) c.ask-in-Size.ensures.reads.stays (ap reply.Number c.ask-in-Size.ensures.answer))
 
 pub returns-in-Rank-clause-answers : goal.returns-in-Rank-clause-answers
 returns-in-Rank-clause-answers c =
-    rw c.in-Rank.is (asked _ _ _ c.args.held.now c.requires.held (λ pairs. reply.Number (rank_of (keys_of pairs) c.in-Rank.key)) (reply.Number c.rank.result) c.rank.ensures.reads.stays (ap reply.Number c.rank.ensures.answer))
+    rw c.in-Rank.is (asked _ _ _ c.args.held.now c.requires.held (λ pairs. reply.Number (rank_of (keys_of pairs) c.in-Rank.key)) (reply.Number c.ask-in-Rank.result) c.ask-in-Rank.ensures.reads.stays (ap reply.Number c.ask-in-Rank.ensures.answer))
 
 pub returns-in-Select-clause-answers : goal.returns-in-Select-clause-answers
 returns-in-Select-clause-answers c =
-    rw c.in-Select.is (asked _ _ _ c.args.held.now c.requires.held (λ pairs. reply.Found (select_of (keys_of pairs) c.in-Select.index)) (reply.Found c.select.result) c.select.ensures.reads.stays (ap reply.Found c.select.ensures.answer))
+    rw c.in-Select.is (asked _ _ _ c.args.held.now c.requires.held (λ pairs. reply.Found (select_of (keys_of pairs) c.in-Select.index)) (reply.Found c.ask-in-Select.result) c.ask-in-Select.ensures.reads.stays (ap reply.Found c.ask-in-Select.ensures.answer))
 
 pub returns-in-Before-clause-answers : goal.returns-in-Before-clause-answers
 returns-in-Before-clause-answers c =
-    rw c.in-Before.is (asked _ _ _ c.args.held.now c.requires.held (λ pairs. reply.Found (before_of (keys_of pairs) c.in-Before.key)) (reply.Found c.before-in-Before.result) c.before-in-Before.ensures.reads.stays
-    (ap reply.Found c.before-in-Before.ensures.answer))
+    rw c.in-Before.is (asked _ _ _ c.args.held.now c.requires.held (λ pairs. reply.Found (before_of (keys_of pairs) c.in-Before.key)) (reply.Found c.ask-in-Before.result) c.ask-in-Before.ensures.reads.stays
+    (ap reply.Found c.ask-in-Before.ensures.answer))
 
 pub returns-in-After-clause-answers : goal.returns-in-After-clause-answers
 returns-in-After-clause-answers c =
-    rw c.in-After.is (asked _ _ _ c.args.held.now c.requires.held (λ pairs. reply.Found (after_of (keys_of pairs) c.in-After.key)) (reply.Found c.after.result) c.after.ensures.reads.stays
-    (ap reply.Found c.after.ensures.answer))
+    rw c.in-After.is (asked _ _ _ c.args.held.now c.requires.held (λ pairs. reply.Found (after_of (keys_of pairs) c.in-After.key)) (reply.Found c.ask-in-After.result) c.ask-in-After.ensures.reads.stays
+    (ap reply.Found c.ask-in-After.ensures.answer))
 
 pub returns-in-Range-clause-answers : goal.returns-in-Range-clause-answers
 returns-in-Range-clause-answers c =
-    rw c.in-Range.is (asked _ _ _ c.args.held.now c.requires.held (λ pairs. reply.Span (summary_of sum_parts extent_parts (weighted_range_of pairs c.in-Range.from c.in-Range.to))) (reply.Span c.range.result) c.range.ensures.reads.stays
-    (ap reply.Span c.range.ensures.answer))
+    rw c.in-Range.is (asked _ _ _ c.args.held.now c.requires.held (λ pairs. reply.Span (summary_of sum_parts extent_parts (weighted_range_of pairs c.in-Range.from c.in-Range.to))) (reply.Span c.ask-in-Range.result) c.ask-in-Range.ensures.reads.stays
+    (ap reply.Span c.ask-in-Range.ensures.answer))

@@ -2,14 +2,15 @@ use Rattle.std.proofs.Common.{ap, subst, sym, ◌∙◌, ◌≡◌, ℕ}
 use Rattle.aug_core.specs.Faces.{face}
 use Rattle.aug_core.specs.Addresses.{IsInner, root_place}
 use Rattle.aug_core.specs.Told.{LoadsNode}
-use Rattle.aug_core.proofs.Loads.{loads_node}
+use Rattle.aug_core.proofs.Eras.{hands_out}
+use Rattle.aug_core.proofs.EraSteps.{loads_node}
 use Rattle.aug_core.specs.declared.view.SeatView.{SeatView}
 use Rattle.aug_words.specs.Seats.{Known}
 use Rattle.aug_words.proofs.Leads.{lead_loaded, root_inner}
 use Rattle.aug_words.proofs.lead.Lead.load_root.Goals as goal
 
 pub load-number-requires : goal.load-number-requires
-load-number-requires g c = (ap (λ (k : Known). k.table) c.self.view_is ∙ c.requires.table, c.requires.inside, loads_node _ _ _ _ _ _ c.self.invariant.live c.self.invariant.no_slot)
+load-number-requires g c = (ap (λ (k : Known). k.table) c.self.view_is ∙ c.requires.table, c.requires.inside, loads_node _ _ _ _ _ _ (hands_out c.self.inside.seat.me.0 c.self.inside.next c.self.invariant.hands_out) c.self.invariant.live c.self.invariant.no_slot)
 
 pub invariant_of-self : goal.invariant_of-self
 invariant_of-self g c = let m = g.A.Monoid in let n = g.B.Monoid in let f = face m.parts n.parts in let v : SeatView = c.self.inside.seat.me.0 in let bits = c.self.invariant.knows.laid_out.bits in

@@ -2,16 +2,16 @@ use Rattle.std.proofs.Common.{arith, subst, sym, ◌^◌, ◌<◌}
 use Rattle.aug_core.specs.Faces.{face}
 use Rattle.aug_core.specs.Told.{BeginsAtLeaf}
 use Rattle.aug_core.proofs.Sizes.{twice}
-use Rattle.aug_core.proofs.Loads.{begins_at_leaf}
+use Rattle.aug_core.proofs.EraSteps.{begins_at_leaf}
 use Rattle.aug_words.specs.Seats.{Known}
-use Rattle.aug_words.proofs.Passes.{pass_began_at_leaf}
+use Rattle.aug_words.proofs.Passes.{pass_began_at_leaf, works_on}
 use Rattle.aug_words.proofs.pass.WordPass.begin_at_leaf.Goals as goal
 
 pub load-requires : goal.load-requires
 load-requires g c =
     let sits = c.self.invariant.0 in let wide = sits.wide in let t = twice c.self.inside.seat.me.0.shape.bits in
     let low = subst (λ (k : Known). c.args.leaf < 2 ^ k.view.shape.bits) (sym c.self.view_is) c.requires in
-    (sits.seated, omega arith, begins_at_leaf _ _ _ _ _ _ c.self.invariant.1.live c.self.invariant.1.no_slot)
+    (sits.seated, omega arith, begins_at_leaf _ _ _ _ _ _ (works_on _ _ _ c.self.invariant.1) c.self.invariant.1.live c.self.invariant.1.no_slot)
 
 pub invariant_of-self : goal.invariant_of-self
 invariant_of-self g c = let m = g.A.Monoid in let n = g.B.Monoid in let f = face m.parts n.parts in

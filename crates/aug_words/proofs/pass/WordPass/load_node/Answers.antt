@@ -2,16 +2,16 @@ use Rattle.std.proofs.Common.{arith, subst, sym}
 use Rattle.aug_core.specs.Faces.{face}
 use Rattle.aug_core.specs.Addresses.{IsInner}
 use Rattle.aug_core.specs.Told.{LoadsNode}
-use Rattle.aug_core.proofs.Loads.{loads_node}
+use Rattle.aug_core.proofs.EraSteps.{loads_node}
 use Rattle.aug_words.specs.Seats.{Known}
-use Rattle.aug_words.proofs.Passes.{pass_loaded_node}
+use Rattle.aug_words.proofs.Passes.{pass_loaded_node, works_on}
 use Rattle.aug_words.proofs.pass.WordPass.load_node.Goals as goal
 
 pub load-requires : goal.load-requires
 load-requires g c =
     let sits = c.self.invariant.0 in let wide = sits.wide in
     let inner = subst (λ (k : Known). IsInner k.view.shape c.args.node) (sym c.self.view_is) c.requires in let low = inner.inside in
-    (sits.seated, omega arith, loads_node _ _ _ _ _ _ c.self.invariant.1.live c.self.invariant.1.no_slot)
+    (sits.seated, omega arith, loads_node _ _ _ _ _ _ (works_on _ _ _ c.self.invariant.1) c.self.invariant.1.live c.self.invariant.1.no_slot)
 
 pub invariant_of-self : goal.invariant_of-self
 invariant_of-self g c = let m = g.A.Monoid in let n = g.B.Monoid in let f = face m.parts n.parts in

@@ -1,8 +1,8 @@
 use Rattle.std.proofs.Common.{arith, subst, sym, ℕ}
 use Rattle.aug_core.specs.Fields.{field_offset}
-use Rattle.aug_core.proofs.Loads.{loads_record_word}
+use Rattle.aug_core.proofs.EraSteps.{loads_record_word}
 use Rattle.aug_words.specs.Seats.{Known, MayLoad, LoadsRecordWord}
-use Rattle.aug_words.proofs.Passes.{pass_loaded, loads_inside, tells}
+use Rattle.aug_words.proofs.Passes.{pass_loaded, loads_inside, tells, works_on}
 use Rattle.aug_words.proofs.pass.WordPass.load_record_word.Goals as goal
 
 pub record_word-place-requires : goal.record_word-place-requires
@@ -15,7 +15,7 @@ pub load-requires : goal.load-requires
 load-requires g c =
     let sits = c.self.invariant.0 in let begins = sits.records_are in let wide = sits.wide in let field = c.offset.ensures.small in let at = c.record_word-place.ensures in
     let below = loads_inside _ _ c.self.inside.seat.me c.self.invariant.1 c.args.number (subst (λ (k : Known). MayLoad k.view c.args.number) (sym c.self.view_is) c.requires) in
-    (sits.seated, omega arith, loads_record_word _ _ _ _ _ _ c.self.invariant.1.live c.self.invariant.1.no_slot)
+    (sits.seated, omega arith, loads_record_word _ _ _ _ _ _ (works_on _ _ _ c.self.invariant.1) c.self.invariant.1.live c.self.invariant.1.no_slot)
 
 pub invariant_of-self : goal.invariant_of-self
 invariant_of-self g c = pass_loaded _ _ _ _ _ _ _ c.self.inside.seat.me c.load.new.seat.me c.self.invariant c.load.ensures.0 c.record_word-place.result c.load.result c.load.ensures.2

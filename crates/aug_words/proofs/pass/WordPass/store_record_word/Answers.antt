@@ -3,7 +3,7 @@ use Rattle.aug_core.specs.Fields.{field_offset}
 use Rattle.aug_core.specs.Places.{record_start}
 use Rattle.aug_core.specs.Told.{MayStore, storing}
 use Rattle.aug_core.specs.declared.view.SeatView.{SeatView}
-use Rattle.aug_core.proofs.Stores.{stores_record_word}
+use Rattle.aug_core.proofs.EraSteps.{stores_record_word}
 use Rattle.aug_words.specs.Seats.{Known}
 use Rattle.aug_words.proofs.Passes.{pass_stored, has_taken, stores_inside}
 use Rattle.aug_words.proofs.pass.WordPass.store_record_word.Goals as goal

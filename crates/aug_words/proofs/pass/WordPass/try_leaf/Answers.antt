@@ -2,7 +2,7 @@ use Rattle.std.proofs.Common.{arith, subst, sym, ◌^◌, ◌<◌}
 use Rattle.aug_core.specs.Faces.{face}
 use Rattle.aug_core.specs.Told.{MayChange}
 use Rattle.aug_core.proofs.Sizes.{twice}
-use Rattle.aug_core.proofs.Leaves.{allows_leaf}
+use Rattle.aug_core.proofs.EraSteps.{allows_leaf}
 use Rattle.aug_words.specs.Seats.{Known, MayAdvance}
 use Rattle.aug_words.proofs.Passes.{pass_tried_leaf, has_taken}
 use Rattle.aug_words.proofs.pass.WordPass.try_leaf.Goals as goal

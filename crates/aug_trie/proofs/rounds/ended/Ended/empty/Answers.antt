@@ -28,4 +28,4 @@ returns-in-Ok-open-clause-empty g c = let f = face g.A.Monoid.parts g.B.Monoid.p
     let no_members : c.at_rest.result.members ≡ [] = made.members ∙ ap (λ (z : SeatView). pairs_of_cut (last_cut (knows z).history)) c.in-Ok-open.ensures.lead ∙ ap (λ (z : List Cut). pairs_of_cut (last_cut z)) first
     ∙ ap (λ (z : List (ℕ × ℕ)). pairs_of_cut (opening_cut o.shape.bits z)) opened.1 ∙ none_shown o.shape.bits in
     let ended : EndedFacts = c.at_rest.result in
-    λ j. record ended { bits = made.bits j; members = no_members j; inserts = made.no_inserts j; removals = made.no_removals j; missing = made.none_missing j; loaded = made.no_loads j }
+    λ j. record ended { bits = made.bits j; members = no_members j; inserts = made.no_inserts j; removals = made.no_removals j; missing = made.none_missing j; calls = made.no_calls j }

@@ -8,7 +8,7 @@ use Rattle.aug_trie.proofs.rounds.ended.Ended.into_members_in.Goals as goal
 
 pub invariant_of-result : goal.invariant_of-result
 invariant_of-result g c = let e = c.ended.inside in let list : List (ℕ × ℕ) = pairs_at_rest e.rest e.bits 0 e.root in
-    let same : c.args.self.members ≡ c.pairs_into.new.tree.members = sym (ap (λ (z : SetFacts). z.pairs) c.pairs_into.ensures.descends.same_set) in
+    let same : c.args.self.members ≡ c.pairs_into.new.tree.members = sym (ap (λ (z : SetFacts). z.pairs) c.pairs_into.ensures.walks.same_set) in
     let members : c.args.self.members ≡ list = same ∙ sym (ap (λ (z : EndedFacts). z.members) c.ended.view_is) in
     let added : c.pairs_into.new.list.items ≡ c.args.room.items ++ c.args.self.members = c.pairs_into.ensures.answer in
     let all : c.pairs_into.new.list.items ≡ list = added ∙ ap (λ (xs : List (ℕ × ℕ)). xs ++ c.args.self.members) c.requires.empty ∙ members in (

@@ -4,9 +4,9 @@ use Rattle.aug_trie.proofs.EndedWalks.{record_inside, right_named}
 use Rattle.aug_trie.proofs.rounds.ended.Ended.right_word.Goals as goal
 
 pub record_word-requires : goal.record_word-requires
-record_word-requires g c = let i = c.self.inside in let first : EndedFacts = record { bits = i.bits; members = pairs_at_rest i.rest i.bits 0 i.root; inserts = i.inserts; removals = i.removals; missing = i.missing; loaded = i.loaded; rest = i.rest; root = i.root } in
+record_word-requires g c = let i = c.self.inside in let first : EndedFacts = record { bits = i.bits; members = pairs_at_rest i.rest i.bits 0 i.root; inserts = i.inserts; removals = i.removals; missing = i.missing; calls = i.calls.made; rest = i.rest; root = i.root } in
     record_inside g.A.Monoid.parts g.B.Monoid.parts first c.args.self.now c.args.level c.args.place c.args.word c.self.view_is c.requires
 
 pub returns : goal.returns
-returns g c = let i = c.self.inside in let first : EndedFacts = record { bits = i.bits; members = pairs_at_rest i.rest i.bits 0 i.root; inserts = i.inserts; removals = i.removals; missing = i.missing; loaded = i.loaded; rest = i.rest; root = i.root } in
+returns g c = let i = c.self.inside in let first : EndedFacts = record { bits = i.bits; members = pairs_at_rest i.rest i.bits 0 i.root; inserts = i.inserts; removals = i.removals; missing = i.missing; calls = i.calls.made; rest = i.rest; root = i.root } in
     right_named g.A.Monoid.parts g.B.Monoid.parts first c.args.self.now c.args.level c.args.place c.args.word c.record_word.result c.self.view_is c.requires c.record_word.ensures

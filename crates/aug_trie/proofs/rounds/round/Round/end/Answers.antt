@@ -14,15 +14,15 @@ overflow_sub-ended g c = let i = c.crew.inside in let few = no_more_back (face g
 
 pub returns-clause-ends : goal.returns-clause-ends
 returns-clause-ends g c = let i = c.crew.inside in let r = c.ended.inside in let made = c.at_rest-ended.ensures in
-    let ended : EndedFacts = record { bits = r.bits; members = pairs_at_rest r.rest r.bits 0 r.root; inserts = i.inserts; removals = i.removals; missing = c.handed-handed.result - i.back; loaded = r.loaded; rest = r.rest; root = r.root } in
+    let ended : EndedFacts = record { bits = r.bits; members = pairs_at_rest r.rest r.bits 0 r.root; inserts = i.inserts; removals = i.removals; missing = c.handed-handed.result - i.back; calls = r.calls.made; rest = r.rest; root = r.root } in
     (round_ended (face g.A.Monoid.parts g.B.Monoid.parts) c.self.inside.words i.lead c.args.crew c.args.self c.handed-handed.result c.crew.view_is c.requires.together c.self.view_is c.crew.invariant c.handed-handed.ensures.value made.rule
-    ended (ap (λ (z : EndedFacts). z.bits) c.ended.view_is ∙ made.bits ∙ c.bits.ensures ∙ ap (λ (z : Shape). z.bits) c.self.invariant) (ap (λ (z : EndedFacts). z.members) c.ended.view_is ∙ made.members) refl refl refl (ap (λ (z : EndedFacts). z.loaded) c.ended.view_is ∙ made.no_loads)).0
+    ended (ap (λ (z : EndedFacts). z.bits) c.ended.view_is ∙ made.bits ∙ c.bits.ensures ∙ ap (λ (z : Shape). z.bits) c.self.invariant) (ap (λ (z : EndedFacts). z.members) c.ended.view_is ∙ made.members) refl refl refl (ap (λ (z : EndedFacts). z.calls) c.ended.view_is ∙ made.no_calls)).0
 
 pub returns-clause-sizes : goal.returns-clause-sizes
 returns-clause-sizes g c = let i = c.crew.inside in let r = c.ended.inside in let made = c.at_rest-ended.ensures in
-    let ended : EndedFacts = record { bits = r.bits; members = pairs_at_rest r.rest r.bits 0 r.root; inserts = i.inserts; removals = i.removals; missing = c.handed-handed.result - i.back; loaded = r.loaded; rest = r.rest; root = r.root } in
+    let ended : EndedFacts = record { bits = r.bits; members = pairs_at_rest r.rest r.bits 0 r.root; inserts = i.inserts; removals = i.removals; missing = c.handed-handed.result - i.back; calls = r.calls.made; rest = r.rest; root = r.root } in
     (round_ended (face g.A.Monoid.parts g.B.Monoid.parts) c.self.inside.words i.lead c.args.crew c.args.self c.handed-handed.result c.crew.view_is c.requires.together c.self.view_is c.crew.invariant c.handed-handed.ensures.value made.rule
-    ended (ap (λ (z : EndedFacts). z.bits) c.ended.view_is ∙ made.bits ∙ c.bits.ensures ∙ ap (λ (z : Shape). z.bits) c.self.invariant) (ap (λ (z : EndedFacts). z.members) c.ended.view_is ∙ made.members) refl refl refl (ap (λ (z : EndedFacts). z.loaded) c.ended.view_is ∙ made.no_loads)).1
+    ended (ap (λ (z : EndedFacts). z.bits) c.ended.view_is ∙ made.bits ∙ c.bits.ensures ∙ ap (λ (z : Shape). z.bits) c.self.invariant) (ap (λ (z : EndedFacts). z.members) c.ended.view_is ∙ made.members) refl refl refl (ap (λ (z : EndedFacts). z.calls) c.ended.view_is ∙ made.no_calls)).1
 
 pub returns-clause-few : goal.returns-clause-few
 returns-clause-few g c = let r = c.ended.inside in let list : List (ℕ × ℕ) = pairs_at_rest r.rest r.bits 0 r.root in

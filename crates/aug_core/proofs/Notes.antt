@@ -1,0 +1,168 @@
+-- A view makes a note of what it has seen, which is a new view that holds no lane; and a view takes a note of its era in.
+use Rattle.std.proofs.Common.{true, false, ◌≡◌, ◌≢◌, ℕ, ◌≤◌, ◌⊎◌, inl, inr, Bool, if◌then◌else◌, eqb, List, [], ◌∷◌, ◌++◌, map, set, refl, sym, ap, ◌∙◌, subst, ⊎_elim, arith, Some, None}
+use Rattle.std.proofs.lemmas.Bool.{false≢true}
+use Rattle.std.proofs.lemmas.List.{append-nil, map-set, map-append}
+use mathlib.Core.Option.{some, some-ne-none}
+use lib.ListN.{get_elem?}
+use Rattle.atomic_table.specs.Table.{Splits, Joins}
+use Rattle.atomic_table.proofs.Lists.{at_set, at_map, at_snoc, at_longer, set_again}
+use Rattle.aug_core.specs.Places.{Shape}
+use Rattle.aug_core.specs.Eras.{IsAtWork, seen_in, table_in, opening_with, Works, IsPast, Renews, Ruled}
+use Rattle.aug_core.specs.inside.EraSteps.{MayNote}
+use Rattle.aug_core.specs.Opening.{Opening}
+use Rattle.aug_core.specs.Counts.{StandsAt}
+use Rattle.aug_core.specs.Rule.{Knows, Kept}
+use Rattle.aug_core.specs.Told.{noted, learning, spent}
+use Rattle.aug_core.specs.declared.view.Change.{Change}
+use Rattle.aug_core.specs.declared.view.Held.{Held}
+use Rattle.aug_core.specs.declared.view.SeatView.{SeatView}
+use Rattle.aug_core.proofs.Books.{snoc_at}
+use Rattle.aug_core.proofs.Eras.{seen_now, seen_spent, spent_rests, none_renews, stands_now, views_now, present_on, none_later_on, none_renews_on}
+use Rattle.aug_core.proofs.Joins.{joins_seat}
+use Rattle.aug_core.proofs.Moves.{St}
+use Rattle.aug_core.proofs.PrefixLemmas.{book_none}
+
+module _ (face : ℕ → ℕ → List (ℕ × ℕ) → List ℕ) (o : Opening) (s : St) (r : Kept face o s) (id : ℕ) (v : SeatView) (at : get_elem? s.views id ≡ some v) where
+  abbrev note : SeatView
+  note = noted v
+
+  abbrev views : List SeatView
+  views = s.views ++ note ∷ []
+
+  -- a view is one that was there, or the note
+  came : (i : ℕ) (x : SeatView) → get_elem? views i ≡ some x → (get_elem? s.views i ≡ some x) ⊎ (note ≡ x)
+  came i x p = ⊎_elim (λ old. inl old) (λ new. inr new.1) (snoc_at s.views note x i p)
+
+  -- a lane is held by one that was there
+  holder : (i a : ℕ) (x : SeatView) (h : Held) → get_elem? views i ≡ some x → get_elem? x.held a ≡ some h → get_elem? s.views i ≡ some x
+  holder i a x h p q = ⊎_elim (λ old. old)
+      (λ new. let none : get_elem? note.held a ≡ some h = subst (λ (z : SeatView). get_elem? z.held a ≡ some h) (sym new) q in absurd (some-ne-none h (sym none))) (came i x p)
+
+  -- and lanes are handed out by one that was there
+  lead : (i n : ℕ) (x : SeatView) → get_elem? views i ≡ some x → x.spare ≡ Some n → get_elem? s.views i ≡ some x
+  lead i n x p e = ⊎_elim (λ old. old) (λ new. let clash : None ≡ Some n = ap (λ (z : SeatView). z.spare) new ∙ e in cc) (came i x p)
+
+  -- the changes stand where they stood
+  stood : (i a k : ℕ) (c : Change) → StandsAt views i a k c → StandsAt s.views i a k c
+  stood i a k c t = record { view = t.view; lane = t.lane; sits = holder i a t.view t.lane t.sits t.held; held = t.held; listed = t.listed }
+
+  stands_on : (i a k : ℕ) (c : Change) → StandsAt s.views i a k c → StandsAt views i a k c
+  stands_on i a k c t = record { view = t.view; lane = t.lane; sits = at_longer s.views (note ∷ []) i t.view t.sits; held = t.held; listed = t.listed }
+
+  -- the note knows what was known
+  note_knows : Knows o s.words r.book note
+  note_knows = let kn = r.each_view id v at in record {
+    shaped = kn.shaped;
+    same_members = kn.same_members;
+    saw = kn.saw;
+    also_saw = book_none r.book;
+    fresh = kn.fresh;
+    holds = λ a h p. absurd (some-ne-none h (sym p));
+    spares = λ n lane e le low. let clash : None ≡ Some n = e in cc;
+    blocks = λ n lane k e le low small. let clash : None ≡ Some n = e in cc;
+  }
+
+  pub makes_note : Kept face o record { words = s.words; homes = s.homes; views = views }
+  makes_note = record {
+    book = r.book;
+    tree = r.tree;
+    lanes = r.lanes;
+    each_view = λ j u p. ⊎_elim (λ old. r.each_view j u old) (λ new. subst (Knows o s.words r.book) new note_knows) (came j u p);
+    apart = record {
+      one_holder = λ i j a b x y h g px py hx hy same. r.apart.one_holder i j a b x y h g (holder i a x h px hx) (holder j b y g py hy) hx hy same;
+      one_lead = λ i j n m x y px py ex ey. r.apart.one_lead i j n m x y (lead i n x px ex) (lead j m y py ey) ex ey;
+      handed_out = λ i j a n x y h px py ex hy. r.apart.handed_out i j a n x y h (lead i n x px ex) (holder j a y h py hy) ex hy;
+    };
+    changes = record {
+      counted = record {
+        all = λ c m. let t = r.changes.counted.all c m in record { seat = t.seat; index = t.index; place = t.place; at = stands_on t.seat t.index t.place c t.at };
+        once = λ i j a b k l c p q. r.changes.counted.once i j a b k l c (stood i a k c p) (stood j b l c q);
+        none_else = λ i a k c p. r.changes.counted.none_else i a k c (stood i a k c p);
+      };
+      tally = r.changes.tally;
+      tallied = let t = r.changes.tallied in record {
+        long = t.long;
+        each = λ i a x h p ph. t.each i a x h (holder i a x h p ph) ph;
+        few = t.few;
+        free = t.free;
+        enough = t.enough;
+      };
+    };
+  }
+
+module _ (face : ℕ → ℕ → List (ℕ × ℕ) → List ℕ) (o : Opening) where
+  -- any view may make a note
+  pub notes_seat : (id : ℕ) (v : SeatView) → Splits (Kept face o) id v v (noted v)
+  notes_seat id v s r at = subst (λ (z : List SeatView). Kept face o record { words = s.words; homes = s.homes; views = z ++ noted v ∷ [] }) (sym (set_again s.views id v at)) (makes_note face o s r id v at)
+
+  -- and any view may take one in, which holds no lane
+  pub learns_seat : (id other : ℕ) (v w : SeatView) → w.held ≡ [] → Joins (Kept face o) id v other w (learning v w) spent
+  learns_seat id other v w none = let same : v.held ++ w.held ≡ v.held = ap (λ (z : List Held). v.held ++ z) none ∙ append-nil v.held in
+      subst (λ (z : List Held). Joins (Kept face o) id v other w (record v { also = w.seen; held = z }) spent) same (joins_seat face o id other v w)
+
+-- a note takes no steps
+noted_rests : (v : SeatView) → IsAtWork (noted v) → ⊥
+noted_rests v work = ⊎_elim (λ t. some-ne-none t.1 (sym t.2)) (λ t. let clash : None ≡ Some t.0 = t.1 in cc) work
+
+-- a note counts in an era as one of what its maker counts as
+noted_counts : (b : Bool) (v : SeatView) → noted (if b then v else spent) ≡ (if b then noted v else spent)
+noted_counts true v = refl
+noted_counts false v = refl
+
+module _ (face : ℕ → ℕ → List (ℕ × ℕ) → List ℕ) (shape : Shape) where
+  -- the same under the rule of all eras
+  pub notes_in_its_era : (id : ℕ) (v : SeatView) → MayNote v → Splits (Ruled face shape) id v v (noted v)
+  notes_in_its_era id v may s rule at = let again : set s.views id v ≡ s.views = set_again s.views id v at in
+      let old : (j : ℕ) (x : SeatView) → get_elem? (set s.views id v) j ≡ some x → get_elem? s.views j ≡ some x = λ j x p. subst (λ (z : List SeatView). get_elem? z j ≡ some x) again p in
+      ⊎_elim
+      (λ (w : Works face shape s). let seen : SeatView → SeatView = seen_in w.era in
+      let kept = notes_seat face (opening_with shape w.members) id (seen v) (table_in w.era s) w.kept (at_map seen s.views id v at) in
+      let same : set (map seen s.views) id (seen v) ++ noted (seen v) ∷ [] ≡ map seen (set s.views id v ++ noted v ∷ []) =
+      ap (λ (z : List SeatView). z ++ noted (seen v) ∷ []) (sym (map-set seen s.views id v))
+      ∙ ap (λ (z : SeatView). map seen (set s.views id v) ++ z ∷ []) (noted_counts (eqb v.era w.era) v)
+      ∙ sym (map-append seen (set s.views id v) (noted v ∷ [])) in
+      inl record {
+        era = w.era;
+        members = w.members;
+        kept = subst (λ (z : List SeatView). Kept face (opening_with shape w.members) record { words = s.words; homes = s.homes; views = z }) same kept;
+        present = λ j x p work. ⊎_elim (λ q. w.present j x (old j x q) work) (λ q. absurd (noted_rests v (subst IsAtWork (sym q) work))) (at_snoc (set s.views id v) (noted v) x j p);
+        none_later = λ j x p. ⊎_elim (λ q. w.none_later j x (old j x q)) (λ q. subst (λ (z : SeatView). z.era ≤ w.era) q (w.none_later id v at)) (at_snoc (set s.views id v) (noted v) x j p);
+        none_renews = λ j x p. ⊎_elim (λ q. w.none_renews j x (old j x q)) (λ q. subst (λ (z : SeatView). z.renews ≡ false) q refl) (at_snoc (set s.views id v) (noted v) x j p);
+      })
+      (λ (r : Renews shape s). ⊎_elim (λ work. absurd (none_renews face shape s id v at work r))
+      (λ still.
+      let other : id ≢ r.seat = λ is. let e : some v ≡ some r.view = sym (subst (λ (z : ℕ). get_elem? s.views z ≡ some v) is at) ∙ r.sits in let same : v ≡ r.view = cc e in
+      false≢true (sym still ∙ ap (λ (z : SeatView). z.renews) same ∙ r.renews) in
+      inr record {
+        seat = r.seat;
+        view = r.view;
+        sits = subst (λ (z : List SeatView). get_elem? (z ++ noted v ∷ []) r.seat ≡ some r.view) (sym again) (at_longer s.views (noted v ∷ []) r.seat r.view r.sits);
+        renews = r.renews;
+        no_work = r.no_work;
+        shaped = r.shaped;
+        words_are = r.words_are;
+        wide = r.wide;
+        others = λ j x ne p. ⊎_elim (λ q. r.others j x ne (old j x q)) (λ q. subst (IsPast r.view.era) q (record { no_work = noted_rests v; no_renewal = refl; earlier = (r.others id v other at).earlier })) (at_snoc (set s.views id v) (noted v) x j p);
+      }) may) rule
+
+  -- who is at work takes a note of its era in
+  pub learns_in_its_era : (id other : ℕ) (v u : SeatView) → IsAtWork v → u.held ≡ [] → u.era ≡ v.era → Joins (Ruled face shape) id v other u (learning v u) spent
+  learns_in_its_era id other v u work none era s rule at ne at' = ⊎_elim
+      (λ (w : Works face shape s). let present : v.era ≡ w.era = w.present id v at work in
+      let present' : u.era ≡ w.era = era ∙ present in
+      let views' : List SeatView = set s.views id (learning v u) in
+      let now = views_now face shape s id v at w present (learning v u) refl in
+      let there' : get_elem? (set (map (seen_in w.era) s.views) id (learning v u)) other ≡ some u =
+      subst (λ (z : List SeatView). get_elem? z other ≡ some u) (sym now) (at_map (seen_in w.era) views' other u at' ∙ ap (λ (z : SeatView). some z) (seen_now w.era u present')) in
+      let kept = learns_seat face (opening_with shape w.members) id other v u none (table_in w.era s) w.kept (stands_now face shape s id v at w present) ne there' in
+      let same : set (set (map (seen_in w.era) s.views) id (learning v u)) other spent ≡ map (seen_in w.era) (set views' other spent) =
+      ap (λ (z : List SeatView). set z other spent) now ∙ ap (set (map (seen_in w.era) views') other) (sym (seen_spent w.era)) ∙ sym (map-set (seen_in w.era) views' other spent) in
+      inl record {
+        era = w.era;
+        members = w.members;
+        kept = subst (λ (z : List SeatView). Kept face (opening_with shape w.members) record { words = s.words; homes = s.homes; views = z }) same kept;
+        present = λ j x p go. ⊎_elim (λ t. absurd (spent_rests (subst IsAtWork (sym t.1) go))) (λ t. present_on face shape s id v at w present (learning v u) refl j x t.1 go) (at_set views' other j spent x p);
+        none_later = λ j x p. ⊎_elim (λ t. subst (λ (z : SeatView). z.era ≤ w.era) t.1 (omega arith)) (λ t. none_later_on face shape s id v at w present (learning v u) refl j x t.1) (at_set views' other j spent x p);
+        none_renews = λ j x p. ⊎_elim (λ t. subst (λ (z : SeatView). z.renews ≡ false) t.1 refl) (λ t. none_renews_on face shape s id v at w present (learning v u) refl refl j x t.1) (at_set views' other j spent x p);
+      })
+      (λ (r : Renews shape s). absurd (none_renews face shape s id v at work r)) rule

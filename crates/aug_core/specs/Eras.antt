@@ -1,0 +1,63 @@
+-- The rule of a table that may be opened again and again. In each of its eras it is at work under the rule of one opening, and in between one seat alone
+-- renews it.
+use Rattle.std.specs.Prelude.{◌≡◌, ◌≢◌, ◌⊎◌, ℕ, ◌<◌, ◌≤◌, ◌==◌, if◌then◌else◌, true, false, List, length, map, Some}
+use mathlib.Core.Option.{some}
+use lib.ListN.{get_elem?}
+use Rattle.atomic_table.specs.Table.{State}
+use Rattle.aug_core.specs.Places.{Shape, word_count}
+use Rattle.aug_core.specs.Opening.{Opening}
+use Rattle.aug_core.specs.Rule.{Kept}
+use Rattle.aug_core.specs.Told.{spent}
+use Rattle.aug_core.specs.declared.view.Held.{Held}
+use Rattle.aug_core.specs.declared.view.SeatView.{SeatView}
+
+-- the view holds a lane, or hands lanes out
+abbrev pub IsAtWork : SeatView → Type 0
+IsAtWork v = ((a : ℕ) × (h : Held) × (get_elem? v.held a ≡ some h)) ⊎ ((n : ℕ) × (v.spare ≡ Some n))
+
+-- how a view counts in an era: one of another era counts as one that was joined
+abbrev pub seen_in : ℕ → SeatView → SeatView
+seen_in era v = if v.era == era then v else spent
+
+-- and the table
+abbrev pub table_in : ℕ → State (Unit {0}) SeatView → State (Unit {0}) SeatView
+table_in era s = record { words = s.words; homes = s.homes; views = map (seen_in era) s.views }
+
+-- the opening of a table of this shape, over a set with these members
+abbrev pub opening_with : Shape → List (ℕ × ℕ) → Opening
+opening_with s members = record { shape = s; members = members }
+
+-- the table is at work
+pub record Works (face : ℕ → ℕ → List (ℕ × ℕ) → List ℕ) (shape : Shape) (s : State (Unit {0}) SeatView) : Type 0 where
+  -- in an era, which it opened with these members
+  pub era : ℕ
+  pub members : List (ℕ × ℕ)
+  pub kept : Kept face (opening_with shape members) (table_in era s)
+  -- who holds a lane or hands lanes out is of this era
+  pub present : (j : ℕ) (v : SeatView) → get_elem? s.views j ≡ some v → IsAtWork v → v.era ≡ era
+  -- no view is of a later one
+  pub none_later : (j : ℕ) (v : SeatView) → get_elem? s.views j ≡ some v → v.era ≤ era
+  -- and none renews the table
+  pub none_renews : (j : ℕ) (v : SeatView) → get_elem? s.views j ≡ some v → v.renews ≡ false
+
+-- a view that has no part in what another one does alone: it holds no lane, hands none out, and is of an earlier era
+pub record IsPast (era : ℕ) (v : SeatView) : Type 0 where
+  pub no_work : IsAtWork v → ⊥
+  pub no_renewal : v.renews ≡ false
+  pub earlier : v.era < era
+
+-- one seat renews the table: it knows all words, and nobody else is at work
+pub record Renews (shape : Shape) (s : State (Unit {0}) SeatView) : Type 0 where
+  pub seat : ℕ
+  pub view : SeatView
+  pub sits : get_elem? s.views seat ≡ some view
+  pub renews : view.renews ≡ true
+  pub no_work : IsAtWork view → ⊥
+  pub shaped : view.shape ≡ shape
+  pub words_are : s.words ≡ view.words
+  pub wide : length s.words ≡ word_count shape
+  pub others : (j : ℕ) (v : SeatView) → j ≢ seat → get_elem? s.views j ≡ some v → IsPast view.era v
+
+-- the rule of a table of this shape, which stays in all eras
+abbrev pub Ruled : (ℕ → ℕ → List (ℕ × ℕ) → List ℕ) → Shape → State (Unit {0}) SeatView → Type 0
+Ruled face shape s = Works face shape s ⊎ Renews shape s

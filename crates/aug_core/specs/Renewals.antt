@@ -1,0 +1,88 @@
+-- What the steps show by which one seat renews a table, and what its view is after them.
+use Rattle.std.specs.Prelude.{◌≡◌, ℕ, ◌+◌, ◌<◌, ◌≤◌, true, false, List, [], length, slice_index, slice_set, All, Some, None}
+use mathlib.Core.Option.{some}
+use lib.ListN.{get_elem?}
+use Rattle.atomic_table.specs.Table.{State, Step}
+use Rattle.aug_model.specs.Keys.{IsKeySet, keys_of}
+use Rattle.aug_monoid.specs.Weighted.{FitsPair}
+use Rattle.aug_core.specs.Places.{lane_place, record_start, word_count, record_words}
+use Rattle.aug_core.specs.Addresses.{place_count, IsInner}
+use Rattle.aug_core.specs.Lanes.{word_of_state}
+use Rattle.aug_core.specs.Opening.{Opening, IsIdle, opening_number, opening_words, shared_words, opening_book}
+use Rattle.aug_core.specs.Rule.{Kept, no_beginning}
+use Rattle.aug_core.specs.Told.{Sat, opening_of}
+use Rattle.aug_core.specs.Eras.{opening_with}
+use Rattle.aug_core.specs.declared.view.LaneState.TheVariants.{Free}
+use Rattle.aug_core.specs.declared.view.SeatView.{SeatView}
+
+-- the view holds as many lanes as it handed out
+pub record HoldsAll (v : SeatView) : Type 0 where
+  pub next : ℕ
+  pub hands_out : v.spare ≡ Some next
+  pub all : length v.held ≡ next
+
+-- the view of a lead that begins to renew its table, whose words are these
+abbrev pub renewing : SeatView → List ℕ → SeatView
+renewing v words = record v { era = v.era + 1; seen = []; also = []; held = []; spare = None; renews = true; words = words; began = no_beginning; steps = [] }
+
+-- the view after a store of any word
+abbrev pub rewriting : SeatView → ℕ → ℕ → SeatView
+rewriting v place value = record v { words = slice_set v.words place value }
+
+abbrev pub rewrote : Step (Unit {0}) → Sat → ℕ → Sat → Type 0
+rewrote st m r m' = (m'.1 ≡ []) × (m'.0 ≡ rewriting m.0 st.word st.first)
+
+-- a load of any word, which is as the view has it
+abbrev pub reread : Step (Unit {0}) → Sat → ℕ → Sat → Type 0
+reread st m r m' = (m'.1 ≡ []) × (m'.0 ≡ m.0) × (r ≡ slice_index m.0.words st.word)
+
+module _ (face : ℕ → ℕ → List (ℕ × ℕ) → List ℕ) where
+  -- a table of these words met the rule of this opening, with this view
+  pub record EndWith (o : Opening) (v : SeatView) (words : List ℕ) : Type 0 where
+    pub state : State (Unit {0}) SeatView
+    pub kept : Kept face o state
+    pub words_are : state.words ≡ words
+    pub seat : ℕ
+    pub view_is : get_elem? state.views seat ≡ some v
+
+  -- the seat knows all words, and they are those with which its era ended
+  pub record BeginsRenewal (v w : SeatView) : Type 0 where
+    pub stepped : w ≡ renewing v w.words
+    pub wide : length w.words ≡ word_count v.shape
+    pub ends : EndWith (opening_of v) v w.words
+
+  abbrev pub began_renewal : Step (Unit {0}) → Sat → ℕ → Sat → Type 0
+  began_renewal st m r m' = (m'.1 ≡ []) × BeginsRenewal m.0 m'.0
+
+  -- the words are those of a table that opens so, whatever the records of its lanes hold
+  pub record IsOpened (o : Opening) (words : List ℕ) : Type 0 where
+    pub key_set : IsKeySet o.shape.bits (keys_of o.members)
+    pub members_fit : All FitsPair o.members
+    pub few : length (keys_of o.members) ≤ o.shape.members
+    pub wide : length words ≡ word_count o.shape
+    pub named : (q : ℕ) → q < place_count o.shape → slice_index words q ≡ opening_number o q
+    pub records : (q k : ℕ) → IsInner o.shape q → k < record_words → slice_index words (record_start o.shape (opening_number o q) + k) ≡ slice_index (opening_words face o q) k
+    pub shared : (level k : ℕ) → level < o.shape.bits → k < record_words → slice_index words (record_start o.shape level + k) ≡ slice_index (shared_words face level) k
+    pub idle : (number k : ℕ) → IsIdle o number → k < record_words → slice_index words (record_start o.shape number + k) ≡ 0
+    pub lanes : (lane : ℕ) → lane < o.shape.workers → slice_index words (lane_place o.shape lane) ≡ word_of_state Free
+
+  -- the view of the seat that opened its table again, over these members
+  abbrev pub reopening : List (ℕ × ℕ) → SeatView → SeatView
+  reopening members v = record {
+    live = true;
+    era = v.era;
+    shape = v.shape;
+    members = members;
+    seen = opening_book face (opening_with v.shape members);
+    also = [];
+    held = [];
+    spare = Some 0;
+    renews = false;
+    words = v.words;
+    began = no_beginning;
+    steps = [];
+  }
+
+  -- where the words are those of a table that opens over some members, it is open over them
+  abbrev pub reopened : Step (Unit {0}) → Sat → ℕ → Sat → Type 0
+  reopened st m r m' = (m'.1 ≡ []) × ((members : List (ℕ × ℕ)) → IsOpened (opening_with m.0.shape members) m.0.words → m'.0 ≡ reopening members m.0)

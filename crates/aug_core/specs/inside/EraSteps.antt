@@ -1,0 +1,18 @@
+-- What a step leaves of its seat's era, and which views may make a note.
+use Rattle.std.specs.Prelude.{◌≡◌, ◌⊎◌, ℕ, false}
+use Rattle.aug_core.specs.Told.{Sat}
+use Rattle.aug_core.specs.Eras.{IsAtWork}
+use Rattle.aug_core.specs.declared.view.SeatView.{SeatView}
+
+-- the view may make a note: it is at work, or it does not renew the table alone
+abbrev pub MayNote : SeatView → Type 0
+MayNote v = IsAtWork v ⊎ (v.renews ≡ false)
+
+-- a step leaves the era of its seat, and whether the seat renews the table
+pub record Remains (v w : SeatView) : Type 0 where
+  pub era : w.era ≡ v.era
+  pub renews : w.renews ≡ v.renews
+
+-- what a step shows, and that
+abbrev pub WithEra : Sat → (ℕ → Sat → Type 0) → ℕ → Sat → Type 0
+WithEra me told r m = told r m × Remains me.0 m.0

@@ -1,0 +1,34 @@
+use Rattle.std.proofs.Common.{◌≡◌, ◌+◌, ◌<◌, ◌≤◌, ◌∙◌, List, [], ◌∷◌, ◌++◌, vec_len, ap, arith, subst, sym}
+use Rattle.std.specs.Arc.{arc_value}
+use Rattle.std.specs.Prelude.{Option, option_to_list}
+use Rattle.aug_live.specs.inside.LaneKnowledge.{KnownFacts}
+use Rattle.aug_live.specs.inside.Rolls.{IsOf, HasCarried}
+use Rattle.aug_live.proofs.Moving.{one_more, all_but_last, last_one}
+use Rattle.aug_live.proofs.rolling.deal_all.Goals as goal
+
+pub begin-requires : goal.begin-requires
+begin-requires g c =
+    let was = c.loop-port.invariant in let P = HasCarried (arc_value c.args.round.now).bits c.args.era (arc_value c.args.round.now).members in
+    let cut : c.loop-port.back.items ≡ c.pop.new.self.items ++ c.in-Some.port ∷ [] = c.pop.ensures.items ∙ ap (λ (z : Option KnownFacts). c.pop.new.self.items ++ option_to_list z) c.in-Some.is in
+    let shrunk : vec_len c.pop.new.self + 1 ≡ vec_len c.loop-port.back = c.in-Some.ensures.cases in record {
+      ready = last_one P c.pop.new.self.items c.loop-port.back.items c.in-Some.port cut was.1;
+      some = c.requires.some;
+      small = c.requires.small;
+      together = was.3;
+      lane_left = omega (arith, was.0, was.6, shrunk, c.requires.lanes);
+    }
+
+pub loop-port-preserved : goal.loop-port-preserved
+loop-port-preserved g c =
+    let was = c.loop-port.invariant in let began = c.begin.ensures in let P = HasCarried (arc_value c.args.round.now).bits c.args.era (arc_value c.args.round.now).members in
+    let cut : c.loop-port.back.items ≡ c.pop.new.self.items ++ c.in-Some.port ∷ [] = c.pop.ensures.items ∙ ap (λ (z : Option KnownFacts). c.pop.new.self.items ++ option_to_list z) c.in-Some.is in
+    let grown : vec_len c.push_reserved.new.self ≡ vec_len c.loop-port.ports + 1 = c.push_reserved.ensures.len in let shrunk : vec_len c.pop.new.self + 1 ≡ vec_len c.loop-port.back = c.in-Some.ensures.cases in (
+      omega (arith, was.0, grown, shrunk),
+      all_but_last P c.pop.new.self.items c.loop-port.back.items c.in-Some.port cut was.1,
+      one_more (IsOf (arc_value c.args.round.now) (c.args.era + 1)) c.loop-port.ports.items c.push_reserved.new.self.items c.begin.result c.push_reserved.ensures.items was.2 began.of_round,
+      began.round ∙ was.3,
+      c.push_reserved.ensures.capacity ∙ was.4,
+      c.pop.ensures.capacity ∙ was.5,
+      omega (arith, was.6, began.handed, grown),
+      began.back ∙ was.7,
+    )

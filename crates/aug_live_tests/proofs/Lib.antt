@@ -1,0 +1,2 @@
+mod Bands
+mod Passed

@@ -1,0 +1,17 @@
+use Rattle.std.proofs.Common.{◌≡◌, ◌+◌, ◌-◌, ◌/◌, ◌^◌, ◌≤◌}
+use Rattle.aug_model.specs.Keys.{list_of}
+use Rattle.aug_model.specs.Queries.{rank_of}
+use Rattle.aug_model.specs.NodeKeys.{first_key}
+use Rattle.aug_query.specs.Descend.{Descends}
+use Rattle.aug_query.proofs.descent.counts.RankQuery.run.Given as goal
+
+abbrev pub invariant-loop-level : goal.invariant-loop-level
+invariant-loop-level g l = record {
+  most : l.level + 1 ≤ (g.D.Descend.set_of l.fn.tree).bits;
+  node : g.D.Descend.Names l.tree (l.level + 1) (l.k / 2 ^ (l.level + 1)) l.node;
+  below : l.below ≡ rank_of (list_of (g.D.Descend.set_of l.fn.tree)) (first_key (l.level + 1) (l.k / 2 ^ (l.level + 1)));
+  walk : Descends g.D.Descend.set_of g.D.Descend.loads_of g.D.Descend.Names g.D.Descend.KeepsRest ((g.D.Descend.set_of l.fn.tree).bits - l.level) 0 0 ((g.D.Descend.set_of l.fn.tree).bits - (l.level + 1)) l.fn.tree l.tree;
+}
+
+abbrev pub decreases-loop-level : goal.decreases-loop-level
+decreases-loop-level g l = l.level

@@ -1,0 +1,15 @@
+use Rattle.std.proofs.Common.{◌≡◌, ◌^◌, ℕ, refl, sym, subst, arith}
+use Rattle.aug_core.specs.Layout.{IsLayout}
+use Rattle.aug_core.specs.Places.{shape_of, own_records}
+use Rattle.aug_trie_tests.proofs.renewing.begun.Goals as goal
+
+own : own_records 4 16 4 ≡ 15
+unfolding own_records
+own = refl
+
+-- a table of 4 bits with two lanes of two updates each can be laid out
+laid_out : IsLayout (shape_of 4 2 2 16)
+laid_out = record { bits = (omega arith, omega arith); workers = (omega arith, omega arith); updates = (omega arith, omega arith); words = omega (arith, own) }
+
+pub begin_for_all-requires : goal.begin_for_all-requires
+begin_for_all-requires c = subst (λ (z : ℕ). IsLayout (shape_of z 2 2 (2 ^ z))) (sym c.requires) laid_out

@@ -1,0 +1,250 @@
+//! Passes that tell others by notes what they know: at once, by way of a third, by way of the crew, and across a channel.
+ghost use Rattle.std.specs.Prelude.{◌≡◌, ◌^◌, ◌<◌};
+ghost use Rattle.std.specs.Bool.{OnTrue};
+ghost use Rattle.aug_trie.specs.Round.{RoundFacts};
+ghost use Rattle.aug_trie.specs.Snapshot.{HasSnapshot, snapshot_cut};
+ghost use Rattle.aug_trie_tests.specs.Reports.{ShowsInsertion, no_round};
+
+use super::ending::{counts, sees};
+use super::rounds::{Half, Table, Trie, insert, next_pass, opened, remove};
+use super::turning::Walker;
+use super::working::{back, next_half};
+use crate::assertions::{equal, holds};
+use aug_monoid::{Extent, Sum};
+use aug_query::{descent, has};
+use aug_trie::{BeginError, Note, Snapshot};
+use crossbeam_channel::{Receiver, Sender, unbounded};
+use std::alloc::Global;
+use std::marker::{Brand, PhantomData, Send};
+use std::process::Abort;
+use std::sync::Wait;
+use std::thread;
+use std::thread::Threads;
+
+// A pass puts a key in, and tells another: whether it did, and the snapshot of the other.
+fn told(from: &mut Walker<'_>, to: &mut Walker<'_>, key: u32) -> (bool, Snapshot)
+    requires rounds { to.old.round ≡ from.old.round }
+    requires key { key < 2 ^ from.old.round.bits }
+    requires budget { from.old.spent < from.old.round.updates }
+    ensures from { from.new.round ≡ from.old.round }
+    ensures to { to.new.round ≡ to.old.round }
+    ensures known { HasSnapshot to.new result.1.number }
+    ensures shows { OnTrue result.0 (ShowsInsertion key from.old.knows (snapshot_cut to.new result.1.number)) }
+{
+    let done = from.insert(key);
+    let note = from.note();
+    (done, to.learn(note))
+}
+
+// A pass puts a key in, and tells a second, which tells a third: whether it did, and the snapshot of the third.
+fn relayed(
+    from: &mut Walker<'_>,
+    by: &mut Walker<'_>,
+    to: &mut Walker<'_>,
+    key: u32,
+) -> (bool, Snapshot)
+    requires rounds { (by.old.round ≡ from.old.round) × (to.old.round ≡ from.old.round) }
+    requires key { key < 2 ^ from.old.round.bits }
+    requires budget { from.old.spent < from.old.round.updates }
+    ensures from { from.new.round ≡ from.old.round }
+    ensures by { by.new.round ≡ by.old.round }
+    ensures to { to.new.round ≡ to.old.round }
+    ensures known { HasSnapshot to.new result.1.number }
+    ensures shows { OnTrue result.0 (ShowsInsertion key from.old.knows (snapshot_cut to.new result.1.number)) }
+{
+    let done = from.insert(key);
+    by.learn(from.note());
+    (done, to.learn(by.note()))
+}
+
+// The second pass takes out what the first put in and told it. The third learns that, and then a note of the first that is older.
+fn assert_order(rt: &impl Abort, a: &mut Walker<'_>, b: &mut Walker<'_>, c: &mut Walker<'_>)
+    requires rounds { (b.old.round ≡ a.old.round) × (c.old.round ≡ a.old.round) }
+    requires bits { a.old.round.bits ≡ 4 }
+    ensures rounds { (a.new.round ≡ a.old.round) × (b.new.round ≡ b.old.round) × (c.new.round ≡ c.old.round) }
+{
+    holds(rt, a.budget() > 0);
+    let (done, seen) = told(a, b, 9);
+    holds(rt, done);
+    holds(rt, b.ask(seen, descent::Has(9)));
+    let older = a.note();
+    holds(rt, remove(b, 4, 9));
+    let newer = b.note();
+    let seen = c.learn(newer);
+    equal(rt, c.ask(seen, descent::Has(9)), false);
+    let seen = c.learn(older);
+    equal(rt, c.ask(seen, descent::Has(9)), false);
+    holds(rt, a.budget() > 0);
+    let (done, seen) = relayed(a, b, c, 5);
+    holds(rt, done);
+    holds(rt, c.ask(seen, descent::Has(5)));
+}
+
+#[test]
+fn a_note_tells_what_its_maker_knew(rt: HostRuntime) -> Result<(), BeginError> {
+    let (round, mut crew) = opened(rt.alloc(), 4, 3, 2)?;
+    let mut a = next_pass(&mut crew, &round).expect(&rt, "lane 0");
+    let mut b = next_pass(&mut crew, &round).expect(&rt, "lane 1");
+    let mut c = next_pass(&mut crew, &round).expect(&rt, "lane 2");
+    assert_order(&rt, &mut a, &mut b, &mut c);
+    Ok(())
+}
+
+// A round in which a pass puts 9 in and is lost, and its crew has learnt its note or not: the trie after it.
+fn lost(rt: &impl Abort, alloc: Global, learns: bool) -> Result<Trie, BeginError> {
+    let (round, mut crew) = opened(alloc, 4, 1, 1)?;
+    let mut pass = next_pass(&mut crew, &round).expect(rt, "lane 0");
+    holds(rt, insert(&mut pass, 4, 9));
+    let note = pass.note();
+    drop(pass);
+    if learns {
+        crew.learn(&round, note);
+    }
+    Ok(round.end(crew))
+}
+
+#[test]
+fn a_crew_that_learnt_a_note_ends_with_what_it_tells(rt: HostRuntime) -> Result<(), BeginError> {
+    let mut ended = lost(&rt, rt.alloc(), true)?;
+    holds(&rt, has(&mut ended, 9));
+    equal(&rt, counts(&ended), (0, 0, 1));
+    let mut ended = lost(&rt, rt.alloc(), false)?;
+    equal(&rt, has(&mut ended, 9), false);
+    Ok(())
+}
+
+#[test]
+fn a_note_of_the_crew_tells_what_came_back(rt: HostRuntime) -> Result<(), BeginError> {
+    let (round, mut crew) = opened(rt.alloc(), 4, 3, 1)?;
+    let mut a = next_pass(&mut crew, &round).expect(&rt, "lane 0");
+    let mut b = next_pass(&mut crew, &round).expect(&rt, "lane 1");
+    let mut c = next_pass(&mut crew, &round).expect(&rt, "lane 2");
+    holds(&rt, insert(&mut b, 4, 5));
+    crew.back(b);
+    let mut note = crew.note(&round);
+    let second = note.again(&round);
+    let seen = a.learn(note);
+    holds(&rt, a.ask(seen, descent::Has(5)));
+    let seen = c.learn(second);
+    holds(&rt, c.ask(seen, descent::Has(5)));
+    holds(&rt, sees(&mut a, 5));
+    Ok(())
+}
+
+// The round that messages are of.
+trait OfRound {
+    ghost round: { RoundFacts };
+}
+
+impl OfRound for Brand {
+    ghost round = { no_round };
+}
+
+// A key that a pass of this round put in, and what the pass knew then.
+#[derive(Drop)]
+struct News<K: OfRound> {
+    key: u32,
+    note: Note<Sum, Extent>,
+    of: PhantomData<K>,
+    ghost of_round: { note.round ≡ K.round },
+}
+
+impl<K: OfRound> News<K> {
+    fn new(key: u32, note: Note<Sum, Extent>) -> News<K>
+        requires { note.round ≡ K.round }
+    {
+        News {
+            key,
+            note,
+            of: PhantomData,
+        }
+    }
+}
+
+// Puts the keys of 4 bits in, and tells of each.
+fn tells<K: OfRound, R: Wait>(rt: &R, round: &Table, half: Half, to: Sender<News<K>>) -> Half
+    requires round { round.now ≡ K.round }
+    requires half { half.round ≡ round.now }
+    requires bits { round.now.bits ≡ 4 }
+    ensures { result.round ≡ half.round }
+{
+    let mut pass = round.pass(half);
+    for key in 0..16 {
+        insert(&mut pass, 4, key);
+        let _ = to.send(rt, News::new(key, pass.note()));
+    }
+    pass.into_half()
+}
+
+// Learns all of the news, and whether the snapshot then showed each of their keys.
+fn hears<K: OfRound, R: Wait>(
+    rt: &R,
+    round: &Table,
+    half: Half,
+    from: Receiver<News<K>>,
+) -> (Half, bool)
+    requires round { round.now ≡ K.round }
+    requires half { half.round ≡ round.now }
+    ensures { result.0.round ≡ half.round }
+{
+    let mut pass = round.pass(half);
+    for _ in 0..16 {
+        let Ok(News { key, note, of: _ }) = from.recv(rt) else {
+            return (pass.into_half(), false);
+        };
+        let seen = pass.learn(note);
+        if !pass.ask(seen, descent::Has(key)) {
+            return (pass.into_half(), false);
+        }
+    }
+    (pass.into_half(), true)
+}
+
+// The news of one half, which the other hears, each in a thread of its own.
+fn spoken<K: OfRound + Send, R: Threads + Wait + Sync + Abort>(
+    rt: &R,
+    alloc: Global,
+    round: &Table,
+    one: Half,
+    two: Half,
+) -> (Half, (Half, bool))
+    requires round { round.now ≡ K.round }
+    requires halves { (one.round ≡ round.now) × (two.round ≡ round.now) }
+    requires bits { round.now.bits ≡ 4 }
+    ensures { (result.0.round ≡ round.now) × (result.1.0.round ≡ round.now) }
+{
+    let (to, from) = unbounded::<News<K>, Global>(alloc).expect(rt, "memory");
+    thread::join(
+        rt,
+        move ||
+            requires { (one.round ≡ round.now) × (round.now ≡ K.round) × (round.now.bits ≡ 4) }
+            ensures { result.round ≡ one.round }
+        { tells::<K, R>(rt, round, one, to) },
+        move ||
+            requires { (two.round ≡ round.now) × (round.now ≡ K.round) }
+            ensures { result.0.round ≡ two.round }
+        { hears::<K, R>(rt, round, two, from) },
+    )
+}
+
+// A round of 4 bits in which one thread tells another of each key: the trie after it, and whether the other saw each key when it heard of it.
+fn spoken_by_two<R: Threads + Wait + Sync + Abort>(
+    rt: &R,
+    alloc: Global,
+) -> Result<(Trie, bool), BeginError> {
+    let (round, mut crew) = opened(alloc, 4, 2, 16)?;
+    let one = next_half(&mut crew, &round).expect(rt, "lane 0");
+    let two = next_half(&mut crew, &round).expect(rt, "lane 1");
+    let (one, (two, shown)) = spoken::<Brand, R>(rt, alloc, &round, one, two);
+    back(&mut crew, &round, one);
+    back(&mut crew, &round, two);
+    Ok((round.end(crew), shown))
+}
+
+#[test]
+fn a_thread_that_heard_of_a_key_sees_it(rt: HostRuntime) -> Result<(), BeginError> {
+    let (ended, shown) = spoken_by_two(&rt, rt.alloc())?;
+    holds(&rt, shown);
+    equal(&rt, (ended.size(), ended.missing()), (16, 0));
+    Ok(())
+}

@@ -1,0 +1,30 @@
+use Rattle.std.proofs.Common.{arith, ap, subst, sym, ◌∙◌, ◌≡◌}
+use Rattle.aug_core.specs.Faces.{face}
+use Rattle.aug_core.specs.Addresses.{root_place}
+use Rattle.aug_core.specs.Told.{Sat, LoadsNode, learning}
+use Rattle.aug_core.specs.declared.view.SeatView.{SeatView}
+use Rattle.aug_core.proofs.Eras.{hands_out}
+use Rattle.aug_core.proofs.Notes.{learns_in_its_era}
+use Rattle.aug_words.specs.Seats.{Store, Known}
+use Rattle.aug_words.proofs.Leads.{some_words, lanes_at, learnt_note}
+use Rattle.aug_words.proofs.lead.Lead.learn.Goals as goal
+
+pub join_seat-requires : goal.join_seat-requires
+join_seat-requires g c = let here = c.requires.together.one_table ∙ ap (λ (s : Store). s.table) (sym c.words.view_is) in (
+  ap (λ (k : Known). k.table) c.self.view_is ∙ here,
+  ap (λ (k : Known). k.table) c.note.view_is ∙ c.requires.table ∙ here,
+  c.note.invariant.no_slot,
+  some_words _ _ _ _ _ _ _ c.words.invariant,
+  learns_in_its_era _ _ _ _ _ _ (hands_out c.self.inside.seat.me.0 c.self.inside.next c.self.invariant.hands_out) c.note.invariant.no_lane
+      (ap (λ (k : Known). k.view.era) c.note.view_is ∙ c.requires.era ∙ ap (λ (k : Known). k.view.era) (sym c.self.view_is)),
+)
+
+pub overflow_sub-words-inside : goal.overflow_sub-words-inside
+overflow_sub-words-inside g c = let at = lanes_at _ _ _ _ _ _ _ c.words.invariant in omega arith
+
+pub returns-clause-learns : goal.returns-clause-learns
+returns-clause-learns g c = let m = g.A.Monoid in let n = g.B.Monoid in let f = face m.parts n.parts in
+    let old : SeatView = c.args.self.now.view in let note : SeatView = c.args.note.view in let after : SeatView = c.load_root.new.self.view in let told = c.load_root.ensures.view in
+    let is : c.join_seat.new.seat.me.0 ≡ learning old note = ap (λ (z : Sat). z.0) c.join_seat.ensures.2 ∙ ap (λ (k : Known). learning k.view c.note.inside.seat.me.0) c.self.view_is ∙ ap (λ (k : Known). learning old k.view) c.note.view_is in
+    let loaded : LoadsNode f (learning old note) (root_place old.shape) told.0 after = subst (λ (z : SeatView). LoadsNode f z (root_place z.shape) told.0 after) is told.1 in
+    (told.0, learnt_note f old note after told.0 loaded)

@@ -1,0 +1,172 @@
+//! A table is opened again in its own memory.
+ghost use Rattle.std.specs.Prelude.{◌≡◌, ◌+◌, ◌<◌, ◌≤◌, ℕ, [], true, length, slice_index, All};
+ghost use Rattle.aug_core.specs.Faces.{face};
+ghost use Rattle.aug_core.specs.Eras.{opening_with};
+ghost use Rattle.aug_core.specs.Fields.{field_offset};
+ghost use Rattle.aug_core.specs.Places.{record_start, record_count};
+ghost use Rattle.aug_core.specs.Renewals.{HoldsAll, BeginsRenewal, EndWith, IsOpened, reopening};
+ghost use Rattle.aug_core.specs.declared.view.SeatView.{SeatView as View};
+ghost use Rattle.aug_model.specs.Keys.{IsKeySet, keys_of};
+ghost use Rattle.aug_monoid.specs.Weighted.{FitsPair};
+ghost use Rattle.aug_words.specs.Rests.{ShowAll};
+ghost use Rattle.aug_words.specs.Seats.{AreTogether};
+ghost use Rattle.aug_words.specs.inside.Rewrites.{Rewrites};
+
+use crate::building::Building;
+use crate::lead::Lead;
+use crate::words::Words;
+use atomic_table::Seat;
+use aug_core::{
+    BeginRenewal, LoadAnyWord, OpenAgain, OpeningKey, RECORD_WORDS, RecordField, SeatView,
+    SharedWords, StoreAnyWord,
+};
+use aug_monoid::Monoid;
+use std::marker::{Model, PhantomData};
+use std::mem;
+
+// Begins to renew a table whose lanes are all back: a load of its first word.
+fn begin_renewal<A: Monoid, B: Monoid>(words: &SharedWords<A, B>, seat: &mut Seat<(), SeatView>)
+    requires table { seat.old.table_id ≡ words.now.table_id }
+    requires some { 0 < words.now.table_id.words }
+    requires live { seat.old.me.0.live ≡ true }
+    requires no_slot { seat.old.me.1 ≡ [] }
+    requires all { HoldsAll seat.old.me.0 }
+    ensures table { seat.new.table_id ≡ seat.old.table_id }
+    ensures no_slot { seat.new.me.1 ≡ [] }
+    ensures view { BeginsRenewal (face A.parts B.parts) seat.old.me.0 seat.new.me.0 }
+{
+    words.load::<BeginRenewal<A, B>>(seat, 0);
+}
+
+// Stores the first words of a table that the seat renews.
+fn rewrite<A: Monoid, B: Monoid>(
+    words: &SharedWords<A, B>,
+    seat: &mut Seat<(), SeatView>,
+    first: &[u64],
+)
+    requires table { seat.old.table_id ≡ words.now.table_id }
+    requires inside { length first.now ≤ words.now.table_id.words }
+    requires wide { length seat.old.me.0.words ≡ words.now.table_id.words }
+    requires renews { seat.old.me.0.renews ≡ true }
+    requires no_slot { seat.old.me.1 ≡ [] }
+    ensures table { seat.new.table_id ≡ seat.old.table_id }
+    ensures no_slot { seat.new.me.1 ≡ [] }
+    ensures view { Rewrites seat.old.me.0 seat.new.me.0 first.now (length first.now) }
+{
+    for place in 0..first.len() {
+        words.store::<StoreAnyWord>(seat, place, first[place]);
+    }
+}
+
+// Opens a table again whose words the seat has written: a load of its first word.
+fn reopen<A: Monoid, B: Monoid>(
+    words: &SharedWords<A, B>,
+    seat: &mut Seat<(), SeatView>,
+    members: &[(u32, u32)],
+)
+    requires table { seat.old.table_id ≡ words.now.table_id }
+    requires some { 0 < words.now.table_id.words }
+    requires renews { seat.old.me.0.renews ≡ true }
+    requires no_slot { seat.old.me.1 ≡ [] }
+    requires opened { IsOpened (face A.parts B.parts) (opening_with seat.old.me.0.shape members.now) seat.old.me.0.words }
+    ensures table { seat.new.table_id ≡ seat.old.table_id }
+    ensures no_slot { seat.new.me.1 ≡ [] }
+    ensures view { seat.new.me.0 ≡ reopening (face A.parts B.parts) members.now seat.old.me.0 }
+{
+    let _ = members;
+    words.load::<OpenAgain<A, B>>(seat, 0);
+}
+
+/// The lead of a table at rest, which nobody else works on: it knows all words, and may open the table again.
+#[derive(Drop)]
+pub struct IdleLead<A: Monoid, B: Monoid> {
+    seat: Seat<(), SeatView>,
+    sums: PhantomData<(A, B)>,
+}
+
+impl<A: Monoid, B: Monoid> Model for IdleLead<A, B> {
+    ghost use Rattle.aug_words.specs.Seats.{Known};
+    ghost use Rattle.aug_words.specs.inside.SeatState.{IsIdleSeat};
+
+    ghost Value = { Known };
+
+    ghost view = { λ p. record { table = p.seat.table_id; view = p.seat.me.0 } };
+
+    ghost invariant = { λ p. IsIdleSeat p.seat.me };
+}
+
+impl<A: Monoid, B: Monoid> IdleLead<A, B> {
+    /// One of the five words of the record with this number, opening records first.
+    pub fn record_word(&mut self, words: &Words<A, B>, number: u64, field: RecordField) -> u64
+        requires table { self.old.table ≡ words.now.table }
+        requires shape { self.old.view.shape ≡ words.now.opening.shape }
+        requires number { number < record_count self.old.view.shape }
+        ensures same { self.new ≡ self.old }
+        ensures value { result ≡ slice_index self.old.view.words (record_start self.old.view.shape number + field_offset field) }
+    {
+        let place = words.records + RECORD_WORDS * number as usize + field.offset();
+        words
+            .table
+            .shared
+            .load::<LoadAnyWord>(&mut self.seat, place)
+    }
+}
+
+impl<A: Monoid, B: Monoid> Words<A, B> {
+    /// Ends all work on the table, once all passes that its lead handed out are back. The words at rest meet the rule, with what the lead knew.
+    pub fn rest(&self, lead: Lead<A, B>) -> IdleLead<A, B>
+        requires together { AreTogether self.now lead }
+        requires all { HoldsAll lead.view }
+        ensures table { result.table ≡ self.now.table }
+        ensures shape { result.view.shape ≡ self.now.opening.shape }
+        ensures era { result.view.era ≡ lead.view.era + 1 }
+        ensures rule { EndWith (face A.parts B.parts) self.now.opening lead.view result.view.words }
+        ensures words { ShowAll (face A.parts B.parts) self.now.opening lead.view result.view.words }
+    {
+        let Lead {
+            mut seat,
+            next: _,
+            root: _,
+            sums,
+        } = lead;
+        begin_renewal(&self.table.shared, &mut seat);
+        IdleLead { seat, sums }
+    }
+
+    /// Opens the table again, over these members. The lead hands out all lanes anew. The call stores the words of the leaves, of the nodes, of
+    /// the lanes and of the opening records, and no others. It takes no memory.
+    pub fn open_again(&mut self, idle: IdleLead<A, B>, members: &[(u32, u32)]) -> Lead<A, B>
+        requires table { idle.table ≡ self.old.table }
+        requires shape { idle.view.shape ≡ self.old.opening.shape }
+        requires keys { IsKeySet self.old.opening.shape.bits (keys_of members.now) }
+        requires members_fit { All FitsPair members.now }
+        requires few { length members.now ≤ self.old.opening.shape.members }
+        ensures table { self.new.table ≡ self.old.table }
+        ensures opening { self.new.opening ≡ opening_with self.old.opening.shape members.now }
+        ensures together { AreTogether self.new result }
+        ensures era { result.view.era ≡ idle.view.era }
+        ensures opened { (before : View) × (result.view ≡ reopening (face A.parts B.parts) members.now before) }
+    {
+        let IdleLead { mut seat, sums } = idle;
+        let mut draft = mem::replace(&mut self.draft, Vec::new(self.alloc));
+        draft.fill(0);
+        let Building { words: draft, .. } = Building::over::<A, B>(
+            draft,
+            &self.layout.narrowest(),
+            members,
+        );
+        let opening = self.layout.first_record(0) as usize;
+        let written = self.records + RECORD_WORDS * opening;
+        rewrite(&self.table.shared, &mut seat, &draft[..written]);
+        reopen(&self.table.shared, &mut seat, members);
+        let root = draft[self.lanes - 1];
+        self.opening = OpeningKey::new(&self.layout, members);
+        self.draft = draft;
+        Lead {
+            seat,
+            next: 0,
+            root,
+            sums,
+        }
+    }
+}

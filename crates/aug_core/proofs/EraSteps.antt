@@ -13,7 +13,8 @@ use Rattle.aug_core.specs.inside.LaneStates.{MayTake, HasTakenLane}
 use Rattle.aug_core.specs.declared.view.Advance.{Advance}
 use Rattle.aug_core.specs.declared.view.Entry.{Entry}
 use Rattle.aug_core.specs.declared.view.LaneState.TheVariants.{Free, Taken, Ended}
-use Rattle.aug_core.proofs.Eras.{holds_lane, in_its_era}
+use Rattle.aug_core.specs.Learning.{loaded_after_note}
+use Rattle.aug_core.proofs.Eras.{holds_lane, in_its_era, hears_in_its_era}
 use Rattle.aug_core.proofs.Loads as load
 use Rattle.aug_core.proofs.Stores as store
 use Rattle.aug_core.proofs.States as state
@@ -32,6 +33,9 @@ module _ (face : ℕ → ℕ → List (ℕ × ℕ) → List ℕ) (shape : Shape)
 
   pub loads_node : (place : ℕ) (me : Sat) → IsAtWork me.0 → me.0.live ≡ true → me.1 ≡ [] → Allows (Ruled face shape) n id me place (λ x. x) (loaded_node face (step n place 0 0 none) me)
   loads_node place me work live empty = in_its_era face shape n id place me (λ x. x) (loaded_node face (step n place 0 0 none) me) work (λ o. load.loads_node face o n id place me live empty)
+
+  pub loads_after_note : (place : ℕ) (me : Sat) → IsAtWork me.0 → me.0.live ≡ true → me.1 ≡ [] → Allows (Ruled face shape) n id me place (λ x. x) (loaded_after_note face (step n place 0 0 none) me)
+  loads_after_note place me work live empty = hears_in_its_era face shape n id place me (λ x. x) (loaded_node face (step n place 0 0 none) me) work live (λ o. load.loads_node face o n id place me live empty)
 
   pub stores_record_word : (place number field x : ℕ) (me : Sat) → me.0.live ≡ true → me.1 ≡ [] → HasTakenLane me.0 → MayStore me.0 number → field < record_words → place ≡ record_start me.0.shape number + field
       → Allows (Ruled face shape) n id me place (λ _. x) (λ _ m. stored_record (step n place x 0 none) me x m)

@@ -15,6 +15,7 @@ use Rattle.aug_core.specs.Told.{KnowsTable, Sees, taking, handed_out}
 use Rattle.aug_core.specs.declared.step.StepTaken.{StepTaken}
 use Rattle.aug_core.specs.declared.view.Beginning.{Beginning}
 use Rattle.aug_core.specs.declared.view.Held.{Held}
+use Rattle.aug_core.specs.declared.view.Learnt.{Learnt}
 use Rattle.aug_core.specs.declared.view.SeatView.{SeatView}
 use Rattle.aug_core.proofs.PrefixLemmas.{book_trans}
 
@@ -57,6 +58,10 @@ module _ (face : ℕ → ℕ → List (ℕ × ℕ) → List ℕ) where
   pub knows_same : (v : SeatView) (live : Bool) (also : Book) (held : List Held) (spare : Option ℕ) (began : Beginning) (steps : List StepTaken) → KnowsTable face v
       → KnowsTable face record v { live = live; also = also; held = held; spare = spare; began = began; steps = steps }
   knows_same v live also held spare began steps kn = record { laid_out = kn.laid_out; key_set = kn.key_set; members_fit = kn.members_fit; few_members = kn.few_members; book = kn.book; opened = kn.opened; fits = kn.fits }
+
+  -- and after it took something in
+  pub knows_told : (v : SeatView) (also : Book) (told : Option Learnt) → KnowsTable face v → KnowsTable face record v { also = also; told = told }
+  knows_told v also told kn = record { laid_out = kn.laid_out; key_set = kn.key_set; members_fit = kn.members_fit; few_members = kn.few_members; book = kn.book; opened = kn.opened; fits = kn.fits }
 
   -- a view that was just handed a lane, and took it, knows of its table what the other knows
   pub knows_taken : (v : SeatView) (place : ℕ) → KnowsTable face v → KnowsTable face (taking (handed_out v) place)

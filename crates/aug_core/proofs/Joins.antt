@@ -1,14 +1,15 @@
 -- A view takes in the lanes of another.
-use Rattle.std.proofs.Common.{true, false, ◌≡◌, ℕ, zero, suc, ◌+◌, ◌≢◌, ◌⊎◌, inl, inr, List, [], ◌∷◌, ◌++◌, length, set, sym, ap, ◌∙◌, subst, ⊎_elim, arith, Some, None}
+use Rattle.std.proofs.Common.{true, false, ◌≡◌, ℕ, zero, suc, ◌+◌, ◌≢◌, ◌⊎◌, inl, inr, List, [], ◌∷◌, ◌++◌, length, set, sym, ap, ◌∙◌, subst, ⊎_elim, arith, Option, Some, None}
 use mathlib.Core.Option.{some, some-ne-none}
 use lib.ListN.{get_elem?}
 use Rattle.atomic_table.specs.Table.{Joins}
 use Rattle.atomic_table.proofs.Lists.{at_set}
 use Rattle.aug_core.specs.Opening.{Opening}
 use Rattle.aug_core.specs.Rule.{Knows, Kept}
-use Rattle.aug_core.specs.Told.{taking_back, spent}
+use Rattle.aug_core.specs.Told.{spent}
 use Rattle.aug_core.specs.declared.view.Entry.{Entry}
 use Rattle.aug_core.specs.declared.view.Held.{Held}
+use Rattle.aug_core.specs.declared.view.Learnt.{Learnt}
 use Rattle.aug_core.specs.declared.view.SeatView.{SeatView}
 use Rattle.aug_core.proofs.Views.{apart_on}
 use Rattle.aug_core.proofs.Moves.{St}
@@ -44,9 +45,9 @@ spent_knows o words book = record {
   blocks = λ n lane k e le low small. let clash : None ≡ Some n = e in cc;
 }
 
-module _ (face : ℕ → ℕ → List (ℕ × ℕ) → List ℕ) (o : Opening) (s : St) (r : Kept face o s) (id : ℕ) (v : SeatView) (at : get_elem? s.views id ≡ some v) (other : ℕ) (w : SeatView) (ne : other ≢ id) (at' : get_elem? s.views other ≡ some w) where
+module _ (face : ℕ → ℕ → List (ℕ × ℕ) → List ℕ) (o : Opening) (s : St) (r : Kept face o s) (id : ℕ) (v : SeatView) (at : get_elem? s.views id ≡ some v) (other : ℕ) (w : SeatView) (ne : other ≢ id) (at' : get_elem? s.views other ≡ some w) (told : Option Learnt) where
   abbrev lead : SeatView
-  lead = taking_back v w
+  lead = record v { also = w.seen; told = told; held = v.held ++ w.held }
 
   abbrev views : List SeatView
   views = set (set s.views id lead) other spent
@@ -166,6 +167,6 @@ module _ (face : ℕ → ℕ → List (ℕ × ℕ) → List ℕ) (o : Opening) (
   }
 
 module _ (face : ℕ → ℕ → List (ℕ × ℕ) → List ℕ) (o : Opening) where
-  pub joins_seat : (id other : ℕ) (v w : SeatView) → Joins (Kept face o) id v other w (taking_back v w) spent
-  joins_seat id other v w s r at ne at' =
-      takes_back face o s r id v at other w ne (⊎_elim (λ t. absurd (ne t.0)) (λ t. t.1) (at_set s.views id other (taking_back v w) w at'))
+  pub joins_seat : (id other : ℕ) (v w : SeatView) (told : Option Learnt) → Joins (Kept face o) id v other w record v { also = w.seen; told = told; held = v.held ++ w.held } spent
+  joins_seat id other v w told s r at ne at' = let lead : SeatView = record v { also = w.seen; told = told; held = v.held ++ w.held } in
+      takes_back face o s r id v at other w ne (⊎_elim (λ t. absurd (ne t.0)) (λ t. t.1) (at_set s.views id other lead w at')) told

@@ -10,7 +10,7 @@ use Rattle.aug_core.specs.Book.{At, ArePrefixes, IsFresh, SerialsFit, IsBook}
 use Rattle.aug_core.specs.Opening.{Opening}
 use Rattle.aug_core.specs.Rule.{NamesNewest, Knows, Kept}
 use Rattle.aug_core.specs.Kinds.{load_leaf, load_node, load_record_word}
-use Rattle.aug_core.specs.Told.{Sat, stepping, held_word, read_record, seeing, beginning, Sees, loaded_leaf, began_at_leaf, loaded_node}
+use Rattle.aug_core.specs.Told.{Sat, stepping, held_word, read_record, seeing, beginning, Sees, LoadsNode, loaded_leaf, began_at_leaf, loaded_node}
 use Rattle.aug_core.specs.inside.EraSteps.{WithEra}
 use Rattle.aug_core.specs.declared.view.Entry.{Entry}
 use Rattle.aug_core.specs.declared.view.Held.{Held}
@@ -47,7 +47,7 @@ module _ (face : ℕ → ℕ → List (ℕ × ℕ) → List ℕ) (o : Opening) w
               own = subst (λ (z : Shape). (number field : ℕ) → field < record_words → place ≡ record_start z number + field → (a : ℕ) (h : Held) → get_elem? v.held a ≡ some h → IsOfLane z h.lane number → found ≡ held_word z h number field) shaped (of_own s r v kn place);
             },
           ),
-          record { era = refl; renews = refl },
+          record { live = refl; era = refl; past = refl; shape = refl; members = refl; told = refl; renews = refl },
         ),
       )
 
@@ -83,7 +83,7 @@ module _ (face : ℕ → ℕ → List (ℕ × ℕ) → List ℕ) (o : Opening) w
               shown = t.shown;
             },
           ),
-          record { era = refl; renews = refl },
+          record { live = refl; era = refl; past = refl; shape = refl; members = refl; told = refl; renews = refl },
         ),
       )
 
@@ -108,30 +108,32 @@ module _ (face : ℕ → ℕ → List (ℕ × ℕ) → List ℕ) (o : Opening) w
               shown = t.shown;
             },
           ),
-          record { era = refl; renews = refl },
+          record { live = refl; era = refl; past = refl; shape = refl; members = refl; told = refl; renews = refl },
         ),
       )
 
+  -- and so is a node's
+  pub shows_node : (s : St) (r : Kept face o s) (id : ℕ) (v : SeatView) (at : get_elem? s.views id ≡ some v) (live : v.live ≡ true) (place : ℕ) → IsInner v.shape place
+      → LoadsNode face v place (get_or s.words place 0) (seeing v r.book (load_node place (get_or s.words place 0)))
+  shows_node s r id v at live place inner = let inner' = subst (λ (z : Shape). IsInner z place) ((r.each_view id v at).shaped live) inner in let t = r.tree.newest place inner'.inside in record {
+    stepped = refl;
+    sees = sees_it s r id v at live (seeing v r.book (load_node place (get_or s.words place 0))) refl;
+    index = t.index;
+    entry = t.entry;
+    newest = t.newest;
+    found = t.word ∙ r.tree.is_book.named place t.index t.entry inner' t.newest.at;
+    shown = t.shown;
+  }
+
   pub loads_node : (n id place : ℕ) (me : Sat) → me.0.live ≡ true → me.1 ≡ [] → Allows (Kept face o) n id me place (λ x. x) (WithEra me (loaded_node face (step n place 0 0 none) me))
   loads_node n id place me live empty s r _ at _ =
-      let v : SeatView = me.0 in let kn = r.each_view id v at in let found : ℕ = get_or s.words place 0 in let w : SeatView = seeing v r.book (load_node place found) in (
-        w,
+      let v : SeatView = me.0 in let found : ℕ = get_or s.words place 0 in (
+        seeing v r.book (load_node place found),
         keeps,
         tt,
         watches face o s r id v at v.began (load_node place found) place,
         (
-          (
-            empty,
-            λ inner. let inner' = subst (λ (z : Shape). IsInner z place) (kn.shaped live) inner in let t = r.tree.newest place inner'.inside in record {
-              stepped = refl;
-              sees = sees_it s r id v at live w refl;
-              index = t.index;
-              entry = t.entry;
-              newest = t.newest;
-              found = t.word ∙ r.tree.is_book.named place t.index t.entry inner' t.newest.at;
-              shown = t.shown;
-            },
-          ),
-          record { era = refl; renews = refl },
+          (empty, shows_node s r id v at live place),
+          record { live = refl; era = refl; past = refl; shape = refl; members = refl; told = refl; renews = refl },
         ),
       )

@@ -1,5 +1,5 @@
--- A view makes a note of what it has seen, which is a new view that holds no lane; and a view takes a note of its era in.
-use Rattle.std.proofs.Common.{true, false, ◌≡◌, ◌≢◌, ℕ, ◌≤◌, ◌⊎◌, inl, inr, Bool, if◌then◌else◌, eqb, List, [], ◌∷◌, ◌++◌, map, set, refl, sym, ap, ◌∙◌, subst, ⊎_elim, arith, Some, None}
+-- A view makes a note of what it has seen, which is a new view that holds no lane; and a view takes a note in.
+use Rattle.std.proofs.Common.{true, false, ◌≡◌, ◌≢◌, ℕ, ◌≤◌, ◌⊎◌, inl, inr, Bool, if◌then◌else◌, eqb, List, [], ◌∷◌, ◌++◌, map, set, refl, sym, ap, ◌∙◌, subst, ⊎_elim, arith, Option, Some, None}
 use Rattle.std.proofs.lemmas.Bool.{false≢true}
 use Rattle.std.proofs.lemmas.List.{append-nil, map-set, map-append}
 use mathlib.Core.Option.{some, some-ne-none}
@@ -7,17 +7,21 @@ use lib.ListN.{get_elem?}
 use Rattle.atomic_table.specs.Table.{Splits, Joins}
 use Rattle.atomic_table.proofs.Lists.{at_set, at_map, at_snoc, at_longer, set_again}
 use Rattle.aug_core.specs.Places.{Shape}
-use Rattle.aug_core.specs.Eras.{IsAtWork, seen_in, table_in, opening_with, Works, IsPast, Renews, Ruled}
+use Rattle.aug_core.specs.Eras.{IsAtWork, seen_in, table_in, opening_with, Remembers, Works, IsPast, Renews, Ruled}
 use Rattle.aug_core.specs.inside.EraSteps.{MayNote}
 use Rattle.aug_core.specs.Opening.{Opening}
 use Rattle.aug_core.specs.Counts.{StandsAt}
 use Rattle.aug_core.specs.Rule.{Knows, Kept}
-use Rattle.aug_core.specs.Told.{noted, learning, spent}
+use Rattle.aug_core.specs.Told.{noted, spent}
+use Rattle.aug_core.specs.Pasts.{IsEarlier, IsLearnt, learnt_of}
+use Rattle.aug_core.specs.Learning.{learning}
 use Rattle.aug_core.specs.declared.view.Change.{Change}
 use Rattle.aug_core.specs.declared.view.Held.{Held}
+use Rattle.aug_core.specs.declared.view.Learnt.{Learnt}
+use Rattle.aug_core.specs.declared.view.PastEra.{PastEra}
 use Rattle.aug_core.specs.declared.view.SeatView.{SeatView}
 use Rattle.aug_core.proofs.Books.{snoc_at}
-use Rattle.aug_core.proofs.Eras.{seen_now, seen_spent, spent_rests, none_renews, stands_now, views_now, present_on, none_later_on, none_renews_on}
+use Rattle.aug_core.proofs.Eras.{seen_spent, spent_rests, none_renews, stands_now, views_now, present_on, none_later_on, none_renews_on}
 use Rattle.aug_core.proofs.Joins.{joins_seat}
 use Rattle.aug_core.proofs.Moves.{St}
 use Rattle.aug_core.proofs.PrefixLemmas.{book_none}
@@ -96,13 +100,22 @@ module _ (face : ℕ → ℕ → List (ℕ × ℕ) → List ℕ) (o : Opening) w
   notes_seat id v s r at = subst (λ (z : List SeatView). Kept face o record { words = s.words; homes = s.homes; views = z ++ noted v ∷ [] }) (sym (set_again s.views id v at)) (makes_note face o s r id v at)
 
   -- and any view may take one in, which holds no lane
-  pub learns_seat : (id other : ℕ) (v w : SeatView) → w.held ≡ [] → Joins (Kept face o) id v other w (learning v w) spent
-  learns_seat id other v w none = let same : v.held ++ w.held ≡ v.held = ap (λ (z : List Held). v.held ++ z) none ∙ append-nil v.held in
-      subst (λ (z : List Held). Joins (Kept face o) id v other w (record v { also = w.seen; held = z }) spent) same (joins_seat face o id other v w)
+  pub learns_seat : (id other : ℕ) (v w : SeatView) (told : Option Learnt) → w.held ≡ [] → Joins (Kept face o) id v other w (record v { also = w.seen; told = told }) spent
+  learns_seat id other v w told none = let same : v.held ++ w.held ≡ v.held = ap (λ (z : List Held). v.held ++ z) none ∙ append-nil v.held in
+      subst (λ (z : List Held). Joins (Kept face o) id v other w (record v { also = w.seen; told = told; held = z }) spent) same (joins_seat face o id other v w told)
 
 -- a note takes no steps
 noted_rests : (v : SeatView) → IsAtWork (noted v) → ⊥
 noted_rests v work = ⊎_elim (λ t. some-ne-none t.1 (sym t.2)) (λ t. let clash : None ≡ Some t.0 = t.1 in cc) work
+
+-- and knows of its table what its maker knows
+noted_remembers : (shape : Shape) (era : ℕ) (past : List PastEra) (v : SeatView) → Remembers shape era past v → Remembers shape era past (noted v)
+noted_remembers shape era past v r = record { shaped = r.shaped; present = r.present; learnt = λ _. tt; earlier = r.earlier }
+
+-- who holds no lane holds none in any era
+none_held : (b : Bool) (u : SeatView) → u.held ≡ [] → (if b then u else spent).held ≡ []
+none_held true u none = none
+none_held false u none = refl
 
 -- a note counts in an era as one of what its maker counts as
 noted_counts : (b : Bool) (v : SeatView) → noted (if b then v else spent) ≡ (if b then noted v else spent)
@@ -125,6 +138,10 @@ module _ (face : ℕ → ℕ → List (ℕ × ℕ) → List ℕ) (shape : Shape)
         era = w.era;
         members = w.members;
         kept = subst (λ (z : List SeatView). Kept face (opening_with shape w.members) record { words = s.words; homes = s.homes; views = z }) same kept;
+        past = w.past;
+        counted = w.counted;
+        remembers = λ j x p live. ⊎_elim (λ q. w.remembers j x (old j x q) live)
+            (λ q. subst (Remembers shape w.era w.past) q (noted_remembers shape w.era w.past v (w.remembers id v at (ap (λ (z : SeatView). z.live) q ∙ live)))) (at_snoc (set s.views id v) (noted v) x j p);
         present = λ j x p work. ⊎_elim (λ q. w.present j x (old j x q) work) (λ q. absurd (noted_rests v (subst IsAtWork (sym q) work))) (at_snoc (set s.views id v) (noted v) x j p);
         none_later = λ j x p. ⊎_elim (λ q. w.none_later j x (old j x q)) (λ q. subst (λ (z : SeatView). z.era ≤ w.era) q (w.none_later id v at)) (at_snoc (set s.views id v) (noted v) x j p);
         none_renews = λ j x p. ⊎_elim (λ q. w.none_renews j x (old j x q)) (λ q. subst (λ (z : SeatView). z.renews ≡ false) q refl) (at_snoc (set s.views id v) (noted v) x j p);
@@ -142,27 +159,65 @@ module _ (face : ℕ → ℕ → List (ℕ × ℕ) → List ℕ) (shape : Shape)
         shaped = r.shaped;
         words_are = r.words_are;
         wide = r.wide;
-        others = λ j x ne p. ⊎_elim (λ q. r.others j x ne (old j x q)) (λ q. subst (IsPast r.view.era) q (record { no_work = noted_rests v; no_renewal = refl; earlier = (r.others id v other at).earlier })) (at_snoc (set s.views id v) (noted v) x j p);
+        counted = r.counted;
+        others = λ j x ne p. ⊎_elim (λ q. r.others j x ne (old j x q))
+            (λ q. let was = r.others id v other at in subst (IsPast shape r.view.era r.view.past) q (record {
+              no_work = noted_rests v;
+              no_renewal = refl;
+              earlier = was.earlier;
+              remembers = λ live. noted_remembers shape r.view.era r.view.past v (was.remembers live);
+            })) (at_snoc (set s.views id v) (noted v) x j p);
       }) may) rule
 
-  -- who is at work takes a note of its era in
-  pub learns_in_its_era : (id other : ℕ) (v u : SeatView) → IsAtWork v → u.held ≡ [] → u.era ≡ v.era → Joins (Ruled face shape) id v other u (learning v u) spent
-  learns_in_its_era id other v u work none era s rule at ne at' = ⊎_elim
+  -- what a note tells is so
+  module _ (s : St) (w : Works face shape s) (id other : ℕ) (v u : SeatView) (at : get_elem? s.views id ≡ some v) (there : get_elem? s.views other ≡ some u) (live : v.live ≡ true) (live' : u.live ≡ true) (present : v.era ≡ w.era) where
+    same_members : u.era ≡ v.era → u.members ≡ v.members
+    same_members e = (w.kept.each_view other u (stands_now face shape s other u there w (e ∙ present))).same_members live'
+        ∙ sym ((w.kept.each_view id v (stands_now face shape s id v at w present)).same_members live)
+
+    is_learnt : IsLearnt v.shape v.era v.past v.members (learnt_of u)
+    is_learnt = let r = w.remembers id v at live in let t = w.remembers other u there live' in let same : w.past ≡ v.past = sym (r.present present) in record {
+      one_shape = t.shaped ∙ sym r.shaped;
+      not_later = let e = w.none_later other u there in let p = present in omega arith;
+      agrees = λ e. (t.present (e ∙ present) ∙ same, same_members e);
+      earlier = λ less. subst (IsEarlier u.past u.members u.seen) same (t.earlier (let p = present in omega arith));
+    }
+
+    pub learning_remembers : Remembers shape w.era w.past (learning v u)
+    learning_remembers = let r = w.remembers id v at live in record {
+      shaped = r.shaped;
+      present = r.present;
+      learnt = λ _. is_learnt;
+      earlier = λ less. let p = present in absurd (omega arith);
+    }
+
+  -- who is at work takes a note in
+  pub learns_in_its_era : (id other : ℕ) (v u : SeatView) → IsAtWork v → v.live ≡ true → u.live ≡ true → u.held ≡ [] → Joins (Ruled face shape) id v other u (learning v u) spent
+  learns_in_its_era id other v u work live live' none s rule at ne at' = ⊎_elim
       (λ (w : Works face shape s). let present : v.era ≡ w.era = w.present id v at work in
-      let present' : u.era ≡ w.era = era ∙ present in
-      let views' : List SeatView = set s.views id (learning v u) in
-      let now = views_now face shape s id v at w present (learning v u) refl in
-      let there' : get_elem? (set (map (seen_in w.era) s.views) id (learning v u)) other ≡ some u =
-      subst (λ (z : List SeatView). get_elem? z other ≡ some u) (sym now) (at_map (seen_in w.era) views' other u at' ∙ ap (λ (z : SeatView). some z) (seen_now w.era u present')) in
-      let kept = learns_seat face (opening_with shape w.members) id other v u none (table_in w.era s) w.kept (stands_now face shape s id v at w present) ne there' in
-      let same : set (set (map (seen_in w.era) s.views) id (learning v u)) other spent ≡ map (seen_in w.era) (set views' other spent) =
-      ap (λ (z : List SeatView). set z other spent) now ∙ ap (set (map (seen_in w.era) views') other) (sym (seen_spent w.era)) ∙ sym (map-set (seen_in w.era) views' other spent) in
+      let seen : SeatView → SeatView = seen_in w.era in
+      let next : SeatView = learning v u in
+      let there : get_elem? s.views other ≡ some u = ⊎_elim (λ t. absurd (ne t.0)) (λ t. t.1) (at_set s.views id other next u at') in
+      let views' : List SeatView = set s.views id next in
+      let now = views_now face shape s id v at w present next refl in
+      let there' : get_elem? (set (map seen s.views) id next) other ≡ some (seen u) = subst (λ (z : List SeatView). get_elem? z other ≡ some (seen u)) (sym now) (at_map seen views' other u at') in
+      let joins = subst (λ (z : ℕ). Joins (Kept face (opening_with shape w.members)) id v other (seen u) record v { also = (seen_in z u).seen; told = next.told } spent) (sym present)
+      (learns_seat face (opening_with shape w.members) id other v (seen u) next.told (none_held (eqb u.era w.era) u none)) in
+      let kept = joins (table_in w.era s) w.kept (stands_now face shape s id v at w present) ne there' in
+      let same : set (set (map seen s.views) id next) other spent ≡ map seen (set views' other spent) =
+      ap (λ (z : List SeatView). set z other spent) now ∙ ap (set (map seen views') other) (sym (seen_spent w.era)) ∙ sym (map-set seen views' other spent) in
       inl record {
         era = w.era;
         members = w.members;
         kept = subst (λ (z : List SeatView). Kept face (opening_with shape w.members) record { words = s.words; homes = s.homes; views = z }) same kept;
-        present = λ j x p go. ⊎_elim (λ t. absurd (spent_rests (subst IsAtWork (sym t.1) go))) (λ t. present_on face shape s id v at w present (learning v u) refl j x t.1 go) (at_set views' other j spent x p);
-        none_later = λ j x p. ⊎_elim (λ t. subst (λ (z : SeatView). z.era ≤ w.era) t.1 (omega arith)) (λ t. none_later_on face shape s id v at w present (learning v u) refl j x t.1) (at_set views' other j spent x p);
-        none_renews = λ j x p. ⊎_elim (λ t. subst (λ (z : SeatView). z.renews ≡ false) t.1 refl) (λ t. none_renews_on face shape s id v at w present (learning v u) refl refl j x t.1) (at_set views' other j spent x p);
+        past = w.past;
+        counted = w.counted;
+        remembers = λ j x p go. ⊎_elim
+            (λ t. let clash : false ≡ true = ap (λ (z : SeatView). z.live) t.1 ∙ go in cc)
+            (λ t. ⊎_elim (λ q. subst (Remembers shape w.era w.past) q.1 (learning_remembers s w id other v u at there live live' present)) (λ q. w.remembers j x q.1 go) (at_set s.views id j next x t.1))
+            (at_set views' other j spent x p);
+        present = λ j x p go. ⊎_elim (λ t. absurd (spent_rests (subst IsAtWork (sym t.1) go))) (λ t. present_on face shape s id v at w present next refl j x t.1 go) (at_set views' other j spent x p);
+        none_later = λ j x p. ⊎_elim (λ t. subst (λ (z : SeatView). z.era ≤ w.era) t.1 (omega arith)) (λ t. none_later_on face shape s id v at w present next refl j x t.1) (at_set views' other j spent x p);
+        none_renews = λ j x p. ⊎_elim (λ t. subst (λ (z : SeatView). z.renews ≡ false) t.1 refl) (λ t. none_renews_on face shape s id v at w present next refl refl j x t.1) (at_set views' other j spent x p);
       })
       (λ (r : Renews shape s). absurd (none_renews face shape s id v at work r)) rule

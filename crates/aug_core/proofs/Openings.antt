@@ -18,6 +18,7 @@ use Rattle.aug_core.specs.Told.{KnowsTable, spent}
 use Rattle.aug_core.specs.Renewals.{IsOpened}
 use Rattle.aug_core.specs.Rule.{Knows, Kept, no_beginning, newcomer}
 use Rattle.aug_core.specs.declared.view.Entry.{Entry}
+use Rattle.aug_core.specs.declared.view.PastEra.{PastEra}
 use Rattle.aug_core.specs.declared.view.SeatView.{SeatView}
 use Rattle.aug_model.proofs.Ranges.{Rises, rises_from}
 use Rattle.aug_core.proofs.Sizes.{twice}
@@ -169,14 +170,16 @@ module _ (face : ℕ → ℕ → List (ℕ × ℕ) → List ℕ) (o : Opening) w
   opening_fits = record { few = λ key low. let long = leaf_long key low in let one = at_most_one (is_member (keys_of o.members) key) in omega arith }
 
   -- the view of the seat that opens the table, in an era of the table, whose words are known to it
-  abbrev pub opener : ℕ → List ℕ → SeatView
-  opener era known = record {
+  abbrev pub opener : List PastEra → ℕ → List ℕ → SeatView
+  opener past era known = record {
     live = true;
     era = era;
+    past = past;
     shape = o.shape;
     members = o.members;
     seen = book;
     also = [];
+    told = None;
     held = [];
     spare = Some 0;
     renews = false;
@@ -189,11 +192,11 @@ module _ (face : ℕ → ℕ → List (ℕ × ℕ) → List ℕ) (o : Opening) w
   pub record IsAlone (views : List SeatView) (id : ℕ) (first : SeatView) : Type 0 where
     pub each : (j : ℕ) (x : SeatView) → get_elem? views j ≡ some x → ((j ≡ id) × (first ≡ x)) ⊎ (spent ≡ x)
 
-  module _ (views : List SeatView) (id era : ℕ) (known : List ℕ) (one : IsAlone views id (opener era known)) where
+  module _ (views : List SeatView) (past : List PastEra) (id era : ℕ) (known : List ℕ) (one : IsAlone views id (opener past era known)) where
     -- nobody holds a lane
     holds_none : (j a : ℕ) (x : SeatView) (h : Held) → get_elem? views j ≡ some x → get_elem? x.held a ≡ some h → ⊥
     holds_none j a x h p q = ⊎_elim
-        (λ t. let out : get_elem? (opener era known).held a ≡ some h = subst (λ (z : SeatView). get_elem? z.held a ≡ some h) (sym t.1) q in some-ne-none h (sym out))
+        (λ t. let out : get_elem? (opener past era known).held a ≡ some h = subst (λ (z : SeatView). get_elem? z.held a ≡ some h) (sym t.1) q in some-ne-none h (sym out))
         (λ t. let out : get_elem? spent.held a ≡ some h = subst (λ (z : SeatView). get_elem? z.held a ≡ some h) (sym t) q in some-ne-none h (sym out)) (one.each j x p)
 
     -- and one hands lanes out
@@ -255,9 +258,9 @@ module _ (face : ℕ → ℕ → List (ℕ × ℕ) → List ℕ) (o : Opening) w
         }
 
   -- what such a seat knows of its table
-  pub opener_knows : (era : ℕ) (known : List ℕ) → IsLayout o.shape → IsKeySet o.shape.bits (keys_of o.members) → All FitsPair o.members → length (keys_of o.members) ≤ o.shape.members → KnowsTable face (opener era known)
-  opener_knows era known laid_out key_set fit few = record { laid_out = laid_out; key_set = key_set; members_fit = fit; few_members = let long = length-keys_of o.members in omega arith; book = is_book (rises_from (keys_of o.members) key_set.rising) fit few; opened = book_refl book; fits = opening_fits }
+  pub opener_knows : (past : List PastEra) (era : ℕ) (known : List ℕ) → IsLayout o.shape → IsKeySet o.shape.bits (keys_of o.members) → All FitsPair o.members → length (keys_of o.members) ≤ o.shape.members → KnowsTable face (opener past era known)
+  opener_knows past era known laid_out key_set fit few = record { laid_out = laid_out; key_set = key_set; members_fit = fit; few_members = let long = length-keys_of o.members in omega arith; book = is_book (rises_from (keys_of o.members) key_set.rising) fit few; opened = book_refl book; fits = opening_fits }
 
   -- the first seat knows its table
   pub newcomer_knows : IsLayout o.shape → IsKeySet o.shape.bits (keys_of o.members) → All FitsPair o.members → length (keys_of o.members) ≤ o.shape.members → KnowsTable face (newcomer face o)
-  newcomer_knows = opener_knows 0 []
+  newcomer_knows = opener_knows [] 0 []

@@ -1,5 +1,5 @@
 -- One seat renews a table: it begins to, stores and loads any words, and opens the table again.
-use Rattle.std.proofs.Common.{true, false, ◌≡◌, ◌≢◌, inl, inr, ℕ, zero, suc, ◌+◌, ◌*◌, ◌^◌, ◌<◌, ◌≤◌, Bool, if◌then◌else◌, ltb, lt-ltb, List, [], ◌∷◌, ◌++◌, length, map, get_or, set, refl, sym, ap, ◌∙◌, subst, ⊎_elim, arith, Some, None, length-set}
+use Rattle.std.proofs.Common.{true, false, ◌≡◌, ◌≢◌, inl, inr, ℕ, zero, suc, ◌+◌, ◌*◌, ◌^◌, ◌<◌, ◌≤◌, Bool, if◌then◌else◌, ltb, lt-ltb, List, [], ◌∷◌, ◌++◌, length, map, get_or, set, refl, sym, ap, ◌∙◌, subst, ⊎_elim, arith, Some, None, length-set, length-append, append_assoc}
 use Rattle.std.proofs.lemmas.Bool.{cases_eq, cases_lt, false≢true}
 use Rattle.std.proofs.lemmas.List.{set-get_or}
 use mathlib.Core.Option.{none, some, some-ne-none}
@@ -14,17 +14,21 @@ use Rattle.aug_core.specs.Places.{Shape, word_count}
 use Rattle.aug_core.specs.Lanes.{block_start, block_size}
 use Rattle.aug_core.specs.Opening.{Opening}
 use Rattle.aug_core.specs.Rule.{Kept, newcomer}
-use Rattle.aug_core.specs.Told.{Sat, opening_of}
-use Rattle.aug_core.specs.Eras.{IsAtWork, seen_in, table_in, opening_with, Works, IsPast, Renews, Ruled}
+use Rattle.aug_core.specs.Kinds.{load_node}
+use Rattle.aug_core.specs.Told.{Sat, opening_of, seeing}
+use Rattle.aug_core.specs.Pasts.{IsEarlier}
+use Rattle.aug_core.specs.Eras.{IsAtWork, seen_in, table_in, opening_with, Remembers, Works, IsPast, Renews, Ruled}
 use Rattle.aug_core.specs.Renewals.{HoldsAll, renewing, rewriting, rewrote, reread, EndWith, began_renewal, IsOpened, reopening, reopened}
 use Rattle.aug_core.specs.declared.view.Held.{Held}
+use Rattle.aug_core.specs.declared.view.PastEra.{PastEra}
 use Rattle.aug_core.specs.declared.view.SeatView.{SeatView}
 use Rattle.aug_core.proofs.Sizes.{twice}
 use Rattle.aug_core.proofs.Below.{number_of_leaf}
 use Rattle.aug_core.proofs.Books.{at_below}
 use Rattle.aug_core.proofs.Counting.{hits_all, map_at}
 use Rattle.aug_core.proofs.Missing.{HeldIn, missing}
-use Rattle.aug_core.proofs.Moves.{St}
+use Rattle.aug_core.proofs.Moves.{St, watches}
+use Rattle.aug_core.proofs.Loads.{shows_node}
 use Rattle.aug_core.proofs.Stores.{alone}
 use Rattle.aug_core.proofs.Views.{now_there}
 use Rattle.aug_core.proofs.Openings.{IsAlone, opens}
@@ -88,7 +92,8 @@ module _ (face : ℕ → ℕ → List (ℕ × ℕ) → List ℕ) (shape : Shape)
     pub shaped : v.shape ≡ shape
     pub words_are : s.words ≡ v.words
     pub wide : length s.words ≡ word_count shape
-    pub others : (j : ℕ) (u : SeatView) → j ≢ id → get_elem? s.views j ≡ some u → IsPast v.era u
+    pub counted : length v.past ≡ v.era
+    pub others : (j : ℕ) (u : SeatView) → j ≢ id → get_elem? s.views j ≡ some u → IsPast shape v.era v.past u
 
   pub is_alone_at : (s : St) → Ruled face shape s → (id : ℕ) (v : SeatView) → get_elem? s.views id ≡ some v → v.renews ≡ true → IsAloneAt s id v
   is_alone_at s rule id v at does = ⊎_elim
@@ -100,15 +105,16 @@ module _ (face : ℕ → ℕ → List (ℕ × ℕ) → List ℕ) (shape : Shape)
         shaped = r.shaped;
         words_are = r.words_are;
         wide = r.wide;
+        counted = r.counted;
         others = λ j u ne p. r.others j u (λ e. ne (e ∙ sym is)) p;
       })
       (λ other. absurd (false≢true (sym (r.others id v other at).no_renewal ∙ does))) (cases_eq id r.seat)) rule
 
   module _ (s : St) (id : ℕ) (v : SeatView) (at : get_elem? s.views id ≡ some v) (l : IsAloneAt s id v) where
     -- it goes on to, where it knows all words
-    pub renews_on : (words : List ℕ) (u : SeatView) → u.era ≡ v.era → u.renews ≡ true → (IsAtWork u → ⊥) → u.shape ≡ v.shape → words ≡ u.words → length words ≡ word_count shape
+    pub renews_on : (words : List ℕ) (u : SeatView) → u.era ≡ v.era → u.past ≡ v.past → u.renews ≡ true → (IsAtWork u → ⊥) → u.shape ≡ v.shape → words ≡ u.words → length words ≡ word_count shape
         → Renews shape record { words = words; homes = s.homes; views = set s.views id u }
-    renews_on words u era does no_work shaped words_are wide = record {
+    renews_on words u era past does no_work shaped words_are wide = record {
       seat = id;
       view = u;
       sits = now_there s.views id v u at;
@@ -117,7 +123,8 @@ module _ (face : ℕ → ℕ → List (ℕ × ℕ) → List ℕ) (shape : Shape)
       shaped = shaped ∙ l.shaped;
       words_are = words_are;
       wide = wide;
-      others = λ j x ne p. ⊎_elim (λ t. absurd (ne t.0)) (λ t. subst (λ (z : ℕ). IsPast z x) (sym era) (l.others j x ne t.1)) (at_set s.views id j u x p);
+      counted = ap (λ (z : List PastEra). length z) past ∙ l.counted ∙ sym era;
+      others = λ j x ne p. ⊎_elim (λ t. absurd (ne t.0)) (λ t. subst (λ (z : ℕ × List PastEra). IsPast shape z.0 z.1 x) (λ i. (sym era i, sym past i)) (l.others j x ne t.1)) (at_set s.views id j u x p);
     }
 
   -- a store of any word
@@ -126,7 +133,7 @@ module _ (face : ℕ → ℕ → List (ℕ × ℕ) → List ℕ) (shape : Shape)
     rewriting v i x,
     keeps,
     tt,
-    inr (renews_on s id v at l (set s.words i x) (rewriting v i x) refl does l.no_work refl (ap (λ (z : List ℕ). set z i x) l.words_are) (length-set s.words i x ∙ l.wide)),
+    inr (renews_on s id v at l (set s.words i x) (rewriting v i x) refl refl does l.no_work refl (ap (λ (z : List ℕ). set z i x) l.words_are) (length-set s.words i x ∙ l.wide)),
     (empty, refl),
   )
 
@@ -136,7 +143,7 @@ module _ (face : ℕ → ℕ → List (ℕ × ℕ) → List ℕ) (shape : Shape)
     v,
     keeps,
     tt,
-    inr (renews_on s id v at l (set s.words i (get_or s.words i 0)) v refl does l.no_work refl (same ∙ l.words_are) (ap length same ∙ l.wide)),
+    inr (renews_on s id v at l (set s.words i (get_or s.words i 0)) v refl refl does l.no_work refl (same ∙ l.words_are) (ap length same ∙ l.wide)),
     (empty, refl, ap (λ (z : List ℕ). get_or z i 0) l.words_are),
   )
 
@@ -178,32 +185,88 @@ module _ (face : ℕ → ℕ → List (ℕ × ℕ) → List ℕ) (shape : Shape)
           ne (w.kept.apart.one_holder j id t.0 mine.0 u v t.1 mine.1 there here t.2 mine.2 (sym mine.3)).0)
           (λ (t : (m : ℕ) × (u.spare ≡ Some m)). ne (w.kept.apart.one_lead j id t.0 all.next u v there here t.1 all.hands_out)) work
 
-      pub begins : (i : ℕ) → Renews shape record { words = set s.words i (get_or s.words i 0); homes = s.homes; views = set s.views id (renewing v s.words) }
+      -- the view after a load of the word i, which shows it the whole book
+      abbrev last : ℕ → SeatView
+      last i = seeing v w.kept.book (load_node i (get_or s.words i 0))
+
+      -- the era that is over then
+      abbrev over : PastEra
+      over = record { members = v.members; book = w.kept.book }
+
+      -- the table meets the rule with it
+      pub met_after : (i : ℕ) → EndWith face (opening_of v) (last i) s.words
+      met_after i = let kn = w.kept.each_view id v here in let views : List SeatView = set (map (seen_in w.era) s.views) id (last i) in
+          subst (λ (z : Opening). EndWith face z (last i) s.words) (λ k. record { shape = sym (kn.shaped live) k; members = sym (kn.same_members live) k }) record {
+            state = record { words = set s.words i (get_or s.words i 0); homes = s.homes; views = views };
+            kept = watches face now (table_in w.era s) w.kept id v here v.began (load_node i (get_or s.words i 0)) i;
+            words_are = set-get_or s.words i 0;
+            seat = id;
+            view_is = now_there (map (seen_in w.era) s.views) id v (last i) here;
+          }
+
+      same_past : w.past ≡ v.past
+      same_past = sym ((w.remembers id v at live).present present)
+
+      -- what another one knows of the eras that are over
+      ended : (j : ℕ) (u : SeatView) → get_elem? s.views j ≡ some u → u.live ≡ true → IsEarlier u.past u.members u.seen (v.past ++ over ∷ [])
+      ended j u p live' = let r = w.remembers j u p live' in let le = w.none_later j u p in ⊎_elim
+          (λ (e : u.era ≡ w.era). let kn = w.kept.each_view j u (stands_now face shape s j u p w e) in record {
+            book = w.kept.book;
+            later = [];
+            goes_on = let past : v.past ≡ u.past = sym same_past ∙ sym (r.present e) in
+                let members : v.members ≡ u.members = (w.kept.each_view id v here).same_members live ∙ sym (kn.same_members live') in
+                λ k. past k ++ record { members = members k; book = w.kept.book } ∷ [];
+            saw = kn.saw;
+          })
+          (λ (ne : u.era ≢ w.era). let t = r.earlier (omega (arith, ne)) in record {
+            book = t.book;
+            later = t.later ++ over ∷ [];
+            goes_on = ap (λ (z : List PastEra). z ++ over ∷ []) (sym same_past ∙ t.goes_on) ∙ append_assoc u.past (record { members = u.members; book = t.book } ∷ t.later) (over ∷ []);
+            saw = t.saw;
+          }) (cases_eq u.era w.era)
+
+      pub begins : (i : ℕ) → Renews shape record { words = set s.words i (get_or s.words i 0); homes = s.homes; views = set s.views id (renewing (last i) s.words) }
       begins i = record {
         seat = id;
-        view = renewing v s.words;
-        sits = now_there s.views id v (renewing v s.words) at;
+        view = renewing (last i) s.words;
+        sits = now_there s.views id v (renewing (last i) s.words) at;
         renews = refl;
         no_work = λ work. ⊎_elim (λ t. some-ne-none t.1 (sym t.2)) (λ t. let clash : None ≡ Some t.0 = t.1 in cc) work;
         shaped = shape_is;
         words_are = set-get_or s.words i 0;
         wide = ap length (set-get_or s.words i 0) ∙ w.kept.tree.wide;
-        others = λ j u ne p. ⊎_elim (λ t. absurd (ne t.0)) (λ t. record {
+        counted = let long = length-append v.past (over ∷ []) in let was = ap (λ (z : List PastEra). length z) same_past in let counted = w.counted in let e = present in omega arith;
+        others = λ j u ne p. ⊎_elim (λ t. absurd (ne t.0)) (λ t. let le = w.none_later j u t.1 in record {
           no_work = no_other j u ne t.1;
           no_renewal = w.none_renews j u t.1;
-          earlier = let e = w.none_later j u t.1 in let p' = present in omega arith;
-        }) (at_set s.views id j (renewing v s.words) u p);
+          earlier = let e = present in omega arith;
+          remembers = λ live'. record {
+            shaped = (w.remembers j u t.1 live').shaped;
+            present = λ same. let e = present in absurd (omega arith);
+            learnt = λ same. let e = present in absurd (omega arith);
+            earlier = λ _. ended j u t.1 live';
+          };
+        }) (at_set s.views id j (renewing (last i) s.words) u p);
       }
 
   -- a lead that holds all lanes which it handed out begins to renew its table
   pub begins_renewal : (n id i : ℕ) (me : Sat) → me.0.live ≡ true → me.1 ≡ [] → HoldsAll me.0 → Allows (Ruled face shape) n id me i (λ z. z) (began_renewal face (step n i 0 0 none) me)
-  begins_renewal n id i me live empty all s rule _ at _ = let v : SeatView = me.0 in let work = hands_out v all.next all.hands_out in ⊎_elim
+  begins_renewal n id i me live empty all s rule long at fits = let v : SeatView = me.0 in let work = hands_out v all.next all.hands_out in ⊎_elim
       (λ (w : Works face shape s). let present = w.present id v at work in (
-        renewing v s.words,
+        renewing (last s w id v at live present all i) s.words,
         keeps,
         tt,
         inr (begins s w id v at live present all i),
-        (empty, record { stepped = refl; wide = w.kept.tree.wide ∙ ap word_count (sym (shape_is s w id v at live present)); ends = met_rule s w id v at live present }),
+        (
+          empty,
+          λ inner. record {
+            last = last s w id v at live present all i;
+            loaded = shows_node face (now s w id v at live present) (table_in w.era s) w.kept id v (stands_now face shape s id v at w present) live i inner;
+            stepped = refl;
+            wide = w.kept.tree.wide ∙ ap word_count (sym (shape_is s w id v at live present));
+            ends = met_after s w id v at live present all i;
+          },
+        ),
       ))
       (λ (r : Renews shape s). absurd (none_renews face shape s id v at work r)) rule
 
@@ -224,7 +287,7 @@ module _ (face : ℕ → ℕ → List (ℕ × ℕ) → List ℕ) (shape : Shape)
     }
 
     kept_again : Kept face (opening_with v.shape members) record { words = s.words; homes = s.homes; views = views }
-    kept_again = opens face (opening_with v.shape members) views id v.era v.words is_alone s.words s.homes (subst (IsOpened face (opening_with v.shape members)) (sym l.words_are) opened)
+    kept_again = opens face (opening_with v.shape members) views v.past id v.era v.words is_alone s.words s.homes (subst (IsOpened face (opening_with v.shape members)) (sym l.words_are) opened)
         (λ lane k low small. ap (λ (z : List ℕ). get_or z (block_start v.shape lane + k) 0) l.words_are)
 
     pub opens_again : (i : ℕ) → Works face shape record { words = set s.words i (get_or s.words i 0); homes = s.homes; views = set s.views id first }
@@ -232,6 +295,11 @@ module _ (face : ℕ → ℕ → List (ℕ × ℕ) → List ℕ) (shape : Shape)
       era = v.era;
       members = members;
       kept = subst (λ (z : Shape × List ℕ). Kept face (opening_with z.0 members) record { words = z.1; homes = s.homes; views = views }) (λ k. (l.shaped k, sym (set-get_or s.words i 0) k)) kept_again;
+      past = v.past;
+      counted = l.counted;
+      remembers = λ j x p live. ⊎_elim
+          (λ t. subst (Remembers shape v.era v.past) t.1 record { shaped = l.shaped; present = λ _. refl; learnt = λ _. tt; earlier = λ less. absurd (omega arith) })
+          (λ t. (l.others j x t.0 t.1).remembers live) (at_set s.views id j first x p);
       present = λ j x p work. ⊎_elim (λ t. ap (λ (z : SeatView). z.era) (sym t.1)) (λ t. absurd ((l.others j x t.0 t.1).no_work work)) (at_set s.views id j first x p);
       none_later = λ j x p. ⊎_elim (λ t. let e = ap (λ (z : SeatView). z.era) t.1 in omega arith) (λ t. let e = (l.others j x t.0 t.1).earlier in omega arith) (at_set s.views id j first x p);
       none_renews = λ j x p. ⊎_elim (λ t. ap (λ (z : SeatView). z.renews) (sym t.1)) (λ t. (l.others j x t.0 t.1).no_renewal) (at_set s.views id j first x p);
@@ -255,7 +323,10 @@ pub first_opening : (face : ℕ → ℕ → List (ℕ × ℕ) → List ℕ) (o :
 first_opening face o words opened blank = inl record {
   era = 0;
   members = o.members;
-  kept = opens face o (newcomer face o ∷ []) 0 0 [] record { each = λ j x p. inl (alone (newcomer face o) x j p) } words [] opened blank;
+  past = [];
+  counted = refl;
+  remembers = λ j x p live. subst (Remembers o.shape 0 []) (alone (newcomer face o) x j p).1 record { shaped = refl; present = λ _. refl; learnt = λ _. tt; earlier = λ less. absurd (omega arith) };
+  kept = opens face o (newcomer face o ∷ []) [] 0 0 [] record { each = λ j x p. inl (alone (newcomer face o) x j p) } words [] opened blank;
   present = λ j x p work. ap (λ (z : SeatView). z.era) (sym (alone (newcomer face o) x j p).1);
   none_later = λ j x p. let e = ap (λ (z : SeatView). z.era) (alone (newcomer face o) x j p).1 in omega arith;
   none_renews = λ j x p. ap (λ (z : SeatView). z.renews) (sym (alone (newcomer face o) x j p).1);

@@ -1,6 +1,6 @@
 -- The rule of a table that may be opened again and again. In each of its eras it is at work under the rule of one opening, and in between one seat alone
 -- renews it.
-use Rattle.std.specs.Prelude.{◌≡◌, ◌≢◌, ◌⊎◌, ℕ, ◌<◌, ◌≤◌, ◌==◌, if◌then◌else◌, true, false, List, length, map, Some}
+use Rattle.std.specs.Prelude.{◌≡◌, ◌≢◌, ◌⊎◌, ℕ, ◌<◌, ◌≤◌, ◌==◌, if◌then◌else◌, true, false, List, length, map, Some, IfSome}
 use mathlib.Core.Option.{some}
 use lib.ListN.{get_elem?}
 use Rattle.atomic_table.specs.Table.{State}
@@ -8,7 +8,9 @@ use Rattle.aug_core.specs.Places.{Shape, word_count}
 use Rattle.aug_core.specs.Opening.{Opening}
 use Rattle.aug_core.specs.Rule.{Kept}
 use Rattle.aug_core.specs.Told.{spent}
+use Rattle.aug_core.specs.Pasts.{IsEarlier, IsLearnt}
 use Rattle.aug_core.specs.declared.view.Held.{Held}
+use Rattle.aug_core.specs.declared.view.PastEra.{PastEra}
 use Rattle.aug_core.specs.declared.view.SeatView.{SeatView}
 
 -- the view holds a lane, or hands lanes out
@@ -27,12 +29,24 @@ table_in era s = record { words = s.words; homes = s.homes; views = map (seen_in
 abbrev pub opening_with : Shape → List (ℕ × ℕ) → Opening
 opening_with s members = record { shape = s; members = members }
 
+-- what a view knows of the eras of its table: one of the present era knows all that are over, and what a note told it is so; one of an earlier era
+-- knows those before it
+pub record Remembers (shape : Shape) (era : ℕ) (past : List PastEra) (v : SeatView) : Type 0 where
+  pub shaped : v.shape ≡ shape
+  pub present : v.era ≡ era → v.past ≡ past
+  pub learnt : v.era ≡ era → IfSome v.told (IsLearnt v.shape v.era v.past v.members)
+  pub earlier : v.era < era → IsEarlier v.past v.members v.seen past
+
 -- the table is at work
 pub record Works (face : ℕ → ℕ → List (ℕ × ℕ) → List ℕ) (shape : Shape) (s : State (Unit {0}) SeatView) : Type 0 where
   -- in an era, which it opened with these members
   pub era : ℕ
   pub members : List (ℕ × ℕ)
   pub kept : Kept face (opening_with shape members) (table_in era s)
+  -- after these eras
+  pub past : List PastEra
+  pub counted : length past ≡ era
+  pub remembers : (j : ℕ) (v : SeatView) → get_elem? s.views j ≡ some v → v.live ≡ true → Remembers shape era past v
   -- who holds a lane or hands lanes out is of this era
   pub present : (j : ℕ) (v : SeatView) → get_elem? s.views j ≡ some v → IsAtWork v → v.era ≡ era
   -- no view is of a later one
@@ -41,10 +55,11 @@ pub record Works (face : ℕ → ℕ → List (ℕ × ℕ) → List ℕ) (shape 
   pub none_renews : (j : ℕ) (v : SeatView) → get_elem? s.views j ≡ some v → v.renews ≡ false
 
 -- a view that has no part in what another one does alone: it holds no lane, hands none out, and is of an earlier era
-pub record IsPast (era : ℕ) (v : SeatView) : Type 0 where
+pub record IsPast (shape : Shape) (era : ℕ) (past : List PastEra) (v : SeatView) : Type 0 where
   pub no_work : IsAtWork v → ⊥
   pub no_renewal : v.renews ≡ false
   pub earlier : v.era < era
+  pub remembers : v.live ≡ true → Remembers shape era past v
 
 -- one seat renews the table: it knows all words, and nobody else is at work
 pub record Renews (shape : Shape) (s : State (Unit {0}) SeatView) : Type 0 where
@@ -56,7 +71,8 @@ pub record Renews (shape : Shape) (s : State (Unit {0}) SeatView) : Type 0 where
   pub shaped : view.shape ≡ shape
   pub words_are : s.words ≡ view.words
   pub wide : length s.words ≡ word_count shape
-  pub others : (j : ℕ) (v : SeatView) → j ≢ seat → get_elem? s.views j ≡ some v → IsPast view.era v
+  pub counted : length view.past ≡ view.era
+  pub others : (j : ℕ) (v : SeatView) → j ≢ seat → get_elem? s.views j ≡ some v → IsPast shape view.era view.past v
 
 -- the rule of a table of this shape, which stays in all eras
 abbrev pub Ruled : (ℕ → ℕ → List (ℕ × ℕ) → List ℕ) → Shape → State (Unit {0}) SeatView → Type 0

@@ -12,7 +12,9 @@ pub mod Kinds
 pub mod Counts
 pub mod Rule
 pub mod Told
+pub mod Pasts
 pub mod Eras
+pub mod Learning
 pub mod Renewals
 pub mod Cuts
 pub mod inside

@@ -1,5 +1,5 @@
 -- What the steps show by which one seat renews a table, and what its view is after them.
-use Rattle.std.specs.Prelude.{◌≡◌, ℕ, ◌+◌, ◌<◌, ◌≤◌, true, false, List, [], length, slice_index, slice_set, All, Some, None}
+use Rattle.std.specs.Prelude.{◌≡◌, ℕ, ◌+◌, ◌<◌, ◌≤◌, true, false, List, [], ◌∷◌, ◌++◌, length, slice_index, slice_set, All, Some, None}
 use mathlib.Core.Option.{some}
 use lib.ListN.{get_elem?}
 use Rattle.atomic_table.specs.Table.{State, Step}
@@ -10,7 +10,7 @@ use Rattle.aug_core.specs.Addresses.{place_count, IsInner}
 use Rattle.aug_core.specs.Lanes.{word_of_state}
 use Rattle.aug_core.specs.Opening.{Opening, IsIdle, opening_number, opening_words, shared_words, opening_book}
 use Rattle.aug_core.specs.Rule.{Kept, no_beginning}
-use Rattle.aug_core.specs.Told.{Sat, opening_of}
+use Rattle.aug_core.specs.Told.{Sat, opening_of, LoadsNode}
 use Rattle.aug_core.specs.Eras.{opening_with}
 use Rattle.aug_core.specs.declared.view.LaneState.TheVariants.{Free}
 use Rattle.aug_core.specs.declared.view.SeatView.{SeatView}
@@ -21,9 +21,21 @@ pub record HoldsAll (v : SeatView) : Type 0 where
   pub hands_out : v.spare ≡ Some next
   pub all : length v.held ≡ next
 
--- the view of a lead that begins to renew its table, whose words are these
+-- the view of a lead that begins to renew its table, whose words are these. The era that is over has the book that the view saw last
 abbrev pub renewing : SeatView → List ℕ → SeatView
-renewing v words = record v { era = v.era + 1; seen = []; also = []; held = []; spare = None; renews = true; words = words; began = no_beginning; steps = [] }
+renewing v words = record v {
+  era = v.era + 1;
+  past = v.past ++ record { members = v.members; book = v.seen } ∷ [];
+  seen = [];
+  also = [];
+  told = None;
+  held = [];
+  spare = None;
+  renews = true;
+  words = words;
+  began = no_beginning;
+  steps = [];
+}
 
 -- the view after a store of any word
 abbrev pub rewriting : SeatView → ℕ → ℕ → SeatView
@@ -45,14 +57,16 @@ module _ (face : ℕ → ℕ → List (ℕ × ℕ) → List ℕ) where
     pub seat : ℕ
     pub view_is : get_elem? state.views seat ≡ some v
 
-  -- the seat knows all words, and they are those with which its era ended
-  pub record BeginsRenewal (v w : SeatView) : Type 0 where
-    pub stepped : w ≡ renewing v w.words
+  -- a load of a node's word shows the last book of the era. From then on the seat knows all words, and they are those with which its era ended
+  pub record BeginsRenewal (v : SeatView) (q r : ℕ) (w : SeatView) : Type 0 where
+    pub last : SeatView
+    pub loaded : LoadsNode face v q r last
+    pub stepped : w ≡ renewing last w.words
     pub wide : length w.words ≡ word_count v.shape
-    pub ends : EndWith (opening_of v) v w.words
+    pub ends : EndWith (opening_of v) last w.words
 
   abbrev pub began_renewal : Step (Unit {0}) → Sat → ℕ → Sat → Type 0
-  began_renewal st m r m' = (m'.1 ≡ []) × BeginsRenewal m.0 m'.0
+  began_renewal st m r m' = (m'.1 ≡ []) × (IsInner m.0.shape st.word → BeginsRenewal m.0 st.word r m'.0)
 
   -- the words are those of a table that opens so, whatever the records of its lanes hold
   pub record IsOpened (o : Opening) (words : List ℕ) : Type 0 where
@@ -71,10 +85,12 @@ module _ (face : ℕ → ℕ → List (ℕ × ℕ) → List ℕ) where
   reopening members v = record {
     live = true;
     era = v.era;
+    past = v.past;
     shape = v.shape;
     members = members;
     seen = opening_book face (opening_with v.shape members);
     also = [];
+    told = None;
     held = [];
     spare = Some 0;
     renews = false;

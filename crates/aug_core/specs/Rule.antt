@@ -1,5 +1,5 @@
 -- The rule of a table that was opened once: what its words and the views of its seats are between any two atomic steps.
-use Rattle.std.specs.Prelude.{◌≡◌, ℕ, ◌+◌, ◌<◌, ◌≤◌, List, [], length, slice_index, Some, true, false}
+use Rattle.std.specs.Prelude.{◌≡◌, ℕ, ◌+◌, ◌<◌, ◌≤◌, List, [], length, slice_index, Some, None, true, false}
 use mathlib.Core.Option.{some}
 use lib.ListN.{get_elem?}
 use Rattle.atomic_table.specs.Table.{State}
@@ -122,4 +122,4 @@ no_beginning = record { seen = []; steps = []; changes = [] }
 
 -- the view of the first seat, which hands all lanes out
 abbrev pub newcomer : (ℕ → ℕ → List (ℕ × ℕ) → List ℕ) → Opening → SeatView
-newcomer face o = record { live = true; era = 0; shape = o.shape; members = o.members; seen = opening_book face o; also = []; held = []; spare = Some 0; renews = false; words = []; began = no_beginning; steps = [] }
+newcomer face o = record { live = true; era = 0; past = []; shape = o.shape; members = o.members; seen = opening_book face o; also = []; told = None; held = []; spare = Some 0; renews = false; words = []; began = no_beginning; steps = [] }

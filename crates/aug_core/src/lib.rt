@@ -15,10 +15,10 @@ pub use lane::{LANE_ENDED, LANE_FREE, LANE_TAKEN};
 pub use layout::{Layout, LayoutError};
 pub use opening::OpeningKey;
 pub use plays::{
-    BeginAtLeaf, BeginRenewal, FinishOwnLane, HandOut, LoadAnyLeaf, LoadAnyNode, LoadAnyRecord,
-    LoadAnyWord, MakeNote, OpenAgain, StoreAnyWord, StoreOwnRecord, TakeBack, TakeNote,
-    TakeOwnLane, TryAnyLeaf, TryAnyNode,
+    BeginAtLeaf, BeginRenewal, FinishOwnLane, HandOut, LoadAfterNote, LoadAnyLeaf, LoadAnyNode,
+    LoadAnyRecord, LoadAnyWord, MakeNote, OpenAgain, StoreAnyWord, StoreOwnRecord, TakeBack,
+    TakeNote, TakeOwnLane, TryAnyLeaf, TryAnyNode,
 };
 pub use rule::{SharedWords, WordsRule};
 pub use step::{StepKind, StepTaken};
-pub use view::{Advance, Beginning, Change, Entry, Held, LaneState, SeatView};
+pub use view::{Advance, Beginning, Change, Entry, Held, LaneState, Learnt, PastEra, SeatView};

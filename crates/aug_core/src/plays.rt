@@ -1,5 +1,6 @@
 //! What each step shows. These types are only for the proofs.
-ghost use Rattle.aug_core.specs.Told.{read_record, stored_record, took_lane, finished_lane, handing_out, handed_out, taking_back, noting, noted, learning, spent, loaded_leaf, began_at_leaf, tried_leaf, loaded_node, tried_node};
+ghost use Rattle.aug_core.specs.Told.{read_record, stored_record, took_lane, finished_lane, handing_out, handed_out, taking_back, noting, noted, spent, loaded_leaf, began_at_leaf, tried_leaf, loaded_node, tried_node};
+ghost use Rattle.aug_core.specs.Learning.{learning, loaded_after_note};
 ghost use Rattle.aug_core.specs.Renewals.{rewrote, reread, began_renewal, reopened};
 ghost use Rattle.aug_core.specs.Faces.{face};
 
@@ -108,6 +109,15 @@ impl<A: Monoid, B: Monoid> Play<(), SeatView> for LoadAnyNode<A, B> {
     ghost then = { loaded_node (face A.parts B.parts) };
 }
 
+/// A load of a node's word by a seat that took in a note.
+pub struct LoadAfterNote<A, B> {
+    sums: PhantomData<(A, B)>,
+}
+
+impl<A: Monoid, B: Monoid> Play<(), SeatView> for LoadAfterNote<A, B> {
+    ghost then = { loaded_after_note (face A.parts B.parts) };
+}
+
 /// A compare-exchange of a node's word, to a record of the seat's own lane.
 pub struct TryAnyNode<A, B> {
     sums: PhantomData<(A, B)>,
@@ -117,7 +127,7 @@ impl<A: Monoid, B: Monoid> Play<(), SeatView> for TryAnyNode<A, B> {
     ghost then = { tried_node (face A.parts B.parts) };
 }
 
-/// A load of any word, by which a lead that holds all lanes begins to renew its table.
+/// A load of a node's word, by which a lead that holds all lanes begins to renew its table.
 pub struct BeginRenewal<A, B> {
     sums: PhantomData<(A, B)>,
 }

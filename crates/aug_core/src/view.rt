@@ -78,20 +78,46 @@ pub struct Beginning {
     pub changes: LinkedList<Change>,
 }
 
+/// An era of a table that is over.
+pub struct PastEra {
+    /// The keys that were there when the table was opened, rising, each with its weight.
+    pub members: LinkedList<(u64, u64)>,
+    /// The book with which it ended.
+    pub book: LinkedList<LinkedList<Entry>>,
+}
+
+/// What a note tells: what its maker knew.
+pub struct Learnt {
+    /// How often the table had been renewed.
+    pub era: u64,
+    /// How the table is laid out.
+    pub shape: Layout,
+    /// The eras before.
+    pub past: LinkedList<PastEra>,
+    /// The keys that were there when the table was opened last, rising, each with its weight.
+    pub members: LinkedList<(u64, u64)>,
+    /// The book as far as it was seen.
+    pub seen: LinkedList<LinkedList<Entry>>,
+}
+
 /// What a seat knows of a table.
 pub struct SeatView {
     /// False once another seat took it in.
     pub live: bool,
     /// How often the table had been renewed when the seat came to it, or renewed it itself.
     pub era: u64,
+    /// The eras before this one, the first one first.
+    pub past: LinkedList<PastEra>,
     /// How the table is laid out.
     pub shape: Layout,
     /// The keys that were there when it was opened last, rising, each with its weight.
     pub members: LinkedList<(u64, u64)>,
     /// The book as far as it was seen: for each leaf and inner node its entries.
     pub seen: LinkedList<LinkedList<Entry>>,
-    /// What the seat that was joined last had seen.
+    /// What the seat that was joined last had seen of this era.
     pub also: LinkedList<LinkedList<Entry>>,
+    /// What the note told that was taken in last.
+    pub told: Option<Learnt>,
     /// The lanes that the seat holds: that of a pass, and those of the passes that were joined into a lead.
     pub held: LinkedList<Held>,
     /// The first lane that was not handed out, if the seat is the one that hands lanes out.

@@ -4,7 +4,7 @@ ghost use Rattle.aug_core.specs.Kinds.{load_node};
 ghost use Rattle.aug_model.specs.Folds.{summary_of};
 ghost use Rattle.aug_trie.specs.Crew.{CrewLearns};
 ghost use Rattle.aug_trie.specs.Node.{Keeps};
-ghost use Rattle.aug_trie.specs.Pass.{GoesOn};
+ghost use Rattle.aug_trie.specs.Pass.{GoesOn, chain_of};
 ghost use Rattle.aug_trie.specs.Passes.{HasLearnt};
 ghost use Rattle.aug_trie.specs.Round.{root_of};
 ghost use Rattle.aug_trie.specs.Snapshot.{snapshot_cut};
@@ -18,7 +18,7 @@ use aug_trie::Note;
 impl<A: Monoid, B: Monoid> Lane<A, B> {
     /// Makes a note of all that the lane knows, its own updates among it. The lane stays as it is.
     pub fn note(self) -> (Lane<A, B>, Note<A, B>)
-        ensures note { result.1 ≡ record { round = self.half.round; history = self.half.knows.history } }
+        ensures note { result.1 ≡ record { round = self.half.round; past = self.half.past; history = self.half.knows.history } }
         ensures same { result.0.half ≡ self.half }
         ensures held { result.0.held ≡ self.held }
         ensures round { result.0.round ≡ self.round }
@@ -31,10 +31,11 @@ impl<A: Monoid, B: Monoid> Lane<A, B> {
         (lane, note)
     }
 
-    /// Learns a note of this round, and takes a new snapshot, as `look` does. It shows every change that the lane knew or that the note says.
+    /// Learns a note of this table, and takes a new snapshot, as `look` does. It shows every change that the lane knew or that a note of this round
+    /// says; a note of an earlier round tells of one from whose set this round's comes.
     pub fn learn(self, note: Note<A, B>) -> Lane<A, B>
-        requires round { note.round ≡ self.half.round }
-        ensures learns { HasLearnt self.half.knows note.history result.half.knows }
+        requires table { note.round.table ≡ self.half.round.table }
+        ensures learns { HasLearnt self.half.round.era (chain_of self.half) self.half.knows note (chain_of result.half) result.half.knows }
         ensures takes { TakesSnapshot self.half.knows result.half.knows (snapshot_cut result.half result.held.number) }
         ensures goes_on { GoesOn 0 1 self.half result.half }
         ensures step { result.half.steps ≡ self.half.steps ++ load_node (root_of self.half.round) result.held.number ∷ [] }
@@ -52,7 +53,7 @@ impl<A: Monoid, B: Monoid> Lane<A, B> {
 impl<A: Monoid, B: Monoid> Running<A, B> {
     /// Makes a note of all that the round knows, the updates of the lanes that came back among it.
     pub fn note(self) -> (Running<A, B>, Note<A, B>)
-        ensures note { result.1 ≡ record { round = self.crew.round; history = self.crew.knows.history } }
+        ensures note { result.1 ≡ record { round = self.crew.round; past = self.crew.past; history = self.crew.knows.history } }
         ensures same { (result.0.crew ≡ self.crew) × (result.0.round ≡ self.round) }
     {
         let Running {
@@ -71,10 +72,10 @@ impl<A: Monoid, B: Monoid> Running<A, B> {
         (running, note)
     }
 
-    /// Learns a note of a lane of this round. Each lane that is opened after that knows what the note says, and so does the trie at the end, also if
+    /// Learns a note of a lane of this table. Each lane that is opened after that knows what the note says, and so does the trie at the end, also if
     /// the lane does not come back.
     pub fn learn(self, note: Note<A, B>) -> Running<A, B>
-        requires of_crew { note.round ≡ self.crew.round }
+        requires table { note.round.table ≡ self.crew.round.table }
         ensures learns { CrewLearns self.crew result.crew note }
         ensures round { result.round ≡ self.round }
     {

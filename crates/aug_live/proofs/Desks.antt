@@ -1,17 +1,19 @@
 -- The desk as a round ends, as the next begins, and as the first does.
-use Rattle.std.proofs.Common.{◌≡◌, ℕ, ◌+◌, ◌^◌, ◌≤◌, List, length, All, sym, ap, ◌∙◌, subst, arith}
+use Rattle.std.proofs.Common.{◌≡◌, ℕ, ◌+◌, ◌^◌, ◌≤◌, List, [], get_or, length, All, sym, ap, ◌∙◌, subst, arith}
 use Rattle.aug_model.specs.Keys.{SetFacts}
 use Rattle.aug_core.specs.Layout.{IsLayout}
 use Rattle.aug_core.specs.Places.{shape_of}
+use Rattle.aug_trie.specs.Chains.{Chapter}
 use Rattle.aug_trie.specs.Round.{RoundFacts}
 use Rattle.aug_trie.specs.Crew.{CrewFacts, BeginsIn, RollsOver}
 use Rattle.aug_live.specs.declared.counts.LiveCounts.{LiveCounts}
 use Rattle.aug_live.specs.LiveHandles.{HandleFacts, IsNew}
-use Rattle.aug_live.specs.inside.LaneKnowledge.{KnownFacts}
-use Rattle.aug_live.specs.inside.Rolls.{IsOf, IsBackIn, HasCarried, IsFirst}
+use Rattle.aug_live.specs.Carrying.{Leads}
+use Rattle.aug_live.specs.inside.LaneKnowledge.{KnownFacts, rounds_at}
+use Rattle.aug_live.specs.inside.Rolls.{IsOf, IsFirst, rounds_in}
 use Rattle.aug_live.specs.inside.Desks.{IsWorking}
 use Rattle.std.specs.List.{insert, remove}
-use Rattle.aug_live.proofs.Moving.{put_in, all_ready}
+use Rattle.aug_live.proofs.Moving.{put_in, next_led}
 
 -- a round over a set that has room for all keys
 room_for : (set : SetFacts) (round : RoundFacts) {workers updates : ℕ} → round ≡ record { table = round.table; era = 0; bits = set.bits; members = set.pairs; workers = workers; updates = updates; room = 2 ^ set.bits } → 2 ^ round.bits ≤ round.room
@@ -19,16 +21,17 @@ room_for set round is = subst (λ (z : RoundFacts). 2 ^ z.bits ≤ z.room) (sym 
 
 -- the desk as the first round begins
 pub opened_at : (lanes updates : ℕ) (counts : LiveCounts) (set : SetFacts) (round : RoundFacts) (first crew : CrewFacts) (ports : List KnownFacts) (count : ℕ)
-    → IsLayout (shape_of set.bits lanes updates (2 ^ set.bits)) → BeginsIn (2 ^ set.bits) set.pairs set.bits lanes updates round first → All (IsOf round 1) ports → count ≤ lanes
-    → crew.round ≡ round → crew.handed ≡ count → crew.back ≡ first.back
+    → IsLayout (shape_of set.bits lanes updates (2 ^ set.bits)) → BeginsIn (2 ^ set.bits) set.pairs set.bits lanes updates round first → All (IsOf (rounds_in crew) 1) ports → count ≤ lanes
+    → rounds_in crew ≡ rounds_in first → first.round ≡ round → crew.handed ≡ count → crew.back ≡ first.back
     → counts.rounds ≡ 1 → counts.opened ≡ length set.pairs → counts.inserts ≡ 0 → counts.removals ≡ 0 → IsWorking lanes updates counts round crew ports count
-opened_at lanes updates counts set round first crew ports count laid b of_round len together handed back rounds opened inserts removals =
+opened_at lanes updates counts set round first crew ports count laid b of_round len same together handed back rounds opened inserts removals =
     let long : length round.members ≡ length set.pairs = ap (λ (z : RoundFacts). length z.members) b.round_is in let none : first.back ≡ 0 = ap (λ (z : CrewFacts). z.back) b.crew_is in record {
-      together = together;
+      together = ap (λ (z : RoundFacts × List Chapter). z.0) same ∙ together;
+      led = subst (λ (z : List Chapter). Leads round.bits z round.members) (sym (ap (λ (z : RoundFacts × List Chapter). z.1) same ∙ ap (λ (z : CrewFacts). z.past) b.crew_is)) tt;
       workers = ap (λ (z : RoundFacts). z.workers) b.round_is;
       all_out = omega arith;
       within = omega arith;
-      of_round = subst (λ (z : ℕ). All (IsOf round z) ports) (sym rounds) of_round;
+      of_round = subst (λ (z : ℕ). All (IsOf (rounds_in crew) z) ports) (sym rounds) of_round;
       counted = record { some = omega arith; sizes = omega arith };
       few_inserts = omega arith;
       few_removals = omega arith;
@@ -36,26 +39,22 @@ opened_at lanes updates counts set round first crew ports count laid b of_round 
       room = room_for set round b.round_is;
     }
 
--- what went back to the crew of a round is carried into the set of the next one, which goes on in its memory
-pub carried_on : (era : ℕ) (round round' : RoundFacts) (crew first : CrewFacts) (list : List (ℕ × ℕ)) (inserts removals : ℕ) (back : List KnownFacts)
-    → RollsOver crew round round' first list inserts removals → crew.round ≡ round → All (IsBackIn round era crew.knows.history) back → All (HasCarried round'.bits era round'.members) back
-carried_on era round round' crew first list inserts removals back r same all = subst (λ (z : ℕ × List (ℕ × ℕ)). All (HasCarried z.0 era z.1) back)
-    (λ i. ((r.ends.bits ∙ ap (λ (z : RoundFacts). z.bits) same ∙ ap (λ (z : RoundFacts). z.bits) (sym r.round_is)) i, ap (λ (z : RoundFacts). z.members) (sym r.round_is) i)) (all_ready era round crew r.ended back r.ends same all)
-
 -- the desk goes on with it
 pub rolled_on : (lanes updates : ℕ) (counts new : LiveCounts) (round round' : RoundFacts) (crew end first crew' : CrewFacts) (ports ports' : List KnownFacts) (count count' : ℕ) (list : List (ℕ × ℕ)) (inserts removals : ℕ)
-    → IsWorking lanes updates counts round crew ports count → RollsOver end round round' first list inserts removals → All (IsOf round' (counts.rounds + 1)) ports' → count' ≡ count
-    → crew'.round ≡ round' → crew'.handed ≡ count → crew'.back ≡ first.back
+    → IsWorking lanes updates counts round crew ports count → RollsOver end round round' first list inserts removals → rounds_in end ≡ rounds_in crew → All (IsOf (rounds_in first) (counts.rounds + 1)) ports' → count' ≡ count
+    → rounds_in crew' ≡ rounds_in first → crew'.handed ≡ count → crew'.back ≡ first.back
     → new.rounds ≡ counts.rounds + 1 → new.opened ≡ counts.opened → new.inserts ≡ counts.inserts + inserts → new.removals ≡ counts.removals + removals
     → new.inserts + 2 ^ 32 ≤ 2 ^ 64 → new.removals + 2 ^ 32 ≤ 2 ^ 64 → IsWorking lanes updates new round' crew' ports' count'
-rolled_on lanes updates counts new round round' crew end first crew' ports ports' count count' list inserts removals w r of_round len together handed back rounds opened ins rem few_inserts few_removals =
+rolled_on lanes updates counts new round round' crew end first crew' ports ports' count count' list inserts removals w r same of_round len together handed back rounds opened ins rem few_inserts few_removals =
     let long : length round'.members ≡ length r.ended.members = ap (λ (z : RoundFacts). length z.members) r.round_is in let bits : round'.bits ≡ round.bits = ap (λ (z : RoundFacts). z.bits) r.round_is in
     let out = w.all_out in let within = w.within in let sum = w.counted.sizes in let more = r.sizes in let put = r.inserts_are in let took = r.removals_are in let none : first.back ≡ 0 = ap (λ (z : CrewFacts). z.back) r.crew_is in record {
-      together = together;
+      together = ap (λ (z : RoundFacts × List Chapter). z.0) together ∙ ap (λ (z : CrewFacts). z.round) r.crew_is;
+      led = subst (λ (z : List Chapter). Leads round'.bits z round'.members) (sym (ap (λ (z : RoundFacts × List Chapter). z.1) together))
+          (next_led counts.rounds round round' end first list inserts removals r (ap (λ (z : RoundFacts × List Chapter). z.0) same ∙ w.together) (subst (λ (z : List Chapter). Leads round.bits z round.members) (sym (ap (λ (z : RoundFacts × List Chapter). z.1) same)) w.led));
       workers = ap (λ (z : RoundFacts). z.workers) r.round_is ∙ w.workers;
       all_out = omega arith;
       within = omega arith;
-      of_round = subst (λ (z : ℕ). All (IsOf round' z) ports') (sym rounds) of_round;
+      of_round = subst (λ (z : (RoundFacts × List Chapter) × ℕ). All (IsOf z.0 z.1) ports') (λ i. (sym together i, sym rounds i)) of_round;
       counted = record { some = omega arith; sizes = omega arith };
       few_inserts = few_inserts;
       few_removals = few_removals;
@@ -65,14 +64,15 @@ rolled_on lanes updates counts new round round' crew end first crew' ports ports
 
 -- other ends of the same lanes, as the crew took so many passes back and handed as many out
 pub kept_on : (lanes updates : ℕ) (counts : LiveCounts) (round : RoundFacts) (crew crew' : CrewFacts) (ports new : List KnownFacts) (count count' more : ℕ)
-    → IsWorking lanes updates counts round crew ports count → All (IsOf round counts.rounds) new → count' ≡ count
-    → crew'.round ≡ crew.round → crew'.handed ≡ crew.handed + more → crew'.back ≡ crew.back + more → crew'.handed ≤ lanes → IsWorking lanes updates counts round crew' new count'
+    → IsWorking lanes updates counts round crew ports count → All (IsOf (rounds_in crew) counts.rounds) new → count' ≡ count
+    → rounds_in crew' ≡ rounds_in crew → crew'.handed ≡ crew.handed + more → crew'.back ≡ crew.back + more → crew'.handed ≤ lanes → IsWorking lanes updates counts round crew' new count'
 kept_on lanes updates counts round crew crew' ports new count count' more w all same round_is handed back within = let out = w.all_out in record {
-  together = round_is ∙ w.together;
+  together = ap (λ (z : RoundFacts × List Chapter). z.0) round_is ∙ w.together;
+  led = subst (λ (z : List Chapter). Leads round.bits z round.members) (sym (ap (λ (z : RoundFacts × List Chapter). z.1) round_is)) w.led;
   workers = w.workers;
   all_out = omega arith;
   within = within;
-  of_round = all;
+  of_round = subst (λ (z : RoundFacts × List Chapter). All (IsOf z counts.rounds) new) (sym round_is) all;
   counted = w.counted;
   few_inserts = w.few_inserts;
   few_removals = w.few_removals;
@@ -81,17 +81,21 @@ kept_on lanes updates counts round crew crew' ports new count count' more w all 
 }
 
 -- an end of one of the lanes is taken out, and another is put in its place
-pub all_of_round : (round : RoundFacts) (era : ℕ) (ports rest new : List KnownFacts) (at : ℕ) (port : KnownFacts)
-    → All (IsOf round era) ports → rest ≡ remove ports at → new ≡ insert rest at port → IsOf round era port → All (IsOf round era) new
-all_of_round round era ports rest new at port all out back this = subst (All (IsOf round era)) (sym (back ∙ ap (λ xs. insert xs at port) out)) (put_in (IsOf round era) ports at port all this)
+pub all_of_round : (rounds : RoundFacts × List Chapter) (era : ℕ) (ports rest new : List KnownFacts) (at : ℕ) (port : KnownFacts)
+    → All (IsOf rounds era) ports → rest ≡ remove ports at → new ≡ insert rest at port → IsOf rounds era port → All (IsOf rounds era) new
+all_of_round rounds era ports rest new at port all out back this = subst (All (IsOf rounds era)) (sym (back ∙ ap (λ xs. insert xs at port) out)) (put_in (IsOf rounds era) ports at port all this)
 
 -- each handle of the first round is new
-pub all_new : (set : SetFacts) (lanes updates : ℕ) (round : RoundFacts) (first : CrewFacts) (ends : List HandleFacts) → BeginsIn (2 ^ set.bits) set.pairs set.bits lanes updates round first → All (IsFirst round) ends → All (IsNew set updates) ends
-all_new set lanes updates round first ends b all k d low = let f = all k d low in record {
-  era = f.era_is;
-  bits = ap (λ (z : RoundFacts). z.bits) f.fresh.round_is ∙ ap (λ (z : RoundFacts). z.bits) b.round_is;
-  members = ap (λ (z : RoundFacts). z.members) f.fresh.round_is ∙ ap (λ (z : RoundFacts). z.members) b.round_is;
-  updates_are = ap (λ (z : RoundFacts). z.updates) f.fresh.round_is ∙ ap (λ (z : RoundFacts). z.updates) b.round_is;
-  none_spent = f.fresh.none_spent;
-  none_accepted = f.fresh.none_accepted;
-}
+pub all_new : (set : SetFacts) (lanes updates : ℕ) (round : RoundFacts) (first : CrewFacts) (ends : List HandleFacts) → BeginsIn (2 ^ set.bits) set.pairs set.bits lanes updates round first → All (IsFirst (rounds_in first)) ends → All (IsNew round.table set updates) ends
+all_new set lanes updates round first ends b all k d low = let f = all k d low in
+    let is : rounds_at (get_or ends k d).half ≡ (round, []) = f.fresh.round_is ∙ ap rounds_in b.crew_is in
+    let of_round = ap (λ (z : RoundFacts × List Chapter). z.0) is ∙ b.round_is in record {
+      of_trie = ap (λ (z : RoundFacts). z.table) of_round;
+      era = f.era_is;
+      none_before = ap (λ (z : RoundFacts × List Chapter). z.1) is;
+      bits = ap (λ (z : RoundFacts). z.bits) of_round;
+      members = ap (λ (z : RoundFacts). z.members) of_round;
+      updates_are = ap (λ (z : RoundFacts). z.updates) of_round;
+      none_spent = f.fresh.none_spent;
+      none_accepted = f.fresh.none_accepted;
+    }

@@ -7,14 +7,17 @@ use Rattle.std.specs.List.{insert, remove}
 use Rattle.std.proofs.lemmas.List.Elements.{All-append, All-take, All-drop}
 use Rattle.aug_core.specs.Cuts.{Cut}
 use Rattle.aug_core.specs.Prefixes.{IsPrefix}
+use Rattle.aug_trie.specs.Chains.{Chapter, BeginsWith}
 use Rattle.aug_trie.specs.History.{IsHistory}
+use Rattle.aug_trie.specs.Pass.{PassFacts, chain_of}
 use Rattle.aug_trie.specs.Round.{RoundFacts}
-use Rattle.aug_trie.specs.Ended.{EndedFacts}
-use Rattle.aug_trie.specs.Crew.{CrewFacts, Ends}
+use Rattle.aug_trie.specs.Crew.{CrewFacts, RollsOver, crew_chain}
+use Rattle.aug_trie.proofs.Chaining.{begins_alike}
+use Rattle.aug_live.specs.Carrying.{Leads}
 use Rattle.aug_core.proofs.PrefixLemmas.{prefix_trans}
 use Rattle.aug_live.specs.inside.LaneKnowledge.{KnownFacts}
-use Rattle.aug_live.specs.inside.Rolls.{IsBackIn, HasCarried}
-use Rattle.aug_live.proofs.Carries.{carried_to}
+use Rattle.aug_live.specs.inside.Rolls.{IsBackIn, HasEnded, rounds_in}
+use Rattle.aug_live.proofs.Carries.{leads_on}
 
 module _ {A : Type 0} (P : A → Type 0) where
   pub head_of : (m : ℕ) (x : A) (xs ys : List A) → xs ≡ x ∷ ys → 0 < m → ((k : ℕ) (d : A) → k < m → P (get_or xs k d)) → P x
@@ -44,22 +47,46 @@ module _ {A : Type 0} (P : A → Type 0) where
       All-append P (take i (remove xs i)) (x ∷ drop i (remove xs i)) (All-take P i (remove xs i) rest) (All-append P (x ∷ []) (drop i (remove xs i)) (one x this) (All-drop P i (remove xs i) rest))
 
 -- what is in a history is in each later one
-back_on : (round : RoundFacts) (era : ℕ) (h h' : List Cut) (v : KnownFacts) → IsPrefix h h' → IsBackIn round era h v → IsBackIn round era h' v
-back_on round era h h' v on b = record { whose = b.whose; works = b.works; era_is = b.era_is; round_is = b.round_is; known = prefix_trans v.at.half.knows.history h h' b.known on }
+back_on : (rounds : RoundFacts × List Chapter) (era : ℕ) (h h' : List Cut) (v : KnownFacts) → IsPrefix h h' → IsBackIn rounds era h v → IsBackIn rounds era h' v
+back_on rounds era h h' v on b = record { whose = b.whose; works = b.works; era_is = b.era_is; round_is = b.round_is; known = prefix_trans v.at.half.knows.history h h' b.known on }
 
-pub all_back_on : (round : RoundFacts) (era : ℕ) (h h' : List Cut) (xs : List KnownFacts) → IsPrefix h h' → All (IsBackIn round era h) xs → All (IsBackIn round era h') xs
-all_back_on round era h h' xs on all k d low = back_on round era h h' (get_or xs k d) on (all k d low)
+pub all_back_on : (rounds : RoundFacts × List Chapter) (era : ℕ) (h h' : List Cut) (xs : List KnownFacts) → IsPrefix h h' → All (IsBackIn rounds era h) xs → All (IsBackIn rounds era h') xs
+all_back_on rounds era h h' xs on all k d low = back_on rounds era h h' (get_or xs k d) on (all k d low)
 
-pub same_era : (round : RoundFacts) (era era' : ℕ) (h : List Cut) (v : KnownFacts) → era ≡ era' → IsBackIn round era h v → IsBackIn round era' h v
-same_era round era era' h v e = subst (λ (z : ℕ). IsBackIn round z h v) e
+pub same_era : (rounds : RoundFacts × List Chapter) (era era' : ℕ) (h : List Cut) (v : KnownFacts) → era ≡ era' → IsBackIn rounds era h v → IsBackIn rounds era' h v
+same_era rounds era era' h v e = subst (λ (z : ℕ). IsBackIn rounds z h v) e
 
--- what went back to a crew is carried into the set that its round ends with
-pub all_ready : (era : ℕ) (round : RoundFacts) (crew : CrewFacts) (ended : EndedFacts) (xs : List KnownFacts) → Ends crew ended → crew.round ≡ round
-    → All (IsBackIn round era crew.knows.history) xs → All (HasCarried ended.bits era ended.members) xs
-all_ready era round crew ended xs ends same all k d low = let v = get_or xs k d in let b = all k d low in record {
-  whose = b.whose;
-  works = b.works;
-  era_is = b.era_is;
-  bits_are = ap (λ (r : RoundFacts). r.bits) (b.round_is ∙ sym same) ∙ sym ends.bits;
-  carried = carried_to v.at.half crew.knows.history ended.members b.known (subst (λ (r : RoundFacts). IsHistory r.bits r.members crew.knows.history) (same ∙ sym b.round_is) ends.is_history) ends.members;
-}
+-- what went back to a crew is a part of the rounds before the next one, which its crew begins in the memory of this one
+module _ (era : ℕ) (round next : RoundFacts) (crew first : CrewFacts) (list : List (ℕ × ℕ)) (inserts removals : ℕ) (r : RollsOver crew round next first list inserts removals) (same : crew.round ≡ round) where
+  abbrev pub over : Chapter
+  over = (crew_chain r.last).now
+
+  -- those are the ones that were, and the one that ended
+  pub next_past : first.past ≡ crew.past ++ over ∷ []
+  next_past = ap (λ (z : CrewFacts). z.past) r.crew_is ∙ ap (λ (z : CrewFacts). z.past ++ over ∷ []) r.last_is
+
+  ended : (v : KnownFacts) → IsBackIn (rounds_in crew) era crew.knows.history v → HasEnded next first.past era v
+  ended v b = let p : PassFacts = v.at.half in
+      let was : p.round ≡ round = ap (λ (z : RoundFacts × List Chapter). z.0) b.round_is ∙ same in
+      let before : p.past ≡ crew.past = ap (λ (z : RoundFacts × List Chapter). z.1) b.round_is in
+      let members : over.members ≡ p.round.members = ap (λ (z : CrewFacts). z.round.members) r.last_is ∙ ap (λ (z : RoundFacts × List Chapter). z.0.members) (sym b.round_is) in record {
+        whose = b.whose;
+        works = b.works;
+        era_is = b.era_is;
+        table_is = ap (λ (z : RoundFacts). z.table) was ∙ ap (λ (z : RoundFacts). z.table) (sym r.round_is);
+        bits_are = ap (λ (z : RoundFacts). z.bits) was ∙ ap (λ (z : RoundFacts). z.bits) (sym r.round_is);
+        part = subst (BeginsWith p.past (chain_of p).now) (ap (λ (z : List Chapter). z ++ over ∷ []) before ∙ sym next_past)
+            (begins_alike p.past (chain_of p).now over [] record { members = members; goes_on = prefix_trans p.knows.history crew.knows.history r.last.knows.history b.known r.goes_on });
+      }
+
+  pub all_ended : (xs : List KnownFacts) → All (IsBackIn (rounds_in crew) era crew.knows.history) xs → All (HasEnded next first.past era) xs
+  all_ended xs all k d low = ended (get_or xs k d) (all k d low)
+
+  -- and they lead to the set with which it begins
+  pub next_led : Leads round.bits crew.past round.members → Leads next.bits first.past next.members
+  next_led led =
+      let members : over.members ≡ round.members = ap (λ (z : CrewFacts). z.round.members) r.last_is ∙ ap (λ (z : RoundFacts). z.members) same in
+      let bits : r.last.round.bits ≡ round.bits = ap (λ (z : CrewFacts). z.round.bits) r.last_is ∙ ap (λ (z : RoundFacts). z.bits) same in
+      let is : IsHistory round.bits over.members over.history = subst (λ (z : ℕ). IsHistory z over.members over.history) bits r.ends.is_history in
+      let on : Leads round.bits (crew.past ++ over ∷ []) r.ended.members = leads_on round.bits crew.past over r.ended.members (subst (Leads round.bits crew.past) (sym members) led) is r.ends.members in
+      subst (λ (z : ℕ × List Chapter × List (ℕ × ℕ)). Leads z.0 z.1 z.2) (λ i. (ap (λ (z : RoundFacts). z.bits) (sym r.round_is) i, sym next_past i, ap (λ (z : RoundFacts). z.members) (sym r.round_is) i)) on

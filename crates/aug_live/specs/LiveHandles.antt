@@ -2,30 +2,40 @@
 use Rattle.std.specs.Prelude.{◌≡◌, ◌⊎◌, ℕ, ◌<◌, ◌≤◌, List, []}
 use Rattle.aug_model.specs.Keys.{SetFacts}
 use Rattle.aug_core.specs.Prefixes.{IsPrefix}
-use Rattle.aug_trie.specs.Pass.{PassFacts, GoesOn}
+use Rattle.atomic_table.specs.Seated.{TableId}
+use Rattle.aug_trie.specs.Chains.{IsPart}
+use Rattle.aug_trie.specs.Note.{NoteFacts}
+use Rattle.aug_trie.specs.Pass.{PassFacts, GoesOn, chain_of}
 use Rattle.aug_trie.specs.Snapshot.{set_at, snapshot_cut}
 use Rattle.aug_trie.specs.Updates.{TakesSnapshot}
 use Rattle.aug_trie.specs.Node.{Reads}
 use Rattle.aug_model.specs.declared.summary.Summary.{Summary}
 use Rattle.aug_trie.specs.declared.queries.snapshot.Snapshot.{Snapshot}
-use Rattle.aug_live.specs.Carrying.{Carried}
+use Rattle.aug_live.specs.Carrying.{Leads}
 
 -- a handle: the round that it last worked in, counted from 1, and the pass of its lane as the handle left it
 pub record HandleFacts : Type 0 where
   pub era : ℕ
   pub half : PassFacts
 
+-- a note of all that a pass knows
+abbrev pub note_at : PassFacts → NoteFacts
+note_at pass = record { round = pass.round; past = pass.past; history = pass.knows.history }
+
 -- from a pass to a later one of its round, on a spare lane: it knows all that the first one knew
 pub record IsSuccessor (old new : PassFacts) : Type 0 where
   pub round : new.round ≡ old.round
+  pub past : new.past ≡ old.past
   pub goes_on : IsPrefix old.knows.history new.knows.history
 
--- from what a handle knew to the later state of its lane: in the same round with the same pass or a later one, or in a later round, into whose set
--- all that the handle knew is carried
+-- from what a handle knew to the later state of its lane: in the same round with the same pass or a later one, or in a later round, to whose set the
+-- rounds before led. All that the handle knew of the rounds is known still
 pub record Follows (old new : HandleFacts) : Type 0 where
   pub not_later : old.era ≤ new.era
   pub same : old.era ≡ new.era → (new.half ≡ old.half) ⊎ IsSuccessor old.half new.half
-  pub carried : old.era < new.era → Carried old.half new.half.round.members
+  pub goes_on : IsPart (chain_of old.half) (chain_of new.half)
+  pub led : old.era < new.era → Leads new.half.round.bits new.half.past new.half.round.members
+  pub table : new.half.round.table ≡ old.half.round.table
   pub bits : new.half.round.bits ≡ old.half.round.bits
 
 -- a handle makes `updates` updates: rounds may roll over first, and then its pass does what `does` says
@@ -37,9 +47,11 @@ pub record Makes (updates : ℕ) (does : PassFacts → PassFacts → Type 0) (ol
   pub steps : ℕ
   pub goes_on : GoesOn updates steps start.half new.half
 
--- a handle of the first round over this set, which knows no update
-pub record IsNew (set : SetFacts) (updates : ℕ) (handle : HandleFacts) : Type 0 where
+-- a handle of a trie, by its table, in the first round over this set; it knows no update
+pub record IsNew (table : TableId) (set : SetFacts) (updates : ℕ) (handle : HandleFacts) : Type 0 where
+  pub of_trie : handle.half.round.table ≡ table
   pub era : handle.era ≡ 1
+  pub none_before : handle.half.past ≡ []
   pub bits : handle.half.round.bits ≡ set.bits
   pub members : handle.half.round.members ≡ set.pairs
   pub updates_are : handle.half.round.updates ≡ updates

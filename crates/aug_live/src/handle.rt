@@ -5,7 +5,10 @@ ghost use Rattle.aug_trie.specs.Knowledge.{insertion, removal};
 ghost use Rattle.aug_trie.specs.declared.updates.request.Request.TheVariants as asked;
 ghost use Rattle.aug_trie.specs.Updates.{AcceptedUpdate, RefusedUpdate, ComesTo, TakesSnapshot};
 ghost use Rattle.aug_trie.specs.Snapshot.{snapshot_cut};
-ghost use Rattle.aug_live.specs.LiveHandles.{Follows, Makes, handle_of};
+ghost use Rattle.aug_trie.specs.Chains.{IsPart};
+ghost use Rattle.aug_trie.specs.Note.{chain_of_note};
+ghost use Rattle.aug_trie.specs.Pass.{chain_of};
+ghost use Rattle.aug_live.specs.LiveHandles.{Follows, Makes, handle_of, note_at};
 
 use crate::desk::Working;
 use crate::end::End;
@@ -14,7 +17,7 @@ use crate::lane::{Lane, Missed};
 use crate::look::Look;
 use aug_model::Outcome;
 use aug_monoid::Monoid;
-use aug_trie::Request;
+use aug_trie::{Note, Request};
 use std::alloc::Global;
 use std::marker::Model;
 use std::sync::{Arc, Mutex, Wait};
@@ -110,6 +113,52 @@ impl<A: Monoid, B: Monoid> Handle<A, B> {
         unreachable!()
     }
 
+    /// Makes a note of all that the handle knows, its own updates among it, for another handle of this trie to learn. It goes with a message to
+    /// another thread, and tells in each later round too.
+    pub fn note<R: Wait>(&mut self, rt: &R) -> Result<Note<A, B>, LiveError>
+        ensures note { IfOk result (λ note. note ≡ note_at self.new.half) }
+        ensures follows { Follows self.old self.new }
+    {
+        for _ in rt.forever() {
+            let missed = match self.try_note(rt) {
+                Ok(note) => return Ok(note),
+                Err(missed) => missed,
+            };
+            if let Err(cause) = self.past(rt, missed) {
+                return Err(cause);
+            }
+        }
+        unreachable!()
+    }
+
+    /// Learns a note of this trie: what the note says shows in each look of this handle from then on, whatever rounds came between. After a refusal
+    /// the note comes back.
+    pub fn learn<R: Wait>(
+        &mut self,
+        rt: &R,
+        note: Note<A, B>,
+    ) -> Result<(), (Note<A, B>, LiveError)>
+        requires trie { note.round.table ≡ self.old.half.round.table }
+        ensures learns { IfOk result (λ _. IsPart (chain_of_note note) (chain_of self.new.half)) }
+        ensures follows { Follows self.old self.new }
+        ensures kept { IfErr result (λ e. e.0 ≡ note) }
+    {
+        let mut note = note;
+        for _ in rt.forever() {
+            let missed = match self.try_learn(rt, note) {
+                Ok(()) => return Ok(()),
+                Err((same, missed)) => {
+                    note = same;
+                    missed
+                }
+            };
+            if let Err(cause) = self.past(rt, missed) {
+                return Err((note, cause));
+            }
+        }
+        unreachable!()
+    }
+
     /// How many keys there are: `2^bits`. The keys are the numbers below it.
     pub fn universe(&self) -> u32
         ensures { result ≡ 2 ^ self.now.half.round.bits }
@@ -185,6 +234,36 @@ impl<A: Monoid, B: Monoid> Handle<A, B> {
             lane: number,
             desk,
         })
+    }
+
+    // Makes a note, unless the next round has to begin first, or a newer handle has the lane.
+    fn try_note<R: Wait>(&mut self, rt: &R) -> Result<Note<A, B>, Missed>
+        ensures note { IfOk result (λ note. note ≡ note_at self.new.half) }
+        ensures follows { Follows self.old self.new }
+    {
+        let Some(end) = self.end.take() else {
+            unreachable!()
+        };
+        let (out, lane) = end.take_to_work(rt);
+        let (lane, noted) = lane.note();
+        self.end = Some(out.put(lane));
+        noted
+    }
+
+    // Learns a note, unless the next round has to begin first, or a newer handle has the lane.
+    fn try_learn<R: Wait>(&mut self, rt: &R, note: Note<A, B>) -> Result<(), (Note<A, B>, Missed)>
+        requires trie { note.round.table ≡ self.old.half.round.table }
+        ensures learns { IfOk result (λ _. IsPart (chain_of_note note) (chain_of self.new.half)) }
+        ensures follows { Follows self.old self.new }
+        ensures kept { IfErr result (λ e. e.0 ≡ note) }
+    {
+        let Some(end) = self.end.take() else {
+            unreachable!()
+        };
+        let (out, lane) = end.take_to_work(rt);
+        let (lane, learnt) = lane.learn(note);
+        self.end = Some(out.put(lane));
+        learnt
     }
 
     // Goes past what was missed: to the next round, or to a spare lane of this one.

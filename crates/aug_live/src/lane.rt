@@ -1,14 +1,17 @@
 //! What lies in a lane.
 ghost use Rattle.std.specs.Prelude.{◌≡◌, ℕ, ◌^◌, ◌<◌, IfOk, IfErr, true, false};
 ghost use Rattle.aug_trie.specs.Updates.{ComesTo};
-ghost use Rattle.aug_live.specs.LiveHandles.{Makes};
+ghost use Rattle.aug_trie.specs.Chains.{IsPart};
+ghost use Rattle.aug_trie.specs.Note.{chain_of_note};
+ghost use Rattle.aug_trie.specs.Pass.{chain_of};
+ghost use Rattle.aug_live.specs.LiveHandles.{Follows, Makes, note_at};
 ghost use Rattle.aug_live.specs.inside.LaneKnowledge.{Worked};
 
 use crate::seen::Seen;
 use crate::work::Work;
 use aug_model::Outcome;
 use aug_monoid::Monoid;
-use aug_trie::Request;
+use aug_trie::{Note, Request};
 use std::marker::Model;
 
 /// What lies in a lane: the number of its round, counted from 1, what its last pass knew, and that pass, unless the trie is at
@@ -140,5 +143,36 @@ impl<A: Monoid, B: Monoid> Lane<A, B> {
             return (lane, Err(Missed::Round(era)));
         };
         (Lane::working(era, work), Ok(done))
+    }
+
+    /// Makes a note of what the pass knows, unless no pass lies in the lane.
+    pub(crate) fn note(self) -> (Lane<A, B>, Result<Note<A, B>, Missed>)
+        ensures note { IfOk result.1 (λ note. note ≡ note_at self.at.half) }
+        ensures same { result.0.at ≡ self.at }
+        ensures worked { Worked self result.0 }
+    {
+        if self.work.is_none() {
+            let missed = self.missed();
+            return (self, Err(missed));
+        }
+        let (work, Lane { era, .. }) = self.into_work();
+        let (work, note) = work.note();
+        (Lane::working(era, work), Ok(note))
+    }
+
+    /// Learns a note of the lane's table, unless no pass lies in the lane; then the note comes back.
+    pub(crate) fn learn(self, note: Note<A, B>) -> (Lane<A, B>, Result<(), (Note<A, B>, Missed)>)
+        requires table { note.round.table ≡ self.at.half.round.table }
+        ensures learns { IfOk result.1 (λ _. IsPart (chain_of_note note) (chain_of result.0.at.half)) }
+        ensures follows { Follows self.at result.0.at }
+        ensures kept { IfErr result.1 (λ e. e.0 ≡ note) }
+        ensures worked { Worked self result.0 }
+    {
+        if self.work.is_none() {
+            let missed = self.missed();
+            return (self, Err((note, missed)));
+        }
+        let (work, Lane { era, .. }) = self.into_work();
+        (Lane::working(era, work.learn(note)), Ok(()))
     }
 }

@@ -1,10 +1,11 @@
 //! A shared trie whose rounds roll over.
 ghost use Rattle.std.specs.Prelude.{◌≡◌, ◌⊎◌, ◌↔◌, ℕ, ◌+◌, ◌<◌, ◌≤◌, ◌^◌, [], All, IsErrOf, IfOk, IfErr, length, vec_len, vec_capacity};
 ghost use Rattle.std.specs.Arc.{arc_value};
+ghost use Rattle.atomic_table.specs.Seated.{TableId};
 ghost use Rattle.aug_core.specs.Layout.{IsRefused, IsLayout, IsWithin, IsOutside};
 ghost use Rattle.aug_live.specs.LiveHandles.{IsNew};
 ghost use Rattle.aug_live.specs.Plans.{Fits, least_plan};
-ghost use Rattle.aug_live.specs.inside.Rolls.{IsOf, IsFirst};
+ghost use Rattle.aug_live.specs.inside.Rolls.{IsOf, IsFirst, rounds_in};
 ghost use Rattle.aug_live.specs.declared.known.Whose.TheVariants.{Nobody};
 
 use crate::counts::LiveCounts;
@@ -59,7 +60,7 @@ impl<A: Monoid, B: Monoid> Live<A, B> {
     ) -> Result<(Live<A, B>, Vec<Handle<A, B>>), (Members, BeginError)>
         requires lanes { handles ≤ plan.lanes }
         ensures handles { IfOk result (λ t. vec_len t.1 ≡ handles) }
-        ensures new { IfOk result (λ t. All (IsNew set plan.updates) t.1.items) }
+        ensures new { IfOk result (λ t. (table : TableId) × All (IsNew table set plan.updates) t.1.items) }
         ensures same { IfErr result (λ e. e.0 ≡ set) }
         ensures bad_workers { IsErrOf result (set, BeginError.BadWorkers) ↔ IsRefused LayoutError.BadWorkers set.bits plan.lanes plan.updates (2 ^ set.bits) }
         ensures bad_updates { IsErrOf result (set, BeginError.BadUpdates) ↔ IsRefused LayoutError.BadUpdates set.bits plan.lanes plan.updates (2 ^ set.bits) }
@@ -119,7 +120,7 @@ impl<A: Monoid, B: Monoid> Live<A, B> {
         memory: u64,
     ) -> Result<(Live<A, B>, Vec<Handle<A, B>>), (Members, BeginError)>
         ensures handles { IfOk result (λ t. vec_len t.1 ≡ handles) }
-        ensures new { IfOk result (λ t. (plan : Plan) × Fits set.bits memory plan × All (IsNew set plan.updates) t.1.items) }
+        ensures new { IfOk result (λ t. (plan : Plan) × Fits set.bits memory plan × (table : TableId) × All (IsNew table set plan.updates) t.1.items) }
         ensures same { IfErr result (λ e. e.0 ≡ set) }
         ensures bad_workers { IsErrOf result (set, BeginError.BadWorkers) ↔ IsOutside 1 64 handles }
         ensures too_large { IsErrOf result (set, BeginError.TooLarge) ↔ (IsWithin 1 64 handles × (Fits set.bits memory (least_plan handles) → ⊥)) }
@@ -249,10 +250,10 @@ fn open_lanes<R: Wait, A: Monoid, B: Monoid>(
     requires lanes { vec_len firsts ≤ (arc_value round.now).workers }
     requires ports { (ports.items ≡ []) × (vec_len firsts ≤ vec_capacity ports) }
     requires handles { (handles.items ≡ []) × (vec_len firsts ≤ vec_capacity handles) }
-    ensures of_round { All (IsOf (arc_value round.now) 1) result.0.items }
-    ensures starts { All (IsFirst (arc_value round.now)) result.1.items }
+    ensures of_round { All (IsOf (rounds_in crew.old) 1) result.0.items }
+    ensures starts { All (IsFirst (rounds_in crew.old)) result.1.items }
     ensures len { (vec_len result.0 ≡ vec_len firsts) × (vec_len result.1 ≡ vec_len firsts) }
-    ensures round { crew.new.round ≡ arc_value round.now }
+    ensures round { rounds_in crew.new ≡ rounds_in crew.old }
     ensures handed { crew.new.handed ≡ vec_len firsts }
     ensures back { crew.new.back ≡ crew.old.back }
 {

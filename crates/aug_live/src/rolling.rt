@@ -6,8 +6,9 @@ ghost use Rattle.aug_core.specs.Layout.{IsLayout};
 ghost use Rattle.aug_core.specs.Places.{shape_of};
 ghost use Rattle.aug_trie.specs.Crew.{BeginsIn, RollsOver};
 ghost use Rattle.aug_core.specs.Prefixes.{IsPrefix};
-ghost use Rattle.aug_live.specs.inside.LaneKnowledge.{known_of};
-ghost use Rattle.aug_live.specs.inside.Rolls.{IsOf, IsBackIn, HasCarried, Starts};
+ghost use Rattle.aug_live.specs.Carrying.{Leads};
+ghost use Rattle.aug_live.specs.inside.LaneKnowledge.{known_of, rounds_at};
+ghost use Rattle.aug_live.specs.inside.Rolls.{IsOf, IsBackIn, HasEnded, Starts, rounds_in};
 ghost use Rattle.aug_live.specs.declared.known.Whose.TheVariants.{Nobody, Roller, Handle};
 
 use crate::end::End;
@@ -93,11 +94,11 @@ fn whole<R: Wait, A: Monoid, B: Monoid>(rt: &R, round: Arc<Round<A, B>, Global>)
 impl<A: Monoid, B: Monoid> End<A, B> {
     // Takes the pass out of the lane, and gives it back to its crew.
     fn give_back<R: Wait>(self, rt: &R, crew: &mut Crew<A, B>) -> End<A, B>
-        requires of_round { IsOf crew.old.round self.at.era self }
+        requires of_round { IsOf (rounds_in crew.old) self.at.era self }
         requires some { 0 < self.at.era }
-        ensures back { IsBackIn crew.old.round self.at.era crew.new.knows.history result }
+        ensures back { IsBackIn (rounds_in crew.old) self.at.era crew.new.knows.history result }
         ensures goes_on { IsPrefix crew.old.knows.history crew.new.knows.history }
-        ensures round { crew.new.round ≡ crew.old.round }
+        ensures round { rounds_in crew.new ≡ rounds_in crew.old }
         ensures handed { crew.new.handed ≡ crew.old.handed }
         ensures counted { crew.new.back ≡ crew.old.back + 1 }
     {
@@ -114,12 +115,12 @@ impl<A: Monoid, B: Monoid> End<A, B> {
         round: &Arc<Round<A, B>, Global>,
         crew: &mut Crew<A, B>,
     ) -> End<A, B>
-        requires of_round { IsOf (arc_value round.now) self.at.era self }
+        requires of_round { IsOf (rounds_in crew.old) self.at.era self }
         requires some { 0 < self.at.era }
         requires together { crew.old.round ≡ arc_value round.now }
         requires lane_left { crew.old.handed < (arc_value round.now).workers }
-        ensures of_round { IsOf (arc_value round.now) self.at.era result }
-        ensures round { crew.new.round ≡ crew.old.round }
+        ensures of_round { IsOf (rounds_in crew.old) self.at.era result }
+        ensures round { rounds_in crew.new ≡ rounds_in crew.old }
         ensures handed { crew.new.handed ≡ crew.old.handed + 1 }
         ensures back { crew.new.back ≡ crew.old.back + 1 }
     {
@@ -139,13 +140,14 @@ impl<A: Monoid, B: Monoid> End<A, B> {
         round: &Arc<Round<A, B>, Global>,
         crew: &mut Crew<A, B>,
     ) -> End<A, B>
-        requires ready { HasCarried (arc_value round.now).bits era (arc_value round.now).members self }
+        requires ready { HasEnded (arc_value round.now) crew.old.past era self }
+        requires led { Leads (arc_value round.now).bits crew.old.past (arc_value round.now).members }
         requires some { 0 < era }
         requires small { era + 1 < 2 ^ 64 }
         requires together { crew.old.round ≡ arc_value round.now }
         requires lane_left { crew.old.handed < (arc_value round.now).workers }
-        ensures of_round { IsOf (arc_value round.now) (era + 1) result }
-        ensures round { crew.new.round ≡ crew.old.round }
+        ensures of_round { IsOf (rounds_in crew.old) (era + 1) result }
+        ensures round { rounds_in crew.new ≡ rounds_in crew.old }
         ensures handed { crew.new.handed ≡ crew.old.handed + 1 }
         ensures back { crew.new.back ≡ crew.old.back }
     {
@@ -161,7 +163,7 @@ impl<A: Monoid, B: Monoid> End<A, B> {
         requires works { self.works ≡ true }
         requires some { 0 < self.at.era }
         requires first { first.whose ≡ Nobody }
-        ensures port { IsOf self.at.half.round self.at.era result.0 }
+        ensures port { IsOf (rounds_at self.at.half) self.at.era result.0 }
         ensures handle { (result.1.whose ≡ Handle) × (result.1.at ≡ result.0.at) }
     {
         let (out, lane) = self.take_to_roll(rt);
@@ -182,9 +184,9 @@ impl<A: Monoid, B: Monoid> End<A, B> {
         requires first { self.whose ≡ Nobody }
         requires together { crew.old.round ≡ arc_value round.now }
         requires lane_left { crew.old.handed < (arc_value round.now).workers }
-        ensures of_round { IsOf (arc_value round.now) 1 result.0 }
-        ensures handle { Starts (arc_value round.now) result.1 }
-        ensures round { crew.new.round ≡ crew.old.round }
+        ensures of_round { IsOf (rounds_in crew.old) 1 result.0 }
+        ensures handle { Starts (rounds_in crew.old) result.1 }
+        ensures round { rounds_in crew.new ≡ rounds_in crew.old }
         ensures handed { crew.new.handed ≡ crew.old.handed + 1 }
         ensures back { crew.new.back ≡ crew.old.back }
     {
@@ -202,16 +204,16 @@ pub(crate) fn take_all<R: Wait, A: Monoid, B: Monoid>(
     ports: &mut Vec<End<A, B>>,
     back: &mut Vec<End<A, B>>,
 )
-    requires of_round { All (IsOf crew.old.round era) ports.old.items }
+    requires of_round { All (IsOf (rounds_in crew.old) era) ports.old.items }
     requires some { 0 < era }
     requires empty { back.old.items ≡ [] }
     requires room { vec_len ports.old ≤ vec_capacity back.old }
-    ensures back { All (IsBackIn crew.old.round era crew.new.knows.history) back.new.items }
+    ensures back { All (IsBackIn (rounds_in crew.old) era crew.new.knows.history) back.new.items }
     ensures len { vec_len back.new ≡ vec_len ports.old }
     ensures none_left { ports.new.items ≡ [] }
     ensures room { vec_capacity ports.new ≡ vec_capacity ports.old }
     ensures back_room { vec_capacity back.new ≡ vec_capacity back.old }
-    ensures round { crew.new.round ≡ crew.old.round }
+    ensures round { rounds_in crew.new ≡ rounds_in crew.old }
     ensures handed { crew.new.handed ≡ crew.old.handed }
     ensures counted { crew.new.back ≡ crew.old.back + vec_len ports.old }
 {
@@ -254,7 +256,8 @@ pub(crate) fn deal_all<R: Wait, A: Monoid, B: Monoid>(
     back: &mut Vec<End<A, B>>,
     ports: &mut Vec<End<A, B>>,
 )
-    requires ready { All (HasCarried (arc_value round.now).bits era (arc_value round.now).members) back.old.items }
+    requires ready { All (HasEnded (arc_value round.now) crew.old.past era) back.old.items }
+    requires led { Leads (arc_value round.now).bits crew.old.past (arc_value round.now).members }
     requires some { 0 < era }
     requires small { era + 1 < 2 ^ 64 }
     requires together { crew.old.round ≡ arc_value round.now }
@@ -262,12 +265,12 @@ pub(crate) fn deal_all<R: Wait, A: Monoid, B: Monoid>(
     requires lanes { vec_len back.old ≤ (arc_value round.now).workers }
     requires empty { ports.old.items ≡ [] }
     requires room { vec_len back.old ≤ vec_capacity ports.old }
-    ensures of_round { All (IsOf (arc_value round.now) (era + 1)) ports.new.items }
+    ensures of_round { All (IsOf (rounds_in crew.old) (era + 1)) ports.new.items }
     ensures len { vec_len ports.new ≡ vec_len back.old }
     ensures none_left { back.new.items ≡ [] }
     ensures room { vec_capacity ports.new ≡ vec_capacity ports.old }
     ensures back_room { vec_capacity back.new ≡ vec_capacity back.old }
-    ensures round { crew.new.round ≡ arc_value round.now }
+    ensures round { rounds_in crew.new ≡ rounds_in crew.old }
     ensures handed { crew.new.handed ≡ vec_len back.old }
     ensures back { crew.new.back ≡ crew.old.back }
 {
@@ -285,7 +288,7 @@ pub(crate) fn finish<R: Wait, A: Monoid, B: Monoid>(
     ports: Vec<End<A, B>>,
     back: Vec<End<A, B>>,
 ) -> Ended<A, B>
-    requires of_round { All (IsOf (arc_value round) era) ports.items }
+    requires of_round { All (IsOf (rounds_in crew) era) ports.items }
     requires some { 0 < era }
     requires together { crew.round ≡ arc_value round }
     requires all_out { crew.handed ≡ vec_len ports + crew.back }

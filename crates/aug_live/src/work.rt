@@ -2,7 +2,7 @@
 ghost use Rattle.std.specs.Prelude.{◌≡◌, ◌+◌, ◌<◌};
 ghost use Rattle.std.specs.Arc.{arc_value};
 ghost use Rattle.aug_core.specs.Prefixes.{IsPrefix};
-ghost use Rattle.aug_live.specs.inside.Rolls.{IsNewPass};
+ghost use Rattle.aug_live.specs.inside.Rolls.{IsNewPass, rounds_in};
 
 use crate::rolling::share;
 use aug_monoid::Monoid;
@@ -21,9 +21,9 @@ pub(crate) fn start<R: Wait, A: Monoid, B: Monoid>(
 ) -> Work<A, B>
     requires together { crew.old.round ≡ arc_value round.now }
     requires lane_left { crew.old.handed < (arc_value round.now).workers }
-    ensures fresh { IsNewPass (arc_value round.now) result.half }
+    ensures fresh { IsNewPass (rounds_in crew.old) result.half }
     ensures knows { IsPrefix crew.old.knows.history result.half.knows.history }
-    ensures round { crew.new.round ≡ crew.old.round }
+    ensures round { rounds_in crew.new ≡ rounds_in crew.old }
     ensures handed { crew.new.handed ≡ crew.old.handed + 1 }
     ensures back { crew.new.back ≡ crew.old.back }
 {

@@ -21,4 +21,6 @@ mod sparing;
 #[cfg(test)]
 mod steps;
 #[cfg(test)]
+mod telling;
+#[cfg(test)]
 mod thousand;

@@ -18,6 +18,7 @@ use Rattle.aug_core.specs.inside.RootCuts.{root_cut}
 use Rattle.aug_core.specs.Opening.{Opening, opening_book}
 use Rattle.aug_core.specs.Told.{HoldsOnly, KnowsTable, LoadsNode, finishing, taking_back, handed_out, handing_out, taking, own_lane_place}
 use Rattle.aug_core.specs.declared.view.Entry.{Entry}
+use Rattle.aug_core.specs.declared.view.PastEra.{PastEra}
 use Rattle.aug_core.specs.declared.view.SeatView.{SeatView}
 use Rattle.aug_core.proofs.Openings.{inner_history, opener, opener_knows}
 use Rattle.aug_core.proofs.OpeningCuts.{root_inner, opening_first}
@@ -31,7 +32,7 @@ use Rattle.aug_trie.specs.Pass.{PassFacts}
 use Rattle.aug_trie.specs.inside.PassState.{IsPass, pass_facts}
 use Rattle.aug_trie.specs.inside.CrewState.{IsCrew, crew_facts, HoldsCrew}
 use Rattle.aug_trie.specs.Round.{RoundFacts}
-use Rattle.aug_trie.specs.inside.RoundState.{round_of, store_round}
+use Rattle.aug_trie.specs.inside.RoundState.{round_of, store_round, eras_of, past_rounds}
 use Rattle.aug_trie.specs.Passes.{HandedBack}
 use Rattle.aug_trie.specs.Knowledge.{inserts_of, removals_of}
 use Rattle.aug_trie.specs.Crew.{CrewFacts, HandsOut, TakesBack}
@@ -44,10 +45,10 @@ use Rattle.aug_trie.proofs.RoundLemmas.{of_round}
 module _ (face : ℕ → ℕ → List (ℕ × ℕ) → List ℕ) where
   -- the lead of a table that was just opened
   module _ (o : Opening) (laid_out : IsLayout o.shape) (set : IsKeySet o.shape.bits (keys_of o.members)) (fit : All FitsPair o.members) (few : length o.members ≤ o.shape.members) where
-    pub begins_crew : (era : ℕ) (words : List ℕ) → HoldsCrew face (opener face o era words) 0 0 0
-    begins_crew era words = record {
+    pub begins_crew : (past : List PastEra) (era : ℕ) (words : List ℕ) → HoldsCrew face (opener face o past era words) 0 0 0
+    begins_crew past era words = record {
       handed = 0;
-      is_crew = crew_begins face (opener face o era words) (opener_knows face o era words laid_out set fit (let long = length-keys_of o.members in omega arith)) refl refl;
+      is_crew = crew_begins face (opener face o past era words) (opener_knows face o past era words laid_out set fit (let long = length-keys_of o.members in omega arith)) refl refl;
       few = omega arith;
       back_is = refl;
       inserts_are = refl;
@@ -74,8 +75,8 @@ module _ (face : ℕ → ℕ → List (ℕ × ℕ) → List ℕ) where
     same_members : b.members ≡ old.members
     same_members = ap (λ (z : SeatView). z.members) l.stepped
 
-    same_era : b.era ≡ old.era
-    same_era = ap (λ (z : SeatView). z.era) l.stepped
+    same_eras : eras_of b ≡ eras_of old
+    same_eras = ap eras_of l.stepped
 
     same_spare : b.spare ≡ old.spare
     same_spare = ap (λ (z : SeatView). z.spare) l.stepped
@@ -112,10 +113,10 @@ module _ (face : ℕ → ℕ → List (ℕ × ℕ) → List ℕ) where
       knows = handed_out_is face old b r c.is_crew.knows_table l place;
       crew_is = let one_more : unwrap_or new.spare 0 ≡ unwrap_or old.spare 0 + 1 = ap (λ (z : Option ℕ). unwrap_or (option_map (λ n. n + 1) z) 0) (same_spare ∙ out) ∙ ap (λ n. n + 1) (sym at) in
           let facts : CrewFacts = crew_facts (record { table = table; view = new }) in
-          λ i. record facts { round = round_of table (record old { era = same_era i; shape = same_shape i; members = same_members i }); handed = one_more i; back = length (same_held i) };
+          λ i. record facts { round = round_of table (record old { era = (same_eras i).0; shape = same_shape i; members = same_members i }); past = past_rounds (same_shape i) (same_eras i).1; handed = one_more i; back = length (same_held i) };
       pass_is = let fresh : b.shape.updates - left ≡ 0 = let e : b.shape.updates ≡ old.shape.updates = ap (λ (z : Shape). z.updates) same_shape in omega arith in
           let facts : PassFacts = pass_facts (record { table = table; view = pass }) left in
-          λ i. record facts { round = round_of table (record old { era = same_era i; shape = same_shape i; members = same_members i }); lane = unwrap_or (same_spare i) 0; spent = fresh i };
+          λ i. record facts { round = round_of table (record old { era = (same_eras i).0; shape = same_shape i; members = same_members i }); past = past_rounds (same_shape i) (same_eras i).1; lane = unwrap_or (same_spare i) 0; spent = fresh i };
       exists = omega arith;
       loads = (r, ap (λ (z : SeatView). z.steps) l.stepped);
       named = numbers_long b.shape b.seen;
@@ -178,7 +179,7 @@ module _ (face : ℕ → ℕ → List (ℕ × ℕ) → List ℕ) where
     takes_back_is table other left = record {
       knows = back_knows;
       crew_is = let facts : CrewFacts = crew_facts (record { table = table; view = w }) in
-          λ i. record facts { round = round_of table (l.stepped i); handed = unwrap_or (l.stepped i).spare 0; back = one_back i };
+          λ i. record facts { round = round_of table (l.stepped i); past = past_rounds (l.stepped i).shape (l.stepped i).past; handed = unwrap_or (l.stepped i).spare 0; back = one_back i };
       knowledge = (crew_after face old p w place r lane c.is_crew.knows_table kp one_shape only l c.handed (length old.held) c.is_crew known).knowledge;
       loads = (r, ap (λ (z : SeatView). z.steps) l.stepped);
     }

@@ -20,6 +20,7 @@ use Rattle.aug_core.specs.declared.view.Held.{Held}
 use Rattle.aug_core.specs.declared.view.SeatView.{SeatView}
 use Rattle.aug_core.proofs.Books.{fresh_now, fresh_on}
 use Rattle.aug_core.proofs.Fits.{knows_shown, knows_same}
+use Rattle.aug_trie.specs.inside.RoundState.{eras_of}
 use Rattle.aug_trie.specs.inside.Points.{QuietStep}
 use Rattle.aug_trie.specs.inside.Goes.{IsFree, HasRoom, Took, TookBetween, Goes}
 use Rattle.aug_core.proofs.PrefixLemmas.{book_refl, book_trans}
@@ -96,7 +97,7 @@ quiet_seeing v w taken is later = (
     later = later;
     shaped = ap (λ (z : SeatView). z.shape) is;
     same_members = ap (λ (z : SeatView). z.members) is;
-    same_era = ap (λ (z : SeatView). z.era) is;
+    same_eras = ap eras_of is;
     lane = ap (λ (z : SeatView). own_lane z.held) is;
   },
   ap (λ (z : SeatView). z.began) is,
@@ -104,11 +105,11 @@ quiet_seeing v w taken is later = (
 
 -- so is one that showed nothing of the book, and a store
 pub quiet_stepping : (v w : SeatView) (taken : StepTaken) → w ≡ stepping v taken → QuietStep v w
-quiet_stepping v w taken is = subst (QuietStep v) (sym is) (record { taken = taken; steps = refl; later = book_refl v.seen; shaped = refl; same_members = refl; same_era = refl; lane = refl }, refl)
+quiet_stepping v w taken is = subst (QuietStep v) (sym is) (record { taken = taken; steps = refl; later = book_refl v.seen; shaped = refl; same_members = refl; same_eras = refl; lane = refl }, refl)
 
 pub quiet_storing : (v w : SeatView) (place value : ℕ) → w ≡ storing v place value → QuietStep v w
 quiet_storing v w place value is = subst (QuietStep v) (sym is) (
-  record { taken = store_record_word place value; steps = refl; later = book_refl v.seen; shaped = refl; same_members = refl; same_era = refl; lane = own_lane_on (with_word v.shape place value) v.held (λ h. refl) },
+  record { taken = store_record_word place value; steps = refl; later = book_refl v.seen; shaped = refl; same_members = refl; same_eras = refl; lane = own_lane_on (with_word v.shape place value) v.held (λ h. refl) },
   refl,
 )
 
@@ -120,7 +121,7 @@ module _ (face : ℕ → ℕ → List (ℕ × ℕ) → List ℕ) where
     knows_table = kn;
     shaped = refl;
     same_members = refl;
-    same_era = refl;
+    same_eras = refl;
     lane = refl;
     changes = sym (append-nil (changes_of v.held));
     still_free = λ n _ is_free. is_free;
@@ -134,7 +135,7 @@ module _ (face : ℕ → ℕ → List (ℕ × ℕ) → List ℕ) where
     knows_table = y.knows_table;
     shaped = y.shaped ∙ x.shaped;
     same_members = y.same_members ∙ x.same_members;
-    same_era = y.same_era ∙ x.same_era;
+    same_eras = y.same_eras ∙ x.same_eras;
     lane = y.lane ∙ x.lane;
     changes = y.changes ∙ ap (λ (z : List Change). z ++ more) x.changes ∙ append_assoc (changes_of u.held) gained more ∙ ap (λ (z : List Change). changes_of u.held ++ z) total;
     still_free = λ n past is_free. y.still_free n (omega arith) (x.still_free n (omega arith) is_free);
@@ -145,7 +146,7 @@ module _ (face : ℕ → ℕ → List (ℕ × ℕ) → List ℕ) where
   goes_on a b c gained u v w ac bc x y = goes_after a b c gained [] gained u v w ac bc (append-nil gained) x y
 
   pub goes_more : (a c : ℕ) (gained : List Change) (v w : SeatView) → a ≤ c → Goes face a gained v w → Goes face c gained v w
-  goes_more a c gained v w le g = record { later = g.later; fresh = g.fresh; knows_table = g.knows_table; shaped = g.shaped; same_members = g.same_members; same_era = g.same_era; lane = g.lane; changes = g.changes; still_free = λ n past f. g.still_free n (omega arith) f }
+  goes_more a c gained v w le g = record { later = g.later; fresh = g.fresh; knows_table = g.knows_table; shaped = g.shaped; same_members = g.same_members; same_eras = g.same_eras; lane = g.lane; changes = g.changes; still_free = λ n past f. g.still_free n (omega arith) f }
 
   -- a view that only made a step
   pub goes_stepping : (v w : SeatView) (taken : StepTaken) → w ≡ stepping v taken → KnowsTable face v → Goes face 0 [] v w
@@ -155,7 +156,7 @@ module _ (face : ℕ → ℕ → List (ℕ × ℕ) → List ℕ) where
     knows_table = knows_same face v v.live v.also v.held v.spare v.began (v.steps ++ taken ∷ []) kn;
     shaped = refl;
     same_members = refl;
-    same_era = refl;
+    same_eras = refl;
     lane = refl;
     changes = sym (append-nil (changes_of v.held));
     still_free = λ n _ f. record { lane = f.lane; only = f.only; from_first = f.from_first; unpublished = f.unpublished; long = f.long };
@@ -169,7 +170,7 @@ module _ (face : ℕ → ℕ → List (ℕ × ℕ) → List ℕ) where
     knows_table = knows_same face v v.live v.also (storing v place value).held v.spare v.began (storing v place value).steps kn;
     shaped = refl;
     same_members = refl;
-    same_era = refl;
+    same_eras = refl;
     lane = own_lane_on (with_word v.shape place value) v.held (λ h. refl);
     changes = changes_on (with_word v.shape place value) v.held (λ h. refl) ∙ sym (append-nil (changes_of v.held));
     still_free = λ n _ f. record { lane = with_word v.shape place value f.lane; only = ap (on_first (with_word v.shape place value)) f.only; from_first = f.from_first; unpublished = f.unpublished; long = length-set f.lane.words (place - block_start v.shape f.lane.lane) value ∙ f.long };
@@ -185,14 +186,14 @@ module _ (face : ℕ → ℕ → List (ℕ × ℕ) → List ℕ) where
     long = subst (λ (z : Shape). length f.lane.words ≡ block_size z) (sym shaped) f.long;
   }
 
-  goes_shown : (v w : SeatView) → w.shape ≡ v.shape → w.members ≡ v.members → w.era ≡ v.era → w.held ≡ v.held → KnowsTable face v → Sees face v w → Goes face 0 [] v w
+  goes_shown : (v w : SeatView) → w.shape ≡ v.shape → w.members ≡ v.members → eras_of w ≡ eras_of v → w.held ≡ v.held → KnowsTable face v → Sees face v w → Goes face 0 [] v w
   goes_shown v w shaped same era held kn sees = record {
     later = sees.later;
     fresh = sees.fresh;
     knows_table = knows_shown face v w kn sees shaped same;
     shaped = shaped;
     same_members = same;
-    same_era = era;
+    same_eras = era;
     lane = ap own_lane held;
     changes = ap changes_of held ∙ sym (append-nil (changes_of v.held));
     still_free = λ n _ f. free_same v w n shaped held f;
@@ -200,22 +201,22 @@ module _ (face : ℕ → ℕ → List (ℕ × ℕ) → List ℕ) where
 
   -- a view that was shown the whole book
   pub goes_seeing : (v w : SeatView) (taken : StepTaken) → w ≡ seeing v w.seen taken → KnowsTable face v → Sees face v w → Goes face 0 [] v w
-  goes_seeing v w taken is kn sees = goes_shown v w (ap (λ (z : SeatView). z.shape) is) (ap (λ (z : SeatView). z.members) is) (ap (λ (z : SeatView). z.era) is) (ap (λ (z : SeatView). z.held) is) kn sees
+  goes_seeing v w taken is kn sees = goes_shown v w (ap (λ (z : SeatView). z.shape) is) (ap (λ (z : SeatView). z.members) is) (ap eras_of is) (ap (λ (z : SeatView). z.held) is) kn sees
 
   -- and one that began an update with it
   pub goes_beginning : (v w : SeatView) (taken : StepTaken) → w ≡ beginning v w.seen taken → KnowsTable face v → Sees face v w → Goes face 0 [] v w
-  goes_beginning v w taken is kn sees = goes_shown v w (ap (λ (z : SeatView). z.shape) is) (ap (λ (z : SeatView). z.members) is) (ap (λ (z : SeatView). z.era) is) (ap (λ (z : SeatView). z.held) is) kn sees
+  goes_beginning v w taken is kn sees = goes_shown v w (ap (λ (z : SeatView). z.shape) is) (ap (λ (z : SeatView). z.members) is) (ap eras_of is) (ap (λ (z : SeatView). z.held) is) kn sees
 
   -- a view that published a record
   pub goes_publishing : (v w : SeatView) (number : ℕ) (taken : StepTaken) → w ≡ publishing v w.seen number taken → KnowsTable face v → Sees face v w → Goes face (number + 1) [] v w
-  goes_publishing v w number taken is kn sees = let shaped : w.shape ≡ v.shape = ap (λ (z : SeatView). z.shape) is in let same : w.members ≡ v.members = ap (λ (z : SeatView). z.members) is in let era : w.era ≡ v.era = ap (λ (z : SeatView). z.era) is in
+  goes_publishing v w number taken is kn sees = let shaped : w.shape ≡ v.shape = ap (λ (z : SeatView). z.shape) is in let same : w.members ≡ v.members = ap (λ (z : SeatView). z.members) is in let era : eras_of w ≡ eras_of v = ap eras_of is in
       let held : w.held ≡ on_first (with_published number) v.held = ap (λ (z : SeatView). z.held) is in record {
         later = sees.later;
         fresh = sees.fresh;
         knows_table = knows_shown face v w kn sees shaped same;
         shaped = shaped;
         same_members = same;
-        same_era = era;
+        same_eras = era;
         lane = ap own_lane held ∙ own_lane_on (with_published number) v.held (λ h. refl);
         changes = ap changes_of held ∙ changes_on (with_published number) v.held (λ h. refl) ∙ sym (append-nil (changes_of v.held));
         still_free = λ n past f. record {
@@ -233,7 +234,7 @@ module _ (face : ℕ → ℕ → List (ℕ × ℕ) → List ℕ) where
 
   -- a view whose changes were accepted
   pub goes_changing : (v w : SeatView) (more : List Change) (taken : StepTaken) (h : Held) → HoldsOnly v h → w ≡ changing v w.seen more taken → KnowsTable face v → Sees face v w → Goes face 0 more v w
-  goes_changing v w more taken h only is kn sees = let shaped : w.shape ≡ v.shape = ap (λ (z : SeatView). z.shape) is in let same : w.members ≡ v.members = ap (λ (z : SeatView). z.members) is in let era : w.era ≡ v.era = ap (λ (z : SeatView). z.era) is in
+  goes_changing v w more taken h only is kn sees = let shaped : w.shape ≡ v.shape = ap (λ (z : SeatView). z.shape) is in let same : w.members ≡ v.members = ap (λ (z : SeatView). z.members) is in let era : eras_of w ≡ eras_of v = ap eras_of is in
       let held : w.held ≡ on_first (with_changes more) v.held = ap (λ (z : SeatView). z.held) is in
       let new : HoldsOnly w (with_changes more h) = held ∙ ap (on_first (with_changes more)) only in record {
         later = sees.later;
@@ -241,7 +242,7 @@ module _ (face : ℕ → ℕ → List (ℕ × ℕ) → List ℕ) where
         knows_table = knows_shown face v w kn sees shaped same;
         shaped = shaped;
         same_members = same;
-        same_era = era;
+        same_eras = era;
         lane = ap own_lane held ∙ own_lane_on (with_changes more) v.held (λ h. refl);
         changes = only_changes w (with_changes more h) new ∙ ap (λ (z : List Change). z ++ more) (sym (only_changes v h only));
         still_free = λ n past f. record {

@@ -36,3 +36,5 @@ pub mod Advancing
 pub mod Ascending
 pub mod Staging
 pub mod Turning
+pub mod Chaining
+pub mod Resting

@@ -30,7 +30,7 @@ goes_looking f most v w l kn = subst (Goes f 0 [] v) (sym l.is) record {
   knows_table = knows_same f v v.live v.also v.held v.spare v.began (v.steps ++ l.more) kn;
   shaped = refl;
   same_members = refl;
-  same_era = refl;
+  same_eras = refl;
   lane = refl;
   changes = sym (append-nil (changes_of v.held));
   still_free = λ n _ f. record { lane = f.lane; only = f.only; from_first = f.from_first; unpublished = f.unpublished; long = f.long };

@@ -1,37 +1,46 @@
 -- What a note and a pass or a crew that learns it come to, each as one record, from what their words' calls say.
-use Rattle.std.proofs.Common.{◌≡◌, Option, Some, ℕ, ◌-◌, ◌*◌, ◌%◌, ◌^◌, ◌≤◌, List, length, All, sym, refl, ap, ◌∙◌, subst}
+use Rattle.std.proofs.Common.{◌≡◌, Option, Some, ℕ, ◌-◌, ◌*◌, ◌%◌, ◌^◌, ◌<◌, ◌≤◌, List, [], ◌∷◌, ◌++◌, append_assoc, length, All, sym, refl, ap, ◌∙◌, subst, ⊎_elim, arith}
+use Rattle.std.proofs.lemmas.Bool.{cases_eq}
+use Rattle.std.proofs.lemmas.List.{map-append}
 use Rattle.std.specs.Prelude.{unwrap_or}
+use Rattle.atomic_table.specs.Seated.{TableId}
 use Rattle.aug_monoid.specs.Parts.{Parts}
-use Rattle.aug_core.specs.Addresses.{root_place}
 use Rattle.aug_core.specs.Counts.{changes_of}
-use Rattle.aug_core.specs.Cuts.{Cut}
 use Rattle.aug_core.specs.Faces.{face}
-use Rattle.aug_core.specs.Places.{shape_of}
-use Rattle.aug_core.specs.Told.{KnowsTable, LoadsNode, learning, noted}
+use Rattle.aug_core.specs.Prefixes.{IsPrefix}
+use Rattle.aug_core.specs.declared.view.PastEra.{PastEra}
+use Rattle.aug_core.specs.Pasts.{learnt_of}
+use Rattle.aug_core.specs.Learning.{learning}
+use Rattle.aug_core.specs.Eras.{seen_in}
+use Rattle.aug_core.specs.Told.{KnowsTable, LoadsNode, noted}
 use Rattle.aug_core.specs.declared.view.SeatView.{SeatView}
-use Rattle.aug_core.proofs.Fits.{knows_shown, knows_same}
-use Rattle.aug_core.proofs.PrefixLemmas.{either_prefix}
+use Rattle.aug_core.proofs.Fits.{knows_shown, knows_told}
 use Rattle.aug_words.specs.Notes.{LearnsNote}
 use Rattle.aug_words.specs.Seats.{Known}
 use Rattle.aug_trie.specs.Crew.{CrewFacts, CrewLearns}
 use Rattle.aug_trie.specs.History.{last_cut}
-use Rattle.aug_trie.specs.Knowledge.{Knowledge, StandsIn, inserts_of, removals_of}
+use Rattle.aug_trie.specs.Knowledge.{StandsIn, inserts_of, removals_of}
+use Rattle.aug_trie.specs.Chains.{Chapter, Chain, chain, chapters, BeginsWith, IsPart}
 use Rattle.aug_trie.specs.Note.{NoteFacts}
-use Rattle.aug_trie.specs.Pass.{PassFacts}
+use Rattle.aug_trie.specs.Pass.{PassFacts, chain_of}
 use Rattle.aug_trie.specs.Passes.{HasLearnt}
-use Rattle.aug_trie.specs.Round.{RoundFacts}
 use Rattle.aug_trie.specs.inside.Counted.{HasCounts}
 use Rattle.aug_trie.specs.inside.CrewState.{crew_facts, HoldsCrew}
-use Rattle.aug_trie.specs.inside.Knows.{knows, KnowsRound}
+use Rattle.aug_trie.specs.inside.Knows.{knows, root_history, KnowsRound}
 use Rattle.aug_trie.specs.inside.NoteState.{note_facts}
 use Rattle.aug_trie.specs.inside.PassState.{pass_facts, known_in, IsPass}
-use Rattle.aug_trie.specs.inside.RoundState.{round_of}
+use Rattle.aug_trie.specs.inside.RoundState.{round_of, past_rounds}
 use Rattle.aug_trie.specs.declared.rounds.account.Account.{Account}
 use Rattle.aug_trie.proofs.Accepting.{knows_on, stands_on}
+use Rattle.aug_trie.proofs.Chaining.{begins_alike, either_part}
 use Rattle.aug_trie.proofs.Histories.{is_history}
 use Rattle.aug_trie.proofs.PassCalls.{Holds, SnapshotTaken, snapshot_taken}
 use Rattle.aug_trie.proofs.Passing.{pass_told}
 use Rattle.aug_trie.proofs.Snapshots.{root_node}
+
+-- what a view knows of the rounds of its table
+abbrev view_chain : SeatView → Chain
+view_chain v = chain (past_rounds v.shape v.past) v.members (knows v).history
 
 module _ (f : ℕ → ℕ → List (ℕ × ℕ) → List ℕ) where
   -- a note knows its table as its maker does
@@ -40,7 +49,7 @@ module _ (f : ℕ → ℕ → List (ℕ × ℕ) → List ℕ) where
 
   -- a view that took a note in, before it loads the root
   learning_table : (v n : SeatView) → KnowsTable f v → KnowsTable f (learning v n)
-  learning_table v n kn = knows_same f v v.live n.seen v.held v.spare v.began v.steps kn
+  learning_table v n kn = knows_told f v (seen_in v.era n).seen (Some (learnt_of n)) kn
 
   -- is a pass, if it was one
   learning_pass : (v n : SeatView) (leaves bits next left : ℕ) → IsPass f v leaves bits next left → IsPass f (learning v n) leaves bits next left
@@ -57,35 +66,72 @@ module _ (f : ℕ → ℕ → List (ℕ × ℕ) → List ℕ) where
     knowledge = record { is_history = p.knowledge.is_history; stands = p.knowledge.stands };
   }
 
-  module _ (v n w : SeatView) (found : ℕ) (kv : KnowsTable f v) (kn : KnowsTable f n) (one_shape : n.shape ≡ v.shape) (t : LoadsNode f (learning v n) (root_place v.shape) found w) where
+  module _ (v n w : SeatView) (found : ℕ) (kv : KnowsTable f v) (kn : KnowsTable f n) (l : LearnsNote f v n found w) where
     same_shape : w.shape ≡ v.shape
-    same_shape = ap (λ (z : SeatView). z.shape) t.stepped
+    same_shape = ap (λ (z : SeatView). z.shape) l.loaded.stepped
 
     pub learnt_table : KnowsTable f w
-    learnt_table = knows_shown f (learning v n) w (learning_table v n kv) t.sees same_shape (ap (λ (z : SeatView). z.members) t.stepped)
+    learnt_table = knows_shown f (learning v n) w (learning_table v n kv) l.loaded.sees same_shape (ap (λ (z : SeatView). z.members) l.loaded.stepped)
 
     same_changes : changes_of w.held ≡ changes_of v.held
-    same_changes = ap (λ (z : SeatView). changes_of z.held) t.stepped
+    same_changes = ap (λ (z : SeatView). changes_of z.held) l.loaded.stepped
+
+    -- the rounds before are those that were
+    same_past : past_rounds w.shape w.past ≡ past_rounds v.shape v.past
+    same_past = ap (λ (z : SeatView). past_rounds z.shape z.past) l.loaded.stepped
+
+    grows : IsPrefix (knows v).history (knows w).history
+    grows = knows_on f v w kv same_shape l.loaded.sees.later
+
+    pub own_part : IsPart (view_chain v) (view_chain w)
+    own_part = subst (λ (z : List Chapter). BeginsWith (past_rounds v.shape v.past) (view_chain v).now (z ++ (view_chain w).now ∷ [])) (sym same_past)
+        (begins_alike (past_rounds v.shape v.past) (view_chain v).now (view_chain w).now [] record { members = ap (λ (z : SeatView). z.members) l.loaded.stepped; goes_on = grows })
+
+    -- a note of this era
+    now_part : n.era ≡ v.era → IsPart (view_chain n) (view_chain w)
+    now_part e = let told = l.told.agrees e in let both = l.of_both e in
+        let past : past_rounds n.shape n.past ≡ past_rounds w.shape w.past = (λ i. past_rounds (l.told.one_shape i) (told.0 i)) ∙ sym same_past in
+        subst (λ (z : List Chapter). BeginsWith (past_rounds n.shape n.past) (view_chain n).now (z ++ (view_chain w).now ∷ [])) past
+        (begins_alike (past_rounds n.shape n.past) (view_chain n).now (view_chain w).now [] record {
+          members = ap (λ (z : SeatView). z.members) l.loaded.stepped ∙ sym told.1;
+          goes_on = knows_on f n w kn (same_shape ∙ sym l.told.one_shape) both.from_second;
+        })
+
+    -- and one of an era that is over
+    past_part : n.era < v.era → IsPart (view_chain n) (view_chain w)
+    past_part less = let e = l.told.earlier less in let over : PastEra = record { members = n.members; book = e.book } in
+        let round : Chapter = record { members = n.members; history = root_history n.shape e.book } in
+        let history : IsPrefix (knows n).history round.history = knows_on f n record n { seen = e.book } kn refl e.saw in
+        let all : past_rounds w.shape w.past ≡ past_rounds n.shape n.past ++ round ∷ past_rounds n.shape e.later =
+        same_past ∙ (λ i. past_rounds (sym l.told.one_shape i) (e.goes_on i)) ∙ map-append (λ (z : PastEra). record { members = z.members; history = root_history n.shape z.book }) n.past (over ∷ e.later) in
+        let more : List Chapter = past_rounds n.shape e.later ++ (view_chain w).now ∷ [] in
+        let whole : chapters (view_chain w) ≡ past_rounds n.shape n.past ++ round ∷ more = ap (λ (z : List Chapter). z ++ (view_chain w).now ∷ []) all ∙ append_assoc (past_rounds n.shape n.past) (round ∷ past_rounds n.shape e.later) ((view_chain w).now ∷ []) in
+        subst (BeginsWith (past_rounds n.shape n.past) (view_chain n).now) (sym whole) (begins_alike (past_rounds n.shape n.past) (view_chain n).now round more record { members = refl; goes_on = history })
+
+    note_part : IsPart (view_chain n) (view_chain w)
+    note_part = ⊎_elim now_part (λ ne. past_part (let le = l.told.not_later in omega (arith, ne))) (cases_eq n.era v.era)
 
     -- it knows what both knew
-    pub learns_both : HasLearnt (knows v) (knows n).history (knows w)
-    learns_both = let a = knows_on f v w kv same_shape t.sees.later in let b = knows_on f n w kn (same_shape ∙ sym one_shape) t.sees.also_later in
-        record { one_piece = either_prefix (knows v).history (knows n).history (knows w).history a b; goes_on = a; takes_up = b; same_changes = same_changes }
+    pub learns_both : (table : TableId) → HasLearnt v.era (view_chain v) (knows v) (note_facts record { table = table; view = n }) (view_chain w) (knows w)
+    learns_both table = record {
+      one_piece = either_part (view_chain v) (view_chain n) (view_chain w) own_part note_part;
+      goes_on = grows;
+      takes_up = note_part;
+      not_later = l.told.not_later;
+      of_era = λ e. knows_on f n w kn (same_shape ∙ sym l.told.one_shape) (l.of_both e).from_second;
+      same_changes = same_changes;
+    }
 
     -- and that is knowledge
     pub learnt_knowledge : KnowsRound v → KnowsRound w
     learnt_knowledge k = record {
       is_history = is_history f w learnt_table;
-      stands = subst (All (StandsIn (last_cut (knows w).history))) (sym same_changes) (stands_on f v w (changes_of v.held) kv learnt_table same_shape t.sees.later k.stands);
+      stands = subst (All (StandsIn (last_cut (knows w).history))) (sym same_changes) (stands_on f v w (changes_of v.held) kv learnt_table same_shape l.loaded.sees.later k.stands);
     }
 
 -- what a pass's note says
 abbrev of_pass : PassFacts → NoteFacts
-of_pass p = record { round = p.round; history = p.knows.history }
-
--- a note of a round's table, and what sits at that table, have one shape
-one_shape_of : (a b : Known) → round_of a.table a.view ≡ round_of b.table b.view → a.view.shape ≡ b.view.shape
-one_shape_of a b one = ap (λ (z : RoundFacts). shape_of z.bits z.workers z.updates z.room) one
+of_pass p = record { round = p.round; past = p.past; history = p.knows.history }
 
 -- ---- passes
 
@@ -101,7 +147,7 @@ module _ {A B : Type 0} (parts_a : Parts A) (parts_b : Parts B) (words : Option 
     pub still : Holds parts_a parts_b (Some w) a
     pub same : pass_facts w a.left ≡ now
     pub knows_table : KnowsTable f note.view
-    pub note_is : note_facts note ≡ record { round = now.round; history = now.knows.history }
+    pub note_is : note_facts note ≡ record { round = now.round; past = now.past; history = now.knows.history }
 
   pub note_made : (note w : Known) → w ≡ k → note.table ≡ k.table → note.view ≡ noted k.view → NoteMade note w
   note_made note w same table is = record {
@@ -111,21 +157,17 @@ module _ {A B : Type 0} (parts_a : Parts A) (parts_b : Parts B) (words : Option 
     note_is = (λ i. note_facts (record { table = table i; view = is i })) ∙ ap of_pass told.1;
   }
 
-  -- a note of the pass's round sits at its table
-  pub note_here : (n : Known) (note : NoteFacts) → note_facts n ≡ note → note.round ≡ now.round → n.table ≡ k.table
-  note_here n note note_is one_round = ap (λ (z : NoteFacts). z.round.table) note_is ∙ ap (λ (z : RoundFacts). z.table) one_round ∙ ap (λ (z : PassFacts). z.round.table) (sym told.1)
-
-  -- and is of its era
-  pub note_now : (n : Known) (note : NoteFacts) → note_facts n ≡ note → note.round ≡ now.round → n.view.era ≡ k.view.era
-  note_now n note note_is one_round = ap (λ (z : NoteFacts). z.round.era) note_is ∙ ap (λ (z : RoundFacts). z.era) one_round ∙ ap (λ (z : PassFacts). z.round.era) (sym told.1)
+  -- a note of the pass's table sits at it
+  pub note_here : (n : Known) (note : NoteFacts) → note_facts n ≡ note → note.round.table ≡ now.round.table → n.table ≡ k.table
+  note_here n note note_is one_table = ap (λ (z : NoteFacts). z.round.table) note_is ∙ one_table ∙ ap (λ (z : PassFacts). z.round.table) (sym told.1)
 
   -- a note was learnt, and a snapshot was taken
   pub record NoteLearnt (note : NoteFacts) (number : ℕ) (w : Known) : Type 0 where
-    pub learns : HasLearnt now.knows note.history (knows w.view)
+    pub learns : HasLearnt now.round.era (chain_of now) now.knows note (view_chain w.view) (knows w.view)
     pub taken : SnapshotTaken parts_a parts_b now a number w
 
-  pub note_learnt : (n w : Known) (note : NoteFacts) (number : ℕ) → note_facts n ≡ note → KnowsTable f n.view → note.round ≡ now.round → LearnsNote f k.view n.view number w.view → w.table ≡ k.table → NoteLearnt note number w
-  note_learnt n w note number note_is kn one_round l table =
+  pub note_learnt : (n w : Known) (note : NoteFacts) (number : ℕ) → note_facts n ≡ note → KnowsTable f n.view → LearnsNote f k.view n.view number w.view → w.table ≡ k.table → NoteLearnt note number w
+  note_learnt n w note number note_is kn l table =
       let p = told.0 in let v : SeatView = k.view in
       let mid : Known = record { table = k.table; view = learning v n.view } in
       let root = root_node f v a.leaves a.bits a.next a.left p in
@@ -133,31 +175,27 @@ module _ {A B : Type 0} (parts_a : Parts A) (parts_b : Parts B) (words : Option 
       let held : Holds parts_a parts_b (Some k) a = subst (λ (z : Option Known). Holds parts_a parts_b z a) there holds in
       let counts : HasCounts (changes_of v.held) a.inserts a.removals = held.1 in
       let still : Holds parts_a parts_b (Some mid) a = (record { known = mid; there = refl; is_pass = learning_pass f v n.view a.leaves a.bits a.next a.left p }, counts) in
-      let shape = one_shape_of n k (ap (λ (z : NoteFacts). z.round) note_is ∙ one_round ∙ ap (λ (z : PassFacts). z.round) (sym told.1)) in
-      let both : HasLearnt (knows v) (knows n.view).history (knows w.view) = learns_both f v n.view w.view number p.knows_table kn shape l.loaded in record {
-        learns = subst (λ (z : Knowledge × List Cut). HasLearnt z.0 z.1 (knows w.view)) (λ j. ((told.1 j).knows, (note_is j).history)) both;
+      let both : HasLearnt v.era (view_chain v) (knows v) (note_facts n) (view_chain w.view) (knows w.view) = learns_both f v n.view w.view number p.knows_table kn l n.table in record {
+        learns = subst (λ (z : PassFacts × NoteFacts). HasLearnt z.0.round.era (chain_of z.0) z.0.knows z.1 (view_chain w.view) (knows w.view)) (λ j. (told.1 j, note_is j)) both;
         taken = snapshot_taken parts_a parts_b (Some mid) a now mid still told.1 refl number w loads table;
       }
 
 -- ---- crews
 
 module _ (f : ℕ → ℕ → List (ℕ × ℕ) → List ℕ) where
-  module _ (old n w : Known) (now : CrewFacts) (note : NoteFacts) (found back inserts removals : ℕ) (c : HoldsCrew f old.view back inserts removals) (facts : crew_facts old ≡ now) (note_is : note_facts n ≡ note) (kn : KnowsTable f n.view) (one_round : note.round ≡ now.round) (l : LearnsNote f old.view n.view found w.view) where
+  module _ (old n w : Known) (now : CrewFacts) (note : NoteFacts) (found back inserts removals : ℕ) (c : HoldsCrew f old.view back inserts removals) (facts : crew_facts old ≡ now) (note_is : note_facts n ≡ note) (kn : KnowsTable f n.view) (l : LearnsNote f old.view n.view found w.view) where
     abbrev v : SeatView
     v = old.view
-
-    shape : n.view.shape ≡ v.shape
-    shape = one_shape_of n old (ap (λ (z : NoteFacts). z.round) note_is ∙ one_round ∙ ap (λ (z : CrewFacts). z.round) (sym facts))
 
     -- a crew that learnt a note is one still
     pub crew_learnt : HoldsCrew f w.view back inserts removals
     crew_learnt = record {
       handed = c.handed;
       is_crew = record {
-        knows_table = learnt_table f v n.view w.view found c.is_crew.knows_table kn shape l.loaded;
+        knows_table = learnt_table f v n.view w.view found c.is_crew.knows_table kn l;
         hands_out = ap (λ (z : SeatView). z.spare) l.loaded.stepped ∙ c.is_crew.hands_out;
         took_back = refl;
-        knowledge = learnt_knowledge f v n.view w.view found c.is_crew.knows_table kn shape l.loaded c.is_crew.knowledge;
+        knowledge = learnt_knowledge f v n.view w.view found c.is_crew.knows_table kn l c.is_crew.knowledge;
       };
       few = subst (λ (z : SeatView). c.handed ≤ z.shape.workers) (sym l.loaded.stepped) c.few;
       back_is = subst (λ (z : SeatView). back ≡ length z.held % 2 ^ 32) (sym l.loaded.stepped) c.back_is;
@@ -167,12 +205,12 @@ module _ (f : ℕ → ℕ → List (ℕ × ℕ) → List ℕ) where
 
     -- what contracts see of it
     pub crew_learns : w.table ≡ old.table → CrewLearns now (crew_facts w) note
-    crew_learns table = let both : HasLearnt (knows v) (knows n.view).history (knows w.view) = learns_both f v n.view w.view found c.is_crew.knows_table kn shape l.loaded in
-        let known = learnt_knowledge f v n.view w.view found c.is_crew.knows_table kn shape l.loaded c.is_crew.knowledge in
+    crew_learns table = let both : HasLearnt v.era (view_chain v) (knows v) (note_facts n) (view_chain w.view) (knows w.view) = learns_both f v n.view w.view found c.is_crew.knows_table kn l n.table in
+        let known = learnt_knowledge f v n.view w.view found c.is_crew.knows_table kn l c.is_crew.knowledge in
         subst (λ (z : CrewFacts × NoteFacts). CrewLearns z.0 (crew_facts w) z.1) (λ j. (facts j, note_is j)) record {
-          knows = both;
+          learns = both;
           crew_is = let after : CrewFacts = crew_facts w in
-              λ i. record after { round = round_of (table i) (l.loaded.stepped i); handed = unwrap_or (l.loaded.stepped i).spare 0; back = length (l.loaded.stepped i).held };
+              λ i. record after { round = round_of (table i) (l.loaded.stepped i); past = past_rounds (l.loaded.stepped i).shape (l.loaded.stepped i).past; handed = unwrap_or (l.loaded.stepped i).spare 0; back = length (l.loaded.stepped i).held };
           knowledge = record { is_history = known.is_history; stands = known.stands };
           loads = (found, ap (λ (z : SeatView). z.steps) l.loaded.stepped);
         }

@@ -18,7 +18,7 @@ use Rattle.aug_trie.specs.declared.updates.request.Request.{Request}
 use Rattle.aug_trie.specs.inside.Knows.{KnowsRound}
 use Rattle.aug_trie.specs.Pass.{PassFacts, GoesOn, StepsOf}
 use Rattle.aug_trie.specs.inside.PassState.{pass_facts, known_in, IsPass, HoldsPass}
-use Rattle.aug_trie.specs.inside.RoundState.{round_of}
+use Rattle.aug_trie.specs.inside.RoundState.{round_of, past_rounds}
 use Rattle.aug_trie.proofs.Accepting.{updated_knowledge, shown_number}
 use Rattle.aug_trie.proofs.Going.{free_from}
 use Rattle.aug_trie.proofs.Requesting.{made_few}
@@ -62,7 +62,7 @@ module _ (face : ℕ → ℕ → List (ℕ × ℕ) → List ℕ) where
     goes_on_by table done u = let g = (gained_by done u).2 in let updates : w.shape.updates ≡ v.shape.updates = ap (λ (z : Shape). z.updates) g.shaped in let b = p.budget in record {
       same = let spent : w.shape.updates - (left - 1) ≡ v.shape.updates - left + 1 = omega arith in
           let facts : PassFacts = pass_facts (record { table = table; view = w }) (left - 1) in
-          λ i. record facts { round = round_of table (record w { era = g.same_era i; shape = g.shaped i; members = g.same_members i }); lane = g.lane i; spent = spent i };
+          λ i. record facts { round = round_of table (record w { era = (g.same_eras i).0; shape = g.shaped i; members = g.same_members i }); past = past_rounds (g.shaped i) (g.same_eras i).1; lane = g.lane i; spent = spent i };
       step_count = ap (λ (z : List StepTaken). length z) u.steps ∙ length-append v.steps (load_leaf key u.loaded ∷ u.more) ∙ (let e : length v.steps + suc (length u.more) ≡ length v.steps + (length u.more + 1) = omega arith in e);
       steps_stay = (load_leaf key u.loaded ∷ u.more, u.steps);
       knowledge = known_after done u;

@@ -1,9 +1,16 @@
 -- The crew of a round that goes on in the memory of the round before.
-use Rattle.std.proofs.Common.{◌≡◌, ◌+◌, ◌≤◌, ◌∙◌, ℕ, List, [], ◌∷◌, All, length, ap, sym, subst}
+use Rattle.std.proofs.Common.{◌≡◌, ◌+◌, ◌%◌, ◌^◌, ◌≤◌, ◌∙◌, ℕ, List, [], ◌∷◌, ◌++◌, All, length, refl, ap, sym, subst}
+use Rattle.std.proofs.lemmas.List.{map-append}
 use Rattle.std.specs.Prelude.{unwrap_or}
 use Rattle.aug_monoid.specs.Weighted.{FitsPair}
 use Rattle.aug_model.specs.Keys.{IsKeySet, keys_of}
+use Rattle.aug_core.specs.Addresses.{root_place}
+use Rattle.aug_core.specs.Counts.{changes_of}
 use Rattle.aug_core.specs.Cuts.{opening_cut}
+use Rattle.aug_core.specs.Kinds.{load_node}
+use Rattle.aug_core.specs.Prefixes.{IsPrefix}
+use Rattle.aug_core.specs.Told.{LoadsNode}
+use Rattle.aug_core.specs.declared.view.PastEra.{PastEra}
 use Rattle.aug_core.specs.Eras.{opening_with}
 use Rattle.aug_core.specs.Layout.{IsLayout}
 use Rattle.aug_core.specs.Opening.{Opening}
@@ -12,10 +19,16 @@ use Rattle.aug_core.specs.Renewals.{reopening}
 use Rattle.aug_core.specs.declared.view.SeatView.{SeatView}
 use Rattle.aug_core.proofs.Openings.{opener}
 use Rattle.aug_words.specs.Seats.{Store, Known, AreTogether}
+use Rattle.aug_trie.specs.Chains.{chapters}
+use Rattle.aug_trie.specs.Crew.{CrewFacts, crew_chain}
+use Rattle.aug_trie.specs.Knowledge.{inserts_of, removals_of}
+use Rattle.aug_trie.specs.Round.{root_of}
 use Rattle.aug_trie.specs.inside.CrewState.{crew_facts, HoldsCrew}
-use Rattle.aug_trie.specs.inside.Knows.{knows}
-use Rattle.aug_trie.specs.inside.RoundState.{round_of, store_round}
+use Rattle.aug_trie.specs.inside.Knows.{knows, root_history}
+use Rattle.aug_trie.specs.inside.RoundState.{round_of, past_rounds, store_round}
+use Rattle.aug_trie.proofs.Accepting.{knows_on}
 use Rattle.aug_trie.proofs.Crews.{begins_crew, begins_history}
+use Rattle.aug_trie.proofs.Handing.{loaded_table, loaded_knowledge}
 
 module _ (face : ℕ → ℕ → List (ℕ × ℕ) → List ℕ) (old store : Store) (lead : Known) (before : SeatView) (list : List (ℕ × ℕ)) (table : store.table ≡ old.table) (opening : store.opening ≡ opening_with old.opening.shape list) (together : AreTogether store lead) (opened : lead.view ≡ reopening face list before)
     (laid_out : IsLayout old.opening.shape) (set : IsKeySet old.opening.shape.bits (keys_of list)) (fit : All FitsPair list) (few : length list ≤ old.opening.shape.members) where
@@ -23,23 +36,67 @@ module _ (face : ℕ → ℕ → List (ℕ × ℕ) → List ℕ) (old store : St
   o = opening_with old.opening.shape list
 
   -- its lead knows what that of a table knows which was just opened
-  opener_is : lead.view ≡ opener face o before.era before.words
+  opener_is : lead.view ≡ opener face o before.past before.era before.words
   opener_is = let shape : before.shape ≡ old.opening.shape = sym (ap (λ (z : SeatView). z.shape) opened) ∙ together.one_shape ∙ ap (λ (z : Opening). z.shape) opening in
-      opened ∙ ap (λ (z : Shape). opener face (opening_with z list) before.era before.words) shape
+      opened ∙ ap (λ (z : Shape). opener face (opening_with z list) before.past before.era before.words) shape
 
   pub next_crew : HoldsCrew face lead.view 0 0 0
-  next_crew = subst (λ (z : SeatView). HoldsCrew face z 0 0 0) (sym opener_is) (begins_crew face o laid_out set fit few before.era before.words)
+  next_crew = subst (λ (z : SeatView). HoldsCrew face z 0 0 0) (sym opener_is) (begins_crew face o laid_out set fit few before.past before.era before.words)
 
   -- the round has the same numbers, and opens with the list, in the next era
   pub next_round : (era next : ℕ) → next ≡ era + 1 → store_round store next ≡ record (store_round old era) { era = era + 1; members = list }
   next_round era next is j = store_round (record { table = table j; opening = opening j }) (is j)
 
   -- and the crew knows the opening cut alone, and has handed nothing out
-  pub next_facts : (era : ℕ) → lead.view.era ≡ era → crew_facts lead ≡ record { round = store_round store era; knows = record { history = opening_cut old.opening.shape.bits list ∷ []; accepted = [] }; steps = lead.view.steps; handed = 0; back = 0 }
+  pub next_facts : (era : ℕ) → lead.view.era ≡ era → crew_facts lead ≡ record { round = store_round store era; past = past_rounds lead.view.shape lead.view.past; knows = record { history = opening_cut old.opening.shape.bits list ∷ []; accepted = [] }; steps = lead.view.steps; handed = 0; back = 0 }
   next_facts era is =
       let first = begins_history face o laid_out set fit few in
       let same : round_of lead.table lead.view ≡ store_round store era = λ j. round_of (together.one_table j) (record lead.view { era = is j; shape = together.one_shape j; members = together.same_members j }) in
       let knew : knows lead.view ≡ record { history = opening_cut o.shape.bits o.members ∷ []; accepted = [] } = ap knows opener_is ∙ (λ j. record { history = first j; accepted = [] }) in
       let none_out : unwrap_or lead.view.spare 0 ≡ 0 = ap (λ (z : SeatView). unwrap_or z.spare 0) opener_is in
       let none_back : length lead.view.held ≡ 0 = ap (λ (z : SeatView). length z.held) opener_is in
-      λ j. record { round = same j; knows = knew j; steps = lead.view.steps; handed = none_out j; back = none_back j }
+      λ j. record { round = same j; past = past_rounds lead.view.shape lead.view.past; knows = knew j; steps = lead.view.steps; handed = none_out j; back = none_back j }
+
+-- ---- the round that ended
+
+module _ (face : ℕ → ℕ → List (ℕ × ℕ) → List ℕ) (lead : Known) (now : CrewFacts) (back inserts removals found : ℕ) (last : SeatView) (is : crew_facts lead ≡ now) (holds : HoldsCrew face lead.view back inserts removals) (l : LoadsNode face lead.view (root_place lead.view.shape) found last) where
+  abbrev known : Known
+  known = record { table = lead.table; view = last }
+
+  -- its lead was a crew's still when it had loaded the root
+  pub last_crew : HoldsCrew face last back inserts removals
+  last_crew = let c = holds.is_crew in let known' = loaded_knowledge face lead.view last found c.knows_table l c.knowledge in record {
+    handed = holds.handed;
+    is_crew = record {
+      knows_table = loaded_table face lead.view last found c.knows_table l;
+      hands_out = ap (λ (z : SeatView). z.spare) l.stepped ∙ c.hands_out;
+      took_back = refl;
+      knowledge = known';
+    };
+    few = subst (λ (z : SeatView). holds.handed ≤ z.shape.workers) (sym l.stepped) holds.few;
+    back_is = subst (λ (z : SeatView). back ≡ length z.held % 2 ^ 32) (sym l.stepped) holds.back_is;
+    inserts_are = subst (λ (z : SeatView). inserts ≡ inserts_of (changes_of z.held) % 2 ^ 32) (sym l.stepped) holds.inserts_are;
+    removals_are = subst (λ (z : SeatView). removals ≡ removals_of (changes_of z.held) % 2 ^ 32) (sym l.stepped) holds.removals_are;
+  }
+
+  -- what contracts see of that crew
+  pub last_is : crew_facts known ≡ record now { knows = knows last; steps = last.steps }
+  last_is = (λ i. let after : CrewFacts = crew_facts known in
+      record after { round = round_of lead.table (l.stepped i); past = past_rounds (l.stepped i).shape (l.stepped i).past; handed = unwrap_or (l.stepped i).spare 0; back = length (l.stepped i).held })
+      ∙ ap (λ (z : CrewFacts). record z { knows = knows last; steps = last.steps }) is
+
+  pub last_round : (crew_facts known).round ≡ now.round
+  last_round = ap (λ (z : CrewFacts). z.round) last_is
+
+  pub last_goes_on : IsPrefix now.knows.history (knows last).history
+  last_goes_on = subst (λ (z : CrewFacts). IsPrefix z.knows.history (knows last).history) is (knows_on face lead.view last holds.is_crew.knows_table (ap (λ (z : SeatView). z.shape) l.stepped) l.sees.later)
+
+  pub last_changes : changes_of last.held ≡ now.knows.accepted
+  last_changes = ap (λ (z : SeatView). changes_of z.held) l.stepped ∙ ap (λ (z : CrewFacts). z.knows.accepted) is
+
+  pub last_loads : last.steps ≡ now.steps ++ load_node (root_of now.round) found ∷ []
+  last_loads = ap (λ (z : SeatView). z.steps) l.stepped ∙ ap (λ (z : CrewFacts). z.steps ++ load_node (root_of z.round) found ∷ []) is
+
+  -- the rounds that are over then
+  pub over_now : (past : List PastEra) (s : Shape) → past ≡ last.past ++ record { members = last.members; book = last.seen } ∷ [] → s ≡ last.shape → past_rounds s past ≡ chapters (crew_chain (crew_facts known))
+  over_now past s is_past is_shape = (λ i. past_rounds (is_shape i) (is_past i)) ∙ map-append (λ (z : PastEra). record { members = z.members; history = root_history last.shape z.book }) last.past (record { members = last.members; book = last.seen } ∷ [])

@@ -24,7 +24,7 @@ use Rattle.aug_trie.specs.Updates.{TakesSnapshot}
 use Rattle.aug_trie.specs.inside.Knows.{knows, root_numbers}
 use Rattle.aug_trie.specs.Snapshot.{first_place}
 use Rattle.aug_trie.specs.inside.PassState.{pass_facts, IsPass}
-use Rattle.aug_trie.specs.inside.RoundState.{round_of}
+use Rattle.aug_trie.specs.inside.RoundState.{round_of, past_rounds}
 use Rattle.aug_trie.specs.Pass.{PassFacts, GoesOn}
 use Rattle.atomic_table.specs.Seated.{TableId}
 use Rattle.aug_core.specs.Kinds.{load_node}
@@ -126,7 +126,7 @@ module _ (face : ℕ → ℕ → List (ℕ × ℕ) → List ℕ) where
     looked_on table g = let steps = loads_root in let updates : w.shape.updates ≡ v.shape.updates = ap (λ (z : Shape). z.updates) shaped in record {
       same = let spent : w.shape.updates - left ≡ v.shape.updates - left + 0 = omega arith in
           let facts : PassFacts = pass_facts (record { table = table; view = w }) left in
-          λ i. record facts { round = round_of table (record w { era = g.same_era i; shape = g.shaped i; members = g.same_members i }); lane = g.lane i; spent = spent i };
+          λ i. record facts { round = round_of table (record w { era = (g.same_eras i).0; shape = g.shaped i; members = g.same_members i }); past = past_rounds (g.shaped i) (g.same_eras i).1; lane = g.lane i; spent = spent i };
       step_count = ap (λ (z : List StepTaken). length z) steps ∙ length-append v.steps (load_node (root_place v.shape) r ∷ []);
       steps_stay = (load_node (root_place v.shape) r ∷ [], steps);
       knowledge = knowledge_on face 0 [] v w p.knows_table g (All-nil (StandsIn (last_cut (knows w).history))) p.knowledge;

@@ -12,6 +12,7 @@ use Rattle.aug_core.specs.declared.view.SeatView.{SeatView}
 use Rattle.aug_model.specs.declared.outcome.Outcome.{Outcome}
 use Rattle.aug_model.specs.declared.outcome.Outcome.TheVariants.{Refused}
 use Rattle.aug_words.specs.Seats.{MayAdvance, TriedLeaf}
+use Rattle.aug_trie.specs.inside.RoundState.{eras_of}
 use Rattle.aug_trie.specs.inside.Goes.{HasLeaves, HasRoom, Goes, try_steps, level_steps, most_rise_steps}
 use Rattle.aug_trie.specs.inside.Climbing.{Updated, advance_from}
 use Rattle.aug_trie.specs.inside.PassState.{IsPass}
@@ -54,7 +55,7 @@ module _ (f : ℕ → ℕ → List (ℕ × ℕ) → List ℕ) where
     later = l.sees.later;
     shaped = ap (λ (z : SeatView). z.shape) l.stepped;
     same_members = ap (λ (z : SeatView). z.members) l.stepped;
-    same_era = ap (λ (z : SeatView). z.era) l.stepped;
+    same_eras = ap eras_of l.stepped;
     lane = ap (λ (z : SeatView). own_lane z.held) l.stepped;
   }
 
@@ -93,7 +94,7 @@ module _ (f : ℕ → ℕ → List (ℕ × ℕ) → List ℕ) where
             began = ap (λ (z : SeatView). z.began) l.stepped;
             shaped = ap (λ (z : SeatView). z.shape) l.stepped;
             same_members = ap (λ (z : SeatView). z.members) l.stepped;
-            same_era = ap (λ (z : SeatView). z.era) l.stepped;
+            same_eras = ap eras_of l.stepped;
             lane = ap (λ (z : SeatView). own_lane z.held) l.stepped;
           }
 
@@ -140,7 +141,7 @@ module _ (f : ℕ → ℕ → List (ℕ × ℕ) → List ℕ) where
         tried_steps = subst (λ (z : ℕ × ℕ). w.steps ≡ old.steps ++ try_leaf key z.0 z.1 tried.found ∷ []) (λ i. (sym (from_word request key word) i, sym (to_word request key word) i)) told_old.stepped
 
         pub try_step : OneStep old w
-        try_step = record { taken = try_leaf key word (word_after request key word) tried.found; steps = tried_steps; later = told_old.sees.later; shaped = g_new.1.shaped; same_members = g_new.1.same_members; same_era = g_new.1.same_era; lane = g_new.1.lane }
+        try_step = record { taken = try_leaf key word (word_after request key word) tried.found; steps = tried_steps; later = told_old.sees.later; shaped = g_new.1.shaped; same_members = g_new.1.same_members; same_eras = g_new.1.same_eras; lane = g_new.1.lane }
 
         pub tried_up : (done : Outcome) (up : Ascent) → done ≡ (if ok then outcome_by request word else Refused) → up.level ≡ 0 → up.node ≡ leaves + key / 2 → up.second ≡ false → up.point ≡ Node → StageAt f leaves bits number left key request u (Up done up) w
         tried_up done up comes el en es ep = let p = t.is_pass in let r = room_one u leaves bits number left p t.some in let gained = g_new.0 in
@@ -159,7 +160,7 @@ module _ (f : ℕ → ℕ → List (ℕ × ℕ) → List ℕ) where
                       ∙ append_assoc u.steps (load_leaf key word ∷ []) (try_leaf key word (word_after request key word) tried.found ∷ []);
                   tried = λ lets. omega arith;
                 };
-                has_begun = record { began = same_beginning ∙ ap (λ (z : SeatView). z.began) loaded.stepped; shaped = g.shaped; same_members = g.same_members; same_era = g.same_era; lane = g.lane };
+                has_begun = record { began = same_beginning ∙ ap (λ (z : SeatView). z.began) loaded.stepped; shaped = g.shaped; same_members = g.same_members; same_eras = g.same_eras; lane = g.lane };
                 finish = λ z risen. updated f u old key word request bits number t.low p.bits_are r.2 p.knows_table loaded t.fits t.is_stage.lets w ok room_old.is_free.lane room_old.is_free.only tried z risen done comes;
                 on_way = way_begins f bits number key w m up r.2 el (en ∙ ap (λ (z : ℕ). z + key / 2) (p.leaves_are.are ∙ ap (λ (z : Shape). 2 ^ z.bits) (sym g.shaped))) es ep;
               };
@@ -182,7 +183,7 @@ module _ (f : ℕ → ℕ → List (ℕ × ℕ) → List ℕ) where
         fits = t.fits;
         is_stage = record {
           leaf = r.leaf;
-          has_begun = record { began = quiet.1 ∙ b.began; shaped = s.shaped ∙ b.shaped; same_members = s.same_members ∙ b.same_members; same_era = s.same_era ∙ b.same_era; lane = s.lane ∙ b.lane };
+          has_begun = record { began = quiet.1 ∙ b.began; shaped = s.shaped ∙ b.shaped; same_members = s.same_members ∙ b.same_members; same_eras = s.same_eras ∙ b.same_eras; lane = s.lane ∙ b.lane };
           has_left = let l = r.has_left in record {
             found = l.found;
             more = l.more ++ s.taken ∷ [];

@@ -18,7 +18,7 @@ use Rattle.aug_trie.specs.inside.Knows.{root_history, knows, root_numbers}
 use Rattle.aug_trie.specs.Updates.{ComesTo}
 use Rattle.aug_trie.specs.Pass.{PassFacts, GoesOn, StepsOf}
 use Rattle.aug_trie.specs.inside.PassState.{pass_facts}
-use Rattle.aug_trie.specs.inside.RoundState.{round_of}
+use Rattle.aug_trie.specs.inside.RoundState.{round_of, eras_of, past_rounds}
 use Rattle.aug_trie.specs.Node.{Keeps}
 use Rattle.aug_trie.specs.inside.Points.{OneStep, TryAt, point_turns}
 use Rattle.aug_trie.specs.Requests.{word_after, goes_from}
@@ -92,7 +92,8 @@ module _ (f : ℕ → ℕ → List (ℕ × ℕ) → List ℕ) where
 
     begun_is : (v : SeatView) → HasBegun f leaves bits number left key request u v → began_facts (record { table = table; view = v }) left ≡ at_start
     begun_is v b = let began : v.began ≡ record { seen = u.seen; steps = u.steps; changes = changes_of u.held } = b.began in λ i. record {
-      round = round_of table (record v { era = b.same_era i; shape = b.shaped i; members = b.same_members i });
+      round = round_of table (record v { era = (b.same_eras i).0; shape = b.shaped i; members = b.same_members i });
+      past = past_rounds (b.shaped i) (b.same_eras i).1;
       lane = b.lane i;
       knows = record { history = root_history (b.shaped i) (began i).seen; accepted = (began i).changes };
       numbers = root_numbers (b.shaped i) (began i).seen;
@@ -106,7 +107,7 @@ module _ (f : ℕ → ℕ → List (ℕ × ℕ) → List ℕ) where
       began = ap (λ (z : SeatView). z.began) l.stepped;
       shaped = ap (λ (z : SeatView). z.shape) l.stepped;
       same_members = ap (λ (z : SeatView). z.members) l.stepped;
-      same_era = ap (λ (z : SeatView). z.era) l.stepped;
+      same_eras = ap eras_of l.stepped;
       lane = ap (λ (z : SeatView). own_lane z.held) l.stepped;
     }
 
@@ -133,7 +134,7 @@ module _ (f : ℕ → ℕ → List (ℕ × ℕ) → List ℕ) where
     once v w rest kn s = record {
       taken = s.taken;
       same = let facts : PassFacts = pass_facts (record { table = table; view = w }) rest in
-          λ i. record facts { round = round_of table (record w { era = s.same_era i; shape = s.shaped i; members = s.same_members i }); lane = s.lane i; steps = s.steps i };
+          λ i. record facts { round = round_of table (record w { era = (s.same_eras i).0; shape = s.shaped i; members = s.same_members i }); past = past_rounds (s.shaped i) (s.same_eras i).1; lane = s.lane i; steps = s.steps i };
       goes_on = knows_on f v w kn s.shaped s.later;
     }
 

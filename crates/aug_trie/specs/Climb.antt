@@ -25,7 +25,7 @@ BeginsClimb request key pass climb = climb ≡ record { start = pass; now = pass
 -- the pass made one step, and its new history continues the old one
 pub record StepsOnce (old new : PassFacts) : Type 0 where
   pub taken : StepTaken
-  pub same : new ≡ record new { round = old.round; lane = old.lane; steps = old.steps ++ taken ∷ [] }
+  pub same : new ≡ record new { round = old.round; past = old.past; lane = old.lane; steps = old.steps ++ taken ∷ [] }
   pub goes_on : IsPrefix old.knows.history new.knows.history
 
 -- a turn after which there is more to do. The first turn loads the key's leaf. If the serial that was found lets the update continue, the second

@@ -2,33 +2,40 @@
 use Rattle.std.specs.Prelude.{◌≡◌, ℕ, ◌+◌, ◌<◌, List, [], ◌∷◌, ◌++◌, length}
 use Rattle.aug_core.specs.Cuts.{opening_cut, pairs_of_cut}
 use Rattle.aug_core.specs.Kinds.{load_node}
+use Rattle.aug_core.specs.Prefixes.{IsPrefix}
 use Rattle.aug_core.specs.declared.step.StepTaken.{StepTaken}
 use Rattle.aug_trie.specs.History.{IsHistory, last_cut}
 use Rattle.aug_trie.specs.Knowledge.{Knowledge, IsKnowledge, inserts_of, removals_of}
 use Rattle.aug_trie.specs.Passes.{HandedOut, HandedBack, HasLearnt}
 use Rattle.aug_trie.specs.Round.{RoundFacts, root_of}
+use Rattle.aug_trie.specs.Chains.{Chapter, Chain, chain, chapters}
 use Rattle.aug_trie.specs.Note.{NoteFacts}
 use Rattle.aug_trie.specs.Pass.{PassFacts}
 use Rattle.aug_trie.specs.Tallies.{TalliesWithLost}
 use Rattle.aug_trie.specs.Ended.{EndedFacts}
 
--- a crew: its round, what it knows, its atomic steps, and how many passes it handed out and took back
+-- a crew: its round, the rounds before in its table, what it knows, its atomic steps, and how many passes it handed out and took back
 pub record CrewFacts : Type 0 where
   pub round : RoundFacts
+  pub past : List Chapter
   pub knows : Knowledge
   pub steps : List StepTaken
   pub handed : ℕ
   pub back : ℕ
 
+-- what it knows of the rounds of its table
+abbrev pub crew_chain : CrewFacts → Chain
+crew_chain crew = chain crew.past crew.round.members crew.knows.history
+
 -- a round of keys of `bits` bits over a set with these members, and its crew, which knows only the opening cut and has handed nothing out
 pub record BeginsRound (members : List (ℕ × ℕ)) (bits workers updates : ℕ) (round : RoundFacts) (crew : CrewFacts) : Type 0 where
   pub round_is : round ≡ record { table = round.table; era = 0; bits = bits; members = members; workers = workers; updates = updates; room = length members }
-  pub crew_is : crew ≡ record { round = round; knows = record { history = opening_cut bits members ∷ []; accepted = [] }; steps = crew.steps; handed = 0; back = 0 }
+  pub crew_is : crew ≡ record { round = round; past = []; knows = record { history = opening_cut bits members ∷ []; accepted = [] }; steps = crew.steps; handed = 0; back = 0 }
 
 -- the same for a round that is laid out for `room` members
 pub record BeginsIn (room : ℕ) (members : List (ℕ × ℕ)) (bits workers updates : ℕ) (round : RoundFacts) (crew : CrewFacts) : Type 0 where
   pub round_is : round ≡ record { table = round.table; era = 0; bits = bits; members = members; workers = workers; updates = updates; room = room }
-  pub crew_is : crew ≡ record { round = round; knows = record { history = opening_cut bits members ∷ []; accepted = [] }; steps = crew.steps; handed = 0; back = 0 }
+  pub crew_is : crew ≡ record { round = round; past = []; knows = record { history = opening_cut bits members ∷ []; accepted = [] }; steps = crew.steps; handed = 0; back = 0 }
 
 -- the crew's one step loads the root's word
 abbrev pub LoadsRoot : CrewFacts → CrewFacts → Type 0
@@ -38,7 +45,7 @@ LoadsRoot old new = (found : ℕ) × (new.steps ≡ old.steps ++ load_node (root
 pub record HandsOut (old new : CrewFacts) (pass : PassFacts) : Type 0 where
   pub knows : HandedOut old.knows new.knows pass.knows
   pub crew_is : new ≡ record old { knows = new.knows; steps = new.steps; handed = old.handed + 1 }
-  pub pass_is : pass ≡ record pass { round = old.round; lane = old.handed; spent = 0 }
+  pub pass_is : pass ≡ record pass { round = old.round; past = old.past; lane = old.handed; spent = 0 }
   pub exists : old.handed < old.round.workers
   pub knowledge : IsKnowledge pass.round.bits pass.round.members pass.knows
   pub named : length pass.numbers ≡ length pass.knows.history
@@ -53,7 +60,7 @@ pub record TakesBack (old new : CrewFacts) (pass : PassFacts) : Type 0 where
 
 -- the crew learns a note, and then loads the root
 pub record CrewLearns (old new : CrewFacts) (note : NoteFacts) : Type 0 where
-  pub knows : HasLearnt old.knows note.history new.knows
+  pub learns : HasLearnt old.round.era (crew_chain old) old.knows note (crew_chain new) new.knows
   pub crew_is : new ≡ record old { knows = new.knows; steps = new.steps }
   pub knowledge : IsKnowledge new.round.bits new.round.members new.knows
   pub loads : LoadsRoot old new
@@ -70,15 +77,20 @@ pub record Ends (crew : CrewFacts) (ended : EndedFacts) : Type 0 where
   pub is_history : IsHistory crew.round.bits crew.round.members crew.knows.history
   pub tallies : TalliesWithLost crew.round.updates ended.missing (opening_cut crew.round.bits crew.round.members) (last_cut crew.knows.history) crew.knows.history crew.knows.accepted
 
--- a round ends to which all passes came back, and the next one begins over its set, in the same table: the list has the set, and the counts are those of
--- the round that ended
+-- a round ends to which all passes came back, with a load of the root, and the next one begins over its set, in the same table: the list has the set, and
+-- the counts are those of the round that ended. All of its history is known then
 pub record RollsOver (old : CrewFacts) (round new_round : RoundFacts) (crew : CrewFacts) (list : List (ℕ × ℕ)) (inserts removals : ℕ) : Type 0 where
+  pub last : CrewFacts
+  pub last_is : last ≡ record old { knows = last.knows; steps = last.steps }
+  pub goes_on : IsPrefix old.knows.history last.knows.history
+  pub same_changes : last.knows.accepted ≡ old.knows.accepted
+  pub loads : LoadsRoot old last
   pub ended : EndedFacts
-  pub ends : Ends old ended
+  pub ends : Ends last ended
   pub none_missing : ended.missing ≡ 0
   pub sizes : length ended.members + ended.removals ≡ length round.members + ended.inserts
   pub list_is : list ≡ ended.members
   pub inserts_are : inserts ≡ ended.inserts
   pub removals_are : removals ≡ ended.removals
   pub round_is : new_round ≡ record round { era = round.era + 1; members = ended.members }
-  pub crew_is : crew ≡ record { round = new_round; knows = record { history = opening_cut round.bits ended.members ∷ []; accepted = [] }; steps = crew.steps; handed = 0; back = 0 }
+  pub crew_is : crew ≡ record { round = new_round; past = chapters (crew_chain last); knows = record { history = opening_cut round.bits ended.members ∷ []; accepted = [] }; steps = crew.steps; handed = 0; back = 0 }

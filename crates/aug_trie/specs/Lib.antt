@@ -6,6 +6,7 @@ pub mod Updates
 pub mod Passes
 pub mod Tallies
 pub mod TreeOf
+pub mod Chains
 pub mod Round
 pub mod Note
 pub mod Pass

@@ -1,9 +1,15 @@
 -- What contracts see of a note.
 use Rattle.std.specs.Prelude.{List}
 use Rattle.aug_core.specs.Cuts.{Cut}
+use Rattle.aug_trie.specs.Chains.{Chapter, Chain, chain}
 use Rattle.aug_trie.specs.Round.{RoundFacts}
 
--- a note: the round of the pass or the crew that made it, and the history that this knew then
+-- a note: the round of the pass or the crew that made it, the rounds before, and the history that this knew then
 pub record NoteFacts : Type 0 where
   pub round : RoundFacts
+  pub past : List Chapter
   pub history : List Cut
+
+-- the rounds of its table, as far as it tells of them
+abbrev pub chain_of_note : NoteFacts → Chain
+chain_of_note note = chain note.past note.round.members note.history

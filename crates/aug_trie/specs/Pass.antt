@@ -12,6 +12,7 @@ use Rattle.aug_core.specs.declared.step.StepKind.TheVariants.{TryLeaf}
 use Rattle.aug_trie.specs.LeafWords.{serial_in_word}
 use Rattle.aug_trie.specs.Requests.{goes_from, in_the_way, word_after, outcome_by}
 use Rattle.aug_core.specs.Prefixes.{IsPrefix}
+use Rattle.aug_trie.specs.Chains.{Chapter, Chain, chain}
 use Rattle.aug_trie.specs.History.{last_cut}
 use Rattle.aug_trie.specs.Knowledge.{Knowledge, IsKnowledge}
 use Rattle.aug_trie.specs.Round.{RoundFacts}
@@ -22,10 +23,11 @@ pub record WordsSeen : Type 0 where
   pub shape : Shape
   pub book : Book
 
--- a pass: its round and lane, what it knows, for each cut of its history the number of the root's record that shows it, how many updates it made, its atomic
+-- a pass: its round, the rounds before in its table, its lane, what it knows, for each cut of its history the number of the root's record that shows it, how many updates it made, its atomic
 -- steps, and the words that it has seen
 pub record PassFacts : Type 0 where
   pub round : RoundFacts
+  pub past : List Chapter
   pub lane : ℕ
   pub knows : Knowledge
   pub numbers : List ℕ
@@ -33,9 +35,13 @@ pub record PassFacts : Type 0 where
   pub steps : List StepTaken
   pub words : WordsSeen
 
+-- what it knows of the rounds of its table
+abbrev pub chain_of : PassFacts → Chain
+chain_of pass = chain pass.past pass.round.members pass.knows.history
+
 -- the pass is in the same round and lane, after `updates` more updates and `steps` more steps
 pub record GoesOn (updates steps : ℕ) (old new : PassFacts) : Type 0 where
-  pub same : new ≡ record new { round = old.round; lane = old.lane; spent = old.spent + updates }
+  pub same : new ≡ record new { round = old.round; past = old.past; lane = old.lane; spent = old.spent + updates }
   pub step_count : length new.steps ≡ length old.steps + steps
   pub steps_stay : IsPrefix old.steps new.steps
   pub knowledge : IsKnowledge new.round.bits new.round.members new.knows

@@ -1,7 +1,8 @@
 -- How knowledge goes from a crew to a pass and back, and by a note.
-use Rattle.std.specs.Prelude.{◌≡◌, ◌⊎◌, List, [], ◌++◌}
-use Rattle.aug_core.specs.Cuts.{Cut}
+use Rattle.std.specs.Prelude.{◌≡◌, ◌⊎◌, ℕ, ◌≤◌, [], ◌++◌}
 use Rattle.aug_core.specs.Prefixes.{IsPrefix}
+use Rattle.aug_trie.specs.Chains.{Chain, IsPart}
+use Rattle.aug_trie.specs.Note.{NoteFacts, chain_of_note}
 use Rattle.aug_trie.specs.Knowledge.{Knowledge}
 
 -- a new pass knows the history that its crew then knows, and no accepted change
@@ -17,9 +18,12 @@ pub record HandedBack (old pass new : Knowledge) : Type 0 where
   pub takes_up : IsPrefix pass.history new.history
   pub changes_of_both : new.accepted ≡ old.accepted ++ pass.accepted
 
--- a pass or a crew learns the history of a note: this and its own are of one piece, and it then knows both, and the changes that it had
-pub record HasLearnt (old : Knowledge) (noted : List Cut) (new : Knowledge) : Type 0 where
-  pub one_piece : IsPrefix old.history noted ⊎ IsPrefix noted old.history
+-- a pass or a crew of this era learns a note of its table: what this tells of the table's rounds and what was known of them are of one piece, and both are
+-- known then, beside the changes that were known
+pub record HasLearnt (era : ℕ) (old_chain : Chain) (old : Knowledge) (note : NoteFacts) (new_chain : Chain) (new : Knowledge) : Type 0 where
+  pub one_piece : IsPart old_chain (chain_of_note note) ⊎ IsPart (chain_of_note note) old_chain
   pub goes_on : IsPrefix old.history new.history
-  pub takes_up : IsPrefix noted new.history
+  pub takes_up : IsPart (chain_of_note note) new_chain
+  pub not_later : note.round.era ≤ era
+  pub of_era : note.round.era ≡ era → IsPrefix note.history new.history
   pub same_changes : new.accepted ≡ old.accepted

@@ -4,13 +4,14 @@ use mathlib.Core.Option.{some, some-injective, some-ne-none}
 use lib.ListN.{get_elem?}
 use Rattle.atomic_table.specs.Table.{Final, Seen}
 use Rattle.aug_core.specs.Eras.{IsAtWork, Works, Renews, Ruled}
-use Rattle.aug_core.specs.Renewals.{EndWith}
-use Rattle.aug_core.specs.Told.{opening_of}
+use Rattle.aug_core.specs.Renewals.{EndWith, BeginsRenewal}
+use Rattle.aug_core.proofs.Fits.{knows_shown}
+use Rattle.aug_core.specs.Told.{KnowsTable, opening_of}
 use Rattle.aug_core.proofs.Eras.{none_renews}
 use Rattle.aug_core.proofs.Renewals.{met_rule}
-use Rattle.aug_core.specs.Addresses.{IsInner}
+use Rattle.aug_core.specs.Addresses.{IsInner, root_place}
 use Rattle.aug_core.specs.Lanes.{first_record}
-use Rattle.aug_core.specs.Book.{At}
+use Rattle.aug_core.specs.Book.{At, IsNewest}
 use Rattle.aug_core.specs.Opening.{Opening, opening_entry}
 use Rattle.aug_core.specs.Rule.{Kept}
 use Rattle.aug_core.specs.declared.view.Entry.{Entry}
@@ -19,7 +20,7 @@ use Rattle.aug_core.specs.Places.{Shape, record_words}
 use Rattle.aug_core.proofs.Sizes.{in_block}
 use Rattle.aug_core.proofs.Moves.{St}
 use Rattle.aug_core.proofs.Openings.{inner_history}
-use Rattle.aug_words.specs.Rests.{ShowAll}
+use Rattle.aug_words.specs.Rests.{ShowAll, ComesToRest}
 use Rattle.aug_core.proofs.PrefixLemmas.{entry_stays}
 
 module _ (face : ℕ → ℕ → List (ℕ × ℕ) → List ℕ) (o : Opening) where
@@ -42,6 +43,20 @@ module _ (face : ℕ → ℕ → List (ℕ × ℕ) → List ℕ) (o : Opening) w
   module _ (v : SeatView) (words : List ℕ) (end : EndWith face o v words) where
     pub ends_showing : ShowAll face o v words
     ends_showing = subst (λ (z : List ℕ). ShowAll face o v z) end.words_are (shows_all end.state end.kept end.seat v end.view_is)
+
+-- a lead that began to renew its table brought it to rest
+pub comes_to_rest : (face : ℕ → ℕ → List (ℕ × ℕ) → List ℕ) (o : Opening) (v : SeatView) (root : ℕ) (idle : SeatView) → KnowsTable face v → opening_of v ≡ o → BeginsRenewal face v (root_place v.shape) root idle → ComesToRest face o v root idle
+comes_to_rest face o v root idle knows same b =
+    let shape : b.last.shape ≡ v.shape = ap (λ (z : SeatView). z.shape) b.loaded.stepped in
+    let rule : EndWith face o b.last idle.words = subst (λ (z : Opening). EndWith face z b.last idle.words) same b.ends in record {
+      last = b.last;
+      loaded = b.loaded;
+      knows = knows_shown face v b.last knows b.loaded.sees shape (ap (λ (z : SeatView). z.members) b.loaded.stepped);
+      named = record { index = b.loaded.index; entry = b.loaded.entry; newest = subst (λ (z : Shape). IsNewest b.last.seen (root_place z) b.loaded.index b.loaded.entry) (sym shape) b.loaded.newest; named = b.loaded.found };
+      idle_is = b.stepped;
+      rule = rule;
+      words = ends_showing face o b.last idle.words rule;
+    }
 
 -- a table that a lead closes met the rule of the opening that the lead knows
 pub ends_with : (face : ℕ → ℕ → List (ℕ × ℕ) → List ℕ) (made : Shape) (id : ℕ) (v : SeatView) (words : List ℕ) (slots : List (Unit {0})) → Final (Seen (Ruled face made) id v) words slots → v.live ≡ true → IsAtWork v → EndWith face (opening_of v) v words

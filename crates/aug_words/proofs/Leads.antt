@@ -5,15 +5,20 @@ use Rattle.aug_core.specs.Lanes.{IsOfLane}
 use Rattle.aug_core.specs.Addresses.{IsInner, root_place}
 use Rattle.aug_core.specs.Places.{word_count}
 use Rattle.aug_core.specs.Book.{Book, ArePrefixes, IsNewest, GoesOnFromBoth}
-use Rattle.aug_core.specs.Told.{Sat, LoadsNode, handing_out, handed_out, taking, taking_back, learning, in_state, new_lane, own_lane_place, MayStore, MayChange}
+use Rattle.aug_core.specs.Pasts.{IsLearnt, learnt_of}
+use Rattle.aug_core.specs.Learning.{learning}
+use Rattle.aug_core.specs.Told.{Sat, LoadsNode, handing_out, handed_out, taking, taking_back, in_state, new_lane, own_lane_place, MayStore, MayChange}
 use Rattle.aug_core.specs.declared.view.LaneState.TheVariants.{Taken}
+use Rattle.aug_core.specs.declared.view.PastEra.{PastEra}
 use Rattle.aug_core.specs.declared.view.SeatView.{SeatView}
 use Rattle.aug_core.proofs.PlaceLemmas.{keys-within}
 use Rattle.aug_core.proofs.Sizes.{twice}
 use Rattle.aug_core.proofs.Books.{goes_on_from_both}
 use Rattle.aug_core.proofs.Splits.{block_long}
 use Rattle.aug_core.proofs.Clients.{new_pass_may_store, new_pass_may_change}
-use Rattle.aug_core.proofs.Fits.{knows_shown, knows_same, knows_taken}
+use Rattle.aug_core.specs.Eras.{seen_in}
+use Rattle.aug_core.proofs.Eras.{seen_now}
+use Rattle.aug_core.proofs.Fits.{knows_shown, knows_same, knows_told, knows_taken}
 use Rattle.atomic_table.specs.Seated.{TableId}
 use Rattle.aug_core.specs.Places.{Shape}
 use Rattle.aug_core.specs.Opening.{Opening, opening_number, opening_entry}
@@ -45,13 +50,13 @@ pub root_inner : (s : Shape) → 1 ≤ s.bits → s.bits ≤ 16 → IsInner s (r
 root_inner s some_bits few = let b = (keys-within s.bits some_bits few).0 in let t = twice s.bits in record { past_leaves = omega arith; inside = omega arith }
 
 -- the seat that opens a table, which has the number of the root's opening record
-pub opening_seat : (face : ℕ → ℕ → List (ℕ × ℕ) → List ℕ) (o : Opening) (era : ℕ) (words : List ℕ) (number : ℕ) → IsLayout o.shape → IsKeySet o.shape.bits (keys_of o.members) → All FitsPair o.members → length (keys_of o.members) ≤ o.shape.members
-    → number ≡ opening_number o (root_place o.shape) → IsLeadSeat face 0 number (opener face o era words, [])
-opening_seat face o era words number laid_out set fit few named = let inner = root_inner o.shape laid_out.bits.0 laid_out.bits.1 in let only = inner_history face o (root_place o.shape) inner in record {
+pub opening_seat : (face : ℕ → ℕ → List (ℕ × ℕ) → List ℕ) (o : Opening) (past : List PastEra) (era : ℕ) (words : List ℕ) (number : ℕ) → IsLayout o.shape → IsKeySet o.shape.bits (keys_of o.members) → All FitsPair o.members → length (keys_of o.members) ≤ o.shape.members
+    → number ≡ opening_number o (root_place o.shape) → IsLeadSeat face 0 number (opener face o past era words, [])
+opening_seat face o past era words number laid_out set fit few named = let inner = root_inner o.shape laid_out.bits.0 laid_out.bits.1 in let only = inner_history face o (root_place o.shape) inner in record {
   live = refl;
   no_slot = refl;
   hands_out = refl;
-  knows = opener_knows face o era words laid_out set fit few;
+  knows = opener_knows face o past era words laid_out set fit few;
   names_root = record {
     index = 0;
     entry = opening_entry face o (root_place o.shape);
@@ -102,7 +107,7 @@ module _ (face : ℕ → ℕ → List (ℕ × ℕ) → List ℕ) (next root : �
     live = seat.live;
     no_slot = seat.no_slot;
     hands_out = seat.hands_out;
-    knows = knows_same face me.0 me.0.live w.seen me.0.held me.0.spare me.0.began me.0.steps seat.knows;
+    knows = knows_told face me.0 (seen_in me.0.era w).seen (Some (learnt_of w)) seat.knows;
     names_root = let at = seat.names_root in record { index = at.index; entry = at.entry; newest = at.newest; named = at.named };
   }
 
@@ -129,8 +134,13 @@ new_pass face next root place lead me seat low empty is =
     }
 
 -- what is known once a note was taken in and the root was loaded
-pub learnt_note : (face : ℕ → ℕ → List (ℕ × ℕ) → List ℕ) (v note w : SeatView) (found : ℕ) → LoadsNode face (learning v note) (root_place v.shape) found w → LearnsNote face v note found w
-learnt_note face v note w found did = record { loaded = did; of_both = goes_on_from_both w.seen v.seen note.seen did.sees.later did.sees.also_later }
+pub learnt_note : (face : ℕ → ℕ → List (ℕ × ℕ) → List ℕ) (v note w : SeatView) (found : ℕ) → LoadsNode face (learning v note) (root_place v.shape) found w
+    → IsLearnt v.shape v.era v.past v.members (learnt_of note) → LearnsNote face v note found w
+learnt_note face v note w found did told = record {
+  loaded = did;
+  told = told;
+  of_both = λ e. goes_on_from_both w.seen v.seen note.seen did.sees.later (subst (λ (z : SeatView). ArePrefixes z.seen w.seen) (seen_now v.era note e) did.sees.also_later);
+}
 
 -- what the lead knows once it took a pass back and loaded the root
 pub took_back : (face : ℕ → ℕ → List (ℕ × ℕ) → List ℕ) (v w u x : SeatView) (q found : ℕ) → LoadsNode face (taking_back v w) q found u → w.seen ≡ x.seen → GoesOnFromBoth v.seen x.seen u.seen

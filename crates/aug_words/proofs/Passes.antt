@@ -1,5 +1,5 @@
 -- The seat of a pass after a step.
-use Rattle.std.proofs.Common.{◌≡◌, ℕ, ◌+◌, ◌-◌, ◌*◌, ◌^◌, ◌<◌, ◌≤◌, length, length-set, arith, mul-le-mul_right, List, [], ◌∷◌, ◌++◌, refl, sym, ap, ◌∙◌, subst, ⊎_elim}
+use Rattle.std.proofs.Common.{◌≡◌, ℕ, ◌+◌, ◌-◌, ◌*◌, ◌^◌, ◌<◌, ◌≤◌, length, length-set, arith, mul-le-mul_right, List, [], ◌∷◌, ◌++◌, refl, sym, ap, ◌∙◌, subst, ⊎_elim, Some}
 use mathlib.Core.Option.{some}
 use lib.ListN.{get_elem?}
 use Rattle.atomic_table.specs.Seated.{TableId}
@@ -9,8 +9,10 @@ use Rattle.aug_core.specs.Book.{Book, history_of}
 use Rattle.aug_core.proofs.Books.{at_below}
 use Rattle.std.proofs.Math.Nat.{mul_comm}
 use Rattle.std.proofs.lemmas.Bool.{cases_eq}
-use Rattle.aug_core.specs.Told.{Sat, stepping, learning, old_word, new_word, made_by, with_changes, with_published, Sees, LoadsLeaf, BeginsAtLeaf, LoadsNode, TriesLeaf, TriesNode, HoldsOnly, HasSeen, Owns, MayStore, ReadsRecord, on_first, with_word, storing, beginning, own_lane}
-use Rattle.aug_core.specs.Eras.{IsAtWork}
+use Rattle.aug_core.specs.Pasts.{learnt_of}
+use Rattle.aug_core.specs.Learning.{learning}
+use Rattle.aug_core.specs.Told.{Sat, stepping, old_word, new_word, made_by, with_changes, with_published, Sees, LoadsLeaf, BeginsAtLeaf, LoadsNode, TriesLeaf, TriesNode, HoldsOnly, HasSeen, Owns, MayStore, ReadsRecord, on_first, with_word, storing, beginning, own_lane}
+use Rattle.aug_core.specs.Eras.{IsAtWork, seen_in}
 use Rattle.aug_core.specs.inside.LaneStates.{HasTakenLane}
 use Rattle.aug_core.specs.Kinds.{load_leaf, try_leaf, load_node, try_node, load_record_word, store_record_word}
 use Rattle.aug_core.specs.declared.step.StepTaken.{StepTaken}
@@ -20,7 +22,7 @@ use Rattle.aug_core.specs.declared.view.Held.{Held}
 use Rattle.aug_core.specs.declared.view.LaneState.TheVariants.{Taken}
 use Rattle.aug_core.specs.declared.view.SeatView.{SeatView}
 use Rattle.aug_core.proofs.Sizes.{record_inside}
-use Rattle.aug_core.proofs.Fits.{knows_shown, knows_same}
+use Rattle.aug_core.proofs.Fits.{knows_shown, knows_same, knows_told}
 use Rattle.aug_core.proofs.Stores.{alone, one_held}
 use Rattle.aug_core.proofs.Eras.{holds_lane}
 use Rattle.aug_words.specs.inside.SeatState.{SitsAt, IsPassSeat, HasReached}
@@ -107,7 +109,7 @@ module _ (face : ℕ → ℕ → List (ℕ × ℕ) → List ℕ) (a a' t : Table
       taken = seat.taken;
       long = seat.long;
       exists = seat.exists;
-      knows = knows_same face me.0 me.0.live w.seen me.0.held me.0.spare me.0.began me.0.steps seat.knows;
+      knows = knows_told face me.0 (seen_in me.0.era w).seen (Some (learnt_of w)) seat.knows;
     },
   )
 

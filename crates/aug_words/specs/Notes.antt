@@ -1,12 +1,16 @@
 -- What it does to what is known that a note is taken in.
-use Rattle.std.specs.Prelude.{ℕ, List}
+use Rattle.std.specs.Prelude.{◌≡◌, ℕ, List}
 use Rattle.aug_core.specs.Addresses.{root_place}
 use Rattle.aug_core.specs.Book.{GoesOnFromBoth}
-use Rattle.aug_core.specs.Told.{LoadsNode, learning}
+use Rattle.aug_core.specs.Told.{LoadsNode}
+use Rattle.aug_core.specs.Pasts.{IsLearnt, learnt_of}
+use Rattle.aug_core.specs.Learning.{learning}
 use Rattle.aug_core.specs.declared.view.SeatView.{SeatView}
 
 module _ (face : ℕ → ℕ → List (ℕ × ℕ) → List ℕ) where
-  -- the view takes in a note, and loads the root, by which it knows more than it and the note knew
+  -- the view takes in a note, and loads the root. What the note tells of the eras before is so; and where it is of the view's era, the view then knows
+  -- more than it and the note knew
   pub record LearnsNote (v note : SeatView) (found : ℕ) (after : SeatView) : Type 0 where
     pub loaded : LoadsNode face (learning v note) (root_place v.shape) found after
-    pub of_both : GoesOnFromBoth v.seen note.seen after.seen
+    pub told : IsLearnt v.shape v.era v.past v.members (learnt_of note)
+    pub of_both : note.era ≡ v.era → GoesOnFromBoth v.seen note.seen after.seen

@@ -3,14 +3,16 @@ use Rattle.std.specs.Prelude.{◌≡◌, ℕ, ◌+◌, ◌<◌, List, slice_inde
 use mathlib.Core.Option.{some}
 use lib.ListN.{get_elem?}
 use Rattle.aug_core.specs.Places.{Shape, lane_place, record_start, record_words}
-use Rattle.aug_core.specs.Addresses.{IsInner}
+use Rattle.aug_core.specs.Addresses.{IsInner, root_place}
 use Rattle.aug_core.specs.Lanes.{IsOfLane, word_of_state}
 use Rattle.aug_core.specs.Book.{At}
 use Rattle.aug_core.specs.Opening.{Opening, IsIdle, opening_number, opening_words, shared_words}
-use Rattle.aug_core.specs.Told.{held_word}
+use Rattle.aug_core.specs.Told.{KnowsTable, LoadsNode, held_word}
+use Rattle.aug_core.specs.Renewals.{EndWith, renewing}
 use Rattle.aug_core.specs.declared.view.Entry.{Entry}
 use Rattle.aug_core.specs.declared.view.Held.{Held}
 use Rattle.aug_core.specs.declared.view.SeatView.{SeatView}
+use Rattle.aug_words.specs.Seats.{NamesRoot}
 
 -- opaque: the words of a table that no seat steps on any more
 pub record AtRest : Type 0 where
@@ -32,3 +34,14 @@ module _ (face : ℕ → ℕ → List (ℕ × ℕ) → List ℕ) (o : Opening) (
     pub lanes : (a : ℕ) (h : Held) → get_elem? v.held a ≡ some h → slice_index words (lane_place o.shape h.lane) ≡ word_of_state h.state
     -- and so is each word of its records
     pub records : (a number field : ℕ) (h : Held) → get_elem? v.held a ≡ some h → IsOfLane o.shape h.lane number → field < record_words → slice_index words (record_start o.shape number + field) ≡ held_word o.shape h number field
+
+module _ (face : ℕ → ℕ → List (ℕ × ℕ) → List ℕ) (o : Opening) where
+  -- a lead that brings its table to rest loads the root, by which it knows the last book of the era; and from then on it knows all words
+  pub record ComesToRest (v : SeatView) (root : ℕ) (idle : SeatView) : Type 0 where
+    pub last : SeatView
+    pub loaded : LoadsNode face v (root_place v.shape) root last
+    pub knows : KnowsTable face last
+    pub named : NamesRoot last root
+    pub idle_is : idle ≡ renewing last idle.words
+    pub rule : EndWith face o last idle.words
+    pub words : ShowAll face o last idle.words

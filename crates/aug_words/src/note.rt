@@ -1,7 +1,9 @@
 //! What a pass or a lead has seen, for another to take in.
-ghost use Rattle.std.specs.Prelude.{◌≡◌, ℕ};
+ghost use Rattle.std.specs.Prelude.{◌≡◌, ◌<◌, ℕ, IfSome};
 ghost use Rattle.aug_core.specs.Faces.{face};
-ghost use Rattle.aug_core.specs.Told.{noted};
+ghost use Rattle.aug_core.specs.Addresses.{root_place};
+ghost use Rattle.aug_core.specs.Pasts.{IsLearnt};
+ghost use Rattle.aug_core.specs.Told.{LoadsNode, noted};
 ghost use Rattle.aug_words.specs.Notes.{LearnsNote};
 ghost use Rattle.aug_words.specs.Seats.{AreTogether};
 
@@ -9,7 +11,7 @@ use crate::lead::Lead;
 use crate::pass::WordPass;
 use crate::words::Words;
 use atomic_table::Seat;
-use aug_core::{MakeNote, SeatView, TakeNote};
+use aug_core::{LoadAfterNote, MakeNote, SeatView, SharedWords, TakeNote};
 use aug_monoid::Monoid;
 use std::marker::Model;
 
@@ -55,16 +57,26 @@ impl<'r, A: Monoid, B: Monoid> WordPass<'r, A, B> {
         WordNote { seat }
     }
 
-    /// Takes in a note of its era, and loads the root: the number of its newest record. The pass then knows all that it and the note had seen.
+    /// Takes in a note, and loads the root: the number of its newest record. The pass then knows all that it and the note had seen, where the
+    /// note is of its era. A note of an earlier era tells of one that is over.
     pub fn learn(&mut self, note: WordNote) -> u64
         requires table { note.table ≡ self.old.table }
-        requires era { note.view.era ≡ self.old.view.era }
         ensures table { self.new.table ≡ self.old.table }
         ensures learns { LearnsNote (face A.parts B.parts) self.old.view note.view result self.new.view }
     {
         let WordNote { seat } = note;
         self.words.join_seat::<TakeNote>(&mut self.seat, seat);
-        self.load_node(self.lanes - 1)
+        self.load_after_note()
+    }
+
+    // Loads the root after a note was taken in.
+    fn load_after_note(&mut self) -> u64
+        ensures table { self.new.table ≡ self.old.table }
+        ensures view { LoadsNode (face A.parts B.parts) self.old.view (root_place self.old.view.shape) result self.new.view }
+        ensures told { IfSome self.old.view.told (IsLearnt self.old.view.shape self.old.view.era self.old.view.past self.old.view.members) }
+    {
+        self.words
+            .load::<LoadAfterNote<A, B>>(&mut self.seat, self.lanes - 1)
     }
 }
 
@@ -80,11 +92,11 @@ impl<A: Monoid, B: Monoid> Lead<A, B> {
         WordNote { seat }
     }
 
-    /// Takes in a note of its era, and loads the root. The lead then knows all that it and the note had seen.
+    /// Takes in a note, and loads the root. The lead then knows all that it and the note had seen, where the note is of its era. A note of an
+    /// earlier era tells of one that is over.
     pub fn learn(&mut self, words: &Words<A, B>, note: WordNote)
         requires together { AreTogether words.now self.old }
         requires table { note.table ≡ self.old.table }
-        requires era { note.view.era ≡ self.old.view.era }
         ensures table { self.new.table ≡ self.old.table }
         ensures learns { (found : ℕ) × LearnsNote (face A.parts B.parts) self.old.view note.view found self.new.view }
     {
@@ -93,6 +105,19 @@ impl<A: Monoid, B: Monoid> Lead<A, B> {
             .table
             .shared
             .join_seat::<TakeNote>(&mut self.seat, seat);
-        self.load_root(&words.table.shared, words.lanes - 1);
+        self.load_after_note(&words.table.shared, words.lanes - 1);
+    }
+
+    // Loads the root's word after a note was taken in.
+    fn load_after_note(&mut self, words: &SharedWords<A, B>, root: usize)
+        requires table { self.old.table ≡ words.now.table_id }
+        requires inside { root < words.now.table_id.words }
+        requires root { root ≡ root_place self.old.view.shape }
+        ensures table { self.new.table ≡ self.old.table }
+        ensures view { (found : ℕ) × LoadsNode (face A.parts B.parts) self.old.view (root_place self.old.view.shape) found self.new.view }
+        ensures told { IfSome self.old.view.told (IsLearnt self.old.view.shape self.old.view.era self.old.view.past self.old.view.members) }
+    {
+        let number = words.load::<LoadAfterNote<A, B>>(&mut self.seat, root);
+        self.root = number;
     }
 }

@@ -1,14 +1,15 @@
 //! A table is opened again in its own memory.
-ghost use Rattle.std.specs.Prelude.{◌≡◌, ◌+◌, ◌<◌, ◌≤◌, ℕ, [], true, length, slice_index, All};
+ghost use Rattle.std.specs.Prelude.{◌≡◌, ◌+◌, ◌<◌, ◌≤◌, [], true, length, slice_index, All};
 ghost use Rattle.aug_core.specs.Faces.{face};
 ghost use Rattle.aug_core.specs.Eras.{opening_with};
 ghost use Rattle.aug_core.specs.Fields.{field_offset};
 ghost use Rattle.aug_core.specs.Places.{record_start, record_count};
-ghost use Rattle.aug_core.specs.Renewals.{HoldsAll, BeginsRenewal, EndWith, IsOpened, reopening};
+ghost use Rattle.aug_core.specs.Addresses.{IsInner};
+ghost use Rattle.aug_core.specs.Renewals.{HoldsAll, BeginsRenewal, IsOpened, reopening};
 ghost use Rattle.aug_core.specs.declared.view.SeatView.{SeatView as View};
 ghost use Rattle.aug_model.specs.Keys.{IsKeySet, keys_of};
 ghost use Rattle.aug_monoid.specs.Weighted.{FitsPair};
-ghost use Rattle.aug_words.specs.Rests.{ShowAll};
+ghost use Rattle.aug_words.specs.Rests.{ComesToRest};
 ghost use Rattle.aug_words.specs.Seats.{AreTogether};
 ghost use Rattle.aug_words.specs.inside.Rewrites.{Rewrites};
 
@@ -24,18 +25,23 @@ use aug_monoid::Monoid;
 use std::marker::{Model, PhantomData};
 use std::mem;
 
-// Begins to renew a table whose lanes are all back: a load of its first word.
-fn begin_renewal<A: Monoid, B: Monoid>(words: &SharedWords<A, B>, seat: &mut Seat<(), SeatView>)
+// Begins to renew a table whose lanes are all back: a load of the root's word.
+fn begin_renewal<A: Monoid, B: Monoid>(
+    words: &SharedWords<A, B>,
+    seat: &mut Seat<(), SeatView>,
+    root: usize,
+) -> u64
     requires table { seat.old.table_id ≡ words.now.table_id }
-    requires some { 0 < words.now.table_id.words }
+    requires inside { root < words.now.table_id.words }
+    requires inner { IsInner seat.old.me.0.shape root }
     requires live { seat.old.me.0.live ≡ true }
     requires no_slot { seat.old.me.1 ≡ [] }
     requires all { HoldsAll seat.old.me.0 }
     ensures table { seat.new.table_id ≡ seat.old.table_id }
     ensures no_slot { seat.new.me.1 ≡ [] }
-    ensures view { BeginsRenewal (face A.parts B.parts) seat.old.me.0 seat.new.me.0 }
+    ensures view { BeginsRenewal (face A.parts B.parts) seat.old.me.0 root result seat.new.me.0 }
 {
-    words.load::<BeginRenewal<A, B>>(seat, 0);
+    words.load::<BeginRenewal<A, B>>(seat, root)
 }
 
 // Stores the first words of a table that the seat renews.
@@ -113,15 +119,13 @@ impl<A: Monoid, B: Monoid> IdleLead<A, B> {
 }
 
 impl<A: Monoid, B: Monoid> Words<A, B> {
-    /// Ends all work on the table, once all passes that its lead handed out are back. The words at rest meet the rule, with what the lead knew.
-    pub fn rest(&self, lead: Lead<A, B>) -> IdleLead<A, B>
+    /// Ends all work on the table, once all passes that its lead handed out are back, with a load of the root: the number of its last record. The
+    /// words at rest meet the rule, with what the lead then knows, which is all of the era that is over.
+    pub fn rest(&self, lead: Lead<A, B>) -> (IdleLead<A, B>, u64)
         requires together { AreTogether self.now lead }
         requires all { HoldsAll lead.view }
-        ensures table { result.table ≡ self.now.table }
-        ensures shape { result.view.shape ≡ self.now.opening.shape }
-        ensures era { result.view.era ≡ lead.view.era + 1 }
-        ensures rule { EndWith (face A.parts B.parts) self.now.opening lead.view result.view.words }
-        ensures words { ShowAll (face A.parts B.parts) self.now.opening lead.view result.view.words }
+        ensures table { result.0.table ≡ self.now.table }
+        ensures rests { ComesToRest (face A.parts B.parts) self.now.opening lead.view result.1 result.0.view }
     {
         let Lead {
             mut seat,
@@ -129,8 +133,8 @@ impl<A: Monoid, B: Monoid> Words<A, B> {
             root: _,
             sums,
         } = lead;
-        begin_renewal(&self.table.shared, &mut seat);
-        IdleLead { seat, sums }
+        let root = begin_renewal(&self.table.shared, &mut seat, self.lanes - 1);
+        (IdleLead { seat, sums }, root)
     }
 
     /// Opens the table again, over these members. The lead hands out all lanes anew. The call stores the words of the leaves, of the nodes, of
@@ -144,7 +148,7 @@ impl<A: Monoid, B: Monoid> Words<A, B> {
         ensures table { self.new.table ≡ self.old.table }
         ensures opening { self.new.opening ≡ opening_with self.old.opening.shape members.now }
         ensures together { AreTogether self.new result }
-        ensures era { result.view.era ≡ idle.view.era }
+        ensures era { (result.view.era ≡ idle.view.era) × (result.view.past ≡ idle.view.past) }
         ensures opened { (before : View) × (result.view ≡ reopening (face A.parts B.parts) members.now before) }
     {
         let IdleLead { mut seat, sums } = idle;

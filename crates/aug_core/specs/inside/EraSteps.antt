@@ -8,9 +8,14 @@ use Rattle.aug_core.specs.declared.view.SeatView.{SeatView}
 abbrev pub MayNote : SeatView → Type 0
 MayNote v = IsAtWork v ⊎ (v.renews ≡ false)
 
--- a step leaves the era of its seat, and whether the seat renews the table
+-- a step leaves the era of its seat and those before it, what notes told, and whether the seat renews the table
 pub record Remains (v w : SeatView) : Type 0 where
+  pub live : w.live ≡ v.live
   pub era : w.era ≡ v.era
+  pub past : w.past ≡ v.past
+  pub shape : w.shape ≡ v.shape
+  pub members : w.members ≡ v.members
+  pub told : w.told ≡ v.told
   pub renews : w.renews ≡ v.renews
 
 -- what a step shows, and that

@@ -6,7 +6,8 @@ use Rattle.aug_trie.specs.Round.{RoundFacts}
 use Rattle.aug_trie.specs.Crew.{CrewFacts}
 use Rattle.aug_live.specs.declared.counts.LiveCounts.{LiveCounts}
 use Rattle.aug_live.specs.inside.LaneKnowledge.{KnownFacts}
-use Rattle.aug_live.specs.inside.Rolls.{IsOf}
+use Rattle.aug_live.specs.Carrying.{Leads}
+use Rattle.aug_live.specs.inside.Rolls.{IsOf, rounds_in}
 
 -- the counts of the rounds so far, at a set with so many members
 pub record AreCounts (counts : LiveCounts) (members : ℕ) : Type 0 where
@@ -19,7 +20,8 @@ pub record IsWorking (lanes updates : ℕ) (counts : LiveCounts) (round : RoundF
   pub workers : round.workers ≡ lanes
   pub all_out : crew.handed ≡ count + crew.back
   pub within : crew.handed ≤ lanes
-  pub of_round : All (IsOf round counts.rounds) ports
+  pub of_round : All (IsOf (rounds_in crew) counts.rounds) ports
+  pub led : Leads round.bits crew.past round.members
   pub counted : AreCounts counts (length round.members)
   pub few_inserts : counts.inserts + 2 ^ 32 ≤ 2 ^ 64
   pub few_removals : counts.removals + 2 ^ 32 ≤ 2 ^ 64

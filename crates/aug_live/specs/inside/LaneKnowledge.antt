@@ -3,7 +3,9 @@ use Rattle.std.specs.Prelude.{◌≡◌, ◌≢◌, ◌⊎◌, ℕ, ◌<◌, Lis
 use Rattle.aug_lane.specs.declared.lane.Lane.{Lane as Work}
 use mathlib.Core.Option.{some}
 use lib.ListN.{get_elem?}
+use Rattle.aug_trie.specs.Chains.{Chapter}
 use Rattle.aug_trie.specs.Pass.{PassFacts}
+use Rattle.aug_trie.specs.Round.{RoundFacts}
 use Rattle.aug_live.specs.LiveHandles.{HandleFacts, Follows}
 use Rattle.aug_live.specs.declared.known.Whose.{Whose}
 use Rattle.aug_live.specs.declared.known.Whose.TheVariants.{Nobody, Roller, Handle}
@@ -20,6 +22,7 @@ no_half = record {
     updates = 0;
     room = 0;
   };
+  past = [];
   lane = 0;
   knows = record { history = []; accepted = [] };
   numbers = [];
@@ -59,10 +62,14 @@ known_of whose lane = record { whose = whose; works = lane.works; at = lane.at }
 abbrev pub given_to : Whose → KnownFacts → KnownFacts
 given_to whose v = record { whose = whose; works = v.works; at = v.at }
 
+-- the round of a pass, and those before
+abbrev pub rounds_at : PassFacts → RoundFacts × List Chapter
+rounds_at pass = (pass.round, pass.past)
+
 -- the roller knows the lane's round, and whether it has a pass; where it has none, it knows what the last one knew
 pub record Rolls (lane : LaneFacts) (v : KnownFacts) : Type 0 where
   pub era : lane.at.era ≡ v.at.era
-  pub round : lane.at.half.round ≡ v.at.half.round
+  pub round : rounds_at lane.at.half ≡ rounds_at v.at.half
   pub works : lane.works ≡ v.works
   pub half : lane.works ≡ false → lane.at.half ≡ v.at.half
 
@@ -87,7 +94,7 @@ turned v old new w = w ≡ known_of v.whose new
 -- what a handle makes of a lane: nothing if no pass lies in it, and else it leaves a pass of the same round
 pub record Worked (old new : LaneFacts) : Type 0 where
   pub era : new.at.era ≡ old.at.era
-  pub round : new.at.half.round ≡ old.at.half.round
+  pub round : rounds_at new.at.half ≡ rounds_at old.at.half
   pub works : new.works ≡ old.works
   pub at_rest : old.works ≡ false → new.at.half ≡ old.at.half
 

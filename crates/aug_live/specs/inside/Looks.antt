@@ -2,7 +2,7 @@
 use Rattle.std.specs.Prelude.{◌≡◌, ℕ, ◌<◌, ◌≤◌, Option, Some, None, true}
 use Rattle.aug_trie.specs.declared.queries.snapshot.Snapshot.{Snapshot}
 use Rattle.aug_lane.specs.declared.lane.Lane.{Lane as Work}
-use Rattle.aug_live.specs.inside.LaneKnowledge.{KnownFacts, OutFacts}
+use Rattle.aug_live.specs.inside.LaneKnowledge.{KnownFacts, OutFacts, rounds_at}
 use Rattle.aug_live.specs.declared.known.Whose.TheVariants.{Handle}
 
 -- the snapshot of a lane, if there is a lane
@@ -18,7 +18,7 @@ pub record HoldsLook {A B : Type 0} (out : OutFacts) (era : ℕ) (work : Option 
   pub some_era : 0 < era
   pub lane : Work A B
   pub there : work ≡ Some lane
-  pub round_is : lane.half.round ≡ out.taken.at.half.round
+  pub round_is : rounds_at lane.half ≡ rounds_at out.taken.at.half
   pub bits_are : lane.half.round.bits ≡ bits
   pub few_bits : bits ≤ 16
 

@@ -7,7 +7,7 @@ use Rattle.aug_words.specs.Seats.{Known}
 use Rattle.aug_trie.specs.inside.Counted.{HasCounts}
 use Rattle.aug_trie.specs.inside.Knows.{root_history, root_numbers}
 use Rattle.aug_trie.specs.Pass.{PassFacts}
-use Rattle.aug_trie.specs.inside.RoundState.{round_of}
+use Rattle.aug_trie.specs.inside.RoundState.{round_of, past_rounds}
 use Rattle.aug_trie.specs.inside.PassState.{pass_facts}
 use Rattle.aug_trie.specs.inside.Stages.{StageAt, stage_turns}
 use Rattle.aug_trie.specs.Climb.{ClimbFacts}
@@ -19,6 +19,7 @@ use Rattle.aug_trie.specs.declared.turns.stages.Stage.TheVariants.{Leaf, Change,
 abbrev pub began_facts : Known → ℕ → PassFacts
 began_facts known left = record {
   round = round_of known.table known.view;
+  past = past_rounds known.view.shape known.view.past;
   lane = own_lane known.view.held;
   knows = record { history = root_history known.view.shape known.view.began.seen; accepted = known.view.began.changes };
   numbers = root_numbers known.view.shape known.view.began.seen;

@@ -6,12 +6,12 @@ use Rattle.aug_words.specs.Seats.{Known}
 use Rattle.aug_core.specs.Told.{KnowsTable}
 use Rattle.aug_trie.specs.Knowledge.{inserts_of, removals_of}
 use Rattle.aug_trie.specs.inside.Knows.{knows, KnowsRound}
-use Rattle.aug_trie.specs.inside.RoundState.{round_of}
+use Rattle.aug_trie.specs.inside.RoundState.{round_of, past_rounds}
 use Rattle.aug_trie.specs.Crew.{CrewFacts}
 
 -- the crew whose seat knows this
 abbrev pub crew_facts : Known → CrewFacts
-crew_facts known = record { round = round_of known.table known.view; knows = knows known.view; steps = known.view.steps; handed = unwrap_or known.view.spare 0; back = length known.view.held }
+crew_facts known = record { round = round_of known.table known.view; past = past_rounds known.view.shape known.view.past; knows = knows known.view; steps = known.view.steps; handed = unwrap_or known.view.spare 0; back = length known.view.held }
 
 module _ (face : ℕ → ℕ → List (ℕ × ℕ) → List ℕ) where
   -- the view of a lead that handed out `handed` lanes and took `back` passes back

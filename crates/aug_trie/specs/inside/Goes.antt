@@ -14,6 +14,7 @@ use Rattle.aug_core.specs.declared.view.Change.{Change}
 use Rattle.aug_core.specs.declared.view.Entry.{Entry}
 use Rattle.aug_core.specs.declared.view.Held.{Held}
 use Rattle.aug_core.specs.declared.view.SeatView.{SeatView}
+use Rattle.aug_trie.specs.inside.RoundState.{eras_of}
 use Rattle.aug_trie.specs.Pass.{TryNoLeaf}
 
 -- the records of the view's lane from this one on were not published
@@ -57,7 +58,7 @@ module _ (face : ℕ → ℕ → List (ℕ × ℕ) → List ℕ) where
     pub knows_table : KnowsTable face w
     pub shaped : w.shape ≡ v.shape
     pub same_members : w.members ≡ v.members
-    pub same_era : w.era ≡ v.era
+    pub same_eras : eras_of w ≡ eras_of v
     pub lane : own_lane w.held ≡ own_lane v.held
     pub changes : changes_of w.held ≡ changes_of v.held ++ gained
     pub still_free : (n : ℕ) → used ≤ n → IsFree v n → IsFree w n

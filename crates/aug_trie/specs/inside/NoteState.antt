@@ -2,8 +2,8 @@
 use Rattle.aug_words.specs.Seats.{Known}
 use Rattle.aug_trie.specs.Note.{NoteFacts}
 use Rattle.aug_trie.specs.inside.Knows.{root_history}
-use Rattle.aug_trie.specs.inside.RoundState.{round_of}
+use Rattle.aug_trie.specs.inside.RoundState.{round_of, past_rounds}
 
 -- a note whose seat knows this
 abbrev pub note_facts : Known → NoteFacts
-note_facts known = record { round = round_of known.table known.view; history = root_history known.view.shape known.view.seen }
+note_facts known = record { round = round_of known.table known.view; past = past_rounds known.view.shape known.view.past; history = root_history known.view.shape known.view.seen }

@@ -7,7 +7,7 @@ use Rattle.aug_core.specs.declared.view.SeatView.{SeatView}
 use Rattle.aug_trie.specs.inside.Goes.{HasLeaves, HasRoom}
 use Rattle.aug_trie.specs.inside.Knows.{knows, root_numbers, KnowsRound}
 use Rattle.aug_trie.specs.Pass.{PassFacts}
-use Rattle.aug_trie.specs.inside.RoundState.{round_of}
+use Rattle.aug_trie.specs.inside.RoundState.{round_of, past_rounds}
 
 -- what a seat knows, if it is there
 abbrev pub known_in : Option Known → Known
@@ -17,6 +17,7 @@ known_in words = unwrap_or words (record { table = record { words = 0; slots = 0
 abbrev pub pass_facts : Known → ℕ → PassFacts
 pass_facts known left = record {
   round = round_of known.table known.view;
+  past = past_rounds known.view.shape known.view.past;
   lane = own_lane known.view.held;
   knows = knows known.view;
   numbers = root_numbers known.view.shape known.view.seen;

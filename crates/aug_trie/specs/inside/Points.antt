@@ -8,6 +8,7 @@ use Rattle.aug_core.specs.inside.Refreshes.{HasNewest, SaysLoaded}
 use Rattle.aug_core.specs.Told.{KnowsTable, Says, own_lane, storing}
 use Rattle.aug_core.specs.declared.step.StepTaken.{StepTaken}
 use Rattle.aug_core.specs.declared.view.SeatView.{SeatView}
+use Rattle.aug_trie.specs.inside.RoundState.{eras_of}
 use Rattle.aug_trie.specs.inside.Goes.{Goes, Took, HasRoom, Tries, IsPart, part_words, part_steps, publish_steps, try_steps, Looks}
 use Rattle.aug_trie.specs.inside.LeafPairs.{leaf_pairs}
 use Rattle.aug_trie.specs.declared.turns.points.Reading.{Reading}
@@ -24,7 +25,7 @@ pub record OneStep (v w : SeatView) : Type 0 where
   pub later : ArePrefixes v.seen w.seen
   pub shaped : w.shape ≡ v.shape
   pub same_members : w.members ≡ v.members
-  pub same_era : w.era ≡ v.era
+  pub same_eras : eras_of w ≡ eras_of v
   pub lane : own_lane w.held ≡ own_lane v.held
 
 -- and its update has the same beginning as before

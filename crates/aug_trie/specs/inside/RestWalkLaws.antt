@@ -10,11 +10,11 @@ use Rattle.aug_trie.specs.inside.RestWalks.{RestWalkFacts, KeepsRest}
 
 -- a trie that no call has walked keeps it
 pub kept_so : (trie : RestWalkFacts) → KeepsRest trie trie
-kept_so trie = record { ended = refl; table = refl; era = refl }
+kept_so trie = record { ended = refl; table = refl; eras = refl }
 
 -- what two walks keep, the one after the other, the walk of both keeps
 pub kept_on : (first trie last : RestWalkFacts) → KeepsRest first trie → KeepsRest trie last → KeepsRest first last
-kept_on first trie last a b = record { ended = b.ended ∙ a.ended; table = b.table ∙ a.table; era = b.era ∙ a.era }
+kept_on first trie last a b = record { ended = b.ended ∙ a.ended; table = b.table ∙ a.table; eras = b.eras ∙ a.eras }
 
 -- a node that has a name stands within the trie's tree
 pub stands : {A B : Type 0} (f : ℕ → ℕ → List (ℕ × ℕ) → List ℕ) (sum : List (ℕ × ℕ) → Summary A B) (trie : EndedFacts) (level place word : ℕ) → NamesEnded f trie level place word

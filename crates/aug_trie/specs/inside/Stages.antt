@@ -7,6 +7,7 @@ use Rattle.aug_core.specs.inside.Shows.{above, Lifts}
 use Rattle.aug_core.specs.inside.Refreshes.{NewestCovers}
 use Rattle.aug_core.specs.Told.{own_lane, KnowsTable, BeginsAtLeaf}
 use Rattle.aug_core.specs.declared.view.SeatView.{SeatView}
+use Rattle.aug_trie.specs.inside.RoundState.{eras_of}
 use Rattle.aug_trie.specs.inside.Goes.{Goes, Took, TookBetween, HasRoom, part_words, part_steps, try_steps, level_steps, least_rise_steps, most_rise_steps}
 use Rattle.aug_trie.specs.inside.Climbing.{Updated, FitsRequest}
 use Rattle.aug_model.specs.declared.outcome.Outcome.{Outcome}
@@ -91,7 +92,7 @@ module _ (face : ℕ → ℕ → List (ℕ × ℕ) → List ℕ) where
       pub began : w.began ≡ record { seen = u.seen; steps = u.steps; changes = changes_of u.held }
       pub shaped : w.shape ≡ u.shape
       pub same_members : w.members ≡ u.members
-      pub same_era : w.era ≡ u.era
+      pub same_eras : eras_of w ≡ eras_of u
       pub lane : own_lane w.held ≡ own_lane u.held
 
     -- its leaf was loaded, and it may exchange it

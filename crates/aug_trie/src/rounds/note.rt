@@ -4,7 +4,7 @@ ghost use Rattle.aug_core.specs.Kinds.{load_node};
 ghost use Rattle.aug_model.specs.Folds.{summary_of};
 ghost use Rattle.aug_trie.specs.Crew.{CrewLearns};
 ghost use Rattle.aug_trie.specs.Node.{Keeps};
-ghost use Rattle.aug_trie.specs.Pass.{GoesOn};
+ghost use Rattle.aug_trie.specs.Pass.{GoesOn, chain_of};
 ghost use Rattle.aug_trie.specs.Passes.{HasLearnt};
 ghost use Rattle.aug_trie.specs.Round.{root_of};
 ghost use Rattle.aug_trie.specs.Snapshot.{HasSnapshot, snapshot_cut};
@@ -22,7 +22,7 @@ use std::marker::{Model, PhantomData};
 /// there has learnt it, each snapshot of that pass shows all that the note says.
 ///
 /// It has no bytes, no lane and no lifetime, so a closure may own it. A note that nobody learns does no harm, nor does one whose pass came back
-/// or was dropped. Once its round has ended, or was renewed, nobody can learn it.
+/// or was dropped. It can be learnt in each later round of its table, where it tells of a round that is over.
 #[derive(Drop)]
 pub struct Note<A: Monoid, B: Monoid> {
     pub(crate) words: WordNote,
@@ -45,7 +45,7 @@ impl<A: Monoid, B: Monoid> Model for Note<A, B> {
 impl<A: Monoid, B: Monoid> Note<A, B> {
     /// Makes another note that says the same, for one more pass.
     pub fn again(&mut self, round: &Round<A, B>) -> Note<A, B>
-        requires { self.old.round ≡ round.now }
+        requires { self.old.round.table ≡ round.now.table }
         ensures same { self.new ≡ self.old }
         ensures note { result ≡ self.old }
     {
@@ -60,7 +60,7 @@ impl<'r, A: Monoid, B: Monoid> Pass<'r, A, B> {
     /// Makes a note of all that the pass knows, its own updates among it. The pass stays as it is, and makes no step.
     pub fn note(&mut self) -> Note<A, B>
         ensures same { self.new ≡ self.old }
-        ensures note { result ≡ record { round = self.old.round; history = self.old.knows.history } }
+        ensures note { result ≡ record { round = self.old.round; past = self.old.past; history = self.old.knows.history } }
     {
         let Some(mut words) = self.words.take() else {
             unreachable!()
@@ -73,11 +73,11 @@ impl<'r, A: Monoid, B: Monoid> Pass<'r, A, B> {
         }
     }
 
-    /// Learns a note of this round, and takes a snapshot, by one load of the root's word. The snapshot shows every change that the pass knew or
-    /// that the note says, and so do all later ones.
+    /// Learns a note of this table, and takes a snapshot, by one load of the root's word. The snapshot shows every change that the pass knew or
+    /// that a note of this round says, and so do all later ones; a note of an earlier round tells of one from whose set this round's comes.
     pub fn learn(&mut self, note: Note<A, B>) -> Snapshot
-        requires round { note.round ≡ self.old.round }
-        ensures learns { HasLearnt self.old.knows note.history self.new.knows }
+        requires table { note.round.table ≡ self.old.round.table }
+        ensures learns { HasLearnt self.old.round.era (chain_of self.old) self.old.knows note (chain_of self.new) self.new.knows }
         ensures takes { TakesSnapshot self.old.knows self.new.knows (snapshot_cut self.new result.number) }
         ensures known { HasSnapshot self.new result.number }
         ensures goes_on { GoesOn 0 1 self.old self.new }
@@ -102,7 +102,7 @@ impl<A: Monoid, B: Monoid> Crew<A, B> {
     pub fn note(&mut self, round: &Round<A, B>) -> Note<A, B>
         requires together { self.old.round ≡ round.now }
         ensures same { self.new ≡ self.old }
-        ensures note { result ≡ record { round = self.old.round; history = self.old.knows.history } }
+        ensures note { result ≡ record { round = self.old.round; past = self.old.past; history = self.old.knows.history } }
     {
         Note {
             words: self.lead.note(&round.words),
@@ -110,11 +110,11 @@ impl<A: Monoid, B: Monoid> Crew<A, B> {
         }
     }
 
-    /// Learns a note of this round, and loads the root's word. Each pass that is handed out after that knows what the note says, and so does the
+    /// Learns a note of this table, and loads the root's word. Each pass that is handed out after that knows what the note says, and so does the
     /// trie at the round's end, also if the pass that made the note does not come back.
     pub fn learn(&mut self, round: &Round<A, B>, note: Note<A, B>)
         requires together { self.old.round ≡ round.now }
-        requires round { note.round ≡ self.old.round }
+        requires table { note.round.table ≡ self.old.round.table }
         ensures { CrewLearns self.old self.new note }
     {
         let Note {

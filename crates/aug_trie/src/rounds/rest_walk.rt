@@ -34,10 +34,11 @@ impl<'r, A: Monoid, B: Monoid> Model for RestWalk<'r, A, B> {
     ghost use Rattle.aug_core.specs.Faces.{face};
     ghost use Rattle.aug_trie.specs.inside.EndedState.{HoldsVersion};
     ghost use Rattle.aug_trie.specs.inside.RestWalks.{RestWalkFacts, rest_of, ended_at};
+    ghost use Rattle.aug_trie.specs.inside.RoundState.{eras_of};
 
     ghost Value = { RestWalkFacts };
 
-    ghost view = { λ w. record { ended = ended_at w.idle.view w.root w.bits; loaded = w.loaded; table = w.idle.table; era = w.idle.view.era } };
+    ghost view = { λ w. record { ended = ended_at w.idle.view w.root w.bits; loaded = w.loaded; table = w.idle.table; eras = eras_of w.idle.view } };
 
     ghost invariant = { λ w. HoldsVersion (face A.parts B.parts) (rest_of w.idle.view) w.root w.bits × (w.idle.table ≡ w.words.now.table) × (w.idle.view.shape ≡ w.words.now.opening.shape) };
 }

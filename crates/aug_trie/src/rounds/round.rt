@@ -1,16 +1,14 @@
 //! A round: the table that its passes work on.
-ghost use Rattle.std.specs.Prelude.{◌≡◌, ◌≢◌, ◌↔◌, ◌+◌, ◌^◌, ◌<◌, ◌≤◌, ℕ, List, [], length, All, IsErrOf, IfOk, IfErr, vec_capacity};
+ghost use Rattle.std.specs.Prelude.{◌≡◌, ◌≢◌, ◌↔◌, ◌+◌, ◌^◌, ◌<◌, ◌≤◌, [], length, All, IsErrOf, IfOk, IfErr, vec_capacity};
 ghost use Rattle.aug_monoid.specs.Weighted.{FitsPair};
 ghost use Rattle.aug_model.specs.Keys.{IsKeySet, keys_of};
 ghost use Rattle.aug_core.specs.Layout.{IsLayout, IsWithin, IsOutside, IsRefused};
 ghost use Rattle.aug_core.specs.Places.{shape_of};
-ghost use Rattle.aug_core.specs.Cuts.{pairs_of_cut};
 ghost use Rattle.aug_core.specs.Faces.{face};
-ghost use Rattle.aug_core.specs.Renewals.{HoldsAll, EndWith};
+ghost use Rattle.aug_core.specs.Renewals.{HoldsAll};
 ghost use Rattle.aug_words.specs.Seats.{AreTogether};
 ghost use Rattle.aug_trie.specs.Crew.{BeginsRound, BeginsIn, Ends, RollsOver};
-ghost use Rattle.aug_trie.specs.History.{last_cut};
-ghost use Rattle.aug_trie.specs.inside.Knows.{knows};
+ghost use Rattle.aug_trie.specs.inside.RestWalks.{ListsRest};
 
 use crate::error::BeginError;
 use crate::rounds::crew::Crew;
@@ -300,15 +298,12 @@ fn rest_and_list<A: Monoid, B: Monoid>(
     requires room { 2 ^ words.now.opening.shape.bits ≤ vec_capacity list.old }
     ensures table { result.table ≡ words.now.table }
     ensures shape { result.view.shape ≡ words.now.opening.shape }
-    ensures era { result.view.era ≡ lead.view.era + 1 }
-    ensures set { list.new.items ≡ pairs_of_cut (last_cut (knows lead.view).history) }
+    ensures lists { ListsRest (face A.parts B.parts) words.now.opening lead.view result.view.era result.view.past list.new.items }
     ensures keys { IsKeySet words.now.opening.shape.bits (keys_of list.new.items) }
     ensures fit { All FitsPair list.new.items }
     ensures room { vec_capacity list.new ≡ vec_capacity list.old }
-    ensures rule { (rest : List ℕ) × EndWith (face A.parts B.parts) words.now.opening lead.view rest }
 {
-    let root = lead.root();
-    let idle = words.rest(lead);
+    let (idle, root) = words.rest(lead);
     let mut walk = RestWalk {
         words,
         idle,

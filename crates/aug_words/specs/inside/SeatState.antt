@@ -36,8 +36,9 @@ pub record HasReached (v : SeatView) (key serial : ℕ) : Type 0 where
   pub entry : Entry
   pub at : At v.seen key serial entry
 
--- what holds for the seat of a note: it holds no lane, and does not renew the table
+-- what holds for the seat of a note: no other took it in, it holds no lane, and it does not renew the table
 pub record IsNoteSeat (me : Sat) : Type 0 where
+  pub live : me.0.live ≡ true
   pub no_slot : me.1 ≡ []
   pub no_lane : me.0.held ≡ []
   pub no_renewal : me.0.renews ≡ false

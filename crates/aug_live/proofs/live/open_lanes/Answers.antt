@@ -1,8 +1,9 @@
-use Rattle.std.proofs.Common.{◌≡◌, ◌+◌, ◌<◌, ◌∙◌, vec_len, rules, arith}
-use Rattle.std.specs.Arc.{arc_value}
+use Rattle.std.proofs.Common.{◌≡◌, ◌+◌, ◌<◌, ◌∙◌, List, ap, subst, vec_len, rules, arith}
+use Rattle.aug_trie.specs.Chains.{Chapter}
+use Rattle.aug_trie.specs.Round.{RoundFacts}
 use Rattle.std.specs.Vec.Iter.{into_iter_len}
 use Rattle.aug_live.specs.inside.LaneKnowledge.{KnownFacts}
-use Rattle.aug_live.specs.inside.Rolls.{IsOf, IsFirst}
+use Rattle.aug_live.specs.inside.Rolls.{IsOf, IsFirst, IsNewPass, rounds_in}
 use Rattle.aug_live.specs.declared.known.Whose.TheVariants.{Nobody}
 use Rattle.aug_live.proofs.Moving.{head_of, tail_of, one_more}
 use Rattle.aug_live.proofs.live.open_lanes.Goals as goal
@@ -13,7 +14,7 @@ open-port-requires g c =
     let some : 0 < into_iter_len c.loop-first.first-iterator = omega (arith, step.1) in
     record {
       first = head_of (λ (v : KnownFacts). v.whose ≡ Nobody) _ c.in-Some.first _ _ step.0 some was.1;
-      together = was.3;
+      together = ap (λ (z : RoundFacts × List Chapter). z.0) was.3 ∙ c.requires.together;
       lane_left = omega (arith, was.0, was.5, some, c.requires.lanes);
     }
 
@@ -24,12 +25,13 @@ loop-first-preserved g c =
     let longer : vec_len c.push_reserved-in-loop-first.new.self ≡ vec_len c.loop-first.handles + 1 = c.push_reserved-in-loop-first.ensures.len in (
       search rules,
       tail_of (λ (v : KnownFacts). v.whose ≡ Nobody) _ _ _ _ _ step.0 step.1 was.1,
-      one_more (IsOf (arc_value c.args.round.now) 1) _ _ _ c.push_reserved.ensures.items was.2 opened.of_round,
+      one_more (IsOf (rounds_in c.args.crew.now) 1) _ _ _ c.push_reserved.ensures.items was.2 (subst (λ (z : RoundFacts × List Chapter). IsOf z 1 c.open-port.result.0) was.3 opened.of_round),
       opened.round ∙ was.3,
       search rules,
       omega (arith, was.5, opened.handed, grown),
       opened.back ∙ was.6,
-      one_more (IsFirst (arc_value c.args.round.now)) _ _ _ c.push_reserved-in-loop-first.ensures.items was.7 (record { era_is = opened.handle.era_is; fresh = opened.handle.fresh }),
+      one_more (IsFirst (rounds_in c.args.crew.now)) _ _ _ c.push_reserved-in-loop-first.ensures.items was.7
+          (record { era_is = opened.handle.era_is; fresh = subst (λ (z : RoundFacts × List Chapter). IsNewPass z c.open-port.result.1.at.half) was.3 opened.handle.fresh }),
       omega (arith, was.8, grown, longer),
       search rules,
     )

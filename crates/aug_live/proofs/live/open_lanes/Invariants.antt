@@ -1,7 +1,6 @@
 use Rattle.std.specs.Prelude.{◌≡◌, ℕ, ◌+◌, ◌<◌, ◌≤◌, get_or, All, vec_len, vec_capacity}
-use Rattle.std.specs.Arc.{arc_value}
 use Rattle.std.specs.Vec.Iter.{into_iter_items, into_iter_len}
-use Rattle.aug_live.specs.inside.Rolls.{IsOf, IsFirst}
+use Rattle.aug_live.specs.inside.Rolls.{IsOf, IsFirst, rounds_in}
 use Rattle.aug_live.specs.declared.known.Whose.TheVariants.{Nobody}
 use Rattle.aug_live.proofs.live.open_lanes.Given as goal
 
@@ -10,11 +9,11 @@ invariant-loop-first g l =
     let n = vec_len l.ports in let rest = l.first-iterator in let all = l.initial.first-iterator in
     (n + into_iter_len rest ≡ into_iter_len all)
     × ((k : ℕ) (d : _) → k < into_iter_len rest → (get_or (into_iter_items rest) k d).whose ≡ Nobody)
-    × All (IsOf (arc_value l.round) 1) l.ports.items
-    × (l.crew.round ≡ arc_value l.round)
+    × All (IsOf (rounds_in l.initial.crew) 1) l.ports.items
+    × (rounds_in l.crew ≡ rounds_in l.initial.crew)
     × (into_iter_len all ≤ vec_capacity l.ports)
     × (l.crew.handed ≡ n)
     × (l.crew.back ≡ l.initial.crew.back)
-    × All (IsFirst (arc_value l.round)) l.handles.items
+    × All (IsFirst (rounds_in l.initial.crew)) l.handles.items
     × (vec_len l.handles ≡ n)
     × (into_iter_len all ≤ vec_capacity l.handles)

@@ -1,31 +1,36 @@
-use Rattle.std.proofs.Common.{◌≡◌, ◌+◌, ◌<◌, ◌≤◌, ◌∙◌, List, [], ◌∷◌, ◌++◌, vec_len, ap, arith, subst, sym}
+use Rattle.std.proofs.Common.{◌≡◌, ◌+◌, ◌∙◌, List, [], ◌∷◌, ◌++◌, vec_len, ap, arith, subst, sym}
 use Rattle.std.specs.Arc.{arc_value}
 use Rattle.std.specs.Prelude.{Option, option_to_list}
+use Rattle.aug_trie.specs.Chains.{Chapter}
+use Rattle.aug_trie.specs.Round.{RoundFacts}
+use Rattle.aug_live.specs.Carrying.{Leads}
 use Rattle.aug_live.specs.inside.LaneKnowledge.{KnownFacts}
-use Rattle.aug_live.specs.inside.Rolls.{IsOf, HasCarried}
+use Rattle.aug_live.specs.inside.Rolls.{IsOf, HasEnded, rounds_in}
 use Rattle.aug_live.proofs.Moving.{one_more, all_but_last, last_one}
 use Rattle.aug_live.proofs.rolling.deal_all.Goals as goal
 
 pub begin-requires : goal.begin-requires
 begin-requires g c =
-    let was = c.loop-port.invariant in let P = HasCarried (arc_value c.args.round.now).bits c.args.era (arc_value c.args.round.now).members in
+    let was = c.loop-port.invariant in let past = c.args.crew.now.past in let P = HasEnded (arc_value c.args.round.now) past c.args.era in
     let cut : c.loop-port.back.items ≡ c.pop.new.self.items ++ c.in-Some.port ∷ [] = c.pop.ensures.items ∙ ap (λ (z : Option KnownFacts). c.pop.new.self.items ++ option_to_list z) c.in-Some.is in
     let shrunk : vec_len c.pop.new.self + 1 ≡ vec_len c.loop-port.back = c.in-Some.ensures.cases in record {
-      ready = last_one P c.pop.new.self.items c.loop-port.back.items c.in-Some.port cut was.1;
+      ready = subst (λ (z : RoundFacts × List Chapter). HasEnded (arc_value c.args.round.now) z.1 c.args.era c.in-Some.port) (sym was.3) (last_one P c.pop.new.self.items c.loop-port.back.items c.in-Some.port cut was.1);
+      led = subst (λ (z : RoundFacts × List Chapter). Leads (arc_value c.args.round.now).bits z.1 (arc_value c.args.round.now).members) (sym was.3) c.requires.led;
       some = c.requires.some;
       small = c.requires.small;
-      together = was.3;
+      together = ap (λ (z : RoundFacts × List Chapter). z.0) was.3 ∙ c.requires.together;
       lane_left = omega (arith, was.0, was.6, shrunk, c.requires.lanes);
     }
 
 pub loop-port-preserved : goal.loop-port-preserved
 loop-port-preserved g c =
-    let was = c.loop-port.invariant in let began = c.begin.ensures in let P = HasCarried (arc_value c.args.round.now).bits c.args.era (arc_value c.args.round.now).members in
+    let was = c.loop-port.invariant in let began = c.begin.ensures in let past = c.args.crew.now.past in let P = HasEnded (arc_value c.args.round.now) past c.args.era in
     let cut : c.loop-port.back.items ≡ c.pop.new.self.items ++ c.in-Some.port ∷ [] = c.pop.ensures.items ∙ ap (λ (z : Option KnownFacts). c.pop.new.self.items ++ option_to_list z) c.in-Some.is in
     let grown : vec_len c.push_reserved.new.self ≡ vec_len c.loop-port.ports + 1 = c.push_reserved.ensures.len in let shrunk : vec_len c.pop.new.self + 1 ≡ vec_len c.loop-port.back = c.in-Some.ensures.cases in (
       omega (arith, was.0, grown, shrunk),
       all_but_last P c.pop.new.self.items c.loop-port.back.items c.in-Some.port cut was.1,
-      one_more (IsOf (arc_value c.args.round.now) (c.args.era + 1)) c.loop-port.ports.items c.push_reserved.new.self.items c.begin.result c.push_reserved.ensures.items was.2 began.of_round,
+      one_more (IsOf (rounds_in c.args.crew.now) (c.args.era + 1)) c.loop-port.ports.items c.push_reserved.new.self.items c.begin.result c.push_reserved.ensures.items was.2
+          (subst (λ (z : RoundFacts × List Chapter). IsOf z (c.args.era + 1) c.begin.result) was.3 began.of_round),
       began.round ∙ was.3,
       c.push_reserved.ensures.capacity ∙ was.4,
       c.pop.ensures.capacity ∙ was.5,

@@ -1,14 +1,14 @@
-use Rattle.std.specs.Prelude.{◌≡◌, ℕ, ◌+◌, ◌≤◌, All, vec_len, vec_capacity}
+use Rattle.std.specs.Prelude.{◌≡◌, ◌+◌, All, vec_len, vec_capacity}
 use Rattle.std.specs.Arc.{arc_value}
-use Rattle.aug_live.specs.inside.Rolls.{IsOf, HasCarried}
+use Rattle.aug_live.specs.inside.Rolls.{IsOf, HasEnded, rounds_in}
 use Rattle.aug_live.proofs.rolling.deal_all.Given as goal
 
 abbrev pub invariant-loop-port : goal.invariant-loop-port
 invariant-loop-port g l =
     (vec_len l.ports + vec_len l.back ≡ vec_len l.fn.back)
-    × All (HasCarried (arc_value l.round).bits l.era (arc_value l.round).members) l.back.items
-    × All (IsOf (arc_value l.round) (l.era + 1)) l.ports.items
-    × (l.crew.round ≡ arc_value l.round)
+    × All (HasEnded (arc_value l.round) l.fn.crew.past l.era) l.back.items
+    × All (IsOf (rounds_in l.fn.crew) (l.era + 1)) l.ports.items
+    × (rounds_in l.crew ≡ rounds_in l.fn.crew)
     × (vec_capacity l.ports ≡ vec_capacity l.fn.ports)
     × (vec_capacity l.back ≡ vec_capacity l.fn.back)
     × (l.crew.handed ≡ vec_len l.ports)

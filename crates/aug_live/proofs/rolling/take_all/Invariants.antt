@@ -1,13 +1,13 @@
-use Rattle.std.specs.Prelude.{◌≡◌, ℕ, ◌+◌, ◌≤◌, All, vec_len, vec_capacity}
-use Rattle.aug_live.specs.inside.Rolls.{IsOf, IsBackIn}
+use Rattle.std.specs.Prelude.{◌≡◌, ◌+◌, All, vec_len, vec_capacity}
+use Rattle.aug_live.specs.inside.Rolls.{IsOf, IsBackIn, rounds_in}
 use Rattle.aug_live.proofs.rolling.take_all.Given as goal
 
 abbrev pub invariant-loop-port : goal.invariant-loop-port
 invariant-loop-port g l =
     (vec_len l.back + vec_len l.ports ≡ vec_len l.fn.ports)
-    × All (IsOf l.fn.crew.round l.era) l.ports.items
-    × All (IsBackIn l.fn.crew.round l.era l.crew.knows.history) l.back.items
-    × (l.crew.round ≡ l.fn.crew.round)
+    × All (IsOf (rounds_in l.fn.crew) l.era) l.ports.items
+    × All (IsBackIn (rounds_in l.fn.crew) l.era l.crew.knows.history) l.back.items
+    × (rounds_in l.crew ≡ rounds_in l.fn.crew)
     × (vec_capacity l.back ≡ vec_capacity l.fn.back)
     × (vec_capacity l.ports ≡ vec_capacity l.fn.ports)
     × (l.crew.handed ≡ l.fn.crew.handed)

@@ -1,13 +1,12 @@
 use Rattle.std.proofs.Common.{◌≡◌, sym, subst, vec_len, arith}
-use Rattle.std.specs.Arc.{arc_value}
-use Rattle.aug_live.specs.inside.Rolls.{IsOf}
+use Rattle.aug_live.specs.inside.Rolls.{IsOf, rounds_in}
 use Rattle.aug_live.proofs.Desks.{all_of_round, kept_on}
 use Rattle.aug_live.proofs.desk.Working.goes_on.Goals as goal
 
 pub invariant_of-self : goal.invariant_of-self
 invariant_of-self g c =
     let was = c.self.invariant in
-    let round = arc_value c.self.inside.round in let era = c.self.inside.counts.rounds in
+    let round = rounds_in c.self.inside.crew in let era = c.self.inside.counts.rounds in
     let old = subst (IsOf round era) (sym c.remove.ensures.value) (was.0.of_round c.args.lane c.remove.result (omega arith)) in
     let port = subst (λ z. IsOf round z c.replace-port.result) old.era_is c.replace-port.ensures.of_round in
     let len : vec_len c.insert.new.self ≡ vec_len c.self.inside.ports = omega (arith, c.in-Ok.ensures.len, c.remove.ensures.len) in

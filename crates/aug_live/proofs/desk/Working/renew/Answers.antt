@@ -1,16 +1,16 @@
-use Rattle.std.proofs.Common.{◌≡◌, refl, sym, subst, vec_len, arith}
-use Rattle.std.specs.Arc.{arc_value}
+use Rattle.std.proofs.Common.{◌≡◌, List, refl, sym, subst, vec_len, arith}
+use Rattle.aug_trie.specs.Chains.{Chapter}
 use Rattle.aug_trie.specs.Round.{RoundFacts}
-use Rattle.aug_live.specs.inside.Rolls.{IsOf}
+use Rattle.aug_live.specs.inside.Rolls.{IsOf, rounds_in}
 use Rattle.aug_live.proofs.Desks.{all_of_round, kept_on}
 use Rattle.aug_live.proofs.desk.Working.renew.Goals as goal
 
 pub invariant_of-self : goal.invariant_of-self
 invariant_of-self g c =
     let was = c.self.invariant in
-    let round = arc_value c.self.inside.round in let era = c.self.inside.counts.rounds in
+    let round = rounds_in c.self.inside.crew in let era = c.self.inside.counts.rounds in
     let old = subst (IsOf round era) (sym c.remove.ensures.value) (was.0.of_round c.args.lane c.remove.result (omega arith)) in
-    let port = subst (λ (z : RoundFacts × _). IsOf z.0 z.1 c.renew-port.result.0) (λ i. (old.round_is i, old.era_is i)) c.renew-port.ensures.port in
+    let port = subst (λ (z : (RoundFacts × List Chapter) × _). IsOf z.0 z.1 c.renew-port.result.0) (λ i. (old.round_is i, old.era_is i)) c.renew-port.ensures.port in
     let len : vec_len c.insert.new.self ≡ vec_len c.self.inside.ports = omega (arith, c.in-Ok.ensures.len, c.remove.ensures.len) in
     let all = all_of_round round era c.self.inside.ports.items _ _ c.args.lane c.renew-port.result.0 was.0.of_round c.remove.ensures.items c.in-Ok.ensures.items port in
     (kept_on _ _ _ _ _ _ _ _ _ _ 0 was.0 all len refl (omega arith) (omega arith) was.0.within, was.1, omega (arith, was.2, len), was.3, was.4, was.5)

@@ -1,16 +1,34 @@
-use Rattle.std.proofs.Common.{◌≡◌, ◌∙◌, All, subst, sym}
+use Rattle.std.proofs.Common.{◌∙◌, All, List, ap, subst, sym, rules}
 use Rattle.std.specs.Arc.{arc_value}
+use Rattle.aug_trie.specs.Chains.{Chapter}
 use Rattle.aug_trie.specs.Round.{RoundFacts}
-use Rattle.aug_live.specs.inside.Rolls.{IsOf, IsBackIn}
-use Rattle.aug_live.proofs.Desks.{carried_on}
+use Rattle.aug_live.specs.Carrying.{Leads}
+use Rattle.aug_live.specs.inside.Rolls.{IsBackIn}
+use Rattle.aug_live.proofs.Desks.{rolled_on}
+use Rattle.aug_live.proofs.Moving.{all_ended, next_led}
 use Rattle.aug_live.proofs.desk.Working.roll.Goals as goal
-
-pub take_all-requires-clause-of_round : goal.take_all-requires-clause-of_round
-take_all-requires-clause-of_round g c =
-    subst (λ (z : RoundFacts). All (IsOf z c.self.inside.counts.rounds) c.self.inside.ports.items) (sym c.self.invariant.0.together) c.self.invariant.0.of_round
 
 pub deal_all-requires-clause-ready : goal.deal_all-requires-clause-ready
 deal_all-requires-clause-ready g c =
-    let round : RoundFacts = arc_value c.self.inside.round in let back = c.take_all.new.back.items in let here = c.self.invariant.0.together in
-    carried_on c.self.inside.counts.rounds round (arc_value c.renewed-crew.new.round) c.take_all.new.crew c.renewed-crew.result.0 _ _ _ back c.renewed-crew.ensures.rolls
-    (c.take_all.ensures.round ∙ here) (subst (λ (z : RoundFacts). All (IsBackIn z c.self.inside.counts.rounds c.take_all.new.crew.knows.history) back) here c.take_all.ensures.back)
+    let round : RoundFacts = arc_value c.self.inside.round in let back = c.take_all.new.back.items in let now = c.take_all.new.crew in let era = c.self.inside.counts.rounds in
+    all_ended era round (arc_value c.renewed-crew.new.round) now c.renewed-crew.result.0 _ _ _ c.renewed-crew.ensures.rolls (ap (λ (z : RoundFacts × List Chapter). z.0) c.take_all.ensures.round ∙ c.self.invariant.0.together) back
+    (subst (λ (z : RoundFacts × List Chapter). All (IsBackIn z era now.knows.history) back) (sym c.take_all.ensures.round) c.take_all.ensures.back)
+
+pub deal_all-requires-clause-led : goal.deal_all-requires-clause-led
+deal_all-requires-clause-led g c =
+    let round : RoundFacts = arc_value c.self.inside.round in let now = c.take_all.new.crew in
+    next_led c.self.inside.counts.rounds round (arc_value c.renewed-crew.new.round) now c.renewed-crew.result.0 _ _ _ c.renewed-crew.ensures.rolls (ap (λ (z : RoundFacts × List Chapter). z.0) c.take_all.ensures.round ∙ c.self.invariant.0.together)
+    (subst (λ (z : List Chapter). Leads round.bits z round.members) (sym (ap (λ (z : RoundFacts × List Chapter). z.1) c.take_all.ensures.round)) c.self.invariant.0.led)
+
+pub invariant_of-working : goal.invariant_of-working
+invariant_of-working g c =
+    let was = c.self.invariant in let dealt = c.deal_all.ensures in (
+      rolled_on c.self.inside.plan.lanes c.self.inside.plan.updates c.self.inside.counts _ (arc_value c.self.inside.round) (arc_value c.renewed-crew.new.round) c.self.inside.crew c.take_all.new.crew c.renewed-crew.result.0 c.deal_all.new.crew
+          c.self.inside.ports.items c.deal_all.new.ports.items _ _ c.renewed-crew.new.list.items c.renewed-crew.result.1 c.renewed-crew.result.2
+          was.0 c.renewed-crew.ensures.rolls c.take_all.ensures.round dealt.of_round (search rules) dealt.round (search rules) dealt.back (search rules) (search rules) (search rules) (search rules) (search rules) (search rules),
+      search rules,
+      search rules,
+      search rules,
+      search rules,
+      search rules,
+    )

@@ -1,4 +1,4 @@
-use Rattle.aug_live.proofs.Carries.{follows_on, makes_on}
+use Rattle.aug_live.proofs.Carries.{follows_self, follows_on, makes_on}
 use Rattle.aug_live.proofs.handle.Handle.look.Goals as goal
 
 pub returns-in-Ok-clause-looks : goal.returns-in-Ok-clause-looks
@@ -9,3 +9,6 @@ returns-in-Err-past-clause-not_made g c = follows_on c.args.self c.loop.handle c
 
 pub loop-preserved : goal.loop-preserved
 loop-preserved g c = follows_on c.args.self c.loop.handle c.in-Err.same c.loop.invariant c.in-Err.ensures.at_rest
+
+pub loop-init : goal.loop-init
+loop-init g c = follows_self c.args.self

@@ -1,4 +1,4 @@
-use Rattle.aug_live.proofs.Carries.{follows_on, makes_on}
+use Rattle.aug_live.proofs.Carries.{follows_self, follows_on, makes_on}
 use Rattle.aug_live.proofs.handle.Handle.update.Goals as goal
 
 pub returns-in-Ok-clause-made : goal.returns-in-Ok-clause-made
@@ -9,3 +9,6 @@ loop-preserved g c = follows_on c.args.self.now c.loop.self c.try_update.new.sel
 
 pub returns-in-Err-past-clause-not_made : goal.returns-in-Err-past-clause-not_made
 returns-in-Err-past-clause-not_made g c = follows_on c.args.self.now c.loop.self c.try_update.new.self c.loop.invariant c.in-Err.ensures.not_made
+
+pub loop-init : goal.loop-init
+loop-init g c = follows_self c.args.self.now

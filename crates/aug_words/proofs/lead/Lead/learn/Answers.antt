@@ -1,7 +1,10 @@
 use Rattle.std.proofs.Common.{arith, ap, subst, sym, ◌∙◌, ◌≡◌}
 use Rattle.aug_core.specs.Faces.{face}
 use Rattle.aug_core.specs.Addresses.{root_place}
-use Rattle.aug_core.specs.Told.{Sat, LoadsNode, learning}
+use Rattle.std.specs.Prelude.{IfSome}
+use Rattle.aug_core.specs.Pasts.{IsLearnt}
+use Rattle.aug_core.specs.Learning.{learning}
+use Rattle.aug_core.specs.Told.{Sat, LoadsNode}
 use Rattle.aug_core.specs.declared.view.SeatView.{SeatView}
 use Rattle.aug_core.proofs.Eras.{hands_out}
 use Rattle.aug_core.proofs.Notes.{learns_in_its_era}
@@ -15,8 +18,7 @@ join_seat-requires g c = let here = c.requires.together.one_table ∙ ap (λ (s 
   ap (λ (k : Known). k.table) c.note.view_is ∙ c.requires.table ∙ here,
   c.note.invariant.no_slot,
   some_words _ _ _ _ _ _ _ c.words.invariant,
-  learns_in_its_era _ _ _ _ _ _ (hands_out c.self.inside.seat.me.0 c.self.inside.next c.self.invariant.hands_out) c.note.invariant.no_lane
-      (ap (λ (k : Known). k.view.era) c.note.view_is ∙ c.requires.era ∙ ap (λ (k : Known). k.view.era) (sym c.self.view_is)),
+  learns_in_its_era _ _ _ _ _ _ (hands_out c.self.inside.seat.me.0 c.self.inside.next c.self.invariant.hands_out) c.self.invariant.live c.note.invariant.live c.note.invariant.no_lane,
 )
 
 pub overflow_sub-words-inside : goal.overflow_sub-words-inside
@@ -24,7 +26,7 @@ overflow_sub-words-inside g c = let at = lanes_at _ _ _ _ _ _ _ c.words.invarian
 
 pub returns-clause-learns : goal.returns-clause-learns
 returns-clause-learns g c = let m = g.A.Monoid in let n = g.B.Monoid in let f = face m.parts n.parts in
-    let old : SeatView = c.args.self.now.view in let note : SeatView = c.args.note.view in let after : SeatView = c.load_root.new.self.view in let told = c.load_root.ensures.view in
+    let old : SeatView = c.args.self.now.view in let note : SeatView = c.args.note.view in let after : SeatView = c.load_after_note.new.self.view in let told = c.load_after_note.ensures.view in
     let is : c.join_seat.new.seat.me.0 ≡ learning old note = ap (λ (z : Sat). z.0) c.join_seat.ensures.2 ∙ ap (λ (k : Known). learning k.view c.note.inside.seat.me.0) c.self.view_is ∙ ap (λ (k : Known). learning old k.view) c.note.view_is in
-    let loaded : LoadsNode f (learning old note) (root_place old.shape) told.0 after = subst (λ (z : SeatView). LoadsNode f z (root_place z.shape) told.0 after) is told.1 in
-    (told.0, learnt_note f old note after told.0 loaded)
+    let both = subst (λ (z : SeatView). LoadsNode f z (root_place z.shape) told.0 after × IfSome z.told (IsLearnt z.shape z.era z.past z.members)) is (told.1, c.load_after_note.ensures.told) in
+    (told.0, learnt_note f old note after told.0 both.0 both.1)

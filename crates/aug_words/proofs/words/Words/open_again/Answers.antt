@@ -58,11 +58,14 @@ invariant_of-result g c =
     let long : length draft ≡ word_count (narrow s) = built.long in
     let named : c.index-root.result.now ≡ opening_number (opening_with s members) (root_place s) =
     get_or_read draft (c.self.inside.lanes - 1) c.index-root.result.now (omega arith) c.index-root.ensures 0 ∙ ap (λ (z : ℕ). get_or draft z 0) root ∙ built.named (root_place s) inner.inside in
-    let seat : IsLeadSeat f 0 c.index-root.result.now (opener f (opening_with s members) w.era w.words, []) = opening_seat f (opening_with s members) w.era w.words c.index-root.result.now laid_out set c.requires.members_fit few named in
-    subst (IsLeadSeat f 0 c.index-root.result.now) (λ i. ((ap (λ (z : Shape). opener f (opening_with z members) w.era w.words) (sym shaped) ∙ sym c.reopen.ensures.view) i, sym c.reopen.ensures.no_slot i)) seat
+    let seat : IsLeadSeat f 0 c.index-root.result.now (opener f (opening_with s members) w.past w.era w.words, []) = opening_seat f (opening_with s members) w.past w.era w.words c.index-root.result.now laid_out set c.requires.members_fit few named in
+    subst (IsLeadSeat f 0 c.index-root.result.now) (λ i. ((ap (λ (z : Shape). opener f (opening_with z members) w.past w.era w.words) (sym shaped) ∙ sym c.reopen.ensures.view) i, sym c.reopen.ensures.no_slot i)) seat
 
 pub overflow_sub-self-inside : goal.overflow_sub-self-inside
 overflow_sub-self-inside g c = let s : Shape = c.self.inside.opening.shape in let lanes = c.self.invariant.lanes_are in let t = twice s.bits in let one = some_leaf s.bits in omega arith
 
 pub returns-clause-era : goal.returns-clause-era
-returns-clause-era g c = ap (λ (z : SeatView). z.era) c.reopen.ensures.view ∙ ap (λ (z : SeatView). z.era) c.rewrite.ensures.view.view_is ∙ ap (λ (k : Known). k.view.era) c.idle.view_is
+returns-clause-era g c = (
+  ap (λ (z : SeatView). z.era) c.reopen.ensures.view ∙ ap (λ (z : SeatView). z.era) c.rewrite.ensures.view.view_is ∙ ap (λ (k : Known). k.view.era) c.idle.view_is,
+  ap (λ (z : SeatView). z.past) c.reopen.ensures.view ∙ ap (λ (z : SeatView). z.past) c.rewrite.ensures.view.view_is ∙ ap (λ (k : Known). k.view.past) c.idle.view_is,
+)

@@ -1,0 +1,145 @@
+//! What handles tell one another by notes, also over roll-overs.
+ghost use Rattle.std.specs.Prelude.{◌≡◌, IfOk};
+ghost use Rattle.aug_trie.specs.Chains.{IsPart};
+ghost use Rattle.aug_trie.specs.Pass.{chain_of};
+
+use super::opening::{Hand, Trie, no_keys};
+use super::steps::{closed, renewed};
+use crate::assertions::{equal, holds};
+use aug_live::{Live, LiveError, Plan};
+use aug_query::descent::Has;
+use aug_trie::BeginError;
+use std::alloc::Global;
+use std::process::Abort;
+use std::sync::Wait;
+
+// A trie over no keys of 6 bits, and two handles of it.
+fn two<R: Wait + Abort>(rt: &R, alloc: Global) -> Result<(Trie, Hand, Hand), BeginError>
+    ensures { IfOk result (λ t. t.2.half.round.table ≡ t.1.half.round.table) }
+{
+    let plan = Plan {
+        lanes: 2,
+        updates: 4,
+    };
+    let (live, mut hands) = match Live::open_with(rt, alloc, no_keys(alloc, 6)?, 2, plan) {
+        Ok(opened) => opened,
+        Err((_, cause)) => return Err(cause),
+    };
+    let Some(b) = hands.pop() else {
+        panic!(rt; "no second handle");
+    };
+    let Some(a) = hands.pop() else {
+        panic!(rt; "no first handle");
+    };
+    Ok((live, a, b))
+}
+
+// One handle tells another what it knows.
+fn tell<R: Wait + Abort>(rt: &R, from: &mut Hand, to: &mut Hand)
+    requires trie { to.old.half.round.table ≡ from.old.half.round.table }
+    ensures from { from.new.half.round.table ≡ from.old.half.round.table }
+    ensures to { to.new.half.round.table ≡ to.old.half.round.table }
+    ensures told { IsPart (chain_of from.new.half) (chain_of to.new.half) }
+{
+    let Ok(note) = from.note(rt) else {
+        panic!(rt; "no note");
+    };
+    let Ok(()) = to.learn(rt, note) else {
+        panic!(rt; "not learnt");
+    };
+}
+
+// Puts a key in, or takes it out, which is done.
+fn change<R: Wait + Abort>(rt: &R, hand: &mut Hand, key: u32, goes_in: bool)
+    ensures { hand.new.half.round.table ≡ hand.old.half.round.table }
+{
+    holds(rt, key < hand.universe());
+    let done = if goes_in {
+        hand.insert(rt, key)
+    } else {
+        hand.remove(rt, key)
+    };
+    equal(rt, done, Ok(true));
+}
+
+// Whether a look of the handle shows a key.
+fn sees<R: Wait + Abort>(rt: &R, hand: Hand, key: u32) -> (Hand, bool)
+    ensures { result.0.half.round.table ≡ hand.half.round.table }
+{
+    let Ok(mut look) = hand.look(rt) else {
+        panic!(rt; "no look");
+    };
+    let seen = look.ask(Has(key));
+    (look.done(), seen)
+}
+
+// Rolls the round over some times.
+fn roll<R: Wait + Abort>(rt: &R, live: &Trie, times: u32) {
+    for _ in 0..times {
+        equal(rt, live.roll(rt), Ok(()));
+    }
+}
+
+// One handle puts a key in and takes it out, and tells another each time, with roll-overs before the note is made and before it is learnt.
+fn assert_told<R: Wait + Abort>(
+    rt: &R,
+    live: &Trie,
+    from: Hand,
+    to: Hand,
+    key: u32,
+    before: u32,
+    between: u32,
+) -> (Hand, Hand)
+    requires { to.half.round.table ≡ from.half.round.table }
+    ensures { result.1.half.round.table ≡ result.0.half.round.table }
+{
+    let (mut from, mut to) = (from, to);
+    change(rt, &mut from, key, true);
+    roll(rt, live, before);
+    let Ok(note) = from.note(rt) else {
+        panic!(rt; "no note");
+    };
+    roll(rt, live, between);
+    let Ok(()) = to.learn(rt, note) else {
+        panic!(rt; "not learnt");
+    };
+    let (mut to, seen) = sees(rt, to, key);
+    holds(rt, seen);
+    change(rt, &mut to, key, false);
+    tell(rt, &mut to, &mut from);
+    let (from, seen) = sees(rt, from, key);
+    equal(rt, seen, false);
+    (from, to)
+}
+
+#[test]
+fn a_note_tells_what_its_maker_did_over_any_roll_overs(rt: HostRuntime) -> Result<(), BeginError> {
+    let (live, a, b) = two(&rt, rt.alloc())?;
+    let (a, b) = assert_told(&rt, &live, a, b, 3, 0, 0);
+    let (a, b) = assert_told(&rt, &live, a, b, 5, 0, 1);
+    let (a, b) = assert_told(&rt, &live, a, b, 3, 2, 0);
+    let (a, b) = assert_told(&rt, &live, a, b, 63, 1, 3);
+    drop((a, b));
+    let (size, counts) = closed(&rt, live);
+    equal(&rt, (size, counts.inserts, counts.removals), (0, 4, 4));
+    Ok(())
+}
+
+#[test]
+fn a_closed_trie_makes_no_note_and_a_replaced_handle_none(
+    rt: HostRuntime,
+) -> Result<(), BeginError> {
+    let (live, mut a, mut b) = two(&rt, rt.alloc())?;
+    let Ok(note) = b.note(&rt) else {
+        panic!(&rt; "no note");
+    };
+    drop(renewed(&rt, rt.alloc(), &live, 0));
+    equal(&rt, a.note(&rt).err(), Some(LiveError::Replaced));
+    let Err((_, cause)) = a.learn(&rt, note) else {
+        panic!(&rt; "learnt");
+    };
+    equal(&rt, cause, LiveError::Replaced);
+    closed(&rt, live);
+    equal(&rt, b.note(&rt).err(), Some(LiveError::Closed));
+    Ok(())
+}

@@ -1,5 +1,5 @@
 -- Batches of queries: slices of their keys, and what the two halves of a slice load.
-use Rattle.std.proofs.Common.{zero, suc, add-one, min, ◌≡◌, ℕ, ◌+◌, ◌-◌, ◌*◌, ◌/◌, ◌%◌, ◌^◌, ◌<◌, ◌≤◌, ◌==◌, Bool, true, false, eqb, ◌||◌, if◌then◌else◌, nat_lt, List, [], ◌∷◌, ◌++◌, length, map, replicate, get_or, Some, is_some, refl, ap, sym, ◌∙◌, subst, arith, append_assoc, take, drop, length-append, length-take, length-drop, get_or-take, get_or-drop, get_or-append-add}
+use Rattle.std.proofs.Common.{zero, suc, add-one, one-mul, min, ◌≡◌, ℕ, ◌+◌, ◌-◌, ◌*◌, ◌/◌, ◌%◌, ◌^◌, ◌<◌, ◌≤◌, ◌==◌, Bool, true, false, eqb, ◌||◌, if◌then◌else◌, nat_lt, List, [], ◌∷◌, ◌++◌, length, map, replicate, get_or, Some, is_some, refl, ap, sym, ◌∙◌, subst, arith, append_assoc, take, drop, length-append, length-take, length-drop, get_or-take, get_or-drop, get_or-append-add}
 use Rattle.std.specs.List.{All}
 use Rattle.std.specs.List.Sorted.{IsNonDecreasing, IsPartitionPoint}
 use Rattle.std.proofs.lemmas.Bool.{eqb-true, eqb-false, ltb-true, ltb-false}
@@ -17,7 +17,7 @@ use Rattle.aug_query.specs.Descend.{Descends}
 use Rattle.aug_query.specs.declared.loaded.Loaded.{Loaded}
 use Rattle.aug_query.specs.inside.Batches.{AreBetween, nodes_below, leaves_below}
 use Rattle.aug_query.specs.inside.NodePlaces.{IsPlace, middle_key}
-use Rattle.aug_query.proofs.Nodes.{leaf_low, left_low, right_high, middle_high, wrapped}
+use Rattle.aug_query.proofs.Nodes.{top_first, leaf_low, left_low, right_high, middle_high, wrapped}
 use Rattle.aug_query.proofs.Descending.{further, rank_before_right}
 
 -- the keys before a cut are below it
@@ -85,6 +85,16 @@ has_weight (p ∷ ps) k = either (eqb p.0 k) (has_weight ps k)
 -- at a leaf, what is told of its key is told of each
 pub leaf_values : {X : Type 0} (f : ℕ → X) (x : X) (level place : ℕ) (keys : List ℕ) → level ≡ 0 → AreBetween (first_key level place) (end_key level place) keys → x ≡ f place → replicate (length keys) x ≡ map f keys
 leaf_values f x level place keys leaf between is = same_values f x keys (λ j d l. is ∙ ap f (leaf_low level place (get_or keys j d) leaf (between.from_first j d l) (between.below_end j d l)))
+
+-- the top covers every key below the end of all
+pub top_keys : (level bits k : ℕ) (keys : List ℕ) → level ≡ bits → k ≡ 2 ^ bits → AreBetween 0 k keys → AreBetween (first_key level 0) (end_key level 0) keys
+top_keys level bits k keys same end between = subst (λ n. AreBetween n (end_key level 0) keys) (sym (top_first level 0 refl)) (subst (λ n. AreBetween 0 n keys) (end ∙ ap (λ n. 2 ^ n) (sym same) ∙ sym (one-mul (2 ^ level))) between)
+
+-- what is told of the one key of a slice
+pub one_value : {X : Type 0} (f : ℕ → X) (x : X) (keys : List ℕ) → length keys ≡ 1 → x ≡ f (get_or keys 0 0) → x ∷ [] ≡ map f keys
+one_value f x (k ∷ []) one is = ap (λ y. y ∷ []) is
+one_value f x [] one is = absurd (omega (arith, one))
+one_value f x (k ∷ j ∷ keys) one is = absurd (omega (arith, one))
 
 -- the node that covers the one key of a slice is at that key's place
 pub key_place_of : (level place : ℕ) (keys : List ℕ) → AreBetween (first_key level place) (end_key level place) keys → length keys ≡ 1 → get_or keys 0 0 / 2 ^ level ≡ place

@@ -42,6 +42,16 @@ module _ {Tree Name : Type 0} {set_of : Tree → SetFacts} {loads_of : Tree → 
     keeps_rest = on old tree new walk.keeps_rest step.keeps_rest;
   }
 
+  -- a child and its count
+  pub counted : {old tree new : Tree} → ((first tree last : Tree) → KeepsRest first tree → KeepsRest tree last → KeepsRest first last)
+      → Descends set_of loads_of Names KeepsRest 1 0 0 0 old tree → Descends set_of loads_of Names KeepsRest 0 1 0 0 tree new → Descends set_of loads_of Names KeepsRest 1 1 0 0 old new
+  counted on child count = further on child count (omega arith) (omega arith) (omega arith) (omega arith)
+
+  -- and then the other child
+  pub counted_other : {old tree past new : Tree} → ((first tree last : Tree) → KeepsRest first tree → KeepsRest tree last → KeepsRest first last)
+      → Descends set_of loads_of Names KeepsRest 1 0 0 0 old tree → Descends set_of loads_of Names KeepsRest 0 1 0 0 tree past → Descends set_of loads_of Names KeepsRest 1 0 0 0 past new → Descends set_of loads_of Names KeepsRest 2 1 0 0 old new
+  counted_other on child count other = further on (counted on child count) other (omega arith) (omega arith) (omega arith) (omega arith)
+
   -- the same descent within a wider bound
   pub within : {n c s p j k l o : ℕ} {old new : Tree} → Descends set_of loads_of Names KeepsRest n c s p old new → n ≤ j → c ≤ k → s ≤ l → p ≤ o → Descends set_of loads_of Names KeepsRest j k l o old new
   within walk a b e f = record {

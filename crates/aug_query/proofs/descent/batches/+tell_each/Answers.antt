@@ -1,11 +1,11 @@
-use Rattle.std.proofs.Common.{◌-◌, ◌≡◌, ℕ, ◌≤◌, ◌++◌, length, map, refl, ap, sym, ◌∙◌, subst, arith}
+use Rattle.std.proofs.Common.{◌+◌, ◌-◌, ◌≡◌, ℕ, ◌≤◌, ◌++◌, vec_len, vec_capacity, length, map, refl, ap, sym, ◌∙◌, subst, arith}
 use Rattle.aug_model.specs.Keys.{SetFacts}
 use Rattle.aug_model.specs.Queries.{weight_of}
 use Rattle.aug_query.specs.Descend.{Descends}
 use Rattle.aug_query.specs.inside.Batches.{leaves_below}
 use Rattle.aug_query.proofs.Nodes.{stands}
 use Rattle.aug_query.proofs.Descending.{still, within}
-use Rattle.aug_query.proofs.Batches.{nodes_from, one_leaf, leaf_values, key_place_of, way_few, child_few, one_part, no_part, none_left, some_left, both_parts, child_told, parts_told}
+use Rattle.aug_query.proofs.Batches.{nodes_from, one_leaf, leaf_values, one_value, part_lengths, key_place_of, way_few, child_few, one_part, no_part, none_left, some_left, both_parts, child_told, parts_told}
 use Rattle.aug_query.proofs.descent.batches.+tell_each.Goals as goal
 use Rattle.aug_query.proofs.descent.batches.+tell_each.Goals.{then-not-is_empty, else-not-is_empty}
 
@@ -85,3 +85,59 @@ returns-else-not-is_empty-2-clause-descends g t c =
       | else-not-is_empty w ↦ subst (λ tree. Descends g.D.Descend.set_of g.D.Descend.loads_of g.D.Descend.Names g.D.Descend.KeepsRest (nodes_from c.args.level (length c.halves.result.0.now)) (leaves_below (c.args.level - 1) (length c.halves.result.0.now)) 0 0 c.args.tree.now tree) (sym w.tree-is) (still g.met.D.Descend.keeps_so)
     ] in
     parts_told g.met.D.Descend.keeps_on c.args.level _ _ _ inner c.halves.ensures.both walk (still g.met.D.Descend.keeps_so)
+
+pub returns-then-keys-eq1-clause-answer : goal.returns-then-keys-eq1-clause-answer
+returns-then-keys-eq1-clause-answer g t c =
+    c.push_reserved.ensures.items ∙ ap (λ xs. c.args.out.now.items ++ xs) (one_value (λ k. g.T.Told.told_of (weight_of (g.D.Descend.set_of c.args.tree.now).pairs k)) c.tell_one-told.result c.args.keys.now c.if-keys-eq1.true c.tell_one-told.ensures.answer)
+
+pub tell_each-requires : goal.tell_each-requires
+tell_each-requires g t c κs lives =
+    let long = (part_lengths 0 c.args.keys.now c.halves.result.0.now c.halves.result.1.now c.halves.ensures.both).0 in
+    (omega (arith, c.decreases, c.if-level-eq0.false), (lives.0, (lives.1.0, (lives.1.1.0, (lives.1.1.1.0, (lives.1.1.1.1, (c.left-left.ensures.name, (c.halves.ensures.low, (some_left c.is_empty.result _ c.is_empty.ensures c.if-not-is_empty.true, omega (arith, c.requires.room, long))))))))))
+
+pub tell_each-requires-then-not-is_empty-2 : goal.tell_each-requires-then-not-is_empty-2
+tell_each-requires-then-not-is_empty-2 g t c κs lives =
+    let long = (part_lengths 0 c.args.keys.now c.halves.result.0.now c.halves.result.1.now c.halves.ensures.both).0 in
+    let out : vec_len c.if-not-is_empty.out ≡ vec_len c.args.out.now + length c.halves.result.0.now = elim c.if-not-is_empty.branch [
+      | then-not-is_empty w ↦ ap (λ o. vec_len o) w.out-is ∙ w.tell_each.ensures.length
+      | else-not-is_empty w ↦ omega (arith, ap (λ o. vec_len o) w.out-is, none_left c.is_empty.result _ c.is_empty.ensures w.if-not-is_empty.false)
+    ] in
+    let wide : vec_capacity c.if-not-is_empty.out ≡ vec_capacity c.args.out.now = elim c.if-not-is_empty.branch [
+      | then-not-is_empty w ↦ ap (λ o. vec_capacity o) w.out-is ∙ w.tell_each.ensures.room
+      | else-not-is_empty w ↦ ap (λ o. vec_capacity o) w.out-is
+    ] in
+    (omega (arith, c.decreases, c.if-level-eq0.false), (lives.0, (lives.1.0, (lives.1.1.0, (lives.1.1.1.0, (lives.1.1.1.1, (c.right-right.ensures.name, (c.halves.ensures.high, (some_left c.is_empty-2.result _ c.is_empty-2.ensures c.if-not-is_empty-2.true, omega (arith, c.requires.room, long, out, wide))))))))))
+
+pub returns-then-not-is_empty-2-clause-length : goal.returns-then-not-is_empty-2-clause-length
+returns-then-not-is_empty-2-clause-length g t c =
+    let long = (part_lengths 0 c.args.keys.now c.halves.result.0.now c.halves.result.1.now c.halves.ensures.both).0 in
+    let out : vec_len c.if-not-is_empty.out ≡ vec_len c.args.out.now + length c.halves.result.0.now = elim c.if-not-is_empty.branch [
+      | then-not-is_empty w ↦ ap (λ o. vec_len o) w.out-is ∙ w.tell_each.ensures.length
+      | else-not-is_empty w ↦ omega (arith, ap (λ o. vec_len o) w.out-is, none_left c.is_empty.result _ c.is_empty.ensures w.if-not-is_empty.false)
+    ] in
+    omega (arith, long, out, c.tell_each-then-not-is_empty-2.ensures.length)
+
+pub returns-then-not-is_empty-2-clause-room : goal.returns-then-not-is_empty-2-clause-room
+returns-then-not-is_empty-2-clause-room g t c =
+    let wide : vec_capacity c.if-not-is_empty.out ≡ vec_capacity c.args.out.now = elim c.if-not-is_empty.branch [
+      | then-not-is_empty w ↦ ap (λ o. vec_capacity o) w.out-is ∙ w.tell_each.ensures.room
+      | else-not-is_empty w ↦ ap (λ o. vec_capacity o) w.out-is
+    ] in
+    c.tell_each-then-not-is_empty-2.ensures.room ∙ wide
+
+pub returns-else-not-is_empty-2-clause-length : goal.returns-else-not-is_empty-2-clause-length
+returns-else-not-is_empty-2-clause-length g t c =
+    let long = (part_lengths 0 c.args.keys.now c.halves.result.0.now c.halves.result.1.now c.halves.ensures.both).0 in
+    let out : vec_len c.if-not-is_empty.out ≡ vec_len c.args.out.now + length c.halves.result.0.now = elim c.if-not-is_empty.branch [
+      | then-not-is_empty w ↦ ap (λ o. vec_len o) w.out-is ∙ w.tell_each.ensures.length
+      | else-not-is_empty w ↦ omega (arith, ap (λ o. vec_len o) w.out-is, none_left c.is_empty.result _ c.is_empty.ensures w.if-not-is_empty.false)
+    ] in
+    omega (arith, long, out, none_left c.is_empty-2.result _ c.is_empty-2.ensures c.if-not-is_empty-2.false)
+
+pub returns-else-not-is_empty-2-clause-room : goal.returns-else-not-is_empty-2-clause-room
+returns-else-not-is_empty-2-clause-room g t c =
+    let wide : vec_capacity c.if-not-is_empty.out ≡ vec_capacity c.args.out.now = elim c.if-not-is_empty.branch [
+      | then-not-is_empty w ↦ ap (λ o. vec_capacity o) w.out-is ∙ w.tell_each.ensures.room
+      | else-not-is_empty w ↦ ap (λ o. vec_capacity o) w.out-is
+    ] in
+    wide

@@ -1,10 +1,10 @@
-use Rattle.std.proofs.Common.{◌≡◌, ℕ, ◌+◌, ◌-◌, ◌*◌, ◌^◌, ◌++◌, length, map, replicate, refl, ap, sym, ◌∙◌, subst, arith}
+use Rattle.std.proofs.Common.{vec_len, vec_capacity, ◌≡◌, ℕ, ◌+◌, ◌-◌, ◌*◌, ◌^◌, ◌++◌, length, map, replicate, refl, ap, sym, ◌∙◌, subst, arith}
 use Rattle.aug_model.specs.Keys.{SetFacts}
 use Rattle.aug_model.specs.Queries.{weight_of}
 use Rattle.aug_query.specs.Descend.{Descends}
 use Rattle.aug_query.proofs.Descents.{past_weighs_none}
 use Rattle.aug_query.proofs.Descending.{still, further}
-use Rattle.aug_query.proofs.Batches.{one_part, no_part, both_parts, none_left, some_left, past_values, top_nodes, top_all, top_counts_few, top_counts_all, part_few}
+use Rattle.aug_query.proofs.Batches.{one_part, no_part, both_parts, none_left, some_left, past_values, top_nodes, top_all, top_counts_few, top_counts_all, part_few, top_keys, part_lengths}
 use Rattle.aug_query.proofs.descent.batches.tell_all.Goals as goal
 use Rattle.aug_query.proofs.descent.batches.tell_all.Goals.{then-not-is_empty, else-not-is_empty}
 
@@ -40,3 +40,35 @@ returns-clause-once g c =
           subst (λ tree. Descends g.D.Descend.set_of g.D.Descend.loads_of g.D.Descend.Names g.D.Descend.KeepsRest (2 * 2 ^ (g.D.Descend.set_of c.args.tree.now).bits - 1) (2 ^ (g.D.Descend.set_of c.args.tree.now).bits) 0 0 c.args.tree.now tree) (sym w.tree-is) (further g.met.D.Descend.keeps_on w.top-top.ensures.descends w.tell_each.ensures.descends (top_all _ _ _ bits) (omega (arith, top_counts_all (g.D.Descend.set_of c.args.tree.now).bits w.bits-bits.result (length c.cut.result.0.now) bits)) (omega arith) (omega arith))
       | else-not-is_empty w ↦ subst (λ tree. Descends g.D.Descend.set_of g.D.Descend.loads_of g.D.Descend.Names g.D.Descend.KeepsRest (2 * 2 ^ (g.D.Descend.set_of c.args.tree.now).bits - 1) (2 ^ (g.D.Descend.set_of c.args.tree.now).bits) 0 0 c.args.tree.now tree) (sym w.tree-is) (still g.met.D.Descend.keeps_so)
     ]
+
+pub tell_each-requires-clause-keys : goal.tell_each-requires-clause-keys
+tell_each-requires-clause-keys g c = top_keys _ _ _ _ c.bits-bits.ensures.value c.universe.ensures.value c.cut.ensures.low
+
+pub tell_each-requires-clause-name : goal.tell_each-requires-clause-name
+tell_each-requires-clause-name g c = subst (λ n. g.D.Descend.Names c.top-top.new.self n 0 c.top-top.result) (sym c.bits-bits.ensures.value) c.top-top.ensures.name
+
+pub tell_each-requires-clause-room : goal.tell_each-requires-clause-room
+tell_each-requires-clause-room g c =
+    let long = (part_lengths 0 c.args.keys.now c.cut.result.0.now c.cut.result.1.now c.cut.ensures.both).0 in
+    omega (arith, c.requires.room, long)
+
+pub repeat-requires : goal.repeat-requires
+repeat-requires g c =
+    let long = (part_lengths 0 c.args.keys.now c.cut.result.0.now c.cut.result.1.now c.cut.ensures.both).0 in
+    let out : vec_len c.if-not-is_empty.out ≡ vec_len c.args.out.now + length c.cut.result.0.now = elim c.if-not-is_empty.branch [
+      | then-not-is_empty w ↦ ap (λ o. vec_len o) w.out-is ∙ w.tell_each.ensures.length
+      | else-not-is_empty w ↦ omega (arith, ap (λ o. vec_len o) w.out-is, none_left c.is_empty.result _ c.is_empty.ensures w.if-not-is_empty.false)
+    ] in
+    let wide : vec_capacity c.if-not-is_empty.out ≡ vec_capacity c.args.out.now = elim c.if-not-is_empty.branch [
+      | then-not-is_empty w ↦ ap (λ o. vec_capacity o) w.out-is ∙ w.tell_each.ensures.room
+      | else-not-is_empty w ↦ ap (λ o. vec_capacity o) w.out-is
+    ] in
+    omega (arith, c.requires.room, long, out, wide)
+
+pub returns-clause-room : goal.returns-clause-room
+returns-clause-room g c =
+    let wide : vec_capacity c.if-not-is_empty.out ≡ vec_capacity c.args.out.now = elim c.if-not-is_empty.branch [
+      | then-not-is_empty w ↦ ap (λ o. vec_capacity o) w.out-is ∙ w.tell_each.ensures.room
+      | else-not-is_empty w ↦ ap (λ o. vec_capacity o) w.out-is
+    ] in
+    c.repeat.ensures.room ∙ wide

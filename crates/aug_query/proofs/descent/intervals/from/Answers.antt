@@ -8,8 +8,9 @@ use Rattle.aug_query.specs.Tree.{sum_of}
 use Rattle.aug_model.specs.NodeKeys.{end_key, keys_below}
 use Rattle.aug_query.specs.Descend.{Descends}
 use Rattle.aug_query.proofs.Nodes.{leaf_is}
-use Rattle.aug_query.proofs.Descending.{still}
+use Rattle.aug_query.proofs.Descending.{further, still}
 use Rattle.aug_query.proofs.Inside.{leaf_ends, end_of_high, end_no_later, beside_low, joined_is, joined_few, beside, one_level}
+use Rattle.aug_query.proofs.Beside.{child_places}
 use Rattle.aug_query.proofs.descent.intervals.from.Goals as goal
 use Rattle.aug_query.proofs.descent.intervals.from.Goals.{then-a-level-eq0, else-a-level-eq0}
 
@@ -93,3 +94,32 @@ returns-clause-answer g c =
     let next = leaf_ends a c.loop-level.level (omega (arith, c.loop-level-test.false)) in
     let told = c.summary-2.ensures.value ∙ ap (λ s. sum_of whole_sum s.pairs (keys_below (list_of s) 0 a)) inv.walk.same_set ∙ ap sum (leaf_is keys 0 a refl) in
     joined_is is c.joined.ensures a (a + 1) last (omega arith) (omega (arith, next, inv.no_later)) told (inv.total ∙ ap (λ n. sum (range_of keys n last)) next)
+
+pub overflow_shr-a : goal.overflow_shr-a
+overflow_shr-a g c =
+    let is = (g.met.D.Descend.name_stands c.args.tree.now _ _ c.args.node c.requires) in
+    let few = is.is_tree_set.few_bits in
+    let fits = is.level_fits in
+    omega (arith, few, fits, c.loop-level.invariant.most)
+
+pub overflow_shr-place : goal.overflow_shr-place
+overflow_shr-place g c =
+    let is = (g.met.D.Descend.name_stands c.args.tree.now _ _ c.args.node c.requires) in
+    let few = is.is_tree_set.few_bits in
+    let fits = is.level_fits in
+    omega (arith, few, fits, c.loop-level.invariant.most)
+
+pub returns-clause-descends : goal.returns-clause-descends
+returns-clause-descends g c = further g.met.D.Descend.keeps_on c.loop-level.invariant.walk c.summary-2.ensures.descends (omega (arith, c.loop-level-test.false)) (omega arith) (omega (arith, c.loop-level-test.false)) (omega arith)
+
+pub overflow_mul-place : goal.overflow_mul-place
+overflow_mul-place g c =
+    let above : c.loop-level.level ≡ c.loop-level.level - 1 + 1 = omega (arith, c.loop-level-test.true) in
+    let name = subst (λ n. g.D.Descend.Names c.loop-level.tree n (c.args.a / 2 ^ n) c.loop-level.node) above c.loop-level.invariant.name in
+    omega (arith, child_places (c.loop-level.level - 1) (g.met.D.Descend.name_stands c.loop-level.tree _ _ c.loop-level.node name))
+
+pub overflow_add-place-then-a-level-eq0 : goal.overflow_add-place-then-a-level-eq0
+overflow_add-place-then-a-level-eq0 g c =
+    let above : c.loop-level.level ≡ c.loop-level.level - 1 + 1 = omega (arith, c.loop-level-test.true) in
+    let name = subst (λ n. g.D.Descend.Names c.loop-level.tree n (c.args.a / 2 ^ n) c.loop-level.node) above c.loop-level.invariant.name in
+    omega (arith, child_places (c.loop-level.level - 1) (g.met.D.Descend.name_stands c.loop-level.tree _ _ c.loop-level.node name))

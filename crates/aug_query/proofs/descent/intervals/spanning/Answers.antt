@@ -1,5 +1,5 @@
 use Rattle.std.proofs.Common.{◌-◌, sym, ◌∙◌, subst, arith}
-use Rattle.aug_query.proofs.Descending.{within}
+use Rattle.aug_query.proofs.Descending.{further, within}
 use Rattle.aug_query.proofs.Inside.{place_order, top_place}
 use Rattle.aug_query.proofs.descent.intervals.spanning.Goals as goal
 use Rattle.aug_query.proofs.descent.intervals.spanning.Goals.{then-loop-level-test+else-a-level, else-loop-level-test}
@@ -23,3 +23,29 @@ returns-clause-lowest g c inner =
       | then-loop-level-test+else-a-level w ↦ omega (arith, order, w.if-a-level.false)
       | else-loop-level-test w ↦ omega (arith, inner, w.loop-level-test.false)
     ]
+
+pub overflow_shr-a : goal.overflow_shr-a
+overflow_shr-a g c =
+    let set = c.bits-level.ensures.set in
+    let few = set.few_bits in
+    omega (arith, few, c.bits-level.ensures.value, c.loop-level.invariant.most)
+
+pub overflow_shr-z : goal.overflow_shr-z
+overflow_shr-z g c =
+    let set = c.bits-level.ensures.set in
+    let few = set.few_bits in
+    omega (arith, few, c.bits-level.ensures.value, c.loop-level.invariant.most)
+
+pub loop-level-preserved : goal.loop-level-preserved
+loop-level-preserved g c =
+    let inv = c.loop-level.invariant in
+    let step = c.toward-node.ensures in
+    record {
+      most = omega (arith, inv.most);
+      name = step.name;
+      both = c.if-a-level.true;
+      walk = further g.met.D.Descend.keeps_on inv.walk step.descends (omega (arith, inv.most)) (omega arith) (omega arith) (omega arith);
+    }
+
+pub returns-clause-descends : goal.returns-clause-descends
+returns-clause-descends g c = c.loop-level.invariant.walk

@@ -8,8 +8,9 @@ use Rattle.aug_query.specs.Tree.{sum_of}
 use Rattle.aug_model.specs.NodeKeys.{first_key, keys_below}
 use Rattle.aug_query.specs.Descend.{Descends}
 use Rattle.aug_query.proofs.Nodes.{leaf_is}
-use Rattle.aug_query.proofs.Descending.{still}
+use Rattle.aug_query.proofs.Descending.{further, still}
 use Rattle.aug_query.proofs.Inside.{leaf_begins, first_of_low, first_no_earlier, beside_high, joined_is, joined_few, beside, one_level}
+use Rattle.aug_query.proofs.Beside.{child_places}
 use Rattle.aug_query.proofs.descent.intervals.until.Goals as goal
 use Rattle.aug_query.proofs.descent.intervals.until.Goals.{then-z-level-eq1, else-z-level-eq1}
 
@@ -95,3 +96,26 @@ returns-clause-answer g c =
     let here = leaf_begins z c.loop-level.level (omega (arith, c.loop-level-test.false)) in
     let told = c.summary-2.ensures.value ∙ ap (λ s. sum_of whole_sum s.pairs (keys_below (list_of s) 0 z)) inv.walk.same_set ∙ ap sum (leaf_is keys 0 z refl) in
     joined_is is c.joined.ensures start z (z + 1) (omega (arith, here, inv.no_earlier)) (omega arith) (inv.total ∙ ap (λ n. sum (range_of keys start n)) here) told
+
+pub overflow_shr-z : goal.overflow_shr-z
+overflow_shr-z g c =
+    let is = (g.met.D.Descend.name_stands c.args.tree.now _ _ c.args.node c.requires) in
+    let few = is.is_tree_set.few_bits in
+    let fits = is.level_fits in
+    omega (arith, few, fits, c.loop-level.invariant.most)
+
+pub overflow_shr-place : goal.overflow_shr-place
+overflow_shr-place g c =
+    let is = (g.met.D.Descend.name_stands c.args.tree.now _ _ c.args.node c.requires) in
+    let few = is.is_tree_set.few_bits in
+    let fits = is.level_fits in
+    omega (arith, few, fits, c.loop-level.invariant.most)
+
+pub returns-clause-descends : goal.returns-clause-descends
+returns-clause-descends g c = further g.met.D.Descend.keeps_on c.loop-level.invariant.walk c.summary-2.ensures.descends (omega (arith, c.loop-level-test.false)) (omega arith) (omega (arith, c.loop-level-test.false)) (omega arith)
+
+pub overflow_mul-place : goal.overflow_mul-place
+overflow_mul-place g c =
+    let above : c.loop-level.level ≡ c.loop-level.level - 1 + 1 = omega (arith, c.loop-level-test.true) in
+    let name = subst (λ n. g.D.Descend.Names c.loop-level.tree n (c.args.z / 2 ^ n) c.loop-level.node) above c.loop-level.invariant.name in
+    omega (arith, child_places (c.loop-level.level - 1) (g.met.D.Descend.name_stands c.loop-level.tree _ _ c.loop-level.node name))

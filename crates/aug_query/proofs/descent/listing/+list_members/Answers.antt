@@ -1,5 +1,10 @@
-use Rattle.std.proofs.Common.{◌+◌, ◌-◌, ◌*◌, ◌≤◌, length, vec_len, vec_capacity, ap, sym, ◌∙◌, arith, rules}
+use Rattle.std.proofs.Common.{ℕ, ◌+◌, ◌-◌, ◌*◌, ◌≤◌, length, vec_len, vec_capacity, ap, sym, ◌∙◌, refl, arith}
+use Rattle.aug_model.specs.Keys.{SetFacts, list_of}
+use Rattle.aug_model.specs.Queries.{weight_in}
+use Rattle.aug_model.specs.NodeKeys.{keys_below}
 use Rattle.aug_query.proofs.Choosing.{child_fits, count_of, left_few, right_count, leaf_below_one, listed_leaf, listed_left, listed_both, left_descends, both_descend}
+use Rattle.aug_query.proofs.Batches.{no_part}
+use Rattle.aug_query.proofs.Descending.{still}
 use Rattle.aug_query.proofs.descent.listing.+list_members.Goals as goal
 
 pub returns-then-level-eq0-clause-answer : goal.returns-then-level-eq0-clause-answer
@@ -25,14 +30,14 @@ overflow_mul-place-2 g t c =
     omega (arith, child_fits (g.D.Descend.set_of c.args.tree.now) c.args.level (c.args.level - 1) c.args.place node.is_tree_set (omega (arith, c.if-level-eq0.false)) node.place_fits)
 
 pub list_members-requires : goal.list_members-requires
-list_members-requires g t c κs within =
+list_members-requires g t c κs lives =
     let set = g.D.Descend.set_of c.args.tree.now in
     let node = g.met.D.Descend.name_stands c.args.tree.now _ _ c.args.node.now c.requires.name in
     let few = left_few set (g.D.Descend.set_of c.left-left.new.self) c.args.level (c.args.level - 1) c.args.place c.args.count c.count-below.result node.is_tree_set (omega (arith, c.if-level-eq0.false)) c.left-left.ensures.descends.same_set c.requires.count c.count-below.ensures.value in
     let name = c.count-below.ensures.descends.keeps_names _ _ _ c.left-left.ensures.name in
     let count = count_of (g.D.Descend.set_of c.count-below.new.self) (g.D.Descend.set_of c.left-left.new.self) (c.args.level - 1) (2 * c.args.place) c.count-below.result (sym c.count-below.ensures.descends.same_set) c.count-below.ensures.value in
     let room : vec_len c.args.list.now + c.count-below.result ≤ vec_capacity c.args.list.now = omega (arith, c.requires.room, few) in
-    search rules
+    (omega (arith, c.decreases, c.if-level-eq0.false), (lives.0, (lives.1.0, (lives.1.1.0, (lives.1.1.1.0, (lives.1.1.1.1, (name, (count, room))))))))
 
 pub overflow_mul-place-then-below-count : goal.overflow_mul-place-then-below-count
 overflow_mul-place-then-below-count g t c =
@@ -45,13 +50,13 @@ overflow_add-place g t c =
     omega (arith, child_fits (g.D.Descend.set_of c.args.tree.now) c.args.level (c.args.level - 1) c.args.place node.is_tree_set (omega (arith, c.if-level-eq0.false)) node.place_fits)
 
 pub list_members-requires-then-below-count : goal.list_members-requires-then-below-count
-list_members-requires-then-below-count g t c κs within =
+list_members-requires-then-below-count g t c κs lives =
     let set = g.D.Descend.set_of c.args.tree.now in
     let node = g.met.D.Descend.name_stands c.args.tree.now _ _ c.args.node.now c.requires.name in
     let same = c.right-right.ensures.descends.same_set ∙ c.list_members.ensures.descends.same_set ∙ c.count-below.ensures.descends.same_set ∙ c.left-left.ensures.descends.same_set in
     let count = right_count set (g.D.Descend.set_of c.left-left.new.self) (g.D.Descend.set_of c.right-right.new.self) c.args.level (c.args.level - 1) c.args.place c.args.count c.count-below.result node.is_tree_set (omega (arith, c.if-level-eq0.false)) c.left-left.ensures.descends.same_set same c.requires.count c.count-below.ensures.value in
     let room : vec_len c.list_members.new.list + (c.args.count - c.count-below.result) ≤ vec_capacity c.list_members.new.list = omega (arith, c.requires.room, c.list_members.ensures.length, c.list_members.ensures.room, c.if-below-count.true) in
-    search rules
+    (omega (arith, c.decreases, c.if-level-eq0.false), (lives.0, (lives.1.0, (lives.1.1.0, (lives.1.1.1.0, (lives.1.1.1.1, (c.right-right.ensures.name, (count, room))))))))
 
 pub returns-then-below-count-clause-answer : goal.returns-then-below-count-clause-answer
 returns-then-below-count-clause-answer g t c =
@@ -86,3 +91,14 @@ returns-clause-descends g t c =
     let few = left_few (g.D.Descend.set_of c.args.tree.now) (g.D.Descend.set_of c.left-left.new.self) c.args.level (c.args.level - 1) c.args.place c.args.count c.count-below.result node.is_tree_set (omega (arith, c.if-level-eq0.false)) c.left-left.ensures.descends.same_set c.requires.count c.count-below.ensures.value in
     left_descends g.met.D.Descend.keeps_on c.args.level (c.args.level - 1) c.args.count c.count-below.result (omega (arith, c.if-level-eq0.false)) (omega (arith, c.if-below-count.false, few)) (omega (arith, c.if-count-eq0.false))
     c.left-left.ensures.descends c.count-below.ensures.descends c.list_members.ensures.descends
+
+pub returns-then-count-eq0-clause-answer : goal.returns-then-count-eq0-clause-answer
+returns-then-count-eq0-clause-answer g t c =
+    let set = g.D.Descend.set_of c.args.tree.now in
+    no_part (λ (s : SetFacts) (k : ℕ). g.I.Item.item_of k (weight_in s.pairs k)) set (keys_below (list_of set) c.args.level c.args.place) _ _ (sym c.requires.count ∙ c.if-count-eq0.true) refl
+
+pub returns-then-count-eq0-clause-descends : goal.returns-then-count-eq0-clause-descends
+returns-then-count-eq0-clause-descends g t c = still g.met.D.Descend.keeps_so
+
+pub returns-then-level-eq0-clause-descends : goal.returns-then-level-eq0-clause-descends
+returns-then-level-eq0-clause-descends g t c = still g.met.D.Descend.keeps_so

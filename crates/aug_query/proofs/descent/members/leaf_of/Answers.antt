@@ -1,5 +1,5 @@
 use Rattle.std.proofs.Common.{sym, subst, arith}
-use Rattle.aug_query.proofs.Descending.{within}
+use Rattle.aug_query.proofs.Descending.{further, within}
 use Rattle.aug_query.proofs.Ways.{top_place}
 use Rattle.aug_query.proofs.descent.members.leaf_of.Goals as goal
 
@@ -12,3 +12,12 @@ loop-level-init g c =
       node = subst (λ p. g.D.Descend.Names c.top-node.new.self c.bits-level.result p c.top-node.result) (top_place c.args.k _ _ bits c.requires) start;
       walk = within c.top-node.ensures.descends (omega (arith, bits)) (omega arith) (omega arith) (omega arith);
     }
+
+pub loop-level-preserved : goal.loop-level-preserved
+loop-level-preserved g c =
+    let inv = c.loop-level.invariant in
+    let step = c.toward-node.ensures in
+    record { most = omega (arith, inv.most); node = step.name; walk = further g.met.D.Descend.keeps_on inv.walk step.descends (omega (arith, inv.most, c.loop-level-test.true)) (omega arith) (omega arith) (omega arith) }
+
+pub returns-clause-descends : goal.returns-clause-descends
+returns-clause-descends g c = within c.loop-level.invariant.walk (omega arith) (omega arith) (omega arith) (omega arith)

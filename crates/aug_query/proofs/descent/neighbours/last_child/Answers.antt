@@ -3,6 +3,7 @@ use Rattle.aug_model.specs.Keys.{list_of}
 use Rattle.aug_model.specs.NodeKeys.{keys_below}
 use Rattle.aug_query.proofs.Nodes.{members_rise}
 use Rattle.aug_query.proofs.Beside.{child_places, last_right, last_left, children_add}
+use Rattle.aug_query.proofs.Descending.{counted, counted_other, within}
 use Rattle.aug_query.proofs.descent.neighbours.last_child.Goals as goal
 
 pub overflow_mul-place : goal.overflow_mul-place
@@ -37,3 +38,9 @@ returns-clause-same g c =
     let node = g.met.D.Descend.name_stands c.args.tree.now _ _ c.args.node.now c.requires.name in
     let same = ap (λ s. length (keys_below (list_of s) c.args.level (2 * c.args.place + 1))) c.right-right.ensures.descends.same_set in
     last_left _ c.args.level c.args.place (members_rise node) (omega (arith, c.if-count-gt0.false, c.count.ensures.value, same))
+
+pub returns-then-count-gt0-clause-descends : goal.returns-then-count-gt0-clause-descends
+returns-then-count-gt0-clause-descends g c = within (counted g.met.D.Descend.keeps_on c.right-right.ensures.descends c.count.ensures.descends) (omega arith) (omega arith) (omega arith) (omega arith)
+
+pub returns-clause-descends : goal.returns-clause-descends
+returns-clause-descends g c = counted_other g.met.D.Descend.keeps_on c.right-right.ensures.descends c.count.ensures.descends c.left.ensures.descends

@@ -9,6 +9,7 @@ use Rattle.aug_model.specs.NodeKeys.{first_key, end_key, keys_below}
 use Rattle.aug_query.proofs.Nodes.{of_set, members_rise, few_keys, wrapped_width}
 use Rattle.aug_query.proofs.Descending.{key_first, key_end}
 use Rattle.aug_query.proofs.Inside.{part_left, part_right, part_between, whole_node, joined_is, joined_few, both_ways, asked_is, no_leaf}
+use Rattle.aug_query.proofs.Descending.{further, still}
 use Rattle.aug_query.proofs.descent.intervals.RangeQuery.run.Goals as goal
 
 pub returns-then-b-a-clause-answer : goal.returns-then-b-a-clause-answer
@@ -95,3 +96,35 @@ returns-clause-descends g c =
     let inner = no_leaf c.args.self.0 c.min-b.result c.spanning-level.result.0 c.if-b-a.false span.both c.if-b-a-2.false in
     let node = of_set span.descends.same_set (g.met.D.Descend.name_stands c.spanning-level.new.tree _ _ c.spanning-level.result.1 span.name) in
     both_ways g.met.D.Descend.keeps_on span.descends c.left-left.ensures.descends c.from-low.ensures.descends c.right-right.ensures.descends c.until-high.ensures.descends inner node.level_fits
+
+pub overflow_shl-level : goal.overflow_shl-level
+overflow_shl-level g c =
+    let node = g.met.D.Descend.name_stands c.spanning-level.new.tree _ _ c.spanning-level.result.1 c.spanning-level.ensures.name in
+    let few = node.is_tree_set.few_bits in
+    let fits = node.level_fits in
+    omega (arith, few, fits)
+
+pub overflow_shr-a : goal.overflow_shr-a
+overflow_shr-a g c =
+    let node = g.met.D.Descend.name_stands c.spanning-level.new.tree _ _ c.spanning-level.result.1 c.spanning-level.ensures.name in
+    let few = node.is_tree_set.few_bits in
+    let fits = node.level_fits in
+    omega (arith, few, fits)
+
+pub overflow_shr-place : goal.overflow_shr-place
+overflow_shr-place g c =
+    let node = g.met.D.Descend.name_stands c.spanning-level.new.tree _ _ c.spanning-level.result.1 c.spanning-level.ensures.name in
+    let few = node.is_tree_set.few_bits in
+    let fits = node.level_fits in
+    omega (arith, few, fits)
+
+pub returns-then-b-a-clause-descends : goal.returns-then-b-a-clause-descends
+returns-then-b-a-clause-descends g c = still g.met.D.Descend.keeps_so
+
+pub returns-then-b-a-2-clause-descends : goal.returns-then-b-a-2-clause-descends
+returns-then-b-a-2-clause-descends g c =
+    let some = c.universe.ensures.set.some_bits in
+    further g.met.D.Descend.keeps_on c.spanning-level.ensures.descends c.summary.ensures.descends (omega (arith, some)) (omega arith) (omega (arith, some)) (omega arith)
+
+pub overflow_sub-level : goal.overflow_sub-level
+overflow_sub-level g c = no_leaf c.args.self.0 c.min-b.result c.spanning-level.result.0 c.if-b-a.false c.spanning-level.ensures.both c.if-b-a-2.false

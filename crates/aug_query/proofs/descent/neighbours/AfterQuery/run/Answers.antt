@@ -5,7 +5,7 @@ use Rattle.aug_model.specs.NodeKeys.{end_key, keys_below}
 use Rattle.aug_model.proofs.Ranges.{all_below_from}
 use Rattle.aug_query.proofs.Orders.{rank_past}
 use Rattle.aug_query.proofs.Nodes.{of_set, members_rise, members_below, top_end}
-use Rattle.aug_query.proofs.Descending.{further, within, key_end}
+use Rattle.aug_query.proofs.Descending.{further, still, within, key_end}
 use Rattle.aug_query.proofs.Passing.{KeepsAfter, keeps_after, right_ahead, after_past, after_none, after_ends}
 use Rattle.aug_query.proofs.Beside.{at_top, past_leaf, told_is}
 use Rattle.aug_query.proofs.descent.neighbours.AfterQuery.run.Goals as goal
@@ -127,3 +127,6 @@ returns-clause-descends g c =
     let bits = (g.D.Descend.set_of c.args.tree.now).bits in
     let to_right = further {j = bits + 2} {k = 0} {l = 0} {o = bits} g.met.D.Descend.keeps_on inv.descends c.right-right.ensures.descends (omega arith) (omega arith) (omega arith) (omega arith) in
     further {new = c.least.new.tree} g.met.D.Descend.keeps_on to_right c.least.ensures.descends (omega (arith, fits)) (omega (arith, fits)) (omega arith) (omega arith)
+
+pub returns-then-universe-k-clause-descends : goal.returns-then-universe-k-clause-descends
+returns-then-universe-k-clause-descends g c = still g.met.D.Descend.keeps_so

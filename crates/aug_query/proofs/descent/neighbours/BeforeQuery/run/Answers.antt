@@ -128,3 +128,10 @@ returns-clause-descends g c =
     let bits = (g.D.Descend.set_of c.args.tree.now).bits in
     let to_left = further {j = bits + 2} {k = 0} {l = 0} {o = bits} g.met.D.Descend.keeps_on inv.descends c.left-left.ensures.descends (omega arith) (omega arith) (omega arith) (omega arith) in
     further {new = c.greatest.new.tree} g.met.D.Descend.keeps_on to_left c.greatest.ensures.descends (omega (arith, fits)) (omega (arith, fits)) (omega arith) (omega arith)
+
+pub returns-then-universe-k-clause-descends : goal.returns-then-universe-k-clause-descends
+returns-then-universe-k-clause-descends g c =
+    let some = c.universe.ensures.set.some_bits in
+    let level = c.bits-level.ensures.value in
+    let same = ap (λ s. s.bits) c.top-node.ensures.descends.same_set in
+    further g.met.D.Descend.keeps_on c.top-node.ensures.descends c.last_below.ensures.descends (omega (arith, some, level, same)) (omega (arith, level)) (omega arith) (omega arith)

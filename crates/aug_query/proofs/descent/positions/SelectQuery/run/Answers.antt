@@ -3,7 +3,7 @@ use Rattle.aug_model.specs.Keys.{list_of}
 use Rattle.aug_query.proofs.Nodes.{of_set, counts, top_first}
 use Rattle.aug_query.proofs.Orders.{rank_none}
 use Rattle.aug_query.proofs.Descents.{select_ends}
-use Rattle.aug_query.proofs.Descending.{further}
+use Rattle.aug_query.proofs.Descending.{further, counted, within}
 use Rattle.aug_query.proofs.Choosing.{count_of, whole_length, chosen_past}
 use Rattle.aug_query.proofs.descent.positions.SelectQuery.run.Goals as goal
 
@@ -30,3 +30,9 @@ returns-clause-answer g c =
     let loop = c.loop-level.invariant in
     let node = of_set loop.descends.same_set (g.met.D.Descend.name_stands c.loop-level.tree _ _ c.loop-level.node loop.name) in
     sym (select_ends c.args.self.0 c.loop-level.rest node (λ _. refl) (omega (arith, c.loop-level-test.false)) (omega (arith, loop.within, counts node (λ _. refl))) loop.same)
+
+pub returns-then-count-i-clause-descends : goal.returns-then-count-i-clause-descends
+returns-then-count-i-clause-descends g c = within (counted g.met.D.Descend.keeps_on c.top-node.ensures.descends c.count.ensures.descends) (omega arith) (omega arith) (omega arith) (omega arith)
+
+pub returns-clause-descends : goal.returns-clause-descends
+returns-clause-descends g c = within c.loop-level.invariant.descends (omega arith) (omega arith) (omega arith) (omega arith)

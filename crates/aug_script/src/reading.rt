@@ -1,5 +1,5 @@
 //! Scripts read from their bytes.
-ghost use Rattle.std.specs.Prelude.{◌≡◌, ◌≢◌, ◌+◌, ◌≤◌, All, Ok, Err, IfOk, IfErr, length};
+ghost use Rattle.std.specs.Prelude.{◌≡◌, ◌≢◌, ◌+◌, ◌^◌, ◌<◌, ◌≤◌, All, Ok, Err, IfOk, IfErr, OnOk, length};
 ghost use Rattle.aug_script.specs.Limits.{IsBounds};
 ghost use Rattle.aug_script.specs.Script.{IsRunnable, NeverNarrows, read_from, records_of, rounds_of};
 ghost use Rattle.aug_script.specs.inside.Items.{nothing_read};
@@ -59,12 +59,42 @@ fn read_rounds(alloc: Global, bytes: &[u8], limits: &Limits) -> Result<OpenRound
     ensures ok { IfOk result (λ read. read_from limits.now (nothing_read limits.now.bits) (records_of bytes.now) ≡ Ok read) }
     ensures fault { IfErr result (λ fault. fault ≢ ScriptError.OutOfMemory → read_from limits.now (nothing_read limits.now.bits) (records_of bytes.now) ≡ Err fault) }
 {
+    let mut rounds = OpenRounds::new(alloc, limits.bits());
+    take_bytes(alloc, bytes, limits, &mut rounds)?;
+    Ok(rounds)
+}
+
+// Takes all records of a script into the rounds.
+fn take_bytes(
+    alloc: Global,
+    bytes: &[u8],
+    limits: &Limits,
+    rounds: &mut OpenRounds,
+) -> Result<(), ScriptError>
+    requires { rounds.old.next + length (records_of bytes.now) < 2 ^ 64 }
+    ensures ok { OnOk result (read_from limits.now rounds.old (records_of bytes.now) ≡ Ok rounds.new) }
+    ensures fault { IfErr result (λ fault. fault ≢ ScriptError.OutOfMemory → read_from limits.now rounds.old (records_of bytes.now) ≡ Err fault) }
+{
     let mut records = Records::new(alloc, bytes);
     let mut fields = ByteRecord::new(alloc);
-    let mut rounds = OpenRounds::new(alloc, limits.bits());
-    while records.next(&mut fields)? {
-        let item = judge(limits, &rounds, &fields)?;
+    take_records(alloc, limits, &mut records, &mut fields, rounds)
+}
+
+// Takes the records that are left, each in `fields`, into the rounds.
+fn take_records(
+    alloc: Global,
+    limits: &Limits,
+    records: &mut Records<'_>,
+    fields: &mut ByteRecord,
+    rounds: &mut OpenRounds,
+) -> Result<(), ScriptError>
+    requires { rounds.old.next + length records.old < 2 ^ 64 }
+    ensures ok { OnOk result (read_from limits.now rounds.old records.old ≡ Ok rounds.new) }
+    ensures fault { IfErr result (λ fault. fault ≢ ScriptError.OutOfMemory → read_from limits.now rounds.old records.old ≡ Err fault) }
+{
+    while records.next(fields)? {
+        let item = judge(limits, rounds, fields)?;
         rounds.take(alloc, item)?;
     }
-    Ok(rounds)
+    Ok(())
 }

@@ -1,37 +1,6 @@
-use Rattle.std.proofs.Common.{length, sym, ap, ◌∙◌, rules, arith}
-use Rattle.csv.specs.Records.{fields_of}
-use Rattle.aug_script.specs.Script.{read_from, records_of}
-use Rattle.aug_script.specs.inside.Items.{nothing_read}
-use Rattle.aug_script.proofs.Rows.{next-with_item, read_from-item, read_from-fault, read_from-none}
+use Rattle.std.proofs.Common.{ap, arith}
 use Rattle.aug_script.proofs.Runnable.{records_of-few}
 use Rattle.aug_script.proofs.reading.read_rounds.Goals as goal
 
-pub returns-in_err-item-clause-fault : goal.returns-in_err-item-clause-fault
-returns-in_err-item-clause-fault c =
-    let records = rw c.if-branch.true at c.in_ok-next.ensures in
-    let bad = sym c.judge.ensures.item ∙ c.in_err-item.was in
-    let total = read_from c.args.limits.now (nothing_read c.args.limits.now.bits) (records_of c.args.bytes.now) in
-    let fault = read_from-fault c.args.limits.now c.loop-rounds.rounds total c.loop-rounds.records c.next.new.self (fields_of c.next.new.row) c.in_err-item.field-0.0 records bad c.loop-rounds.invariant.reads in
-    let gives = c.from_residual-in_err-item.ensures in
-    search rules
-
-pub take-requires-clause-number : goal.take-requires-clause-number
-take-requires-clause-number c =
-    let records = rw c.if-branch.true at c.in_ok-next.ensures in
-    omega (arith, ap length records, c.loop-rounds.invariant.counted, records_of-few c.args.bytes.now)
-
-pub loop-rounds-preserved : goal.loop-rounds-preserved
-loop-rounds-preserved c =
-    let records = rw c.if-branch.true at c.in_ok-next.ensures in
-    let good = sym c.judge.ensures.item ∙ c.in_ok-item.was in
-    let total = read_from c.args.limits.now (nothing_read c.args.limits.now.bits) (records_of c.args.bytes.now) in
-    rw c.in_ok-take.ensures (record {
-      reads = read_from-item c.args.limits.now c.loop-rounds.rounds total c.loop-rounds.records c.next.new.self (fields_of c.next.new.row) c.in_ok-item.item records good c.loop-rounds.invariant.reads;
-      counted = omega (arith, ap length records, c.loop-rounds.invariant.counted, next-with_item c.loop-rounds.rounds c.in_ok-item.item);
-    })
-
-pub returns-clause-ok : goal.returns-clause-ok
-returns-clause-ok c =
-    let records = rw c.if-branch.false at c.in_ok-next.ensures in
-    let total = read_from c.args.limits.now (nothing_read c.args.limits.now.bits) (records_of c.args.bytes.now) in
-    read_from-none c.args.limits.now c.loop-rounds.rounds total c.loop-rounds.records records c.loop-rounds.invariant.reads
+pub take_bytes-requires : goal.take_bytes-requires
+take_bytes-requires c = omega (arith, ap (λ read. read.next) c.new-rounds.ensures, records_of-few c.args.bytes.now)

@@ -22,6 +22,18 @@ loop-level-init g c = let b = c.marked-building.result.plan in let words = c.mar
       (subst (λ (s : Shape). IsMarked s b.key.members words) (sym e.key.0) (subst (λ (ms : List (ℕ × ℕ)). IsMarked c.args.layout.now ms words) (sym e.key.1) e.words));
 }
 
+pub loop-level-preserved : goal.loop-level-preserved
+loop-level-preserved g c =
+    let m = g.A.Monoid in let n = g.B.Monoid in let b = c.put_shared.new.self.plan in let words = c.put_shared.new.self.words.items in let i = c.loop-level.invariant in let under = c.loop-level-test.true in
+    let same = c.put_shared.ensures.same in let was = ap (λ (z : Plan). z.bits) same in let last = i.last in record {
+      in_range = omega arith;
+      last = i.last ∙ sym was;
+      shape = ap (λ (z : Plan). z.key.shape) same ∙ i.shape;
+      members = ap (λ (z : Plan). z.key.members) same ∙ i.members;
+      parts = subst (λ (z : Plan). HasParts c.args.layout.now z.lanes z.records) (sym same) i.parts;
+      built = subst (λ (z : Plan). IsBuilt (face m.parts n.parts) z.key (c.loop-level.level + 1) (2 ^ z.key.shape.bits) words) (sym same) c.put_shared.ensures.built;
+    }
+
 pub loop-level-2-init : goal.loop-level-2-init
 loop-level-2-init g c =
     let m = g.A.Monoid in let n = g.B.Monoid in let b = c.loop-level.building.plan in let words = c.loop-level.building.words.items in let o = b.key in let s = o.shape in let i = c.loop-level.invariant in let within = i.in_range in let last = i.last in let past = c.loop-level-test.false in

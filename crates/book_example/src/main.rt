@@ -8,7 +8,7 @@ ghost use Rattle.book_example.specs.Bids.{bids_agree};
 use aug_monoid::{Extent, Sum};
 use aug_query::ask;
 use aug_query::descent::{After, Before, Range, Weight};
-use aug_trie::{Ended, Pass, PassHalf, Round, Snapshot};
+use aug_trie::{Crew, CrewError, Ended, Pass, PassHalf, Round, Snapshot};
 use std::alloc::Global;
 use std::thread;
 use std::thread::Threads;
@@ -112,15 +112,31 @@ fn day<R: Threads + Sync>(rt: &R, alloc: Global) -> anyhow::Result<(Ended<Sum, E
         Ok(begun) => begun,
         Err((_, cause)) => return Err(cause.into()),
     };
-    let one = crew.pass(&book)?.into_half();
-    let two = crew.pass(&book)?.into_half();
-    let three = crew.pass(&book)?.into_half();
-    let (one, (two, (three, agreed))) = at_work(rt, &book, (one, two, three));
+    let agreed = traded(rt, &book, &mut crew)?;
+    Ok((book.end(crew), agreed))
+}
+
+// Hands three passes out and takes them back once they are done: whether each snapshot agreed with itself.
+fn traded<R: Threads + Sync>(
+    rt: &R,
+    book: &Book,
+    crew: &mut Crew<Sum, Extent>,
+) -> Result<bool, CrewError>
+    requires book { crew.old.round ≡ book.now }
+    requires bits { book.now.bits ≡ 12 }
+    requires updates { book.now.updates ≡ 200 }
+    requires all_back { crew.old.back ≡ crew.old.handed }
+    ensures { IfOk result (λ _. (crew.new.round ≡ book.now) × (crew.new.back ≡ crew.new.handed)) }
+{
+    let one = crew.pass(book)?.into_half();
+    let two = crew.pass(book)?.into_half();
+    let three = crew.pass(book)?.into_half();
+    let (one, (two, (three, agreed))) = at_work(rt, book, (one, two, three));
     // Once a pass is back the crew knows what it did, and the round ends with all of that.
     crew.back(book.pass(one));
     crew.back(book.pass(two));
     crew.back(book.pass(three));
-    Ok((book.end(crew), agreed))
+    Ok(agreed)
 }
 
 fn main(rt: HostRuntime) -> anyhow::Result<()> {

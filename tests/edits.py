@@ -4,7 +4,7 @@ that it does not take tries no contract. Nothing is proved here: whether the pro
 
 usage: tests/edits.py [CRATE ..]
 
-Edits that leave one another in place are compiled together, and each alone only where that fails. The libraries below a crate have to be built,
+Edits that leave one another in place are compiled together, and by halves where that fails. The libraries below a crate have to be built,
 by `rt ci` or `rt lib`. The last line is 'N passed, M failed', and the exit status is 0 where none failed. It needs Python 3.8 or later and the
 toolchain.
 """
@@ -50,10 +50,16 @@ class Copy:
         return next((line for line in said.splitlines() if "error" in line), said[-200:]) if ran.returncode else ""
 
 
-def alone(rt, crate, edit):
-    """What is wrong with an edit by itself, or nothing."""
+def judged(rt, crate, edits):
+    """What is wrong with each of some edits that leave one another in place: they are compiled together, and by halves where that fails."""
     copy = Copy(rt, crate)
-    return copy.apply(edit) or copy.compiled()
+    for edit in edits:
+        copy.apply(edit)
+    said = copy.compiled()
+    if not said or len(edits) == 1:
+        return {edit: said for edit in edits if said}
+    middle = len(edits) // 2
+    return {**judged(rt, crate, edits[:middle]), **judged(rt, crate, edits[middle:])}
 
 
 def together(rt, crate, edits):
@@ -67,8 +73,7 @@ def together(rt, crate, edits):
             copies.append(Copy(rt, crate))
             copies[-1].apply(edit)
     for copy in copies:
-        if copy.compiled():
-            wrong.update((edit, alone(rt, crate, edit)) for edit in copy.edits)
+        wrong.update(judged(rt, crate, copy.edits))
     return wrong
 
 

@@ -3,19 +3,19 @@ use Rattle.std.specs.Prelude.{◌≡◌, ℕ, ℤ, Option, Some, None}
 use Rattle.aug_c.specs.Codes.{closed}
 use Rattle.aug_monoid.specs.declared.sum.Sum.{Sum}
 use Rattle.aug_monoid.specs.declared.extent.Extent.{Extent}
-use Rattle.aug_lane.specs.declared.lane.Lane.{Lane}
+use Rattle.aug_trie.specs.declared.rounds.owned.OwnedPass.{OwnedPass}
 use Rattle.aug_c.specs.declared.stage.Stage.{Stage}
 use Rattle.aug_c.specs.declared.lane_handle.LaneSlot.{LaneSlot}
 use Rattle.aug_c.specs.declared.lane_handle.LaneHandle.{LaneHandle}
 use Rattle.aug_c.specs.declared.trie_handle.TrieSlot.{TrieSlot}
 use Rattle.aug_c.specs.declared.trie_handle.TrieHandle.{TrieHandle}
 
-abbrev pub lane_in : Option LaneSlot → Option (Lane Sum Extent)
+abbrev pub lane_in : Option LaneSlot → Option (OwnedPass Sum Extent)
 lane_in None = None
 lane_in (Some slot) = slot.lane
 
 -- the lane that a handle denotes
-abbrev pub lane_of : LaneHandle → Option (Lane Sum Extent)
+abbrev pub lane_of : LaneHandle → Option (OwnedPass Sum Extent)
 lane_of handle = lane_in handle.held.value
 
 abbrev pub stage_in : Option TrieSlot → Option Stage

@@ -14,10 +14,10 @@ use Rattle.aug_trie.specs.Updates.{TakesSnapshot}
 use Rattle.aug_trie.specs.Pass.{PassFacts, GoesOn}
 use Rattle.aug_trie.specs.Node.{Keeps, Stays}
 use Rattle.aug_trie.specs.Snapshot.{set_at, snapshot_cut}
-use Rattle.aug_lane.specs.EachInTurn.{OneUpdate}
-use Rattle.aug_lane.specs.declared.error.LaneError.{LaneError}
-use Rattle.aug_lane.specs.declared.error.LaneError.TheVariants.{BadKey, Spent}
-use Rattle.aug_lane.specs.declared.lane.Lane.{Lane}
+use Rattle.aug_trie.specs.Owned.{OneUpdate}
+use Rattle.aug_trie.specs.declared.error.UpdateError.{UpdateError}
+use Rattle.aug_trie.specs.declared.error.UpdateError.TheVariants.{BadKey, Spent}
+use Rattle.aug_trie.specs.declared.rounds.owned.OwnedPass.{OwnedPass}
 use Rattle.aug_c.specs.declared.span.Span.{Span}
 use Rattle.aug_c.specs.Codes.{none, bad_key, lane_spent}
 
@@ -26,11 +26,11 @@ abbrev pub span_of : List (ℕ × ℕ) → Summary Sum Extent
 span_of pairs = summary_of sum_parts extent_parts pairs
 
 -- the set that a lane's queries are answered from
-abbrev pub shown : Lane Sum Extent → SetFacts
+abbrev pub shown : OwnedPass Sum Extent → SetFacts
 shown lane = set_at lane.half lane.held
 
 -- what an update answers: 1 if it changed the key, or 2 if it gave a member a weight, and 0 if it changed nothing
-abbrev pub update_code : Result Outcome LaneError → ℤ
+abbrev pub update_code : Result Outcome UpdateError → ℤ
 update_code (Ok Accepted) = pos 1
 update_code (Ok Replaced) = pos 2
 update_code (Ok Refused) = pos 0
@@ -38,7 +38,7 @@ update_code (Err BadKey) = bad_key
 update_code (Err Spent) = lane_spent
 
 -- what many updates in one call answer: how many changed the set
-abbrev pub all_code : Result ℕ LaneError → ℤ
+abbrev pub all_code : Result ℕ UpdateError → ℤ
 all_code (Ok changed) = pos changed
 all_code (Err BadKey) = bad_key
 all_code (Err Spent) = lane_spent
@@ -55,8 +55,8 @@ truth false = pos 0
 
 -- an update of a key: when it is refused, and that it then changes nothing. Otherwise it is one more update, and keeps all snapshots. The lane looks
 -- at the same snapshot as before
-pub record UpdatesKey (asked : Request) (key : ℕ) (old new : Lane Sum Extent) (code : ℤ) : Type 0 where
-  pub answer : Result Outcome LaneError
+pub record UpdatesKey (asked : Request) (key : ℕ) (old new : OwnedPass Sum Extent) (code : ℤ) : Type 0 where
+  pub answer : Result Outcome UpdateError
   pub says : code ≡ update_code answer
   pub bad_key : IsErrOf answer BadKey ↔ (2 ^ old.half.round.bits ≤ key)
   pub spent : IsErrOf answer Spent ↔ ((key < 2 ^ old.half.round.bits) × (old.half.spent ≡ old.half.round.updates))
@@ -67,8 +67,8 @@ pub record UpdatesKey (asked : Request) (key : ℕ) (old new : Lane Sum Extent) 
 
 -- an update for each of `keys`, in turn. The fields say when all of them are refused, and that then nothing changes. Otherwise they are made one
 -- after another, and the answer is the number of updates that changed the set. The lane keeps its snapshot
-pub record UpdatesAll (keys : List ℕ) (makes : ℕ → PassFacts → PassFacts → Type 0) (old new : Lane Sum Extent) (code : ℤ) : Type 0 where
-  pub answer : Result ℕ LaneError
+pub record UpdatesAll (keys : List ℕ) (makes : ℕ → PassFacts → PassFacts → Type 0) (old new : OwnedPass Sum Extent) (code : ℤ) : Type 0 where
+  pub answer : Result ℕ UpdateError
   pub says : code ≡ all_code answer
   pub bad_key : IsErrOf answer BadKey ↔ (¬ All (λ k. k < 2 ^ old.half.round.bits) keys)
   pub spent : IsErrOf answer Spent ↔ (All (λ k. k < 2 ^ old.half.round.bits) keys × (old.half.round.updates < old.half.spent + length keys))
@@ -78,7 +78,7 @@ pub record UpdatesAll (keys : List ℕ) (makes : ℕ → PassFacts → PassFacts
   pub round : new.round ≡ old.round
 
 -- a new snapshot
-pub record TakesLook (old new : Lane Sum Extent) (code : ℤ) : Type 0 where
+pub record TakesLook (old new : OwnedPass Sum Extent) (code : ℤ) : Type 0 where
   pub says : code ≡ pos 0
   pub takes : TakesSnapshot old.half.knows new.half.knows (snapshot_cut new.half new.held.number)
   pub goes_on : GoesOn 0 1 old.half new.half
@@ -86,14 +86,14 @@ pub record TakesLook (old new : Lane Sum Extent) (code : ℤ) : Type 0 where
   pub round : new.round ≡ old.round
 
 -- a query answers only by the snapshot, and changes nothing that a later one could see
-pub record Asks (told : SetFacts → ℤ) (old new : Lane Sum Extent) (code : ℤ) : Type 0 where
+pub record Asks (told : SetFacts → ℤ) (old new : OwnedPass Sum Extent) (code : ℤ) : Type 0 where
   pub says : code ≡ told (shown old)
   pub stays : Stays span_of old.half new.half
   pub held : new.held ≡ old.held
   pub round : new.round ≡ old.round
 
 -- how many updates are left
-pub record TellsLeft (old new : Lane Sum Extent) (code : ℤ) : Type 0 where
+pub record TellsLeft (old new : OwnedPass Sum Extent) (code : ℤ) : Type 0 where
   pub left : ℕ
   pub says : code ≡ pos left
   pub adds_up : left + old.half.spent ≡ old.half.round.updates

@@ -7,8 +7,8 @@ use Rattle.aug_core.specs.Layout.{IsOutside, IsWithin, IsRefused}
 use Rattle.aug_core.specs.declared.layout.LayoutError.TheVariants as layout
 use Rattle.aug_trie.specs.Crew.{BeginsRound, TakesBack, Ends}
 use Rattle.aug_trie.specs.Ended.{EndedFacts, IsEmptyTrie}
-use Rattle.aug_lane.specs.Rounds.{OpensLane}
-use Rattle.aug_lane.specs.declared.lane.Lane.{Lane}
+use Rattle.aug_trie.specs.Owned.{OpensPass}
+use Rattle.aug_trie.specs.declared.rounds.owned.OwnedPass.{OwnedPass}
 use Rattle.aug_lane.specs.declared.running.Running.{Running}
 use Rattle.aug_c.specs.declared.report.Report.{Report}
 use Rattle.aug_c.specs.declared.stage.Stage.{Stage}
@@ -41,8 +41,8 @@ BeginsOn bits workers updates (Working round) new code = (new ≡ Working round)
 
 -- the next lane of a round is opened, or the round and the handle stay as they were
 pub record OpensIn (old : Running Sum Extent) (new : Stage) (lane_before lane_after : LaneHandle) (code : ℤ) : Type 0 where
-  pub opened : code ≡ pos 0 → (round : Running Sum Extent) × (lane : Lane Sum Extent) × (new ≡ Working round) × (lane_of lane_after ≡ Some lane)
-      × OpensLane old.crew round.crew lane.half lane.held.number × (arc_value lane.round ≡ arc_value old.round)
+  pub opened : code ≡ pos 0 → (round : Running Sum Extent) × (lane : OwnedPass Sum Extent) × (new ≡ Working round) × (lane_of lane_after ≡ Some lane)
+      × OpensPass old.crew round.crew lane.half lane.held.number × (arc_value lane.round ≡ arc_value old.round)
   pub refused : code ≢ pos 0 → (new ≡ Working old) × (lane_after ≡ lane_before)
   pub no_lane : code ≡ codes.no_lane → old.crew.handed ≡ old.crew.round.workers
   pub full : old.crew.handed ≡ old.crew.round.workers → (code ≡ codes.no_lane) ⊎ (code ≡ codes.no_memory)
@@ -69,7 +69,7 @@ EndsOn before after (Resting old) new code = (new ≡ Resting old) × (code ≡ 
 EndsOn before after (Working old) new code = EndsAs old new before after code
 
 -- a lane goes back to its round, which then knows what it did, or both stay as they were
-pub record GivesBack (trie_stamp lane_stamp : ℕ) (old : Stage) (lane : Lane Sum Extent) (new : Stage) (left : Option (Lane Sum Extent)) (code : ℤ) : Type 0 where
+pub record GivesBack (trie_stamp lane_stamp : ℕ) (old : Stage) (lane : OwnedPass Sum Extent) (new : Stage) (left : Option (OwnedPass Sum Extent)) (code : ℤ) : Type 0 where
   pub back : code ≡ pos 0 → (before : Running Sum Extent) × (after : Running Sum Extent) × (old ≡ Working before) × (new ≡ Working after) × TakesBack before.crew after.crew lane.half × (left ≡ None)
   pub refused : code ≢ pos 0 → (new ≡ old) × (left ≡ Some lane)
   pub resting : (rest : EndedFacts) → old ≡ Resting rest → code ≡ codes.at_rest

@@ -4,7 +4,7 @@ ghost use Rattle.aug_model.specs.Keys.{is_member, list_of};
 ghost use Rattle.aug_model.specs.Queries.{rank_of, select_of, before_of, after_of, weight_of, weighted_range_of};
 ghost use Rattle.aug_monoid.specs.declared.sum.Sum.{Sum};
 ghost use Rattle.aug_monoid.specs.declared.extent.Extent.{Extent};
-ghost use Rattle.aug_lane.specs.declared.lane.Lane.{Lane};
+ghost use Rattle.aug_trie.specs.declared.rounds.owned.OwnedPass.{OwnedPass};
 ghost use Rattle.aug_lane.specs.ManyKeys.{bit_of, from_of};
 ghost use Rattle.aug_c.specs.Codes.{closed, no_room};
 ghost use Rattle.aug_c.specs.Handles.{lane_of, On};
@@ -166,7 +166,7 @@ pub extern "C" fn aug_range(
     ensures asks { On (Asks (λ set. pos (length (weighted_range_of set.pairs from to)))) (lane_of lane.old) (lane_of lane.new) result }
     ensures closed { IsNone (lane_of lane.old) → out.new ≡ out.old }
     ensures foreign { IsNone lane.old.held.value → lane.new ≡ lane.old }
-    ensures span { (old : Lane Sum Extent) → lane_of lane.old ≡ Some old → IsSpan (span_of (weighted_range_of (shown old).pairs from to)) out.new }
+    ensures span { (old : OwnedPass Sum Extent) → lane_of lane.old ≡ Some old → IsSpan (span_of (weighted_range_of (shown old).pairs from to)) out.new }
 {
     let Some((slot, old)) = lane.lend(alloc) else {
         return CLOSED;
@@ -205,7 +205,7 @@ pub extern "C" fn aug_rank_all(
     ensures asks { length keys.now ≤ length out.old → On (Asks (λ _. pos 0)) (lane_of lane.old) (lane_of lane.new) result }
     ensures closed { IsNone (lane_of lane.old) → out.new ≡ out.old }
     ensures foreign { IsNone lane.old.held.value → lane.new ≡ lane.old }
-    ensures told { (old : Lane Sum Extent) → lane_of lane.old ≡ Some old → length keys.now ≤ length out.old
+    ensures told { (old : OwnedPass Sum Extent) → lane_of lane.old ≡ Some old → length keys.now ≤ length out.old
         → out.new ≡ map (λ k. rank_of (list_of (shown old)) k) keys.now ++ drop (length keys.now) out.old }
 {
     if out.len() < keys.len() {
@@ -214,7 +214,7 @@ pub extern "C" fn aug_rank_all(
     let Some((slot, old)) = lane.lend(alloc) else {
         return CLOSED;
     };
-    let new = old.rank_all(keys, out);
+    let new = aug_lane::rank_all(old, keys, out);
     lane.give(slot, new);
     0
 }
@@ -232,7 +232,7 @@ pub extern "C" fn aug_has_all(
     ensures asks { length keys.now ≤ length out.old → On (Asks (λ _. pos 0)) (lane_of lane.old) (lane_of lane.new) result }
     ensures closed { IsNone (lane_of lane.old) → out.new ≡ out.old }
     ensures foreign { IsNone lane.old.held.value → lane.new ≡ lane.old }
-    ensures told { (old : Lane Sum Extent) → lane_of lane.old ≡ Some old → length keys.now ≤ length out.old
+    ensures told { (old : OwnedPass Sum Extent) → lane_of lane.old ≡ Some old → length keys.now ≤ length out.old
         → out.new ≡ map (λ k. bit_of (is_member (list_of (shown old)) k)) keys.now ++ drop (length keys.now) out.old }
 {
     if out.len() < keys.len() {
@@ -241,7 +241,7 @@ pub extern "C" fn aug_has_all(
     let Some((slot, old)) = lane.lend(alloc) else {
         return CLOSED;
     };
-    let new = old.has_all(keys, out);
+    let new = aug_lane::has_all(old, keys, out);
     lane.give(slot, new);
     0
 }
@@ -252,13 +252,13 @@ pub extern "C" fn aug_keys(alloc: Global, lane: &mut LaneHandle, from: u32, out:
     ensures asks { On (Asks (λ set. pos (min (length out.old) (length (from_of (list_of set) from))))) (lane_of lane.old) (lane_of lane.new) result }
     ensures closed { IsNone (lane_of lane.old) → out.new ≡ out.old }
     ensures foreign { IsNone lane.old.held.value → lane.new ≡ lane.old }
-    ensures told { (old : Lane Sum Extent) → lane_of lane.old ≡ Some old
+    ensures told { (old : OwnedPass Sum Extent) → lane_of lane.old ≡ Some old
         → out.new ≡ take (length out.old) (from_of (list_of (shown old)) from) ++ drop (length (from_of (list_of (shown old)) from)) out.old }
 {
     let Some((slot, old)) = lane.lend(alloc) else {
         return CLOSED;
     };
-    let (new, count) = old.keys_from(from, out);
+    let (new, count) = aug_lane::keys_from(old, from, out);
     lane.give(slot, new);
     i64::from(count)
 }

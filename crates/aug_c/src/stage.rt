@@ -1,11 +1,11 @@
 //! What a trie's handle denotes.
 
-use aug_lane::{Lane, Running};
+use aug_lane::Running;
 use aug_monoid::{Extent, Sum};
-use aug_trie::Ended;
+use aug_trie::{Ended, OwnedPass};
 
 /// A lane of the library's trie: it sums the weights, and knows the least and the greatest key.
-pub type LaneOf = Lane<Sum, Extent>;
+pub type LaneOf = OwnedPass<Sum, Extent>;
 
 /// A round of the library's trie.
 pub type RoundOf = Running<Sum, Extent>;

@@ -1,6 +1,6 @@
 //! The calls on a trie.
 ghost use Rattle.std.specs.Prelude.{◌≡◌, ◌≢◌, ◌*◌, ◌^◌, Some, None, IsSome, IsNone, pos};
-ghost use Rattle.aug_lane.specs.declared.lane.Lane.{Lane};
+ghost use Rattle.aug_trie.specs.declared.rounds.owned.OwnedPass.{OwnedPass};
 ghost use Rattle.aug_lane.specs.declared.running.Running.{Running};
 ghost use Rattle.aug_monoid.specs.declared.sum.Sum.{Sum};
 ghost use Rattle.aug_monoid.specs.declared.extent.Extent.{Extent};
@@ -167,13 +167,13 @@ fn give_back(
 /// Gives a lane back to its round, which then knows what it did.
 #[unsafe(no_mangle)]
 pub extern "C" fn aug_give_back(alloc: Global, trie: &mut TrieHandle, lane: &mut LaneHandle) -> i64
-    requires same_round { (round : Running Sum Extent) → (inner : Lane Sum Extent) → trie_of trie.old ≡ Some (stage.Working round) → lane_of lane.old ≡ Some inner
+    requires same_round { (round : Running Sum Extent) → (inner : OwnedPass Sum Extent) → trie_of trie.old ≡ Some (stage.Working round) → lane_of lane.old ≡ Some inner
         → trie_stamp trie.old ≡ lane_stamp lane.old → inner.half.round ≡ round.crew.round }
     ensures closed { IsNone (trie_of trie.old) → (result ≡ closed) × (trie_of trie.new ≡ None) × (lane.new ≡ lane.old) }
     ensures foreign { IsNone trie.old.held.value → trie.new ≡ trie.old }
     ensures foreign_lane { IsNone lane.old.held.value → lane.new ≡ lane.old }
     ensures no_lane { IsNone (lane_of lane.old) → (result ≡ closed) × (trie_of trie.new ≡ trie_of trie.old) × (lane_of lane.new ≡ None) }
-    ensures gives { (old : Stage) → (inner : Lane Sum Extent) → trie_of trie.old ≡ Some old → lane_of lane.old ≡ Some inner
+    ensures gives { (old : Stage) → (inner : OwnedPass Sum Extent) → trie_of trie.old ≡ Some old → lane_of lane.old ≡ Some inner
         → (new : Stage) × (trie_of trie.new ≡ Some new) × GivesBack (trie_stamp trie.old) (lane_stamp lane.old) old inner new (lane_of lane.new) result }
 {
     let Some((slot, old)) = trie.lend(alloc) else {

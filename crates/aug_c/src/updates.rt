@@ -8,32 +8,31 @@ ghost use Rattle.aug_c.specs.LaneCalls.{span_of, update_code, all_code, UpdatesK
 
 use crate::codes::{BAD_KEY, CLOSED, NO_ROOM, SPENT};
 use crate::lane_handle::LaneHandle;
-use aug_lane::LaneError;
 use aug_model::Outcome;
-use aug_trie::Request;
+use aug_trie::{Request, UpdateError};
 use std::alloc::Global;
 
 #[inline(always)]
-fn code_of(answer: Result<Outcome, LaneError>) -> i64
+fn code_of(answer: Result<Outcome, UpdateError>) -> i64
     ensures { result ≡ update_code answer }
 {
     match answer {
         Ok(Outcome::Accepted) => 1,
         Ok(Outcome::Replaced) => 2,
         Ok(Outcome::Refused) => 0,
-        Err(LaneError::BadKey) => BAD_KEY,
-        Err(LaneError::Spent) => SPENT,
+        Err(UpdateError::BadKey) => BAD_KEY,
+        Err(UpdateError::Spent) => SPENT,
     }
 }
 
 #[inline(always)]
-fn code_of_all(answer: Result<u32, LaneError>) -> i64
+fn code_of_all(answer: Result<u32, UpdateError>) -> i64
     ensures { result ≡ all_code answer }
 {
     match answer {
         Ok(changed) => i64::from(changed),
-        Err(LaneError::BadKey) => BAD_KEY,
-        Err(LaneError::Spent) => SPENT,
+        Err(UpdateError::BadKey) => BAD_KEY,
+        Err(UpdateError::Spent) => SPENT,
     }
 }
 
@@ -116,7 +115,7 @@ fn update_all(alloc: Global, lane: &mut LaneHandle, keys: &[u32], request: Reque
     let Some((slot, old)) = lane.lend(alloc) else {
         return CLOSED;
     };
-    let (new, answer) = old.update_all(keys, request);
+    let (new, answer) = aug_lane::update_all(old, keys, request);
     lane.give(slot, new);
     code_of_all(answer)
 }
@@ -158,7 +157,7 @@ pub extern "C" fn aug_put_all(
     let Some((slot, old)) = lane.lend(alloc) else {
         return CLOSED;
     };
-    let (new, answer) = old.put_all(keys, weights);
+    let (new, answer) = aug_lane::put_all(old, keys, weights);
     lane.give(slot, new);
     code_of_all(answer)
 }

@@ -13,10 +13,10 @@ use Rattle.aug_model.specs.Keys.{SetFacts, list_of}
 use Rattle.aug_model.specs.Queries.{rank_of, select_of}
 use Rattle.aug_model.proofs.Boundaries.{select_of-rising}
 use Rattle.aug_trie.specs.Pass.{PassFacts}
-use Rattle.aug_trie.specs.Node.{HasNode, Reads}
-use Rattle.aug_trie.specs.Snapshot.{HasSnapshot, set_at}
-use Rattle.aug_trie.specs.declared.queries.node.Node.{Node}
+use Rattle.aug_trie.specs.Node.{Reads}
+use Rattle.aug_trie.specs.Snapshot.{HasSnapshot, set_at, snapshot_cut}
 use Rattle.aug_trie.specs.declared.queries.snapshot.Snapshot.{Snapshot}
+use Rattle.aug_trie.proofs.Rising.{members_rise}
 use Rattle.aug_model.proofs.Ranges.{Rises, AllAbove, rises_from}
 use Rattle.aug_lane.specs.ManyKeys.{from_of}
 use Rattle.aug_lane.proofs.Reading.{reads_none, reads_more}
@@ -66,13 +66,9 @@ listed_more rest before i member within room is =
     first ∙ ap (λ (ys : List ℕ). take i rest ++ ys) (second ∙ ap (λ (n : ℕ). n ∷ drop (i + 1) before) is)
     ∙ sym (append_assoc (take i rest) (get_or rest i 0 ∷ []) (drop (i + 1) before)) ∙ ap (λ (xs : List ℕ). xs ++ drop (i + 1) before) (sym one)
 
-module _ {A B : Type 0} (summary_of : List (ℕ × ℕ) → Summary A B) where
-  -- the members of a snapshot rise, as a node of its tree says
-  pub rises_in : (n : ℕ) (p q : PassFacts) (node : Node A B) (held : Snapshot) → HasNode summary_of q node → node.snapshot ≡ held → HasSnapshot p held.number → Reads summary_of n p q
-      → IsStrictlyIncreasing (list_of (set_at p held))
-  rises_in n p q node held has is shown reads =
-      let same : set_at q node.snapshot ≡ set_at p held = ap (λ (s : Snapshot). set_at q s) is ∙ reads.stays.keeps.same_sets held shown in
-      subst (λ (s : SetFacts). IsStrictlyIncreasing (list_of s)) same has.is_tree_set.is_key_set.rising
+-- the members of a snapshot rise
+rises_in : (p : PassFacts) (held : Snapshot) → IsStrictlyIncreasing (list_of (set_at p held))
+rises_in p held = members_rise (snapshot_cut p held.number)
 
 module _ {A B : Type 0} (summary_of : List (ℕ × ℕ) → Summary A B) (first : PassFacts) (held : Snapshot) (below : ℕ) (before : List ℕ) where
   -- so many members are written, those behind some first ones
@@ -87,24 +83,24 @@ module _ {A B : Type 0} (summary_of : List (ℕ × ℕ) → Summary A B) (first 
   same_set i half now out has still a = ap (λ (s : Snapshot). set_at half s) still ∙ a.reads.stays.keeps.same_sets held has
 
   -- a member is found at each place
-  found_at : (i : ℕ) (half : PassFacts) (now : Snapshot) (out : List ℕ) → IsStrictlyIncreasing (list_of (set_at first held)) → HasSnapshot first held.number → now ≡ held → Copied i half out
+  found_at : (i : ℕ) (half : PassFacts) (now : Snapshot) (out : List ℕ) → HasSnapshot first held.number → now ≡ held → Copied i half out
       → select_of (list_of (set_at half now)) (below + i) ≡ slice_get (list_of (set_at first held)) (below + i)
-  found_at i half now out up has still a =
-      ap (λ (s : SetFacts). select_of (list_of s) (below + i)) (same_set i half now out has still a) ∙ select_of-rising (list_of (set_at first held)) up (below + i)
+  found_at i half now out has still a =
+      ap (λ (s : SetFacts). select_of (list_of s) (below + i)) (same_set i half now out has still a) ∙ select_of-rising (list_of (set_at first held)) (rises_in first held) (below + i)
 
-  pub not_none : (i : ℕ) (half : PassFacts) (now : Snapshot) (out : List ℕ) → IsStrictlyIncreasing (list_of (set_at first held)) → HasSnapshot first held.number → now ≡ held → Copied i half out
+  pub not_none : (i : ℕ) (half : PassFacts) (now : Snapshot) (out : List ℕ) → HasSnapshot first held.number → now ≡ held → Copied i half out
       → below + i < length (list_of (set_at first held)) → None ≡ select_of (list_of (set_at half now)) (below + i) → ⊥
-  not_none i half now out up has still a within is =
+  not_none i half now out has still a within is =
       let some = slice_get-get_or (list_of (set_at first held)) (below + i) 0 within in
-      let no : None ≡ Some (get_or (list_of (set_at first held)) (below + i) 0) = is ∙ found_at i half now out up has still a ∙ some in
+      let no : None ≡ Some (get_or (list_of (set_at first held)) (below + i) 0) = is ∙ found_at i half now out has still a ∙ some in
       cc
 
-  pub copied_more : (i : ℕ) (half next : PassFacts) (now : Snapshot) (out : List ℕ) (member : ℕ) → IsStrictlyIncreasing (list_of (set_at first held)) → HasSnapshot first held.number → now ≡ held → Copied i half out
+  pub copied_more : (i : ℕ) (half next : PassFacts) (now : Snapshot) (out : List ℕ) (member : ℕ) → HasSnapshot first held.number → now ≡ held → Copied i half out
       → below + i < length (list_of (set_at first held)) → i < length before → Some member ≡ select_of (list_of (set_at half now)) (below + i) → Reads summary_of (3 * (set_at half now).bits + 2) half next
       → Copied (i + 1) next (set out i member)
-  copied_more i half next now out member up has still a within room is reads =
+  copied_more i half next now out member has still a within room is reads =
       let list = list_of (set_at first held) in
-      let stands : slice_get list (below + i) ≡ Some member = sym (is ∙ found_at i half now out up has still a) in
+      let stands : slice_get list (below + i) ≡ Some member = sym (is ∙ found_at i half now out has still a) in
       let there : get_or list (below + i) 0 ≡ member = get_or_from_slice_get list (below + i) member 0 stands in
       let fresh : member ≡ get_or (drop below list) i 0 = sym (get_or-drop below list i 0 ∙ there) in
       let inside : i < length (drop below list) = omega (arith, within, length-drop below list) in
@@ -124,42 +120,35 @@ module _ {A B : Type 0} (summary_of : List (ℕ × ℕ) → Summary A B) where
       at_most : (n m : ℕ) (p q : PassFacts) → n ≤ m → Reads summary_of n p q → Reads summary_of m p q
       at_most n m p q less reads = let e = reads.few_steps in record { stays = reads.stays; few_steps = omega (arith, e, less) }
 
-  -- what is known once a lane was asked for its size and for the rank of a key
+  -- what is known once a pass was asked for its size and for the rank of a key
   pub record Placed (first p : PassFacts) (held now : Snapshot) (size below k : ℕ) : Type 0 where
-    pub reads : Reads summary_of (6 + (3 * (set_at first held).bits + 2)) first p
+    pub reads : Reads summary_of (2 + (3 * (set_at first held).bits + 2)) first p
     pub same : set_at p now ≡ set_at first held
-    pub rises : IsStrictlyIncreasing (list_of (set_at first held))
     pub size_is : size ≡ length (list_of (set_at first held))
     pub below_is : below ≡ rank_of (list_of (set_at first held)) k
 
-  pub placed : (p0 p1 p2 p3 : PassFacts) (h0 h1 h2 h3 : Snapshot) (size below k : ℕ) → HasSnapshot p0 h0.number → IsStrictlyIncreasing (list_of (set_at p0 h0)) → Reads summary_of 4 p0 p1 → h1 ≡ h0
-      → size ≡ length (list_of (set_at p1 h1)) → Reads summary_of 2 p1 p2 → h2 ≡ h1 → below ≡ rank_of (list_of (set_at p2 h2)) k → Reads summary_of (3 * (set_at p2 h2).bits + 2) p2 p3 → h3 ≡ h2
-      → Placed p0 p3 h0 h3 size below k
-  placed p0 p1 p2 p3 h0 h1 h2 h3 size below k shown up r1 e1 size_is r2 e2 below_is r3 e3 =
+  pub placed : (p0 p1 p2 : PassFacts) (h0 h1 h2 : Snapshot) (size below k : ℕ) → HasSnapshot p0 h0.number
+      → size ≡ length (list_of (set_at p0 h0)) → Reads summary_of 2 p0 p1 → h1 ≡ h0 → below ≡ rank_of (list_of (set_at p1 h1)) k → Reads summary_of (3 * (set_at p1 h1).bits + 2) p1 p2 → h2 ≡ h1
+      → Placed p0 p2 h0 h2 size below k
+  placed p0 p1 p2 h0 h1 h2 size below k shown size_is r1 e1 below_is r2 e2 =
       let same1 : set_at p1 h1 ≡ set_at p0 h0 = ap (λ (s : Snapshot). set_at p1 s) e1 ∙ r1.stays.keeps.same_sets h0 shown in
-      let r12 : Reads summary_of 6 p0 p2 = reads_on 4 2 p0 p1 p2 r1 r2 in
-      let same2 : set_at p2 h2 ≡ set_at p0 h0 = ap (λ (s : Snapshot). set_at p2 s) (e2 ∙ e1) ∙ r12.stays.keeps.same_sets h0 shown in
-      let r3' : Reads summary_of (3 * (set_at p0 h0).bits + 2) p2 p3 = subst (λ (s : SetFacts). Reads summary_of (3 * s.bits + 2) p2 p3) same2 r3 in
-      let r123 : Reads summary_of (6 + (3 * (set_at p0 h0).bits + 2)) p0 p3 = reads_on 6 (3 * (set_at p0 h0).bits + 2) p0 p2 p3 r12 r3' in record {
-        reads = r123;
-        same = ap (λ (s : Snapshot). set_at p3 s) (e3 ∙ e2 ∙ e1) ∙ r123.stays.keeps.same_sets h0 shown;
-        rises = up;
-        size_is = size_is ∙ ap (λ (s : SetFacts). length (list_of s)) same1;
-        below_is = below_is ∙ ap (λ (s : SetFacts). rank_of (list_of s) k) same2;
+      let r2' : Reads summary_of (3 * (set_at p0 h0).bits + 2) p1 p2 = subst (λ (s : SetFacts). Reads summary_of (3 * s.bits + 2) p1 p2) same1 r2 in
+      let r12 : Reads summary_of (2 + (3 * (set_at p0 h0).bits + 2)) p0 p2 = reads_on 2 (3 * (set_at p0 h0).bits + 2) p0 p1 p2 r1 r2' in record {
+        reads = r12;
+        same = ap (λ (s : Snapshot). set_at p2 s) (e2 ∙ e1) ∙ r12.stays.keeps.same_sets h0 shown;
+        size_is = size_is;
+        below_is = below_is ∙ ap (λ (s : SetFacts). rank_of (list_of s) k) same1;
       }
 
   module _ (first p : PassFacts) (held now : Snapshot) (size below k : ℕ) (a : Placed first p held now size below k) where
     pub below_fits : below ≤ size
     below_fits = omega (arith, a.below_is, a.size_is, length-filter_both (λ z. nat_lt z k) (λ z. not (nat_lt z k)) (λ z. refl) (list_of (set_at first held)))
 
-    pub rises_still : IsStrictlyIncreasing (list_of (set_at p now))
-    rises_still = subst (λ (s : SetFacts). IsStrictlyIncreasing (list_of s)) (sym a.same) a.rises
-
     pub there_still : (room count : ℕ) → count ≡ min room (size - below) → below + count ≤ length (list_of (set_at p now))
     there_still room count is = omega (arith, is, below_fits, a.size_is, ap (λ (s : SetFacts). length (list_of s)) a.same)
 
     pub rest_is : drop below (list_of (set_at p now)) ≡ from_of (list_of (set_at first held)) k
-    rest_is = ap (λ (s : SetFacts). drop below (list_of s)) a.same ∙ ap (λ (n : ℕ). drop n (list_of (set_at first held))) a.below_is ∙ sym (from_of-drop k (list_of (set_at first held)) a.rises)
+    rest_is = ap (λ (s : SetFacts). drop below (list_of s)) a.same ∙ ap (λ (n : ℕ). drop n (list_of (set_at first held))) a.below_is ∙ sym (from_of-drop k (list_of (set_at first held)) (rises_in first held))
 
     pub counts : (room count : ℕ) → count ≡ min room (size - below) → count ≡ min room (length (from_of (list_of (set_at first held)) k))
     counts room count is =
@@ -170,10 +159,10 @@ module _ {A B : Type 0} (summary_of : List (ℕ × ℕ) → Summary A B) where
     pub told_so : (count : ℕ) (before out : List ℕ) → out ≡ take count (drop below (list_of (set_at p now))) ++ drop count before → out ≡ take count (from_of (list_of (set_at first held)) k) ++ drop count before
     told_so count before out told = told ∙ ap (λ (xs : List ℕ). take count xs ++ drop count before) rest_is
 
-    pub reads_so : (count : ℕ) (last : PassFacts) → Reads summary_of (count * (3 * (set_at p now).bits + 2)) p last → Reads summary_of ((count + 1) * (3 * (set_at first held).bits + 2) + 6) first last
+    pub reads_so : (count : ℕ) (last : PassFacts) → Reads summary_of (count * (3 * (set_at p now).bits + 2)) p last → Reads summary_of ((count + 1) * (3 * (set_at first held).bits + 2) + 2) first last
     reads_so count last reads =
         let b = (set_at first held).bits in
         let few : Reads summary_of (count * (3 * b + 2)) p last = subst (λ (s : SetFacts). Reads summary_of (count * (3 * s.bits + 2)) p last) a.same reads in
-        let all = reads_on (6 + (3 * b + 2)) (count * (3 * b + 2)) first p last a.reads few in
-        let sum : 6 + (3 * b + 2) + count * (3 * b + 2) ≡ (count + 1) * (3 * b + 2) + 6 = omega arith in
+        let all = reads_on (2 + (3 * b + 2)) (count * (3 * b + 2)) first p last a.reads few in
+        let sum : 2 + (3 * b + 2) + count * (3 * b + 2) ≡ (count + 1) * (3 * b + 2) + 2 = omega arith in
         subst (λ (n : ℕ). Reads summary_of n first last) sum all

@@ -4,9 +4,9 @@ use Rattle.std.specs.List.{zip}
 use Rattle.aug_model.specs.declared.outcome.Outcome.{Outcome}
 use Rattle.aug_model.specs.declared.outcome.Outcome.TheVariants.{Accepted, Replaced, Refused}
 use Rattle.aug_model.specs.declared.summary.Summary.{Summary}
-use Rattle.aug_trie.specs.Updates.{ComesTo}
-use Rattle.aug_trie.specs.Pass.{PassFacts, GoesOn, StepsOf}
+use Rattle.aug_trie.specs.Pass.{PassFacts}
 use Rattle.aug_trie.specs.Node.{Keeps}
+use Rattle.aug_trie.specs.Owned.{OneUpdate}
 use Rattle.aug_trie.specs.declared.updates.request.Request.{Request}
 use Rattle.aug_trie.specs.declared.updates.request.Request.TheVariants as request
 
@@ -29,13 +29,6 @@ changes [] = 0
 changes (done ∷ more) = change_by done + changes more
 
 module _ {A B : Type 0} (summary_of : List (ℕ × ℕ) → Summary A B) where
-  -- one update of a key, all that the contract of a single one says
-  pub record OneUpdate (asked : Request) (key : ℕ) (done : Outcome) (old new : PassFacts) : Type 0 where
-    pub comes_to : ComesTo asked key done old.knows new.knows
-    pub goes_on : (steps : ℕ) × GoesOn 1 steps old new
-    pub keeps : Keeps summary_of old new
-    pub steps : StepsOf asked key done old new
-
   -- one update for each item of `asked`, one after another, and `changed` of them changed the set
   pub record Updates {X : Type 0} (does : X → Outcome → PassFacts → PassFacts → Type 0) (asked : List X) (changed : ℕ) (old new : PassFacts) : Type 0 where
     pub done : List Outcome
@@ -48,8 +41,8 @@ module _ {A B : Type 0} (summary_of : List (ℕ × ℕ) → Summary A B) where
 
   -- the same update of each of the keys
   abbrev pub UpdatesEach : Request → List ℕ → ℕ → PassFacts → PassFacts → Type 0
-  UpdatesEach asked keys changed old new = Updates (λ key done. OneUpdate asked key done) keys changed old new
+  UpdatesEach asked keys changed old new = Updates (λ key done. OneUpdate summary_of asked key done) keys changed old new
 
   -- the keys are put in with the weights that have their indices
   abbrev pub Puts : List ℕ → List ℕ → ℕ → PassFacts → PassFacts → Type 0
-  Puts keys weights changed old new = Updates (λ pair done. OneUpdate (request.Put pair.1) pair.0 done) (zip keys weights) changed old new
+  Puts keys weights changed old new = Updates (λ pair done. OneUpdate summary_of (request.Put pair.1) pair.0 done) (zip keys weights) changed old new

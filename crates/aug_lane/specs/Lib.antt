@@ -1,4 +1,3 @@
 pub mod LaneErrors
-pub mod Rounds
 pub mod ManyKeys
 pub mod EachInTurn

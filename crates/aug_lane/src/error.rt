@@ -1,34 +1,8 @@
-//! Why an update is not made, and why no lane is opened.
+//! Why no lane is opened.
 ghost use Rattle.std.specs.Prelude.{◌≡◌};
 
 use std::error::Error;
 use std::fmt;
-
-/// Why an update is not made.
-#[derive(Clone, Copy, Debug, PartialEq, Eq)]
-pub enum LaneError {
-    /// Refusal 1: the key is not below the number of keys.
-    BadKey,
-
-    /// Refusal 2: the lane made all of its updates.
-    Spent,
-}
-
-impl fmt::Display for LaneError {
-    ghost use Rattle.std.specs.Prelude.{Some};
-    ghost use Rattle.aug_lane.specs.LaneErrors.{lane_text};
-
-    ghost output = { λ cause. Some (lane_text cause) };
-
-    fn fmt<W: fmt::Write>(&self, f: &mut fmt::Formatter<W>) -> fmt::Result {
-        f.write_str(match self {
-            LaneError::BadKey => "BadKey",
-            LaneError::Spent => "Spent",
-        })
-    }
-}
-
-impl Error for LaneError {}
 
 /// Why no lane is opened.
 #[derive(Clone, Copy, Debug, PartialEq, Eq)]

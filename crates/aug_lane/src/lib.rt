@@ -1,15 +1,15 @@
-//! Lanes and rounds of the shared trie as values that borrow nothing: they can be kept in a struct, handed to a thread, or
-//! called from C.
+//! A round with its crew as one value that borrows nothing, and calls of an owned pass for many keys: what callers in other
+//! languages need.
 #![tactic(auto)]
 
 mod error;
-mod lane;
 mod listing;
 mod many;
-mod note;
 mod running;
 mod updating;
 
-pub use error::{LaneError, OpenError};
-pub use lane::{Lane, Table};
+pub use error::OpenError;
+pub use listing::keys_from;
+pub use many::{has_all, rank_all};
 pub use running::Running;
+pub use updating::{put_all, update_all};

@@ -2,21 +2,20 @@
 ghost use Rattle.std.specs.Prelude.{◌≡◌, ◌≢◌, ◌⊎◌, ◌↔◌, ◌+◌, ◌^◌, ◌<◌, ◌≤◌, length, IfOk, IfErr, IsOk, IsErr, IsErrOf};
 ghost use Rattle.std.specs.Arc.{arc_value};
 ghost use Rattle.aug_core.specs.Layout.{IsWithin, IsOutside, IsRefused};
-ghost use Rattle.aug_trie.specs.Crew.{BeginsRound, TakesBack, Ends};
-ghost use Rattle.aug_lane.specs.Rounds.{OpensLane};
+ghost use Rattle.aug_trie.specs.Crew.{BeginsRound, CrewLearns, Ends, TakesBack};
+ghost use Rattle.aug_trie.specs.Owned.{OpensPass};
 
 use crate::error::OpenError;
-use crate::lane::{Lane, Table};
 use aug_core::LayoutError;
 use aug_monoid::Monoid;
-use aug_trie::{BeginError, Crew, Ended, Round};
+use aug_trie::{BeginError, Crew, Ended, Note, OwnedPass, Round, SharedRound};
 use std::alloc::Global;
 use std::sync::Arc;
 
 /// A round with its crew, as one value that borrows nothing. It opens its lanes, takes them back, and ends.
 #[derive(Drop)]
 pub struct Running<A: Monoid, B: Monoid> {
-    pub(crate) round: Table<A, B>,
+    pub(crate) round: SharedRound<A, B>,
     pub(crate) crew: Crew<A, B>,
     // How many lanes there are, and how many keys there may be.
     pub(crate) workers: u32,
@@ -119,8 +118,8 @@ impl<A: Monoid, B: Monoid> Running<A, B> {
     ///
     /// Refused with `NoLane` once all lanes were opened, and with `TooShared` if the round is shared as often as can be
     /// counted. Then nothing changes.
-    pub fn open(self) -> (Running<A, B>, Result<Lane<A, B>, OpenError>)
-        ensures opens { IfOk result.1 (λ lane. OpensLane self.crew result.0.crew lane.half lane.held.number) }
+    pub fn open(self) -> (Running<A, B>, Result<OwnedPass<A, B>, OpenError>)
+        ensures opens { IfOk result.1 (λ lane. OpensPass self.crew result.0.crew lane.half lane.held.number) }
         ensures of_round { IfOk result.1 (λ lane. arc_value lane.round ≡ arc_value self.round) }
         ensures no_lane { IsErrOf result.1 OpenError.NoLane ↔ (self.crew.handed ≡ self.crew.round.workers) }
         ensures same { IfErr result.1 (λ _. result.0 ≡ self) }
@@ -138,7 +137,7 @@ impl<A: Monoid, B: Monoid> Running<A, B> {
             workers,
             keys,
         } = self;
-        let lane = Lane::open(shared, &mut crew);
+        let lane = OwnedPass::open(shared, &mut crew);
         let running = Running {
             round,
             crew,
@@ -149,7 +148,7 @@ impl<A: Monoid, B: Monoid> Running<A, B> {
     }
 
     /// Takes a lane of this round back, and learns what it knows. It is not opened again.
-    pub fn back(self, lane: Lane<A, B>) -> Running<A, B>
+    pub fn back(self, lane: OwnedPass<A, B>) -> Running<A, B>
         requires of_crew { lane.half.round ≡ self.crew.round }
         ensures back { TakesBack self.crew result.crew lane.half }
         ensures round { result.round ≡ self.round }
@@ -204,5 +203,48 @@ impl<A: Monoid, B: Monoid> Running<A, B> {
         ensures { result ≡ 2 ^ self.now.crew.round.bits }
     {
         self.keys
+    }
+
+    /// Makes a note of all that the round knows, the updates of the lanes that came back among it.
+    pub fn note(self) -> (Running<A, B>, Note<A, B>)
+        ensures note { result.1 ≡ record { round = self.crew.round; past = self.crew.past; history = self.crew.knows.history } }
+        ensures same { (result.0.crew ≡ self.crew) × (result.0.round ≡ self.round) }
+    {
+        let Running {
+            round,
+            mut crew,
+            workers,
+            keys,
+        } = self;
+        let note = crew.note(&round);
+        let running = Running {
+            round,
+            crew,
+            workers,
+            keys,
+        };
+        (running, note)
+    }
+
+    /// Learns a note of a lane of this table. Each lane that is opened after that knows what the note says, and so does the trie at the end, also if
+    /// the lane does not come back.
+    pub fn learn(self, note: Note<A, B>) -> Running<A, B>
+        requires table { note.round.table ≡ self.crew.round.table }
+        ensures learns { CrewLearns self.crew result.crew note }
+        ensures round { result.round ≡ self.round }
+    {
+        let Running {
+            round,
+            mut crew,
+            workers,
+            keys,
+        } = self;
+        crew.learn(&round, note);
+        Running {
+            round,
+            crew,
+            workers,
+            keys,
+        }
     }
 }

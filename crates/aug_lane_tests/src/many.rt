@@ -3,8 +3,7 @@
 use super::rounds::Worker;
 use super::steps::{Query, ask_all, insert_all, look, one_lane, pairs, put_all, remove_all};
 use crate::assertions::equal;
-use aug_lane::LaneError;
-use aug_trie::BeginError;
+use aug_trie::{BeginError, UpdateError};
 
 #[test]
 fn many_updates_are_made_in_their_order(rt: HostRuntime) -> Result<(), BeginError> {
@@ -26,11 +25,11 @@ fn many_updates_are_made_in_their_order(rt: HostRuntime) -> Result<(), BeginErro
 fn many_updates_are_refused_before_the_first(rt: HostRuntime) -> Result<(), BeginError> {
     let lane = one_lane(&rt, rt.alloc(), 2)?;
     let (lane, done) = insert_all(lane, &[1, 2, 16]);
-    equal(&rt, done, Err(LaneError::BadKey));
+    equal(&rt, done, Err(UpdateError::BadKey));
     let (lane, done) = put_all(lane, &[1, 2, 3], &[1, 2, 3]);
-    equal(&rt, done, Err(LaneError::Spent));
+    equal(&rt, done, Err(UpdateError::Spent));
     let (lane, done) = remove_all(lane, &[16]);
-    equal(&rt, (done, lane.budget()), (Err(LaneError::BadKey), 2));
+    equal(&rt, (done, lane.budget()), (Err(UpdateError::BadKey), 2));
     let (lane, done) = insert_all(lane, &[3, 15]);
     equal(&rt, (done, lane.budget()), (Ok(2), 0));
     ask_all(&rt, look(lane), &[Query::Size(2)]);
@@ -40,14 +39,14 @@ fn many_updates_are_refused_before_the_first(rt: HostRuntime) -> Result<(), Begi
 // How many members are below 16, 0 and 6, in front of the last of four numbers.
 fn ranks(lane: Worker) -> (Worker, [u32; 4]) {
     let mut ranks = [9, 9, 9, 9];
-    let lane = lane.rank_all(&[16, 0, 6], &mut ranks);
+    let lane = aug_lane::rank_all(lane, &[16, 0, 6], &mut ranks);
     (lane, ranks)
 }
 
 // Whether 7, 6 and 99 are members, in front of the last of four numbers.
 fn memberships(lane: Worker) -> [u8; 4] {
     let mut bits = [9, 9, 9, 9];
-    drop(lane.has_all(&[7, 6, 99], &mut bits));
+    drop(aug_lane::has_all(lane, &[7, 6, 99], &mut bits));
     bits
 }
 
@@ -63,7 +62,7 @@ fn many_answers_stand_where_their_keys_do(rt: HostRuntime) -> Result<(), BeginEr
 
 // The least members from a key on.
 fn keys_from(lane: Worker, from: u32, out: &mut [u32]) -> (Worker, u32) {
-    lane.keys_from(from, out)
+    aug_lane::keys_from(lane, from, out)
 }
 
 #[test]

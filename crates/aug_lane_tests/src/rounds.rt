@@ -4,12 +4,12 @@ ghost use Rattle.std.specs.Arc.{arc_value};
 
 use super::steps::{Query, Step, after, ask_all, ended, look, one_lane, opened, pairs, play};
 use crate::assertions::{equal, holds};
-use aug_lane::{Lane, LaneError, OpenError, Running};
+use aug_lane::{OpenError, Running};
 use aug_model::Outcome;
 use aug_monoid::{Extent, Sum};
 use aug_query::descent::{Keys, Range};
 use aug_query::{keys, weight};
-use aug_trie::{BeginError, Ended};
+use aug_trie::{BeginError, Ended, OwnedPass, UpdateError};
 use std::alloc::{AllocError, Global};
 use std::process::Abort;
 
@@ -17,7 +17,7 @@ pub(super) type Trie = Ended<Sum, Extent>;
 
 pub(super) type Work = Running<Sum, Extent>;
 
-pub(super) type Worker = Lane<Sum, Extent>;
+pub(super) type Worker = OwnedPass<Sum, Extent>;
 
 // A round over a trie.
 pub(super) fn begun(
@@ -82,7 +82,7 @@ fn a_dropped_lane_leaves_what_the_round_saw(rt: HostRuntime) -> Result<(), Begin
 fn each_lane_is_opened_once(rt: HostRuntime) -> Result<(), BeginError> {
     let round = begun(rt.alloc(), Ended::empty(rt.alloc(), 4)?, 1, 2)?;
     let (round, first) = opened(&rt, round);
-    let (_, number) = first.number();
+    let (_, number) = first.lane();
     equal(&rt, number, 0);
     let (_, second) = round.open();
     equal(&rt, second.map(drop), Err(OpenError::NoLane));
@@ -108,7 +108,7 @@ fn counts(lane: Worker) -> (u32, u32) {
 
 // The updates of a lane of four updates, up to its first look.
 const FIRST: [Step; 3] = [
-    Step::Insert(16, Err(LaneError::BadKey)),
+    Step::Insert(16, Err(UpdateError::BadKey)),
     Step::Insert(5, Ok(true)),
     Step::Put(9, 70, Ok(Outcome::Accepted)),
 ];
@@ -141,7 +141,7 @@ fn a_lane_updates_looks_and_is_spent(rt: HostRuntime) -> Result<(), BeginError> 
         &[Step::Remove(5, Ok(true)), Step::Remove(5, Ok(false))],
     );
     equal(&rt, lane.budget(), 0);
-    let lane = play(&rt, lane, &[Step::Put(1, 1, Err(LaneError::Spent))]);
+    let lane = play(&rt, lane, &[Step::Put(1, 1, Err(UpdateError::Spent))]);
     equal(&rt, counts(lane), (2, 1));
     Ok(())
 }

@@ -5,19 +5,18 @@ ghost use Rattle.std.specs.Arc.{arc_value};
 
 use super::rounds::{Trie, Work, Worker, back, begun};
 use crate::assertions::{equal, holds};
-use aug_lane::LaneError;
 use aug_model::Outcome;
 use aug_query::descent::{After, Before, Has, Pairs, Rank, Select, Size, Weight};
-use aug_trie::{BeginError, Ended, Request};
+use aug_trie::{BeginError, Ended, Request, UpdateError};
 use std::alloc::Global;
 use std::process::Abort;
 
 /// An update of a lane, and its answer.
 #[derive(Clone, Copy)]
 pub(super) enum Step {
-    Insert(u32, Result<bool, LaneError>),
-    Remove(u32, Result<bool, LaneError>),
-    Put(u32, u32, Result<Outcome, LaneError>),
+    Insert(u32, Result<bool, UpdateError>),
+    Remove(u32, Result<bool, UpdateError>),
+    Put(u32, u32, Result<Outcome, UpdateError>),
 }
 
 /// A query of a lane, and its answer.
@@ -33,7 +32,7 @@ pub(super) enum Query {
 }
 
 // Whether an update was accepted.
-fn accepted(done: Result<Outcome, LaneError>) -> Result<bool, LaneError> {
+fn accepted(done: Result<Outcome, UpdateError>) -> Result<bool, UpdateError> {
     match done {
         Ok(outcome) => Ok(outcome == Outcome::Accepted),
         Err(cause) => Err(cause),
@@ -148,13 +147,13 @@ pub(super) fn pairs(rt: &impl Abort, alloc: Global, lane: Worker) -> (Worker, Ve
 }
 
 /// Puts many keys in.
-pub(super) fn insert_all(lane: Worker, keys: &[u32]) -> (Worker, Result<u32, LaneError>) {
-    lane.update_all(keys, Request::Insert)
+pub(super) fn insert_all(lane: Worker, keys: &[u32]) -> (Worker, Result<u32, UpdateError>) {
+    aug_lane::update_all(lane, keys, Request::Insert)
 }
 
 /// Takes many keys out.
-pub(super) fn remove_all(lane: Worker, keys: &[u32]) -> (Worker, Result<u32, LaneError>) {
-    lane.update_all(keys, Request::Remove)
+pub(super) fn remove_all(lane: Worker, keys: &[u32]) -> (Worker, Result<u32, UpdateError>) {
+    aug_lane::update_all(lane, keys, Request::Remove)
 }
 
 /// Puts many keys in with weights.
@@ -162,10 +161,10 @@ pub(super) fn put_all(
     lane: Worker,
     keys: &[u32],
     weights: &[u32],
-) -> (Worker, Result<u32, LaneError>)
+) -> (Worker, Result<u32, UpdateError>)
     requires { length weights.now ≡ length keys.now }
 {
-    lane.put_all(keys, weights)
+    aug_lane::put_all(lane, keys, weights)
 }
 
 /// The next lane of a round.

@@ -8,10 +8,9 @@ ghost use Rattle.aug_live.specs.LiveHandles.{Follows, Makes, note_at};
 ghost use Rattle.aug_live.specs.inside.LaneKnowledge.{Worked};
 
 use crate::seen::Seen;
-use crate::work::Work;
 use aug_model::Outcome;
 use aug_monoid::Monoid;
-use aug_trie::{Note, Request};
+use aug_trie::{Note, OwnedPass, Request};
 use std::marker::Model;
 
 /// What lies in a lane: the number of its round, counted from 1, what its last pass knew, and that pass, unless the trie is at
@@ -19,8 +18,8 @@ use std::marker::Model;
 #[derive(Drop)]
 pub(crate) struct Lane<A: Monoid, B: Monoid> {
     pub(crate) era: u64,
-    pub(crate) last: Seen<Option<Work<A, B>>>,
-    pub(crate) work: Option<Work<A, B>>,
+    pub(crate) last: Seen<Option<OwnedPass<A, B>>>,
+    pub(crate) work: Option<OwnedPass<A, B>>,
     pub(crate) is_given_on: bool,
 }
 
@@ -46,7 +45,7 @@ impl<A: Monoid, B: Monoid> Model for Lane<A, B> {
 impl<A: Monoid, B: Monoid> Lane<A, B> {
     /// A lane before the first round.
     pub(crate) fn new() -> Lane<A, B> {
-        let none: Option<Work<A, B>> = None;
+        let none: Option<OwnedPass<A, B>> = None;
         Lane {
             era: 0,
             last: Seen::of(&none),
@@ -57,7 +56,7 @@ impl<A: Monoid, B: Monoid> Lane<A, B> {
 
     /// A lane with a pass of a round.
     #[inline(always)]
-    pub(crate) fn working(era: u64, work: Work<A, B>) -> Lane<A, B>
+    pub(crate) fn working(era: u64, work: OwnedPass<A, B>) -> Lane<A, B>
         ensures { result ≡ record { works = true; at = record { era = era; half = work.half } } }
     {
         let work = Some(work);
@@ -71,7 +70,7 @@ impl<A: Monoid, B: Monoid> Lane<A, B> {
 
     /// Takes the pass out, and leaves what it knew.
     #[inline(always)]
-    pub(crate) fn into_work(self) -> (Work<A, B>, Lane<A, B>)
+    pub(crate) fn into_work(self) -> (OwnedPass<A, B>, Lane<A, B>)
         requires { self.works ≡ true }
         ensures work { result.0.half ≡ self.at.half }
         ensures rest { result.1 ≡ record { works = false; at = self.at } }

@@ -7,9 +7,9 @@ ghost use Rattle.aug_live.specs.LiveHandles.{handle_of, set_of_look, IsAsked, Lo
 use crate::end::Out;
 use crate::handle::{Desk, Handle};
 use crate::lane::Lane;
-use crate::work::Work;
 use aug_monoid::Monoid;
 use aug_query::Query;
+use aug_trie::OwnedPass;
 use std::alloc::Global;
 use std::marker::Model;
 use std::sync::Arc;
@@ -21,7 +21,7 @@ pub struct Look<A: Monoid, B: Monoid> {
     pub(crate) out: Out<A, B>,
     pub(crate) era: u64,
     // A call takes it out and puts it back. Its snapshot is the look's.
-    pub(crate) work: Option<Work<A, B>>,
+    pub(crate) work: Option<OwnedPass<A, B>>,
     pub(crate) bits: u32,
     pub(crate) lane: usize,
     pub(crate) desk: Arc<Desk<A, B>, Global>,

@@ -6,19 +6,16 @@ ghost use Rattle.aug_live.specs.inside.Rolls.{IsNewPass, rounds_in};
 
 use crate::rolling::share;
 use aug_monoid::Monoid;
-use aug_trie::{Crew, Round};
+use aug_trie::{Crew, OwnedPass, Round};
 use std::alloc::Global;
 use std::sync::{Arc, Wait};
-
-/// A pass beside its round.
-pub(crate) type Work<A, B> = aug_lane::Lane<A, B>;
 
 /// The next pass of a crew, which knows all that the crew does.
 pub(crate) fn start<R: Wait, A: Monoid, B: Monoid>(
     rt: &R,
     round: &Arc<Round<A, B>, Global>,
     crew: &mut Crew<A, B>,
-) -> Work<A, B>
+) -> OwnedPass<A, B>
     requires together { crew.old.round ≡ arc_value round.now }
     requires lane_left { crew.old.handed < (arc_value round.now).workers }
     ensures fresh { IsNewPass (rounds_in crew.old) result.half }
@@ -27,5 +24,5 @@ pub(crate) fn start<R: Wait, A: Monoid, B: Monoid>(
     ensures handed { crew.new.handed ≡ crew.old.handed + 1 }
     ensures back { crew.new.back ≡ crew.old.back }
 {
-    Work::open(share(rt, round), crew)
+    OwnedPass::open(share(rt, round), crew)
 }

@@ -12,6 +12,7 @@ use Rattle.aug_model.proofs.Rising.{is_wider}
 use Rattle.aug_core.specs.Cuts.{Cut, serial_of, set_of_cut, weight_at}
 use Rattle.aug_trie.specs.History.{last_cut}
 use Rattle.aug_trie.proofs.CutLemmas.{length-opening}
+use Rattle.aug_trie.proofs.Rising.{cut_keys}
 use Rattle.aug_core.proofs.PrefixLemmas.{prefix_refl}
 use Rattle.aug_script.specs.Limits.{Bounds, IsBounds}
 use Rattle.aug_script.specs.Replies.{report_of}
@@ -25,31 +26,13 @@ use Rattle.aug_report.specs.InTurn.{IsInTurn, OfOneLane, reports_of}
 use Rattle.aug_report.proofs.Histories.{opening-at_most}
 use Rattle.aug_report.proofs.OneLane.{one_lane_in_turn}
 
-range_below : (n a m : ℕ) → a + n ≤ m → All (λ k. k < m) (range_with_len a n)
-range_below zero a m fits = All-nil (λ k. k < m)
-range_below (suc n) a m fits = All-cons (λ k. k < m) a (range_with_len (a + 1) n) (omega arith) (range_below n (a + 1) m (omega arith))
-
-range_rises : (n : ℕ) → IsStrictlyIncreasing (range_with_len 0 n)
-range_rises n k low =
-    let l = length-range_with_len 0 n in
-    let x = get_or-range_with_len 0 n k 0 (omega arith) in
-    let y = get_or-range_with_len 0 n (k + 1) 0 (omega arith) in
-    omega arith
-
--- the keys of a cut are a set of keys of so many bits
-cut_keys : (bits : ℕ) (cut : Cut) → length cut ≡ 2 ^ bits → IsKeySet bits (set_of_cut cut)
-cut_keys bits cut long = record {
-  rising = IsStrictlyIncreasing-filter (λ key. serial_of cut key % 2 == 1) (range_with_len 0 (length cut)) (range_rises (length cut));
-  below = All-filter (λ key. serial_of cut key % 2 == 1) (λ k. k < 2 ^ bits) (range_with_len 0 (length cut)) (range_below (length cut) 0 (2 ^ bits) (omega (arith, long)));
-}
-
 -- a round closes with a set of keys of its bits
 closes_with_keys : (bits workers : ℕ) (members : List (ℕ × ℕ)) (report : Report) (closing : List (ℕ × ℕ)) → AllowedReport bits workers members report closing → IsKeySet bits (keys_of closing)
 closes_with_keys bits workers members report closing allowed =
     let cut = last_cut allowed.history in
     let le = opening-at_most bits members allowed.history allowed.is_history allowed.history allowed.is_history.opens (prefix_refl allowed.history) in
     let keys : keys_of closing ≡ set_of_cut cut = ap keys_of allowed.closes ∙ keys_of-pairs_of (weight_at cut) (set_of_cut cut) in
-    subst (IsKeySet bits) (sym keys) (cut_keys bits cut (sym le.same_keys ∙ length-opening bits members))
+    subst (IsKeySet bits) (sym keys) (cut_keys bits cut (omega (arith, le.same_keys, length-opening bits members)))
 
 -- the report that a round may have is in turn
 round_in_turn : (number workers : ℕ) (members closing : List (ℕ × ℕ)) (round : ScriptRound) (report : Report) → IsKeySet round.bits (keys_of members) → IsReportOf number round.rows report

@@ -15,6 +15,7 @@ pub mod Handing
 pub mod Keeping
 pub mod Walking
 pub mod Looking
+pub mod Rising
 pub mod Trees
 pub mod Passing
 pub mod Snapshots
@@ -24,7 +25,6 @@ pub mod Noting
 pub mod SnapshotWalks
 pub mod RoundLemmas
 pub mod Crews
-pub mod Rising
 pub mod CutLemmas
 pub mod TallyLemmas
 pub mod Versions
@@ -38,3 +38,4 @@ pub mod Staging
 pub mod Turning
 pub mod Chaining
 pub mod Resting
+pub mod Owning

@@ -49,17 +49,11 @@ use Rattle.aug_trie.proofs.Histories.{some_bits, history_long, numbers_long}
 use Rattle.aug_trie.proofs.Keeping.{node_later}
 use Rattle.aug_trie.proofs.Looking.{goes_looking, leaf_weighs}
 use Rattle.aug_trie.proofs.Snapshots.{named_there, index_is, cut_is, pass_still}
+use Rattle.aug_trie.proofs.Rising.{cut_keys}
 use Rattle.aug_trie.proofs.Walking.{top_node}
 use Rattle.aug_core.proofs.PrefixLemmas.{entry_stays}
 
 -- ---- the set of a cut
-
-range_below : (n a m : ℕ) → a + n ≤ m → All (λ k. k < m) (range_with_len a n)
-range_below zero a m fits = All-nil (λ k. k < m)
-range_below (suc n) a m fits = All-cons (λ k. k < m) a (range_with_len (a + 1) n) (omega arith) (range_below n (a + 1) m (omega arith))
-
-range_rises : (n : ℕ) → IsStrictlyIncreasing (range_with_len 0 n)
-range_rises n k low = let l = length-range_with_len 0 n in let x = get_or-range_with_len 0 n k 0 (omega arith) in let y = get_or-range_with_len 0 n (k + 1) 0 (omega arith) in omega arith
 
 -- no entry of a leaf weighs too much, not even one that is not there
 light : (f : ℕ → ℕ → List (ℕ × ℕ) → List ℕ) (s : Shape) (book : Book) → IsBook f s book → (key i : ℕ) → key < 2 ^ s.bits → (entry_of book key i).weight < 2 ^ 32
@@ -77,16 +71,12 @@ cut_light f v i key kn low = let s : Shape = v.shape in let r : ℕ = reached s 
 -- a cut that is no longer than the keys, and whose weights fit, is of a set of keys of so many bits
 cut_set : (f : ℕ → ℕ → List (ℕ × ℕ) → List ℕ) (v : SeatView) (cut : Cut) → KnowsTable f v → length cut ≤ 2 ^ v.shape.bits → ((key : ℕ) → key < 2 ^ v.shape.bits → weight_at cut key < 2 ^ 32) → IsTreeSet (members_of v.shape.bits cut)
 cut_set f v cut kn long light =
-    let below : All (λ k. k < 2 ^ v.shape.bits) (set_of_cut cut) =
-    All-filter (λ key. eqb (serial_of cut key % 2) 1) (λ k. k < 2 ^ v.shape.bits) (range_with_len 0 (length cut)) (range_below (length cut) 0 (2 ^ v.shape.bits) (omega arith)) in
+    let keys = cut_keys v.shape.bits cut long in
     let few : 2 ^ v.shape.bits ≤ 2 ^ 16 = pow-le-pow_right (omega arith) kn.laid_out.bits.1 in record {
       some_bits = kn.laid_out.bits.0;
       few_bits = kn.laid_out.bits.1;
-      is_key_set = subst (IsKeySet v.shape.bits) (sym (keys_of-pairs_of (weight_at cut) (set_of_cut cut))) record {
-        rising = IsStrictlyIncreasing-filter (λ key. eqb (serial_of cut key % 2) 1) (range_with_len 0 (length cut)) (range_rises (length cut));
-        below = below;
-      };
-      fit = All-map FitsPair (λ k. (k, weight_at cut k)) (set_of_cut cut) (All-weaker (λ k. k < 2 ^ v.shape.bits) (λ k. FitsPair (k, weight_at cut k)) (λ k low. (omega arith, light k low)) (set_of_cut cut) below);
+      is_key_set = subst (IsKeySet v.shape.bits) (sym (keys_of-pairs_of (weight_at cut) (set_of_cut cut))) keys;
+      fit = All-map FitsPair (λ k. (k, weight_at cut k)) (set_of_cut cut) (All-weaker (λ k. k < 2 ^ v.shape.bits) (λ k. FitsPair (k, weight_at cut k)) (λ k low. (omega arith, light k low)) (set_of_cut cut) keys.below);
     }
 
 -- so is a root's

@@ -15,6 +15,7 @@ pub mod Node
 pub mod View
 pub mod Ended
 pub mod Crew
+pub mod Owned
 pub mod Climb
 pub mod Errors
 pub mod inside

@@ -7,7 +7,7 @@ mod rounds;
 mod turns;
 mod updates;
 
-pub use error::{BeginError, CrewError};
+pub use error::{BeginError, CrewError, UpdateError};
 pub use queries::node::Node;
 pub use queries::snapshot::Snapshot;
 pub use queries::view::View;
@@ -17,6 +17,7 @@ pub use rounds::ended_tree::EndedNode;
 pub use rounds::half::PassHalf;
 pub use rounds::members::Members;
 pub use rounds::note::Note;
+pub use rounds::owned::{OwnedPass, SharedRound};
 pub use rounds::pass::Pass;
 pub use rounds::round::Round;
 pub use turns::climb::{Climb, Turn};

@@ -1,6 +1,6 @@
 -- What lies in a lane, what the passes of its lock know, and the rule between them.
 use Rattle.std.specs.Prelude.{◌≡◌, ◌≢◌, ◌⊎◌, ℕ, ◌<◌, List, [], Option, Some, None, unwrap_or, Bool, false}
-use Rattle.aug_lane.specs.declared.lane.Lane.{Lane as Work}
+use Rattle.aug_trie.specs.declared.rounds.owned.OwnedPass.{OwnedPass}
 use mathlib.Core.Option.{some}
 use lib.ListN.{get_elem?}
 use Rattle.aug_trie.specs.Chains.{Chapter}
@@ -32,7 +32,7 @@ no_half = record {
 }
 
 -- what a lane's pass knows, if there is a lane
-abbrev pub half_in : {A B : Type 0} → Option (Work A B) → PassFacts
+abbrev pub half_in : {A B : Type 0} → Option (OwnedPass A B) → PassFacts
 half_in None = no_half
 half_in (Some work) = work.half
 

@@ -1,163 +1,94 @@
-//! Copies of snapshots, nodes and refusals: each is used as what it is a copy of. And the texts of refusals for programmers.
-ghost use Rattle.std.specs.Prelude.{◌≡◌, ◌<◌};
-ghost use Rattle.aug_trie.specs.Snapshot.{HasSnapshot};
-
-use super::playing::Act::{Back, Now, Open};
-use super::playing::Change::Put;
-use super::playing::Reply::{Came, Done};
+//! Copies of snapshots and nodes: each is used as what it is a copy of. And snapshots that stay what they were.
+use super::playing::Act::{Back, Counts, KeptOver, Now, Open, Right, Sees, Size, Top, Weight};
+use super::playing::Change::{Insert, Put};
+use super::playing::Reply::{Came, Counted, Done, Finds, Is, Kept, Number, Stands};
 use super::playing::Who::A;
-use super::playing::played_from_empty;
-use super::rounds::{Trie, next_pass, opened, put};
-use crate::assertions::{equal, holds};
+use super::resting::Ask;
+use super::rounds::Way;
+use super::rows::{Play, Row, rows};
 use aug_model::Outcome::Accepted;
-use aug_model::Summary;
-use aug_monoid::{Extent, Sum};
-use aug_query::Tree;
-use aug_query::descent::{Range, Size, Weight};
-use aug_trie::{BeginError, CrewError, Node, Pass, Snapshot};
-use std::alloc::{AllocError, Global};
-use std::process::Abort;
+use aug_trie::BeginError;
 
-// How many members a snapshot shows, what 1 and 2 weigh in it, and their sum.
-type Shown = (u32, Option<u32>, Option<u32>, u64);
-
-// What a snapshot of 2 bits shows.
-fn shown(pass: &mut Pass<Sum, Extent>, s: Snapshot) -> Shown
-    requires snapshot { HasSnapshot pass.old s.number }
-    ensures snapshot { HasSnapshot pass.new s.number }
-    ensures round { pass.new.round ≡ pass.old.round }
-    ensures spent { pass.new.spent ≡ pass.old.spent }
-{
-    let sum = pass.ask(s, Range(0, 4)).a.value();
-    (
-        pass.ask(s, Size),
-        pass.ask(s, Weight(1)),
-        pass.ask(s, Weight(2)),
-        sum,
-    )
-}
-
-// What a snapshot and a clone of it show, the clone asked first and last, with a put of 2 in between.
-fn cloned(rt: &impl Abort, pass: &mut Pass<Sum, Extent>) -> [Shown; 4]
-    requires bits { pass.old.round.bits ≡ 2 }
-    requires budget { pass.old.spent < pass.old.round.updates }
-    ensures round { pass.new.round ≡ pass.old.round }
-{
-    let snapshot = pass.snapshot();
-    let clone = snapshot.clone().expect(rt, "a clone");
-    let first = shown(pass, clone);
-    let second = shown(pass, snapshot);
-    pass.put(2, 8);
-    let third = shown(pass, snapshot);
-    [first, second, third, shown(pass, clone)]
-}
-
-// The same in a round of 2 bits with the one member 1, which weighs 70.
-fn cloned_in_round(rt: &impl Abort, alloc: Global) -> Result<[Shown; 4], BeginError> {
-    let (round, mut crew) = opened(alloc, 2, 1, 2)?;
-    let mut pass = next_pass(&mut crew, &round).expect(rt, "a lane");
-    put(&mut pass, 2, 1, 70);
-    holds(rt, pass.budget() > 0);
-    Ok(cloned(rt, &mut pass))
-}
-
-#[test]
-fn a_clone_of_a_snapshot_answers_as_the_snapshot(rt: HostRuntime) -> Result<(), BeginError> {
-    for shown in cloned_in_round(&rt, rt.alloc())? {
-        equal(&rt, shown, (1, Some(70), None, 70));
-    }
-    Ok(())
-}
-
-// The level and the place of a node, and what it covers.
-type Stand = (u32, u32, Summary<Sum, Extent>);
-
-fn stand(node: &Node<Sum, Extent>) -> Stand {
-    (node.level(), node.place(), node.summary())
-}
-
-// The stand of the top of a new snapshot of 2 bits, that of its clone, and then that of the right child of the clone.
-fn clones_of_top(rt: &impl Abort, pass: &mut Pass<Sum, Extent>) -> (Stand, Stand, Stand)
-    requires bits { pass.old.round.bits ≡ 2 }
-    ensures round { pass.new.round ≡ pass.old.round }
-{
-    let snapshot = pass.snapshot();
-    let top = pass.top(&snapshot);
-    let clone = top.clone().expect(rt, "a clone");
-    let right = pass.right(&clone);
-    (stand(&clone), stand(&top), stand(&right))
-}
-
-// The same stands in a round of 2 bits with the members 1, which weighs 70, and 3, which weighs 9.
-fn clones_in_round(rt: &impl Abort, alloc: Global) -> Result<(Stand, Stand, Stand), BeginError> {
-    let (round, mut crew) = opened(alloc, 2, 1, 2)?;
-    let mut pass = next_pass(&mut crew, &round).expect(rt, "a lane");
-    put(&mut pass, 2, 1, 70);
-    put(&mut pass, 2, 3, 9);
-    Ok(clones_of_top(rt, &mut pass))
-}
-
-// A node stands so, and its members have this sum.
-fn assert_stands(rt: &impl Abort, stand: Stand, expected: (u32, u32, u32, u64)) {
-    let (level, place, summary) = stand;
-    let found = (level, place, summary.count, summary.a.value());
-    equal(rt, found, expected);
-}
+const COPIES: &[Row] = &[
+    Row {
+        shows: "a clone of a snapshot answers as the snapshot",
+        plays: &[Play {
+            way: Way::Begin,
+            numbers: (2, 1, 3),
+            steps: &[
+                (A, Open, Done),
+                (A, Now(Put(1, 70)), Came(Accepted)),
+                (A, KeptOver(None), Kept(1, Some(70), None, 70)),
+            ],
+            rest: &[],
+        }],
+    },
+    Row {
+        shows: "a snapshot stays what it was",
+        plays: &[Play {
+            way: Way::Begin,
+            numbers: (2, 1, 3),
+            steps: &[
+                (A, Open, Done),
+                (A, Now(Insert(1)), Is(true)),
+                (A, KeptOver(None), Kept(1, Some(1), None, 1)),
+                (A, Size, Number(1)),
+                (A, Sees(1), Is(false)),
+                (A, Sees(2), Is(true)),
+                (A, Counts, Counted(2, 1, 0)),
+            ],
+            rest: &[],
+        }],
+    },
+    Row {
+        shows: "a snapshot keeps the weight that it showed",
+        plays: &[Play {
+            way: Way::Begin,
+            numbers: (2, 1, 2),
+            steps: &[
+                (A, Open, Done),
+                (A, KeptOver(Some(5)), Kept(0, None, None, 0)),
+                (A, Weight(1), Finds(Some(5))),
+                (A, Counts, Counted(1, 0, 1)),
+                (A, KeptOver(Some(6)), Kept(1, Some(5), None, 5)),
+                (A, Weight(1), Finds(Some(6))),
+                (A, Counts, Counted(2, 1, 0)),
+            ],
+            rest: &[],
+        }],
+    },
+    Row {
+        shows: "a clone of a node leads where the node does",
+        plays: &[Play {
+            way: Way::Begin,
+            numbers: (2, 1, 2),
+            steps: &[
+                (A, Open, Done),
+                (A, Now(Put(1, 70)), Came(Accepted)),
+                (A, Now(Put(3, 9)), Came(Accepted)),
+                (A, Top, Stands(2, 0, 2, 79, Some((1, 3)))),
+                (A, Right, Stands(1, 1, 1, 9, Some((3, 3)))),
+            ],
+            rest: &[],
+        }],
+    },
+    Row {
+        shows: "a clone of a node at rest stands where the node does",
+        plays: &[Play {
+            way: Way::Begin,
+            numbers: (1, 1, 2),
+            steps: &[
+                (A, Open, Done),
+                (A, Now(Put(0, 70)), Came(Accepted)),
+                (A, Now(Put(1, 9)), Came(Accepted)),
+                (A, Back, Done),
+            ],
+            rest: &[(Ask::Top, Stands(1, 0, 2, 79, Some((0, 1))))],
+        }],
+    },
+];
 
 #[test]
-fn a_clone_of_a_node_leads_where_the_node_does(rt: HostRuntime) -> Result<(), BeginError> {
-    let (clone, top, right) = clones_in_round(&rt, rt.alloc())?;
-    holds(&rt, clone == top);
-    assert_stands(&rt, clone, (2, 0, 2, 79));
-    equal(&rt, clone.2.b.bounds(), Some((1, 3)));
-    assert_stands(&rt, right, (1, 1, 1, 9));
-    Ok(())
-}
-
-// The top of a trie at rest of 1 bit has a clone that stands where it does.
-fn assert_clones_at_rest(rt: &impl Abort, ended: &mut Trie) {
-    holds(rt, ended.bits() == 1);
-    let top = ended.top();
-    let clone = top.clone().expect(rt, "a clone");
-    equal(rt, (Trie::level(&clone), Trie::place(&clone)), (1, 0));
-    equal(rt, Trie::summary(&clone), Trie::summary(&top));
-    equal(rt, Trie::summary(&clone).a.value(), 79);
-}
-
-#[test]
-fn a_clone_of_a_node_at_rest_stands_where_the_node_does(rt: HostRuntime) -> Result<(), BeginError> {
-    let script = [
-        (A, Open, Done),
-        (A, Now(Put(0, 70)), Came(Accepted)),
-        (A, Now(Put(1, 9)), Came(Accepted)),
-        (A, Back, Done),
-    ];
-    let mut ended = played_from_empty(&rt, rt.alloc(), 1, (1, 2), &script)?;
-    assert_clones_at_rest(&rt, &mut ended);
-    Ok(())
-}
-
-#[test]
-fn a_clone_of_a_refusal_is_the_refusal(rt: HostRuntime) -> Result<(), AllocError> {
-    for (cause, text) in [
-        (BeginError::BadWorkers, "BadWorkers"),
-        (BeginError::BadUpdates, "BadUpdates"),
-        (BeginError::TooLarge, "TooLarge"),
-        (BeginError::OutOfMemory, "OutOfMemory"),
-        (BeginError::BadBits, "BadBits"),
-        (BeginError::Narrower, "Narrower"),
-    ] {
-        let clone = cause.clone()?;
-        equal(&rt, clone, cause);
-        let printed = format!(in rt.alloc(); "{clone} {clone:?}")?;
-        equal(
-            &rt,
-            printed.as_str(),
-            format!(in rt.alloc(); "{text} {text}")?.as_str(),
-        );
-    }
-    let clone = CrewError::NoLane.clone()?;
-    let printed = format!(in rt.alloc(); "{clone} {clone:?}")?;
-    equal(&rt, printed.as_str(), "NoLane NoLane");
-    Ok(())
+fn a_copy_stays_what_its_original_was(rt: HostRuntime) -> Result<(), BeginError> {
+    rows(&rt, rt.alloc(), COPIES)
 }

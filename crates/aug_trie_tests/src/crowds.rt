@@ -1,152 +1,250 @@
-//! Threads that put to the same keys at once.
-ghost use Rattle.std.specs.Prelude.{◌≡◌, ◌^◌, ◌<◌, ◌≤◌};
+//! Threads that change the same keys at once, and one that looks meanwhile.
+ghost use Rattle.std.specs.Prelude.{◌≡◌, IfOk};
 
-use super::ending::next_round;
-use super::rounds::{Half, Table, Trie, next_pass, opened};
-use super::working::{Deed, Task, back, four_back, four_halves, next_half, pair, work};
+use super::asking::seen_size;
+use super::playing::Act::{AddsUp, Back, Now, Open};
+use super::playing::Change::{Insert, Remove};
+use super::playing::Reply::{Counted, Done, Is, Number};
+use super::playing::Who::{A, B};
+use super::resting::Ask;
+use super::rounds::{Half, Hands, Table, Trie, Way, opened};
+use super::rows::{Play, plays};
+use super::working::{Deed, Task, Worked, back, done, next_half, work};
 use crate::assertions::{equal, holds};
-use aug_monoid::{Extent, Sum};
-use aug_query::descent::{Range, Size, Weight};
-use aug_trie::{BeginError, Pass};
+use aug_trie::{BeginError, CrewError};
 use std::alloc::Global;
 use std::process::Abort;
 use std::sync::Wait;
 use std::thread;
 use std::thread::Threads;
 
-// A round of 1 bit in which two threads put to the key 0: the trie after it.
-fn put_by_two<R: Threads + Wait + Sync + Abort>(rt: &R, alloc: Global) -> Result<Trie, BeginError> {
-    let (round, mut crew) = opened(alloc, 1, 2, 200)?;
-    let one = next_half(&mut crew, &round).expect(rt, "lane 0");
-    let two = next_half(&mut crew, &round).expect(rt, "lane 1");
-    let task = Task {
-        bits: 1,
-        keys: 1,
-        times: 200,
-        deed: Deed::Put,
-    };
-    let (one, two) = pair(rt, &round, one, two, task);
-    back(&mut crew, &round, one);
-    back(&mut crew, &round, two);
-    Ok(round.end(crew))
-}
-
-#[test]
-fn one_key_that_two_threads_put_in_is_accounted_for(rt: HostRuntime) -> Result<(), BeginError> {
-    let ended = put_by_two(&rt, rt.alloc())?;
-    equal(&rt, (ended.size(), ended.missing()), (1, 0));
-    let out = u64::from(ended.removals()) + 1;
-    equal(&rt, out, u64::from(ended.inserts()));
-    // A put is refused only if one of the other lane came between, and each of those refuses one.
-    holds(&rt, ended.inserts() >= 200 && ended.inserts() <= 400);
-    Ok(())
-}
-
-// How many members a key is, and what it weighs.
-fn weighed(weight: Option<u32>) -> (u32, u64)
-    ensures one { result.0 ≤ 1 }
-    ensures small { result.1 < 2 ^ 32 }
+// Halves of the passes of the next four lanes.
+fn four_halves(crew: &mut Hands, round: &Table) -> Result<(Half, Half, Half, Half), CrewError>
+    requires together { crew.old.round ≡ round.now }
+    ensures together { crew.new.round ≡ round.now }
+    ensures rounds { IfOk result (λ t. (t.0.round ≡ round.now) × (t.1.round ≡ round.now) × (t.2.round ≡ round.now) × (t.3.round ≡ round.now)) }
 {
-    match weight {
-        Some(weight) => (1, u64::from(weight)),
-        None => (0, 0),
-    }
+    let one = next_half(crew, round)?;
+    let two = next_half(crew, round)?;
+    let three = next_half(crew, round)?;
+    let four = next_half(crew, round)?;
+    Ok((one, two, three, four))
 }
 
-// How many members of the keys of 2 bits a new snapshot of the pass shows, if its count and sum of all keys are those of its keys one
-// by one.
-fn adds_up(pass: &mut Pass<Sum, Extent>) -> Option<u32>
-    ensures round { pass.new.round ≡ pass.old.round }
-{
-    let snapshot = pass.snapshot();
-    let whole = pass.ask(snapshot, Range(0, 4));
-    let zero = weighed(pass.ask(snapshot, Weight(0)));
-    let one = weighed(pass.ask(snapshot, Weight(1)));
-    let two = weighed(pass.ask(snapshot, Weight(2)));
-    let three = weighed(pass.ask(snapshot, Weight(3)));
-    let count = zero.0 + one.0 + two.0 + three.0;
-    let sum = zero.1 + one.1 + two.1 + three.1;
-    (whole.count == count && whole.a.value() == sum && pass.ask(snapshot, Size) == count).then_some(
-        count,
-    )
-}
-
-// A half that looks so often, and whether each snapshot added up and had no fewer members than the one before.
-fn watched(round: &Table, half: Half, times: u32) -> (Half, bool)
-    requires round { half.round ≡ round.now }
-    ensures { result.0.round ≡ half.round }
-{
-    let mut pass = round.pass(half);
-    let mut members = 0;
-    for _ in 0..times {
-        match adds_up(&mut pass) {
-            Some(count) if count >= members => members = count,
-            _ => return (pass.into_half(), false),
-        }
-    }
-    (pass.into_half(), true)
-}
-
-// Four halves at work, and a fifth that looks meanwhile, each in a thread of its own.
-fn watched_work<R: Threads + Wait + Sync>(
+// Four halves at work, and a fifth that does something else, each in a thread of its own.
+fn five<R: Threads + Wait + Sync>(
     rt: &R,
     round: &Table,
     halves: (Half, Half, Half, Half),
     fifth: Half,
-    task: Task,
-) -> ((Half, Half, Half, Half), (Half, bool))
+    tasks: (Task, Task, Task),
+) -> (((Worked, Worked), (Worked, Worked)), Worked)
     requires rounds { (halves.0.round ≡ round.now) × (halves.1.round ≡ round.now) × (halves.2.round ≡ round.now) × (halves.3.round ≡ round.now) }
     requires fifth { fifth.round ≡ round.now }
-    requires bits { round.now.bits ≡ task.bits }
-    requires keys { task.keys ≤ 2 ^ task.bits }
-    ensures four { (result.0.0.round ≡ round.now) × (result.0.1.round ≡ round.now) × (result.0.2.round ≡ round.now) × (result.0.3.round ≡ round.now) }
+    ensures four { (result.0.0.0.0.round ≡ round.now) × (result.0.0.1.0.round ≡ round.now) × (result.0.1.0.0.round ≡ round.now) × (result.0.1.1.0.round ≡ round.now) }
     ensures fifth { result.1.0.round ≡ round.now }
 {
     let (one, two, three, four) = halves;
+    let (first, second, third) = tasks;
     thread::join(
         rt,
         move ||
-            requires { (one.round ≡ round.now) × (two.round ≡ round.now) × (three.round ≡ round.now) × (four.round ≡ round.now) × (round.now.bits ≡ task.bits) × (task.keys ≤ 2 ^ task.bits) }
-            ensures { (result.0.round ≡ one.round) × (result.1.round ≡ two.round) × (result.2.round ≡ three.round) × (result.3.round ≡ four.round) }
-        { work(rt, round, (one, two, three, four), task) },
+            requires { (one.round ≡ round.now) × (two.round ≡ round.now) × (three.round ≡ round.now) × (four.round ≡ round.now) }
+            ensures { (result.0.0.0.round ≡ one.round) × (result.0.1.0.round ≡ two.round) × (result.1.0.0.round ≡ three.round) × (result.1.1.0.round ≡ four.round) }
+        { work(rt, round, (one, two, three, four), first, second) },
         move ||
             requires { fifth.round ≡ round.now }
             ensures { result.0.round ≡ fifth.round }
-        { watched(round, fifth, 20_000) },
+        { done(round, fifth, third) },
     )
 }
 
-// A round of 2 bits in which four threads put to all keys, and a fifth looks: the trie after it.
-fn put_and_watched<R: Threads + Wait + Sync + Abort>(
+// What the four saw, what the fifth saw, and what it sees once all are done.
+type Seen = ([Option<u32>; 4], Option<u32>, u32);
+
+// Five halves at work in a round.
+fn crowded<R: Threads + Wait + Sync + Abort>(
     rt: &R,
-    alloc: Global,
-) -> Result<Trie, BeginError> {
-    let (round, mut crew) = opened(alloc, 2, 5, 500)?;
-    let halves = four_halves(&mut crew, &round).expect(rt, "four lanes");
-    let fifth = next_half(&mut crew, &round).expect(rt, "lane 4");
-    let task = Task {
-        bits: 2,
-        keys: 4,
-        times: 125,
-        deed: Deed::Put,
-    };
-    let (halves, (fifth, right)) = watched_work(rt, &round, halves, fifth, task);
-    holds(rt, right);
-    let mut pass = round.pass(fifth);
-    equal(rt, adds_up(&mut pass), Some(4));
+    round: &Table,
+    crew: &mut Hands,
+    tasks: (Task, Task, Task),
+) -> Seen
+    requires together { crew.old.round ≡ round.now }
+    ensures { crew.new.round ≡ round.now }
+{
+    let halves = four_halves(crew, round).expect(rt, "four lanes");
+    let fifth = next_half(crew, round).expect(rt, "lane 4");
+    let (((one, two), (three, four)), fifth) = five(rt, round, halves, fifth, tasks);
+    let mut pass = round.pass(fifth.0);
+    let last = seen_size(&mut pass);
     crew.back(pass);
-    four_back(&mut crew, &round, halves);
-    Ok(round.end(crew))
+    let seen = [one.1, two.1, three.1, four.1];
+    back(crew, round, four.0);
+    back(crew, round, three.0);
+    back(crew, round, two.0);
+    back(crew, round, one.0);
+    (seen, fifth.1, last)
 }
 
+// A round of 5 lanes over the empty set: what the first two lanes do, what the next two do, and what the fifth does.
+struct Crowd {
+    shows: &'static str,
+    rounds: u32,
+    bits: u32,
+    updates: u32,
+    tasks: (Task, Task, Task),
+    // How many members each of the four sees as soon as its own updates have returned, if that is known.
+    each_sees: Option<u32>,
+    // The least and the most insertions, and the fewest and the most members at the end.
+    inserts: (u32, u32),
+    members: (u32, u32),
+    // The rounds after that.
+    plays: &'static [Play],
+}
+
+// What a crowd's trie says at rest. Each key that went in and did not go out is a member.
+fn assert_accounts(rt: &impl Abort, ended: &Trie, crowd: &Crowd) {
+    let (inserts, members) = (ended.inserts(), ended.size());
+    equal(rt, (crowd.shows, ended.missing()), (crowd.shows, 0));
+    let out = u64::from(ended.removals()) + u64::from(members);
+    equal(rt, (crowd.shows, out), (crowd.shows, u64::from(inserts)));
+    holds(rt, inserts >= crowd.inserts.0 && inserts <= crowd.inserts.1);
+    holds(rt, members >= crowd.members.0 && members <= crowd.members.1);
+}
+
+// A round of a crowd, and those after it.
+fn crowd_played<R: Threads + Wait + Sync + Abort>(
+    rt: &R,
+    alloc: Global,
+    crowd: &Crowd,
+) -> Result<(), BeginError> {
+    let (round, mut crew) = opened(alloc, (crowd.bits, 5, crowd.updates))?;
+    let (seen, fifth, last) = crowded(rt, &round, &mut crew, crowd.tasks);
+    let ended = round.end(crew);
+    if crowd.each_sees.is_some() {
+        equal(rt, (crowd.shows, seen), (crowd.shows, [crowd.each_sees; 4]));
+    }
+    equal(
+        rt,
+        (crowd.shows, fifth.is_some(), last),
+        (crowd.shows, true, ended.size()),
+    );
+    assert_accounts(rt, &ended, crowd);
+    plays(rt, alloc, ended, crowd.shows, crowd.plays)?;
+    Ok(())
+}
+
+const IDLE: Task = Task {
+    keys: 0,
+    times: 0,
+    deed: Deed::Insert,
+};
+
+const PUT_ZERO: Task = Task {
+    keys: 1,
+    times: 200,
+    deed: Deed::Put,
+};
+
+const IN_AND_OUT: Task = Task {
+    keys: 1,
+    times: 500,
+    deed: Deed::InsertAndRemove,
+};
+
+const PUT_ALL: Task = Task {
+    keys: 4,
+    times: 125,
+    deed: Deed::Put,
+};
+
+const FILL: Task = Task {
+    keys: 16,
+    times: 1,
+    deed: Deed::Insert,
+};
+
+const CROWDS: &[Crowd] = &[
+    // A put is refused only if one of the other lane came between, and each of those refuses one.
+    Crowd {
+        shows: "one key that two threads put in is accounted for",
+        rounds: 1,
+        bits: 1,
+        updates: 200,
+        tasks: (PUT_ZERO, IDLE, IDLE),
+        each_sees: None,
+        inserts: (200, 400),
+        members: (1, 1),
+        plays: &[],
+    },
+    Crowd {
+        shows: "one key that four threads put in and take out is accounted for",
+        rounds: 1,
+        bits: 1,
+        updates: 1_000,
+        tasks: (IN_AND_OUT, IN_AND_OUT, IDLE),
+        each_sees: None,
+        inserts: (500, 2_000),
+        members: (0, 1),
+        plays: &[],
+    },
+    Crowd {
+        shows: "each snapshot adds up while four threads put",
+        rounds: 1,
+        bits: 2,
+        updates: 500,
+        tasks: (
+            PUT_ALL,
+            PUT_ALL,
+            Task {
+                keys: 0,
+                times: 20_000,
+                deed: Deed::Watch,
+            },
+        ),
+        each_sees: None,
+        inserts: (4, 2_000),
+        members: (4, 4),
+        plays: &[Play {
+            way: Way::Begin,
+            numbers: (2, 1, 1),
+            steps: &[(A, Open, Done), (A, AddsUp, Number(4))],
+            rest: &[],
+        }],
+    },
+
+    // The threads meet otherwise in each round.
+    Crowd {
+        shows: "each of four threads holds all keys once its own insertions returned, and the next round goes on",
+        rounds: 500,
+        bits: 4,
+        updates: 16,
+        tasks: (FILL, FILL, IDLE),
+        each_sees: Some(16),
+        inserts: (16, 16),
+        members: (16, 16),
+        plays: &[Play {
+            way: Way::Begin,
+            numbers: (4, 2, 1),
+            steps: &[
+                (A, Open, Done),
+                (B, Open, Done),
+                (A, Now(Remove(0)), Is(true)),
+                (B, Now(Insert(1)), Is(false)),
+                (B, Back, Done),
+                (A, Back, Done),
+            ],
+            rest: &[(Ask::Size, Number(15)), (Ask::Counts, Counted(0, 1, 0))],
+        }],
+    },
+];
+
 #[test]
-fn each_snapshot_adds_up_while_four_threads_put(rt: HostRuntime) -> Result<(), BeginError> {
-    let ended = put_and_watched(&rt, rt.alloc())?;
-    equal(&rt, (ended.size(), ended.missing()), (4, 0));
-    let out = u64::from(ended.removals()) + 4;
-    equal(&rt, out, u64::from(ended.inserts()));
-    let (round, mut crew) = next_round(rt.alloc(), ended, 1, 1)?;
-    let mut pass = next_pass(&mut crew, &round).expect(&rt, "lane 0");
-    equal(&rt, adds_up(&mut pass), Some(4));
+fn what_threads_do_at_once_is_accounted_for(rt: HostRuntime) -> Result<(), BeginError> {
+    for crowd in CROWDS {
+        for _ in 0..crowd.rounds {
+            crowd_played(&rt, rt.alloc(), crowd)?;
+        }
+    }
     Ok(())
 }

@@ -2,6 +2,8 @@
 #![tactic(auto)]
 
 #[cfg(test)]
+mod asking;
+#[cfg(test)]
 mod assertions;
 #[cfg(test)]
 mod beginning;
@@ -13,8 +15,7 @@ mod copying;
 mod crowds;
 #[cfg(test)]
 mod ending;
-#[cfg(test)]
-mod filling;
+pub mod eras;
 #[cfg(test)]
 mod latest;
 #[cfg(test)]
@@ -34,7 +35,11 @@ mod replacing;
 #[cfg(test)]
 mod requests;
 #[cfg(test)]
+mod resting;
+#[cfg(test)]
 mod rounds;
+#[cfg(test)]
+mod rows;
 #[cfg(test)]
 mod scripts;
 #[cfg(test)]

@@ -1,17 +1,15 @@
 //! Rounds as scripts: what the lanes of a round do, one step after the other, and what each step comes to. The heavy contracts of passes are
 //! met here once, so that the proof of a test is that of its data.
-ghost use Rattle.std.specs.Prelude.{◌≡◌, ◌^◌, IfOk, IfSome};
+ghost use Rattle.std.specs.Prelude.{◌≡◌, ◌^◌, IfSome};
 
-use super::ending::{counts, next_round, seen_size, sees};
-use super::putting::seen_weight;
-use super::rounds::{Hands, Table, Trie, next_pass};
-use super::turning::{Climber, Walker, last, to_the_end, turns};
-use crate::assertions::{equal, equal_at};
+use super::asking::{look, look_closer, seen_size, seen_weight, sees};
+use super::rounds::{Climber, Hands, Table, Walker, next_pass};
+use super::turning::{last, to_the_end, turns};
+use crate::assertions::equal;
 use aug_model::Outcome;
 use aug_monoid::{Extent, Sum};
-use aug_query::descent::{After, Before, Pairs, Range, Rank, Select};
-use aug_query::size;
-use aug_trie::{BeginError, Ended, Pass};
+use aug_query::rank;
+use aug_trie::Pass;
 use std::alloc::Global;
 use std::process::Abort;
 
@@ -101,7 +99,22 @@ pub(super) enum Act {
     Before(u32),
     After(u32),
     Range(u32, u32),
+    Keys,
     Pairs,
+    // How long the lists of keys and of pairs are.
+    Lists,
+    // The rank of a key by a view of the pass, which is given up then.
+    RankByView(u32),
+    // Each batch of queries on 5 and 9.
+    Batches,
+    // A clone of the top of the tree, and the children of that clone.
+    Top,
+    Left,
+    Right,
+    // What a snapshot and its clone show before and after a put of 1 with this weight, or an insertion of 2 and a removal of 1.
+    KeptOver(Option<u32>),
+    // How many of the keys of 2 bits are members, if the sums of all are those of each key.
+    AddsUp,
     // The number of the lane, and what its pass counts: insertions, removals, and updates that are left.
     Lane,
     Counts,
@@ -120,17 +133,24 @@ pub(super) enum Reply {
     Number(u32),
     Finds(Option<u32>),
     Counted(u32, u32, u32),
-    // How many members a range has, and their weights together.
-    Folded(u32, u64),
-    // A list of at most two pairs.
-    Listed(Option<(u32, u32)>, Option<(u32, u32)>),
+    // How many members a range has, their weights together, and the least and the greatest.
+    Folded(u32, u64, Option<(u32, u32)>),
+    // The level and the place of a node, and the same of what it covers.
+    Stands(u32, u32, u32, u64, Option<(u32, u32)>),
+    // A list of at most two keys, and one of at most three pairs.
+    Keys(Option<u32>, Option<u32>),
+    Listed(Option<(u32, u32)>, Option<(u32, u32)>, Option<(u32, u32)>),
+    // How many pairs there are, how many of them have the key that the list of keys has there, and how many are a place and 2^32 - 1 less it.
+    Lengths(u32, u32, u32),
+    // How many members there are, what 1 and 2 weigh, and the weights of the keys of 2 bits together.
+    Kept(u32, Option<u32>, Option<u32>, u64),
 }
 
 // Who does what, and what it comes to.
 pub(super) type Step = (Who, Act, Reply);
 
 // Makes an update, if one is left.
-fn changed(pass: &mut Pass<Sum, Extent>, universe: u32, change: Change) -> Reply
+pub(super) fn changed(pass: &mut Pass<Sum, Extent>, universe: u32, change: Change) -> Reply
     requires { universe ≡ 2 ^ pass.old.round.bits }
     ensures { pass.new.round ≡ pass.old.round }
 {
@@ -165,38 +185,6 @@ fn start<'r>(round: &'r Table, pass: Walker<'r>, universe: u32, change: Change) 
     }
 }
 
-// A list of at most two pairs.
-fn listed(list: &[(u32, u32)]) -> Reply {
-    match (list.first(), list.get(1), list.len()) {
-        (Some(first), Some(second), 2) => Reply::Listed(Some(*first), Some(*second)),
-        (Some(first), None, _) => Reply::Listed(Some(*first), None),
-        (None, _, _) => Reply::Listed(None, None),
-        _ => Reply::Not,
-    }
-}
-
-// What the further queries answer on a new snapshot.
-fn look(pass: &mut Pass<Sum, Extent>, alloc: Global, act: Act) -> Reply
-    ensures { pass.new.round ≡ pass.old.round }
-{
-    let s = pass.snapshot();
-    match act {
-        Act::Rank(k) => Reply::Number(pass.ask(s, Rank(k))),
-        Act::Select(i) => Reply::Finds(pass.ask(s, Select(i))),
-        Act::Before(k) => Reply::Finds(pass.ask(s, Before(k))),
-        Act::After(k) => Reply::Finds(pass.ask(s, After(k))),
-        Act::Range(from, to) => {
-            let range = pass.ask(s, Range(from, to));
-            Reply::Folded(range.count, range.a.value())
-        }
-        Act::Pairs => match pass.ask(s, Pairs(alloc)) {
-            Ok(list) => listed(&list),
-            Err(_) => Reply::Not,
-        },
-        _ => Reply::Not,
-    }
-}
-
 // What a pass does that stays with its lane.
 fn walk(pass: &mut Pass<Sum, Extent>, alloc: Global, universe: u32, act: Act) -> Reply
     requires { universe ≡ 2 ^ pass.old.round.bits }
@@ -209,7 +197,10 @@ fn walk(pass: &mut Pass<Sum, Extent>, alloc: Global, universe: u32, act: Act) ->
         Act::Weight(key) => Reply::Finds(seen_weight(pass, key)),
         Act::Lane => Reply::Number(pass.lane()),
         Act::Counts => Reply::Counted(pass.inserts(), pass.removals(), pass.budget()),
-        _ => look(pass, alloc, act),
+        Act::Rank(_) | Act::Select(_) | Act::Before(_) | Act::After(_) | Act::Range(_, _) => {
+            look(pass, act)
+        }
+        _ => look_closer(pass, alloc, universe, act),
     }
 }
 
@@ -235,6 +226,12 @@ fn walked<'r>(
             (out(), Reply::Done)
         }
         Act::GiveUp => (out(), Reply::Done),
+        Act::RankByView(key) => {
+            let mut pass = pass;
+            let snapshot = pass.snapshot();
+            let found = rank(&mut pass.view(snapshot), key);
+            (out(), Reply::Number(found))
+        }
         Act::Halve => {
             let half = pass.into_half();
             (walking(round.pass(half)), Reply::Done)
@@ -314,121 +311,80 @@ fn done<'r>(
     }
 }
 
-// The steps of a script. Passes that are out at its end are given up.
+// The lanes of a script.
+#[derive(Drop)]
+struct Lanes<'r> {
+    a: Lane<'r>,
+    b: Lane<'r>,
+    c: Lane<'r>,
+}
+
+// What one of three lanes does.
+fn acted<'r>(
+    round: &'r Table,
+    crew: &mut Hands,
+    lanes: Lanes<'r>,
+    alloc: Global,
+    universe: u32,
+    who: Who,
+    act: Act,
+) -> (Lanes<'r>, Reply)
+    requires together { crew.old.round ≡ round.now }
+    requires universe { universe ≡ 2 ^ round.now.bits }
+    requires pass_a { IfSome lanes.a.pass (λ pass. pass.round ≡ round.now) }
+    requires climb_a { IfSome lanes.a.climb (λ climb. climb.start.round ≡ round.now) }
+    requires pass_b { IfSome lanes.b.pass (λ pass. pass.round ≡ round.now) }
+    requires climb_b { IfSome lanes.b.climb (λ climb. climb.start.round ≡ round.now) }
+    requires pass_c { IfSome lanes.c.pass (λ pass. pass.round ≡ round.now) }
+    requires climb_c { IfSome lanes.c.climb (λ climb. climb.start.round ≡ round.now) }
+    ensures together { crew.new.round ≡ round.now }
+    ensures pass_a { IfSome result.0.a.pass (λ pass. pass.round ≡ round.now) }
+    ensures climb_a { IfSome result.0.a.climb (λ climb. climb.start.round ≡ round.now) }
+    ensures pass_b { IfSome result.0.b.pass (λ pass. pass.round ≡ round.now) }
+    ensures climb_b { IfSome result.0.b.climb (λ climb. climb.start.round ≡ round.now) }
+    ensures pass_c { IfSome result.0.c.pass (λ pass. pass.round ≡ round.now) }
+    ensures climb_c { IfSome result.0.c.climb (λ climb. climb.start.round ≡ round.now) }
+{
+    let Lanes { a, b, c } = lanes;
+    match who {
+        Who::A => {
+            let (a, reply) = done(round, crew, a, alloc, universe, act);
+            (Lanes { a, b, c }, reply)
+        }
+        Who::B => {
+            let (b, reply) = done(round, crew, b, alloc, universe, act);
+            (Lanes { a, b, c }, reply)
+        }
+        Who::C => {
+            let (c, reply) = done(round, crew, c, alloc, universe, act);
+            (Lanes { a, b, c }, reply)
+        }
+    }
+}
+
+// The steps of a script, which shows this. Passes that are out at its end are given up.
 pub(super) fn steps(
     rt: &impl Abort,
     alloc: Global,
     round: &Table,
     crew: &mut Hands,
     universe: u32,
+    shows: &str,
     script: &[Step],
 )
     requires together { crew.old.round ≡ round.now }
     requires universe { universe ≡ 2 ^ round.now.bits }
     ensures { crew.new.round ≡ round.now }
 {
-    let (mut a, mut b, mut c) = (out(), out(), out());
+    let mut lanes = Lanes {
+        a: out(),
+        b: out(),
+        c: out(),
+    };
     for (number, step) in script.iter().enumerate() {
         let (who, act, expected) = *step;
-        let reply = match who {
-            Who::A => {
-                let (next, reply) = done(round, crew, a, alloc, universe, act);
-                a = next;
-                reply
-            }
-            Who::B => {
-                let (next, reply) = done(round, crew, b, alloc, universe, act);
-                b = next;
-                reply
-            }
-            Who::C => {
-                let (next, reply) = done(round, crew, c, alloc, universe, act);
-                c = next;
-                reply
-            }
-        };
-        equal_at(rt, reply, expected, number);
+        let (next, reply) = acted(round, crew, lanes, alloc, universe, who, act);
+        lanes = next;
+        equal(rt, (shows, number, reply), (shows, number, expected));
     }
-}
-
-// A round over a trie, with these numbers of workers and updates, in which this happens: the trie after it.
-pub(super) fn played(
-    rt: &impl Abort,
-    alloc: Global,
-    ended: Trie,
-    numbers: (u32, u32),
-    script: &[Step],
-) -> Result<Trie, BeginError>
-    ensures { IfOk result (λ after. after.bits ≡ ended.bits) }
-{
-    let universe = ended.universe();
-    let (round, mut crew) = next_round(alloc, ended, numbers.0, numbers.1)?;
-    steps(rt, alloc, &round, &mut crew, universe, script);
-    Ok(round.end(crew))
-}
-
-// The same over the empty set, with keys of this number of bits.
-pub(super) fn played_from_empty(
-    rt: &impl Abort,
-    alloc: Global,
-    bits: u32,
-    numbers: (u32, u32),
-    script: &[Step],
-) -> Result<Trie, BeginError>
-    ensures { IfOk result (λ after. after.bits ≡ bits) }
-{
-    let ended: Trie = Ended::empty(alloc, bits)?;
-    played(rt, alloc, ended, numbers, script)
-}
-
-// A trie at rest has this number of members, and says this of the round that ended it.
-pub(super) fn assert_rests_with(
-    rt: &impl Abort,
-    ended: &mut Trie,
-    members: u32,
-    counted: (u32, u32, u32),
-) {
-    equal(rt, (ended.size(), size(ended)), (members, members));
-    equal(rt, counts(ended), counted);
-}
-
-// A round over a trie in which this happens ends so.
-pub(super) fn assert_plays_over(
-    rt: &impl Abort,
-    alloc: Global,
-    ended: Trie,
-    numbers: (u32, u32),
-    script: &[Step],
-    members: u32,
-    counted: (u32, u32, u32),
-) -> Result<(), BeginError> {
-    let mut ended = played(rt, alloc, ended, numbers, script)?;
-    assert_rests_with(rt, &mut ended, members, counted);
-    Ok(())
-}
-
-// A round over the empty set in which this happens ends so.
-pub(super) fn assert_plays(
-    rt: &impl Abort,
-    alloc: Global,
-    bits: u32,
-    numbers: (u32, u32),
-    script: &[Step],
-    members: u32,
-    counted: (u32, u32, u32),
-) -> Result<(), BeginError> {
-    let ended: Trie = Ended::empty(alloc, bits)?;
-    assert_plays_over(rt, alloc, ended, numbers, script, members, counted)
-}
-
-// A trie with the one member 0, which weighs 0.
-pub(super) fn zero_alone(rt: &impl Abort, alloc: Global, bits: u32) -> Result<Trie, BeginError>
-    ensures { IfOk result (λ ended. ended.bits ≡ bits) }
-{
-    let script = [
-        (Who::A, Act::Open, Reply::Done),
-        (Who::A, Act::Now(Change::Insert(0)), Reply::Is(true)),
-        (Who::A, Act::Back, Reply::Done),
-    ];
-    played_from_empty(rt, alloc, bits, (1, 1), &script)
 }

@@ -2,73 +2,61 @@
 //! begins a round.
 ghost use Rattle.std.specs.Prelude.{◌≡◌, IfOk};
 
-use super::playing::Act::{Back, Now, Open};
-use super::playing::Change::Insert;
-use super::playing::Reply::{Done, Is};
-use super::playing::Who::A;
-use super::playing::played_from_empty;
-use super::rounds::{Hands, Table, Trie, next_pass};
-use crate::assertions::equal;
-use aug_monoid::{Extent, Sum};
-use aug_query::descent::{Keys, Rank, Select};
-use aug_query::{after, before, has, keys, range, rank, select, size};
-use aug_trie::{BeginError, Pass, Round};
+use super::asking::seen_weight;
+use super::carrying::{HEAVY_ANSWERS, heavy};
+use super::resting::rests;
+use super::rounds::{Hands, Numbers, Table, Trie, Walker, Way, begun, next_pass, tried};
+use crate::assertions::{equal, holds};
+use aug_query::descent::{Keys, Pairs, Rank, Select};
+use aug_trie::BeginError;
 use std::alloc::{AllocError, Global};
 use std::process::Abort;
 
-// A trie of 16 bits with the members 5 and 9.
-fn five_and_nine(rt: &impl Abort, alloc: Global) -> Result<Trie, BeginError> {
-    let script = [
-        (A, Open, Done),
-        (A, Now(Insert(9)), Is(true)),
-        (A, Now(Insert(5)), Is(true)),
-        (A, Back, Done),
-    ];
-    played_from_empty(rt, alloc, 16, (1, 2), &script)
+// A heavy trie, made again if memory was refused.
+pub(super) fn heavy_at_last(rt: &impl Abort, alloc: Global, bits: u32) -> Result<Trie, BeginError> {
+    match heavy(rt, alloc, bits) {
+        Ok(ended) => Ok(ended),
+        Err(cause) => {
+            equal(rt, cause, BeginError::OutOfMemory);
+            heavy(rt, alloc, bits)
+        }
+    }
 }
 
-// Asks such a trie every query.
-fn assert_answers(rt: &impl Abort, alloc: Global, ended: &mut Trie) {
-    equal(rt, (has(ended, 5), has(ended, 6)), (true, false));
-    equal(rt, (rank(ended, 9), size(ended)), (1, 2));
-    equal(rt, (select(ended, 1), select(ended, 2)), (Some(9), None));
-    equal(rt, (before(ended, 9), after(ended, 9)), (Some(5), None));
-    let whole = range(ended, 0, 65_536);
-    equal(
-        rt,
-        (whole.count, whole.a.value(), whole.b.bounds()),
-        (2, 14, Some((5, 9))),
-    );
-    let list = keys(alloc, ended).expect(rt, "memory");
-    equal(rt, list.as_slice(), [5, 9].as_slice());
-    equal(rt, (ended.bits(), ended.size()), (16, 2));
-    equal(
-        rt,
-        (ended.inserts(), ended.removals(), ended.missing()),
-        (2, 0, 0),
-    );
+// A trie that came back is the heavy one of so many bits.
+fn assert_heavy(rt: &impl Abort, alloc: Global, ended: &mut Trie, bits: u32) {
+    holds(rt, bits <= 16);
+    equal(rt, (ended.bits(), ended.universe()), (bits, 1 << bits));
+    rests(rt, alloc, ended, "a trie that came back", HEAVY_ANSWERS);
 }
 
-// A round of one update, requested again if memory was refused.
-fn begun(rt: &impl Abort, alloc: Global, ended: Trie) -> Result<(Table, Hands), BeginError>
+// A round over such a trie, requested again if memory was refused.
+pub(super) fn begun_at_last(
+    rt: &impl Abort,
+    alloc: Global,
+    bits: u32,
+    way: Way,
+    numbers: Numbers,
+) -> Result<(Table, Hands), BeginError>
+    ensures bits { IfOk result (λ t. t.0.bits ≡ numbers.0) }
     ensures together { IfOk result (λ t. t.1.round ≡ t.0) }
 {
-    let mut ended = match Round::begin(alloc, ended, 1, 1) {
+    let made = heavy_at_last(rt, alloc, bits)?;
+    let mut ended = match tried(alloc, made, way, numbers) {
         Ok(begun) => return Ok(begun),
         Err((ended, cause)) => {
             equal(rt, cause, BeginError::OutOfMemory);
             ended
         }
     };
-    assert_answers(rt, alloc, &mut ended);
-    match Round::begin(alloc, ended, 1, 1) {
-        Ok(begun) => Ok(begun),
-        Err((_, cause)) => Err(cause),
-    }
+    assert_heavy(rt, alloc, &mut ended, bits);
+    begun(alloc, ended, way, numbers)
 }
 
 // All keys of a new snapshot, requested again if memory was refused.
-fn listed(alloc: Global, pass: &mut Pass<Sum, Extent>) -> Result<Vec<u32>, AllocError> {
+fn keys_at_last(alloc: Global, pass: &mut Walker<'_>) -> Result<Vec<u32>, AllocError>
+    ensures { pass.new.round ≡ pass.old.round }
+{
     let snapshot = pass.snapshot();
     match pass.ask(snapshot, Keys(alloc)) {
         Ok(list) => Ok(list),
@@ -76,70 +64,181 @@ fn listed(alloc: Global, pass: &mut Pass<Sum, Extent>) -> Result<Vec<u32>, Alloc
     }
 }
 
-// The trie of 5 and 9, made again if memory was refused.
-fn five_and_nine_at_last(rt: &impl Abort, alloc: Global) -> Result<Trie, BeginError> {
-    match five_and_nine(rt, alloc) {
-        Ok(ended) => Ok(ended),
-        Err(cause) => {
-            equal(rt, cause, BeginError::OutOfMemory);
-            five_and_nine(rt, alloc)
-        }
+// The same of all pairs.
+fn pairs_at_last(alloc: Global, pass: &mut Walker<'_>) -> Result<Vec<(u32, u32)>, AllocError>
+    ensures { pass.new.round ≡ pass.old.round }
+{
+    let snapshot = pass.snapshot();
+    match pass.ask(snapshot, Pairs(alloc)) {
+        Ok(list) => Ok(list),
+        Err(_) => pass.ask(snapshot, Pairs(alloc)),
     }
 }
 
-// The pass of a round over 5 and 9 shows them.
-fn assert_shows(rt: &impl Abort, alloc: Global, pass: &mut Pass<Sum, Extent>) {
-    let list = listed(alloc, pass).expect(rt, "memory");
+// The pass of a round over the heavy trie shows its members.
+fn assert_shows(rt: &impl Abort, alloc: Global, pass: &mut Walker<'_>) {
+    let list = keys_at_last(alloc, pass).expect(rt, "memory");
     equal(rt, list.as_slice(), [5, 9].as_slice());
+    let list = pairs_at_last(alloc, pass).expect(rt, "memory");
+    equal(rt, list.as_slice(), [(5, 70), (9, u32::MAX)].as_slice());
+    equal(rt, seen_weight(pass, 9), Some(u32::MAX));
     let snapshot = pass.snapshot();
-    equal(
-        rt,
-        (
-            pass.ask(snapshot, Rank(65_536)),
-            pass.ask(snapshot, Select(0)),
-        ),
-        (2, Some(5)),
-    );
+    let rank = pass.ask(snapshot, Rank(65_536));
+    equal(rt, (rank, pass.ask(snapshot, Select(0))), (2, Some(5)));
 }
 
 // Passes whichever request for memory is refused.
 #[test]
 fn refused_memory_leaves_every_answer(rt: HostRuntime) -> Result<(), BeginError> {
-    let ended = five_and_nine_at_last(&rt, rt.alloc())?;
-    let (round, mut crew) = begun(&rt, rt.alloc(), ended)?;
-    let mut pass = next_pass(&mut crew, &round).expect(&rt, "lane 0");
-    assert_shows(&rt, rt.alloc(), &mut pass);
+    for bits in [4, 16] {
+        let (round, mut crew) = begun_at_last(&rt, rt.alloc(), bits, Way::Begin, (bits, 1, 1))?;
+        let mut pass = next_pass(&mut crew, &round).expect(&rt, "lane 0");
+        assert_shows(&rt, rt.alloc(), &mut pass);
+    }
     Ok(())
 }
 
-// The trie that comes back if these numbers are refused.
-fn given_back(
-    rt: &impl Abort,
-    alloc: Global,
-    ended: Trie,
-    numbers: (u32, u32),
+// Numbers that a round over the heavy trie of so many bits is refused for.
+struct Refusal {
+    of: u32,
+    way: Way,
+    numbers: Numbers,
     cause: BeginError,
-) -> Trie {
-    match Round::begin(alloc, ended, numbers.0, numbers.1) {
-        Ok(_) => panic!(rt; "{} workers, {} updates", numbers.0, numbers.1),
+}
+
+// The trie that comes back if these numbers are refused.
+fn given_back(rt: &impl Abort, alloc: Global, ended: Trie, row: &Refusal) -> Trie {
+    match tried(alloc, ended, row.way, row.numbers) {
+        Ok(_) => panic!(rt;
+            "{} bits, {} workers, {} updates",
+            row.numbers.0, row.numbers.1, row.numbers.2
+        ),
         Err((ended, refused)) => {
-            equal(rt, refused, cause);
+            equal(rt, (row.numbers, refused), (row.numbers, row.cause));
             ended
         }
     }
 }
 
+// A row, and whether a round begins over the trie that came back.
+fn refused(rt: &impl Abort, alloc: Global, row: &Refusal) -> Result<(), BeginError> {
+    let ended = heavy(rt, alloc, row.of)?;
+    let mut ended = given_back(rt, alloc, ended, row);
+    assert_heavy(rt, alloc, &mut ended, row.of);
+    begun(alloc, ended, Way::Begin, (row.of, 1, 1))?;
+    Ok(())
+}
+
+const REFUSALS: &[Refusal] = &[
+    Refusal {
+        of: 16,
+        way: Way::Begin,
+        numbers: (16, 0, 0),
+        cause: BeginError::BadWorkers,
+    },
+    Refusal {
+        of: 16,
+        way: Way::Begin,
+        numbers: (16, 65, 1),
+        cause: BeginError::BadWorkers,
+    },
+    Refusal {
+        of: 16,
+        way: Way::Begin,
+        numbers: (16, 1, 0),
+        cause: BeginError::BadUpdates,
+    },
+    Refusal {
+        of: 16,
+        way: Way::Begin,
+        numbers: (16, 64, 65_537),
+        cause: BeginError::BadUpdates,
+    },
+    Refusal {
+        of: 16,
+        way: Way::Begin,
+        numbers: (16, 64, 13_108),
+        cause: BeginError::TooLarge,
+    },
+    Refusal {
+        of: 16,
+        way: Way::Begin,
+        numbers: (16, 64, 65_536),
+        cause: BeginError::TooLarge,
+    },
+    Refusal {
+        of: 4,
+        way: Way::Wider,
+        numbers: (17, 0, 0),
+        cause: BeginError::BadBits,
+    },
+    Refusal {
+        of: 4,
+        way: Way::Wider,
+        numbers: (0, 0, 0),
+        cause: BeginError::BadBits,
+    },
+    Refusal {
+        of: 4,
+        way: Way::Wider,
+        numbers: (u32::MAX, 1, 1),
+        cause: BeginError::BadBits,
+    },
+    Refusal {
+        of: 4,
+        way: Way::Wider,
+        numbers: (3, 0, 0),
+        cause: BeginError::Narrower,
+    },
+    Refusal {
+        of: 4,
+        way: Way::Wider,
+        numbers: (1, 64, 65_536),
+        cause: BeginError::Narrower,
+    },
+    Refusal {
+        of: 4,
+        way: Way::Wider,
+        numbers: (4, 0, 0),
+        cause: BeginError::BadWorkers,
+    },
+    Refusal {
+        of: 4,
+        way: Way::Wider,
+        numbers: (16, 65, 0),
+        cause: BeginError::BadWorkers,
+    },
+    Refusal {
+        of: 4,
+        way: Way::Wider,
+        numbers: (5, 1, 0),
+        cause: BeginError::BadUpdates,
+    },
+    Refusal {
+        of: 4,
+        way: Way::Wider,
+        numbers: (16, 64, 65_537),
+        cause: BeginError::BadUpdates,
+    },
+    Refusal {
+        of: 4,
+        way: Way::Wider,
+        numbers: (16, 64, 65_536),
+        cause: BeginError::TooLarge,
+    },
+    Refusal {
+        of: 4,
+        way: Way::Wider,
+        numbers: (16, 64, 13_108),
+        cause: BeginError::TooLarge,
+    },
+];
+
+// What is wrong first is what a round is refused for, and every answer stays.
 #[test]
-fn numbers_that_are_refused_leave_every_answer(rt: HostRuntime) -> Result<(), BeginError> {
-    let mut ended = five_and_nine(&rt, rt.alloc())?;
-    for (numbers, cause) in [
-        ((0, 0), BeginError::BadWorkers),
-        ((1, 0), BeginError::BadUpdates),
-        ((64, 65_536), BeginError::TooLarge),
-    ] {
-        ended = given_back(&rt, rt.alloc(), ended, numbers, cause);
-        assert_answers(&rt, rt.alloc(), &mut ended);
+fn begin_refuses_in_its_order(rt: HostRuntime) -> Result<(), BeginError> {
+    for row in REFUSALS {
+        refused(&rt, rt.alloc(), row)?;
     }
-    begun(&rt, rt.alloc(), ended)?;
     Ok(())
 }

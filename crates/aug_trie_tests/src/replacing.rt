@@ -1,110 +1,147 @@
-//! Puts by single turns: how many there are, schedules in which they meet other changes of their key, and puts that are given up.
+//! Puts by single turns: how many there are, schedules in which they meet other changes of their key, and what others see meanwhile.
 ghost use Rattle.std.specs.Prelude.{◌≡◌, IfSome};
 
-use super::ending::next_round;
+use super::asking::seen_weight;
+use super::latest::ZERO;
 use super::playing::Act::{
-    Back, Counts, Finish, GiveUp, Last, Now, Open, Size, Start, ToTheEnd, Turns, TurnsLeft, Weight,
+    Back, Counts, Finish, Last, Now, Open, Size, Start, ToTheEnd, Turns, TurnsLeft, Weight,
 };
 use super::playing::Change::{Insert, Put, Remove};
 use super::playing::Reply::{Came, Counted, Done, Ended, Finds, Is, Number};
 use super::playing::Who::{A, B};
-use super::playing::{
-    assert_plays, assert_plays_over, assert_rests_with, played, played_from_empty, zero_alone,
-};
-use super::putting::seen_weight;
-use super::rounds::next_pass;
-use super::turning::{Climber, Walker};
-use crate::assertions::equal;
+use super::resting::{Ask, rests};
+use super::rounds::{Climber, Hands, Table, Walker, Way, begun, next_pass};
+use super::rows::{Play, Row, rows};
+use super::turning::zero_or_nothing;
+use crate::assertions::{equal, holds};
 use aug_model::Outcome;
 use aug_model::Outcome::{Accepted, Refused, Replaced};
-use aug_query::weight;
 use aug_trie::{BeginError, Turn};
-use std::alloc::Global;
 use std::process::Abort;
 
-#[test]
-fn turns_of_a_put_alone_in_a_round_are_as_many_whether_it_replaces(
-    rt: HostRuntime,
-) -> Result<(), BeginError> {
-    for (bits, most, turned) in [(1, 20, 11), (4, 110, 56)] {
-        let script = [
-            (A, Open, Done),
-            (A, Start(Put(0, 7)), Done),
-            (A, TurnsLeft, Number(most)),
-            (A, ToTheEnd, Ended(Accepted, turned)),
-            (A, Counts, Counted(1, 0, 1)),
-            (A, Start(Put(0, 8)), Done),
-            (A, TurnsLeft, Number(most)),
-            (A, ToTheEnd, Ended(Replaced, turned)),
-            (A, Counts, Counted(2, 1, 0)),
-            (A, Weight(0), Finds(Some(8))),
-        ];
-        played_from_empty(&rt, rt.alloc(), bits, (1, 2), &script)?;
-    }
-    Ok(())
-}
+const PUTS: &[Row] = &[
+    Row {
+        shows: "turns of a put alone in a round of 1 bits are as many whether it replaces",
+        plays: &[Play {
+            way: Way::Begin,
+            numbers: (1, 1, 2),
+            steps: &[
+                (A, Open, Done),
+                (A, Start(Put(0, 7)), Done),
+                (A, TurnsLeft, Number(20)),
+                (A, ToTheEnd, Ended(Accepted, 11)),
+                (A, Counts, Counted(1, 0, 1)),
+                (A, Start(Put(0, 8)), Done),
+                (A, TurnsLeft, Number(20)),
+                (A, ToTheEnd, Ended(Replaced, 11)),
+                (A, Counts, Counted(2, 1, 0)),
+                (A, Weight(0), Finds(Some(8))),
+            ],
+            rest: &[],
+        }],
+    },
+    Row {
+        shows: "turns of a put alone in a round of 4 bits are as many whether it replaces",
+        plays: &[Play {
+            way: Way::Begin,
+            numbers: (4, 1, 2),
+            steps: &[
+                (A, Open, Done),
+                (A, Start(Put(0, 7)), Done),
+                (A, TurnsLeft, Number(110)),
+                (A, ToTheEnd, Ended(Accepted, 56)),
+                (A, Counts, Counted(1, 0, 1)),
+                (A, Start(Put(0, 8)), Done),
+                (A, TurnsLeft, Number(110)),
+                (A, ToTheEnd, Ended(Replaced, 56)),
+                (A, Counts, Counted(2, 1, 0)),
+                (A, Weight(0), Finds(Some(8))),
+            ],
+            rest: &[],
+        }],
+    },
+    // The replacement comes between the turn that loads the leaf and the turn that exchanges its word.
+    Row {
+        shows: "a removal that meets a replacement is refused",
+        plays: &[
+            ZERO,
+            Play {
+                way: Way::Begin,
+                numbers: (1, 2, 1),
+                steps: &[
+                    (A, Open, Done),
+                    (B, Open, Done),
+                    (A, Start(Remove(0)), Done),
+                    (A, Turns(1), Done),
+                    (B, Now(Put(0, 8)), Came(Replaced)),
+                    (A, Turns(9), Done),
+                    (A, Last, Came(Refused)),
+                    (A, Weight(0), Finds(Some(8))),
+                    (A, Back, Done),
+                    (B, Back, Done),
+                ],
+                rest: &[
+                    (Ask::Weight(0), Finds(Some(8))),
+                    (Ask::Size, Number(1)),
+                    (Ask::Counts, Counted(1, 1, 0)),
+                ],
+            },
+        ],
+    },
+    // The other pass puts the weight in that the key has already, so that the leaf's word differs in its serial alone.
+    Row {
+        shows: "a put that meets one of the same weight is refused",
+        plays: &[
+            ZERO,
+            Play {
+                way: Way::Begin,
+                numbers: (1, 2, 1),
+                steps: &[
+                    (A, Open, Done),
+                    (B, Open, Done),
+                    (A, Start(Put(0, 9)), Done),
+                    (A, Turns(1), Done),
+                    (B, Now(Put(0, 0)), Came(Replaced)),
+                    (A, Turns(9), Done),
+                    (A, Last, Came(Refused)),
+                    (A, Counts, Counted(0, 0, 0)),
+                    (A, Weight(0), Finds(Some(0))),
+                    (A, Back, Done),
+                    (B, Back, Done),
+                ],
+                rest: &[(Ask::Size, Number(1)), (Ask::Counts, Counted(1, 1, 0))],
+            },
+        ],
+    },
+    // A put of an absent key meets an insertion of it, and one of a member meets its removal.
+    Row {
+        shows: "a put that lost its leaf is refused",
+        plays: &[Play {
+            way: Way::Begin,
+            numbers: (1, 2, 2),
+            steps: &[
+                (A, Open, Done),
+                (B, Open, Done),
+                (A, Start(Put(0, 9)), Done),
+                (A, Turns(1), Done),
+                (B, Now(Insert(0)), Is(true)),
+                (A, Finish, Came(Refused)),
+                (A, Start(Put(0, 9)), Done),
+                (A, Turns(1), Done),
+                (B, Now(Remove(0)), Is(true)),
+                (A, Finish, Came(Refused)),
+                (A, Size, Number(0)),
+                (A, Back, Done),
+                (B, Back, Done),
+            ],
+            rest: &[(Ask::Size, Number(0)), (Ask::Counts, Counted(1, 1, 0))],
+        }],
+    },
+];
 
-// The replacement comes between the turn that loads the leaf and the turn that exchanges its word.
 #[test]
-fn a_removal_that_meets_a_replacement_is_refused(rt: HostRuntime) -> Result<(), BeginError> {
-    let ended = zero_alone(&rt, rt.alloc(), 1)?;
-    let script = [
-        (A, Open, Done),
-        (B, Open, Done),
-        (A, Start(Remove(0)), Done),
-        (A, Turns(1), Done),
-        (B, Now(Put(0, 8)), Came(Replaced)),
-        (A, Turns(9), Done),
-        (A, Last, Came(Refused)),
-        (A, Weight(0), Finds(Some(8))),
-        (A, Back, Done),
-        (B, Back, Done),
-    ];
-    let mut ended = played(&rt, rt.alloc(), ended, (2, 1), &script)?;
-    equal(&rt, weight(&mut ended, 0), Some(8));
-    assert_rests_with(&rt, &mut ended, 1, (1, 1, 0));
-    Ok(())
-}
-
-// The other pass puts the weight in that the key has already, so that the leaf's word differs in its serial alone.
-#[test]
-fn a_put_that_meets_one_of_the_same_weight_is_refused(rt: HostRuntime) -> Result<(), BeginError> {
-    let ended = zero_alone(&rt, rt.alloc(), 1)?;
-    let script = [
-        (A, Open, Done),
-        (B, Open, Done),
-        (A, Start(Put(0, 9)), Done),
-        (A, Turns(1), Done),
-        (B, Now(Put(0, 0)), Came(Replaced)),
-        (A, Turns(9), Done),
-        (A, Last, Came(Refused)),
-        (A, Counts, Counted(0, 0, 0)),
-        (A, Weight(0), Finds(Some(0))),
-        (A, Back, Done),
-        (B, Back, Done),
-    ];
-    assert_plays_over(&rt, rt.alloc(), ended, (2, 1), &script, 1, (1, 1, 0))
-}
-
-// A put of an absent key meets an insertion of it, and one of a member meets its removal.
-#[test]
-fn a_put_that_lost_its_leaf_is_refused(rt: HostRuntime) -> Result<(), BeginError> {
-    let script = [
-        (A, Open, Done),
-        (B, Open, Done),
-        (A, Start(Put(0, 9)), Done),
-        (A, Turns(1), Done),
-        (B, Now(Insert(0)), Is(true)),
-        (A, Finish, Came(Refused)),
-        (A, Start(Put(0, 9)), Done),
-        (A, Turns(1), Done),
-        (B, Now(Remove(0)), Is(true)),
-        (A, Finish, Came(Refused)),
-        (A, Size, Number(0)),
-        (A, Back, Done),
-        (B, Back, Done),
-    ];
-    assert_plays(&rt, rt.alloc(), 1, (2, 2), &script, 0, (1, 1, 0))
+fn puts_by_turns_come_to_what_they_meet(rt: HostRuntime) -> Result<(), BeginError> {
+    rows(&rt, rt.alloc(), PUTS)
 }
 
 // The turn after which the key was first seen to weigh 8, if `made` turns were made and it is now seen to weigh `weight`: 0 if it was
@@ -138,53 +175,31 @@ fn watched<'r>(climb: Climber<'r>, other: &mut Walker<'r>) -> Option<(Walker<'r>
     None
 }
 
+// A round over the set of 0, which weighs 0, in which its weight is replaced by 8 and first shown by this turn.
+fn replaced(rt: &impl Abort, round: &Table, crew: &mut Hands, shown: u32)
+    requires together { crew.old.round ≡ round.now }
+    ensures { crew.new.round ≡ round.now }
+{
+    let a = next_pass(crew, round).expect(rt, "lane 0");
+    let mut b = next_pass(crew, round).expect(rt, "lane 1");
+    holds(rt, a.budget() > 0);
+    let seen = watched(a.start_put(0, 8), &mut b);
+    let (a, outcome, shown_from) = seen.expect(rt, "an end, with the key there at each look");
+    equal(rt, (outcome, shown_from), (Outcome::Replaced, shown));
+    crew.back(b);
+    crew.back(a);
+}
+
 // The last turn exchanges the root's word, and with it the weight that is shown.
 #[test]
 fn no_turn_of_a_replacement_shows_the_key_gone(rt: HostRuntime) -> Result<(), BeginError> {
     for (bits, shown) in [(1, 11), (2, 26), (4, 56)] {
-        let ended = zero_alone(&rt, rt.alloc(), bits)?;
-        let (round, mut crew) = next_round(rt.alloc(), ended, 2, 1)?;
-        let a = next_pass(&mut crew, &round).expect(&rt, "lane 0");
-        let mut b = next_pass(&mut crew, &round).expect(&rt, "lane 1");
-        let seen = watched(a.start_put(0, 8), &mut b);
-        let (a, outcome, shown_from) = seen.expect(&rt, "an end, with the key there at each look");
-        equal(&rt, (outcome, shown_from), (Outcome::Replaced, shown));
-        crew.back(b);
-        crew.back(a);
+        let ended = zero_or_nothing(&rt, rt.alloc(), bits, true)?;
+        let (round, mut crew) = begun(rt.alloc(), ended, Way::Begin, (bits, 2, 1))?;
+        replaced(&rt, &round, &mut crew, shown);
         let mut ended = round.end(crew);
-        assert_rests_with(&rt, &mut ended, 1, (1, 1, 0));
-    }
-    Ok(())
-}
-
-// What 0 weighs after its replacement by 8 was given up after a number of turns, and another pass put 1 in: in that pass, and in
-// the trie at rest.
-fn assert_leaves(rt: &impl Abort, alloc: Global, turned: u32, left: u32) -> Result<(), BeginError> {
-    let ended = zero_alone(rt, alloc, 2)?;
-    let script = [
-        (A, Open, Done),
-        (B, Open, Done),
-        (A, Start(Put(0, 8)), Done),
-        (A, Turns(turned), Done),
-        (A, GiveUp, Done),
-        (B, Now(Insert(1)), Is(true)),
-        (B, Weight(0), Finds(Some(left))),
-        (B, Back, Done),
-    ];
-    let mut ended = played(rt, alloc, ended, (2, 1), &script)?;
-    equal(rt, weight(&mut ended, 0), Some(left));
-    assert_rests_with(rt, &mut ended, 2, (1, 0, 1));
-    Ok(())
-}
-
-// The second turn exchanges the leaf's word, and the other pass brings the node over both keys to its children.
-#[test]
-fn a_replacement_given_up_leaves_one_weight_or_the_other(
-    rt: HostRuntime,
-) -> Result<(), BeginError> {
-    for turned in 0..26 {
-        let left = if turned < 2 { 0 } else { 8 };
-        assert_leaves(&rt, rt.alloc(), turned, left)?;
+        let asks = [(Ask::Size, Number(1)), (Ask::Counts, Counted(1, 1, 0))];
+        rests(&rt, rt.alloc(), &mut ended, "a replacement", &asks);
     }
     Ok(())
 }

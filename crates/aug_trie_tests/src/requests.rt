@@ -1,21 +1,20 @@
 //! How often rounds ask for memory. The number stands in a test's name: `tests/requests.py` counts. An empty trie asks four times, for its
 //! words while they are made, for the room in which they are made anew, and for the two rows of its table (one row is empty), and so does a round over no members. A round over some
 //! members asks once more, for their list. Nothing else asks except a list, once.
-ghost use Rattle.std.specs.Prelude.{◌≡◌, IfOk};
-
-use super::ending::next_round;
 use super::playing::Act::{
-    After, Back, Before, Finish, Halve, Now, Open, Range, Rank, Sees, Select, Size, Start, Weight,
+    After, Back, Before, Finish, Halve, Keys, Now, Open, Pairs, Range, Rank, Sees, Select, Size,
+    Start, Weight,
 };
 use super::playing::Change::{Insert, Put, Remove};
-use super::playing::Reply::{Came, Done, Finds, Folded, Is, Number};
+use super::playing::Reply::{Came, Done, Finds, Folded, Is, Listed, Number};
 use super::playing::Who::{A, B};
-use super::playing::{Step, played, played_from_empty};
-use super::rounds::{Trie, next_pass};
+use super::playing::{Reply, Step};
+use super::resting::{Ask, rests};
+use super::rounds::{Trie, Way};
+use super::rows::{played, played_from_empty};
 use crate::assertions::equal;
 use aug_model::Outcome::Accepted;
-use aug_query::descent::{Keys, Pairs};
-use aug_query::{keys, pairs, size};
+use aug_query::size;
 use aug_trie::{BeginError, Ended};
 use std::alloc::Global;
 use std::process::Abort;
@@ -29,52 +28,49 @@ fn an_empty_trie_asks_4_times_for_memory(rt: HostRuntime) -> Result<(), BeginErr
 
 #[test]
 fn a_round_with_no_members_asks_8_times_for_memory(rt: HostRuntime) -> Result<(), BeginError> {
-    let ended = played_from_empty(&rt, rt.alloc(), 4, (3, 5), &[])?;
+    let ended = played_from_empty(&rt, rt.alloc(), (4, 3, 5), "no members", &[])?;
     equal(&rt, ended.missing(), 0);
     Ok(())
 }
 
 // Each query that makes no list, and its answer on the set that `played_by_two` leaves.
-pub(super) fn answers() -> [Step; 9] {
-    [
-        (A, Open, Done),
-        (A, Sees(5), Is(true)),
-        (A, Weight(5), Finds(Some(70))),
-        (A, Size, Number(2)),
-        (A, Rank(9), Number(1)),
-        (A, Select(1), Finds(Some(9))),
-        (A, Before(9), Finds(Some(5))),
-        (A, After(5), Finds(Some(9))),
-        (A, Range(0, 16), Folded(2, 79)),
-    ]
-}
+pub(super) const ANSWERS: &[Step] = &[
+    (A, Open, Done),
+    (A, Sees(5), Is(true)),
+    (A, Weight(5), Finds(Some(70))),
+    (A, Size, Number(2)),
+    (A, Rank(9), Number(1)),
+    (A, Select(1), Finds(Some(9))),
+    (A, Before(9), Finds(Some(5))),
+    (A, After(5), Finds(Some(9))),
+    (A, Range(0, 16), Folded(2, 79, Some((5, 9)))),
+];
+
+pub(super) const BY_TWO: &[Step] = &[
+    (B, Open, Done),
+    (B, Start(Insert(9)), Done),
+    (B, Finish, Came(Accepted)),
+    (A, Open, Done),
+    (A, Now(Put(5, 70)), Came(Accepted)),
+    (A, Now(Insert(6)), Is(true)),
+    (A, Now(Remove(6)), Is(true)),
+    (A, Sees(5), Is(true)),
+    (A, Weight(5), Finds(Some(70))),
+    (A, Size, Number(2)),
+    (A, Rank(9), Number(1)),
+    (A, Select(1), Finds(Some(9))),
+    (A, Before(9), Finds(Some(5))),
+    (A, After(5), Finds(Some(9))),
+    (A, Range(0, 16), Folded(2, 79, Some((5, 9)))),
+    (A, Halve, Done),
+    (A, Back, Done),
+    (B, Now(Remove(6)), Is(false)),
+    (B, Back, Done),
+];
 
 // A round of 4 bits whose passes update, look and come back, the one by way of a half: the trie after it, of 5, which weighs 70, and 9.
-pub(super) fn played_by_two(rt: &impl Abort, alloc: Global) -> Result<Trie, BeginError>
-    ensures { IfOk result (λ ended. ended.bits ≡ 4) }
-{
-    let script = [
-        (B, Open, Done),
-        (B, Start(Insert(9)), Done),
-        (B, Finish, Came(Accepted)),
-        (A, Open, Done),
-        (A, Now(Put(5, 70)), Came(Accepted)),
-        (A, Now(Insert(6)), Is(true)),
-        (A, Now(Remove(6)), Is(true)),
-        (A, Sees(5), Is(true)),
-        (A, Weight(5), Finds(Some(70))),
-        (A, Size, Number(2)),
-        (A, Rank(9), Number(1)),
-        (A, Select(1), Finds(Some(9))),
-        (A, Before(9), Finds(Some(5))),
-        (A, After(5), Finds(Some(9))),
-        (A, Range(0, 16), Folded(2, 79)),
-        (A, Halve, Done),
-        (A, Back, Done),
-        (B, Now(Remove(6)), Is(false)),
-        (B, Back, Done),
-    ];
-    played_from_empty(rt, alloc, 4, (2, 5), &script)
+pub(super) fn played_by_two(rt: &impl Abort, alloc: Global) -> Result<Trie, BeginError> {
+    played_from_empty(rt, alloc, (4, 2, 5), "two passes", BY_TWO)
 }
 
 #[test]
@@ -89,29 +85,47 @@ fn a_round_of_updates_and_queries_asks_8_times_for_memory(
 #[test]
 fn a_second_round_over_members_asks_13_times_for_memory(rt: HostRuntime) -> Result<(), BeginError> {
     let ended = played_by_two(&rt, rt.alloc())?;
-    played(&rt, rt.alloc(), ended, (64, 1), &answers())?;
+    played(
+        &rt,
+        rt.alloc(),
+        ended,
+        Way::Begin,
+        (4, 64, 1),
+        "members",
+        ANSWERS,
+    )?;
     Ok(())
 }
+
+const LISTS_AT_REST: &[(Ask, Reply)] = &[
+    (Ask::Keys, Reply::Keys(Some(5), Some(9))),
+    (Ask::Pairs, Listed(Some((5, 70)), Some((9, 9)), None)),
+];
 
 #[test]
 fn two_lists_of_a_trie_at_rest_ask_10_times_for_memory(rt: HostRuntime) -> Result<(), BeginError> {
     let mut ended = played_by_two(&rt, rt.alloc())?;
-    let list = keys(rt.alloc(), &mut ended).expect(&rt, "memory");
-    let weighted = pairs(rt.alloc(), &mut ended).expect(&rt, "memory");
-    equal(&rt, list.as_slice(), [5, 9].as_slice());
-    equal(&rt, weighted.as_slice(), [(5, 70), (9, 9)].as_slice());
+    rests(&rt, rt.alloc(), &mut ended, "two lists", LISTS_AT_REST);
     Ok(())
 }
+
+const LISTS: &[Step] = &[
+    (A, Open, Done),
+    (A, Keys, Reply::Keys(Some(5), Some(9))),
+    (A, Pairs, Listed(Some((5, 70)), Some((9, 9)), None)),
+];
 
 #[test]
 fn two_lists_of_a_snapshot_ask_15_times_for_memory(rt: HostRuntime) -> Result<(), BeginError> {
     let ended = played_by_two(&rt, rt.alloc())?;
-    let (round, mut crew) = next_round(rt.alloc(), ended, 1, 1)?;
-    let mut pass = next_pass(&mut crew, &round).expect(&rt, "lane 0");
-    let snapshot = pass.snapshot();
-    let list = pass.ask(snapshot, Keys(rt.alloc())).expect(&rt, "memory");
-    let weighted = pass.ask(snapshot, Pairs(rt.alloc())).expect(&rt, "memory");
-    equal(&rt, list.as_slice(), [5, 9].as_slice());
-    equal(&rt, weighted.as_slice(), [(5, 70), (9, 9)].as_slice());
+    played(
+        &rt,
+        rt.alloc(),
+        ended,
+        Way::Begin,
+        (4, 1, 1),
+        "two lists",
+        LISTS,
+    )?;
     Ok(())
 }

@@ -1,9 +1,8 @@
-//! Rounds over the empty set, and updates of a pass that has some left.
-ghost use Rattle.std.specs.Prelude.{◌≡◌, ◌^◌, ◌<◌, IfOk};
+//! How rounds begin, and their passes.
+ghost use Rattle.std.specs.Prelude.{◌≡◌, IfOk};
 
-use aug_model::Outcome;
 use aug_monoid::{Extent, Sum};
-use aug_trie::{BeginError, Crew, CrewError, Ended, Pass, PassHalf, Round};
+use aug_trie::{BeginError, Climb, Crew, CrewError, Ended, Members, Pass, PassHalf, Round};
 use std::alloc::Global;
 
 pub(super) type Trie = Ended<Sum, Extent>;
@@ -14,67 +13,98 @@ pub(super) type Hands = Crew<Sum, Extent>;
 
 pub(super) type Half = PassHalf<Sum, Extent>;
 
-// A round over the empty set, and its crew.
-pub(super) fn opened(
+pub(super) type Walker<'r> = Pass<'r, Sum, Extent>;
+
+pub(super) type Climber<'r> = Climb<'r, Sum, Extent>;
+
+// The bits of a round's keys, and its numbers of workers and of updates.
+pub(super) type Numbers = (u32, u32, u32);
+
+// The call by which a round begins. That of the list begins over the set of a trie that is given back.
+#[derive(Clone, Copy)]
+pub(super) enum Way {
+    Begin,
+    Wider,
+    OverList,
+}
+
+// A round over a trie, by `begin` if that is the way and the trie has as many bits, or else by `begin_wider`.
+pub(super) fn tried(
     alloc: Global,
-    bits: u32,
-    workers: u32,
-    updates: u32,
-) -> Result<(Table, Hands), BeginError>
-    ensures bits { IfOk result (λ t. t.0.bits ≡ bits) }
-    ensures updates { IfOk result (λ t. t.0.updates ≡ updates) }
+    ended: Trie,
+    way: Way,
+    numbers: Numbers,
+) -> Result<(Table, Hands), (Trie, BeginError)>
+    ensures bits { IfOk result (λ t. t.0.bits ≡ numbers.0) }
     ensures together { IfOk result (λ t. t.1.round ≡ t.0) }
 {
-    let ended: Trie = Ended::empty(alloc, bits)?;
-    match Round::begin(alloc, ended, workers, updates) {
+    let (bits, workers, updates) = numbers;
+    if matches!(way, Way::Begin) && ended.bits() == bits {
+        return Round::begin(alloc, ended, workers, updates);
+    }
+    Round::begin_wider(alloc, ended, bits, workers, updates)
+}
+
+// A round over the list of a set.
+pub(super) fn tried_over(
+    alloc: Global,
+    members: Members,
+    numbers: Numbers,
+) -> Result<(Table, Hands), (Members, BeginError)>
+    ensures bits { IfOk result (λ t. t.0.bits ≡ numbers.0) }
+    ensures together { IfOk result (λ t. t.1.round ≡ t.0) }
+{
+    let (bits, workers, updates) = numbers;
+    Round::begin_over(alloc, members, bits, workers, updates)
+}
+
+// A round over the list of a trie's set.
+fn begun_over(alloc: Global, ended: Trie, numbers: Numbers) -> Result<(Table, Hands), BeginError>
+    ensures bits { IfOk result (λ t. t.0.bits ≡ numbers.0) }
+    ensures together { IfOk result (λ t. t.1.round ≡ t.0) }
+{
+    let Ok(members) = ended.into_members(alloc) else {
+        return Err(BeginError::OutOfMemory);
+    };
+    match tried_over(alloc, members, numbers) {
         Ok(begun) => Ok(begun),
         Err((_, cause)) => Err(cause),
     }
 }
 
+// A round over a trie, and its crew.
+pub(super) fn begun(
+    alloc: Global,
+    ended: Trie,
+    way: Way,
+    numbers: Numbers,
+) -> Result<(Table, Hands), BeginError>
+    ensures bits { IfOk result (λ t. t.0.bits ≡ numbers.0) }
+    ensures together { IfOk result (λ t. t.1.round ≡ t.0) }
+{
+    if matches!(way, Way::OverList) {
+        return begun_over(alloc, ended, numbers);
+    }
+    match tried(alloc, ended, way, numbers) {
+        Ok(begun) => Ok(begun),
+        Err((_, cause)) => Err(cause),
+    }
+}
+
+// A round over the empty set, and its crew.
+pub(super) fn opened(alloc: Global, numbers: Numbers) -> Result<(Table, Hands), BeginError>
+    ensures bits { IfOk result (λ t. t.0.bits ≡ numbers.0) }
+    ensures together { IfOk result (λ t. t.1.round ≡ t.0) }
+{
+    let ended: Trie = Ended::empty(alloc, numbers.0)?;
+    begun(alloc, ended, Way::Begin, numbers)
+}
+
 // The pass of the next lane.
-pub(super) fn next_pass<'r>(
-    crew: &mut Hands,
-    round: &'r Table,
-) -> Result<Pass<'r, Sum, Extent>, CrewError>
+pub(super) fn next_pass<'r>(crew: &mut Hands, round: &'r Table) -> Result<Walker<'r>, CrewError>
     requires together { crew.old.round ≡ round.now }
     ensures together { crew.new.round ≡ round.now }
     ensures round { IfOk result (λ pass. pass.round ≡ round.now) }
-    ensures bits { IfOk result (λ pass. pass.round.bits ≡ round.now.bits) }
-    ensures fresh { IfOk result (λ pass. pass.spent ≡ 0) }
 {
     crew.pass(round)
-}
-
-// Puts a key in, if an update is left.
-pub(super) fn insert(pass: &mut Pass<Sum, Extent>, bits: u32, key: u32) -> bool
-    requires bits { pass.old.round.bits ≡ bits }
-    requires key { key < 2 ^ bits }
-    ensures bits { pass.new.round.bits ≡ bits }
-    ensures round { pass.new.round ≡ pass.old.round }
-{
-    pass.budget() > 0 && pass.insert(key)
-}
-
-// Takes a key out, if an update is left.
-pub(super) fn remove(pass: &mut Pass<Sum, Extent>, bits: u32, key: u32) -> bool
-    requires bits { pass.old.round.bits ≡ bits }
-    requires key { key < 2 ^ bits }
-    ensures bits { pass.new.round.bits ≡ bits }
-    ensures round { pass.new.round ≡ pass.old.round }
-{
-    pass.budget() > 0 && pass.remove(key)
-}
-
-// Puts a key in with a weight, if an update is left.
-pub(super) fn put(pass: &mut Pass<Sum, Extent>, bits: u32, key: u32, weight: u32) -> Outcome
-    requires bits { pass.old.round.bits ≡ bits }
-    requires key { key < 2 ^ bits }
-    ensures bits { pass.new.round.bits ≡ bits }
-    ensures round { pass.new.round ≡ pass.old.round }
-{
-    if pass.budget() == 0 {
-        return Outcome::Refused;
-    }
-    pass.put(key, weight)
 }

@@ -2,9 +2,8 @@
 ghost use Rattle.std.specs.Prelude.{◌≡◌, ◌^◌, ◌<◌, ◌≤◌};
 ghost use Rattle.aug_trie.specs.Snapshot.{HasSnapshot};
 
-use super::ending::next_round;
-use super::rounds::{Trie, next_pass};
-use crate::assertions::{equal, equal_length, holds};
+use super::rounds::{Trie, Way, begun, next_pass};
+use crate::assertions::{equal, holds};
 use aug_model::KeySet;
 use aug_monoid::{Extent, Sum};
 use aug_query::descent::{After, Before, Has, Keys, Pairs, Range, Rank, Select, Size, Weight};
@@ -113,8 +112,8 @@ pub(super) fn assert_agrees(
 
 // The lists of keys and of pairs that the set has.
 pub(super) fn assert_lists(rt: &impl Abort, keys: &[u32], pairs: &[(u32, u32)], set: &KeySet) {
-    equal_length(rt, keys.len(), set.size() as usize);
-    equal_length(rt, pairs.len(), set.size() as usize);
+    equal(rt, keys.len(), pairs.len());
+    holds(rt, pairs.len() == set.size() as usize);
     for (place, pair) in pairs.iter().enumerate() {
         equal(rt, keys.get(place), Some(&pair.0));
         equal(rt, set.select(place as u32), Some(pair.0));
@@ -187,7 +186,8 @@ fn played(
 ) -> Result<Trie, BeginError> {
     holds(rt, plain.set.bits() == ended.bits());
     holds(rt, plain.before.bits() == ended.bits());
-    let (round, mut crew) = next_round(alloc, ended, 1, steps)?;
+    let bits = ended.bits();
+    let (round, mut crew) = begun(alloc, ended, Way::Begin, (bits, 1, steps))?;
     let mut pass = next_pass(&mut crew, &round).expect(rt, "a lane");
     for _ in 0..steps {
         step(rt, alloc, &mut pass, plain, numbers);
@@ -198,6 +198,21 @@ fn played(
     Ok(ended)
 }
 
+// Three rounds, of which the first is over the empty set.
+fn played_in_rounds(
+    rt: &impl Abort,
+    alloc: Global,
+    bits: u32,
+    plain: &mut Plain,
+    numbers: &mut Numbers,
+) -> Result<(), BeginError> {
+    let mut ended: Trie = Ended::empty(alloc, bits)?;
+    for steps in [2_000, 1, 1_000] {
+        ended = played(rt, alloc, ended, plain, numbers, steps)?;
+    }
+    Ok(())
+}
+
 #[test]
 fn random_scripts_answer_as_the_plain_set(rt: HostRuntime) -> Result<(), BeginError> {
     for (bits, word) in [(4, 1), (6, 2)] {
@@ -206,10 +221,7 @@ fn random_scripts_answer_as_the_plain_set(rt: HostRuntime) -> Result<(), BeginEr
             before: KeySet::try_new(rt.alloc(), bits).expect(&rt, "a set"),
         };
         let mut numbers = Numbers { word };
-        let first: Trie = Ended::empty(rt.alloc(), bits)?;
-        let second = played(&rt, rt.alloc(), first, &mut plain, &mut numbers, 2_000)?;
-        let third = played(&rt, rt.alloc(), second, &mut plain, &mut numbers, 1)?;
-        played(&rt, rt.alloc(), third, &mut plain, &mut numbers, 1_000)?;
+        played_in_rounds(&rt, rt.alloc(), bits, &mut plain, &mut numbers)?;
     }
     Ok(())
 }

@@ -1,215 +1,338 @@
 //! Rounds of all small numbers of bits, workers, updates and members, and of some great ones. Memory is at hand, so that each begins, and
 //! shows the set.
-ghost use Rattle.std.specs.Prelude.{◌≡◌, ◌^◌, ◌<◌, ◌≤◌};
+ghost use Rattle.std.specs.Prelude.{◌≡◌, ◌^◌};
 
-use super::ending::next_round;
-use super::playing::Act::{Back, Counts, Lane, Now, Open, Pairs};
+use super::playing::Act::{Back, Counts, Lane, Lists, Now, Open, Pairs, Range, Size};
 use super::playing::Change::Put;
-use super::playing::Reply::{Came, Counted, Done, Listed, Number};
+use super::playing::Reply::{Came, Counted, Done, Folded, Lengths, Listed, Number};
 use super::playing::Who::A;
-use super::playing::{played, played_from_empty};
-use super::rounds::{Trie, next_pass, opened, put};
-use super::scripts::assert_lists;
-use crate::assertions::{equal, equal_at, equal_length, holds};
-use aug_model::KeySet;
-use aug_model::Outcome::Accepted;
-use aug_monoid::{Extent, Sum};
-use aug_query::{descent, has, pairs};
-use aug_trie::{BeginError, Ended, Pass};
+use super::playing::changed;
+use super::resting::Ask;
+use super::rounds::{Hands, Table, Trie, Way, next_pass, opened};
+use super::rows::{Play, played, played_from_empty, plays};
+use aug_model::Outcome::{Accepted, Replaced};
+use aug_trie::{BeginError, Ended};
 use std::alloc::Global;
 use std::process::Abort;
 
-#[test]
-fn an_empty_trie_is_made_at_each_number_of_bits(rt: HostRuntime) -> Result<(), BeginError> {
-    for bits in 1..=16 {
-        let mut ended: Trie = Ended::empty(rt.alloc(), bits)?;
-        equal(&rt, (ended.bits(), ended.size()), (bits, 0));
-        let list = pairs(rt.alloc(), &mut ended).expect(&rt, "memory");
-        equal_at(
-            &rt,
-            (list.len(), has(&mut ended, 0)),
-            (0, false),
-            format_args!("{bits} bits"),
-        );
-    }
-    Ok(())
+// Rounds that begin one after the other, for each of these numbers of bits over a trie of the members 0, which weighs 70, and 1, which
+// weighs 2^32 - 1. Of workers and of updates each round has some more than the one before, and workers begin anew with 1 behind 64.
+struct Sweep {
+    shows: &'static str,
+    bits: &'static [u32],
+    rounds: u32,
+    workers: (u32, u32),
+    updates: (u32, u32),
 }
 
-// A trie of `bits` bits with the members 0, which weighs 70, and 1, which weighs 2^32 - 1.
-fn zero_and_one(rt: &impl Abort, alloc: Global, bits: u32) -> Result<Trie, BeginError> {
+// Rounds of one number of bits.
+fn swept(rt: &impl Abort, alloc: Global, sweep: &Sweep, bits: u32) -> Result<(), BeginError> {
     let script = [
         (A, Open, Done),
         (A, Now(Put(1, u32::MAX)), Came(Accepted)),
         (A, Now(Put(0, 70)), Came(Accepted)),
         (A, Back, Done),
     ];
-    played_from_empty(rt, alloc, bits, (1, 2), &script)
+    let mut ended = played_from_empty(rt, alloc, (bits, 1, 2), sweep.shows, &script)?;
+    let (mut workers, mut updates) = (sweep.workers.0, sweep.updates.0);
+    for _ in 0..sweep.rounds {
+        let script = [
+            (A, Open, Done),
+            (A, Lane, Number(0)),
+            (A, Counts, Counted(0, 0, updates)),
+            (A, Pairs, Listed(Some((0, 70)), Some((1, u32::MAX)), None)),
+            (A, Back, Done),
+        ];
+        let numbers = (bits, workers, updates);
+        ended = played(rt, alloc, ended, Way::Begin, numbers, sweep.shows, &script)?;
+        workers = 1 + workers.wrapping_add(sweep.workers.1).wrapping_sub(1) % 64;
+        updates = updates.wrapping_add(sweep.updates.1);
+    }
+    Ok(())
 }
 
-// Begins a round of `workers` workers and `updates` updates over such a trie, and looks: the trie after it.
-fn begun(
-    rt: &impl Abort,
-    alloc: Global,
-    ended: Trie,
-    workers: u32,
-    updates: u32,
-) -> Result<Trie, BeginError> {
+const EACH: &[u32] = &[1, 2, 3, 4, 5, 6, 7, 8, 9, 10, 11, 12, 13, 14, 15, 16];
+
+const SWEEPS: &[Sweep] = &[
+    Sweep {
+        shows: "each number of updates",
+        bits: &[1, 2, 4, 8],
+        rounds: 200,
+        workers: (1, 0),
+        updates: (1, 1),
+    },
+    Sweep {
+        shows: "each number of workers",
+        bits: &[1, 2, 4, 8],
+        rounds: 64,
+        workers: (1, 1),
+        updates: (1, 0),
+    },
+    // Each number of workers comes three or four times, each time with another number of updates.
+    Sweep {
+        shows: "many workers of many updates",
+        bits: &[3],
+        rounds: 200,
+        workers: (8, 7),
+        updates: (1, 1),
+    },
+    Sweep {
+        shows: "each number of bits",
+        bits: EACH,
+        rounds: 8,
+        workers: (1, 1),
+        updates: (3, 3),
+    },
+
+    // Rounds of many updates.
+    Sweep {
+        shows: "1 bit, 64 workers, 4,096 updates",
+        bits: &[1],
+        rounds: 1,
+        workers: (64, 0),
+        updates: (4_096, 0),
+    },
+    Sweep {
+        shows: "4 bits, 3 workers, 1,000 updates",
+        bits: &[4],
+        rounds: 1,
+        workers: (3, 0),
+        updates: (1_000, 0),
+    },
+    Sweep {
+        shows: "4 bits, 64 workers, 9,999 updates",
+        bits: &[4],
+        rounds: 1,
+        workers: (64, 0),
+        updates: (9_999, 0),
+    },
+    Sweep {
+        shows: "8 bits, 1 worker, 65,535 updates",
+        bits: &[8],
+        rounds: 1,
+        workers: (1, 0),
+        updates: (65_535, 0),
+    },
+    Sweep {
+        shows: "8 bits, 5 workers, 10,000 updates",
+        bits: &[8],
+        rounds: 1,
+        workers: (5, 0),
+        updates: (10_000, 0),
+    },
+    Sweep {
+        shows: "9 bits, 1 worker, 65,536 updates",
+        bits: &[9],
+        rounds: 1,
+        workers: (1, 0),
+        updates: (65_536, 0),
+    },
+    Sweep {
+        shows: "16 bits, 64 workers, 255 updates",
+        bits: &[16],
+        rounds: 1,
+        workers: (64, 0),
+        updates: (255, 0),
+    },
+    Sweep {
+        shows: "16 bits, 64 workers, 256 updates",
+        bits: &[16],
+        rounds: 1,
+        workers: (64, 0),
+        updates: (256, 0),
+    },
+    Sweep {
+        shows: "16 bits, 7 workers, 257 updates",
+        bits: &[16],
+        rounds: 1,
+        workers: (7, 0),
+        updates: (257, 0),
+    },
+];
+
+#[test]
+fn a_round_begins_with_each_number_of_workers_and_updates(
+    rt: HostRuntime,
+) -> Result<(), BeginError> {
+    for sweep in SWEEPS {
+        for bits in sweep.bits {
+            swept(&rt, rt.alloc(), sweep, *bits)?;
+        }
+    }
+    Ok(())
+}
+
+// A round over a trie of so many members, in which a pass puts one more key in: the trie after it. Each multiple of 77 is another key of
+// 9 bits, up to the 512th.
+fn grown(rt: &impl Abort, alloc: Global, ended: Trie, members: u32) -> Result<Trie, BeginError> {
+    let number = members.wrapping_mul(77);
     let script = [
         (A, Open, Done),
-        (A, Lane, Number(0)),
-        (A, Counts, Counted(0, 0, updates)),
-        (A, Pairs, Listed(Some((0, 70)), Some((1, u32::MAX)))),
+        (A, Size, Number(members)),
+        (A, Lists, Lengths(members, members, 0)),
+        (A, Now(Put(number % 512, number)), Came(Accepted)),
+        (A, Size, Number(members.wrapping_add(1))),
         (A, Back, Done),
     ];
-    played(rt, alloc, ended, (workers, updates), &script)
+    played(
+        rt,
+        alloc,
+        ended,
+        Way::Begin,
+        (9, 1, 1),
+        "each number of members",
+        &script,
+    )
 }
 
-#[test]
-fn a_round_begins_with_each_number_of_updates(rt: HostRuntime) -> Result<(), BeginError> {
-    for bits in [1, 2, 4, 8] {
-        let mut ended = zero_and_one(&rt, rt.alloc(), bits)?;
-        for updates in 1..=200 {
-            ended = begun(&rt, rt.alloc(), ended, 1, updates)?;
-        }
-    }
-    Ok(())
-}
-
-#[test]
-fn a_round_begins_with_each_number_of_workers(rt: HostRuntime) -> Result<(), BeginError> {
-    for bits in [1, 2, 4, 8] {
-        let mut ended = zero_and_one(&rt, rt.alloc(), bits)?;
-        for workers in 1..=64 {
-            ended = begun(&rt, rt.alloc(), ended, workers, 1)?;
-        }
-    }
-    Ok(())
-}
-
-// Each number of workers comes three or four times, each time with another number of updates.
-#[test]
-fn a_round_begins_with_many_workers_of_many_updates(rt: HostRuntime) -> Result<(), BeginError> {
-    let mut ended = zero_and_one(&rt, rt.alloc(), 3)?;
-    for updates in 1..=200 {
-        let workers = 1 + 7 * updates % 64;
-        ended = begun(&rt, rt.alloc(), ended, workers, updates)?;
-    }
-    Ok(())
-}
-
-#[test]
-fn a_round_begins_at_each_number_of_bits(rt: HostRuntime) -> Result<(), BeginError> {
-    for bits in 1..=16 {
-        let mut ended = zero_and_one(&rt, rt.alloc(), bits)?;
-        for number in 1..=8 {
-            ended = begun(&rt, rt.alloc(), ended, number, 3 * number)?;
-        }
-    }
-    Ok(())
-}
-
-#[test]
-fn rounds_of_many_updates_begin(rt: HostRuntime) -> Result<(), BeginError> {
-    for (bits, workers, updates) in [
-        (1, 64, 4_096),
-        (4, 3, 1_000),
-        (4, 64, 9_999),
-        (8, 1, 65_535),
-        (8, 5, 10_000),
-        (9, 1, 65_536),
-        (16, 64, 255),
-        (16, 64, 256),
-        (16, 7, 257),
-    ] {
-        let ended = zero_and_one(&rt, rt.alloc(), bits)?;
-        begun(&rt, rt.alloc(), ended, workers, updates)?;
-    }
-    Ok(())
-}
-
-// A key of `bits` bits.
-fn key_of(bits: u32, number: u32) -> u32
-    requires { bits ≤ 16 }
-    ensures { result < 2 ^ bits }
-{
-    number % (1 << bits)
-}
-
-// A new snapshot of the pass lists the plain set.
-fn assert_shows(rt: &impl Abort, alloc: Global, pass: &mut Pass<Sum, Extent>, set: &KeySet)
-    ensures { pass.new.round ≡ pass.old.round }
-{
-    let snapshot = pass.snapshot();
-    equal(rt, pass.ask(snapshot, descent::Size), set.size());
-    let keys = pass
-        .ask(snapshot, descent::Keys(alloc))
-        .expect(rt, "memory");
-    let pairs = pass
-        .ask(snapshot, descent::Pairs(alloc))
-        .expect(rt, "memory");
-    assert_lists(rt, &keys, &pairs, set);
-}
-
-// A round over a trie, in which a pass puts a key in: the trie after it, which the plain set follows.
-fn grown(
-    rt: &impl Abort,
-    alloc: Global,
-    ended: Trie,
-    set: &mut KeySet,
-    number: u32,
-) -> Result<Trie, BeginError> {
-    holds(rt, set.bits() == ended.bits());
-    let bits = set.bits();
-    let (round, mut crew) = next_round(alloc, ended, 1, 1)?;
-    let mut pass = next_pass(&mut crew, &round).expect(rt, "lane 0");
-    assert_shows(rt, alloc, &mut pass, set);
-    let key = key_of(bits, number);
-    put(&mut pass, bits, key, number);
-    set.put(key, number);
-    crew.back(pass);
-    Ok(round.end(crew))
-}
-
-// Each multiple of 77 is another key of 9 bits, up to the 512th.
 #[test]
 fn a_round_begins_over_each_number_of_members(rt: HostRuntime) -> Result<(), BeginError> {
     let mut ended: Trie = Ended::empty(rt.alloc(), 9)?;
-    let mut set = KeySet::try_new(rt.alloc(), 9).expect(&rt, "a set");
     for members in 0..=300 {
-        equal(&rt, (ended.size(), set.size()), (members, members));
-        ended = grown(&rt, rt.alloc(), ended, &mut set, 77 * members)?;
+        ended = grown(&rt, rt.alloc(), ended, members)?;
     }
     Ok(())
 }
 
-// A trie of 16 bits with the `members` least keys. No key weighs itself.
-fn filled(alloc: Global, members: u32) -> Result<Trie, BeginError> {
-    let (round, mut crew) = opened(alloc, 16, 1, members)?;
-    if let Ok(mut pass) = next_pass(&mut crew, &round) {
-        for number in 0..members {
-            let key = key_of(16, number);
-            put(&mut pass, 16, key, u32::MAX - key);
+// Tries of 16 bits with the `members` least keys, the first of which weighs 2^32 - 1, and each other one `less` less than the one before.
+struct Filled {
+    shows: &'static str,
+    members: u32,
+    less: u32,
+    plays: &'static [Play],
+}
+
+// Puts the keys in, as long as updates are left.
+fn fill(round: &Table, crew: &mut Hands, members: u32, less: u32)
+    requires together { crew.old.round ≡ round.now }
+    requires universe { 65_536 ≡ 2 ^ round.now.bits }
+    ensures { crew.new.round ≡ round.now }
+{
+    if let Ok(mut pass) = next_pass(crew, round) {
+        let mut weight = u32::MAX;
+        for key in 0..members {
+            changed(&mut pass, 65_536, Put(key, weight));
+            weight = weight.wrapping_sub(less);
         }
         crew.back(pass);
     }
-    Ok(round.end(crew))
 }
+
+// Such a trie, and the rounds over it.
+fn fill_and_play(rt: &impl Abort, alloc: Global, it: &Filled) -> Result<(), BeginError> {
+    let (round, mut crew) = opened(alloc, (16, 1, it.members))?;
+    fill(&round, &mut crew, it.members, it.less);
+    plays(rt, alloc, round.end(crew), it.shows, it.plays)?;
+    Ok(())
+}
+
+const FILLED: &[Filled] = &[
+    Filled {
+        shows: "a round over 511 members begins",
+        members: 511,
+        less: 1,
+        plays: &[Play {
+            way: Way::Begin,
+            numbers: (16, 3, 5),
+            steps: &[(A, Open, Done), (A, Lists, Lengths(511, 511, 511))],
+            rest: &[(Ask::Size, Number(511))],
+        }],
+    },
+    Filled {
+        shows: "a round over 512 members begins",
+        members: 512,
+        less: 1,
+        plays: &[Play {
+            way: Way::Begin,
+            numbers: (16, 3, 5),
+            steps: &[(A, Open, Done), (A, Lists, Lengths(512, 512, 512))],
+            rest: &[(Ask::Size, Number(512))],
+        }],
+    },
+    Filled {
+        shows: "a round over 1,000 members begins",
+        members: 1_000,
+        less: 1,
+        plays: &[Play {
+            way: Way::Begin,
+            numbers: (16, 3, 5),
+            steps: &[(A, Open, Done), (A, Lists, Lengths(1_000, 1_000, 1_000))],
+            rest: &[(Ask::Size, Number(1_000))],
+        }],
+    },
+    Filled {
+        shows: "a round over 4,096 members begins",
+        members: 4_096,
+        less: 1,
+        plays: &[Play {
+            way: Way::Begin,
+            numbers: (16, 3, 5),
+            steps: &[(A, Open, Done), (A, Lists, Lengths(4_096, 4_096, 4_096))],
+            rest: &[(Ask::Size, Number(4_096))],
+        }],
+    },
+    Filled {
+        shows: "a round over 10,000 members begins",
+        members: 10_000,
+        less: 1,
+        plays: &[Play {
+            way: Way::Begin,
+            numbers: (16, 3, 5),
+            steps: &[(A, Open, Done), (A, Lists, Lengths(10_000, 10_000, 10_000))],
+            rest: &[(Ask::Size, Number(10_000))],
+        }],
+    },
+
+    // The sum is 2^48 - 2^16.
+    Filled {
+        shows: "all keys of 16 bits may have the greatest weight",
+        members: 65_536,
+        less: 0,
+        plays: &[
+            Play {
+                way: Way::Begin,
+                numbers: (16, 1, 1),
+                steps: &[
+                    (A, Open, Done),
+                    (
+                        A,
+                        Range(0, 65_536),
+                        Folded(65_536, 281_474_976_645_120, Some((0, 65_535))),
+                    ),
+                    (A, Back, Done),
+                ],
+                rest: &[(
+                    Ask::Range(0, 65_536),
+                    Folded(65_536, 281_474_976_645_120, Some((0, 65_535))),
+                )],
+            },
+            Play {
+                way: Way::Begin,
+                numbers: (16, 1, 1),
+                steps: &[
+                    (A, Open, Done),
+                    (
+                        A,
+                        Range(0, 65_536),
+                        Folded(65_536, 281_474_976_645_120, Some((0, 65_535))),
+                    ),
+                    (A, Now(Put(65_535, 0)), Came(Replaced)),
+                    (
+                        A,
+                        Range(0, 65_536),
+                        Folded(65_536, 281_470_681_677_825, Some((0, 65_535))),
+                    ),
+                ],
+                rest: &[],
+            },
+        ],
+    },
+];
 
 #[test]
 fn rounds_over_many_members_begin(rt: HostRuntime) -> Result<(), BeginError> {
-    for members in [511, 512, 1_000, 4_096, 10_000] {
-        let ended = filled(rt.alloc(), members)?;
-        let (round, mut crew) = next_round(rt.alloc(), ended, 3, 5)?;
-        let mut pass = next_pass(&mut crew, &round).expect(&rt, "lane 0");
-        let snapshot = pass.snapshot();
-        let list = pass
-            .ask(snapshot, descent::Pairs(rt.alloc()))
-            .expect(&rt, "memory");
-        equal_length(&rt, list.len(), members as usize);
-        for (place, pair) in list.iter().enumerate() {
-            let key = place as u32;
-            equal(&rt, *pair, (key, u32::MAX - key));
-        }
+    for it in FILLED {
+        fill_and_play(&rt, rt.alloc(), it)?;
     }
     Ok(())
 }

@@ -5,13 +5,16 @@ ghost use Rattle.aug_trie.specs.Round.{RoundFacts};
 ghost use Rattle.aug_trie.specs.Snapshot.{HasSnapshot, snapshot_cut};
 ghost use Rattle.aug_trie_tests.specs.Reports.{ShowsInsertion, no_round};
 
-use super::ending::{counts, sees};
-use super::rounds::{Half, Table, Trie, insert, next_pass, opened, remove};
-use super::turning::Walker;
+use super::asking::sees;
+use super::playing::Change::{Insert, Remove};
+use super::playing::Reply::{Counted, Is};
+use super::playing::changed;
+use super::resting::{Ask, rests};
+use super::rounds::{Half, Hands, Table, Trie, Walker, next_pass, opened};
 use super::working::{back, next_half};
 use crate::assertions::{equal, holds};
 use aug_monoid::{Extent, Sum};
-use aug_query::{descent, has};
+use aug_query::descent;
 use aug_trie::{BeginError, Note, Snapshot};
 use crossbeam_channel::{Receiver, Sender, unbounded};
 use std::alloc::Global;
@@ -68,7 +71,7 @@ fn assert_order(rt: &impl Abort, a: &mut Walker<'_>, b: &mut Walker<'_>, c: &mut
     holds(rt, done);
     holds(rt, b.ask(seen, descent::Has(9)));
     let older = a.note();
-    holds(rt, remove(b, 4, 9));
+    equal(rt, changed(b, 16, Remove(9)), Is(true));
     let newer = b.note();
     let seen = c.learn(newer);
     equal(rt, c.ask(seen, descent::Has(9)), false);
@@ -80,21 +83,38 @@ fn assert_order(rt: &impl Abort, a: &mut Walker<'_>, b: &mut Walker<'_>, c: &mut
     holds(rt, c.ask(seen, descent::Has(5)));
 }
 
+// Three passes of a round of 4 bits tell one another, and the crew tells two of them what the second brought back.
+fn assert_notes(rt: &impl Abort, round: &Table, crew: &mut Hands)
+    requires together { crew.old.round ≡ round.now }
+    requires bits { round.now.bits ≡ 4 }
+{
+    let mut a = next_pass(crew, round).expect(rt, "lane 0");
+    let mut b = next_pass(crew, round).expect(rt, "lane 1");
+    let mut c = next_pass(crew, round).expect(rt, "lane 2");
+    assert_order(rt, &mut a, &mut b, &mut c);
+    equal(rt, changed(&mut b, 16, Insert(6)), Is(true));
+    crew.back(b);
+    let mut note = crew.note(round);
+    let second = note.again(round);
+    let seen = a.learn(note);
+    holds(rt, a.ask(seen, descent::Has(6)));
+    let seen = c.learn(second);
+    holds(rt, c.ask(seen, descent::Has(6)));
+    holds(rt, sees(&mut a, 6));
+}
+
 #[test]
 fn a_note_tells_what_its_maker_knew(rt: HostRuntime) -> Result<(), BeginError> {
-    let (round, mut crew) = opened(rt.alloc(), 4, 3, 2)?;
-    let mut a = next_pass(&mut crew, &round).expect(&rt, "lane 0");
-    let mut b = next_pass(&mut crew, &round).expect(&rt, "lane 1");
-    let mut c = next_pass(&mut crew, &round).expect(&rt, "lane 2");
-    assert_order(&rt, &mut a, &mut b, &mut c);
+    let (round, mut crew) = opened(rt.alloc(), (4, 3, 2))?;
+    assert_notes(&rt, &round, &mut crew);
     Ok(())
 }
 
 // A round in which a pass puts 9 in and is lost, and its crew has learnt its note or not: the trie after it.
 fn lost(rt: &impl Abort, alloc: Global, learns: bool) -> Result<Trie, BeginError> {
-    let (round, mut crew) = opened(alloc, 4, 1, 1)?;
+    let (round, mut crew) = opened(alloc, (4, 1, 1))?;
     let mut pass = next_pass(&mut crew, &round).expect(rt, "lane 0");
-    holds(rt, insert(&mut pass, 4, 9));
+    equal(rt, changed(&mut pass, 16, Insert(9)), Is(true));
     let note = pass.note();
     drop(pass);
     if learns {
@@ -105,29 +125,11 @@ fn lost(rt: &impl Abort, alloc: Global, learns: bool) -> Result<Trie, BeginError
 
 #[test]
 fn a_crew_that_learnt_a_note_ends_with_what_it_tells(rt: HostRuntime) -> Result<(), BeginError> {
-    let mut ended = lost(&rt, rt.alloc(), true)?;
-    holds(&rt, has(&mut ended, 9));
-    equal(&rt, counts(&ended), (0, 0, 1));
-    let mut ended = lost(&rt, rt.alloc(), false)?;
-    equal(&rt, has(&mut ended, 9), false);
-    Ok(())
-}
-
-#[test]
-fn a_note_of_the_crew_tells_what_came_back(rt: HostRuntime) -> Result<(), BeginError> {
-    let (round, mut crew) = opened(rt.alloc(), 4, 3, 1)?;
-    let mut a = next_pass(&mut crew, &round).expect(&rt, "lane 0");
-    let mut b = next_pass(&mut crew, &round).expect(&rt, "lane 1");
-    let mut c = next_pass(&mut crew, &round).expect(&rt, "lane 2");
-    holds(&rt, insert(&mut b, 4, 5));
-    crew.back(b);
-    let mut note = crew.note(&round);
-    let second = note.again(&round);
-    let seen = a.learn(note);
-    holds(&rt, a.ask(seen, descent::Has(5)));
-    let seen = c.learn(second);
-    holds(&rt, c.ask(seen, descent::Has(5)));
-    holds(&rt, sees(&mut a, 5));
+    for learns in [true, false] {
+        let mut ended = lost(&rt, rt.alloc(), learns)?;
+        let asks = [(Ask::Has(9), Is(learns)), (Ask::Counts, Counted(0, 0, 1))];
+        rests(&rt, rt.alloc(), &mut ended, "a note of a lost pass", &asks);
+    }
     Ok(())
 }
 
@@ -170,7 +172,7 @@ fn tells<K: OfRound, R: Wait>(rt: &R, round: &Table, half: Half, to: Sender<News
 {
     let mut pass = round.pass(half);
     for key in 0..16 {
-        insert(&mut pass, 4, key);
+        changed(&mut pass, 16, Insert(key));
         let _ = to.send(rt, News::new(key, pass.note()));
     }
     pass.into_half()
@@ -232,7 +234,7 @@ fn spoken_by_two<R: Threads + Wait + Sync + Abort>(
     rt: &R,
     alloc: Global,
 ) -> Result<(Trie, bool), BeginError> {
-    let (round, mut crew) = opened(alloc, 4, 2, 16)?;
+    let (round, mut crew) = opened(alloc, (4, 2, 16))?;
     let one = next_half(&mut crew, &round).expect(rt, "lane 0");
     let two = next_half(&mut crew, &round).expect(rt, "lane 1");
     let (one, (two, shown)) = spoken::<Brand, R>(rt, alloc, &round, one, two);

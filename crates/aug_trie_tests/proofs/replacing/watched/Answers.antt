@@ -6,7 +6,7 @@ use Rattle.aug_trie_tests.proofs.replacing.watched.Goals as goal
 pub loop-made-preserved : goal.loop-made-preserved
 loop-made-preserved c = record {
   climb = ap (λ (z : ClimbFacts). z.start) (c.in-More.ensures.more c.in-More.next refl).same ∙ c.loop-made.invariant.climb;
-  other = c.seen_weight.ensures.round ∙ c.loop-made.invariant.other;
+  other = c.seen_weight.ensures ∙ c.loop-made.invariant.other;
 }
 
 pub returns-in-Done-clause-round : goal.returns-in-Done-clause-round

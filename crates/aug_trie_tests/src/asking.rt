@@ -1,0 +1,303 @@
+//! What the passes of a script ask of their snapshots.
+ghost use Rattle.std.specs.Prelude.{◌≡◌, ◌^◌, ◌<◌, ◌≤◌};
+ghost use Rattle.aug_trie.specs.Snapshot.{HasSnapshot};
+
+use super::playing::{Act, Reply};
+use aug_model::Summary;
+use aug_monoid::{Extent, Sum};
+use aug_query::descent::{
+    After, Before, Has, Keys, Memberships, Pairs, Range, Rank, Ranks, Select, Size, Weight, Weights,
+};
+use aug_trie::{Node, Pass, Snapshot};
+use std::alloc::Global;
+
+// How many members a new snapshot of the pass shows.
+pub(super) fn seen_size(pass: &mut Pass<Sum, Extent>) -> u32
+    ensures { pass.new.round ≡ pass.old.round }
+{
+    let snapshot = pass.snapshot();
+    pass.ask(snapshot, Size)
+}
+
+// Whether a new snapshot of the pass shows the key.
+pub(super) fn sees(pass: &mut Pass<Sum, Extent>, key: u32) -> bool
+    ensures { pass.new.round ≡ pass.old.round }
+{
+    let snapshot = pass.snapshot();
+    pass.ask(snapshot, Has(key))
+}
+
+// What a key weighs in a new snapshot of the pass.
+pub(super) fn seen_weight(pass: &mut Pass<Sum, Extent>, key: u32) -> Option<u32>
+    ensures { pass.new.round ≡ pass.old.round }
+{
+    let snapshot = pass.snapshot();
+    pass.ask(snapshot, Weight(key))
+}
+
+// What is told of members.
+pub(super) fn folded(summary: Summary<Sum, Extent>) -> Reply {
+    Reply::Folded(summary.count, summary.a.value(), summary.b.bounds())
+}
+
+// What the further queries answer on a new snapshot.
+pub(super) fn look(pass: &mut Pass<Sum, Extent>, act: Act) -> Reply
+    ensures { pass.new.round ≡ pass.old.round }
+{
+    let s = pass.snapshot();
+    match act {
+        Act::Rank(k) => Reply::Number(pass.ask(s, Rank(k))),
+        Act::Select(i) => Reply::Finds(pass.ask(s, Select(i))),
+        Act::Before(k) => Reply::Finds(pass.ask(s, Before(k))),
+        Act::After(k) => Reply::Finds(pass.ask(s, After(k))),
+        Act::Range(from, to) => folded(pass.ask(s, Range(from, to))),
+        _ => Reply::Not,
+    }
+}
+
+// What a pass looks at that takes more than one query.
+pub(super) fn look_closer(
+    pass: &mut Pass<Sum, Extent>,
+    alloc: Global,
+    universe: u32,
+    act: Act,
+) -> Reply
+    requires { universe ≡ 2 ^ pass.old.round.bits }
+    ensures { pass.new.round ≡ pass.old.round }
+{
+    match act {
+        Act::Keys | Act::Pairs | Act::Lists => lists(pass, alloc, act),
+        Act::Batches => batches(pass, alloc),
+        Act::Top | Act::Left | Act::Right => node(pass, act),
+        Act::KeptOver(weight) => kept_over(pass, universe, weight),
+        Act::AddsUp => match adds_up(pass) {
+            Some(count) => Reply::Number(count),
+            None => Reply::Not,
+        },
+        _ => Reply::Not,
+    }
+}
+
+// A list of at most two keys.
+pub(super) fn told_keys(list: &[u32]) -> Reply {
+    match (list.first(), list.get(1), list.len()) {
+        (Some(first), Some(second), 2) => Reply::Keys(Some(*first), Some(*second)),
+        (Some(first), None, _) => Reply::Keys(Some(*first), None),
+        (None, _, _) => Reply::Keys(None, None),
+        _ => Reply::Not,
+    }
+}
+
+// A list of at most three pairs.
+pub(super) fn told_pairs(list: &[(u32, u32)]) -> Reply {
+    match (list.first(), list.get(1), list.get(2), list.len()) {
+        (Some(first), Some(second), Some(third), 3) => {
+            Reply::Listed(Some(*first), Some(*second), Some(*third))
+        }
+        (Some(first), Some(second), None, _) => Reply::Listed(Some(*first), Some(*second), None),
+        (Some(first), None, _, _) => Reply::Listed(Some(*first), None, None),
+        (None, _, _, _) => Reply::Listed(None, None, None),
+        _ => Reply::Not,
+    }
+}
+
+// How many pairs there are, how many of them have the key that the other list has there, and how many are a place and 2^32 - 1 less it.
+fn lengths(keys: &[u32], pairs: &[(u32, u32)]) -> Reply {
+    let (mut count, mut same, mut falling) = (0_u32, 0_u32, 0_u32);
+    if keys.len() != pairs.len() {
+        return Reply::Not;
+    }
+    for (place, pair) in pairs.iter().enumerate() {
+        if *pair == (count, u32::MAX - count) {
+            falling = falling.wrapping_add(1);
+        }
+        if keys.get(place) == Some(&pair.0) {
+            same = same.wrapping_add(1);
+        }
+        count = count.wrapping_add(1);
+    }
+    Reply::Lengths(count, same, falling)
+}
+
+// Both lists of a new snapshot.
+fn both_lists(pass: &mut Pass<Sum, Extent>, alloc: Global) -> Reply
+    ensures { pass.new.round ≡ pass.old.round }
+{
+    let s = pass.snapshot();
+    match (pass.ask(s, Keys(alloc)), pass.ask(s, Pairs(alloc))) {
+        (Ok(keys), Ok(pairs)) => lengths(&keys, &pairs),
+        _ => Reply::Not,
+    }
+}
+
+// The lists of a new snapshot.
+fn lists(pass: &mut Pass<Sum, Extent>, alloc: Global, act: Act) -> Reply
+    ensures { pass.new.round ≡ pass.old.round }
+{
+    match act {
+        Act::Keys => {
+            let s = pass.snapshot();
+            match pass.ask(s, Keys(alloc)) {
+                Ok(list) => told_keys(&list),
+                Err(_) => Reply::Not,
+            }
+        }
+        Act::Pairs => {
+            let s = pass.snapshot();
+            match pass.ask(s, Pairs(alloc)) {
+                Ok(list) => told_pairs(&list),
+                Err(_) => Reply::Not,
+            }
+        }
+        _ => both_lists(pass, alloc),
+    }
+}
+
+// Whether each batch of queries answers as it should on the members 5 and 9, which weigh 5 and 9.
+fn batches(pass: &mut Pass<Sum, Extent>, alloc: Global) -> Reply
+    ensures { pass.new.round ≡ pass.old.round }
+{
+    let s = pass.snapshot();
+    let keys = [4, 5, 5, 9, 10, 16];
+    if !keys.is_sorted() {
+        return Reply::Not;
+    }
+    let Ok(out) = Vec::with_capacity(alloc, 6) else {
+        return Reply::Not;
+    };
+    let below = pass.ask(s, Ranks { keys: &keys, out });
+    let Ok(out) = Vec::with_capacity(alloc, 6) else {
+        return Reply::Not;
+    };
+    let there = pass.ask(s, Memberships { keys: &keys, out });
+    let Ok(out) = Vec::with_capacity(alloc, 6) else {
+        return Reply::Not;
+    };
+    let weighed = pass.ask(s, Weights { keys: &keys, out });
+    let below_right = below.as_slice() == [0, 0, 0, 1, 2, 2].as_slice();
+    let there_right = there.as_slice() == [false, true, true, true, false, false].as_slice();
+    let weighed_right = weighed.as_slice()
+        == [None, Some(5), Some(5), Some(9), None, None].as_slice();
+    Reply::Is(below_right && there_right && weighed_right)
+}
+
+// Where a node stands, and what it covers.
+fn stand(node: &Node<Sum, Extent>) -> Reply {
+    let summary = node.summary();
+    Reply::Stands(
+        node.level(),
+        node.place(),
+        summary.count,
+        summary.a.value(),
+        summary.b.bounds(),
+    )
+}
+
+// The clone of the top of a new snapshot's tree, or a child of that clone.
+fn node(pass: &mut Pass<Sum, Extent>, act: Act) -> Reply
+    ensures { pass.new.round ≡ pass.old.round }
+{
+    let snapshot = pass.snapshot();
+    let top = pass.top(&snapshot);
+    let Ok(clone) = top.clone() else {
+        return Reply::Not;
+    };
+    if stand(&clone) != stand(&top) || clone.level() == 0 {
+        return Reply::Not;
+    }
+    match act {
+        Act::Left => stand(&pass.left(&clone)),
+        Act::Right => stand(&pass.right(&clone)),
+        _ => stand(&clone),
+    }
+}
+
+// What a snapshot shows of the keys of 2 bits.
+fn shown(pass: &mut Pass<Sum, Extent>, s: Snapshot) -> Reply
+    requires { HasSnapshot pass.old s.number }
+    ensures snapshot { HasSnapshot pass.new s.number }
+    ensures round { pass.new.round ≡ pass.old.round }
+    ensures spent { pass.new.spent ≡ pass.old.spent }
+{
+    let sum = pass.ask(s, Range(0, 4)).a.value();
+    Reply::Kept(
+        pass.ask(s, Size),
+        pass.ask(s, Weight(1)),
+        pass.ask(s, Weight(2)),
+        sum,
+    )
+}
+
+// Puts 1 with a weight, or puts 2 in and takes 1 out.
+fn changed_under(pass: &mut Pass<Sum, Extent>, s: Snapshot, weight: Option<u32>)
+    requires snapshot { HasSnapshot pass.old s.number }
+    requires bits { 2 < 2 ^ pass.old.round.bits }
+    ensures snapshot { HasSnapshot pass.new s.number }
+    ensures round { pass.new.round ≡ pass.old.round }
+{
+    match weight {
+        Some(weight) => {
+            if pass.budget() > 0 {
+                pass.put(1, weight);
+            }
+        }
+        None => {
+            if pass.budget() > 1 {
+                pass.insert(2);
+                pass.remove(1);
+            }
+        }
+    }
+}
+
+// What a snapshot and a clone of it show, the clone asked first and last, with a change in between, if that is the same each time.
+fn kept_over(pass: &mut Pass<Sum, Extent>, universe: u32, weight: Option<u32>) -> Reply
+    requires { universe ≡ 2 ^ pass.old.round.bits }
+    ensures { pass.new.round ≡ pass.old.round }
+{
+    if universe < 3 {
+        return Reply::Not;
+    }
+    let snapshot = pass.snapshot();
+    let Ok(clone) = snapshot.clone() else {
+        return Reply::Not;
+    };
+    let first = shown(pass, clone);
+    let second = shown(pass, snapshot);
+    changed_under(pass, snapshot, weight);
+    let third = shown(pass, snapshot);
+    if first == second && first == third && first == shown(pass, clone) {
+        first
+    } else {
+        Reply::Not
+    }
+}
+
+// How many members a key is, and what it weighs.
+fn weighed(weight: Option<u32>) -> (u32, u64)
+    ensures one { result.0 ≤ 1 }
+    ensures small { result.1 < 2 ^ 32 }
+{
+    match weight {
+        Some(weight) => (1, u64::from(weight)),
+        None => (0, 0),
+    }
+}
+
+// How many members of the keys of 2 bits a new snapshot of the pass shows, if its count and sum of all keys are those of its keys one
+// by one.
+pub(super) fn adds_up(pass: &mut Pass<Sum, Extent>) -> Option<u32>
+    ensures { pass.new.round ≡ pass.old.round }
+{
+    let snapshot = pass.snapshot();
+    let whole = pass.ask(snapshot, Range(0, 4));
+    let zero = weighed(pass.ask(snapshot, Weight(0)));
+    let one = weighed(pass.ask(snapshot, Weight(1)));
+    let two = weighed(pass.ask(snapshot, Weight(2)));
+    let three = weighed(pass.ask(snapshot, Weight(3)));
+    let count = zero.0 + one.0 + two.0 + three.0;
+    let sum = zero.1 + one.1 + two.1 + three.1;
+    (whole.count == count && whole.a.value() == sum && pass.ask(snapshot, Size) == count).then_some(
+        count,
+    )
+}

@@ -310,15 +310,18 @@ fn a_trie_opens_over_the_set_that_another_closed_with(rt: HostRuntime) -> Result
     Ok(())
 }
 
+// Numbers of handles and updates that are refused.
+const REFUSED: [(u32, u32, BeginError); 5] = [
+    (0, 0, BeginError::BadWorkers),
+    (65, 1, BeginError::BadWorkers),
+    (1, 0, BeginError::BadUpdates),
+    (1, 65_537, BeginError::BadUpdates),
+    (64, 65_536, BeginError::TooLarge),
+];
+
 #[test]
 fn open_refuses_numbers_in_their_order(rt: HostRuntime) -> Result<(), BeginError> {
-    for (handles, updates, cause) in [
-        (0, 0, BeginError::BadWorkers),
-        (65, 1, BeginError::BadWorkers),
-        (1, 0, BeginError::BadUpdates),
-        (1, 65_537, BeginError::BadUpdates),
-        (64, 65_536, BeginError::TooLarge),
-    ] {
+    for (handles, updates, cause) in REFUSED {
         let opened = opened(&rt, rt.alloc(), 16, handles, updates);
         equal(&rt, opened.err(), Some(cause));
     }
@@ -328,15 +331,17 @@ fn open_refuses_numbers_in_their_order(rt: HostRuntime) -> Result<(), BeginError
     Ok(())
 }
 
+const NAMES: [(LiveError, &str); 5] = [
+    (LiveError::OutOfMemory, "OutOfMemory"),
+    (LiveError::Closed, "Closed"),
+    (LiveError::Exhausted, "Exhausted"),
+    (LiveError::Replaced, "Replaced"),
+    (LiveError::NoLane, "NoLane"),
+];
+
 #[test]
 fn a_refusal_is_printed_by_its_name(rt: HostRuntime) -> Result<(), BeginError> {
-    for (cause, name) in [
-        (LiveError::OutOfMemory, "OutOfMemory"),
-        (LiveError::Closed, "Closed"),
-        (LiveError::Exhausted, "Exhausted"),
-        (LiveError::Replaced, "Replaced"),
-        (LiveError::NoLane, "NoLane"),
-    ] {
+    for (cause, name) in NAMES {
         let text = format!(in rt.alloc(); "{cause}").expect(&rt, "memory");
         equal(&rt, text.as_str(), name);
     }

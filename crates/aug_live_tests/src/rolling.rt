@@ -1,6 +1,6 @@
 //! Threads that update and look while rounds roll over.
 
-use super::opening::{Hand, insert, opened, remove};
+use super::opening::{Hand, insert, opened, opened_with, remove};
 use super::steps::{View, closed, has, over, try_look};
 use crate::assertions::{equal, holds};
 use aug_live::LiveError;
@@ -160,7 +160,7 @@ pub(super) fn summed(rt: &impl Abort, done: Vec<Did>, closed: bool) -> (u64, u64
 }
 
 // What threads do with handles, and what they come to, as `summed` says it.
-pub(super) fn worked<R: Threads + Wait + Abort + Sync>(
+fn worked<R: Threads + Wait + Abort + Sync>(
     rt: &R,
     alloc: Global,
     hands: Vec<Hand>,
@@ -171,24 +171,75 @@ pub(super) fn worked<R: Threads + Wait + Abort + Sync>(
     summed(rt, done, false)
 }
 
-#[test]
-fn four_threads_see_their_own_updates_in_every_round(rt: HostRuntime) -> Result<(), BeginError> {
-    let (live, hands) = opened(&rt, rt.alloc(), 6, 4, 1000)?;
-    let (inserts, left) = worked(&rt, rt.alloc(), hands, 200_000);
-    let (size, counts) = closed(&rt, live);
-    equal(&rt, (u64::from(size), counts.inserts), (left, inserts));
-    holds(&rt, counts.rounds >= 200);
+// How a trie with four handles is used: by threads that make so many calls each, in rounds with spare lanes and with updates for each lane, and how many
+// rounds come of it. If one handle is idle, another one is dropped, and two are used.
+#[derive(Clone, Copy)]
+struct Use {
+    idle: bool,
+    steps: u32,
+    spare: u32,
+    updates: u32,
+    least: u64,
+    most: u64,
+}
+
+const USES: [Use; 3] = [
+    Use {
+        idle: false,
+        steps: 200_000,
+        spare: 0,
+        updates: 1000,
+        least: 200,
+        most: u64::MAX,
+    },
+    Use {
+        idle: true,
+        steps: 200,
+        spare: 0,
+        updates: 1,
+        least: 200,
+        most: u64::MAX,
+    },
+    // 80,000 calls. A round has room for 4,000, and uses all of them except those of lanes that were not spent at its end.
+    Use {
+        idle: false,
+        steps: 20_000,
+        spare: 12,
+        updates: 250,
+        least: 20,
+        most: 26,
+    },
+];
+
+// Uses a trie, and compares what the threads did with what it counted.
+fn use_it<R: Threads + Wait + Abort + Sync>(
+    rt: &R,
+    alloc: Global,
+    with: Use,
+) -> Result<(), BeginError> {
+    let (live, mut hands) = opened_with(rt, alloc, 6, 4, with.spare, with.updates)?;
+    let idle = if with.idle {
+        drop(hands.pop());
+        hands.pop()
+    } else {
+        None
+    };
+    let (inserts, left) = worked(rt, alloc, hands, with.steps);
+    drop(idle);
+    let (size, counts) = closed(rt, live);
+    equal(rt, (u64::from(size), counts.inserts), (left, inserts));
+    holds(
+        rt,
+        counts.rounds >= with.least && counts.rounds <= with.most,
+    );
     Ok(())
 }
 
 #[test]
-fn a_thread_with_few_updates_rolls_over_an_idle_one(rt: HostRuntime) -> Result<(), BeginError> {
-    let (live, mut hands) = opened(&rt, rt.alloc(), 6, 4, 1)?;
-    let idle = hands.pop();
-    drop(hands.pop());
-    worked(&rt, rt.alloc(), hands, 200);
-    drop(idle);
-    holds(&rt, closed(&rt, live).1.rounds >= 200);
+fn threads_see_their_own_updates_in_every_round(rt: HostRuntime) -> Result<(), BeginError> {
+    for with in USES {
+        use_it(&rt, rt.alloc(), with)?;
+    }
     Ok(())
 }
 

@@ -1,7 +1,6 @@
 //! Spare lanes, and how rounds are planned by the memory of a table.
 
 use super::opening::{Hand, Trie, no_keys, opened_with};
-use super::rolling::worked;
 use super::steps::{
     Call, closed, fill, go, last, looked, over, renewed, size, take_newer_snapshot,
 };
@@ -68,17 +67,6 @@ fn a_new_handle_goes_on_with_spare_lanes(rt: HostRuntime) -> Result<(), BeginErr
     fill(&rt, &mut first, 10, 2);
     let (size, counts) = closed(&rt, live);
     equal(&rt, (size, counts.rounds), (8, 1));
-    Ok(())
-}
-
-#[test]
-fn four_threads_share_spare_lanes(rt: HostRuntime) -> Result<(), BeginError> {
-    let (live, hands) = opened_with(&rt, rt.alloc(), 6, 4, 12, 250)?;
-    let (_, left) = worked(&rt, rt.alloc(), hands, 20_000);
-    let (size, counts) = closed(&rt, live);
-    equal(&rt, u64::from(size), left);
-    // 80,000 calls. A round has room for 4,000, and uses all of them except those of lanes that were not spent at its end.
-    holds(&rt, counts.rounds >= 20 && counts.rounds <= 26);
     Ok(())
 }
 
@@ -168,14 +156,17 @@ fn opened_within<R: Wait>(
     Ok(Live::open(rt, alloc, no_keys(alloc, 6)?, handles, memory))
 }
 
+// Numbers of handles and bytes that are refused.
+const REFUSED: [(u32, u64, BeginError); 3] = [
+    (0, 1 << 20, BeginError::BadWorkers),
+    (65, 1 << 20, BeginError::BadWorkers),
+    (4, 1 << 10, BeginError::TooLarge),
+];
+
 #[test]
 fn a_trie_opens_within_the_memory_of_a_table(rt: HostRuntime) -> Result<(), BeginError> {
     let alloc = rt.alloc();
-    for (handles, memory, cause) in [
-        (0, 1 << 20, BeginError::BadWorkers),
-        (65, 1 << 20, BeginError::BadWorkers),
-        (4, 1 << 10, BeginError::TooLarge),
-    ] {
+    for (handles, memory, cause) in REFUSED {
         match opened_within(&rt, alloc, handles, memory)? {
             Ok(_) => panic!(&rt; "opened"),
             Err((set, why)) => {

@@ -1,0 +1,64 @@
+//! A look that is held while another thread's roll-over waits for it.
+
+use super::opening::{Hand, insert, opened};
+use super::steps::{closed, fill, last, looked, over, size, take_newer_snapshot};
+use crate::assertions::{equal, holds};
+use aug_trie::BeginError;
+use crossbeam_channel::{Receiver, Sender, unbounded};
+use std::alloc::Global;
+use std::process::Abort;
+use std::sync::Wait;
+use std::thread;
+
+// A channel on which a thread says that it got somewhere.
+fn signal(rt: &impl Abort, alloc: Global) -> (Sender<()>, Receiver<()>) {
+    unbounded(alloc).expect(rt, "memory")
+}
+
+// Makes an update for which the round has to roll over, once the other thread has its look, and says that it was made.
+fn rolls<R: Wait>(rt: &R, hand: Hand, held: Receiver<()>, made: Sender<()>) -> bool {
+    let mut hand = hand;
+    let began = held.recv(rt).is_ok();
+    let done = insert(rt, &mut hand, 63);
+    let _ = made.send(rt, ());
+    began && done.is_ok()
+}
+
+// Takes a look, says so, and asks it again and again. Whether it showed so many members each time, as did a newer snapshot, and the other
+// thread's update was not made meanwhile.
+fn stays<R: Wait + Abort>(
+    rt: &R,
+    hand: Hand,
+    members: u32,
+    held: Sender<()>,
+    made: Receiver<()>,
+) -> (Hand, bool) {
+    let mut look = looked(rt, hand);
+    let mut right = held.send(rt, ()).is_ok();
+    for _ in 0..5_000 {
+        right &= size(&mut look) == members && made.try_recv(rt).is_err();
+    }
+    take_newer_snapshot(&mut look);
+    right &= size(&mut look) == members;
+    (over(look), right)
+}
+
+#[test]
+fn a_roll_over_waits_for_a_look_that_is_held(rt: HostRuntime) -> Result<(), BeginError> {
+    let r = &rt;
+    let (live, mut hands) = opened(r, r.alloc(), 6, 2, 4)?;
+    let mut hand = last(r, &mut hands);
+    fill(r, &mut hand, 0, 4);
+    let other = last(r, &mut hands);
+    let ((hold, held), (make, made)) = (signal(r, r.alloc()), signal(r, r.alloc()));
+    let (done, (mut other, right)) = thread::join(
+        r,
+        move || rolls(r, hand, held, make),
+        move || stays(r, other, 4, hold, made),
+    );
+    holds(r, done && right);
+    equal(r, insert(r, &mut other, 63), Ok(false));
+    let (size, counts) = closed(r, live);
+    equal(r, (size, counts.rounds), (5, 2));
+    Ok(())
+}

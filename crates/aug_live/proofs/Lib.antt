@@ -1,6 +1,8 @@
 pub mod Carries
 pub mod Tied
 pub mod Moving
+pub mod Counted
+pub mod Told
 pub mod Looked
 pub mod Beginning
 pub mod Desks

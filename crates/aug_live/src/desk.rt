@@ -1,5 +1,8 @@
 //! The desk: the round that goes on, and the roller's ends of all lanes.
-ghost use Rattle.std.specs.Prelude.{◌≡◌, ◌+◌, length, IfSome};
+ghost use Rattle.std.specs.Prelude.{◌≡◌, ◌+◌, ◌<◌, ◌≤◌, IfOk, IsErr, IsErrOf, length};
+ghost use Rattle.aug_trie.specs.Note.{chain_of_note};
+ghost use Rattle.aug_trie.specs.Chains.{IsPart};
+ghost use Rattle.aug_live.specs.LiveTries.{Closes, IsHandleOf, KnowsMore};
 ghost use Rattle.aug_live.specs.inside.Rolls.{IsHandleEnd};
 ghost use Rattle.aug_live.specs.declared.known.Whose.TheVariants.{Nobody};
 
@@ -9,7 +12,7 @@ use crate::error::LiveError;
 use crate::plan::Plan;
 use crate::rolling::{deal_all, finish, renewed, take_all};
 use aug_monoid::Monoid;
-use aug_trie::{Crew, Members, Round};
+use aug_trie::{Crew, Members, Note, Round};
 use std::alloc::Global;
 use std::marker::Model;
 use std::sync::{Arc, Wait};
@@ -34,11 +37,13 @@ pub(crate) struct Working<A: Monoid, B: Monoid> {
 impl<A: Monoid, B: Monoid> Model for Working<A, B> {
     ghost use Rattle.std.specs.Prelude.{◌≡◌, ◌≤◌, ◌^◌, [], vec_len, vec_capacity};
     ghost use Rattle.std.specs.Arc.{arc_value};
+    ghost use Rattle.aug_trie.specs.Crew.{crew_chain};
+    ghost use Rattle.aug_live.specs.LiveTries.{TrieFacts};
     ghost use Rattle.aug_live.specs.inside.Desks.{IsWorking};
 
-    ghost Value = { Unit {0} };
+    ghost Value = { TrieFacts };
 
-    ghost view = { λ _. tt };
+    ghost view = { λ w. record { table = (arc_value w.round).table; bits = (arc_value w.round).bits; lanes = vec_len w.ports; rounds = crew_chain w.crew } };
 
     ghost invariant = { λ w. IsWorking w.plan.lanes w.plan.updates w.counts (arc_value w.round) w.crew w.ports.items (vec_len w.ports)
         × (w.room.items ≡ []) × (vec_len w.ports ≤ vec_capacity w.room) × (w.list.items ≡ []) × (2 ^ (arc_value w.round).bits ≤ vec_capacity w.list)
@@ -48,6 +53,7 @@ impl<A: Monoid, B: Monoid> Model for Working<A, B> {
 impl<A: Monoid, B: Monoid> Working<A, B> {
     /// Ends the round: its set, and the counts of all rounds. It waits for each update and look of a handle.
     pub(crate) fn stop<R: Wait>(self, rt: &R) -> (Members, LiveCounts)
+        ensures closes { Closes self result.0 result.1 }
         ensures sizes { length result.0.pairs + result.1.removals ≡ result.1.opened + result.1.inserts }
     {
         let Working {
@@ -73,7 +79,10 @@ impl<A: Monoid, B: Monoid> Working<A, B> {
 
     /// Ends the round and begins the next one in its memory, so that nothing is asked for. It waits for each update and look of a handle. If the
     /// counts might not go further, the round goes on.
-    pub(crate) fn roll<R: Wait>(self, rt: &R) -> (Working<A, B>, Result<(), LiveError>) {
+    pub(crate) fn roll<R: Wait>(self, rt: &R) -> (Working<A, B>, Result<(), LiveError>)
+        ensures more { KnowsMore self result.0 }
+        ensures rolls { IfOk result.1 (λ _. length self.rounds.past < length result.0.rounds.past) }
+    {
         let counts = self.counts;
         if counts.rounds == u64::MAX
             || counts.inserts > MOST_BEFORE
@@ -120,7 +129,9 @@ impl<A: Monoid, B: Monoid> Working<A, B> {
         rt: &R,
         era: u64,
         lane: usize,
-    ) -> (Working<A, B>, Result<(), LiveError>) {
+    ) -> (Working<A, B>, Result<(), LiveError>)
+        ensures { KnowsMore self result.0 }
+    {
         let mut working = self;
         if working.goes_on(rt, era, lane) {
             (working, Ok(()))
@@ -130,7 +141,9 @@ impl<A: Monoid, B: Monoid> Working<A, B> {
     }
 
     /// Whether the round of this era is over, or goes on with a spare lane in the place of the one with this number.
-    fn goes_on<R: Wait>(&mut self, rt: &R, era: u64, lane: usize) -> bool {
+    fn goes_on<R: Wait>(&mut self, rt: &R, era: u64, lane: usize) -> bool
+        ensures { KnowsMore self.old self.new }
+    {
         if self.counts.rounds != era {
             return true;
         }
@@ -147,23 +160,40 @@ impl<A: Monoid, B: Monoid> Working<A, B> {
         true
     }
 
-    /// Gives a lane to a new handle, whose end it answers with the bits of its keys, unless there is no such lane.
+    /// Has the crew know what a note of this trie tells.
+    pub(crate) fn learn(self, note: Note<A, B>) -> Working<A, B>
+        requires { note.round.table ≡ self.table }
+        ensures more { KnowsMore self result }
+        ensures learns { IsPart (chain_of_note note) result.rounds }
+    {
+        let mut working = self;
+        working.crew.learn(&working.round, note);
+        working
+    }
+
+    /// Gives a lane to a new handle, whose end it answers with the bits of its keys. The handle knows all that the crew does.
     pub(crate) fn renew<R: Wait>(
         &mut self,
         rt: &R,
         lane: usize,
         first: End<A, B>,
-    ) -> Option<(End<A, B>, u32)>
+    ) -> Result<(End<A, B>, u32), LiveError>
         requires first { first.whose ≡ Nobody }
-        ensures handle { IfSome result (λ h. IsHandleEnd h.1 h.0) }
+        ensures more { KnowsMore self.old self.new }
+        ensures handle { IfOk result (λ h. IsHandleEnd h.1 h.0 × IsHandleOf self.new h.0.at) }
+        ensures no_lane { IsErrOf result LiveError.NoLane → self.old.lanes ≤ lane }
+        ensures past { self.old.lanes ≤ lane → IsErr result }
     {
         if lane >= self.ports.len() {
-            return None;
+            return Err(LiveError::NoLane);
         }
-        let (port, end) = self.ports.remove(lane).renew(rt, first);
+        let (port, end) = self
+            .ports
+            .remove(lane)
+            .renew(rt, &self.round, &mut self.crew, first);
         let Ok(()) = self.ports.insert(lane, port) else {
             unreachable!()
         };
-        Some((end, self.bits))
+        Ok((end, self.bits))
     }
 }

@@ -10,7 +10,7 @@ ghost use Rattle.aug_trie.specs.Note.{chain_of_note};
 ghost use Rattle.aug_trie.specs.Pass.{chain_of};
 ghost use Rattle.aug_live.specs.LiveHandles.{Follows, Makes, handle_of, note_at};
 
-use crate::desk::Working;
+use crate::desk_end::DeskEnd;
 use crate::end::End;
 use crate::error::LiveError;
 use crate::lane::{Lane, Missed};
@@ -18,12 +18,8 @@ use crate::look::Look;
 use aug_model::Outcome;
 use aug_monoid::Monoid;
 use aug_trie::{Note, Request};
-use std::alloc::Global;
 use std::marker::Model;
-use std::sync::{Arc, Mutex, Wait};
-
-/// The desk under its lock: nothing once the trie was closed.
-pub(crate) type Desk<A, B> = Mutex<Option<Working<A, B>>>;
+use std::sync::Wait;
 
 /// A thread's access to a trie, for updates and looks. It may go to another thread, and has a lane of its own. A handle that is
 /// dropped leaves its lane behind, and holds nobody up; `Live::handle` gives the lane to a new one.
@@ -38,7 +34,7 @@ pub struct Handle<A: Monoid, B: Monoid> {
     pub(crate) bits: u32,
     // The number of its lane, counted from 0.
     pub(crate) lane: usize,
-    pub(crate) desk: Arc<Desk<A, B>, Global>,
+    pub(crate) desk: DeskEnd<A, B>,
 }
 
 impl<A: Monoid, B: Monoid> Model for Handle<A, B> {
@@ -267,16 +263,12 @@ impl<A: Monoid, B: Monoid> Handle<A, B> {
     }
 
     // Goes past what was missed: to the next round, or to a spare lane of this one.
-    fn past<R: Wait>(&self, rt: &R, missed: Missed) -> Result<(), LiveError> {
+    fn past<R: Wait>(&mut self, rt: &R, missed: Missed) -> Result<(), LiveError>
+        ensures { self.new ≡ self.old }
+    {
         let Missed::Round(era) = missed else {
             return Err(LiveError::Replaced);
         };
-        let mut guard = self.desk.lock(rt);
-        let Some(working) = guard.take() else {
-            return Err(LiveError::Closed);
-        };
-        let (working, rolled) = working.past(rt, era, self.lane);
-        *guard = Some(working);
-        rolled
+        self.desk.past(rt, era, self.lane)
     }
 }

@@ -3,6 +3,7 @@
 
 mod counts;
 mod desk;
+mod desk_end;
 mod end;
 mod error;
 mod handle;

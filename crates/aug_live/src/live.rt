@@ -1,38 +1,43 @@
 //! A shared trie whose rounds roll over.
-ghost use Rattle.std.specs.Prelude.{◌≡◌, ◌⊎◌, ◌↔◌, ℕ, ◌+◌, ◌<◌, ◌≤◌, ◌^◌, [], All, IsErrOf, IfOk, IfErr, length, vec_len, vec_capacity};
+ghost use Rattle.std.specs.Prelude.{◌≡◌, ◌≢◌, ◌↔◌, ◌+◌, ◌<◌, ◌≤◌, ◌^◌, [], map, All, IsErr, IsErrOf, IfOk, IfErr, length, vec_len, vec_capacity};
 ghost use Rattle.std.specs.Arc.{arc_value};
-ghost use Rattle.atomic_table.specs.Seated.{TableId};
 ghost use Rattle.aug_core.specs.Layout.{IsRefused, IsLayout, IsWithin, IsOutside};
-ghost use Rattle.aug_live.specs.LiveHandles.{IsNew};
+ghost use Rattle.aug_trie.specs.Chains.{IsPart};
+ghost use Rattle.aug_trie.specs.Pass.{chain_of};
+ghost use Rattle.aug_live.specs.LiveHandles.{Follows, IsNew};
+ghost use Rattle.aug_live.specs.LiveTries.{Closes, IsHandleOf, IsOpenedTrie, KnowsMore};
 ghost use Rattle.aug_live.specs.Plans.{Fits, least_plan};
-ghost use Rattle.aug_live.specs.inside.Rolls.{IsOf, IsFirst, rounds_in};
+ghost use Rattle.aug_live.specs.inside.Rolls.{IsHandleEnd, IsOf, Starts, rounds_in};
 ghost use Rattle.aug_live.specs.declared.known.Whose.TheVariants.{Nobody};
 
 use crate::counts::LiveCounts;
 use crate::desk::Working;
+use crate::desk_end::DeskEnd;
 use crate::end::End;
 use crate::error::LiveError;
-use crate::handle::{Desk, Handle};
+use crate::handle::Handle;
 use crate::plan::Plan;
-use crate::rolling::{next_round, share};
+use crate::rolling::next_round;
 use aug_core::{Layout, LayoutError};
 use aug_monoid::Monoid;
 use aug_trie::{BeginError, Crew, Members, Round};
 use std::alloc::{AllocError, Global};
 use std::marker::Model;
-use std::sync::{Arc, Mutex, Wait};
-use std::thread::yield_now;
+use std::sync::{Arc, Wait};
 
 /// A shared trie whose rounds roll over by themselves. Threads work with its handles.
 #[derive(Drop)]
 pub struct Live<A: Monoid, B: Monoid> {
-    desk: Arc<Desk<A, B>, Global>,
+    desk: DeskEnd<A, B>,
+    ghost opened: { 0 < desk.bits },
 }
 
 impl<A: Monoid, B: Monoid> Model for Live<A, B> {
-    ghost Value = { Unit {0} };
+    ghost use Rattle.aug_live.specs.LiveTries.{TrieFacts};
 
-    ghost view = { λ _. tt };
+    ghost Value = { TrieFacts };
+
+    ghost view = { λ l. l.desk };
 }
 
 // What it takes to open a trie: the lanes, and room for the ends.
@@ -41,9 +46,10 @@ struct Room<A: Monoid, B: Monoid> {
     firsts: Vec<End<A, B>>,
     ports: Vec<End<A, B>>,
     room: Vec<End<A, B>>,
+    ends: Vec<End<A, B>>,
     handles: Vec<Handle<A, B>>,
     list: Vec<(u32, u32)>,
-    desk: Arc<Desk<A, B>, Global>,
+    desk: DeskEnd<A, B>,
 }
 
 impl<A: Monoid, B: Monoid> Live<A, B> {
@@ -60,7 +66,8 @@ impl<A: Monoid, B: Monoid> Live<A, B> {
     ) -> Result<(Live<A, B>, Vec<Handle<A, B>>), (Members, BeginError)>
         requires lanes { handles ≤ plan.lanes }
         ensures handles { IfOk result (λ t. vec_len t.1 ≡ handles) }
-        ensures new { IfOk result (λ t. (table : TableId) × All (IsNew table set plan.updates) t.1.items) }
+        ensures opened { IfOk result (λ t. IsOpenedTrie set handles t.0) }
+        ensures new { IfOk result (λ t. All (IsNew t.0.table set plan.updates) t.1.items) }
         ensures same { IfErr result (λ e. e.0 ≡ set) }
         ensures bad_workers { IsErrOf result (set, BeginError.BadWorkers) ↔ IsRefused LayoutError.BadWorkers set.bits plan.lanes plan.updates (2 ^ set.bits) }
         ensures bad_updates { IsErrOf result (set, BeginError.BadUpdates) ↔ IsRefused LayoutError.BadUpdates set.bits plan.lanes plan.updates (2 ^ set.bits) }
@@ -79,7 +86,8 @@ impl<A: Monoid, B: Monoid> Live<A, B> {
             firsts,
             ports,
             room,
-            handles: ends,
+            ends,
+            handles,
             list,
             desk,
         } = room;
@@ -87,7 +95,7 @@ impl<A: Monoid, B: Monoid> Live<A, B> {
             Ok(begun) => begun,
             Err(set) => return Err((set, BeginError::OutOfMemory)),
         };
-        let (ports, ends) = open_lanes(rt, bits, &round, &mut crew, &desk, firsts, ports, ends);
+        let (ports, ends) = open_lanes(rt, &round, &mut crew, firsts, ports, ends);
         let working = Working {
             plan,
             counts: LiveCounts {
@@ -103,8 +111,9 @@ impl<A: Monoid, B: Monoid> Live<A, B> {
             room,
             list,
         };
-        place(rt, &desk, working);
-        Ok((Live { desk }, ends))
+        let mut desk = desk.place(rt, working);
+        let handles = hand_out(rt, bits, &mut desk, ends, handles);
+        Ok((Live { desk }, handles))
     }
 
     /// Opens a trie over a set, for `handles` handles, whose rounds have a table of at most `memory` bytes: `Plan::new` computes their
@@ -120,7 +129,8 @@ impl<A: Monoid, B: Monoid> Live<A, B> {
         memory: u64,
     ) -> Result<(Live<A, B>, Vec<Handle<A, B>>), (Members, BeginError)>
         ensures handles { IfOk result (λ t. vec_len t.1 ≡ handles) }
-        ensures new { IfOk result (λ t. (plan : Plan) × Fits set.bits memory plan × (table : TableId) × All (IsNew table set plan.updates) t.1.items) }
+        ensures opened { IfOk result (λ t. IsOpenedTrie set handles t.0) }
+        ensures new { IfOk result (λ t. (plan : Plan) × Fits set.bits memory plan × All (IsNew t.0.table set plan.updates) t.1.items) }
         ensures same { IfErr result (λ e. e.0 ≡ set) }
         ensures bad_workers { IsErrOf result (set, BeginError.BadWorkers) ↔ IsOutside 1 64 handles }
         ensures too_large { IsErrOf result (set, BeginError.TooLarge) ↔ (IsWithin 1 64 handles × (Fits set.bits memory (least_plan handles) → ⊥)) }
@@ -135,64 +145,77 @@ impl<A: Monoid, B: Monoid> Live<A, B> {
     }
 
     /// Rolls the round over now, as in a quiet hour. It waits for the update or look that each handle is in. Refused with `Exhausted`.
-    pub fn roll<R: Wait>(&self, rt: &R) -> Result<(), LiveError> {
-        let mut guard = self.desk.lock(rt);
-        let Some(working) = guard.take() else {
-            return Err(LiveError::Closed);
-        };
-        let (working, rolled) = working.roll(rt);
-        *guard = Some(working);
-        rolled
+    pub fn roll<R: Wait>(&mut self, rt: &R) -> Result<(), LiveError>
+        ensures more { KnowsMore self.old self.new }
+        ensures rolls { IfOk result (λ _. length self.old.rounds.past < length self.new.rounds.past) }
+    {
+        self.desk.roll(rt)
     }
 
-    /// Gives a lane to a new handle, if the lane's own handle was dropped or is in a thread that ended. Lanes are numbered from 0, in
-    /// the order of the handles that `open` gave. The new handle continues from the state in which the old one left the lane. If the
-    /// old one is still there, it answers `Replaced` from then on, and the call waits for the update or look that it is in. No round
-    /// ends for it.
+    /// Gives a lane to a new handle, if the lane's own handle came back, was dropped, or is in a thread that ended. Lanes are numbered from 0, in
+    /// the order of the handles that `open` gave. The new handle continues from the state in which the old one left the lane, and knows what the
+    /// trie does. If the old one is still there, it answers `Replaced` from then on, and the call waits for the update or look that it is in. No
+    /// round ends for it.
     ///
     /// Refused with `OutOfMemory`, where a new lane is refused, and with `NoLane`. After a refusal nothing has changed.
     pub fn handle<R: Wait>(
-        &self,
+        &mut self,
         rt: &R,
         alloc: Global,
         lane: u32,
     ) -> Result<Handle<A, B>, LiveError>
+        ensures more { KnowsMore self.old self.new }
         ensures bits { IfOk result (λ h. h.half.round.bits ≤ 16) }
+        ensures of_trie { IfOk result (IsHandleOf self.new) }
+        ensures no_lane { IsErrOf result LiveError.NoLane → self.old.lanes ≤ lane }
+        ensures past { self.old.lanes ≤ lane → IsErr result }
     {
         let lane = lane as usize;
         let Ok(first) = End::new(alloc) else {
             return Err(LiveError::OutOfMemory);
         };
-        let mut guard = self.desk.lock(rt);
-        let Some(mut working) = guard.take() else {
-            return Err(LiveError::Closed);
-        };
-        let renewed = working.renew(rt, lane, first);
-        *guard = Some(working);
-        let Some((end, bits)) = renewed else {
-            return Err(LiveError::NoLane);
-        };
+        let (end, bits) = self.desk.renew(rt, lane, first)?;
         Ok(Handle {
             end: Some(end),
             bits,
             lane,
-            desk: share(rt, &self.desk),
+            desk: self.desk.another(rt),
         })
+    }
+
+    /// Takes a handle of this trie back. The trie knows then what the handle knew, and so does each handle that is made after that. The lane is
+    /// free for `Live::handle`.
+    ///
+    /// Refused with `Replaced`, if a newer handle has the lane. Then the same handle comes back.
+    pub fn back<R: Wait>(
+        &mut self,
+        rt: &R,
+        handle: Handle<A, B>,
+    ) -> Result<(), (Handle<A, B>, LiveError)>
+        requires trie { handle.half.round.table ≡ self.old.table }
+        ensures more { KnowsMore self.old self.new }
+        ensures knows { IfOk result (λ _. IsPart (chain_of handle.half) self.new.rounds) }
+        ensures same { IfErr result (λ e. Follows handle e.0) }
+    {
+        let mut handle = handle;
+        let note = match handle.note(rt) {
+            Ok(note) => note,
+            Err(cause) => return Err((handle, cause)),
+        };
+        let Ok(()) = self.desk.learn(rt, note) else {
+            return Err((handle, LiveError::Closed));
+        };
+        Ok(())
     }
 
     /// Gives the set back, and the counts of the rounds. It waits for the update or look that each handle is in. From then on
     /// handles answer `Closed`.
     pub fn close<R: Wait>(self, rt: &R) -> (Members, LiveCounts)
+        ensures closes { Closes self result.0 result.1 }
         ensures sizes { length result.0.pairs + result.1.removals ≡ result.1.opened + result.1.inserts }
     {
-        for _ in rt.forever() {
-            let working = self.desk.lock(rt).take();
-            if let Some(working) = working {
-                return working.stop(rt);
-            }
-            yield_now();
-        }
-        unreachable!()
+        let Live { desk } = self;
+        desk.stop(rt)
     }
 }
 
@@ -202,7 +225,9 @@ impl<A: Monoid, B: Monoid> Room<A, B> {
         ensures firsts { IfOk result (λ r. All (λ v. v.whose ≡ Nobody) r.firsts.items × (vec_len r.firsts ≡ handles)) }
         ensures ports { IfOk result (λ r. (r.ports.items ≡ []) × (handles ≤ vec_capacity r.ports)) }
         ensures room { IfOk result (λ r. (r.room.items ≡ []) × (handles ≤ vec_capacity r.room)) }
+        ensures ends { IfOk result (λ r. (r.ends.items ≡ []) × (handles ≤ vec_capacity r.ends)) }
         ensures handles { IfOk result (λ r. (r.handles.items ≡ []) × (handles ≤ vec_capacity r.handles)) }
+        ensures desk { IfOk result (λ r. r.desk.bits ≡ 0) }
         ensures list { IfOk result (λ r. (r.list.items ≡ []) × (universe ≤ vec_capacity r.list)) }
     {
         let count = handles as usize;
@@ -210,9 +235,10 @@ impl<A: Monoid, B: Monoid> Room<A, B> {
             firsts: first_ends(alloc, handles)?,
             ports: Vec::with_capacity(alloc, count)?,
             room: Vec::with_capacity(alloc, count)?,
+            ends: Vec::with_capacity(alloc, count)?,
             handles: Vec::with_capacity(alloc, count)?,
             list: Vec::with_capacity(alloc, universe as usize)?,
-            desk: Arc::new(alloc, Mutex::new(None))?,
+            desk: DeskEnd::new(alloc)?,
         })
     }
 }
@@ -232,26 +258,23 @@ fn first_ends<A: Monoid, B: Monoid>(
     Ok(ends)
 }
 
-// Puts a pass into each lane, and makes its handle.
+// Puts a pass into each lane, and makes its two ends.
 fn open_lanes<R: Wait, A: Monoid, B: Monoid>(
     rt: &R,
-    bits: u32,
     round: &Arc<Round<A, B>, Global>,
     crew: &mut Crew<A, B>,
-    desk: &Arc<Desk<A, B>, Global>,
     firsts: Vec<End<A, B>>,
     mut ports: Vec<End<A, B>>,
-    mut handles: Vec<Handle<A, B>>,
-) -> (Vec<End<A, B>>, Vec<Handle<A, B>>)
+    mut ends: Vec<End<A, B>>,
+) -> (Vec<End<A, B>>, Vec<End<A, B>>)
     requires firsts { All (λ v. v.whose ≡ Nobody) firsts.items }
-    requires bits { (bits ≤ 16) × ((arc_value round.now).bits ≡ bits) }
     requires together { crew.old.round ≡ arc_value round.now }
     requires none_out { crew.old.handed ≡ 0 }
     requires lanes { vec_len firsts ≤ (arc_value round.now).workers }
     requires ports { (ports.items ≡ []) × (vec_len firsts ≤ vec_capacity ports) }
-    requires handles { (handles.items ≡ []) × (vec_len firsts ≤ vec_capacity handles) }
+    requires ends { (ends.items ≡ []) × (vec_len firsts ≤ vec_capacity ends) }
     ensures of_round { All (IsOf (rounds_in crew.old) 1) result.0.items }
-    ensures starts { All (IsFirst (rounds_in crew.old)) result.1.items }
+    ensures starts { All (Starts (rounds_in crew.old)) result.1.items }
     ensures len { (vec_len result.0 ≡ vec_len firsts) × (vec_len result.1 ≡ vec_len firsts) }
     ensures round { rounds_in crew.new ≡ rounds_in crew.old }
     ensures handed { crew.new.handed ≡ vec_len firsts }
@@ -259,23 +282,34 @@ fn open_lanes<R: Wait, A: Monoid, B: Monoid>(
 {
     for first in firsts {
         let (port, mine) = first.open(rt, round, crew);
-        let lane = ports.len();
         ports.push_reserved(port);
-        handles.push_reserved(Handle {
-            end: Some(mine),
-            bits,
-            lane,
-            desk: share(rt, desk),
-        });
+        ends.push_reserved(mine);
     }
-    (ports, handles)
+    (ports, ends)
 }
 
-// Puts a round on the desk.
-fn place<R: Wait, A: Monoid, B: Monoid>(
+// Makes the handles of these ends of lanes.
+fn hand_out<R: Wait, A: Monoid, B: Monoid>(
     rt: &R,
-    desk: &Arc<Desk<A, B>, Global>,
-    working: Working<A, B>,
-) {
-    *desk.lock(rt) = Some(working);
+    bits: u32,
+    desk: &mut DeskEnd<A, B>,
+    ends: Vec<End<A, B>>,
+    mut handles: Vec<Handle<A, B>>,
+) -> Vec<Handle<A, B>>
+    requires opened { 0 < desk.old.bits }
+    requires ends { All (IsHandleEnd bits) ends.items }
+    requires handles { (handles.items ≡ []) × (vec_len ends ≤ vec_capacity handles) }
+    ensures same { desk.new ≡ desk.old }
+    ensures at { result.items ≡ map (λ v. v.at) ends.items }
+{
+    for end in ends {
+        let lane = handles.len();
+        handles.push_reserved(Handle {
+            end: Some(end),
+            bits,
+            lane,
+            desk: desk.another(rt),
+        });
+    }
+    handles
 }

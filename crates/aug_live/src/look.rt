@@ -4,15 +4,14 @@ ghost use Rattle.aug_model.specs.Folds.{summary_of};
 ghost use Rattle.aug_trie.specs.Node.{steps_for};
 ghost use Rattle.aug_live.specs.LiveHandles.{handle_of, set_of_look, IsAsked, LooksAgain};
 
+use crate::desk_end::DeskEnd;
 use crate::end::Out;
-use crate::handle::{Desk, Handle};
+use crate::handle::Handle;
 use crate::lane::Lane;
 use aug_monoid::Monoid;
 use aug_query::Query;
 use aug_trie::OwnedPass;
-use std::alloc::Global;
 use std::marker::Model;
-use std::sync::Arc;
 
 /// A look of a handle: a snapshot, which is asked as a pass's is. Nothing that anybody does changes what it shows. As long as
 /// it is there a roll-over waits for it, and with that each handle whose updates are spent. So a look cannot be dropped: the
@@ -24,7 +23,7 @@ pub struct Look<A: Monoid, B: Monoid> {
     pub(crate) work: Option<OwnedPass<A, B>>,
     pub(crate) bits: u32,
     pub(crate) lane: usize,
-    pub(crate) desk: Arc<Desk<A, B>, Global>,
+    pub(crate) desk: DeskEnd<A, B>,
 }
 
 impl<A: Monoid, B: Monoid> Model for Look<A, B> {

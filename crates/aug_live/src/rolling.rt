@@ -4,10 +4,11 @@ ghost use Rattle.std.specs.Arc.{arc_value};
 ghost use Rattle.aug_model.specs.Keys.{IsKeySet, keys_of};
 ghost use Rattle.aug_core.specs.Layout.{IsLayout};
 ghost use Rattle.aug_core.specs.Places.{shape_of};
-ghost use Rattle.aug_trie.specs.Crew.{BeginsIn, RollsOver};
+ghost use Rattle.aug_trie.specs.Chains.{IsPart};
+ghost use Rattle.aug_trie.specs.Crew.{BeginsIn, CrewFacts, Ends, RollsOver, crew_chain};
+ghost use Rattle.aug_trie.specs.Pass.{chain_of};
 ghost use Rattle.aug_core.specs.Prefixes.{IsPrefix};
 ghost use Rattle.aug_live.specs.Carrying.{Leads};
-ghost use Rattle.aug_live.specs.inside.LaneKnowledge.{known_of, rounds_at};
 ghost use Rattle.aug_live.specs.inside.Rolls.{IsOf, IsBackIn, HasEnded, Starts, rounds_in};
 ghost use Rattle.aug_live.specs.declared.known.Whose.TheVariants.{Nobody, Roller, Handle};
 
@@ -120,6 +121,7 @@ impl<A: Monoid, B: Monoid> End<A, B> {
         requires together { crew.old.round ≡ arc_value round.now }
         requires lane_left { crew.old.handed < (arc_value round.now).workers }
         ensures of_round { IsOf (rounds_in crew.old) self.at.era result }
+        ensures goes_on { IsPrefix crew.old.knows.history crew.new.knows.history }
         ensures round { rounds_in crew.new ≡ rounds_in crew.old }
         ensures handed { crew.new.handed ≡ crew.old.handed + 1 }
         ensures back { crew.new.back ≡ crew.old.back + 1 }
@@ -147,6 +149,7 @@ impl<A: Monoid, B: Monoid> End<A, B> {
         requires together { crew.old.round ≡ arc_value round.now }
         requires lane_left { crew.old.handed < (arc_value round.now).workers }
         ensures of_round { IsOf (rounds_in crew.old) (era + 1) result }
+        ensures goes_on { IsPrefix crew.old.knows.history crew.new.knows.history }
         ensures round { rounds_in crew.new ≡ rounds_in crew.old }
         ensures handed { crew.new.handed ≡ crew.old.handed + 1 }
         ensures back { crew.new.back ≡ crew.old.back }
@@ -156,20 +159,29 @@ impl<A: Monoid, B: Monoid> End<A, B> {
         out.leave(Lane::working(era + 1, work))
     }
 
-    /// Moves the pass of the lane to a new lane, whose first end this is, and cuts that into the roller's end and a new handle's. The old
-    /// handle finds its lane given on.
-    pub(crate) fn renew<R: Wait>(self, rt: &R, first: End<A, B>) -> (End<A, B>, End<A, B>)
-        requires roller { self.whose ≡ Roller }
-        requires works { self.works ≡ true }
+    /// Moves the pass of the lane to a new lane, whose first end this is, and cuts that into the roller's end and a new handle's, which know all that the
+    /// crew does. The old handle finds its lane given on.
+    pub(crate) fn renew<R: Wait>(
+        self,
+        rt: &R,
+        round: &Arc<Round<A, B>, Global>,
+        crew: &mut Crew<A, B>,
+        first: End<A, B>,
+    ) -> (End<A, B>, End<A, B>)
+        requires of_round { IsOf (rounds_in crew.old) self.at.era self }
         requires some { 0 < self.at.era }
+        requires together { crew.old.round ≡ arc_value round.now }
         requires first { first.whose ≡ Nobody }
-        ensures port { IsOf (rounds_at self.at.half) self.at.era result.0 }
+        ensures port { IsOf (rounds_in crew.old) self.at.era result.0 }
         ensures handle { (result.1.whose ≡ Handle) × (result.1.at ≡ result.0.at) }
+        ensures knows { IsPart (crew_chain crew.old) (chain_of result.0.at.half) }
+        ensures same { crew.new ≡ crew.old }
     {
         let (out, lane) = self.take_to_roll(rt);
         let (work, lane) = lane.into_work();
         let era = lane.era;
         drop(out.leave(lane.given_on()));
+        let work = work.learn(crew.note(round));
         let (out, _) = first.take(rt);
         out.open(Lane::working(era, work)).fork(rt)
     }
@@ -213,6 +225,7 @@ pub(crate) fn take_all<R: Wait, A: Monoid, B: Monoid>(
     ensures none_left { ports.new.items ≡ [] }
     ensures room { vec_capacity ports.new ≡ vec_capacity ports.old }
     ensures back_room { vec_capacity back.new ≡ vec_capacity back.old }
+    ensures goes_on { IsPrefix crew.old.knows.history crew.new.knows.history }
     ensures round { rounds_in crew.new ≡ rounds_in crew.old }
     ensures handed { crew.new.handed ≡ crew.old.handed }
     ensures counted { crew.new.back ≡ crew.old.back + vec_len ports.old }
@@ -270,6 +283,7 @@ pub(crate) fn deal_all<R: Wait, A: Monoid, B: Monoid>(
     ensures none_left { back.new.items ≡ [] }
     ensures room { vec_capacity ports.new ≡ vec_capacity ports.old }
     ensures back_room { vec_capacity back.new ≡ vec_capacity back.old }
+    ensures goes_on { IsPrefix crew.old.knows.history crew.new.knows.history }
     ensures round { rounds_in crew.new ≡ rounds_in crew.old }
     ensures handed { crew.new.handed ≡ vec_len back.old }
     ensures back { crew.new.back ≡ crew.old.back }
@@ -294,6 +308,7 @@ pub(crate) fn finish<R: Wait, A: Monoid, B: Monoid>(
     requires all_out { crew.handed ≡ vec_len ports + crew.back }
     requires empty { back.items ≡ [] }
     requires room { vec_len ports ≤ vec_capacity back }
+    ensures ends { (last : CrewFacts) × (rounds_in last ≡ rounds_in crew) × IsPrefix crew.knows.history last.knows.history × Ends last result × (result.missing ≡ 0) }
     ensures sizes { length result.members + result.removals ≡ length (arc_value round).members + result.inserts }
     ensures few { length result.members ≤ 2 ^ (arc_value round).bits }
 {

@@ -254,14 +254,14 @@ fn a_look_answers_every_query_and_stays_what_it_is(rt: HostRuntime) -> Result<()
 #[test]
 fn a_trie_rolls_over_where_it_is_asked_to(rt: HostRuntime) -> Result<(), BeginError> {
     let (r, alloc) = (&rt, rt.alloc());
-    let (live, hand) = opened_one(r, alloc, 4, 9)?;
+    let (mut live, hand) = opened_one(r, alloc, 4, 9)?;
     let calls = [
         Call::Play(&[Step::Insert(7, Ok(true))]),
         Call::Roll,
         Call::Roll,
         Call::Lists(&[(7, 7)]),
     ];
-    go(r, alloc, &live, hand, &calls);
+    go(r, alloc, &mut live, hand, &calls);
     equal(r, live.roll(r), Ok(()));
     let (set, counts) = live.close(r);
     equal(r, set.as_slice(), [(7, 7)].as_slice());

@@ -12,7 +12,7 @@ use std::process::Abort;
 use std::sync::Wait;
 
 // A new handle for the one lane, again if memory was refused.
-fn new_handle<R: Wait + Abort>(rt: &R, alloc: Global, live: &Trie) -> Hand {
+fn new_handle<R: Wait + Abort>(rt: &R, alloc: Global, live: &mut Trie) -> Hand {
     if let Ok(hand) = renewed(rt, alloc, live, 0) {
         return hand;
     }
@@ -59,14 +59,14 @@ fn opened_again<R: Wait + Abort>(rt: &R, alloc: Global) -> Result<(Trie, Vec<Han
 #[test]
 fn refused_memory_loses_nothing_of_a_live_trie(rt: HostRuntime) -> Result<(), BeginError> {
     let (r, alloc) = (&rt, rt.alloc());
-    let (live, mut hands) = opened_again(r, alloc)?;
+    let (mut live, mut hands) = opened_again(r, alloc)?;
     let mut hand = last(r, &mut hands);
     fill(r, &mut hand, 0, 5);
     play(r, &mut hand, &[Step::Remove(2, Ok(true))]);
     let mut look = looked(r, hand);
     equal(r, size(&mut look), 4);
     drop(over(look));
-    let mut hand = new_handle(r, alloc, &live);
+    let mut hand = new_handle(r, alloc, &mut live);
     play(r, &mut hand, &[Step::Insert(4, Ok(false))]);
     equal(r, live.roll(r), Ok(()));
     let (size, counts) = closed(r, live);

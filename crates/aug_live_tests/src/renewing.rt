@@ -14,9 +14,15 @@ use std::thread;
 #[test]
 fn a_new_handle_goes_on_where_a_dropped_one_ended(rt: HostRuntime) -> Result<(), BeginError> {
     let (r, alloc) = (&rt, rt.alloc());
-    let (live, mut hands) = opened(r, alloc, 6, 2, 3)?;
-    go(r, alloc, &live, last(r, &mut hands), &[Call::Fill(0, 8)]);
-    let hand = renewed(r, alloc, &live, 1).expect(r, "a new handle");
+    let (mut live, mut hands) = opened(r, alloc, 6, 2, 3)?;
+    go(
+        r,
+        alloc,
+        &mut live,
+        last(r, &mut hands),
+        &[Call::Fill(0, 8)],
+    );
+    let hand = renewed(r, alloc, &mut live, 1).expect(r, "a new handle");
     equal(r, hand.universe(), 64);
     let calls = [
         Call::ListsAsMany(8),
@@ -25,14 +31,14 @@ fn a_new_handle_goes_on_where_a_dropped_one_ended(rt: HostRuntime) -> Result<(),
         Call::Roll,
         Call::Play(&[Step::Remove(0, Ok(true))]),
     ];
-    go(r, alloc, &live, hand, &calls);
+    go(r, alloc, &mut live, hand, &calls);
     let (size, counts) = closed(r, live);
     equal(r, (size, counts.inserts, counts.removals), (15, 16, 1));
     Ok(())
 }
 
 // Puts a key in with an old handle, and asks for it once the handle's lane was given on.
-fn is_replaced<R: Wait + Abort>(rt: &R, live: &Trie, old: Hand) {
+fn is_replaced<R: Wait + Abort>(rt: &R, live: &mut Trie, old: Hand) {
     let mut old = old;
     play(rt, &mut old, &[Step::Insert(6, Err(LiveError::Replaced))]);
     equal(rt, live.roll(rt), Ok(()));
@@ -45,18 +51,18 @@ fn the_old_handle_of_a_lane_that_was_given_on_is_refused(
     rt: HostRuntime,
 ) -> Result<(), BeginError> {
     let (r, alloc) = (&rt, rt.alloc());
-    let (live, hand) = opened_one(r, alloc, 6, 3)?;
+    let (mut live, hand) = opened_one(r, alloc, 6, 3)?;
     let mut old = hand;
     play(r, &mut old, &[Step::Insert(5, Ok(true))]);
-    let mut new = renewed(r, alloc, &live, 0).expect(r, "a new handle");
-    is_replaced(r, &live, old);
+    let mut new = renewed(r, alloc, &mut live, 0).expect(r, "a new handle");
+    is_replaced(r, &mut live, old);
     play(r, &mut new, &[Step::Remove(5, Ok(true))]);
     equal(r, closed(r, live).0, 0);
     Ok(())
 }
 
 // Puts a key in with a new handle of the lane with its number.
-fn insert_anew<R: Wait + Abort>(rt: &R, alloc: Global, live: &Trie, lane: u32) {
+fn insert_anew<R: Wait + Abort>(rt: &R, alloc: Global, live: &mut Trie, lane: u32) {
     let mut hand = renewed(rt, alloc, live, lane).expect(rt, "a new handle");
     play(rt, &mut hand, &[Step::Insert(lane, Ok(true))]);
 }
@@ -64,21 +70,21 @@ fn insert_anew<R: Wait + Abort>(rt: &R, alloc: Global, live: &Trie, lane: u32) {
 #[test]
 fn there_are_as_many_lanes_as_handles(rt: HostRuntime) -> Result<(), BeginError> {
     let (r, alloc) = (&rt, rt.alloc());
-    let (live, hands) = opened(r, alloc, 6, 3, 3)?;
+    let (mut live, hands) = opened(r, alloc, 6, 3, 3)?;
     for lane in [3, 4, u32::MAX] {
-        let refused = renewed(r, alloc, &live, lane);
+        let refused = renewed(r, alloc, &mut live, lane);
         equal(r, refused.err(), Some(LiveError::NoLane));
     }
     drop(hands);
     for lane in 0..3 {
-        insert_anew(r, alloc, &live, lane);
+        insert_anew(r, alloc, &mut live, lane);
     }
     equal(r, closed(r, live).0, 3);
     Ok(())
 }
 
 // Puts key 3 in and takes it out in turn, `times` times, each time with a new handle for the lane 3. Whether all was right.
-fn renew_often<R: Wait>(rt: &R, alloc: Global, live: &Trie, times: u32) -> bool {
+fn renew_often<R: Wait>(rt: &R, alloc: Global, live: &mut Trie, times: u32) -> bool {
     let mut right = true;
     for number in 0..times {
         let Ok(mut hand) = renewed(rt, alloc, live, 3) else {
@@ -95,9 +101,9 @@ fn renew_often<R: Wait>(rt: &R, alloc: Global, live: &Trie, times: u32) -> bool 
 
 #[test]
 fn handles_are_dropped_and_made_anew_while_others_work(rt: HostRuntime) -> Result<(), BeginError> {
-    let (live, mut hands) = opened(&rt, rt.alloc(), 6, 4, 1000)?;
+    let (mut live, mut hands) = opened(&rt, rt.alloc(), 6, 4, 1000)?;
     drop(hands.pop());
-    let (r, alloc, trie) = (&rt, rt.alloc(), &live);
+    let (r, alloc, trie) = (&rt, rt.alloc(), &mut live);
     let jobs = jobs(r, alloc, hands, 50_000);
     let (done, right) = thread::join(
         r,

@@ -17,10 +17,10 @@ fn roll_over_after_21<R: Wait + Abort>(
     alloc: Global,
     extra: u32,
 ) -> Result<(), BeginError> {
-    let (live, mut hands) = opened_with(rt, alloc, 6, 2, 6, 3)?;
+    let (mut live, mut hands) = opened_with(rt, alloc, 6, 2, 6, 3)?;
     let all = 21u32.saturating_add(extra);
     let calls = [Call::Fill(0, all), Call::ListsAsMany(all as usize)];
-    go(rt, alloc, &live, last(rt, &mut hands), &calls);
+    go(rt, alloc, &mut live, last(rt, &mut hands), &calls);
     let (size, counts) = closed(rt, live);
     let rounds = u64::from(extra).saturating_add(1);
     equal(
@@ -59,9 +59,9 @@ fn a_look_holds_no_spare_lane_up(rt: HostRuntime) -> Result<(), BeginError> {
 
 #[test]
 fn a_new_handle_goes_on_with_spare_lanes(rt: HostRuntime) -> Result<(), BeginError> {
-    let (live, mut hands) = opened_with(&rt, rt.alloc(), 6, 2, 2, 2)?;
+    let (mut live, mut hands) = opened_with(&rt, rt.alloc(), 6, 2, 2, 2)?;
     drop(hands.pop());
-    let mut hand = renewed(&rt, rt.alloc(), &live, 1).expect(&rt, "a new handle");
+    let mut hand = renewed(&rt, rt.alloc(), &mut live, 1).expect(&rt, "a new handle");
     fill(&rt, &mut hand, 0, 6);
     let mut first = last(&rt, &mut hands);
     fill(&rt, &mut first, 10, 2);

@@ -76,7 +76,7 @@ pub(super) fn last(rt: &impl Abort, hands: &mut Vec<Hand>) -> Hand {
 pub(super) fn renewed<R: Wait>(
     rt: &R,
     alloc: Global,
-    live: &Trie,
+    live: &mut Trie,
     lane: u32,
 ) -> Result<Hand, LiveError> {
     live.handle(rt, alloc, lane)
@@ -169,7 +169,7 @@ pub(super) fn listed<R: Wait + Abort>(
 }
 
 // The last handle that comes of a call.
-fn act<R: Wait + Abort>(rt: &R, alloc: Global, live: &Trie, hand: Hand, call: Call) -> Hand {
+fn act<R: Wait + Abort>(rt: &R, alloc: Global, live: &mut Trie, hand: Hand, call: Call) -> Hand {
     let mut hand = hand;
     match call {
         Call::Play(steps) => play(rt, &mut hand, steps),
@@ -194,7 +194,13 @@ fn act<R: Wait + Abort>(rt: &R, alloc: Global, live: &Trie, hand: Hand, call: Ca
 }
 
 /// Makes calls with a trie and a handle, which is dropped at the end.
-pub(super) fn go<R: Wait + Abort>(rt: &R, alloc: Global, live: &Trie, hand: Hand, calls: &[Call]) {
+pub(super) fn go<R: Wait + Abort>(
+    rt: &R,
+    alloc: Global,
+    live: &mut Trie,
+    hand: Hand,
+    calls: &[Call],
+) {
     let mut hand = hand;
     for call in calls {
         hand = act(rt, alloc, live, hand, *call);

@@ -15,7 +15,7 @@ use std::sync::Wait;
 
 // A trie over no keys of 6 bits, and two handles of it.
 fn two<R: Wait + Abort>(rt: &R, alloc: Global) -> Result<(Trie, Hand, Hand), BeginError>
-    ensures { IfOk result (λ t. t.2.half.round.table ≡ t.1.half.round.table) }
+    ensures { IfOk result (λ t. (t.1.half.round.table ≡ t.0.table) × (t.2.half.round.table ≡ t.0.table)) }
 {
     let plan = Plan {
         lanes: 2,
@@ -74,7 +74,7 @@ fn sees<R: Wait + Abort>(rt: &R, hand: Hand, key: u32) -> (Hand, bool)
 }
 
 // Rolls the round over some times.
-fn roll<R: Wait + Abort>(rt: &R, live: &Trie, times: u32) {
+fn roll<R: Wait + Abort>(rt: &R, live: &mut Trie, times: u32) {
     for _ in 0..times {
         equal(rt, live.roll(rt), Ok(()));
     }
@@ -83,7 +83,7 @@ fn roll<R: Wait + Abort>(rt: &R, live: &Trie, times: u32) {
 // One handle puts a key in and takes it out, and tells another each time, with roll-overs before the note is made and before it is learnt.
 fn assert_told<R: Wait + Abort>(
     rt: &R,
-    live: &Trie,
+    live: &mut Trie,
     from: Hand,
     to: Hand,
     key: u32,
@@ -114,11 +114,11 @@ fn assert_told<R: Wait + Abort>(
 
 #[test]
 fn a_note_tells_what_its_maker_did_over_any_roll_overs(rt: HostRuntime) -> Result<(), BeginError> {
-    let (live, a, b) = two(&rt, rt.alloc())?;
-    let (a, b) = assert_told(&rt, &live, a, b, 3, 0, 0);
-    let (a, b) = assert_told(&rt, &live, a, b, 5, 0, 1);
-    let (a, b) = assert_told(&rt, &live, a, b, 3, 2, 0);
-    let (a, b) = assert_told(&rt, &live, a, b, 63, 1, 3);
+    let (mut live, a, b) = two(&rt, rt.alloc())?;
+    let (a, b) = assert_told(&rt, &mut live, a, b, 3, 0, 0);
+    let (a, b) = assert_told(&rt, &mut live, a, b, 5, 0, 1);
+    let (a, b) = assert_told(&rt, &mut live, a, b, 3, 2, 0);
+    let (a, b) = assert_told(&rt, &mut live, a, b, 63, 1, 3);
     drop((a, b));
     let (size, counts) = closed(&rt, live);
     equal(&rt, (size, counts.inserts, counts.removals), (0, 4, 4));
@@ -129,11 +129,11 @@ fn a_note_tells_what_its_maker_did_over_any_roll_overs(rt: HostRuntime) -> Resul
 fn a_closed_trie_makes_no_note_and_a_replaced_handle_none(
     rt: HostRuntime,
 ) -> Result<(), BeginError> {
-    let (live, mut a, mut b) = two(&rt, rt.alloc())?;
+    let (mut live, mut a, mut b) = two(&rt, rt.alloc())?;
     let Ok(note) = b.note(&rt) else {
         panic!(&rt; "no note");
     };
-    drop(renewed(&rt, rt.alloc(), &live, 0));
+    drop(renewed(&rt, rt.alloc(), &mut live, 0));
     equal(&rt, a.note(&rt).err(), Some(LiveError::Replaced));
     let Err((_, cause)) = a.learn(&rt, note) else {
         panic!(&rt; "learnt");
@@ -141,5 +141,35 @@ fn a_closed_trie_makes_no_note_and_a_replaced_handle_none(
     equal(&rt, cause, LiveError::Replaced);
     closed(&rt, live);
     equal(&rt, b.note(&rt).err(), Some(LiveError::Closed));
+    Ok(())
+}
+
+// A handle of a trie that came back told the trie what it did: a new one of its lane sees it. A handle that was replaced does not come back.
+fn assert_back<R: Wait + Abort>(rt: &R, alloc: Global, live: &mut Trie, a: Hand, b: Hand)
+    requires { (a.half.round.table ≡ live.old.table) × (b.half.round.table ≡ live.old.table) }
+{
+    let mut a = a;
+    change(rt, &mut a, 3, true);
+    let Ok(()) = live.back(rt, a) else {
+        panic!(rt; "not taken back");
+    };
+    let Ok(next) = live.handle(rt, alloc, 0) else {
+        panic!(rt; "no new handle");
+    };
+    let (_, seen) = sees(rt, next, 3);
+    holds(rt, seen);
+    drop(live.handle(rt, alloc, 1));
+    let Err((_, cause)) = live.back(rt, b) else {
+        panic!(rt; "taken back");
+    };
+    equal(rt, cause, LiveError::Replaced);
+}
+
+#[test]
+fn a_trie_knows_what_a_handle_did_that_came_back(rt: HostRuntime) -> Result<(), BeginError> {
+    let (mut live, a, b) = two(&rt, rt.alloc())?;
+    assert_back(&rt, rt.alloc(), &mut live, a, b);
+    let (size, counts) = closed(&rt, live);
+    equal(&rt, (size, counts.inserts, counts.removals), (1, 1, 0));
     Ok(())
 }

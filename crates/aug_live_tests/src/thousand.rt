@@ -40,7 +40,7 @@ fn compare<R: Wait + Abort>(rt: &R, hand: Hand, model: &KeySet) -> Hand {
 fn round<R: Wait + Abort>(
     rt: &R,
     alloc: Global,
-    live: &Trie,
+    live: &mut Trie,
     hand: Hand,
     model: &mut KeySet,
     number: u64,
@@ -58,12 +58,12 @@ fn round<R: Wait + Abort>(
 #[test]
 fn a_thousand_rounds_in_one_table_keep_the_members(rt: HostRuntime) -> Result<(), BeginError> {
     let (r, alloc) = (&rt, rt.alloc());
-    let (live, mut hands) = opened_with(r, alloc, 6, 2, 1, 4)?;
+    let (mut live, mut hands) = opened_with(r, alloc, 6, 2, 1, 4)?;
     let idle = hands.pop();
     let mut hand = last(r, &mut hands);
     let mut model = KeySet::try_new(alloc, 6).expect(r, "memory");
     for number in 0..1000 {
-        hand = round(r, alloc, &live, hand, &mut model, number);
+        hand = round(r, alloc, &mut live, hand, &mut model, number);
     }
     drop(hand);
     drop(idle);

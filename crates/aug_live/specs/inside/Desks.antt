@@ -7,6 +7,7 @@ use Rattle.aug_trie.specs.Crew.{CrewFacts}
 use Rattle.aug_live.specs.declared.counts.LiveCounts.{LiveCounts}
 use Rattle.aug_live.specs.inside.LaneKnowledge.{KnownFacts}
 use Rattle.aug_live.specs.Carrying.{Leads}
+use Rattle.aug_live.specs.LiveTries.{AreCountsOf}
 use Rattle.aug_live.specs.inside.Rolls.{IsOf, rounds_in}
 
 -- the counts of the rounds so far, at a set with so many members
@@ -23,6 +24,8 @@ pub record IsWorking (lanes updates : ℕ) (counts : LiveCounts) (round : RoundF
   pub of_round : All (IsOf (rounds_in crew) counts.rounds) ports
   pub led : Leads round.bits crew.past round.members
   pub counted : AreCounts counts (length round.members)
+  pub rounds_are : counts.rounds ≡ length crew.past + 1
+  pub tallied : AreCountsOf round.bits crew.past counts.inserts counts.removals
   pub few_inserts : counts.inserts + 2 ^ 32 ≤ 2 ^ 64
   pub few_removals : counts.removals + 2 ^ 32 ≤ 2 ^ 64
   pub laid_out : IsLayout (shape_of round.bits lanes updates (2 ^ round.bits))

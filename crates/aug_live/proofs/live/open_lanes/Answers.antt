@@ -3,7 +3,7 @@ use Rattle.aug_trie.specs.Chains.{Chapter}
 use Rattle.aug_trie.specs.Round.{RoundFacts}
 use Rattle.std.specs.Vec.Iter.{into_iter_len}
 use Rattle.aug_live.specs.inside.LaneKnowledge.{KnownFacts}
-use Rattle.aug_live.specs.inside.Rolls.{IsOf, IsFirst, IsNewPass, rounds_in}
+use Rattle.aug_live.specs.inside.Rolls.{IsOf, Starts, rounds_in}
 use Rattle.aug_live.specs.declared.known.Whose.TheVariants.{Nobody}
 use Rattle.aug_live.proofs.Moving.{head_of, tail_of, one_more}
 use Rattle.aug_live.proofs.live.open_lanes.Goals as goal
@@ -22,7 +22,7 @@ pub loop-first-preserved : goal.loop-first-preserved
 loop-first-preserved g c =
     let was = c.loop-first.invariant in let step = c.in-Some.ensures.steps in let opened = c.open-port.ensures in
     let grown : vec_len c.push_reserved.new.self ≡ vec_len c.loop-first.ports + 1 = c.push_reserved.ensures.len in
-    let longer : vec_len c.push_reserved-in-loop-first.new.self ≡ vec_len c.loop-first.handles + 1 = c.push_reserved-in-loop-first.ensures.len in (
+    let longer : vec_len c.push_reserved-in-loop-first.new.self ≡ vec_len c.loop-first.ends + 1 = c.push_reserved-in-loop-first.ensures.len in (
       search rules,
       tail_of (λ (v : KnownFacts). v.whose ≡ Nobody) _ _ _ _ _ step.0 step.1 was.1,
       one_more (IsOf (rounds_in c.args.crew.now) 1) _ _ _ c.push_reserved.ensures.items was.2 (subst (λ (z : RoundFacts × List Chapter). IsOf z 1 c.open-port.result.0) was.3 opened.of_round),
@@ -30,8 +30,7 @@ loop-first-preserved g c =
       search rules,
       omega (arith, was.5, opened.handed, grown),
       opened.back ∙ was.6,
-      one_more (IsFirst (rounds_in c.args.crew.now)) _ _ _ c.push_reserved-in-loop-first.ensures.items was.7
-          (record { era_is = opened.handle.era_is; fresh = subst (λ (z : RoundFacts × List Chapter). IsNewPass z c.open-port.result.1.at.half) was.3 opened.handle.fresh }),
+      one_more (Starts (rounds_in c.args.crew.now)) _ _ _ c.push_reserved-in-loop-first.ensures.items was.7 (subst (λ (z : RoundFacts × List Chapter). Starts z c.open-port.result.1) was.3 opened.handle),
       omega (arith, was.8, grown, longer),
       search rules,
     )

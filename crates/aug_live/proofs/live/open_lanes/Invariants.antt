@@ -1,6 +1,6 @@
 use Rattle.std.specs.Prelude.{◌≡◌, ℕ, ◌+◌, ◌<◌, ◌≤◌, get_or, All, vec_len, vec_capacity}
 use Rattle.std.specs.Vec.Iter.{into_iter_items, into_iter_len}
-use Rattle.aug_live.specs.inside.Rolls.{IsOf, IsFirst, rounds_in}
+use Rattle.aug_live.specs.inside.Rolls.{IsOf, Starts, rounds_in}
 use Rattle.aug_live.specs.declared.known.Whose.TheVariants.{Nobody}
 use Rattle.aug_live.proofs.live.open_lanes.Given as goal
 
@@ -14,6 +14,6 @@ invariant-loop-first g l =
     × (into_iter_len all ≤ vec_capacity l.ports)
     × (l.crew.handed ≡ n)
     × (l.crew.back ≡ l.initial.crew.back)
-    × All (IsFirst (rounds_in l.initial.crew)) l.handles.items
-    × (vec_len l.handles ≡ n)
-    × (into_iter_len all ≤ vec_capacity l.handles)
+    × All (Starts (rounds_in l.initial.crew)) l.ends.items
+    × (vec_len l.ends ≡ n)
+    × (into_iter_len all ≤ vec_capacity l.ends)

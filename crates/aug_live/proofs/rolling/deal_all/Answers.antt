@@ -3,6 +3,7 @@ use Rattle.std.specs.Arc.{arc_value}
 use Rattle.std.specs.Prelude.{Option, option_to_list}
 use Rattle.aug_trie.specs.Chains.{Chapter}
 use Rattle.aug_trie.specs.Round.{RoundFacts}
+use Rattle.aug_core.proofs.PrefixLemmas.{prefix_trans}
 use Rattle.aug_live.specs.Carrying.{Leads}
 use Rattle.aug_live.specs.inside.LaneKnowledge.{KnownFacts}
 use Rattle.aug_live.specs.inside.Rolls.{IsOf, HasEnded, rounds_in}
@@ -36,4 +37,5 @@ loop-port-preserved g c =
       c.pop.ensures.capacity ∙ was.5,
       omega (arith, was.6, began.handed, grown),
       began.back ∙ was.7,
+      prefix_trans c.args.crew.now.knows.history c.loop-port.crew.knows.history c.begin.new.crew.knows.history was.8 began.goes_on,
     )

@@ -1,5 +1,6 @@
 use Rattle.std.specs.Prelude.{◌≡◌, ◌+◌, All, vec_len, vec_capacity}
 use Rattle.std.specs.Arc.{arc_value}
+use Rattle.aug_core.specs.Prefixes.{IsPrefix}
 use Rattle.aug_live.specs.inside.Rolls.{IsOf, HasEnded, rounds_in}
 use Rattle.aug_live.proofs.rolling.deal_all.Given as goal
 
@@ -13,6 +14,7 @@ invariant-loop-port g l =
     × (vec_capacity l.back ≡ vec_capacity l.fn.back)
     × (l.crew.handed ≡ vec_len l.ports)
     × (l.crew.back ≡ l.fn.crew.back)
+    × IsPrefix l.fn.crew.knows.history l.crew.knows.history
 
 abbrev pub decreases-loop-port : goal.decreases-loop-port
 decreases-loop-port g l = vec_len l.back

@@ -2,6 +2,7 @@ use Rattle.std.proofs.Common.{◌≡◌, ◌+◌, ◌<◌, ◌∙◌, ℕ, List,
 use Rattle.std.specs.Prelude.{Option, option_to_list}
 use Rattle.aug_trie.specs.Chains.{Chapter}
 use Rattle.aug_trie.specs.Round.{RoundFacts}
+use Rattle.aug_core.proofs.PrefixLemmas.{prefix_refl, prefix_trans}
 use Rattle.aug_live.specs.inside.LaneKnowledge.{KnownFacts}
 use Rattle.aug_live.specs.inside.Rolls.{IsOf, IsBackIn, rounds_in}
 use Rattle.aug_live.proofs.Moving.{one_more, all_but_last, last_one, all_back_on, same_era}
@@ -29,4 +30,5 @@ loop-port-preserved g c =
       c.pop.ensures.capacity ∙ was.5,
       gave.handed ∙ was.6,
       omega (arith, gave.counted, was.7, grown),
+      prefix_trans c.args.crew.now.knows.history c.loop-port.crew.knows.history c.give_back.new.crew.knows.history was.8 gave.goes_on,
     )

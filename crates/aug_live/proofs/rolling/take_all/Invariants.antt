@@ -1,4 +1,5 @@
 use Rattle.std.specs.Prelude.{◌≡◌, ◌+◌, All, vec_len, vec_capacity}
+use Rattle.aug_core.specs.Prefixes.{IsPrefix}
 use Rattle.aug_live.specs.inside.Rolls.{IsOf, IsBackIn, rounds_in}
 use Rattle.aug_live.proofs.rolling.take_all.Given as goal
 
@@ -12,6 +13,7 @@ invariant-loop-port g l =
     × (vec_capacity l.ports ≡ vec_capacity l.fn.ports)
     × (l.crew.handed ≡ l.fn.crew.handed)
     × (l.crew.back ≡ l.fn.crew.back + vec_len l.back)
+    × IsPrefix l.fn.crew.knows.history l.crew.knows.history
 
 abbrev pub decreases-loop-port : goal.decreases-loop-port
 decreases-loop-port g l = vec_len l.ports

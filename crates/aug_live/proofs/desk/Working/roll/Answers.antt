@@ -4,6 +4,9 @@ use Rattle.aug_trie.specs.Chains.{Chapter}
 use Rattle.aug_trie.specs.Round.{RoundFacts}
 use Rattle.aug_live.specs.Carrying.{Leads}
 use Rattle.aug_live.specs.inside.Rolls.{IsBackIn}
+use Rattle.aug_trie.specs.Crew.{crew_chain}
+use Rattle.aug_trie.proofs.Chaining.{part_trans}
+use Rattle.aug_live.proofs.Counted.{crew_part, desk_on, more_self, rolled_part}
 use Rattle.aug_live.proofs.Desks.{rolled_on}
 use Rattle.aug_live.proofs.Moving.{all_ended, next_led}
 use Rattle.aug_live.proofs.desk.Working.roll.Goals as goal
@@ -32,3 +35,15 @@ invariant_of-working g c =
       search rules,
       search rules,
     )
+
+pub returns-then-counts-clause-more : goal.returns-then-counts-clause-more
+returns-then-counts-clause-more g c = more_self c.args.self
+
+pub returns-clause-more : goal.returns-clause-more
+returns-clause-more g c =
+    let w = c.self.inside in let now = c.take_all.new.crew in let first = c.renewed-crew.result.0 in let dealt = c.deal_all.ensures in let took = c.take_all.ensures in
+    let round : RoundFacts = arc_value w.round in let next : RoundFacts = arc_value c.renewed-crew.new.round in let rolls = c.renewed-crew.ensures.rolls in
+    let here = ap (λ (z : RoundFacts × List Chapter). z.0) took.round ∙ c.self.invariant.0.together in
+    desk_on _ round next w.crew c.deal_all.new.crew _ _ c.self.view_is (ap (λ (z : RoundFacts). z.table) rolls.round_is) (ap (λ (z : RoundFacts). z.bits) rolls.round_is) (dealt.len ∙ took.len)
+    (part_trans (crew_chain w.crew) (crew_chain now) (crew_chain c.deal_all.new.crew) (crew_part w.crew now took.round took.goes_on)
+    (part_trans (crew_chain now) (crew_chain first) (crew_chain c.deal_all.new.crew) (rolled_part round next now first _ _ _ rolls here) (crew_part first c.deal_all.new.crew dealt.round dealt.goes_on)))

@@ -1,10 +1,16 @@
-use Rattle.std.proofs.Common.{◌∙◌, All, List, ap, refl, sym, subst, rules, arith}
+use Rattle.std.proofs.Common.{◌∙◌, All, List, map, ap, refl, sym, subst, rules, arith}
+use Rattle.std.specs.Arc.{arc_value}
+use Rattle.std.proofs.lemmas.List.Elements.{All-map}
+use Rattle.atomic_table.specs.Seated.{TableId}
 use Rattle.aug_model.proofs.Boundaries.{IsKeySet-few}
 use Rattle.aug_model.proofs.Pairs.{length-keys_of}
 use Rattle.aug_trie.specs.Chains.{Chapter}
 use Rattle.aug_trie.specs.Crew.{CrewFacts}
 use Rattle.aug_trie.specs.Round.{RoundFacts}
-use Rattle.aug_live.specs.inside.Rolls.{IsOf}
+use Rattle.aug_live.specs.LiveHandles.{HandleFacts, IsNew}
+use Rattle.aug_live.specs.LiveTries.{TrieFacts, IsOpenedTrie}
+use Rattle.aug_live.specs.inside.LaneKnowledge.{KnownFacts}
+use Rattle.aug_live.specs.inside.Rolls.{IsFirst, IsOf, rounds_in}
 use Rattle.aug_live.proofs.Desks.{all_new, opened_at}
 use Rattle.aug_live.proofs.live.Live.open_with.Goals as goal
 
@@ -25,4 +31,19 @@ invariant_of-working g c =
     )
 
 pub returns-clause-new : goal.returns-clause-new
-returns-clause-new g c = (_, all_new c.args.set c.args.plan.lanes c.args.plan.updates _ _ _ c.in-Ok-next_round.ensures.begun c.open_lanes-ports.ensures.starts)
+returns-clause-new g c =
+    let begun = c.in-Ok-next_round.ensures.begun in let lanes = c.open_lanes-ports.ensures in let rounds = rounds_in c.in-Ok-next_round.begun.1 in let at = λ (v : KnownFacts). v.at in
+    let is = c.hand_out-handles.ensures.same ∙ c.place-desk.ensures in let ends = c.open_lanes-ports.result.1.items in
+    let firsts = All-map (IsFirst rounds) at ends (λ k d low. let s = lanes.starts k d low in record { era_is = s.era_is; fresh = s.fresh }) in
+    subst (λ (z : TableId × List HandleFacts). All (IsNew z.0 c.args.set c.args.plan.updates) z.1) (λ i. (ap (λ (z : TrieFacts). z.table) (sym is) i, sym c.hand_out-handles.ensures.at i))
+    (all_new c.args.set c.args.plan.lanes c.args.plan.updates (arc_value c.in-Ok-next_round.begun.0) c.in-Ok-next_round.begun.1 (map at ends) begun firsts)
+
+pub returns-clause-opened : goal.returns-clause-opened
+returns-clause-opened g c =
+    let begun = c.in-Ok-next_round.ensures.begun in let lanes = c.open_lanes-ports.ensures in let is = c.hand_out-handles.ensures.same ∙ c.place-desk.ensures in
+    subst (IsOpenedTrie c.args.set c.args.handles) (sym is) (record {
+      bits = ap (λ (z : RoundFacts). z.bits) begun.round_is;
+      lanes = lanes.len.0 ∙ c.in-Ok.ensures.firsts.1;
+      none_before = ap (λ (z : RoundFacts × List Chapter). z.1) lanes.round ∙ ap (λ (z : CrewFacts). z.past) begun.crew_is;
+      members = ap (λ (z : RoundFacts × List Chapter). z.0.members) lanes.round ∙ ap (λ (z : CrewFacts). z.round.members) begun.crew_is ∙ ap (λ (z : RoundFacts). z.members) begun.round_is;
+    })

@@ -1,0 +1,268 @@
+//! The desk, and the ends of its lock.
+ghost use Rattle.std.specs.Prelude.{◌≡◌, ◌+◌, ◌<◌, ◌≤◌, IfOk, IsErr, IsErrOf, length};
+ghost use Rattle.aug_trie.specs.Note.{chain_of_note};
+ghost use Rattle.aug_trie.specs.Chains.{IsPart};
+ghost use Rattle.aug_live.specs.LiveTries.{Closes, IsHandleOf, KnowsMore};
+ghost use Rattle.aug_live.specs.inside.Rolls.{IsHandleEnd};
+ghost use Rattle.aug_live.specs.declared.known.Whose.TheVariants.{Nobody};
+
+use crate::counts::LiveCounts;
+use crate::desk::Working;
+use crate::end::End;
+use crate::error::LiveError;
+use crate::rolling::share;
+use atomic_table::Split;
+use aug_monoid::Monoid;
+use aug_trie::{Members, Note, PassHalf};
+use ruled_lock::{Lesson, LockRule, Outcome, Pass, RuledLock};
+use std::alloc::{AllocError, Global};
+use std::marker::Model;
+use std::sync::{Arc, Wait};
+use std::thread::yield_now;
+
+/// The desk: the round that goes on, unless the trie was closed or is not open yet.
+#[derive(Drop)]
+pub(crate) struct Desk<A: Monoid, B: Monoid> {
+    pub(crate) working: Option<Working<A, B>>,
+    pub(crate) opened: bool,
+}
+
+/// What an end of the desk knows of its trie. No value of it is made.
+pub(crate) struct Told<A: Monoid, B: Monoid> {
+    half: PassHalf<A, B>,
+    lanes: usize,
+}
+
+impl<A: Monoid, B: Monoid> Model for Told<A, B> {
+    ghost use Rattle.aug_trie.specs.Pass.{chain_of};
+    ghost use Rattle.aug_live.specs.LiveTries.{TrieFacts};
+
+    ghost Value = { TrieFacts };
+
+    ghost view = { λ t. record { table = t.half.round.table; bits = t.half.round.bits; lanes = t.lanes; rounds = chain_of t.half } };
+}
+
+/// The rule of the desk's lock: each end knows a part of the rounds of the trie that lies there.
+pub(crate) struct Telling;
+
+impl<A: Monoid, B: Monoid> LockRule<Desk<A, B>, Told<A, B>> for Telling {
+    ghost use Rattle.aug_live.specs.inside.DeskKnowledge.{OnDesk, no_trie};
+
+    ghost holds = { OnDesk };
+
+    ghost first = { no_trie };
+}
+
+/// What an end learns that takes what lies there.
+pub(crate) struct Read;
+
+impl<A: Monoid, B: Monoid> Lesson<Desk<A, B>, Told<A, B>> for Read {
+    ghost use Rattle.aug_live.specs.inside.DeskKnowledge.{KnowsDesk};
+
+    ghost fact = { KnowsDesk };
+}
+
+/// What an end knows that puts something there.
+pub(crate) struct Lay;
+
+impl<A: Monoid, B: Monoid> Outcome<Desk<A, B>, Told<A, B>> for Lay {
+    ghost use Rattle.aug_live.specs.inside.DeskKnowledge.{is_told};
+
+    ghost then = { is_told };
+}
+
+/// One more end, which knows the same.
+pub(crate) struct Same;
+
+impl<A: Monoid, B: Monoid> Split<Told<A, B>> for Same {
+    ghost left = { λ v. v };
+
+    ghost right = { λ v. v };
+}
+
+/// The lock of the desk.
+pub(crate) type DeskLock<A, B> = RuledLock<Desk<A, B>, Told<A, B>, Telling>;
+
+/// An end of the desk's lock: the owner's, or a handle's.
+#[derive(Drop)]
+pub(crate) struct DeskEnd<A: Monoid, B: Monoid> {
+    lock: Arc<DeskLock<A, B>, Global>,
+    pass: Pass<Desk<A, B>, Told<A, B>>,
+}
+
+impl<A: Monoid, B: Monoid> Model for DeskEnd<A, B> {
+    ghost use Rattle.std.specs.Prelude.{◌≡◌};
+    ghost use Rattle.std.specs.Arc.{arc_value};
+    ghost use Rattle.ruled_lock.specs.Locks.{client_of, HoldsNothing};
+    ghost use Rattle.aug_live.specs.LiveTries.{TrieFacts};
+
+    ghost Value = { TrieFacts };
+
+    ghost view = { λ e. client_of e.pass };
+
+    ghost invariant = { λ e. (e.pass.table_id ≡ (arc_value e.lock).table.shared.table_id) × HoldsNothing e.pass };
+}
+
+impl<A: Monoid, B: Monoid> DeskEnd<A, B> {
+    /// The first end of a desk on which nothing lies yet.
+    pub(crate) fn new(alloc: Global) -> Result<DeskEnd<A, B>, AllocError>
+        ensures { IfOk result (λ e. e.bits ≡ 0) }
+    {
+        let desk = Desk {
+            working: None,
+            opened: false,
+        };
+        let (lock, pass) = RuledLock::new(alloc, desk)?;
+        let Ok(lock) = Arc::new(alloc, lock) else {
+            return Err(AllocError);
+        };
+        Ok(DeskEnd { lock, pass })
+    }
+
+    /// Lays the first round there.
+    pub(crate) fn place<R: Wait>(self, rt: &R, working: Working<A, B>) -> DeskEnd<A, B>
+        requires first { self.bits ≡ 0 }
+        requires some { 0 < working.bits }
+        ensures { result ≡ working }
+    {
+        let DeskEnd { lock, mut pass } = self;
+        let _ = lock.take::<Read, R>(rt, &mut pass);
+        let desk = Desk {
+            working: Some(working),
+            opened: true,
+        };
+        lock.put::<Lay>(&mut pass, desk);
+        DeskEnd { lock, pass }
+    }
+
+    /// One more end of an open desk.
+    pub(crate) fn another<R: Wait>(&mut self, rt: &R) -> DeskEnd<A, B>
+        requires some { 0 < self.old.bits }
+        ensures same { self.new ≡ self.old }
+        ensures knows { result ≡ self.old }
+    {
+        let pass = self.lock.another::<Same>(&mut self.pass);
+        let lock = share(rt, &self.lock);
+        DeskEnd { lock, pass }
+    }
+
+    /// Sees to it that a lane which was spent in this era has a pass, as `Working::past` does.
+    pub(crate) fn past<R: Wait>(&mut self, rt: &R, era: u64, lane: usize) -> Result<(), LiveError>
+        ensures { KnowsMore self.old self.new }
+    {
+        let Desk { working, opened } = self.lock.take::<Read, R>(rt, &mut self.pass);
+        let Some(working) = working else {
+            self.lock.put::<Lay>(
+                &mut self.pass,
+                Desk {
+                    working: None,
+                    opened,
+                },
+            );
+            return Err(LiveError::Closed);
+        };
+        let (working, done) = working.past(rt, era, lane);
+        let working = Some(working);
+        self.lock
+            .put::<Lay>(&mut self.pass, Desk { working, opened });
+        done
+    }
+
+    /// Rolls the round over.
+    pub(crate) fn roll<R: Wait>(&mut self, rt: &R) -> Result<(), LiveError>
+        ensures more { KnowsMore self.old self.new }
+        ensures rolls { IfOk result (λ _. length self.old.rounds.past < length self.new.rounds.past) }
+    {
+        let Desk { working, opened } = self.lock.take::<Read, R>(rt, &mut self.pass);
+        let Some(working) = working else {
+            self.lock.put::<Lay>(
+                &mut self.pass,
+                Desk {
+                    working: None,
+                    opened,
+                },
+            );
+            return Err(LiveError::Closed);
+        };
+        let (working, rolled) = working.roll(rt);
+        let working = Some(working);
+        self.lock
+            .put::<Lay>(&mut self.pass, Desk { working, opened });
+        rolled
+    }
+
+    /// Has the trie know what a note of it tells.
+    pub(crate) fn learn<R: Wait>(&mut self, rt: &R, note: Note<A, B>) -> Result<(), LiveError>
+        requires trie { note.round.table ≡ self.old.table }
+        ensures more { KnowsMore self.old self.new }
+        ensures learns { IfOk result (λ _. IsPart (chain_of_note note) self.new.rounds) }
+    {
+        let Desk { working, opened } = self.lock.take::<Read, R>(rt, &mut self.pass);
+        let Some(working) = working else {
+            self.lock.put::<Lay>(
+                &mut self.pass,
+                Desk {
+                    working: None,
+                    opened,
+                },
+            );
+            return Err(LiveError::Closed);
+        };
+        let working = Some(working.learn(note));
+        self.lock
+            .put::<Lay>(&mut self.pass, Desk { working, opened });
+        Ok(())
+    }
+
+    /// Gives a lane to a new handle, whose end it answers with the bits of its keys.
+    pub(crate) fn renew<R: Wait>(
+        &mut self,
+        rt: &R,
+        lane: usize,
+        first: End<A, B>,
+    ) -> Result<(End<A, B>, u32), LiveError>
+        requires first { first.whose ≡ Nobody }
+        ensures more { KnowsMore self.old self.new }
+        ensures handle { IfOk result (λ h. IsHandleEnd h.1 h.0 × IsHandleOf self.new h.0.at) }
+        ensures no_lane { IsErrOf result LiveError.NoLane → self.old.lanes ≤ lane }
+        ensures past { self.old.lanes ≤ lane → IsErr result }
+    {
+        let Desk { working, opened } = self.lock.take::<Read, R>(rt, &mut self.pass);
+        let Some(mut working) = working else {
+            self.lock.put::<Lay>(
+                &mut self.pass,
+                Desk {
+                    working: None,
+                    opened,
+                },
+            );
+            return Err(LiveError::Closed);
+        };
+        let renewed = working.renew(rt, lane, first);
+        let working = Some(working);
+        self.lock
+            .put::<Lay>(&mut self.pass, Desk { working, opened });
+        renewed
+    }
+
+    /// Ends the last round: its set, and the counts of all rounds.
+    pub(crate) fn stop<R: Wait>(self, rt: &R) -> (Members, LiveCounts)
+        ensures closes { Closes self result.0 result.1 }
+        ensures sizes { length result.0.pairs + result.1.removals ≡ result.1.opened + result.1.inserts }
+    {
+        let DeskEnd { lock, mut pass } = self;
+        for _ in rt.forever() {
+            let Desk { working, opened } = lock.take::<Read, R>(rt, &mut pass);
+            let none = Desk {
+                working: None,
+                opened,
+            };
+            lock.put::<Lay>(&mut pass, none);
+            if let Some(working) = working {
+                return working.stop(rt);
+            }
+            yield_now();
+        }
+        unreachable!()
+    }
+}

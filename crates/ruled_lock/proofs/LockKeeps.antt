@@ -1,15 +1,15 @@
 -- Each step of a lock keeps its rule.
 use Rattle.std.proofs.Common.{◌≡◌, ◌≢◌, ℕ, zero, suc, ◌<◌, List, [], ◌∷◌, ◌++◌, map, get_or, set, sym, refl, ap, ◌∙◌, subst, eqb, ⊎_elim, arith, length-set, get_or-set_same}
-use Rattle.std.specs.Prelude.{Option, Some, None, unwrap_or}
+use Rattle.std.specs.Prelude.{Option, Some, None, unwrap_or, IfSome}
 use mathlib.Core.Logic.{dite}
 use mathlib.Core.Option.{some, none, some-injective, some-ne-none}
 use mathlib.Core.List.{map-append}
 use native.Mathlib.Decide.{ℕ_discrete}
 use lib.ListN.{get_elem?}
 use lib.Seq.{map-set}
-use Rattle.atomic_table.specs.Table.{State, step, keeps, takes, gives, stepped, homes_after, Allows, Splits}
+use Rattle.atomic_table.specs.Table.{State, step, keeps, takes, gives, stepped, homes_after, Allows, Splits, Joins}
 use Rattle.ruled_lock.specs.declared.holding.Holding.{Holding}
-use Rattle.ruled_lock.specs.Locks.{Learns, TurnsAt, Forks}
+use Rattle.ruled_lock.specs.Locks.{Learns, TurnsAt, Forks, Meets}
 use Rattle.ruled_lock.specs.inside.LockState.{KnowsValue, client, IsLocked, LockSeat, doing, idle, tried, gave}
 use Rattle.atomic_table.proofs.Lists.{at_set, set_again, set_here, set_else, at_longer, at_snoc, at_map, exchanged}
 use prog.Atomic.{either}
@@ -157,3 +157,31 @@ module _ {T V : Type 0} (holds : T → List V → Type 0) where
     kept = subst (holds r.value) (sym (map-append client (set s.views id w) (idle right ∷ []) ∙ ap (λ l. l ++ right ∷ []) (map-set client s.views id w)))
         (asked r.value (map client s.views) r.kept (at_map client s.views id d at));
   }
+
+  -- a seat that has taken nothing is not the holder while the value is out
+  not_holder : (s : St) (r : Rule s) (j : ℕ) (e : D) → get_elem? s.views j ≡ some e → e.taken ≡ None → 0 < word s → r.holder ≢ j
+  not_holder s r j e there free out is = let h = r.held out in
+      let same : e ≡ h.0 = some-injective e h.0 (sym there ∙ ap (λ (k : ℕ). get_elem? s.views k) (sym is) ∙ h.1) in
+      subst (λ (o : Option T). IfSome o (λ _. ⊥)) (sym free ∙ ap (λ (z : D). z.taken) same ∙ h.2) tt
+
+  -- a seat takes in the view of another, which has taken nothing and is spent then
+  pub joins : (id : ℕ) (d : D) (other : ℕ) (e : D) (both spent : V) → Meets holds id d.client other e.client both spent → e.taken ≡ None
+      → Joins Rule id d other e (doing d.taken both) (idle spent)
+  joins id d other e both spent asked free s r at apart there = let w : D = doing d.taken both in let joined : List D = set s.views id w in
+      let before : get_elem? s.views other ≡ some e = sym (set_else s.views id other w apart) ∙ there in record {
+        value = r.value;
+        holder = r.holder;
+        wide = r.wide;
+        at_home = r.at_home;
+        held = λ out. let h = r.held out in let still = set_else joined other r.holder (idle spent) (not_holder s r other e before free out) in dite (ℕ_discrete r.holder id)
+            (λ same. (
+              w,
+              still ∙ subst (λ (k : ℕ). get_elem? joined k ≡ some w) (sym same) (replaced s.views id d w at),
+              ap (λ (z : D). z.taken) (some-injective d h.0 (sym at ∙ ap (λ (k : ℕ). get_elem? s.views k) (sym same) ∙ h.1)) ∙ h.2,
+            ))
+            (λ third. (h.0, still ∙ set_else s.views id r.holder w third ∙ h.1, h.2));
+        each_seat = seats_stay (λ j o. KnowsValue (word s) r.value r.holder j o) joined other (idle spent) tt
+            (λ j x _. seats_stay (λ i o. KnowsValue (word s) r.value r.holder i o) s.views id w (r.each_seat id d at) (λ i y _. r.each_seat i y) j x);
+        kept = subst (holds r.value) (sym (map-set client joined other (idle spent) ∙ ap (λ l. set l other spent) (map-set client s.views id w)))
+            (asked r.value (map client s.views) r.kept (at_map client s.views id d at) apart (at_map client s.views other e before));
+      }

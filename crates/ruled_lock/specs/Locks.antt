@@ -34,3 +34,7 @@ module _ {T V : Type 0} (holds : T → List V → Type 0) where
   -- this pass's view is cut in two, and a new pass has the second
   abbrev pub Forks : ℕ → V → V → V → Type 0
   Forks pass v left right = (x : T) (views : List V) → holds x views → get_elem? views pass ≡ some v → holds x (slice_set views pass left ++ right ∷ [])
+
+  -- this pass takes in what another knows, which is spent then
+  abbrev pub Meets : ℕ → V → ℕ → V → V → V → Type 0
+  Meets pass v other w both spent = (x : T) (views : List V) → holds x views → get_elem? views pass ≡ some v → (other ≡ pass → ⊥) → get_elem? views other ≡ some w → holds x (slice_set (slice_set views pass both) other spent)

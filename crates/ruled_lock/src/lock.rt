@@ -1,11 +1,11 @@
 //! The lock.
 ghost use Rattle.std.specs.Prelude.{◌≡◌, ◌<◌, [], ◌∷◌, IfOk, IfSome, IsSome, None, Some};
-ghost use Rattle.ruled_lock.specs.Locks.{client_of, IsSamePass, HoldsNothing, Holds, Learns, TurnsAt, Forks};
+ghost use Rattle.ruled_lock.specs.Locks.{client_of, IsSamePass, HoldsNothing, Holds, Learns, TurnsAt, Forks, Meets};
 
 use crate::holding::Holding;
-use crate::plays::{Cut, Give, Try};
+use crate::plays::{Both, Cut, Give, Try};
 use crate::rule::{Lesson, LockRule, Outcome};
-use atomic_table::{Seat, Split, Table, TableRule};
+use atomic_table::{Join, Seat, Split, Table, TableRule};
 use std::alloc::{AllocError, Global};
 use std::marker::PhantomData;
 use std::sync::Wait;
@@ -66,6 +66,19 @@ impl<T, V, P: LockRule<T, V>> RuledLock<T, V, P> {
         ensures new { (result.table_id ≡ pass.old.table_id) × HoldsNothing result × (client_of result ≡ M.right (client_of pass.old)) }
     {
         self.table.shared.split_seat::<Cut<M>>(pass)
+    }
+
+    /// Takes in what another pass of this lock knows, and ends that pass.
+    pub fn join<M: Join<V>>(&self, pass: &mut Pass<T, V>, other: Pass<T, V>)
+        requires lock { pass.old.table_id ≡ self.now.table.shared.table_id }
+        requires same_lock { other.table_id ≡ self.now.table.shared.table_id }
+        requires free { HoldsNothing other }
+        requires rule { Meets P.holds pass.old.id (client_of pass.old) other.id (client_of other) (M.both (client_of pass.old) (client_of other)) M.spent }
+        ensures same { IsSamePass pass.old pass.new }
+        ensures free { HoldsNothing pass.old → HoldsNothing pass.new }
+        ensures both { client_of pass.new ≡ M.both (client_of pass.old) (client_of other) }
+    {
+        self.table.shared.join_seat::<Both<M>>(pass, other);
     }
 
     /// Takes the value out, and waits while another pass has it.

@@ -1,6 +1,7 @@
 -- What follows on what: places of a lane, one after another.
-use Rattle.std.proofs.Common.{◌≡◌, ◌⊎◌, inl, inr, ℕ, ◌+◌, List, [], ◌∷◌, ◌++◌, sym, refl, ap, ◌∙◌, subst, arith}
-use Rattle.std.specs.Prelude.{Result, Ok, Err, IfOk}
+use Rattle.std.proofs.Common.{◌≡◌, ◌⊎◌, inl, inr, ℕ, ◌+◌, List, [], ◌∷◌, ◌++◌, true, false, sym, refl, ap, ◌∙◌, subst, arith}
+use Rattle.std.specs.Prelude.{Option, Some, Result, Ok, Err, IfOk, IfErr}
+use Rattle.std.proofs.lemmas.List.{append-nil}
 use mathlib.Core.Logic.{dite}
 use native.Mathlib.Decide.{ℕ_discrete}
 use Rattle.aug_core.specs.Cuts.{Cut, pairs_of_cut}
@@ -8,14 +9,21 @@ use Rattle.aug_core.specs.Prefixes.{IsPrefix}
 use Rattle.aug_core.proofs.PrefixLemmas.{prefix_trans}
 use Rattle.aug_trie.specs.Chains.{Chapter, BeginsWith, IsPart}
 use Rattle.aug_trie.specs.History.{IsHistory, last_cut}
-use Rattle.aug_trie.specs.Crew.{CrewFacts}
+use Rattle.aug_trie.specs.Knowledge.{Knowledge}
+use Rattle.aug_trie.specs.Updates.{ComesTo}
+use Rattle.aug_trie.specs.declared.updates.request.Request.{Request}
+use Rattle.aug_trie.specs.declared.updates.request.Request.TheVariants as asked
+use Rattle.aug_model.specs.declared.outcome.Outcome.{Outcome}
+use Rattle.aug_model.specs.declared.outcome.Outcome.TheVariants as outcome
+use Rattle.atomic_table.specs.Seated.{TableId}
 use Rattle.aug_trie.specs.Pass.{PassFacts, GoesOn, chain_of}
 use Rattle.aug_trie.specs.Round.{RoundFacts}
 use Rattle.aug_trie.proofs.Chaining.{begins_alike, begins_longer, part_refl, part_trans}
 use Rattle.aug_live.specs.Carrying.{first_members, Leads}
-use Rattle.aug_live.specs.LiveHandles.{HandleFacts, IsSuccessor, Follows, Makes}
-use Rattle.aug_live.specs.inside.LaneKnowledge.{LaneFacts, KnownFacts, Rolls, rounds_at}
-use Rattle.aug_live.specs.inside.Rolls.{HasEnded, IsNewPass, rounds_in}
+use Rattle.aug_live.specs.Ledgers.{Made, dated}
+use Rattle.aug_live.specs.LiveHandles.{HandleFacts, IsSuccessor, Follows, Makes, added}
+use Rattle.aug_live.specs.inside.LaneKnowledge.{EndFacts, KnownFacts, LaneFacts, OutFacts, Worked, WorksHere, handle_by, rounds_at, worked}
+use Rattle.aug_live.proofs.Adding.{same_made}
 
 -- one more round leads on
 first_on : (xs : List Chapter) (now : Chapter) (next : List (ℕ × ℕ)) → first_members (xs ++ now ∷ []) next ≡ first_members xs now.members
@@ -42,30 +50,34 @@ successor_part a b c = subst (λ (z : List Chapter). BeginsWith a.past (chain_of
     (begins_alike a.past (chain_of a).now (chain_of b).now [] record { members = ap (λ (z : RoundFacts). z.members) c.round; goes_on = c.goes_on })
 
 pub follows_self : (h : HandleFacts) → Follows h h
-follows_self h = record { not_later = omega arith; same = λ _. inl refl; goes_on = part_refl (chain_of h.half); led = λ less. absurd (omega arith); table = refl; bits = refl }
+follows_self h = record { not_later = omega arith; same = λ _. inl refl; goes_on = part_refl (chain_of h.half); led = λ less. absurd (omega arith); table = refl; bits = refl; lanes = refl; made = refl }
 
 -- the same place follows, and so does one where the lane has a later pass, or one of the next round
 pub follows_same : (a b : HandleFacts) → b ≡ a → Follows a b
 follows_same a b same = subst (Follows a) (sym same) (follows_self a)
 
-pub follows_pass : (a b : HandleFacts) → b.era ≡ a.era → IsSuccessor a.half b.half → Follows a b
-follows_pass a b era c = record {
+pub follows_pass : (a : HandleFacts) (b : PassFacts) → IsSuccessor a.half b → Follows a (record a { half = b })
+follows_pass a b c = record {
   not_later = omega arith;
   same = λ _. inr c;
-  goes_on = successor_part a.half b.half c;
+  goes_on = successor_part a.half b c;
   led = λ less. absurd (omega arith);
   table = ap (λ (z : RoundFacts). z.table) c.round;
   bits = ap (λ (z : RoundFacts). z.bits) c.round;
+  lanes = refl;
+  made = refl;
 }
 
-pub follows_round : (a b : HandleFacts) → b.era ≡ a.era + 1 → BeginsWith a.half.past (chain_of a.half).now b.half.past → Leads b.half.round.bits b.half.past b.half.round.members → b.half.round.table ≡ a.half.round.table → b.half.round.bits ≡ a.half.round.bits → Follows a b
-follows_round a b next part led table bits = record {
+follows_round : (a : HandleFacts) (b : PassFacts) → BeginsWith a.half.past (chain_of a.half).now b.past → Leads b.round.bits b.past b.round.members → b.round.table ≡ a.half.round.table → b.round.bits ≡ a.half.round.bits → Follows a (record a { era = a.era + 1; half = b })
+follows_round a b part led table bits = record {
   not_later = omega arith;
   same = λ e. absurd (omega arith);
-  goes_on = begins_longer a.half.past (chain_of a.half).now b.half.past ((chain_of b.half).now ∷ []) part;
+  goes_on = begins_longer a.half.past (chain_of a.half).now b.past ((chain_of b).now ∷ []) part;
   led = λ _. led;
   table = table;
   bits = bits;
+  lanes = refl;
+  made = refl;
 }
 
 pub follows_on : (a b c : HandleFacts) → Follows a b → Follows b c → Follows a c
@@ -78,56 +90,144 @@ follows_on a b c x y = let ab = x.not_later in let bc = y.not_later in record {
       (λ later. y.led (omega arith));
   table = y.table ∙ x.table;
   bits = y.bits ∙ x.bits;
+  lanes = y.lanes ∙ x.lanes;
+  made = y.made ∙ x.made;
 }
+
+-- the same for a handle, which has lanes of its trie and made something
+follows_by : (lanes : List TableId) (made made' : List Made) (a b : HandleFacts) → made' ≡ made → Follows a b → Follows (record a { lanes = lanes; made = made }) (record b { lanes = lanes; made = made' })
+follows_by lanes made made' a b same f = record { not_later = f.not_later; same = f.same; goes_on = f.goes_on; led = f.led; table = f.table; bits = f.bits; lanes = refl; made = same }
 
 -- an update from where the lane stands, and where that follows
 pub makes_on : (updates : ℕ) (does : PassFacts → PassFacts → Type 0) (a b c : HandleFacts) → Follows a b → Makes updates does b c → Makes updates does a c
-makes_on updates does a b c x m = record { start = m.start; follows = follows_on a b m.start x m.follows; same_era = m.same_era; done = m.done; steps = m.steps; goes_on = m.goes_on }
-
-pub made_on : {T E : Type 0} (r : Result T E) (updates : ℕ) (does : T → PassFacts → PassFacts → Type 0) (a b c d : HandleFacts) → Follows a b → d ≡ c
-    → IfOk r (λ done. Makes updates (does done) b c) → IfOk r (λ done. Makes updates (does done) a d)
-made_on (Ok done) updates does a b c d x same m = subst (Makes updates (does done) a) (sym same) (makes_on updates (does done) a b c x m)
-made_on (Err e) updates does a b c d x same m = m
+makes_on updates does a b c x m = record { start = m.start; follows = follows_on a b m.start x m.follows; same_era = m.same_era; done = m.done; steps = m.steps; goes_on = m.goes_on; lanes = m.lanes; made = m.made }
 
 -- a call of a handle leaves it at its trie
 pub makes_table : (updates : ℕ) (does : PassFacts → PassFacts → Type 0) (a b : HandleFacts) → Makes updates does a b → b.half.round.table ≡ a.half.round.table
 makes_table updates does a b m = ap (λ (z : PassFacts). z.round.table) m.goes_on.same ∙ m.follows.table
 
--- a lane whose pass made an update, or learned something
-pub makes_here : (updates steps : ℕ) (does : PassFacts → PassFacts → Type 0) (a b : HandleFacts) (pass : PassFacts) → pass ≡ a.half → b.era ≡ a.era → does pass b.half → GoesOn updates steps pass b.half → Makes updates does a b
-makes_here updates steps does a b pass is era did on = record {
-  start = a;
-  follows = follows_self a;
-  same_era = era;
-  done = subst (λ (z : PassFacts). does z b.half) is did;
-  steps = steps;
-  goes_on = subst (λ (z : PassFacts). GoesOn updates steps z b.half) is on;
+-- a handle's end of a lane, before a call and after it
+module _ (lanes : List TableId) (lock lock' : TableId) (v : KnownFacts) (old new : LaneFacts) (follows : Follows v.at old.at) where
+  abbrev before : HandleFacts
+  before = handle_by lanes (Some (record { lock = lock; known = v }))
+
+  abbrev after : HandleFacts
+  after = handle_by lanes (Some (record { lock = lock'; known = worked v old new }))
+
+  -- its pass made an update, or learned something
+  pub works_make : (updates : ℕ) (does : PassFacts → PassFacts → Type 0) → WorksHere updates does old.at new.at → Makes updates does before after
+  works_make updates does w = record {
+    start = record old.at { lanes = lanes; made = v.made };
+    follows = follows_by lanes v.made v.made v.at old.at refl follows;
+    same_era = w.same_era;
+    done = w.done;
+    steps = w.steps;
+    goes_on = w.goes_on;
+    lanes = refl;
+    made = refl;
+  }
+
+  pub works_follow : new.at.half.knows.accepted ≡ old.at.half.knows.accepted → Follows old.at new.at → Follows before after
+  works_follow same more = follows_by lanes v.made (v.made ++ dated new.at.era (added old.at.half new.at.half)) v.at new.at (same_made v.made new.at.era old.at.half new.at.half same) (follows_on v.at old.at new.at follows more)
+
+-- an end that a handle took out and put back, or that a look keeps, of which it made nothing, an update, or something that it learned
+module _ (lanes : List TableId) (now : HandleFacts) (inside : Option EndFacts) (end result : EndFacts) (view : handle_by lanes inside ≡ now) (there : inside ≡ Some end) where
+  own : handle_by lanes (Some end) ≡ now
+  own = ap (handle_by lanes) (sym there) ∙ view
+
+  pub unchanged : result ≡ end → Follows now (handle_by lanes (Some result))
+  unchanged same = follows_same now (handle_by lanes (Some result)) (ap (λ (e : EndFacts). handle_by lanes (Some e)) same ∙ own)
+
+  pub look_end : (steps : ℕ) (does : PassFacts → PassFacts → Type 0) (lane rest : LaneFacts) (half looks : PassFacts) (made : List Made) → made ≡ end.known.made → Follows end.known.at lane.at → half ≡ lane.at.half → rest ≡ record lane { works = false } → looks.knows.accepted ≡ half.knows.accepted
+      → does half looks → GoesOn 0 steps half looks → Makes 0 does now (record { lanes = lanes; era = rest.at.era; half = looks; made = made })
+  look_end steps does lane rest half looks made same follows work is none did on =
+      let p : Makes 0 does (handle_by lanes (Some end)) (record { lanes = lanes; era = lane.at.era; half = looks; made = end.known.made }) = record {
+        start = record lane.at { lanes = lanes; made = end.known.made };
+        follows = follows_by lanes end.known.made end.known.made end.known.at lane.at refl follows;
+        same_era = refl;
+        done = subst (λ (z : PassFacts). does z looks) work did;
+        steps = steps;
+        goes_on = subst (λ (z : PassFacts). GoesOn 0 steps z looks) work on;
+        lanes = refl;
+        made = sym (same_made end.known.made lane.at.era lane.at.half looks (none ∙ ap (λ (z : PassFacts). z.knows.accepted) work));
+      } in
+      subst (λ (z : HandleFacts × ℕ × List Made). Makes 0 does z.0 (record { lanes = lanes; era = z.1; half = looks; made = z.2 })) (λ i. (own i, (sym is i).at.era, sym same i)) p
+
+  module _ (out : OutFacts) (lane new : LaneFacts) (known : out.known ≡ end.known) (taken : out.taken ≡ lane) (is : result ≡ record { lock = out.lock; known = worked out.known out.taken new }) (follows : Follows end.known.at lane.at) where
+    both : (P : HandleFacts → HandleFacts → Type 0) → P (handle_by lanes (Some end)) (handle_by lanes (Some (record { lock = out.lock; known = worked end.known lane new }))) → P now (handle_by lanes (Some result))
+    both P p = let put : record { lock = out.lock; known = worked end.known lane new } ≡ result = λ i. sym (is ∙ (λ j. record { lock = out.lock; known = worked (known j) (taken j) new })) i in
+        subst (λ (z : HandleFacts × EndFacts). P z.0 (handle_by lanes (Some z.1))) (λ i. (own i, put i)) p
+
+    pub made_end : {T E : Type 0} (r : Result T E) (updates : ℕ) (does : T → PassFacts → PassFacts → Type 0) → IfOk r (λ done. WorksHere updates (does done) lane.at new.at) → IfOk r (λ done. Makes updates (does done) now (handle_by lanes (Some result)))
+    made_end (Ok done) updates does w = both (Makes updates (does done)) (works_make lanes end.lock out.lock end.known lane new follows updates (does done) w)
+    made_end (Err e) updates does w = w
+
+    pub follow_end : new.at.half.knows.accepted ≡ lane.at.half.knows.accepted → Follows lane.at new.at → Follows now (handle_by lanes (Some result))
+    follow_end same more = both Follows (works_follow lanes end.lock out.lock end.known lane new follows same more)
+
+    pub unmade_end : {T E : Type 0} (r : Result T E) → IfErr r (λ _. new.at ≡ lane.at) → IfErr r (λ _. Follows now (handle_by lanes (Some result)))
+    unmade_end (Ok done) same = same
+    unmade_end (Err e) same = follow_end (ap (λ (z : HandleFacts). z.half.knows.accepted) same) (follows_same lane.at new.at same)
+
+-- what holds of an outcome, in either case
+pub ok_any : {T E : Type 0} {P : Type 0} (r : Result T E) → P → IfOk r (λ _. P)
+ok_any (Ok t) p = p
+ok_any (Err e) p = tt
+
+pub ok_map : {T E : Type 0} (P Q : T → Type 0) (r : Result T E) → ((t : T) → P t → Q t) → IfOk r P → IfOk r Q
+ok_map P Q (Ok t) f p = f t p
+ok_map P Q (Err e) f p = p
+
+-- a lane whose pass made an update
+pub works_here : (updates steps : ℕ) (does : PassFacts → PassFacts → Type 0) (a : HandleFacts) (b : PassFacts) → does a.half b → GoesOn updates steps a.half b → WorksHere updates does a (record a { half = b })
+works_here updates steps does a b did on = record { same_era = refl; done = did; steps = steps; goes_on = on }
+
+pub worked_here : (lane : LaneFacts) (b : PassFacts) → lane.works ≡ true → rounds_at b ≡ rounds_at lane.at.half → IsPrefix lane.at.half.knows.accepted b.knows.accepted → Worked lane (record lane { works = true; at = record lane.at { half = b } })
+worked_here lane b works rounds accepts = record {
+  era = refl;
+  number = refl;
+  is_out = refl;
+  round = rounds;
+  works = sym works;
+  at_rest = λ rests. let clash : true ≡ false = sym works ∙ rests in cc;
+  accepts = accepts;
 }
 
-pub learnt_follows : (steps : ℕ) (a b : HandleFacts) (pass : PassFacts) → pass ≡ a.half → b.era ≡ a.era → IsPrefix pass.knows.history b.half.knows.history → GoesOn 0 steps pass b.half → Follows a b
-learnt_follows steps a b pass is era more on = follows_pass a b era record {
-  round = ap (λ (z : PassFacts). z.round) on.same ∙ ap (λ (z : PassFacts). z.round) is;
-  past = ap (λ (z : PassFacts). z.past) on.same ∙ ap (λ (z : PassFacts). z.past) is;
-  goes_on = subst (λ (z : PassFacts). IsPrefix z.knows.history b.half.knows.history) is more;
+-- one whose pass learned something
+pub learnt_follows : (steps : ℕ) (a : HandleFacts) (b : PassFacts) → IsPrefix a.half.knows.history b.knows.history → GoesOn 0 steps a.half b → Follows a (record a { half = b })
+learnt_follows steps a b more on = follows_pass a b record {
+  round = ap (λ (z : PassFacts). z.round) on.same;
+  past = ap (λ (z : PassFacts). z.past) on.same;
+  goes_on = more;
 }
 
--- a lane that got the next pass of its round in the place of one that went back to their crew
-pub replaced_follows : (a b : HandleFacts) (spent : PassFacts) (history : List Cut) → spent ≡ a.half → b.era ≡ a.era → rounds_at b.half ≡ rounds_at a.half → IsPrefix spent.knows.history history → IsPrefix history b.half.knows.history → Follows a b
-replaced_follows a b spent history is era rounds one two = follows_pass a b era record {
+-- one that got the next pass of its round in the place of one that went back to their crew
+pub replaced_follows : (a : HandleFacts) (b : PassFacts) (history : List Cut) → rounds_at b ≡ rounds_at a.half → IsPrefix a.half.knows.history history → IsPrefix history b.knows.history → Follows a (record a { half = b })
+replaced_follows a b history rounds one two = follows_pass a b record {
   round = ap (λ (z : RoundFacts × List Chapter). z.0) rounds;
   past = ap (λ (z : RoundFacts × List Chapter). z.1) rounds;
-  goes_on = prefix_trans a.half.knows.history history b.half.knows.history (subst (λ (z : PassFacts). IsPrefix z.knows.history history) is one) two;
+  goes_on = prefix_trans a.half.knows.history history b.knows.history one two;
 }
 
--- a lane that got a pass of the next round
-pub begun_follows : (a b : LaneFacts) (v : KnownFacts) (round : RoundFacts) (crew : CrewFacts) (era : ℕ) → Rolls a v → HasEnded round crew.past era v → Leads round.bits crew.past round.members → crew.round ≡ round
-    → b.at.era ≡ era + 1 → IsNewPass (rounds_in crew) b.at.half → Follows a.at b.at
-begun_follows a b v round crew era r ended led same next new =
-    let was : a.at.half ≡ v.at.half = r.half (r.works ∙ ended.works) in
-    let rounds : rounds_at b.at.half ≡ (round, crew.past) = new.round_is ∙ (λ i. (same i, crew.past)) in
-    let now : b.at.half.round ≡ round = ap (λ (z : RoundFacts × List Chapter). z.0) rounds in
-    follows_round a.at b.at (next ∙ ap (λ n. n + 1) (sym (r.era ∙ ended.era_is)))
-    (subst (λ (z : PassFacts × List Chapter). BeginsWith z.0.past (chain_of z.0).now z.1) (λ i. (sym was i, ap (λ (z : RoundFacts × List Chapter). z.1) (sym rounds) i)) ended.part)
+-- one that got a pass of the next round
+pub begun_follows : (a : HandleFacts) (b : PassFacts) (round : RoundFacts) (past : List Chapter) → BeginsWith a.half.past (chain_of a.half).now past → Leads round.bits past round.members → a.half.round.table ≡ round.table → a.half.round.bits ≡ round.bits
+    → rounds_at b ≡ (round, past) → Follows a (record a { era = a.era + 1; half = b })
+begun_follows a b round past part led table bits rounds =
+    let now : b.round ≡ round = ap (λ (z : RoundFacts × List Chapter). z.0) rounds in
+    follows_round a b
+    (subst (BeginsWith a.half.past (chain_of a.half).now) (ap (λ (z : RoundFacts × List Chapter). z.1) (sym rounds)) part)
     (subst (λ (z : RoundFacts × List Chapter). Leads z.0.bits z.1 z.0.members) (sym rounds) led)
-    (ap (λ (z : RoundFacts). z.table) now ∙ sym ended.table_is ∙ ap (λ (z : PassFacts). z.round.table) (sym was))
-    (ap (λ (z : RoundFacts). z.bits) now ∙ sym ended.bits_are ∙ ap (λ (z : PassFacts). z.round.bits) (sym was))
+    (ap (λ (z : RoundFacts). z.table) now ∙ sym table)
+    (ap (λ (z : RoundFacts). z.bits) now ∙ sym bits)
+
+-- what an update accepted stands behind what was accepted before
+pub accepts_on : (request : Request) (key : ℕ) (done : Outcome) (a b : Knowledge) → ComesTo request key done a b → IsPrefix a.accepted b.accepted
+accepts_on asked.Insert key outcome.Accepted a b c = (_, c.adds)
+accepts_on asked.Insert key outcome.Refused a b c = ([], c.same_changes ∙ sym (append-nil a.accepted))
+accepts_on asked.Insert key outcome.Replaced a b c = absurd c
+accepts_on asked.Remove key outcome.Accepted a b c = (_, c.adds)
+accepts_on asked.Remove key outcome.Refused a b c = ([], c.same_changes ∙ sym (append-nil a.accepted))
+accepts_on asked.Remove key outcome.Replaced a b c = absurd c
+accepts_on (asked.Put weight) key outcome.Accepted a b c = (_, c.adds)
+accepts_on (asked.Put weight) key outcome.Refused a b c = ([], c.same_changes ∙ sym (append-nil a.accepted))
+accepts_on (asked.Put weight) key outcome.Replaced a b c = (_, c.adds)

@@ -1,5 +1,6 @@
 -- The counts of rounds, one round after another; and what is known of a trie, as it goes on.
 use Rattle.std.specs.Prelude.{Result, Ok, Err, IfOk, flat_map}
+use Rattle.std.specs.List.{sum_by}
 use Rattle.std.proofs.Common.{◌≡◌, ℕ, ◌+◌, ◌<◌, ◌≤◌, List, [], ◌∷◌, ◌++◌, length, length-append, All, sym, refl, ap, ◌∙◌, subst, arith}
 use Rattle.std.proofs.lemmas.List.{append-nil}
 use Rattle.aug_core.specs.Cuts.{opening_cut}
@@ -12,55 +13,85 @@ use Rattle.aug_trie.specs.Ended.{EndedFacts}
 use Rattle.aug_trie.specs.History.{IsHistory, last_cut}
 use Rattle.aug_trie.specs.Knowledge.{inserts_of, removals_of}
 use Rattle.aug_trie.specs.Round.{RoundFacts}
-use Rattle.aug_trie.specs.Tallies.{Tallies, TalliesWithLost, Weighs}
+use Rattle.aug_trie.specs.Tallies.{Tallies, Weighs}
 use Rattle.aug_trie.proofs.Chaining.{begins_alike, begins_longer, part_refl, part_trans}
 use Rattle.aug_live.specs.Carrying.{Leads}
-use Rattle.aug_live.specs.LiveTries.{TrieFacts, KnowsMore, AreChangesOf, AreAllChanges, AreCountsOf, Closes, in_all}
+use Rattle.aug_live.specs.Ledgers.{Made, made_in}
+use Rattle.aug_live.specs.LiveTries.{TrieFacts, KnowsMore, AreChangesOf, AreCountsOf, AreMadeIn, CameBack, Closes, LaneKnown, LanesGoOn, ids_of, in_all, lost_of, made_through}
+use Rattle.aug_live.specs.inside.Desks.{TakesEnd}
+use Rattle.aug_live.specs.inside.SameChanges.{SameChanges}
+use Rattle.aug_live.proofs.Ledgers.{changes_by, inserts_by, removals_by}
+use Rattle.aug_live.proofs.Lanes.{ids_same, known_before, lanes_refl, lanes_trans}
 use Rattle.aug_live.specs.declared.counts.LiveCounts.{LiveCounts}
 use Rattle.aug_live.specs.inside.Rolls.{rounds_in}
 use Rattle.aug_live.proofs.Carries.{leads_on}
 use Rattle.aug_live.proofs.Moving.{next_past}
 
 pub more_self : (t : TrieFacts) → KnowsMore t t
-more_self t = record { table = refl; bits = refl; lanes = refl; part = part_refl t.rounds }
+more_self t = record { table = refl; bits = refl; lanes = lanes_refl t.lanes; part = part_refl t.rounds }
 
 pub more_on : (a b c : TrieFacts) → KnowsMore a b → KnowsMore b c → KnowsMore a c
-more_on a b c x y = record { table = y.table ∙ x.table; bits = y.bits ∙ x.bits; lanes = y.lanes ∙ x.lanes; part = part_trans a.rounds b.rounds c.rounds x.part y.part }
+more_on a b c x y = record { table = y.table ∙ x.table; bits = y.bits ∙ x.bits; lanes = lanes_trans a.lanes b.lanes c.lanes x.lanes y.lanes; part = part_trans a.rounds b.rounds c.rounds x.part y.part }
 
--- whoever knew less can say the same of how a trie was closed
+pub ids_more : (a b : TrieFacts) → KnowsMore a b → ids_of b ≡ ids_of a
+ids_more a b more = ids_same a.lanes b.lanes more.lanes
+
+-- whoever knew less can say the same of how a trie was closed, and of a handle that came back
 pub closes_from : (a b : TrieFacts) (set : SetFacts) (counts : LiveCounts) → KnowsMore a b → Closes b set counts → Closes a set counts
 closes_from a b set counts m c = record {
   rounds = c.rounds;
   part = part_trans a.rounds b.rounds c.rounds m.part c.part;
   bits = c.bits ∙ m.bits;
   led = subst (λ (n : ℕ). Leads n (chapters c.rounds) set.pairs) m.bits c.led;
-  counted = subst (λ (n : ℕ). AreCountsOf n (chapters c.rounds) counts.inserts counts.removals) m.bits c.counted;
   rounds_are = c.rounds_are;
+  lanes = c.lanes;
+  lanes_go_on = lanes_trans a.lanes b.lanes c.lanes m.lanes c.lanes_go_on;
+  counted = subst (λ (n : ℕ). AreCountsOf n (chapters c.rounds) (flat_map (λ (lane : LaneKnown). made_through lane.done) c.lanes) counts.inserts counts.removals) m.bits c.counted;
+  handles_are = c.handles_are;
+  missing_are = c.missing_are;
 }
+
+pub came_from : (a b c : TrieFacts) (number : ℕ) (made : List Made) → KnowsMore a b → TakesEnd number made b c → CameBack made a c
+came_from a b c number made m t = let was = known_before a.lanes b.lanes m.lanes number t.lane t.was in
+    record { number = number; lane = was.0; later = t.later; was = was.1; is = t.is; before = t.lane.done; goes_on = was.2.done; done = t.done }
 
 -- what a crew knows of its rounds, where it learned more of the last one
 pub crew_part : (a b : CrewFacts) → rounds_in b ≡ rounds_in a → IsPrefix a.knows.history b.knows.history → IsPart (crew_chain a) (crew_chain b)
 crew_part a b same more = subst (λ (z : List Chapter). BeginsWith a.past (crew_chain a).now (z ++ (crew_chain b).now ∷ [])) (sym (ap (λ (z : RoundFacts × List Chapter). z.1) same))
     (begins_alike a.past (crew_chain a).now (crew_chain b).now [] record { members = ap (λ (z : RoundFacts × List Chapter). z.0.members) same; goes_on = more })
 
--- one more round, with all that happened in it
-all_more : (bits : ℕ) (xs : List Chapter) (cs : List (List Change)) (x : Chapter) (c : List Change) → AreAllChanges bits xs cs → AreChangesOf bits x c → AreAllChanges bits (xs ++ x ∷ []) (cs ++ c ∷ [])
-all_more bits [] [] x c all this = (this, tt)
-all_more bits [] (d ∷ ds) x c none this = absurd none
-all_more bits (y ∷ ys) [] x c none this = absurd none
-all_more bits (y ∷ ys) (d ∷ ds) x c all this = (all.0, all_more bits ys ds x c all.1 this)
+-- one more round, with all that was made in it
+all_more : (bits era : ℕ) (xs : List Chapter) (x : Chapter) (made : List Made) → AreMadeIn bits era xs made → AreChangesOf bits x (made_in (era + length xs) made) → AreMadeIn bits era (xs ++ x ∷ []) made
+all_more bits era [] x made all this = (subst (λ (n : ℕ). AreChangesOf bits x (made_in n made)) (omega arith) this, tt)
+all_more bits era (y ∷ ys) x made all this = (all.0, all_more bits (era + 1) ys x made all.1 (subst (λ (n : ℕ). AreChangesOf bits x (made_in n made)) (omega arith) this))
 
-in_more : (count : List Change → ℕ) (cs : List (List Change)) (c : List Change) → in_all count (cs ++ c ∷ []) ≡ in_all count cs + count c
-in_more count [] c = omega arith
-in_more count (d ∷ ds) c = let e = in_more count ds c in omega (arith, e)
+in_more : (count : List Change → ℕ) (era : ℕ) (xs : List Chapter) (x : Chapter) (made : List Made) → in_all count era (xs ++ x ∷ []) made ≡ in_all count era xs made + count (made_in (era + length xs) made)
+in_more count era [] x made = let e : era + 0 ≡ era = omega arith in let f = ap (λ n. count (made_in n made)) e in omega (arith, f)
+in_more count era (y ∷ ys) x made = let e = in_more count (era + 1) ys x made in let f : era + 1 + length ys ≡ era + length (y ∷ ys) = omega arith in let g = ap (λ n. count (made_in n made)) f in omega (arith, e, g)
 
-pub counts_more : (bits : ℕ) (xs : List Chapter) (x : Chapter) (changes : List Change) (inserts removals inserts' removals' : ℕ) → AreCountsOf bits xs inserts removals → AreChangesOf bits x changes
-    → inserts' ≡ inserts + inserts_of changes → removals' ≡ removals + removals_of changes → AreCountsOf bits (xs ++ x ∷ []) inserts' removals'
-counts_more bits xs x changes inserts removals inserts' removals' a this put took = let e = in_more inserts_of a.changes changes in let f = in_more removals_of a.changes changes in record {
-  changes = a.changes ++ changes ∷ [];
-  all = all_more bits xs a.changes x changes a.all this;
-  inserts_are = put ∙ ap (λ (n : ℕ). n + inserts_of changes) a.inserts_are ∙ sym e;
-  removals_are = took ∙ ap (λ (n : ℕ). n + removals_of changes) a.removals_are ∙ sym f;
+pub counts_more : (bits : ℕ) (xs : List Chapter) (x : Chapter) (made : List Made) (inserts removals inserts' removals' : ℕ) → AreCountsOf bits xs made inserts removals → AreChangesOf bits x (made_in (length xs + 1) made)
+    → inserts' ≡ inserts + inserts_of (made_in (length xs + 1) made) → removals' ≡ removals + removals_of (made_in (length xs + 1) made) → AreCountsOf bits (xs ++ x ∷ []) made inserts' removals'
+counts_more bits xs x made inserts removals inserts' removals' a this put took =
+    let here : length xs + 1 ≡ 1 + length xs = omega arith in let of = λ (count : List Change → ℕ). ap (λ n. count (made_in n made)) here in record {
+      all = all_more bits 1 xs x made a.all (subst (λ (n : ℕ). AreChangesOf bits x (made_in n made)) here this);
+      inserts_are = let e = in_more inserts_of 1 xs x made in let f = of inserts_of in let g = a.inserts_are in omega (arith, e, f, g, put);
+      removals_are = let e = in_more removals_of 1 xs x made in let f = of removals_of in let g = a.removals_are in omega (arith, e, f, g, took);
+    }
+
+-- the same where something else is said to be made, which is the same in each of these rounds
+all_same : (bits era : ℕ) (xs : List Chapter) (made made' : List Made) → ((e : ℕ) → era ≤ e → e < era + length xs → made_in e made' ≡ made_in e made) → AreMadeIn bits era xs made → AreMadeIn bits era xs made'
+all_same bits era [] made made' same all = tt
+all_same bits era (x ∷ xs) made made' same all = (subst (AreChangesOf bits x) (sym (same era (omega arith) (omega arith))) all.0, all_same bits (era + 1) xs made made' (λ e low high. same e (omega arith) (omega arith)) all.1)
+
+in_same : (count : List Change → ℕ) (era : ℕ) (xs : List Chapter) (made made' : List Made) → ((e : ℕ) → era ≤ e → e < era + length xs → made_in e made' ≡ made_in e made) → in_all count era xs made' ≡ in_all count era xs made
+in_same count era [] made made' same = refl
+in_same count era (x ∷ xs) made made' same = let e = ap count (same era (omega arith) (omega arith)) in let f = in_same count (era + 1) xs made made' (λ e low high. same e (omega arith) (omega arith)) in omega (arith, e, f)
+
+pub counts_same : (bits : ℕ) (xs : List Chapter) (made made' : List Made) (inserts removals : ℕ) → ((e : ℕ) → e ≤ length xs → made_in e made' ≡ made_in e made) → AreCountsOf bits xs made inserts removals → AreCountsOf bits xs made' inserts removals
+counts_same bits xs made made' inserts removals same a = let on = λ (e : ℕ) (low : 1 ≤ e) (high : e < 1 + length xs). same e (omega arith) in record {
+  all = all_same bits 1 xs made made' on a.all;
+  inserts_are = a.inserts_are ∙ sym (in_same inserts_of 1 xs made made' on);
+  removals_are = a.removals_are ∙ sym (in_same removals_of 1 xs made made' on);
 }
 
 -- a round that all passes came back to: the changes that its crew knows are all that happened
@@ -77,9 +108,9 @@ all_of_round crew ended ends none = let t = ends.tallies in
     }
 
 -- a trie on the desk goes on
-pub desk_on : (t : TrieFacts) (round round' : RoundFacts) (crew crew' : CrewFacts) (n n' : ℕ) → record { table = round.table; bits = round.bits; lanes = n; rounds = crew_chain crew } ≡ t
-    → round'.table ≡ round.table → round'.bits ≡ round.bits → n' ≡ n → IsPart (crew_chain crew) (crew_chain crew') → KnowsMore t (record { table = round'.table; bits = round'.bits; lanes = n'; rounds = crew_chain crew' })
-desk_on t round round' crew crew' n n' is table bits lanes part = subst (λ (z : TrieFacts). KnowsMore z (record { table = round'.table; bits = round'.bits; lanes = n'; rounds = crew_chain crew' })) is
+pub desk_on : (t : TrieFacts) (round round' : RoundFacts) (crew crew' : CrewFacts) (xs ys : List LaneKnown) → record { table = round.table; bits = round.bits; lanes = xs; rounds = crew_chain crew } ≡ t
+    → round'.table ≡ round.table → round'.bits ≡ round.bits → LanesGoOn xs ys → IsPart (crew_chain crew) (crew_chain crew') → KnowsMore t (record { table = round'.table; bits = round'.bits; lanes = ys; rounds = crew_chain crew' })
+desk_on t round round' crew crew' xs ys is table bits lanes part = subst (λ (z : TrieFacts). KnowsMore z (record { table = round'.table; bits = round'.bits; lanes = ys; rounds = crew_chain crew' })) is
     (record { table = table; bits = bits; lanes = lanes; part = part })
 
 -- all that a crew knew of its rounds is known to that of the next round
@@ -90,29 +121,36 @@ rolled_part round next crew first list inserts removals r same = let over : Chap
     (begins_alike crew.past (crew_chain crew).now over [] record { members = ap (λ (z : CrewFacts). z.round.members) r.last_is; goes_on = r.goes_on }))
 
 -- how the desk is closed, whose round ended with all passes back
-pub closed_so : (t : TrieFacts) (set : SetFacts) (counts new : LiveCounts) (round : RoundFacts) (crew last : CrewFacts) (ended : EndedFacts) (n : ℕ) → record { table = round.table; bits = round.bits; lanes = n; rounds = crew_chain crew } ≡ t
-    → crew.round ≡ round → counts.rounds ≡ length crew.past + 1 → AreCountsOf round.bits crew.past counts.inserts counts.removals → Leads round.bits crew.past round.members
+pub closed_so : (t : TrieFacts) (set : SetFacts) (counts new : LiveCounts) (round : RoundFacts) (crew last : CrewFacts) (ended : EndedFacts) (xs ys : List LaneKnown) → record { table = round.table; bits = round.bits; lanes = xs; rounds = crew_chain crew } ≡ t
+    → crew.round ≡ round → counts.rounds ≡ length crew.past + 1 → AreCountsOf round.bits crew.past (flat_map (λ (lane : LaneKnown). made_through lane.done) ys) counts.inserts counts.removals → Leads round.bits crew.past round.members
+    → SameChanges last.knows.accepted (made_in (length crew.past + 1) (flat_map (λ (lane : LaneKnown). made_through lane.done) ys)) → LanesGoOn xs ys
     → rounds_in last ≡ rounds_in crew → IsPrefix crew.knows.history last.knows.history → Ends last ended → ended.missing ≡ 0 → set ≡ record { bits = ended.bits; pairs = ended.members }
-    → new.rounds ≡ counts.rounds → new.inserts ≡ counts.inserts + ended.inserts → new.removals ≡ counts.removals + ended.removals → Closes t set new
-closed_so t set counts new round crew last ended n is here rounds_are counted led same more ends none set_is rounds inserts removals =
+    → new.rounds ≡ counts.rounds → new.inserts ≡ counts.inserts + ended.inserts → new.removals ≡ counts.removals + ended.removals
+    → new.handles ≡ sum_by (λ (lane : LaneKnown). length lane.done) ys → new.missing ≡ sum_by (λ (lane : LaneKnown). length (lost_of lane.done)) ys → Closes t set new
+closed_so t set counts new round crew last ended xs ys is here rounds_are counted led now lanes same more ends none set_is rounds inserts removals handles missing =
+    let made : List Made = flat_map (λ (lane : LaneKnown). made_through lane.done) ys in
     let past : last.past ≡ crew.past = ap (λ (z : RoundFacts × List Chapter). z.1) same in
     let there : last.round ≡ round = ap (λ (z : RoundFacts × List Chapter). z.0) same ∙ here in
     let bits : last.round.bits ≡ round.bits = ap (λ (z : RoundFacts). z.bits) there in
     let over : Chapter = (crew_chain last).now in
-    let all : AreChangesOf round.bits over last.knows.accepted = subst (λ (z : ℕ). AreChangesOf z over last.knows.accepted) bits (all_of_round last ended ends none) in
-    let sum = counts_more round.bits crew.past over last.knows.accepted counts.inserts counts.removals new.inserts new.removals counted all
-    (inserts ∙ ap (λ n. counts.inserts + n) ends.inserts) (removals ∙ ap (λ n. counts.removals + n) ends.removals) in
+    let all : AreChangesOf round.bits over (made_in (length crew.past + 1) made) = changes_by round.bits over last.knows.accepted (made_in (length crew.past + 1) made) now (subst (λ (z : ℕ). AreChangesOf z over last.knows.accepted) bits (all_of_round last ended ends none)) in
+    let sum = counts_more round.bits crew.past over made counts.inserts counts.removals new.inserts new.removals counted all
+    (inserts ∙ ap (λ n. counts.inserts + n) (ends.inserts ∙ inserts_by _ _ now)) (removals ∙ ap (λ n. counts.removals + n) (ends.removals ∙ removals_by _ _ now)) in
     let history : IsHistory round.bits over.members over.history = subst (λ (z : ℕ). IsHistory z over.members over.history) bits ends.is_history in
     let members : over.members ≡ round.members = ap (λ (z : RoundFacts). z.members) there in
     let on : Leads round.bits (crew.past ++ over ∷ []) ended.members = leads_on round.bits crew.past over ended.members (subst (Leads round.bits crew.past) (sym members) led) history ends.members in
     let chapters_are : crew.past ++ over ∷ [] ≡ chapters (crew_chain last) = ap (λ (z : List Chapter). z ++ over ∷ []) (sym past) in
-    let known : Closes (record { table = round.table; bits = round.bits; lanes = n; rounds = crew_chain crew }) set new = record {
+    let known : Closes (record { table = round.table; bits = round.bits; lanes = xs; rounds = crew_chain crew }) set new = record {
       rounds = crew_chain last;
       part = crew_part crew last same more;
       bits = ap (λ (z : SetFacts). z.bits) set_is ∙ ends.bits ∙ bits;
       led = subst (λ (z : List Chapter × List (ℕ × ℕ)). Leads round.bits z.0 z.1) (λ i. (chapters_are i, ap (λ (z : SetFacts). z.pairs) (sym set_is) i)) on;
-      counted = subst (λ (z : List Chapter). AreCountsOf round.bits z new.inserts new.removals) chapters_are sum;
       rounds_are = rounds ∙ rounds_are ∙ sym (length-append crew.past (over ∷ [])) ∙ ap length chapters_are;
+      lanes = ys;
+      lanes_go_on = lanes;
+      counted = subst (λ (z : List Chapter). AreCountsOf round.bits z made new.inserts new.removals) chapters_are sum;
+      handles_are = handles;
+      missing_are = missing;
     } in subst (λ (z : TrieFacts). Closes z set new) is known
 
 -- a part of a chain has no more rounds before its last one

@@ -1,5 +1,8 @@
 -- The desk as a round ends, as the next begins, and as the first does.
 use Rattle.std.proofs.Common.{◌≡◌, ℕ, ◌+◌, ◌^◌, ◌≤◌, List, [], ◌∷◌, ◌++◌, get_or, length, length-append, All, sym, ap, ◌∙◌, subst, arith}
+use Rattle.std.specs.Prelude.{map, flat_map, reverse}
+use Rattle.atomic_table.specs.Seated.{TableId}
+use Rattle.aug_core.specs.Cuts.{Cut}
 use Rattle.aug_model.specs.Keys.{SetFacts}
 use Rattle.aug_core.specs.Layout.{IsLayout}
 use Rattle.aug_core.specs.Places.{shape_of}
@@ -9,35 +12,41 @@ use Rattle.aug_trie.specs.Crew.{CrewFacts, BeginsIn, RollsOver, crew_chain}
 use Rattle.aug_live.specs.declared.counts.LiveCounts.{LiveCounts}
 use Rattle.aug_live.specs.LiveHandles.{HandleFacts, IsNew}
 use Rattle.aug_live.specs.Carrying.{Leads}
-use Rattle.aug_live.specs.LiveTries.{AreChangesOf, AreCountsOf}
-use Rattle.aug_live.specs.inside.LaneKnowledge.{KnownFacts, rounds_at}
-use Rattle.aug_live.specs.inside.Rolls.{IsOf, IsFirst, rounds_in}
-use Rattle.aug_live.specs.inside.Desks.{IsWorking}
-use Rattle.std.specs.List.{insert, remove}
-use Rattle.aug_live.proofs.Moving.{put_in, next_led, next_past}
-use Rattle.aug_live.proofs.Counted.{all_of_round, counts_more}
+use Rattle.aug_live.specs.LiveTries.{AreChangesOf}
+use Rattle.aug_live.specs.inside.LaneKnowledge.{EndFacts, IsWhole, rounds_at}
+use Rattle.aug_live.specs.inside.Rolls.{IsBackIn, IsFirst, IsOf, IsOpenedLane, accepted_by, given_all, kept_of, rounds_in}
+use Rattle.aug_live.specs.inside.Desks.{Accounts, IsWorking}
+use Rattle.aug_live.proofs.Accounting.{accounts_opened, accounts_rolled, all_reversed}
+use Rattle.aug_live.proofs.Moving.{next_led, next_past}
+use Rattle.aug_live.proofs.Counted.{all_of_round}
 
 -- a round over a set that has room for all keys
 room_for : (set : SetFacts) (round : RoundFacts) {workers updates : ℕ} → round ≡ record { table = round.table; era = 0; bits = set.bits; members = set.pairs; workers = workers; updates = updates; room = 2 ^ set.bits } → 2 ^ round.bits ≤ round.room
 room_for set round is = subst (λ (z : RoundFacts). 2 ^ z.bits ≤ z.room) (sym is) (omega arith)
 
+pub wholes_of : (rounds : RoundFacts × List Chapter) (era : ℕ) (history : List Cut) (back : List EndFacts) → All (IsBackIn rounds era history) back → All (λ (e : EndFacts). IsWhole e.known e.known.at) (reverse back)
+wholes_of rounds era history back all = all_reversed (λ (e : EndFacts). IsWhole e.known e.known.at) back (λ k d low. (all k d low).whole)
+
+pub eras_of : (rounds : RoundFacts × List Chapter) (era : ℕ) (history : List Cut) (back : List EndFacts) → All (IsBackIn rounds era history) back → All (λ (e : EndFacts). e.known.at.era ≡ era) (reverse back)
+eras_of rounds era history back all = all_reversed (λ (e : EndFacts). e.known.at.era ≡ era) back (λ k d low. (all k d low).era_is)
+
 -- the desk as the first round begins
-pub opened_at : (lanes updates : ℕ) (counts : LiveCounts) (set : SetFacts) (round : RoundFacts) (first crew : CrewFacts) (ports : List KnownFacts) (count : ℕ)
-    → IsLayout (shape_of set.bits lanes updates (2 ^ set.bits)) → BeginsIn (2 ^ set.bits) set.pairs set.bits lanes updates round first → All (IsOf (rounds_in crew) 1) ports → count ≤ lanes
-    → rounds_in crew ≡ rounds_in first → first.round ≡ round → crew.handed ≡ count → crew.back ≡ first.back
-    → counts.rounds ≡ 1 → counts.opened ≡ length set.pairs → counts.inserts ≡ 0 → counts.removals ≡ 0 → IsWorking lanes updates counts round crew ports count
-opened_at lanes updates counts set round first crew ports count laid b of_round len same together handed back rounds opened inserts removals =
-    let long : length round.members ≡ length set.pairs = ap (λ (z : RoundFacts). length z.members) b.round_is in let none : first.back ≡ 0 = ap (λ (z : CrewFacts). z.back) b.crew_is in record {
+pub opened_at : (lanes updates : ℕ) (counts : LiveCounts) (set : SetFacts) (round : RoundFacts) (first crew : CrewFacts) (ports : List EndFacts) (count : ℕ)
+    → IsLayout (shape_of set.bits lanes updates (2 ^ set.bits)) → BeginsIn (2 ^ set.bits) set.pairs set.bits lanes updates round first → All (IsOf (rounds_in crew) 1) ports → All IsOpenedLane ports → count ≤ lanes → length ports ≡ count
+    → rounds_in crew ≡ rounds_in first → first.round ≡ round → crew.handed ≡ count → crew.back ≡ first.back → crew.knows.accepted ≡ first.knows.accepted
+    → counts.rounds ≡ 1 → counts.opened ≡ length set.pairs → counts.inserts ≡ 0 → counts.removals ≡ 0 → counts.handles ≡ count → counts.missing ≡ count → IsWorking lanes updates counts round crew ports count
+opened_at lanes updates counts set round first crew ports count laid b of_round new_lanes len long_ports same together handed back accepted rounds opened inserts removals handles missing =
+    let long : length round.members ≡ length set.pairs = ap (λ (z : RoundFacts). length z.members) b.round_is in let none : first.back ≡ 0 = ap (λ (z : CrewFacts). z.back) b.crew_is in
+    let past : crew.past ≡ [] = ap (λ (z : RoundFacts × List Chapter). z.1) same ∙ ap (λ (z : CrewFacts). z.past) b.crew_is in record {
       together = ap (λ (z : RoundFacts × List Chapter). z.0) same ∙ together;
-      led = subst (λ (z : List Chapter). Leads round.bits z round.members) (sym (ap (λ (z : RoundFacts × List Chapter). z.1) same ∙ ap (λ (z : CrewFacts). z.past) b.crew_is)) tt;
+      led = subst (λ (z : List Chapter). Leads round.bits z round.members) (sym past) tt;
       workers = ap (λ (z : RoundFacts). z.workers) b.round_is;
       all_out = omega arith;
       within = omega arith;
       of_round = subst (λ (z : ℕ). All (IsOf (rounds_in crew) z) ports) (sym rounds) of_round;
       counted = record { some = omega arith; sizes = omega arith };
-      rounds_are = rounds ∙ ap (λ (z : List Chapter). length z + 1) (sym (ap (λ (z : RoundFacts × List Chapter). z.1) same ∙ ap (λ (z : CrewFacts). z.past) b.crew_is));
-      tallied = subst (λ (z : List Chapter). AreCountsOf round.bits z counts.inserts counts.removals) (sym (ap (λ (z : RoundFacts × List Chapter). z.1) same ∙ ap (λ (z : CrewFacts). z.past) b.crew_is))
-          (record { changes = []; all = tt; inserts_are = inserts; removals_are = removals });
+      rounds_are = rounds ∙ ap (λ (z : List Chapter). length z + 1) (sym past);
+      accounts = accounts_opened round.bits counts crew ports new_lanes past (accepted ∙ ap (λ (z : CrewFacts). z.knows.accepted) b.crew_is) rounds inserts removals (handles ∙ sym long_ports) (missing ∙ sym long_ports);
       few_inserts = omega arith;
       few_removals = omega arith;
       laid_out = subst (λ (z : ℕ). IsLayout (shape_of z lanes updates (2 ^ z))) (sym (ap (λ (z : RoundFacts). z.bits) b.round_is)) laid;
@@ -45,19 +54,21 @@ opened_at lanes updates counts set round first crew ports count laid b of_round 
     }
 
 -- the desk goes on with it
-pub rolled_on : (lanes updates : ℕ) (counts new : LiveCounts) (round round' : RoundFacts) (crew end first crew' : CrewFacts) (ports ports' : List KnownFacts) (count count' : ℕ) (list : List (ℕ × ℕ)) (inserts removals : ℕ)
+pub rolled_on : (lanes updates : ℕ) (counts new : LiveCounts) (round round' : RoundFacts) (crew end first crew' : CrewFacts) (ports back ports' : List EndFacts) (count count' : ℕ) (list : List (ℕ × ℕ)) (inserts removals : ℕ)
     → IsWorking lanes updates counts round crew ports count → RollsOver end round round' first list inserts removals → rounds_in end ≡ rounds_in crew → All (IsOf (rounds_in first) (counts.rounds + 1)) ports' → count' ≡ count
+    → map kept_of (reverse back) ≡ map kept_of ports → All (IsBackIn (rounds_in crew) counts.rounds end.knows.history) back → end.knows.accepted ≡ crew.knows.accepted ++ flat_map accepted_by back → map kept_of ports' ≡ map given_all (reverse back) → crew'.knows.accepted ≡ first.knows.accepted
     → rounds_in crew' ≡ rounds_in first → crew'.handed ≡ count → crew'.back ≡ first.back
-    → new.rounds ≡ counts.rounds + 1 → new.opened ≡ counts.opened → new.inserts ≡ counts.inserts + inserts → new.removals ≡ counts.removals + removals
+    → new.rounds ≡ counts.rounds + 1 → new.opened ≡ counts.opened → new.inserts ≡ counts.inserts + inserts → new.removals ≡ counts.removals + removals → new.handles ≡ counts.handles → new.missing ≡ counts.missing
     → new.inserts + 2 ^ 32 ≤ 2 ^ 64 → new.removals + 2 ^ 32 ≤ 2 ^ 64 → IsWorking lanes updates new round' crew' ports' count'
-rolled_on lanes updates counts new round round' crew end first crew' ports ports' count count' list inserts removals w r same of_round len together handed back rounds opened ins rem few_inserts few_removals =
+rolled_on lanes updates counts new round round' crew end first crew' ports back ports' count count' list inserts removals w r same of_round len kept all_back gave dealt same_changes together handed come rounds opened ins rem handles missing few_inserts few_removals =
     let long : length round'.members ≡ length r.ended.members = ap (λ (z : RoundFacts). length z.members) r.round_is in let bits : round'.bits ≡ round.bits = ap (λ (z : RoundFacts). z.bits) r.round_is in
     let out = w.all_out in let within = w.within in let sum = w.counted.sizes in let more = r.sizes in let put = r.inserts_are in let took = r.removals_are in let none : first.back ≡ 0 = ap (λ (z : CrewFacts). z.back) r.crew_is in
     let here : end.round ≡ round = ap (λ (z : RoundFacts × List Chapter). z.0) same ∙ w.together in let over : Chapter = (crew_chain r.last).now in
     let past : crew'.past ≡ crew.past ++ over ∷ [] = ap (λ (z : RoundFacts × List Chapter). z.1) together ∙ next_past counts.rounds round round' end first list inserts removals r here ∙ ap (λ (z : RoundFacts × List Chapter). z.1 ++ over ∷ []) same in
     let longer : length crew'.past ≡ length crew.past + 1 = ap length past ∙ length-append crew.past (over ∷ []) in
     let last_bits : r.last.round.bits ≡ round.bits = ap (λ (z : CrewFacts). z.round.bits) r.last_is ∙ ap (λ (z : RoundFacts). z.bits) here in
-    let happened : AreChangesOf round.bits over r.last.knows.accepted = subst (λ (z : ℕ). AreChangesOf z over r.last.knows.accepted) last_bits (all_of_round r.last r.ended r.ends r.none_missing) in record {
+    let happened : AreChangesOf round.bits over r.last.knows.accepted = subst (λ (z : ℕ). AreChangesOf z over r.last.knows.accepted) last_bits (all_of_round r.last r.ended r.ends r.none_missing) in
+    let none_yet : crew'.knows.accepted ≡ [] = same_changes ∙ ap (λ (z : CrewFacts). z.knows.accepted) r.crew_is in record {
       together = ap (λ (z : RoundFacts × List Chapter). z.0) together ∙ ap (λ (z : CrewFacts). z.round) r.crew_is;
       led = subst (λ (z : List Chapter). Leads round'.bits z round'.members) (sym (ap (λ (z : RoundFacts × List Chapter). z.1) together))
           (next_led counts.rounds round round' end first list inserts removals r (ap (λ (z : RoundFacts × List Chapter). z.0) same ∙ w.together) (subst (λ (z : List Chapter). Leads round.bits z round.members) (sym (ap (λ (z : RoundFacts × List Chapter). z.1) same)) w.led));
@@ -67,9 +78,9 @@ rolled_on lanes updates counts new round round' crew end first crew' ports ports
       of_round = subst (λ (z : (RoundFacts × List Chapter) × ℕ). All (IsOf z.0 z.1) ports') (λ i. (sym together i, sym rounds i)) of_round;
       counted = record { some = omega arith; sizes = omega arith };
       rounds_are = rounds ∙ ap (λ n. n + 1) (w.rounds_are ∙ sym longer);
-      tallied = subst (λ (z : ℕ × List Chapter). AreCountsOf z.0 z.1 new.inserts new.removals) (λ i. (sym bits i, sym past i))
-          (counts_more round.bits crew.past over r.last.knows.accepted counts.inserts counts.removals new.inserts new.removals w.tallied happened
-          (ins ∙ ap (λ n. counts.inserts + n) (r.inserts_are ∙ r.ends.inserts)) (rem ∙ ap (λ n. counts.removals + n) (r.removals_are ∙ r.ends.removals)));
+      accounts = subst (λ (z : ℕ). Accounts z new crew' (map kept_of ports')) (sym bits)
+          (accounts_rolled round.bits counts crew r.last ports back w.accounts kept (eras_of (rounds_in crew) counts.rounds end.knows.history back all_back) w.rounds_are (r.same_changes ∙ gave) crew' new over (map kept_of ports') dealt past none_yet happened rounds
+          (ins ∙ ap (λ n. counts.inserts + n) (r.inserts_are ∙ r.ends.inserts)) (rem ∙ ap (λ n. counts.removals + n) (r.removals_are ∙ r.ends.removals)) handles missing);
       few_inserts = few_inserts;
       few_removals = few_removals;
       laid_out = subst (λ (z : ℕ). IsLayout (shape_of z lanes updates (2 ^ z))) (sym bits) w.laid_out;
@@ -77,36 +88,33 @@ rolled_on lanes updates counts new round round' crew end first crew' ports ports
     }
 
 -- other ends of the same lanes, as the crew took so many passes back and handed as many out
-pub kept_on : (lanes updates : ℕ) (counts : LiveCounts) (round : RoundFacts) (crew crew' : CrewFacts) (ports new : List KnownFacts) (count count' more : ℕ)
-    → IsWorking lanes updates counts round crew ports count → All (IsOf (rounds_in crew) counts.rounds) new → count' ≡ count
-    → rounds_in crew' ≡ rounds_in crew → crew'.handed ≡ crew.handed + more → crew'.back ≡ crew.back + more → crew'.handed ≤ lanes → IsWorking lanes updates counts round crew' new count'
-kept_on lanes updates counts round crew crew' ports new count count' more w all same round_is handed back within = let out = w.all_out in record {
+pub kept_on : (lanes updates : ℕ) (counts counts' : LiveCounts) (round : RoundFacts) (crew crew' : CrewFacts) (ports new : List EndFacts) (count count' more : ℕ)
+    → IsWorking lanes updates counts round crew ports count → All (IsOf (rounds_in crew) counts.rounds) new → count' ≡ count → Accounts round.bits counts' crew' (map kept_of new)
+    → counts'.rounds ≡ counts.rounds → counts'.opened ≡ counts.opened → counts'.inserts ≡ counts.inserts → counts'.removals ≡ counts.removals
+    → rounds_in crew' ≡ rounds_in crew → crew'.handed ≡ crew.handed + more → crew'.back ≡ crew.back + more → crew'.handed ≤ lanes → IsWorking lanes updates counts' round crew' new count'
+kept_on lanes updates counts counts' round crew crew' ports new count count' more w all same accounts rounds opened inserts removals round_is handed back within = let out = w.all_out in let some = w.counted.some in let sizes = w.counted.sizes in let few = w.few_inserts in let few' = w.few_removals in record {
   together = ap (λ (z : RoundFacts × List Chapter). z.0) round_is ∙ w.together;
   led = subst (λ (z : List Chapter). Leads round.bits z round.members) (sym (ap (λ (z : RoundFacts × List Chapter). z.1) round_is)) w.led;
   workers = w.workers;
   all_out = omega arith;
   within = within;
-  of_round = subst (λ (z : RoundFacts × List Chapter). All (IsOf z counts.rounds) new) (sym round_is) all;
-  counted = w.counted;
-  rounds_are = w.rounds_are ∙ ap (λ (z : RoundFacts × List Chapter). length z.1 + 1) (sym round_is);
-  tallied = subst (λ (z : RoundFacts × List Chapter). AreCountsOf round.bits z.1 counts.inserts counts.removals) (sym round_is) w.tallied;
-  few_inserts = w.few_inserts;
-  few_removals = w.few_removals;
+  of_round = subst (λ (z : (RoundFacts × List Chapter) × ℕ). All (IsOf z.0 z.1) new) (λ i. (sym round_is i, sym rounds i)) all;
+  counted = record { some = omega arith; sizes = omega arith };
+  rounds_are = rounds ∙ w.rounds_are ∙ ap (λ (z : RoundFacts × List Chapter). length z.1 + 1) (sym round_is);
+  accounts = accounts;
+  few_inserts = omega arith;
+  few_removals = omega arith;
   laid_out = w.laid_out;
   room = w.room;
 }
 
--- an end of one of the lanes is taken out, and another is put in its place
-pub lanes_of_round : (rounds : RoundFacts × List Chapter) (era : ℕ) (ports rest new : List KnownFacts) (at : ℕ) (port : KnownFacts)
-    → All (IsOf rounds era) ports → rest ≡ remove ports at → new ≡ insert rest at port → IsOf rounds era port → All (IsOf rounds era) new
-lanes_of_round rounds era ports rest new at port all out back this = subst (All (IsOf rounds era)) (sym (back ∙ ap (λ xs. insert xs at port) out)) (put_in (IsOf rounds era) ports at port all this)
-
 -- each handle of the first round is new
-pub all_new : (set : SetFacts) (lanes updates : ℕ) (round : RoundFacts) (first : CrewFacts) (ends : List HandleFacts) → BeginsIn (2 ^ set.bits) set.pairs set.bits lanes updates round first → All (IsFirst (rounds_in first)) ends → All (IsNew round.table set updates) ends
-all_new set lanes updates round first ends b all k d low = let f = all k d low in
+pub all_new : (set : SetFacts) (lanes updates : ℕ) (round : RoundFacts) (first : CrewFacts) (ids : List TableId) (ends : List HandleFacts) → BeginsIn (2 ^ set.bits) set.pairs set.bits lanes updates round first → All (IsFirst (rounds_in first) ids) ends → All (IsNew round.table ids set updates) ends
+all_new set lanes updates round first ids ends b all k d low = let f = all k d low in
     let is : rounds_at (get_or ends k d).half ≡ (round, []) = f.fresh.round_is ∙ ap rounds_in b.crew_is in
     let of_round = ap (λ (z : RoundFacts × List Chapter). z.0) is ∙ b.round_is in record {
       of_trie = ap (λ (z : RoundFacts). z.table) of_round;
+      of_lanes = f.of_lanes;
       era = f.era_is;
       none_before = ap (λ (z : RoundFacts × List Chapter). z.1) is;
       bits = ap (λ (z : RoundFacts). z.bits) of_round;
@@ -114,4 +122,5 @@ all_new set lanes updates round first ends b all k d low = let f = all k d low i
       updates_are = ap (λ (z : RoundFacts). z.updates) of_round;
       none_spent = f.fresh.none_spent;
       none_accepted = f.fresh.none_accepted;
+      none_made = f.none_made;
     }

@@ -1,7 +1,13 @@
+pub mod Adding
+pub mod Lanes
 pub mod Carries
 pub mod Tied
+pub mod Dealing
 pub mod Moving
 pub mod Counted
+pub mod Ledgers
+pub mod Accounting
+pub mod OneLane
 pub mod Told
 pub mod Looked
 pub mod Beginning

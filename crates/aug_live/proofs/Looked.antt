@@ -1,23 +1,65 @@
--- What a look holds after a call of its lane.
-use Rattle.std.proofs.Common.{◌≡◌, ◌∙◌, ℕ, List, refl, sym, ap}
-use Rattle.std.specs.Prelude.{Option, Some}
+-- What a look holds after a call of its pass.
+use Rattle.std.proofs.Common.{◌≡◌, ◌∙◌, ℕ, ◌<◌, List, true, false, refl, sym, ap, subst, arith}
+use Rattle.std.specs.Prelude.{Option, Some, unwrap_or}
+use mathlib.Core.Option.{some, some-injective}
+use lib.ListN.{get_elem?}
+use Rattle.atomic_table.specs.Seated.{TableId}
 use Rattle.aug_trie.specs.declared.rounds.owned.OwnedPass.{OwnedPass}
 use Rattle.aug_trie.specs.Chains.{Chapter}
 use Rattle.aug_trie.specs.Round.{RoundFacts}
-use Rattle.aug_live.specs.inside.LaneKnowledge.{OutFacts, half_in, rounds_at}
-use Rattle.aug_live.specs.inside.Looks.{HoldsLook}
+use Rattle.aug_trie.specs.Pass.{PassFacts}
+use Rattle.aug_live.specs.inside.LaneKnowledge.{EndFacts, KnownFacts, LaneFacts, OutFacts, half_in, rounds_at}
+use Rattle.aug_live.specs.LiveHandles.{Follows}
+use Rattle.aug_live.specs.inside.Looks.{HoldsHandle, HoldsLook}
 
--- a lane of the same round in place of the one that was taken out
-pub holds_on : {A B : Type 0} (out : OutFacts) (era bits : ℕ) (work : Option (OwnedPass A B)) (lane next : OwnedPass A B) → HoldsLook out era work bits → work ≡ Some lane → rounds_at next.half ≡ rounds_at lane.half → HoldsLook out era (Some next) bits
-holds_on {A} {B} out era bits work lane next h there same =
-    let round : rounds_at next.half ≡ rounds_at h.lane.half = same ∙ ap (λ (z : Option (OwnedPass A B)). rounds_at (half_in z)) (sym there ∙ h.there) in record {
+-- a pass of the same round in place of the one that was taken out, which accepted no more
+pub holds_on : {A B : Type 0} (out : OutFacts) (rest : LaneFacts) (bits lane : ℕ) (lanes : List TableId) (work : Option (OwnedPass A B)) (pass next : OwnedPass A B) → HoldsLook out rest work bits lane lanes → work ≡ Some pass → rounds_at next.half ≡ rounds_at pass.half
+    → next.half.knows.accepted ≡ pass.half.knows.accepted → HoldsLook out rest (Some next) bits lane lanes
+holds_on {A} {B} out rest bits lane lanes work pass next h there same accepted =
+    let is : Some pass ≡ Some h.pass = sym there ∙ h.there in
+    let round : rounds_at next.half ≡ rounds_at h.pass.half = same ∙ ap (λ (z : Option (OwnedPass A B)). rounds_at (half_in z)) is in record {
       whose = h.whose;
-      works = h.works;
-      era_is = h.era_is;
       some_era = h.some_era;
-      lane = next;
+      id = h.id;
+      number = h.number;
+      works = h.works;
+      rest_is = h.rest_is;
+      some_lane = h.some_lane;
+      pass = next;
       there = refl;
       round_is = round ∙ h.round_is;
+      same_changes = accepted ∙ ap (λ (z : Option (OwnedPass A B)). (half_in z).knows.accepted) is ∙ h.same_changes;
       bits_are = ap (λ (z : RoundFacts × List Chapter). z.0.bits) round ∙ h.bits_are;
+      few_bits = h.few_bits;
+    }
+
+-- the end that a handle holds, and its lane
+pub mine_of : (end : EndFacts) (inside : Option EndFacts) (bits number place : ℕ) (lanes : List TableId) (h : HoldsHandle inside bits place number lanes) → inside ≡ Some end → end ≡ h.mine
+mine_of end inside bits number place lanes h there = ap (λ (z : Option EndFacts). unwrap_or z end) (sym there ∙ h.there)
+
+pub lock_of : (end : EndFacts) (inside : Option EndFacts) (bits number place : ℕ) (lanes : List TableId) (id : TableId) → HoldsHandle inside bits place number lanes → inside ≡ Some end → get_elem? lanes place ≡ some id → end.lock ≡ id
+lock_of end inside bits number place lanes id h there at = ap (λ (e : EndFacts). e.lock) (mine_of end inside bits number place lanes h there) ∙ some-injective h.mine.lock id (sym h.id ∙ at)
+
+-- what a handle holds goes into a look
+pub looks_from : {A B : Type 0} (end : EndFacts) (out : OutFacts) (lane rest : LaneFacts) (inside : Option EndFacts) (bits number place : ℕ) (lanes : List TableId) (half : PassFacts) (next : OwnedPass A B) → HoldsHandle inside bits place number lanes → inside ≡ Some end → out.lock ≡ end.lock → out.known ≡ end.known
+    → out.taken ≡ lane → lane.number ≡ end.known.number → lane.works ≡ true → Follows end.known.at lane.at → half ≡ lane.at.half → rest ≡ record lane { works = false } → rounds_at next.half ≡ rounds_at half → next.half.knows.accepted ≡ half.knows.accepted → HoldsLook out rest (Some next) bits place lanes
+looks_from {A} {B} end out lane rest inside bits number place lanes half next h there lock known taken numbered works follows work is round accepted =
+    let mine = mine_of end inside bits number place lanes h there in
+    let later = follows.not_later in
+    let era : end.known.at.era ≡ h.mine.known.at.era = ap (λ (e : EndFacts). e.known.at.era) mine in
+    let kept : rest.at.era ≡ lane.at.era = ap (λ (l : LaneFacts). l.at.era) is in
+    let rounds : rounds_at next.half ≡ rounds_at lane.at.half = round ∙ ap rounds_at work in record {
+      whose = ap (λ (z : KnownFacts). z.whose) known ∙ ap (λ (e : EndFacts). e.known.whose) mine ∙ h.whose;
+      some_era = subst (λ (z : ℕ). 0 < z) (sym (ap (λ (z : KnownFacts). z.at.era) known ∙ era)) h.some_era;
+      id = h.id ∙ ap some (sym (lock ∙ ap (λ (e : EndFacts). e.lock) mine));
+      number = ap (λ (l : LaneFacts). l.number) taken ∙ numbered ∙ sym (ap (λ (z : KnownFacts). z.number) known);
+      works = ap (λ (l : LaneFacts). l.works) taken ∙ works;
+      rest_is = is ∙ ap (λ (l : LaneFacts). record l { works = false }) (sym taken);
+      some_lane = omega (arith, later, era, kept, h.some_era);
+      pass = next;
+      there = refl;
+      round_is = rounds ∙ ap (λ (l : LaneFacts). rounds_at l.at.half) (sym taken);
+      same_changes = accepted ∙ ap (λ (z : PassFacts). z.knows.accepted) work ∙ ap (λ (l : LaneFacts). l.at.half.knows.accepted) (sym taken);
+      bits_are = ap (λ (z : RoundFacts × List Chapter). z.0.bits) rounds ∙ follows.bits ∙ ap (λ (e : EndFacts). e.known.at.half.round.bits) mine ∙ h.bits_are;
       few_bits = h.few_bits;
     }

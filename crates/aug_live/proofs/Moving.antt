@@ -15,7 +15,7 @@ use Rattle.aug_trie.specs.Crew.{CrewFacts, RollsOver, crew_chain}
 use Rattle.aug_trie.proofs.Chaining.{begins_alike}
 use Rattle.aug_live.specs.Carrying.{Leads}
 use Rattle.aug_core.proofs.PrefixLemmas.{prefix_trans}
-use Rattle.aug_live.specs.inside.LaneKnowledge.{KnownFacts}
+use Rattle.aug_live.specs.inside.LaneKnowledge.{EndFacts}
 use Rattle.aug_live.specs.inside.Rolls.{IsBackIn, HasEnded, rounds_in}
 use Rattle.aug_live.proofs.Carries.{leads_on}
 
@@ -47,14 +47,14 @@ module _ {A : Type 0} (P : A → Type 0) where
       All-append P (take i (remove xs i)) (x ∷ drop i (remove xs i)) (All-take P i (remove xs i) rest) (All-append P (x ∷ []) (drop i (remove xs i)) (one x this) (All-drop P i (remove xs i) rest))
 
 -- what is in a history is in each later one
-back_on : (rounds : RoundFacts × List Chapter) (era : ℕ) (h h' : List Cut) (v : KnownFacts) → IsPrefix h h' → IsBackIn rounds era h v → IsBackIn rounds era h' v
-back_on rounds era h h' v on b = record { whose = b.whose; works = b.works; era_is = b.era_is; round_is = b.round_is; known = prefix_trans v.at.half.knows.history h h' b.known on }
+back_on : (rounds : RoundFacts × List Chapter) (era : ℕ) (h h' : List Cut) (e : EndFacts) → IsPrefix h h' → IsBackIn rounds era h e → IsBackIn rounds era h' e
+back_on rounds era h h' e on b = record { whose = b.whose; works = b.works; era_is = b.era_is; round_is = b.round_is; known = prefix_trans e.known.at.half.knows.history h h' b.known on; whole = b.whole }
 
-pub all_back_on : (rounds : RoundFacts × List Chapter) (era : ℕ) (h h' : List Cut) (xs : List KnownFacts) → IsPrefix h h' → All (IsBackIn rounds era h) xs → All (IsBackIn rounds era h') xs
+pub all_back_on : (rounds : RoundFacts × List Chapter) (era : ℕ) (h h' : List Cut) (xs : List EndFacts) → IsPrefix h h' → All (IsBackIn rounds era h) xs → All (IsBackIn rounds era h') xs
 all_back_on rounds era h h' xs on all k d low = back_on rounds era h h' (get_or xs k d) on (all k d low)
 
-pub same_era : (rounds : RoundFacts × List Chapter) (era era' : ℕ) (h : List Cut) (v : KnownFacts) → era ≡ era' → IsBackIn rounds era h v → IsBackIn rounds era' h v
-same_era rounds era era' h v e = subst (λ (z : ℕ). IsBackIn rounds z h v) e
+pub same_era : (rounds : RoundFacts × List Chapter) (era era' : ℕ) (h : List Cut) (e : EndFacts) → era ≡ era' → IsBackIn rounds era h e → IsBackIn rounds era' h e
+same_era rounds era era' h e is = subst (λ (z : ℕ). IsBackIn rounds z h e) is
 
 -- what went back to a crew is a part of the rounds before the next one, which its crew begins in the memory of this one
 module _ (era : ℕ) (round next : RoundFacts) (crew first : CrewFacts) (list : List (ℕ × ℕ)) (inserts removals : ℕ) (r : RollsOver crew round next first list inserts removals) (same : crew.round ≡ round) where
@@ -65,8 +65,8 @@ module _ (era : ℕ) (round next : RoundFacts) (crew first : CrewFacts) (list : 
   pub next_past : first.past ≡ crew.past ++ over ∷ []
   next_past = ap (λ (z : CrewFacts). z.past) r.crew_is ∙ ap (λ (z : CrewFacts). z.past ++ over ∷ []) r.last_is
 
-  ended : (v : KnownFacts) → IsBackIn (rounds_in crew) era crew.knows.history v → HasEnded next first.past era v
-  ended v b = let p : PassFacts = v.at.half in
+  ended : (e : EndFacts) → IsBackIn (rounds_in crew) era crew.knows.history e → HasEnded next first.past era e
+  ended e b = let p : PassFacts = e.known.at.half in
       let was : p.round ≡ round = ap (λ (z : RoundFacts × List Chapter). z.0) b.round_is ∙ same in
       let before : p.past ≡ crew.past = ap (λ (z : RoundFacts × List Chapter). z.1) b.round_is in
       let members : over.members ≡ p.round.members = ap (λ (z : CrewFacts). z.round.members) r.last_is ∙ ap (λ (z : RoundFacts × List Chapter). z.0.members) (sym b.round_is) in record {
@@ -79,7 +79,7 @@ module _ (era : ℕ) (round next : RoundFacts) (crew first : CrewFacts) (list : 
             (begins_alike p.past (chain_of p).now over [] record { members = members; goes_on = prefix_trans p.knows.history crew.knows.history r.last.knows.history b.known r.goes_on });
       }
 
-  pub all_ended : (xs : List KnownFacts) → All (IsBackIn (rounds_in crew) era crew.knows.history) xs → All (HasEnded next first.past era) xs
+  pub all_ended : (xs : List EndFacts) → All (IsBackIn (rounds_in crew) era crew.knows.history) xs → All (HasEnded next first.past era) xs
   all_ended xs all k d low = ended (get_or xs k d) (all k d low)
 
   -- and they lead to the set with which it begins

@@ -1,5 +1,6 @@
 pub mod LiveErrors
 pub mod Carrying
+pub mod Ledgers
 pub mod LiveHandles
 pub mod LiveTries
 pub mod Plans

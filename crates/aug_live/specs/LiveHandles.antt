@@ -1,7 +1,8 @@
 -- What contracts see of a handle and of a look, and what their calls do.
-use Rattle.std.specs.Prelude.{◌≡◌, ◌⊎◌, ℕ, ◌<◌, ◌≤◌, List, []}
+use Rattle.std.specs.Prelude.{◌≡◌, ◌⊎◌, ℕ, ◌<◌, ◌≤◌, List, [], ◌++◌, length, drop}
 use Rattle.aug_model.specs.Keys.{SetFacts}
 use Rattle.aug_core.specs.Prefixes.{IsPrefix}
+use Rattle.aug_core.specs.declared.view.Change.{Change}
 use Rattle.atomic_table.specs.Seated.{TableId}
 use Rattle.aug_trie.specs.Chains.{IsPart}
 use Rattle.aug_trie.specs.Note.{NoteFacts}
@@ -12,11 +13,19 @@ use Rattle.aug_trie.specs.Node.{Reads}
 use Rattle.aug_model.specs.declared.summary.Summary.{Summary}
 use Rattle.aug_trie.specs.declared.queries.snapshot.Snapshot.{Snapshot}
 use Rattle.aug_live.specs.Carrying.{Leads}
+use Rattle.aug_live.specs.Ledgers.{Made, dated}
 
--- a handle: the round that it last worked in, counted from 1, and the pass of its lane as the handle left it
+-- a handle: the lanes of its trie, by which it is known; the round that it last worked in, counted from 1; the pass of its lane as the handle left it; and all
+-- changes that were accepted through it, each with its round
 pub record HandleFacts : Type 0 where
+  pub lanes : List TableId
   pub era : ℕ
   pub half : PassFacts
+  pub made : List Made
+
+-- the changes that were accepted from a pass since it was in the first state
+abbrev pub added : PassFacts → PassFacts → List Change
+added old new = drop (length old.knows.accepted) new.knows.accepted
 
 -- a note of all that a pass knows
 abbrev pub note_at : PassFacts → NoteFacts
@@ -37,8 +46,10 @@ pub record Follows (old new : HandleFacts) : Type 0 where
   pub led : old.era < new.era → Leads new.half.round.bits new.half.past new.half.round.members
   pub table : new.half.round.table ≡ old.half.round.table
   pub bits : new.half.round.bits ≡ old.half.round.bits
+  pub lanes : new.lanes ≡ old.lanes
+  pub made : new.made ≡ old.made
 
--- a handle makes `updates` updates: rounds may roll over first, and then its pass does what `does` says
+-- a handle makes `updates` updates: rounds may roll over first, and then its pass does what `does` says. What its pass accepted with that is made through it
 pub record Makes (updates : ℕ) (does : PassFacts → PassFacts → Type 0) (old new : HandleFacts) : Type 0 where
   pub start : HandleFacts
   pub follows : Follows old start
@@ -46,10 +57,13 @@ pub record Makes (updates : ℕ) (does : PassFacts → PassFacts → Type 0) (ol
   pub done : does start.half new.half
   pub steps : ℕ
   pub goes_on : GoesOn updates steps start.half new.half
+  pub lanes : new.lanes ≡ start.lanes
+  pub made : new.made ≡ start.made ++ dated new.era (added start.half new.half)
 
--- a handle of a trie, by its table, in the first round over this set; it knows no update
-pub record IsNew (table : TableId) (set : SetFacts) (updates : ℕ) (handle : HandleFacts) : Type 0 where
+-- a handle of a trie, by its table and its lanes, in the first round over this set; it knows no update
+pub record IsNew (table : TableId) (lanes : List TableId) (set : SetFacts) (updates : ℕ) (handle : HandleFacts) : Type 0 where
   pub of_trie : handle.half.round.table ≡ table
+  pub of_lanes : handle.lanes ≡ lanes
   pub era : handle.era ≡ 1
   pub none_before : handle.half.past ≡ []
   pub bits : handle.half.round.bits ≡ set.bits
@@ -57,16 +71,19 @@ pub record IsNew (table : TableId) (set : SetFacts) (updates : ℕ) (handle : Ha
   pub updates_are : handle.half.round.updates ≡ updates
   pub none_spent : handle.half.spent ≡ 0
   pub none_accepted : handle.half.knows.accepted ≡ []
+  pub none_made : handle.made ≡ []
 
--- a look: the round that it is in, its pass and the snapshot that it shows
+-- a look: what its handle was, with the pass as it is now, and the snapshot that it shows
 pub record LookFacts : Type 0 where
+  pub lanes : List TableId
   pub era : ℕ
   pub half : PassFacts
+  pub made : List Made
   pub snapshot : Snapshot
 
 -- what its handle knows once the look is over
 abbrev pub handle_of : LookFacts → HandleFacts
-handle_of look = record { era = look.era; half = look.half }
+handle_of look = record { lanes = look.lanes; era = look.era; half = look.half; made = look.made }
 
 -- the set that it shows
 abbrev pub set_of_look : LookFacts → SetFacts
@@ -74,14 +91,13 @@ set_of_look look = set_at look.half look.snapshot
 
 -- a look takes a newer snapshot of the same round
 pub record LooksAgain (old new : LookFacts) : Type 0 where
-  pub same_era : new.era ≡ old.era
+  pub same : new ≡ record old { half = new.half; snapshot = new.snapshot }
   pub takes : TakesSnapshot old.half.knows new.half.knows (snapshot_cut new.half new.snapshot.number)
   pub goes_on : GoesOn 0 1 old.half new.half
 
 module _ {A B : Type 0} (summary_of : List (ℕ × ℕ) → Summary A B) where
   -- a query of a look keeps what the look shows, and makes at most `most` steps
   pub record IsAsked (most : ℕ) (old new : LookFacts) : Type 0 where
-    pub same_era : new.era ≡ old.era
-    pub same_snapshot : new.snapshot ≡ old.snapshot
+    pub same : new ≡ record old { half = new.half }
     pub same_set : set_of_look new ≡ set_of_look old
     pub reads : Reads summary_of most old.half new.half

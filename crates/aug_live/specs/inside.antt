@@ -4,3 +4,4 @@ pub mod DeskKnowledge
 pub mod LaneKnowledge
 pub mod Looks
 pub mod Rolls
+pub mod SameChanges

@@ -11,4 +11,8 @@ pub struct LiveCounts {
     pub inserts: u64,
     /// How many keys were taken out.
     pub removals: u64,
+    /// How many handles there were.
+    pub handles: u64,
+    /// How many of them did not come back.
+    pub missing: u64,
 }

@@ -1,10 +1,13 @@
 //! The desk: the round that goes on, and the roller's ends of all lanes.
-ghost use Rattle.std.specs.Prelude.{◌≡◌, ◌+◌, ◌<◌, ◌≤◌, IfOk, IsErr, IsErrOf, length};
+ghost use Rattle.std.specs.Prelude.{◌≡◌, ◌↔◌, ◌+◌, ◌<◌, ◌≤◌, IfOk, IfErr, IsErrOf, length};
+ghost use mathlib.Core.Option.{some};
+ghost use lib.ListN.{get_elem?};
+ghost use Rattle.atomic_table.specs.Seated.{TableId};
 ghost use Rattle.aug_trie.specs.Note.{chain_of_note};
 ghost use Rattle.aug_trie.specs.Chains.{IsPart};
-ghost use Rattle.aug_live.specs.LiveTries.{Closes, IsHandleOf, KnowsMore};
-ghost use Rattle.aug_live.specs.inside.Rolls.{IsHandleEnd};
-ghost use Rattle.aug_live.specs.declared.known.Whose.TheVariants.{Nobody};
+ghost use Rattle.aug_live.specs.LiveTries.{Closes, KnowsMore, ids_of};
+ghost use Rattle.aug_live.specs.inside.Desks.{GivesLane, TakesEnd};
+ghost use Rattle.aug_live.specs.declared.known.Whose.TheVariants.{Handle};
 
 use crate::counts::LiveCounts;
 use crate::end::End;
@@ -35,15 +38,16 @@ pub(crate) struct Working<A: Monoid, B: Monoid> {
 }
 
 impl<A: Monoid, B: Monoid> Model for Working<A, B> {
-    ghost use Rattle.std.specs.Prelude.{◌≡◌, ◌≤◌, ◌^◌, [], vec_len, vec_capacity};
+    ghost use Rattle.std.specs.Prelude.{◌≡◌, ◌≤◌, ◌^◌, [], map, vec_len, vec_capacity};
     ghost use Rattle.std.specs.Arc.{arc_value};
     ghost use Rattle.aug_trie.specs.Crew.{crew_chain};
     ghost use Rattle.aug_live.specs.LiveTries.{TrieFacts};
     ghost use Rattle.aug_live.specs.inside.Desks.{IsWorking};
+    ghost use Rattle.aug_live.specs.inside.LaneKnowledge.{lane_by};
 
     ghost Value = { TrieFacts };
 
-    ghost view = { λ w. record { table = (arc_value w.round).table; bits = (arc_value w.round).bits; lanes = vec_len w.ports; rounds = crew_chain w.crew } };
+    ghost view = { λ w. record { table = (arc_value w.round).table; bits = (arc_value w.round).bits; lanes = map lane_by w.ports.items; rounds = crew_chain w.crew } };
 
     ghost invariant = { λ w. IsWorking w.plan.lanes w.plan.updates w.counts (arc_value w.round) w.crew w.ports.items (vec_len w.ports)
         × (w.room.items ≡ []) × (vec_len w.ports ≤ vec_capacity w.room) × (w.list.items ≡ []) × (2 ^ (arc_value w.round).bits ≤ vec_capacity w.list)
@@ -69,10 +73,9 @@ impl<A: Monoid, B: Monoid> Working<A, B> {
         let inserts = counts.inserts + u64::from(ended.inserts());
         let removals = counts.removals + u64::from(ended.removals());
         let counts = LiveCounts {
-            rounds: counts.rounds,
-            opened: counts.opened,
             inserts,
             removals,
+            ..counts
         };
         (ended.into_members_in(list), counts)
     }
@@ -108,9 +111,9 @@ impl<A: Monoid, B: Monoid> Working<A, B> {
             plan,
             counts: LiveCounts {
                 rounds: counts.rounds + 1,
-                opened: counts.opened,
                 inserts: counts.inserts + u64::from(inserts),
                 removals: counts.removals + u64::from(removals),
+                ..counts
             },
             bits,
             round,
@@ -171,29 +174,67 @@ impl<A: Monoid, B: Monoid> Working<A, B> {
         working
     }
 
-    /// Gives a lane to a new handle, whose end it answers with the bits of its keys. The handle knows all that the crew does.
+    /// Takes back the handle of a lane, by its end. Refused with `Replaced` if the lane has a newer one, and with `NoLane`; then the same end comes back.
+    pub(crate) fn back<R: Wait>(
+        &mut self,
+        rt: &R,
+        lane: usize,
+        number: u64,
+        end: End<A, B>,
+    ) -> Result<(), (End<A, B>, LiveError)>
+        requires handle { end.known.whose ≡ Handle }
+        requires some { 0 < end.known.at.era }
+        requires number { end.known.number ≡ number }
+        requires lock { (id : TableId) → get_elem? (ids_of self.old) lane ≡ some id → end.lock ≡ id }
+        ensures more { KnowsMore self.old self.new }
+        ensures takes { IfOk result (λ _. TakesEnd lane end.known.made self.old self.new) }
+        ensures same { IfErr result (λ e. e.0 ≡ end) }
+    {
+        if lane >= self.ports.len() {
+            return Err((end, LiveError::NoLane));
+        }
+        let (port, is_last) = self.ports.remove(lane).is_of(rt, number);
+        if !is_last {
+            let Ok(()) = self.ports.insert(lane, port) else {
+                unreachable!()
+            };
+            return Err((end, LiveError::Replaced));
+        }
+        let Ok(()) = self.ports.insert(lane, port.take_in(rt, end)) else {
+            unreachable!()
+        };
+        self.counts.missing -= 1;
+        Ok(())
+    }
+
+    /// Gives a lane to a new handle, whose end it answers with the bits of its keys and its number. The handle knows all that the crew does.
+    ///
+    /// Refused with `NoLane`, and with `Exhausted` if the handles cannot be counted further.
     pub(crate) fn renew<R: Wait>(
         &mut self,
         rt: &R,
         lane: usize,
-        first: End<A, B>,
-    ) -> Result<(End<A, B>, u32), LiveError>
-        requires first { first.whose ≡ Nobody }
+    ) -> Result<(End<A, B>, u32, u64), LiveError>
         ensures more { KnowsMore self.old self.new }
-        ensures handle { IfOk result (λ h. IsHandleEnd h.1 h.0 × IsHandleOf self.new h.0.at) }
-        ensures no_lane { IsErrOf result LiveError.NoLane → self.old.lanes ≤ lane }
-        ensures past { self.old.lanes ≤ lane → IsErr result }
+        ensures handle { IfOk result (λ h. GivesLane lane self.new h.0 h.1 h.2) }
+        ensures no_lane { IsErrOf result LiveError.NoLane ↔ (length self.old.lanes ≤ lane) }
     {
         if lane >= self.ports.len() {
             return Err(LiveError::NoLane);
         }
+        if self.counts.handles == u64::MAX || self.counts.missing == u64::MAX {
+            return Err(LiveError::Exhausted);
+        }
+        let number = self.counts.handles + 1;
         let (port, end) = self
             .ports
             .remove(lane)
-            .renew(rt, &self.round, &mut self.crew, first);
+            .renew(rt, number, &self.round, &mut self.crew);
         let Ok(()) = self.ports.insert(lane, port) else {
             unreachable!()
         };
-        Ok((end, self.bits))
+        self.counts.handles = number;
+        self.counts.missing += 1;
+        Ok((end, self.bits, number))
     }
 }

@@ -1,10 +1,13 @@
 //! The desk, and the ends of its lock.
-ghost use Rattle.std.specs.Prelude.{◌≡◌, ◌+◌, ◌<◌, ◌≤◌, IfOk, IsErr, IsErrOf, length};
+ghost use Rattle.std.specs.Prelude.{◌≡◌, ◌+◌, ◌<◌, ◌≤◌, IfOk, IfErr, IsErr, IsErrOf, length};
+ghost use mathlib.Core.Option.{some};
+ghost use lib.ListN.{get_elem?};
+ghost use Rattle.atomic_table.specs.Seated.{TableId};
 ghost use Rattle.aug_trie.specs.Note.{chain_of_note};
 ghost use Rattle.aug_trie.specs.Chains.{IsPart};
-ghost use Rattle.aug_live.specs.LiveTries.{Closes, IsHandleOf, KnowsMore};
-ghost use Rattle.aug_live.specs.inside.Rolls.{IsHandleEnd};
-ghost use Rattle.aug_live.specs.declared.known.Whose.TheVariants.{Nobody};
+ghost use Rattle.aug_live.specs.LiveTries.{CameBack, Closes, KnowsMore, ids_of};
+ghost use Rattle.aug_live.specs.inside.Desks.{GivesLane};
+ghost use Rattle.aug_live.specs.declared.known.Whose.TheVariants.{Handle};
 
 use crate::counts::LiveCounts;
 use crate::desk::Working;
@@ -30,16 +33,18 @@ pub(crate) struct Desk<A: Monoid, B: Monoid> {
 /// What an end of the desk knows of its trie. No value of it is made.
 pub(crate) struct Told<A: Monoid, B: Monoid> {
     half: PassHalf<A, B>,
-    lanes: usize,
+    lanes: Vec<End<A, B>>,
 }
 
 impl<A: Monoid, B: Monoid> Model for Told<A, B> {
+    ghost use Rattle.std.specs.Prelude.{map};
     ghost use Rattle.aug_trie.specs.Pass.{chain_of};
     ghost use Rattle.aug_live.specs.LiveTries.{TrieFacts};
+    ghost use Rattle.aug_live.specs.inside.LaneKnowledge.{lane_by};
 
     ghost Value = { TrieFacts };
 
-    ghost view = { λ t. record { table = t.half.round.table; bits = t.half.round.bits; lanes = t.lanes; rounds = chain_of t.half } };
+    ghost view = { λ t. record { table = t.half.round.table; bits = t.half.round.bits; lanes = map lane_by t.lanes.items; rounds = chain_of t.half } };
 }
 
 /// The rule of the desk's lock: each end knows a part of the rounds of the trie that lies there.
@@ -191,11 +196,24 @@ impl<A: Monoid, B: Monoid> DeskEnd<A, B> {
         rolled
     }
 
-    /// Has the trie know what a note of it tells.
-    pub(crate) fn learn<R: Wait>(&mut self, rt: &R, note: Note<A, B>) -> Result<(), LiveError>
+    /// Takes back the handle of a lane, by its end and a note of what it knew. Refused as `Working::back`; then the same end comes back.
+    pub(crate) fn back<R: Wait>(
+        &mut self,
+        rt: &R,
+        note: Note<A, B>,
+        lane: usize,
+        number: u64,
+        end: End<A, B>,
+    ) -> Result<(), (End<A, B>, LiveError)>
         requires trie { note.round.table ≡ self.old.table }
+        requires handle { end.known.whose ≡ Handle }
+        requires some { 0 < end.known.at.era }
+        requires number { end.known.number ≡ number }
+        requires lock { (id : TableId) → get_elem? (ids_of self.old) lane ≡ some id → end.lock ≡ id }
         ensures more { KnowsMore self.old self.new }
         ensures learns { IfOk result (λ _. IsPart (chain_of_note note) self.new.rounds) }
+        ensures takes { IfOk result (λ _. CameBack end.known.made self.old self.new) }
+        ensures same { IfErr result (λ e. e.0 ≡ end) }
     {
         let Desk { working, opened } = self.lock.take::<Read, R>(rt, &mut self.pass);
         let Some(working) = working else {
@@ -206,26 +224,26 @@ impl<A: Monoid, B: Monoid> DeskEnd<A, B> {
                     opened,
                 },
             );
-            return Err(LiveError::Closed);
+            return Err((end, LiveError::Closed));
         };
-        let working = Some(working.learn(note));
+        let mut working = working.learn(note);
+        let done = working.back(rt, lane, number, end);
+        let working = Some(working);
         self.lock
             .put::<Lay>(&mut self.pass, Desk { working, opened });
-        Ok(())
+        done
     }
 
-    /// Gives a lane to a new handle, whose end it answers with the bits of its keys.
+    /// Gives a lane to a new handle, whose end it answers with the bits of its keys and its number.
     pub(crate) fn renew<R: Wait>(
         &mut self,
         rt: &R,
         lane: usize,
-        first: End<A, B>,
-    ) -> Result<(End<A, B>, u32), LiveError>
-        requires first { first.whose ≡ Nobody }
+    ) -> Result<(End<A, B>, u32, u64), LiveError>
         ensures more { KnowsMore self.old self.new }
-        ensures handle { IfOk result (λ h. IsHandleEnd h.1 h.0 × IsHandleOf self.new h.0.at) }
-        ensures no_lane { IsErrOf result LiveError.NoLane → self.old.lanes ≤ lane }
-        ensures past { self.old.lanes ≤ lane → IsErr result }
+        ensures handle { IfOk result (λ h. GivesLane lane self.new h.0 h.1 h.2) }
+        ensures no_lane { IsErrOf result LiveError.NoLane → length self.old.lanes ≤ lane }
+        ensures past { length self.old.lanes ≤ lane → IsErr result }
     {
         let Desk { working, opened } = self.lock.take::<Read, R>(rt, &mut self.pass);
         let Some(mut working) = working else {
@@ -238,7 +256,7 @@ impl<A: Monoid, B: Monoid> DeskEnd<A, B> {
             );
             return Err(LiveError::Closed);
         };
-        let renewed = working.renew(rt, lane, first);
+        let renewed = working.renew(rt, lane);
         let working = Some(working);
         self.lock
             .put::<Lay>(&mut self.pass, Desk { working, opened });

@@ -1,13 +1,13 @@
 //! The ends of a lane: a pass of its lock each.
-ghost use Rattle.std.specs.Prelude.{◌≡◌, ◌<◌, IfOk};
+ghost use Rattle.std.specs.Prelude.{◌≡◌, [], true, false, ◌<◌, IfOk, IfErr};
 ghost use Rattle.aug_live.specs.LiveHandles.{Follows};
-ghost use Rattle.aug_live.specs.inside.LaneKnowledge.{KnowsLane, Rolls, Worked, known_of, given_to};
-ghost use Rattle.aug_live.specs.declared.known.Whose.TheVariants.{Nobody, Roller, Handle};
+ghost use Rattle.aug_live.specs.inside.LaneKnowledge.{IsWhole, Learnt, Rolls, Worked, dealt, given_out, handed, knows_nothing, left, made_at, renumbered, rolls, settled, taken_in, worked};
+ghost use Rattle.aug_live.specs.declared.known.Whose.TheVariants.{Alone, Free, Roller, Handle};
 
 use crate::known::Known;
 use crate::lane::Lane;
 use crate::rolling::share;
-use crate::tie::{Learn, Parts, Tie, Turn};
+use crate::tie::{Deal, Keep, Learn, Leave, Meet, Parts, Renumber, Settle, Tie, Work};
 use aug_monoid::Monoid;
 use ruled_lock::{Pass, RuledLock};
 use std::alloc::{AllocError, Global};
@@ -20,7 +20,7 @@ pub(crate) type LaneLock<A, B> = RuledLock<Lane<A, B>, Known<A, B>, Tie>;
 /// A pass of the lock of a lane.
 pub(crate) type LanePass<A, B> = Pass<Lane<A, B>, Known<A, B>>;
 
-/// An end of a lane: the roller's, the handle's, or the first one, which makes both.
+/// An end of a lane: the roller's, or a handle's.
 #[derive(Drop)]
 pub(crate) struct End<A: Monoid, B: Monoid> {
     lock: Arc<LaneLock<A, B>, Global>,
@@ -31,11 +31,11 @@ impl<A: Monoid, B: Monoid> Model for End<A, B> {
     ghost use Rattle.std.specs.Prelude.{◌≡◌};
     ghost use Rattle.std.specs.Arc.{arc_value};
     ghost use Rattle.ruled_lock.specs.Locks.{client_of, HoldsNothing};
-    ghost use Rattle.aug_live.specs.inside.LaneKnowledge.{KnownFacts};
+    ghost use Rattle.aug_live.specs.inside.LaneKnowledge.{EndFacts};
 
-    ghost Value = { KnownFacts };
+    ghost Value = { EndFacts };
 
-    ghost view = { λ e. client_of e.pass };
+    ghost view = { λ e. record { lock = (arc_value e.lock).table.shared.table_id; known = client_of e.pass } };
 
     ghost invariant = { λ e. (e.pass.table_id ≡ (arc_value e.lock).table.shared.table_id) × HoldsNothing e.pass };
 }
@@ -55,15 +55,15 @@ impl<A: Monoid, B: Monoid> Model for Out<A, B> {
 
     ghost Value = { OutFacts };
 
-    ghost view = { λ o. record { known = client_of o.pass; taken = taken_by o.pass.me.0.taken } };
+    ghost view = { λ o. record { lock = (arc_value o.lock).table.shared.table_id; known = client_of o.pass; taken = taken_by o.pass.me.0.taken } };
 
     ghost invariant = { λ o. (o.pass.table_id ≡ (arc_value o.lock).table.shared.table_id) × IsSome o.pass.me.0.taken × (o.pass.me.1 ≡ (0, None) ∷ []) };
 }
 
 impl<A: Monoid, B: Monoid> End<A, B> {
-    /// The first end of a new lane.
+    /// The roller's end of a new lane, which no handle has.
     pub(crate) fn new(alloc: Global) -> Result<End<A, B>, AllocError>
-        ensures { IfOk result (λ e. e.whose ≡ Nobody) }
+        ensures { IfOk result (λ e. e.known ≡ knows_nothing Alone) }
     {
         let (lock, pass) = RuledLock::new(alloc, Lane::new())?;
         let Ok(lock) = Arc::new(alloc, lock) else {
@@ -72,10 +72,11 @@ impl<A: Monoid, B: Monoid> End<A, B> {
         Ok(End { lock, pass })
     }
 
-    /// The roller's end and the handle's, which both know what the first one knew.
+    /// The roller's end, and that of a new handle.
     pub(crate) fn fork<R: Wait>(self, rt: &R) -> (End<A, B>, End<A, B>)
-        requires { self.whose ≡ Nobody }
-        ensures { (result.0 ≡ given_to Roller self) × (result.1 ≡ given_to Handle self) }
+        requires alone { self.known.whose ≡ Alone }
+        requires some { 0 < self.known.at.era }
+        ensures { (result.0 ≡ record self { known = given_out self.known }) × (result.1 ≡ record self { known = handed self.known }) }
     {
         let End { lock, mut pass } = self;
         let other = lock.another::<Parts>(&mut pass);
@@ -89,35 +90,65 @@ impl<A: Monoid, B: Monoid> End<A, B> {
         )
     }
 
+    /// The roller's end takes in that of its lane's handle, which came back.
+    pub(crate) fn join(self, other: End<A, B>) -> End<A, B>
+        requires roller { self.known.whose ≡ Roller }
+        requires handle { other.known.whose ≡ Handle }
+        requires some { (0 < self.known.at.era) × (0 < other.known.at.era) }
+        requires number { other.known.number ≡ self.known.number }
+        requires lock { other.lock ≡ self.lock }
+        ensures { result ≡ record self { known = taken_in self.known other.known } }
+    {
+        let End { lock, mut pass } = self;
+        let End { pass: other, .. } = other;
+        lock.join::<Meet>(&mut pass, other);
+        End { lock, pass }
+    }
+
     /// Takes what lies in the lane for the roller, and waits while the handle has it.
     pub(crate) fn take_to_roll<R: Wait>(self, rt: &R) -> (Out<A, B>, Lane<A, B>)
-        requires roller { self.whose ≡ Roller }
-        requires some { 0 < self.at.era }
-        ensures known { result.0.known ≡ self }
+        requires roller { rolls self.known.whose ≡ true }
+        requires some { 0 < self.known.at.era }
+        ensures lock { result.0.lock ≡ self.lock }
+        ensures known { result.0.known ≡ self.known }
         ensures taken { result.0.taken ≡ result.1 }
-        ensures rolls { Rolls result.1 self }
+        ensures rolls { Rolls self.known self.known.before result.1 }
     {
         self.take(rt)
     }
 
-    /// Takes it for the handle, and waits while the roller has it.
+    /// Takes it for the handle with this number, and waits while the roller has it. If the lane has a newer handle, it stays there, and the end comes back.
     #[inline(always)]
-    pub(crate) fn take_to_work<R: Wait>(self, rt: &R) -> (Out<A, B>, Lane<A, B>)
-        requires handle { self.whose ≡ Handle }
-        requires some { 0 < self.at.era }
-        ensures whose { result.0.known.whose ≡ Handle }
-        ensures taken { result.0.taken ≡ result.1 }
-        ensures follows { Follows self.at result.1.at }
+    pub(crate) fn take_to_work<R: Wait>(
+        self,
+        rt: &R,
+        number: u64,
+    ) -> Result<(Out<A, B>, Lane<A, B>), End<A, B>>
+        requires handle { self.known.whose ≡ Handle }
+        requires some { 0 < self.known.at.era }
+        requires number { self.known.number ≡ number }
+        ensures lock { IfOk result (λ t. t.0.lock ≡ self.lock) }
+        ensures known { IfOk result (λ t. t.0.known ≡ self.known) }
+        ensures taken { IfOk result (λ t. t.0.taken ≡ t.1) }
+        ensures number { IfOk result (λ t. t.1.number ≡ self.known.number) }
+        ensures follows { IfOk result (λ t. Follows self.known.at t.1.at) }
+        ensures same { IfErr result (λ e. e ≡ self) }
     {
-        self.take(rt)
+        let (out, lane) = self.take(rt);
+        if lane.number == number {
+            Ok((out, lane))
+        } else {
+            Err(out.keep(lane))
+        }
     }
 
     /// Takes what lies in the lane, and waits while another end has it.
     #[inline(always)]
     pub(crate) fn take<R: Wait>(self, rt: &R) -> (Out<A, B>, Lane<A, B>)
-        ensures known { result.0.known ≡ self }
+        ensures lock { result.0.lock ≡ self.lock }
+        ensures known { result.0.known ≡ self.known }
         ensures taken { result.0.taken ≡ result.1 }
-        ensures knows { KnowsLane self result.1 }
+        ensures knows { Learnt self.known result.1 }
     {
         let End { lock, mut pass } = self;
         let lane = lock.take::<Learn, R>(rt, &mut pass);
@@ -126,36 +157,80 @@ impl<A: Monoid, B: Monoid> End<A, B> {
 }
 
 impl<A: Monoid, B: Monoid> Out<A, B> {
-    /// Puts the lane back, with what the handle made of it.
+    /// Puts the lane back, with what its handle made of it.
     #[inline(always)]
     pub(crate) fn put(self, lane: Lane<A, B>) -> End<A, B>
         requires handle { self.known.whose ≡ Handle }
+        requires some { 0 < self.known.at.era }
+        requires number { self.taken.number ≡ self.known.number }
         requires worked { Worked self.taken lane }
-        ensures { result ≡ known_of Handle lane }
+        ensures { result ≡ record { lock = self.lock; known = worked self.known self.taken lane } }
     {
         let Out { lock, mut pass } = self;
-        lock.put::<Turn>(&mut pass, lane);
+        lock.put::<Work>(&mut pass, lane);
         End { lock, pass }
     }
 
-    /// Puts the lane back as the roller leaves it.
+    /// Puts the lane back as it was.
+    #[inline(always)]
+    pub(crate) fn keep(self, lane: Lane<A, B>) -> End<A, B>
+        requires { lane ≡ self.taken }
+        ensures { result ≡ record { lock = self.lock; known = self.known } }
+    {
+        let Out { lock, mut pass } = self;
+        lock.put::<Keep>(&mut pass, lane);
+        End { lock, pass }
+    }
+
+    /// Puts the lane back with the pass that the roller took, or with none.
     pub(crate) fn leave(self, lane: Lane<A, B>) -> End<A, B>
-        requires roller { self.known.whose ≡ Roller }
-        requires follows { Follows self.taken.at lane.at }
-        ensures { result ≡ known_of Roller lane }
+        requires roller { rolls self.known.whose ≡ true }
+        requires some { 0 < self.known.at.era }
+        requires same { lane.at ≡ self.taken.at }
+        requires number { (lane.number ≡ self.taken.number) × (lane.is_out ≡ self.taken.is_out) }
+        ensures { result ≡ record { lock = self.lock; known = left self.known lane } }
     {
         let Out { lock, mut pass } = self;
-        lock.put::<Turn>(&mut pass, lane);
+        lock.put::<Leave>(&mut pass, lane);
         End { lock, pass }
     }
 
-    /// Puts the lane of the first round in.
-    pub(crate) fn open(self, lane: Lane<A, B>) -> End<A, B>
-        requires first { self.known.whose ≡ Nobody }
-        ensures { result ≡ known_of Nobody lane }
+    /// Puts the lane of a handle that came back in as it was, but for the mark.
+    pub(crate) fn settle(self, lane: Lane<A, B>) -> End<A, B>
+        requires free { self.known.whose ≡ Free }
+        requires some { 0 < self.known.at.era }
+        requires same { lane ≡ record self.taken { is_out = false } }
+        ensures { result ≡ record { lock = self.lock; known = settled self.known lane } }
     {
         let Out { lock, mut pass } = self;
-        lock.put::<Turn>(&mut pass, lane);
+        lock.put::<Settle>(&mut pass, lane);
+        End { lock, pass }
+    }
+
+    /// Puts the lane back with a new pass.
+    pub(crate) fn deal(self, lane: Lane<A, B>) -> End<A, B>
+        requires roller { rolls self.known.whose ≡ true }
+        requires some { 0 < self.known.at.era }
+        requires follows { Follows self.taken.at lane.at }
+        requires number { (lane.number ≡ self.taken.number) × (lane.is_out ≡ self.taken.is_out) }
+        requires none_accepted { lane.at.half.knows.accepted ≡ [] }
+        ensures { result ≡ record { lock = self.lock; known = dealt self.known self.taken lane } }
+    {
+        let Out { lock, mut pass } = self;
+        lock.put::<Deal>(&mut pass, lane);
+        End { lock, pass }
+    }
+
+    /// Puts the lane back with a number that no handle has.
+    pub(crate) fn renumber(self, lane: Lane<A, B>) -> End<A, B>
+        requires roller { rolls self.known.whose ≡ true }
+        requires newer { self.taken.number < lane.number }
+        requires some { 0 < lane.at.era }
+        requires whole { IsWhole self.known lane.at }
+        ensures { result ≡ record { lock = self.lock; known = renumbered self.known lane } }
+    {
+        let Out { lock, mut pass } = self;
+        lock.put::<Renumber>(&mut pass, lane);
         End { lock, pass }
     }
 }

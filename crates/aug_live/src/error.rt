@@ -7,19 +7,16 @@ use std::fmt;
 /// Why an update or a look was not made. The set is then unchanged.
 #[derive(Clone, Copy, Debug, PartialEq, Eq)]
 pub enum LiveError {
-    /// Refusal 1: memory for the lane of a new handle was refused.
-    OutOfMemory,
-
-    /// Refusal 2: the trie was closed.
+    /// Refusal 1: the trie was closed.
     Closed,
 
-    /// Refusal 3: 2^64 - 1 rounds were begun, or nearly as many keys put in or taken out. No machine gets there. The round goes on, and looks of it.
+    /// Refusal 2: 2^64 - 1 rounds or handles were begun, or nearly as many keys put in or taken out. No machine gets there. The round goes on, and looks of it.
     Exhausted,
 
-    /// Refusal 4: the lane of the handle was given to a newer one.
+    /// Refusal 3: the lane of the handle was given to a newer one.
     Replaced,
 
-    /// Refusal 5: there is no lane of this number.
+    /// Refusal 4: there is no lane of this number.
     NoLane,
 }
 
@@ -31,7 +28,6 @@ impl fmt::Display for LiveError {
 
     fn fmt<W: fmt::Write>(&self, f: &mut fmt::Formatter<W>) -> fmt::Result {
         f.write_str(match self {
-            LiveError::OutOfMemory => "OutOfMemory",
             LiveError::Closed => "Closed",
             LiveError::Exhausted => "Exhausted",
             LiveError::Replaced => "Replaced",

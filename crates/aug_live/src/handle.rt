@@ -13,7 +13,7 @@ ghost use Rattle.aug_live.specs.LiveHandles.{Follows, Makes, handle_of, note_at}
 use crate::desk_end::DeskEnd;
 use crate::end::End;
 use crate::error::LiveError;
-use crate::lane::{Lane, Missed};
+use crate::lane::Missed;
 use crate::look::Look;
 use aug_model::Outcome;
 use aug_monoid::Monoid;
@@ -32,8 +32,9 @@ pub struct Handle<A: Monoid, B: Monoid> {
     // An update takes it out and puts it back.
     pub(crate) end: Option<End<A, B>>,
     pub(crate) bits: u32,
-    // The number of its lane, counted from 0.
+    // The number of its lane, counted from 0, and its own, counted from 1.
     pub(crate) lane: usize,
+    pub(crate) number: u64,
     pub(crate) desk: DeskEnd<A, B>,
 }
 
@@ -41,12 +42,13 @@ impl<A: Monoid, B: Monoid> Model for Handle<A, B> {
     ghost use Rattle.aug_live.specs.LiveHandles.{HandleFacts};
     ghost use Rattle.aug_live.specs.inside.LaneKnowledge.{handle_by};
     ghost use Rattle.aug_live.specs.inside.Looks.{HoldsHandle};
+    ghost use Rattle.aug_live.specs.LiveTries.{ids_of};
 
     ghost Value = { HandleFacts };
 
-    ghost view = { λ h. handle_by h.end };
+    ghost view = { λ h. handle_by (ids_of h.desk) h.end };
 
-    ghost invariant = { λ h. HoldsHandle h.end h.bits };
+    ghost invariant = { λ h. HoldsHandle h.end h.bits h.lane h.number (ids_of h.desk) };
 }
 
 impl<A: Monoid, B: Monoid> Handle<A, B> {
@@ -191,7 +193,13 @@ impl<A: Monoid, B: Monoid> Handle<A, B> {
         let Some(end) = self.end.take() else {
             unreachable!()
         };
-        let (out, lane) = end.take_to_work(rt);
+        let (out, lane) = match end.take_to_work(rt, self.number) {
+            Ok(taken) => taken,
+            Err(same) => {
+                self.end = Some(same);
+                return Err(Missed::Replaced);
+            }
+        };
         let (lane, done) = lane.update(k, request);
         self.end = Some(out.put(lane));
         done
@@ -202,32 +210,35 @@ impl<A: Monoid, B: Monoid> Handle<A, B> {
         ensures looks { IfOk result (λ look. Makes 0 (λ a b. TakesSnapshot a.knows b.knows (snapshot_cut b look.snapshot.number)) self (handle_of look)) }
         ensures at_rest { IfErr result (λ e. Follows self e.0) }
     {
-        let Handle {
-            end,
-            bits,
-            lane: number,
-            desk,
-        } = self;
-        let Some(end) = end else { unreachable!() };
-        let (out, lane) = end.take_to_work(rt);
+        let mut handle = self;
+        let Some(end) = handle.end.take() else {
+            unreachable!()
+        };
+        let (out, lane) = match end.take_to_work(rt, handle.number) {
+            Ok(taken) => taken,
+            Err(same) => {
+                handle.end = Some(same);
+                return Err((handle, Missed::Replaced));
+            }
+        };
         if lane.work.is_none() {
-            let missed = lane.missed();
-            let end = Some(out.put(lane));
-            let handle = Handle {
-                end,
-                bits,
-                lane: number,
-                desk,
-            };
+            let missed = Missed::Round(lane.era);
+            handle.end = Some(out.put(lane));
             return Err((handle, missed));
         }
-        let (work, Lane { era, .. }) = lane.into_work();
+        let Handle {
+            bits,
+            lane: index,
+            desk,
+            ..
+        } = handle;
+        let (work, rest) = lane.into_work();
         Ok(Look {
             out,
-            era,
+            rest,
             work: Some(work.look()),
             bits,
-            lane: number,
+            lane: index,
             desk,
         })
     }
@@ -240,7 +251,13 @@ impl<A: Monoid, B: Monoid> Handle<A, B> {
         let Some(end) = self.end.take() else {
             unreachable!()
         };
-        let (out, lane) = end.take_to_work(rt);
+        let (out, lane) = match end.take_to_work(rt, self.number) {
+            Ok(taken) => taken,
+            Err(same) => {
+                self.end = Some(same);
+                return Err(Missed::Replaced);
+            }
+        };
         let (lane, noted) = lane.note();
         self.end = Some(out.put(lane));
         noted
@@ -256,7 +273,13 @@ impl<A: Monoid, B: Monoid> Handle<A, B> {
         let Some(end) = self.end.take() else {
             unreachable!()
         };
-        let (out, lane) = end.take_to_work(rt);
+        let (out, lane) = match end.take_to_work(rt, self.number) {
+            Ok(taken) => taken,
+            Err(same) => {
+                self.end = Some(same);
+                return Err((note, Missed::Replaced));
+            }
+        };
         let (lane, learnt) = lane.learn(note);
         self.end = Some(out.put(lane));
         learnt

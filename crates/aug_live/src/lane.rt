@@ -1,11 +1,11 @@
 //! What lies in a lane.
-ghost use Rattle.std.specs.Prelude.{◌≡◌, ℕ, ◌^◌, ◌<◌, IfOk, IfErr, true, false};
+ghost use Rattle.std.specs.Prelude.{◌≡◌, ℕ, ◌+◌, ◌^◌, ◌<◌, IfOk, IfErr, true, false};
 ghost use Rattle.aug_trie.specs.Updates.{ComesTo};
 ghost use Rattle.aug_trie.specs.Chains.{IsPart};
 ghost use Rattle.aug_trie.specs.Note.{chain_of_note};
 ghost use Rattle.aug_trie.specs.Pass.{chain_of};
-ghost use Rattle.aug_live.specs.LiveHandles.{Follows, Makes, note_at};
-ghost use Rattle.aug_live.specs.inside.LaneKnowledge.{Worked};
+ghost use Rattle.aug_live.specs.LiveHandles.{Follows, note_at};
+ghost use Rattle.aug_live.specs.inside.LaneKnowledge.{Worked, WorksHere, stands};
 
 use crate::seen::Seen;
 use aug_model::Outcome;
@@ -13,17 +13,18 @@ use aug_monoid::Monoid;
 use aug_trie::{Note, OwnedPass, Request};
 use std::marker::Model;
 
-/// What lies in a lane: the number of its round, counted from 1, what its last pass knew, and that pass, unless the trie is at
-/// rest or the lane was given to a newer handle.
+/// What lies in a lane: the number of its round, counted from 1, the number of its handle, whether that is out, what its last pass knew,
+/// and that pass, unless the round is rolling over or the trie was closed.
 #[derive(Drop)]
 pub(crate) struct Lane<A: Monoid, B: Monoid> {
     pub(crate) era: u64,
+    pub(crate) number: u64,
+    pub(crate) is_out: bool,
     pub(crate) last: Seen<Option<OwnedPass<A, B>>>,
     pub(crate) work: Option<OwnedPass<A, B>>,
-    pub(crate) is_given_on: bool,
 }
 
-/// Why a lane makes no update and no look: its round has to roll over, or the lane was given to a newer handle.
+/// Why a handle makes no update and no look: the round of this number has to roll over, or a newer handle has the lane.
 #[derive(Drop)]
 pub(crate) enum Missed {
     Round(u64),
@@ -33,38 +34,42 @@ pub(crate) enum Missed {
 impl<A: Monoid, B: Monoid> Model for Lane<A, B> {
     ghost use Rattle.std.specs.Prelude.{◌≡◌, IfSome};
     ghost use Rattle.std.specs.Option.{is_some};
-    ghost use Rattle.aug_live.specs.inside.LaneKnowledge.{LaneFacts, half_in};
+    ghost use Rattle.aug_live.specs.inside.LaneKnowledge.{LaneFacts, half_in, stands};
 
     ghost Value = { LaneFacts };
 
-    ghost view = { λ l. record { works = is_some l.work; at = record { era = l.era; half = half_in l.last.value } } };
+    ghost view = { λ l. record { works = is_some l.work; number = l.number; is_out = l.is_out; at = stands l.era (half_in l.last.value) } };
 
     ghost invariant = { λ l. IfSome l.work (λ w. w.half ≡ half_in l.last.value) };
 }
 
 impl<A: Monoid, B: Monoid> Lane<A, B> {
     /// A lane before the first round.
-    pub(crate) fn new() -> Lane<A, B> {
+    pub(crate) fn new() -> Lane<A, B>
+        ensures { result.number ≡ 0 }
+    {
         let none: Option<OwnedPass<A, B>> = None;
         Lane {
             era: 0,
+            number: 0,
+            is_out: false,
             last: Seen::of(&none),
             work: none,
-            is_given_on: false,
         }
     }
 
-    /// A lane with a pass of a round.
+    /// A lane with a pass of a round, and with the number of a handle.
     #[inline(always)]
-    pub(crate) fn working(era: u64, work: OwnedPass<A, B>) -> Lane<A, B>
-        ensures { result ≡ record { works = true; at = record { era = era; half = work.half } } }
+    pub(crate) fn working(era: u64, number: u64, is_out: bool, work: OwnedPass<A, B>) -> Lane<A, B>
+        ensures { result ≡ record { works = true; number = number; is_out = is_out; at = stands era work.half } }
     {
         let work = Some(work);
         Lane {
             era,
+            number,
+            is_out,
             last: Seen::of(&work),
             work,
-            is_given_on: false,
         }
     }
 
@@ -73,90 +78,85 @@ impl<A: Monoid, B: Monoid> Lane<A, B> {
     pub(crate) fn into_work(self) -> (OwnedPass<A, B>, Lane<A, B>)
         requires { self.works ≡ true }
         ensures work { result.0.half ≡ self.at.half }
-        ensures rest { result.1 ≡ record { works = false; at = self.at } }
+        ensures rest { result.1 ≡ record self { works = false } }
     {
         let Lane {
             era,
+            number,
+            is_out,
             last,
             work,
-            ..
         } = self;
         let Some(work) = work else { unreachable!() };
         let rest = Lane {
             era,
+            number,
+            is_out,
             last,
             work: None,
-            is_given_on: false,
         };
         (work, rest)
     }
 
-    /// A lane without a pass, as its handle finds it once a newer one has its place.
-    pub(crate) fn given_on(self) -> Lane<A, B>
-        ensures { result ≡ self }
+    /// The same lane, whose handle came back.
+    pub(crate) fn settled(self) -> Lane<A, B>
+        ensures { result ≡ record self { is_out = false } }
     {
-        let Lane {
-            era,
-            last,
-            work,
-            ..
-        } = self;
         Lane {
-            era,
-            last,
-            work,
-            is_given_on: true,
+            is_out: false,
+            ..self
         }
     }
 
-    /// Why no pass lies in the lane, or its updates are spent.
-    pub(crate) fn missed(&self) -> Missed {
-        if self.is_given_on {
-            Missed::Replaced
-        } else {
-            Missed::Round(self.era)
-        }
+    /// The same lane with this pass.
+    #[inline(always)]
+    pub(crate) fn with(self, work: OwnedPass<A, B>) -> Lane<A, B>
+        ensures { result ≡ record self { works = true; at = record self.at { half = work.half } } }
+    {
+        Lane::working(self.era, self.number, self.is_out, work)
+    }
+
+    /// The same lane in the next round, with this pass.
+    pub(crate) fn next(self, work: OwnedPass<A, B>) -> Lane<A, B>
+        requires { self.at.era + 1 < 2 ^ 64 }
+        ensures { result ≡ record self { works = true; at = record self.at { era = self.at.era + 1; half = work.half } } }
+    {
+        Lane::working(self.era + 1, self.number, self.is_out, work)
     }
 
     /// Makes an update of a key, unless the updates are spent or no pass lies in the lane.
     #[inline(always)]
     pub(crate) fn update(self, k: u32, request: Request) -> (Lane<A, B>, Result<Outcome, Missed>)
         requires { k < 2 ^ self.at.half.round.bits }
-        ensures made { IfOk result.1 (λ done. Makes 1 (λ a b. ComesTo request k done a.knows b.knows) self.at result.0.at) }
+        ensures made { IfOk result.1 (λ done. WorksHere 1 (λ a b. ComesTo request k done a.knows b.knows) self.at result.0.at) }
         ensures same { IfErr result.1 (λ _. result.0.at ≡ self.at) }
         ensures worked { Worked self result.0 }
     {
         if self.work.is_none() {
-            let missed = self.missed();
+            let missed = Missed::Round(self.era);
             return (self, Err(missed));
         }
-        let (work, Lane { era, last, .. }) = self.into_work();
+        let (work, rest) = self.into_work();
         let (work, made) = work.update(k, request);
         let Ok(done) = made else {
-            let lane = Lane {
-                era,
-                last,
-                work: Some(work),
-                is_given_on: false,
-            };
-            return (lane, Err(Missed::Round(era)));
+            let era = rest.era;
+            return (rest.with(work), Err(Missed::Round(era)));
         };
-        (Lane::working(era, work), Ok(done))
+        (rest.with(work), Ok(done))
     }
 
     /// Makes a note of what the pass knows, unless no pass lies in the lane.
     pub(crate) fn note(self) -> (Lane<A, B>, Result<Note<A, B>, Missed>)
         ensures note { IfOk result.1 (λ note. note ≡ note_at self.at.half) }
-        ensures same { result.0.at ≡ self.at }
-        ensures worked { Worked self result.0 }
+        ensures same { result.0 ≡ self }
     {
         if self.work.is_none() {
-            let missed = self.missed();
+            let missed = Missed::Round(self.era);
             return (self, Err(missed));
         }
-        let (work, Lane { era, .. }) = self.into_work();
+        let (work, rest) = self.into_work();
         let (work, note) = work.note();
-        (Lane::working(era, work), Ok(note))
+        (rest.with(work), Ok(note))
     }
 
     /// Learns a note of the lane's table, unless no pass lies in the lane; then the note comes back.
@@ -164,14 +164,15 @@ impl<A: Monoid, B: Monoid> Lane<A, B> {
         requires table { note.round.table ≡ self.at.half.round.table }
         ensures learns { IfOk result.1 (λ _. IsPart (chain_of_note note) (chain_of result.0.at.half)) }
         ensures follows { Follows self.at result.0.at }
+        ensures same_changes { result.0.at.half.knows.accepted ≡ self.at.half.knows.accepted }
         ensures kept { IfErr result.1 (λ e. e.0 ≡ note) }
         ensures worked { Worked self result.0 }
     {
         if self.work.is_none() {
-            let missed = self.missed();
+            let missed = Missed::Round(self.era);
             return (self, Err((note, missed)));
         }
-        let (work, Lane { era, .. }) = self.into_work();
-        (Lane::working(era, work.learn(note)), Ok(()))
+        let (work, rest) = self.into_work();
+        (rest.with(work.learn(note)), Ok(()))
     }
 }

@@ -1,14 +1,15 @@
 //! A shared trie whose rounds roll over.
-ghost use Rattle.std.specs.Prelude.{◌≡◌, ◌≢◌, ◌↔◌, ◌+◌, ◌<◌, ◌≤◌, ◌^◌, [], map, All, IsErr, IsErrOf, IfOk, IfErr, length, vec_len, vec_capacity};
+ghost use Rattle.std.specs.Prelude.{◌≡◌, ◌↔◌, ◌+◌, ◌<◌, ◌≤◌, ◌^◌, [], map, All, IsErr, IsErrOf, IfOk, IfErr, length, vec_len, vec_capacity};
 ghost use Rattle.std.specs.Arc.{arc_value};
 ghost use Rattle.aug_core.specs.Layout.{IsRefused, IsLayout, IsWithin, IsOutside};
 ghost use Rattle.aug_trie.specs.Chains.{IsPart};
 ghost use Rattle.aug_trie.specs.Pass.{chain_of};
 ghost use Rattle.aug_live.specs.LiveHandles.{Follows, IsNew};
-ghost use Rattle.aug_live.specs.LiveTries.{Closes, IsHandleOf, IsOpenedTrie, KnowsMore};
+ghost use Rattle.aug_live.specs.LiveTries.{CameBack, Closes, IsHandleOf, IsOpenedTrie, KnowsMore, ids_of};
 ghost use Rattle.aug_live.specs.Plans.{Fits, least_plan};
-ghost use Rattle.aug_live.specs.inside.Rolls.{IsHandleEnd, IsOf, Starts, rounds_in};
-ghost use Rattle.aug_live.specs.declared.known.Whose.TheVariants.{Nobody};
+ghost use Rattle.aug_live.specs.inside.LaneKnowledge.{handle_by, knows_nothing};
+ghost use Rattle.aug_live.specs.inside.Rolls.{IsHandleEnd, IsOf, IsOpenedLane, Starts, rounds_in};
+ghost use Rattle.aug_live.specs.declared.known.Whose.TheVariants.{Alone};
 
 use crate::counts::LiveCounts;
 use crate::desk::Working;
@@ -67,7 +68,7 @@ impl<A: Monoid, B: Monoid> Live<A, B> {
         requires lanes { handles ≤ plan.lanes }
         ensures handles { IfOk result (λ t. vec_len t.1 ≡ handles) }
         ensures opened { IfOk result (λ t. IsOpenedTrie set handles t.0) }
-        ensures new { IfOk result (λ t. All (IsNew t.0.table set plan.updates) t.1.items) }
+        ensures new { IfOk result (λ t. All (IsNew t.0.table (ids_of t.0) set plan.updates) t.1.items) }
         ensures same { IfErr result (λ e. e.0 ≡ set) }
         ensures bad_workers { IsErrOf result (set, BeginError.BadWorkers) ↔ IsRefused LayoutError.BadWorkers set.bits plan.lanes plan.updates (2 ^ set.bits) }
         ensures bad_updates { IsErrOf result (set, BeginError.BadUpdates) ↔ IsRefused LayoutError.BadUpdates set.bits plan.lanes plan.updates (2 ^ set.bits) }
@@ -78,7 +79,7 @@ impl<A: Monoid, B: Monoid> Live<A, B> {
         if let Err(cause) = Layout::new(bits, plan.lanes, plan.updates, universe) {
             return Err((set, BeginError::from(cause)));
         }
-        let opened = set.size();
+        let (opened, count) = (set.size(), u64::from(handles));
         let Ok(room) = Room::new(alloc, handles, universe) else {
             return Err((set, BeginError::OutOfMemory));
         };
@@ -103,6 +104,8 @@ impl<A: Monoid, B: Monoid> Live<A, B> {
                 opened,
                 inserts: 0,
                 removals: 0,
+                handles: count,
+                missing: count,
             },
             bits,
             round,
@@ -130,7 +133,7 @@ impl<A: Monoid, B: Monoid> Live<A, B> {
     ) -> Result<(Live<A, B>, Vec<Handle<A, B>>), (Members, BeginError)>
         ensures handles { IfOk result (λ t. vec_len t.1 ≡ handles) }
         ensures opened { IfOk result (λ t. IsOpenedTrie set handles t.0) }
-        ensures new { IfOk result (λ t. (plan : Plan) × Fits set.bits memory plan × All (IsNew t.0.table set plan.updates) t.1.items) }
+        ensures new { IfOk result (λ t. (plan : Plan) × Fits set.bits memory plan × All (IsNew t.0.table (ids_of t.0) set plan.updates) t.1.items) }
         ensures same { IfErr result (λ e. e.0 ≡ set) }
         ensures bad_workers { IsErrOf result (set, BeginError.BadWorkers) ↔ IsOutside 1 64 handles }
         ensures too_large { IsErrOf result (set, BeginError.TooLarge) ↔ (IsWithin 1 64 handles × (Fits set.bits memory (least_plan handles) → ⊥)) }
@@ -155,36 +158,29 @@ impl<A: Monoid, B: Monoid> Live<A, B> {
     /// Gives a lane to a new handle, if the lane's own handle came back, was dropped, or is in a thread that ended. Lanes are numbered from 0, in
     /// the order of the handles that `open` gave. The new handle continues from the state in which the old one left the lane, and knows what the
     /// trie does. If the old one is still there, it answers `Replaced` from then on, and the call waits for the update or look that it is in. No
-    /// round ends for it.
+    /// round ends for it, and no memory is taken.
     ///
-    /// Refused with `OutOfMemory`, where a new lane is refused, and with `NoLane`. After a refusal nothing has changed.
-    pub fn handle<R: Wait>(
-        &mut self,
-        rt: &R,
-        alloc: Global,
-        lane: u32,
-    ) -> Result<Handle<A, B>, LiveError>
+    /// Refused with `NoLane` and `Exhausted`. After a refusal nothing has changed.
+    pub fn handle<R: Wait>(&mut self, rt: &R, lane: u32) -> Result<Handle<A, B>, LiveError>
         ensures more { KnowsMore self.old self.new }
         ensures bits { IfOk result (λ h. h.half.round.bits ≤ 16) }
         ensures of_trie { IfOk result (IsHandleOf self.new) }
-        ensures no_lane { IsErrOf result LiveError.NoLane → self.old.lanes ≤ lane }
-        ensures past { self.old.lanes ≤ lane → IsErr result }
+        ensures no_lane { IsErrOf result LiveError.NoLane → length self.old.lanes ≤ lane }
+        ensures past { length self.old.lanes ≤ lane → IsErr result }
     {
         let lane = lane as usize;
-        let Ok(first) = End::new(alloc) else {
-            return Err(LiveError::OutOfMemory);
-        };
-        let (end, bits) = self.desk.renew(rt, lane, first)?;
+        let (end, bits, number) = self.desk.renew(rt, lane)?;
         Ok(Handle {
             end: Some(end),
             bits,
             lane,
+            number,
             desk: self.desk.another(rt),
         })
     }
 
-    /// Takes a handle of this trie back. The trie knows then what the handle knew, and so does each handle that is made after that. The lane is
-    /// free for `Live::handle`.
+    /// Takes a handle of this trie back. The trie knows then what the handle knew, and what was made through it, and so does each handle that is made after
+    /// that. The lane is free for `Live::handle`.
     ///
     /// Refused with `Replaced`, if a newer handle has the lane. Then the same handle comes back.
     pub fn back<R: Wait>(
@@ -192,9 +188,10 @@ impl<A: Monoid, B: Monoid> Live<A, B> {
         rt: &R,
         handle: Handle<A, B>,
     ) -> Result<(), (Handle<A, B>, LiveError)>
-        requires trie { handle.half.round.table ≡ self.old.table }
+        requires trie { (handle.half.round.table ≡ self.old.table) × (handle.lanes ≡ ids_of self.old) }
         ensures more { KnowsMore self.old self.new }
         ensures knows { IfOk result (λ _. IsPart (chain_of handle.half) self.new.rounds) }
+        ensures done { IfOk result (λ _. CameBack handle.made self.old self.new) }
         ensures same { IfErr result (λ e. Follows handle e.0) }
     {
         let mut handle = handle;
@@ -202,10 +199,16 @@ impl<A: Monoid, B: Monoid> Live<A, B> {
             Ok(note) => note,
             Err(cause) => return Err((handle, cause)),
         };
-        let Ok(()) = self.desk.learn(rt, note) else {
-            return Err((handle, LiveError::Closed));
+        let Some(end) = handle.end.take() else {
+            unreachable!()
         };
-        Ok(())
+        match self.desk.back(rt, note, handle.lane, handle.number, end) {
+            Ok(()) => Ok(()),
+            Err((end, cause)) => {
+                handle.end = Some(end);
+                Err((handle, cause))
+            }
+        }
     }
 
     /// Gives the set back, and the counts of the rounds. It waits for the update or look that each handle is in. From then on
@@ -222,7 +225,7 @@ impl<A: Monoid, B: Monoid> Live<A, B> {
 impl<A: Monoid, B: Monoid> Room<A, B> {
     // Lanes for `handles` handles, and room for what is to come.
     fn new(alloc: Global, handles: u32, universe: u32) -> Result<Room<A, B>, AllocError>
-        ensures firsts { IfOk result (λ r. All (λ v. v.whose ≡ Nobody) r.firsts.items × (vec_len r.firsts ≡ handles)) }
+        ensures firsts { IfOk result (λ r. All (λ e. e.known ≡ knows_nothing Alone) r.firsts.items × (vec_len r.firsts ≡ handles)) }
         ensures ports { IfOk result (λ r. (r.ports.items ≡ []) × (handles ≤ vec_capacity r.ports)) }
         ensures room { IfOk result (λ r. (r.room.items ≡ []) × (handles ≤ vec_capacity r.room)) }
         ensures ends { IfOk result (λ r. (r.ends.items ≡ []) × (handles ≤ vec_capacity r.ends)) }
@@ -248,7 +251,7 @@ fn first_ends<A: Monoid, B: Monoid>(
     alloc: Global,
     handles: u32,
 ) -> Result<Vec<End<A, B>>, AllocError>
-    ensures { IfOk result (λ ends. All (λ v. v.whose ≡ Nobody) ends.items × (vec_len ends ≡ handles)) }
+    ensures { IfOk result (λ ends. All (λ e. e.known ≡ knows_nothing Alone) ends.items × (vec_len ends ≡ handles)) }
 {
     let mut ends = Vec::with_capacity(alloc, handles as usize)?;
     for lane in 0..handles {
@@ -267,14 +270,17 @@ fn open_lanes<R: Wait, A: Monoid, B: Monoid>(
     mut ports: Vec<End<A, B>>,
     mut ends: Vec<End<A, B>>,
 ) -> (Vec<End<A, B>>, Vec<End<A, B>>)
-    requires firsts { All (λ v. v.whose ≡ Nobody) firsts.items }
+    requires firsts { All (λ e. e.known ≡ knows_nothing Alone) firsts.items }
     requires together { crew.old.round ≡ arc_value round.now }
     requires none_out { crew.old.handed ≡ 0 }
     requires lanes { vec_len firsts ≤ (arc_value round.now).workers }
     requires ports { (ports.items ≡ []) × (vec_len firsts ≤ vec_capacity ports) }
     requires ends { (ends.items ≡ []) × (vec_len firsts ≤ vec_capacity ends) }
     ensures of_round { All (IsOf (rounds_in crew.old) 1) result.0.items }
+    ensures opened { All IsOpenedLane result.0.items }
     ensures starts { All (Starts (rounds_in crew.old)) result.1.items }
+    ensures locks { map (λ e. e.lock) result.1.items ≡ map (λ e. e.lock) result.0.items }
+    ensures same_changes { crew.new.knows.accepted ≡ crew.old.knows.accepted }
     ensures len { (vec_len result.0 ≡ vec_len firsts) × (vec_len result.1 ≡ vec_len firsts) }
     ensures round { rounds_in crew.new ≡ rounds_in crew.old }
     ensures handed { crew.new.handed ≡ vec_len firsts }
@@ -297,10 +303,11 @@ fn hand_out<R: Wait, A: Monoid, B: Monoid>(
     mut handles: Vec<Handle<A, B>>,
 ) -> Vec<Handle<A, B>>
     requires opened { 0 < desk.old.bits }
-    requires ends { All (IsHandleEnd bits) ends.items }
+    requires ends { All (IsHandleEnd 1 bits) ends.items }
+    requires locks { map (λ e. e.lock) ends.items ≡ ids_of desk.old }
     requires handles { (handles.items ≡ []) × (vec_len ends ≤ vec_capacity handles) }
     ensures same { desk.new ≡ desk.old }
-    ensures at { result.items ≡ map (λ v. v.at) ends.items }
+    ensures at { result.items ≡ map (λ e. handle_by (ids_of desk.old) (Some e)) ends.items }
 {
     for end in ends {
         let lane = handles.len();
@@ -308,6 +315,7 @@ fn hand_out<R: Wait, A: Monoid, B: Monoid>(
             end: Some(end),
             bits,
             lane,
+            number: 1,
             desk: desk.another(rt),
         });
     }

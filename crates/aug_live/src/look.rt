@@ -18,7 +18,8 @@ use std::marker::Model;
 /// check refuses a program that does not end it by `done`, which gives the handle back.
 pub struct Look<A: Monoid, B: Monoid> {
     pub(crate) out: Out<A, B>,
-    pub(crate) era: u64,
+    // The lane without its pass.
+    pub(crate) rest: Lane<A, B>,
     // A call takes it out and puts it back. Its snapshot is the look's.
     pub(crate) work: Option<OwnedPass<A, B>>,
     pub(crate) bits: u32,
@@ -30,12 +31,13 @@ impl<A: Monoid, B: Monoid> Model for Look<A, B> {
     ghost use Rattle.aug_live.specs.LiveHandles.{LookFacts};
     ghost use Rattle.aug_live.specs.inside.LaneKnowledge.{half_in};
     ghost use Rattle.aug_live.specs.inside.Looks.{HoldsLook, held_in};
+    ghost use Rattle.aug_live.specs.LiveTries.{ids_of};
 
     ghost Value = { LookFacts };
 
-    ghost view = { λ l. record { era = l.era; half = half_in l.work; snapshot = held_in l.work } };
+    ghost view = { λ l. record { lanes = ids_of l.desk; era = l.rest.at.era; half = half_in l.work; made = l.out.known.made; snapshot = held_in l.work } };
 
-    ghost invariant = { λ l. HoldsLook l.out l.era l.work l.bits };
+    ghost invariant = { λ l. HoldsLook l.out l.rest l.work l.bits l.lane (ids_of l.desk) };
 }
 
 impl<A: Monoid, B: Monoid> Look<A, B> {
@@ -68,18 +70,20 @@ impl<A: Monoid, B: Monoid> Look<A, B> {
     {
         let Look {
             out,
-            era,
+            rest,
             work,
             bits,
             lane,
             desk,
         } = self;
         let Some(work) = work else { unreachable!() };
-        let end = out.put(Lane::working(era, work));
+        let number = rest.number;
+        let end = out.put(rest.with(work));
         Handle {
             end: Some(end),
             bits,
             lane,
+            number,
             desk,
         }
     }

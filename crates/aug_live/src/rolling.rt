@@ -1,5 +1,5 @@
 //! The end of a round whose passes lie in the lanes, and the beginning of the next.
-ghost use Rattle.std.specs.Prelude.{◌≡◌, ℕ, true, ◌+◌, ◌<◌, ◌≤◌, ◌^◌, [], All, IfOk, IfErr, vec_len, vec_capacity, length};
+ghost use Rattle.std.specs.Prelude.{◌≡◌, ◌≢◌, ℕ, true, ◌+◌, ◌<◌, ◌≤◌, ◌^◌, List, [], ◌++◌, All, IfOk, IfErr, vec_len, vec_capacity, length, map, flat_map, reverse};
 ghost use Rattle.std.specs.Arc.{arc_value};
 ghost use Rattle.aug_model.specs.Keys.{IsKeySet, keys_of};
 ghost use Rattle.aug_core.specs.Layout.{IsLayout};
@@ -8,9 +8,11 @@ ghost use Rattle.aug_trie.specs.Chains.{IsPart};
 ghost use Rattle.aug_trie.specs.Crew.{BeginsIn, CrewFacts, Ends, RollsOver, crew_chain};
 ghost use Rattle.aug_trie.specs.Pass.{chain_of};
 ghost use Rattle.aug_core.specs.Prefixes.{IsPrefix};
+ghost use Rattle.aug_core.specs.declared.view.Change.{Change};
 ghost use Rattle.aug_live.specs.Carrying.{Leads};
-ghost use Rattle.aug_live.specs.inside.Rolls.{IsOf, IsBackIn, HasEnded, Starts, rounds_in};
-ghost use Rattle.aug_live.specs.declared.known.Whose.TheVariants.{Nobody, Roller, Handle};
+ghost use Rattle.aug_live.specs.inside.LaneKnowledge.{knows_nothing, rolls, rounds_at, taken_in};
+ghost use Rattle.aug_live.specs.inside.Rolls.{FinishesRound, GetsHandle, HasEnded, IsBackIn, IsHandleEnd, IsOf, IsOpenedLane, Starts, accepted_by, given, given_all, kept_of, rounds_in};
+ghost use Rattle.aug_live.specs.declared.known.Whose.TheVariants.{Alone, Handle, Idle, Roller};
 
 use crate::end::End;
 use crate::lane::Lane;
@@ -95,9 +97,11 @@ fn whole<R: Wait, A: Monoid, B: Monoid>(rt: &R, round: Arc<Round<A, B>, Global>)
 impl<A: Monoid, B: Monoid> End<A, B> {
     // Takes the pass out of the lane, and gives it back to its crew.
     fn give_back<R: Wait>(self, rt: &R, crew: &mut Crew<A, B>) -> End<A, B>
-        requires of_round { IsOf (rounds_in crew.old) self.at.era self }
-        requires some { 0 < self.at.era }
-        ensures back { IsBackIn (rounds_in crew.old) self.at.era crew.new.knows.history result }
+        requires of_round { IsOf (rounds_in crew.old) self.known.at.era self }
+        requires some { 0 < self.known.at.era }
+        ensures back { IsBackIn (rounds_in crew.old) self.known.at.era crew.new.knows.history result }
+        ensures kept { kept_of result ≡ kept_of self }
+        ensures changes { crew.new.knows.accepted ≡ crew.old.knows.accepted ++ accepted_by result }
         ensures goes_on { IsPrefix crew.old.knows.history crew.new.knows.history }
         ensures round { rounds_in crew.new ≡ rounds_in crew.old }
         ensures handed { crew.new.handed ≡ crew.old.handed }
@@ -116,22 +120,22 @@ impl<A: Monoid, B: Monoid> End<A, B> {
         round: &Arc<Round<A, B>, Global>,
         crew: &mut Crew<A, B>,
     ) -> End<A, B>
-        requires of_round { IsOf (rounds_in crew.old) self.at.era self }
-        requires some { 0 < self.at.era }
+        requires of_round { IsOf (rounds_in crew.old) self.known.at.era self }
+        requires some { 0 < self.known.at.era }
         requires together { crew.old.round ≡ arc_value round.now }
         requires lane_left { crew.old.handed < (arc_value round.now).workers }
-        ensures of_round { IsOf (rounds_in crew.old) self.at.era result }
+        ensures of_round { IsOf (rounds_in crew.old) self.known.at.era result }
+        ensures changes { (changes : List Change) × (crew.new.knows.accepted ≡ crew.old.knows.accepted ++ changes) × (kept_of result ≡ given changes self) }
         ensures goes_on { IsPrefix crew.old.knows.history crew.new.knows.history }
         ensures round { rounds_in crew.new ≡ rounds_in crew.old }
         ensures handed { crew.new.handed ≡ crew.old.handed + 1 }
         ensures back { crew.new.back ≡ crew.old.back + 1 }
     {
         let (out, lane) = self.take_to_roll(rt);
-        let era = lane.era;
-        let (spent, _) = lane.into_work();
+        let (spent, rest) = lane.into_work();
         spent.give_back(crew);
         let work = start(rt, round, crew);
-        out.leave(Lane::working(era, work))
+        out.deal(rest.with(work))
     }
 
     // Puts a pass of the next round in.
@@ -149,62 +153,97 @@ impl<A: Monoid, B: Monoid> End<A, B> {
         requires together { crew.old.round ≡ arc_value round.now }
         requires lane_left { crew.old.handed < (arc_value round.now).workers }
         ensures of_round { IsOf (rounds_in crew.old) (era + 1) result }
+        ensures kept { kept_of result ≡ given_all self }
+        ensures same_changes { crew.new.knows.accepted ≡ crew.old.knows.accepted }
         ensures goes_on { IsPrefix crew.old.knows.history crew.new.knows.history }
         ensures round { rounds_in crew.new ≡ rounds_in crew.old }
         ensures handed { crew.new.handed ≡ crew.old.handed + 1 }
         ensures back { crew.new.back ≡ crew.old.back }
     {
-        let (out, _) = self.take_to_roll(rt);
+        let (out, lane) = self.take_to_roll(rt);
         let work = start(rt, round, crew);
-        out.leave(Lane::working(era + 1, work))
+        out.deal(lane.next(work))
     }
 
-    /// Moves the pass of the lane to a new lane, whose first end this is, and cuts that into the roller's end and a new handle's, which know all that the
-    /// crew does. The old handle finds its lane given on.
+    /// Whether the lane's handle has this number, and is out.
+    pub(crate) fn is_of<R: Wait>(self, rt: &R, number: u64) -> (End<A, B>, bool)
+        requires roller { rolls self.known.whose ≡ true }
+        requires some { 0 < self.known.at.era }
+        ensures same { result.0 ≡ self }
+        ensures number { result.1 ≡ true → self.known.number ≡ number }
+        ensures out { result.1 ≡ true → self.known.whose ≢ Idle }
+    {
+        let (out, lane) = self.take_to_roll(rt);
+        let is = lane.number == number && lane.is_out;
+        (out.keep(lane), is)
+    }
+
+    /// Takes in the end of the lane's handle, which came back.
+    pub(crate) fn take_in<R: Wait>(self, rt: &R, other: End<A, B>) -> End<A, B>
+        requires roller { self.known.whose ≡ Roller }
+        requires handle { other.known.whose ≡ Handle }
+        requires some { (0 < self.known.at.era) × (0 < other.known.at.era) }
+        requires number { other.known.number ≡ self.known.number }
+        requires lock { other.lock ≡ self.lock }
+        ensures lock { result.lock ≡ self.lock }
+        ensures whose { result.known.whose ≡ Idle }
+        ensures same { rounds_at result.known.at.half ≡ rounds_at self.known.at.half }
+        ensures era { result.known.at.era ≡ self.known.at.era }
+        ensures works { result.known.works ≡ self.known.works }
+        ensures done { kept_of result ≡ kept_of (record self { known = record (taken_in self.known other.known) { whose = Idle } }) }
+    {
+        let (out, lane) = self.join(other).take_to_roll(rt);
+        out.settle(lane.settled())
+    }
+
+    /// Gives the lane to a new handle, whose end it answers beside the roller's. They know all that the crew does. An older handle finds its lane given on.
     pub(crate) fn renew<R: Wait>(
         self,
         rt: &R,
+        number: u64,
         round: &Arc<Round<A, B>, Global>,
         crew: &mut Crew<A, B>,
-        first: End<A, B>,
     ) -> (End<A, B>, End<A, B>)
-        requires of_round { IsOf (rounds_in crew.old) self.at.era self }
-        requires some { 0 < self.at.era }
+        requires of_round { IsOf (rounds_in crew.old) self.known.at.era self }
+        requires some { 0 < self.known.at.era }
+        requires newer { self.known.number < number }
         requires together { crew.old.round ≡ arc_value round.now }
-        requires first { first.whose ≡ Nobody }
-        ensures port { IsOf (rounds_in crew.old) self.at.era result.0 }
-        ensures handle { (result.1.whose ≡ Handle) × (result.1.at ≡ result.0.at) }
-        ensures knows { IsPart (crew_chain crew.old) (chain_of result.0.at.half) }
+        ensures port { IsOf (rounds_in crew.old) self.known.at.era result.0 }
+        ensures gets { GetsHandle number self result.0 }
+        ensures handle { IsHandleEnd number crew.old.round.bits result.1 × (result.1.lock ≡ self.lock) × (result.1.known.made ≡ []) }
+        ensures at { result.1.known.at ≡ result.0.known.at }
+        ensures knows { IsPart (crew_chain crew.old) (chain_of result.0.known.at.half) }
         ensures same { crew.new ≡ crew.old }
     {
         let (out, lane) = self.take_to_roll(rt);
-        let (work, lane) = lane.into_work();
-        let era = lane.era;
-        drop(out.leave(lane.given_on()));
+        let (work, Lane { era, .. }) = lane.into_work();
         let work = work.learn(crew.note(round));
-        let (out, _) = first.take(rt);
-        out.open(Lane::working(era, work)).fork(rt)
+        out.renumber(Lane::working(era, number, true, work))
+            .fork(rt)
     }
 
-    /// Puts a pass of the first round in, and cuts the end into the roller's and the handle's.
+    /// Puts a pass of the first round in, and makes the end of the lane's first handle.
     pub(crate) fn open<R: Wait>(
         self,
         rt: &R,
         round: &Arc<Round<A, B>, Global>,
         crew: &mut Crew<A, B>,
     ) -> (End<A, B>, End<A, B>)
-        requires first { self.whose ≡ Nobody }
+        requires first { self.known ≡ knows_nothing Alone }
         requires together { crew.old.round ≡ arc_value round.now }
         requires lane_left { crew.old.handed < (arc_value round.now).workers }
         ensures of_round { IsOf (rounds_in crew.old) 1 result.0 }
+        ensures opened { IsOpenedLane result.0 }
         ensures handle { Starts (rounds_in crew.old) result.1 }
+        ensures lock { result.1.lock ≡ result.0.lock }
+        ensures same_changes { crew.new.knows.accepted ≡ crew.old.knows.accepted }
         ensures round { rounds_in crew.new ≡ rounds_in crew.old }
         ensures handed { crew.new.handed ≡ crew.old.handed + 1 }
         ensures back { crew.new.back ≡ crew.old.back }
     {
         let (out, _) = self.take(rt);
         let work = start(rt, round, crew);
-        out.open(Lane::working(1, work)).fork(rt)
+        out.renumber(Lane::working(1, 1, true, work)).fork(rt)
     }
 }
 
@@ -221,6 +260,8 @@ pub(crate) fn take_all<R: Wait, A: Monoid, B: Monoid>(
     requires empty { back.old.items ≡ [] }
     requires room { vec_len ports.old ≤ vec_capacity back.old }
     ensures back { All (IsBackIn (rounds_in crew.old) era crew.new.knows.history) back.new.items }
+    ensures kept { map kept_of (reverse back.new.items) ≡ map kept_of ports.old.items }
+    ensures changes { crew.new.knows.accepted ≡ crew.old.knows.accepted ++ flat_map accepted_by back.new.items }
     ensures len { vec_len back.new ≡ vec_len ports.old }
     ensures none_left { ports.new.items ≡ [] }
     ensures room { vec_capacity ports.new ≡ vec_capacity ports.old }
@@ -279,6 +320,8 @@ pub(crate) fn deal_all<R: Wait, A: Monoid, B: Monoid>(
     requires empty { ports.old.items ≡ [] }
     requires room { vec_len back.old ≤ vec_capacity ports.old }
     ensures of_round { All (IsOf (rounds_in crew.old) (era + 1)) ports.new.items }
+    ensures kept { map kept_of ports.new.items ≡ map given_all (reverse back.old.items) }
+    ensures same_changes { crew.new.knows.accepted ≡ crew.old.knows.accepted }
     ensures len { vec_len ports.new ≡ vec_len back.old }
     ensures none_left { back.new.items ≡ [] }
     ensures room { vec_capacity ports.new ≡ vec_capacity ports.old }
@@ -293,7 +336,7 @@ pub(crate) fn deal_all<R: Wait, A: Monoid, B: Monoid>(
     }
 }
 
-/// Ends the round whose passes lie in the lanes.
+/// Ends the round whose passes lie in the lanes. The lanes are done with it.
 pub(crate) fn finish<R: Wait, A: Monoid, B: Monoid>(
     rt: &R,
     era: u64,
@@ -308,7 +351,7 @@ pub(crate) fn finish<R: Wait, A: Monoid, B: Monoid>(
     requires all_out { crew.handed ≡ vec_len ports + crew.back }
     requires empty { back.items ≡ [] }
     requires room { vec_len ports ≤ vec_capacity back }
-    ensures ends { (last : CrewFacts) × (rounds_in last ≡ rounds_in crew) × IsPrefix crew.knows.history last.knows.history × Ends last result × (result.missing ≡ 0) }
+    ensures ends { FinishesRound era crew ports.items result }
     ensures sizes { length result.members + result.removals ≡ length (arc_value round).members + result.inserts }
     ensures few { length result.members ≤ 2 ^ (arc_value round).bits }
 {

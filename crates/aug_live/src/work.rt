@@ -21,6 +21,7 @@ pub(crate) fn start<R: Wait, A: Monoid, B: Monoid>(
     ensures fresh { IsNewPass (rounds_in crew.old) result.half }
     ensures knows { IsPrefix crew.old.knows.history result.half.knows.history }
     ensures goes_on { IsPrefix crew.old.knows.history crew.new.knows.history }
+    ensures same_changes { crew.new.knows.accepted ≡ crew.old.knows.accepted }
     ensures round { rounds_in crew.new ≡ rounds_in crew.old }
     ensures handed { crew.new.handed ≡ crew.old.handed + 1 }
     ensures back { crew.new.back ≡ crew.old.back }

@@ -331,8 +331,7 @@ fn open_refuses_numbers_in_their_order(rt: HostRuntime) -> Result<(), BeginError
     Ok(())
 }
 
-const NAMES: [(LiveError, &str); 5] = [
-    (LiveError::OutOfMemory, "OutOfMemory"),
+const NAMES: [(LiveError, &str); 4] = [
     (LiveError::Closed, "Closed"),
     (LiveError::Exhausted, "Exhausted"),
     (LiveError::Replaced, "Replaced"),

@@ -11,14 +11,6 @@ use std::alloc::Global;
 use std::process::Abort;
 use std::sync::Wait;
 
-// A new handle for the one lane, again if memory was refused.
-fn new_handle<R: Wait + Abort>(rt: &R, alloc: Global, live: &mut Trie) -> Hand {
-    if let Ok(hand) = renewed(rt, alloc, live, 0) {
-        return hand;
-    }
-    renewed(rt, alloc, live, 0).expect(rt, "a second refusal")
-}
-
 // Opens a trie over a set with one handle, for rounds of two updates.
 fn opened_over<R: Wait>(
     rt: &R,
@@ -55,7 +47,7 @@ fn opened_again<R: Wait + Abort>(rt: &R, alloc: Global) -> Result<(Trie, Vec<Han
     }
 }
 
-// Passes whichever request for memory is refused. Updates, looks and roll-overs ask for none, so that none of them is refused.
+// Passes whichever request for memory is refused. Updates, looks, roll-overs and new handles ask for none, so that none of them is refused.
 #[test]
 fn refused_memory_loses_nothing_of_a_live_trie(rt: HostRuntime) -> Result<(), BeginError> {
     let (r, alloc) = (&rt, rt.alloc());
@@ -66,7 +58,7 @@ fn refused_memory_loses_nothing_of_a_live_trie(rt: HostRuntime) -> Result<(), Be
     let mut look = looked(r, hand);
     equal(r, size(&mut look), 4);
     drop(over(look));
-    let mut hand = new_handle(r, alloc, &mut live);
+    let mut hand = renewed(r, &mut live, 0).expect(r, "a new handle");
     play(r, &mut hand, &[Step::Insert(4, Ok(false))]);
     equal(r, live.roll(r), Ok(()));
     let (size, counts) = closed(r, live);

@@ -22,7 +22,7 @@ fn a_new_handle_goes_on_where_a_dropped_one_ended(rt: HostRuntime) -> Result<(),
         last(r, &mut hands),
         &[Call::Fill(0, 8)],
     );
-    let hand = renewed(r, alloc, &mut live, 1).expect(r, "a new handle");
+    let hand = renewed(r, &mut live, 1).expect(r, "a new handle");
     equal(r, hand.universe(), 64);
     let calls = [
         Call::ListsAsMany(8),
@@ -54,7 +54,7 @@ fn the_old_handle_of_a_lane_that_was_given_on_is_refused(
     let (mut live, hand) = opened_one(r, alloc, 6, 3)?;
     let mut old = hand;
     play(r, &mut old, &[Step::Insert(5, Ok(true))]);
-    let mut new = renewed(r, alloc, &mut live, 0).expect(r, "a new handle");
+    let mut new = renewed(r, &mut live, 0).expect(r, "a new handle");
     is_replaced(r, &mut live, old);
     play(r, &mut new, &[Step::Remove(5, Ok(true))]);
     equal(r, closed(r, live).0, 0);
@@ -62,8 +62,8 @@ fn the_old_handle_of_a_lane_that_was_given_on_is_refused(
 }
 
 // Puts a key in with a new handle of the lane with its number.
-fn insert_anew<R: Wait + Abort>(rt: &R, alloc: Global, live: &mut Trie, lane: u32) {
-    let mut hand = renewed(rt, alloc, live, lane).expect(rt, "a new handle");
+fn insert_anew<R: Wait + Abort>(rt: &R, live: &mut Trie, lane: u32) {
+    let mut hand = renewed(rt, live, lane).expect(rt, "a new handle");
     play(rt, &mut hand, &[Step::Insert(lane, Ok(true))]);
 }
 
@@ -72,22 +72,22 @@ fn there_are_as_many_lanes_as_handles(rt: HostRuntime) -> Result<(), BeginError>
     let (r, alloc) = (&rt, rt.alloc());
     let (mut live, hands) = opened(r, alloc, 6, 3, 3)?;
     for lane in [3, 4, u32::MAX] {
-        let refused = renewed(r, alloc, &mut live, lane);
+        let refused = renewed(r, &mut live, lane);
         equal(r, refused.err(), Some(LiveError::NoLane));
     }
     drop(hands);
     for lane in 0..3 {
-        insert_anew(r, alloc, &mut live, lane);
+        insert_anew(r, &mut live, lane);
     }
     equal(r, closed(r, live).0, 3);
     Ok(())
 }
 
 // Puts key 3 in and takes it out in turn, `times` times, each time with a new handle for the lane 3. Whether all was right.
-fn renew_often<R: Wait>(rt: &R, alloc: Global, live: &mut Trie, times: u32) -> bool {
+fn renew_often<R: Wait>(rt: &R, live: &mut Trie, times: u32) -> bool {
     let mut right = true;
     for number in 0..times {
-        let Ok(mut hand) = renewed(rt, alloc, live, 3) else {
+        let Ok(mut hand) = renewed(rt, live, 3) else {
             return false;
         };
         right &= if number % 2 == 0 {
@@ -108,7 +108,7 @@ fn handles_are_dropped_and_made_anew_while_others_work(rt: HostRuntime) -> Resul
     let (done, right) = thread::join(
         r,
         || thread::map_vec(r, jobs, &|job| work(r, job)),
-        || renew_often(r, alloc, trie, 1001),
+        || renew_often(r, trie, 1001),
     );
     holds(&rt, right);
     let (_, left) = summed(r, done.expect(r, "memory"), false);

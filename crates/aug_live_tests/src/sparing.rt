@@ -61,7 +61,7 @@ fn a_look_holds_no_spare_lane_up(rt: HostRuntime) -> Result<(), BeginError> {
 fn a_new_handle_goes_on_with_spare_lanes(rt: HostRuntime) -> Result<(), BeginError> {
     let (mut live, mut hands) = opened_with(&rt, rt.alloc(), 6, 2, 2, 2)?;
     drop(hands.pop());
-    let mut hand = renewed(&rt, rt.alloc(), &mut live, 1).expect(&rt, "a new handle");
+    let mut hand = renewed(&rt, &mut live, 1).expect(&rt, "a new handle");
     fill(&rt, &mut hand, 0, 6);
     let mut first = last(&rt, &mut hands);
     fill(&rt, &mut first, 10, 2);

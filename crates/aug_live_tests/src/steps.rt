@@ -73,13 +73,8 @@ pub(super) fn last(rt: &impl Abort, hands: &mut Vec<Hand>) -> Hand {
 }
 
 /// A new handle for a lane.
-pub(super) fn renewed<R: Wait>(
-    rt: &R,
-    alloc: Global,
-    live: &mut Trie,
-    lane: u32,
-) -> Result<Hand, LiveError> {
-    live.handle(rt, alloc, lane)
+pub(super) fn renewed<R: Wait>(rt: &R, live: &mut Trie, lane: u32) -> Result<Hand, LiveError> {
+    live.handle(rt, lane)
 }
 
 /// How many members a trie has at its end, and its counts.
@@ -187,7 +182,7 @@ fn act<R: Wait + Abort>(rt: &R, alloc: Global, live: &mut Trie, hand: Hand, call
         }
         Call::Renew(lane) => {
             drop(hand);
-            return renewed(rt, alloc, live, lane).expect(rt, "a new handle");
+            return renewed(rt, live, lane).expect(rt, "a new handle");
         }
     }
     hand

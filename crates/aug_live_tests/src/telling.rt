@@ -2,6 +2,7 @@
 ghost use Rattle.std.specs.Prelude.{◌≡◌, IfOk};
 ghost use Rattle.aug_trie.specs.Chains.{IsPart};
 ghost use Rattle.aug_trie.specs.Pass.{chain_of};
+ghost use Rattle.aug_live.specs.LiveTries.{ids_of};
 
 use super::opening::{Hand, Trie, no_keys};
 use super::steps::{closed, renewed};
@@ -15,7 +16,8 @@ use std::sync::Wait;
 
 // A trie over no keys of 6 bits, and two handles of it.
 fn two<R: Wait + Abort>(rt: &R, alloc: Global) -> Result<(Trie, Hand, Hand), BeginError>
-    ensures { IfOk result (λ t. (t.1.half.round.table ≡ t.0.table) × (t.2.half.round.table ≡ t.0.table)) }
+    ensures tables { IfOk result (λ t. (t.1.half.round.table ≡ t.0.table) × (t.2.half.round.table ≡ t.0.table)) }
+    ensures lanes { IfOk result (λ t. (t.1.lanes ≡ ids_of t.0) × (t.2.lanes ≡ ids_of t.0)) }
 {
     let plan = Plan {
         lanes: 2,
@@ -51,7 +53,8 @@ fn tell<R: Wait + Abort>(rt: &R, from: &mut Hand, to: &mut Hand)
 
 // Puts a key in, or takes it out, which is done.
 fn change<R: Wait + Abort>(rt: &R, hand: &mut Hand, key: u32, goes_in: bool)
-    ensures { hand.new.half.round.table ≡ hand.old.half.round.table }
+    ensures table { hand.new.half.round.table ≡ hand.old.half.round.table }
+    ensures lanes { hand.new.lanes ≡ hand.old.lanes }
 {
     holds(rt, key < hand.universe());
     let done = if goes_in {
@@ -133,7 +136,7 @@ fn a_closed_trie_makes_no_note_and_a_replaced_handle_none(
     let Ok(note) = b.note(&rt) else {
         panic!(&rt; "no note");
     };
-    drop(renewed(&rt, rt.alloc(), &mut live, 0));
+    drop(renewed(&rt, &mut live, 0));
     equal(&rt, a.note(&rt).err(), Some(LiveError::Replaced));
     let Err((_, cause)) = a.learn(&rt, note) else {
         panic!(&rt; "learnt");
@@ -144,32 +147,65 @@ fn a_closed_trie_makes_no_note_and_a_replaced_handle_none(
     Ok(())
 }
 
-// A handle of a trie that came back told the trie what it did: a new one of its lane sees it. A handle that was replaced does not come back.
-fn assert_back<R: Wait + Abort>(rt: &R, alloc: Global, live: &mut Trie, a: Hand, b: Hand)
-    requires { (a.half.round.table ≡ live.old.table) × (b.half.round.table ≡ live.old.table) }
+// Takes a handle back, which nothing refuses.
+fn take_back<R: Wait + Abort>(rt: &R, live: &mut Trie, hand: Hand)
+    requires table { hand.half.round.table ≡ live.old.table }
+    requires lanes { hand.lanes ≡ ids_of live.old }
+    ensures table { live.new.table ≡ live.old.table }
+    ensures ids { ids_of live.new ≡ ids_of live.old }
 {
-    let mut a = a;
-    change(rt, &mut a, 3, true);
-    let Ok(()) = live.back(rt, a) else {
+    let Ok(()) = live.back(rt, hand) else {
         panic!(rt; "not taken back");
     };
-    let Ok(next) = live.handle(rt, alloc, 0) else {
+}
+
+// A handle of a trie that came back told the trie what it did: a new one of its lane sees it.
+fn assert_back<R: Wait + Abort>(rt: &R, live: &mut Trie, hand: Hand)
+    requires table { hand.half.round.table ≡ live.old.table }
+    requires lanes { hand.lanes ≡ ids_of live.old }
+{
+    let mut hand = hand;
+    change(rt, &mut hand, 3, true);
+    take_back(rt, live, hand);
+    let Ok(next) = live.handle(rt, 0) else {
         panic!(rt; "no new handle");
     };
     let (_, seen) = sees(rt, next, 3);
     holds(rt, seen);
-    drop(live.handle(rt, alloc, 1));
-    let Err((_, cause)) = live.back(rt, b) else {
+}
+
+// A handle that was replaced does not come back.
+fn assert_not_back<R: Wait + Abort>(rt: &R, live: &mut Trie, hand: Hand)
+    requires table { hand.half.round.table ≡ live.old.table }
+    requires lanes { hand.lanes ≡ ids_of live.old }
+    ensures table { live.new.table ≡ live.old.table }
+    ensures ids { ids_of live.new ≡ ids_of live.old }
+{
+    drop(live.handle(rt, 1));
+    let Err((_, cause)) = live.back(rt, hand) else {
         panic!(rt; "taken back");
     };
     equal(rt, cause, LiveError::Replaced);
 }
 
+// Of the four handles that a trie had, one came back: not the one that was replaced, and not the last ones of the lanes.
 #[test]
 fn a_trie_knows_what_a_handle_did_that_came_back(rt: HostRuntime) -> Result<(), BeginError> {
     let (mut live, a, b) = two(&rt, rt.alloc())?;
-    assert_back(&rt, rt.alloc(), &mut live, a, b);
+    assert_not_back(&rt, &mut live, b);
+    assert_back(&rt, &mut live, a);
     let (size, counts) = closed(&rt, live);
     equal(&rt, (size, counts.inserts, counts.removals), (1, 1, 0));
+    equal(&rt, (counts.handles, counts.missing), (4, 3));
+    Ok(())
+}
+
+#[test]
+fn all_handles_of_a_trie_come_back(rt: HostRuntime) -> Result<(), BeginError> {
+    let (mut live, a, b) = two(&rt, rt.alloc())?;
+    take_back(&rt, &mut live, a);
+    take_back(&rt, &mut live, b);
+    let counts = closed(&rt, live).1;
+    equal(&rt, (counts.handles, counts.missing), (2, 0));
     Ok(())
 }

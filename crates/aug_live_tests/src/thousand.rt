@@ -6,7 +6,6 @@ use super::steps::{closed, has, last, looked, over, renewed};
 use crate::assertions::{equal, holds};
 use aug_model::KeySet;
 use aug_trie::BeginError;
-use std::alloc::Global;
 use std::process::Abort;
 use std::sync::Wait;
 
@@ -39,7 +38,6 @@ fn compare<R: Wait + Abort>(rt: &R, hand: Hand, model: &KeySet) -> Hand {
 // A round: updates, which may roll the round before over, a roll-over, and a look. In each hundredth one a new handle goes on from there.
 fn round<R: Wait + Abort>(
     rt: &R,
-    alloc: Global,
     live: &mut Trie,
     hand: Hand,
     model: &mut KeySet,
@@ -49,7 +47,7 @@ fn round<R: Wait + Abort>(
     update(rt, &mut hand, model, next(next(number)));
     if number % 100 == 99 {
         drop(hand);
-        hand = renewed(rt, alloc, live, 0).expect(rt, "a new handle");
+        hand = renewed(rt, live, 0).expect(rt, "a new handle");
     }
     equal(rt, live.roll(rt), Ok(()));
     compare(rt, hand, model)
@@ -63,7 +61,7 @@ fn a_thousand_rounds_in_one_table_keep_the_members(rt: HostRuntime) -> Result<()
     let mut hand = last(r, &mut hands);
     let mut model = KeySet::try_new(alloc, 6).expect(r, "memory");
     for number in 0..1000 {
-        hand = round(r, alloc, &mut live, hand, &mut model, number);
+        hand = round(r, &mut live, hand, &mut model, number);
     }
     drop(hand);
     drop(idle);

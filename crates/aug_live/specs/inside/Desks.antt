@@ -1,22 +1,60 @@
 -- What lies on the desk.
-use Rattle.std.specs.Prelude.{◌≡◌, ℕ, ◌+◌, ◌<◌, ◌≤◌, ◌^◌, List, length, All}
+use Rattle.std.specs.Prelude.{◌≡◌, ℕ, ◌+◌, ◌<◌, ◌≤◌, ◌^◌, List, [], ◌∷◌, ◌++◌, true, length, All, map, flat_map}
+use Rattle.std.specs.List.{sum_by}
+use mathlib.Core.Option.{some}
+use lib.ListN.{get_elem?}
 use Rattle.aug_core.specs.Layout.{IsLayout}
 use Rattle.aug_core.specs.Places.{shape_of}
+use Rattle.aug_trie.specs.Chains.{IsPart}
+use Rattle.aug_trie.specs.Pass.{chain_of}
 use Rattle.aug_trie.specs.Round.{RoundFacts}
 use Rattle.aug_trie.specs.Crew.{CrewFacts}
 use Rattle.aug_live.specs.declared.counts.LiveCounts.{LiveCounts}
-use Rattle.aug_live.specs.inside.LaneKnowledge.{KnownFacts}
+use Rattle.aug_live.specs.declared.known.Whose.{Whose}
+use Rattle.aug_live.specs.declared.known.Whose.TheVariants.{Alone, Roller, Free, Idle, Handle, Gone}
 use Rattle.aug_live.specs.Carrying.{Leads}
-use Rattle.aug_live.specs.LiveTries.{AreCountsOf}
-use Rattle.aug_live.specs.inside.Rolls.{IsOf, rounds_in}
+use Rattle.aug_live.specs.Ledgers.{Made, made_in}
+use Rattle.aug_live.specs.LiveTries.{AreCountsOf, LaneKnown, TrieFacts, ids_of, lost_of}
+use Rattle.aug_live.specs.inside.LaneKnowledge.{EndFacts}
+use Rattle.aug_live.specs.inside.Rolls.{IsHandleEnd, IsOf, kept_of, rounds_in}
+use Rattle.aug_live.specs.inside.SameChanges.{SameChanges}
 
 -- the counts of the rounds so far, at a set with so many members
 pub record AreCounts (counts : LiveCounts) (members : ℕ) : Type 0 where
   pub some : 0 < counts.rounds
   pub sizes : members + counts.removals ≡ counts.opened + counts.inserts
 
+-- one, if a handle is out that has the lane
+abbrev pub out_of : Whose → ℕ
+out_of Alone = 0
+out_of Roller = 1
+out_of Free = 0
+out_of Idle = 0
+out_of Handle = 0
+out_of Gone = 0
+
+-- how many handles a lane had, and how many of them did not come back
+abbrev pub handles_of : EndFacts → ℕ
+handles_of e = length e.known.done + out_of e.known.whose
+
+abbrev pub missing_of : EndFacts → ℕ
+missing_of e = length (lost_of e.known.done) + out_of e.known.whose
+
+-- what was made with the passes that are back, through all lanes
+abbrev pub made_of : List EndFacts → List Made
+made_of lanes = flat_map (λ (e : EndFacts). e.known.before) lanes
+
+-- what is known of the lanes accounts for all that happened in the rounds that are over, and for what the crew of this one knows; and the handles are counted
+pub record Accounts (bits : ℕ) (counts : LiveCounts) (crew : CrewFacts) (lanes : List EndFacts) : Type 0 where
+  pub past : AreCountsOf bits crew.past (made_of lanes) counts.inserts counts.removals
+  pub now : SameChanges crew.knows.accepted (made_in counts.rounds (made_of lanes))
+  pub dates : All (λ (m : Made). m.0 ≤ counts.rounds) (made_of lanes)
+  pub handles : counts.handles ≡ sum_by handles_of lanes
+  pub missing : counts.missing ≡ sum_by missing_of lanes
+  pub numbers : All (λ (e : EndFacts). e.known.number ≤ counts.handles) lanes
+
 -- a round of so many lanes goes on: the passes that its crew handed out lie in those of the handles, or came back
-pub record IsWorking (lanes updates : ℕ) (counts : LiveCounts) (round : RoundFacts) (crew : CrewFacts) (ports : List KnownFacts) (count : ℕ) : Type 0 where
+pub record IsWorking (lanes updates : ℕ) (counts : LiveCounts) (round : RoundFacts) (crew : CrewFacts) (ports : List EndFacts) (count : ℕ) : Type 0 where
   pub together : crew.round ≡ round
   pub workers : round.workers ≡ lanes
   pub all_out : crew.handed ≡ count + crew.back
@@ -25,8 +63,25 @@ pub record IsWorking (lanes updates : ℕ) (counts : LiveCounts) (round : RoundF
   pub led : Leads round.bits crew.past round.members
   pub counted : AreCounts counts (length round.members)
   pub rounds_are : counts.rounds ≡ length crew.past + 1
-  pub tallied : AreCountsOf round.bits crew.past counts.inserts counts.removals
+  pub accounts : Accounts round.bits counts crew (map kept_of ports)
   pub few_inserts : counts.inserts + 2 ^ 32 ≤ 2 ^ 64
   pub few_removals : counts.removals + 2 ^ 32 ≤ 2 ^ 64
   pub laid_out : IsLayout (shape_of round.bits lanes updates (2 ^ round.bits))
   pub room : 2 ^ round.bits ≤ round.room
+
+-- the handle of this lane is done, through which this was made
+pub record TakesEnd (number : ℕ) (made : List Made) (old new : TrieFacts) : Type 0 where
+  pub lane : LaneKnown
+  pub later : LaneKnown
+  pub was : get_elem? old.lanes number ≡ some lane
+  pub is : get_elem? new.lanes number ≡ some later
+  pub done : later.done ≡ lane.done ++ (true, made) ∷ []
+
+-- the end of a new handle of this lane, which knows all that is known of the trie
+pub record GivesLane (lane : ℕ) (trie : TrieFacts) (end : EndFacts) (bits number : ℕ) : Type 0 where
+  pub is_end : IsHandleEnd number bits end
+  pub id : get_elem? (ids_of trie) lane ≡ some end.lock
+  pub none_made : end.known.made ≡ []
+  pub table : end.known.at.half.round.table ≡ trie.table
+  pub of_bits : bits ≡ trie.bits
+  pub knows : IsPart trie.rounds (chain_of end.known.at.half)

@@ -1,14 +1,18 @@
 -- What lies in a lane, what the passes of its lock know, and the rule between them.
-use Rattle.std.specs.Prelude.{◌≡◌, ◌≢◌, ◌⊎◌, ℕ, ◌<◌, List, [], Option, Some, None, unwrap_or, Bool, false}
+use Rattle.std.specs.Prelude.{◌≡◌, ◌≢◌, ℕ, ◌<◌, ◌≤◌, List, [], ◌∷◌, ◌++◌, length, drop, Option, Some, None, unwrap_or, Bool, true, false}
 use Rattle.aug_trie.specs.declared.rounds.owned.OwnedPass.{OwnedPass}
 use mathlib.Core.Option.{some}
 use lib.ListN.{get_elem?}
 use Rattle.aug_trie.specs.Chains.{Chapter}
-use Rattle.aug_trie.specs.Pass.{PassFacts}
+use Rattle.aug_trie.specs.Pass.{PassFacts, GoesOn}
 use Rattle.aug_trie.specs.Round.{RoundFacts}
-use Rattle.aug_live.specs.LiveHandles.{HandleFacts, Follows}
+use Rattle.aug_core.specs.Prefixes.{IsPrefix}
+use Rattle.atomic_table.specs.Seated.{TableId}
+use Rattle.aug_live.specs.Ledgers.{Made, dated}
+use Rattle.aug_live.specs.LiveHandles.{HandleFacts, Follows, added}
+use Rattle.aug_live.specs.LiveTries.{Done, LaneKnown, made_through}
 use Rattle.aug_live.specs.declared.known.Whose.{Whose}
-use Rattle.aug_live.specs.declared.known.Whose.TheVariants.{Nobody, Roller, Handle}
+use Rattle.aug_live.specs.declared.known.Whose.TheVariants.{Alone, Roller, Free, Idle, Handle, Gone}
 
 -- a pass that there is not
 abbrev pub no_half : PassFacts
@@ -36,77 +40,178 @@ abbrev pub half_in : {A B : Type 0} → Option (OwnedPass A B) → PassFacts
 half_in None = no_half
 half_in (Some work) = work.half
 
-abbrev pub nothing_known : HandleFacts
-nothing_known = record { era = 0; half = no_half }
+-- where a lane stands, that of which a handle knows what it left there: its handle's lanes and what was made through it are no part of that
+abbrev pub stands : ℕ → PassFacts → HandleFacts
+stands era half = record { lanes = []; era = era; half = half; made = [] }
 
--- a lane: whether a pass of its round lies in it, and not only what the last one knew, and where it stands
+abbrev pub nothing_known : HandleFacts
+nothing_known = stands 0 no_half
+
+-- a lane: whether a pass of its round lies in it, and not only what the last one knew; the number of its handle, and whether that is out; and where it stands
 pub record LaneFacts : Type 0 where
   pub works : Bool
+  pub number : ℕ
+  pub is_out : Bool
   pub at : HandleFacts
 
--- a pass of a lane's lock: whose it is, and where the lane stood when it put it back
+-- a pass of a lane's lock: whose it is; the number of the lane's handle; the lane as it put it back; the handles of the lane that are done. The roller's knows what
+-- was made with the passes that are back at their crew, and the handle's what was made through it
 pub record KnownFacts : Type 0 where
   pub whose : Whose
+  pub number : ℕ
   pub works : Bool
   pub at : HandleFacts
+  pub done : List Done
+  pub before : List Made
+  pub made : List Made
 
--- a pass that knows nothing yet
-abbrev pub knows_nothing : KnownFacts
-knows_nothing = record { whose = Nobody; works = false; at = nothing_known }
+-- a pass that knows nothing: the first one, and one that another took in
+abbrev pub knows_nothing : Whose → KnownFacts
+knows_nothing whose = record { whose = whose; number = 0; works = false; at = nothing_known; done = []; before = []; made = [] }
 
--- what a pass knows that put a lane back
-abbrev pub known_of : Whose → LaneFacts → KnownFacts
-known_of whose lane = record { whose = whose; works = lane.works; at = lane.at }
-
--- a pass becomes the roller's, or the handle's
-abbrev pub given_to : Whose → KnownFacts → KnownFacts
-given_to whose v = record { whose = whose; works = v.works; at = v.at }
+-- whether a pass is the roller's
+abbrev pub rolls : Whose → Bool
+rolls Alone = true
+rolls Roller = true
+rolls Free = true
+rolls Idle = true
+rolls Handle = false
+rolls Gone = false
 
 -- the round of a pass, and those before
 abbrev pub rounds_at : PassFacts → RoundFacts × List Chapter
 rounds_at pass = (pass.round, pass.past)
 
--- the roller knows the lane's round, and whether it has a pass; where it has none, it knows what the last one knew
-pub record Rolls (lane : LaneFacts) (v : KnownFacts) : Type 0 where
+-- all that was made through a lane: with the passes that are back, and with the one that lies there
+abbrev pub made_at : List Made → HandleFacts → List Made
+made_at before at = before ++ dated at.era at.half.knows.accepted
+
+-- what was made through a lane begins with what was made through the handles that are done, and that is all where the last one is
+pub record IsWhole (v : KnownFacts) (at : HandleFacts) : Type 0 where
+  pub own : List Made
+  pub whole : made_at v.before at ≡ made_through v.done ++ own
+  pub none_out : v.whose ≢ Roller → own ≡ []
+
+-- the roller knows the lane's round, its handle's number, and whether it has a pass; where it has none, it knows what the last one knew. It knows what was made with
+-- the passes that are back, and that this begins with what was made through the handles that are done; where the last one is, that is all
+pub record Rolls (v : KnownFacts) (before : List Made) (lane : LaneFacts) : Type 0 where
   pub era : lane.at.era ≡ v.at.era
+  pub number : lane.number ≡ v.number
   pub round : rounds_at lane.at.half ≡ rounds_at v.at.half
   pub works : lane.works ≡ v.works
   pub half : lane.works ≡ false → lane.at.half ≡ v.at.half
+  pub idle : v.whose ≡ Idle → lane.is_out ≡ false
+  pub before_is : before ≡ v.before
+  pub whole : IsWhole v lane.at
+  pub alone : v.whose ≡ Alone → lane.at ≡ v.at
 
--- what a pass knows of the lane that it takes: the roller its round, the handle that it follows on what it left
-pub record KnowsLane (v : KnownFacts) (lane : LaneFacts) : Type 0 where
-  pub rolls : v.whose ≢ Handle → 0 < v.at.era → Rolls lane v
-  pub follows : v.whose ≢ Roller → 0 < v.at.era → Follows v.at lane.at
+-- a handle whose number the lane has knows that the lane follows on what it left there, and what was made through it
+pub record HasLane (v : KnownFacts) (before : List Made) (lane : LaneFacts) : Type 0 where
+  pub follows : v.number ≡ lane.number → Follows v.at lane.at
+  pub whole : v.number ≡ lane.number → made_at before lane.at ≡ made_through v.done ++ v.made
 
--- one of two passes is the roller's, and the other the handle's
-abbrev pub OneEach : KnownFacts → KnownFacts → Type 0
-OneEach v w = ((v.whose ≡ Roller) × (w.whose ≡ Handle)) ⊎ ((v.whose ≡ Handle) × (w.whose ≡ Roller))
+-- what a pass knows of the lane that it takes
+pub record KnowsLane (v : KnownFacts) (before : List Made) (lane : LaneFacts) : Type 0 where
+  pub as_roller : rolls v.whose ≡ true → 0 < v.at.era → Rolls v before lane
+  pub as_handle : v.whose ≡ Handle → 0 < v.at.era → HasLane v before lane
+  pub not_newer : v.whose ≡ Handle → v.number ≤ lane.number
+  pub unopened : v.whose ≡ Alone → v.at.era ≡ 0 → lane.number ≡ 0
 
--- of any two passes of a lane's lock one is the roller's and the other the handle's, so that there is no third; and each knows what it should
+-- of two passes at most one is the roller's; of a handle that has the roller's number both know the same handles to be done, and no other has that number
+pub record Beside (v w : KnownFacts) : Type 0 where
+  pub one_roller : rolls v.whose ≡ true → rolls w.whose ≡ true → ⊥
+  pub out : rolls v.whose ≡ true → w.whose ≡ Handle → w.number ≡ v.number → (v.whose ≡ Roller) × (w.done ≡ v.done)
+  pub apart : v.whose ≡ Handle → w.whose ≡ Handle → v.number ≢ w.number
+
+-- the rule of a lane's lock: there is a list of what was made with the passes that are back
 pub record Ties (lane : LaneFacts) (views : List KnownFacts) : Type 0 where
-  pub pairs : (i j : ℕ) (v w : KnownFacts) → i ≢ j → get_elem? views i ≡ some v → get_elem? views j ≡ some w → OneEach v w
-  pub known : (j : ℕ) (v : KnownFacts) → get_elem? views j ≡ some v → KnowsLane v lane
+  pub before : List Made
+  pub pairs : (i j : ℕ) (v w : KnownFacts) → i ≢ j → get_elem? views i ≡ some v → get_elem? views j ≡ some w → Beside v w
+  pub known : (j : ℕ) (v : KnownFacts) → get_elem? views j ≡ some v → KnowsLane v before lane
 
--- who puts a lane back knows it
-abbrev pub turned : KnownFacts → LaneFacts → LaneFacts → KnownFacts → Type 0
-turned v old new w = w ≡ known_of v.whose new
+-- what a pass learns that takes the lane
+pub record Learnt (v : KnownFacts) (lane : LaneFacts) : Type 0 where
+  pub before : List Made
+  pub knows : KnowsLane v before lane
 
--- what a handle makes of a lane: nothing if no pass lies in it, and else it leaves a pass of the same round
+-- what a handle makes of a lane: nothing if no pass lies in it, and else it leaves a pass of the same round, which accepted more changes at most
 pub record Worked (old new : LaneFacts) : Type 0 where
   pub era : new.at.era ≡ old.at.era
+  pub number : new.number ≡ old.number
+  pub is_out : new.is_out ≡ old.is_out
   pub round : rounds_at new.at.half ≡ rounds_at old.at.half
   pub works : new.works ≡ old.works
   pub at_rest : old.works ≡ false → new.at.half ≡ old.at.half
+  pub accepts : IsPrefix old.at.half.knows.accepted new.at.half.knows.accepted
 
--- a lane whose lock a pass has: what that pass knew before, and the lane as it took it
+-- what a handle's pass knows that puts a lane back
+abbrev pub worked : KnownFacts → LaneFacts → LaneFacts → KnownFacts
+worked v old new = record v { works = new.works; at = new.at; made = v.made ++ dated new.at.era (added old.at.half new.at.half) }
+
+-- what the roller's knows: if the same pass lies in the lane, or none now; and if a new one does, which accepted nothing yet
+abbrev pub left : KnownFacts → LaneFacts → KnownFacts
+left v new = record v { works = new.works; at = new.at }
+
+abbrev pub dealt : KnownFacts → LaneFacts → LaneFacts → KnownFacts
+dealt v old new = record v { works = new.works; at = new.at; before = made_at v.before old.at }
+
+-- the handles that are done if a lane gets another one: its last one too, if it did not come back
+abbrev pub done_if : Whose → List Done → List Made → List Done
+done_if Roller done own = done ++ (false, own) ∷ []
+done_if Alone done own = done
+done_if Free done own = done
+done_if Idle done own = done
+done_if Handle done own = done
+done_if Gone done own = done
+
+abbrev pub done_with : KnownFacts → HandleFacts → List Done
+done_with v at = done_if v.whose v.done (drop (length (made_through v.done)) (made_at v.before at))
+
+-- what the roller's knows if the lane gets a number that no handle has
+abbrev pub renumbered : KnownFacts → LaneFacts → KnownFacts
+renumbered v new = record { whose = Alone; number = new.number; works = new.works; at = new.at; done = done_with v new.at; before = v.before; made = [] }
+
+-- the pass that is alone makes a handle's, and becomes the roller's beside that
+abbrev pub given_out : KnownFacts → KnownFacts
+given_out v = record v { whose = Roller }
+
+abbrev pub handed : KnownFacts → KnownFacts
+handed v = record v { whose = Handle; before = []; made = [] }
+
+-- what the roller's knows that marks a lane whose handle came back
+abbrev pub settled : KnownFacts → LaneFacts → KnownFacts
+settled v new = record v { whose = Idle; works = new.works; at = new.at }
+
+-- the roller's takes in the handle's: the handle is done
+abbrev pub taken_in : KnownFacts → KnownFacts → KnownFacts
+taken_in v w = record v { whose = Free; done = v.done ++ (true, w.made) ∷ [] }
+
+-- an end of a lane: its lock, and what its pass knows
+pub record EndFacts : Type 0 where
+  pub lock : TableId
+  pub known : KnownFacts
+
+-- the same while it has the lane, as it took it
 pub record OutFacts : Type 0 where
+  pub lock : TableId
   pub known : KnownFacts
   pub taken : LaneFacts
 
 abbrev pub taken_by : Option LaneFacts → LaneFacts
-taken_by taken = unwrap_or taken record { works = false; at = nothing_known }
+taken_by taken = unwrap_or taken record { works = false; number = 0; is_out = false; at = nothing_known }
 
--- what a handle's end of its lane tells of it
-abbrev pub handle_by : Option KnownFacts → HandleFacts
-handle_by None = nothing_known
-handle_by (Some v) = v.at
+-- what a handle's end of its lane tells of it, in a trie with these lanes
+abbrev pub handle_by : List TableId → Option EndFacts → HandleFacts
+handle_by lanes None = record nothing_known { lanes = lanes }
+handle_by lanes (Some e) = record e.known.at { lanes = lanes; made = e.known.made }
+
+-- what the roller's end tells of its lane
+abbrev pub lane_by : EndFacts → LaneKnown
+lane_by e = record { id = e.lock; done = e.known.done }
+
+-- a pass that does `does` in its round, with so many updates
+pub record WorksHere (updates : ℕ) (does : PassFacts → PassFacts → Type 0) (old new : HandleFacts) : Type 0 where
+  pub same_era : new.era ≡ old.era
+  pub done : does old.half new.half
+  pub steps : ℕ
+  pub goes_on : GoesOn updates steps old.half new.half

@@ -1,7 +1,7 @@
-use Rattle.std.specs.Prelude.{◌≡◌, ◌+◌, ◌≤◌, ◌++◌, length, map, vec_len, vec_capacity, ℕ, ◌<◌, get_or}
+use Rattle.std.specs.Prelude.{◌≡◌, ◌+◌, ◌≤◌, length, vec_len, vec_capacity, ℕ, ◌<◌, get_or}
 use Rattle.std.specs.Vec.Iter.{into_iter_items, into_iter_len}
-use Rattle.aug_live.specs.inside.Rolls.{IsHandleEnd}
-use Rattle.aug_live.specs.inside.LaneKnowledge.{KnownFacts}
+use Rattle.aug_live.specs.LiveTries.{ids_of}
+use Rattle.aug_live.specs.inside.Rolls.{AreHandles, IsHandleEnd}
 use Rattle.aug_live.proofs.live.hand_out.Given as goal
 
 abbrev pub invariant-loop-end : goal.invariant-loop-end
@@ -10,6 +10,6 @@ invariant-loop-end g l =
     (l.desk ≡ l.initial.desk)
     × (vec_len l.handles + into_iter_len rest ≡ into_iter_len all)
     × (into_iter_len all ≤ vec_capacity l.handles)
-    × ((k : ℕ) (d : _) → k < into_iter_len rest → IsHandleEnd l.bits (get_or (into_iter_items rest) k d))
-    × (l.handles.items ++ map (λ (v : KnownFacts). v.at) (into_iter_items rest) ≡ map (λ (v : KnownFacts). v.at) (into_iter_items all))
+    × ((k : ℕ) (d : _) → k < into_iter_len rest → IsHandleEnd 1 l.bits (get_or (into_iter_items rest) k d))
+    × AreHandles (ids_of l.initial.desk) (into_iter_items all) (into_iter_items rest) l.handles.items
     × (into_iter_len rest ≡ length (into_iter_items rest))

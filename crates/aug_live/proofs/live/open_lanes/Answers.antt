@@ -1,19 +1,25 @@
-use Rattle.std.proofs.Common.{◌≡◌, ◌+◌, ◌<◌, ◌∙◌, List, ap, subst, vec_len, rules, arith}
+use Rattle.std.proofs.Common.{◌≡◌, ◌+◌, ◌<◌, ◌∙◌, ◌++◌, [], ◌∷◌, List, ap, map, sym, subst, vec_len, rules, arith}
+use Rattle.std.proofs.lemmas.List.{map-append}
 use Rattle.aug_trie.specs.Chains.{Chapter}
 use Rattle.aug_trie.specs.Round.{RoundFacts}
 use Rattle.std.specs.Vec.Iter.{into_iter_len}
-use Rattle.aug_live.specs.inside.LaneKnowledge.{KnownFacts}
-use Rattle.aug_live.specs.inside.Rolls.{IsOf, Starts, rounds_in}
-use Rattle.aug_live.specs.declared.known.Whose.TheVariants.{Nobody}
+use Rattle.aug_live.specs.inside.LaneKnowledge.{EndFacts, knows_nothing}
+use Rattle.aug_live.specs.inside.Rolls.{IsOf, IsOpenedLane, Starts, rounds_in}
+use Rattle.aug_live.specs.declared.known.Whose.TheVariants.{Alone}
 use Rattle.aug_live.proofs.Moving.{head_of, tail_of, one_more}
 use Rattle.aug_live.proofs.live.open_lanes.Goals as goal
+
+same_locks : (ports ports' ends ends' : List EndFacts) (port end : EndFacts) → ports' ≡ ports ++ port ∷ [] → ends' ≡ ends ++ end ∷ [] → end.lock ≡ port.lock → map (λ (e : EndFacts). e.lock) ends ≡ map (λ (e : EndFacts). e.lock) ports
+    → map (λ (e : EndFacts). e.lock) ends' ≡ map (λ (e : EndFacts). e.lock) ports'
+same_locks ports ports' ends ends' port end more more' same was = let lock = λ (e : EndFacts). e.lock in
+    ap (map lock) more' ∙ map-append lock ends (end ∷ []) ∙ (λ i. was i ++ same i ∷ []) ∙ sym (ap (map lock) more ∙ map-append lock ports (port ∷ []))
 
 pub open-port-requires : goal.open-port-requires
 open-port-requires g c =
     let was = c.loop-first.invariant in let step = c.in-Some.ensures.steps in
     let some : 0 < into_iter_len c.loop-first.first-iterator = omega (arith, step.1) in
     record {
-      first = head_of (λ (v : KnownFacts). v.whose ≡ Nobody) _ c.in-Some.first _ _ step.0 some was.1;
+      first = head_of (λ (e : EndFacts). e.known ≡ knows_nothing Alone) _ c.in-Some.first _ _ step.0 some was.1;
       together = ap (λ (z : RoundFacts × List Chapter). z.0) was.3 ∙ c.requires.together;
       lane_left = omega (arith, was.0, was.5, some, c.requires.lanes);
     }
@@ -24,7 +30,7 @@ loop-first-preserved g c =
     let grown : vec_len c.push_reserved.new.self ≡ vec_len c.loop-first.ports + 1 = c.push_reserved.ensures.len in
     let longer : vec_len c.push_reserved-in-loop-first.new.self ≡ vec_len c.loop-first.ends + 1 = c.push_reserved-in-loop-first.ensures.len in (
       search rules,
-      tail_of (λ (v : KnownFacts). v.whose ≡ Nobody) _ _ _ _ _ step.0 step.1 was.1,
+      tail_of (λ (e : EndFacts). e.known ≡ knows_nothing Alone) _ _ _ _ _ step.0 step.1 was.1,
       one_more (IsOf (rounds_in c.args.crew.now) 1) _ _ _ c.push_reserved.ensures.items was.2 (subst (λ (z : RoundFacts × List Chapter). IsOf z 1 c.open-port.result.0) was.3 opened.of_round),
       opened.round ∙ was.3,
       search rules,
@@ -33,4 +39,7 @@ loop-first-preserved g c =
       one_more (Starts (rounds_in c.args.crew.now)) _ _ _ c.push_reserved-in-loop-first.ensures.items was.7 (subst (λ (z : RoundFacts × List Chapter). Starts z c.open-port.result.1) was.3 opened.handle),
       omega (arith, was.8, grown, longer),
       search rules,
+      one_more IsOpenedLane _ _ _ c.push_reserved.ensures.items was.10 opened.opened,
+      same_locks c.loop-first.ports.items c.push_reserved.new.self.items c.loop-first.ends.items c.push_reserved-in-loop-first.new.self.items c.open-port.result.0 c.open-port.result.1 c.push_reserved.ensures.items c.push_reserved-in-loop-first.ensures.items opened.lock was.11,
+      opened.same_changes ∙ was.12,
     )

@@ -5,15 +5,16 @@ use Rattle.aug_trie.specs.Chains.{Chapter}
 use Rattle.aug_trie.specs.Round.{RoundFacts}
 use Rattle.aug_core.proofs.PrefixLemmas.{prefix_trans}
 use Rattle.aug_live.specs.Carrying.{Leads}
-use Rattle.aug_live.specs.inside.LaneKnowledge.{KnownFacts}
+use Rattle.aug_live.specs.inside.LaneKnowledge.{EndFacts}
 use Rattle.aug_live.specs.inside.Rolls.{IsOf, HasEnded, rounds_in}
+use Rattle.aug_live.proofs.Dealing.{dealt_one}
 use Rattle.aug_live.proofs.Moving.{one_more, all_but_last, last_one}
 use Rattle.aug_live.proofs.rolling.deal_all.Goals as goal
 
 pub begin-requires : goal.begin-requires
 begin-requires g c =
     let was = c.loop-port.invariant in let past = c.args.crew.now.past in let P = HasEnded (arc_value c.args.round.now) past c.args.era in
-    let cut : c.loop-port.back.items ≡ c.pop.new.self.items ++ c.in-Some.port ∷ [] = c.pop.ensures.items ∙ ap (λ (z : Option KnownFacts). c.pop.new.self.items ++ option_to_list z) c.in-Some.is in
+    let cut : c.loop-port.back.items ≡ c.pop.new.self.items ++ c.in-Some.port ∷ [] = c.pop.ensures.items ∙ ap (λ (z : Option EndFacts). c.pop.new.self.items ++ option_to_list z) c.in-Some.is in
     let shrunk : vec_len c.pop.new.self + 1 ≡ vec_len c.loop-port.back = c.in-Some.ensures.cases in record {
       ready = subst (λ (z : RoundFacts × List Chapter). HasEnded (arc_value c.args.round.now) z.1 c.args.era c.in-Some.port) (sym was.3) (last_one P c.pop.new.self.items c.loop-port.back.items c.in-Some.port cut was.1);
       led = subst (λ (z : RoundFacts × List Chapter). Leads (arc_value c.args.round.now).bits z.1 (arc_value c.args.round.now).members) (sym was.3) c.requires.led;
@@ -26,7 +27,7 @@ begin-requires g c =
 pub loop-port-preserved : goal.loop-port-preserved
 loop-port-preserved g c =
     let was = c.loop-port.invariant in let began = c.begin.ensures in let past = c.args.crew.now.past in let P = HasEnded (arc_value c.args.round.now) past c.args.era in
-    let cut : c.loop-port.back.items ≡ c.pop.new.self.items ++ c.in-Some.port ∷ [] = c.pop.ensures.items ∙ ap (λ (z : Option KnownFacts). c.pop.new.self.items ++ option_to_list z) c.in-Some.is in
+    let cut : c.loop-port.back.items ≡ c.pop.new.self.items ++ c.in-Some.port ∷ [] = c.pop.ensures.items ∙ ap (λ (z : Option EndFacts). c.pop.new.self.items ++ option_to_list z) c.in-Some.is in
     let grown : vec_len c.push_reserved.new.self ≡ vec_len c.loop-port.ports + 1 = c.push_reserved.ensures.len in let shrunk : vec_len c.pop.new.self + 1 ≡ vec_len c.loop-port.back = c.in-Some.ensures.cases in (
       omega (arith, was.0, grown, shrunk),
       all_but_last P c.pop.new.self.items c.loop-port.back.items c.in-Some.port cut was.1,
@@ -38,4 +39,6 @@ loop-port-preserved g c =
       omega (arith, was.6, began.handed, grown),
       began.back ∙ was.7,
       prefix_trans c.args.crew.now.knows.history c.loop-port.crew.knows.history c.begin.new.crew.knows.history was.8 began.goes_on,
+      dealt_one c.loop-port.ports.items c.push_reserved.new.self.items c.pop.new.self.items c.loop-port.back.items c.in-Some.port c.begin.result _ cut c.push_reserved.ensures.items began.kept was.9,
+      began.same_changes ∙ was.10,
     )

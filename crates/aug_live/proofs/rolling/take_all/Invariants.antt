@@ -1,6 +1,6 @@
-use Rattle.std.specs.Prelude.{◌≡◌, ◌+◌, All, vec_len, vec_capacity}
+use Rattle.std.specs.Prelude.{◌≡◌, ◌+◌, ◌++◌, All, flat_map, map, reverse, vec_len, vec_capacity}
 use Rattle.aug_core.specs.Prefixes.{IsPrefix}
-use Rattle.aug_live.specs.inside.Rolls.{IsOf, IsBackIn, rounds_in}
+use Rattle.aug_live.specs.inside.Rolls.{IsOf, IsBackIn, accepted_by, kept_of, rounds_in}
 use Rattle.aug_live.proofs.rolling.take_all.Given as goal
 
 abbrev pub invariant-loop-port : goal.invariant-loop-port
@@ -14,6 +14,8 @@ invariant-loop-port g l =
     × (l.crew.handed ≡ l.fn.crew.handed)
     × (l.crew.back ≡ l.fn.crew.back + vec_len l.back)
     × IsPrefix l.fn.crew.knows.history l.crew.knows.history
+    × (map kept_of l.ports.items ++ map kept_of (reverse l.back.items) ≡ map kept_of l.fn.ports.items)
+    × (l.crew.knows.accepted ≡ l.fn.crew.knows.accepted ++ flat_map accepted_by l.back.items)
 
 abbrev pub decreases-loop-port : goal.decreases-loop-port
 decreases-loop-port g l = vec_len l.ports

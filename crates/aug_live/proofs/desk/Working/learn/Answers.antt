@@ -1,15 +1,19 @@
-use Rattle.std.proofs.Common.{◌∙◌, ◌+◌, ap, refl, sym, arith}
+use Rattle.std.proofs.Common.{ap, refl, arith, map}
 use Rattle.std.specs.Arc.{arc_value}
 use Rattle.aug_trie.specs.Crew.{CrewFacts}
-use Rattle.aug_live.specs.inside.Rolls.{rounds_in}
+use Rattle.aug_live.specs.inside.LaneKnowledge.{lane_by}
+use Rattle.aug_live.specs.inside.Rolls.{kept_of, rounds_in}
+use Rattle.aug_live.proofs.Accounting.{accounts_kept}
 use Rattle.aug_live.proofs.Counted.{crew_part, desk_on}
 use Rattle.aug_live.proofs.Desks.{kept_on}
+use Rattle.aug_live.proofs.Lanes.{lanes_refl}
 use Rattle.aug_live.proofs.desk.Working.learn.Goals as goal
 
 pub invariant_of-working : goal.invariant_of-working
-invariant_of-working g c = let was = c.working.invariant in let is = c.learn.ensures.crew_is in let handed = ap (λ (z : CrewFacts). z.handed) is in let back = ap (λ (z : CrewFacts). z.back) is in
-    (kept_on _ _ _ _ c.working.inside.crew c.learn.new.self c.working.inside.ports.items c.working.inside.ports.items _ _ 0 was.0 was.0.of_round refl (ap rounds_in is) (omega (arith, handed)) (omega (arith, back)) (omega (arith, handed, was.0.within)), was.1, was.2, was.3, was.4, was.5)
+invariant_of-working g c = let was = c.working.invariant in let w = c.working.inside in let is = c.learn.ensures.crew_is in let handed = ap (λ (z : CrewFacts). z.handed) is in let back = ap (λ (z : CrewFacts). z.back) is in
+    let accounts = accounts_kept (arc_value w.round).bits w.counts w.crew c.learn.new.self (map kept_of w.ports.items) (map kept_of w.ports.items) (ap (λ (z : CrewFacts). z.past) is) c.learn.ensures.learns.same_changes refl was.0.accounts in
+    (kept_on _ _ w.counts w.counts _ w.crew c.learn.new.self w.ports.items w.ports.items _ _ 0 was.0 was.0.of_round refl accounts refl refl refl refl (ap rounds_in is) (omega (arith, handed)) (omega (arith, back)) (omega (arith, handed, was.0.within)), was.1, was.2, was.3, was.4, was.5)
 
 pub returns-clause-more : goal.returns-clause-more
 returns-clause-more g c = let w = c.working.inside in let learnt = c.learn.ensures in
-    desk_on _ (arc_value w.round) (arc_value w.round) w.crew c.learn.new.self _ _ c.working.view_is refl refl refl (crew_part w.crew c.learn.new.self (ap rounds_in learnt.crew_is) learnt.learns.goes_on)
+    desk_on _ (arc_value w.round) (arc_value w.round) w.crew c.learn.new.self _ _ c.working.view_is refl refl (lanes_refl (map lane_by w.ports.items)) (crew_part w.crew c.learn.new.self (ap rounds_in learnt.crew_is) learnt.learns.goes_on)

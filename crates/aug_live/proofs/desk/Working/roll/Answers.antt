@@ -8,6 +8,7 @@ use Rattle.aug_trie.specs.Crew.{crew_chain}
 use Rattle.aug_trie.proofs.Chaining.{part_trans}
 use Rattle.aug_live.proofs.Counted.{crew_part, desk_on, more_self, rolled_part}
 use Rattle.aug_live.proofs.Desks.{rolled_on}
+use Rattle.aug_live.proofs.Lanes.{rolled_lanes}
 use Rattle.aug_live.proofs.Moving.{all_ended, next_led}
 use Rattle.aug_live.proofs.desk.Working.roll.Goals as goal
 
@@ -27,8 +28,8 @@ pub invariant_of-working : goal.invariant_of-working
 invariant_of-working g c =
     let was = c.self.invariant in let dealt = c.deal_all.ensures in (
       rolled_on c.self.inside.plan.lanes c.self.inside.plan.updates c.self.inside.counts _ (arc_value c.self.inside.round) (arc_value c.renewed-crew.new.round) c.self.inside.crew c.take_all.new.crew c.renewed-crew.result.0 c.deal_all.new.crew
-          c.self.inside.ports.items c.deal_all.new.ports.items _ _ c.renewed-crew.new.list.items c.renewed-crew.result.1 c.renewed-crew.result.2
-          was.0 c.renewed-crew.ensures.rolls c.take_all.ensures.round dealt.of_round (search rules) dealt.round (search rules) dealt.back (search rules) (search rules) (search rules) (search rules) (search rules) (search rules),
+          c.self.inside.ports.items c.take_all.new.back.items c.deal_all.new.ports.items _ _ c.renewed-crew.new.list.items c.renewed-crew.result.1 c.renewed-crew.result.2
+          was.0 c.renewed-crew.ensures.rolls c.take_all.ensures.round dealt.of_round (search rules) c.take_all.ensures.kept c.take_all.ensures.back c.take_all.ensures.changes dealt.kept dealt.same_changes dealt.round (search rules) dealt.back (search rules) (search rules) (search rules) (search rules) (search rules) (search rules) (search rules) (search rules),
       search rules,
       search rules,
       search rules,
@@ -44,6 +45,6 @@ returns-clause-more g c =
     let w = c.self.inside in let now = c.take_all.new.crew in let first = c.renewed-crew.result.0 in let dealt = c.deal_all.ensures in let took = c.take_all.ensures in
     let round : RoundFacts = arc_value w.round in let next : RoundFacts = arc_value c.renewed-crew.new.round in let rolls = c.renewed-crew.ensures.rolls in
     let here = ap (λ (z : RoundFacts × List Chapter). z.0) took.round ∙ c.self.invariant.0.together in
-    desk_on _ round next w.crew c.deal_all.new.crew _ _ c.self.view_is (ap (λ (z : RoundFacts). z.table) rolls.round_is) (ap (λ (z : RoundFacts). z.bits) rolls.round_is) (dealt.len ∙ took.len)
+    desk_on _ round next w.crew c.deal_all.new.crew _ _ c.self.view_is (ap (λ (z : RoundFacts). z.table) rolls.round_is) (ap (λ (z : RoundFacts). z.bits) rolls.round_is) (rolled_lanes w.ports.items c.deal_all.new.ports.items c.take_all.new.back.items took.kept dealt.kept)
     (part_trans (crew_chain w.crew) (crew_chain now) (crew_chain c.deal_all.new.crew) (crew_part w.crew now took.round took.goes_on)
     (part_trans (crew_chain now) (crew_chain first) (crew_chain c.deal_all.new.crew) (rolled_part round next now first _ _ _ rolls here) (crew_part first c.deal_all.new.crew dealt.round dealt.goes_on)))

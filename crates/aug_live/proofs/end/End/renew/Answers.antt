@@ -1,8 +1,10 @@
-use Rattle.std.proofs.Common.{◌∙◌, ap, sym}
-use Rattle.aug_live.specs.inside.LaneKnowledge.{LaneFacts}
-use Rattle.aug_live.proofs.Carries.{follows_same}
+use Rattle.std.proofs.Common.{◌∙◌, ap, sym, subst}
+use Rattle.aug_live.specs.inside.LaneKnowledge.{EndFacts, LaneFacts, given_out, renumbered}
+use Rattle.aug_live.specs.inside.Rolls.{GetsHandle}
+use Rattle.aug_live.proofs.Dealing.{gets}
 use Rattle.aug_live.proofs.end.End.renew.Goals as goal
 
-pub leave-requires-clause-follows : goal.leave-requires-clause-follows
-leave-requires-clause-follows g c = follows_same _ _
-    (ap (λ (z : LaneFacts). z.at) c.given_on.ensures ∙ ap (λ (z : LaneFacts). z.at) c.into_work-work.ensures.rest ∙ ap (λ (z : LaneFacts). z.at) (sym c.take_to_roll-out.ensures.taken))
+pub returns-clause-gets : goal.returns-clause-gets
+returns-clause-gets g c = let out = c.take_to_roll-out in
+    subst (GetsHandle c.args.number c.args.self) (sym (c.fork.ensures.0 ∙ ap (λ (e : EndFacts). record e { known = given_out e.known }) (c.renumber.ensures ∙ (λ i. record { lock = out.ensures.lock i; known = renumbered (out.ensures.known i) c.working.result }))))
+    (gets c.args.self.lock c.args.number c.args.self.known c.working.result (ap (λ (z : LaneFacts). z.number) c.working.ensures))

@@ -1,11 +1,13 @@
-use Rattle.std.proofs.Common.{ap, rules}
-use Rattle.aug_model.specs.declared.outcome.Outcome.{Outcome}
-use Rattle.aug_trie.specs.Pass.{PassFacts}
-use Rattle.aug_trie.specs.Updates.{ComesTo}
-use Rattle.aug_live.specs.inside.LaneKnowledge.{KnownFacts}
-use Rattle.aug_live.proofs.Carries.{made_on}
+use Rattle.std.proofs.Common.{◌∙◌, sym}
+use Rattle.aug_live.specs.LiveTries.{ids_of}
+use Rattle.aug_live.proofs.Carries.{unchanged, made_end, unmade_end}
 use Rattle.aug_live.proofs.handle.Handle.try_update.Goals as goal
 
+pub returns-in-Err-clause-not_made : goal.returns-in-Err-clause-not_made
+returns-in-Err-clause-not_made g c = unchanged (ids_of c.self.inside.desk) c.args.self.now c.self.inside.end c.in-Some.end c.in-Err.same c.self.view_is (sym c.take.ensures.value ∙ c.in-Some.is) c.in-Err.ensures.same
+
 pub returns-clause-made : goal.returns-clause-made
-returns-clause-made g c =
-    made_on c.update-lane.result.1 1 (λ (done : Outcome) (a b : PassFacts). ComesTo c.args.request c.args.k done a.knows b.knows) c.args.self.now c.take_to_work-out.result.1.at _ _ (search rules) (ap (λ (v : KnownFacts). v.at) c.put.ensures) c.update-lane.ensures.made
+returns-clause-made g c = made_end (ids_of c.self.inside.desk) c.args.self.now c.self.inside.end c.in-Some.end c.put.result c.self.view_is (sym c.take.ensures.value ∙ c.in-Some.is) c.in-Ok.taken.0 c.in-Ok.taken.1 c.update-lane.result.0 c.in-Ok.ensures.known c.in-Ok.ensures.taken c.put.ensures c.in-Ok.ensures.follows c.update-lane.result.1 1 _ c.update-lane.ensures.made
+
+pub returns-clause-not_made : goal.returns-clause-not_made
+returns-clause-not_made g c = unmade_end (ids_of c.self.inside.desk) c.args.self.now c.self.inside.end c.in-Some.end c.put.result c.self.view_is (sym c.take.ensures.value ∙ c.in-Some.is) c.in-Ok.taken.0 c.in-Ok.taken.1 c.update-lane.result.0 c.in-Ok.ensures.known c.in-Ok.ensures.taken c.put.ensures c.in-Ok.ensures.follows c.update-lane.result.1 c.update-lane.ensures.same

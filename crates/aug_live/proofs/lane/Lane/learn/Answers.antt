@@ -1,4 +1,6 @@
-use Rattle.std.proofs.Common.{◌∙◌, ap, sym, subst}
+use Rattle.std.proofs.Common.{◌∙◌, true, ap, sym, subst}
+use Rattle.aug_core.specs.Prefixes.{IsPrefix}
+use Rattle.aug_trie.specs.Pass.{PassFacts, GoesOn}
 use Rattle.aug_live.specs.LiveHandles.{Follows}
 use Rattle.aug_live.specs.inside.LaneKnowledge.{LaneFacts}
 use Rattle.aug_live.proofs.Carries.{follows_self, learnt_follows}
@@ -8,7 +10,6 @@ pub returns-then-is_none-clause-follows : goal.returns-then-is_none-clause-follo
 returns-then-is_none-clause-follows g c = follows_self c.args.self.at
 
 pub returns-clause-follows : goal.returns-clause-follows
-returns-clause-follows g c =
-    subst (λ (z : LaneFacts). Follows c.args.self.at z.at) (sym c.working.ensures)
-    (learnt_follows 1 c.args.self.at _ c.work.inside.0.0.half (ap (λ z. z.0.half) c.work.view_is ∙ c.into_work.ensures.work) (ap (λ z. z.1.at.era) c.work.view_is ∙ ap (λ (z : LaneFacts). z.at.era) c.into_work.ensures.rest)
-    c.learn.ensures.learns.goes_on c.learn.ensures.goes_on)
+returns-clause-follows g c = let work = c.into_work-work in let half = c.learn.result.half in
+    subst (λ (z : LaneFacts). Follows c.args.self.at z.at) (sym (c.with.ensures ∙ ap (λ (z : LaneFacts). record z { works = true; at = record z.at { half = half } }) work.ensures.rest))
+    (learnt_follows 1 c.args.self.at half (subst (λ (z : PassFacts). IsPrefix z.knows.history half.knows.history) work.ensures.work c.learn.ensures.learns.goes_on) (subst (λ (z : PassFacts). GoesOn 0 1 z half) work.ensures.work c.learn.ensures.goes_on))

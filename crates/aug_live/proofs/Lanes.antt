@@ -1,0 +1,75 @@
+-- The lanes of a trie, as more of their handles are done.
+use Rattle.std.proofs.Common.{◌≡◌, ℕ, zero, suc, List, [], ◌∷◌, ◌++◌, length, refl, sym, ap, ◌∙◌, subst}
+use Rattle.std.specs.Prelude.{map, reverse}
+use mathlib.Core.Option.{some, some-injective, some-ne-none}
+use lib.ListN.{get_elem?}
+use Rattle.aug_core.proofs.PrefixLemmas.{prefix_refl, prefix_trans}
+use Rattle.aug_live.specs.LiveTries.{LaneGoesOn, LaneKnown, LanesGoOn}
+use Rattle.aug_live.specs.inside.LaneKnowledge.{EndFacts, lane_by}
+use Rattle.aug_live.specs.inside.Rolls.{given_all, kept_of}
+
+goes_on : (x : LaneKnown) → LaneGoesOn x x
+goes_on x = record { id = refl; done = prefix_refl x.done }
+
+pub lanes_refl : (xs : List LaneKnown) → LanesGoOn xs xs
+lanes_refl [] = tt
+lanes_refl (x ∷ xs) = (goes_on x, lanes_refl xs)
+
+pub lanes_trans : (xs ys zs : List LaneKnown) → LanesGoOn xs ys → LanesGoOn ys zs → LanesGoOn xs zs
+lanes_trans [] [] zs a b = b
+lanes_trans [] (y ∷ ys) zs a b = absurd a
+lanes_trans (x ∷ xs) [] zs a b = absurd a
+lanes_trans (x ∷ xs) (y ∷ ys) [] a b = absurd b
+lanes_trans (x ∷ xs) (y ∷ ys) (z ∷ zs) a b = (record { id = b.0.id ∙ a.0.id; done = prefix_trans x.done y.done z.done a.0.done b.0.done }, lanes_trans xs ys zs a.1 b.1)
+
+pub lanes_same : (xs ys : List LaneKnown) → ys ≡ xs → LanesGoOn xs ys
+lanes_same xs ys same = subst (LanesGoOn xs) (sym same) (lanes_refl xs)
+
+-- one of them goes on
+pub lanes_at : (a b : List LaneKnown) (x y : LaneKnown) → LaneGoesOn x y → LanesGoOn (a ++ x ∷ b) (a ++ y ∷ b)
+lanes_at [] b x y on = (on, lanes_refl b)
+lanes_at (c ∷ a) b x y on = (goes_on c, lanes_at a b x y on)
+
+-- they keep their identities, and there are as many
+pub ids_same : (xs ys : List LaneKnown) → LanesGoOn xs ys → map (λ (l : LaneKnown). l.id) ys ≡ map (λ (l : LaneKnown). l.id) xs
+ids_same [] [] on = refl
+ids_same [] (y ∷ ys) on = absurd on
+ids_same (x ∷ xs) [] on = absurd on
+ids_same (x ∷ xs) (y ∷ ys) on = λ i. on.0.id i ∷ ids_same xs ys on.1 i
+
+pub as_many : (xs ys : List LaneKnown) → LanesGoOn xs ys → length ys ≡ length xs
+as_many [] [] on = refl
+as_many [] (y ∷ ys) on = absurd on
+as_many (x ∷ xs) [] on = absurd on
+as_many (x ∷ xs) (y ∷ ys) on = ap suc (as_many xs ys on.1)
+
+-- the lane at a place, where more was known of it later, and what was known of it before
+pub known_before : (xs ys : List LaneKnown) → LanesGoOn xs ys → (k : ℕ) (y : LaneKnown) → get_elem? ys k ≡ some y → (x : LaneKnown) × (get_elem? xs k ≡ some x) × LaneGoesOn x y
+known_before [] [] on k y at = absurd (some-ne-none y (sym at))
+known_before [] (z ∷ ys) on k y at = absurd on
+known_before (x ∷ xs) [] on k y at = absurd on
+known_before (x ∷ xs) (z ∷ ys) on zero y at = (x, refl, subst (LaneGoesOn x) (some-injective z y at) on.0)
+known_before (x ∷ xs) (z ∷ ys) on (suc k) y at = known_before xs ys on.1 k y at
+
+-- what an end keeps says all of its lane
+pub lanes_of_kept : (es : List EndFacts) → map lane_by (map kept_of es) ≡ map lane_by es
+lanes_of_kept [] = refl
+lanes_of_kept (e ∷ es) = λ i. lane_by e ∷ lanes_of_kept es i
+
+-- the identities of the lanes are those of their locks
+pub ids_are : (es : List EndFacts) → map (λ (l : LaneKnown). l.id) (map lane_by es) ≡ map (λ (e : EndFacts). e.lock) es
+ids_are [] = refl
+ids_are (e ∷ es) = λ i. e.lock ∷ ids_are es i
+
+-- a lane of which the same is known
+pub lane_same : (x y : LaneKnown) → y ≡ x → LaneGoesOn x y
+lane_same x y same = subst (LaneGoesOn x) (sym same) (goes_on x)
+
+-- the lanes of a trie whose round rolled over
+lanes_given : (es : List EndFacts) → map lane_by (map given_all es) ≡ map lane_by (map kept_of es)
+lanes_given [] = refl
+lanes_given (e ∷ es) = λ i. lane_by e ∷ lanes_given es i
+
+pub rolled_lanes : (ports ports' back : List EndFacts) → map kept_of (reverse back) ≡ map kept_of ports → map kept_of ports' ≡ map given_all (reverse back) → LanesGoOn (map lane_by ports) (map lane_by ports')
+rolled_lanes ports ports' back took dealt = lanes_same (map lane_by ports) (map lane_by ports')
+    (sym (lanes_of_kept ports') ∙ ap (map lane_by) dealt ∙ lanes_given (reverse back) ∙ ap (map lane_by) took ∙ lanes_of_kept ports)

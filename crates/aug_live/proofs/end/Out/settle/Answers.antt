@@ -1,0 +1,13 @@
+use Rattle.std.proofs.Common.{false, ◌≡◌, ◌∙◌, ◌<◌, ℕ, ap, sym, subst}
+use Rattle.aug_live.specs.inside.LaneKnowledge.{LaneFacts, OutFacts, taken_by}
+use Rattle.aug_live.proofs.Tied.{roller_settles, what_is}
+use Rattle.aug_live.proofs.end.Out.settle.Goals as goal
+
+pub put-requires-clause-holds : goal.put-requires-clause-holds
+put-requires-clause-holds g c = let o = c.self.inside.pass.me.0.taken in let is = c.self.view_is in let taken : taken_by o ≡ _ = ap (λ (z : OutFacts). z.taken) is in (
+  taken_by o,
+  (what_is o _ c.self.invariant.1, c.self.invariant.2),
+  λ views ties at. roller_settles _ _ (taken_by o) c.args.lane views ties at
+      (ap (λ (z : OutFacts). z.known.whose) is ∙ c.requires.free) (subst (λ (n : ℕ). 0 < n) (sym (ap (λ (z : OutFacts). z.known.at.era) is)) c.requires.some)
+      (c.requires.same ∙ ap (λ (z : LaneFacts). record z { is_out = false }) (sym taken)),
+)

@@ -7,6 +7,8 @@ mod asking;
 #[cfg(test)]
 mod assertions;
 #[cfg(test)]
+mod crowds;
+#[cfg(test)]
 mod holding;
 #[cfg(test)]
 mod opening;

@@ -4,7 +4,7 @@ ghost use Rattle.aug_trie.specs.Chains.{IsPart};
 ghost use Rattle.aug_trie.specs.Pass.{chain_of};
 
 use super::opening::{Hand, Trie, no_keys};
-use super::steps::{closed, renewed};
+use super::steps::{closed, ended, renewed};
 use crate::assertions::{equal, holds};
 use aug_live::{Live, LiveError, Plan};
 use aug_query::descent::Has;
@@ -121,7 +121,11 @@ fn a_note_tells_what_its_maker_did_over_any_roll_overs(rt: HostRuntime) -> Resul
     let (a, b) = assert_told(&rt, &mut live, a, b, 63, 1, 3);
     drop((a, b));
     let (size, counts) = closed(&rt, live);
-    equal(&rt, (size, counts.inserts, counts.removals), (0, 4, 4));
+    equal(
+        &rt,
+        (size, counts.rounds, counts.inserts, counts.removals),
+        (0, 8, 4, 4),
+    );
     Ok(())
 }
 
@@ -139,7 +143,7 @@ fn a_closed_trie_makes_no_note_and_a_replaced_handle_none(
         panic!(&rt; "learnt");
     };
     equal(&rt, cause, LiveError::Replaced);
-    closed(&rt, live);
+    equal(&rt, ended(&rt, live), (0, 1));
     equal(&rt, b.note(&rt).err(), Some(LiveError::Closed));
     Ok(())
 }
@@ -170,6 +174,10 @@ fn a_trie_knows_what_a_handle_did_that_came_back(rt: HostRuntime) -> Result<(), 
     let (mut live, a, b) = two(&rt, rt.alloc())?;
     assert_back(&rt, rt.alloc(), &mut live, a, b);
     let (size, counts) = closed(&rt, live);
-    equal(&rt, (size, counts.inserts, counts.removals), (1, 1, 0));
+    equal(
+        &rt,
+        (size, counts.rounds, counts.inserts, counts.removals),
+        (1, 1, 1, 0),
+    );
     Ok(())
 }

@@ -21,6 +21,8 @@ mod renewing;
 #[cfg(test)]
 mod rolling;
 #[cfg(test)]
+mod sleeping;
+#[cfg(test)]
 mod sparing;
 #[cfg(test)]
 mod steps;

@@ -18,6 +18,7 @@ import edits
 import programs
 import promises
 import refused
+import sleeping
 import surface
 from folders import InFolder
 from refusing import TESTS, Refusing, compile_c
@@ -261,6 +262,56 @@ class Refused(InFolder):
 
     def test_test_that_keeps_a_block(self):
         self.assert_fails("1 blocks not given back", "0 passed, 1 failed", LEAKS=1)
+
+
+# Stands in for built tests, of which one says how long it sleeps.
+SLEEPING_TEST = r"""
+extern int usleep(unsigned);
+extern long clock(void), write(int, const void *, unsigned long);
+
+int main(int count, char **words) {
+    if (words[1][0] == '-') return write(1, LISTED, sizeof LISTED - 1) < 0;
+    while (clock() < 1000 * WORKS);
+    for (int left = SLEEPS; left; left--) usleep(1000);
+    write(1, "\ntest result: ok\n", 17);
+    return STATUS;
+}
+"""
+
+
+class Sleeping(InFolder):
+    """tests/sleeping.py fails a test that works while it says that it sleeps, or that does not sleep."""
+
+    SOURCE = "#[test]\nfn one_sleeps_for_1_second() {}\n\n#[test]\nfn others() {}\n"
+    WELL = {"LISTED": '"tests::one_sleeps_for_1_second: test\\ntests::others: test\\ntests: 2\\n"', "WORKS": 1, "SLEEPS": 1000, "STATUS": 0}
+
+    def run_on(self, source=SOURCE, built=True, **changed):
+        """Runs it over a crate with these sources and built tests, which work and sleep for so many milliseconds: its last line and its status."""
+        self.write("sample/src/tests.rt", source)
+        if built:
+            program = os.path.join(self.folder, "sample", "out", "sample_tests")
+            os.makedirs(os.path.dirname(program), exist_ok=True)
+            defined = [f"-D{name}={value}" for name, value in {**self.WELL, **changed}.items()]
+            compile_c(self.write("tests.c", SLEEPING_TEST), program, ["-w", *defined])
+        status, said = quietly(sleeping.main, self.folder)
+        return said.splitlines()[-1], status
+
+    def test_test_that_sleeps(self):
+        self.assertEqual(self.run_on(), ("1 passed, 0 failed", 0))
+
+    def test_test_that_works(self):
+        self.assertEqual(self.run_on(WORKS=300), ("0 passed, 1 failed", 1))
+
+    def test_test_that_does_not_sleep(self):
+        self.assertEqual(self.run_on(SLEEPS=100), ("0 passed, 1 failed", 1))
+
+    def test_test_that_fails(self):
+        self.assertEqual(self.run_on(STATUS=1), ("0 passed, 1 failed", 1))
+
+    def test_tests_that_are_not_there(self):
+        self.assertEqual(self.run_on(built=False), ("0 passed, 1 failed", 1))
+        self.assertEqual(self.run_on(LISTED='"tests: 0\\n"'), ("0 passed, 1 failed", 1))
+        self.assertEqual(self.run_on(self.SOURCE.replace("second()", "round()")), ("0 passed, 1 failed", 1))
 
 
 class Surface(InFolder):

@@ -11,12 +11,12 @@ use std::sync::Wait;
 use std::thread;
 
 // A channel on which a thread says that it got somewhere.
-fn signal(rt: &impl Abort, alloc: Global) -> (Sender<()>, Receiver<()>) {
+pub(super) fn signal(rt: &impl Abort, alloc: Global) -> (Sender<()>, Receiver<()>) {
     unbounded(alloc).expect(rt, "memory")
 }
 
 // Makes an update for which the round has to roll over, once the other thread has its look, and says that it was made.
-fn rolls<R: Wait>(rt: &R, hand: Hand, held: Receiver<()>, made: Sender<()>) -> bool {
+pub(super) fn rolls<R: Wait>(rt: &R, hand: Hand, held: Receiver<()>, made: Sender<()>) -> bool {
     let mut hand = hand;
     let began = held.recv(rt).is_ok();
     let done = insert(rt, &mut hand, 63);

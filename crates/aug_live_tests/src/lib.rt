@@ -7,6 +7,8 @@ mod asking;
 #[cfg(test)]
 mod assertions;
 #[cfg(test)]
+mod crowds;
+#[cfg(test)]
 mod holding;
 #[cfg(test)]
 mod opening;
@@ -18,6 +20,8 @@ mod refused;
 mod renewing;
 #[cfg(test)]
 mod rolling;
+#[cfg(test)]
+mod sleeping;
 #[cfg(test)]
 mod sparing;
 #[cfg(test)]

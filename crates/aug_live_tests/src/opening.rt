@@ -1,10 +1,10 @@
 //! One thread: opening, each call of a handle and of a look, rolling over, closing.
 
 use super::steps::{
-    Call, Query, Step, View, ask_all, closed, go, last, listed, looked, over, pairs, play,
+    Call, Query, Step, View, ask_all, closed, ended, go, last, listed, looked, over, pairs, play,
     take_newer_snapshot,
 };
-use crate::assertions::{equal, equal_length, holds};
+use crate::assertions::{equal, equal_length};
 use aug_live::{Handle, Live, LiveError, Plan};
 use aug_model::Outcome;
 use aug_monoid::{Extent, Sum};
@@ -156,7 +156,8 @@ fn a_handle_updates_and_looks_over_many_rounds(rt: HostRuntime) -> Result<(), Be
         (size, counts.opened, counts.inserts, counts.removals),
         (33, 0, 87, 54),
     );
-    holds(r, counts.rounds > 60);
+    // Three of 215 updates in each.
+    equal(r, counts.rounds, 72);
     play(r, &mut hand, &[Step::Insert(1, Err(LiveError::Closed))]);
     Ok(())
 }
@@ -247,7 +248,7 @@ fn a_look_answers_every_query_and_stays_what_it_is(rt: HostRuntime) -> Result<()
     ask_all(r, &mut look, &[Query::Has(5, true), Query::Size(4)]);
     drop(over(look));
     drop(other);
-    equal(r, closed(r, live).0, 4);
+    equal(r, ended(r, live), (4, 1));
     Ok(())
 }
 
@@ -293,7 +294,9 @@ fn ten<R: Wait + Abort>(rt: &R, alloc: Global) -> Result<Members, BeginError> {
     for k in 0..10 {
         play(rt, &mut hand, &[Step::Put(3 * k, k, Ok(Outcome::Accepted))]);
     }
-    Ok(live.close(rt).0)
+    let (set, counts) = live.close(rt);
+    equal(rt, counts.rounds, 5);
+    Ok(set)
 }
 
 #[test]
@@ -306,7 +309,11 @@ fn a_trie_opens_over_the_set_that_another_closed_with(rt: HostRuntime) -> Result
     equal(r, list.as_slice().first().copied(), Some((0, 0)));
     drop(hands);
     let (size, counts) = closed(r, live);
-    equal(r, (size, counts.opened, counts.inserts), (10, 10, 0));
+    equal(
+        r,
+        (size, counts.opened, counts.inserts, counts.rounds),
+        (10, 10, 0, 1),
+    );
     Ok(())
 }
 
@@ -327,7 +334,7 @@ fn open_refuses_numbers_in_their_order(rt: HostRuntime) -> Result<(), BeginError
     }
     let (live, hands) = opened(&rt, rt.alloc(), 16, 64, 1)?;
     equal_length(&rt, hands.len(), 64);
-    equal(&rt, closed(&rt, live).0, 0);
+    equal(&rt, ended(&rt, live), (0, 1));
     Ok(())
 }
 

@@ -2,7 +2,7 @@
 
 use super::opening::{Hand, Trie, no_keys, opened};
 use super::steps::{
-    Step, closed, fill, last, listed, looked, over, play, renewed, size, why_no_look,
+    Step, closed, ended, fill, last, listed, looked, over, play, renewed, size, why_no_look,
 };
 use crate::assertions::equal;
 use aug_live::{Live, LiveError, Plan};
@@ -62,7 +62,11 @@ fn refused_memory_loses_nothing_of_a_live_trie(rt: HostRuntime) -> Result<(), Be
     play(r, &mut hand, &[Step::Insert(4, Ok(false))]);
     equal(r, live.roll(r), Ok(()));
     let (size, counts) = closed(r, live);
-    equal(r, (size, counts.inserts, counts.removals), (4, 5, 1));
+    equal(
+        r,
+        (size, counts.rounds, counts.inserts, counts.removals),
+        (4, 5, 5, 1),
+    );
     Ok(())
 }
 
@@ -85,7 +89,7 @@ fn a_closed_trie_answers_so(rt: HostRuntime) -> Result<(), BeginError> {
     play(r, &mut hand, &[Step::Insert(9, Ok(true))]);
     let (hand, list) = listed(r, alloc, hand);
     equal(r, list.as_slice(), [(9, 9)].as_slice());
-    equal(r, closed(r, live).0, 1);
+    equal(r, ended(r, live), (1, 1));
     is_closed(r, hand);
     Ok(())
 }

@@ -2,7 +2,7 @@
 
 use super::opening::{Hand, Trie, insert, opened, opened_one, remove};
 use super::rolling::{jobs, summed, work};
-use super::steps::{Call, Step, closed, go, last, play, renewed, why_no_look};
+use super::steps::{Call, Step, closed, ended, go, last, play, renewed, why_no_look};
 use crate::assertions::{equal, holds};
 use aug_live::LiveError;
 use aug_trie::BeginError;
@@ -33,7 +33,11 @@ fn a_new_handle_goes_on_where_a_dropped_one_ended(rt: HostRuntime) -> Result<(),
     ];
     go(r, alloc, &mut live, hand, &calls);
     let (size, counts) = closed(r, live);
-    equal(r, (size, counts.inserts, counts.removals), (15, 16, 1));
+    equal(
+        r,
+        (size, counts.rounds, counts.inserts, counts.removals),
+        (15, 7, 16, 1),
+    );
     Ok(())
 }
 
@@ -57,7 +61,7 @@ fn the_old_handle_of_a_lane_that_was_given_on_is_refused(
     let mut new = renewed(r, &mut live, 0).expect(r, "a new handle");
     is_replaced(r, &mut live, old);
     play(r, &mut new, &[Step::Remove(5, Ok(true))]);
-    equal(r, closed(r, live).0, 0);
+    equal(r, ended(r, live), (0, 2));
     Ok(())
 }
 
@@ -79,7 +83,7 @@ fn there_are_as_many_lanes_as_handles(rt: HostRuntime) -> Result<(), BeginError>
     for lane in 0..3 {
         insert_anew(r, &mut live, lane);
     }
-    equal(r, closed(r, live).0, 3);
+    equal(r, ended(r, live), (3, 1));
     Ok(())
 }
 
@@ -112,6 +116,9 @@ fn handles_are_dropped_and_made_anew_while_others_work(rt: HostRuntime) -> Resul
     );
     holds(&rt, right);
     let (_, left) = summed(r, done.expect(r, "memory"), false);
-    equal(&rt, u64::from(closed(r, live).0), left.saturating_add(1));
+    let (size, rounds) = ended(r, live);
+    equal(&rt, u64::from(size), left.saturating_add(1));
+    // 151,001 updates, of which each lane has 1,000 in a round.
+    holds(&rt, rounds >= 50 && rounds <= 152);
     Ok(())
 }

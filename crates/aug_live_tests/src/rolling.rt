@@ -190,7 +190,7 @@ const USES: [Use; 3] = [
         spare: 0,
         updates: 1000,
         least: 200,
-        most: u64::MAX,
+        most: 801,
     },
     Use {
         idle: true,
@@ -198,7 +198,7 @@ const USES: [Use; 3] = [
         spare: 0,
         updates: 1,
         least: 200,
-        most: u64::MAX,
+        most: 401,
     },
     // 80,000 calls. A round has room for 4,000, and uses all of them except those of lanes that were not spent at its end.
     Use {

@@ -83,6 +83,12 @@ pub(super) fn closed<R: Wait>(rt: &R, live: Trie) -> (u32, LiveCounts) {
     (set.size(), counts)
 }
 
+/// How many members a trie has at its end, and how many rounds it had. A call that was refused began none.
+pub(super) fn ended<R: Wait>(rt: &R, live: Trie) -> (u32, u64) {
+    let (size, counts) = closed(rt, live);
+    (size, counts.rounds)
+}
+
 /// A look, or the handle with why there is none.
 pub(super) fn try_look<R: Wait>(rt: &R, hand: Hand) -> Result<View, (Hand, LiveError)> {
     hand.look(rt)

@@ -5,7 +5,7 @@ ghost use Rattle.aug_trie.specs.Pass.{chain_of};
 ghost use Rattle.aug_live.specs.LiveTries.{ids_of};
 
 use super::opening::{Hand, Trie, no_keys};
-use super::steps::{closed, renewed};
+use super::steps::{closed, ended, renewed};
 use crate::assertions::{equal, holds};
 use aug_live::{Live, LiveError, Plan};
 use aug_query::descent::Has;
@@ -124,7 +124,11 @@ fn a_note_tells_what_its_maker_did_over_any_roll_overs(rt: HostRuntime) -> Resul
     let (a, b) = assert_told(&rt, &mut live, a, b, 63, 1, 3);
     drop((a, b));
     let (size, counts) = closed(&rt, live);
-    equal(&rt, (size, counts.inserts, counts.removals), (0, 4, 4));
+    equal(
+        &rt,
+        (size, counts.rounds, counts.inserts, counts.removals),
+        (0, 8, 4, 4),
+    );
     Ok(())
 }
 
@@ -142,7 +146,7 @@ fn a_closed_trie_makes_no_note_and_a_replaced_handle_none(
         panic!(&rt; "learnt");
     };
     equal(&rt, cause, LiveError::Replaced);
-    closed(&rt, live);
+    equal(&rt, ended(&rt, live), (0, 1));
     equal(&rt, b.note(&rt).err(), Some(LiveError::Closed));
     Ok(())
 }
@@ -195,7 +199,11 @@ fn a_trie_knows_what_a_handle_did_that_came_back(rt: HostRuntime) -> Result<(), 
     assert_not_back(&rt, &mut live, b);
     assert_back(&rt, &mut live, a);
     let (size, counts) = closed(&rt, live);
-    equal(&rt, (size, counts.inserts, counts.removals), (1, 1, 0));
+    equal(
+        &rt,
+        (size, counts.rounds, counts.inserts, counts.removals),
+        (1, 1, 1, 0),
+    );
     equal(&rt, (counts.handles, counts.missing), (4, 3));
     Ok(())
 }

@@ -2,8 +2,8 @@
 
 use super::opening::{Hand, Trie, insert, opened_with, remove};
 use super::rolling::next;
-use super::steps::{closed, has, last, looked, over, renewed};
-use crate::assertions::{equal, holds};
+use super::steps::{ended, has, last, looked, over, renewed};
+use crate::assertions::equal;
 use aug_model::KeySet;
 use aug_trie::BeginError;
 use std::process::Abort;
@@ -65,8 +65,6 @@ fn a_thousand_rounds_in_one_table_keep_the_members(rt: HostRuntime) -> Result<()
     }
     drop(hand);
     drop(idle);
-    let (size, counts) = closed(r, live);
-    equal(r, size, model.size());
-    holds(r, counts.rounds > 1000);
+    equal(r, ended(r, live), (model.size(), 1001));
     Ok(())
 }

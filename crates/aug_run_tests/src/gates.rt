@@ -6,10 +6,12 @@ use aug_run::Gate;
 use aug_script::Reply;
 use std::alloc::{AllocError, Global};
 use std::process::Abort;
+use std::sync::Wait;
 use std::sync::atomic::AtomicU64;
 use std::sync::atomic::Ordering::SeqCst;
 use std::test::Fail;
 use std::thread;
+use std::thread::Threads;
 
 // A count that lanes raise and wait for, for at most `LOOKS` looks. Once one lane has waited in vain, none waits any more.
 #[derive(Drop)]
@@ -130,14 +132,49 @@ impl Gate for Told {
     }
 }
 
+// Each verb of a lane.
+const VERBS: [&str; 12] = [
+    "insert,5",
+    "put,5,7",
+    "remove,5",
+    "look",
+    "has,5",
+    "weight,5",
+    "size",
+    "rank,5",
+    "select,0",
+    "before,5",
+    "after,5",
+    "range,0,16",
+];
+
+// A row for each of 64 lanes, the first of them with the verb of this number, and each other one with the verb after that of the one before it.
+fn row_of_each_lane(text: &mut String, first: u32) -> Result<(), AllocError> {
+    for lane in 0..64u32 {
+        let number = lane.wrapping_add(first) % 12;
+        writeln!(text, "{lane},{}", VERBS[number as usize])?;
+    }
+    Ok(())
+}
+
+// A round of one row for each of 64 lanes, and one of two, so that each lane has rows of three verbs, and each verb has rows of many lanes.
+fn verbs_in_two_rounds(alloc: Global) -> Result<String, AllocError> {
+    let mut text = String::new(alloc);
+    row_of_each_lane(&mut text, 0)?;
+    writeln!(text, "*,end")?;
+    row_of_each_lane(&mut text, 4)?;
+    row_of_each_lane(&mut text, 8)?;
+    Ok(text)
+}
+
 #[test]
 fn the_gate_is_told_of_each_lane(rt: HostRuntime) -> Result<(), Fail> {
     let gate = Told::of_no_row(rt.alloc(), 64)?;
-    let text = looks_in_turn(rt.alloc(), 64)?;
+    let text = verbs_in_two_rounds(rt.alloc())?;
     let run = report_of(&rt, rt.alloc(), 64, text.as_str(), &gate)?;
     holds(&rt, run.is_some());
-    // The rows of lane 0 are 1, 65 and 129, and a lane's are one more each than those of the lane before it.
-    let mut calls = 2_003_130_131_258_259u64;
+    // The rows of lane 0 are 1, 66 and 130, and a lane's are one more each than those of the lane before it.
+    let mut calls = 2_003_132_133_260_261u64;
     for lane in 0..64u32 {
         equal(&rt, (lane, gate.of_lane(lane)), (lane, Some(calls)));
         calls = calls.wrapping_add(2_002_002_002_002_002);
@@ -173,25 +210,40 @@ impl Gate for InOrder {
     }
 }
 
-#[test]
-fn a_row_runs_between_its_two_calls(rt: HostRuntime) -> Result<(), Fail> {
+// Lane 0 looks and has this row, and lane 1 this one, which waits for it, and then asks for key 5 before and after a look. All rows come to these
+// replies.
+fn assert_waits<R: Threads + Wait + Abort>(
+    rt: &R,
+    alloc: Global,
+    first: &str,
+    second: &str,
+    expected: [Reply; 6],
+) -> Result<(), AllocError> {
     let gate = InOrder {
         meeting: Meeting::new(),
     };
-    let text = "0,look\n0,insert,5\n1,insert,5\n1,has,5\n1,look\n1,has,5\n";
-    let run = report_of(&rt, rt.alloc(), 2, text, &gate)?;
-    let report = run.expect(&rt, "a report");
-    equal(&rt, gate.meeting.missed(), 0);
-    // Lane 1 took its first snapshot before lane 0 put the key in.
-    let expected = [
-        Reply::Looked,
-        Reply::New,
-        Reply::Old,
-        Reply::No,
-        Reply::Looked,
-        Reply::Yes,
-    ];
+    let text = format!(in alloc; "0,look\n0,{first}\n1,{second}\n1,has,5\n1,look\n1,has,5\n")?;
+    let run = report_of(rt, alloc, 2, text.as_str(), &gate)?;
+    let report = run.expect(rt, "a report");
+    equal(rt, gate.meeting.missed(), 0);
     let replies = report.rows.as_slice().iter().map(|line| line.1);
-    holds(&rt, replies.eq(expected));
+    holds(rt, replies.eq(expected));
+    Ok(())
+}
+
+// Lane 1 took its first snapshot before lane 0 put the key in.
+#[test]
+fn a_row_runs_between_its_two_calls(rt: HostRuntime) -> Result<(), Fail> {
+    use Reply::{Gone, Looked, New, No, Old, Set, Yes};
+    let (r, alloc) = (&rt, rt.alloc());
+    let (insert, remove) = ("insert,5", "remove,5");
+    let known = [Looked, New, Old, No, Looked, Yes];
+    assert_waits(r, alloc, insert, insert, known)?;
+    let set = [Looked, New, Set, No, Looked, Yes];
+    assert_waits(r, alloc, "put,5,7", "put,5,8", set)?;
+    let gone = [Looked, New, Gone, No, Looked, No];
+    assert_waits(r, alloc, insert, remove, gone)?;
+    let seen = [Looked, New, Looked, Yes, Looked, Yes];
+    assert_waits(r, alloc, insert, "look", seen)?;
     Ok(())
 }

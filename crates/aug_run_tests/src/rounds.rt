@@ -39,7 +39,7 @@ fn run_text<R: Threads + Wait, G: Gate>(
     Ok(Some((ended, reports)))
 }
 
-// The one report of a script of one round.
+// The report of the last round of a script.
 pub(crate) fn report_of<R: Threads + Wait, G: Gate>(
     rt: &R,
     alloc: Global,

@@ -1,0 +1,156 @@
+//! A thread that waits for a lock, and nobody but the one that has it to wake it.
+ghost use Rattle.std.specs.Prelude.{◌≡◌, None};
+ghost use Rattle.ruled_lock.specs.Locks.{Holds, HoldsNothing};
+
+use crate::assertions::equal;
+use atomic_table::Split;
+use ruled_lock::{Lesson, LockRule, Outcome, Pass, RuledLock};
+use std::alloc::AllocError;
+use std::sync::Wait;
+use std::sync::atomic::AtomicU64;
+use std::sync::atomic::Ordering::SeqCst;
+use std::thread;
+use std::time::{Clock, Duration};
+
+// A rule that says nothing.
+struct Anything;
+
+impl LockRule<u64, ()> for Anything {
+    ghost holds = { λ _ _. Unit {0} };
+
+    ghost first = { tt };
+}
+
+impl Lesson<u64, ()> for Anything {
+    ghost fact = { λ _ _. Unit {0} };
+}
+
+impl Outcome<u64, ()> for Anything {
+    ghost then = { λ _ _ _ _. Unit {0} };
+}
+
+impl Split<()> for Anything {
+    ghost left = { λ v. v };
+
+    ghost right = { λ v. v };
+}
+
+// A count behind a lock.
+type Lock = RuledLock<u64, (), Anything>;
+
+// A pass of the lock.
+#[derive(Drop)]
+struct End<'l> {
+    lock: &'l Lock,
+    pass: Pass<u64, ()>,
+    ghost of: { pass.table_id ≡ lock.now.table.shared.table_id },
+    ghost free: { HoldsNothing pass },
+}
+
+// The same while it has the count.
+struct Held<'l> {
+    lock: &'l Lock,
+    pass: Pass<u64, ()>,
+    count: u64,
+    ghost of: { pass.table_id ≡ lock.now.table.shared.table_id },
+    ghost holds: { Holds count None pass },
+}
+
+impl<'l> End<'l> {
+    // Takes the count, and waits while the other end has it.
+    fn take<R: Wait>(self, rt: &R) -> Held<'l> {
+        let End { lock, mut pass } = self;
+        let count = lock.take::<Anything, R>(rt, &mut pass);
+        Held { lock, pass, count }
+    }
+}
+
+impl<'l> Held<'l> {
+    // Puts the count back, with one more.
+    fn put(self) -> End<'l> {
+        let Held {
+            lock,
+            mut pass,
+            count,
+        } = self;
+        lock.put::<Anything>(&mut pass, count.wrapping_add(1));
+        End { lock, pass }
+    }
+}
+
+// The two ends of a lock, of its first pass.
+fn ends<'l>(lock: &'l Lock, first: Pass<u64, ()>) -> (End<'l>, End<'l>)
+    requires of { first.table_id ≡ lock.now.table.shared.table_id }
+    requires free { HoldsNothing first }
+{
+    let mut pass = first;
+    let other = lock.another::<Anything>(&mut pass);
+    (End { lock, pass }, End { lock, pass: other })
+}
+
+// How far two threads have come, each of which waits for the other.
+#[derive(Drop)]
+struct Turns {
+    count: AtomicU64,
+}
+
+impl Turns {
+    fn raise(&self) {
+        self.count.fetch_add(1, SeqCst);
+    }
+
+    fn wait_for<R: Wait>(&self, rt: &R, count: u64) {
+        for _ in rt.forever() {
+            if self.count.load(SeqCst) >= count {
+                return;
+            }
+            thread::yield_now();
+        }
+    }
+}
+
+const TIMES: u64 = 1_000;
+
+// Takes the lock, puts the count back once the other thread waits and had time to fall asleep, and takes the lock again only once that one has
+// had it. The count at the end.
+fn lends<R: Wait + Clock>(rt: &R, end: End<'_>, turns: &Turns) -> u64 {
+    let mut end = end;
+    for i in 0..TIMES {
+        let held = end.take(rt);
+        turns.raise();
+        turns.wait_for(rt, 3 * i + 2);
+        thread::sleep(rt, Duration::from_micros(200));
+        end = held.put();
+        turns.wait_for(rt, 3 * i + 3);
+    }
+    let held = end.take(rt);
+    let count = held.count;
+    drop(held.put());
+    count
+}
+
+// Takes the lock each time that the other thread has it.
+fn borrows<R: Wait>(rt: &R, end: End<'_>, turns: &Turns) {
+    let mut end = end;
+    for i in 0..TIMES {
+        turns.wait_for(rt, 3 * i + 1);
+        turns.raise();
+        end = end.take(rt).put();
+        turns.raise();
+    }
+}
+
+#[test]
+fn a_thread_that_waits_is_woken_1000_times_by_one_release(
+    rt: HostRuntime,
+) -> Result<(), AllocError> {
+    let (lock, first): (Lock, Pass<u64, ()>) = RuledLock::new(rt.alloc(), 0)?;
+    let (one, other) = ends(&lock, first);
+    let turns = Turns {
+        count: AtomicU64::new(0),
+    };
+    let (r, t) = (&rt, &turns);
+    let (count, ()) = thread::join(r, move || lends(r, one, t), move || borrows(r, other, t));
+    equal(r, count, 2 * TIMES);
+    Ok(())
+}

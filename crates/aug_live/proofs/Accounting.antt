@@ -3,6 +3,7 @@ use Rattle.std.proofs.Common.{◌≡◌, ℕ, ◌+◌, ◌<◌, ◌≤◌, List,
 use Rattle.std.specs.Prelude.{All, not, map, flat_map, reverse}
 use Rattle.std.specs.List.{sum_by}
 use Rattle.std.proofs.lemmas.List.{reverse-append}
+use Rattle.std.proofs.lemmas.List.Filters.{length-filter_both}
 use Rattle.std.proofs.lemmas.List.Sums.{sum_by-cons}
 use Rattle.std.proofs.lemmas.List.Elements.{filter-append, All-append, All-cons, All-head, All-nil, All-tail}
 use Rattle.aug_core.specs.Prefixes.{IsPrefix}
@@ -252,3 +253,22 @@ module _ (bits : ℕ) (counts : LiveCounts) (crew last : CrewFacts) (ports back 
 
   pub missing_closed : counts.missing ≡ sum_by (λ (lane : LaneKnown). length (lost_of lane.done)) (map closed_lane es)
   missing_closed = a.missing ∙ ap (sum_by missing_of) (sym kept) ∙ sym (sum_same missing_of (λ (lane : LaneKnown). length (lost_of lane.done)) kept_of closed_lane es (λ e. lost_count e.known.whose e.known.done _))
+
+-- the handles of lanes are those that are done and at most one more each, and no more are missing
+one_out : (w : Whose) → out_of w ≤ 1
+one_out Alone = omega arith
+one_out Roller = omega arith
+one_out Free = omega arith
+one_out Idle = omega arith
+one_out Handle = omega arith
+one_out Gone = omega arith
+
+pub few_handles : (lanes : List EndFacts) → sum_by handles_of (map kept_of lanes) ≤ sum_by (λ (l : LaneKnown). length l.done) (map lane_by lanes) + length (map lane_by lanes)
+few_handles [] = omega arith
+few_handles (x ∷ xs) =
+    let r = few_handles xs in let e = sum_by-cons handles_of (kept_of x) (map kept_of xs) in let f = sum_by-cons (λ (l : LaneKnown). length l.done) (lane_by x) (map lane_by xs) in let o = one_out x.known.whose in omega arith
+
+pub few_missing : (lanes : List EndFacts) → sum_by missing_of lanes ≤ sum_by handles_of lanes
+few_missing [] = omega arith
+few_missing (x ∷ xs) =
+    let r = few_missing xs in let e = sum_by-cons missing_of x xs in let f = sum_by-cons handles_of x xs in let l = length-filter_both (λ (d : Done). d.0) (λ (d : Done). not d.0) (λ d. refl) x.known.done in omega arith

@@ -178,6 +178,10 @@ pub ok_map : {T E : Type 0} (P Q : T → Type 0) (r : Result T E) → ((t : T) �
 ok_map P Q (Ok t) f p = f t p
 ok_map P Q (Err e) f p = p
 
+pub err_map : {T E : Type 0} (P Q : E → Type 0) (r : Result T E) → ((e : E) → P e → Q e) → IfErr r P → IfErr r Q
+err_map P Q (Ok t) f p = p
+err_map P Q (Err e) f p = f e p
+
 -- a lane whose pass made an update
 pub works_here : (updates steps : ℕ) (does : PassFacts → PassFacts → Type 0) (a : HandleFacts) (b : PassFacts) → does a.half b → GoesOn updates steps a.half b → WorksHere updates does a (record a { half = b })
 works_here updates steps does a b did on = record { same_era = refl; done = did; steps = steps; goes_on = on }

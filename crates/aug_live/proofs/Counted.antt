@@ -1,7 +1,7 @@
 -- The counts of rounds, one round after another; and what is known of a trie, as it goes on.
 use Rattle.std.specs.Prelude.{Result, Ok, Err, IfOk, flat_map}
 use Rattle.std.specs.List.{sum_by}
-use Rattle.std.proofs.Common.{◌≡◌, ℕ, ◌+◌, ◌<◌, ◌≤◌, List, [], ◌∷◌, ◌++◌, length, length-append, All, sym, refl, ap, ◌∙◌, subst, arith}
+use Rattle.std.proofs.Common.{◌≡◌, ◌⊎◌, ℕ, ◌+◌, ◌^◌, ◌<◌, ◌≤◌, List, [], ◌∷◌, ◌++◌, length, length-append, All, sym, refl, ap, ◌∙◌, subst, arith}
 use Rattle.std.proofs.lemmas.List.{append-nil}
 use Rattle.aug_core.specs.Cuts.{opening_cut}
 use Rattle.aug_core.specs.Prefixes.{IsPrefix}
@@ -17,6 +17,7 @@ use Rattle.aug_trie.specs.Tallies.{Tallies, Weighs}
 use Rattle.aug_trie.proofs.Chaining.{begins_alike, begins_longer, part_refl, part_trans}
 use Rattle.aug_live.specs.Carrying.{Leads}
 use Rattle.aug_live.specs.Ledgers.{Made, made_in}
+use Rattle.aug_live.specs.LiveErrors.{IsExhausted}
 use Rattle.aug_live.specs.LiveTries.{TrieFacts, KnowsMore, AreChangesOf, AreCountsOf, AreMadeIn, CameBack, Closes, LaneKnown, LanesGoOn, ids_of, in_all, lost_of, made_through}
 use Rattle.aug_live.specs.inside.Desks.{TakesEnd}
 use Rattle.aug_live.specs.inside.SameChanges.{SameChanges}
@@ -166,3 +167,8 @@ no_longer early late part = let e = begins_short early.past early.now (chapters 
 pub rolls_on : {X E : Type 0} (r : Result X E) (own t t' new : TrieFacts) → KnowsMore own t → new ≡ t' → IfOk r (λ _. length t.rounds.past < length t'.rounds.past) → IfOk r (λ _. length own.rounds.past < length new.rounds.past)
 rolls_on (Ok x) own t t' new more is rolls = let e = no_longer own.rounds t.rounds more.part in let f = ap (λ (z : TrieFacts). length z.rounds.past) is in omega (arith, e, f, rolls)
 rolls_on (Err x) own t t' new more is rolls = rolls
+
+-- the counts of a trie on the desk might not go further
+pub exhausted_so : (t : TrieFacts) (round : RoundFacts) (crew : CrewFacts) (xs : List LaneKnown) (made : List Made) (inserts removals : ℕ) → record { table = round.table; bits = round.bits; lanes = xs; rounds = crew_chain crew } ≡ t
+    → AreCountsOf round.bits crew.past made inserts removals → (2 ^ 64 ≤ length crew.past + 2) ⊎ ((2 ^ 64 ≤ inserts + 2 ^ 33) ⊎ (2 ^ 64 ≤ removals + 2 ^ 33)) → IsExhausted t
+exhausted_so t round crew xs made inserts removals is counted many = subst IsExhausted is record { made = made; inserts = inserts; removals = removals; counted = counted; many = many }

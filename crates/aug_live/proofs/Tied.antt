@@ -348,13 +348,13 @@ forks id v first begun lane views t at =
           (λ p. ⊎_elim (λ q. let z = pair i x p.0 p.1 in subst (λ (w : KnownFacts). Beside x w) q.1 (at_l x z.0 z.1).0) (λ q. t.pairs i j x y apart p.1 q.1) (inner j y k))
           (inner i x h))
           (λ k. ⊎_elim
-          (λ p. subst (λ (w : KnownFacts × KnownFacts). Beside w.0 w.1) (λ n. (p.1 n, k.1 n)) l_r)
+          (λ p. subst (λ (w : KnownFacts). Beside w y) p.1 (subst (λ (w : KnownFacts). Beside l w) k.1 l_r))
           (λ p. let z = pair i x p.0 p.1 in subst (λ (w : KnownFacts). Beside x w) k.1 (at_r x z.0 z.1).0)
           (inner i x h))
           (cases j y b))
           (λ h. ⊎_elim
           (λ k. ⊎_elim
-          (λ q. subst (λ (w : KnownFacts × KnownFacts). Beside w.0 w.1) (λ n. (h.1 n, q.1 n)) r_l)
+          (λ q. subst (λ (w : KnownFacts). Beside w y) h.1 (subst (λ (w : KnownFacts). Beside r w) q.1 r_l))
           (λ q. let z = pair j y q.0 q.1 in subst (λ (w : KnownFacts). Beside w y) h.1 (at_r y z.0 z.1).1)
           (inner j y k))
           (λ k. absurd (apart (h.0 ∙ sym k.0)))

@@ -6,8 +6,13 @@ use mathlib.Core.Option.{some, some-injective, some-ne-none}
 use lib.ListN.{get_elem?}
 use Rattle.atomic_table.proofs.Lists.{at_set}
 use Rattle.ruled_lock.specs.Locks.{Learns, Forks}
-use Rattle.aug_live.specs.LiveTries.{TrieFacts, KnowsMore}
+use Rattle.aug_live.specs.LiveTries.{TrieFacts, KnowsMore, ids_of}
+use Rattle.aug_live.specs.LiveErrors.{RefusesHandle, RefusesRoll}
+use Rattle.aug_live.specs.declared.error.LiveError.{LiveError}
+use Rattle.aug_live.specs.declared.error.LiveError.TheVariants.{Closed, Exhausted, Replaced, NoLane}
 use Rattle.aug_live.specs.declared.desk_end.Desk.{Desk}
+use Rattle.atomic_table.specs.Seated.{TableId}
+use Rattle.aug_live.specs.inside.LaneKnowledge.{EndFacts, handle_by}
 use Rattle.aug_live.specs.inside.DeskKnowledge.{IsTold, KnowsDesk, OnDesk, is_told, no_trie, told_by}
 use Rattle.aug_live.proofs.Counted.{more_self, more_on}
 use Rattle.aug_live.proofs.Tied.{snoc_at}
@@ -101,3 +106,15 @@ pub some_more : (own mine w t t' : TrieFacts) (o : Option TrieFacts) → mine �
 some_more own mine w t t' o is there knows more so =
     let before : KnowsMore own t = subst (λ (z : TrieFacts). KnowsMore z t) is (subst (λ (z : Option TrieFacts). IfSome z (KnowsMore mine)) there knows) in
     subst (KnowsMore own) (sym so) (more_on own t t' before more)
+
+-- a handle has the lanes of its trie
+pub lanes_by : (lanes : List TableId) (o : Option EndFacts) → (handle_by lanes o).lanes ≡ lanes
+lanes_by lanes None = refl
+lanes_by lanes (Some e) = refl
+
+-- what an end of the desk is refused, its handle is
+pub handle_refused : (t : TrieFacts) (e : LiveError) → RefusesRoll t e → RefusesHandle (ids_of t) e
+handle_refused t Closed r = tt
+handle_refused t Exhausted r = (t, refl, r)
+handle_refused t Replaced r = tt
+handle_refused t NoLane r = r

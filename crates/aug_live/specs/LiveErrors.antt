@@ -1,5 +1,9 @@
--- Why an update or a look was not made.
-use Rattle.std.specs.Prelude.{ℕ, List, codes}
+-- Why an update or a look was not made, and which calls answer that.
+use Rattle.std.specs.Prelude.{◌≡◌, ◌⊎◌, ℕ, ◌+◌, ◌^◌, ◌≤◌, List, length, codes}
+use Rattle.std.specs.List.{sum_by}
+use Rattle.atomic_table.specs.Seated.{TableId}
+use Rattle.aug_live.specs.Ledgers.{Made}
+use Rattle.aug_live.specs.LiveTries.{AreCountsOf, LaneKnown, TrieFacts, ids_of}
 use Rattle.aug_live.specs.declared.error.LiveError.{LiveError}
 use Rattle.aug_live.specs.declared.error.LiveError.TheVariants.{Closed, Exhausted, Replaced, NoLane}
 
@@ -9,3 +13,32 @@ live_text Closed = codes "Closed"
 live_text Exhausted = codes "Exhausted"
 live_text Replaced = codes "Replaced"
 live_text NoLane = codes "NoLane"
+
+-- the rounds of a trie that are over are as many as can be counted, or nearly as many keys were put in, or taken out, in them, by what was made in them
+pub record IsExhausted (trie : TrieFacts) : Type 0 where
+  pub made : List Made
+  pub inserts : ℕ
+  pub removals : ℕ
+  pub counted : AreCountsOf trie.bits trie.rounds.past made inserts removals
+  pub many : (2 ^ 64 ≤ length trie.rounds.past + 2) ⊎ ((2 ^ 64 ≤ inserts + 2 ^ 33) ⊎ (2 ^ 64 ≤ removals + 2 ^ 33))
+
+-- why a trie's round does not roll over
+abbrev pub RefusesRoll : TrieFacts → LiveError → Type 0
+RefusesRoll trie Closed = Unit {0}
+RefusesRoll trie Exhausted = IsExhausted trie
+RefusesRoll trie Replaced = ⊥
+RefusesRoll trie NoLane = ⊥
+
+-- why a trie gives no lane of this number to a new handle
+abbrev pub RefusesLane : ℕ → TrieFacts → LiveError → Type 0
+RefusesLane lane trie Closed = Unit {0}
+RefusesLane lane trie Exhausted = 2 ^ 64 ≤ sum_by (λ (l : LaneKnown). length l.done) trie.lanes + length trie.lanes + 1
+RefusesLane lane trie Replaced = ⊥
+RefusesLane lane trie NoLane = length trie.lanes ≤ lane
+
+-- why a call of a handle of these lanes is refused
+abbrev pub RefusesHandle : List TableId → LiveError → Type 0
+RefusesHandle lanes Closed = Unit {0}
+RefusesHandle lanes Exhausted = (trie : TrieFacts) × (ids_of trie ≡ lanes) × IsExhausted trie
+RefusesHandle lanes Replaced = Unit {0}
+RefusesHandle lanes NoLane = ⊥

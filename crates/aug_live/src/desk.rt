@@ -1,10 +1,11 @@
 //! The desk: the round that goes on, and the roller's ends of all lanes.
-ghost use Rattle.std.specs.Prelude.{◌≡◌, ◌↔◌, ◌+◌, ◌<◌, ◌≤◌, IfOk, IfErr, IsErrOf, length};
+ghost use Rattle.std.specs.Prelude.{◌≡◌, ◌+◌, ◌<◌, ◌≤◌, IfOk, IfErr, IsErr, length};
 ghost use mathlib.Core.Option.{some};
 ghost use lib.ListN.{get_elem?};
 ghost use Rattle.atomic_table.specs.Seated.{TableId};
 ghost use Rattle.aug_trie.specs.Note.{chain_of_note};
 ghost use Rattle.aug_trie.specs.Chains.{IsPart};
+ghost use Rattle.aug_live.specs.LiveErrors.{RefusesLane, RefusesRoll};
 ghost use Rattle.aug_live.specs.LiveTries.{Closes, KnowsMore, ids_of};
 ghost use Rattle.aug_live.specs.inside.Desks.{GivesLane, TakesEnd};
 ghost use Rattle.aug_live.specs.declared.known.Whose.TheVariants.{Handle};
@@ -85,6 +86,7 @@ impl<A: Monoid, B: Monoid> Working<A, B> {
     pub(crate) fn roll<R: Wait>(self, rt: &R) -> (Working<A, B>, Result<(), LiveError>)
         ensures more { KnowsMore self result.0 }
         ensures rolls { IfOk result.1 (λ _. length self.rounds.past < length result.0.rounds.past) }
+        ensures refused { IfErr result.1 (RefusesRoll result.0) }
     {
         let counts = self.counts;
         if counts.rounds == u64::MAX
@@ -133,7 +135,8 @@ impl<A: Monoid, B: Monoid> Working<A, B> {
         era: u64,
         lane: usize,
     ) -> (Working<A, B>, Result<(), LiveError>)
-        ensures { KnowsMore self result.0 }
+        ensures more { KnowsMore self result.0 }
+        ensures refused { IfErr result.1 (RefusesRoll result.0) }
     {
         let mut working = self;
         if working.goes_on(rt, era, lane) {
@@ -217,7 +220,8 @@ impl<A: Monoid, B: Monoid> Working<A, B> {
     ) -> Result<(End<A, B>, u32, u64), LiveError>
         ensures more { KnowsMore self.old self.new }
         ensures handle { IfOk result (λ h. GivesLane lane self.new h.0 h.1 h.2) }
-        ensures no_lane { IsErrOf result LiveError.NoLane ↔ (length self.old.lanes ≤ lane) }
+        ensures refused { IfErr result (RefusesLane lane self.new) }
+        ensures past { length self.old.lanes ≤ lane → IsErr result }
     {
         if lane >= self.ports.len() {
             return Err(LiveError::NoLane);

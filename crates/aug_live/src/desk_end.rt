@@ -1,10 +1,11 @@
 //! The desk, and the ends of its lock.
-ghost use Rattle.std.specs.Prelude.{◌≡◌, ◌+◌, ◌<◌, ◌≤◌, IfOk, IfErr, IsErr, IsErrOf, length};
+ghost use Rattle.std.specs.Prelude.{◌≡◌, ◌+◌, ◌<◌, ◌≤◌, IfOk, IfErr, IsErr, length};
 ghost use mathlib.Core.Option.{some};
 ghost use lib.ListN.{get_elem?};
 ghost use Rattle.atomic_table.specs.Seated.{TableId};
 ghost use Rattle.aug_trie.specs.Note.{chain_of_note};
 ghost use Rattle.aug_trie.specs.Chains.{IsPart};
+ghost use Rattle.aug_live.specs.LiveErrors.{RefusesLane, RefusesRoll};
 ghost use Rattle.aug_live.specs.LiveTries.{CameBack, Closes, KnowsMore, ids_of};
 ghost use Rattle.aug_live.specs.inside.Desks.{GivesLane};
 ghost use Rattle.aug_live.specs.declared.known.Whose.TheVariants.{Handle};
@@ -153,7 +154,8 @@ impl<A: Monoid, B: Monoid> DeskEnd<A, B> {
 
     /// Sees to it that a lane which was spent in this era has a pass, as `Working::past` does.
     pub(crate) fn past<R: Wait>(&mut self, rt: &R, era: u64, lane: usize) -> Result<(), LiveError>
-        ensures { KnowsMore self.old self.new }
+        ensures more { KnowsMore self.old self.new }
+        ensures refused { IfErr result (RefusesRoll self.new) }
     {
         let Desk { working, opened } = self.lock.take::<Read, R>(rt, &mut self.pass);
         let Some(working) = working else {
@@ -177,6 +179,7 @@ impl<A: Monoid, B: Monoid> DeskEnd<A, B> {
     pub(crate) fn roll<R: Wait>(&mut self, rt: &R) -> Result<(), LiveError>
         ensures more { KnowsMore self.old self.new }
         ensures rolls { IfOk result (λ _. length self.old.rounds.past < length self.new.rounds.past) }
+        ensures refused { IfErr result (RefusesRoll self.new) }
     {
         let Desk { working, opened } = self.lock.take::<Read, R>(rt, &mut self.pass);
         let Some(working) = working else {
@@ -242,7 +245,7 @@ impl<A: Monoid, B: Monoid> DeskEnd<A, B> {
     ) -> Result<(End<A, B>, u32, u64), LiveError>
         ensures more { KnowsMore self.old self.new }
         ensures handle { IfOk result (λ h. GivesLane lane self.new h.0 h.1 h.2) }
-        ensures no_lane { IsErrOf result LiveError.NoLane → length self.old.lanes ≤ lane }
+        ensures refused { IfErr result (RefusesLane lane self.new) }
         ensures past { length self.old.lanes ≤ lane → IsErr result }
     {
         let Desk { working, opened } = self.lock.take::<Read, R>(rt, &mut self.pass);

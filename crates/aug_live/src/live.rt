@@ -4,6 +4,7 @@ ghost use Rattle.std.specs.Arc.{arc_value};
 ghost use Rattle.aug_core.specs.Layout.{IsRefused, IsLayout, IsWithin, IsOutside};
 ghost use Rattle.aug_trie.specs.Chains.{IsPart};
 ghost use Rattle.aug_trie.specs.Pass.{chain_of};
+ghost use Rattle.aug_live.specs.LiveErrors.{RefusesLane, RefusesRoll};
 ghost use Rattle.aug_live.specs.LiveHandles.{Follows, IsNew};
 ghost use Rattle.aug_live.specs.LiveTries.{CameBack, Closes, IsHandleOf, IsOpenedTrie, KnowsMore, ids_of};
 ghost use Rattle.aug_live.specs.Plans.{Fits, least_plan};
@@ -151,6 +152,7 @@ impl<A: Monoid, B: Monoid> Live<A, B> {
     pub fn roll<R: Wait>(&mut self, rt: &R) -> Result<(), LiveError>
         ensures more { KnowsMore self.old self.new }
         ensures rolls { IfOk result (λ _. length self.old.rounds.past < length self.new.rounds.past) }
+        ensures refused { IfErr result (RefusesRoll self.new) }
     {
         self.desk.roll(rt)
     }
@@ -165,7 +167,7 @@ impl<A: Monoid, B: Monoid> Live<A, B> {
         ensures more { KnowsMore self.old self.new }
         ensures bits { IfOk result (λ h. h.half.round.bits ≤ 16) }
         ensures of_trie { IfOk result (IsHandleOf self.new) }
-        ensures no_lane { IsErrOf result LiveError.NoLane → length self.old.lanes ≤ lane }
+        ensures refused { IfErr result (RefusesLane lane self.new) }
         ensures past { length self.old.lanes ≤ lane → IsErr result }
     {
         let lane = lane as usize;

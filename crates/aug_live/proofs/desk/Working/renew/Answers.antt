@@ -1,10 +1,12 @@
-use Rattle.std.proofs.Common.{◌≡◌, ◌+◌, ◌<◌, ◌∙◌, ℕ, List, ap, length, refl, sym, subst, vec_len, arith}
+use Rattle.std.proofs.Common.{◌≡◌, ◌+◌, ◌<◌, ◌≤◌, ◌^◌, map, ◌∙◌, ℕ, List, ap, length, refl, sym, subst, vec_len, arith}
+use Rattle.std.specs.List.{sum_by}
 use Rattle.std.specs.Arc.{arc_value}
 use Rattle.aug_trie.specs.Chains.{Chapter}
 use Rattle.aug_trie.specs.Crew.{CrewFacts, crew_chain}
 use Rattle.aug_trie.specs.Round.{RoundFacts}
 use Rattle.aug_live.specs.inside.LaneKnowledge.{EndFacts, lane_by, rounds_at}
-use Rattle.aug_live.specs.inside.Rolls.{IsHandleEnd, IsOf, IsPort, rounds_in}
+use Rattle.aug_live.specs.inside.Rolls.{IsHandleEnd, IsOf, IsPort, kept_of, rounds_in}
+use Rattle.aug_live.proofs.Accounting.{few_handles, few_missing}
 use Rattle.aug_live.proofs.Counted.{desk_on, more_self}
 use Rattle.aug_live.proofs.Desks.{kept_on}
 use mathlib.Core.Option.{some}
@@ -12,11 +14,12 @@ use Rattle.atomic_table.proofs.Lists.{at_map}
 use Rattle.aug_trie.specs.Chains.{IsPart}
 use Rattle.aug_trie.specs.Pass.{chain_of}
 use Rattle.aug_live.specs.LiveHandles.{HandleFacts}
-use Rattle.aug_live.specs.LiveTries.{LaneKnown}
+use Rattle.aug_live.specs.LiveTries.{LaneKnown, TrieFacts}
 use Rattle.aug_trie.proofs.Chaining.{part_refl}
 use Rattle.aug_live.proofs.Dealing.{gets_counts, gets_lane}
 use Rattle.aug_live.proofs.OneLane.{all_ports, handles_on, lane_is, lanes_on, number_low}
 use Rattle.aug_live.proofs.desk.Working.renew.Goals as goal
+use Rattle.aug_live.proofs.desk.Working.renew.Goals.{then-self-via-then-self, then-self-via-else-self+then-self-2}
 
 pub invariant_of-self : goal.invariant_of-self
 invariant_of-self g c =
@@ -58,3 +61,9 @@ returns-clause-more g c = let w = c.self.inside in let old = c.remove.result in 
     desk_on _ (arc_value w.round) (arc_value w.round) w.crew c.renew-port.new.crew _ _ c.self.view_is refl refl
     (lanes_on w.ports.items _ _ c.args.lane old c.renew-port.result.0 low c.remove.ensures.value c.remove.ensures.items c.in-Ok.ensures.items (gets_lane _ old c.renew-port.result.0 (subst (λ (e : EndFacts). IsPort e.known.whose) (sym c.remove.ensures.value) (c.self.invariant.0.of_round c.args.lane old low).whose) c.renew-port.ensures.gets))
     (subst (λ (z : CrewFacts). IsPart (crew_chain w.crew) (crew_chain z)) (sym c.renew-port.ensures.same) (part_refl (crew_chain w.crew)))
+
+pub returns-then-self-clause-refused : goal.returns-then-self-clause-refused
+returns-then-self-clause-refused g c = let w = c.self.inside in let was = c.self.invariant.0.accounts in
+    let handles = was.handles in let missing = was.missing in let few = few_handles w.ports.items in let lost = few_missing (map kept_of w.ports.items) in
+    subst (λ (z : TrieFacts). 2 ^ 64 ≤ sum_by (λ (l : LaneKnown). length l.done) z.lanes + length z.lanes + 1) c.self.view_is
+    (elim c.then-self.branch [ then-self-via-then-self b ↦ omega arith | then-self-via-else-self+then-self-2 b ↦ omega arith ])

@@ -1,4 +1,4 @@
-use Rattle.std.proofs.Common.{◌∙◌, All, List, ap, subst, sym, rules}
+use Rattle.std.proofs.Common.{◌∙◌, All, List, ap, inl, inr, subst, sym, rules, arith}
 use Rattle.std.specs.Arc.{arc_value}
 use Rattle.aug_trie.specs.Chains.{Chapter}
 use Rattle.aug_trie.specs.Round.{RoundFacts}
@@ -6,11 +6,12 @@ use Rattle.aug_live.specs.Carrying.{Leads}
 use Rattle.aug_live.specs.inside.Rolls.{IsBackIn}
 use Rattle.aug_trie.specs.Crew.{crew_chain}
 use Rattle.aug_trie.proofs.Chaining.{part_trans}
-use Rattle.aug_live.proofs.Counted.{crew_part, desk_on, more_self, rolled_part}
+use Rattle.aug_live.proofs.Counted.{crew_part, desk_on, exhausted_so, more_self, rolled_part}
 use Rattle.aug_live.proofs.Desks.{rolled_on}
 use Rattle.aug_live.proofs.Lanes.{rolled_lanes}
 use Rattle.aug_live.proofs.Moving.{all_ended, next_led}
 use Rattle.aug_live.proofs.desk.Working.roll.Goals as goal
+use Rattle.aug_live.proofs.desk.Working.roll.Goals.{then-counts-via-then-counts, then-counts-via-else-counts+then-counts-gt-MOST_BEFORE, then-counts-via-else-counts+else-counts-gt-MOST_BEFORE+then-counts-gt-MOST_BEFORE-2}
 
 pub deal_all-requires-clause-ready : goal.deal_all-requires-clause-ready
 deal_all-requires-clause-ready g c =
@@ -48,3 +49,12 @@ returns-clause-more g c =
     desk_on _ round next w.crew c.deal_all.new.crew _ _ c.self.view_is (ap (λ (z : RoundFacts). z.table) rolls.round_is) (ap (λ (z : RoundFacts). z.bits) rolls.round_is) (rolled_lanes w.ports.items c.deal_all.new.ports.items c.take_all.new.back.items took.kept dealt.kept)
     (part_trans (crew_chain w.crew) (crew_chain now) (crew_chain c.deal_all.new.crew) (crew_part w.crew now took.round took.goes_on)
     (part_trans (crew_chain now) (crew_chain first) (crew_chain c.deal_all.new.crew) (rolled_part round next now first _ _ _ rolls here) (crew_part first c.deal_all.new.crew dealt.round dealt.goes_on)))
+
+pub returns-then-counts-clause-refused : goal.returns-then-counts-clause-refused
+returns-then-counts-clause-refused g c = let w = c.self.inside in let was = c.self.invariant.0 in let rounds = was.rounds_are in
+    exhausted_so c.args.self (arc_value w.round) w.crew _ _ w.counts.inserts w.counts.removals c.self.view_is was.accounts.past
+    (elim c.then-counts.branch [
+      | then-counts-via-then-counts b ↦ inl (omega arith)
+      | then-counts-via-else-counts+then-counts-gt-MOST_BEFORE b ↦ inr (inl (omega arith))
+      | then-counts-via-else-counts+else-counts-gt-MOST_BEFORE+then-counts-gt-MOST_BEFORE-2 b ↦ inr (inr (omega arith))
+    ])

@@ -1,7 +1,8 @@
 use Rattle.std.proofs.Common.{refl, subst, sym, arith}
-use Rattle.std.specs.Prelude.{Some, None, Result, IsErr}
+use Rattle.std.specs.Prelude.{Some, None, IfErr}
 use Rattle.ruled_lock.specs.Locks.{client_of}
-use Rattle.aug_live.specs.declared.error.LiveError.{LiveError}
+use Rattle.aug_live.specs.LiveErrors.{RefusesLane}
+use Rattle.aug_live.specs.LiveTries.{TrieFacts}
 use Rattle.aug_live.proofs.Counted.{more_self}
 use Rattle.aug_live.proofs.Lanes.{as_many}
 use Rattle.aug_live.proofs.Told.{keeps_on, learns, none_more, put_told, some_more, turns}
@@ -20,17 +21,15 @@ put-requires-2-clause-holds g c = let take = c.take-working in (
   λ views on at. turns _ (client_of take.new.pass) take.result (record { working = Some c.renew-renewed.new.self; opened = take.result.opened }) views on at refl (λ x k. keeps_on take.result.working c.in-Some.working c.renew-renewed.new.self x c.in-Some.is c.renew-renewed.ensures.more k),
 )
 
-pub returns-clause-no_lane : goal.returns-clause-no_lane
-returns-clause-no_lane g c = λ no. let end = c.self.inside.pass in let lies = c.in-Some.working in
-    let before = some_more _ (client_of end) lies lies lies c.take-working.result.working c.self.view_is c.in-Some.is c.take-working.ensures.fact.knows (more_self lies) refl in
-    let many = as_many c.args.self.now.lanes lies.lanes before.lanes in
-    let low = c.renew-renewed.ensures.no_lane.0 no in omega (arith, many, low)
+pub returns-clause-refused : goal.returns-clause-refused
+returns-clause-refused g c = let take = c.take-working in let now = c.renew-renewed.new.self in
+    let told = put_told take.new.pass.me.0.taken take.result (record { working = Some now; opened = take.result.opened }) (client_of take.new.pass) (client_of c.put-2.new.pass) take.ensures.holds.0 c.put-2.ensures.then in
+    subst (λ (z : TrieFacts). IfErr c.renew-renewed.result (RefusesLane c.args.lane z)) (sym told) c.renew-renewed.ensures.refused
 
 pub returns-clause-past : goal.returns-clause-past
 returns-clause-past g c = λ high. let end = c.self.inside.pass in let lies = c.in-Some.working in
     let before = some_more _ (client_of end) lies lies lies c.take-working.result.working c.self.view_is c.in-Some.is c.take-working.ensures.fact.knows (more_self lies) refl in
-    let many = as_many c.args.self.now.lanes lies.lanes before.lanes in
-    subst (λ (r : Result _ LiveError). IsErr r) (sym (c.renew-renewed.ensures.no_lane.1 (omega (arith, many, high)))) refl
+    let many = as_many c.args.self.now.lanes lies.lanes before.lanes in c.renew-renewed.ensures.past (omega (arith, many, high))
 
 pub returns-in_default-clause-more : goal.returns-in_default-clause-more
 returns-in_default-clause-more g c = let take = c.take-working in let end = c.self.inside.pass in

@@ -1,6 +1,8 @@
-use Rattle.std.proofs.Common.{refl}
-use Rattle.std.specs.Prelude.{Some, None}
+use Rattle.std.proofs.Common.{refl, subst, sym}
+use Rattle.std.specs.Prelude.{Some, None, IfErr}
 use Rattle.ruled_lock.specs.Locks.{client_of}
+use Rattle.aug_live.specs.LiveErrors.{RefusesRoll}
+use Rattle.aug_live.specs.LiveTries.{TrieFacts}
 use Rattle.aug_live.proofs.Counted.{more_self, rolls_on}
 use Rattle.aug_live.proofs.Told.{keeps_on, learns, none_more, put_told, some_more, turns}
 use Rattle.aug_live.proofs.desk_end.DeskEnd.roll.Goals as goal
@@ -33,3 +35,8 @@ returns-clause-rolls g c = let take = c.take-working in let end = c.self.inside.
     rolls_on c.roll-working.result.1 c.args.self.now c.in-Some.working c.roll-working.result.0 (client_of c.put-2.new.pass)
     (some_more _ (client_of end) c.in-Some.working c.in-Some.working c.in-Some.working take.result.working c.self.view_is c.in-Some.is take.ensures.fact.knows (more_self c.in-Some.working) refl)
     (put_told take.new.pass.me.0.taken take.result (record { working = Some c.roll-working.result.0; opened = take.result.opened }) (client_of take.new.pass) (client_of c.put-2.new.pass) take.ensures.holds.0 c.put-2.ensures.then) c.roll-working.ensures.rolls
+
+pub returns-clause-refused : goal.returns-clause-refused
+returns-clause-refused g c = let take = c.take-working in let now = c.roll-working.result.0 in
+    let told = put_told take.new.pass.me.0.taken take.result (record { working = Some now; opened = take.result.opened }) (client_of take.new.pass) (client_of c.put-2.new.pass) take.ensures.holds.0 c.put-2.ensures.then in
+    subst (λ (z : TrieFacts). IfErr c.roll-working.result.1 (RefusesRoll z)) (sym told) c.roll-working.ensures.refused

@@ -14,7 +14,7 @@ pub returns-in-Ok-clause-follows : goal.returns-in-Ok-clause-follows
 returns-in-Ok-clause-follows g c = follows_on c.args.self.now c.loop.self c.try_learn.new.self c.loop.invariant.0 c.try_learn.ensures.follows
 
 pub loop-preserved : goal.loop-preserved
-loop-preserved g c = (subst (Follows c.args.self.now) (sym c.past.ensures) (follows_on c.args.self.now c.loop.self c.try_learn.new.self c.loop.invariant.0 c.try_learn.ensures.follows), c.in-Err.ensures.kept ∙ c.loop.invariant.1)
+loop-preserved g c = (subst (Follows c.args.self.now) (sym c.past.ensures.same) (follows_on c.args.self.now c.loop.self c.try_learn.new.self c.loop.invariant.0 c.try_learn.ensures.follows), c.in-Err.ensures.kept ∙ c.loop.invariant.1)
 
 pub returns-in-Err-past-clause-follows : goal.returns-in-Err-past-clause-follows
-returns-in-Err-past-clause-follows g c = subst (Follows c.args.self.now) (sym c.past.ensures) (follows_on c.args.self.now c.loop.self c.try_learn.new.self c.loop.invariant.0 c.try_learn.ensures.follows)
+returns-in-Err-past-clause-follows g c = subst (Follows c.args.self.now) (sym c.past.ensures.same) (follows_on c.args.self.now c.loop.self c.try_learn.new.self c.loop.invariant.0 c.try_learn.ensures.follows)

@@ -12,8 +12,6 @@ mod requests;
 #[cfg(test)]
 mod steps;
 #[cfg(test)]
-mod sweeping;
-#[cfg(test)]
 mod tables;
 #[cfg(test)]
 mod working;

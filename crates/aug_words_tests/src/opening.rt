@@ -31,7 +31,7 @@ fn keys_from(alloc: Global, bits: u32, first: u32) -> Result<Vec<(u32, u32)>, Al
 
 // The words of a table of `bits` bits, `workers` workers and `updates` updates that was opened with the keys from `first` on, in a
 // layout for `members` members.
-pub(super) fn opened(
+fn opened(
     alloc: Global,
     bits: u32,
     first: u32,

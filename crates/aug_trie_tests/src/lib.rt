@@ -17,6 +17,8 @@ mod crowds;
 mod ending;
 pub mod eras;
 #[cfg(test)]
+mod granting;
+#[cfg(test)]
 mod latest;
 #[cfg(test)]
 mod listing;

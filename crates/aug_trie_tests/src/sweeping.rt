@@ -202,16 +202,16 @@ struct Filled {
     plays: &'static [Play],
 }
 
-// Puts the keys in, as long as updates are left.
-fn fill(round: &Table, crew: &mut Hands, members: u32, less: u32)
+// Puts the keys from the first up to the second in, as long as updates are left.
+pub(super) fn fill(round: &Table, crew: &mut Hands, universe: u32, keys: (u32, u32), less: u32)
     requires together { crew.old.round ≡ round.now }
-    requires universe { 65_536 ≡ 2 ^ round.now.bits }
+    requires universe { universe ≡ 2 ^ round.now.bits }
     ensures { crew.new.round ≡ round.now }
 {
     if let Ok(mut pass) = next_pass(crew, round) {
         let mut weight = u32::MAX;
-        for key in 0..members {
-            changed(&mut pass, 65_536, Put(key, weight));
+        for key in keys.0..keys.1 {
+            changed(&mut pass, universe, Put(key, weight));
             weight = weight.wrapping_sub(less);
         }
         crew.back(pass);
@@ -221,7 +221,7 @@ fn fill(round: &Table, crew: &mut Hands, members: u32, less: u32)
 // Such a trie, and the rounds over it.
 fn fill_and_play(rt: &impl Abort, alloc: Global, it: &Filled) -> Result<(), BeginError> {
     let (round, mut crew) = opened(alloc, (16, 1, it.members))?;
-    fill(&round, &mut crew, it.members, it.less);
+    fill(&round, &mut crew, 65_536, (0, it.members), it.less);
     plays(rt, alloc, round.end(crew), it.shows, it.plays)?;
     Ok(())
 }

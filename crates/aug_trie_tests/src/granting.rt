@@ -1,0 +1,248 @@
+//! Calls that take memory while there is enough: none is refused for want of it, whatever its numbers and its set are.
+ghost use Rattle.std.specs.Prelude.{◌≤◌};
+
+use super::rounds::{Numbers, Trie, Way, begun, opened};
+use super::sweeping::fill;
+use crate::assertions::{equal, holds};
+use aug_core::Layout;
+use aug_trie::{BeginError, Ended};
+use std::alloc::Global;
+use std::process::Abort;
+
+// A round in which nothing happens: the trie after it.
+fn goes_on(alloc: Global, ended: Trie, way: Way, numbers: Numbers) -> Result<Trie, BeginError> {
+    let (round, crew) = begun(alloc, ended, way, numbers)?;
+    Ok(round.end(crew))
+}
+
+// The words of a table over two members, if there is such a table.
+fn words(numbers: Numbers) -> Option<u64> {
+    let (bits, workers, updates) = numbers;
+    match Layout::new(bits, workers, updates, 2) {
+        Ok(layout) => Some(layout.words()),
+        Err(_) => None,
+    }
+}
+
+// The bits of a sweep, its first and its last number of workers, the numbers of updates, the words that a table may have, and how many rounds
+// begin. There is one over two members for each number of workers and of updates, as long as its table has no more words. The three calls
+// take turns.
+type Sweep = (u32, (u32, u32), &'static [u32], u64, u32);
+
+// Rounds of one number of updates, behind so many others: the trie after them, and how many there were.
+fn swept(
+    alloc: Global,
+    ended: Trie,
+    it: &Sweep,
+    updates: u32,
+    before: u32,
+) -> Result<(Trie, u32), BeginError> {
+    let (bits, (first, last), _, most, _) = *it;
+    let mut ended = ended;
+    let mut rounds = before;
+    for workers in first..=last {
+        let numbers = (bits, workers, updates);
+        if words(numbers).is_some_and(|words| words <= most) {
+            let way = match rounds.saturating_add(bits) % 3 {
+                0 => Way::Begin,
+                1 => Way::Wider,
+                _ => Way::OverList,
+            };
+            ended = goes_on(alloc, ended, way, numbers)?;
+            rounds = rounds.saturating_add(1);
+        }
+    }
+    Ok((ended, rounds))
+}
+
+const UPDATES: &[u32] = &[
+    1, 2, 4, 8, 16, 32, 64, 128, 256, 512, 1_024, 2_048, 4_096, 8_192, 16_384, 32_768, 65_536,
+];
+
+// How many rounds of a row begin.
+fn rounds(rt: &impl Abort, alloc: Global, it: &Sweep) -> Result<u32, BeginError> {
+    holds(rt, it.0 <= 16);
+    let mut ended = grown(rt, alloc, Ended::empty(alloc, it.0)?, it.0, 2)?;
+    let mut rounds = 0u32;
+    for updates in it.2 {
+        let (next, more) = swept(alloc, ended, it, *updates, rounds)?;
+        ended = next;
+        rounds = more;
+    }
+    equal(rt, (ended.bits(), ended.size()), (it.0, 2));
+    Ok(rounds)
+}
+
+// Compares how many rounds of each row begin.
+fn assert_begin(rt: &impl Abort, alloc: Global, rows: &[Sweep]) -> Result<(), BeginError> {
+    for it in rows {
+        equal(rt, (it.0, rounds(rt, alloc, it)?), (it.0, it.4));
+    }
+    Ok(())
+}
+
+// Each number of workers.
+const SMALL: &[Sweep] = &[
+    (1, (1, 64), UPDATES, 16_384, 482),
+    (2, (1, 64), UPDATES, 16_384, 417),
+    (3, (1, 64), UPDATES, 16_384, 384),
+    (4, (1, 64), UPDATES, 16_384, 353),
+    (5, (1, 64), UPDATES, 16_384, 334),
+    (6, (1, 64), UPDATES, 16_384, 320),
+    (7, (1, 64), UPDATES, 16_384, 302),
+    (8, (1, 64), UPDATES, 16_384, 287),
+    (9, (1, 64), UPDATES, 16_384, 273),
+    (10, (1, 64), UPDATES, 16_384, 259),
+    (11, (1, 64), UPDATES, 16_384, 232),
+    (12, (1, 64), UPDATES, 13_192, 141),
+    (13, (1, 64), UPDATES, 21_384, 134),
+    (14, (1, 64), UPDATES, 37_768, 130),
+    (15, (1, 64), &[1], 200_000, 64),
+    (16, (1, 64), &[1], 200_000, 64),
+];
+
+#[test]
+fn no_round_is_refused_for_its_workers(rt: HostRuntime) -> Result<(), BeginError> {
+    assert_begin(&rt, rt.alloc(), SMALL)
+}
+
+// Each number of updates.
+const GREAT: &[Sweep] = &[
+    (1, (1, 1), UPDATES, 6_000_000, 17),
+    (2, (1, 1), UPDATES, 6_000_000, 17),
+    (3, (1, 1), UPDATES, 6_000_000, 17),
+    (4, (1, 1), UPDATES, 6_000_000, 17),
+    (5, (1, 1), UPDATES, 6_000_000, 17),
+    (6, (1, 1), UPDATES, 6_000_000, 17),
+    (7, (1, 1), UPDATES, 6_000_000, 17),
+    (8, (1, 1), UPDATES, 6_000_000, 17),
+    (9, (1, 1), UPDATES, 1_000_000, 15),
+    (10, (1, 1), UPDATES, 1_000_000, 15),
+    (11, (1, 1), UPDATES, 1_000_000, 15),
+    (12, (1, 1), UPDATES, 1_000_000, 15),
+    (13, (1, 1), UPDATES, 1_000_000, 14),
+    (14, (1, 1), UPDATES, 1_000_000, 14),
+    (15, (1, 1), UPDATES, 1_000_000, 14),
+    (16, (1, 1), UPDATES, 1_000_000, 14),
+    (1, (64, 64), UPDATES, 500_000, 11),
+    (2, (64, 64), UPDATES, 500_000, 10),
+    (3, (64, 64), UPDATES, 500_000, 10),
+    (4, (64, 64), UPDATES, 500_000, 9),
+    (5, (64, 64), UPDATES, 500_000, 9),
+    (6, (64, 64), UPDATES, 500_000, 9),
+    (7, (64, 64), UPDATES, 500_000, 8),
+    (8, (64, 64), UPDATES, 500_000, 8),
+    (9, (64, 64), UPDATES, 500_000, 8),
+    (10, (64, 64), UPDATES, 500_000, 8),
+    (11, (64, 64), UPDATES, 500_000, 8),
+    (12, (64, 64), UPDATES, 500_000, 8),
+    (13, (64, 64), UPDATES, 500_000, 7),
+    (14, (64, 64), UPDATES, 500_000, 7),
+    (15, (64, 64), UPDATES, 500_000, 7),
+    (16, (64, 64), UPDATES, 500_000, 7),
+];
+
+#[test]
+fn no_round_is_refused_for_its_updates(rt: HostRuntime) -> Result<(), BeginError> {
+    assert_begin(&rt, rt.alloc(), GREAT)
+}
+
+// Rounds of `bits` bits over a trie by each call, in the first of which the keys are put in that it does not have of the `members` least ones.
+fn grown(
+    rt: &impl Abort,
+    alloc: Global,
+    ended: Trie,
+    bits: u32,
+    members: u32,
+) -> Result<Trie, BeginError>
+    requires { bits ≤ 16 }
+{
+    let from = ended.size();
+    let updates = members.saturating_sub(from).max(1);
+    let (round, mut crew) = begun(alloc, ended, Way::Wider, (bits, 1, updates))?;
+    fill(&round, &mut crew, 1 << bits, (from, members), 1);
+    let ended = goes_on(alloc, round.end(crew), Way::Begin, (bits, 1, 1))?;
+    let ended = goes_on(alloc, ended, Way::OverList, (bits, 1, 1))?;
+    equal(rt, (ended.bits(), ended.size()), (bits, members));
+    Ok(ended)
+}
+
+// Some sizes of sets of keys of `bits` bits.
+fn sizes(bits: u32) -> [u32; 5]
+    requires { bits ≤ 16 }
+{
+    let universe: u32 = 1 << bits;
+    [0, 1, universe / 2, universe.saturating_sub(1), universe]
+}
+
+// Rounds of a trie that has half of the keys of `bits` bits or fewer: the trie with all of them.
+fn filled(rt: &impl Abort, alloc: Global, ended: Trie, bits: u32) -> Result<Trie, BeginError>
+    requires { bits ≤ 16 }
+{
+    let mut ended = ended;
+    for members in sizes(bits) {
+        if ended.size() <= members {
+            ended = grown(rt, alloc, ended, bits, members)?;
+        }
+    }
+    Ok(ended)
+}
+
+#[test]
+fn no_round_is_refused_for_its_members(rt: HostRuntime) -> Result<(), BeginError> {
+    let mut ended: Trie = Ended::empty(rt.alloc(), 1)?;
+    for bits in 1..=16 {
+        ended = filled(&rt, rt.alloc(), ended, bits)?;
+    }
+    equal(&rt, ended.size(), 65_536);
+    Ok(())
+}
+
+// A trie of `bits` bits with so many members goes on to a round of `more` bits by a call.
+fn widens(
+    rt: &impl Abort,
+    alloc: Global,
+    members: u32,
+    bits: u32,
+    numbers: Numbers,
+    way: Way,
+) -> Result<(), BeginError>
+    requires { bits ≤ 16 }
+{
+    let (round, mut crew) = opened(alloc, (bits, 1, 128))?;
+    fill(&round, &mut crew, 1 << bits, (0, members), 1);
+    let ended = goes_on(alloc, round.end(crew), way, numbers)?;
+    equal(rt, (ended.bits(), ended.size()), (numbers.0, members));
+    Ok(())
+}
+
+// It goes on to rounds of each number of bits by both calls.
+fn widens_to_each(rt: &impl Abort, alloc: Global, members: u32, bits: u32) -> Result<(), BeginError>
+    requires { bits ≤ 16 }
+{
+    for more in bits..=16 {
+        widens(rt, alloc, members, bits, (more, 1, 1), Way::Wider)?;
+        widens(rt, alloc, members, bits, (more, 2, 1), Way::OverList)?;
+    }
+    Ok(())
+}
+
+// Tries of `bits` bits with few members, or up to all, do.
+fn widen(rt: &impl Abort, alloc: Global, bits: u32) -> Result<(), BeginError>
+    requires { bits ≤ 16 }
+{
+    for members in sizes(bits) {
+        if members <= 128 {
+            widens_to_each(rt, alloc, members, bits)?;
+        }
+    }
+    Ok(())
+}
+
+#[test]
+fn no_round_is_refused_for_its_bits(rt: HostRuntime) -> Result<(), BeginError> {
+    for bits in 1..=16 {
+        widen(&rt, rt.alloc(), bits)?;
+    }
+    Ok(())
+}

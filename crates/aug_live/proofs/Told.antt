@@ -112,9 +112,9 @@ pub lanes_by : (lanes : List TableId) (o : Option EndFacts) → (handle_by lanes
 lanes_by lanes None = refl
 lanes_by lanes (Some e) = refl
 
--- what an end of the desk is refused, its handle is
+-- where a round does not roll over, the handle is refused that asked for it
 pub handle_refused : (t : TrieFacts) (e : LiveError) → RefusesRoll t e → RefusesHandle (ids_of t) e
-handle_refused t Closed r = tt
+handle_refused t Closed r = absurd r
 handle_refused t Exhausted r = (t, refl, r)
-handle_refused t Replaced r = tt
+handle_refused t Replaced r = absurd r
 handle_refused t NoLane r = r

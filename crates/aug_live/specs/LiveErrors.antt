@@ -22,16 +22,16 @@ pub record IsExhausted (trie : TrieFacts) : Type 0 where
   pub counted : AreCountsOf trie.bits trie.rounds.past made inserts removals
   pub many : (2 ^ 64 ≤ length trie.rounds.past + 2) ⊎ ((2 ^ 64 ≤ inserts + 2 ^ 33) ⊎ (2 ^ 64 ≤ removals + 2 ^ 33))
 
--- why a trie's round does not roll over
+-- why a trie's round does not roll over: its owner alone closes it
 abbrev pub RefusesRoll : TrieFacts → LiveError → Type 0
-RefusesRoll trie Closed = Unit {0}
+RefusesRoll trie Closed = ⊥
 RefusesRoll trie Exhausted = IsExhausted trie
 RefusesRoll trie Replaced = ⊥
 RefusesRoll trie NoLane = ⊥
 
 -- why a trie gives no lane of this number to a new handle
 abbrev pub RefusesLane : ℕ → TrieFacts → LiveError → Type 0
-RefusesLane lane trie Closed = Unit {0}
+RefusesLane lane trie Closed = ⊥
 RefusesLane lane trie Exhausted = 2 ^ 64 ≤ sum_by (λ (l : LaneKnown). length l.done) trie.lanes + length trie.lanes + 1
 RefusesLane lane trie Replaced = ⊥
 RefusesLane lane trie NoLane = length trie.lanes ≤ lane

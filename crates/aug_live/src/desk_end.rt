@@ -1,11 +1,12 @@
 //! The desk, and the ends of its lock.
-ghost use Rattle.std.specs.Prelude.{◌≡◌, ◌+◌, ◌<◌, ◌≤◌, IfOk, IfErr, IsErr, length};
+ghost use Rattle.std.specs.Prelude.{◌≡◌, ◌+◌, ◌<◌, ◌≤◌, IfOk, IfErr, IsErr, None, Some, length};
+ghost use Rattle.ruled_lock.specs.Locks.{Holds, HoldsNothing, IsSamePass, client_of};
 ghost use mathlib.Core.Option.{some};
 ghost use lib.ListN.{get_elem?};
 ghost use Rattle.atomic_table.specs.Seated.{TableId};
 ghost use Rattle.aug_trie.specs.Note.{chain_of_note};
 ghost use Rattle.aug_trie.specs.Chains.{IsPart};
-ghost use Rattle.aug_live.specs.LiveErrors.{RefusesLane, RefusesRoll};
+ghost use Rattle.aug_live.specs.LiveErrors.{RefusesHandle, RefusesLane, RefusesRoll};
 ghost use Rattle.aug_live.specs.LiveTries.{CameBack, Closes, KnowsMore, ids_of};
 ghost use Rattle.aug_live.specs.inside.Desks.{GivesLane};
 ghost use Rattle.aug_live.specs.declared.known.Whose.TheVariants.{Handle};
@@ -155,7 +156,7 @@ impl<A: Monoid, B: Monoid> DeskEnd<A, B> {
     /// Sees to it that a lane which was spent in this era has a pass, as `Working::past` does.
     pub(crate) fn past<R: Wait>(&mut self, rt: &R, era: u64, lane: usize) -> Result<(), LiveError>
         ensures more { KnowsMore self.old self.new }
-        ensures refused { IfErr result (RefusesRoll self.new) }
+        ensures refused { IfErr result (RefusesHandle (ids_of self.new)) }
     {
         let Desk { working, opened } = self.lock.take::<Read, R>(rt, &mut self.pass);
         let Some(working) = working else {
@@ -181,17 +182,7 @@ impl<A: Monoid, B: Monoid> DeskEnd<A, B> {
         ensures rolls { IfOk result (λ _. length self.old.rounds.past < length self.new.rounds.past) }
         ensures refused { IfErr result (RefusesRoll self.new) }
     {
-        let Desk { working, opened } = self.lock.take::<Read, R>(rt, &mut self.pass);
-        let Some(working) = working else {
-            self.lock.put::<Lay>(
-                &mut self.pass,
-                Desk {
-                    working: None,
-                    opened,
-                },
-            );
-            return Err(LiveError::Closed);
-        };
+        let (working, opened) = take_round(rt, &self.lock, &mut self.pass);
         let (working, rolled) = working.roll(rt);
         let working = Some(working);
         self.lock
@@ -218,17 +209,7 @@ impl<A: Monoid, B: Monoid> DeskEnd<A, B> {
         ensures takes { IfOk result (λ _. CameBack end.known.made self.old self.new) }
         ensures same { IfErr result (λ e. e.0 ≡ end) }
     {
-        let Desk { working, opened } = self.lock.take::<Read, R>(rt, &mut self.pass);
-        let Some(working) = working else {
-            self.lock.put::<Lay>(
-                &mut self.pass,
-                Desk {
-                    working: None,
-                    opened,
-                },
-            );
-            return Err((end, LiveError::Closed));
-        };
+        let (working, opened) = take_round(rt, &self.lock, &mut self.pass);
         let mut working = working.learn(note);
         let done = working.back(rt, lane, number, end);
         let working = Some(working);
@@ -248,17 +229,7 @@ impl<A: Monoid, B: Monoid> DeskEnd<A, B> {
         ensures refused { IfErr result (RefusesLane lane self.new) }
         ensures past { length self.old.lanes ≤ lane → IsErr result }
     {
-        let Desk { working, opened } = self.lock.take::<Read, R>(rt, &mut self.pass);
-        let Some(mut working) = working else {
-            self.lock.put::<Lay>(
-                &mut self.pass,
-                Desk {
-                    working: None,
-                    opened,
-                },
-            );
-            return Err(LiveError::Closed);
-        };
+        let (mut working, opened) = take_round(rt, &self.lock, &mut self.pass);
         let renewed = working.renew(rt, lane);
         let working = Some(working);
         self.lock
@@ -272,18 +243,40 @@ impl<A: Monoid, B: Monoid> DeskEnd<A, B> {
         ensures sizes { length result.0.pairs + result.1.removals ≡ result.1.opened + result.1.inserts }
     {
         let DeskEnd { lock, mut pass } = self;
-        for _ in rt.forever() {
-            let Desk { working, opened } = lock.take::<Read, R>(rt, &mut pass);
-            let none = Desk {
-                working: None,
-                opened,
-            };
-            lock.put::<Lay>(&mut pass, none);
-            if let Some(working) = working {
-                return working.stop(rt);
-            }
-            yield_now();
-        }
-        unreachable!()
+        let (working, opened) = take_round(rt, &lock, &mut pass);
+        let none = Desk {
+            working: None,
+            opened,
+        };
+        lock.put::<Lay>(&mut pass, none);
+        working.stop(rt)
     }
+}
+
+// Takes the round off the desk for the owner of the trie, who alone closes it: so a round is there, and only the lock is waited for.
+fn take_round<R: Wait, A: Monoid, B: Monoid>(
+    rt: &R,
+    lock: &DeskLock<A, B>,
+    pass: &mut Pass<Desk<A, B>, Told<A, B>>,
+) -> (Working<A, B>, bool)
+    requires lock { pass.old.table_id ≡ lock.now.table.shared.table_id }
+    requires free { HoldsNothing pass.old }
+    ensures same { IsSamePass pass.old pass.new }
+    ensures view { client_of pass.new ≡ client_of pass.old }
+    ensures holds { Holds (record { working = Some result.0; opened = result.1 }) None pass.new }
+    ensures knows { KnowsMore (client_of pass.old) result.0 }
+{
+    for _ in rt.forever() {
+        let Desk { working, opened } = lock.take::<Read, R>(rt, pass);
+        if let Some(working) = working {
+            return (working, opened);
+        }
+        let none = Desk {
+            working: None,
+            opened,
+        };
+        lock.put::<Lay>(pass, none);
+        yield_now();
+    }
+    unreachable!()
 }

@@ -1,42 +1,28 @@
 use Rattle.std.proofs.Common.{refl, subst, sym, arith}
-use Rattle.std.specs.Prelude.{Some, None, IfErr}
+use Rattle.std.specs.Prelude.{Some, IfErr}
 use Rattle.ruled_lock.specs.Locks.{client_of}
 use Rattle.aug_live.specs.LiveErrors.{RefusesLane}
-use Rattle.aug_live.specs.LiveTries.{TrieFacts}
-use Rattle.aug_live.proofs.Counted.{more_self}
+use Rattle.aug_live.specs.LiveTries.{KnowsMore, TrieFacts}
+use Rattle.aug_live.proofs.Counted.{more_on}
 use Rattle.aug_live.proofs.Lanes.{as_many}
-use Rattle.aug_live.proofs.Told.{keeps_on, learns, none_more, put_told, some_more, turns}
+use Rattle.aug_live.proofs.Told.{put_told, turns}
 use Rattle.aug_live.proofs.desk_end.DeskEnd.renew.Goals as goal
 
-pub take-working-requires-clause-rule : goal.take-working-requires-clause-rule
-take-working-requires-clause-rule g c = learns _ _
-
 pub put-requires-clause-holds : goal.put-requires-clause-holds
-put-requires-clause-holds g c = let take = c.take-working in (take.result, take.ensures.holds, λ views on at. turns _ (client_of take.new.pass) take.result (record { working = None; opened = take.result.opened }) views on at refl (λ x k. tt))
-
-pub put-requires-2-clause-holds : goal.put-requires-2-clause-holds
-put-requires-2-clause-holds g c = let take = c.take-working in (
-  take.result,
+put-requires-clause-holds g c = let take = c.take_round-working in let was = take.result.0 in let now = c.renew-renewed.new.self in (
+  record { working = Some was; opened = take.result.1 },
   take.ensures.holds,
-  λ views on at. turns _ (client_of take.new.pass) take.result (record { working = Some c.renew-renewed.new.self; opened = take.result.opened }) views on at refl (λ x k. keeps_on take.result.working c.in-Some.working c.renew-renewed.new.self x c.in-Some.is c.renew-renewed.ensures.more k),
+  λ views on at. turns _ (client_of take.new.pass) (record { working = Some was; opened = take.result.1 }) (record { working = Some now; opened = take.result.1 }) views on at refl (λ x k. more_on x was now k c.renew-renewed.ensures.more),
 )
 
+pub returns-clause-more : goal.returns-clause-more
+returns-clause-more g c = let take = c.take_round-working in let now = c.renew-renewed.new.self in
+    subst (KnowsMore c.args.self.now) (sym (put_told take.new.pass.me.0.taken (record { working = Some take.result.0; opened = take.result.1 }) (record { working = Some now; opened = take.result.1 }) (client_of take.new.pass) (client_of c.put.new.pass) take.ensures.holds.0 c.put.ensures.then))
+    (more_on c.args.self.now take.result.0 now (subst (λ (z : TrieFacts). KnowsMore z take.result.0) c.self.view_is take.ensures.knows) c.renew-renewed.ensures.more)
+
 pub returns-clause-refused : goal.returns-clause-refused
-returns-clause-refused g c = let take = c.take-working in let now = c.renew-renewed.new.self in
-    let told = put_told take.new.pass.me.0.taken take.result (record { working = Some now; opened = take.result.opened }) (client_of take.new.pass) (client_of c.put-2.new.pass) take.ensures.holds.0 c.put-2.ensures.then in
-    subst (λ (z : TrieFacts). IfErr c.renew-renewed.result (RefusesLane c.args.lane z)) (sym told) c.renew-renewed.ensures.refused
+returns-clause-refused g c = let take = c.take_round-working in let now = c.renew-renewed.new.self in
+    subst (λ (z : TrieFacts). IfErr c.renew-renewed.result (RefusesLane c.args.lane z)) (sym (put_told take.new.pass.me.0.taken (record { working = Some take.result.0; opened = take.result.1 }) (record { working = Some now; opened = take.result.1 }) (client_of take.new.pass) (client_of c.put.new.pass) take.ensures.holds.0 c.put.ensures.then)) c.renew-renewed.ensures.refused
 
 pub returns-clause-past : goal.returns-clause-past
-returns-clause-past g c = λ high. let end = c.self.inside.pass in let lies = c.in-Some.working in
-    let before = some_more _ (client_of end) lies lies lies c.take-working.result.working c.self.view_is c.in-Some.is c.take-working.ensures.fact.knows (more_self lies) refl in
-    let many = as_many c.args.self.now.lanes lies.lanes before.lanes in c.renew-renewed.ensures.past (omega (arith, many, high))
-
-pub returns-in_default-clause-more : goal.returns-in_default-clause-more
-returns-in_default-clause-more g c = let take = c.take-working in let end = c.self.inside.pass in
-    none_more _ (client_of end) (client_of take.new.pass) (client_of c.put.new.pass) c.self.view_is take.ensures.view
-    (put_told take.new.pass.me.0.taken take.result (record { working = None; opened = take.result.opened }) (client_of take.new.pass) (client_of c.put.new.pass) take.ensures.holds.0 c.put.ensures.then)
-
-pub returns-clause-more : goal.returns-clause-more
-returns-clause-more g c = let take = c.take-working in let end = c.self.inside.pass in
-    some_more _ (client_of end) (client_of c.put-2.new.pass) c.in-Some.working c.renew-renewed.new.self take.result.working c.self.view_is c.in-Some.is take.ensures.fact.knows c.renew-renewed.ensures.more
-    (put_told take.new.pass.me.0.taken take.result (record { working = Some c.renew-renewed.new.self; opened = take.result.opened }) (client_of take.new.pass) (client_of c.put-2.new.pass) take.ensures.holds.0 c.put-2.ensures.then)
+returns-clause-past g c = λ high. let take = c.take_round-working in let many = as_many c.args.self.now.lanes take.result.0.lanes (subst (λ (z : TrieFacts). KnowsMore z take.result.0) c.self.view_is take.ensures.knows).lanes in c.renew-renewed.ensures.past (omega (arith, many, high))

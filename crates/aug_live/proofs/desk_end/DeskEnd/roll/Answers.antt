@@ -1,42 +1,29 @@
 use Rattle.std.proofs.Common.{refl, subst, sym}
-use Rattle.std.specs.Prelude.{Some, None, IfErr}
+use Rattle.std.specs.Prelude.{Some, IfErr}
 use Rattle.ruled_lock.specs.Locks.{client_of}
 use Rattle.aug_live.specs.LiveErrors.{RefusesRoll}
-use Rattle.aug_live.specs.LiveTries.{TrieFacts}
-use Rattle.aug_live.proofs.Counted.{more_self, rolls_on}
-use Rattle.aug_live.proofs.Told.{keeps_on, learns, none_more, put_told, some_more, turns}
+use Rattle.aug_live.specs.LiveTries.{KnowsMore, TrieFacts}
+use Rattle.aug_live.proofs.Counted.{more_on, rolls_on}
+use Rattle.aug_live.proofs.Told.{put_told, turns}
 use Rattle.aug_live.proofs.desk_end.DeskEnd.roll.Goals as goal
 
-pub take-working-requires-clause-rule : goal.take-working-requires-clause-rule
-take-working-requires-clause-rule g c = learns _ _
-
 pub put-requires-clause-holds : goal.put-requires-clause-holds
-put-requires-clause-holds g c = let take = c.take-working in (take.result, take.ensures.holds, λ views on at. turns _ (client_of take.new.pass) take.result (record { working = None; opened = take.result.opened }) views on at refl (λ x k. tt))
-
-pub put-requires-2-clause-holds : goal.put-requires-2-clause-holds
-put-requires-2-clause-holds g c = let take = c.take-working in (
-  take.result,
+put-requires-clause-holds g c = let take = c.take_round-working in let was = take.result.0 in let now = c.roll-working.result.0 in (
+  record { working = Some was; opened = take.result.1 },
   take.ensures.holds,
-  λ views on at. turns _ (client_of take.new.pass) take.result (record { working = Some c.roll-working.result.0; opened = take.result.opened }) views on at refl (λ x k. keeps_on take.result.working c.in-Some.working c.roll-working.result.0 x c.in-Some.is c.roll-working.ensures.more k),
+  λ views on at. turns _ (client_of take.new.pass) (record { working = Some was; opened = take.result.1 }) (record { working = Some now; opened = take.result.1 }) views on at refl (λ x k. more_on x was now k c.roll-working.ensures.more),
 )
 
-pub returns-in_default-clause-more : goal.returns-in_default-clause-more
-returns-in_default-clause-more g c = let take = c.take-working in let end = c.self.inside.pass in
-    none_more _ (client_of end) (client_of take.new.pass) (client_of c.put.new.pass) c.self.view_is take.ensures.view
-    (put_told take.new.pass.me.0.taken take.result (record { working = None; opened = take.result.opened }) (client_of take.new.pass) (client_of c.put.new.pass) take.ensures.holds.0 c.put.ensures.then)
-
 pub returns-clause-more : goal.returns-clause-more
-returns-clause-more g c = let take = c.take-working in let end = c.self.inside.pass in
-    some_more _ (client_of end) (client_of c.put-2.new.pass) c.in-Some.working c.roll-working.result.0 take.result.working c.self.view_is c.in-Some.is take.ensures.fact.knows c.roll-working.ensures.more
-    (put_told take.new.pass.me.0.taken take.result (record { working = Some c.roll-working.result.0; opened = take.result.opened }) (client_of take.new.pass) (client_of c.put-2.new.pass) take.ensures.holds.0 c.put-2.ensures.then)
+returns-clause-more g c = let take = c.take_round-working in let now = c.roll-working.result.0 in
+    subst (KnowsMore c.args.self.now) (sym (put_told take.new.pass.me.0.taken (record { working = Some take.result.0; opened = take.result.1 }) (record { working = Some now; opened = take.result.1 }) (client_of take.new.pass) (client_of c.put.new.pass) take.ensures.holds.0 c.put.ensures.then))
+    (more_on c.args.self.now take.result.0 now (subst (λ (z : TrieFacts). KnowsMore z take.result.0) c.self.view_is take.ensures.knows) c.roll-working.ensures.more)
 
 pub returns-clause-rolls : goal.returns-clause-rolls
-returns-clause-rolls g c = let take = c.take-working in let end = c.self.inside.pass in
-    rolls_on c.roll-working.result.1 c.args.self.now c.in-Some.working c.roll-working.result.0 (client_of c.put-2.new.pass)
-    (some_more _ (client_of end) c.in-Some.working c.in-Some.working c.in-Some.working take.result.working c.self.view_is c.in-Some.is take.ensures.fact.knows (more_self c.in-Some.working) refl)
-    (put_told take.new.pass.me.0.taken take.result (record { working = Some c.roll-working.result.0; opened = take.result.opened }) (client_of take.new.pass) (client_of c.put-2.new.pass) take.ensures.holds.0 c.put-2.ensures.then) c.roll-working.ensures.rolls
+returns-clause-rolls g c = let take = c.take_round-working in let now = c.roll-working.result.0 in
+    rolls_on c.roll-working.result.1 c.args.self.now take.result.0 now (client_of c.put.new.pass) (subst (λ (z : TrieFacts). KnowsMore z take.result.0) c.self.view_is take.ensures.knows)
+    (put_told take.new.pass.me.0.taken (record { working = Some take.result.0; opened = take.result.1 }) (record { working = Some now; opened = take.result.1 }) (client_of take.new.pass) (client_of c.put.new.pass) take.ensures.holds.0 c.put.ensures.then) c.roll-working.ensures.rolls
 
 pub returns-clause-refused : goal.returns-clause-refused
-returns-clause-refused g c = let take = c.take-working in let now = c.roll-working.result.0 in
-    let told = put_told take.new.pass.me.0.taken take.result (record { working = Some now; opened = take.result.opened }) (client_of take.new.pass) (client_of c.put-2.new.pass) take.ensures.holds.0 c.put-2.ensures.then in
-    subst (λ (z : TrieFacts). IfErr c.roll-working.result.1 (RefusesRoll z)) (sym told) c.roll-working.ensures.refused
+returns-clause-refused g c = let take = c.take_round-working in let now = c.roll-working.result.0 in
+    subst (λ (z : TrieFacts). IfErr c.roll-working.result.1 (RefusesRoll z)) (sym (put_told take.new.pass.me.0.taken (record { working = Some take.result.0; opened = take.result.1 }) (record { working = Some now; opened = take.result.1 }) (client_of take.new.pass) (client_of c.put.new.pass) take.ensures.holds.0 c.put.ensures.then)) c.roll-working.ensures.refused

@@ -4,10 +4,9 @@ use Rattle.atomic_table.specs.Seated.{TableId}
 use Rattle.aug_live.specs.inside.LaneKnowledge.{handle_by}
 use Rattle.aug_live.specs.LiveTries.{ids_of}
 use Rattle.aug_live.specs.inside.Looks.{HoldsHandle}
-use Rattle.aug_live.specs.LiveErrors.{RefusesHandle, RefusesRoll}
-use Rattle.aug_live.proofs.Carries.{err_map}
+use Rattle.aug_live.specs.LiveErrors.{RefusesHandle}
 use Rattle.aug_live.proofs.Counted.{ids_more}
-use Rattle.aug_live.proofs.Told.{handle_refused, lanes_by}
+use Rattle.aug_live.proofs.Told.{lanes_by}
 use Rattle.aug_live.proofs.handle.Handle.past.Goals as goal
 
 pub invariant_of-self : goal.invariant_of-self
@@ -19,4 +18,4 @@ returns-clause-same g c = let i = c.self.inside in ap (λ (z : List TableId). ha
 
 pub returns-clause-refused : goal.returns-clause-refused
 returns-clause-refused g c = let now = c.past.new.self in
-    subst (λ (z : List TableId). IfErr c.past.result (RefusesHandle z)) (sym (lanes_by (ids_of now) c.self.inside.end)) (err_map (RefusesRoll now) (RefusesHandle (ids_of now)) c.past.result (handle_refused now) c.past.ensures.refused)
+    subst (λ (z : List TableId). IfErr c.past.result (RefusesHandle z)) (sym (lanes_by (ids_of now) c.self.inside.end)) c.past.ensures.refused

@@ -9,6 +9,8 @@ mod assertions;
 #[cfg(test)]
 mod crowds;
 #[cfg(test)]
+mod granting;
+#[cfg(test)]
 mod holding;
 #[cfg(test)]
 mod opening;

@@ -71,7 +71,7 @@ fn a_new_handle_goes_on_with_spare_lanes(rt: HostRuntime) -> Result<(), BeginErr
 }
 
 // The words of a table for the full set of keys of `bits` bits.
-fn words_of(bits: u32, plan: Plan) -> u64 {
+pub(super) fn words_of(bits: u32, plan: Plan) -> u64 {
     let keys = 1u64 << (bits % 32);
     let calls = u64::from(plan.lanes).saturating_mul(u64::from(plan.updates));
     let opening = u64::from(bits).saturating_add(keys).saturating_sub(1);

@@ -1,6 +1,7 @@
 // Loaded before the C library, it counts the program's requests for memory and its starts of threads, in whatever thread, and refuses
-// the one whose number, counted from 1, REFUSED_REQUEST or REFUSED_START gives. To the descriptor that COUNTS_TO gives, where it gives
-// one, it writes a byte for each: `m` for a request, `t` for a start, and at the program's end `b` for each block that is not given back.
+// the one whose number, counted from 1, REFUSED_REQUEST or REFUSED_START gives, and where LATER_TOO gives 1 each later one of its kind.
+// To the descriptor that COUNTS_TO gives, where it gives one, it writes a byte for each: `m` for a request, `t` for a start, and at the
+// program's end `b` for each block that is not given back.
 
 extern void *__libc_malloc(unsigned long size);
 extern void *__libc_realloc(void *old, unsigned long size);
@@ -37,10 +38,16 @@ static long add(long *count, long more) {
     return __atomic_add_fetch(count, more, __ATOMIC_SEQ_CST);
 }
 
-// Counts one more request, and says whether it is the one to be refused.
+// Whether the request or the start of a number is refused, where this variable has that of the first one.
+static int is_refused(long number, const char *name) {
+    long first = number_in(name);
+    return first && (number == first || (number > first && number_in("LATER_TOO")));
+}
+
+// Counts one more request, and says whether it is refused.
 static int is_memory_refused(void) {
     tell("m");
-    if (add(&requests, 1) != number_in("REFUSED_REQUEST")) return 0;
+    if (!is_refused(add(&requests, 1), "REFUSED_REQUEST")) return 0;
     *__errno_location() = OUT_OF_MEMORY;
     return 1;
 }
@@ -64,7 +71,7 @@ void free(void *block) {
 
 int pthread_create(unsigned long *thread, const void *options, void *(*work)(void *), void *argument) {
     tell("t");
-    if (add(&starts, 1) == number_in("REFUSED_START")) return TRY_AGAIN;
+    if (is_refused(add(&starts, 1), "REFUSED_START")) return TRY_AGAIN;
     start_call *start = (start_call *)dlsym(NEXT, "pthread_create");
     return start(thread, options, work, argument);
 }

@@ -1,6 +1,7 @@
 #!/usr/bin/env python3
 """Runs the tests named refused_.. of the proved crates once for each of their requests for memory, and once for each of their starts of
-threads, with that one refused. Each run must pass, and give back all its memory.
+threads, with that one refused. Each run must pass, and give back all its memory. Then it runs them with that one and each later one of its
+kind refused. A test that asks again in vain then may answer its want of memory, but may not find anything else than it expects.
 
 usage: tests/refused.py, once `rt ci` has built the tests
 
@@ -9,7 +10,9 @@ A test that stands in a crate's sources and is not run, or makes no request, cou
 """
 
 import collections
+import functools
 import glob
+import itertools
 import os
 import re
 import subprocess
@@ -24,6 +27,9 @@ CRATES = os.path.join(os.path.dirname(TESTS), "crates")
 SECONDS = 60
 
 TEST = re.compile(r"#\[test\]\s*(?:#\[.*\]\s*)*fn (refused_\w+)")
+
+# What a test that answers its want of memory prints, whichever type its error is of.
+WANTS = re.compile(r"^[Ee]rror: (?:OutOfMemory|AllocError)\nthe test failed: its result gives status 1$", re.MULTILINE)
 
 
 def written(crate):
@@ -44,33 +50,37 @@ def listed(program):
     return [name for name in names if name.split("::")[-1].startswith("refused_")]
 
 
-def passes(program, name, **given):
-    """Whether a test passes, and what it says."""
+def passes(program, name, may_want=False, **given):
+    """Whether a test passes, or answers its want of memory where it may, and what it says."""
     how = {"env": {}, **given}
     try:
         ran = subprocess.run([program, name], stdin=subprocess.DEVNULL, stdout=subprocess.PIPE, stderr=subprocess.STDOUT, timeout=SECONDS, **how)
     except subprocess.TimeoutExpired:
         return False, f"it had not ended after {SECONDS} seconds"
     said = ran.stdout.decode(errors="replace")
-    return ran.returncode == 0 and "test result: ok" in said, f"status {ran.returncode}\n{said}"
+    passed = ran.returncode == 0 and "test result: ok" in said
+    wanted = may_want and ran.returncode == 101 and WANTS.search(said) is not None
+    return passed or wanted, f"status {ran.returncode}\n{said}"
 
 
 def refuse_each(refusing, program, name):
-    """Refuses each request and each start of a test in turn, and returns what went wrong, and how many runs there were."""
-    run = lambda **given: passes(program, name, **given)
-    (passed, said), counts = refusing.counted(run)
+    """Refuses each request and each start of a test in turn, alone and with all later ones, and returns what went wrong, and how many runs
+    there were."""
+    run = lambda later: functools.partial(passes, program, name, may_want=later)
+    (passed, said), counts = refusing.counted(run(False))
     if not passed or not counts.requests or counts.blocks:
         return [f"with nothing refused, {counts.requests} requests and {counts.blocks} blocks not given back: {said}"], 1
     wrong = []
-    for kind, count in ("request", counts.requests), ("start", counts.starts):
-        for number in range(1, count + 1):
-            (passed, said), after = refusing.counted(run, **{kind: number})
-            if not passed or after.blocks:
-                wrong.append(f"with {kind} {number} of {count} refused: {after.blocks} blocks are not given back, {said}")
-            elif getattr(after, f"{kind}s") < number:
-                wrong.append(f"with {kind} {number} of {count} refused: it was never made")
-    print(f"{name}: {counts.requests} requests and {counts.starts} starts refused in turn")
-    return wrong, counts.requests + counts.starts
+    made = [("request", number) for number in range(1, counts.requests + 1)] + [("start", number) for number in range(1, counts.starts + 1)]
+    for later, (kind, number) in itertools.product((False, True), made):
+        (passed, said), after = refusing.counted(run(later), later=later, **{kind: number})
+        refused = f"with {kind} {number}{' and all later ones' * later} refused"
+        if not passed or after.blocks:
+            wrong.append(f"{refused}: {after.blocks} blocks are not given back, {said}")
+        elif getattr(after, f"{kind}s") < number:
+            wrong.append(f"{refused}: it was never made")
+    print(f"{name}: {counts.requests} requests and {counts.starts} starts refused in turn, and from each on")
+    return wrong, 2 * len(made)
 
 
 def run_tests_of(refusing, crate):

@@ -31,11 +31,13 @@ class Refusing:
         self.library = os.path.join(folder, "refuse.so")
         compile_c(os.path.join(TESTS, "refuse.c"), self.library, ["-fPIC", "-shared", "-nostdlib"])
 
-    def counted(self, run, request=0, start=0):
+    def counted(self, run, request=0, start=0, later=False):
         """What `run` returns, which is given the environment of its program and what it is to pass on, and the counts of the program.
-        The request for memory or the start of a thread of a number, counted from 1, is refused; of number 0 none is."""
+        The request for memory or the start of a thread of a number, counted from 1, is refused, and where `later` is true each later one
+        of its kind; of number 0 none is."""
         reader, writer = os.pipe()
-        env = {"LD_PRELOAD": self.library, "COUNTS_TO": str(writer), "REFUSED_REQUEST": str(request), "REFUSED_START": str(start)}
+        refused = {"REFUSED_REQUEST": str(request), "REFUSED_START": str(start), "LATER_TOO": str(int(later))}
+        env = {"LD_PRELOAD": self.library, "COUNTS_TO": str(writer), **refused}
         try:
             returned = run(env=env, pass_fds=[writer])
             os.close(writer)

@@ -68,7 +68,8 @@ int main(int count, char **words) {
 }
 """
 
-# Stands in for the built tests of a crate: it lists LISTED, and its one test makes ASKED requests.
+# Stands in for the built tests of a crate: it lists LISTED, and its one test makes ASKED requests, and says WANT once more than STANDS of
+# them were refused.
 BUILT_TESTS = r"""
 extern void *malloc(unsigned long);
 extern void free(void *);
@@ -76,9 +77,10 @@ extern long write(int, const void *, unsigned long);
 
 int main(int count, char **words) {
     if (words[1][0] == '-') return write(1, LISTED, sizeof LISTED - 1) < 0;
-    for (int left = ASKED; left; left--) {
+    for (int left = ASKED, refused = 0; left; left--) {
         void *block = malloc(10);
-        if (!block && FAILS) return 101;
+        refused += !block;
+        if (refused > STANDS) return write(1, WANT, sizeof WANT - 1) < 0 ? 1 : 101;
         if (!LEAKS || block && left > 1) free(block);
     }
     write(1, ENDING, sizeof ENDING - 1);
@@ -89,7 +91,8 @@ int main(int count, char **words) {
 WELL = {
     "LISTED": '"tests::others: test\\ntests::refused_one: test\\ntests: 2\\n"',
     "ASKED": 3,
-    "FAILS": 0,
+    "STANDS": 3,
+    "WANT": '"Error: OutOfMemory\\nthe test failed: its result gives status 1\\n"',
     "LEAKS": 0,
     "ENDING": '"\\ntest result: ok\\n"',
     "STATUS": 0,
@@ -175,7 +178,7 @@ class Programs(InFolder):
 
 
 class Refuse(InFolder):
-    """tests/refuse.c refuses the request and the start of a number, and tells of each block that is not given back."""
+    """tests/refuse.c refuses the request and the start of a number, and later ones too, and tells of each block that is not given back."""
 
     def setUp(self):
         super().setUp()
@@ -205,6 +208,13 @@ class Refuse(InFolder):
         for number, said in enumerate(["11101", "11110", "11111"], 1):
             self.assertEqual(self.run_with("0", start=number), (said, (3, 2, 0)))
 
+    def test_refuses_each_later_one_of_a_kind(self):
+        for number, said in enumerate(["00011", "10011", "11011", "11111"], 1):
+            self.assertEqual(self.run_with("0", request=number, later=True), (said, (3, 2, 0)))
+        for number, said in enumerate(["11100", "11110", "11111"], 1):
+            self.assertEqual(self.run_with("0", start=number, later=True), (said, (3, 2, 0)))
+        self.assertEqual(self.run_with("0", later=True), ("11111", (3, 2, 0)))
+
     def test_tells_of_a_block_that_is_kept_behind_a_refusal(self):
         self.assertEqual(self.run_with("2", request=1), ("01111", (3, 2, 1)))
 
@@ -232,8 +242,8 @@ class Refused(InFolder):
 
     def test_each_request_is_refused(self):
         line, status, said = self.run_on()
-        self.assertEqual((line, status), ("3 passed, 0 failed", 0), said)
-        self.assertIn("tests::refused_one: 3 requests and 0 starts refused in turn", said)
+        self.assertEqual((line, status), ("6 passed, 0 failed", 0), said)
+        self.assertIn("tests::refused_one: 3 requests and 0 starts refused in turn, and from each on", said)
 
     def test_tests_that_are_not_built(self):
         self.assert_fails("refused_one is not there to be run", "0 passed, 1 failed", built=False)
@@ -243,7 +253,7 @@ class Refused(InFolder):
 
     def test_one_of_two_that_is_not_listed(self):
         two = self.SOURCE + "#[test]\n#[allow(unused)]\nfn refused_two() {}\n"
-        self.assert_fails("refused_two is not there to be run", "3 passed, 1 failed", source=two)
+        self.assert_fails("refused_two is not there to be run", "6 passed, 1 failed", source=two)
 
     def test_no_crate_with_such_tests(self):
         self.assert_fails("no crate", "0 passed, 1 failed", source="#[test]\nfn others() {}\n")
@@ -258,7 +268,17 @@ class Refused(InFolder):
         self.assert_fails("with nothing refused", "0 passed, 1 failed", STATUS=3)
 
     def test_test_that_fails_where_memory_is_refused(self):
-        self.assert_fails("status 101", "0 passed, 3 failed", FAILS=1)
+        self.assert_fails("status 101", "0 passed, 6 failed", STANDS=0, WANT='"it panicked\\n"')
+
+    def test_test_that_answers_its_want_of_memory(self):
+        line, status, said = self.run_on(STANDS=1)
+        self.assertEqual((line, status), ("6 passed, 0 failed", 0), said)
+        self.assert_fails("with request 1 refused", "3 passed, 3 failed", STANDS=0)
+        self.assert_fails("with nothing refused", "0 passed, 1 failed", ENDING=WELL["WANT"], STATUS=101)
+
+    def test_test_that_finds_something_else_where_each_later_request_is_refused(self):
+        for want in "it panicked", "Error: TooLarge\\nthe test failed: its result gives status 1":
+            self.assert_fails("with request 1 and all later ones refused", "4 passed, 2 failed", STANDS=1, WANT=f'"{want}\\n"')
 
     def test_test_that_keeps_a_block(self):
         self.assert_fails("1 blocks not given back", "0 passed, 1 failed", LEAKS=1)

@@ -5,7 +5,7 @@ use super::steps::{Step, after, ended, opened, play};
 use crate::assertions::{equal, equal_length, holds};
 use aug_lane::Running;
 use aug_model::Outcome;
-use aug_query::pairs;
+use aug_query::{pairs, weight};
 use aug_trie::{BeginError, Ended};
 use std::alloc::{AllocError, Global};
 use std::process::Abort;
@@ -25,14 +25,15 @@ fn begin(alloc: Global, trie: Trie) -> Result<Work, (Trie, BeginError)> {
 
 // A round over it, which is begun again if memory was refused.
 fn again(rt: &impl Abort, alloc: Global, trie: Trie) -> Result<Work, BeginError> {
-    let trie = match begin(alloc, trie) {
+    let mut trie = match begin(alloc, trie) {
         Ok(round) => return Ok(round),
         Err((trie, cause)) => {
             equal(rt, cause, BeginError::OutOfMemory);
             trie
         }
     };
-    equal(rt, trie.bits(), 4);
+    let found = (trie.bits(), trie.size(), weight(&mut trie, 5));
+    equal(rt, found, (4, 1, Some(5)));
     begun(alloc, trie, 1, 1)
 }
 
@@ -51,8 +52,11 @@ fn refused_memory_leaves_the_set(rt: HostRuntime) -> Result<(), BeginError> {
     let mut ended = ended(&rt, round);
     equal(&rt, ended.size(), size);
     let list = match members(rt.alloc(), &mut ended) {
-        Ok(list) => list,
-        Err(_) => members(rt.alloc(), &mut ended).expect(&rt, "memory"),
+        Ok(list) => Ok(list),
+        Err(_) => members(rt.alloc(), &mut ended),
+    };
+    let Ok(list) = list else {
+        return Err(BeginError::OutOfMemory);
     };
     equal_length(&rt, list.len(), size as usize);
     Ok(())
@@ -74,10 +78,10 @@ fn weighted(alloc: Global, ended: &mut Trie) -> Result<Vec<(u32, u32)>, AllocErr
 }
 
 // The same, requested again if memory was refused.
-fn listed(rt: &impl Abort, alloc: Global, ended: &mut Trie) -> Vec<(u32, u32)> {
+fn listed(alloc: Global, ended: &mut Trie) -> Result<Vec<(u32, u32)>, AllocError> {
     match weighted(alloc, ended) {
-        Ok(list) => list,
-        Err(_) => weighted(alloc, ended).expect(rt, "memory"),
+        Ok(list) => Ok(list),
+        Err(_) => weighted(alloc, ended),
     }
 }
 
@@ -97,8 +101,8 @@ fn again_wider(rt: &impl Abort, alloc: Global, trie: Trie) -> Result<Work, Begin
         }
     };
     holds(rt, trie.bits() == 4 || trie.bits() == 6);
-    let list = listed(rt, alloc, &mut trie);
-    equal(rt, list.as_slice(), [(5, 5), (9, 70)].as_slice());
+    let weights = (weight(&mut trie, 5), weight(&mut trie, 9));
+    equal(rt, (trie.size(), weights), (2, (Some(5), Some(70))));
     match begin_wider(alloc, trie) {
         Ok(round) => Ok(round),
         Err((_, cause)) => Err(cause),
@@ -118,7 +122,9 @@ fn refused_memory_leaves_the_narrower_set(rt: HostRuntime) -> Result<(), BeginEr
     let round = again_wider(&rt, rt.alloc(), trie)?;
     let mut ended = after(&rt, round, &[Step::Insert(63, Ok(true))]);
     equal(&rt, (ended.bits(), ended.inserts()), (6, 1));
-    let list = listed(&rt, rt.alloc(), &mut ended);
+    let Ok(list) = listed(rt.alloc(), &mut ended) else {
+        return Err(BeginError::OutOfMemory);
+    };
     equal(&rt, list.as_slice(), [(5, 5), (9, 70), (63, 63)].as_slice());
     Ok(())
 }

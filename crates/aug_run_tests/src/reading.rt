@@ -73,7 +73,7 @@ fn refused_memory_is_told_by_reading_all(rt: HostRuntime) -> Result<(), Fail> {
         Ok(bytes) => bytes,
         Err(error) => {
             equal(&rt, error, ReadError::OutOfMemory);
-            bytes_of(rt.alloc(), b"abc").ok().ok_or("no bytes")?
+            bytes_of(rt.alloc(), b"abc")?
         }
     };
     equal(&rt, bytes.as_slice(), b"abc".as_slice());

@@ -1,7 +1,7 @@
 //! What no clause says: that rounds run with ample memory.
 use crate::assertions::{equal, holds};
 use aug_run::{Gate, Open, Trie, run_round};
-use aug_script::{Limits, Reply, Report, Script};
+use aug_script::{Limits, Reply, Report, Script, ScriptError};
 use aug_trie::Ended;
 use std::alloc::{AllocError, Global};
 use std::process::Abort;
@@ -20,8 +20,10 @@ fn run_text<R: Threads + Wait, G: Gate>(
     let Ok(limits) = Limits::try_new(4, workers, 64) else {
         return Ok(None);
     };
-    let Ok(script) = Script::read(alloc, text.as_bytes(), &limits) else {
-        return Ok(None);
+    let script = match Script::read(alloc, text.as_bytes(), &limits) {
+        Ok(script) => script,
+        Err(ScriptError::OutOfMemory) => return Err(AllocError),
+        Err(_) => return Ok(None),
     };
     let Ok(mut ended) = Ended::empty(alloc, limits.bits()) else {
         return Err(AllocError);

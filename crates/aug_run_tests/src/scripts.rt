@@ -359,7 +359,7 @@ const BOTH: &str = "\
 2 end size=2 in=0 out=1
 ";
 
-// A run over the two rounds into a sink that has room for all that goes out, and so asks for no memory itself.
+// A run over the two rounds into a sink that has room for all that goes out, and so asks for no memory itself. Without that room there is none.
 fn into_room(
     rt: &(impl Abort + Threads + Wait),
     alloc: Global,
@@ -367,8 +367,8 @@ fn into_room(
     let limits = Limits::try_new(4, 1, 64).expect(rt, "limits");
     let mut source = MemorySource::new(TWO_ROUNDS.as_bytes(), 5, None);
     let mut sink = MemorySink::new(alloc, 7, None);
-    if sink.out.reserve(512).is_err() {
-        sink.out.reserve(512).expect(rt, "room");
+    if sink.out.reserve(512).is_err() && sink.out.reserve(512).is_err() {
+        return (Err(RunError::OutOfMemory), sink);
     }
     let result = run(rt, alloc, &mut source, &mut sink, &limits);
     (result, sink)
@@ -396,8 +396,10 @@ fn both_go_out(rt: &(impl Abort + Threads + Wait), alloc: Global) -> bool {
 // Passes whichever request for memory or start of a thread is refused: nothing went out then, or the first report, and the same run
 // made again prints everything.
 #[test]
-fn refused_memory_is_told_behind_whole_reports(rt: HostRuntime) {
-    if !both_go_out(&rt, rt.alloc()) {
-        holds(&rt, both_go_out(&rt, rt.alloc()));
+fn refused_memory_is_told_behind_whole_reports(rt: HostRuntime) -> Result<(), RunError> {
+    if both_go_out(&rt, rt.alloc()) || both_go_out(&rt, rt.alloc()) {
+        Ok(())
+    } else {
+        Err(RunError::OutOfMemory)
     }
 }

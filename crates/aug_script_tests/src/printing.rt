@@ -1,5 +1,5 @@
 //! Reports as they are printed.
-ghost use Rattle.std.specs.Prelude.{◌≡◌};
+ghost use Rattle.std.specs.Prelude.{◌≡◌, IfOk};
 
 use crate::assertions::{equal, holds};
 use aug_model::Summary;
@@ -161,34 +161,41 @@ fn report_at_last(alloc: Global) -> Result<Report, AllocError> {
 }
 
 // A sink that then asks for no memory, also if the first request for it is refused.
-fn sink_at_last(rt: &impl Abort, alloc: Global) -> MemorySink
-    ensures { result.faults ≡ 0 }
+fn sink_at_last(alloc: Global) -> Result<MemorySink, AllocError>
+    ensures { IfOk result (λ sink. sink.faults ≡ 0) }
 {
     let mut sink = MemorySink::new(alloc, usize::MAX, None);
     if sink.out.reserve(TEXT.len()).is_err() {
-        sink.out.reserve(TEXT.len()).expect(rt, "room");
+        sink.out.reserve(TEXT.len())?;
     }
-    sink
+    Ok(sink)
 }
 
 // Prints a report to a sink, and again if that was refused. Nothing went out then.
-fn print_at_last(rt: &impl Abort, alloc: Global, report: &Report, sink: &mut MemorySink)
+fn print_at_last(
+    rt: &impl Abort,
+    alloc: Global,
+    report: &Report,
+    sink: &mut MemorySink,
+) -> Result<(), PrintError>
     requires { sink.old.faults ≡ 0 }
 {
     if print(alloc, report, sink) == Err(PrintError::OutOfMemory) {
         equal(rt, (sink.calls, sink.out.len()), (0, 0));
-        equal(rt, print(alloc, report, sink), Ok(()));
+        return print(alloc, report, sink);
     }
+    Ok(())
 }
 
 // Passes whichever request for memory is refused: nothing then went out, and all does once it is printed again.
 #[test]
-fn refused_memory_leaves_the_sink_as_it_was(rt: HostRuntime) {
-    let report = report_at_last(rt.alloc()).expect(&rt, "a report");
-    let mut sink = sink_at_last(&rt, rt.alloc());
-    print_at_last(&rt, rt.alloc(), &report, &mut sink);
+fn refused_memory_leaves_the_sink_as_it_was(rt: HostRuntime) -> Result<(), PrintError> {
+    let report = report_at_last(rt.alloc())?;
+    let mut sink = sink_at_last(rt.alloc())?;
+    print_at_last(&rt, rt.alloc(), &report, &mut sink)?;
     equal(&rt, sink.out.as_slice(), TEXT.as_bytes());
     equal(&rt, sink.finished, 1);
+    Ok(())
 }
 
 // Compares what is printed for a value.

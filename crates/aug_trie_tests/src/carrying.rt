@@ -1,7 +1,7 @@
 //! Weights that go from a round to the trie at rest, and from there to the next round.
 use super::playing::Act::{Back, Now, Open, Pairs, Weight};
 use super::playing::Change::{Insert, Put, Remove};
-use super::playing::Reply::{Came, Counted, Done, Finds, Folded, Is, Keys, Listed, Number};
+use super::playing::Reply::{Came, Counted, Done, Finds, Folded, Is, Listed, Number};
 use super::playing::Who::{A, B};
 use super::playing::{Reply, Step};
 use super::resting::Ask;
@@ -20,7 +20,7 @@ const HEAVY_STEPS: &[Step] = &[
     (A, Back, Done),
 ];
 
-// What a trie with the members 5, which weighs 70, and 9, which weighs 2^32 - 1, answers to each query, and what it counts.
+// What a trie with the members 5, which weighs 70, and 9, which weighs 2^32 - 1, answers to each query that makes no list, and what it counts.
 pub(super) const HEAVY_ANSWERS: &[(Ask, Reply)] = &[
     (Ask::Size, Number(2)),
     (Ask::Has(5), Is(true)),
@@ -40,8 +40,6 @@ pub(super) const HEAVY_ANSWERS: &[(Ask, Reply)] = &[
         Ask::Range(0, 65_536),
         Folded(2, 4_294_967_365, Some((5, 9))),
     ),
-    (Ask::Keys, Keys(Some(5), Some(9))),
-    (Ask::Pairs, Listed(Some((5, 70)), Some((9, u32::MAX)), None)),
     (Ask::Counts, Counted(3, 1, 0)),
 ];
 

@@ -76,15 +76,16 @@ fn pairs_at_last(alloc: Global, pass: &mut Walker<'_>) -> Result<Vec<(u32, u32)>
 }
 
 // The pass of a round over the heavy trie shows its members.
-fn assert_shows(rt: &impl Abort, alloc: Global, pass: &mut Walker<'_>) {
-    let list = keys_at_last(alloc, pass).expect(rt, "memory");
-    equal(rt, list.as_slice(), [5, 9].as_slice());
-    let list = pairs_at_last(alloc, pass).expect(rt, "memory");
-    equal(rt, list.as_slice(), [(5, 70), (9, u32::MAX)].as_slice());
+fn assert_shows(rt: &impl Abort, alloc: Global, pass: &mut Walker<'_>) -> Result<(), AllocError> {
+    let keys = keys_at_last(alloc, pass);
+    let pairs = pairs_at_last(alloc, pass);
     equal(rt, seen_weight(pass, 9), Some(u32::MAX));
     let snapshot = pass.snapshot();
     let rank = pass.ask(snapshot, Rank(65_536));
     equal(rt, (rank, pass.ask(snapshot, Select(0))), (2, Some(5)));
+    equal(rt, keys?.as_slice(), [5, 9].as_slice());
+    equal(rt, pairs?.as_slice(), [(5, 70), (9, u32::MAX)].as_slice());
+    Ok(())
 }
 
 // Passes whichever request for memory is refused.
@@ -93,7 +94,9 @@ fn refused_memory_leaves_every_answer(rt: HostRuntime) -> Result<(), BeginError>
     for bits in [4, 16] {
         let (round, mut crew) = begun_at_last(&rt, rt.alloc(), bits, Way::Begin, (bits, 1, 1))?;
         let mut pass = next_pass(&mut crew, &round).expect(&rt, "lane 0");
-        assert_shows(&rt, rt.alloc(), &mut pass);
+        if assert_shows(&rt, rt.alloc(), &mut pass).is_err() {
+            return Err(BeginError::OutOfMemory);
+        }
     }
     Ok(())
 }

@@ -293,6 +293,17 @@ fn a_key_of_the_new_range_goes_in(rt: HostRuntime) -> Result<(), BeginError> {
     rows(&rt, rt.alloc(), WIDER)
 }
 
+// All pairs of a trie at rest, requested again if memory was refused.
+fn pairs_at_last(alloc: Global, ended: &mut Trie) -> Result<Vec<(u32, u32)>, BeginError> {
+    let Ok(list) = pairs(alloc, ended) else {
+        return match pairs(alloc, ended) {
+            Ok(list) => Ok(list),
+            Err(_) => Err(BeginError::OutOfMemory),
+        };
+    };
+    Ok(list)
+}
+
 // Passes whichever request for memory is refused.
 #[test]
 fn refused_memory_leaves_the_narrower_trie(rt: HostRuntime) -> Result<(), BeginError> {
@@ -313,10 +324,7 @@ fn refused_memory_leaves_the_narrower_trie(rt: HostRuntime) -> Result<(), BeginE
     );
     let mut ended = round.end(crew);
     equal(&rt, (ended.bits(), ended.universe()), (6, 64));
-    let list = match pairs(rt.alloc(), &mut ended) {
-        Ok(list) => list,
-        Err(_) => pairs(rt.alloc(), &mut ended).expect(&rt, "memory"),
-    };
+    let list = pairs_at_last(rt.alloc(), &mut ended)?;
     equal(
         &rt,
         list.as_slice(),

@@ -1,11 +1,13 @@
 //! Memory refused, and a trie that was closed: nothing is lost, and a later call succeeds.
 
-use super::opening::{Hand, Trie, no_keys, opened};
+use super::opening::{Hand, Trie, no_keys, opened, opened_one};
 use super::steps::{
     Step, closed, ended, fill, last, listed, looked, over, play, renewed, size, why_no_look,
 };
 use crate::assertions::equal;
 use aug_live::{Live, LiveError, Plan};
+use aug_model::Outcome;
+use aug_monoid::{Extent, Sum};
 use aug_trie::{BeginError, Members};
 use std::alloc::Global;
 use std::process::Abort;
@@ -67,6 +69,57 @@ fn refused_memory_loses_nothing_of_a_live_trie(rt: HostRuntime) -> Result<(), Be
         (size, counts.rounds, counts.inserts, counts.removals),
         (4, 5, 5, 1),
     );
+    Ok(())
+}
+
+// The set of 3, which weighs 30, and 9, which weighs itself.
+fn two_keys<R: Wait + Abort>(rt: &R, alloc: Global) -> Result<Members, BeginError> {
+    let (live, mut hand) = opened_one(rt, alloc, 4, 2)?;
+    let steps = [
+        Step::Put(3, 30, Ok(Outcome::Accepted)),
+        Step::Insert(9, Ok(true)),
+    ];
+    play(rt, &mut hand, &steps);
+    let (set, _) = live.close(rt);
+    Ok(set)
+}
+
+// It is this set.
+fn assert_has_two(rt: &impl Abort, set: &Members) {
+    equal(rt, (set.bits(), set.size()), (4, 2));
+    equal(rt, set.as_slice(), [(3, 30), (9, 9)].as_slice());
+}
+
+// Opens a trie over the set within so many bytes, and closes it.
+fn opened_within<R: Wait>(
+    rt: &R,
+    alloc: Global,
+    set: Members,
+) -> Result<Members, (Members, BeginError)> {
+    let (live, _) = Live::<Sum, Extent>::open(rt, alloc, set, 2, 1 << 16)?;
+    let (set, _) = live.close(rt);
+    Ok(set)
+}
+
+// Passes whichever request for memory is refused.
+#[test]
+fn refused_memory_gives_the_set_back(rt: HostRuntime) -> Result<(), BeginError> {
+    let set = match two_keys(&rt, rt.alloc()) {
+        Ok(set) => set,
+        Err(_) => two_keys(&rt, rt.alloc())?,
+    };
+    let set = match opened_within(&rt, rt.alloc(), set) {
+        Ok(set) => set,
+        Err((set, cause)) => {
+            equal(&rt, cause, BeginError::OutOfMemory);
+            assert_has_two(&rt, &set);
+            match opened_within(&rt, rt.alloc(), set) {
+                Ok(set) => set,
+                Err((_, cause)) => return Err(cause),
+            }
+        }
+    };
+    assert_has_two(&rt, &set);
     Ok(())
 }
 

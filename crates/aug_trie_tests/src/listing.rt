@@ -1,8 +1,10 @@
 //! Rounds over the list of a set, whose trie was given back.
 ghost use Rattle.std.specs.Prelude.{◌≡◌, IfOk};
 
-use super::playing::steps;
+use super::playing::Reply::{Counted, Finds, Number};
+use super::playing::{Reply, steps};
 use super::requests::{ANSWERS, played_by_two};
+use super::resting::{Ask, rests};
 use super::rounds::{Hands, Numbers, Table, Trie, tried_over};
 use crate::assertions::equal;
 use aug_query::size;
@@ -10,14 +12,26 @@ use aug_trie::{BeginError, Members};
 use std::alloc::Global;
 use std::process::Abort;
 
-// The list of the set that `played_by_two` leaves, requested again if memory was refused.
+// What the trie that `played_by_two` leaves answers without a list.
+const AS_BEFORE: &[(Ask, Reply)] = &[
+    (Ask::Bits, Number(4)),
+    (Ask::Size, Number(2)),
+    (Ask::Weight(5), Finds(Some(70))),
+    (Ask::Weight(9), Finds(Some(9))),
+    (Ask::Counts, Counted(3, 1, 0)),
+];
+
+// The list of its set, requested again if memory was refused.
 fn listed(rt: &impl Abort, alloc: Global, ended: Trie) -> Result<Members, BeginError> {
     let members = match ended.into_members(alloc) {
         Ok(members) => members,
-        Err(ended) => match ended.into_members(alloc) {
-            Ok(members) => members,
-            Err(_) => return Err(BeginError::OutOfMemory),
-        },
+        Err(mut ended) => {
+            rests(rt, alloc, &mut ended, "a trie that came back", AS_BEFORE);
+            let Ok(members) = ended.into_members(alloc) else {
+                return Err(BeginError::OutOfMemory);
+            };
+            members
+        }
     };
     assert_is_whole(rt, &members);
     Ok(members)

@@ -1,7 +1,7 @@
 //! Rounds that do not begin for want of memory.
 
 use super::rounds::{Trie, Work, begun, members};
-use super::steps::{Step, after, ended, opened, play};
+use super::steps::{Step, after, ended};
 use crate::assertions::{equal, equal_length, holds};
 use aug_lane::Running;
 use aug_model::Outcome;
@@ -13,9 +13,7 @@ use std::process::Abort;
 // A trie of 4 bits with the member 5.
 fn five(rt: &impl Abort, alloc: Global) -> Result<Trie, BeginError> {
     let round = begun(alloc, Ended::empty(alloc, 4)?, 1, 1)?;
-    let (round, lane) = opened(rt, round);
-    drop(play(rt, lane, &[Step::Insert(5, Ok(true))]));
-    Ok(ended(rt, round))
+    Ok(after(rt, round, &[Step::Insert(5, Ok(true))]))
 }
 
 // A round over a trie, or the trie with why there is none.

@@ -233,6 +233,7 @@ fn grown<R: Wait + Abort>(
         Err((_, cause)) => return Err(cause),
     };
     let set = within(rt, alloc, set, 1, memory)?;
+    let set = planned(rt, alloc, set, 1, 1, 1)?;
     equal(rt, set.size(), members);
     Ok(set)
 }

@@ -24,6 +24,7 @@ pub mod PassCalls
 pub mod Noting
 pub mod SnapshotWalks
 pub mod RoundLemmas
+pub mod Refusals
 pub mod Crews
 pub mod CutLemmas
 pub mod TallyLemmas

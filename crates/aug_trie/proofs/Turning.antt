@@ -202,7 +202,7 @@ module _ {A B : Type 0} (parts_a : Parts A) (parts_b : Parts B) where
 
     module _ (w : Known) (next : Next) (table : w.table ≡ k.table) (step : OneStep k.view w.view) (falls : StageFalls a.bits stage next)
         (on : (left : ℕ) (u : SeatView) → StageAt both a.leaves a.bits a.next left key request u stage k.view → Climbs both a.leaves a.bits a.next left key request u next w.view) where
-      climbs : (same : Next) → next ≡ same → Climbs both a.leaves a.bits a.next a.left key request held.began same w.view
+      pub climbs : (same : Next) → next ≡ same → Climbs both a.leaves a.bits a.next a.left key request held.began same w.view
       climbs same next_is = subst (λ (z : Next). Climbs both a.leaves a.bits a.next a.left key request held.began z w.view) next_is (on a.left held.began held.stage_at)
 
       pub climb_on : (more : Stage) → next ≡ More more → (stage ≡ Leaf → (found : ℕ) × (w.view.steps ≡ k.view.steps ++ load_leaf key found ∷ []))

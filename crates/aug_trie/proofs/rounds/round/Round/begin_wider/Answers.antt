@@ -101,3 +101,6 @@ returns-in-Ok-over g c = let e = c.args.ended in let are = c.in-Ok.ensures in
       keys = subst (λ (z : EndedFacts). IsKeySet z.bits (keys_of z.members)) c.ended.view_is c.ended.invariant.is_key_set;
       fit = subst (λ (z : EndedFacts). All FitsPair z.members) c.ended.view_is c.ended.invariant.fit;
     }
+
+pub over-requires-clause-room : goal.over-requires-clause-room
+over-requires-clause-room g c = ap (λ (z : Shape). z.members) c.in-Ok.ensures.layout ∙ c.size.ensures ∙ sym (ap (λ (z : List (ℕ × ℕ)). length z) (c.as_slice.ensures.value ∙ c.in-Ok-pairs.ensures.answer))

@@ -1,12 +1,13 @@
 use Rattle.std.proofs.Common.{rules, subst, ◌≡◌}
 use Rattle.aug_model.specs.Folds.{summary_of}
 use Rattle.aug_model.specs.declared.outcome.Outcome.{Outcome}
+use Rattle.aug_trie.specs.declared.turns.stages.Next.TheVariants.{More}
 use Rattle.aug_trie.specs.Climb.{TurnsOn, Finishes}
 use Rattle.aug_trie.specs.Node.{Keeps}
 use Rattle.aug_trie.specs.Pass.{PassFacts}
 use Rattle.aug_trie.specs.inside.ClimbState.{climb_facts}
 use Rattle.aug_trie.specs.inside.PassState.{pass_facts}
-use Rattle.aug_trie.proofs.Turning.{has_room, climb_on, climb_done}
+use Rattle.aug_trie.proofs.Turning.{has_room, climbs, climb_on, climb_done}
 use Rattle.aug_trie.proofs.turns.climb.Climb.turn.Goals as goal
 
 pub after-requires-clause-inserts : goal.after-requires-clause-inserts
@@ -33,3 +34,10 @@ pub returns-in-Done-clause-keeps : goal.returns-in-Done-clause-keeps
 returns-in-Done-clause-keeps g c = λ pass outcome is. let i = c.self.inside in let n = c.next_stage-next.ensures in let made : pass_facts c.next_stage-next.new.pass c.after.result.left ≡ pass = search rules in
     subst (Keeps (summary_of g.A.Monoid.parts g.B.Monoid.parts) c.args.self.start) made (climb_done g.A.Monoid.parts g.B.Monoid.parts i.words i.account i.key i.request i.stage c.args.self c.self.invariant c.self.view_is c.next_stage-next.new.pass c.next_stage-next.result n.table n.step n.falls n.on
     c.in-Done.outcome c.after.result c.in-Done.is c.after.ensures).keeps
+
+pub invariant_of-result : goal.invariant_of-result
+invariant_of-result g c = let i = c.self.inside in let h = c.self.invariant in let n = c.next_stage-next.ensures in record {
+      began = h.began;
+      stage_at = climbs g.A.Monoid.parts g.B.Monoid.parts i.words i.account i.key i.request i.stage c.args.self h c.self.view_is c.next_stage-next.new.pass c.next_stage-next.result n.table n.step n.falls n.on (More c.in-More.stage) c.in-More.is;
+      counts = h.counts;
+    }

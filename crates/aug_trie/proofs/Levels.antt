@@ -1,13 +1,14 @@
 -- One level of a propagation.
-use Rattle.std.proofs.Common.{◌≡◌, ℕ, zero, suc, ◌+◌, ◌*◌, ◌/◌, ◌^◌, ◌<◌, ◌≤◌, Bool, if◌then◌else◌, List, lt-ltb, le-ltb, ap, arith}
+use Rattle.std.proofs.Common.{◌≡◌, ℕ, zero, suc, ◌+◌, ◌-◌, ◌*◌, ◌/◌, ◌^◌, ◌<◌, ◌≤◌, Bool, if◌then◌else◌, List, lt-ltb, le-ltb, ap, arith}
 use Rattle.aug_core.specs.Places.{Shape}
-use Rattle.aug_core.specs.Addresses.{left_of}
+use Rattle.aug_core.specs.Addresses.{IsInner, left_of, place_count}
 use Rattle.aug_core.specs.Book.{Book, ArePrefixes, IsBook}
 use Rattle.aug_core.specs.inside.Shows.{above, Lifts}
 use Rattle.aug_core.specs.inside.Refreshes.{NewestCovers}
 use Rattle.aug_core.specs.declared.view.SeatView.{SeatView}
 use Rattle.aug_core.proofs.Showing.{first_children, later_children, shows_up}
-use Rattle.aug_trie.specs.inside.Goes.{TookBetween, part_steps, try_steps, least_rise_steps, most_rise_steps}
+use Rattle.aug_core.proofs.Sizes.{twice}
+use Rattle.aug_trie.specs.inside.Goes.{HasLeaves, TookBetween, part_steps, try_steps, least_rise_steps, most_rise_steps}
 use Rattle.aug_trie.proofs.Going.{between_on}
 
 pub lifts_none : (s : Shape) (seen : Book) (key : ℕ) → Lifts s seen seen key 0
@@ -32,3 +33,8 @@ took_level s u v w key (suc j) low up x y = let c = cost_later s key j low up in
 module _ (f : ℕ → ℕ → List (ℕ × ℕ) → List ℕ) where
   pub lifts_level : (s : Shape) (seen : Book) (v w : SeatView) (key level : ℕ) → key < 2 ^ s.bits → suc level ≤ s.bits → IsBook f s w.seen → ArePrefixes v.seen w.seen → NewestCovers s v.seen w.seen (above s key (suc level)) → Lifts s seen v.seen key level → Lifts s seen w.seen key (suc level)
   lifts_level s seen v w key level low up b later c h = record { lifted = λ n x. shows_up f s w.seen b key low v.seen level n up later c (h.lifted n x) }
+
+-- the words of the children of an inner node are words of the table, also of one of the same shape
+pub child_places : {s t u : Shape} {q leaves : ℕ} → HasLeaves s leaves → IsInner t q → t ≡ s → u ≡ s → (2 * (q - leaves) < place_count u) × (2 * (q - leaves) + 1 < place_count u)
+child_places {s} {t} {u} leaves inner same last = let here : 2 ^ t.bits ≡ 2 ^ s.bits = ap (λ (z : Shape). 2 ^ z.bits) same in let there : 2 ^ u.bits ≡ 2 ^ s.bits = ap (λ (z : Shape). 2 ^ z.bits) last in
+    let are = leaves.are in let past = inner.past_leaves in let inside = inner.inside in (omega (arith, twice t.bits, twice u.bits), omega (arith, twice t.bits, twice u.bits))

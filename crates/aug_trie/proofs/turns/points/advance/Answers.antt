@@ -1,4 +1,4 @@
-use Rattle.std.proofs.Common.{arith, ap, subst, sym, ◌∙◌, ◌≡◌, ◌-◌, ◌*◌, ◌^◌, ℕ}
+use Rattle.std.proofs.Common.{arith, ap, refl, subst, sym, ◌∙◌, ◌≡◌, ◌-◌, ◌*◌, ◌^◌, ℕ}
 use Rattle.aug_core.specs.Faces.{face}
 use Rattle.aug_core.specs.Places.{Shape}
 use Rattle.aug_core.specs.Addresses.{left_of}
@@ -7,6 +7,7 @@ use Rattle.aug_core.specs.declared.view.SeatView.{SeatView}
 use Rattle.aug_trie.specs.inside.Points.{TryAt}
 use Rattle.aug_trie.specs.declared.turns.points.Point.{Point}
 use Rattle.aug_trie.specs.declared.turns.points.Point.TheVariants.{Left}
+use Rattle.aug_trie.proofs.Levels.{child_places}
 use Rattle.aug_trie.proofs.Advancing.{goes_at, node_on, left_on}
 use Rattle.aug_trie.proofs.turns.points.advance.Goals as goal
 
@@ -29,3 +30,11 @@ returns-in-Right-clause-on g c = λ v t. let f = face g.A.Monoid.parts g.B.Monoi
 pub returns-in-Part-clause-on : goal.returns-in-Part-clause-on
 returns-in-Part-clause-on g c = λ v t. let f = face g.A.Monoid.parts g.B.Monoid.parts in let old : SeatView = c.args.pass.now.view in
     c.load_part.ensures.on v c.args.node c.args.number (subst (λ (z : Point). TryAt f v c.args.node c.args.number z old) c.in-Part.is t)
+
+pub returns-in-Record-clause-on : goal.returns-in-Record-clause-on
+returns-in-Record-clause-on g c = λ v t. let f = face g.A.Monoid.parts g.B.Monoid.parts in let old : SeatView = c.args.pass.now.view in
+    c.store_or_try.ensures.on v (subst (λ (z : Point). TryAt f v c.args.node c.args.number z old) c.in-Record.is t)
+
+pub look-left-requires-clause-place : goal.look-left-requires-clause-place
+look-left-requires-clause-place g c = let f = face g.A.Monoid.parts g.B.Monoid.parts in let v : SeatView = c.requires.begun.0 in let t = c.requires.begun.1 in
+    (child_places c.requires.leaves t.inner (sym (goes_at f v c.args.node c.args.number c.args.point c.args.pass.now.view t).shaped) refl).0

@@ -7,6 +7,7 @@ use Rattle.aug_core.specs.inside.Refreshes.{HasNewest}
 use Rattle.aug_core.specs.declared.view.SeatView.{SeatView}
 use Rattle.aug_trie.specs.inside.Points.{IsOverLeaves}
 use Rattle.aug_trie.specs.declared.turns.points.Point.TheVariants.{Right}
+use Rattle.aug_trie.proofs.Levels.{child_places}
 use Rattle.aug_trie.proofs.Advancing.{goes_at, right_on, to_words, leaves_told}
 use Rattle.aug_trie.proofs.turns.points.load_right.Goals as goal
 
@@ -28,3 +29,7 @@ returns-clause-on g c = λ v number t. let m = g.A.Monoid in let n = g.B.Monoid 
     let a = right_on f v c.args.node number old w x c.look-right.ensures.goes c.look-right.ensures.took c.args.from c.args.left t (subst (λ (z : ℕ). HasNewest w.seen z x) er c.look-right.ensures.newest) in
     let high = c.if-child-leaves.false in
     to_words f v c.args.node number c.args.from c.args.left x old w _ refl (omega arith) t a
+
+pub look-right-requires-clause-place : goal.look-right-requires-clause-place
+look-right-requires-clause-place g c = let f = face g.A.Monoid.parts g.B.Monoid.parts in let b = c.requires.begun in let v : SeatView = b.0 in let t = b.2 in
+    (child_places c.requires.leaves t.inner (sym (goes_at f v c.args.node b.1 (Right c.args.from c.args.left) c.args.pass.now.view t).shaped) refl).1

@@ -1,7 +1,8 @@
-use Rattle.std.proofs.Common.{arith}
+use Rattle.std.proofs.Common.{arith, refl, ◌∙◌}
 use Rattle.aug_monoid.proofs.BoundLaws.{laws_of}
 use Rattle.aug_core.specs.Faces.{face}
 use Rattle.aug_core.proofs.Refreshing.{has_entry}
+use Rattle.aug_trie.proofs.Levels.{child_places}
 use Rattle.aug_trie.proofs.Whole.{try_loaded}
 use Rattle.aug_trie.proofs.updates.refreshing.refresh.Goals as goal
 
@@ -30,3 +31,15 @@ pub returns-clause-over : goal.returns-clause-over
 returns-clause-over g c = let p = c.publish.ensures in let n = c.look-from.ensures in let l = c.look-left.ensures in let r = c.look-right.ensures in let pl = c.any_part-l.ensures in let pr = c.any_part-r.ensures in
     (try_loaded g.A.Monoid.parts g.B.Monoid.parts (laws_of g.met.A.Monoid) (laws_of g.met.B.Monoid) c.requires.leaves c.requires.inner c.requires.room
     n.goes n.took n.newest l.goes l.took l.newest r.goes r.took r.newest pl.goes pl.took pl.part pr.goes pr.took pr.part).over c.publish.new.pass.view c.publish.result c.five_words.result c.five_words.ensures p.goes p.took p.published p.again
+
+pub look-left-requires-clause-place : goal.look-left-requires-clause-place
+look-left-requires-clause-place g c = (child_places c.requires.leaves c.requires.inner refl c.look-from.ensures.goes.shaped).0
+
+pub look-right-requires-clause-place : goal.look-right-requires-clause-place
+look-right-requires-clause-place g c = (child_places c.requires.leaves c.requires.inner refl (c.look-left.ensures.goes.shaped ∙ c.look-from.ensures.goes.shaped)).1
+
+pub any_part-l-requires-clause-place : goal.any_part-l-requires-clause-place
+any_part-l-requires-clause-place g c = (child_places c.requires.leaves c.requires.inner refl (c.look-right.ensures.goes.shaped ∙ c.look-left.ensures.goes.shaped ∙ c.look-from.ensures.goes.shaped)).0
+
+pub any_part-r-requires-clause-place : goal.any_part-r-requires-clause-place
+any_part-r-requires-clause-place g c = (child_places c.requires.leaves c.requires.inner refl (c.any_part-l.ensures.goes.shaped ∙ c.look-right.ensures.goes.shaped ∙ c.look-left.ensures.goes.shaped ∙ c.look-from.ensures.goes.shaped)).1

@@ -33,6 +33,7 @@ use Rattle.aug_trie.proofs.Counters.{may_count, counted_by, counted_still}
 use Rattle.aug_trie.proofs.Going.{goes_seeing}
 use Rattle.aug_trie.proofs.Passing.{pass_told, pass_after, gained_by, goes_on_by, steps_of}
 use Rattle.aug_trie.proofs.Snapshots.{pass_still, root_node, takes_snapshot, has_snapshot, loads_root, looked_on}
+use Rattle.aug_trie.proofs.Staging.{room_one}
 use Rattle.aug_trie.proofs.Trees.{top_is, has_node, keeps_on, reads_by, still_by}
 
 -- the account of a pass once an update came to this
@@ -81,6 +82,11 @@ module _ {A B : Type 0} (parts_a : Parts A) (parts_b : Parts B) where
     -- one more change may be counted
     pub has_count : (a.inserts + 1 < 2 ^ 32) × (a.removals + 1 < 2 ^ 32)
     has_count = let room = may_count f k.view a.leaves a.bits a.next a.left a.inserts a.removals told.0 counts in (omega (arith, room), omega (arith, room))
+
+    -- and its records are numbered
+    pub has_records : now.spent < now.round.updates → a.next + a.bits < 2 ^ 60
+    has_records budget = let budget' = subst (λ (z : PassFacts). z.spent < z.round.updates) (sym told.1) budget in let some : 1 ≤ a.left = omega arith in
+        (room_one f k.view a.leaves a.bits a.next a.left told.0 some).1
 
     pub update_made : (key : ℕ) (request : Request) (done : Outcome) (w : Known) (after : Account) → key < 2 ^ now.round.bits → now.spent < now.round.updates → Updated f (a.next + a.bits) k.view key request w.view done → w.table ≡ k.table
         → after ≡ account_after a request done → UpdateMade now key request done w after

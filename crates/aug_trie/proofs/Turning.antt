@@ -40,6 +40,7 @@ use Rattle.aug_trie.proofs.Ascending.{part_is}
 use Rattle.aug_trie.proofs.Counters.{may_count, counted_by}
 use Rattle.aug_trie.proofs.PassCalls.{Holds, account_after}
 use Rattle.aug_trie.proofs.Passing.{gained_by, goes_on_by, steps_of, pass_after}
+use Rattle.aug_trie.proofs.Staging.{room_one}
 use Rattle.aug_trie.proofs.Trees.{keeps_on}
 use Rattle.aug_trie.proofs.Updating.{goes_begun}
 use Rattle.std.specs.Prelude.{unwrap_or, slice_index_or, drop}
@@ -196,9 +197,9 @@ module _ {A B : Type 0} (parts_a : Parts A) (parts_b : Parts B) where
     pub keeps : Keeps (summary_of parts_a parts_b) now.start (pass_facts w after.left)
 
   module _ (k : Known) (a : Account) (key : ℕ) (request : Request) (stage : Stage) (now : ClimbFacts) (held : HoldsClimb both k.view a.leaves a.bits a.next a.left a.inserts a.removals key request stage) (is : climb_facts k a.bits a.left key request stage ≡ now) where
-    -- one more change may be counted
-    pub has_room : (a.inserts + 1 < 2 ^ 32) × (a.removals + 1 < 2 ^ 32)
-    has_room = let few = may_count both held.began a.leaves a.bits a.next a.left a.inserts a.removals held.stage_at.is_pass held.counts in (omega (arith, few), omega (arith, few))
+    -- one more change may be counted, and its records are numbered
+    pub has_room : (a.inserts + 1 < 2 ^ 32) × (a.removals + 1 < 2 ^ 32) × (a.next + a.bits < 2 ^ 60)
+    has_room = let few = may_count both held.began a.leaves a.bits a.next a.left a.inserts a.removals held.stage_at.is_pass held.counts in (omega (arith, few), omega (arith, few), (room_one both held.began a.leaves a.bits a.next a.left held.stage_at.is_pass held.stage_at.some).1)
 
     module _ (w : Known) (next : Next) (table : w.table ≡ k.table) (step : OneStep k.view w.view) (falls : StageFalls a.bits stage next)
         (on : (left : ℕ) (u : SeatView) → StageAt both a.leaves a.bits a.next left key request u stage k.view → Climbs both a.leaves a.bits a.next left key request u next w.view) where

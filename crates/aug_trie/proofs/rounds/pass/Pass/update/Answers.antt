@@ -1,5 +1,5 @@
 use Rattle.std.proofs.Common.{sym, ◌∙◌}
-use Rattle.aug_trie.proofs.PassCalls.{has_count, update_made}
+use Rattle.aug_trie.proofs.PassCalls.{has_count, has_records, update_made}
 use Rattle.aug_trie.proofs.rounds.pass.Pass.update.Goals as goal
 
 pub after-self-inside-requires-clause-inserts : goal.after-self-inside-requires-clause-inserts
@@ -27,3 +27,9 @@ returns-clause-keeps g c = let i = c.self.inside in (update_made g.A.Monoid.part
 pub returns-clause-steps : goal.returns-clause-steps
 returns-clause-steps g c = let i = c.self.inside in (update_made g.A.Monoid.parts g.B.Monoid.parts i.words i.account c.args.self.now c.in-Some.words c.self.invariant c.self.view_is (sym c.take.ensures.value ∙ c.in-Some.is)
     c.args.k c.args.request c.update-words.result.1 c.update-words.result.0 c.after-self-inside.result c.requires.key c.requires.budget c.update-words.ensures.updated c.update-words.ensures.table c.after-self-inside.ensures).steps
+
+pub update-words-requires-clause-small : goal.update-words-requires-clause-small
+update-words-requires-clause-small g c = let i = c.self.inside in has_records g.A.Monoid.parts g.B.Monoid.parts i.words i.account c.args.self.now c.in-Some.words c.self.invariant c.self.view_is (sym c.take.ensures.value ∙ c.in-Some.is) c.requires.budget
+
+pub after-self-inside-requires-clause-records : goal.after-self-inside-requires-clause-records
+after-self-inside-requires-clause-records g c = let i = c.self.inside in has_records g.A.Monoid.parts g.B.Monoid.parts i.words i.account c.args.self.now c.in-Some.words c.self.invariant c.self.view_is (sym c.take.ensures.value ∙ c.in-Some.is) c.requires.budget

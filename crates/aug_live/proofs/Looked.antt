@@ -1,16 +1,19 @@
 -- What a look holds after a call of its pass.
-use Rattle.std.proofs.Common.{◌≡◌, ◌∙◌, ℕ, ◌<◌, List, true, false, refl, sym, ap, subst, arith}
+use Rattle.std.proofs.Common.{◌≡◌, ◌∙◌, ℕ, ◌<◌, List, [], ◌++◌, true, false, refl, sym, ap, subst, arith}
 use Rattle.std.specs.Prelude.{Option, Some, unwrap_or}
 use mathlib.Core.Option.{some, some-injective}
 use lib.ListN.{get_elem?}
+use Rattle.std.proofs.lemmas.List.{append-nil}
 use Rattle.atomic_table.specs.Seated.{TableId}
 use Rattle.aug_trie.specs.declared.rounds.owned.OwnedPass.{OwnedPass}
 use Rattle.aug_trie.specs.Chains.{Chapter}
 use Rattle.aug_trie.specs.Round.{RoundFacts}
 use Rattle.aug_trie.specs.Pass.{PassFacts}
-use Rattle.aug_live.specs.inside.LaneKnowledge.{EndFacts, KnownFacts, LaneFacts, OutFacts, half_in, rounds_at}
-use Rattle.aug_live.specs.LiveHandles.{Follows}
+use Rattle.aug_live.specs.inside.LaneKnowledge.{EndFacts, KnownFacts, LaneFacts, OutFacts, half_in, rounds_at, worked}
+use Rattle.aug_live.specs.Ledgers.{Made, dated}
+use Rattle.aug_live.specs.LiveHandles.{Follows, added}
 use Rattle.aug_live.specs.inside.Looks.{HoldsHandle, HoldsLook}
+use Rattle.aug_live.proofs.Adding.{none_added}
 
 -- a pass of the same round in place of the one that was taken out, which accepted no more
 pub holds_on : {A B : Type 0} (out : OutFacts) (rest : LaneFacts) (bits lane : ℕ) (lanes : List TableId) (work : Option (OwnedPass A B)) (pass next : OwnedPass A B) → HoldsLook out rest work bits lane lanes → work ≡ Some pass → rounds_at next.half ≡ rounds_at pass.half
@@ -63,3 +66,12 @@ looks_from {A} {B} end out lane rest inside bits number place lanes half next h 
       bits_are = ap (λ (z : RoundFacts × List Chapter). z.0.bits) rounds ∙ follows.bits ∙ ap (λ (e : EndFacts). e.known.at.half.round.bits) mine ∙ h.bits_are;
       few_bits = h.few_bits;
     }
+
+-- what a look's handle knows once its lane was put back, from which the look's pass accepted nothing
+pub put_back : {A B : Type 0} (out : OutFacts) (rest lane : LaneFacts) (bits place : ℕ) (lanes : List TableId) (work : Option (OwnedPass A B)) (pass : OwnedPass A B) (known : KnownFacts) → HoldsLook out rest work bits place lanes → work ≡ Some pass
+    → lane ≡ record rest { works = true; at = record rest.at { half = pass.half } } → known ≡ worked out.known out.taken lane → known ≡ record out.known { works = true; at = record rest.at { half = half_in work } }
+put_back {A} {B} out rest lane bits place lanes work pass known h there lane_is known_is =
+    let is : Some pass ≡ Some h.pass = sym there ∙ h.there in
+    let none : added out.taken.at.half pass.half ≡ [] = none_added out.taken.at.half pass.half (ap (λ (z : Option (OwnedPass A B)). (half_in z).knows.accepted) is ∙ h.same_changes) in
+    known_is ∙ ap (worked out.known out.taken) lane_is ∙ (λ i. record out.known { works = true; at = record rest.at { half = half_in (sym there i) }; made = out.known.made ++ dated rest.at.era (none i) })
+    ∙ ap (λ (z : List Made). record out.known { works = true; at = record rest.at { half = half_in work }; made = z }) (append-nil out.known.made)

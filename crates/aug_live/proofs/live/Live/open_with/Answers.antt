@@ -69,3 +69,9 @@ returns-clause-opened g c =
       none_before = ap (λ (z : RoundFacts × List Chapter). z.1) lanes.round ∙ ap (λ (z : CrewFacts). z.past) begun.crew_is;
       members = ap (λ (z : RoundFacts × List Chapter). z.0.members) lanes.round ∙ ap (λ (z : CrewFacts). z.round.members) begun.crew_is ∙ ap (λ (z : RoundFacts). z.members) begun.round_is;
     })
+
+pub returns-clause-handles : goal.returns-clause-handles
+returns-clause-handles g c =
+    let lanes = c.open_lanes-ports.ensures in let out = c.hand_out-handles.ensures in let handles = c.hand_out-handles.result in let ends = c.open_lanes-ports.result.1 in
+    let at = λ (e : EndFacts). handle_by (ids_of c.place-desk.result) (Some e) in
+    omega (arith, handles.ok.0, ends.ok.0, ap (λ (z : List HandleFacts). length z) out.at, length-map ends.items at, lanes.len.1, c.in-Ok.ensures.firsts.1)

@@ -1,8 +1,9 @@
-use Rattle.std.proofs.Common.{ℕ, ◌-◌, ◌*◌, ◌+◌, inl, sym, subst}
+use Rattle.std.proofs.Common.{ℕ, ◌-◌, ◌*◌, ◌+◌, inl, sym, subst, arith}
 use Rattle.aug_core.specs.declared.view.SeatView.{SeatView}
 use Rattle.aug_trie.specs.inside.NodeWords.{IsNodeAt}
 use Rattle.aug_trie.specs.inside.NamedCuts.{cut_named}
 use Rattle.aug_trie.proofs.Looking.{record_seen, right_is}
+use Rattle.aug_trie.proofs.Ranking.{looks_one, looks_on}
 use Rattle.aug_trie.proofs.queries.nodes.right_of.Goals as goal
 
 pub load_record_word-word-requires : goal.load_record_word-word-requires
@@ -18,3 +19,7 @@ pub returns-clause-named : goal.returns-clause-named
 returns-clause-named g c = let v : SeatView = c.args.pass.now.view in let r = c.load_record_word-word.result in let l = c.load_record_word-word.ensures.view in let s = c.args.node.now.snapshot.number in let n = c.node_at.ensures in
     subst (λ (z : ℕ × ℕ × ℕ). IsNodeAt v.shape v.seen (cut_named v.shape v.seen s) z.0 z.1 z.2) (λ i. (sym n.level i, sym n.place i, sym n.word i))
     (right_is g.A.Monoid.parts g.B.Monoid.parts v c.requires.knows (cut_named v.shape v.seen s) c.args.node.now.level c.args.node.now.place c.args.node.now.word c.requires.node c.requires.inner r l.known)
+
+pub returns-clause-looks : goal.returns-clause-looks
+returns-clause-looks g c = let v : SeatView = c.args.pass.now.view in let w : SeatView = c.load_record_word-word.new.self.view in
+    looks_on 1 3 4 v w c.node_at.new.pass.view (omega arith) (looks_one v w _ c.load_record_word-word.ensures.view.stepped) c.node_at.ensures.looks

@@ -5,6 +5,7 @@ use Rattle.aug_core.specs.declared.view.SeatView.{SeatView}
 use Rattle.aug_trie.specs.inside.NamedCuts.{cut_named}
 use Rattle.aug_trie.proofs.Telling.{seen_on, says_before}
 use Rattle.aug_trie.proofs.Looking.{leaf_tells, record_seen, count_fits, record_tells}
+use Rattle.aug_trie.proofs.Ranking.{looks_none, looks_one, looks_on}
 use Rattle.aug_trie.proofs.queries.nodes.summary_at.Goals as goal
 
 pub returns-then-level-eq0-clause-tells : goal.returns-then-level-eq0-clause-tells
@@ -41,3 +42,8 @@ returns-clause-tells g c = let m = g.A.Monoid in let n = g.B.Monoid in let v : S
       place_fits = told.place_fits;
       tells = (λ i. record { count = c.load_record_word-count.result; a = c.from_word.ensures i; b = c.from_word-2.ensures i }) ∙ told.tells;
     }
+
+pub returns-clause-looks : goal.returns-clause-looks
+returns-clause-looks g c = let v : SeatView = c.args.pass.now.view in let w1 : SeatView = c.load_record_word-count.new.self.view in let w2 : SeatView = c.load_record_word-a.new.self.view in let w3 : SeatView = c.load_record_word-b.new.self.view in
+    let two = looks_on 1 1 2 v w1 w2 (omega arith) (looks_one v w1 _ c.load_record_word-count.ensures.view.stepped) (looks_one w1 w2 _ c.load_record_word-a.ensures.view.stepped) in
+    looks_on 2 1 3 v w2 w3 (omega arith) two (looks_one w2 w3 _ c.load_record_word-b.ensures.view.stepped)

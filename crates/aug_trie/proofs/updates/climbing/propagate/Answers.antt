@@ -1,10 +1,10 @@
-use Rattle.std.proofs.Common.{ap, subst, sym, refl, ◌∙◌, ◌≡◌, ◌+◌, ◌/◌, ℕ, suc, add-one}
+use Rattle.std.proofs.Common.{ap, subst, sym, refl, ◌∙◌, ◌≡◌, ◌+◌, ◌/◌, ℕ, suc, add-one, arith}
 use Rattle.aug_core.specs.Faces.{face}
 use Rattle.aug_core.specs.Places.{Shape}
 use Rattle.aug_core.specs.inside.Shows.{above}
 use Rattle.aug_core.specs.declared.view.SeatView.{SeatView}
 use Rattle.aug_trie.specs.inside.Goes.{HasLeaves, HasRoom}
-use Rattle.aug_trie.specs.inside.Stages.{IsCovered}
+use Rattle.aug_trie.specs.inside.Stages.{IsCovered, HasRisen}
 use Rattle.aug_trie.proofs.Ascending.{risen_none, inner_above, room_above, risen_on}
 use Rattle.aug_trie.proofs.Levels.{place_is}
 use Rattle.aug_trie.proofs.updates.climbing.propagate.Goals as goal
@@ -37,3 +37,7 @@ loop-level-preserved g c = let f = face g.A.Monoid.parts g.B.Monoid.parts in let
       node = is ∙ ap (above v.shape c.args.leaf) (sym (add-one level));
       risen = risen_on f c.args.bits c.args.number c.args.leaf v m level u low inv.risen node w is covered;
     }
+
+pub returns-clause-risen : goal.returns-clause-risen
+returns-clause-risen g c = let all : c.loop-level.level ≡ c.args.bits = omega arith in
+    subst (λ (z : ℕ). HasRisen (face g.A.Monoid.parts g.B.Monoid.parts) c.args.bits c.args.number c.args.leaf c.args.pass.view z c.loop-level.pass.view) all c.loop-level.invariant.risen

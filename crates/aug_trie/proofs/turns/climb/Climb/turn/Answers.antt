@@ -37,10 +37,10 @@ returns-in-Done-clause-keeps g c = λ pass outcome is. let i = c.self.inside in 
 
 pub invariant_of-result : goal.invariant_of-result
 invariant_of-result g c = let i = c.self.inside in let h = c.self.invariant in let n = c.next_stage-next.ensures in record {
-      began = h.began;
-      stage_at = climbs g.A.Monoid.parts g.B.Monoid.parts i.words i.account i.key i.request i.stage c.args.self h c.self.view_is c.next_stage-next.new.pass c.next_stage-next.result n.table n.step n.falls n.on (More c.in-More.stage) c.in-More.is;
-      counts = h.counts;
-    }
+  began = h.began;
+  stage_at = climbs g.A.Monoid.parts g.B.Monoid.parts i.words i.account i.key i.request i.stage c.args.self h c.self.view_is c.next_stage-next.new.pass c.next_stage-next.result n.table n.step n.falls n.on (More c.in-More.stage) c.in-More.is;
+  counts = h.counts;
+}
 
 pub after-requires-clause-records : goal.after-requires-clause-records
 after-requires-clause-records g c = let i = c.self.inside in (has_room g.A.Monoid.parts g.B.Monoid.parts i.words i.account i.key i.request i.stage c.args.self c.self.invariant c.self.view_is).2

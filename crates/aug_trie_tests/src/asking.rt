@@ -274,10 +274,7 @@ fn kept_over(pass: &mut Pass<Sum, Extent>, universe: u32, weight: Option<u32>) -
 }
 
 // How many members a key is, and what it weighs.
-fn weighed(weight: Option<u32>) -> (u32, u64)
-    ensures one { result.0 ≤ 1 }
-    ensures small { result.1 < 2 ^ 32 }
-{
+fn weighed(weight: Option<u32>) -> (u32, u64) {
     match weight {
         Some(weight) => (1, u64::from(weight)),
         None => (0, 0),
@@ -295,8 +292,11 @@ pub(super) fn adds_up(pass: &mut Pass<Sum, Extent>) -> Option<u32>
     let one = weighed(pass.ask(snapshot, Weight(1)));
     let two = weighed(pass.ask(snapshot, Weight(2)));
     let three = weighed(pass.ask(snapshot, Weight(3)));
-    let count = zero.0 + one.0 + two.0 + three.0;
-    let sum = zero.1 + one.1 + two.1 + three.1;
+    let (mut count, mut sum) = (0u32, 0u64);
+    for (members, weights) in [zero, one, two, three] {
+        count = count.saturating_add(members);
+        sum = sum.saturating_add(weights);
+    }
     (whole.count == count && whole.a.value() == sum && pass.ask(snapshot, Size) == count).then_some(
         count,
     )

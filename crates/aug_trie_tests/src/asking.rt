@@ -1,5 +1,5 @@
 //! What the passes of a script ask of their snapshots.
-ghost use Rattle.std.specs.Prelude.{◌≡◌, ◌^◌, ◌<◌, ◌≤◌};
+ghost use Rattle.std.specs.Prelude.{◌≡◌, ◌^◌, ◌<◌};
 ghost use Rattle.aug_trie.specs.Snapshot.{HasSnapshot};
 
 use super::playing::{Act, Reply};

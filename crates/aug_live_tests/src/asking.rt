@@ -23,12 +23,8 @@ enum Own {
     Passed(u64),
 }
 
-/// What it finds.
-#[derive(Clone, Copy, PartialEq, Eq, Debug)]
-enum Found {
-    Count(u32),
-    Key(Option<u32>),
-}
+// What it finds: how many members, or which one.
+type Found = (u32, Option<u32>);
 
 /// What shows a set.
 trait Shows {
@@ -39,8 +35,8 @@ trait Shows {
 // What a tree answers.
 fn find_in<T: Tree<Sum, Extent>>(tree: &mut T, query: Own) -> Found {
     match query {
-        Own::Held(level, band) => Found::Count(ask(tree, Band { level, band })),
-        Own::Passed(number) => Found::Key(ask(tree, Passes(number))),
+        Own::Held(level, band) => (ask(tree, Band { level, band }), None),
+        Own::Passed(number) => (0, ask(tree, Passes(number))),
     }
 }
 
@@ -60,8 +56,8 @@ impl Shows for Pass<'_, Sum, Extent> {
     fn find(&mut self, query: Own) -> Found {
         let now = self.snapshot();
         match query {
-            Own::Held(level, band) => Found::Count(self.ask(now, Band { level, band })),
-            Own::Passed(number) => Found::Key(self.ask(now, Passes(number))),
+            Own::Held(level, band) => (self.ask(now, Band { level, band }), None),
+            Own::Passed(number) => (0, self.ask(now, Passes(number))),
         }
     }
 }
@@ -69,8 +65,8 @@ impl Shows for Pass<'_, Sum, Extent> {
 impl Shows for View {
     fn find(&mut self, query: Own) -> Found {
         match query {
-            Own::Held(level, band) => Found::Count(self.ask(Band { level, band })),
-            Own::Passed(number) => Found::Key(self.ask(Passes(number))),
+            Own::Held(level, band) => (self.ask(Band { level, band }), None),
+            Own::Passed(number) => (0, self.ask(Passes(number))),
         }
     }
 }
@@ -100,8 +96,8 @@ fn passed(number: u64) -> Option<u32> {
 
 fn by_hand(query: Own) -> Found {
     match query {
-        Own::Held(level, band) => Found::Count(held(level, band)),
-        Own::Passed(number) => Found::Key(passed(number)),
+        Own::Held(level, band) => (held(level, band), None),
+        Own::Passed(number) => (0, passed(number)),
     }
 }
 
@@ -129,7 +125,7 @@ fn agree<S: Shows>(rt: &impl Abort, shown: &mut S) {
         equal_at(rt, shown.find(query), by_hand(query), i);
     }
     let last = Own::Passed(u64::MAX);
-    equal(rt, shown.find(last), Found::Key(None));
+    equal(rt, shown.find(last), (0, None));
 }
 
 #[test]

@@ -1,18 +1,16 @@
 -- Each step on the lock of the desk keeps its rule.
-use Rattle.std.proofs.Common.{◌≡◌, ℕ, zero, suc, ◌<◌, List, [], ◌∷◌, set, true, false, sym, refl, ap, ◌∙◌, subst, ⊎_elim, arith}
+use Rattle.std.proofs.Common.{◌≡◌, ◌≢◌, ◌⊎◌, ℕ, zero, suc, ◌<◌, List, [], ◌∷◌, set, true, false, sym, refl, ap, ◌∙◌, subst, ⊎_elim, arith}
 use Rattle.std.specs.Prelude.{Option, Some, None, IfSome}
 use Rattle.std.proofs.lemmas.Bool.{false≢true, cases_Bool}
 use mathlib.Core.Option.{some, some-injective, some-ne-none}
 use lib.ListN.{get_elem?}
 use Rattle.atomic_table.proofs.Lists.{at_set}
 use Rattle.ruled_lock.specs.Locks.{Learns, Forks}
-use Rattle.aug_live.specs.LiveTries.{TrieFacts, KnowsMore, ids_of}
-use Rattle.aug_live.specs.LiveErrors.{RefusesHandle, RefusesRoll}
+use Rattle.aug_live.specs.LiveTries.{TrieFacts, KnowsMore}
+use Rattle.aug_live.specs.LiveErrors.{RefusesRoll}
 use Rattle.aug_live.specs.declared.error.LiveError.{LiveError}
-use Rattle.aug_live.specs.declared.error.LiveError.TheVariants.{Closed, Exhausted, Replaced, NoLane}
+use Rattle.aug_live.specs.declared.error.LiveError.TheVariants.{Closed, NoLane}
 use Rattle.aug_live.specs.declared.desk_end.Desk.{Desk}
-use Rattle.atomic_table.specs.Seated.{TableId}
-use Rattle.aug_live.specs.inside.LaneKnowledge.{EndFacts, handle_by}
 use Rattle.aug_live.specs.inside.DeskKnowledge.{IsTold, KnowsDesk, OnDesk, is_told, no_trie, told_by}
 use Rattle.aug_live.proofs.Counted.{more_self, more_on}
 use Rattle.aug_live.proofs.Tied.{snoc_at}
@@ -107,14 +105,6 @@ some_more own mine w t t' o is there knows more so =
     let before : KnowsMore own t = subst (λ (z : TrieFacts). KnowsMore z t) is (subst (λ (z : Option TrieFacts). IfSome z (KnowsMore mine)) there knows) in
     subst (KnowsMore own) (sym so) (more_on own t t' before more)
 
--- a handle has the lanes of its trie
-pub lanes_by : (lanes : List TableId) (o : Option EndFacts) → (handle_by lanes o).lanes ≡ lanes
-lanes_by lanes None = refl
-lanes_by lanes (Some e) = refl
-
--- where a round does not roll over, the handle is refused that asked for it
-pub handle_refused : (t : TrieFacts) (e : LiveError) → RefusesRoll t e → RefusesHandle (ids_of t) e
-handle_refused t Closed r = absurd r
-handle_refused t Exhausted r = (t, refl, r)
-handle_refused t Replaced r = absurd r
-handle_refused t NoLane r = r
+-- a handle is never told that there is no lane, since no round is refused for that
+pub some_lane : (t : TrieFacts) (e : LiveError) → (e ≡ Closed) ⊎ RefusesRoll t e → e ≢ NoLane
+some_lane t e why is = ⊎_elim (λ closed. let clash : Closed ≡ NoLane = sym closed ∙ is in cc) (λ r. subst (RefusesRoll t) is r) why

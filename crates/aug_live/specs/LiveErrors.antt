@@ -1,9 +1,8 @@
 -- Why an update or a look was not made, and which calls answer that.
-use Rattle.std.specs.Prelude.{◌≡◌, ◌⊎◌, ℕ, ◌+◌, ◌^◌, ◌≤◌, List, length, codes}
+use Rattle.std.specs.Prelude.{◌⊎◌, ℕ, ◌+◌, ◌^◌, ◌≤◌, List, length, codes}
 use Rattle.std.specs.List.{sum_by}
-use Rattle.atomic_table.specs.Seated.{TableId}
 use Rattle.aug_live.specs.Ledgers.{Made}
-use Rattle.aug_live.specs.LiveTries.{AreCountsOf, LaneKnown, TrieFacts, ids_of}
+use Rattle.aug_live.specs.LiveTries.{AreCountsOf, LaneKnown, TrieFacts}
 use Rattle.aug_live.specs.declared.error.LiveError.{LiveError}
 use Rattle.aug_live.specs.declared.error.LiveError.TheVariants.{Closed, Exhausted, Replaced, NoLane}
 
@@ -35,10 +34,3 @@ RefusesLane lane trie Closed = ⊥
 RefusesLane lane trie Exhausted = 2 ^ 64 ≤ sum_by (λ (l : LaneKnown). length l.done) trie.lanes + length trie.lanes + 1
 RefusesLane lane trie Replaced = ⊥
 RefusesLane lane trie NoLane = length trie.lanes ≤ lane
-
--- why a call of a handle of these lanes is refused
-abbrev pub RefusesHandle : List TableId → LiveError → Type 0
-RefusesHandle lanes Closed = Unit {0}
-RefusesHandle lanes Exhausted = (trie : TrieFacts) × (ids_of trie ≡ lanes) × IsExhausted trie
-RefusesHandle lanes Replaced = Unit {0}
-RefusesHandle lanes NoLane = ⊥

@@ -1,12 +1,12 @@
 //! The desk, and the ends of its lock.
-ghost use Rattle.std.specs.Prelude.{◌≡◌, ◌+◌, ◌<◌, ◌≤◌, IfOk, IfErr, IsErr, None, Some, length};
+ghost use Rattle.std.specs.Prelude.{◌≡◌, ◌⊎◌, ◌+◌, ◌<◌, ◌≤◌, IfOk, IfErr, IsErr, None, Some, length};
 ghost use Rattle.ruled_lock.specs.Locks.{Holds, HoldsNothing, IsSamePass, client_of};
 ghost use mathlib.Core.Option.{some};
 ghost use lib.ListN.{get_elem?};
 ghost use Rattle.atomic_table.specs.Seated.{TableId};
 ghost use Rattle.aug_trie.specs.Note.{chain_of_note};
 ghost use Rattle.aug_trie.specs.Chains.{IsPart};
-ghost use Rattle.aug_live.specs.LiveErrors.{RefusesHandle, RefusesLane, RefusesRoll};
+ghost use Rattle.aug_live.specs.LiveErrors.{RefusesLane, RefusesRoll};
 ghost use Rattle.aug_live.specs.LiveTries.{CameBack, Closes, KnowsMore, ids_of};
 ghost use Rattle.aug_live.specs.inside.Desks.{GivesLane};
 ghost use Rattle.aug_live.specs.declared.known.Whose.TheVariants.{Handle};
@@ -156,7 +156,7 @@ impl<A: Monoid, B: Monoid> DeskEnd<A, B> {
     /// Sees to it that a lane which was spent in this era has a pass, as `Working::past` does.
     pub(crate) fn past<R: Wait>(&mut self, rt: &R, era: u64, lane: usize) -> Result<(), LiveError>
         ensures more { KnowsMore self.old self.new }
-        ensures refused { IfErr result (RefusesHandle (ids_of self.new)) }
+        ensures refused { IfErr result (λ cause. (cause ≡ LiveError.Closed) ⊎ RefusesRoll self.new cause) }
     {
         let Desk { working, opened } = self.lock.take::<Read, R>(rt, &mut self.pass);
         let Some(working) = working else {

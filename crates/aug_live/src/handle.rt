@@ -1,5 +1,5 @@
 //! The end of a lane that a thread works with.
-ghost use Rattle.std.specs.Prelude.{◌≡◌, ℕ, ◌^◌, ◌<◌, IfOk, IfErr};
+ghost use Rattle.std.specs.Prelude.{◌≡◌, ◌≢◌, ℕ, ◌^◌, ◌<◌, IfOk, IfErr};
 ghost use Rattle.std.specs.Bool.{OnTrue, OnFalse};
 ghost use Rattle.aug_trie.specs.Knowledge.{insertion, removal};
 ghost use Rattle.aug_trie.specs.declared.updates.request.Request.TheVariants as asked;
@@ -8,7 +8,6 @@ ghost use Rattle.aug_trie.specs.Snapshot.{snapshot_cut};
 ghost use Rattle.aug_trie.specs.Chains.{IsPart};
 ghost use Rattle.aug_trie.specs.Note.{chain_of_note};
 ghost use Rattle.aug_trie.specs.Pass.{chain_of};
-ghost use Rattle.aug_live.specs.LiveErrors.{RefusesHandle};
 ghost use Rattle.aug_live.specs.LiveHandles.{Follows, Makes, handle_of, note_at};
 
 use crate::desk_end::DeskEnd;
@@ -60,7 +59,7 @@ impl<A: Monoid, B: Monoid> Handle<A, B> {
         requires key { k < 2 ^ self.old.half.round.bits }
         ensures made { IfOk result (λ done. Makes 1 (λ a b. OnTrue done (AcceptedUpdate insertion k k a.knows b.knows) × OnFalse done (RefusedUpdate insertion k a.knows b.knows)) self.old self.new) }
         ensures not_made { IfErr result (λ _. Follows self.old self.new) }
-        ensures refused { IfErr result (RefusesHandle self.new.lanes) }
+        ensures refused { IfErr result (λ cause. cause ≢ LiveError.NoLane) }
     {
         match self.update(rt, k, Request::Insert)? {
             Outcome::Accepted => Ok(true),
@@ -74,7 +73,7 @@ impl<A: Monoid, B: Monoid> Handle<A, B> {
         requires key { k < 2 ^ self.old.half.round.bits }
         ensures made { IfOk result (λ done. Makes 1 (λ a b. OnTrue done (AcceptedUpdate removal k 0 a.knows b.knows) × OnFalse done (RefusedUpdate removal k a.knows b.knows)) self.old self.new) }
         ensures not_made { IfErr result (λ _. Follows self.old self.new) }
-        ensures refused { IfErr result (RefusesHandle self.new.lanes) }
+        ensures refused { IfErr result (λ cause. cause ≢ LiveError.NoLane) }
     {
         match self.update(rt, k, Request::Remove)? {
             Outcome::Accepted => Ok(true),
@@ -88,7 +87,7 @@ impl<A: Monoid, B: Monoid> Handle<A, B> {
         requires key { k < 2 ^ self.old.half.round.bits }
         ensures made { IfOk result (λ done. Makes 1 (λ a b. ComesTo (asked.Put weight) k done a.knows b.knows) self.old self.new) }
         ensures not_made { IfErr result (λ _. Follows self.old self.new) }
-        ensures refused { IfErr result (RefusesHandle self.new.lanes) }
+        ensures refused { IfErr result (λ cause. cause ≢ LiveError.NoLane) }
     {
         self.update(rt, k, Request::Put(weight))
     }
@@ -98,7 +97,7 @@ impl<A: Monoid, B: Monoid> Handle<A, B> {
     pub fn look<R: Wait>(self, rt: &R) -> Result<Look<A, B>, (Handle<A, B>, LiveError)>
         ensures looks { IfOk result (λ look. Makes 0 (λ a b. TakesSnapshot a.knows b.knows (snapshot_cut b look.snapshot.number)) self (handle_of look)) }
         ensures not_made { IfErr result (λ e. Follows self e.0) }
-        ensures refused { IfErr result (λ e. RefusesHandle e.0.lanes e.1) }
+        ensures refused { IfErr result (λ e. e.1 ≢ LiveError.NoLane) }
     {
         let mut handle = self;
         for _ in rt.forever() {
@@ -121,7 +120,7 @@ impl<A: Monoid, B: Monoid> Handle<A, B> {
     pub fn note<R: Wait>(&mut self, rt: &R) -> Result<Note<A, B>, LiveError>
         ensures note { IfOk result (λ note. note ≡ note_at self.new.half) }
         ensures follows { Follows self.old self.new }
-        ensures refused { IfErr result (RefusesHandle self.new.lanes) }
+        ensures refused { IfErr result (λ cause. cause ≢ LiveError.NoLane) }
     {
         for _ in rt.forever() {
             let missed = match self.try_note(rt) {
@@ -146,7 +145,7 @@ impl<A: Monoid, B: Monoid> Handle<A, B> {
         ensures learns { IfOk result (λ _. IsPart (chain_of_note note) (chain_of self.new.half)) }
         ensures follows { Follows self.old self.new }
         ensures kept { IfErr result (λ e. e.0 ≡ note) }
-        ensures refused { IfErr result (λ e. RefusesHandle self.new.lanes e.1) }
+        ensures refused { IfErr result (λ e. e.1 ≢ LiveError.NoLane) }
     {
         let mut note = note;
         for _ in rt.forever() {
@@ -177,7 +176,7 @@ impl<A: Monoid, B: Monoid> Handle<A, B> {
         requires key { k < 2 ^ self.old.half.round.bits }
         ensures made { IfOk result (λ done. Makes 1 (λ a b. ComesTo request k done a.knows b.knows) self.old self.new) }
         ensures not_made { IfErr result (λ _. Follows self.old self.new) }
-        ensures refused { IfErr result (RefusesHandle self.new.lanes) }
+        ensures refused { IfErr result (λ cause. cause ≢ LiveError.NoLane) }
     {
         for _ in rt.forever() {
             let missed = match self.try_update(rt, k, request) {
@@ -296,7 +295,7 @@ impl<A: Monoid, B: Monoid> Handle<A, B> {
     // Goes past what was missed: to the next round, or to a spare lane of this one.
     fn past<R: Wait>(&mut self, rt: &R, missed: Missed) -> Result<(), LiveError>
         ensures same { self.new ≡ self.old }
-        ensures refused { IfErr result (RefusesHandle self.new.lanes) }
+        ensures refused { IfErr result (λ cause. cause ≢ LiveError.NoLane) }
     {
         let Missed::Round(era) = missed else {
             return Err(LiveError::Replaced);

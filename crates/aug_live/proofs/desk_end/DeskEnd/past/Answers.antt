@@ -1,10 +1,11 @@
-use Rattle.std.proofs.Common.{refl, subst, sym}
+use Rattle.std.proofs.Common.{◌≡◌, ◌⊎◌, inr, refl, subst, sym}
 use Rattle.std.specs.Prelude.{Some, None, IfErr}
 use Rattle.ruled_lock.specs.Locks.{client_of}
-use Rattle.aug_live.specs.LiveErrors.{RefusesHandle, RefusesRoll}
-use Rattle.aug_live.specs.LiveTries.{TrieFacts, ids_of}
+use Rattle.aug_live.specs.LiveErrors.{RefusesRoll}
+use Rattle.aug_live.specs.LiveTries.{TrieFacts}
+use Rattle.aug_live.specs.declared.error.LiveError.TheVariants.{Closed}
 use Rattle.aug_live.proofs.Carries.{err_map}
-use Rattle.aug_live.proofs.Told.{handle_refused, keeps_on, learns, none_more, put_told, some_more, turns}
+use Rattle.aug_live.proofs.Told.{keeps_on, learns, none_more, put_told, some_more, turns}
 use Rattle.aug_live.proofs.desk_end.DeskEnd.past.Goals as goal
 
 pub take-working-requires-clause-rule : goal.take-working-requires-clause-rule
@@ -33,4 +34,5 @@ returns-clause-more g c = let take = c.take-working in let end = c.self.inside.p
 pub returns-clause-refused : goal.returns-clause-refused
 returns-clause-refused g c = let take = c.take-working in let now = c.past-working.result.0 in
     let told = put_told take.new.pass.me.0.taken take.result (record { working = Some now; opened = take.result.opened }) (client_of take.new.pass) (client_of c.put-2.new.pass) take.ensures.holds.0 c.put-2.ensures.then in
-    subst (λ (z : TrieFacts). IfErr c.past-working.result.1 (RefusesHandle (ids_of z))) (sym told) (err_map (RefusesRoll now) (RefusesHandle (ids_of now)) c.past-working.result.1 (handle_refused now) c.past-working.ensures.refused)
+    subst (λ (z : TrieFacts). IfErr c.past-working.result.1 (λ e. (e ≡ Closed) ⊎ RefusesRoll z e)) (sym told)
+    (err_map (RefusesRoll now) (λ e. (e ≡ Closed) ⊎ RefusesRoll now e) c.past-working.result.1 (λ e r. inr r) c.past-working.ensures.refused)

@@ -1,5 +1,5 @@
 use Rattle.std.proofs.Common.{◌∙◌, ap}
-use Rattle.aug_live.specs.LiveHandles.{LookFacts, handle_of}
+use Rattle.aug_live.specs.LiveHandles.{handle_of}
 use Rattle.aug_live.specs.LiveTries.{ids_of}
 use Rattle.aug_live.specs.inside.LaneKnowledge.{EndFacts, KnownFacts}
 use Rattle.aug_live.proofs.Looked.{put_back}

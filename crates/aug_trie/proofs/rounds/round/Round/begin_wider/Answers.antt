@@ -1,4 +1,4 @@
-use Rattle.std.proofs.Common.{arith, rules, ap, subst, sym, refl, ◌∙◌, ◌≡◌, ℕ, ◌≤◌, ◌<◌, List, length, All, true, Ok, Err}
+use Rattle.std.proofs.Common.{arith, rules, ap, subst, sym, refl, ◌∙◌, ◌≡◌, ℕ, ◌≤◌, List, length, All, Ok, Err}
 use Rattle.aug_monoid.specs.Weighted.{FitsPair}
 use Rattle.aug_model.specs.Keys.{IsKeySet, keys_of}
 use Rattle.aug_model.proofs.Rising.{is_wider}

@@ -1,4 +1,4 @@
--- Why an update or a look was not made, and which calls answer that.
+-- Why a call of a live trie is refused.
 use Rattle.std.specs.Prelude.{◌⊎◌, ℕ, ◌+◌, ◌^◌, ◌≤◌, List, length, codes}
 use Rattle.std.specs.List.{sum_by}
 use Rattle.aug_live.specs.Ledgers.{Made}

@@ -335,28 +335,25 @@ class Sleeping(InFolder):
 
 
 class Surface(InFolder):
-    """tests/surface.py compares the list of calls with the sources, both ways."""
+    """tests/surface.py writes the page of public calls, and compares it."""
 
-    SOURCES = {
-        "lib.rt": """
+    TEXTS = {
+        "crates.txt": "one:\n",
+        "crates/one/src/lib.rt": """
 mod shelf;
-pub use shelf::{Shelf, Lends};
+pub use shelf::{Gone, Lends, Shelf};
 pub use shelf::count;
 """,
-        "shelf.rt": """
+        "crates/one/src/shelf.rt": """
 impl<A: Copy> Shelf<A> {
     /// Takes a book out.
     pub fn take(&mut self, number: u32) -> Result<A, Gone>
         requires room { number < 9 }
         ensures gone { IsErr result }
 
-        ensures rest { result ≡ result }
+        ensures { result ≡ result }
     {
         self.inner()
-    }
-
-    pub fn size(&self) -> u32 {
-        0
     }
 
     pub(crate) fn inner(&self) {}
@@ -371,12 +368,11 @@ pub trait Lends {
 
     fn lend(&self) -> u32
         ensures { result ≡ 0 };
-
-    /// What it is.
-    fn name(&self) -> u32;
 }
 
-pub fn count() -> u32 {
+pub fn count() -> u32
+    ensures { result ≡ 0 }
+{
     0
 }
 
@@ -384,80 +380,52 @@ pub fn hidden() -> u32 {
     0
 }
 """,
-        "tests.rt": "#[test]\nfn takes_one() {}\n",
+        "crates/one/must-fail/take_gives_none.edit": "file: src/shelf.rt\nold:         self.inner()\nnew:         none\n",
+        "edits/one/count_is_one.edit": "file: src/shelf.rt\nold: pub fn count() -> u32\nnew: pub fn count() -> u64\n",
+        "edits/one/a_shelf_shows_nothing.edit": "file: src/shelf.rt\nold:     fn fmt(&self) {}\nnew:     fn fmt() {}\n",
     }
 
-    TABLES = """
-| Call | Refusal | Exactly where | What is as it was | Tests | Edits |
-|---|---|---|---|---|---|
-| `take` of `Shelf` | `Gone` | `gone` | `rest` | `takes_one` | `take_gives_none` |
+    SECTION = """
+## `one`
 
-| Crate | Calls | Conditions | Clauses |
-|---|---|---|---|
-| `one` | `take` of `Shelf` | `room`: below 9 | `gone`, `rest` |
-| | `size` of `Shelf`; `count` | | |
-| | `lend`, `name` of `Lends` | | `result`; the law `fair` |
-
-| What is tested | Where |
-|---|---|
-| a book | `takes_one` (`docs/surface.md`) |
-
+- `count` *ensures* _, *not* count_is_one.
+- **`Lends`**: *ghost* fair; `lend` *ensures* _.
+- **`Shelf`**: `take` *requires* room, *ensures* gone, _, *or* Gone, *not* take_gives_none.
+- Without calls of their own: Gone.
 """
 
-    def compare(self, file=None, old="", new="", least=10):
-        """Compares the list with the sources, in one of which a text was put in the place of another: what it printed, and its status."""
-        texts = {"docs/surface.md": self.TABLES, "crates/one/must-fail/take_gives_none.edit": ""}
-        texts.update((f"crates/one/src/{name}", text) for name, text in self.SOURCES.items())
-        if file:
-            self.assertEqual(texts[file].count(old), 1)
-            texts[file] = texts[file].replace(old, new)
-        for name, text in texts.items():
+    def check(self, file="crates.txt", old="one:", new="one:", words=(), page=surface.HEAD + SECTION, least=3):
+        """Compares the page with the sources, in one of which a text was put in the place of another: what it printed, and its status."""
+        for name, text in self.TEXTS.items():
+            if name == file:
+                self.assertEqual(text.count(old), 1)
+                text = text.replace(old, new)
             self.write(name, text)
-        status, said = quietly(surface.main, self.folder, least)
-        return said, status
+        self.write("docs/surface.md", page)
+        return quietly(surface.main, words, self.folder, least)[::-1]
 
-    def assert_told(self, why, *changed):
-        said, status = self.compare(*changed)
-        self.assertEqual((said.splitlines()[:-1], status), ([f"docs/surface.md: {why}"], 1))
-        self.assertTrue(said.endswith(" passed, 1 failed\n"), said)
+    def test_page_that_agrees(self):
+        self.assertEqual(self.check(), ("3 passed, 0 failed\n", 0))
 
-    def test_list_that_agrees(self):
-        self.assertEqual(self.compare(), ("10 passed, 0 failed\n", 0))
+    def test_page_that_is_written(self):
+        self.assertEqual(self.check(words=["--write"], page=""), ("", 0))
+        with open(os.path.join(self.folder, "docs/surface.md"), encoding="utf-8") as file:
+            self.assertEqual(file.read(), surface.HEAD + self.SECTION)
 
-    def test_list_that_names_too_little(self):
-        said, status = self.compare(least=11)
-        self.assertIn("the tables name 10 calls, tests and edits, and should name 11", said)
+    def test_page_that_is_not_as_it_is_written(self):
+        shelf = "crates/one/src/shelf.rt"
+        for changed in (shelf, "requires room", "requires"), (shelf, "pub fn count", "fn count"), (shelf, "ghost fair", "ghost even"), (shelf, "A, Gone>", "A, Lost>"):
+            said, status = self.check(*changed)
+            self.assertIn("docs/surface.md is not as tests/surface.py --write writes it\n", said)
+            self.assertEqual(status, 1)
+
+    def test_call_without_a_clause(self):
+        said, status = self.check("crates/one/src/lib.rt", "pub use shelf::count;", "pub use shelf::{count, hidden};")
+        self.assertIn("hidden has no clause\n", said)
         self.assertEqual(status, 1)
 
-    def test_call_that_is_not_listed(self):
-        shelf = "crates/one/src/shelf.rt"
-        inner = "    pub(crate) fn inner"
-        self.assert_told("one: put of Shelf is there and not listed", shelf, inner, f"    pub fn put(&mut self) {{}}\n\n{inner}")
-        self.assert_told("one: more of Lends is there and not listed", shelf, "    /// What it is.\n", "    fn more(&self);\n\n    /// What it is.\n")
-        self.assert_told("one: hidden is there and not listed", "crates/one/src/lib.rt", "pub use shelf::count;", "pub use shelf::{count, hidden};")
-        self.assert_told("one: hidden is there and not listed", "crates/one/src/lib.rt", "pub use shelf::count;", "pub use shelf::count;\npub use shelf::deep::hidden;")
-
-    def test_listed_call_that_is_gone(self):
-        shelf, list_ = "crates/one/src/shelf.rt", "docs/surface.md"
-        self.assert_told("one: count is listed and not there", shelf, "pub fn count", "fn count")
-        self.assert_told("one: size of Shelf is listed and not there", shelf, "    pub fn size", "    pub(crate) fn size")
-        self.assert_told("one: take of Lends is listed and not there", list_, "`lend`, `name` of", "`lend`, `name`, `take` of")
-        self.assert_told("one: count is listed 2 times", list_, "`lend`, `name` of", "`count`; `lend`, `name` of")
-
-    def test_refusal_that_is_not_listed(self):
-        shelf = "crates/one/src/shelf.rt"
-        self.assert_told("refusals: name of Lends is there and not listed", shelf, "fn name(&self) -> u32;", "fn name(&self) -> Result<u32, Gone>;")
-        self.assert_told("refusals: take of Shelf is listed and not there", shelf, "-> Result<A, Gone>", "-> Option<A>")
-
-    def test_clause_test_or_edit_that_is_not_there(self):
-        list_ = "docs/surface.md"
-        self.assert_told("one: no contract of `take` of `Shelf` has a clause least", list_, "`room`: below 9", "`room`, `least`")
-        self.assert_told("one: no contract of `size` of `Shelf`; `count` has a clause rest", list_, "`count` | | |", "`count` | | `rest` |")
-        self.assert_told("refusals: no contract of take of Shelf has a clause fair", list_, "| `gone` | `rest`", "| `gone`, `fair` | `rest`")
-        self.assert_told("there is no test take_gives_none", list_, "| `takes_one` | `take", "| `take_gives_none` | `take")
-        self.assert_told("there is no test takes_two", list_, "`count` | | |", "`count` | | none: `takes_two` |")
-        self.assert_told("there is no edit takes_one", list_, "`take_gives_none`", "`takes_one`")
-        self.assert_told("there is no test docs/other.md", list_, "(`docs/surface.md`)", "(`docs/other.md`)")
+    def test_too_few_calls(self):
+        self.assertEqual(self.check(least=4), ("there are 3 public calls, and should be 4\n2 passed, 1 failed\n", 1))
 
 
 class Promises(InFolder):

@@ -123,16 +123,6 @@ def calls(crate, exports=False):
     return found
 
 
-def may_refuse(call):
-    """Whether a call answers a Result."""
-    return "-> Result<" in call.function.signature
-
-
-def clause_names(call):
-    """The names of a call's clauses; one without a name is named by its kind."""
-    return {it.name or it.kind for it in call.function.clauses}
-
-
 def code_files(crate):
     """The files of a crate that are not there for its tests alone."""
     src = os.path.join(crate, "src")

@@ -1,8 +1,8 @@
 #!/usr/bin/env python3
-"""Compares the tables of docs/surface.md with the crates, both ways: the public calls, and those that may refuse. Each clause, test and edit
-that the tables name must be there.
+"""Writes docs/surface.md from the crates: their public calls, each with the names of its conditions and clauses, the type of its refusals, and the
+must-fail edits of its body. Without --write it compares the page with that. A call without a clause is told, if it is not excepted.
 
-usage: tests/surface.py
+usage: tests/surface.py [--write]
 
 The last line is 'N passed, M failed', and the exit status is 0 where none failed. It needs Python 3.9 or later.
 """
@@ -11,116 +11,94 @@ import collections
 import os
 import re
 import sys
+import textwrap
 
-from sources import TOP, calls, clause_names, exported, files, may_refuse, read
+from sources import TOP, calls, exported, files, ghosts, read
 
-CODE = re.compile(r"`([^`]+)`")
-WORDS = r"`\w+`(?:(?:, | and )`\w+`)*"
-GROUP = re.compile(rf"({WORDS})(?: of ({WORDS}))?")
+# The calls without a clause, each with its reason.
+UNTOLD = {"before of Gate": "no clause sees when a row runs; tests do", "after of Gate": "as before"}
+
+HEAD = """# Public calls
+
+Written by `tests/surface.py --write` from the sources, and compared with them by the gate. Each line has the calls of a type, a trait or a crate. Behind
+*requires* are the names of a call's conditions, behind *ensures* those of its clauses, `_` for one without a name; what they say stands at the
+call in `src/`. Behind *or* is the type that a refusal has, behind *not* the must-fail edits of its body: mistakes that the prover refuses. Behind
+*ghost* are the members of a trait that only contracts see, its laws among them.
+"""
+FUNCTION = re.compile(r"^ *(?:pub(?:\([^)]*\))? )?(?:extern \"C\" )?fn (\w+)", re.M)
+OWNER = re.compile(r"^(?:impl\b(?:<(?:[^<>]|<[^<>]*>)*>)? (\w+)[^{]*\{|pub trait (\w+)|\})", re.M)
+REFUSAL = re.compile(r"-> Result<.*, (?:\w+::)*(\w+)[^,]*>(?: where.*)?$")
 
 
-def rows(text, first):
-    """The rows of the table whose head begins with a word, each as its cells."""
-    for line in text.partition(f"| {first} |")[2].partition("\n\n")[0].splitlines()[2:]:
-        yield [cell.strip() for cell in line.strip("|").split("|")]
+def edited(crate, path):
+    """The function of a crate that an edit changes first, named as a call is."""
+    file, old = re.search(r"^file: (.*)\n(?:.*\n)*?old: (.*)$", read(path), re.M).groups()
+    before = read(os.path.join(crate, file)).partition(old)[0] + old
+    name, owner = FUNCTION.findall(before)[-1:], OWNER.findall(before)[-1:]
+    return " of ".join(filter(None, [*name, *map("".join, owner)]))
 
 
-def named(cell):
-    """The calls that a cell names, as in `a`, `b` of `T`; `c`."""
-    found = []
-    for group in cell.partition(": ")[0].split("; "):
-        match = GROUP.fullmatch(group)
-        if not match:
-            raise ValueError(f"these are not names of calls: {group}")
-        for name in CODE.findall(match[1]):
-            found += [f"{name} of {of}" for of in CODE.findall(match[2] or "")] or [name]
+def edits_of(top, crate):
+    """The names of a crate's edits, by the functions that they change."""
+    found = collections.defaultdict(list)
+    for tier in os.path.join(crate, "must-fail"), os.path.join(top, "edits", os.path.basename(crate)):
+        for path in files(tier, "*.edit"):
+            found[edited(crate, path)].append(os.path.basename(path)[:-5])
     return found
 
 
-def compare(what, listed, there):
-    """What is listed and is not there, or the other way round, or is listed twice."""
-    wrong = [f"{what}: {name} is listed and not there" for name in sorted(set(listed) - set(there))]
-    wrong += [f"{what}: {name} is there and not listed" for name in sorted(set(there) - set(listed))]
-    return wrong + [f"{what}: {name} is listed {count} times" for name, count in collections.Counter(listed).items() if count > 1]
+def said_of(call, edits):
+    """What the page says of a call."""
+    named = {kind: [it.name or "_" for it in call.function.clauses if it.kind == kind] for kind in ("requires", "ensures")}
+    refusal = REFUSAL.search(call.function.signature.rstrip(" {;"))
+    parts = {**named, "or": refusal and [refusal[1]], "not": sorted(edits[call.name])}
+    return f"`{call.function.name}` " + (", ".join(f"*{word}* {', '.join(of)}" for word, of in parts.items() if of) or "alone")
 
 
-def own_names(cell):
-    """The names in a cell, without those that refer to another call, as in `of x`."""
-    return CODE.findall(re.sub(r"of `\w+`", "", cell))
+def section(top, crate, found):
+    """What the page says of a crate with some calls."""
+    edits, owners = edits_of(top, crate), collections.defaultdict(list)
+    for call in found:
+        owner, laws = call.part.owner, ", ".join(ghosts(call.part.body)) * (call.part.owner not in call.part.head)
+        owners[owner] = owners[owner] or [f"*ghost* {laws}"] * bool(laws)
+        owners[owner].append(said_of(call, edits))
+    lines = [f"- {f'**`{owner}`**: ' * bool(owner)}{'; '.join(said)}." for owner, said in sorted(owners.items())]
+    others = sorted(name for name in exported(crate) or () if name[0].isupper() and name not in owners)
+    lines += [f"- Without calls of their own: {', '.join(others)}."] * bool(others)
+    return f"\n## `{os.path.basename(crate)}`\n\n" + "".join(map(filled, lines))
 
 
-def clauses_named(cell):
-    """The names of clauses in a cell, where `result` stands for one without a name. Behind `none` there is no clause."""
-    names = [] if cell.startswith("none") else own_names(cell)
-    return {{"result": "ensures"}.get(name, name) for name in names if name.islower()}
+def filled(line):
+    return textwrap.fill(line, 140, subsequent_indent="  ", break_on_hyphens=False, break_long_words=False) + "\n"
 
 
-def laws(crate):
-    """The names of the laws of a crate's traits."""
-    return {name for path in files(crate, "src/**/*.rt") for name in re.findall(r"^    ghost (\w+): \{", read(path), re.M)}
-
-
-def wrong_calls(text, crates):
-    """What is wrong with the table of calls, and how many calls it lists."""
-    paths = {os.path.basename(path): path for path in crates}
-    there = {crate: calls(path, exports=True) for crate, path in paths.items()}
-    wrong, listed, crate = [], collections.defaultdict(list), ""
-    for cells in rows(text, "Crate"):
-        crate = cells[0].strip("`") or crate
-        names = named(cells[1])
-        if names[0][0].isupper():
-            wrong += [f"{crate}: {name} is listed and not there" for name in names if name not in exported(paths[crate])]
-            continue
-        listed[crate] += names
-        clauses = {"output"}.union(laws(paths[crate]), *(clause_names(call) for call in there[crate] if call.name in names))
-        lacking = (clauses_named(cells[2]) | clauses_named(cells[3])) - clauses
-        wrong += [f"{crate}: no contract of {cells[1]} has a clause {it}" for it in sorted(lacking)]
-    for crate in sorted(there):
-        wrong += compare(crate, listed[crate], [call.name for call in there[crate]])
-    return wrong, sum(map(len, listed.values()))
-
-
-def wrong_refusals(text, crates):
-    """What is wrong with the table of refusals, and how many calls it lists."""
-    there = [call for path in crates for call in calls(path)]
-    wrong, listed, names = [], [], []
-    for cells in rows(text, "Call"):
-        names = named(cells[0]) if cells[0] else names
-        listed += names if cells[0] else []
-        clauses = set().union(*(clause_names(call) for call in there if call.name in names))
-        lacking = (clauses_named(cells[2]) | clauses_named(cells[3])) - clauses
-        wrong += [f"refusals: no contract of {' or '.join(names)} has a clause {it}" for it in sorted(lacking)]
-    return wrong + compare("refusals", listed, [call.name for call in there if may_refuse(call)]), len(listed)
-
-
-def wrong_names(text, top):
-    """What is wrong with the tests, edits and files that the tables name, and how many those are."""
-    sources = files(top, "crates/*/src/**/*.rt")
-    tests = {name for path in sources for name in re.findall(r"#\[test\]\s*(?:#\[.*\]\s*)*fn (\w+)", read(path))}
-    tests |= {name for path in files(top, "tests/*.py") for name in re.findall(r"def test_(\w+)", read(path))}
-    edits = {os.path.basename(path)[:-5] for tier in ("crates/*/must-fail", "edits/*") for path in files(top, f"{tier}/*.edit")}
-    of_tests = [cells[4] for cells in rows(text, "Call")] + [cells[1] for cells in rows(text, "What is tested")]
-    of_tests += [cells[3] for cells in rows(text, "Crate") if cells[3].startswith("none")]
-    of_edits = [cells[5] for cells in rows(text, "Call")]
-    said = [(name, "test", tests) for cell in of_tests for name in own_names(cell)]
-    said += [(name, "edit", edits) for cell in of_edits for name in own_names(cell)]
-    there = lambda name, group: name in group or "/" in name and os.path.exists(os.path.join(top, name))
-    return [f"there is no {kind} {name}" for name, kind, group in said if not there(name, group)], len(said)
-
-
-def main(top=TOP, least=250):
-    """`least` is how many names the tables have at least."""
-    text = read(os.path.join(top, "docs", "surface.md"))
-    crates = [os.path.dirname(path) for path in files(top, "crates/*/src")]
-    found = [wrong_calls(text, crates), wrong_refusals(text, crates), wrong_names(text, top)]
-    wrong, count = [it for more, _ in found for it in more], sum(count for _, count in found)
-    if count < least:
-        wrong.append(f"the tables name {count} calls, tests and edits, and should name {least}")
+def check(path, text, found, least):
+    """Prints what is wrong. The exit status."""
+    wrong = [] if os.path.exists(path) and read(path) == text else ["docs/surface.md is not as tests/surface.py --write writes it"]
+    wrong += [f"{call.name} has no clause" for call in found if not call.function.clauses and call.name not in UNTOLD]
+    if len(found) < least:
+        wrong.append(f"there are {len(found)} public calls, and should be {least}")
     for it in wrong:
-        print(f"docs/surface.md: {it}")
-    print(f"{max(count - len(wrong), 0)} passed, {len(wrong)} failed")
+        print(it)
+    print(f"{max(len(found) - len(wrong), 0)} passed, {len(wrong)} failed")
     return 1 if wrong else 0
 
 
+def main(words=(), top=TOP, least=250):
+    """`least` is how many public calls there are at least."""
+    if list(words) not in ([], ["--write"]):
+        print("usage: tests/surface.py [--write]", file=sys.stderr)
+        return 2
+    crates = [os.path.join(top, "crates", name) for name in re.findall(r"^\w+", read(os.path.join(top, "crates.txt")), re.M)]
+    found = {crate: calls(crate, exports=True) for crate in crates}
+    text = HEAD + "".join(section(top, crate, of) for crate, of in found.items() if of)
+    path = os.path.join(top, "docs", "surface.md")
+    if not words:
+        return check(path, text, sum(found.values(), []), least)
+    with open(path, "w", encoding="utf-8") as file:
+        file.write(text)
+    return 0
+
+
 if __name__ == "__main__":
-    sys.exit(main())
+    sys.exit(main(sys.argv[1:]))

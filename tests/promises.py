@@ -1,15 +1,15 @@
 #!/usr/bin/env python3
 """Works out which definitions the promises of the crates rest on, from the clauses of their public calls (tests/chain.py says how), and
-compares docs/definitions.md with that: its lists of modules, and which modules its parts have paragraphs of. What is in a folder
+compares the written part of docs/definitions.md with that. A module behind a clause must say at its head what it is. What is in a folder
 specs/inside/ must be behind no clause, and no module outside of it may import it, but for what is opaque. What is not in such a folder must be
 behind a clause, or opaque, in a crate that promises anything. What is opaque must be given by a call.
 No name of a module or a definition may stand in two crates.
 
 usage: tests/promises.py [--list | --write]
 
---list prints the definitions behind each public call, and how many lines there are to believe; --write puts the lists of modules into
+--list prints the definitions behind each public call; --write writes how many there are to believe, and the order of reading, into
 docs/definitions.md. Without these the last line is 'N passed, M failed', and the exit status is 0 where none failed.
-It needs Python 3.8 or later.
+It needs Python 3.9 or later.
 """
 
 import collections
@@ -22,8 +22,17 @@ from chain import Crates
 from sources import TOP, read
 from specs import Other, Rust, Spec
 
-# The crate of the program, that of the library, and that of the exports to C.
-PROGRAM, LIBRARY, EXPORTS = "augtrie", "aug_trie", "aug_c"
+# Whose definitions the page counts: what it calls them, the crate, or none for all crates, and its calls, or none for all of them. Of those
+# that are marked it has the order of reading.
+Read = collections.namedtuple("Read", "title crate calls is_listed")
+FIRST = "insert of Pass", "snapshot of Pass", "end of Round"
+READS = (
+    *(Read(title, "aug_trie", [call], False) for title, call in zip(("`Pass::insert`", "`Pass::snapshot`", "`Round::end`"), FIRST)),
+    Read("these three of `aug_trie`", "aug_trie", FIRST, True),
+    Read("`run` of the program", "aug_run", ["run"], True),
+    *(Read(f"all of `{crate}`", crate, None, False) for crate in ("aug_trie", "aug_live", "aug_c")),
+    Read("all public calls", None, None, True),
+)
 
 # How many public calls and impls, modules and definitions there are at least.
 LEAST = 200, 80, 600
@@ -35,9 +44,7 @@ EXCEPTIONS = {}
 LOOSE = {}
 
 INSIDE = re.compile(r"Rattle\.\w+\.specs\.inside(\.|$)")
-BEGIN, END = "<!-- modules {}: begin -->", "<!-- end -->"
-BLOCK = re.compile(r"<!-- modules (.*?): begin -->\n(.*?)<!-- end -->", re.S)
-REST = "## Not in the chain"
+MARK = "<!-- tests/promises.py --write has written what follows -->\n"
 
 
 def by_module(names):
@@ -49,79 +56,72 @@ def by_module(names):
     return found
 
 
+def ordered(items, below):
+    """Items, each behind those of them that it rests on."""
+    found = []
+
+    def add(item):
+        if item not in found:
+            for it in sorted((below(item) & items) - {item}):
+                add(it)
+            found.append(item)
+
+    for item in sorted(items):
+        add(item)
+    return found
+
+
 class Promises:
     """What the promises of the crates below a folder rest on."""
 
-    def __init__(self, top):
-        self.top, self.crates = top, Crates(top)
+    def __init__(self, top, reads):
+        self.reads, self.crates = reads, Crates(top)
+        self.order = re.findall(r"^\w+", read(os.path.join(top, "crates.txt")), re.M)
         self.all = [(crate, it) for crate, promises in self.crates.promises.items() for it in promises]
         self.chain = self.crates.chain(name for _, it in self.all for name in it.names)
-        self.views = self.crates.behind_views(self.chain)
-        self.in_chain, self.in_views = by_module(self.chain), by_module(self.views)
+        self.in_chain = by_module(self.chain)
 
-    # Lists of modules
+    # What is written
 
-    def modules_text(self, chain, crate):
-        """The modules of a crate that are in a chain, each with the part of it that is."""
-        found = []
-        for key in sorted(key for key in chain if key[0] == crate):
-            inside, every = chain[key], set(self.crates.modules[key].definitions)
-            alone, without = (", ".join(f"`{name}`" for name in sorted(names)) for names in (inside, every - inside))
-            part = "" if inside == every else f" ({alone} alone)" if 2 * len(inside) < len(every) else f" (without {without})"
-            found.append(f"`{key[1]}`{part}")
-        return ", ".join(found)
+    def below(self, key):
+        """The modules that a module names."""
+        return set(by_module(name for it in self.crates.modules[key].definitions.values() for name in it.names.values()))
 
-    def rest_text(self, crate):
-        """The modules of a crate that are not in the chain."""
-        rest = sorted(key for key in self.crates.modules if key[0] == crate and key not in self.in_chain)
-        views = ", ".join(f"`{key[1]}`" for key in rest if key in self.in_views)
-        said = [f"`{key[1]}`" for key in rest if key not in self.in_views] + [f"and behind a view {views}"] * bool(views)
-        return ", ".join(said)
+    def module_text(self, key, inside):
+        """A module with the part of it that is meant."""
+        every = set(self.crates.modules[key].definitions)
+        alone, without = (", ".join(f"`{name}`" for name in sorted(names)) for names in (inside, every - inside))
+        return f"`{key[1]}`" + ("" if inside == every else f" ({alone} alone)" if 2 * len(inside) < len(every) else f" (without {without})")
 
-    def lists(self):
-        """The lists of docs/definitions.md, by what stands in their first lines."""
-        crates = sorted({crate for crate, _ in self.crates.modules})
-        chain = {crate: self.modules_text(self.in_chain, crate) for crate in crates}
-        found = {f"of {crate}": filled(f"Modules of `{crate}`: {said}.", "") for crate, said in chain.items() if said}
-        parts = ("behind the program", self.names_of(PROGRAM, True)), ("behind the library", self.names_of(LIBRARY))
-        for what, names in (*parts, ("behind the exports", self.names_of(EXPORTS))):
-            modules = by_module(self.crates.chain(names))
-            if modules:
-                found[what] = bullets(crates, lambda crate: self.modules_text(modules, crate))
-        found["that are not in the chain"] = bullets(crates, self.rest_text)
+    def order_text(self, names):
+        """The modules behind some names in an order of reading, by crates."""
+        found = by_module(names)
+        modules = ordered(set(found), self.below)
+        said = {crate: ", ".join(self.module_text(key, found[key]) for key in modules if key[0] == crate) for crate in self.order}
+        return "".join(filled(f"- `{crate}`: {of}", "  ") for crate, of in said.items() if of)
+
+    def chain_of(self, read):
+        return self.crates.chain(name for crate, it in self.all if read.crate in (None, crate) and it.name in (read.calls or [it.name]) for name in it.names)
+
+    def written(self):
+        """How many definitions there are to believe, and in which order."""
+        rows = "".join(f"| {read.title} | {' | '.join(map(str, self.counted(self.chain_of(read))))} |\n" for read in self.reads)
+        lists = "".join(f"\nIn order, for {read.title}:\n\n{self.order_text(self.chain_of(read))}" for read in self.reads if read.is_listed)
         opaque = self.crates.opaque({name for _, it in self.all for name in it.names})
-        if opaque:
-            found["with opaque definitions"] = bullets(crates, lambda crate: opaque_text(opaque, crate))
-        return found
-
-    def names_of(self, crate, of_program=False):
-        """What the promises of a crate name, or those that it makes as a program."""
-        return {name for it in self.crates.promises.get(crate, []) if it.is_program or not of_program for name in it.names}
-
-    def written(self, text):
-        """A text with its lists as they should be."""
-        lists = self.lists()
-        return BLOCK.sub(lambda match: f"{BEGIN.format(match[1])}\n{lists.get(match[1], match[2])}{END}", text)
+        lists += f"\nOpaque, and not counted:\n\n{self.order_text(opaque)}" * bool(opaque)
+        return f"\n| To be believed for | Definitions | Lines | Lines of comments |\n|---|---|---|---|\n{rows}{lists}"
 
     # What is wrong
 
-    def wrong_lists(self, text):
-        lists, there = self.lists(), BLOCK.findall(text)
-        wrong = [f"there is no list of the modules {of}" for of in lists if [it for it, _ in there].count(of) != 1]
-        wrong += [f"nothing is to be listed of the modules {of}" for of, _ in there if of not in lists]
-        return wrong + [f"the modules {of} are not these, but\n{lists[of]}" for of, said in there if lists.get(of, said) != said]
+    def wrong_reads(self):
+        """Which calls that are to be counted are not there."""
+        there = {(crate, it.name) for crate, it in self.all}
+        wanted = {(it.crate, call) for it in self.reads for call in it.calls or ()}
+        return [f"there is no {call} in {crate}" for crate, call in sorted(wanted - there)]
 
-    def wrong_paragraphs(self, text):
-        """What is wrong with the modules that the chapters have paragraphs of."""
-        told, names = set(), []
-        for name, crate in re.findall(r"\*\*`([\w.]+)`\*\*|\(`(\w+)`\)", text.partition(REST)[0]):
-            if name:
-                names.append(name)
-            elif crate in self.crates.paths:
-                told.update((crate, it) for it in names)
-                names = []
-        wrong = [f"{name} of {crate} has a paragraph, and no clause rests on it" for crate, name in sorted(told - set(self.in_chain))]
-        return wrong + [f"{name} of {crate} is in the chain, and has no paragraph" for crate, name in sorted(set(self.in_chain) - told)]
+    def wrong_heads(self):
+        """Which modules of the chain do not say what they are."""
+        return [f"{name} of {crate} does not say at its head what it is" for crate, name in sorted(self.in_chain) if not self.crates.modules[crate, name].lines[0].startswith("-- ")]
 
     def wrong_imports(self, exceptions):
         """Which modules import what is inside, and should not."""
@@ -169,15 +169,11 @@ class Promises:
 
     # What is listed
 
-    def lines(self, names):
+    def counted(self, names):
         """How many definitions are among some names, on how many lines, and with how many lines of comments."""
-        count, code, comment = 0, 0, 0
-        for key, of in by_module(names).items():
-            said = [self.crates.modules[key].definitions[name] for name in of]
-            count += len(said)
-            code += len(set().union(*(it.code for it in said)))
-            comment += len(set().union(*(it.comment for it in said)))
-        return f"{count} definitions on {code} lines, with {comment} lines of comments"
+        there = {key: it.definitions for key, it in self.crates.modules.items()}
+        said = [(key, there[key][name]) for key, of in by_module(names).items() for name in of & set(there[key])]
+        return len(said), *(len({(key, line) for key, it in said for line in lines(it)}) for lines in (lambda it: it.code, lambda it: it.comment))
 
     def list_names(self, names, title):
         """Prints some names by where they are from."""
@@ -198,33 +194,10 @@ class Promises:
                 print(f"{crate}: {promise.name}{' (the program)' if promise.is_program else ''}")
                 self.list_names(chain, "")
                 self.list_names(self.crates.behind_views(chain), "behind views, ")
-        self.list_sums()
-
-    def list_sums(self):
-        program, library, exports = self.names_of(PROGRAM, True), self.names_of(LIBRARY), self.names_of(EXPORTS)
-        parts = (f"the program {PROGRAM}", program), (f"the library {LIBRARY}", library), ("the program and the library", program | library)
-        for what, names in (*parts, (f"the exports of {EXPORTS}", exports), ("all", program | library | exports)):
-            chain = self.crates.chain(names)
-            print(f"\n{what}: {self.lines(chain)}; opaque beside these: {self.lines(self.crates.opaque(names))}")
-            for crate in self.crates.paths:
-                own = {name for name in chain if isinstance(name, Spec) and name.crate == crate}
-                if own:
-                    print(f"  {crate}: {self.lines(own)}")
-            print(f"  behind views alone: {self.lines(self.crates.behind_views(chain))}")
 
 
 def is_inside(module):
     return module.partition(".")[0] == "inside"
-
-
-def opaque_text(names, crate):
-    """The opaque definitions of a crate, each with its module."""
-    return ", ".join(f"`{it.name}` (`{it.module}`)" for it in sorted(names) if it.crate == crate)
-
-
-def bullets(crates, text):
-    """A list with a text for each crate that has one."""
-    return "".join(filled(f"- `{crate}`: {text(crate)}", "  ") for crate in crates if text(crate))
 
 
 def filled(text, indent):
@@ -233,8 +206,8 @@ def filled(text, indent):
 
 def check(promises, text, least, exceptions, loose):
     """Prints what is wrong. The exit status."""
-    wrong = [f"docs/definitions.md: {it}" for it in promises.wrong_lists(text) + promises.wrong_paragraphs(text)]
-    wrong += promises.wrong_imports(exceptions) + promises.wrong_clauses() + promises.wrong_places(loose) + promises.wrong_opaque() + promises.wrong_names()
+    wrong = ["docs/definitions.md is not as tests/promises.py --write writes it"] * (text.partition(MARK)[2] != promises.written())
+    wrong += promises.wrong_reads() + promises.wrong_heads() + promises.wrong_imports(exceptions) + promises.wrong_clauses() + promises.wrong_places(loose) + promises.wrong_opaque() + promises.wrong_names()
     wrong += sorted(promises.crates.unknown)
     counts = promises.counts()
     for what, count, most in zip(("public calls and impls", "modules", "definitions"), counts, least):
@@ -246,12 +219,12 @@ def check(promises, text, least, exceptions, loose):
     return 1 if wrong else 0
 
 
-def main(words=(), top=TOP, least=LEAST, exceptions=EXCEPTIONS, loose=LOOSE):
+def main(words=(), top=TOP, least=LEAST, exceptions=EXCEPTIONS, loose=LOOSE, reads=READS):
     """`least` is how many calls, modules and definitions there are at least."""
     if list(words) not in ([], ["--list"], ["--write"]):
         print("usage: tests/promises.py [--list | --write]", file=sys.stderr)
         return 2
-    promises, path = Promises(top), os.path.join(top, "docs", "definitions.md")
+    promises, path = Promises(top, reads), os.path.join(top, "docs", "definitions.md")
     text = read(path) if os.path.exists(path) else ""
     if not words:
         return check(promises, text, least, exceptions, loose)
@@ -259,7 +232,7 @@ def main(words=(), top=TOP, least=LEAST, exceptions=EXCEPTIONS, loose=LOOSE):
         promises.list_all()
     else:
         with open(path, "w", encoding="utf-8") as file:
-            file.write(promises.written(text))
+            file.write(text.partition(MARK)[0] + MARK + promises.written())
     return 0
 
 

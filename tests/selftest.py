@@ -506,33 +506,32 @@ use Rattle.std.specs.Prelude.{ℕ}
 abbrev pub deep : ℕ
 deep = 0
 """,
-        "docs/definitions.md": """# What has to be believed
+        "crates.txt": "one:\ntwo:\n",
+        "docs/definitions.md": f"""# What has to be believed
 
-**`Books`** (`one`). What a shelf has.
+{promises.MARK}
+| To be believed for | Definitions | Lines | Lines of comments |
+|---|---|---|---|
+| `Shelf::size` | 3 | 6 | 3 |
 
-<!-- modules of one: begin -->
-Modules of `one`: `Books` (without `AreSteps`).
-<!-- end -->
+In order, for `Shelf::size`:
 
-## Not in the chain
-
-<!-- modules that are not in the chain: begin -->
-- `one`: `Steps`, `inside.Deep`, and behind a view `Kept`
-<!-- end -->
+- `one`: `Books` (without `AreSteps`)
 """,
     }
 
     # The definitions that are behind no clause, though they are not inside.
     LOOSE = {("one", name): "a test" for name in ("AreSteps", "IsStep", "facts_of")}
+    READS = (promises.Read("`Shelf::size`", "one", ["size of Shelf"], True),)
 
-    def check(self, file=None, old="", new="", words=(), least=(1, 4, 7), exceptions=(), loose=LOOSE):
+    def check(self, file=None, old="", new="", words=(), least=(1, 4, 7), exceptions=(), loose=LOOSE, reads=READS):
         """Checks the folder, in one file of which a text was put in the place of another: what it printed, and its status."""
         for name, text in self.TEXTS.items():
             if name == file:
                 self.assertEqual(text.count(old), 1)
                 text = text.replace(old, new)
             self.write(name, text)
-        status, said = quietly(promises.main, words, self.folder, least, dict(exceptions), loose)
+        status, said = quietly(promises.main, words, self.folder, least, dict(exceptions), loose, reads)
         return said, status
 
     def assert_told(self, why, *changed, **given):
@@ -552,29 +551,26 @@ Modules of `one`: `Books` (without `AreSteps`).
         self.assert_told("there are 7 definitions, and should be 8", least=(1, 4, 8))
 
     def test_empty_folder(self):
+        self.write("crates.txt", "")
         status, said = quietly(promises.main, (), self.folder)
         self.assertEqual(status, 1)
+        self.assertIn("there is no insert of Pass in aug_trie\n", said)
         self.assertIn("there are 0 public calls and impls", said)
         self.assertRegex(said, r"\n0 passed, \d failed\n$")
 
-    def test_module_that_a_list_lacks(self):
-        why = "docs/definitions.md: the modules that are not in the chain are not these, but"
-        said, status = self.check(self.DEFINITIONS, "`Steps`, `inside", "`inside")
-        self.assertEqual((said.splitlines(), status), ([why, "- `one`: `Steps`, `inside.Deep`, and behind a view `Kept`", "", "4 passed, 1 failed"], 1))
-        said, status = self.check(self.DEFINITIONS, "Modules of `one`: `Books` (without `AreSteps`).\n", "")
-        self.assertIn("docs/definitions.md: the modules of one are not these, but\nModules of `one`: `Books` (without `AreSteps`).\n", said)
+    def test_page_that_is_not_as_it_is_written(self):
+        why = "docs/definitions.md is not as tests/promises.py --write writes it"
+        self.assert_told(why, self.DEFINITIONS, "| 3 | 6 |", "| 3 | 5 |")
+        self.assert_told(why, self.DEFINITIONS, " (without `AreSteps`)", "")
+        self.assert_told(why, self.DEFINITIONS, "has written", "wrote")
 
-    def test_list_that_is_not_there(self):
-        self.assert_told("docs/definitions.md: there is no list of the modules of one", self.DEFINITIONS, "<!-- modules of one: begin -->", "")
-        said, _ = self.check(self.DEFINITIONS, "<!-- modules of one:", "<!-- modules of two:")
-        self.assertIn("docs/definitions.md: nothing is to be listed of the modules of two\n", said)
+    def test_call_to_be_counted_that_is_not_there(self):
+        said, status = self.check(reads=[promises.Read("`Shelf::take`", "one", ["take of Shelf"], True)])
+        self.assertIn("there is no take of Shelf in one\n", said)
+        self.assertEqual(status, 1)
 
-    def test_paragraph_that_is_not_there(self):
-        self.assert_told("docs/definitions.md: Books of one is in the chain, and has no paragraph", self.DEFINITIONS, "**`Books`**", "`Books`")
-
-    def test_paragraph_of_a_module_that_is_behind_no_clause(self):
-        why = "docs/definitions.md: Steps of one has a paragraph, and no clause rests on it"
-        self.assert_told(why, self.DEFINITIONS, "**`Books`** (", "**`Books`**, **`Steps`** (")
+    def test_module_that_does_not_say_what_it_is(self):
+        self.assert_told("Books of one does not say at its head what it is", self.BOOKS, "-- What a shelf has.\n", "")
 
     def test_lists_are_written(self):
         self.assertEqual(self.check(self.DEFINITIONS, " (without `AreSteps`)", "", ["--write"]), ("", 0))
@@ -609,14 +605,13 @@ Modules of `one`: `Books` (without `AreSteps`).
             self.assert_told(f"{module}.{name} of one is behind no clause, and not inside", loose={key for key in self.LOOSE if key[1] != name})
         self.write("crates/two/src/lib.rt", "")
         self.write("crates/two/specs/Piles.antt", "abbrev pub IsPile : Type 0\nIsPile = Unit\n")
-        self.assertNotIn("IsPile", self.check(self.DEFINITIONS, "behind a view `Kept`\n", "behind a view `Kept`\n- `two`: `Piles`\n")[0])
+        self.assertNotIn("IsPile", self.check()[0])
 
     def test_what_is_opaque_ends_the_chain(self):
         marked = self.BOOKS, "-- those of some", "-- opaque: those of some"
-        said, status = self.check(*marked)
-        self.assertEqual(status, 1)
-        self.assertIn("docs/definitions.md: there is no list of the modules with opaque definitions\n", said)
-        self.assertIn("Modules of `one`: `Books` (without `AreSteps`, `kept`).\n", said)
+        self.assertEqual(self.check(*marked, ["--write"]), ("", 0))
+        with open(os.path.join(self.folder, self.DEFINITIONS), encoding="utf-8") as file:
+            self.assertIn("- `one`: `Books` (without `AreSteps`, `kept`)\n\nOpaque, and not counted:\n\n- `one`: `Books` (`kept` alone)\n", file.read())
         self.assertIn("one: size of Shelf\n    one: Books.ShelfFacts, Books.size_of\n", self.check(*marked, ["--list"])[0])
 
     def test_import_of_what_is_opaque(self):
@@ -625,10 +620,9 @@ Modules of `one`: `Books` (without `AreSteps`).
         for mark, wrong in ("", True), ("-- opaque: nought\n", False):
             self.check(self.BOOKS, "use Rattle.std.specs.Prelude.{ℕ, List, length}\n", brought)
             self.write(deep, self.TEXTS[deep].replace("abbrev", f"{mark}abbrev"))
-            _, said = quietly(promises.main, (), self.folder, (1, 4, 7), {})
+            _, said = quietly(promises.main, (), self.folder, (1, 4, 7), {}, self.LOOSE, self.READS)
             self.assertEqual("Books of one imports a module from inside\n" in said, wrong, said)
             self.assertEqual("inside.Deep of one is inside, and size of Shelf (one) rests on its deep\n" in said, wrong, said)
-        self.assertIn("there is no list of the modules with opaque definitions\n", said)
 
     def test_name_that_stands_in_two_crates(self):
         for kind, module, name in ("module", "Books", "steps"), ("definition", "Bindings", "IsStep"):

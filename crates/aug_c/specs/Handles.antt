@@ -1,4 +1,6 @@
--- What the handles denote, and what a call on one says.
+-- What the handles denote, and what a call on one says. A handle denotes an owned pass, or a trie at rest or in a round (`Stage`), or nothing, and
+-- has a stamp, the caller's number for the trie with the count of its rounds. By `On` a call on a handle that denotes nothing answers `closed` and
+-- leaves it so; any other changes what the handle denotes as the call's own definition says.
 use Rattle.std.specs.Prelude.{◌≡◌, ℕ, ℤ, Option, Some, None}
 use Rattle.aug_c.specs.Codes.{closed}
 use Rattle.aug_monoid.specs.declared.sum.Sum.{Sum}

@@ -1,4 +1,7 @@
--- What the calls on a lane do to it, and what they answer.
+-- What the calls on a lane do to it, and what they answer. `UpdatesKey` has the exact condition of each refusal, and that a refused update leaves the
+-- same lane. A query answers by the snapshot that the lane shows (`Asks`) and changes nothing that a later one could see. In the example an insertion
+-- of 0 answers 1, one of 1 answers 0, and one of 4 answers -3; a rank of 3 answers 1, `aug_select` of 5 answers -1, and `aug_range` from 1 to 4
+-- answers 2 and writes the sum 4 and the bounds 1 and 3.
 use Rattle.std.specs.Prelude.{◌≡◌, ℕ, ◌+◌, ◌^◌, ◌<◌, ◌≤◌, ◌↔◌, ℤ, pos, Bool, true, false, Option, Some, None, Result, Ok, Err, IfOk, IfErr, IsErrOf, List, length, All}
 use Rattle.aug_monoid.specs.Sum.{sum_parts}
 use Rattle.aug_monoid.specs.Extent.{extent_parts}

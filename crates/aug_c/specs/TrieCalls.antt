@@ -1,4 +1,6 @@
--- What the calls on a trie do to it, and what they answer.
+-- What the calls on a trie do to it, and what they answer. By `Begins` a refusal for a number leaves the same trie, and one for lack of memory the
+-- same members with the old bits or with those asked for. By `GivesBack` a lane whose stamp differs from the trie's stays in its handle, and the
+-- answer is -14.
 use Rattle.std.specs.Prelude.{◌≡◌, ◌≢◌, ◌⊎◌, ℕ, ◌<◌, ◌≤◌, ◌↔◌, ℤ, pos, Option, Some, None, length}
 use Rattle.std.specs.Arc.{arc_value}
 use Rattle.aug_monoid.specs.declared.sum.Sum.{Sum}

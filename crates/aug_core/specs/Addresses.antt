@@ -1,4 +1,6 @@
--- The tree over the leaves and the inner nodes, by their words. The children of the node at a word q lie side by side.
+-- The tree over the leaves and the inner nodes, by their words. The children of the node at a word q lie side by side. In the example the children of
+-- the node at 6 are at 4 and 5, and those of the node at 4 are the leaves 0 and 1. The node at level 1 and place 1 is at 5. From here on only the
+-- place of its word in the row names a leaf or a node.
 use Rattle.std.specs.Prelude.{ℕ, zero, suc, ◌+◌, ◌-◌, ◌*◌, ◌^◌, ◌<◌, ◌≤◌, nat_lt, if◌then◌else◌}
 use Rattle.aug_core.specs.Places.{Shape, level_start}
 

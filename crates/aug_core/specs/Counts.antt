@@ -1,4 +1,6 @@
--- The changes that were accepted, and who holds them.
+-- The changes that were accepted, and who holds them. Each serial past the opening one that a leaf has reached is in the changes of exactly one lane,
+-- once, and nothing else is there. An update makes at most two, so serials stay small. Once 0 was put in, the lane of the example has the one change
+-- of key 0 to serial 1.
 use Rattle.std.specs.Prelude.{◌≡◌, ℕ, ◌+◌, ◌*◌, ◌^◌, ◌<◌, ◌≤◌, List, length, slice_index, flat_map}
 use Rattle.std.specs.List.{sum}
 use mathlib.Core.Option.{some}

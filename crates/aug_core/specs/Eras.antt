@@ -1,5 +1,8 @@
--- The rule of a table that may be opened again and again. In each of its eras it is at work under the rule of one opening, and in between one seat alone
--- renews it.
+-- The rule of a table that may be opened again and again. In each of its eras it is at work under the rule of one opening, and in between one seat
+-- alone renews it. An era is the time from one opening to the next. At work (`Works`), `Kept` holds with the members of this era, where a view of an
+-- earlier era counts as one that was joined; whoever holds a lane or hands lanes out is of this era. While it is renewed (`Renews`), one view knows
+-- each word exactly, and every other one holds no lane and is of an earlier era. A view knows the eras before its own too (`Remembers`). In the
+-- example, once the one pass was joined, the lead may begin era 1.
 use Rattle.std.specs.Prelude.{◌≡◌, ◌≢◌, ◌⊎◌, ℕ, ◌<◌, ◌≤◌, ◌==◌, if◌then◌else◌, true, false, List, length, map, Some, IfSome}
 use mathlib.Core.Option.{some}
 use lib.ListN.{get_elem?}

@@ -1,4 +1,4 @@
--- What it shows that a seat takes in a note.
+-- What it shows that a seat takes in a note. A note is a view that holds no lane (`noted` of `Told`).
 use Rattle.std.specs.Prelude.{ℕ, List, Some, IfSome}
 use Rattle.atomic_table.specs.Table.{Step}
 use Rattle.aug_core.specs.Told.{Sat, loaded_node}

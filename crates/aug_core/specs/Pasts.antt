@@ -1,4 +1,6 @@
--- The eras of a table that are over, and what is known of them.
+-- The eras of a table that are over, and what is known of them. A view of an earlier era knows a part of that era's last book (`IsEarlier`). What a
+-- note tells is of this era and agrees, or of one that is over (`IsLearnt`). In the example, once 0 was put in and the table renewed, a view of era 0
+-- that had seen only the opening knows a part of that era's last book, where leaf 0 has two entries.
 use Rattle.std.specs.Prelude.{◌≡◌, ℕ, ◌<◌, ◌≤◌, List, ◌∷◌, ◌++◌}
 use Rattle.aug_core.specs.Places.{Shape}
 use Rattle.aug_core.specs.Book.{Book, ArePrefixes}

@@ -1,4 +1,4 @@
--- Lists with which others begin.
+-- Lists with which others begin. What is known here only ever grows at its end: each list of a book, and each history.
 use Rattle.std.specs.Prelude.{◌≡◌, List, ◌++◌}
 
 -- the first list is a prefix of the second

@@ -1,4 +1,6 @@
--- What the steps show by which one seat renews a table, and what its view is after them.
+-- What the steps show by which one seat renews a table, and what its view is after them. A lead that holds all lanes which it handed out (`HoldsAll`)
+-- begins with a load of the root, which shows it the era's last book, and then knows all words (`BeginsRenewal`). It stores and loads any word
+-- (`rewrote`, `reread`). A load opens the table over any members for which its words are those of an opening (`IsOpened`, `reopened`).
 use Rattle.std.specs.Prelude.{◌≡◌, ℕ, ◌+◌, ◌<◌, ◌≤◌, true, false, List, [], ◌∷◌, ◌++◌, length, slice_index, slice_set, All, Some, None}
 use mathlib.Core.Option.{some}
 use lib.ListN.{get_elem?}

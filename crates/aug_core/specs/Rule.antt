@@ -1,4 +1,7 @@
--- The rule of a table that was opened once: what its words and the views of its seats are between any two atomic steps.
+-- The rule of a table that was opened once: what its words and the views of its seats are between any two atomic steps. A view is what a seat knows:
+-- a prefix of the book, the lanes that it holds with all words of their records, which of these were published, which changes were accepted from it,
+-- and its steps. `Kept` is made of parts, each about one thing. A seat that is dropped leaves its view behind, and the rule holds with it. In the
+-- example it says that the word at 4 is the number of the newest entry of node 4, and that the words of that record are the entry's.
 use Rattle.std.specs.Prelude.{◌≡◌, ℕ, ◌+◌, ◌<◌, ◌≤◌, List, [], length, slice_index, Some, None, true, false}
 use mathlib.Core.Option.{some}
 use lib.ListN.{get_elem?}

@@ -1,4 +1,6 @@
--- What a lane does that makes one update after another.
+-- What a lane does that makes one update after another. There is a sequence of states of the pass, and between two neighbours in it a single update
+-- was made (`OneUpdate`). In an empty trie in which nobody else works, the keys 5, 5 and 7 are accepted, refused and accepted, which makes two
+-- changes.
 use Rattle.std.specs.Prelude.{◌≡◌, ℕ, ◌+◌, List, [], ◌∷◌, length}
 use Rattle.std.specs.List.{zip}
 use Rattle.aug_model.specs.declared.outcome.Outcome.{Outcome}

@@ -1,4 +1,4 @@
--- What a lane answers for many keys.
+-- What a lane answers for many keys. In the example `from_of` gives only 3 from 2 on.
 use Rattle.std.specs.Prelude.{ℕ, Bool, true, false, List, filter, nat_le}
 
 -- 1 or 0

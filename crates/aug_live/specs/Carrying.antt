@@ -1,4 +1,6 @@
--- What is carried over from a round to later ones.
+-- What is carried over from a round to later ones. Serials begin anew in each round. So a change stands in the last cut of its own round, and `Leads`
+-- relates that cut to later sets. In the example a round in which 0 was put in leads to `(0, 0) ∷ (1, 1) ∷ (3, 3) ∷ []`, and with a second round that
+-- took 1 out to `(0, 0) ∷ (3, 3) ∷ []`.
 use Rattle.std.specs.Prelude.{◌≡◌, ℕ, List, [], ◌∷◌}
 use Rattle.aug_core.specs.Cuts.{pairs_of_cut}
 use Rattle.aug_trie.specs.Chains.{Chapter}

@@ -1,4 +1,5 @@
--- What was made through handles: changes, each with the number of its round.
+-- What was made through handles: changes, each with the number of its round. A handle that put 0 in in the first round and took 3 out in the second
+-- has the ledger `(1, Insert(0)) ∷ (2, Remove(3)) ∷ []`.
 use Rattle.std.specs.Prelude.{ℕ, ◌==◌, List, map, filter}
 use Rattle.aug_core.specs.declared.view.Change.{Change}
 

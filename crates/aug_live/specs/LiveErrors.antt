@@ -1,4 +1,5 @@
--- Why a call of a live trie is refused.
+-- Why a call of a live trie is refused. Each is printed by its name. No clause says when a handle is told that the trie was closed, that its lane was
+-- given on, or that the rounds are exhausted: what lies behind the lock shows in no contract of a handle.
 use Rattle.std.specs.Prelude.{◌⊎◌, ℕ, ◌+◌, ◌^◌, ◌≤◌, List, length, codes}
 use Rattle.std.specs.List.{sum_by}
 use Rattle.aug_live.specs.Ledgers.{Made}

@@ -1,4 +1,5 @@
--- What contracts see of a handle and of a look, and what their calls do.
+-- What contracts see of a handle and of a look, and what their calls do. An update or a look is one of a pass, made from a state that follows on what
+-- the handle knew (`Follows`).
 use Rattle.std.specs.Prelude.{◌≡◌, ◌⊎◌, ℕ, ◌<◌, ◌≤◌, List, [], ◌++◌, length, drop}
 use Rattle.aug_model.specs.Keys.{SetFacts}
 use Rattle.aug_core.specs.Prefixes.{IsPrefix}

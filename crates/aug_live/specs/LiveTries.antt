@@ -1,4 +1,7 @@
--- What contracts see of a live trie, and what its calls do.
+-- What contracts see of a live trie, and what its calls do. `Closes` is the headline of a live trie. The example is opened with two handles; one puts
+-- 0 in and comes back, the round rolls over, and the other takes 3 out and comes back. If nobody does more, `close` gives 0 and 1 with two rounds,
+-- one insertion, one removal, two handles and none missing. If the second handle is dropped after its removal, the set is the same, and one handle is
+-- missing, of which the chain knows that 3 went out through it. A `close` with 1 and 3, or with counts of another life, has no such ledgers.
 use Rattle.std.specs.Prelude.{◌≡◌, ℕ, ◌+◌, List, [], ◌∷◌, length, All, Bool, true, not, ◌++◌, map, filter, flat_map}
 use Rattle.std.specs.List.{sum_by}
 use mathlib.Core.Option.{some}

@@ -1,4 +1,5 @@
--- Which plan of rounds a memory has room for.
+-- Which plan of rounds a memory has room for. For 6 bits and 2 handles with 3 updates each (`least_plan` has one) a table has `127 + 2 + 5 * (69 +
+-- 36)` words, so 5,232 bytes are enough and 5,231 are not.
 use Rattle.std.specs.Prelude.{ℕ, ◌*◌, ◌^◌, ◌≤◌}
 use Rattle.aug_core.specs.Layout.{IsLayout}
 use Rattle.aug_core.specs.Places.{shape_of, word_count}

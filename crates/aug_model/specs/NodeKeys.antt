@@ -1,4 +1,5 @@
--- The keys that the node at a level and a place of a tree covers, and the members of a set among them.
+-- The keys that the node at a level and a place of a tree covers, and the members of a set among them. Node 0 on level 1 covers the keys from 0 up
+-- to, but not including, 2. In the example its one member is 1.
 use Rattle.std.specs.Prelude.{ℕ, ◌+◌, ◌*◌, ◌^◌, List}
 use Rattle.aug_model.specs.Queries.{range_of, weighted_range_of}
 

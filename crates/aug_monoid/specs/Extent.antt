@@ -1,4 +1,4 @@
--- The least and the greatest key of two folds, together, and the word that stands for them.
+-- The least and the greatest key of two folds, together, and the word that stands for them. In the example the extent has the word `2^32 + 3`.
 use Rattle.std.specs.Prelude.{ℕ, ◌+◌, ◌*◌, ◌/◌, ◌%◌, ◌^◌, ◌<◌, ◌≤◌, min, max, Option, Some, None, nat_le, if◌then◌else◌}
 use Rattle.aug_monoid.specs.Parts.{Parts, joined_by}
 

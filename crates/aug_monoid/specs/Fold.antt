@@ -1,4 +1,5 @@
--- The fold of a list of keys, each with its weight, in a monoid.
+-- The fold of a list of keys, each with its weight, in a monoid. Values are joined in the order of the list, so a join need not commute. With `Sum`
+-- the fold of the example is 4, and 8 once 1 weighs 5.
 use Rattle.std.specs.Prelude.{ℕ, List, [], ◌∷◌}
 use Rattle.aug_monoid.specs.Parts.{Parts}
 

@@ -1,4 +1,5 @@
--- The plain parts of a monoid over keys with weights, as one record: folds, summaries and laws take it.
+-- The plain parts of a monoid over keys with weights, as one record: folds, summaries and laws take it. The laws of the trait `Monoid` say when they
+-- form one. Each of the six types is proved to, so only those who write a monoid of their own have to read the laws.
 use Rattle.std.specs.Prelude.{ℕ, Option, Some, None}
 
 -- what a member carries in a fold over keys, and what becomes of it

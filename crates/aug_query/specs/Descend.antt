@@ -1,4 +1,6 @@
--- What a descent keeps of the tree of a set of keys, and how much it loads.
+-- What a descent keeps of the tree of a set of keys, and how much it loads. Each call of a tree notes its load as one more of its kind, so that a
+-- bound on loads means something. A rank of the key 5 among the keys below 8 visits the top and two nodes below it, one of them past a counted node,
+-- and counts one leaf.
 use Rattle.std.specs.Prelude.{◌≡◌, ℕ, ◌+◌, ◌≤◌}
 use Rattle.aug_model.specs.Keys.{SetFacts}
 use Rattle.aug_query.specs.declared.loaded.Loaded.{Loaded}

@@ -1,4 +1,4 @@
--- What contracts see of a tree in memory.
+-- What contracts see of a tree in memory. The tree of the example, asked once for its top, has the same set and 1 call.
 use Rattle.std.specs.Prelude.{ℕ}
 use Rattle.aug_model.specs.Keys.{SetFacts}
 

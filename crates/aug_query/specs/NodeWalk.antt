@@ -1,4 +1,5 @@
--- What a walk over a tree whose nodes are loaded whole keeps of it.
+-- What a walk over a tree whose nodes are loaded whole keeps of it. Each visited node is one call of `top`, `left` or `right`; counts and summaries
+-- cost no call.
 use Rattle.std.specs.Prelude.{◌≡◌, ℕ, ◌+◌, ◌≤◌}
 use Rattle.std.specs.Borrow.{MutBor}
 use Rattle.aug_query.specs.declared.loaded.Loaded.{Loaded}

@@ -1,4 +1,6 @@
--- What a tree of a set of keys is: its nodes, each with the summary of the members that it covers, and the calls that walk it.
+-- What a tree of a set of keys is: its nodes, each with the summary of the members that it covers, and the calls that walk it. `KeepsRest` is a
+-- relation that the implementor of the trait chooses and that queries preserve: with it, a tree that borrows something else can say what happened to
+-- that. In the example the summary of node 0 on level 1 is that of the member 1.
 use Rattle.std.specs.Prelude.{◌≡◌, ℕ, ◌+◌, ◌^◌, ◌≤◌, List, All}
 use Rattle.aug_model.specs.Keys.{IsKeySet, SetFacts, list_of, pairs_of}
 use Rattle.aug_model.specs.Queries.{weight_in}

@@ -1,4 +1,7 @@
--- Which reports a round may have, whatever the order in which its lanes ran.
+-- Which reports a round may have, whatever the order in which its lanes ran. There is one history of the set, and for each lane what it knows of it
+-- at its end. Each reply is what the lane's way through that history says (`Answers`): an update is accepted, replaced or refused between two states
+-- of what the lane knew, a `look` is the last cut that it knows, and a query is answered from the set of the snapshot that it holds. Over the
+-- example, two lanes with `insert,0` each may have `new` and `old`, or `old` and `new`, and never both the same.
 use Rattle.std.specs.Prelude.{◌≡◌, ℕ, ◌+◌, ◌<◌, ◌⊎◌, ⊤, List, [], ◌∷◌, length, map, filter, flat_map, All, slice_index_or, ◌==◌}
 use Rattle.aug_model.specs.declared.outcome.Outcome.{Outcome}
 use Rattle.aug_model.specs.declared.outcome.Outcome.TheVariants as outcome

@@ -1,4 +1,5 @@
--- A round whose rows are all of one lane.
+-- A round whose rows are all of one lane. It has one report, that of its rows run one after another, and rounds of one lane each have one list of
+-- them (`one_list`). The program's promise names neither.
 use Rattle.std.specs.Prelude.{◌≡◌, ℕ, ◌+◌, ◌<◌, List, [], ◌∷◌, All}
 use Rattle.aug_script.specs.Replies.{opening_sets, report_of, sets_of}
 use Rattle.aug_script.specs.declared.report.Report.{Report}

@@ -1,4 +1,5 @@
--- The command line, as the crate `clap` reads it.
+-- The command line, as the crate `clap` reads it. `--bits 17` is a fault by the rule of `--bits`, and so is a second FILE. `--bits 16 --workers 64
+-- --updates 65536` has no fault, and asks for too much. The parser's model of a command line is believed with this.
 use Rattle.std.specs.Prelude.{◌≡◌, ◌≢◌, ◌<◌, ◌^◌, ℕ, pos, true, List, [], ◌∷◌, ⊤, Option, Some, option_map, string_bytes, codes}
 use Rattle.std.specs.Str.Parse.{digits_value, without_leading_plus}
 use Rattle.clap.specs.Words.{App, IsAmong, Row, Rule, Text, fault_of, first_of, matches_of, new_app, new_rule, one_of}

@@ -1,4 +1,5 @@
--- The text of each fault of the program, and the status that the program ends with.
+-- The text of each fault of the program, and the status that the program ends with. Such as `augtrie: row 3: BadArity`. The parser's own texts are
+-- written as they are.
 use Rattle.std.specs.Prelude.{ℕ, List, ◌++◌, codes, string_bytes}
 use Rattle.aug_script.specs.FaultText.{script_text}
 use Rattle.aug_script.specs.declared.script_error.ScriptError.TheVariants as script

@@ -1,4 +1,5 @@
--- What the program does with its input, its standard output and its standard error.
+-- What the program does with its input, its standard output and its standard error. With `--help` the text of help is on the output, and the errors
+-- are unchanged; only this stop has the status 0.
 use Rattle.std.specs.Prelude.{◌≡◌, ℕ, ◌<◌, ◌⊎◌, ⊤, List, [], Option, Ok, Err, IfSome, length}
 use Rattle.aug_script.specs.Devices.{SinkState, Writes, WritesBeginning}
 use Rattle.aug_script.specs.Limits.{Bounds}

@@ -1,4 +1,6 @@
--- The result of a run of a whole script.
+-- The result of a run of a whole script. Some reports went out whole (`Prints`): followed by others, they are reports that the first rounds may have.
+-- In `RunsWhole` there are no others, and as many reports as rounds; in `RunsInPart` there is one other report, and a prefix of it went out. A script
+-- of blank lines has no rounds and prints nothing; `0,look` prints two lines, and `*,end` one.
 use Rattle.std.specs.Prelude.{◌≡◌, ℕ, ◌≤◌, List, [], ◌∷◌, ◌++◌, length, map, take, Result, Ok}
 use Rattle.std.specs.List.{concat}
 use Rattle.aug_script.specs.Devices.{SinkState, Writes, WritesBeginning}

@@ -1,4 +1,5 @@
--- What calls do to a sink.
+-- What calls do to a sink. All of a text goes out (`Writes`), or a prefix of it before a fault (`WritesBeginning`), such as `1 0 si` if a disk was
+-- full after six bytes. If a device shows nothing of its bytes, such as a terminal, the statements about them claim nothing.
 use Rattle.std.specs.Prelude.{◌≡◌, ℕ, ◌+◌, ◌≤◌, ◌⊎◌, Option, List, length, take}
 use Rattle.std.specs.Io.KnownBytes.{Appends}
 

@@ -1,4 +1,5 @@
--- What a script may ask for.
+-- What a script may ask for. They are 4, 1 and 64 if the command line gives none, for which `words_of` is 1,407. A table that opens with every key
+-- can be laid out for all limits, so no round of a script is too large.
 use Rattle.std.specs.Prelude.{ℕ, ◌+◌, ◌-◌, ◌*◌, ◌^◌, ◌&&◌, nat_le, Bool}
 use Rattle.aug_core.specs.Layout.{IsLayout}
 use Rattle.aug_core.specs.Places.{shape_of}

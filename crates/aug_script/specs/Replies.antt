@@ -1,4 +1,6 @@
--- The replies to the rows of a round, by the definitions of the queries.
+-- The replies to the rows of a round, by the definitions of the queries. They are over two sets, the live one and the snapshot. If both are the
+-- example, the reply to a `0,size` after `0,insert,2` is 2, and 3 after a `0,look`; that to `0,select,1` is 3, and `0,before,1` finds none. A `set`
+-- counts as an insertion and as a removal.
 use Rattle.std.specs.Prelude.{ℕ, if◌then◌else◌, Bool, true, false, List, [], ◌∷◌, length, filter}
 use Rattle.std.specs.List.{zip}
 use Rattle.aug_monoid.specs.Extent.{extent_parts}

@@ -1,4 +1,4 @@
--- The text of a report.
+-- The text of a report. With round 1 the row `0,size` prints `1 0 size = 3`, and `0,before,1` prints `1 0 before 1 = -`.
 use Rattle.std.specs.Prelude.{ℕ, List, ◌++◌, map, codes, Option, Some, None}
 use Rattle.std.specs.Fmt.{decimal}
 use Rattle.std.specs.List.{concat}

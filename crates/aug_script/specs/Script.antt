@@ -1,5 +1,10 @@
--- How a script reads: its records are those of `csv`, and each is a row, the end of a round or more bits for the keys, or has the first
--- fault of a table.
+-- How a script reads: its records are those of `csv`, and each is a row, the end of a round or more bits for the keys, or has the first fault of a
+-- table. `written` is the one table of verbs: each has a word and arguments, in scripts as in reports. A record is read as the item among
+-- `items_with` that is written with its word. `item_of`, `named_item` and `bounded_item` are the table of faults in the order in which the program
+-- looks for them: `x,fly` has a bad lane and not a bad verb, and `1,fly` with one worker a bad verb, since the lane's bound comes later. By
+-- `with_item` `0,look`, `*,end`, `0,size` are two rounds, of the first row and of the third, and `*,end` alone is one round with no rows. Only the
+-- rows of the open round count against a lane's updates, and a row is judged by the bits in force at that row: a `grow` row changes those of the open
+-- round and of all later ones.
 use Rattle.std.specs.Prelude.{◌≡◌, ℕ, ◌+◌, ◌^◌, ◌<◌, ◌≤◌, ◌==◌, ◌&&◌, ◌||◌, not, nat_lt, nat_le, true, false, Bool, if◌then◌else◌, List, [], ◌∷◌, ◌++◌, length, drop, map, filter, find, slice_index_or, All, codes, Option, Some, None, Result, Ok, Err}
 use Rattle.std.specs.Char.{is_ascii_digit}
 use Rattle.std.specs.List.{list_all}

@@ -1,4 +1,5 @@
--- The rounds of one table, one after another, as far as they are known.
+-- The rounds of one table, one after another, as far as they are known. A pass that put 0 into the example knows the chain of one round with two
+-- cuts. It is a part of that which a pass of the next round knows, whose first round has these two cuts.
 use Rattle.std.specs.Prelude.{◌≡◌, ℕ, List, [], ◌∷◌, ◌++◌}
 use Rattle.aug_core.specs.Cuts.{Cut}
 use Rattle.aug_core.specs.Prefixes.{IsPrefix}

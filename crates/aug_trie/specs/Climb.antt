@@ -1,4 +1,6 @@
--- What contracts see of an update that is made by single turns.
+-- What contracts see of an update that is made by single turns. In between the pass may have changed its leaf while the root does not show that yet.
+-- So no clause there says that an accepted change stands in the last cut; `Finishes` says it, from the start to the end. To put 0 into the example
+-- takes 26 turns if nobody comes in between, and at most 50.
 use Rattle.std.specs.Prelude.{◌≡◌, ℕ, ◌<◌, ◌≤◌, true, [], ◌∷◌, ◌++◌}
 use Rattle.aug_core.specs.Kinds.{load_leaf, try_leaf}
 use Rattle.aug_core.specs.declared.step.StepTaken.{StepTaken}

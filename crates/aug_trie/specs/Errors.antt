@@ -1,4 +1,5 @@
--- Why a round does not begin, why a crew hands no pass out, and why an update is not made.
+-- Why a round does not begin, why a crew hands no pass out, and why an update is not made. Each is printed by its name. A refusal of a round stands
+-- for that of its layout with the same name.
 use Rattle.std.specs.Prelude.{ℕ, List, codes}
 use Rattle.aug_core.specs.declared.layout.LayoutError.{LayoutError}
 use Rattle.aug_core.specs.declared.layout.LayoutError.TheVariants as layout

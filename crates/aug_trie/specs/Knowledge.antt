@@ -1,4 +1,4 @@
--- What a pass, or a crew, knows of a round.
+-- What a pass, or a crew, knows of a round. A pass that put 0 into the example knows two cuts and the change of key 0 to serial 1.
 use Rattle.std.specs.Prelude.{◌≡◌, ◌⊎◌, ℕ, ◌%◌, ◌<◌, ◌==◌, List, length, filter, All}
 use Rattle.aug_core.specs.declared.view.Change.{Change}
 use Rattle.aug_core.specs.Cuts.{Cut, serial_of, shown_of}

@@ -1,4 +1,5 @@
--- What contracts see of a note.
+-- What contracts see of a note. A pass that put 0 into the example makes a note of two cuts. A pass that knew only the first knows both once it has
+-- learnt the note, and its snapshots show 0, or what came to 0 later.
 use Rattle.std.specs.Prelude.{List}
 use Rattle.aug_core.specs.Cuts.{Cut}
 use Rattle.aug_trie.specs.Chains.{Chapter, Chain, chain}

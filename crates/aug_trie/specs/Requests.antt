@@ -1,4 +1,4 @@
--- The requests of updates, and what an update makes of a leaf.
+-- The requests of updates, and what an update makes of a leaf. A put of 1 with the weight 5 makes `3 * 2^32 + 5` of `2^32 + 1`.
 use Rattle.std.specs.Prelude.{ℕ, ◌+◌, ◌%◌, ◌==◌, Bool, true, if◌then◌else◌}
 use Rattle.aug_core.specs.Book.{word_of_leaf}
 use Rattle.aug_model.specs.declared.outcome.Outcome.{Outcome}

@@ -1,4 +1,5 @@
--- What contracts see of a round.
+-- What contracts see of a round. `era` is how often its table had been renewed before, so a renewed round is another round than the one before, also
+-- over the same set.
 use Rattle.std.specs.Prelude.{ℕ, ◌+◌, ◌-◌, ◌^◌, List}
 use Rattle.atomic_table.specs.Seated.{TableId}
 

@@ -1,4 +1,5 @@
--- Which snapshots are a pass's, and which cut and which set each shows.
+-- Which snapshots are a pass's, and which cut and which set each shows. In the example the root's first entry has the number 4, and the one after 0
+-- was put in 6: a snapshot with the number 6 shows the second cut.
 use Rattle.std.specs.Prelude.{ℕ, ◌<◌, ◌==◌, List, [], length, slice_index_or}
 use Rattle.std.specs.List.{position_or_len}
 use Rattle.aug_core.specs.Cuts.{Cut, pairs_of_cut}

@@ -1,4 +1,4 @@
--- What a tree shows of a cut.
+-- What a tree shows of a cut. The left child of the root in the example's second cut has the summary of 0 and 1.
 use Rattle.std.specs.Prelude.{◌≡◌, ℕ, ◌+◌, ◌*◌, ◌^◌, ◌≤◌, List}
 use Rattle.aug_model.specs.Queries.{weighted_range_of}
 use Rattle.aug_model.specs.declared.summary.Summary.{Summary}

@@ -1,4 +1,6 @@
--- What one call of a pass does to what it knows.
+-- What one call of a pass does to what it knows. An insertion of 1 into the example is refused because of the serial 1 that was there. A put of 1
+-- with the weight 5 is a `ReplacedUpdate`: the changes of key 1 to serial 2 and, with the weight 5, to serial 3 are both accepted, and no cut shows
+-- the serial 2.
 use Rattle.std.specs.Prelude.{◌≡◌, ◌≢◌, ℕ, ◌+◌, ◌%◌, ◌<◌, ◌⊎◌, [], ◌∷◌, ◌++◌, All}
 use Rattle.aug_core.specs.Counts.{change}
 use Rattle.aug_core.specs.Cuts.{Cut, serial_of}

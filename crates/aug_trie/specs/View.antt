@@ -1,4 +1,5 @@
--- What a query over a view keeps of its pass.
+-- What a query over a view keeps of its pass. It makes at most four steps for each call: one that asks for the root and for its left child makes at
+-- most eight.
 use Rattle.std.specs.Prelude.{◌≡◌, ℕ, ◌+◌, ◌*◌, ◌≤◌, List, length}
 use Rattle.std.specs.Borrow.{MutBor}
 use Rattle.aug_model.specs.declared.summary.Summary.{Summary}

@@ -1,4 +1,4 @@
--- What it does to what is known that a lane is handed out, and that it is taken back.
+-- What it does to what is known that a lane is handed out, and that it is taken back. Both load the root.
 use Rattle.std.specs.Prelude.{◌≡◌, ℕ, List}
 use Rattle.aug_core.specs.Addresses.{root_place}
 use Rattle.aug_core.specs.Book.{GoesOnFromBoth}

@@ -1,4 +1,5 @@
--- What it does to what is known that a note is taken in.
+-- What it does to what is known that a note is taken in. It loads the root too. If a pass of the example put 0 in and made a note, a pass that takes
+-- the note in has seen the entries 0 and 1 of leaf 0. If the table was renewed in between, it knows that leaf 0 of the era before had both.
 use Rattle.std.specs.Prelude.{◌≡◌, ℕ, List}
 use Rattle.aug_core.specs.Addresses.{root_place}
 use Rattle.aug_core.specs.Book.{GoesOnFromBoth}

@@ -1,4 +1,5 @@
--- A table at rest: its words, which meet the rule.
+-- A table at rest: its words, which meet the rule. They meet the rule together with what the lead knows, and the records of each lane that was joined
+-- are as its pass left them. Once 0 was put into the example and the pass was joined, the words at 4, 5 and 6 are 5, 3 and 6.
 use Rattle.std.specs.Prelude.{◌≡◌, ℕ, ◌+◌, ◌<◌, List, slice_index}
 use mathlib.Core.Option.{some}
 use lib.ListN.{get_elem?}

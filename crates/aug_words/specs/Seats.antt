@@ -1,4 +1,5 @@
--- What contracts see of a table, of a lead and of a pass, and what a call of a pass asks.
+-- What contracts see of a table, of a lead and of a pass, and what a call of a pass asks. A pass is a table and a view, and each call's clause is a
+-- definition of `Told` over that view: in the example `load_leaf` asks for a key below 4, and its clause is `LoadsLeaf`.
 use Rattle.std.specs.Prelude.{◌≡◌, ℕ, ◌+◌, ◌<◌, ◌⊎◌, ◌↔◌, Bool, IsTrue, List, Some}
 use Rattle.atomic_table.specs.Seated.{TableId}
 use Rattle.aug_core.specs.Places.{record_start}

@@ -1,4 +1,4 @@
--- What a snapshot of the book says of its bids.
+-- What a snapshot of the book says of its bids. The best bid is the greatest of the bids.
 use Rattle.std.specs.Prelude.{ℕ, ◌==◌, ◌&&◌, Bool, false, List, length, Option, Some, None}
 use Rattle.aug_monoid.specs.Fold.{fold_of}
 use Rattle.aug_monoid.specs.Extent.{extent_parts}

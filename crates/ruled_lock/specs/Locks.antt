@@ -1,4 +1,5 @@
--- What contracts see of a pass on a lock, and what a caller shows of a rule of its own.
+-- What contracts see of a pass on a lock, and what a caller shows of a rule of its own. While a pass has the value out, the rule holds for it as it
+-- was taken. A rule that says of the value 3 that the one view is 3 too lets a pass put 5 in, if its view becomes 5.
 use Rattle.std.specs.Prelude.{◌≡◌, ℕ, List, [], ◌∷◌, ◌++◌, slice_set, Option, Some, None}
 use mathlib.Core.Option.{some}
 use lib.ListN.{get_elem?}

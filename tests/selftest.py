@@ -388,9 +388,9 @@ pub fn hidden() -> u32 {
     SECTION = """
 ## `one`
 
-- `count` *ensures* _, *not* count_is_one.
-- **`Lends`**: *ghost* fair; `lend` *ensures* _.
-- **`Shelf`**: `take` *requires* room, *ensures* gone, _, *or* Gone, *not* take_gives_none.
+- `count` *not* count_is_one.
+- **`Lends`**: *ghost* fair; `lend`.
+- **`Shelf`**: `take`(room) gone, _, *or* Gone, *not* take_gives_none.
 - Without calls of their own: Gone.
 """
 
@@ -420,9 +420,13 @@ pub fn hidden() -> u32 {
             self.assertEqual(status, 1)
 
     def test_call_without_a_clause(self):
-        said, status = self.check("crates/one/src/lib.rt", "pub use shelf::count;", "pub use shelf::{count, hidden};")
+        changed = "crates/one/src/lib.rt", "pub use shelf::count;", "pub use shelf::{count, hidden};"
+        said, status = self.check(*changed)
         self.assertIn("hidden has no clause\n", said)
         self.assertEqual(status, 1)
+        self.check(*changed, words=["--write"])
+        with open(os.path.join(self.folder, "docs/surface.md"), encoding="utf-8") as file:
+            self.assertIn("; `hidden` *untold*.\n", file.read())
 
     def test_too_few_calls(self):
         self.assertEqual(self.check(least=4), ("there are 3 public calls, and should be 4\n2 passed, 1 failed\n", 1))

@@ -20,9 +20,9 @@ UNTOLD = {"before of Gate": "no clause sees when a row runs; tests do", "after o
 
 HEAD = """# Public calls
 
-Written by `tests/surface.py --write` from the sources, and compared with them by the gate. Each line has the calls of a type, a trait or a crate. Behind
-*requires* are the names of a call's conditions, behind *ensures* those of its clauses, `_` for one without a name; what they say stands at the
-call in `src/`. Behind *or* is the type that a refusal has, behind *not* the must-fail edits of its body: mistakes that the prover refuses. Behind
+Written by `tests/surface.py --write` from the sources, and compared with them by the gate. Each line has the calls of a type, a trait or a crate: in
+brackets the names of a call's conditions (`_` has no name), then those of its clauses, or nothing for a single one without a name, or *untold* if it has
+none; what they say stands at the call in `src/`. Behind *or* is the type that a refusal has, behind *not* the must-fail edits of its body: mistakes that the prover refuses. Behind
 *ghost* are the members of a trait that only contracts see, its laws among them.
 """
 FUNCTION = re.compile(r"^ *(?:pub(?:\([^)]*\))? )?(?:extern \"C\" )?fn (\w+)", re.M)
@@ -49,10 +49,10 @@ def edits_of(top, crate):
 
 def said_of(call, edits):
     """What the page says of a call."""
-    named = {kind: [it.name or "_" for it in call.function.clauses if it.kind == kind] for kind in ("requires", "ensures")}
+    asked, told = (", ".join(it.name or "_" for it in call.function.clauses if it.kind == kind) for kind in ("requires", "ensures"))
     refusal = REFUSAL.search(call.function.signature.rstrip(" {;"))
-    parts = {**named, "or": refusal and [refusal[1]], "not": sorted(edits[call.name])}
-    return f"`{call.function.name}` " + (", ".join(f"*{word}* {', '.join(of)}" for word, of in parts.items() if of) or "alone")
+    parts = ["" if told == "_" else told or "*untold*", refusal and f"*or* {refusal[1]}", edits[call.name] and f"*not* {', '.join(sorted(edits[call.name]))}"]
+    return f"`{call.function.name}`{asked and f'({asked})'} {', '.join(filter(None, parts))}".rstrip()
 
 
 def section(top, crate, found):

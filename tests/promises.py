@@ -30,6 +30,7 @@ READS = (
     *(Read(title, "aug_trie", [call], False) for title, call in zip(("`Pass::insert`", "`Pass::snapshot`", "`Round::end`"), FIRST)),
     Read("these three of `aug_trie`", "aug_trie", FIRST, True),
     Read("`run` of the program", "aug_run", ["run"], True),
+    Read("these four together", None, [*FIRST, "run"], False),
     *(Read(f"all of `{crate}`", crate, None, False) for crate in ("aug_trie", "aug_live", "aug_c")),
     Read("all public calls", None, None, True),
 )
@@ -116,7 +117,7 @@ class Promises:
     def wrong_reads(self):
         """Which calls that are to be counted are not there."""
         there = {(crate, it.name) for crate, it in self.all}
-        wanted = {(it.crate, call) for it in self.reads for call in it.calls or ()}
+        wanted = {(it.crate, call) for it in self.reads for call in it.calls or () if it.crate}
         return [f"there is no {call} in {crate}" for crate, call in sorted(wanted - there)]
 
     def wrong_heads(self):

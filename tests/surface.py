@@ -20,10 +20,10 @@ UNTOLD = {"before of Gate": "no clause sees when a row runs; tests do", "after o
 
 HEAD = """# Public calls
 
-Written by `tests/surface.py --write` from the sources, and compared with them by the gate. Each line has the calls of a type, a trait or a crate: in
-brackets the names of a call's conditions (`_` has no name), then those of its clauses, or nothing for a single one without a name, or *untold* if it has
-none; what they say stands at the call in `src/`. Behind *or* is what a refusal gives, behind *not* the must-fail edits of its body: mistakes that the prover refuses. Behind
-*ghost* are the members of a trait that only contracts see, its laws among them.
+Written by `tests/surface.py --write`; the gate compares it with the sources. Each line has the calls of a type, a trait or a crate: in brackets the
+names of a call's conditions (`_` has no name), then those of its clauses, or nothing for a single one without a name, or *untold* if it has none;
+what they say stands at the call in `src/`. Behind *or* is what a refusal gives, behind *not* the must-fail edits of its body: mistakes that the
+prover refuses. Behind *ghost* are the members of a trait that only contracts see, its laws among them.
 """
 FUNCTION = re.compile(r"^ *(?:pub(?:\([^)]*\))? )?(?:extern \"C\" )?fn (\w+)", re.M)
 OWNER = re.compile(r"^(?:impl\b(?:<(?:[^<>]|<[^<>]*>)*>)? (\w+)[^{]*\{|pub trait (\w+)|\})", re.M)

@@ -5,11 +5,14 @@ import collections
 import functools
 import os
 import subprocess
+import tempfile
 
-TESTS = os.path.dirname(os.path.abspath(__file__))
+from common import TESTS
 
 # How many requests for memory and starts of threads a program made, and how many blocks it had not given back at its end.
 Counts = collections.namedtuple("Counts", "requests starts blocks")
+
+HELD = tempfile.TemporaryDirectory(prefix="refusing-")
 
 
 @functools.lru_cache
@@ -24,24 +27,23 @@ def compile_c(source, made, words=()):
     subprocess.run([clang(), "-O1", "-fno-builtin", "-fuse-ld=lld", *words, "-o", made, source], check=True)
 
 
-class Refusing:
-    """The library that refuses them, in a folder."""
+@functools.lru_cache
+def library():
+    """The library that refuses them."""
+    made = os.path.join(HELD.name, "refuse.so")
+    compile_c(os.path.join(TESTS, "refuse.c"), made, ["-fPIC", "-shared", "-nostdlib"])
+    return made
 
-    def __init__(self, folder):
-        self.library = os.path.join(folder, "refuse.so")
-        compile_c(os.path.join(TESTS, "refuse.c"), self.library, ["-fPIC", "-shared", "-nostdlib"])
 
-    def counted(self, run, request=0, start=0, later=False):
-        """What `run` returns, which is given the environment of its program and what it is to pass on, and the counts of the program.
-        The request for memory or the start of a thread of a number, counted from 1, is refused, and where `later` is true each later one
-        of its kind; of number 0 none is."""
-        reader, writer = os.pipe()
-        refused = {"REFUSED_REQUEST": str(request), "REFUSED_START": str(start), "LATER_TOO": str(int(later))}
-        env = {"LD_PRELOAD": self.library, "COUNTS_TO": str(writer), **refused}
-        try:
-            returned = run(env=env, pass_fds=[writer])
-            os.close(writer)
-            told = os.read(reader, 65536)
-        finally:
-            os.close(reader)
-        return returned, Counts(*(told.count(kind) for kind in (b"m", b"t", b"b")))
+def counted(run, request=0, start=0, later=False):
+    """What `run` returns, which is given the environment of its program and what it is to pass on, and the counts of the program. The request for
+    memory or the start of a thread of a number, counted from 1, is refused, and if `later` is true each later one of its kind; of number 0 none is."""
+    reader, writer = os.pipe()
+    refused = {"REFUSED_REQUEST": str(request), "REFUSED_START": str(start), "LATER_TOO": str(int(later))}
+    try:
+        returned = run(env={"LD_PRELOAD": library(), "COUNTS_TO": str(writer), **refused}, pass_fds=[writer])
+        os.close(writer)
+        told = os.read(reader, 65536)
+    finally:
+        os.close(reader)
+    return returned, Counts(*(told.count(kind) for kind in (b"m", b"t", b"b")))

@@ -1,4 +1,4 @@
--- The numbers that the calls answer if they have no other answer: all are below 0. The header `augtrie.h` has the same, which `tests/library.py`
+-- The numbers that the calls answer if they have no other answer: all are below 0. The header `augtrie.h` has the same, which `tests/languages`
 -- compares.
 use Rattle.std.specs.Prelude.{ℤ, negsuc}
 

@@ -1,5 +1,5 @@
 //! Assertions as calls. A test is proved like any function, and a call takes a sixth of the time that `assert_eq!` takes, which branches in the
-//! test itself. Each crate of tests has this file, since a library may not end the process; tests/selftest.py compares them.
+//! test itself. Each crate of tests has this file, since a library may not end the process; tests/sources compares them.
 ghost use Rattle.std.specs.Prelude.{◌≡◌, IsTrue};
 
 use std::fmt::{Debug, Display};

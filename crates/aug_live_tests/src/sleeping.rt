@@ -1,4 +1,4 @@
-//! A thread that waits for a look. tests/sleeping.py runs this test, and measures how long a processor works meanwhile.
+//! A thread that waits for a look. tests/faults runs this test, and measures how long a processor works meanwhile.
 
 use super::holding::{rolls, signal};
 use super::opening::{Hand, opened};

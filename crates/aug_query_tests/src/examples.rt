@@ -71,7 +71,7 @@ fn take_at_last(
     Ok(())
 }
 
-// A request that is refused is made again, and what was asked for before it is still so. `tests/refused.py` refuses each in turn.
+// A request that is refused is made again, and what was asked for before it is still so. `tests/faults` refuses each in turn.
 #[test]
 fn refused_memory_changes_no_answer(rt: HostRuntime) -> Result<(), AllocError> {
     let mut tree = small_at_last(rt.alloc())?;
@@ -102,7 +102,7 @@ const OF_EACH_QUERY: &[Step<'static>] = &[
     Step::Spans(0, 16, (2, Some(9), Some((5, 9)))),
 ];
 
-// The tree asks once for each of its 5 rows, once for their row and once for the weights. `tests/requests.py` counts.
+// The tree asks once for each of its 5 rows, once for their row and once for the weights. `tests/faults` counts.
 #[test]
 fn the_queries_of_a_tree_of_4_bits_ask_7_times_for_memory(
     rt: HostRuntime,

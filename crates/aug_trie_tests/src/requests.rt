@@ -1,4 +1,4 @@
-//! How often rounds ask for memory. The number stands in a test's name: `tests/requests.py` counts. An empty trie asks four times, for its
+//! How often rounds ask for memory. The number stands in a test's name: `tests/faults` counts. An empty trie asks four times, for its
 //! words while they are made, for the room in which they are made anew, and for the two rows of its table (one row is empty), and so does a round over no members. A round over some
 //! members asks once more, for their list. Nothing else asks except a list, once.
 use super::playing::Act::{

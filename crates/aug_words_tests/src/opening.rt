@@ -186,7 +186,7 @@ const TWO_BITS_UPPER_KEYS: Held<'static> = Held {
     ],
 };
 
-// A request that is refused is made again. `tests/refused.py` refuses each in turn.
+// A request that is refused is made again. `tests/faults` refuses each in turn.
 #[test]
 fn refused_memory_spoils_no_later_opening(rt: HostRuntime) -> Result<(), WordsError> {
     match assert_holds(&rt, rt.alloc(), 2, 2, 2, &TWO_BITS_UPPER_KEYS) {

@@ -1,4 +1,4 @@
-//! How often tables ask for memory. The number stands in a test's name: `tests/requests.py` counts. A table is opened with four
+//! How often tables ask for memory. The number stands in a test's name: `tests/faults` counts. A table is opened with four
 //! requests, for its words while they are made, for the room in which it is opened again, and for its two rows (one row is empty). Nothing else asks.
 use super::tables::{root_of, small};
 use super::working::{Filled, next_half, take_back, work};

@@ -4,8 +4,11 @@ import collections
 import glob
 import os
 import re
+import sys
 
-TOP = os.path.dirname(os.path.dirname(os.path.abspath(__file__)))
+sys.path.append(os.path.dirname(os.path.dirname(os.path.abspath(__file__))))
+
+from common import TOP, read
 
 # A `requires` or an `ensures`, its name or none, and what it says.
 Clause = collections.namedtuple("Clause", "kind name text")
@@ -30,11 +33,6 @@ CLAUSE = re.compile(r"^\s+(requires|ensures) (?:(\w+) )?\{")
 TYPE = re.compile(r"^(pub )?(?:pub\([^)]*\) )?(struct|enum|trait|type) (\w+)", re.M)
 IMPL = re.compile(r"^impl\b([^{]*) for ([^{]*)\{$(.*?)^\}", re.M | re.S)
 GHOST = re.compile(r"^    (?:pub(?:\([^)]*\))? )?ghost (\w+)(?::| =) \{", re.M)
-
-
-def read(path):
-    with open(path, encoding="utf-8") as file:
-        return file.read()
 
 
 def files(top, pattern):

@@ -20,15 +20,15 @@ class Sweeps:
         with concurrent.futures.ThreadPoolExecutor(2 * os.cpu_count()) as pool:
             ended = list(pool.map(lambda case: self.run_on(case[1].split(), case[2]), cases))
         wrong = [(name, *found[1:]) for (name, _, _, wanted), found in zip(cases, ended) if found != wanted]
-        self.assertEqual(wrong[:20], [], f"{len(wrong)} of {len(cases)} runs")
+        assert wrong[:20] == [], f"{len(wrong)} of {len(cases)} runs"
         return len(cases)
 
     def run_rounds(self, options, rounds):
         """Runs a script of these rounds, whose reports may be long."""
         out, err, status = self.run_on(options.split(), script_of(rounds))
         wanted = b"".join(reports_of(rounds))
-        self.assertEqual((err, status), (b"", 0), f"behind {out.count(b' end ')} reports, the last of which ends {out[-60:]}")
-        self.assertTrue(out == wanted, "not the reports of this script")
+        assert (err, status) == (b"", 0), f"behind {out.count(b' end ')} reports, the last of which ends {out[-60:]}"
+        assert out == wanted, "not the reports of this script"
 
     def test_sweep_of_bits_and_lanes(self):
         ran = self.run_each(
@@ -37,7 +37,7 @@ class Sweeps:
             for lanes in range(1, 65)
             for updates in [9 + (bits + 5 * lanes) % 64]
         )
-        self.assertEqual(ran, 1024)
+        assert ran == 1024
 
     def test_sweep_of_updates(self):
         draw = random.Random(1)
@@ -48,7 +48,7 @@ class Sweeps:
             for rows in [[any_update(draw, bits) for _ in range(updates)]]
             if updates
         )
-        self.assertGreater(ran, 299)
+        assert ran > 299
 
     def test_sweep_of_rows(self):
         draw = random.Random(2)
@@ -60,13 +60,13 @@ class Sweeps:
 
     def test_sweep_of_bytes(self):
         ran = self.run_each(script_of_bytes(size) for size in numbers(2500, 1 << 22))
-        self.assertGreater(ran, 2499)
+        assert ran > 2499
 
     def test_sweep_of_reports_of_each_size(self):
         sizes = [size for size in numbers(2600, 1 << 17) if size >= 100]
         line, end = (lambda number: len(f"{number} 0 size = 0\n")), (lambda number: len(f"{number} end size=0 in=0 out=0\n"))
         rounds = [rows_of_size(line(number), size - end(number)) for number, size in enumerate(sizes, 1)]
-        self.assertEqual([len(report) for report in reports_of(rounds)], sizes)
+        assert [len(report) for report in reports_of(rounds)] == sizes
         self.run_rounds("", rounds)
 
     def test_sweep_of_rounds(self):
@@ -74,7 +74,7 @@ class Sweeps:
             whole(f"{count} rounds", "", [[(0, "insert", number % 16)] for number in range(count)])
             for count in numbers(200, 4096)
         )
-        self.assertGreater(ran, 199)
+        assert ran > 199
 
     def test_sweep_of_members(self):
         draw = random.Random(4)
@@ -95,14 +95,14 @@ class Sweeps:
             for more in range(bits, 17)
             for wider in [[("*", "grow", more), (0, "insert", (1 << more) - 1), *queries(more)]]
         )
-        self.assertEqual(ran, 136)
+        assert ran == 136
 
     def test_sweep_of_faulty_rows(self):
         fault = lambda name: (b"", b"augtrie: row 1: %b\n" % name, 1)
         counts = range(1, 300)
         arguments = [(f"{count} arguments", "", b"0,look" + b",1" * count, fault(b"BadArity")) for count in counts]
         digits = [(f"{count} digits", "", b"0,rank," + b"0" * (9 + count), fault(b"BadNumber")) for count in counts]
-        self.assertEqual(self.run_each([*arguments, *digits]), 598)
+        assert self.run_each([*arguments, *digits]) == 598
 
 
 def whole(name, options, rounds):

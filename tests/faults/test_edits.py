@@ -1,25 +1,19 @@
-#!/usr/bin/env python3
 """Says of each must-fail edit, in crates/*/must-fail and in edits/, whether it can be applied, and whether the compiler takes the edited crate: one
 that it does not take tries no contract. Nothing is proved here: whether the prover refuses an edit says `rt must-fail` or `tools/edits`.
 
-usage: tests/edits.py [CRATE ..]
-
-Edits that leave one another in place are compiled together, and by halves where that fails. The libraries below a crate have to be built,
-by `rt ci` or `rt lib`. The last line is 'N passed, M failed', and the exit status is 0 where none failed. It needs Python 3.8 or later and the
-toolchain.
+CRATES=NAME.. in the environment takes the edits of some crates alone. Edits that leave one another in place are compiled together, and by halves if
+that fails. The libraries below a crate have to be built, by `rt ci` or `rt lib`. It needs the toolchain.
 """
 
 import concurrent.futures
+import functools
 import glob
 import os
 import shutil
 import subprocess
-import sys
 import tempfile
 
-import kit
-
-TOP = os.path.dirname(os.path.dirname(os.path.abspath(__file__)))
+from common import TOP, crates_below, toolchain
 
 
 class Copy:
@@ -77,31 +71,40 @@ def together(rt, crate, edits):
     return wrong
 
 
-def edits_of(rt, crate, top):
-    return rt.edits_of(crate)[0] + sorted(glob.glob(os.path.join(top, "edits", crate.name, "*.edit")))
+def edits_below(rt, top, names=()):
+    """Some crates, or all, each with its edits."""
+    crates = crates_below(rt, top)
+    return [(crates[it], rt.edits_of(crates[it])[0] + sorted(glob.glob(os.path.join(top, "edits", it, "*.edit")))) for it in names or crates]
 
 
-def main(names, rt=None, top=TOP):
-    rt = rt or kit.loaded()
-    crates = kit.crates(rt, top)
-    unknown = sorted(set(names) - set(crates))
-    if unknown:
-        print(f"edits.py: crates.txt has no {' and no '.join(unknown)}", file=sys.stderr)
-        return 2
-    found = {name: edits_of(rt, crates[name], top) for name in names or crates}
+def wrong_edits(rt, edits):
+    """What is wrong with each of the edits of some crates."""
     with concurrent.futures.ThreadPoolExecutor(os.cpu_count()) as lanes:
-        said = lanes.map(lambda name: together(rt, crates[name], found[name]), found)
-        wrong = [f"{os.path.relpath(edit, top)}: {why}" for it in said for edit, why in it.items() if why]
-    lost = [] if names else sorted(set(os.listdir(os.path.join(top, "edits"))) - set(crates)) if os.path.isdir(os.path.join(top, "edits")) else []
-    wrong += [f"edits/{name}: crates.txt has no such crate" for name in lost]
-    count = sum(map(len, found.values()))
-    if not count:
-        wrong.append("edits.py: no edit was found")
-    for it in wrong:
-        print(it)
-    print(f"{max(count - len(wrong), 0)} passed, {len(wrong)} failed")
-    return 1 if wrong else 0
+        return {edit: why for it in lanes.map(lambda of: together(rt, *of), edits) for edit, why in it.items()}
 
 
-if __name__ == "__main__":
-    sys.exit(main(sys.argv[1:]))
+def lost_folders(rt, top):
+    """The folders of edits/ that are of no crate."""
+    return sorted(set(map(os.path.basename, glob.glob(os.path.join(top, "edits", "*")))) - set(crates_below(rt, top)))
+
+
+RT = toolchain()
+EDITS = edits_below(RT, TOP, os.environ.get("CRATES", "").split())
+
+
+class TestEdits:
+    @classmethod
+    def setup_class(cls):
+        cls.wrong = wrong_edits(RT, EDITS)
+
+    def test_each_folder_is_of_a_crate_and_there_are_edits(self):
+        assert lost_folders(RT, TOP) == []
+        assert any(edits for _, edits in EDITS)
+
+    def check(self, edit):
+        assert self.wrong.get(edit, "") == ""
+
+
+for crate, paths in EDITS:
+    for path in paths:
+        setattr(TestEdits, f"test_{crate.name}_{os.path.basename(path)[:-5]}", functools.partialmethod(TestEdits.check, path))

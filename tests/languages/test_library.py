@@ -1,15 +1,13 @@
-#!/usr/bin/env python3
 """Installs the library for other languages below a folder of its own, as both compilers of the toolchain build it, and runs the tests and
-examples of bindings/ over it, and those in C under valgrind as well. The benchmark in bench/ runs briefly over the library as LLVM builds it.
+examples of bindings/ over it, and those in C under valgrind as well. The benchmark in bench/ runs briefly over the library as LLVM builds it. Tests with
+`names` in their names build nothing, and compare the names of the calls and the codes.
 
-usage: tests/library.py [--names | --after-ci]
-
-What is not proved yet is proved first. --after-ci is for a tree in which `rt ci` has just run: the library is proved once for both compilers, over
-the libraries below it as that run left them, which `rt lib` would prove again. --names builds nothing, and compares the names of the calls and
-the codes alone. It says what it leaves out where a C compiler, cargo or valgrind is missing. The last line is 'N passed, M failed', and the exit
-status is 0 where none failed. It needs Python 3.8 or later and the toolchain.
+What is not proved yet is proved first. AFTER_CI=1 in the environment is for a tree in which `rt ci` has just run: the library is proved once for both
+compilers, over the libraries below it as that run left them, which `rt lib` would prove again. It says what it leaves out if a C compiler, cargo or
+valgrind is missing. It needs the toolchain.
 """
 
+import functools
 import glob
 import os
 import re
@@ -17,13 +15,10 @@ import shutil
 import subprocess
 import sys
 import tempfile
-import unittest
 import xml.etree.ElementTree
 
-import kit
-from programs import run_classes
+from common import TOP, crates_below, read, toolchain
 
-TOP = os.path.dirname(os.path.dirname(os.path.abspath(__file__)))
 BINDINGS = os.path.join(TOP, "bindings")
 BACKENDS = ["llvm", "rattle"]
 CC = os.environ.get("CC", "cc")
@@ -55,11 +50,6 @@ PRINTED = {
 }
 
 
-def read(*path):
-    with open(os.path.join(TOP, *path), encoding="utf-8") as file:
-        return file.read()
-
-
 def said_by(*words, status=0, **how):
     """What a command prints. It must end with the status."""
     how.setdefault("timeout", 600)
@@ -73,40 +63,46 @@ def runs(tool):
     return bool(shutil.which(tool)) and subprocess.run([tool, "--version"], stdin=subprocess.DEVNULL, stdout=subprocess.DEVNULL, stderr=subprocess.DEVNULL).returncode == 0
 
 
-class Names(unittest.TestCase):
-    """The calls have the same names everywhere."""
-
-    def exports(self):
-        found = set()
-        for name in ("trie_calls", "updates", "queries"):
-            found |= set(re.findall(r'extern "C" fn (\w+)', read("crates", "aug_c", "src", f"{name}.rt")))
-        self.assertGreaterEqual(len(found), 20)
-        return found
-
-    def test_the_header_has_each_call(self):
-        self.assertEqual(set(re.findall(r"^int64_t (\w+)\(", read("bindings", "c", "augtrie.h"), re.M)), self.exports())
-
-    def test_the_header_tests_each_call_for_null(self):
-        self.assertEqual(set(re.findall(r"^#define (\w+) \1_$", read("bindings", "c", "augtrie.h"), re.M)), self.exports())
-
-    def test_rust_has_each_call(self):
-        self.assertEqual(set(re.findall(r"pub fn (aug_\w+)\(", read("bindings", "rust", "src", "ffi.rs"))), self.exports())
-
-    def test_python_has_each_call(self):
-        types = read("bindings", "python", "augtrie.py").partition("types = {")[2].partition("\n    }")[0]
-        self.assertEqual({f"aug_{name}" for name in re.findall(r'"(\w+)": \[', types)}, self.exports())
-
-    def test_the_codes_agree(self):
-        want = {int(code) for code in re.findall(r"^pub const \w+: i64 = (-\d+);", read("crates", "aug_c", "src", "codes.rt"), re.M)}
-        self.assertEqual({int(code) for code in re.findall(r"\bAUG_\w+ = (-\d+)", read("bindings", "c", "augtrie.h"))}, want)
-        python = re.search(r"_ERRORS = \{(.*?)\}", read("bindings", "python", "augtrie.py"), re.S)[1]
-        self.assertEqual({int(code) for code in re.findall(r"(-\d+):", python)} | {-1}, want)
+def exports():
+    found = set()
+    for name in ("trie_calls", "updates", "queries"):
+        found |= set(re.findall(r'extern "C" fn (\w+)', read("crates", "aug_c", "src", f"{name}.rt")))
+    assert len(found) >= 20
+    return found
 
 
-def archives(folder):
+def test_names_of_the_header():
+    assert set(re.findall(r"^int64_t (\w+)\(", read("bindings", "c", "augtrie.h"), re.M)) == exports()
+
+
+def test_names_that_the_header_tests_for_null():
+    assert set(re.findall(r"^#define (\w+) \1_$", read("bindings", "c", "augtrie.h"), re.M)) == exports()
+
+
+def test_names_in_rust():
+    assert set(re.findall(r"pub fn (aug_\w+)\(", read("bindings", "rust", "src", "ffi.rs"))) == exports()
+
+
+def test_names_in_python():
+    types = read("bindings", "python", "augtrie.py").partition("types = {")[2].partition("\n    }")[0]
+    assert {f"aug_{name}" for name in re.findall(r'"(\w+)": \[', types)} == exports()
+
+
+def test_names_and_codes_agree():
+    want = {int(code) for code in re.findall(r"^pub const \w+: i64 = (-\d+);", read("crates", "aug_c", "src", "codes.rt"), re.M)}
+    assert {int(code) for code in re.findall(r"\bAUG_\w+ = (-\d+)", read("bindings", "c", "augtrie.h"))} == want
+    python = re.search(r"_ERRORS = \{(.*?)\}", read("bindings", "python", "augtrie.py"), re.S)[1]
+    assert {int(code) for code in re.findall(r"(-\d+):", python)} | {-1} == want
+
+
+HELD = tempfile.TemporaryDirectory(prefix="library-")
+
+
+@functools.lru_cache
+def archives():
     """The archive of each compiler, by the compiler's name, built over the libraries that `rt ci` left, from one proof."""
-    rt = kit.loaded()
-    crate = kit.crates(rt, TOP)["aug_c"]
+    rt, folder = toolchain(), HELD.name
+    crate = crates_below(rt, TOP)["aug_c"]
     words = crate.words(["--jobs", str(min(os.cpu_count() or 1, 4))], keeps=False)
     checked = os.path.join(folder, "checked")
     said = said_by(rt.rtlib.RATTLE, "check", *words, "-o", checked, cwd=crate.folder, timeout=3000)
@@ -124,14 +120,11 @@ def archives(folder):
 class Installed:
     """The library as one compiler builds it."""
 
-    # The archives, if they are built already.
-    archives = {}
-
     @classmethod
-    def setUpClass(cls):
-        cls.folder = tempfile.mkdtemp()
-        cls.addClassCleanup(shutil.rmtree, cls.folder, True)
-        words = ["--archive", cls.archives[cls.backend], cls.folder] if cls.archives else [cls.folder, cls.backend]
+    def setup_class(cls):
+        cls.folder = os.path.join(HELD.name, f"by_{cls.backend}")
+        os.mkdir(cls.folder)
+        words = ["--archive", archives()[cls.backend], cls.folder] if os.environ.get("AFTER_CI") else [cls.folder, cls.backend]
         said_by(os.path.join(TOP, "tools", "install"), *words, timeout=3000)
 
     def compiled(self, *source, words=()):
@@ -141,28 +134,27 @@ class Installed:
         return program
 
     def test_c_threads_and_misuses(self):
-        self.assertRegex(said_by(self.compiled("c", "tests", "threads.c")), r"^ok: \d+ in, \d+ out, \d+ members, 1024 checks\n$")
+        assert re.search(r"^ok: \d+ in, \d+ out, \d+ members, 1024 checks\n$", said_by(self.compiled("c", "tests", "threads.c")))
 
-    @unittest.skipUnless(shutil.which("ld"), "no linker")
     def test_c_each_request_for_memory_refused(self):
         said = said_by(self.compiled("c", "tests", "refused.c", words=["-Wl,--wrap=malloc"]))
-        self.assertGreaterEqual(int(re.search(r"^ok: (\d+) refused$", said, re.M)[1]), 10)
+        assert int(re.search(r"^ok: (\d+) refused$", said, re.M)[1]) >= 10
 
     def test_c_many_keys(self):
         said = said_by(self.compiled("c", "tests", "many.c"))
-        self.assertGreaterEqual(int(re.fullmatch(r"ok: (\d+) answers\n", said)[1]), 30)
+        assert int(re.fullmatch(r"ok: (\d+) answers\n", said)[1]) >= 30
 
     def test_c_timers(self):
-        self.assertEqual(said_by(self.compiled("c", "examples", "timers.c")).splitlines(), PRINTED["timers"])
+        assert said_by(self.compiled("c", "examples", "timers.c")).splitlines() == PRINTED["timers"]
 
     def test_python_module(self):
         said = said_by(sys.executable, os.path.join(BINDINGS, "python", "test_augtrie.py"), env=self.python())
         passed = re.fullmatch(r"(\d+) passed, 0 failed", said.splitlines()[-1])
-        self.assertGreaterEqual(int(passed[1]), LEAST_PYTHON)
+        assert int(passed[1]) >= LEAST_PYTHON
 
     def test_python_index(self):
         said = said_by(sys.executable, os.path.join(BINDINGS, "python", "index.py"), env=self.python())
-        self.assertEqual(said.splitlines(), PRINTED["index"])
+        assert said.splitlines() == PRINTED["index"]
 
     def python(self):
         return {**os.environ, "AUGTRIE_LIB": os.path.join(self.folder, "lib", "libaugtrie.so"), "PYTHONDONTWRITEBYTECODE": "1"}
@@ -188,10 +180,10 @@ class Crate:
 
     def test_rust_crate(self):
         counts = [int(count) for count in re.findall(r"test result: ok\. (\d+) passed; 0 failed", self.cargo("test"))]
-        self.assertGreaterEqual(sum(counts), LEAST_RUST)
+        assert sum(counts) >= LEAST_RUST
 
     def test_rust_order_book(self):
-        self.assertEqual(self.cargo("run", "--example", "order_book").splitlines(), PRINTED["order_book"])
+        assert self.cargo("run", "--example", "order_book").splitlines() == PRINTED["order_book"]
 
 
 def table(lines, first):
@@ -218,36 +210,36 @@ class Bench:
         """The engines that were compared with the trie, and the answers in which they agreed, or None."""
         said = self.script("run", "--check", *words, **how)
         found = re.findall(r"^(\w+): trie and (\w+) (?:agree in (\d+)|DIFFER after \d+) answers$", said, re.M)
-        self.assertEqual([it[:2] for it in found], [(workload, engine) for workload in WORKLOADS for engine in list(ENGINES)[1:]], said)
+        assert [it[:2] for it in found] == [(workload, engine) for workload in WORKLOADS for engine in list(ENGINES)[1:]], said
         return [int(it[2]) if it[2] else None for it in found]
 
     def test_bench_engines_agree(self):
         # An odd key is no member at first.
         for words in [], ["--without", "1"]:
-            self.assertGreaterEqual(min(self.verdicts(*words)), LEAST_ANSWERS)
+            assert min(self.verdicts(*words)) >= LEAST_ANSWERS
 
     def test_bench_finds_that_a_key_is_missing(self):
-        self.assertEqual(set(self.verdicts("--without", "0", status=1)), {None})
+        assert set(self.verdicts("--without", "0", status=1)) == {None}
 
     def test_bench_finds_an_engine_under_the_name_of_another(self):
         for one, other in (2, 3), (0, 1):
             names = [list(ENGINES)[number] for number in (one, other)]
             said = self.script("run", "--rename", str(one), str(other), "--passes", "1", "--slice", "1", "--workload", "queries", status=1)
-            self.assertIn(f"bench: {names[0]} was run under the name of {names[1]}\n", said)
+            assert f"bench: {names[0]} was run under the name of {names[1]}\n" in said
 
     def test_bench_measures_each_engine(self):
         said = self.script("run", "--passes", "1", "--slice", "2", "--updates", "64", "--into", os.path.join(self.folder, "measured"))
         with open(os.path.join(self.folder, "measured", "throughput.md"), encoding="utf-8") as file:
             lines = file.read().splitlines()
-        self.assertIn("\n".join(lines), said)
+        assert "\n".join(lines) in said
         seats = table(lines, "Engine")
-        self.assertEqual(list(seats), list(ENGINES))
+        assert list(seats) == list(ENGINES)
         for name, seat in ENGINES.items():
-            self.assertRegex(seats[name]["What its threads work with"], f"^`{seat}`$")
+            assert re.search(f"^`{seat}`$", seats[name]["What its threads work with"])
         rates, ratios = table(lines, "Million operations a second"), table(lines, "The trie's throughput as a part of")
         processors = len(os.sched_getaffinity(0))
         cases = [f"{workload}, {count} thread{'s' * (count > 1)}" for workload in WORKLOADS for count in (1, 2, 4) if count <= processors]
-        self.assertEqual((list(rates), list(ratios)), (cases, cases))
+        assert (list(rates), list(ratios)) == (cases, cases)
         for case in cases:
             self.check_case(rates[case], ratios[case], case.startswith("queries"))
         self.check_picture(os.path.join(self.folder, "measured", "throughput.svg"), len(cases) // len(WORKLOADS))
@@ -256,29 +248,29 @@ class Bench:
         """Holds the numbers of a case to one another. Of one pass, each median is the number itself."""
         number = lambda text: float(text.partition(" ")[0])
         rate = {name: number(rates[name]) for name in ENGINES}
-        self.assertTrue(all(0 < it < 1000 for it in rate.values()), rates)
+        assert all(0 < it < 1000 for it in rate.values()), rates
         for name in list(ENGINES)[1:]:
-            self.assertAlmostEqual(number(ratios[name]) / (rate["trie"] / rate[name]), 1, delta=0.02, msg=name)
+            assert abs(number(ratios[name]) / (rate["trie"] / rate[name]) - 1) <= 0.02, name
         best = max(list(ENGINES)[2:], key=lambda name: rate[name])
         best_ratio = re.fullmatch(r"(\S+) \(.*\) of (\w+)", ratios["the best lock's"])
-        self.assertLessEqual(rate[best] / rate[best_ratio[2]], 1.01)
-        self.assertEqual(number(ratios[best_ratio[2]]), float(best_ratio[1]))
+        assert rate[best] / rate[best_ratio[2]] <= 1.01
+        assert number(ratios[best_ratio[2]]) == float(best_ratio[1])
         opened = rates["openings counted in"], ratios["this with openings counted in"]
         if is_queries:
-            self.assertEqual(opened, ("", ""))
+            assert opened == ("", "")
         else:
-            self.assertLess(number(opened[0]), rate["trie"])
-            self.assertLessEqual(number(opened[1]), float(best_ratio[1]))
+            assert number(opened[0]) < rate["trie"]
+            assert number(opened[1]) <= float(best_ratio[1])
 
     def check_picture(self, path, points):
         """There is a panel a workload, and in it a line an engine, and another one for its openings, through as many points as there are cases."""
         name = "{http://www.w3.org/2000/svg}"
         panels = xml.etree.ElementTree.parse(path).getroot().findall(f"{name}g")
-        self.assertEqual(len(panels), len(WORKLOADS))
+        assert len(panels) == len(WORKLOADS)
         for workload, panel in zip(WORKLOADS, panels):
             lines = [it.get("d") for it in panel.findall(f"{name}path") if it.get("stroke-width") == "2"]
-            self.assertEqual(len(lines), len(ENGINES) + (0 if workload == "queries" else 2))
-            self.assertEqual({line.count("L") + 1 for line in lines}, {points})
+            assert len(lines) == len(ENGINES) + (0 if workload == "queries" else 2)
+            assert {line.count("L") + 1 for line in lines} == {points}
 
 
 class Counted:
@@ -287,38 +279,25 @@ class Counted:
     def test_bench_counts_instructions(self):
         lines = self.script("counts", "size", "rank").splitlines()
         counts = table(lines, "Instructions of a call")
-        self.assertEqual(list(counts), ["the library through C", "plain Rust, bounds checks", "plain Rust, no bounds checks"])
+        assert list(counts) == ["the library through C", "plain Rust, bounds checks", "plain Rust, no bounds checks"]
         for row in counts.values():
             # A rank goes down 16 levels.
-            self.assertTrue(0 < 3 * int(row["`size`"]) < int(row["`rank`"]) < 2000, counts)
+            assert 0 < 3 * int(row["`size`"]) < int(row["`rank`"]) < 2000, counts
 
 
-def main(words):
-    if words == ["--names"]:
-        print("library.py: the library is not built, and what runs over it is left out: tests/library.py alone runs all")
-        return run_classes("library.py", [Names])
-    if words not in ([], ["--after-ci"]):
-        print("usage: tests/library.py [--names | --after-ci]", file=sys.stderr)
-        return 2
-    # The benchmark runs over one of the builds alone.
-    needed = [([], Installed, BACKENDS), (["valgrind"], Checked, BACKENDS), (["cargo"], Crate, BACKENDS)]
-    needed += [(["cargo"], Bench, ["llvm"]), (["cargo", "valgrind"], Counted, ["llvm"])]
-    found = runs(CC) and runs("ar")
-    if found:
-        missing = [tool for tool in ("valgrind", "cargo") if not runs(tool)]
-        for tool in missing:
-            print(f"library.py: no {tool}: its tests are left out")
-        needed = [it for it in needed if not set(it[0]) & set(missing)]
-    else:
-        print(f"library.py: no C compiler {CC}, or no ar: the library is not built, and what runs over it is left out")
-    with tempfile.TemporaryDirectory() as folder:
-        made = archives(folder) if found and words else {}
-        classes = [Names]
-        for backend in BACKENDS if found else []:
-            parts = [part for _, part, backends in needed if backend in backends]
-            classes.append(type(f"By_{backend}", (*parts, unittest.TestCase), {"backend": backend, "archives": made}))
-        return run_classes("library.py", classes)
+# The parts, each with the tools that it needs and the builds that it is for: the benchmark runs over one of them alone.
+PARTS = [
+    (["ar", CC], Installed, BACKENDS),
+    (["ar", CC, "valgrind"], Checked, BACKENDS),
+    (["ar", CC, "cargo"], Crate, BACKENDS),
+    (["ar", CC, "cargo"], Bench, ["llvm"]),
+    (["ar", CC, "cargo", "valgrind"], Counted, ["llvm"]),
+]
 
-
-if __name__ == "__main__":
-    sys.exit(main(sys.argv[1:]))
+MISSING = {tool for tool in ("ar", CC, "cargo", "valgrind") if not runs(tool)}
+for tool in sorted(MISSING):
+    print(f"no {tool}: its tests are left out")
+for backend in BACKENDS:
+    parts = [part for tools, part, backends in PARTS if backend in backends and not MISSING & set(tools)]
+    if parts:
+        globals()[f"TestBy_{backend}"] = type(f"TestBy_{backend}", tuple(parts), {"backend": backend})

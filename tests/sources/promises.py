@@ -1,15 +1,10 @@
 #!/usr/bin/env python3
-"""Works out which definitions the promises of the crates rest on, from the clauses of their public calls (tests/chain.py says how), and
-compares the written part of docs/definitions.md with that. A module behind a clause must say at its head what it is. What is in a folder
-specs/inside/ must be behind no clause, and no module outside of it may import it, but for what is opaque. What is not in such a folder must be
-behind a clause, or opaque, in a crate that promises anything. What is opaque must be given by a call.
-No name of a module or a definition may stand in two crates.
+"""Works out which definitions the promises of the crates rest on, from the clauses of their public calls (chain.py says how).
 
-usage: tests/promises.py [--list | --write]
+usage: tests/sources/promises.py --list | --write
 
 --list prints the definitions behind each public call; --write writes how many there are to believe, and the order of reading, into
-docs/definitions.md. Without these the last line is 'N passed, M failed', and the exit status is 0 where none failed.
-It needs Python 3.9 or later.
+docs/definitions.md, which test_promises.py compares with that. It needs Python 3.9 or later.
 """
 
 import collections
@@ -20,7 +15,7 @@ import textwrap
 
 from chain import Crates
 from sources import TOP, read
-from specs import Other, Rust, Spec
+from specs import Rust, Spec
 
 # Whose definitions the page counts: what it calls them, the crate, or none for all crates, and its calls, or none for all of them. Of those
 # that are marked it has the order of reading.
@@ -35,9 +30,6 @@ READS = (
     Read("all public calls", None, None, True),
 )
 
-# How many public calls and impls, modules and definitions there are at least.
-LEAST = 200, 80, 600
-
 # The modules outside of `inside` that may import it, each as (crate, module) with its reason: the view of a `Model` stands there.
 EXCEPTIONS = {}
 
@@ -45,7 +37,7 @@ EXCEPTIONS = {}
 LOOSE = {}
 
 INSIDE = re.compile(r"Rattle\.\w+\.specs\.inside(\.|$)")
-MARK = "<!-- tests/promises.py --write has written what follows -->\n"
+MARK = "<!-- tests/sources/promises.py --write has written what follows -->\n"
 
 
 def by_module(names):
@@ -86,7 +78,7 @@ class Promises:
 
     def below(self, key):
         """The modules that a module names."""
-        return set(by_module(name for it in self.crates.modules[key].definitions.values() for name in it.names.values()))
+        return set(by_module(name for it in self.crates.modules[key].definitions.values() for name in it.names))
 
     def module_text(self, key, inside):
         """A module with the part of it that is meant."""
@@ -165,7 +157,14 @@ class Promises:
                 where["definition", name].add(crate)
         return [f"{' and '.join(sorted(crates))} have a {kind} {name} each" for (kind, name), crates in sorted(where.items()) if len(crates) > 1]
 
+    def wrong(self, text, exceptions=EXCEPTIONS, loose=LOOSE):
+        """What is wrong with the crates, and with the page."""
+        wrong = ["docs/definitions.md is not as tests/sources/promises.py --write writes it"] * (text != written_page(text, self))
+        wrong += self.wrong_reads() + self.wrong_heads() + self.wrong_imports(exceptions) + self.wrong_clauses()
+        return wrong + self.wrong_places(loose) + self.wrong_opaque() + self.wrong_names()
+
     def counts(self):
+        """How many public calls and impls, modules and definitions there are."""
         return len(self.all), len(self.crates.modules), sum(len(it.definitions) for it in self.crates.modules.values())
 
     # What is listed
@@ -176,25 +175,22 @@ class Promises:
         said = [(key, there[key][name]) for key, of in by_module(names).items() for name in of & set(there[key])]
         return len(said), *(len({(key, line) for key, it in said for line in lines(it)}) for lines in (lambda it: it.code, lambda it: it.comment))
 
-    def list_names(self, names, title):
+    def list_names(self, names):
         """Prints some names by where they are from."""
         found = collections.defaultdict(list)
         for (crate, module), of in sorted(by_module(names).items()):
             found[crate] += [f"{module}.{name}" for name in sorted(of)]
         for name in sorted((it for it in names if isinstance(it, Rust)), key=str):
             found[f"types of {name.crate}"].append(name.name)
-        for name in sorted((it for it in names if isinstance(it, Other)), key=str):
-            found[f"library {name.library}"].append(name.name)
         for of, said in found.items():
-            print(filled(f"    {title}{of}: {', '.join(said)}", "      "), end="")
+            print(filled(f"    {of}: {', '.join(said)}", "      "), end="")
 
     def list_all(self):
         for crate, promises in self.crates.promises.items():
             for promise in promises:
                 chain = self.crates.chain(promise.names)
                 print(f"{crate}: {promise.name}{' (the program)' if promise.is_program else ''}")
-                self.list_names(chain, "")
-                self.list_names(self.crates.behind_views(chain), "behind views, ")
+                self.list_names(chain)
 
 
 def is_inside(module):
@@ -205,35 +201,22 @@ def filled(text, indent):
     return textwrap.fill(text, 140, subsequent_indent=indent, break_on_hyphens=False, break_long_words=False) + "\n"
 
 
-def check(promises, text, least, exceptions, loose):
-    """Prints what is wrong. The exit status."""
-    wrong = ["docs/definitions.md is not as tests/promises.py --write writes it"] * (text.partition(MARK)[2] != promises.written())
-    wrong += promises.wrong_reads() + promises.wrong_heads() + promises.wrong_imports(exceptions) + promises.wrong_clauses() + promises.wrong_places(loose) + promises.wrong_opaque() + promises.wrong_names()
-    wrong += sorted(promises.crates.unknown)
-    counts = promises.counts()
-    for what, count, most in zip(("public calls and impls", "modules", "definitions"), counts, least):
-        if count < most:
-            wrong.append(f"there are {count} {what}, and should be {most}")
-    for it in wrong:
-        print(it)
-    print(f"{max(sum(counts[:2]) - len(wrong), 0)} passed, {len(wrong)} failed")
-    return 1 if wrong else 0
+def written_page(text, promises):
+    """The page docs/definitions.md as it should be, with what stands there before the written part."""
+    return text.partition(MARK)[0] + MARK + promises.written()
 
 
-def main(words=(), top=TOP, least=LEAST, exceptions=EXCEPTIONS, loose=LOOSE, reads=READS):
-    """`least` is how many calls, modules and definitions there are at least."""
-    if list(words) not in ([], ["--list"], ["--write"]):
-        print("usage: tests/promises.py [--list | --write]", file=sys.stderr)
+def main(words):
+    if words not in (["--list"], ["--write"]):
+        print("usage: tests/sources/promises.py --list | --write", file=sys.stderr)
         return 2
-    promises, path = Promises(top, reads), os.path.join(top, "docs", "definitions.md")
-    text = read(path) if os.path.exists(path) else ""
-    if not words:
-        return check(promises, text, least, exceptions, loose)
-    if "--list" in words:
+    promises = Promises(TOP, READS)
+    if words == ["--list"]:
         promises.list_all()
-    else:
-        with open(path, "w", encoding="utf-8") as file:
-            file.write(text.partition(MARK)[0] + MARK + promises.written())
+        return 0
+    text = written_page(read("docs", "definitions.md"), promises)
+    with open(os.path.join(TOP, "docs", "definitions.md"), "w", encoding="utf-8") as file:
+        file.write(text)
     return 0
 
 

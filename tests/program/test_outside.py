@@ -1,36 +1,28 @@
-#!/usr/bin/env python3
 """Runs the built program as its user does, and compares what it writes and its exit status with texts written by hand, and in the sweeps
 with a small model.
 
-usage: tests/outside.py PROGRAM..
-
-Every test of a program runs once for each PROGRAM. The last line is 'N passed, M failed', and the exit status is 0 where none failed.
-It needs Python 3.9 or later and the toolchain, whose C compiler makes the library that refuses memory and threads.
+PROGRAMS in the environment names the programs, and each test runs once for each: without it these are those that `rt ci` built. It needs the toolchain,
+whose C compiler makes the library that refuses memory and threads.
 """
 
 import array
 import concurrent.futures
 import fcntl
+import functools
 import os
-import re
 import resource
 import shutil
 import subprocess
 import sys
-import tempfile
 import termios
 import time
-import unittest
 
-import programs
-from refusing import Refusing
+from common import SECONDS, TOP, InFolder
+from refusing import counted
 from sweeps import Sweeps
 
-TOP = os.path.dirname(os.path.dirname(os.path.abspath(__file__)))
 EXAMPLES = os.path.join(TOP, "examples")
-
-# The most seconds that one run of the program gets.
-SECONDS = 60
+PROGRAMS = os.environ.get("PROGRAMS", "crates/augtrie/out/augtrie crates/augtrie/out/augtrie.by-rattle").split()
 
 # The user and the group of nobody.
 NOBODY = 65534
@@ -268,23 +260,20 @@ BAD_WORDS = [
 ALL_WORDS = ["--bits", "4", "--workers", "1", "--updates", "64", "first.csv"]
 
 
-class Outside(Sweeps):
-    """The tests of one built program, in a folder with some scripts, which is made anew for each test."""
+class Outside(Sweeps, InFolder):
+    """The tests of one built program, in a folder with some scripts."""
 
     program = None
-    maxDiff = None
 
-    def setUp(self):
-        held = tempfile.TemporaryDirectory(prefix="augtrie-")
-        self.addCleanup(held.cleanup)
-        self.folder = held.name
+    def setup_method(self):
+        super().setup_method()
         self.write("first.csv", FIRST)
         self.write("other.csv", OTHER)
         self.write("empty.csv", b"")
         self.write("--bits", OTHER)
 
     def write(self, name, text):
-        with open(os.path.join(self.folder, name), "wb") as file:
+        with open(self.path(name), "wb") as file:
             file.write(text)
 
     def run_on(self, words, script=b"", stdin=None, stdout=subprocess.PIPE, stderr=subprocess.PIPE, **given):
@@ -297,49 +286,49 @@ class Outside(Sweeps):
     # Where the script comes from.
 
     def test_file_is_read_and_standard_input_is_not(self):
-        self.assertEqual(self.run_on(["first.csv"], OTHER), (FIRST_REPORT, b"", 0))
+        assert self.run_on(["first.csv"], OTHER) == (FIRST_REPORT, b"", 0)
 
     def test_file_named_as_an_option(self):
-        self.assertEqual(self.run_on(["--", "--bits"], FIRST), (OTHER_REPORT, b"", 0))
+        assert self.run_on(["--", "--bits"], FIRST) == (OTHER_REPORT, b"", 0)
 
     def test_file_behind_options(self):
-        self.assertEqual(self.run_on(["--workers", "1", "first.csv", "--bits", "5"]), (FIRST_REPORT, b"", 0))
+        assert self.run_on(["--workers", "1", "first.csv", "--bits", "5"]) == (FIRST_REPORT, b"", 0)
 
     def test_table_of_too_many_words(self):
         words = ["--bits", "16", "--workers", "64", "--updates", "13108", "missing.csv"]
-        self.assertEqual(self.run_on(words, FIRST), (b"", b"augtrie: TooLarge\n", 2))
+        assert self.run_on(words, FIRST) == (b"", b"augtrie: TooLarge\n", 2)
 
     def test_two_lanes_that_race_for_one_key(self):
         for _ in range(50):
             out, err, status = self.run_on(["--workers", "2"], b"0,insert,6\n1,insert,6\n")
-            self.assertEqual((err, status), (b"", 0))
+            assert (err, status) == (b"", 0)
             first, second, end = out.splitlines()
             replies = {first.removeprefix(b"1 0 insert 6 = "), second.removeprefix(b"1 1 insert 6 = ")}
-            self.assertEqual((replies, end), ({b"new", b"old"}, b"1 end size=1 in=1 out=0"))
+            assert (replies, end) == ({b"new", b"old"}, b"1 end size=1 in=1 out=0")
 
     def test_options_hold_for_the_file(self):
-        self.assertEqual(self.run_on(["--bits", "1", "first.csv"]), (b"", b"augtrie: row 1: OutOfRange\n", 1))
+        assert self.run_on(["--bits", "1", "first.csv"]) == (b"", b"augtrie: row 1: OutOfRange\n", 1)
 
     def test_file_of_no_bytes(self):
-        self.assertEqual(self.run_on(["empty.csv"], FIRST), (b"", b"", 0))
+        assert self.run_on(["empty.csv"], FIRST) == (b"", b"", 0)
 
     def test_file_that_is_not_there(self):
-        self.assertEqual(self.run_on(["missing.csv"], FIRST), INPUT_FAULT)
+        assert self.run_on(["missing.csv"], FIRST) == INPUT_FAULT
 
     def test_file_that_cannot_be_read(self):
-        self.assertEqual(self.run_on(["."], FIRST), INPUT_FAULT)
+        assert self.run_on(["."], FIRST) == INPUT_FAULT
 
     def test_standard_input_that_cannot_be_read(self):
         folder = os.open(self.folder, os.O_RDONLY)
-        self.addCleanup(os.close, folder)
-        self.assertEqual(self.run_on([], stdin=folder), INPUT_FAULT)
+        self.after.callback(os.close, folder)
+        assert self.run_on([], stdin=folder) == INPUT_FAULT
 
     def test_file_that_may_not_be_read(self):
         self.write("secret.csv", FIRST)
-        os.chmod(os.path.join(self.folder, "secret.csv"), 0)
+        os.chmod(self.path("secret.csv"), 0)
         stranger = self.as_stranger()
-        self.assertEqual(self.run_on(["first.csv"], OTHER, **stranger), (FIRST_REPORT, b"", 0))
-        self.assertEqual(self.run_on(["secret.csv"], OTHER, **stranger), INPUT_FAULT)
+        assert self.run_on(["first.csv"], OTHER, **stranger) == (FIRST_REPORT, b"", 0)
+        assert self.run_on(["secret.csv"], OTHER, **stranger) == INPUT_FAULT
 
     def as_stranger(self):
         """How to run the program with no more than a user's rights: as nobody, who can reach a copy of it, where the tests run as root."""
@@ -351,37 +340,37 @@ class Outside(Sweeps):
 
     def test_odd_names_of_files_that_are_not_there(self):
         for name in ("", "-", " ", " first.csv", "first.csv ", " first.csv ", "\tfirst.csv", "first.csv\n", "First.csv", "first.csv/"):
-            self.assertEqual(self.run_on([name], FIRST), INPUT_FAULT, repr(name))
-            self.assertEqual(self.run_on(["--bits", "4", "--", name], FIRST), INPUT_FAULT, repr(name))
+            assert self.run_on([name], FIRST) == INPUT_FAULT, repr(name)
+            assert self.run_on(["--bits", "4", "--", name], FIRST) == INPUT_FAULT, repr(name)
 
     def test_odd_names_of_files_that_are_there(self):
         for name in ("-", " ", " first.csv", "first.csv ", " first.csv ", "first.csv\n", "é.csv", "x" * 255):
             self.write(name, OTHER)
-            self.assertEqual(self.run_on([name], FIRST), (OTHER_REPORT, b"", 0), repr(name))
+            assert self.run_on([name], FIRST) == (OTHER_REPORT, b"", 0), repr(name)
 
     def test_as_many_words_as_there_are(self):
-        self.assertEqual(self.run_on(ALL_WORDS, OTHER), (FIRST_REPORT, b"", 0))
-        self.assertEqual(self.run_on([*ALL_WORDS[:-1], "--", "first.csv"], OTHER), (FIRST_REPORT, b"", 0))
+        assert self.run_on(ALL_WORDS, OTHER) == (FIRST_REPORT, b"", 0)
+        assert self.run_on([*ALL_WORDS[:-1], "--", "first.csv"], OTHER) == (FIRST_REPORT, b"", 0)
 
     def test_more_words_than_there_are(self):
         for more in (1, 2, 3, 10, 100, 1000):
-            self.assertEqual(self.run_on([*ALL_WORDS, *["other.csv"] * more]), (b"", SECOND_FILE, 2), f"{more} more")
-        self.assertEqual(self.run_on([*ALL_WORDS[:-1], "--", "first.csv", "other.csv"]), (b"", SECOND_FILE, 2))
-        self.assertEqual(self.run_on([*ALL_WORDS, "--help"]), (HELP, b"", 0))
+            assert self.run_on([*ALL_WORDS, *["other.csv"] * more]) == (b"", SECOND_FILE, 2), f"{more} more"
+        assert self.run_on([*ALL_WORDS[:-1], "--", "first.csv", "other.csv"]) == (b"", SECOND_FILE, 2)
+        assert self.run_on([*ALL_WORDS, "--help"]) == (HELP, b"", 0)
 
     def test_script_that_comes_in_pieces_by_a_pipe(self):
         for pieces, report in self.pieces():
             reader, writer = os.pipe()
             with os.fdopen(reader, "rb") as script:
-                self.assertEqual(self.feed(writer, pieces, [], stdin=script), (report, b"", 0))
+                assert self.feed(writer, pieces, [], stdin=script) == (report, b"", 0)
 
     def test_script_that_comes_in_pieces_by_a_named_pipe(self):
-        path = os.path.join(self.folder, "pipe.csv")
+        path = self.path("pipe.csv")
         os.mkfifo(path)
         for pieces, report in self.pieces():
             # both ends, so that nobody waits for the other
             writer = os.open(path, os.O_RDWR)
-            self.assertEqual(self.feed(writer, pieces, ["pipe.csv"], stdin=subprocess.DEVNULL), (report, b"", 0))
+            assert self.feed(writer, pieces, ["pipe.csv"], stdin=subprocess.DEVNULL) == (report, b"", 0)
 
     def pieces(self):
         """Scripts in pieces, each with its report."""
@@ -409,81 +398,81 @@ class Outside(Sweeps):
             return out, err, running.returncode
 
     def test_closed_standard_input(self):
-        self.assertEqual(self.run_on([], FIRST, preexec_fn=closing(0)), INPUT_FAULT)
-        self.assertEqual(self.run_on(["first.csv"], OTHER, preexec_fn=closing(0)), (FIRST_REPORT, b"", 0))
+        assert self.run_on([], FIRST, preexec_fn=closing(0)) == INPUT_FAULT
+        assert self.run_on(["first.csv"], OTHER, preexec_fn=closing(0)) == (FIRST_REPORT, b"", 0)
 
     def test_script_at_its_limit(self):
         self.write("long.csv", b"\n" * SCRIPT_LIMIT)
-        self.assertEqual(self.run_on(["long.csv"]), (b"", b"", 0))
+        assert self.run_on(["long.csv"]) == (b"", b"", 0)
 
     def test_script_past_its_limit(self):
         self.write("long.csv", b"\n" * (SCRIPT_LIMIT + 1))
-        self.assertEqual(self.run_on(["long.csv"]), TOO_LONG)
+        assert self.run_on(["long.csv"]) == TOO_LONG
 
     def test_script_past_its_limit_from_standard_input(self):
         self.write("long.csv", FIRST + b"\n" * SCRIPT_LIMIT)
-        with open(os.path.join(self.folder, "long.csv"), "rb") as file:
-            self.assertEqual(self.run_on([], stdin=file), TOO_LONG)
+        with open(self.path("long.csv"), "rb") as file:
+            assert self.run_on([], stdin=file) == TOO_LONG
 
     # Help.
 
     def test_help(self):
-        self.assertEqual(self.run_on(["--help"], FIRST), (HELP, b"", 0))
+        assert self.run_on(["--help"], FIRST) == (HELP, b"", 0)
 
     def test_short_help(self):
-        self.assertEqual(self.run_on(["-h"], FIRST), (HELP, b"", 0))
+        assert self.run_on(["-h"], FIRST) == (HELP, b"", 0)
 
     def test_help_before_a_file_that_is_not_there(self):
-        self.assertEqual(self.run_on(["missing.csv", "--help"]), (HELP, b"", 0))
+        assert self.run_on(["missing.csv", "--help"]) == (HELP, b"", 0)
 
     # Where it writes to.
 
     def test_report_longer_than_a_pipe_holds(self):
         rows = 20000
         report = b"1 0 size = 0\n" * rows + b"1 end size=0 in=0 out=0\n"
-        self.assertEqual(self.run_on([], b"0,size\n" * rows), (report, b"", 0))
+        assert self.run_on([], b"0,size\n" * rows) == (report, b"", 0)
 
     def test_report_to_a_full_device(self):
-        self.assertEqual(self.to_full_device([], "stdout"), OUTPUT_FAULT)
+        assert self.to_full_device([], "stdout") == OUTPUT_FAULT
 
     def test_report_to_a_closed_pipe(self):
         reader, writer = os.pipe()
         os.close(reader)
-        self.addCleanup(os.close, writer)
+        self.after.callback(os.close, writer)
         _, err, status = self.run_on(["first.csv"], stdout=writer)
-        self.assertEqual((b"", err, status), OUTPUT_FAULT)
+        assert (b"", err, status) == OUTPUT_FAULT
 
     def test_closed_standard_output(self):
-        self.assertEqual(self.run_on([], FIRST, preexec_fn=closing(1)), OUTPUT_FAULT)
-        self.assertEqual(self.run_on(["first.csv"], preexec_fn=closing(1)), OUTPUT_FAULT)
-        self.assertEqual(self.run_on(["--help"], preexec_fn=closing(1)), (b"", b"", 0))
-        self.assertEqual(self.run_on(["empty.csv"], preexec_fn=closing(1)), (b"", b"", 0))
+        assert self.run_on([], FIRST, preexec_fn=closing(1)) == OUTPUT_FAULT
+        assert self.run_on(["first.csv"], preexec_fn=closing(1)) == OUTPUT_FAULT
+        assert self.run_on(["--help"], preexec_fn=closing(1)) == (b"", b"", 0)
+        assert self.run_on(["empty.csv"], preexec_fn=closing(1)) == (b"", b"", 0)
 
     def test_closed_standard_error(self):
-        self.assertEqual(self.run_on(["first.csv"], preexec_fn=closing(2)), (FIRST_REPORT, b"", 0))
+        assert self.run_on(["first.csv"], preexec_fn=closing(2)) == (FIRST_REPORT, b"", 0)
         for words, status in (["--lanes"], 2), (["missing.csv"], 3), (["--bits", "1", "first.csv"], 1):
-            self.assertEqual(self.run_on(words, preexec_fn=closing(2)), (b"", b"", status))
+            assert self.run_on(words, preexec_fn=closing(2)) == (b"", b"", status)
 
     def test_all_streams_closed(self):
         for words, status in ([], 3), (["first.csv"], 3), (["--lanes"], 2), (["--help"], 0):
-            self.assertEqual(self.run_on(words, preexec_fn=closing(0, 1, 2)), (b"", b"", status))
-        self.assertEqual(read(os.path.join(self.folder, "first.csv")), FIRST)
+            assert self.run_on(words, preexec_fn=closing(0, 1, 2)) == (b"", b"", status)
+        assert read(self.path("first.csv")) == FIRST
 
     def test_help_to_a_full_device(self):
-        self.assertEqual(self.to_full_device(["--help"], "stdout"), (b"", b"", 0))
+        assert self.to_full_device(["--help"], "stdout") == (b"", b"", 0)
 
     def test_fault_of_a_script_to_a_full_device(self):
-        self.assertEqual(self.to_full_device(["--bits", "1"], "stderr"), (b"", b"", 1))
+        assert self.to_full_device(["--bits", "1"], "stderr") == (b"", b"", 1)
 
     def test_fault_of_the_words_to_a_full_device(self):
-        self.assertEqual(self.to_full_device(["--lanes"], "stderr"), (b"", b"", 2))
+        assert self.to_full_device(["--lanes"], "stderr") == (b"", b"", 2)
 
     def test_fault_of_the_input_to_a_full_device(self):
-        self.assertEqual(self.to_full_device(["missing.csv"], "stderr"), (b"", b"", 3))
+        assert self.to_full_device(["missing.csv"], "stderr") == (b"", b"", 3)
 
     def test_fault_of_the_output_to_a_full_device(self):
         with open("/dev/full", "wb") as full:
-            self.assertEqual(self.run_on([], FIRST, stdout=full, stderr=full)[2], 3)
+            assert self.run_on([], FIRST, stdout=full, stderr=full)[2] == 3
 
     def to_full_device(self, words, stream):
         """Runs the first script with a device that takes no byte as one of the streams."""
@@ -493,13 +482,13 @@ class Outside(Sweeps):
 
     def test_report_to_a_file_that_takes_a_part_of_it(self):
         for size in range(len(FIRST_REPORT)):
-            self.assertEqual(self.to_short_file(size), (FIRST_REPORT[:size], OUTPUT_FAULT[1], OUTPUT_FAULT[2]))
-        self.assertEqual(self.to_short_file(len(FIRST_REPORT)), (FIRST_REPORT, b"", 0))
+            assert self.to_short_file(size) == (FIRST_REPORT[:size], OUTPUT_FAULT[1], OUTPUT_FAULT[2])
+        assert self.to_short_file(len(FIRST_REPORT)) == (FIRST_REPORT, b"", 0)
 
     def to_short_file(self, size):
         """Runs the first script into a file that takes so many bytes: what it then has, what was written to standard error, the status."""
         limit = lambda: resource.setrlimit(resource.RLIMIT_FSIZE, (size, size))
-        path = os.path.join(self.folder, "report")
+        path = self.path("report")
         with open(path, "wb") as file:
             # the signal that tells of the limit stays ignored
             _, err, status = self.run_on([], FIRST, stdout=file, preexec_fn=limit, restore_signals=False)
@@ -524,49 +513,47 @@ class Outside(Sweeps):
             report = b"".join(reports)
             # room that is asked for ahead, for the words, can be done without
             wanted = [MEMORY_FAULT, (reports[0], *MEMORY_FAULT[1:]), *[(report, b"", 0)] * bool(words)]
-            self.assertEqual(self.refuse_each(words, script, report, wanted), wanted)
+            assert self.refuse_each(words, script, report, wanted) == wanted
 
     def refuse_each(self, words, script, report, wanted):
         """Counts the program's requests for memory, and then refuses each in turn: the run ends in one of the wanted ways. Returns those
         that were seen, in the order of `wanted`."""
-        refusing = Refusing(self.folder)
         run = lambda **given: self.run_on(words, script, **given)
-        ended, (requests, _, blocks) = refusing.counted(run)
-        self.assertEqual((ended, blocks), ((report, b"", 0), 0))
+        ended, (requests, _, blocks) = counted(run)
+        assert (ended, blocks) == ((report, b"", 0), 0)
         seen = []
         for number in range(1, requests + 1):
-            ended, counts = refusing.counted(run, request=number)
-            self.assertIn(ended, wanted, f"with request {number} of {requests} refused")
-            self.assertEqual(counts.blocks, 0, f"blocks left with request {number} of {requests} refused")
+            ended, counts = counted(run, request=number)
+            assert ended in wanted, f"with request {number} of {requests} refused"
+            assert counts.blocks == 0, f"blocks left with request {number} of {requests} refused"
             seen.append(ended)
         refused = sum(status != 0 for _, _, status in seen)
-        self.assertGreater(refused, 10)
-        self.assertGreaterEqual(refused, requests - 1)
+        assert refused > 10
+        assert refused >= requests - 1
         return [it for it in wanted if it in seen]
 
     def test_table_that_there_is_no_memory_for(self):
         # the words take half a gigabyte, twice while the table is opened
         room = lambda: resource.setrlimit(resource.RLIMIT_AS, (700 << 20, 700 << 20))
         words = ["--bits", "16", "--workers", "64", "--updates", "13017", "first.csv"]
-        self.assertEqual(self.run_on(words, preexec_fn=room), MEMORY_FAULT)
+        assert self.run_on(words, preexec_fn=room) == MEMORY_FAULT
 
     def test_user_who_may_start_no_thread(self):
         stranger = self.as_stranger()
         one = lambda: resource.setrlimit(resource.RLIMIT_NPROC, (1, 1))
-        self.assertEqual(self.run_on(["first.csv"], **stranger), (FIRST_REPORT, b"", 0))
+        assert self.run_on(["first.csv"], **stranger) == (FIRST_REPORT, b"", 0)
         for words in ["first.csv"], ["--workers", "64", "first.csv"]:
-            self.assertEqual(self.run_on(words, **stranger, preexec_fn=one), MEMORY_FAULT)
-        self.assertEqual(self.run_on(["empty.csv"], **stranger, preexec_fn=one), (b"", b"", 0))
+            assert self.run_on(words, **stranger, preexec_fn=one) == MEMORY_FAULT
+        assert self.run_on(["empty.csv"], **stranger, preexec_fn=one) == (b"", b"", 0)
 
     def test_each_start_of_a_thread_refused(self):
-        refusing = Refusing(self.folder)
         run = lambda **given: self.run_on(["--workers", "4"], FOUR_LANES, **given)
-        ended, counts = refusing.counted(run)
-        self.assertEqual((ended, counts.starts, counts.blocks), ((b"".join(FOUR_LANES_REPORTS), b"", 0), 8, 0))
+        ended, counts = counted(run)
+        assert (ended, counts.starts, counts.blocks) == ((b"".join(FOUR_LANES_REPORTS), b"", 0), 8, 0)
         for number in range(1, 9):
             out = FOUR_LANES_REPORTS[0] if number > 4 else b""
-            ended, counts = refusing.counted(run, start=number)
-            self.assertEqual((ended, counts.blocks), ((out, *MEMORY_FAULT[1:]), 0), f"with start {number} refused")
+            ended, counts = counted(run, start=number)
+            assert (ended, counts.blocks) == ((out, *MEMORY_FAULT[1:]), 0), f"with start {number} refused"
 
     # Under load.
 
@@ -579,8 +566,8 @@ class Outside(Sweeps):
         report = b"".join(b"1 %d insert %d = new\n" % row for row in rows) + b"".join(b"1 %d look = ok\n" % lane for lane in range(64))
         report += b"".join(b"1 %d has %d = yes\n" % row for row in rows) * times + b"1 end size=65536 in=65536 out=0\n"
         out, err, status = self.run_on(["--bits", "16", "--workers", "64", "--updates", "1024", "long.csv"])
-        self.assertEqual((err, status), (b"", 0))
-        self.assertTrue(out == report, "not the report of this script")
+        assert (err, status) == (b"", 0)
+        assert out == report, "not the report of this script"
 
     def test_greatest_table(self):
         self.assert_runs_in_64_lanes("16", b"")
@@ -593,7 +580,7 @@ class Outside(Sweeps):
         script = before + b"".join(b"%d,insert,%d\n" % (lane, 1040 * lane) for lane in range(64))
         report = b"".join(b"1 %d insert %d = new\n" % (lane, 1040 * lane) for lane in range(64))
         words = ["--bits", bits, "--workers", "64", "--updates", "13017"]
-        self.assertEqual(self.run_on(words, script), (report + b"1 end size=64 in=64 out=0\n", b"", 0))
+        assert self.run_on(words, script) == (report + b"1 end size=64 in=64 out=0\n", b"", 0)
 
     def test_script_of_the_greatest_size_with_grow_in_each_round(self):
         # 128 rounds of 128 KiB each, of 1 to 16 bits
@@ -601,36 +588,36 @@ class Outside(Sweeps):
         asked = [b"0,rank,%d\n" % (1 << most) for most in bits]
         rounds = [b"*,grow,%d\n%b*,end\n" % (most, row * 9000) for most, row in zip(bits, asked)]
         self.write("long.csv", b"".join(rounds).ljust(SCRIPT_LIMIT, b"\n"))
-        self.assertEqual(os.path.getsize(os.path.join(self.folder, "long.csv")), SCRIPT_LIMIT)
+        assert os.path.getsize(self.path("long.csv")) == SCRIPT_LIMIT
         report = b"".join(
             b"%d 0 rank %d = 0\n" % (number, 1 << most) * 9000 + b"%d end size=0 in=0 out=0\n" % number
             for number, most in enumerate(bits, 1)
         )
         out, err, status = self.run_on(["--bits", "1", "long.csv"])
-        self.assertEqual((err, status), (b"", 0))
-        self.assertTrue(out == report, "not the report of this script")
+        assert (err, status) == (b"", 0)
+        assert out == report, "not the report of this script"
 
     def test_script_of_the_greatest_size_of_grow_alone(self):
         self.write("long.csv", (b"*,grow,4\n" * (SCRIPT_LIMIT // 9)).ljust(SCRIPT_LIMIT, b"\n"))
-        self.assertEqual(self.run_on(["long.csv"]), (b"", b"", 0))
+        assert self.run_on(["long.csv"]) == (b"", b"", 0)
 
     def test_script_of_the_greatest_size_with_the_most_rounds_and_a_fault(self):
         rounds = SCRIPT_LIMIT // 15 - 1
         self.write("long.csv", b"*,grow,4\n*,end\n" * rounds + b"*,fly")
         line = b"augtrie: row %d: BadVerb\n" % (2 * rounds + 1)
-        self.assertEqual(self.run_on(["long.csv"]), (b"", line, 1))
+        assert self.run_on(["long.csv"]) == (b"", line, 1)
 
     def test_rounds_give_their_memory_back(self):
         # the table of each round takes some 4 MB
         words = ["--bits", "16", "--workers", "64"]
         one, many = (self.peak_of(words, b"0,insert,1\n*,end\n" * rounds) for rounds in (1, 100))
-        self.assertLess(many, 2 * one)
+        assert many < 2 * one
 
     def test_round_of_more_bits_takes_what_its_own_bits_take(self):
         words = ["--workers", "64"]
         grown = self.peak_of(["--bits", "1", *words], b"0,insert,1\n*,end\n*,grow,16\n0,insert,65535\n")
         straight = self.peak_of(["--bits", "16", *words], b"0,insert,1\n*,end\n0,insert,65535\n")
-        self.assertLess(grown, 1.2 * straight)
+        assert grown < 1.2 * straight
 
     def peak_of(self, words, script):
         """How many KiB a run takes at most."""
@@ -644,70 +631,7 @@ class Outside(Sweeps):
         with concurrent.futures.ThreadPoolExecutor(8) as pool:
             ran = [pool.submit(self.run_on, ["--workers", "4"], FOUR_LANES) for _ in range(64)]
             for it in ran:
-                self.assertEqual(it.result(), wanted)
-
-
-# An excerpt in the README or in docs/using.md: the path in the sentence before it, and its lines, where `// ..` stands for lines that are left out.
-EXCERPT = re.compile(rb"`(crates/[^`]+)`(?:[^`]|`// \.\.`)*:\n\n```rust\n(.*?)```\n", re.S)
-
-
-class Shown(unittest.TestCase):
-    """The README and docs/using.md show what stands in the repository."""
-
-    def setUp(self):
-        self.readme = read(os.path.join(TOP, "README.md"))
-
-    def check_excerpts(self, page):
-        excerpts = EXCERPT.findall(page)
-        self.assertEqual(len(excerpts), page.count(b"```rust\n"))
-        self.assertTrue(excerpts)
-        for file, code in excerpts:
-            program = read(os.path.join(TOP, file.decode()))
-            for part in re.split(rb"^ *// \.\.\n", code, flags=re.M):
-                self.assertTrue(part.strip())
-                self.assertIn(b"\n" + part, program)
-
-    def test_excerpts_in_the_readme(self):
-        self.check_excerpts(self.readme)
-
-    def test_excerpts_in_the_guide(self):
-        self.check_excerpts(read(os.path.join(TOP, "docs", "using.md")))
-
-    def test_script_in_the_readme(self):
-        script, report = (read(os.path.join(EXAMPLES, f"first.{kind}")).decode().splitlines() for kind in ("csv", "out"))
-        lines = [f"{row:22}{line}" for row, line in zip([*script, ""], report)]
-        self.assertIn("\n".join(["```text", *lines, "```"]).encode(), self.readme)
-
-
-# How many tests there are of each kind at least: fewer means that a table was lost.
-LEAST = {"test_": 140, "test_good_": 24, "test_faulty_": 34, "test_words_": 14, "test_sweep_": 11, "test_example_": 6, "test_each_": 4}
-
-
-def make_tests():
-    """Gives `Outside` a test for each row of the tables, and one for each script of examples/."""
-    for name, options, script, report in GOOD_SCRIPTS:
-        add(f"good_{name}", options.split(), script, (report, b"", 0))
-    for name, options, script, line in FAULTY_SCRIPTS:
-        add(f"faulty_{name}", options.split(), script, (b"", b"augtrie: " + line + b"\n", 1))
-    for name, words, text in BAD_WORDS:
-        add(f"words_{name}", words, FIRST, (b"", text, 2))
-    for file in sorted(os.listdir(EXAMPLES)):
-        name, kind = os.path.splitext(file)
-        if kind == ".csv":
-            setattr(Outside, f"test_example_{name}", lambda self, name=name: run_example(self, name))
-
-
-def add(name, words, script, wanted):
-    setattr(Outside, f"test_{name}", lambda self: self.assertEqual(self.run_on(words, script), wanted))
-
-
-def run_example(test, name):
-    """Runs a script of examples/ as a file and as standard input, with the words of its file .args where it has one."""
-    path = os.path.join(EXAMPLES, name)
-    words = read(f"{path}.args").decode().split() if os.path.exists(f"{path}.args") else []
-    wanted = (read(f"{path}.out"), b"", 0)
-    test.assertEqual(test.run_on([*words, f"{path}.csv"], FIRST), wanted)
-    test.assertEqual(test.run_on(words, read(f"{path}.csv")), wanted)
+                assert it.result() == wanted
 
 
 def closing(*streams):
@@ -727,6 +651,50 @@ def read(path):
         return file.read()
 
 
-if __name__ == "__main__":
-    make_tests()
-    sys.exit(programs.run("outside.py", Outside, sys.argv[1:], [Shown], least=LEAST))
+def check_run(test, words, script, wanted):
+    assert test.run_on(words, script) == wanted
+
+
+def check_example(test, name):
+    """Runs a script of examples/ as a file and as standard input, with the words of its file .args if it has one."""
+    path = os.path.join(EXAMPLES, name)
+    words = read(f"{path}.args").decode().split() if os.path.exists(f"{path}.args") else []
+    wanted = (read(f"{path}.out"), b"", 0)
+    assert test.run_on([*words, f"{path}.csv"], FIRST) == wanted
+    assert test.run_on(words, read(f"{path}.csv")) == wanted
+
+
+def add(name, check, *given):
+    setattr(Outside, f"test_{name}", functools.partialmethod(check, *given))
+
+
+# A test for each row of the tables, and one for each script of examples/.
+for name, options, script, report in GOOD_SCRIPTS:
+    add(f"good_{name}", check_run, options.split(), script, (report, b"", 0))
+for name, options, script, line in FAULTY_SCRIPTS:
+    add(f"faulty_{name}", check_run, options.split(), script, (b"", b"augtrie: " + line + b"\n", 1))
+for name, words, text in BAD_WORDS:
+    add(f"words_{name}", check_run, words, FIRST, (b"", text, 2))
+for name in sorted(os.path.splitext(file)[0] for file in os.listdir(EXAMPLES) if file.endswith(".csv")):
+    add(f"example_{name}", check_example, name)
+
+# How many tests there are of each kind at least: fewer means that a table was lost.
+LEAST = {"": 140, "good_": 24, "faulty_": 34, "words_": 14, "sweep_": 11, "example_": 6, "each_": 4}
+
+
+def test_each_kind_has_its_tests():
+    counts = {kind: sum(name.startswith(f"test_{kind}") for name in dir(Outside)) for kind in LEAST}
+    assert {kind: count for kind, count in counts.items() if count < LEAST[kind]} == {}
+
+
+def missing(path):
+    raise AssertionError(f"{path} is not there to be tested")
+
+
+for number, path in enumerate(PROGRAMS):
+    path = os.path.join(TOP, path)
+    if os.access(path, os.X_OK):
+        name = f"TestOutside{number}"
+        globals()[name] = type(name, (Outside,), {"program": path})
+    else:
+        globals()[f"test_program_{number}"] = functools.partial(missing, path)

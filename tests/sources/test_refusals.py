@@ -1,25 +1,18 @@
-#!/usr/bin/env python3
 """Holds the places of the crates that answer want of memory to a list. No contract sees what memory there is, so a body may refuse
 whatever it likes for want of memory: whoever adds such an answer says in the list why it comes only where a request was refused.
 
-usage: tests/refusals.py
-
 A place is an `AllocError`, `AllocFailed`, `OutOfMemory` or `NO_MEMORY` that stands as a value, in code that is no test: an answer that is passed on
 by `?` is none. It is told by its file, its function and all that it stands in, so that a place whose condition changes is a new one.
-A body that asks for more memory than there can be is not seen here, but by the sweeps of tests/outside.py.
-tests/refusals.txt has three lines for each: the file and the function, the place, and why. The last line of the output is
-'N passed, M failed', and the exit status is 0 where none failed. It needs Python 3.8 or later.
+A body that asks for more memory than there can be is not seen here, but by the sweeps of tests/program.
+refusals.txt has three lines for each: the file and the function, the place, and why.
 """
 
 import collections
 import glob
 import os
 import re
-import sys
 
-TESTS = os.path.dirname(os.path.abspath(__file__))
-TOP = os.path.dirname(TESTS)
-LIST = os.path.join(TESTS, "refusals.txt")
+from common import CRATES, TOP, read
 
 # What stands for want of memory; `started` is what `start_all` answers where the start of a thread was refused.
 WANT = re.compile(r"\b(AllocError|AllocFailed|OutOfMemory|NO_MEMORY|Err\(started\))(?!\w)")
@@ -126,8 +119,8 @@ def places_in(file, text):
 
 def sources():
     """The text of each source file that is no test, by its path below the repository."""
-    paths = sorted(glob.glob(os.path.join(TOP, "crates", "*", "src", "**", "*.rt"), recursive=True))
-    texts = {os.path.relpath(path, TOP): open(path, encoding="utf-8").read() for path in paths}
+    paths = sorted(glob.glob(os.path.join(CRATES, "*", "src", "**", "*.rt"), recursive=True))
+    texts = {os.path.relpath(path, TOP): read(path) for path in paths}
     tests = set()
     for path, text in texts.items():
         folder = os.path.dirname(path) if os.path.basename(path) in ("lib.rt", "main.rt") else path[: -len(".rt")]
@@ -138,10 +131,8 @@ def sources():
 
 def listed():
     """The places of the list, each of which has a reason."""
-    with open(LIST, encoding="utf-8") as file:
-        lines = [line.strip() for line in file if line.strip() and not line.startswith("#")]
-    if len(lines) % 3:
-        sys.exit(f"{LIST} has no three lines for each place")
+    lines = [line.strip() for line in read(os.path.dirname(__file__), "refusals.txt").splitlines() if line.strip() and not line.startswith("#")]
+    assert len(lines) % 3 == 0, "refusals.txt has no three lines for each place"
     return [Place(*lines[at].split(), lines[at + 1]) for at in range(0, len(lines), 3)]
 
 
@@ -176,36 +167,27 @@ PLANTED = [
 ]
 
 
-def test_itself(texts, places):
-    """What goes wrong with each planted line, and with each place that is taken away from the list."""
-    path = "crates/aug_run/src/scripts/run.rt"
-    head = "{\n    let bytes = match read_all"
-    others = [place for place in places if place.file != path]
-    wrong = []
+# The file and the beginning of the function at which they are.
+PATH, HEAD = "crates/aug_run/src/scripts/run.rt", "{\n    let bytes = match read_all"
+
+TEXTS = sources()
+PLACES = [place for path, text in TEXTS.items() for place in places_in(path, text)]
+
+
+def test_the_list_has_each_place():
+    assert compare(PLACES, listed()) == []
+    assert len(TEXTS) >= 50 and len(PLACES) >= 20
+
+
+def test_planted_places_are_told():
+    others = [place for place in PLACES if place.file != PATH]
     for line, is_place in PLANTED:
-        text = texts[path].replace(head, head.replace("{\n", f"{{\n    {line}\n"), 1)
-        told = compare([*others, *places_in(path, text)], places)
-        if line not in text or len(told) != is_place:
-            wrong.append(f"planted {line!r}: {told}")
-    for it, place in enumerate(places):
-        if len(compare(places, places[:it] + places[it + 1 :])) != 1 or len(compare(places[:it] + places[it + 1 :], places)) != 1:
-            wrong.append(f"nobody misses {' '.join(place)}")
-    return wrong
+        text = TEXTS[PATH].replace(HEAD, HEAD.replace("{\n", f"{{\n    {line}\n"), 1)
+        assert line in text
+        assert len(compare([*others, *places_in(PATH, text)], PLACES)) == is_place, line
 
 
-def main():
-    texts = sources()
-    places = [place for path, text in texts.items() for place in places_in(path, text)]
-    wrong = compare(places, listed())
-    if len(texts) < 50 or len(places) < 20:
-        wrong.append(f"only {len(places)} places in {len(texts)} files")
-    wrong += test_itself(texts, places)
-    for it in wrong:
-        print(f"refusals.py: {it}")
-    runs = 2 * len(places) + len(PLANTED)
-    print(f"{max(runs - len(wrong), 0)} passed, {len(wrong)} failed")
-    return 1 if wrong else 0
-
-
-if __name__ == "__main__":
-    sys.exit(main())
+def test_each_place_is_missed():
+    for at, place in enumerate(PLACES):
+        others = PLACES[:at] + PLACES[at + 1 :]
+        assert len(compare(PLACES, others)) == len(compare(others, PLACES)) == 1, place

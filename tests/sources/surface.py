@@ -1,10 +1,10 @@
 #!/usr/bin/env python3
 """Writes docs/surface.md from the crates: their public calls, each with the names of its conditions and clauses, the type of its refusals, and the
-must-fail edits of its body. Without --write it compares the page with that. A call without a clause is told, if it is not excepted.
+must-fail edits of its body.
 
-usage: tests/surface.py [--write]
+usage: tests/sources/surface.py --write
 
-The last line is 'N passed, M failed', and the exit status is 0 where none failed. It needs Python 3.9 or later.
+test_surface.py compares the page with that. It needs Python 3.9 or later.
 """
 
 import collections
@@ -20,7 +20,7 @@ UNTOLD = {"before of Gate": "no clause sees when a row runs; tests do", "after o
 
 HEAD = """# Public calls
 
-Written by `tests/surface.py --write`; the gate compares it with the sources. Each line has the calls of a type, a trait or a crate: in brackets the
+Written by `tests/sources/surface.py --write`; the gate compares it with the sources. Each line has the calls of a type, a trait or a crate: in brackets the
 names of a call's conditions (`_` has no name), then those of its clauses, or nothing for a single one without a name, or *untold* if it has none;
 what they say stands at the call in `src/`. Behind *or* is what a refusal gives, behind *not* the must-fail edits of its body: mistakes that the
 prover refuses. Behind *ghost* are the members of a trait that only contracts see, its laws among them.
@@ -73,30 +73,27 @@ def filled(line):
     return textwrap.fill(line, 140, subsequent_indent="  ", break_on_hyphens=False, break_long_words=False) + "\n"
 
 
-def check(path, text, found, least):
-    """Prints what is wrong. The exit status."""
-    wrong = [] if os.path.exists(path) and read(path) == text else ["docs/surface.md is not as tests/surface.py --write writes it"]
-    wrong += [f"{call.name} has no clause" for call in found if not call.function.clauses and call.name not in UNTOLD]
-    if len(found) < least:
-        wrong.append(f"there are {len(found)} public calls, and should be {least}")
-    for it in wrong:
-        print(it)
-    print(f"{max(len(found) - len(wrong), 0)} passed, {len(wrong)} failed")
-    return 1 if wrong else 0
+def calls_of(top):
+    """The public calls of each crate."""
+    crates = [os.path.join(top, "crates", name) for name in re.findall(r"^\w+", read(top, "crates.txt"), re.M)]
+    return {crate: calls(crate, exports=True) for crate in crates}
 
 
-def main(words=(), top=TOP, least=250):
-    """`least` is how many public calls there are at least."""
-    if list(words) not in ([], ["--write"]):
-        print("usage: tests/surface.py [--write]", file=sys.stderr)
+def page(top, found):
+    return HEAD + "".join(section(top, crate, of) for crate, of in found.items() if of)
+
+
+def untold(found):
+    """The calls that have no clause, and are not excepted."""
+    return [call.name for of in found.values() for call in of if not call.function.clauses and call.name not in UNTOLD]
+
+
+def main(words):
+    if words != ["--write"]:
+        print("usage: tests/sources/surface.py --write", file=sys.stderr)
         return 2
-    crates = [os.path.join(top, "crates", name) for name in re.findall(r"^\w+", read(os.path.join(top, "crates.txt")), re.M)]
-    found = {crate: calls(crate, exports=True) for crate in crates}
-    text = HEAD + "".join(section(top, crate, of) for crate, of in found.items() if of)
-    path = os.path.join(top, "docs", "surface.md")
-    if not words:
-        return check(path, text, sum(found.values(), []), least)
-    with open(path, "w", encoding="utf-8") as file:
+    text = page(TOP, calls_of(TOP))
+    with open(os.path.join(TOP, "docs", "surface.md"), "w", encoding="utf-8") as file:
         file.write(text)
     return 0
 

@@ -14,15 +14,12 @@ import os
 import re
 
 import sources
-from specs import Rust, Spec, imports, meaning, modules
-from terms import free_names
+from specs import Rust, Spec, modules, names_in, scope_of
 
 # A promise of a crate: the name of its call, as in `a of T`, or of an impl, as in `A for T`; what its clauses name; what those name that say
 # what is so afterwards; and whether it is one that a program makes to its user.
 Promise = collections.namedtuple("Promise", "name names given is_program")
 
-# Names that a clause has of Rust and of the language: parameters of types, and the variants that each file has.
-OF_RUST = re.compile(r"[A-Z]|Self|Some|None|Ok|Err")
 # A ghost member of a trait whose comment says that it is opaque.
 OPAQUE = re.compile(r"^    // Opaque: .*\n(?:    //.*\n)*    ghost (\w+):", re.M)
 USE = re.compile(r"^(?:pub(?:\([^)]*\))? )?use ([^;]+);", re.M)
@@ -49,8 +46,7 @@ class Crates:
         self.paths = {os.path.basename(path): path for path in paths}
         self.modules = {(crate, name): it for crate, path in self.paths.items() for name, it in modules(path, self.paths).items()}
         self.types = {Rust(crate, name): it for crate, path in self.paths.items() for name, it in sources.types(path).items()}
-        self.members = set().union(*(sources.ghosts(it.text) for it in self.types.values() if it.kind == "trait"))
-        self.scopes, self.found, self.unknown = {}, {}, set()
+        self.scopes, self.found = {}, {}
         self.promises = {crate: list(self.promises_of(crate)) for crate in self.paths}
 
     # Names of Rust
@@ -79,17 +75,10 @@ class Crates:
     # What a text names
 
     def names_in(self, text, uses, path, bound=()):
-        """What the names of a term of a file mean, of those that it does not bind."""
-        ghost, rust, found = imports(uses, self.paths), self.scope(path), set()
+        """What the words of a term of a file name, but for those that are bound around it."""
         text = re.sub(r"⟦<(.*?)>⟧", lambda match: " ".join(re.findall(r"\w+", match[1])), text)
-        for token in free_names(text, bound):
-            head = token.partition(".")[0]
-            name = meaning(token, ghost, self.paths) or rust.get(head)
-            if name:
-                found.add(name)
-            elif head not in self.members and not OF_RUST.fullmatch(head):
-                self.unknown.add(f"{os.path.relpath(path, self.top)} names {head}, which nothing brings")
-        return found
+        scope = {**self.scope(path), **{name: of for name, of in scope_of(uses, self.paths).items() if of}}
+        return names_in(text, {name: of for name, of in scope.items() if name not in bound}, self.paths)
 
     def names_of_call(self, function, part, path, kinds=("requires", "ensures")):
         """What the signature and the clauses of these kinds of a function name."""
@@ -158,25 +147,14 @@ class Crates:
 
     def rests_on(self, name):
         if name not in self.found:
-            names = {Spec: self.definition_names, Rust: self.type_names}.get(type(name), lambda _: set())
-            self.found[name] = names(name)
+            self.found[name] = self.definition_names(name) if isinstance(name, Spec) else self.type_names(name)
         return self.found[name]
 
     def definition_names(self, name):
-        module = self.modules.get((name.crate, name.module))
-        if not module or name.name not in module.definitions:
-            self.unknown.add(f"there is no definition {name.name} in {name.module} of {name.crate}")
-            return set()
-        means = module.definitions[name.name].names
-        unknown = [it for it, said in means.items() if not said]
-        self.unknown |= {f"{name.module}.{name.name} of {name.crate} names {it}, which nothing brings" for it in unknown}
-        return set(means.values()) - {None}
+        return self.modules[name.crate, name.module].definitions[name.name].names
 
     def type_names(self, name):
-        type_ = self.types.get(name)
-        if not type_:
-            self.unknown.add(f"there is no type {name.name} in {name.crate}")
-            return set()
+        type_ = self.types[name]
         has_value = type_.model and "Value" in sources.ghosts(type_.model.part.body)
         seen = self.model_names(type_, "Value") if has_value else self.member_names(type_)
         return seen | self.model_names(type_, "also_owns")
@@ -215,13 +193,3 @@ class Crates:
     def opaque(self, names):
         """The opaque definitions at which the chain of some names ends."""
         return {it for it in set(names).union(*map(self.rests_on, self.chain(names))) if self.is_opaque(it)}
-
-    def behind_views(self, chain):
-        """What the views of the types of a chain add to it."""
-        found = chain
-        while True:
-            views = [self.model_names(self.types[name], "view") for name in found if name in self.types]
-            more = self.chain(found.union(*views))
-            if more == found:
-                return found - chain
-            found = more

@@ -1,0 +1,64 @@
+"""What .ci/run runs, and how it adds it up."""
+
+import glob
+import os
+import subprocess
+
+from common import SECONDS, TESTS, InFolder, read
+
+# A note of rt ci on a program that Rattle's own compiler refused.
+NOTE = "rt: note: Rattle's own compiler did not compile this program, so only the LLVM build is run: too large"
+
+LLVM, RATTLE = "crates/augtrie/out/augtrie", "crates/augtrie/out/augtrie.by-rattle"
+
+# Stands in for tests/run: it notes its words and the programs to be tested.
+RUN = '#!/bin/sh\necho "$*" >>ran\necho "${PROGRAMS-}" >>programs\necho 10 passed, 0 failed\n'
+
+
+class TestOfGate(InFolder):
+    def setup_method(self):
+        super().setup_method()
+        self.write(".ci/run", read(".ci", "run"), 0o755)
+        self.write("tests/run", RUN, 0o755)
+
+    def run_gate(self, said="7 passed, 0 failed", status=0):
+        """Runs it with an rt that says so and ends so: its last line and its status."""
+        for name, text in ("said", said + "\n"), ("ran", ""), ("programs", ""):
+            self.write(name, text)
+        self.write("bin/rt", f'#!/bin/sh\necho "rt $*" >>ran\ncat said\nexit {status}\n', 0o755)
+        env = {**os.environ, "PATH": f"{self.path('bin')}:{os.environ['PATH']}"}
+        ran = subprocess.run([self.path(".ci/run")], stdout=subprocess.PIPE, timeout=SECONDS, env=env)
+        return ran.stdout.decode().splitlines()[-1], ran.returncode
+
+    def test_runs_each_file_of_tests_once(self):
+        assert self.run_gate() == ("27 passed, 0 failed", 0)
+        first, *rows = self.read("ran").splitlines()
+        assert first == "rt ci"
+        names = [os.path.join(TESTS, name) for row in rows for name in row.split()]
+        files = [file for name in names for file in glob.glob(f"{name}/**/test_*.py", recursive=True) or [name]]
+        assert sorted(files) == sorted(glob.glob(f"{TESTS}/**/test_*.py", recursive=True))
+        assert len(files) > 12
+
+    def test_failures_are_added_up(self):
+        self.write("tests/run", "#!/bin/sh\necho 3 passed, 2 failed\nexit 1\n", 0o755)
+        assert self.run_gate("7 passed, 4 failed", 1) == ("13 passed, 8 failed", 1)
+
+    def test_command_that_does_not_count_fails(self):
+        assert self.run_gate("7 passed") == ("20 passed, 1 failed", 1)
+        assert self.run_gate("7 passed, 0 failed", 3) == ("27 passed, 1 failed", 1)
+
+    def test_bad_edits_fail(self):
+        said = "rt: must-fail low/one.edit: BAD EDIT: there is no such text\nrt: note: bad must-fail edits, as told above: 1. They fail nothing here\n7 passed, 0 failed"
+        assert self.run_gate(said) == ("27 passed, 1 failed", 1)
+
+    def programs(self, said="7 passed, 0 failed"):
+        """The programs that are tested from outside. What is not there is asked for, and fails then."""
+        self.run_gate(said)
+        return self.read("programs").split()
+
+    def test_both_builds_are_tested(self):
+        assert self.programs() == [LLVM, RATTLE]
+        assert self.programs(f"== other\n{NOTE}\n== augtrie\n7 passed, 0 failed") == [LLVM, RATTLE]
+
+    def test_build_that_was_refused_is_not_asked_for(self):
+        assert self.programs(f"== augtrie\n{NOTE}\nrt: augtrie proved\n== other\nrt: other proved\n7 passed, 0 failed") == [LLVM]

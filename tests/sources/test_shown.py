@@ -1,0 +1,33 @@
+"""The README and docs/using.md show what stands in the repository."""
+
+import re
+
+from common import read
+
+# An excerpt in the README or in docs/using.md: the path in the sentence before it, and its lines, where `// ..` stands for lines that are left out.
+EXCERPT = re.compile(r"`(crates/[^`]+)`(?:[^`]|`// \.\.`)*:\n\n```rust\n(.*?)```\n", re.S)
+
+
+def check_excerpts(page):
+    excerpts = EXCERPT.findall(page)
+    assert len(excerpts) == page.count("```rust\n")
+    assert excerpts
+    for file, code in excerpts:
+        program = read(file)
+        for part in re.split(r"^ *// \.\.\n", code, flags=re.M):
+            assert part.strip()
+            assert "\n" + part in program
+
+
+def test_excerpts_in_the_readme():
+    check_excerpts(read("README.md"))
+
+
+def test_excerpts_in_the_guide():
+    check_excerpts(read("docs", "using.md"))
+
+
+def test_script_in_the_readme():
+    script, report = (read("examples", f"first.{kind}").splitlines() for kind in ("csv", "out"))
+    lines = [f"{row:22}{line}" for row, line in zip([*script, ""], report)]
+    assert "\n".join(["```text", *lines, "```"]) in read("README.md")

@@ -1,0 +1,95 @@
+"""docs/surface.md is as surface.py writes it from the crates, and each public call has a clause."""
+
+from common import TOP, InFolder, read
+from surface import HEAD, calls_of, page, untold
+
+
+def test_the_page_is_as_it_is_written():
+    found = calls_of(TOP)
+    assert page(TOP, found) == read("docs", "surface.md")
+    assert untold(found) == []
+    assert sum(map(len, found.values())) >= 250
+
+
+class TestSample(InFolder):
+    """The page of a crate."""
+
+    TEXTS = {
+        "crates.txt": "one:\n",
+        "crates/one/src/lib.rt": """
+mod shelf;
+pub use shelf::{Gone, Lends, Shelf};
+pub use shelf::count;
+""",
+        "crates/one/src/shelf.rt": """
+impl<A: Copy> Shelf<A> {
+    /// Takes a book out.
+    pub fn take(&mut self, number: u32) -> Result<A, Gone>
+        requires room { number < 9 }
+        ensures gone { IsErr result }
+
+        ensures { result ≡ result }
+    {
+        self.inner()
+    }
+
+    pub(crate) fn inner(&self) {}
+}
+
+impl fmt::Display for Shelf<u32> {
+    fn fmt(&self) {}
+}
+
+pub trait Lends {
+    ghost fair: { yes };
+
+    fn lend(&self) -> u32
+        ensures { result ≡ 0 };
+}
+
+pub fn count() -> u32
+    ensures { result ≡ 0 }
+{
+    0
+}
+
+pub fn hidden() -> u32 {
+    0
+}
+""",
+        "crates/one/must-fail/take_gives_none.edit": "file: src/shelf.rt\nold:         self.inner()\nnew:         none\n",
+        "edits/one/count_is_one.edit": "file: src/shelf.rt\nold: pub fn count() -> u32\nnew: pub fn count() -> u64\n",
+        "edits/one/a_shelf_shows_nothing.edit": "file: src/shelf.rt\nold:     fn fmt(&self) {}\nnew:     fn fmt() {}\n",
+    }
+
+    SECTION = """
+## `one`
+
+- `count` *not* count_is_one.
+- **`Lends`**: *ghost* fair; `lend`.
+- **`Shelf`**: `take`(room) gone, _, *or* Gone, *not* take_gives_none.
+- Without calls of their own: Gone.
+"""
+
+    def page(self, file="crates.txt", old="one:", new="one:"):
+        """The page of the sources, in one of which a text was put in the place of another, and the calls that are untold."""
+        for name, text in self.TEXTS.items():
+            if name == file:
+                assert text.count(old) == 1
+                text = text.replace(old, new)
+            self.write(name, text)
+        found = calls_of(self.folder)
+        return page(self.folder, found), untold(found)
+
+    def test_page_that_is_written(self):
+        assert self.page() == (HEAD + self.SECTION, [])
+
+    def test_change_of_the_sources(self):
+        shelf = "crates/one/src/shelf.rt"
+        for old, new in ("requires room", "requires"), ("pub fn count", "fn count"), ("ghost fair", "ghost even"), ("A, Gone>", "A, Lost>"):
+            assert self.page(shelf, old, new)[0] != HEAD + self.SECTION
+
+    def test_call_without_a_clause(self):
+        text, untold = self.page("crates/one/src/lib.rt", "pub use shelf::count;", "pub use shelf::{count, hidden};")
+        assert "; `hidden` *untold*.\n" in text
+        assert untold == ["hidden"]

@@ -1,2 +1,1 @@
 mod Bands
-mod Passed

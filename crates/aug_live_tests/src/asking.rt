@@ -1,12 +1,13 @@
-//! The queries of a caller's own, asked of all that shows a set: a tree in memory, a look, a pass, a trie at rest. Each answer is compared with
-//! what one finds by going over the members.
+//! A caller's own query and one by weight, asked of all that shows a set: a tree in memory, a look, a pass, a trie at rest. Each answer is
+//! compared with what one finds by going over the members.
 
 use super::opening::{Hand, opened_one, put};
-use super::own::{Band, Passes};
+use super::own::Band;
 use super::steps::{View, looked, over};
 use crate::assertions::{equal, equal_at};
 use aug_model::Outcome;
 use aug_monoid::{Extent, Sum};
+use aug_query::descent::SelectByWeight;
 use aug_query::{FakeTree, Tree, ask};
 use aug_trie::{BeginError, Ended, Members, Pass, Round};
 use std::alloc::{AllocError, Global};
@@ -36,7 +37,7 @@ trait Shows {
 fn find_in<T: Tree<Sum, Extent>>(tree: &mut T, query: Own) -> Found {
     match query {
         Own::Held(level, band) => (ask(tree, Band { level, band }), None),
-        Own::Passed(number) => (0, ask(tree, Passes(number))),
+        Own::Passed(number) => (0, ask(tree, SelectByWeight(number))),
     }
 }
 
@@ -57,7 +58,7 @@ impl Shows for Pass<'_, Sum, Extent> {
         let now = self.snapshot();
         match query {
             Own::Held(level, band) => (self.ask(now, Band { level, band }), None),
-            Own::Passed(number) => (0, self.ask(now, Passes(number))),
+            Own::Passed(number) => (0, self.ask(now, SelectByWeight(number))),
         }
     }
 }
@@ -66,7 +67,7 @@ impl Shows for View {
     fn find(&mut self, query: Own) -> Found {
         match query {
             Own::Held(level, band) => (self.ask(Band { level, band }), None),
-            Own::Passed(number) => (0, self.ask(Passes(number))),
+            Own::Passed(number) => (0, self.ask(SelectByWeight(number))),
         }
     }
 }
@@ -129,7 +130,9 @@ fn agree<S: Shows>(rt: &impl Abort, shown: &mut S) {
 }
 
 #[test]
-fn a_tree_in_memory_answers_queries_of_ones_own(rt: HostRuntime) -> Result<(), AllocError> {
+fn a_tree_in_memory_answers_a_query_of_ones_own_and_one_by_weight(
+    rt: HostRuntime,
+) -> Result<(), AllocError> {
     let mut tree: FakeTree<Sum, Extent> = FakeTree::try_new(rt.alloc(), 4, &MEMBERS)?;
     agree(&rt, &mut tree);
     Ok(())
@@ -161,7 +164,7 @@ fn ask_a_round(rt: &impl Abort, alloc: Global, set: Members) -> Result<(), Begin
 }
 
 #[test]
-fn a_look_a_pass_and_a_trie_at_rest_answer_queries_of_ones_own(
+fn a_look_a_pass_and_a_trie_at_rest_answer_a_query_of_ones_own_and_one_by_weight(
     rt: HostRuntime,
 ) -> Result<(), BeginError> {
     let (live, hand) = opened_one(&rt, rt.alloc(), 4, 9)?;

@@ -13,3 +13,5 @@ pub mod Batches
 pub mod Placed
 pub mod Cover
 pub mod Listed
+pub mod Weighing
+pub mod Extents

@@ -44,10 +44,10 @@ rank_below keys x n h b m =
     omega (arith, rank_is keys x, whole, cut, within, m)
 
 -- a search at its first element
-find_hit : (test : ℕ → Bool) (x : ℕ) (xs : List ℕ) → test x ≡ true → find test (x ∷ xs) ≡ Some x
+pub find_hit : (test : ℕ → Bool) (x : ℕ) (xs : List ℕ) → test x ≡ true → find test (x ∷ xs) ≡ Some x
 find_hit test x xs e = ap (λ b. cond b (Some x) (find test xs)) e
 
-find_skip : (test : ℕ → Bool) (x : ℕ) (xs : List ℕ) → test x ≡ false → find test (x ∷ xs) ≡ find test xs
+pub find_skip : (test : ℕ → Bool) (x : ℕ) (xs : List ℕ) → test x ≡ false → find test (x ∷ xs) ≡ find test xs
 find_skip test x xs e = ap (λ b. cond b (Some x) (find test xs)) e
 
 -- a search finds the one element that passes

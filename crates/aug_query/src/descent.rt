@@ -2,12 +2,15 @@
 //!
 //! In a tree of keys of `bits` bits they load at most this: `Size` the top and its count; `Has` and `Weight` `bits + 1` nodes and one
 //! count; `Rank` `bits + 1` nodes, `bits` of them beside one whose members are counted, and one count; `Select` `2 * bits + 1` nodes and
-//! `bits + 1` counts; `Before` and `After` `3 * bits` nodes, `bits` of them beside a counted one, and `bits + 1` counts; `Range`
-//! `4 * bits - 1` nodes and `2 * bits` summaries; `Keys` and `Pairs`, for `n` members, `2 * bits * n + 1` nodes and `bits * n + 1`
-//! counts. `Ranks`, `Memberships` and `Weights` take `n` rising keys and go to `n * (bits + 1)` nodes, and to no node twice.
+//! `bits + 1` counts; `SelectByWeight` as many nodes, and `bits + 1` summaries; `First` and `Last` the top and its summary; `Before` and
+//! `After` `3 * bits` nodes, `bits` of them beside a counted one, and `bits + 1` counts; `Range`, `Least` and `Greatest` `4 * bits - 1`
+//! nodes and `2 * bits` summaries; `Keys` and `Pairs`, for `n` members, `2 * bits * n + 1` nodes and `bits * n + 1` counts. `Ranks`,
+//! `Memberships` and `Weights` take `n` rising keys and go to `n * (bits + 1)` nodes, and to no node twice.
 
 mod batches;
+mod by_weight;
 mod counts;
+mod ends;
 mod intervals;
 mod listing;
 mod members;
@@ -15,7 +18,9 @@ mod neighbours;
 mod positions;
 
 pub use batches::{Memberships, Ranks, Weights};
+pub use by_weight::SelectByWeight;
 pub use counts::{Rank, Size};
+pub use ends::{First, Greatest, Last, Least};
 pub use intervals::Range;
 pub use listing::{Keys, Pairs, put_pairs};
 pub use members::{Has, Weight};

@@ -3,7 +3,7 @@ ghost use Rattle.std.specs.List.Sorted.{IsNonDecreasing};
 
 use crate::assertions::{equal, holds};
 use aug_monoid::{Extent, Monoid};
-use aug_query::descent::{Memberships, Ranks, Weights};
+use aug_query::descent::{self, First, Greatest, Least, Memberships, Ranks, Weights};
 use aug_query::{
     FakeTree, after, ask as ask_tree, before, has, keys, pairs, range, rank, select, size, weight,
 };
@@ -21,6 +21,10 @@ pub(super) enum Query {
     Select(u32),
     Before(u32),
     After(u32),
+    First,
+    Last,
+    Least(u32, u32),
+    Greatest(u32, u32),
 }
 
 #[derive(Clone, Copy, Debug, PartialEq)]
@@ -31,7 +35,7 @@ pub(super) enum Answer {
 }
 
 // What a tree answers.
-fn ask<A: Monoid, B: Monoid>(tree: &mut FakeTree<A, B>, query: Query) -> Answer {
+fn ask(tree: &mut Small, query: Query) -> Answer {
     match query {
         Query::Size => Answer::Number(size(tree)),
         Query::Has(k) => Answer::Is(has(tree, k)),
@@ -40,6 +44,10 @@ fn ask<A: Monoid, B: Monoid>(tree: &mut FakeTree<A, B>, query: Query) -> Answer 
         Query::Select(i) => Answer::Found(select(tree, i)),
         Query::Before(k) => Answer::Found(before(tree, k)),
         Query::After(k) => Answer::Found(after(tree, k)),
+        Query::First => Answer::Found(ask_tree(tree, First)),
+        Query::Last => Answer::Found(ask_tree(tree, descent::Last)),
+        Query::Least(a, b) => Answer::Found(ask_tree(tree, Least(a, b))),
+        Query::Greatest(a, b) => Answer::Found(ask_tree(tree, Greatest(a, b))),
     }
 }
 

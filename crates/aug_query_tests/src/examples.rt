@@ -1,5 +1,9 @@
 //! The queries on a tree of two keys, and how often they ask for memory.
 use super::asking::{Answer, Query, Small, Step, five_and_nine, play, take, take_all};
+use crate::assertions::equal;
+use aug_monoid::{Nothing, Sum};
+use aug_query::descent::SelectByWeight;
+use aug_query::{FakeTree, ask};
 use std::alloc::{AllocError, Global};
 use std::process::Abort;
 
@@ -21,6 +25,14 @@ const EACH: &[Step<'static>] = &[
     Step::Asks(Query::Weight(5), Answer::Found(Some(70))),
     Step::Asks(Query::Weight(16), Answer::Found(None)),
     Step::Asks(Query::Weight(4_000_000_000), Answer::Found(None)),
+
+    // The ends of all members, and of those in an interval.
+    Step::Asks(Query::First, Answer::Found(Some(5))),
+    Step::Asks(Query::Last, Answer::Found(Some(9))),
+    Step::Asks(Query::Least(6, 16), Answer::Found(Some(9))),
+    Step::Asks(Query::Greatest(5, 9), Answer::Found(Some(5))),
+    Step::Asks(Query::Least(10, 4_000_000_000), Answer::Found(None)),
+    Step::Asks(Query::Greatest(9, 5), Answer::Found(None)),
     Step::Keys(&[5, 9]),
     Step::Pairs(&[(5, 70), (9, 30)]),
 
@@ -34,6 +46,26 @@ const EACH: &[Step<'static>] = &[
 #[test]
 fn each_query_and_each_batch_answers(rt: HostRuntime) -> Result<(), AllocError> {
     play(&rt, rt.alloc(), EACH)
+}
+
+// Numbers, and for each the member up to which 5, which weighs 70, and 9, which weighs 30, come to more.
+const BY_WEIGHT: &[(u64, Option<u32>)] = &[
+    (0, Some(5)),
+    (69, Some(5)),
+    (70, Some(9)),
+    (99, Some(9)),
+    (100, None),
+    (u64::MAX, None),
+];
+
+#[test]
+fn weights_come_to_more_than_a_number_at_a_member(rt: HostRuntime) -> Result<(), AllocError> {
+    let mut tree: FakeTree<Sum, Nothing> = FakeTree::try_new(rt.alloc(), 4, &[(5, 70), (9, 30)])?;
+    for &(number, member) in BY_WEIGHT {
+        let found = ask(&mut tree, SelectByWeight(number));
+        equal(&rt, (number, found), (number, member));
+    }
+    Ok(())
 }
 
 const WITHOUT_A_LIST: &[Step<'static>] = &[

@@ -1,7 +1,7 @@
 use Rattle.std.proofs.Common.{ap, sym, ◌∙◌, subst, arith}
 use Rattle.aug_query.proofs.Descending.{further}
-use Rattle.aug_live_tests.proofs.Passed.{told, past_all, top_passes, leaf_passes}
-use Rattle.aug_live_tests.proofs.own.PassesQuerySum.run.Goals as goal
+use Rattle.aug_query.proofs.Weighing.{told, past_all, top_passes, leaf_passes}
+use Rattle.aug_query.proofs.descent.by_weight.SelectByWeightQuerySum.run.Goals as goal
 
 pub returns-then-value-number-clause-answer : goal.returns-then-value-number-clause-answer
 returns-then-value-number-clause-answer g c =

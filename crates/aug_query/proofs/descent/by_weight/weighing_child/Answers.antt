@@ -1,7 +1,7 @@
 use Rattle.std.proofs.Common.{◌+◌, ◌*◌, refl, ap, arith}
 use Rattle.aug_query.proofs.Choosing.{child_fits}
-use Rattle.aug_live_tests.proofs.Passed.{told, goes_left, goes_right, right_within}
-use Rattle.aug_live_tests.proofs.own.passing_child.Goals as goal
+use Rattle.aug_query.proofs.Weighing.{told, goes_left, goes_right, right_within}
+use Rattle.aug_query.proofs.descent.by_weight.weighing_child.Goals as goal
 
 pub overflow_mul-place : goal.overflow_mul-place
 overflow_mul-place g c =

@@ -1,0 +1,7 @@
+use Rattle.std.proofs.Common.{ap, ◌∙◌}
+use Rattle.aug_query.proofs.Extents.{last_of_range}
+use Rattle.aug_query.proofs.descent.ends.GreatestQueryExtent.run.Goals as goal
+
+pub returns-clause-answer : goal.returns-clause-answer
+returns-clause-answer g c =
+    c.greatest_of.ensures ∙ last_of_range (g.D.Descend.set_of c.args.tree.now) c.args.self.0 c.args.self.1 c.run.result.b c.bits-bits.ensures.set (ap (λ s. s.b) c.run.ensures.answer)

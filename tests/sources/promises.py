@@ -26,7 +26,9 @@ READS = (
     Read("these three of `aug_trie`", "aug_trie", FIRST, True),
     Read("`run` of the program", "aug_run", ["run"], True),
     Read("these four together", None, [*FIRST, "run"], False),
-    *(Read(f"all of `{crate}`", crate, None, False) for crate in ("aug_trie", "aug_live", "aug_c")),
+    Read("`Handle::insert` of a live trie", "aug_live", ["insert of Handle"], False),
+    Read("`Live::close`", "aug_live", ["close of Live"], False),
+    Read("`aug_insert` for C", "aug_c", ["aug_insert"], False),
     Read("all public calls", None, None, True),
 )
 

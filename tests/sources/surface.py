@@ -20,14 +20,15 @@ UNTOLD = {"before of Gate": "no clause sees when a row runs; tests do", "after o
 
 HEAD = """# Public calls
 
-Written by `tests/sources/surface.py --write` from the sources, and compared with them by the gate. Each line has the calls of a type, a trait or a crate: in
-brackets the names of a call's conditions (`_` has no name), then those of its clauses, or nothing for a single one without a name, or *untold* if it has
-none; what they say stands at the call in `src/`. Behind *or* is the type that a refusal has, behind *not* the must-fail edits of its body: mistakes that the prover refuses. Behind
-*ghost* are the members of a trait that only contracts see, its laws among them.
+Written by `tests/sources/surface.py --write`; the gate compares it with the sources. Each line has the calls of a type, a trait or a crate: in brackets the
+names of a call's conditions (`_` has no name), then those of its clauses, or nothing for a single one without a name, or *untold* if it has none;
+what they say stands at the call in `src/`. Behind *or* is what a refusal gives, behind *not* the must-fail edits of its body: mistakes that the
+prover refuses. Behind *ghost* are the members of a trait that only contracts see, its laws among them.
 """
 FUNCTION = re.compile(r"^ *(?:pub(?:\([^)]*\))? )?(?:extern \"C\" )?fn (\w+)", re.M)
 OWNER = re.compile(r"^(?:impl\b(?:<(?:[^<>]|<[^<>]*>)*>)? (\w+)[^{]*\{|pub trait (\w+)|\})", re.M)
-REFUSAL = re.compile(r"-> Result<.*, (?:\w+::)*(\w+)[^,]*>(?: where.*)?$")
+PARAMETERS = re.compile(r"(?<!Result)<[^<>]*>")
+REFUSAL = re.compile(r"-> Result<.*, (\(.*\)|\w+)>")
 
 
 def edited(crate, path):
@@ -50,7 +51,7 @@ def edits_of(top, crate):
 def said_of(call, edits):
     """What the page says of a call."""
     asked, told = (", ".join(it.name or "_" for it in call.function.clauses if it.kind == kind) for kind in ("requires", "ensures"))
-    refusal = REFUSAL.search(call.function.signature.rstrip(" {;"))
+    refusal = REFUSAL.search(PARAMETERS.sub("", PARAMETERS.sub("", call.function.signature)))
     parts = ["" if told == "_" else told or "*untold*", refusal and f"*or* {refusal[1]}", edits[call.name] and f"*not* {', '.join(sorted(edits[call.name]))}"]
     return f"`{call.function.name}`{asked and f'({asked})'} {', '.join(filter(None, parts))}".rstrip()
 

@@ -15,6 +15,7 @@ use Rattle.aug_core.specs.declared.view.Held.{Held}
 use Rattle.aug_core.specs.declared.view.LaneState.TheVariants.{Free}
 use Rattle.aug_core.specs.declared.view.SeatView.{SeatView}
 
+-- a change of a key: to a serial, with a weight
 abbrev pub change : ℕ → ℕ → ℕ → Change
 change key serial weight = record { key = key; serial = serial; weight = weight }
 

@@ -1,5 +1,5 @@
--- What a summary says of a list of keys with weights, in two monoids. They are three: the number of the keys, and two folds. With `Sum` and `Extent`
--- these are 2, 4 and (1, 3) in the example.
+-- What a summary says of a list of keys with weights: how many there are, and their folds in two monoids. With `Sum` and `Extent` these are 2, 4 and
+-- (1, 3) in the example.
 use Rattle.std.specs.Prelude.{ℕ, List, length}
 use Rattle.aug_monoid.specs.Fold.{fold_of}
 use Rattle.aug_monoid.specs.Parts.{Parts}

@@ -1,4 +1,4 @@
--- The text of each fault of the program, and the status that the program ends with. Such as `augtrie: row 3: BadArity`. The parser's own texts are
+-- The line of each fault of the program, such as `augtrie: row 3: BadArity`, and the status that the program ends with. The parser's own texts are
 -- written as they are.
 use Rattle.std.specs.Prelude.{ℕ, List, ◌++◌, codes, string_bytes}
 use Rattle.aug_script.specs.FaultText.{script_text}

@@ -1,4 +1,4 @@
--- What a fault of a script is called. Such as 1 and `row 3: BadArity`.
+-- What a fault of a script is called, such as `row 3: BadArity`.
 use Rattle.std.specs.Prelude.{ℕ, List, ◌++◌, codes, decimal}
 use Rattle.aug_script.specs.declared.script_error.ScriptError.{ScriptError}
 use Rattle.aug_script.specs.declared.script_error.ScriptError.TheVariants as script

@@ -1,4 +1,4 @@
--- What a leaf's word says. For the clauses that count steps.
+-- What a leaf's word says, for the clauses that count steps.
 use Rattle.std.specs.Prelude.{ℕ, ◌/◌, ◌%◌, ◌^◌}
 
 -- its serial

@@ -23,8 +23,8 @@ pub record WordsSeen : Type 0 where
   pub shape : Shape
   pub book : Book
 
--- a pass: its round, the rounds before in its table, its lane, what it knows, for each cut of its history the number of the root's record that shows it, how many updates it made, its atomic
--- steps, and the words that it has seen
+-- a pass: its round, the rounds before in its table, its lane, what it knows, for each cut of its history the number of the root's record that shows
+-- it, how many updates it made, its atomic steps, and the words that it has seen
 pub record PassFacts : Type 0 where
   pub round : RoundFacts
   pub past : List Chapter

@@ -1,8 +1,8 @@
 """Holds the places of the crates that answer want of memory to a list. No contract sees what memory there is, so a body may refuse
 whatever it likes for want of memory: whoever adds such an answer says in the list why it comes only where a request was refused.
 
-A place is an `AllocError`, `AllocFailed`, `OutOfMemory` or `NO_MEMORY` that stands as a value in a crate that is not one of tests: an answer that is passed on
-by `?` is none. It is told by its file, its function and all that it stands in, so that a place whose condition changes is a new one.
+A place is an `AllocError`, `AllocFailed`, `OutOfMemory` or `NO_MEMORY` that stands as a value in a crate that is not one of tests: an answer that is
+passed on by `?` is none. It is told by its file, its function and all that it stands in, so that a place whose condition changes is a new one.
 A body that asks for more memory than there can be is not seen here, but by the sweeps of tests/program.
 refusals.txt has three lines for each: the file and the function, the place, and why.
 """

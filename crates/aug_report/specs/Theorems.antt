@@ -1,6 +1,6 @@
 -- Theorems over the definitions of a round's report. Each is a clause of a function that does nothing, so the check fails if one no longer holds: of
--- reports that are allowed, of others that are not, and of what all have in common. Wrong definitions of a report stand in `must-fail/`, each refused
--- since some theorem no longer holds.
+-- reports that are allowed, of others that are not, and of what all have in common. The edits of this crate are wrong definitions of a report, each
+-- refused since some theorem no longer holds.
 use Rattle.std.specs.Prelude.{◌≡◌, ◌≢◌, ℕ, ◌+◌, ◌^◌, ◌<◌, ◌≤◌, true, false, List, [], ◌∷◌, length, map, take, All, Some, Ok}
 use Rattle.aug_model.specs.Keys.{IsKeySet, is_member, keys_of}
 use Rattle.aug_script.specs.Limits.{Bounds, IsBounds}

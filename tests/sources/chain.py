@@ -31,11 +31,11 @@ def words(text):
 
 
 class Crates:
-    """The crates below a folder, their modules of specs, their types and their promises."""
+    """The crates below a folder but for those of tests, their modules of specs, their types and their promises."""
 
     def __init__(self, top):
         self.top = top
-        paths = [os.path.dirname(path) for path in sources.files(top, "crates/*/src")]
+        paths = [os.path.dirname(path) for path in sources.files(top, "crates/*/src") if not path.endswith("_tests/src")]
         self.paths = {os.path.basename(path): path for path in paths}
         self.modules = {(crate, name): it for crate, path in self.paths.items() for name, it in modules(path, self.paths).items()}
         self.types = {Rust(crate, name): it for crate, path in self.paths.items() for name, it in sources.types(path).items()}
@@ -82,7 +82,7 @@ class Crates:
         path = self.paths[crate]
         given = sources.exported(path)
         public = {type_.name for type_, it in self.types.items() if type_.crate == crate and it.is_public}
-        for call in sources.calls(path, exports=True):
+        for call in sources.calls(path):
             yield self.promise(call.name, call.function, call.part, call.path)
         for impl in sources.impls(path):
             if impl.trait != "Model" and impl.type in (public if given is None else given):
@@ -119,7 +119,7 @@ class Crates:
         called = set(re.findall(r"\b(\w+)\(", code))
         imported = [(self.paths.get(use.split("::")[0]), called & words(use)) for use in USE.findall(code)]
         for crate, names in [(path, called), *((crate, names) for crate, names in imported if crate and names)]:
-            for file in sources.code_files(crate):
+            for file in sources.files(crate, "src/**/*.rt"):
                 text = sources.read(file)
                 for function in sources.functions(text, FUNCTION):
                     if function.clauses and (file == main or function.name in names):

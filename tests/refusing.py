@@ -36,8 +36,8 @@ def library():
 
 
 def counted(run, request=0, start=0, later=False):
-    """What `run` returns, which is given the environment of its program and what it is to pass on, and the counts of the program. The request for
-    memory or the start of a thread of a number, counted from 1, is refused, and if `later` is true each later one of its kind; of number 0 none is."""
+    """What `run` returns, which is given the environment of its program and what it is to pass on, and the counts of the program. The request
+    for memory or the start of a thread of a number, counted from 1, is refused, and if `later` is true each later one; of number 0 none is."""
     reader, writer = os.pipe()
     refused = {"REFUSED_REQUEST": str(request), "REFUSED_START": str(start), "LATER_TOO": str(int(later))}
     try:

@@ -6,9 +6,9 @@ import subprocess
 
 from common import SECONDS, TOP, InFolder
 
-# Stands in for rt under ./run: it notes its folder and words, does what the file meanwhile holds, says said.rt, and told.rt on its errors, and ends as
-# status.VERB does. `rt try` notes the script and the input that it was given. `rt lib` and `rt run` leave the names of the libraries that stand there,
-# and `rt run` builds a program.
+# Stands in for rt under ./run: it notes its folder and words, does what the file meanwhile holds, says said.rt, and told.rt on its errors, and ends
+# as status.VERB does. `rt try` notes the script and the input that it was given. `rt lib` and `rt run` leave the names of the libraries that stand
+# there, and `rt run` builds a program.
 PROVER = r"""#!/bin/bash
 crate=${PWD##*/}
 verb=$1

@@ -1,6 +1,5 @@
 """tools/quick checks the functions that a change touched, and what names them."""
 
-import os
 import shutil
 
 from scripts import CopiedScripts
@@ -116,7 +115,8 @@ mod tests {
         called, out = self.quick(("crates/low/src/shelf.rt", "self.books -= 1;", "self.books -= 1; "))
         assert called == ["low: [check] [--only] [Shelf::take]"]
         assert "rt check in low: Shelf::take: only=1 proved=1; not its other files" in out
-        assert "the old texts of 2 stand once each, and none was tried; in changed functions: take_keeps_the_book (rt must-fail low, tools/edits low)\n" in out
+        changed = "in changed functions: take_keeps_the_book (rt must-fail low, tools/edits low)"
+        assert f"the old texts of 2 stand once each, and none was tried; {changed}\n" in out
 
     def test_module_of_a_trait_is_checked(self):
         assert self.quick(("crates/low/src/shelf.rt", "        empty(self);", ""))[0] == ["low: [check] [--only] [low::shelf]"]

@@ -69,7 +69,8 @@ class TestRun(OverStandIns):
         assert os.listdir(self.path("tmp")) == []
 
     def test_crates_apart_are_proved_at_the_same_time(self):
-        both = "for _ in {1..50}; do if [[ -e $ROOM/left && -e $ROOM/right ]]; then break; fi; sleep 0.1; done; [[ -e $ROOM/left && -e $ROOM/right ]] || exit 1"
+        both = "[[ -e $ROOM/left && -e $ROOM/right ]]"
+        both = f"for _ in {{1..50}}; do if {both}; then break; fi; sleep 0.1; done; {both} || exit 1"
         self.behave(meanwhile=f': >"$ROOM/$crate"; if [[ $crate == left || $crate == right ]]; then {both}; fi\n')
         assert self.run_script("./run", "--proved")[2] == 3
 
@@ -139,7 +140,8 @@ class TestRun(OverStandIns):
             env = {**os.environ, "PATH": f"{self.folder}/bin:{os.environ['PATH']}", "ROOM": self.folder, "TMPDIR": self.path("tmp")}
             # A gate in the background hands on that interrupts are ignored.
             takes_interrupts = functools.partial(signal.signal, signal.SIGINT, signal.SIG_DFL)
-            ran = subprocess.Popen([self.path("run"), "--proved"], env=env, stdout=subprocess.PIPE, stderr=subprocess.DEVNULL, preexec_fn=takes_interrupts)
+            streams = {"stdout": subprocess.PIPE, "stderr": subprocess.DEVNULL}
+            ran = subprocess.Popen([self.path("run"), "--proved"], env=env, **streams, preexec_fn=takes_interrupts)
             until = time.monotonic() + SECONDS
             while not (os.path.exists(self.path("pid")) and self.read("pid")) and time.monotonic() < until:
                 time.sleep(0.05)

@@ -1,6 +1,6 @@
-"""Runs the tests of the proved crates whose names say that a thread sleeps, as .._sleeps_for_1_second, and measures how long they take, and how long a
-processor works meanwhile. A thread that looks again and again while it waits meets every contract. A test has to take as long as its name says, and a
-processor may work for a quarter of that. It is for a tree in which `rt ci` has run.
+"""Runs the tests of the proved crates whose names say that a thread sleeps, as .._sleeps_for_1_second, and measures how long they take, and how
+long a processor works meanwhile. A thread that looks again and again while it waits meets every contract. A test has to take as long as its name
+says, and a processor may work for a quarter of that. It is for a tree in which `rt ci` has run.
 """
 
 import re

@@ -123,7 +123,10 @@ class Sample(InFolder):
     check, pattern = None, ""
     source = ""
     listed = ""
-    well = {"ASKED": 3, "STANDS": 3, "WANT": '"Error: OutOfMemory\\nthe test failed: its result gives status 1\\n"', "LEAKS": 0, "WORKS": 0, "SLEEPS": 0, "ENDING": '"\\ntest result: ok\\n"', "STATUS": 0}
+    well = {
+        **{"ASKED": 3, "STANDS": 3, "WANT": '"Error: OutOfMemory\\nthe test failed: its result gives status 1\\n"', "LEAKS": 0},
+        **{"WORKS": 0, "SLEEPS": 0, "ENDING": '"\\ntest result: ok\\n"', "STATUS": 0},
+    }
 
     def run_on(self, source=None, is_built=True, **changed):
         """Why each of its tests fails, or nothing, and what was printed."""

@@ -48,8 +48,8 @@ class TestOfGate(InFolder):
         assert self.run_gate("7 passed, 0 failed", 3) == ("27 passed, 1 failed", 1)
 
     def test_bad_edits_fail(self):
-        said = "rt: must-fail low/one.edit: BAD EDIT: there is no such text\nrt: note: bad must-fail edits, as told above: 1. They fail nothing here\n7 passed, 0 failed"
-        assert self.run_gate(said) == ("27 passed, 1 failed", 1)
+        said = "rt: must-fail low/one.edit: BAD EDIT: there is no such text\nrt: note: bad must-fail edits, as told above: 1. They fail nothing here"
+        assert self.run_gate(f"{said}\n7 passed, 0 failed") == ("27 passed, 1 failed", 1)
 
     def programs(self, said="7 passed, 0 failed"):
         """The programs that are tested from outside. What is not there is asked for, and fails then."""

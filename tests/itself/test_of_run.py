@@ -35,7 +35,8 @@ class TestOfRun(InFolder):
         """What tests/run prints of some files of tests."""
         for name, text in files.items():
             self.write(f"{name}.py", text)
-        ran = subprocess.run([sys.executable, os.path.join(TESTS, "run"), *words], cwd=self.folder, stdout=subprocess.PIPE, stderr=subprocess.STDOUT, timeout=SECONDS)
+        how = {"stdout": subprocess.PIPE, "stderr": subprocess.STDOUT, "timeout": SECONDS}
+        ran = subprocess.run([sys.executable, os.path.join(TESTS, "run"), *words], cwd=self.folder, **how)
         assert ran.returncode == status
         return ran.stdout.decode()
 
@@ -45,7 +46,8 @@ class TestOfRun(InFolder):
         return said
 
     def test_functions_that_pass(self):
-        self.assert_ends("3 passed, 0 failed", "more", **{"more/test_one": "def test_a():\n    pass\n\ndef test_b():\n    pass\n", "more/deep/test_two": "test_c = lambda: None\ntest_word = 3\n"})
+        files = {"more/test_one": "def test_a():\n    pass\n\ndef test_b():\n    pass\n", "more/deep/test_two": "test_c = lambda: None\ntest_word = 3\n"}
+        self.assert_ends("3 passed, 0 failed", "more", **files)
 
     def test_function_that_fails_says_what_it_compared(self):
         said = self.assert_ends("0 passed, 1 failed", "test_one.py", test_one="def test_a():\n    assert 6 * 7 == len('abc'), 'a word'\n")
@@ -57,9 +59,9 @@ class TestOfRun(InFolder):
         assert "OSError\nno shelf\n" in said
 
     def test_class_that_cannot_begin_or_end(self):
-        for name, line in ("setup_class", "0 passed, 1 failed"), ("teardown_class", "1 passed, 1 failed"), ("setup_method", "0 passed, 1 failed"), ("teardown_method", "0 passed, 1 failed"):
+        for name, passed in ("setup_class", 0), ("teardown_class", 1), ("setup_method", 0), ("teardown_method", 0):
             call = f"    {'@classmethod' * name.endswith('class')}\n    def {name}(it):\n        raise OSError\n"
-            self.assert_ends(line, "test_one.py", test_one=f"class TestShelf:\n{call}\n    def test_a(self):\n        pass\n")
+            self.assert_ends(f"{passed} passed, 1 failed", "test_one.py", test_one=f"class TestShelf:\n{call}\n    def test_a(self):\n        pass\n")
 
     def test_file_that_has_no_test_or_ends_early_or_is_not_there(self):
         for text in "", "import no_such_module\n", "import sys\nsys.exit(0)\n", "def other():\n    pass\n", "def test_a() pass\n":

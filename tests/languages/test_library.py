@@ -1,6 +1,6 @@
 """Installs the library for other languages below a folder of its own, as both compilers of the toolchain build it, and runs the tests and
-examples of bindings/ over it, and those in C under valgrind as well. The benchmark in bench/ runs briefly over the library as LLVM builds it. Tests with
-`names` in their names build nothing, and compare the names of the calls and the codes.
+examples of bindings/ over it, and those in C under valgrind as well. The benchmark in bench/ runs briefly over the library as LLVM builds it. Tests
+with `names` in their names build nothing, and compare the names of the calls and the codes.
 
 What is not proved yet is proved first. AFTER_CI=1 in the environment is for a tree in which `rt ci` has just run: the library is proved once for both
 compilers, over the libraries below it as that run left them, which `rt lib` would prove again. It says what it leaves out if a C compiler, cargo or
@@ -60,7 +60,7 @@ def said_by(*words, status=0, **how):
 
 def runs(tool):
     """Whether a tool is there and runs."""
-    return bool(shutil.which(tool)) and subprocess.run([tool, "--version"], stdin=subprocess.DEVNULL, stdout=subprocess.DEVNULL, stderr=subprocess.DEVNULL).returncode == 0
+    return bool(shutil.which(tool)) and subprocess.run([tool, "--version"], stdin=subprocess.DEVNULL, capture_output=True).returncode == 0
 
 
 def exports():

@@ -1,8 +1,8 @@
 """Runs the built program as its user does, and compares what it writes and its exit status with texts written by hand, and in the sweeps
 with a small model.
 
-PROGRAMS in the environment names the programs, and each test runs once for each: without it these are those that `rt ci` built. It needs the toolchain,
-whose C compiler makes the library that refuses memory and threads.
+PROGRAMS in the environment names the programs, and each test runs once for each: without it these are those that `rt ci` built. It needs the
+toolchain, whose C compiler makes the library that refuses memory and threads.
 """
 
 import array
@@ -256,6 +256,30 @@ BAD_WORDS = [
     ("word_that_is_no_utf_8_behind_good_ones", ["--bits", "4", "first.csv", b"a\xc3"], b"error: a word of the command line is no UTF-8\n"),
 ]
 
+# Other runs: a name, the words, the standard input, and how they must end.
+RUNS = [
+    ("file_is_read_and_standard_input_is_not", ["first.csv"], OTHER, (FIRST_REPORT, b"", 0)),
+    ("file_named_as_an_option", ["--", "--bits"], FIRST, (OTHER_REPORT, b"", 0)),
+    ("file_behind_options", ["--workers", "1", "first.csv", "--bits", "5"], b"", (FIRST_REPORT, b"", 0)),
+    ("table_of_too_many_words", "--bits 16 --workers 64 --updates 13108 missing.csv".split(), FIRST, (b"", b"augtrie: TooLarge\n", 2)),
+    ("options_hold_for_the_file", ["--bits", "1", "first.csv"], b"", (b"", b"augtrie: row 1: OutOfRange\n", 1)),
+    ("file_of_no_bytes", ["empty.csv"], FIRST, (b"", b"", 0)),
+    ("file_that_is_not_there", ["missing.csv"], FIRST, INPUT_FAULT),
+    ("file_that_cannot_be_read", ["."], FIRST, INPUT_FAULT),
+    ("help", ["--help"], FIRST, (HELP, b"", 0)),
+    ("short_help", ["-h"], FIRST, (HELP, b"", 0)),
+    ("help_before_a_file_that_is_not_there", ["missing.csv", "--help"], b"", (HELP, b"", 0)),
+]
+
+# What is written to a device that takes no byte, as one of the streams: a name, the words, the stream, and how the run must end.
+TO_A_FULL_DEVICE = [
+    ("report", [], "stdout", OUTPUT_FAULT),
+    ("help", ["--help"], "stdout", (b"", b"", 0)),
+    ("fault_of_a_script", ["--bits", "1"], "stderr", (b"", b"", 1)),
+    ("fault_of_the_words", ["--lanes"], "stderr", (b"", b"", 2)),
+    ("fault_of_the_input", ["missing.csv"], "stderr", (b"", b"", 3)),
+]
+
 # As many words as the options and the file are.
 ALL_WORDS = ["--bits", "4", "--workers", "1", "--updates", "64", "first.csv"]
 
@@ -285,19 +309,6 @@ class Outside(Sweeps, InFolder):
 
     # Where the script comes from.
 
-    def test_file_is_read_and_standard_input_is_not(self):
-        assert self.run_on(["first.csv"], OTHER) == (FIRST_REPORT, b"", 0)
-
-    def test_file_named_as_an_option(self):
-        assert self.run_on(["--", "--bits"], FIRST) == (OTHER_REPORT, b"", 0)
-
-    def test_file_behind_options(self):
-        assert self.run_on(["--workers", "1", "first.csv", "--bits", "5"]) == (FIRST_REPORT, b"", 0)
-
-    def test_table_of_too_many_words(self):
-        words = ["--bits", "16", "--workers", "64", "--updates", "13108", "missing.csv"]
-        assert self.run_on(words, FIRST) == (b"", b"augtrie: TooLarge\n", 2)
-
     def test_two_lanes_that_race_for_one_key(self):
         for _ in range(50):
             out, err, status = self.run_on(["--workers", "2"], b"0,insert,6\n1,insert,6\n")
@@ -305,18 +316,6 @@ class Outside(Sweeps, InFolder):
             first, second, end = out.splitlines()
             replies = {first.removeprefix(b"1 0 insert 6 = "), second.removeprefix(b"1 1 insert 6 = ")}
             assert (replies, end) == ({b"new", b"old"}, b"1 end size=1 in=1 out=0")
-
-    def test_options_hold_for_the_file(self):
-        assert self.run_on(["--bits", "1", "first.csv"]) == (b"", b"augtrie: row 1: OutOfRange\n", 1)
-
-    def test_file_of_no_bytes(self):
-        assert self.run_on(["empty.csv"], FIRST) == (b"", b"", 0)
-
-    def test_file_that_is_not_there(self):
-        assert self.run_on(["missing.csv"], FIRST) == INPUT_FAULT
-
-    def test_file_that_cannot_be_read(self):
-        assert self.run_on(["."], FIRST) == INPUT_FAULT
 
     def test_standard_input_that_cannot_be_read(self):
         folder = os.open(self.folder, os.O_RDONLY)
@@ -414,26 +413,12 @@ class Outside(Sweeps, InFolder):
         with open(self.path("long.csv"), "rb") as file:
             assert self.run_on([], stdin=file) == TOO_LONG
 
-    # Help.
-
-    def test_help(self):
-        assert self.run_on(["--help"], FIRST) == (HELP, b"", 0)
-
-    def test_short_help(self):
-        assert self.run_on(["-h"], FIRST) == (HELP, b"", 0)
-
-    def test_help_before_a_file_that_is_not_there(self):
-        assert self.run_on(["missing.csv", "--help"]) == (HELP, b"", 0)
-
     # Where it writes to.
 
     def test_report_longer_than_a_pipe_holds(self):
         rows = 20000
         report = b"1 0 size = 0\n" * rows + b"1 end size=0 in=0 out=0\n"
         assert self.run_on([], b"0,size\n" * rows) == (report, b"", 0)
-
-    def test_report_to_a_full_device(self):
-        assert self.to_full_device([], "stdout") == OUTPUT_FAULT
 
     def test_report_to_a_closed_pipe(self):
         reader, writer = os.pipe()
@@ -458,27 +443,9 @@ class Outside(Sweeps, InFolder):
             assert self.run_on(words, preexec_fn=closing(0, 1, 2)) == (b"", b"", status)
         assert read(self.path("first.csv")) == FIRST
 
-    def test_help_to_a_full_device(self):
-        assert self.to_full_device(["--help"], "stdout") == (b"", b"", 0)
-
-    def test_fault_of_a_script_to_a_full_device(self):
-        assert self.to_full_device(["--bits", "1"], "stderr") == (b"", b"", 1)
-
-    def test_fault_of_the_words_to_a_full_device(self):
-        assert self.to_full_device(["--lanes"], "stderr") == (b"", b"", 2)
-
-    def test_fault_of_the_input_to_a_full_device(self):
-        assert self.to_full_device(["missing.csv"], "stderr") == (b"", b"", 3)
-
     def test_fault_of_the_output_to_a_full_device(self):
         with open("/dev/full", "wb") as full:
             assert self.run_on([], FIRST, stdout=full, stderr=full)[2] == 3
-
-    def to_full_device(self, words, stream):
-        """Runs the first script with a device that takes no byte as one of the streams."""
-        with open("/dev/full", "wb") as full:
-            out, err, status = self.run_on(words, FIRST, **{stream: full})
-        return out or b"", err or b"", status
 
     def test_report_to_a_file_that_takes_a_part_of_it(self):
         for size in range(len(FIRST_REPORT)):
@@ -655,6 +622,12 @@ def check_run(test, words, script, wanted):
     assert test.run_on(words, script) == wanted
 
 
+def check_full_device(test, words, stream, wanted):
+    with open("/dev/full", "wb") as full:
+        out, err, status = test.run_on(words, FIRST, **{stream: full})
+    assert (out or b"", err or b"", status) == wanted
+
+
 def check_example(test, name):
     """Runs a script of examples/ as a file and as standard input, with the words of its file .args if it has one."""
     path = os.path.join(EXAMPLES, name)
@@ -675,6 +648,10 @@ for name, options, script, line in FAULTY_SCRIPTS:
     add(f"faulty_{name}", check_run, options.split(), script, (b"", b"augtrie: " + line + b"\n", 1))
 for name, words, text in BAD_WORDS:
     add(f"words_{name}", check_run, words, FIRST, (b"", text, 2))
+for name, words, script, wanted in RUNS:
+    add(name, check_run, words, script, wanted)
+for name, words, stream, wanted in TO_A_FULL_DEVICE:
+    add(f"{name}_to_a_full_device", check_full_device, words, stream, wanted)
 for name in sorted(os.path.splitext(file)[0] for file in os.listdir(EXAMPLES) if file.endswith(".csv")):
     add(f"example_{name}", check_example, name)
 

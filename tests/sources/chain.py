@@ -26,40 +26,33 @@ USE = re.compile(r"^(?:pub(?:\([^)]*\))? )?use ([^;]+);", re.M)
 FUNCTION = r"(?:pub(?:\([^)]*\))? )?"
 
 
-def uses_of(path, body):
-    """The `ghost use` lines of a file, and those in a body in it, of an impl or a trait."""
-    lines = sources.read(path).splitlines()
-    inner = [it for it in body.splitlines() if it.startswith("    ghost use ")]
-    return "\n".join([it for it in lines if it.startswith("ghost use ")] + inner)
-
-
 def words(text):
     return set(re.findall(r"\w+", text))
 
 
 class Crates:
-    """The crates below a folder, their modules of specs, their types and their promises."""
+    """The crates below a folder but for those of tests, their modules of specs, their types and their promises."""
 
     def __init__(self, top):
         self.top = top
-        paths = [os.path.dirname(path) for path in sources.files(top, "crates/*/src")]
+        paths = [os.path.dirname(path) for path in sources.files(top, "crates/*/src") if not path.endswith("_tests/src")]
         self.paths = {os.path.basename(path): path for path in paths}
         self.modules = {(crate, name): it for crate, path in self.paths.items() for name, it in modules(path, self.paths).items()}
         self.types = {Rust(crate, name): it for crate, path in self.paths.items() for name, it in sources.types(path).items()}
         self.scopes, self.found = {}, {}
         self.promises = {crate: list(self.promises_of(crate)) for crate in self.paths}
 
-    # Names of Rust
+    # What a text names
 
     def scope(self, path):
-        """The types and traits that the names of a file mean."""
+        """What the names of a file mean that are not in a body: types and traits, and what it brings by `ghost use`."""
         if path not in self.scopes:
-            own = os.path.relpath(path, os.path.join(self.top, "crates")).split(os.sep)[0]
+            own, text = os.path.relpath(path, os.path.join(self.top, "crates")).split(os.sep)[0], sources.read(path)
             scope = {type_.name: type_ for type_ in self.types if type_.crate == own}
-            for use in USE.findall(sources.without_comments(sources.read(path))):
+            for use in USE.findall(sources.without_comments(text)):
                 if use.split("::")[0] in self.paths:
                     scope.update((type_.name, type_) for type_ in self.imported(use.split("::")[0], words(use)))
-            self.scopes[path] = scope
+            self.scopes[path] = {**scope, **scope_of("\n".join(re.findall(r"^ghost use .*", text, re.M)), self.paths)}
         return self.scopes[path]
 
     def imported(self, crate, names):
@@ -68,23 +61,17 @@ class Crates:
             others = [type_ for type_ in self.types if type_.name == name]
             yield from [type_ for type_ in others if type_.crate == crate] or others[:1]
 
-    def types_in(self, text, path):
-        scope = self.scope(path)
-        return {scope[word] for word in words(text) if word in scope}
-
-    # What a text names
-
-    def names_in(self, text, uses, path, bound=()):
-        """What the words of a term of a file name, but for those that are bound around it."""
-        text = re.sub(r"⟦<(.*?)>⟧", lambda match: " ".join(re.findall(r"\w+", match[1])), text)
-        scope = {**self.scope(path), **{name: of for name, of in scope_of(uses, self.paths).items() if of}}
-        return names_in(text, {name: of for name, of in scope.items() if name not in bound}, self.paths)
+    def names_in(self, texts, path, body=""):
+        """What the words of texts name that stand in a file, in a body of it if one is given, but for parameters and fields."""
+        text = re.sub(r"^ *ghost use .*", "", " ".join(texts), flags=re.M)
+        inner = scope_of("\n".join(re.findall(r"^    ghost use .*", body, re.M)), self.paths)
+        scope = {**self.scope(path), **inner, **dict.fromkeys(re.findall(r"(\w+): ", text))}
+        return names_in(re.sub("[<>&:⟦⟧]", " ", text), scope, self.paths)
 
     def names_of_call(self, function, part, path, kinds=("requires", "ensures")):
         """What the signature and the clauses of these kinds of a function name."""
-        uses, found = uses_of(path, part.body if part.owner else ""), self.types_in(f"{function.signature} {part.head} {part.owner}", path)
-        bound = {"self", "result", *re.findall(r"(\w+): ", function.signature)}
-        return found.union(*(self.names_in(clause.text, uses, path, bound) for clause in function.clauses if clause.kind in kinds))
+        clauses = [clause.text for clause in function.clauses if clause.kind in kinds]
+        return self.names_in([function.signature, part.head, part.owner, *clauses], path, part.body if part.owner else "")
 
     def promise(self, name, function, part, path, is_program=False):
         return Promise(name, *(self.names_of_call(function, part, path, kinds) for kinds in (("requires", "ensures"), ("ensures",))), is_program)
@@ -95,7 +82,7 @@ class Crates:
         path = self.paths[crate]
         given = sources.exported(path)
         public = {type_.name for type_, it in self.types.items() if type_.crate == crate and it.is_public}
-        for call in sources.calls(path, exports=True):
+        for call in sources.calls(path):
             yield self.promise(call.name, call.function, call.part, call.path)
         for impl in sources.impls(path):
             if impl.trait != "Model" and impl.type in (public if given is None else given):
@@ -107,15 +94,10 @@ class Crates:
 
     def names_of_impl(self, impl):
         """What an impl of a trait says of a type: its ghost members, but for the opaque ones and the proofs of laws, and clauses of its own."""
-        uses, found = uses_of(impl.path, impl.part.body), self.types_in(impl.type, impl.path)
         untold = self.laws(impl.trait) | self.opaque_members(impl.trait)
-        for name, texts in sources.ghosts(impl.part.body).items():
-            if name not in untold:
-                found |= self.names_in(texts[0], uses, impl.path)
-        for function in sources.functions(impl.part.body, "    "):
-            if function.clauses:
-                found |= self.names_of_call(function, impl.part, impl.path)
-        return found
+        said = [texts[0] for name, texts in sources.ghosts(impl.part.body).items() if name not in untold]
+        calls = [it for it in sources.functions(impl.part.body, "    ") if it.clauses]
+        return self.names_in([impl.type, *said], impl.path, impl.part.body).union(*(self.names_of_call(it, impl.part, impl.path) for it in calls))
 
     def laws(self, trait):
         """The ghost members of a trait that no clause and no other member of it names."""
@@ -137,7 +119,7 @@ class Crates:
         called = set(re.findall(r"\b(\w+)\(", code))
         imported = [(self.paths.get(use.split("::")[0]), called & words(use)) for use in USE.findall(code)]
         for crate, names in [(path, called), *((crate, names) for crate, names in imported if crate and names)]:
-            for file in sources.code_files(crate):
+            for file in sources.files(crate, "src/**/*.rt"):
                 text = sources.read(file)
                 for function in sources.functions(text, FUNCTION):
                     if function.clauses and (file == main or function.name in names):
@@ -160,21 +142,13 @@ class Crates:
         return seen | self.model_names(type_, "also_owns")
 
     def model_names(self, type_, member):
-        """What a member of the model of a type names, or none where it has no such member."""
-        if not type_.model:
-            return set()
-        body, path = type_.model.part.body, type_.model.path
-        return set().union(*(self.names_in(text, uses_of(path, body), path) for text in sources.ghosts(body).get(member, [])))
+        """What a member of the model of a type names, or none if it has no such member."""
+        return self.names_in(sources.ghosts(type_.model.part.body).get(member, []), type_.model.path, type_.model.part.body) if type_.model else set()
 
     def member_names(self, type_):
-        """What the fields of a type name, or the ghost members of a trait."""
-        members = sources.ghosts(type_.text)
-        said = [text for texts in members.values() for text in texts]
-        plain = type_.text.partition("\n")[0] if type_.kind == "trait" else type_.text
-        for text in said:
-            plain = plain.replace(text, "")
-        uses, bound = uses_of(type_.path, type_.text), re.findall(r"(\w+): ", plain)
-        return self.types_in(plain, type_.path).union(*(self.names_in(text, uses, type_.path, bound) for text in said))
+        """What the fields of a type name, but not how a ghost one is coded, or the ghost members of a trait."""
+        said = [type_.text.partition("\n")[0], *(text for texts in sources.ghosts(type_.text).values() for text in texts)]
+        return self.names_in(said if type_.kind == "trait" else [re.sub(r" by \{[^}]*\}", "", type_.text)], type_.path, type_.text)
 
     def chain(self, names):
         """All that some names rest on, and they themselves, but for what is opaque."""

@@ -96,7 +96,9 @@ class Promises:
         return "".join(filled(f"- `{crate}`: {of}", "  ") for crate, of in said.items() if of)
 
     def chain_of(self, read):
-        return self.crates.chain(name for crate, it in self.all if read.crate in (None, crate) and it.name in (read.calls or [it.name]) for name in it.names)
+        """What the calls rest on that are to be read for."""
+        calls = [it for crate, it in self.all if read.crate in (None, crate) and it.name in (read.calls or [it.name])]
+        return self.crates.chain(name for it in calls for name in it.names)
 
     def written(self):
         """How many definitions there are to believe, and in which order."""
@@ -116,7 +118,8 @@ class Promises:
 
     def wrong_heads(self):
         """Which modules of the chain do not say what they are."""
-        return [f"{name} of {crate} does not say at its head what it is" for crate, name in sorted(self.in_chain) if not self.crates.modules[crate, name].lines[0].startswith("-- ")]
+        silent = sorted(key for key in self.in_chain if not self.crates.modules[key].lines[0].startswith("-- "))
+        return [f"{name} of {crate} does not say at its head what it is" for crate, name in silent]
 
     def wrong_imports(self, exceptions):
         """Which modules import what is inside, and should not."""
@@ -137,15 +140,15 @@ class Promises:
 
     def wrong_places(self, loose):
         """Which definitions lie outside of what is inside, and are behind no clause."""
-        outside = [(key, name) for key, it in self.crates.modules.items() if self.crates.promises[key[0]] and not is_inside(key[1]) for name in it.definitions]
-        found = {Spec(*key, name) for key, name in outside} - self.chain
+        outside = [(key, it) for key, it in self.crates.modules.items() if self.crates.promises[key[0]] and not is_inside(key[1])]
+        found = {Spec(*key, name) for key, it in outside for name in it.definitions} - self.chain
         found = {(it.crate, it.name): it.module for it in found if not self.crates.is_opaque(it)}
         return [f"{found[crate, name]}.{name} of {crate} is behind no clause, and not inside" for crate, name in sorted(set(found) - set(loose))]
 
     def wrong_opaque(self):
         """Which opaque definitions no call gives."""
         given = self.crates.opaque({name for _, it in self.all for name in it.given})
-        marked = {Spec(*key, name) for key, it in self.crates.modules.items() for name in it.definitions} - {None}
+        marked = {Spec(*key, name) for key, it in self.crates.modules.items() for name in it.definitions}
         never = sorted(f"{it.name} ({it.module} of {it.crate})" for it in marked - given if self.crates.is_opaque(it))
         return [f"{it} is opaque, and no call gives it" for it in never]
 

@@ -107,26 +107,17 @@ def parts(text):
     yield Part("", "", text), "pub "
 
 
-def calls(crate, exports=False):
-    """The public calls of a crate: those of its types and traits, and its functions. What it exports to C is among them if it is asked for."""
+def calls(crate):
+    """The public calls of a crate: those of its types and traits, its functions, and what it exports to C."""
     names = exported(crate)
     found = []
     for path in files(crate, "src/**/*.rt"):
         for part, start in parts(read(path)):
             for call in functions(part.body, start):
-                is_export = 'extern "C"' in call.signature
-                if exports if is_export else names is None or (part.owner or call.name) in names:
+                if names is None or (part.owner or call.name) in names or 'extern "C"' in call.signature:
                     name = f"{call.name} of {part.owner}" if part.owner else call.name
                     found.append(Call(name, call, part, path))
     return found
-
-
-def code_files(crate):
-    """The files of a crate that are not there for its tests alone."""
-    src = os.path.join(crate, "src")
-    paths = files(src, "**/*.rt")
-    tests = set(re.findall(r"#\[cfg\(test\)\]\s*mod (\w+)", "".join(map(read, paths))))
-    return [path for path in paths if not tests & set(os.path.relpath(path, src)[: -len(".rt")].split(os.sep))]
 
 
 def ghosts(text):
@@ -147,7 +138,7 @@ def last_name(text):
 def impls(crate):
     """The impls of traits for types with a name."""
     found = []
-    for path in code_files(crate):
+    for path in files(crate, "src/**/*.rt"):
         for head, type_, body in IMPL.findall(read(path)):
             if re.match(r"[\w&]", type_):
                 trait = re.sub(r"^<.*?>(?= )", "", head)
@@ -159,7 +150,7 @@ def types(crate):
     """The types and the traits of a crate, by their names."""
     models = {it.type: it for it in impls(crate) if it.trait == "Model"}
     found = {}
-    for path in code_files(crate):
+    for path in files(crate, "src/**/*.rt"):
         text = without_comments(read(path))
         for match in TYPE.finditer(text):
             head = re.match(r"[^;{]*", text[match.end() :])[0]

@@ -76,7 +76,7 @@ def filled(line):
 def calls_of(top):
     """The public calls of each crate."""
     crates = [os.path.join(top, "crates", name) for name in re.findall(r"^\w+", read(top, "crates.txt"), re.M)]
-    return {crate: calls(crate, exports=True) for crate in crates}
+    return {crate: calls(crate) for crate in crates}
 
 
 def page(top, found):

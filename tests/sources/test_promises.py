@@ -1,7 +1,7 @@
-"""What the promises of the crates rest on, as promises.py works it out, is held to docs/definitions.md and to the folders specs/inside/. A module behind
-a clause must say at its head what it is. What is in a folder specs/inside/ must be behind no clause, and no module outside of it may import it, but for
-what is opaque. What is not in such a folder must be behind a clause, or opaque, in a crate that promises anything. What is opaque must be given by a
-call. No name of a module or a definition may stand in two crates.
+"""What the promises of the crates rest on, as promises.py works it out, is held to docs/definitions.md and to the folders specs/inside/. A module
+behind a clause must say at its head what it is. What is in a folder specs/inside/ must be behind no clause, and no module outside of it may import
+it, but for what is opaque. What is not in such a folder must be behind a clause, or opaque, in a crate that promises anything. What is opaque must be
+given by a call. No name of a module or a definition may stand in two crates.
 """
 
 import os
@@ -206,8 +206,9 @@ In order, for `Shelf::size`:
 
     def test_opaque_member_of_a_trait(self):
         for mark, is_there in ("", True), ("Opaque: ", False):
-            trait = f"pub trait Lends {{\n    // {mark}a step.\n    ghost is_step: {{ ℕ → Type 0 }};\n\n    fn lend(&self) -> u32\n        ensures {{ is_step result }};\n}}\n\nimpl Lends for Shelf {{\n    ghost is_step = {{ λ n. IsStep n }};\n}}\n"
-            said = self.listed(self.SHELF, "pub struct Shelf {", f"{trait}\npub struct Shelf {{")
+            members = f"    // {mark}a step.\n    ghost is_step: {{ ℕ → Type 0 }};\n\n    fn lend(&self) -> u32\n        ensures {{ is_step result }};\n"
+            impl = "impl Lends for Shelf {\n    ghost is_step = { λ n. IsStep n };\n}\n"
+            said = self.listed(self.SHELF, "pub struct Shelf {", f"pub trait Lends {{\n{members}}}\n\n{impl}\npub struct Shelf {{")
             assert ("one: Lends for Shelf\n    one: Books.ShelfFacts, Steps.IsStep\n" in said) == is_there
 
     def test_each_call_is_listed(self):

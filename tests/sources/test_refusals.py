@@ -1,8 +1,8 @@
 """Holds the places of the crates that answer want of memory to a list. No contract sees what memory there is, so a body may refuse
 whatever it likes for want of memory: whoever adds such an answer says in the list why it comes only where a request was refused.
 
-A place is an `AllocError`, `AllocFailed`, `OutOfMemory` or `NO_MEMORY` that stands as a value, in code that is no test: an answer that is passed on
-by `?` is none. It is told by its file, its function and all that it stands in, so that a place whose condition changes is a new one.
+A place is an `AllocError`, `AllocFailed`, `OutOfMemory` or `NO_MEMORY` that stands as a value in a crate that is not one of tests: an answer that is
+passed on by `?` is none. It is told by its file, its function and all that it stands in, so that a place whose condition changes is a new one.
 A body that asks for more memory than there can be is not seen here, but by the sweeps of tests/program.
 refusals.txt has three lines for each: the file and the function, the place, and why.
 """
@@ -21,10 +21,7 @@ WANT = re.compile(r"\b(AllocError|AllocFailed|OutOfMemory|NO_MEMORY|Err\(started
 NO_CODE = re.compile(r"""//[^\n]*|"(?:\\.|[^"\\])*"|'(?:\\.[^']*|[^'\\])'""", re.DOTALL)
 
 # What begins a part that makes no value, up to its `;` or its closing brace.
-PARTS = re.compile(r"\bghost\b|\b(?:requires|ensures|invariant)\b[^{;=]*(?=\{)|\buse\b|\benum\b|#\[cfg\(test\)\]\s*|#\[test\]\s*")
-
-# A module of tests that has a file of its own.
-TEST_MODULE = re.compile(r"#\[cfg\(test\)\]\s*mod\s+(\w+)\s*;")
+PARTS = re.compile(r"\bghost\b|\b(?:requires|ensures|invariant)\b[^{;=]*(?=\{)|\buse\b|\benum\b")
 
 # A place: its file, its function, and what it stands in, from the outermost.
 Place = collections.namedtuple("Place", "file function code")
@@ -45,7 +42,7 @@ def end_of_part(code, begin):
 
 
 def code_of(text):
-    """The text without comments, texts, contracts, imports, declarations of enums and tests."""
+    """The text without comments, texts, contracts, imports and declarations of enums."""
     code = NO_CODE.sub(lambda found: '""' if found[0][0] == '"' else " ", text)
     begin = PARTS.search(code)
     while begin:
@@ -118,15 +115,9 @@ def places_in(file, text):
 
 
 def sources():
-    """The text of each source file that is no test, by its path below the repository."""
+    """The text of each source file of a crate that is not one of tests, by its path below the repository."""
     paths = sorted(glob.glob(os.path.join(CRATES, "*", "src", "**", "*.rt"), recursive=True))
-    texts = {os.path.relpath(path, TOP): read(path) for path in paths}
-    tests = set()
-    for path, text in texts.items():
-        folder = os.path.dirname(path) if os.path.basename(path) in ("lib.rt", "main.rt") else path[: -len(".rt")]
-        tests |= {os.path.join(folder, name) for name in TEST_MODULE.findall(text)}
-    is_test = lambda path: any(path == f"{test}.rt" or path.startswith(f"{test}/") for test in tests)
-    return {path: text for path, text in texts.items() if not is_test(path)}
+    return {os.path.relpath(path, TOP): read(path) for path in paths if "_tests/src/" not in path}
 
 
 def listed():

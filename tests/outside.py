@@ -647,8 +647,8 @@ class Outside(Sweeps):
                 self.assertEqual(it.result(), wanted)
 
 
-# An excerpt in the README or in docs/using.md: the path in the sentence before it, and its lines, where `// ..` stands for lines that are left out.
-EXCERPT = re.compile(rb"`(crates/[^`]+)`(?:[^`]|`// \.\.`)*:\n\n```rust\n(.*?)```\n", re.S)
+# An excerpt in the README or in docs/using.md: the path in the sentence before it, and its lines, where `// ..` or `# ..` stands for lines that are left out.
+EXCERPT = re.compile(rb"`((?:crates|bindings)/[^`]+)`[^`]*:\n\n?```(?:rust|c|python)\n(.*?)```\n", re.S)
 
 
 class Shown(unittest.TestCase):
@@ -659,24 +659,28 @@ class Shown(unittest.TestCase):
 
     def check_excerpts(self, page):
         excerpts = EXCERPT.findall(page)
-        self.assertEqual(len(excerpts), page.count(b"```rust\n"))
+        self.assertEqual(len(excerpts), len(re.findall(rb"^```(?:rust|c|python)$", page, re.M)))
         self.assertTrue(excerpts)
         for file, code in excerpts:
-            program = read(os.path.join(TOP, file.decode()))
-            for part in re.split(rb"^ *// \.\.\n", code, flags=re.M):
+            program = b"\n" + read(os.path.join(TOP, file.decode()))
+            for part in re.split(rb"^ *(?://|#) \.\.\n", code, flags=re.M):
                 self.assertTrue(part.strip())
                 self.assertIn(b"\n" + part, program)
 
     def test_excerpts_in_the_readme(self):
         self.check_excerpts(self.readme)
 
+    def test_program_in_the_readme(self):
+        program = read(os.path.join(TOP, "crates", "first_example", "src", "main.rt"))
+        self.assertIn(b"```rust\n" + program + b"```\n", self.readme)
+
     def test_excerpts_in_the_guide(self):
         self.check_excerpts(read(os.path.join(TOP, "docs", "using.md")))
 
-    def test_script_in_the_readme(self):
+    def test_script_in_the_page_of_scripts(self):
         script, report = (read(os.path.join(EXAMPLES, f"first.{kind}")).decode().splitlines() for kind in ("csv", "out"))
         lines = [f"{row:22}{line}" for row, line in zip([*script, ""], report)]
-        self.assertIn("\n".join(["```text", *lines, "```"]).encode(), self.readme)
+        self.assertIn("\n".join(["```text", *lines, "```"]).encode(), read(os.path.join(TOP, "docs", "scripts.md")))
 
 
 # How many tests there are of each kind at least: fewer means that a table was lost.

@@ -1,0 +1,44 @@
+//! An order book: a price is a key, and what is offered at it its weight. One thread offers, and another asks meanwhile.
+#![tactic(auto)]
+
+use aug_live::{Handle, Live, LiveError};
+use aug_monoid::{Nothing, Sum};
+use aug_query::descent::{Range, Rank};
+use aug_trie::{BeginError, Ended};
+use std::sync::Wait;
+use std::thread;
+
+// Offers 10 at each of 200 prices. An update requires that its key is below the universe.
+fn offer<R: Wait>(rt: &R, mut user: Handle<Sum, Nothing>) -> Result<(), LiveError> {
+    for price in 1_900..2_100 {
+        if price < user.universe() {
+            user.put(rt, price, 10)?;
+        }
+    }
+    Ok(())
+}
+
+// Whether each of 500 snapshots agrees with itself, whatever the other thread does meanwhile.
+fn watch<R: Wait>(rt: &R, mut user: Handle<Sum, Nothing>) -> Result<bool, LiveError> {
+    let mut agree = true;
+    for _ in 0..500 {
+        let mut now = user.look(rt).map_err(|(_, cause)| cause)?;
+        let (count, low) = (now.ask(Rank(2_000)), now.ask(Range(0, 2_000)));
+        agree &= low.count == count && low.a.value() == 10 * u64::from(count);
+        user = now.done();
+    }
+    Ok(agree)
+}
+
+fn main(rt: HostRuntime) -> anyhow::Result<()> {
+    let (r, alloc) = (&rt, rt.alloc());
+    let empty: Ended<Sum, Nothing> = Ended::empty(alloc, 12)?;
+    let set = empty.into_members(alloc).or(Err(BeginError::OutOfMemory))?;
+    let (book, mut users) = Live::open(r, alloc, set, 2, 1 << 20).map_err(|(_, cause)| cause)?;
+    let one = users.pop().ok_or(BeginError::BadWorkers)?;
+    let two = users.pop().ok_or(BeginError::BadWorkers)?;
+    let (offered, agree) = thread::join(r, || offer(r, one), || watch(r, two));
+    let (size, agree) = (book.close(r).0.size(), offered.and(agree)?);
+    println!(rt; "{size} offers; each snapshot agreed: {agree}")?;
+    Ok(())
+}

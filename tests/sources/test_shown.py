@@ -1,11 +1,10 @@
-"""The README and docs/using.md show what stands in the repository."""
+"""The README and pages of docs/ show what stands in the repository."""
 
 import re
 
 from common import read
 
-# An excerpt in the README or in docs/using.md: the path in the sentence before it, and its lines, where `// ..` or `# ..` stands for lines that are
-# left out.
+# An excerpt: the path in the sentence before it, and its lines, where `// ..` or `# ..` stands for lines that are left out.
 EXCERPT = re.compile(r"`((?:crates|bindings)/[^`]+)`[^`]*:\n\n?```(?:rust|c|python)\n(.*?)```\n", re.S)
 
 
@@ -24,12 +23,13 @@ def test_excerpts_in_the_readme():
     check_excerpts(read("README.md"))
 
 
+def test_program_in_the_readme():
+    program = read("crates", "first_example", "src", "main.rt")
+    assert f"```rust\n{program}```\n" in read("README.md")
+
+
 def test_excerpts_in_the_guide():
     check_excerpts(read("docs", "using.md"))
-
-
-def test_program_in_the_readme():
-    assert f"```rust\n{read('crates', 'first_example', 'src', 'main.rt')}```\n" in read("README.md")
 
 
 def test_script_in_the_page_of_scripts():

@@ -2,4 +2,5 @@ pub mod FakeTree
 pub mod Descend
 pub mod NodeWalk
 pub mod Tree
+pub mod Yields
 pub mod inside

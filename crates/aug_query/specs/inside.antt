@@ -3,4 +3,5 @@ pub mod Batches
 pub mod FakeNodes
 pub mod NodePlaces
 pub mod NodeWalkLaws
+pub mod Paths
 pub mod Rows

@@ -8,6 +8,7 @@
 
 mod batches;
 mod counts;
+mod cursor;
 mod intervals;
 mod listing;
 mod members;
@@ -16,6 +17,7 @@ mod positions;
 
 pub use batches::{Memberships, Ranks, Weights};
 pub use counts::{Rank, Size};
+pub use cursor::Cursor;
 pub use intervals::Range;
 pub use listing::{Keys, Pairs, put_pairs};
 pub use members::{Has, Weight};

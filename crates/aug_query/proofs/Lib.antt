@@ -10,6 +10,7 @@ pub mod Passing
 pub mod Beside
 pub mod Inside
 pub mod Batches
+pub mod Paths
 pub mod Placed
 pub mod Cover
 pub mod Listed

@@ -3,4 +3,5 @@ pub mod Descend
 pub mod NodeWalk
 pub mod RunningSums
 pub mod Tree
+pub mod Yields
 pub mod inside

@@ -4,4 +4,5 @@ pub mod FakeNodes
 pub mod FirstOver
 pub mod NodePlaces
 pub mod NodeWalkLaws
+pub mod Paths
 pub mod Rows

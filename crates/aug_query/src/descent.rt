@@ -10,6 +10,7 @@
 mod batches;
 mod by_weight;
 mod counts;
+mod cursor;
 mod ends;
 mod intervals;
 mod listing;
@@ -20,6 +21,7 @@ mod positions;
 pub use batches::{Memberships, Ranks, Weights};
 pub use by_weight::SelectByWeight;
 pub use counts::{Rank, Size};
+pub use cursor::Cursor;
 pub use ends::{First, Greatest, Last, Least};
 pub use intervals::Range;
 pub use listing::{Keys, Pairs, put_pairs};

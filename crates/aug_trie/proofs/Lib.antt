@@ -20,6 +20,7 @@ pub mod Trees
 pub mod Passing
 pub mod Snapshots
 pub mod Asking
+pub mod Cursors
 pub mod PassCalls
 pub mod Noting
 pub mod SnapshotWalks

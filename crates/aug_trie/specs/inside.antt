@@ -3,6 +3,7 @@ pub mod ClimbState
 pub mod Climbing
 pub mod Counted
 pub mod CrewState
+pub mod Cursors
 pub mod EndedLaws
 pub mod EndedState
 pub mod EndedTree

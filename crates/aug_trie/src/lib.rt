@@ -8,6 +8,7 @@ mod turns;
 mod updates;
 
 pub use error::{BeginError, CrewError, UpdateError};
+pub use queries::cursor::SnapshotCursor;
 pub use queries::node::Node;
 pub use queries::snapshot::Snapshot;
 pub use queries::view::View;

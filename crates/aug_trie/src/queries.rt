@@ -1,6 +1,7 @@
 //! Snapshots, and the queries on them.
 
 pub(crate) mod calls;
+pub(crate) mod cursor;
 pub(crate) mod node;
 pub(crate) mod nodes;
 pub(crate) mod record_words;

@@ -1,8 +1,8 @@
 //! The nearest members beside a key.
-ghost use Rattle.std.specs.Prelude.{◌≡◌, ◌+◌, ◌*◌, ◌<◌, Some, length};
+ghost use Rattle.std.specs.Prelude.{◌≡◌, ◌+◌, ◌*◌, ◌/◌, ◌<◌, Some, length};
 ghost use Rattle.aug_model.specs.Keys.{list_of};
-ghost use Rattle.aug_model.specs.Queries.{before_of, after_of, first_of, last_of};
-ghost use Rattle.aug_model.specs.NodeKeys.{keys_below};
+ghost use Rattle.aug_model.specs.Queries.{rank_of, before_of, after_of, first_of, last_of};
+ghost use Rattle.aug_model.specs.NodeKeys.{first_key, end_key, keys_below};
 ghost use Rattle.aug_query.specs.Descend.{Descends, loads};
 
 use crate::toward::{toward_from_left, toward_from_right, universe};
@@ -122,7 +122,7 @@ fn greatest<A: Monoid, B: Monoid, D: Descend<A, B>>(
 
 // The last child that covers members, and its place.
 #[inline(always)]
-fn last_child<A: Monoid, B: Monoid, D: Descend<A, B>>(
+pub(super) fn last_child<A: Monoid, B: Monoid, D: Descend<A, B>>(
     tree: &mut D,
     level: u32,
     place: u32,
@@ -133,6 +133,8 @@ fn last_child<A: Monoid, B: Monoid, D: Descend<A, B>>(
     ensures descends { Descends D.set_of D.loads_of D.Names D.KeepsRest 2 1 0 0 tree.old tree.new }
     ensures name { D.Names tree.new level result.1 result.0 }
     ensures some { 0 < length (keys_below (list_of (D.set_of tree.old)) level result.1) }
+    ensures child { result.1 / 2 ≡ place }
+    ensures last { rank_of (list_of (D.set_of tree.old)) (end_key level result.1) ≡ rank_of (list_of (D.set_of tree.old)) (end_key (level + 1) place) }
     ensures same { last_of (keys_below (list_of (D.set_of tree.old)) level result.1) ≡ last_of (keys_below (list_of (D.set_of tree.old)) (level + 1) place) }
 {
     let right = tree.right(level, place, node);
@@ -166,7 +168,7 @@ fn least<A: Monoid, B: Monoid, D: Descend<A, B>>(
 
 // The first child that covers members, and its place.
 #[inline(always)]
-fn first_child<A: Monoid, B: Monoid, D: Descend<A, B>>(
+pub(super) fn first_child<A: Monoid, B: Monoid, D: Descend<A, B>>(
     tree: &mut D,
     level: u32,
     place: u32,
@@ -177,6 +179,8 @@ fn first_child<A: Monoid, B: Monoid, D: Descend<A, B>>(
     ensures descends { Descends D.set_of D.loads_of D.Names D.KeepsRest 2 1 0 0 tree.old tree.new }
     ensures name { D.Names tree.new level result.1 result.0 }
     ensures some { 0 < length (keys_below (list_of (D.set_of tree.old)) level result.1) }
+    ensures child { result.1 / 2 ≡ place }
+    ensures first { rank_of (list_of (D.set_of tree.old)) (first_key level result.1) ≡ rank_of (list_of (D.set_of tree.old)) (first_key (level + 1) place) }
     ensures same { first_of (keys_below (list_of (D.set_of tree.old)) level result.1) ≡ first_of (keys_below (list_of (D.set_of tree.old)) (level + 1) place) }
 {
     let left = tree.left(level, place, node);

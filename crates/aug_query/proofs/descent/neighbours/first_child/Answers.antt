@@ -1,9 +1,10 @@
-use Rattle.std.proofs.Common.{◌*◌, length, ap, arith}
+use Rattle.std.proofs.Common.{◌+◌, ◌*◌, length, refl, ap, arith}
 use Rattle.aug_model.specs.Keys.{list_of}
+use Rattle.aug_model.specs.Queries.{rank_of}
 use Rattle.aug_model.specs.NodeKeys.{keys_below}
-use Rattle.aug_query.proofs.Nodes.{members_rise}
+use Rattle.aug_query.proofs.Nodes.{members_rise, left_low}
 use Rattle.aug_query.proofs.Beside.{child_places, first_left, first_right, children_add}
-use Rattle.aug_query.proofs.Descending.{counted, counted_other, within}
+use Rattle.aug_query.proofs.Descending.{rank_before_right, counted, counted_other, within}
 use Rattle.aug_query.proofs.descent.neighbours.first_child.Goals as goal
 
 pub overflow_mul-place : goal.overflow_mul-place
@@ -41,3 +42,12 @@ returns-then-count-gt0-clause-descends g c = within (counted g.met.D.Descend.kee
 
 pub returns-clause-descends : goal.returns-clause-descends
 returns-clause-descends g c = counted_other g.met.D.Descend.keeps_on c.left-left.ensures.descends c.count.ensures.descends c.right.ensures.descends
+
+pub returns-then-count-gt0-clause-first : goal.returns-then-count-gt0-clause-first
+returns-then-count-gt0-clause-first g c = ap (rank_of (list_of (g.D.Descend.set_of c.args.tree.now))) (left_low (c.args.level + 1) c.args.place c.args.level (2 * c.args.place) refl refl)
+
+pub returns-clause-first : goal.returns-clause-first
+returns-clause-first g c =
+    let node = g.met.D.Descend.name_stands c.args.tree.now _ _ c.args.node.now c.requires.name in
+    let same = ap (λ s. length (keys_below (list_of s) c.args.level (2 * c.args.place))) c.left-left.ensures.descends.same_set in
+    omega (arith, rank_before_right (list_of (g.D.Descend.set_of c.args.tree.now)) c.args.level c.args.place 0 (members_rise node) (omega (arith, c.if-count-gt0.false, c.count.ensures.value, same)))

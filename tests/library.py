@@ -1,12 +1,13 @@
 #!/usr/bin/env python3
 """Installs the library for other languages below a folder of its own, as both compilers of the toolchain build it, and runs the tests and
-examples of bindings/ over it, and those in C under valgrind as well. The benchmark in bench/ runs briefly over the library as LLVM builds it.
+examples of bindings/ over it, and those in C under valgrind as well. Over the library as LLVM builds it, the benchmark in bench/ runs briefly, and
+what tools/package makes is used in a place that has neither the toolchain nor this repository.
 
 usage: tests/library.py [--names | --after-ci]
 
 What is not proved yet is proved first. --after-ci is for a tree in which `rt ci` has just run: the library is proved once for both compilers, over
 the libraries below it as that run left them, which `rt lib` would prove again. --names builds nothing, and compares the names of the calls and
-the codes alone. It says what it leaves out where a C compiler, cargo or valgrind is missing. The last line is 'N passed, M failed', and the exit
+the codes alone. It says what it leaves out where a compiler, Python's headers or valgrind is missing. The last line is 'N passed, M failed', and the exit
 status is 0 where none failed. It needs Python 3.8 or later and the toolchain.
 """
 
@@ -16,6 +17,8 @@ import re
 import shutil
 import subprocess
 import sys
+import sysconfig
+import tarfile
 import tempfile
 import unittest
 import xml.etree.ElementTree
@@ -27,9 +30,12 @@ TOP = os.path.dirname(os.path.dirname(os.path.abspath(__file__)))
 BINDINGS = os.path.join(TOP, "bindings")
 BACKENDS = ["llvm", "rattle"]
 CC = os.environ.get("CC", "cc")
+CXX = os.environ.get("CXX", "c++")
+WARNINGS = ["-Wall", "-Wextra", "-Werror", "-pedantic"]
+PYTHON, PIP = "Python.h or pip", [sys.executable, "-m", "pip", "install", "-q", "--no-index", "--disable-pip-version-check"]
 
 # The fewest tests that each part must have run in one folder, and the fewest answers that the benchmark compares of an engine and a workload.
-LEAST_PYTHON, LEAST_RUST, LEAST_ANSWERS = 7, 6, 2001
+LEAST_PYTHON, LEAST_RUST, LEAST_ANSWERS = 18, 11, 2001
 
 # The engines of the benchmark, and the types that their threads work with. The last one needs a crate that may not be there.
 ENGINES = {
@@ -68,39 +74,61 @@ def said_by(*words, status=0, **how):
     return ran.stdout
 
 
-def runs(tool):
+def runs(tool, *words):
     """Whether a tool is there and runs."""
-    return bool(shutil.which(tool)) and subprocess.run([tool, "--version"], stdin=subprocess.DEVNULL, stdout=subprocess.DEVNULL, stderr=subprocess.DEVNULL).returncode == 0
+    nothing = {name: subprocess.DEVNULL for name in ("stdin", "stdout", "stderr")}
+    return bool(shutil.which(tool)) and subprocess.run([tool, *words, "--version"], **nothing).returncode == 0
 
 
 class Names(unittest.TestCase):
     """The calls have the same names everywhere."""
 
     def exports(self):
+        """The calls that are proved."""
         found = set()
         for name in ("trie_calls", "updates", "queries"):
             found |= set(re.findall(r'extern "C" fn (\w+)', read("crates", "aug_c", "src", f"{name}.rt")))
         self.assertGreaterEqual(len(found), 20)
         return found
 
+    def calls(self):
+        """All calls of the library."""
+        beside = set(re.findall(r"^const char \*(\w+)\(", read("bindings", "c", "augtrie.c"), re.M))
+        self.assertEqual(len(beside), 2)
+        return self.exports() | beside
+
     def test_the_header_has_each_call(self):
-        self.assertEqual(set(re.findall(r"^int64_t (\w+)\(", read("bindings", "c", "augtrie.h"), re.M)), self.exports())
+        found = re.findall(r"^(?:AUG_NODISCARD )?(?:int64_t |const char \*)(\w+)\(", read("bindings", "c", "augtrie.h"), re.M)
+        self.assertEqual(set(found), self.calls())
 
     def test_the_header_tests_each_call_for_null(self):
         self.assertEqual(set(re.findall(r"^#define (\w+) \1_$", read("bindings", "c", "augtrie.h"), re.M)), self.exports())
 
     def test_rust_has_each_call(self):
-        self.assertEqual(set(re.findall(r"pub fn (aug_\w+)\(", read("bindings", "rust", "src", "ffi.rs"))), self.exports())
+        self.assertEqual(set(re.findall(r"pub (?:safe )?fn (aug_\w+)\(", read("bindings", "rust", "src", "ffi.rs"))), self.calls())
+
+    def python(self):
+        folder = os.path.join(BINDINGS, "python", "native")
+        return "".join(read(folder, name) for name in sorted(os.listdir(folder)))
 
     def test_python_has_each_call(self):
-        types = read("bindings", "python", "augtrie.py").partition("types = {")[2].partition("\n    }")[0]
-        self.assertEqual({f"aug_{name}" for name in re.findall(r'"(\w+)": \[', types)}, self.exports())
+        types = set(re.findall(r"^} (aug_\w+);", read("bindings", "c", "augtrie.h"), re.M))
+        self.assertEqual(set(re.findall(r"\baug_\w+\b", self.python())) - types, self.calls())
 
     def test_the_codes_agree(self):
         want = {int(code) for code in re.findall(r"^pub const \w+: i64 = (-\d+);", read("crates", "aug_c", "src", "codes.rt"), re.M)}
-        self.assertEqual({int(code) for code in re.findall(r"\bAUG_\w+ = (-\d+)", read("bindings", "c", "augtrie.h"))}, want)
-        python = re.search(r"_ERRORS = \{(.*?)\}", read("bindings", "python", "augtrie.py"), re.S)[1]
-        self.assertEqual({int(code) for code in re.findall(r"(-\d+):", python)} | {-1}, want)
+        header = {name: int(code) for name, code in re.findall(r"\b(AUG_\w+) = (-\d+)", read("bindings", "c", "augtrie.h"))}
+        self.assertEqual(set(header.values()), want)
+        # What is no member is None in Rust and in Python.
+        refusals = {name: code for name, code in header.items() if name != "AUG_NONE"}
+        self.assertEqual(set(re.findall(r"^    {(AUG_\w+), \"augtrie\.", self.python(), re.M)), set(refusals))
+        rust = {int(code) for code in re.findall(r"^    \w+ = (-\d+),$", read("bindings", "rust", "src", "error.rs"), re.M)}
+        self.assertEqual(rust, set(refusals.values()))
+
+    def test_the_crate_has_the_version_of_the_header(self):
+        version = ".".join(re.findall(r"^#define AUG_VERSION_\w+ (\d+)$", read("bindings", "c", "augtrie.h"), re.M))
+        self.assertRegex(version, r"^\d+\.\d+\.\d+$")
+        self.assertIn(f'\nversion = "{version}"\n', read("bindings", "rust", "Cargo.toml"))
 
 
 def archives(folder):
@@ -134,10 +162,11 @@ class Installed:
         words = ["--archive", cls.archives[cls.backend], cls.folder] if cls.archives else [cls.folder, cls.backend]
         said_by(os.path.join(TOP, "tools", "install"), *words, timeout=3000)
 
-    def compiled(self, *source, words=()):
+    def compiled(self, *source, words=(CC, "-std=c11")):
         program = os.path.join(self.folder, os.path.basename(source[-1]).partition(".")[0])
         include, library = os.path.join(self.folder, "include"), os.path.join(self.folder, "lib", "libaugtrie.a")
-        said_by(CC, "-O2", "-Wall", "-Wextra", "-Werror", f"-I{include}", *words, os.path.join(BINDINGS, *source), library, "-lpthread", "-o", program)
+        words = [words[0], "-O2", *WARNINGS, f"-I{include}", *words[1:]]
+        said_by(*words, os.path.join(BINDINGS, *source), "-x", "none", library, "-lpthread", "-o", program)
         return program
 
     def test_c_threads_and_misuses(self):
@@ -145,27 +174,65 @@ class Installed:
 
     @unittest.skipUnless(shutil.which("ld"), "no linker")
     def test_c_each_request_for_memory_refused(self):
-        said = said_by(self.compiled("c", "tests", "refused.c", words=["-Wl,--wrap=malloc"]))
+        said = said_by(self.compiled("c", "tests", "refused.c", words=[CC, "-std=c11", "-Wl,--wrap=malloc"]))
         self.assertGreaterEqual(int(re.search(r"^ok: (\d+) refused$", said, re.M)[1]), 10)
 
     def test_c_many_keys(self):
         said = said_by(self.compiled("c", "tests", "many.c"))
-        self.assertGreaterEqual(int(re.fullmatch(r"ok: (\d+) answers\n", said)[1]), 30)
+        self.assertGreaterEqual(int(re.fullmatch(r"ok: (\d+) answers\n", said)[1]), 300)
 
     def test_c_timers(self):
         self.assertEqual(said_by(self.compiled("c", "examples", "timers.c")).splitlines(), PRINTED["timers"])
 
+    def test_c_answers_have_to_be_looked_at(self):
+        include = f"-I{os.path.join(self.folder, 'include')}"
+        for answer, status in ("int64_t done = ", 0), ("", 1):
+            source = os.path.join(self.folder, "ignored.c")
+            with open(source, "w", encoding="utf-8") as file:
+                file.write(f'#include "augtrie.h"\nint64_t f(aug_lane *l) {{ {answer}aug_insert(l, 1); return {"done" if answer else 0}; }}\n')
+            said = said_by(CC, "-std=c11", "-O2", *WARNINGS, include, "-c", source, "-o", f"{source}.o", status=status)
+            self.assertEqual("warn_unused_result" in said, status == 1, said)
+
+    @unittest.skipUnless(shutil.which("nm") and shutil.which("readelf"), "no binutils")
+    def test_shared_object_shows_the_calls_alone(self):
+        shared = os.path.join(self.folder, "lib", "libaugtrie.so")
+        shown = re.findall(r"^\w+ [A-Z] (\w+)$", said_by("nm", "-D", "--defined-only", shared), re.M)
+        self.assertEqual(set(shown), Names().calls())
+        self.assertRegex(said_by("readelf", "-d", shared), r"SONAME.*\[libaugtrie\.so\.\d+\.\d+\]")
+
+
+class Module:
+    """The Python module, as pip installs it from its sources."""
+
+    @classmethod
+    def setUpClass(cls):
+        super().setUpClass()
+        cls.site = os.path.join(cls.folder, "site")
+        env = {**os.environ, "AUGTRIE_LIB": os.path.join(cls.folder, "lib")}
+        said_by(*PIP, "--no-build-isolation", "--target", cls.site, os.path.join(BINDINGS, "python"), env=env)
+
+    def python(self, *words):
+        return said_by(sys.executable, "-W", "error", *words, env={**os.environ, "PYTHONPATH": self.site, "PYTHONDONTWRITEBYTECODE": "1"})
+
     def test_python_module(self):
-        said = said_by(sys.executable, os.path.join(BINDINGS, "python", "test_augtrie.py"), env=self.python())
+        said = self.python(os.path.join(BINDINGS, "python", "test_augtrie.py"))
         passed = re.fullmatch(r"(\d+) passed, 0 failed", said.splitlines()[-1])
         self.assertGreaterEqual(int(passed[1]), LEAST_PYTHON)
 
     def test_python_index(self):
-        said = said_by(sys.executable, os.path.join(BINDINGS, "python", "index.py"), env=self.python())
-        self.assertEqual(said.splitlines(), PRINTED["index"])
+        self.assertEqual(self.python(os.path.join(BINDINGS, "python", "index.py")).splitlines(), PRINTED["index"])
 
-    def python(self):
-        return {**os.environ, "AUGTRIE_LIB": os.path.join(self.folder, "lib", "libaugtrie.so"), "PYTHONDONTWRITEBYTECODE": "1"}
+
+class Plus:
+    """The header as C++ sees it."""
+
+    def test_c_plus_plus(self):
+        said = said_by(self.compiled("c", "tests", "cplusplus.cpp", words=[CXX, "-std=c++17"]))
+        self.assertGreaterEqual(int(re.fullmatch(r"ok: (\d+) answers\n", said)[1]), 15)
+
+    def test_c_plus_plus_timers(self):
+        program = self.compiled("c", "examples", "timers.c", words=[CXX, "-std=c++17", "-x", "c++"])
+        self.assertEqual(said_by(program).splitlines(), PRINTED["timers"])
 
 
 class Checked:
@@ -174,17 +241,17 @@ class Checked:
     def test_c_under_valgrind(self):
         for name in ("threads", "refused", "many"):
             words = ["-g", "-Wl,--wrap=malloc"] if name == "refused" else ["-g"]
-            program = self.compiled("c", "tests", f"{name}.c", words=words)
+            program = self.compiled("c", "tests", f"{name}.c", words=[CC, "-std=c11", *words])
             said_by("valgrind", "-q", "--error-exitcode=9", "--leak-check=full", program)
 
 
 class Crate:
     """The Rust crate."""
 
-    def cargo(self, *words):
+    def cargo(self, *words, quiet=("-q",)):
         target = os.path.join(self.folder, "target")
         env = {**os.environ, "AUGTRIE_LIB": os.path.join(self.folder, "lib"), "CARGO_TARGET_DIR": target}
-        return said_by("cargo", *words, "--offline", "-q", "--manifest-path", os.path.join(BINDINGS, "rust", "Cargo.toml"), env=env)
+        return said_by("cargo", *words, "--offline", *quiet, "--manifest-path", os.path.join(BINDINGS, "rust", "Cargo.toml"), env=env)
 
     def test_rust_crate(self):
         counts = [int(count) for count in re.findall(r"test result: ok\. (\d+) passed; 0 failed", self.cargo("test"))]
@@ -192,6 +259,68 @@ class Crate:
 
     def test_rust_order_book(self):
         self.assertEqual(self.cargo("run", "--example", "order_book").splitlines(), PRINTED["order_book"])
+
+
+    def test_rust_crate_is_built_again_with_its_archive(self):
+        self.cargo("build")
+        self.assertNotIn("Compiling", self.cargo("build", quiet=()))
+        os.utime(os.path.join(self.folder, "lib", "libaugtrie.a"))
+        self.assertIn("Compiling", self.cargo("build", quiet=()))
+
+
+class Packed:
+    """What tools/package makes, in a folder elsewhere, with no path to the toolchain."""
+
+    @classmethod
+    def setUpClass(cls):
+        super().setUpClass()
+        cls.packs = os.path.join(cls.folder, "packs")
+        said_by(os.path.join(TOP, "tools", "package"), cls.folder, cls.packs)
+        for name in os.listdir(cls.packs):
+            if name.endswith(("gz", "crate")):
+                with tarfile.open(os.path.join(cls.packs, name)) as packed:
+                    packed.extractall(os.path.join(cls.folder, name.rpartition(".")[2]))
+        cls.c, cls.crate = (glob.glob(os.path.join(cls.folder, end, "augtrie-*"))[0] for end in ("gz", "crate"))
+
+    def elsewhere(self, *words, **more):
+        """What a command prints that knows neither the toolchain nor other settings of this process."""
+        path = os.pathsep.join(folder for folder in os.environ["PATH"].split(os.pathsep) if not os.path.exists(os.path.join(folder, "rt")))
+        self.assertIsNone(shutil.which("rt", path=path))
+        return said_by(shutil.which(words[0], path=path), *words[1:], cwd=self.folder, env={"PATH": path, "HOME": os.path.expanduser("~"), **more})
+
+    def test_packed_c(self):
+        timers, library = os.path.join(self.c, "examples", "timers.c"), os.path.join(self.c, "lib")
+        flags = self.elsewhere("pkg-config", "--cflags", "--libs", "augtrie", PKG_CONFIG_PATH=os.path.join(library, "pkgconfig")).split()
+        self.elsewhere(CC, "-O2", timers, *flags, "-lpthread", "-o", "shared")
+        said = self.elsewhere(os.path.join(self.folder, "shared"), LD_LIBRARY_PATH=library)
+        self.assertEqual(said.splitlines(), PRINTED["timers"])
+
+    @unittest.skipUnless(shutil.which("cmake"), "no cmake")
+    def test_packed_cmake(self):
+        build = os.path.join(self.folder, "cmake")
+        os.makedirs(build)
+        with open(os.path.join(build, "CMakeLists.txt"), "w", encoding="utf-8") as file:
+            file.write("cmake_minimum_required(VERSION 3.12)\nproject(timers C)\nfind_package(Threads REQUIRED)\n"
+                       "find_package(augtrie 0.1 REQUIRED)\nfind_package(augtrie 1.0 QUIET)\n"
+                       "if(augtrie_FOUND)\n  message(FATAL_ERROR \"1.0 is another library\")\nendif()\n")
+            for kind, name in ("by_archive", "augtrie"), ("by_object", "shared"):
+                file.write(f"add_executable({kind} {self.c}/examples/timers.c)\ntarget_link_libraries({kind} augtrie::{name} Threads::Threads)\n")
+        self.elsewhere("cmake", "-S", build, "-B", build, f"-DCMAKE_PREFIX_PATH={self.c}")
+        self.elsewhere("cmake", "--build", build)
+        for kind in ("by_archive", "by_object"):
+            self.assertEqual(self.elsewhere(os.path.join(build, kind)).splitlines(), PRINTED["timers"])
+
+    def test_packed_crate(self):
+        target = os.path.join(self.folder, "packed-target")
+        words = ["cargo", "run", "--offline", "-q", "--example", "order_book", "--manifest-path", os.path.join(self.crate, "Cargo.toml")]
+        said = self.elsewhere(*words, CARGO_TARGET_DIR=target)
+        self.assertEqual(said.splitlines(), PRINTED["order_book"])
+
+    def test_packed_wheel(self):
+        site, wheels = os.path.join(self.folder, "packed-site"), glob.glob(os.path.join(self.packs, "*.whl"))
+        self.elsewhere(*PIP, "--target", site, *wheels)
+        said = self.elsewhere(sys.executable, os.path.join(self.c, "examples", "index.py"), PYTHONPATH=site)
+        self.assertEqual(said.splitlines(), PRINTED["index"])
 
 
 def table(lines, first):
@@ -300,12 +429,15 @@ def main(words):
     if words not in ([], ["--after-ci"]):
         print("usage: tests/library.py [--names | --after-ci]", file=sys.stderr)
         return 2
-    # The benchmark runs over one of the builds alone.
-    needed = [([], Installed, BACKENDS), (["valgrind"], Checked, BACKENDS), (["cargo"], Crate, BACKENDS)]
-    needed += [(["cargo"], Bench, ["llvm"]), (["cargo", "valgrind"], Counted, ["llvm"])]
+    # The benchmark and the packages are tried over one of the builds alone.
+    needed = [([], Installed, BACKENDS), (["valgrind"], Checked, BACKENDS), ([CXX], Plus, BACKENDS), ([PYTHON], Module, BACKENDS)]
+    needed += [(["cargo"], Crate, BACKENDS), (["cargo", PYTHON], Packed, ["llvm"]), (["cargo"], Bench, ["llvm"])]
+    needed += [(["cargo", "valgrind"], Counted, ["llvm"])]
     found = runs(CC) and runs("ar")
     if found:
-        missing = [tool for tool in ("valgrind", "cargo") if not runs(tool)]
+        missing = [tool for tool in ("valgrind", "cargo", CXX) if not runs(tool)]
+        if not os.path.exists(os.path.join(sysconfig.get_path("include"), "Python.h")) or not runs(*PIP[:3]):
+            missing.append(PYTHON)
         for tool in missing:
             print(f"library.py: no {tool}: its tests are left out")
         needed = [it for it in needed if not set(it[0]) & set(missing)]
@@ -315,7 +447,7 @@ def main(words):
         made = archives(folder) if found and words else {}
         classes = [Names]
         for backend in BACKENDS if found else []:
-            parts = [part for _, part, backends in needed if backend in backends]
+            parts = [part for _, part, backends in reversed(needed) if backend in backends]
             classes.append(type(f"By_{backend}", (*parts, unittest.TestCase), {"backend": backend, "archives": made}))
         return run_classes("library.py", classes)
 

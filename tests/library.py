@@ -222,6 +222,12 @@ class Module:
     def test_python_index(self):
         self.assertEqual(self.python(os.path.join(BINDINGS, "python", "index.py")).splitlines(), PRINTED["index"])
 
+    @unittest.skipUnless(shutil.which("pkg-config"), "no pkg-config")
+    def test_python_by_pkg_config(self):
+        env = {**os.environ, "AUGTRIE_LIB": "", "PKG_CONFIG_PATH": os.path.join(self.folder, "lib", "pkgconfig")}
+        wheel = said_by(sys.executable, os.path.join(BINDINGS, "python", "backend", "augtrie_wheel.py"), self.folder, env=env).strip()
+        self.assertTrue(os.path.exists(os.path.join(self.folder, wheel)), wheel)
+
 
 class Plus:
     """The header as C++ sees it."""
@@ -248,9 +254,8 @@ class Checked:
 class Crate:
     """The Rust crate."""
 
-    def cargo(self, *words, quiet=("-q",)):
-        target = os.path.join(self.folder, "target")
-        env = {**os.environ, "AUGTRIE_LIB": os.path.join(self.folder, "lib"), "CARGO_TARGET_DIR": target}
+    def cargo(self, *words, quiet=("-q",), found=None):
+        env = {**os.environ, **(found or {"AUGTRIE_LIB": os.path.join(self.folder, "lib")}), "CARGO_TARGET_DIR": os.path.join(self.folder, "target")}
         return said_by("cargo", *words, "--offline", *quiet, "--manifest-path", os.path.join(BINDINGS, "rust", "Cargo.toml"), env=env)
 
     def test_rust_crate(self):
@@ -266,6 +271,12 @@ class Crate:
         self.assertNotIn("Compiling", self.cargo("build", quiet=()))
         os.utime(os.path.join(self.folder, "lib", "libaugtrie.a"))
         self.assertIn("Compiling", self.cargo("build", quiet=()))
+
+    @unittest.skipUnless(shutil.which("pkg-config"), "no pkg-config")
+    def test_rust_crate_by_pkg_config(self):
+        found = {"AUGTRIE_LIB": "", "PKG_CONFIG_PATH": os.path.join(self.folder, "lib", "pkgconfig")}
+        said = self.cargo("run", "--example", "order_book", found=found)
+        self.assertEqual(said.splitlines(), PRINTED["order_book"])
 
 
 class Packed:

@@ -17,7 +17,7 @@ fn main() {
         println!("cargo:rerun-if-env-changed={name}");
     }
     let packed = PathBuf::from(env::var_os("CARGO_MANIFEST_DIR").expect("cargo says the folder")).join("native");
-    let named = env::var_os("AUGTRIE_LIB").map(PathBuf::from);
+    let named = env::var_os("AUGTRIE_LIB").filter(|folder| !folder.is_empty()).map(PathBuf::from);
     let folder = named.or_else(|| packed.is_dir().then_some(packed)).or_else(by_pkg_config);
     let Some(folder) = folder else { panic!("AUGTRIE_LIB names no folder, and pkg-config knows no augtrie") };
     let archive = folder.join("libaugtrie.a");

@@ -156,7 +156,6 @@ static PyMethodDef methods[] = {
      "put_all($self, keys, weights, /)\n--\n\nPuts keys in, each with the weight that has its index, or gives members these weights: how many "
      "updates changed the set. Refused as add_all is, and with NoRoom if there are not as many weights as keys."},
     {"look", lane_look, METH_NOARGS, "look($self, /)\n--\n\nTakes a snapshot, which shows every change that this lane made."},
-    NO_COPIES,
     {NULL, NULL, 0, NULL},
 };
 

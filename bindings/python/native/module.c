@@ -51,12 +51,6 @@ PyObject *refuse_new(PyTypeObject *type, PyObject *args, PyObject *named) {
     return NULL;
 }
 
-PyObject *refuse_copies(PyObject *self, PyObject *unused) {
-    (void)self, (void)unused;
-    PyErr_SetString(PyExc_TypeError, "what threads share is neither copied nor pickled");
-    return NULL;
-}
-
 static PyStructSequence_Field report_fields[] = {
     {"size", "how many members the set has"},
     {"inserts", "how many keys were put in, by the lanes that came back"},

@@ -31,10 +31,8 @@ PyObject *raise_code(int64_t code);
 /* Frees an object of a type that the module made. */
 void free_object(PyObject *self);
 
-/* Refuse to make an object, and to copy or pickle one. NULL. */
+/* Refuses to make an object by its type. NULL. */
 PyObject *refuse_new(PyTypeObject *type, PyObject *args, PyObject *named);
-PyObject *refuse_copies(PyObject *self, PyObject *unused);
-#define NO_COPIES {"__reduce__", refuse_copies, METH_NOARGS, "Refuses to be copied or pickled."}
 
 /* Reads a number from what has __index__: 1, or 0 if it is not one of 32 bits, or -1 with an exception if it is no number. */
 int read_number(PyObject *from, uint32_t *number);

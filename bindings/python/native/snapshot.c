@@ -224,7 +224,6 @@ static PyMethodDef methods[] = {
     {"rank_all", snapshot_rank_all, METH_O,
      "rank_all($self, keys, /)\n--\n\nHow many members are below each of some keys, as a list. The keys stand in any order."},
     {"has_all", snapshot_has_all, METH_O, "has_all($self, keys, /)\n--\n\nWhether each of some keys is a member, as a list."},
-    NO_COPIES,
     {NULL, NULL, 0, NULL},
 };
 
@@ -244,12 +243,9 @@ static PyType_Slot slots[] = {
 
 PyType_Spec snapshot_spec = {"augtrie.Snapshot", sizeof(Snapshot), 0, Py_TPFLAGS_DEFAULT, slots};
 
-static PyMethodDef iterator_methods[] = {NO_COPIES, {NULL, NULL, 0, NULL}};
-
 static PyType_Slot iterator_slots[] = {
     {Py_tp_new, refuse_new},
     {Py_tp_dealloc, iterator_free},
-    {Py_tp_methods, iterator_methods},
     {Py_tp_iter, PyObject_SelfIter},
     {Py_tp_iternext, iterator_next},
     {0, NULL},

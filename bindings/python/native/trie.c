@@ -245,7 +245,6 @@ static PyMethodDef trie_methods[] = {
     {"close", trie_close, METH_NOARGS, "close($self, /)\n--\n\nEnds a round that is on, and gives the memory back."},
     {"__enter__", trie_enter, METH_NOARGS, "The trie."},
     {"__exit__", trie_exit, METH_VARARGS, "Closes the trie."},
-    NO_COPIES,
     {NULL, NULL, 0, NULL},
 };
 
@@ -344,7 +343,6 @@ static void round_free(PyObject *self) {
 static PyMethodDef round_methods[] = {
     {"__enter__", round_enter, METH_NOARGS, "Begins the round: a list of its lanes."},
     {"__exit__", round_exit, METH_VARARGS, "Takes all lanes back, and ends the round."},
-    NO_COPIES,
     {NULL, NULL, 0, NULL},
 };
 

@@ -474,6 +474,23 @@ mod tests {
         self.assertEqual(self.read("called").splitlines(), ["low: [check] [--only] [Shelf::take]"])
 
 
+class Libraries(Folder):
+    """What tools/install and tools/package refuse. What they do is tried by tests/library.py."""
+
+    copied = ["tools/install", "tools/package"]
+
+    def test_wrong_words(self):
+        for words in ["install"], ["install", "-h"], ["install", "a", "b", "c"], ["install", "--archive", "a"], ["package"], ["package", "a"]:
+            out, err, status = self.run_script(f"tools/{words[0]}", *words[1:])
+            self.assertEqual((out, status), ("", 2), words)
+            self.assertTrue(err.startswith(f"usage: tools/{words[0]} "), err)
+
+    def test_packs_nothing_where_nothing_is_installed(self):
+        _, err, status = self.run_script("tools/package", ".", "packs")
+        self.assertEqual((status, os.path.exists(os.path.join(self.folder, "packs"))), (2, False))
+        self.assertIn("where tools/install has put the library", err)
+
+
 class Bench(Folder):
     """bench/run builds the benchmark and runs it, and bench/counts counts instructions."""
 
@@ -534,4 +551,4 @@ class Bench(Folder):
 
 
 if __name__ == "__main__":
-    sys.exit(programs.run_classes("commands.py", [Run, Quick, Bench]))
+    sys.exit(programs.run_classes("commands.py", [Run, Quick, Libraries, Bench]))

@@ -35,7 +35,7 @@ WARNINGS = ["-Wall", "-Wextra", "-Werror", "-pedantic"]
 PYTHON, PIP = "Python.h or pip", [sys.executable, "-m", "pip", "install", "-q", "--no-index", "--disable-pip-version-check"]
 
 # The fewest tests that each part must have run in one folder, and the fewest answers that the benchmark compares of an engine and a workload.
-LEAST_PYTHON, LEAST_RUST, LEAST_ANSWERS = 18, 11, 2001
+LEAST_PYTHON, LEAST_RUST, LEAST_ANSWERS = 18, 12, 2001
 
 # The engines of the benchmark, and the types that their threads work with. The last one needs a crate that may not be there.
 ENGINES = {

@@ -39,7 +39,7 @@ pub enum Error {
     NoRoom = -16,
     /// The bits are fewer than the trie's.
     Narrower = -17,
-    /// The program made 2^32 tries, and there is no number for another.
+    /// The program made 2^32 tries, or the trie 2^32 rounds, and no number is left that tells another one apart.
     NoNumber = -1_000,
 }
 
@@ -60,7 +60,7 @@ impl Error {
 impl fmt::Display for Error {
     fn fmt(&self, f: &mut fmt::Formatter<'_>) -> fmt::Result {
         if *self == Error::NoNumber {
-            return f.write_str("the program made 2^32 tries");
+            return f.write_str("no number is left for another trie or round");
         }
         // SAFETY: of any number the library tells a text that ends with a zero and stays as long as the program.
         let text = unsafe { CStr::from_ptr(ffi::aug_error_text(*self as i64)) };

@@ -11,6 +11,8 @@ static TRIES: AtomicU32 = AtomicU32::new(0);
 pub struct Trie {
     handle: Handle,
     bits: u32,
+    // The library counts rounds behind the trie's number, and the count must not run into the next one.
+    rounds: u32,
 }
 
 impl Trie {
@@ -19,7 +21,7 @@ impl Trie {
         let number_of = TRIES.fetch_update(Ordering::Relaxed, Ordering::Relaxed, |tries| tries.checked_add(1)).map_err(|_| Error::NoNumber)?;
         let mut handle = Handle::CLOSED;
         number(ffi::aug_open(&mut handle, bits, number_of))?;
-        Ok(Trie { handle, bits })
+        Ok(Trie { handle, bits, rounds: 0 })
     }
 
     /// How many keys there may be: `2^bits`.
@@ -36,6 +38,7 @@ impl Trie {
     /// Runs a round over keys of so many bits, with 1 to 64 lanes of 1 to 65,536 updates each. The lanes are lent to the
     /// closure, which may hand them to scoped threads, and go back when it returns, also by a panic.
     pub fn wider_round<T>(&mut self, bits: u32, lanes: u32, updates: u32, run: impl FnOnce(&mut [Lane]) -> T) -> Result<(T, Report), Error> {
+        self.rounds = self.rounds.checked_add(1).ok_or(Error::NoNumber)?;
         number(ffi::aug_begin(&mut self.handle, bits, lanes, updates))?;
         self.bits = bits;
         let mut round = Open { trie: self, lanes: Vec::new() };
@@ -92,5 +95,21 @@ impl Open<'_> {
 impl Drop for Open<'_> {
     fn drop(&mut self) {
         let _ = self.end();
+    }
+}
+
+#[cfg(test)]
+mod tests {
+    use super::*;
+
+    #[test]
+    fn numbers_come_to_an_end() {
+        let mut trie = Trie::new(4).expect("a number is left");
+        trie.rounds = u32::MAX - 1;
+        assert!(trie.round(1, 1, |_| ()).is_ok());
+        assert_eq!(trie.round(1, 1, |_| ()), Err(Error::NoNumber));
+        TRIES.store(u32::MAX - 1, Ordering::Relaxed);
+        assert!(Trie::new(4).is_ok());
+        assert_eq!(Trie::new(4).map(drop), Err(Error::NoNumber));
     }
 }

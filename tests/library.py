@@ -35,7 +35,7 @@ WARNINGS = ["-Wall", "-Wextra", "-Werror", "-pedantic"]
 PYTHON, PIP = "Python.h or pip", [sys.executable, "-m", "pip", "install", "-q", "--no-index", "--disable-pip-version-check"]
 
 # The fewest tests that each part must have run in one folder, and the fewest answers that the benchmark compares of an engine and a workload.
-LEAST_PYTHON, LEAST_RUST, LEAST_ANSWERS = 18, 12, 2001
+LEAST_PYTHON, LEAST_RUST, LEAST_ANSWERS = 19, 12, 2001
 
 # The engines of the benchmark, and the types that their threads work with. The last one needs a crate that may not be there.
 ENGINES = {
@@ -235,6 +235,15 @@ class Plus:
     def test_c_plus_plus(self):
         said = said_by(self.compiled("c", "tests", "cplusplus.cpp", words=[CXX, "-std=c++17"]))
         self.assertGreaterEqual(int(re.fullmatch(r"ok: (\d+) answers\n", said)[1]), 15)
+
+    def test_other_compilers_have_no_warning(self):
+        found = [(compiler, "c++17" if "+" in compiler else "c11") for compiler in ("gcc", "clang", "g++", "clang++") if runs(compiler)]
+        for compiler, standard in found:
+            words = ["-x", "c++"] if "+" in compiler else []
+            for source in ("augtrie.c", "examples/timers.c"):
+                path = os.path.join(BINDINGS, "c", source)
+                include = f"-I{os.path.join(self.folder, 'include')}"
+                said_by(compiler, f"-std={standard}", "-O2", *WARNINGS, include, *words, "-c", path, "-o", os.path.join(self.folder, "other.o"))
 
     def test_c_plus_plus_timers(self):
         program = self.compiled("c", "examples", "timers.c", words=[CXX, "-std=c++17", "-x", "c++"])

@@ -153,6 +153,27 @@ def refusals_have_names():
 
 
 @test
+def want_of_memory_has_a_name_and_harms_nobody():
+    code = """
+import resource
+import augtrie
+trie = augtrie.Trie(bits=16)
+resource.setrlimit(resource.RLIMIT_AS, (1 << 28, 1 << 28))
+for _ in range(3):
+    try:
+        with trie.round(lanes=8, updates=65_536):
+            print("there was room")
+    except MemoryError as error:
+        print(type(error).__name__, error)
+    with trie.round(lanes=1, updates=9) as lanes:
+        lanes[0].add(7)
+print(trie.pairs())
+"""
+    said = subprocess.run([sys.executable, "-c", code], stdout=subprocess.PIPE, text=True, check=True).stdout
+    assert said == 3 * "NoMemory a request for memory was refused\n" + "[(7, 7)]\n", said
+
+
+@test
 def a_round_that_fails_ends_and_widens():
     with Trie(bits=4) as trie:
         try:

@@ -56,10 +56,6 @@ static PyObject *changed(int64_t answer) {
     return answer < 0 ? raise_code(answer) : PyBool_FromLong(answer == 1);
 }
 
-static PyObject *number(int64_t answer) {
-    return answer < 0 ? raise_code(answer) : PyLong_FromLongLong(answer);
-}
-
 static PyObject *lane_add(PyObject *self, PyObject *key) {
     uint32_t at;
     if (read_key(key, &at)) return NULL;
@@ -95,7 +91,7 @@ static PyObject *update_all(Lane *lane, PyObject *keys, int64_t (*update)(aug_la
     int64_t answer = update(&lane->handle, read, count);
     run_alone(lane, others);
     PyMem_Free(read);
-    return number(answer);
+    return told_number(answer);
 }
 
 static PyObject *lane_add_all(PyObject *self, PyObject *keys) {
@@ -119,7 +115,7 @@ static PyObject *lane_put_all(PyObject *self, PyObject *args) {
         PyThreadState *others = let_others_run(lane, count);
         int64_t answer = aug_put_all(&lane->handle, read, count, heavy, weight_count);
         run_alone(lane, others);
-        result = number(answer);
+        result = told_number(answer);
     }
     PyMem_Free(heavy);
     PyMem_Free(read);
@@ -139,7 +135,7 @@ static PyObject *lane_look(PyObject *self, PyObject *unused) {
 static PyObject *lane_budget(PyObject *self, void *unused) {
     (void)unused;
     await_turn((Lane *)self);
-    return number(aug_budget(&((Lane *)self)->handle));
+    return told_number(aug_budget(&((Lane *)self)->handle));
 }
 
 static PyMethodDef methods[] = {

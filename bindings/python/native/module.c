@@ -39,6 +39,10 @@ PyObject *raise_code(int64_t code) {
     return NULL;
 }
 
+PyObject *told_number(int64_t answer) {
+    return answer < 0 ? raise_code(answer) : PyLong_FromLongLong(answer);
+}
+
 void free_object(PyObject *self) {
     PyTypeObject *type = Py_TYPE(self);
     PyObject_Free(self);
@@ -71,16 +75,15 @@ static PyStructSequence_Field span_fields[] = {
 
 static PyStructSequence_Desc span_description = {"augtrie.Span", "What the members of an interval come to.", span_fields, 4};
 
-PyObject *new_report(const aug_report *report) {
-    PyObject *result = PyStructSequence_New(report_type);
-    if (!result) return NULL;
-    PyStructSequence_SetItem(result, 0, PyLong_FromUnsignedLong(report->size));
-    PyStructSequence_SetItem(result, 1, PyLong_FromUnsignedLong(report->inserts));
-    PyStructSequence_SetItem(result, 2, PyLong_FromUnsignedLong(report->removals));
-    PyStructSequence_SetItem(result, 3, PyLong_FromUnsignedLong(report->missing));
-    if (!PyErr_Occurred()) return result;
-    Py_DECREF(result);
-    return NULL;
+PyObject *four_numbers(PyTypeObject *type, uint64_t first, uint32_t second, uint32_t third, uint32_t fourth) {
+    const uint64_t numbers[] = {first, second, third, fourth};
+    PyObject *result = PyStructSequence_New(type);
+    for (Py_ssize_t i = 0; result && i < 4; i++) {
+        PyObject *number = PyLong_FromUnsignedLongLong(numbers[i]);
+        PyStructSequence_SetItem(result, i, number);
+        if (!number) Py_CLEAR(result);
+    }
+    return result;
 }
 
 /* Puts an object into the module by its name behind the dot, and keeps a reference. 0, or -1 with an exception. */

@@ -28,6 +28,9 @@ extern PyObject *any_error;
 /* Raises the exception of a code, with the text that the library has of it. NULL. */
 PyObject *raise_code(int64_t code);
 
+/* The number that a call answered, or NULL with the exception of its code. */
+PyObject *told_number(int64_t answer);
+
 /* Frees an object of a type that the module made. */
 void free_object(PyObject *self);
 
@@ -57,7 +60,7 @@ void run_alone(Lane *lane, PyThreadState *others);
 /* The lane's last snapshot, or NULL with an exception. */
 PyObject *new_snapshot(Lane *lane);
 
-/* What a round came to, or NULL with an exception. */
-PyObject *new_report(const aug_report *report);
+/* A span or a report of its fields, or NULL with an exception. */
+PyObject *four_numbers(PyTypeObject *type, uint64_t first, uint32_t second, uint32_t third, uint32_t fourth);
 
 #endif

@@ -40,14 +40,9 @@ static aug_lane *asked(PyObject *self) {
     return NULL;
 }
 
-/* An answer that is a number. */
-static PyObject *number(int64_t answer) {
-    return answer < 0 ? raise_code(answer) : PyLong_FromLongLong(answer);
-}
-
 /* An answer that is a number, or None. */
 static PyObject *found(int64_t answer) {
-    if (answer != AUG_NONE) return number(answer);
+    if (answer != AUG_NONE) return told_number(answer);
     Py_RETURN_NONE;
 }
 
@@ -85,15 +80,7 @@ static PyObject *snapshot_range(PyObject *self, PyObject *args) {
     if (!lane) return NULL;
     int64_t answer = aug_range(lane, from, to, &span);
     if (answer < 0) return raise_code(answer);
-    PyObject *result = PyStructSequence_New(span_type);
-    if (!result) return NULL;
-    PyStructSequence_SetItem(result, 0, PyLong_FromUnsignedLongLong(span.sum));
-    PyStructSequence_SetItem(result, 1, PyLong_FromUnsignedLong(span.count));
-    PyStructSequence_SetItem(result, 2, PyLong_FromUnsignedLong(span.least));
-    PyStructSequence_SetItem(result, 3, PyLong_FromUnsignedLong(span.greatest));
-    if (!PyErr_Occurred()) return result;
-    Py_DECREF(result);
-    return NULL;
+    return four_numbers(span_type, span.sum, span.count, span.least, span.greatest);
 }
 
 static int snapshot_has(PyObject *self, PyObject *key) {
@@ -118,7 +105,7 @@ static PyObject *snapshot_item(PyObject *self, Py_ssize_t place) {
     aug_lane *lane = asked(self);
     if (!lane) return NULL;
     int64_t answer = place < 0 || place > UINT32_MAX ? AUG_NONE : aug_select(lane, (uint32_t)place);
-    if (answer != AUG_NONE) return number(answer);
+    if (answer != AUG_NONE) return told_number(answer);
     PyErr_SetString(PyExc_IndexError, "no member has so many members below it");
     return NULL;
 }

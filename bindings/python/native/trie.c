@@ -98,7 +98,6 @@ static PyObject *trie_new(PyTypeObject *type, PyObject *args, PyObject *named) {
     static char *words[] = {"bits", NULL};
     PyObject *bits;
     uint32_t read_bits;
-    const aug_report nothing = {0, 0, 0, 0};
     (void)type;
     if (!PyArg_ParseTupleAndKeywords(args, named, "O:Trie", words, &bits)) return NULL;
     int read = read_number(bits, &read_bits);
@@ -110,7 +109,7 @@ static PyObject *trie_new(PyTypeObject *type, PyObject *args, PyObject *named) {
     trie->round = NULL;
     trie->home = NULL;
     trie->bits = read ? read_bits : UINT32_MAX;
-    trie->report = new_report(&nothing);
+    trie->report = four_numbers(report_type, 0, 0, 0, 0);
     Home *home = trie->report ? calloc(1, sizeof *home) : NULL;
     int64_t answer = AUG_NO_MEMORY;
     if (home) {
@@ -321,7 +320,7 @@ static PyObject *round_exit(PyObject *self, PyObject *args) {
     if (!is_at_home(trie)) return NULL;
     int64_t answer = end_round(trie, &report);
     if (answer < 0) return raise_code(answer);
-    PyObject *told = new_report(&report), *before = trie->report;
+    PyObject *told = four_numbers(report_type, report.size, report.inserts, report.removals, report.missing), *before = trie->report;
     if (!told) return NULL;
     trie->report = told;
     Py_DECREF(before);

@@ -158,7 +158,10 @@ def want_of_memory_has_a_name_and_harms_nobody():
 import resource
 import augtrie
 trie = augtrie.Trie(bits=16)
-resource.setrlimit(resource.RLIMIT_AS, (1 << 28, 1 << 28))
+# The round below takes 320 MB.
+with open("/proc/self/statm", encoding="ascii") as file:
+    most = int(file.read().split()[0]) * resource.getpagesize() + (200 << 20)
+resource.setrlimit(resource.RLIMIT_AS, (most, most))
 for _ in range(3):
     try:
         with trie.round(lanes=8, updates=65_536):

@@ -26,7 +26,8 @@ int main(int count, char **words) {
     aug_lane lane = {0};
     aug_span span;
     if (aug_open(&trie, 16, 1) || aug_begin(&trie, 16, 1, UPDATES) || aug_open_lane(&trie, &lane)) return 1;
-    for (uint32_t i = 0; i < KEYS / 2; i++) aug_insert(&lane, 2 * i);
+    for (uint32_t i = 0; i < KEYS / 2; i++)
+        if (aug_insert(&lane, 2 * i) != 1) return 1;
     aug_look(&lane);
     uint64_t sum = 0;
     EACH("insert_new", aug_insert(&lane, 2 * half(i) + 1))

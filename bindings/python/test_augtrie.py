@@ -1,7 +1,12 @@
 """The tests of the module: each of its calls, threads, and misuses by name. The last line is 'N passed, M failed'."""
 
+import ast
+import copy
 import gc
+import os
+import pickle
 import random
+import subprocess
 import sys
 import threading
 import traceback
@@ -130,7 +135,7 @@ def four_threads_work_at_once():
 
 @test
 def refusals_have_names():
-    assert raises(augtrie.BadBits, Trie, 17) and raises(augtrie.BadBits, Trie, 0)
+    assert all(raises(augtrie.BadBits, Trie, bits) for bits in (17, 0, -1, 1 << 40))
     with Trie(bits=4) as trie:
         assert raises(augtrie.BadLanes, trie.round(65, 1).__enter__)
         assert raises(augtrie.BadUpdates, trie.round(1, 0).__enter__)
@@ -144,11 +149,31 @@ def refusals_have_names():
             assert lanes[0].add(1) and raises(augtrie.Spent, lanes[0].add, 2)
             assert 1 in lanes[0].look() and raises(augtrie.Closed, len, old)
         assert raises(augtrie.Closed, lanes[0].add, 3)
-        found = []
-        thread = threading.Thread(target=lambda: found.append(raises(augtrie.AugtrieError, trie.pairs)))
-        thread.start()
-        thread.join()
-        assert found == [True]
+        assert raises(augtrie.BadLanes, trie.round(-1, 1).__enter__) and raises(augtrie.BadUpdates, trie.round(1, 1 << 40).__enter__)
+
+
+@test
+def want_of_memory_has_a_name_and_harms_nobody():
+    code = """
+import resource
+import augtrie
+trie = augtrie.Trie(bits=16)
+# The round below takes 320 MB.
+with open("/proc/self/statm", encoding="ascii") as file:
+    most = int(file.read().split()[0]) * resource.getpagesize() + (200 << 20)
+resource.setrlimit(resource.RLIMIT_AS, (most, most))
+for _ in range(3):
+    try:
+        with trie.round(lanes=8, updates=65_536):
+            print("there was room")
+    except MemoryError as error:
+        print(type(error).__name__, error)
+    with trie.round(lanes=1, updates=9) as lanes:
+        lanes[0].add(7)
+print(trie.pairs())
+"""
+    said = subprocess.run([sys.executable, "-c", code], stdout=subprocess.PIPE, text=True, check=True).stdout
+    assert said == 3 * "NoMemory a request for memory was refused\n" + "[(7, 7)]\n", said
 
 
 @test
@@ -165,6 +190,206 @@ def a_round_that_fails_ends_and_widens():
             assert lanes[0].add(31) and 5 in lanes[0].look()
         assert trie.pairs() == [(5, 5), (31, 31)]
     assert raises(augtrie.Closed, trie.pairs)
+
+
+class Seven:
+    def __index__(self):
+        return 7
+
+
+@test
+def what_has_an_index_is_a_number():
+    with Trie(Seven()) as trie, trie.round(Seven(), updates=100) as lanes:
+        assert trie.bits == len(lanes) == 7
+        lane = lanes[0]
+        assert lane.add(Seven()) and not lane.add(7) and lane.put(True, Seven()) == "accepted"
+        assert lane.add_all(iter([Seven(), 9])) == 1 and lane.put_all((2,), [Seven()]) == 1
+        now = lane.look()
+        assert Seven() in now and now[0] == 1 and now.rank(Seven()) == 2 and now.weight(2) == 7
+        assert now.has_all([Seven()]) == [True] and now.range(True, Seven()).count == 2
+        for no_number in (7.0, "7", b"7", None, [7]):
+            for call in (lane.add, lane.discard, now.rank, now.weight, now.before, now.after, now.__contains__, now.__getitem__, Trie, trie.round):
+                assert raises(TypeError, call, no_number) and raises(TypeError, call, no_number, 1), (call, no_number)
+            assert raises(TypeError, lane.put, 1, no_number) and raises(TypeError, now.range, 1, no_number)
+            assert raises(TypeError, lane.add_all, [1, no_number]) and raises(TypeError, now.rank_all, [no_number])
+        for no_numbers in (b"12", bytearray(b"12"), memoryview(b"12"), "12", 12):
+            for call in (lane.add_all, lane.discard_all, now.rank_all, now.has_all):
+                assert raises(TypeError, call, no_numbers)
+            assert raises(TypeError, lane.put_all, no_numbers, [1, 2]) and raises(TypeError, lane.put_all, [1, 2], no_numbers)
+        assert raises(ValueError, lane.put, 1, 1 << 32) and raises(ValueError, lane.put_all, [1], [-1])
+        assert raises(augtrie.NoRoom, lane.add_all, [1] * 65_537) and raises(augtrie.NoRoom, now.rank_all, range(65_537))
+        assert lane.budget == 100 - 6
+
+
+@test
+def nothing_is_copied_or_pickled_or_made_by_hand():
+    with Trie(bits=4) as trie:
+        begun = trie.round(lanes=1, updates=1)
+        with begun as lanes:
+            now = lanes[0].look()
+            for shared in (trie, begun, lanes[0], now, iter(now)):
+                assert raises(TypeError, copy.copy, shared) and raises(TypeError, copy.deepcopy, shared), shared
+                assert all(raises(TypeError, pickle.dumps, shared, protocol) for protocol in range(pickle.HIGHEST_PROTOCOL + 1)), shared
+                assert raises(TypeError, type, "Below", (type(shared),), {}), shared
+                assert shared is trie or raises(TypeError, type(shared)), shared
+            span = now.range(0, 16)
+        assert copy.copy(span) == span == pickle.loads(pickle.dumps(span)) == (0, 0, 0, 0)
+        assert repr(trie.report) == "augtrie.Report(size=0, inserts=0, removals=0, missing=0)"
+
+
+@test
+def messages_stay_without_docstrings():
+    code = "import augtrie\ntry: augtrie.Trie(17)\nexcept augtrie.BadBits as error: print(error)"
+    for option in ("-O", "-OO"):
+        said = subprocess.run([sys.executable, option, "-c", code], stdout=subprocess.PIPE, text=True, check=True).stdout
+        assert said == "the bits are outside 1 to 16\n", said
+
+
+@test
+def lanes_that_the_caller_loses_go_back():
+    with Trie(bits=4) as trie:
+        with trie.round(lanes=3, updates=2) as lanes:
+            mine = lanes.pop()
+            assert mine.add(3)
+            lanes.clear()
+        assert (trie.report.size, trie.report.missing) == (1, 0) and raises(augtrie.Closed, mine.add, 4)
+
+
+@test
+def a_round_is_on_once_at_a_time():
+    with Trie(bits=4) as trie:
+        again = trie.round(lanes=1, updates=2)
+        for key in (1, 2):
+            with again as lanes:
+                assert raises(augtrie.InRound, again.__enter__) and raises(augtrie.InRound, trie.pairs)
+                assert lanes[0].add(key)
+        again.__exit__(None, None, None)
+        assert trie.pairs() == [(1, 1), (2, 2)]
+
+
+@test
+def a_round_that_nobody_ends_ends_when_it_is_dropped():
+    with Trie(bits=4) as trie:
+        begun = trie.round(lanes=2, updates=2)
+        lanes = begun.__enter__()
+        assert lanes[0].add(5)
+        del begun
+        assert raises(augtrie.Closed, lanes[0].add, 6) and trie.pairs() == [(5, 5)]
+        begun = [trie.round(lanes=2, updates=2)]
+        begun[0].__enter__()[1].add(6)
+        elsewhere(begun.clear)
+        assert trie.pairs() == [(5, 5), (6, 6)]
+
+
+def elsewhere(call):
+    """What a call gives, or raises, on a thread of its own."""
+    found = []
+
+    def work():
+        try:
+            found.append(call())
+        except Exception as fault:
+            found.append(fault)
+
+    thread = threading.Thread(target=work)
+    thread.start()
+    thread.join()
+    return found[0]
+
+
+@test
+def a_trie_stays_on_its_thread_and_its_lanes_need_not():
+    with Trie(bits=4) as trie:
+        begun = trie.round(lanes=1, updates=2)
+        with begun as lanes:
+            for call in (trie.close, trie.pairs, begun.__enter__, lambda: begun.__exit__(None, None, None)):
+                assert type(elsewhere(call)) is augtrie.AugtrieError
+            assert elsewhere(lambda: lanes[0].add(3)) is True and elsewhere(lambda: 3 in lanes[0].look()) is True
+        assert trie.report.size == 1
+    trie.close()
+
+
+@test
+def a_lane_may_be_called_from_two_threads():
+    with Trie(bits=16) as trie, trie.round(lanes=1, updates=65_536) as lanes:
+        lane, seen = lanes[0], []
+        thread = threading.Thread(target=lambda: lane.add_all(range(0, 65_536, 2)))
+        thread.start()
+        while thread.is_alive():
+            seen.append(lane.budget)
+        thread.join()
+        assert lane.add(1) and set(seen) <= {65_536, 32_768} and len(lane.look()) == 32_769
+
+
+def spoilt_rounds():
+    """Rounds that an exception, the caller or another thread cuts off, a large one each."""
+    def size(trie):
+        return trie.round(lanes=2, updates=4096)
+
+    def raising():
+        with Trie(bits=16) as trie, size(trie) as lanes:
+            lanes[0].add(1)
+            raise KeyError("mine")
+
+    def closed():
+        trie = Trie(bits=16)
+        begun = size(trie)
+        lanes = begun.__enter__()
+        trie.close()
+        assert raises(augtrie.Closed, lanes[0].add, 1) and raises(augtrie.Closed, trie.pairs)
+        begun.__exit__(None, None, None)
+
+    def forgotten():
+        begun = size(Trie(bits=16))
+        begun.__enter__()[0].add(1)
+
+    def held():
+        begun = size(Trie(bits=16))
+        return begun.__enter__()
+
+    def dropped_elsewhere():
+        held = [Trie(bits=16)]
+        held.append(size(held[0]))
+        held.append(held[1].__enter__())
+        elsewhere(held.clear)
+
+    return [raising, closed, forgotten, held, dropped_elsewhere]
+
+
+def resident():
+    """The bytes of the process that are in memory."""
+    with open("/proc/self/statm", encoding="ascii") as file:
+        return int(file.read().split()[1]) * os.sysconf("SC_PAGE_SIZE")
+
+
+@test
+def nothing_is_leaked():
+    if not os.path.exists("/proc/self/statm"):
+        return
+    for spoil in spoilt_rounds():
+        sizes = []
+        for _ in range(60):
+            try:
+                spoil()
+            except KeyError:
+                pass
+            sizes.append(resident())
+        # A round of this size takes 8 MB.
+        assert sizes[-1] - sizes[9] < 20 << 20, (spoil.__name__, sizes[9], sizes[-1])
+
+
+@test
+def the_stubs_have_each_name():
+    with open(os.path.join(os.path.dirname(augtrie.__file__), "__init__.pyi"), encoding="utf-8") as file:
+        stubs = {item.name: item for item in ast.parse(file.read()).body if isinstance(item, ast.ClassDef)}
+    assert set(stubs) == set(augtrie.__all__)
+    for name, stub in stubs.items():
+        kind = getattr(augtrie, name)
+        assert [base.id for base in stub.bases if isinstance(base, ast.Name)] in ([base.__name__ for base in kind.__bases__], []), name
+        told = {item.name for item in stub.body if isinstance(item, ast.FunctionDef)}
+        own = {word for word in vars(kind) if not word.startswith("__")} - {"n_fields", "n_sequence_fields", "n_unnamed_fields"}
+        assert {word for word in told if not word.startswith("__")} == own, name
+        assert all(hasattr(kind, word) for word in told), name
 
 
 @test

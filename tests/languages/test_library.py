@@ -1,10 +1,11 @@
 """Installs the library for other languages below a folder of its own, as both compilers of the toolchain build it, and runs the tests and
-examples of bindings/ over it, and those in C under valgrind as well. The benchmark in bench/ runs briefly over the library as LLVM builds it. Tests
-with `names` in their names build nothing, and compare the names of the calls and the codes.
+examples of bindings/ over it, and those in C under valgrind as well. Over the library as LLVM builds it, the benchmark in bench/ runs briefly, and
+what tools/package makes is used in a place that has neither the toolchain nor this repository. Tests with `names` in their names build nothing, and
+compare the names of the calls and the codes.
 
 What is not proved yet is proved first. AFTER_CI=1 in the environment is for a tree in which `rt ci` has just run: the library is proved once for both
-compilers, over the libraries below it as that run left them, which `rt lib` would prove again. It says what it leaves out if a C compiler, cargo or
-valgrind is missing. It needs the toolchain.
+compilers, over the libraries below it as that run left them, which `rt lib` would prove again. It says what it leaves out if a compiler, Python's
+headers or another tool is missing. It needs the toolchain.
 """
 
 import functools
@@ -14,6 +15,8 @@ import re
 import shutil
 import subprocess
 import sys
+import sysconfig
+import tarfile
 import tempfile
 import xml.etree.ElementTree
 
@@ -22,9 +25,12 @@ from common import TOP, crates_below, read, toolchain
 BINDINGS = os.path.join(TOP, "bindings")
 BACKENDS = ["llvm", "rattle"]
 CC = os.environ.get("CC", "cc")
+CXX = os.environ.get("CXX", "c++")
+WARNINGS = ["-Wall", "-Wextra", "-Werror", "-pedantic"]
+PYTHON, PIP = "Python.h or pip", [sys.executable, "-m", "pip", "install", "-q", "--no-index", "--disable-pip-version-check"]
 
 # The fewest tests that each part must have run in one folder, and the fewest answers that the benchmark compares of an engine and a workload.
-LEAST_PYTHON, LEAST_RUST, LEAST_ANSWERS = 7, 6, 2001
+LEAST_PYTHON, LEAST_RUST, LEAST_ANSWERS = 19, 12, 2001
 
 # The engines of the benchmark, and the types that their threads work with. The last one needs a crate that may not be there.
 ENGINES = {
@@ -58,12 +64,25 @@ def said_by(*words, status=0, **how):
     return ran.stdout
 
 
-def runs(tool):
+def runs(tool, *words):
     """Whether a tool is there and runs."""
-    return bool(shutil.which(tool)) and subprocess.run([tool, "--version"], stdin=subprocess.DEVNULL, capture_output=True).returncode == 0
+    return bool(shutil.which(tool)) and subprocess.run([tool, *words, "--version"], stdin=subprocess.DEVNULL, capture_output=True).returncode == 0
+
+
+MISSING = {tool for tool in ("ar", CC, CXX, "cargo", "cmake", "pkg-config", "valgrind") if not runs(tool)}
+if not os.path.exists(os.path.join(sysconfig.get_path("include"), "Python.h")) or not runs(*PIP[:3]):
+    MISSING.add(PYTHON)
+for tool in sorted(MISSING):
+    print(f"no {tool}: its tests are left out")
+
+
+def with_tool(tool):
+    """Leaves a test out if a tool is missing."""
+    return lambda test: None if tool in MISSING else test
 
 
 def exports():
+    """The calls that are proved."""
     found = set()
     for name in ("trie_calls", "updates", "queries"):
         found |= set(re.findall(r'extern "C" fn (\w+)', read("crates", "aug_c", "src", f"{name}.rt")))
@@ -71,8 +90,22 @@ def exports():
     return found
 
 
+def calls():
+    """All calls of the library."""
+    beside = set(re.findall(r"^const char \*(\w+)\(", read("bindings", "c", "augtrie.c"), re.M))
+    assert len(beside) == 2
+    return exports() | beside
+
+
+def extension():
+    """The sources of the Python module."""
+    folder = os.path.join(BINDINGS, "python", "native")
+    return "".join(read(folder, name) for name in sorted(os.listdir(folder)))
+
+
 def test_names_of_the_header():
-    assert set(re.findall(r"^int64_t (\w+)\(", read("bindings", "c", "augtrie.h"), re.M)) == exports()
+    found = re.findall(r"^(?:AUG_NODISCARD )?(?:int64_t |const char \*)(\w+)\(", read("bindings", "c", "augtrie.h"), re.M)
+    assert set(found) == calls()
 
 
 def test_names_that_the_header_tests_for_null():
@@ -80,19 +113,29 @@ def test_names_that_the_header_tests_for_null():
 
 
 def test_names_in_rust():
-    assert set(re.findall(r"pub fn (aug_\w+)\(", read("bindings", "rust", "src", "ffi.rs"))) == exports()
+    assert set(re.findall(r"pub (?:safe )?fn (aug_\w+)\(", read("bindings", "rust", "src", "ffi.rs"))) == calls()
 
 
 def test_names_in_python():
-    types = read("bindings", "python", "augtrie.py").partition("types = {")[2].partition("\n    }")[0]
-    assert {f"aug_{name}" for name in re.findall(r'"(\w+)": \[', types)} == exports()
+    types = set(re.findall(r"^} (aug_\w+);", read("bindings", "c", "augtrie.h"), re.M))
+    assert set(re.findall(r"\baug_\w+\b", extension())) - types == calls()
 
 
 def test_names_and_codes_agree():
     want = {int(code) for code in re.findall(r"^pub const \w+: i64 = (-\d+);", read("crates", "aug_c", "src", "codes.rt"), re.M)}
-    assert {int(code) for code in re.findall(r"\bAUG_\w+ = (-\d+)", read("bindings", "c", "augtrie.h"))} == want
-    python = re.search(r"_ERRORS = \{(.*?)\}", read("bindings", "python", "augtrie.py"), re.S)[1]
-    assert {int(code) for code in re.findall(r"(-\d+):", python)} | {-1} == want
+    header = {name: int(code) for name, code in re.findall(r"\b(AUG_\w+) = (-\d+)", read("bindings", "c", "augtrie.h"))}
+    assert set(header.values()) == want
+    # What is no member is None in Rust and in Python.
+    refusals = {name: code for name, code in header.items() if name != "AUG_NONE"}
+    assert set(re.findall(r"^    {(AUG_\w+), \"augtrie\.", extension(), re.M)) == set(refusals)
+    rust = {int(code) for code in re.findall(r"^    \w+ = (-\d+),$", read("bindings", "rust", "src", "error.rs"), re.M)}
+    assert rust == set(refusals.values())
+
+
+def test_names_and_versions_agree():
+    version = ".".join(re.findall(r"^#define AUG_VERSION_\w+ (\d+)$", read("bindings", "c", "augtrie.h"), re.M))
+    assert re.fullmatch(r"\d+\.\d+\.\d+", version), version
+    assert f'\nversion = "{version}"\n' in read("bindings", "rust", "Cargo.toml")
 
 
 HELD = tempfile.TemporaryDirectory(prefix="library-")
@@ -127,37 +170,88 @@ class Installed:
         words = ["--archive", archives()[cls.backend], cls.folder] if os.environ.get("AFTER_CI") else [cls.folder, cls.backend]
         said_by(os.path.join(TOP, "tools", "install"), *words, timeout=3000)
 
-    def compiled(self, *source, words=()):
+    def compiled(self, *source, words=(CC, "-std=c11")):
         program = os.path.join(self.folder, os.path.basename(source[-1]).partition(".")[0])
         include, library = os.path.join(self.folder, "include"), os.path.join(self.folder, "lib", "libaugtrie.a")
-        said_by(CC, "-O2", "-Wall", "-Wextra", "-Werror", f"-I{include}", *words, os.path.join(BINDINGS, *source), library, "-lpthread", "-o", program)
+        words = [words[0], "-O2", *WARNINGS, f"-I{include}", *words[1:]]
+        said_by(*words, os.path.join(BINDINGS, *source), "-x", "none", library, "-lpthread", "-o", program)
         return program
 
     def test_c_threads_and_misuses(self):
         assert re.search(r"^ok: \d+ in, \d+ out, \d+ members, 1024 checks\n$", said_by(self.compiled("c", "tests", "threads.c")))
 
     def test_c_each_request_for_memory_refused(self):
-        said = said_by(self.compiled("c", "tests", "refused.c", words=["-Wl,--wrap=malloc"]))
+        said = said_by(self.compiled("c", "tests", "refused.c", words=[CC, "-std=c11", "-Wl,--wrap=malloc"]))
         assert int(re.search(r"^ok: (\d+) refused$", said, re.M)[1]) >= 10
 
     def test_c_many_keys(self):
         said = said_by(self.compiled("c", "tests", "many.c"))
-        assert int(re.fullmatch(r"ok: (\d+) answers\n", said)[1]) >= 30
+        assert int(re.fullmatch(r"ok: (\d+) answers\n", said)[1]) >= 300
 
     def test_c_timers(self):
         assert said_by(self.compiled("c", "examples", "timers.c")).splitlines() == PRINTED["timers"]
 
+    def test_c_answers_have_to_be_looked_at(self):
+        include = f"-I{os.path.join(self.folder, 'include')}"
+        for answer, status in ("int64_t done = ", 0), ("", 1):
+            source = os.path.join(self.folder, "ignored.c")
+            with open(source, "w", encoding="utf-8") as file:
+                file.write(f'#include "augtrie.h"\nint64_t f(aug_lane *l) {{ {answer}aug_insert(l, 1); return {"done" if answer else 0}; }}\n')
+            said = said_by(CC, "-std=c11", "-O2", *WARNINGS, include, "-c", source, "-o", f"{source}.o", status=status)
+            assert ("warn_unused_result" in said) == (status == 1), said
+
+    def test_c_shared_object_shows_the_calls_alone(self):
+        shared = os.path.join(self.folder, "lib", "libaugtrie.so")
+        assert set(re.findall(r"^\w+ [A-Z] (\w+)$", said_by("nm", "-D", "--defined-only", shared), re.M)) == calls()
+        assert re.search(r"SONAME.*\[libaugtrie\.so\.\d+\.\d+\]", said_by("readelf", "-d", shared))
+
+
+class Module:
+    """The Python module, as pip installs it from its sources."""
+
+    @classmethod
+    def setup_class(cls):
+        super().setup_class()
+        cls.site = os.path.join(cls.folder, "site")
+        env = {**os.environ, "AUGTRIE_LIB": os.path.join(cls.folder, "lib")}
+        said_by(*PIP, "--no-build-isolation", "--target", cls.site, os.path.join(BINDINGS, "python"), env=env)
+
+    def python(self, *words):
+        return said_by(sys.executable, "-W", "error", *words, env={**os.environ, "PYTHONPATH": self.site, "PYTHONDONTWRITEBYTECODE": "1"})
+
     def test_python_module(self):
-        said = said_by(sys.executable, os.path.join(BINDINGS, "python", "test_augtrie.py"), env=self.python())
+        said = self.python(os.path.join(BINDINGS, "python", "test_augtrie.py"))
         passed = re.fullmatch(r"(\d+) passed, 0 failed", said.splitlines()[-1])
         assert int(passed[1]) >= LEAST_PYTHON
 
     def test_python_index(self):
-        said = said_by(sys.executable, os.path.join(BINDINGS, "python", "index.py"), env=self.python())
-        assert said.splitlines() == PRINTED["index"]
+        assert self.python(os.path.join(BINDINGS, "python", "index.py")).splitlines() == PRINTED["index"]
 
-    def python(self):
-        return {**os.environ, "AUGTRIE_LIB": os.path.join(self.folder, "lib", "libaugtrie.so"), "PYTHONDONTWRITEBYTECODE": "1"}
+    @with_tool("pkg-config")
+    def test_python_by_pkg_config(self):
+        env = {**os.environ, "AUGTRIE_LIB": "", "PKG_CONFIG_PATH": os.path.join(self.folder, "lib", "pkgconfig")}
+        wheel = said_by(sys.executable, os.path.join(BINDINGS, "python", "backend", "augtrie_wheel.py"), self.folder, env=env).strip()
+        assert os.path.exists(os.path.join(self.folder, wheel)), wheel
+
+
+class Plus:
+    """The header as C++ sees it."""
+
+    def test_c_plus_plus(self):
+        said = said_by(self.compiled("c", "tests", "cplusplus.cpp", words=[CXX, "-std=c++17"]))
+        assert int(re.fullmatch(r"ok: (\d+) answers\n", said)[1]) >= 15
+
+    def test_c_plus_plus_timers(self):
+        program = self.compiled("c", "examples", "timers.c", words=[CXX, "-std=c++17", "-x", "c++"])
+        assert said_by(program).splitlines() == PRINTED["timers"]
+
+    def test_c_other_compilers_have_no_warning(self):
+        for compiler in filter(runs, ("gcc", "clang", "g++", "clang++")):
+            words = ["-std=c++17", "-x", "c++"] if "+" in compiler else ["-std=c11"]
+            for source in ("augtrie.c", "examples/timers.c"):
+                path = os.path.join(BINDINGS, "c", source)
+                include = f"-I{os.path.join(self.folder, 'include')}"
+                said_by(compiler, "-O2", *WARNINGS, include, *words, "-c", path, "-o", os.path.join(self.folder, "other.o"))
 
 
 class Checked:
@@ -166,17 +260,16 @@ class Checked:
     def test_c_under_valgrind(self):
         for name in ("threads", "refused", "many"):
             words = ["-g", "-Wl,--wrap=malloc"] if name == "refused" else ["-g"]
-            program = self.compiled("c", "tests", f"{name}.c", words=words)
+            program = self.compiled("c", "tests", f"{name}.c", words=[CC, "-std=c11", *words])
             said_by("valgrind", "-q", "--error-exitcode=9", "--leak-check=full", program)
 
 
 class Crate:
     """The Rust crate."""
 
-    def cargo(self, *words):
-        target = os.path.join(self.folder, "target")
-        env = {**os.environ, "AUGTRIE_LIB": os.path.join(self.folder, "lib"), "CARGO_TARGET_DIR": target}
-        return said_by("cargo", *words, "--offline", "-q", "--manifest-path", os.path.join(BINDINGS, "rust", "Cargo.toml"), env=env)
+    def cargo(self, *words, quiet=("-q",), found=None):
+        env = {**os.environ, **(found or {"AUGTRIE_LIB": os.path.join(self.folder, "lib")}), "CARGO_TARGET_DIR": os.path.join(self.folder, "target")}
+        return said_by("cargo", *words, "--offline", *quiet, "--manifest-path", os.path.join(BINDINGS, "rust", "Cargo.toml"), env=env)
 
     def test_rust_crate(self):
         counts = [int(count) for count in re.findall(r"test result: ok\. (\d+) passed; 0 failed", self.cargo("test"))]
@@ -184,6 +277,72 @@ class Crate:
 
     def test_rust_order_book(self):
         assert self.cargo("run", "--example", "order_book").splitlines() == PRINTED["order_book"]
+
+    def test_rust_crate_is_built_again_with_its_archive(self):
+        self.cargo("build")
+        assert "Compiling" not in self.cargo("build", quiet=())
+        os.utime(os.path.join(self.folder, "lib", "libaugtrie.a"))
+        assert "Compiling" in self.cargo("build", quiet=())
+
+    @with_tool("pkg-config")
+    def test_rust_crate_by_pkg_config(self):
+        found = {"AUGTRIE_LIB": "", "PKG_CONFIG_PATH": os.path.join(self.folder, "lib", "pkgconfig")}
+        assert self.cargo("run", "--example", "order_book", found=found).splitlines() == PRINTED["order_book"]
+
+
+class Packed:
+    """What tools/package makes, in a folder elsewhere, with no path to the toolchain."""
+
+    @classmethod
+    def setup_class(cls):
+        super().setup_class()
+        cls.packs = os.path.join(cls.folder, "packs")
+        said_by(os.path.join(TOP, "tools", "package"), cls.folder, cls.packs)
+        for name in os.listdir(cls.packs):
+            if name.endswith(("gz", "crate")):
+                with tarfile.open(os.path.join(cls.packs, name)) as packed:
+                    packed.extractall(os.path.join(cls.folder, name.rpartition(".")[2]))
+        cls.c, cls.crate = (glob.glob(os.path.join(cls.folder, end, "augtrie-*"))[0] for end in ("gz", "crate"))
+
+    def elsewhere(self, *words, **more):
+        """What a command prints that knows neither the toolchain nor other settings of this process."""
+        path = os.pathsep.join(folder for folder in os.environ["PATH"].split(os.pathsep) if not os.path.exists(os.path.join(folder, "rt")))
+        assert not shutil.which("rt", path=path)
+        return said_by(shutil.which(words[0], path=path), *words[1:], cwd=self.folder, env={"PATH": path, "HOME": os.path.expanduser("~"), **more})
+
+    @with_tool("pkg-config")
+    def test_packed_c(self):
+        timers, library = os.path.join(self.c, "examples", "timers.c"), os.path.join(self.c, "lib")
+        flags = self.elsewhere("pkg-config", "--cflags", "--libs", "augtrie", PKG_CONFIG_PATH=os.path.join(library, "pkgconfig")).split()
+        self.elsewhere(CC, "-O2", timers, *flags, "-lpthread", "-o", "shared")
+        said = self.elsewhere(os.path.join(self.folder, "shared"), LD_LIBRARY_PATH=library)
+        assert said.splitlines() == PRINTED["timers"]
+
+    @with_tool("cmake")
+    def test_packed_cmake(self):
+        build = os.path.join(self.folder, "cmake")
+        os.makedirs(build)
+        with open(os.path.join(build, "CMakeLists.txt"), "w", encoding="utf-8") as file:
+            file.write("cmake_minimum_required(VERSION 3.12)\nproject(timers C)\nfind_package(Threads REQUIRED)\n"
+                       "find_package(augtrie 0.1 REQUIRED)\nfind_package(augtrie 1.0 QUIET)\n"
+                       "if(augtrie_FOUND)\n  message(FATAL_ERROR \"1.0 is another library\")\nendif()\n")
+            for kind, name in ("by_archive", "augtrie"), ("by_object", "shared"):
+                file.write(f"add_executable({kind} {self.c}/examples/timers.c)\ntarget_link_libraries({kind} augtrie::{name} Threads::Threads)\n")
+        self.elsewhere("cmake", "-S", build, "-B", build, f"-DCMAKE_PREFIX_PATH={self.c}")
+        self.elsewhere("cmake", "--build", build)
+        for kind in ("by_archive", "by_object"):
+            assert self.elsewhere(os.path.join(build, kind)).splitlines() == PRINTED["timers"]
+
+    def test_packed_crate(self):
+        target = os.path.join(self.folder, "packed-target")
+        words = ["cargo", "run", "--offline", "-q", "--example", "order_book", "--manifest-path", os.path.join(self.crate, "Cargo.toml")]
+        assert self.elsewhere(*words, CARGO_TARGET_DIR=target).splitlines() == PRINTED["order_book"]
+
+    def test_packed_wheel(self):
+        site, wheels = os.path.join(self.folder, "packed-site"), glob.glob(os.path.join(self.packs, "*.whl"))
+        self.elsewhere(*PIP, "--target", site, *wheels)
+        said = self.elsewhere(sys.executable, os.path.join(self.c, "examples", "index.py"), PYTHONPATH=site)
+        assert said.splitlines() == PRINTED["index"]
 
 
 def table(lines, first):
@@ -285,19 +444,19 @@ class Counted:
             assert 0 < 3 * int(row["`size`"]) < int(row["`rank`"]) < 2000, counts
 
 
-# The parts, each with the tools that it needs and the builds that it is for: the benchmark runs over one of them alone.
+# The parts, each with the tools that it needs beside those of the first, and the builds that it is for: what needs one build alone has LLVM's.
 PARTS = [
     (["ar", CC], Installed, BACKENDS),
-    (["ar", CC, "valgrind"], Checked, BACKENDS),
-    (["ar", CC, "cargo"], Crate, BACKENDS),
-    (["ar", CC, "cargo"], Bench, ["llvm"]),
-    (["ar", CC, "cargo", "valgrind"], Counted, ["llvm"]),
+    (["valgrind"], Checked, BACKENDS),
+    ([CXX], Plus, BACKENDS),
+    ([PYTHON], Module, BACKENDS),
+    (["cargo"], Crate, BACKENDS),
+    (["cargo", PYTHON], Packed, ["llvm"]),
+    (["cargo"], Bench, ["llvm"]),
+    (["cargo", "valgrind"], Counted, ["llvm"]),
 ]
 
-MISSING = {tool for tool in ("ar", CC, "cargo", "valgrind") if not runs(tool)}
-for tool in sorted(MISSING):
-    print(f"no {tool}: its tests are left out")
-for backend in BACKENDS:
-    parts = [part for tools, part, backends in PARTS if backend in backends and not MISSING & set(tools)]
-    if parts:
-        globals()[f"TestBy_{backend}"] = type(f"TestBy_{backend}", tuple(parts), {"backend": backend})
+for backend in BACKENDS if not MISSING & set(PARTS[0][0]) else []:
+    # A part is set up after those in front of it.
+    parts = [part for tools, part, backends in reversed(PARTS) if backend in backends and not MISSING & set(tools)]
+    globals()[f"TestBy_{backend}"] = type(f"TestBy_{backend}", tuple(parts), {"backend": backend})

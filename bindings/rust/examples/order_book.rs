@@ -1,16 +1,17 @@
 //! An order book: an order is a key, its price, and its volume is the weight. Two threads trade, and a third reads the depth
 //! at a price meanwhile. All answers of one snapshot agree.
-use augtrie::{Error, Lane, Trie};
+use augtrie::{Error, Lane, Put, Trie};
 use std::thread;
 
 const MIDDLE: u32 = 2_000;
 
+// Nobody else trades at these prices, so nothing is refused.
 fn trade(lane: &mut Lane, lowest: u32) -> Result<(), Error> {
-    for i in 0..100 {
-        lane.put(lowest + i, 10)?;
-        match i % 5 {
-            0 => drop(lane.remove(lowest + i)?),
-            1 => drop(lane.put(lowest + i, 25)?),
+    for price in lowest..lowest + 100 {
+        assert_eq!(lane.put(price, 10)?, Put::Accepted);
+        match (price - lowest) % 5 {
+            0 => assert!(lane.remove(price)?),
+            1 => assert_eq!(lane.put(price, 25)?, Put::Replaced),
             _ => {}
         }
     }

@@ -1,86 +1,70 @@
+use crate::ffi;
+use std::ffi::CStr;
 use std::fmt;
 
 /// Why a call did nothing.
 #[derive(Debug, Clone, Copy, PartialEq, Eq, Hash)]
+#[non_exhaustive]
+#[repr(i64)]
 pub enum Error {
     /// The handle is not open.
-    Closed,
+    Closed = -2,
     /// The key is not below `2^bits`.
-    BadKey,
+    BadKey = -3,
     /// The lane made all of its updates.
-    Spent,
+    Spent = -4,
     /// A request for memory was refused.
-    NoMemory,
+    NoMemory = -5,
     /// The bits are outside 1 to 16.
-    BadBits,
+    BadBits = -6,
     /// The lanes are outside 1 to 64.
-    BadLanes,
+    BadLanes = -7,
     /// The updates of a lane are outside 1 to 65,536.
-    BadUpdates,
+    BadUpdates = -8,
     /// The round would need more than 2^26 words.
-    TooLarge,
+    TooLarge = -9,
     /// The trie is in a round.
-    InRound,
+    InRound = -10,
     /// The trie is in no round.
-    AtRest,
+    AtRest = -11,
     /// All lanes of the round were opened.
-    NoLane,
+    NoLane = -12,
     /// A lane of the round is open.
-    LanesOut,
+    LanesOut = -13,
     /// The lane is of another round.
-    OtherRound,
+    OtherRound = -14,
     /// The handle is open already.
-    Open,
-    /// The memory handed in is too short.
-    NoRoom,
+    Open = -15,
+    /// There are not as many weights as keys.
+    NoRoom = -16,
     /// The bits are fewer than the trie's.
-    Narrower,
+    Narrower = -17,
+    /// The program made 2^32 tries, or the trie 2^32 rounds, and no number is left that tells another one apart.
+    NoNumber = -1_000,
 }
+
+// Those that are codes of the library.
+const CODES: [Error; 16] = [
+    Error::Closed, Error::BadKey, Error::Spent, Error::NoMemory, Error::BadBits, Error::BadLanes,
+    Error::BadUpdates, Error::TooLarge, Error::InRound, Error::AtRest, Error::NoLane, Error::LanesOut,
+    Error::OtherRound, Error::Open, Error::NoRoom, Error::Narrower,
+];
 
 impl Error {
     /// The error that a code of `augtrie.h` stands for.
     pub(crate) fn of_code(code: i64) -> Error {
-        match code {
-            -3 => Error::BadKey,
-            -4 => Error::Spent,
-            -5 => Error::NoMemory,
-            -6 => Error::BadBits,
-            -7 => Error::BadLanes,
-            -8 => Error::BadUpdates,
-            -9 => Error::TooLarge,
-            -10 => Error::InRound,
-            -11 => Error::AtRest,
-            -12 => Error::NoLane,
-            -13 => Error::LanesOut,
-            -14 => Error::OtherRound,
-            -15 => Error::Open,
-            -16 => Error::NoRoom,
-            -17 => Error::Narrower,
-            _ => Error::Closed,
-        }
+        CODES.into_iter().find(|error| *error as i64 == code).unwrap_or(Error::Closed)
     }
 }
 
 impl fmt::Display for Error {
     fn fmt(&self, f: &mut fmt::Formatter<'_>) -> fmt::Result {
-        f.write_str(match self {
-            Error::Closed => "the handle is not open",
-            Error::BadKey => "the key is not below 2^bits",
-            Error::Spent => "the lane made all of its updates",
-            Error::NoMemory => "a request for memory was refused",
-            Error::BadBits => "the bits are outside 1 to 16",
-            Error::BadLanes => "the lanes are outside 1 to 64",
-            Error::BadUpdates => "the updates of a lane are outside 1 to 65,536",
-            Error::TooLarge => "the round would need more than 2^26 words",
-            Error::InRound => "the trie is in a round",
-            Error::AtRest => "the trie is in no round",
-            Error::NoLane => "all lanes of the round were opened",
-            Error::LanesOut => "a lane of the round is open",
-            Error::OtherRound => "the lane is of another round",
-            Error::Open => "the handle is open already",
-            Error::NoRoom => "the memory handed in is too short",
-            Error::Narrower => "the bits are fewer than the trie's",
-        })
+        if *self == Error::NoNumber {
+            return f.write_str("no number is left for another trie or round");
+        }
+        // SAFETY: of any number the library tells a text that ends with a zero and stays as long as the program.
+        let text = unsafe { CStr::from_ptr(ffi::aug_error_text(*self as i64)) };
+        f.write_str(&text.to_string_lossy())
     }
 }
 

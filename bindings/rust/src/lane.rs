@@ -4,6 +4,7 @@ use crate::{Error, number};
 
 /// What came of putting a key in with a weight.
 #[derive(Debug, Clone, Copy, PartialEq, Eq)]
+#[must_use = "an update may be refused, and then nothing was stored"]
 pub enum Put {
     /// The key was no member, and is one now.
     Accepted,
@@ -23,17 +24,17 @@ unsafe impl Send for Lane {}
 impl Lane {
     /// Puts a key in, with the key itself as its weight. True if it was not there.
     pub fn insert(&mut self, key: u32) -> Result<bool, Error> {
-        number(unsafe { ffi::aug_insert(&mut self.0, key) }).map(|done| done == 1)
+        number(ffi::aug_insert(&mut self.0, key)).map(|done| done == 1)
     }
 
     /// Takes a key out. True if it was there.
     pub fn remove(&mut self, key: u32) -> Result<bool, Error> {
-        number(unsafe { ffi::aug_remove(&mut self.0, key) }).map(|done| done == 1)
+        number(ffi::aug_remove(&mut self.0, key)).map(|done| done == 1)
     }
 
     /// Puts a key in with a weight, or gives a member this weight.
     pub fn put(&mut self, key: u32, weight: u32) -> Result<Put, Error> {
-        number(unsafe { ffi::aug_put(&mut self.0, key, weight) }).map(|done| match done {
+        number(ffi::aug_put(&mut self.0, key, weight)).map(|done| match done {
             1 => Put::Accepted,
             2 => Put::Replaced,
             _ => Put::Refused,
@@ -43,34 +44,39 @@ impl Lane {
     /// Puts keys in, each by an update of its own, in their order. How many were not there. If one of them is no key of the trie, or fewer
     /// updates are left than there are keys, none is made.
     pub fn insert_all(&mut self, keys: &[u32]) -> Result<u32, Error> {
+        // SAFETY: the pointer is that of a slice of this length.
         number(unsafe { ffi::aug_insert_all(&mut self.0, keys.as_ptr(), keys.len()) })
     }
 
     /// Takes keys out. How many were there. Refused as `insert_all` is.
     pub fn remove_all(&mut self, keys: &[u32]) -> Result<u32, Error> {
+        // SAFETY: the pointer is that of a slice of this length.
         number(unsafe { ffi::aug_remove_all(&mut self.0, keys.as_ptr(), keys.len()) })
     }
 
     /// Puts keys in, each with the weight that has its index, or gives members these weights. How many updates changed the set. Refused
     /// as `insert_all` is, and with `NoRoom` if there are not as many weights as keys.
     pub fn put_all(&mut self, keys: &[u32], weights: &[u32]) -> Result<u32, Error> {
+        // SAFETY: the pointers are those of slices of these lengths.
         number(unsafe { ffi::aug_put_all(&mut self.0, keys.as_ptr(), keys.len(), weights.as_ptr(), weights.len()) })
     }
 
     /// How many updates are left.
+    #[must_use]
     pub fn budget(&mut self) -> u32 {
-        number(unsafe { ffi::aug_budget(&mut self.0) }).unwrap_or(0)
+        number(ffi::aug_budget(&mut self.0)).unwrap_or(0)
     }
 
     /// Takes a snapshot: the set as it is now. It shows every change that this lane made.
+    #[must_use = "queries are asked of the snapshot"]
     pub fn look(&mut self) -> Snapshot<'_> {
-        unsafe { ffi::aug_look(&mut self.0) };
+        ffi::aug_look(&mut self.0);
         Snapshot::of(self)
     }
 }
 
 impl Drop for Lane {
     fn drop(&mut self) {
-        unsafe { ffi::aug_drop_lane(&mut self.0) };
+        ffi::aug_drop_lane(&mut self.0);
     }
 }

@@ -110,6 +110,8 @@ fn members_are_listed_over_many_calls() -> Result<(), Error> {
 #[test]
 fn refusals_have_names() -> Result<(), Error> {
     assert_eq!(Trie::new(17).map(drop), Err(Error::BadBits));
+    assert_eq!(Error::BadBits.to_string(), "the bits are outside 1 to 16");
+    assert_eq!(Error::NoNumber.to_string(), "no number is left for another trie or round");
     let mut trie = Trie::new(4)?;
     assert_eq!(trie.round(65, 1, |_| ()), Err(Error::BadLanes));
     assert_eq!(trie.round(1, 0, |_| ()), Err(Error::BadUpdates));
@@ -123,6 +125,11 @@ fn refusals_have_names() -> Result<(), Error> {
     })?;
     assert_eq!(trie.pairs()?, vec![(1, 1)]);
     Ok(())
+}
+
+#[test]
+fn the_library_has_the_version_of_the_crate() {
+    assert_eq!(augtrie::version(), env!("CARGO_PKG_VERSION"));
 }
 
 #[test]

@@ -5,9 +5,7 @@ ghost use Rattle.aug_trie.specs.Snapshot.{HasSnapshot};
 use super::playing::{Act, Reply};
 use aug_model::Summary;
 use aug_monoid::{Extent, Sum};
-use aug_query::descent::{
-    After, Before, Has, Keys, Memberships, Pairs, Range, Rank, Ranks, Select, Size, Weight, Weights,
-};
+use aug_query::descent::{After, Before, Has, Keys, Pairs, Range, Rank, Select, Size, Weight};
 use aug_trie::{Node, Pass, Snapshot};
 use std::alloc::Global;
 
@@ -66,8 +64,7 @@ pub(super) fn look_closer(
     ensures { pass.new.round ≡ pass.old.round }
 {
     match act {
-        Act::Keys | Act::Pairs | Act::Lists => lists(pass, alloc, act),
-        Act::Batches => batches(pass, alloc),
+        Act::Keys | Act::Pairs => list(pass, alloc, act),
         Act::Top | Act::Left | Act::Right => node(pass, act),
         Act::KeptOver(weight) => kept_over(pass, universe, weight),
         Act::AddsUp => match adds_up(pass) {
@@ -101,84 +98,21 @@ pub(super) fn told_pairs(list: &[(u32, u32)]) -> Reply {
     }
 }
 
-// How many pairs there are, how many of them have the key that the other list has there, and how many are a place and 2^32 - 1 less it.
-fn lengths(keys: &[u32], pairs: &[(u32, u32)]) -> Reply {
-    let (mut count, mut same, mut falling) = (0_u32, 0_u32, 0_u32);
-    if keys.len() != pairs.len() {
-        return Reply::Not;
-    }
-    for (place, pair) in pairs.iter().enumerate() {
-        if *pair == (count, u32::MAX - count) {
-            falling = falling.wrapping_add(1);
-        }
-        if keys.get(place) == Some(&pair.0) {
-            same = same.wrapping_add(1);
-        }
-        count = count.wrapping_add(1);
-    }
-    Reply::Lengths(count, same, falling)
-}
-
-// Both lists of a new snapshot.
-fn both_lists(pass: &mut Pass<Sum, Extent>, alloc: Global) -> Reply
+// A list of a new snapshot.
+fn list(pass: &mut Pass<Sum, Extent>, alloc: Global, act: Act) -> Reply
     ensures { pass.new.round ≡ pass.old.round }
 {
     let s = pass.snapshot();
-    match (pass.ask(s, Keys(alloc)), pass.ask(s, Pairs(alloc))) {
-        (Ok(keys), Ok(pairs)) => lengths(&keys, &pairs),
-        _ => Reply::Not,
+    if matches!(act, Act::Keys) {
+        return match pass.ask(s, Keys(alloc)) {
+            Ok(list) => told_keys(&list),
+            Err(_) => Reply::Not,
+        };
     }
-}
-
-// The lists of a new snapshot.
-fn lists(pass: &mut Pass<Sum, Extent>, alloc: Global, act: Act) -> Reply
-    ensures { pass.new.round ≡ pass.old.round }
-{
-    match act {
-        Act::Keys => {
-            let s = pass.snapshot();
-            match pass.ask(s, Keys(alloc)) {
-                Ok(list) => told_keys(&list),
-                Err(_) => Reply::Not,
-            }
-        }
-        Act::Pairs => {
-            let s = pass.snapshot();
-            match pass.ask(s, Pairs(alloc)) {
-                Ok(list) => told_pairs(&list),
-                Err(_) => Reply::Not,
-            }
-        }
-        _ => both_lists(pass, alloc),
+    match pass.ask(s, Pairs(alloc)) {
+        Ok(list) => told_pairs(&list),
+        Err(_) => Reply::Not,
     }
-}
-
-// Whether each batch of queries answers as it should on the members 5 and 9, which weigh 5 and 9.
-fn batches(pass: &mut Pass<Sum, Extent>, alloc: Global) -> Reply
-    ensures { pass.new.round ≡ pass.old.round }
-{
-    let s = pass.snapshot();
-    let keys = [4, 5, 5, 9, 10, 16];
-    if !keys.is_sorted() {
-        return Reply::Not;
-    }
-    let Ok(out) = Vec::with_capacity(alloc, 6) else {
-        return Reply::Not;
-    };
-    let below = pass.ask(s, Ranks { keys: &keys, out });
-    let Ok(out) = Vec::with_capacity(alloc, 6) else {
-        return Reply::Not;
-    };
-    let there = pass.ask(s, Memberships { keys: &keys, out });
-    let Ok(out) = Vec::with_capacity(alloc, 6) else {
-        return Reply::Not;
-    };
-    let weighed = pass.ask(s, Weights { keys: &keys, out });
-    let below_right = below.as_slice() == [0, 0, 0, 1, 2, 2].as_slice();
-    let there_right = there.as_slice() == [false, true, true, true, false, false].as_slice();
-    let weighed_right = weighed.as_slice()
-        == [None, Some(5), Some(5), Some(9), None, None].as_slice();
-    Reply::Is(below_right && there_right && weighed_right)
 }
 
 // Where a node stands, and what it covers.

@@ -1,4 +1,4 @@
-//! How rounds hand out their lanes and count, which numbers of bits there are, and what refusals print.
+//! How rounds hand out their lanes and count, and which numbers of bits there are.
 use super::playing::Act::{Back, Counts, Handed, Lane, Now, Open, Size};
 use super::playing::Change::{Insert, Remove};
 use super::playing::Reply;
@@ -8,8 +8,7 @@ use super::resting::{Ask, rests};
 use super::rounds::{Trie, Way};
 use super::rows::{Play, Row, rows};
 use crate::assertions::equal;
-use aug_trie::{BeginError, CrewError, Ended};
-use std::alloc::AllocError;
+use aug_trie::{BeginError, Ended};
 
 const LANES: &[Row] = &[
     Row {
@@ -73,32 +72,5 @@ fn an_empty_trie_has_1_to_16_bits(rt: HostRuntime) -> Result<(), BeginError> {
         equal(&rt, ended.bits(), bits);
         rests(&rt, rt.alloc(), &mut ended, "an empty trie", EMPTY);
     }
-    Ok(())
-}
-
-const TEXTS: &[(BeginError, &str)] = &[
-    (BeginError::BadWorkers, "BadWorkers BadWorkers BadWorkers"),
-    (BeginError::BadUpdates, "BadUpdates BadUpdates BadUpdates"),
-    (BeginError::TooLarge, "TooLarge TooLarge TooLarge"),
-    (
-        BeginError::OutOfMemory,
-        "OutOfMemory OutOfMemory OutOfMemory",
-    ),
-    (BeginError::BadBits, "BadBits BadBits BadBits"),
-    (BeginError::Narrower, "Narrower Narrower Narrower"),
-];
-
-// A clone of a refusal is the refusal, and is printed as it.
-#[test]
-fn refusals_are_printed_by_their_names(rt: HostRuntime) -> Result<(), AllocError> {
-    for (cause, text) in TEXTS {
-        let clone = cause.clone()?;
-        equal(&rt, clone, *cause);
-        let printed = format!(in rt.alloc(); "{cause} {clone} {clone:?}")?;
-        equal(&rt, printed.as_str(), *text);
-    }
-    let clone = CrewError::NoLane.clone()?;
-    let printed = format!(in rt.alloc(); "{} {clone} {clone:?}", CrewError::NoLane)?;
-    equal(&rt, printed.as_str(), "NoLane NoLane NoLane");
     Ok(())
 }

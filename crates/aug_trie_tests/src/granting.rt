@@ -1,8 +1,9 @@
 //! Calls that take memory while there is enough: none is refused for want of it, whatever its numbers and its set are.
-ghost use Rattle.std.specs.Prelude.{◌≤◌};
+ghost use Rattle.std.specs.Prelude.{◌≡◌, ◌^◌, ◌≤◌};
 
-use super::rounds::{Numbers, Trie, Way, begun, opened};
-use super::sweeping::fill;
+use super::playing::Change::Put;
+use super::playing::changed;
+use super::rounds::{Hands, Numbers, Table, Trie, Way, begun, next_pass, opened};
 use crate::assertions::{equal, holds};
 use aug_core::Layout;
 use aug_trie::{BeginError, Ended};
@@ -145,6 +146,22 @@ const GREAT: &[Sweep] = &[
 #[test]
 fn no_round_is_refused_for_its_updates(rt: HostRuntime) -> Result<(), BeginError> {
     assert_begin(&rt, rt.alloc(), GREAT)
+}
+
+// Puts the keys from the first up to the second in, as long as updates are left.
+fn fill(round: &Table, crew: &mut Hands, universe: u32, keys: (u32, u32), less: u32)
+    requires together { crew.old.round ≡ round.now }
+    requires universe { universe ≡ 2 ^ round.now.bits }
+    ensures { crew.new.round ≡ round.now }
+{
+    if let Ok(mut pass) = next_pass(crew, round) {
+        let mut weight = u32::MAX;
+        for key in keys.0..keys.1 {
+            changed(&mut pass, universe, Put(key, weight));
+            weight = weight.wrapping_sub(less);
+        }
+        crew.back(pass);
+    }
 }
 
 // Rounds of `bits` bits over a trie by each call, in the first of which the keys are put in that it does not have of the `members` least ones.

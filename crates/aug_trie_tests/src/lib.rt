@@ -43,10 +43,6 @@ mod rounds;
 #[cfg(test)]
 mod rows;
 #[cfg(test)]
-mod scripts;
-#[cfg(test)]
-mod sweeping;
-#[cfg(test)]
 mod telling;
 #[cfg(test)]
 mod turning;

@@ -5,7 +5,7 @@ use super::playing::Reply::{Counted, Finds, Number};
 use super::playing::{Reply, steps};
 use super::requests::{ANSWERS, played_by_two};
 use super::resting::{Ask, rests};
-use super::rounds::{Hands, Numbers, Table, Trie, tried_over};
+use super::rounds::{Hands, Table, Trie, tried_over};
 use crate::assertions::equal;
 use aug_query::size;
 use aug_trie::{BeginError, Members};
@@ -84,47 +84,5 @@ fn refused_memory_leaves_the_list(rt: HostRuntime) -> Result<(), BeginError> {
     let (round, crew) = begun_at_last(&rt, rt.alloc(), members)?;
     let mut ended = round.end(crew);
     equal(&rt, size(&mut ended), 2);
-    Ok(())
-}
-
-// The list that comes back if these numbers are refused.
-fn given_back(
-    rt: &impl Abort,
-    alloc: Global,
-    members: Members,
-    numbers: Numbers,
-    cause: BeginError,
-) -> Members {
-    match tried_over(alloc, members, numbers) {
-        Ok(_) => panic!(rt;
-            "{} bits, {} workers, {} updates",
-            numbers.0, numbers.1, numbers.2
-        ),
-        Err((members, refused)) => {
-            equal(rt, (numbers, refused), (numbers, cause));
-            assert_is_whole(rt, &members);
-            members
-        }
-    }
-}
-
-const REFUSALS: &[(Numbers, BeginError)] = &[
-    ((0, 1, 1), BeginError::BadBits),
-    ((17, 1, 1), BeginError::BadBits),
-    ((3, 0, 0), BeginError::Narrower),
-    ((4, 0, 0), BeginError::BadWorkers),
-    ((4, 65, 1), BeginError::BadWorkers),
-    ((4, 1, 0), BeginError::BadUpdates),
-    ((4, 1, 65_537), BeginError::BadUpdates),
-    ((16, 64, 65_536), BeginError::TooLarge),
-];
-
-#[test]
-fn numbers_that_are_refused_leave_the_list(rt: HostRuntime) -> Result<(), BeginError> {
-    let mut members = listed(&rt, rt.alloc(), played_by_two(&rt, rt.alloc())?)?;
-    for (numbers, cause) in REFUSALS {
-        members = given_back(&rt, rt.alloc(), members, *numbers, *cause);
-    }
-    begun_at_last(&rt, rt.alloc(), members)?;
     Ok(())
 }

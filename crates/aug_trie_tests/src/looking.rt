@@ -2,14 +2,12 @@
 ghost use Rattle.std.specs.Prelude.{◌≡◌, ◌*◌, ◌^◌, ◌<◌, ◌≤◌};
 ghost use Rattle.aug_model.specs.Folds.{summary_of};
 ghost use Rattle.aug_model.specs.Keys.{list_of};
-ghost use Rattle.aug_model.specs.Queries.{rank_of, weight_of};
+ghost use Rattle.aug_model.specs.Queries.{rank_of};
 ghost use Rattle.aug_trie.specs.Snapshot.{HasSnapshot, snapshot_cut, set_at};
 ghost use Rattle.aug_trie.specs.Node.{HasNode};
 ghost use Rattle.aug_trie.specs.TreeOf.{IsTreeOf};
 
-use super::playing::Act::{
-    After, Batches, Before, Keys, Left, Now, Open, RankByView, Right, Sees, Size,
-};
+use super::playing::Act::{After, Before, Keys, Left, Now, Open, RankByView, Right, Sees, Size};
 use super::playing::Change::Insert;
 use super::playing::Reply::{Done, Finds, Folded, Is, Number, Stands};
 use super::playing::Who::A;
@@ -17,7 +15,7 @@ use super::playing::{Act, Reply};
 use super::rounds::Way;
 use super::rows::{Play, Row, rows};
 use aug_monoid::Monoid;
-use aug_query::descent::{Rank, Weight};
+use aug_query::descent::Rank;
 use aug_trie::{BeginError, Node, Pass, Snapshot};
 
 // The rank of a key in one snapshot, before and after the key is put in.
@@ -33,26 +31,6 @@ fn rank_twice<A: Monoid, B: Monoid>(pass: &mut Pass<'_, A, B>, s: Snapshot, k: u
     let first = pass.ask(s, Rank(k));
     pass.insert(k);
     (first, pass.ask(s, Rank(k)))
-}
-
-// The weight of a key in one snapshot, before and after the key is put in with another.
-fn weight_twice<A: Monoid, B: Monoid>(
-    pass: &mut Pass<'_, A, B>,
-    s: Snapshot,
-    k: u32,
-    weight: u32,
-) -> (Option<u32>, Option<u32>)
-    requires snapshot { HasSnapshot pass.old s.number }
-    requires key { k < 2 ^ pass.old.round.bits }
-    requires budget { pass.old.spent < pass.old.round.updates }
-    ensures answer { result.0 ≡ weight_of (set_at pass.old s).pairs k }
-    ensures again { result.1 ≡ result.0 }
-    ensures snapshot { HasSnapshot pass.new s.number }
-    ensures same_cut { snapshot_cut pass.new s.number ≡ snapshot_cut pass.old s.number }
-{
-    let first = pass.ask(s, Weight(k));
-    pass.put(k, weight);
-    (first, pass.ask(s, Weight(k)))
 }
 
 // The left child of a node, loaded after a key was taken out: it is of the tree that the node is of.
@@ -73,7 +51,7 @@ fn left_later<A: Monoid, B: Monoid>(
 }
 
 const QUERIES: &[Row] = &[Row {
-    shows: "each query and each batch answers",
+    shows: "each query answers",
     plays: &[Play {
         way: Way::Begin,
         numbers: (4, 1, 2),
@@ -93,7 +71,6 @@ const QUERIES: &[Row] = &[Row {
             (A, Sees(6), Is(false)),
             (A, Keys, Reply::Keys(Some(5), Some(9))),
             (A, Act::Range(5, 9), Folded(1, 5, Some((5, 5)))),
-            (A, Batches, Is(true)),
             (A, RankByView(16), Number(2)),
         ],
         rest: &[],

@@ -101,12 +101,8 @@ pub(super) enum Act {
     Range(u32, u32),
     Keys,
     Pairs,
-    // How long the lists of keys and of pairs are.
-    Lists,
     // The rank of a key by a view of the pass, which is given up then.
     RankByView(u32),
-    // Each batch of queries on 5 and 9.
-    Batches,
     // A clone of the top of the tree, and the children of that clone.
     Top,
     Left,
@@ -140,8 +136,6 @@ pub(super) enum Reply {
     // A list of at most two keys, and one of at most three pairs.
     Keys(Option<u32>, Option<u32>),
     Listed(Option<(u32, u32)>, Option<(u32, u32)>, Option<(u32, u32)>),
-    // How many pairs there are, how many of them have the key that the list of keys has there, and how many are a place and 2^32 - 1 less it.
-    Lengths(u32, u32, u32),
     // How many members there are, what 1 and 2 weigh, and the weights of the keys of 2 bits together.
     Kept(u32, Option<u32>, Option<u32>, u64),
 }

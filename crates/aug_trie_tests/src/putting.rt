@@ -1,20 +1,14 @@
 //! Puts: keys that come in with a weight of their own, and members that get another one.
-ghost use Rattle.std.specs.Prelude.{◌≡◌, ◌^◌};
-ghost use Rattle.aug_trie.specs.Snapshot.{HasSnapshot};
 
 use super::playing::Act::{Back, Counts, Now, Open, Pairs, Range, Size, Weight};
 use super::playing::Change::{Insert, Put, Remove};
 use super::playing::Reply::{Came, Counted, Done, Finds, Folded, Is, Listed, Number};
 use super::playing::Who::A;
-use super::playing::changed;
-use super::resting::{Ask, rests};
-use super::rounds::{Hands, Table, Walker, Way, next_pass, opened};
+use super::resting::Ask;
+use super::rounds::Way;
 use super::rows::{Play, Row, rows};
-use crate::assertions::{equal, holds};
 use aug_model::Outcome::{Accepted, Replaced};
-use aug_query::descent;
-use aug_trie::{BeginError, Snapshot};
-use std::process::Abort;
+use aug_trie::BeginError;
 
 const PUTS: &[Row] = &[
     // A put of the same weight replaces too.
@@ -111,53 +105,4 @@ const PUTS: &[Row] = &[
 #[test]
 fn a_put_gives_its_key_its_weight(rt: HostRuntime) -> Result<(), BeginError> {
     rows(&rt, rt.alloc(), PUTS)
-}
-
-// Whether a pass that holds a snapshot in which 1 weighs 1,000 sees each of a hundred replacements by another pass, and none in that
-// snapshot.
-fn sees_replacements(a: &mut Walker<'_>, held: Snapshot, b: &mut Walker<'_>) -> bool
-    requires snapshot { HasSnapshot a.old held.number }
-    requires bits { 4 ≡ 2 ^ b.old.round.bits }
-    ensures a { a.new.round ≡ a.old.round }
-    ensures b { b.new.round ≡ b.old.round }
-{
-    for weight in 0..100 {
-        let reply = changed(b, 4, Put(1, weight));
-        let new = a.snapshot();
-        let seen = (
-            a.ask(held, descent::Weight(1)),
-            a.ask(new, descent::Weight(1)),
-        );
-        if reply != Came(Replaced) || seen != (Some(1_000), Some(weight)) {
-            return false;
-        }
-    }
-    true
-}
-
-// Two passes of a round of 2 bits, of which one looks and the other replaces.
-fn replaced(rt: &impl Abort, round: &Table, crew: &mut Hands)
-    requires together { crew.old.round ≡ round.now }
-    requires bits { 4 ≡ 2 ^ round.now.bits }
-    ensures { crew.new.round ≡ round.now }
-{
-    let mut a = next_pass(crew, round).expect(rt, "lane 0");
-    let mut b = next_pass(crew, round).expect(rt, "lane 1");
-    equal(rt, changed(&mut b, 4, Put(1, 1_000)), Came(Accepted));
-    let held = a.snapshot();
-    holds(rt, sees_replacements(&mut a, held, &mut b));
-    crew.back(a);
-    crew.back(b);
-}
-
-#[test]
-fn a_pass_that_looks_never_misses_a_key_that_another_replaces(
-    rt: HostRuntime,
-) -> Result<(), BeginError> {
-    let (round, mut crew) = opened(rt.alloc(), (2, 2, 101))?;
-    replaced(&rt, &round, &mut crew);
-    let mut ended = round.end(crew);
-    let asks = [(Ask::Size, Number(1)), (Ask::Counts, Counted(101, 100, 0))];
-    rests(&rt, rt.alloc(), &mut ended, "replacements", &asks);
-    Ok(())
 }

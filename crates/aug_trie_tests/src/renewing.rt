@@ -1,16 +1,15 @@
 //! Rounds that are renewed in their own memory.
-ghost use Rattle.std.specs.Prelude.{◌≡◌, ◌^◌, ◌≤◌, [], IfOk, IfErr, vec_capacity};
+ghost use Rattle.std.specs.Prelude.{◌≡◌, ◌≤◌, IfOk, IfErr};
 
 use super::asking::sees;
-use super::playing::Change::{Insert, Remove};
+use super::playing::Change::Insert;
 use super::playing::Reply::Is;
-use super::playing::{Reply, changed};
+use super::playing::changed;
 use super::rounds::{Hands, Table, Trie};
 use crate::assertions::{equal, holds};
 use crate::eras::gone_on;
 use aug_trie::{BeginError, Ended, Members, Round};
 use std::alloc::Global;
-use std::process::Abort;
 
 // The empty set of 4 bits.
 fn nothing(alloc: Global) -> Result<Members, BeginError>
@@ -33,73 +32,6 @@ fn begun(alloc: Global, set: Members) -> Result<(Table, Hands), Members>
     ensures same { IfErr result (λ e. e ≡ set) }
 {
     Round::begin_for_all(alloc, set, 2, 2)
-}
-
-// A pass of the next lane puts a key in, takes another one out, and comes back. Whether either did anything.
-fn played(rt: &impl Abort, round: &Table, crew: &mut Hands, into: u32, out: u32) -> (Reply, Reply)
-    requires bits { round.now.bits ≡ 4 }
-    requires together { crew.old.round ≡ round.now }
-    requires none_out { crew.old.back ≡ crew.old.handed }
-    ensures together { crew.new.round ≡ round.now }
-    ensures none_out { crew.new.back ≡ crew.new.handed }
-{
-    let Ok(mut pass) = crew.pass(round) else {
-        panic!(rt; "no lane is left");
-    };
-    let came = changed(&mut pass, 16, Insert(into));
-    let went = changed(&mut pass, 16, Remove(out));
-    crew.back(pass);
-    (came, went)
-}
-
-#[test]
-fn a_round_is_renewed_over_what_it_left(rt: HostRuntime) -> Result<(), BeginError> {
-    let Ok((mut round, mut crew)) = begun(rt.alloc(), nothing(rt.alloc())?) else {
-        return Err(BeginError::OutOfMemory);
-    };
-    let Ok(mut list) = Vec::with_capacity(rt.alloc(), 16) else {
-        return Err(BeginError::OutOfMemory);
-    };
-    equal(
-        &rt,
-        played(&rt, &round, &mut crew, 5, 5),
-        (Is(true), Is(true)),
-    );
-    equal(
-        &rt,
-        played(&rt, &round, &mut crew, 3, 9),
-        (Is(true), Is(false)),
-    );
-    let (mut crew, inserts, removals) = round.renew(crew, &mut list);
-    equal(&rt, (inserts, removals), (2, 1));
-    equal(&rt, list.as_slice(), [(3, 3)].as_slice());
-    equal(&rt, crew.handed(), 0);
-    list.clear();
-    equal(
-        &rt,
-        played(&rt, &round, &mut crew, 3, 9),
-        (Is(false), Is(false)),
-    );
-    equal(
-        &rt,
-        played(&rt, &round, &mut crew, 15, 3),
-        (Is(true), Is(true)),
-    );
-    let (mut crew, inserts, removals) = round.renew(crew, &mut list);
-    equal(&rt, (inserts, removals), (1, 1));
-    equal(&rt, list.as_slice(), [(15, 15)].as_slice());
-    equal(
-        &rt,
-        played(&rt, &round, &mut crew, 0, 15),
-        (Is(true), Is(true)),
-    );
-    let ended = round.end(crew);
-    equal(
-        &rt,
-        (ended.size(), ended.inserts(), ended.missing()),
-        (1, 1, 0),
-    );
-    Ok(())
 }
 
 #[test]

@@ -1,7 +1,5 @@
-//! Puts by single turns: how many there are, schedules in which they meet other changes of their key, and what others see meanwhile.
-ghost use Rattle.std.specs.Prelude.{◌≡◌, IfSome};
+//! Puts by single turns: how many there are, and schedules in which they meet other changes of their key.
 
-use super::asking::seen_weight;
 use super::latest::ZERO;
 use super::playing::Act::{
     Back, Counts, Finish, Last, Now, Open, Size, Start, ToTheEnd, Turns, TurnsLeft, Weight,
@@ -9,15 +7,11 @@ use super::playing::Act::{
 use super::playing::Change::{Insert, Put, Remove};
 use super::playing::Reply::{Came, Counted, Done, Ended, Finds, Is, Number};
 use super::playing::Who::{A, B};
-use super::resting::{Ask, rests};
-use super::rounds::{Climber, Hands, Table, Walker, Way, begun, next_pass};
+use super::resting::Ask;
+use super::rounds::Way;
 use super::rows::{Play, Row, rows};
-use super::turning::zero_or_nothing;
-use crate::assertions::{equal, holds};
-use aug_model::Outcome;
 use aug_model::Outcome::{Accepted, Refused, Replaced};
-use aug_trie::{BeginError, Turn};
-use std::process::Abort;
+use aug_trie::BeginError;
 
 const PUTS: &[Row] = &[
     Row {
@@ -142,64 +136,4 @@ const PUTS: &[Row] = &[
 #[test]
 fn puts_by_turns_come_to_what_they_meet(rt: HostRuntime) -> Result<(), BeginError> {
     rows(&rt, rt.alloc(), PUTS)
-}
-
-// The turn after which the key was first seen to weigh 8, if `made` turns were made and it is now seen to weigh `weight`: 0 if it was
-// not seen so yet. None if it weighs anything but 0 before that turn and 8 from it on.
-fn first_seen(weight: Option<u32>, made: u32, first: u32) -> Option<u32> {
-    match (weight, first) {
-        (Some(0), 0) => Some(0),
-        (Some(8), 0) => Some(made),
-        (Some(8), _) => Some(first),
-        _ => None,
-    }
-}
-
-// Makes all turns of a put of 0 that weighs 8 in place of 0. After each turn another pass looks at the key. The result is the outcome of
-// the put, and after which turn the other first saw it; None if the other once saw another weight, or no key.
-fn watched<'r>(climb: Climber<'r>, other: &mut Walker<'r>) -> Option<(Walker<'r>, Outcome, u32)>
-    ensures round { IfSome result (λ t. t.0.round ≡ climb.entry.start.round) }
-    ensures other { other.new.round ≡ other.old.round }
-{
-    let most = climb.turns_left();
-    let mut climb = climb;
-    let mut first = 0;
-    for made in 1..=most {
-        let turn = climb.turn();
-        first = first_seen(seen_weight(other, 0), made, first)?;
-        match turn {
-            Turn::More(next) => climb = next,
-            Turn::Done(pass, outcome) => return Some((pass, outcome, first)),
-        }
-    }
-    None
-}
-
-// A round over the set of 0, which weighs 0, in which its weight is replaced by 8 and first shown by this turn.
-fn replaced(rt: &impl Abort, round: &Table, crew: &mut Hands, shown: u32)
-    requires together { crew.old.round ≡ round.now }
-    ensures { crew.new.round ≡ round.now }
-{
-    let a = next_pass(crew, round).expect(rt, "lane 0");
-    let mut b = next_pass(crew, round).expect(rt, "lane 1");
-    holds(rt, a.budget() > 0);
-    let seen = watched(a.start_put(0, 8), &mut b);
-    let (a, outcome, shown_from) = seen.expect(rt, "an end, with the key there at each look");
-    equal(rt, (outcome, shown_from), (Outcome::Replaced, shown));
-    crew.back(b);
-    crew.back(a);
-}
-
-// The last turn exchanges the root's word, and with it the weight that is shown.
-#[test]
-fn no_turn_of_a_replacement_shows_the_key_gone(rt: HostRuntime) -> Result<(), BeginError> {
-    for (bits, shown) in [(1, 11), (2, 26), (4, 56)] {
-        let ended = zero_or_nothing(&rt, rt.alloc(), bits, true)?;
-        let (round, mut crew) = begun(rt.alloc(), ended, Way::Begin, (bits, 2, 1))?;
-        replaced(&rt, &round, &mut crew, shown);
-        let mut ended = round.end(crew);
-        let asks = [(Ask::Size, Number(1)), (Ask::Counts, Counted(1, 1, 0))];
-        rests(&rt, rt.alloc(), &mut ended, "a replacement", &asks);
-    }
-    Ok(())
 }

@@ -228,7 +228,7 @@ fn updates_by_turns_come_to_what_they_meet(rt: HostRuntime) -> Result<(), BeginE
 }
 
 // A trie in which 0 is alone and weighs 0, or the empty one.
-pub(super) fn zero_or_nothing(
+fn zero_or_nothing(
     rt: &impl Abort,
     alloc: Global,
     bits: u32,

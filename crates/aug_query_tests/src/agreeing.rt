@@ -22,7 +22,7 @@ fn set_of(alloc: Global, width: u32, members: u32) -> Result<KeySet, ModelError>
 }
 
 // The tree of the members of `set`.
-fn tree_of(alloc: Global, set: &KeySet) -> Result<FakeTree<Last, Sum>, AllocError> {
+pub(super) fn tree_of(alloc: Global, set: &KeySet) -> Result<FakeTree<Last, Sum>, AllocError> {
     let bits = set.bits();
     let mut list = Vec::new(alloc);
     for k in 0..1u32 << bits {

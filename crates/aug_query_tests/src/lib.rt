@@ -8,4 +8,6 @@ mod asking;
 #[cfg(test)]
 mod assertions;
 #[cfg(test)]
+mod cursors;
+#[cfg(test)]
 mod examples;

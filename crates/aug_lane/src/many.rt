@@ -19,7 +19,8 @@ fn bit(answer: bool) -> u8
 }
 
 /// Writes how many members are below each of `asked` to the place with its index. The keys may have any order, and the call
-/// walks once for each. The rest of `out` stays.
+/// walks once for each; `Ranks` requires keys that do not fall, and walks once over what their ways share. The rest of `out`
+/// stays.
 pub fn rank_all<A: Monoid, B: Monoid>(
     owned: OwnedPass<A, B>,
     asked: &[u32],
@@ -41,7 +42,8 @@ pub fn rank_all<A: Monoid, B: Monoid>(
 }
 
 /// Writes 1 for each of `asked` that is a member, and 0 for each other, to the place with its index. The keys may have any
-/// order, and the call walks once for each. The rest of `out` stays.
+/// order, and the call walks once for each; `Memberships` requires keys that do not fall, and walks once over what their ways
+/// share. The rest of `out` stays.
 pub fn has_all<A: Monoid, B: Monoid>(
     owned: OwnedPass<A, B>,
     asked: &[u32],

@@ -9,11 +9,10 @@ pub mod Ends
 pub mod Passing
 pub mod Beside
 pub mod Inside
+pub mod Batches
 pub mod Paths
 pub mod Placed
 pub mod Cover
 pub mod Listed
 pub mod Weighing
 pub mod Extents
-pub mod Together
-pub mod Batches

@@ -9,9 +9,6 @@ use std::process::Abort;
 
 const KEYS: &[u32] = &[4, 5, 5, 9, 10, 16];
 
-// The first is past all keys.
-const PAST: &[u32] = &[4_000_000_000, 9, 5, 6, 7];
-
 const EACH: &[Step<'static>] = &[
     // A range joins in rising order, and leaves its end out.
     Step::Spans(0, 16, (2, Some(9), Some((5, 9)))),
@@ -39,13 +36,9 @@ const EACH: &[Step<'static>] = &[
     Step::Keys(&[5, 9]),
     Step::Pairs(&[(5, 70), (9, 30)]),
 
-    // Batches, of four keys together and of those that are left, in any order. Ranks stand behind what was there.
+    // Batches. Ranks stand behind what was there.
     Step::Ranks(&[], KEYS, &[0, 0, 0, 1, 2, 2]),
     Step::Ranks(&[7], &[5, 6, 16], &[7, 0, 1, 2]),
-    Step::Ranks(&[], &[15, 5, 10, 6], &[2, 0, 2, 1]),
-    Step::Ranks(&[], PAST, &[2, 1, 0, 1, 1]),
-    Step::Memberships(PAST, &[false, true, true, false, false]),
-    Step::Weights(PAST, &[None, Some(30), Some(70), None, None]),
     Step::Memberships(KEYS, &[false, true, true, true, false, false]),
     Step::Weights(KEYS, &[None, Some(70), Some(70), Some(30), None, None]),
 ];

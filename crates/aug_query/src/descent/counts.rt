@@ -28,7 +28,7 @@ impl<A: Monoid, B: Monoid> Query<A, B> for Size {
     }
 }
 
-/// How many members are below a key.
+/// How many members are below a key. The leaf before an odd key is counted by itself, since its neighbour is not needed.
 #[derive(Clone, Copy)]
 pub struct Rank(pub u32);
 
@@ -54,29 +54,12 @@ impl<A: Monoid, B: Monoid> Query<A, B> for Rank {
             below = more;
             level -= 1;
         }
-        below_key(tree, k, &node, below)
+        if k % 2 == 1 {
+            let leaf = tree.left(0, k / 2, &node);
+            below += tree.count(0, k - 1, &leaf);
+        }
+        below
     }
-}
-
-// How many members are below `k`, by the node above its leaf. `below` members come before that node. The leaf before an odd key is
-// counted by itself, since its neighbour is not needed.
-#[inline(always)]
-pub(super) fn below_key<A: Monoid, B: Monoid, D: Descend<A, B>>(
-    tree: &mut D,
-    k: u32,
-    node: &D::Name,
-    below: u32,
-) -> u32
-    requires name { D.Names tree.old 1 (k / 2 ^ 1) node.now }
-    requires counted { below ≡ rank_of (list_of (D.set_of tree.old)) (first_key 1 (k / 2 ^ 1)) }
-    ensures answer { result ≡ rank_of (list_of (D.set_of tree.old)) k }
-    ensures descends { Descends D.set_of D.loads_of D.Names D.KeepsRest 1 1 0 0 tree.old tree.new }
-{
-    if k % 2 == 0 {
-        return below;
-    }
-    let leaf = tree.left(0, k / 2, node);
-    below + tree.count(0, k - 1, &leaf)
 }
 
 // The child, at this level, that covers `k`, of the node above it that covers `k`, and how many members come before that child.

@@ -3,10 +3,12 @@ use Rattle.aug_model.specs.Keys.{list_of}
 use Rattle.aug_model.specs.Queries.{rank_of}
 use Rattle.aug_model.specs.NodeKeys.{first_key}
 use Rattle.aug_model.proofs.Ranges.{all_below_from}
+use Rattle.aug_query.specs.Descend.{Descends}
 use Rattle.aug_query.proofs.Orders.{rank_past}
-use Rattle.aug_query.proofs.Descending.{within, further}
-use Rattle.aug_query.proofs.Ways.{top_place, top_rank}
+use Rattle.aug_query.proofs.Descending.{within, further, counted}
+use Rattle.aug_query.proofs.Ways.{top_place, top_rank, ranks_few, even_rank, odd_rank}
 use Rattle.aug_query.proofs.descent.counts.RankQuery.run.Goals as goal
+use Rattle.aug_query.proofs.descent.counts.RankQuery.run.Goals.{then-k-eq1, else-k-eq1}
 
 pub returns-then-universe-k-clause-answer : goal.returns-then-universe-k-clause-answer
 returns-then-universe-k-clause-answer g c =
@@ -45,23 +47,30 @@ loop-level-preserved g c =
       walk = further g.met.D.Descend.keeps_on inv.walk step.descends (omega (arith, inv.most, some)) (omega arith) (omega arith) (omega (arith, inv.most, some));
     }
 
-pub below_key-requires-clause-name : goal.below_key-requires-clause-name
-below_key-requires-clause-name g c =
-    let one : c.loop-level.level + 1 ≡ 1 = omega (arith, c.loop-level-test.false) in
-    subst (λ l. g.D.Descend.Names c.loop-level.tree l (c.args.self.0 / 2 ^ l) c.loop-level.node) one c.loop-level.invariant.node
-
-pub below_key-requires-clause-counted : goal.below_key-requires-clause-counted
-below_key-requires-clause-counted g c =
+pub overflow_add-below : goal.overflow_add-below
+overflow_add-below g c =
     let inv = c.loop-level.invariant in
+    let same = c.left-leaf.ensures.descends.same_set ∙ inv.walk.same_set in
     let one : c.loop-level.level + 1 ≡ 1 = omega (arith, c.loop-level-test.false) in
-    subst (λ l. c.loop-level.below ≡ rank_of (list_of (g.D.Descend.set_of c.args.tree.now)) (first_key l (c.args.self.0 / 2 ^ l))) one inv.below
-    ∙ ap (λ s. rank_of (list_of s) (first_key 1 (c.args.self.0 / 2 ^ 1))) (sym inv.walk.same_set)
+    let whole = odd_rank c.args.self.0 (c.loop-level.level + 1) c.loop-level.below c.count-below.result c.universe.ensures.set same one c.if-k-eq1.true inv.below c.count-below.ensures.value in
+    omega (arith, whole, ranks_few c.universe.ensures.set c.args.self.0)
 
 pub returns-clause-answer : goal.returns-clause-answer
-returns-clause-answer g c = c.below_key.ensures.answer ∙ ap (λ s. rank_of (list_of s) c.args.self.0) c.loop-level.invariant.walk.same_set
+returns-clause-answer g c =
+    let inv = c.loop-level.invariant in
+    let one : c.loop-level.level + 1 ≡ 1 = omega (arith, c.loop-level-test.false) in
+    elim c.if-k-eq1.branch [
+      | then-k-eq1 w ↦ w.below-is ∙ odd_rank c.args.self.0 (c.loop-level.level + 1) c.loop-level.below w.count-below.result c.universe.ensures.set (w.left-leaf.ensures.descends.same_set ∙ inv.walk.same_set) one w.if-k-eq1.true inv.below w.count-below.ensures.value
+      | else-k-eq1 w ↦ w.below-is ∙ even_rank (list_of (g.D.Descend.set_of c.args.tree.now)) c.args.self.0 (c.loop-level.level + 1) c.loop-level.below one w.if-k-eq1.false inv.below
+    ]
 
 pub returns-then-universe-k-clause-descends : goal.returns-then-universe-k-clause-descends
 returns-then-universe-k-clause-descends g c = within c.run.ensures.descends (omega arith) (omega arith) (omega arith) (omega arith)
 
 pub returns-clause-descends : goal.returns-clause-descends
-returns-clause-descends g c = further g.met.D.Descend.keeps_on c.loop-level.invariant.walk c.below_key.ensures.descends (omega (arith, c.loop-level-test.false)) (omega arith) (omega arith) (omega arith)
+returns-clause-descends g c =
+    let inv = c.loop-level.invariant in
+    elim c.if-k-eq1.branch [
+      | then-k-eq1 w ↦ subst (λ tree. Descends g.D.Descend.set_of g.D.Descend.loads_of g.D.Descend.Names g.D.Descend.KeepsRest ((g.D.Descend.set_of c.args.tree.now).bits + 1) 1 0 (g.D.Descend.set_of c.args.tree.now).bits c.args.tree.now tree) (sym w.tree-is) (further g.met.D.Descend.keeps_on inv.walk (counted g.met.D.Descend.keeps_on w.left-leaf.ensures.descends w.count-below.ensures.descends) (omega (arith, c.loop-level-test.false)) (omega arith) (omega arith) (omega arith))
+      | else-k-eq1 w ↦ subst (λ tree. Descends g.D.Descend.set_of g.D.Descend.loads_of g.D.Descend.Names g.D.Descend.KeepsRest ((g.D.Descend.set_of c.args.tree.now).bits + 1) 1 0 (g.D.Descend.set_of c.args.tree.now).bits c.args.tree.now tree) (sym w.tree-is) (within inv.walk (omega arith) (omega arith) (omega arith) (omega arith))
+    ]

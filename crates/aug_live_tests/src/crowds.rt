@@ -1,8 +1,8 @@
 //! More handles than a few: each of them goes on over roll-overs, and behind calls that are refused.
 
-use super::opening::{Hand, Trie, opened_with};
-use super::steps::{Step, fill, last, looked, over, play, renewed, size};
-use crate::assertions::{equal, equal_length, holds};
+use super::opening::{Hand, Trie, insert, last, looked, opened, over, renewed, rolled, size};
+use super::steps::fill;
+use crate::assertions::{equal, holds};
 use aug_live::LiveError;
 use aug_trie::BeginError;
 use std::alloc::Global;
@@ -64,7 +64,7 @@ const CROWDS: &[Crowd] = &[
 fn each_inserts<R: Wait + Abort>(rt: &R, hands: &mut [Hand], from: u32) {
     let mut k = from;
     for hand in hands.iter_mut() {
-        fill(rt, hand, k, 2);
+        equal(rt, fill(rt, hand, k, 2), 2);
         k = k.saturating_add(2);
     }
 }
@@ -75,7 +75,7 @@ fn are_refused<R: Wait + Abort>(rt: &R, live: &mut Trie, hands: &mut Vec<Hand>, 
     equal(rt, refused.err(), Some(LiveError::NoLane));
     let mut old = last(rt, hands);
     let new = renewed(rt, live, handles.saturating_sub(1)).expect(rt, "a new handle");
-    play(rt, &mut old, &[Step::Insert(511, Err(LiveError::Replaced))]);
+    equal(rt, insert(rt, &mut old, 511), Err(LiveError::Replaced));
     hands.push(new).expect(rt, "memory");
 }
 
@@ -102,14 +102,14 @@ fn are_all_below(set: &[(u32, u32)], count: u32) -> bool {
 
 // What the trie of a row comes to.
 fn assert_goes_on<R: Wait + Abort>(rt: &R, alloc: Global, it: &Crowd) -> Result<(), BeginError> {
-    let (mut live, mut hands) = opened_with(rt, alloc, 9, it.handles, it.spare, it.updates)?;
-    equal_length(rt, hands.len(), it.handles as usize);
+    let (mut live, mut hands) = opened(rt, alloc, 9, it.handles, it.spare, it.updates)?;
+    equal(rt, hands.len(), it.handles as usize);
     let mut members = 0u32;
     for _ in 0..3 {
         each_inserts(rt, hands.as_mut_slice(), members);
         members = members.saturating_add(it.handles.saturating_mul(2));
         if it.by_hand {
-            equal(rt, live.roll(rt), Ok(()));
+            equal(rt, rolled(rt, &mut live), Ok(()));
         }
         are_refused(rt, &mut live, &mut hands, it.handles);
     }

@@ -1,10 +1,10 @@
 //! Tries that are opened while there is enough memory: none is refused for want of it, whatever its numbers and its set are.
 ghost use Rattle.std.specs.Prelude.{◌≤◌};
 
-use super::opening::{Hand, Trie, no_keys};
-use super::sparing::words_of;
-use super::steps::{fill, last};
-use crate::assertions::{equal, equal_length};
+use super::opening::{Hand, Trie, last, no_keys};
+use super::planning::words_of;
+use super::steps::fill;
+use crate::assertions::equal;
 use aug_live::{Live, Plan};
 use aug_monoid::{Extent, Sum};
 use aug_trie::{BeginError, Ended, Members, Round};
@@ -15,7 +15,7 @@ use std::sync::Wait;
 // The set that a trie with so many handles closes with.
 fn closed<R: Wait + Abort>(rt: &R, opened: (Trie, Vec<Hand>), handles: u32) -> Members {
     let (live, hands) = opened;
-    equal_length(rt, hands.len(), handles as usize);
+    equal(rt, hands.len(), handles as usize);
     drop(hands);
     let (set, _) = live.close(rt);
     set
@@ -209,7 +209,7 @@ fn no_trie_is_refused_for_its_updates(rt: HostRuntime) -> Result<(), BeginError>
 fn filled<R: Wait + Abort>(rt: &R, opened: (Trie, Vec<Hand>), from: u32, count: u32) -> Members {
     let (live, mut hands) = opened;
     let mut hand = last(rt, &mut hands);
-    fill(rt, &mut hand, from, count);
+    equal(rt, fill(rt, &mut hand, from, count), count);
     drop(hand);
     closed(rt, (live, hands), 0)
 }

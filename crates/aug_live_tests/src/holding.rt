@@ -1,7 +1,7 @@
 //! A look that is held while another thread's roll-over waits for it.
 
-use super::opening::{Hand, insert, opened};
-use super::steps::{closed, fill, last, looked, over, size, take_newer_snapshot};
+use super::opening::{Hand, closed, insert, last, looked, opened, over, size, take_newer_snapshot};
+use super::steps::fill;
 use crate::assertions::{equal, holds};
 use aug_trie::BeginError;
 use crossbeam_channel::{Receiver, Sender, unbounded};
@@ -46,9 +46,9 @@ fn stays<R: Wait + Abort>(
 #[test]
 fn a_roll_over_waits_for_a_look_that_is_held(rt: HostRuntime) -> Result<(), BeginError> {
     let r = &rt;
-    let (live, mut hands) = opened(r, r.alloc(), 6, 2, 4)?;
+    let (live, mut hands) = opened(r, r.alloc(), 6, 2, 0, 4)?;
     let mut hand = last(r, &mut hands);
-    fill(r, &mut hand, 0, 4);
+    equal(r, fill(r, &mut hand, 0, 4), 4);
     let other = last(r, &mut hands);
     let ((hold, held), (make, made)) = (signal(r, r.alloc()), signal(r, r.alloc()));
     let (done, (mut other, right)) = thread::join(
@@ -58,7 +58,6 @@ fn a_roll_over_waits_for_a_look_that_is_held(rt: HostRuntime) -> Result<(), Begi
     );
     holds(r, done && right);
     equal(r, insert(r, &mut other, 63), Ok(false));
-    let (size, counts) = closed(r, live);
-    equal(r, (size, counts.rounds), (5, 2));
+    equal(r, closed(r, live), (5, 2, 5));
     Ok(())
 }

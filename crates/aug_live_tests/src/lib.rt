@@ -3,8 +3,6 @@
 #![tactic(auto)]
 
 #[cfg(test)]
-mod asking;
-#[cfg(test)]
 mod assertions;
 #[cfg(test)]
 mod crowds;
@@ -17,18 +15,16 @@ mod opening;
 #[cfg(test)]
 mod own;
 #[cfg(test)]
-mod refused;
+mod planning;
 #[cfg(test)]
-mod renewing;
+mod refused;
 #[cfg(test)]
 mod rolling;
 #[cfg(test)]
-mod sleeping;
+mod rows;
 #[cfg(test)]
-mod sparing;
+mod sleeping;
 #[cfg(test)]
 mod steps;
 #[cfg(test)]
 mod telling;
-#[cfg(test)]
-mod thousand;

@@ -1,11 +1,11 @@
-//! Memory refused, and a trie that was closed: nothing is lost, and a later call succeeds.
+//! Memory refused: nothing is lost, and a later call succeeds.
 
-use super::opening::{Hand, Trie, no_keys, opened, opened_one};
-use super::steps::{
-    Step, closed, ended, fill, last, listed, looked, over, play, renewed, size, why_no_look,
-};
+use super::opening::{Hand, Trie, insert, last, no_keys, opened, put};
+use super::steps::Act::{Close, Fill, Insert, Look, Over, Remove, Renew, Roll, Size};
+use super::steps::Reply::{Done, Ended, Is, Number};
+use super::steps::{state_of, steps};
 use crate::assertions::equal;
-use aug_live::{Live, LiveError, Plan};
+use aug_live::{Live, Plan};
 use aug_model::Outcome;
 use aug_monoid::{Extent, Sum};
 use aug_trie::{BeginError, Members};
@@ -52,34 +52,29 @@ fn opened_again<R: Wait + Abort>(rt: &R, alloc: Global) -> Result<(Trie, Vec<Han
 // Passes whichever request for memory is refused. Updates, looks, roll-overs and new handles ask for none, so that none of them is refused.
 #[test]
 fn refused_memory_loses_nothing_of_a_live_trie(rt: HostRuntime) -> Result<(), BeginError> {
-    let (r, alloc) = (&rt, rt.alloc());
-    let (mut live, mut hands) = opened_again(r, alloc)?;
-    let mut hand = last(r, &mut hands);
-    fill(r, &mut hand, 0, 5);
-    play(r, &mut hand, &[Step::Remove(2, Ok(true))]);
-    let mut look = looked(r, hand);
-    equal(r, size(&mut look), 4);
-    drop(over(look));
-    let mut hand = renewed(r, &mut live, 0).expect(r, "a new handle");
-    play(r, &mut hand, &[Step::Insert(4, Ok(false))]);
-    equal(r, live.roll(r), Ok(()));
-    let (size, counts) = closed(r, live);
-    equal(
-        r,
-        (size, counts.rounds, counts.inserts, counts.removals),
-        (4, 5, 5, 1),
-    );
+    let script = [
+        (Fill(0, 5), Number(5)),
+        (Remove(2), Is(true)),
+        (Look, Done),
+        (Size, Number(4)),
+        (Over, Done),
+        (Renew(0), Done),
+        (Insert(4), Is(false)),
+        (Roll, Done),
+        (Close, Ended(4, 5, 5, 1)),
+    ];
+    let (live, hands) = opened_again(&rt, rt.alloc())?;
+    let state = state_of(live, hands);
+    steps(&rt, rt.alloc(), state, "a trie of two updates", &script);
     Ok(())
 }
 
 // The set of 3, which weighs 30, and 9, which weighs itself.
 fn two_keys<R: Wait + Abort>(rt: &R, alloc: Global) -> Result<Members, BeginError> {
-    let (live, mut hand) = opened_one(rt, alloc, 4, 2)?;
-    let steps = [
-        Step::Put(3, 30, Ok(Outcome::Accepted)),
-        Step::Insert(9, Ok(true)),
-    ];
-    play(rt, &mut hand, &steps);
+    let (live, mut hands) = opened(rt, alloc, 4, 1, 0, 2)?;
+    let mut hand = last(rt, &mut hands);
+    equal(rt, put(rt, &mut hand, 3, 30), Ok(Outcome::Accepted));
+    equal(rt, insert(rt, &mut hand, 9), Ok(true));
     let (set, _) = live.close(rt);
     Ok(set)
 }
@@ -120,29 +115,5 @@ fn refused_memory_gives_the_set_back(rt: HostRuntime) -> Result<(), BeginError> 
         }
     };
     assert_has_two(&rt, &set);
-    Ok(())
-}
-
-// Asks for an update and a look after the end.
-fn is_closed<R: Wait + Abort>(rt: &R, hand: Hand) {
-    let mut hand = hand;
-    let refused = [
-        Step::Insert(8, Err(LiveError::Closed)),
-        Step::Remove(9, Err(LiveError::Closed)),
-    ];
-    play(rt, &mut hand, &refused);
-    equal(rt, why_no_look(rt, hand), Some(LiveError::Closed));
-}
-
-#[test]
-fn a_closed_trie_answers_so(rt: HostRuntime) -> Result<(), BeginError> {
-    let (r, alloc) = (&rt, rt.alloc());
-    let (live, mut hands) = opened(r, alloc, 4, 2, 5)?;
-    let mut hand = last(r, &mut hands);
-    play(r, &mut hand, &[Step::Insert(9, Ok(true))]);
-    let (hand, list) = listed(r, alloc, hand);
-    equal(r, list.as_slice(), [(9, 9)].as_slice());
-    equal(r, ended(r, live), (1, 1));
-    is_closed(r, hand);
     Ok(())
 }

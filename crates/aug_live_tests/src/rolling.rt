@@ -1,7 +1,8 @@
-//! Threads that update and look while rounds roll over.
+//! Threads that update and look while rounds roll over, and while handles are made anew.
 
-use super::opening::{Hand, insert, opened, opened_with, remove};
-use super::steps::{View, closed, has, over, try_look};
+use super::opening::{
+    Hand, Trie, View, closed, has, insert, opened, over, remove, renewed, try_look,
+};
 use crate::assertions::{equal, holds};
 use aug_live::LiveError;
 use aug_model::KeySet;
@@ -14,7 +15,7 @@ use std::thread::Threads;
 
 // A thread's handle, its own keys, which leave this remainder divided by 4, and the seed of what it does.
 #[derive(Drop)]
-pub(super) struct Job {
+struct Job {
     hand: Hand,
     model: KeySet,
     lane: u32,
@@ -23,15 +24,15 @@ pub(super) struct Job {
 
 // What a thread did: how many keys it put in and took out, and whether all that it saw was right.
 #[derive(Drop)]
-pub(super) struct Did {
-    pub(super) inserts: u64,
-    pub(super) removals: u64,
-    pub(super) right: bool,
-    pub(super) closed: bool,
+struct Did {
+    inserts: u64,
+    removals: u64,
+    right: bool,
+    closed: bool,
 }
 
 // The next number from a seed.
-pub(super) fn next(seed: u64) -> u64 {
+fn next(seed: u64) -> u64 {
     seed.wrapping_mul(6_364_136_223_846_793_005)
         .wrapping_add(1_442_695_040_888_963_407)
 }
@@ -103,7 +104,7 @@ impl Did {
 }
 
 // Makes a job's updates, with a look after each few.
-pub(super) fn work<R: Wait>(rt: &R, job: Job) -> Did {
+fn work<R: Wait>(rt: &R, job: Job) -> Did {
     let mut job = job;
     let mut did = Did {
         inserts: 0,
@@ -128,7 +129,7 @@ pub(super) fn work<R: Wait>(rt: &R, job: Job) -> Did {
 }
 
 // A job for each handle.
-pub(super) fn jobs(rt: &impl Abort, alloc: Global, hands: Vec<Hand>, steps: u32) -> Vec<Job> {
+fn jobs(rt: &impl Abort, alloc: Global, hands: Vec<Hand>, steps: u32) -> Vec<Job> {
     let mut jobs = Vec::new(alloc);
     let mut lane = 0;
     for hand in hands {
@@ -146,7 +147,7 @@ pub(super) fn jobs(rt: &impl Abort, alloc: Global, hands: Vec<Hand>, steps: u32)
 }
 
 // How many keys threads put in, and how many more than they took out. All that they saw was right, and the trie was closed or not.
-pub(super) fn summed(rt: &impl Abort, done: Vec<Did>, closed: bool) -> (u64, u64) {
+fn summed(rt: &impl Abort, done: Vec<Did>, closed: bool) -> (u64, u64) {
     let mut inserts = 0u64;
     let mut left = 0u64;
     for did in done {
@@ -217,7 +218,7 @@ fn use_it<R: Threads + Wait + Abort + Sync>(
     alloc: Global,
     with: Use,
 ) -> Result<(), BeginError> {
-    let (live, mut hands) = opened_with(rt, alloc, 6, 4, with.spare, with.updates)?;
+    let (live, mut hands) = opened(rt, alloc, 6, 4, with.spare, with.updates)?;
     let idle = if with.idle {
         drop(hands.pop());
         hands.pop()
@@ -226,12 +227,9 @@ fn use_it<R: Threads + Wait + Abort + Sync>(
     };
     let (inserts, left) = worked(rt, alloc, hands, with.steps);
     drop(idle);
-    let (size, counts) = closed(rt, live);
-    equal(rt, (u64::from(size), counts.inserts), (left, inserts));
-    holds(
-        rt,
-        counts.rounds >= with.least && counts.rounds <= with.most,
-    );
+    let (size, rounds, made) = closed(rt, live);
+    equal(rt, (u64::from(size), made), (left, inserts));
+    holds(rt, rounds >= with.least && rounds <= with.most);
     Ok(())
 }
 
@@ -245,7 +243,7 @@ fn threads_see_their_own_updates_in_every_round(rt: HostRuntime) -> Result<(), B
 
 #[test]
 fn a_trie_is_closed_while_others_work(rt: HostRuntime) -> Result<(), BeginError> {
-    let (live, hands) = opened(&rt, rt.alloc(), 6, 4, 500)?;
+    let (live, hands) = opened(&rt, rt.alloc(), 6, 4, 0, 500)?;
     let r = &rt;
     let jobs = jobs(r, rt.alloc(), hands, 5_000_000);
     let (done, end) = thread::join(
@@ -255,5 +253,41 @@ fn a_trie_is_closed_while_others_work(rt: HostRuntime) -> Result<(), BeginError>
     );
     let (_, left) = summed(r, done.expect(r, "memory"), true);
     equal(&rt, u64::from(end.0), left);
+    Ok(())
+}
+
+// Puts key 3 in and takes it out in turn, `times` times, each time with a new handle for the lane 3. Whether all was right.
+fn renew_often<R: Wait>(rt: &R, live: &mut Trie, times: u32) -> bool {
+    let mut right = true;
+    for number in 0..times {
+        let Ok(mut hand) = renewed(rt, live, 3) else {
+            return false;
+        };
+        right &= if number % 2 == 0 {
+            insert(rt, &mut hand, 3) == Ok(true)
+        } else {
+            remove(rt, &mut hand, 3) == Ok(true)
+        };
+    }
+    right
+}
+
+#[test]
+fn handles_are_dropped_and_made_anew_while_others_work(rt: HostRuntime) -> Result<(), BeginError> {
+    let (mut live, mut hands) = opened(&rt, rt.alloc(), 6, 4, 0, 1000)?;
+    drop(hands.pop());
+    let (r, alloc, trie) = (&rt, rt.alloc(), &mut live);
+    let jobs = jobs(r, alloc, hands, 50_000);
+    let (done, right) = thread::join(
+        r,
+        || thread::map_vec(r, jobs, &|job| work(r, job)),
+        || renew_often(r, trie, 1001),
+    );
+    holds(&rt, right);
+    let (_, left) = summed(r, done.expect(r, "memory"), false);
+    let (size, rounds, _) = closed(r, live);
+    equal(&rt, u64::from(size), left.saturating_add(1));
+    // 151,001 updates, of which each lane has 1,000 in a round.
+    holds(&rt, rounds >= 50 && rounds <= 152);
     Ok(())
 }

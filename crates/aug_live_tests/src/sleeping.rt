@@ -1,8 +1,8 @@
 //! A thread that waits for a look. tests/faults runs this test, and measures how long a processor works meanwhile.
 
 use super::holding::{rolls, signal};
-use super::opening::{Hand, opened};
-use super::steps::{ended, fill, last, looked, over};
+use super::opening::{Hand, closed, last, looked, opened, over};
+use super::steps::fill;
 use crate::assertions::{equal, holds};
 use aug_trie::BeginError;
 use crossbeam_channel::Sender;
@@ -23,9 +23,9 @@ fn looks_for_1_second<R: Wait + Abort + Clock>(rt: &R, hand: Hand, held: Sender<
 #[test]
 fn a_thread_that_waits_for_a_look_sleeps_for_1_second(rt: HostRuntime) -> Result<(), BeginError> {
     let r = &rt;
-    let (live, mut hands) = opened(r, r.alloc(), 6, 2, 4)?;
+    let (live, mut hands) = opened(r, r.alloc(), 6, 2, 0, 4)?;
     let mut hand = last(r, &mut hands);
-    fill(r, &mut hand, 0, 4);
+    equal(r, fill(r, &mut hand, 0, 4), 4);
     let other = last(r, &mut hands);
     let ((hold, held), (make, _made)) = (signal(r, r.alloc()), signal(r, r.alloc()));
     let (rolled, looked) = thread::join(
@@ -34,6 +34,6 @@ fn a_thread_that_waits_for_a_look_sleeps_for_1_second(rt: HostRuntime) -> Result
         move || looks_for_1_second(r, other, hold),
     );
     holds(r, rolled && looked);
-    equal(r, ended(r, live), (5, 2));
+    equal(r, closed(r, live), (5, 2, 5));
     Ok(())
 }

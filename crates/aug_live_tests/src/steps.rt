@@ -1,209 +1,318 @@
-//! Updates and queries as data, each with its answer. What a call of the library promises is met here once, in functions that promise
-//! nothing, so that the proof of a test does not carry it along.
+//! Tries as rows of tables: what is done with a trie, its handles and a look, one step after the other, and what each step comes to. What a call
+//! of the library promises is met here once, in functions that promise nothing, so that the proof of a test is that of its data.
 
-use super::opening::{Hand, Trie, insert, put, remove};
+use super::opening::{Hand, Trie, View, insert, opened, put, remove, renewed, rolled};
+use super::own::Band;
 use crate::assertions::equal;
-use aug_live::{LiveCounts, LiveError, Look};
+use aug_live::LiveError;
 use aug_model::Outcome;
-use aug_monoid::{Extent, Sum};
-use aug_query::descent::{After, Before, Has, Pairs, Rank, Select, Size, Weight};
+use aug_query::descent::{Has, Pairs, SelectByWeight, Size, Weight};
+use aug_trie::BeginError;
 use std::alloc::Global;
+use std::mem;
 use std::process::Abort;
 use std::sync::Wait;
 
-pub(super) type View = Look<Sum, Extent>;
-
-/// An update of a handle, and its answer.
+/// What is done.
 #[derive(Clone, Copy)]
-pub(super) enum Step {
-    Insert(u32, Result<bool, LiveError>),
-    Remove(u32, Result<bool, LiveError>),
-    Put(u32, u32, Result<Outcome, LiveError>),
-}
-
-/// A query of a look, and its answer.
-#[derive(Clone, Copy)]
-pub(super) enum Query {
-    Has(u32, bool),
-    Weight(u32, Option<u32>),
-    Size(u32),
-    Rank(u32, u32),
-    Select(u32, Option<u32>),
-    Before(u32, Option<u32>),
-    After(u32, Option<u32>),
-}
-
-/// What is done with a trie and a handle.
-#[derive(Clone, Copy)]
-pub(super) enum Call<'a> {
-    Play(&'a [Step]),
-    /// Puts keys in, from the first number on as many as the second, none of which is a member yet.
+pub(super) enum Act {
+    /// An update by the handle.
+    Insert(u32),
+    Remove(u32),
+    Put(u32, u32),
+    /// Puts keys in, from the first number on as many as the second. How many of them went in.
     Fill(u32, u32),
-    /// Takes a look, which lists these members with their weights.
-    Lists(&'a [(u32, u32)]),
-    /// Takes a look, which lists as many members.
-    ListsAsMany(usize),
-    /// Drops the handle, and goes on with a new one of the lane with this number.
+    /// The handle makes a note, which is dropped.
+    Note,
+    /// The handle takes a look, the look takes a newer snapshot, and it is over.
+    Look,
+    Again,
+    Over,
+    /// What the look shows: whether it has a key, what the key weighs, how many members there are, and all of them.
+    Has(u32),
+    Weight(u32),
+    Size,
+    Pairs,
+    /// The queries of a caller's own.
+    Band(u32, u32),
+    SelectByWeight(u64),
+    /// The handle is dropped, or changes places with the other one.
+    Drop,
+    Swap,
+    /// A handle of the lane with this number comes in the place of the handle.
     Renew(u32),
-    /// Rolls the round over.
+    /// The round rolls over.
     Roll,
+    /// The trie is closed.
+    Close,
 }
 
-/// Makes updates in their order.
-pub(super) fn play<R: Wait + Abort>(rt: &R, hand: &mut Hand, steps: &[Step]) {
-    for step in steps {
-        match *step {
-            Step::Insert(k, answer) => equal(rt, insert(rt, hand, k), answer),
-            Step::Remove(k, answer) => equal(rt, remove(rt, hand, k), answer),
-            Step::Put(k, weight, answer) => equal(rt, put(rt, hand, k, weight), answer),
-        }
+/// What an act comes to.
+#[derive(Clone, Copy, PartialEq, Eq, Debug)]
+pub(super) enum Reply {
+    /// It was done, could not be done, or was refused.
+    Done,
+    Not,
+    Fails(LiveError),
+    Is(bool),
+    Came(Outcome),
+    Number(u32),
+    Finds(Option<u32>),
+    /// How many members there are, the first of them and the last.
+    Listed(usize, Option<(u32, u32)>, Option<(u32, u32)>),
+    /// The members of a trie at its end, its rounds, and how many keys were put in and taken out.
+    Ended(u32, u64, u64, u64),
+}
+
+/// What is done, and what it comes to.
+pub(super) type Step = (Act, Reply);
+
+/// A trie that is not closed, two handles and a look, if they are there.
+pub(super) struct State {
+    live: Option<Trie>,
+    hand: Option<Hand>,
+    other: Option<Hand>,
+    look: Option<View>,
+}
+
+/// The state of a trie that was opened. Of its handles two stay.
+pub(super) fn state_of(live: Trie, hands: Vec<Hand>) -> State {
+    let mut hands = hands;
+    let hand = hands.pop();
+    let other = hands.pop();
+    State {
+        live: Some(live),
+        hand,
+        other,
+        look: None,
     }
 }
 
-/// Puts `count` keys in, from the key `from` on; none of them is a member yet.
-pub(super) fn fill<R: Wait + Abort>(rt: &R, hand: &mut Hand, from: u32, count: u32) {
+/// What a call comes to that is done or refused.
+fn done(res: Result<(), LiveError>) -> Reply {
+    match res {
+        Ok(()) => Reply::Done,
+        Err(cause) => Reply::Fails(cause),
+    }
+}
+
+/// What an update comes to.
+fn is(res: Result<bool, LiveError>) -> Reply {
+    match res {
+        Ok(done) => Reply::Is(done),
+        Err(cause) => Reply::Fails(cause),
+    }
+}
+
+/// What a put comes to.
+fn came(res: Result<Outcome, LiveError>) -> Reply {
+    match res {
+        Ok(outcome) => Reply::Came(outcome),
+        Err(cause) => Reply::Fails(cause),
+    }
+}
+
+/// Puts `count` keys in, from the key `from` on. How many of them went in.
+pub(super) fn fill<R: Wait>(rt: &R, hand: &mut Hand, from: u32, count: u32) -> u32 {
+    let mut made = 0u32;
     for k in from..from.saturating_add(count) {
-        equal(rt, insert(rt, hand, k), Ok(true));
+        made = made.saturating_add(u32::from(insert(rt, hand, k) == Ok(true)));
+    }
+    made
+}
+
+/// What a note comes to, which is dropped.
+fn noted<R: Wait>(rt: &R, hand: &mut Hand) -> Reply {
+    done(hand.note(rt).map(drop))
+}
+
+/// What the handle does.
+fn by_hand<R: Wait>(rt: &R, hand: &mut Hand, act: Act) -> Reply {
+    match act {
+        Act::Insert(k) => is(insert(rt, hand, k)),
+        Act::Remove(k) => is(remove(rt, hand, k)),
+        Act::Put(k, weight) => came(put(rt, hand, k, weight)),
+        Act::Fill(from, count) => Reply::Number(fill(rt, hand, from, count)),
+        Act::Note => noted(rt, hand),
+        _ => Reply::Not,
     }
 }
 
-/// The last of some handles.
-pub(super) fn last(rt: &impl Abort, hands: &mut Vec<Hand>) -> Hand {
-    hands.pop().expect(rt, "a handle")
+/// How many members there are, the first of them and the last.
+fn listed(alloc: Global, look: &mut View) -> Reply {
+    match look.ask(Pairs(alloc)) {
+        Ok(list) => {
+            let list = list.as_slice();
+            Reply::Listed(list.len(), list.first().copied(), list.last().copied())
+        }
+        Err(_) => Reply::Not,
+    }
 }
 
-/// A new handle for a lane.
-pub(super) fn renewed<R: Wait>(rt: &R, live: &mut Trie, lane: u32) -> Result<Hand, LiveError> {
-    live.handle(rt, lane)
+/// What the look shows.
+fn by_look(alloc: Global, look: &mut View, act: Act) -> Reply {
+    match act {
+        Act::Again => {
+            look.again();
+            Reply::Done
+        }
+        Act::Has(k) => Reply::Is(look.ask(Has(k))),
+        Act::Weight(k) => Reply::Finds(look.ask(Weight(k))),
+        Act::Size => Reply::Number(look.ask(Size)),
+        Act::Pairs => listed(alloc, look),
+        Act::Band(level, band) => Reply::Number(look.ask(Band { level, band })),
+        Act::SelectByWeight(number) => Reply::Finds(look.ask(SelectByWeight(number))),
+        _ => Reply::Not,
+    }
 }
 
-/// How many members a trie has at its end, and its counts.
-pub(super) fn closed<R: Wait>(rt: &R, live: Trie) -> (u32, LiveCounts) {
-    let (set, counts) = live.close(rt);
-    (set.size(), counts)
+/// Ends a look, if there is one.
+fn end(look: Option<View>) {
+    if let Some(look) = look {
+        drop(look.done());
+    }
 }
 
-/// How many members a trie has at its end, and how many rounds it had. A call that was refused began none.
-pub(super) fn ended<R: Wait>(rt: &R, live: Trie) -> (u32, u64) {
-    let (size, counts) = closed(rt, live);
-    (size, counts.rounds)
-}
-
-/// A look, or the handle with why there is none.
-pub(super) fn try_look<R: Wait>(rt: &R, hand: Hand) -> Result<View, (Hand, LiveError)> {
-    hand.look(rt)
-}
-
-/// A look.
-pub(super) fn looked<R: Wait + Abort>(rt: &R, hand: Hand) -> View {
-    let Ok(look) = try_look(rt, hand) else {
-        panic!(rt; "no look");
+/// The handle takes a look, which ends the one that there is.
+fn look<R: Wait>(rt: &R, state: &mut State) -> Reply {
+    let Some(hand) = state.hand.take() else {
+        return Reply::Not;
     };
-    look
-}
-
-/// Ends a look.
-pub(super) fn over(look: View) -> Hand {
-    look.done()
-}
-
-/// Takes a newer snapshot.
-pub(super) fn take_newer_snapshot(look: &mut View) {
-    look.again();
-}
-
-/// Why a handle has no look.
-pub(super) fn why_no_look<R: Wait>(rt: &R, hand: Hand) -> Option<LiveError> {
-    match try_look(rt, hand) {
+    match hand.look(rt) {
         Ok(look) => {
-            drop(over(look));
-            None
+            end(mem::replace(&mut state.look, Some(look)));
+            Reply::Done
         }
-        Err((_, cause)) => Some(cause),
+        Err((hand, cause)) => {
+            state.hand = Some(hand);
+            Reply::Fails(cause)
+        }
     }
 }
 
-// Whether a key is a member.
-pub(super) fn has(look: &mut View, k: u32) -> bool {
-    look.ask(Has(k))
+/// The look is over.
+fn over(state: &mut State) -> Reply {
+    let Some(look) = state.look.take() else {
+        return Reply::Not;
+    };
+    state.hand = Some(look.done());
+    Reply::Done
 }
 
-/// How many members a look shows.
-pub(super) fn size(look: &mut View) -> u32 {
-    look.ask(Size)
-}
-
-// Asks one thing.
-fn ask(rt: &impl Abort, look: &mut View, query: Query) {
-    match query {
-        Query::Has(k, answer) => equal(rt, has(look, k), answer),
-        Query::Weight(k, answer) => equal(rt, look.ask(Weight(k)), answer),
-        Query::Size(answer) => equal(rt, size(look), answer),
-        Query::Rank(k, answer) => equal(rt, look.ask(Rank(k)), answer),
-        Query::Select(index, answer) => equal(rt, look.ask(Select(index)), answer),
-        Query::Before(k, answer) => equal(rt, look.ask(Before(k)), answer),
-        Query::After(k, answer) => equal(rt, look.ask(After(k)), answer),
+/// A new handle comes in the place of the handle, or it is refused.
+fn renew<R: Wait>(rt: &R, state: &mut State, lane: u32) -> Reply {
+    let Some(live) = &mut state.live else {
+        return Reply::Not;
+    };
+    match renewed(rt, live, lane) {
+        Ok(hand) => {
+            state.hand = Some(hand);
+            Reply::Done
+        }
+        Err(cause) => Reply::Fails(cause),
     }
 }
 
-/// Asks one thing after the other.
-pub(super) fn ask_all(rt: &impl Abort, look: &mut View, queries: &[Query]) {
-    for query in queries {
-        ask(rt, look, *query);
+/// The round rolls over.
+fn roll<R: Wait>(rt: &R, state: &mut State) -> Reply {
+    match &mut state.live {
+        Some(live) => done(rolled(rt, live)),
+        None => Reply::Not,
     }
 }
 
-/// The members that a look shows, with their weights.
-pub(super) fn pairs(rt: &impl Abort, alloc: Global, look: &mut View) -> Vec<(u32, u32)> {
-    look.ask(Pairs(alloc)).expect(rt, "memory")
+/// The trie is closed.
+fn close<R: Wait>(rt: &R, state: &mut State) -> Reply {
+    let Some(live) = state.live.take() else {
+        return Reply::Not;
+    };
+    let (set, counts) = live.close(rt);
+    Reply::Ended(set.size(), counts.rounds, counts.inserts, counts.removals)
 }
 
-/// What a new look lists.
-pub(super) fn listed<R: Wait + Abort>(
+/// What is done with the handles or the look.
+fn by_one<R: Wait>(rt: &R, alloc: Global, state: &mut State, act: Act) -> Reply {
+    if let Some(hand) = &mut state.hand {
+        let reply = by_hand(rt, hand, act);
+        if reply != Reply::Not {
+            return reply;
+        }
+    }
+    match &mut state.look {
+        Some(look) => by_look(alloc, look, act),
+        None => Reply::Not,
+    }
+}
+
+/// What is done.
+fn acted<R: Wait>(rt: &R, alloc: Global, state: &mut State, act: Act) -> Reply {
+    match act {
+        Act::Look => look(rt, state),
+        Act::Over => over(state),
+        Act::Renew(lane) => renew(rt, state, lane),
+        Act::Roll => roll(rt, state),
+        Act::Close => close(rt, state),
+        Act::Drop => {
+            state.hand = None;
+            Reply::Done
+        }
+        Act::Swap => {
+            let hand = state.hand.take();
+            state.hand = state.other.take();
+            state.other = hand;
+            Reply::Done
+        }
+        _ => by_one(rt, alloc, state, act),
+    }
+}
+
+/// One step after the other, which show this.
+pub(super) fn steps<R: Wait + Abort>(
     rt: &R,
     alloc: Global,
-    hand: Hand,
-) -> (Hand, Vec<(u32, u32)>) {
-    let mut look = looked(rt, hand);
-    let list = pairs(rt, alloc, &mut look);
-    (over(look), list)
-}
-
-// The last handle that comes of a call.
-fn act<R: Wait + Abort>(rt: &R, alloc: Global, live: &mut Trie, hand: Hand, call: Call) -> Hand {
-    let mut hand = hand;
-    match call {
-        Call::Play(steps) => play(rt, &mut hand, steps),
-        Call::Fill(from, count) => fill(rt, &mut hand, from, count),
-        Call::Roll => equal(rt, live.roll(rt), Ok(())),
-        Call::Lists(members) => {
-            let (same, list) = listed(rt, alloc, hand);
-            equal(rt, list.as_slice(), members);
-            return same;
-        }
-        Call::ListsAsMany(count) => {
-            let (same, list) = listed(rt, alloc, hand);
-            equal(rt, list.len(), count);
-            return same;
-        }
-        Call::Renew(lane) => {
-            drop(hand);
-            return renewed(rt, live, lane).expect(rt, "a new handle");
-        }
-    }
-    hand
-}
-
-/// Makes calls with a trie and a handle, which is dropped at the end.
-pub(super) fn go<R: Wait + Abort>(
-    rt: &R,
-    alloc: Global,
-    live: &mut Trie,
-    hand: Hand,
-    calls: &[Call],
+    state: State,
+    shows: &str,
+    script: &[Step],
 ) {
-    let mut hand = hand;
-    for call in calls {
-        hand = act(rt, alloc, live, hand, *call);
+    let mut state = state;
+    for (number, step) in script.iter().enumerate() {
+        let (act, expected) = *step;
+        let reply = acted(rt, alloc, &mut state, act);
+        equal(rt, (shows, number, reply), (shows, number, expected));
     }
+    let State {
+        live,
+        hand,
+        other,
+        look,
+    } = state;
+    drop((live, hand, other));
+    end(look);
+}
+
+/// A trie over the empty set, and what is done with it: the bits of its keys, its handles, its spare lanes, and the updates of a lane.
+pub(super) struct Row {
+    pub(super) shows: &'static str,
+    pub(super) numbers: (u32, u32, u32, u32),
+    pub(super) steps: &'static [Step],
+}
+
+// A row.
+fn play<R: Wait + Abort>(rt: &R, alloc: Global, row: &Row) -> Result<(), BeginError> {
+    let (bits, handles, spare, updates) = row.numbers;
+    let (live, hands) = opened(rt, alloc, bits, handles, spare, updates)?;
+    steps(rt, alloc, state_of(live, hands), row.shows, row.steps);
+    Ok(())
+}
+
+/// A table.
+pub(super) fn rows<R: Wait + Abort>(
+    rt: &R,
+    alloc: Global,
+    table: &[Row],
+) -> Result<(), BeginError> {
+    for row in table {
+        play(rt, alloc, row)?;
+    }
+    Ok(())
 }

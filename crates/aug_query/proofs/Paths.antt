@@ -1,6 +1,7 @@
 -- The path of a cursor: it stays one as more is loaded, gets longer by a node, and is cut; and what a cursor yields, by the ranks of keys.
-use Rattle.std.proofs.Common.{◌≡◌, ◌⊎◌, ℕ, ◌+◌, ◌-◌, ◌*◌, ◌/◌, ◌%◌, ◌^◌, ◌<◌, ◌≤◌, ◌==◌, min, if◌then◌else◌, true, true≢false, inl, inr, Option, Some, None, unwrap_or, is_some, List, [], ◌∷◌, ◌++◌, length, take, ltb, ltb-true, ltb-false, eq-eqb, true-eqb, get_or, add-one, refl, ap, sym, ◌∙◌, subst, arith, length-append}
+use Rattle.std.proofs.Common.{◌≡◌, ◌⊎◌, ℕ, ◌+◌, ◌-◌, ◌*◌, ◌/◌, ◌%◌, ◌^◌, ◌<◌, ◌≤◌, ◌==◌, min, if◌then◌else◌, true, true≢false, inl, inr, Option, Some, None, unwrap_or, is_some, List, [], ◌∷◌, ◌++◌, length, take, ltb-true, ltb-false, eq-eqb, get_or, add-one, refl, ap, sym, ◌∙◌, subst, arith, length-append}
 use Rattle.std.proofs.Math.Nat.{pow-succ', div-div-eq-div-mul, div-lt_iff_lt-mul, le_antisymm, le_refl, le-min, min-le_right, min-eq_left}
+use Rattle.std.proofs.Math.Pow.{pow_mono}
 use Rattle.std.proofs.lemmas.Nat.{pow-add, pow_pos}
 use Rattle.std.proofs.lemmas.List.{append-nil, get_or-take, length-take-le}
 use Rattle.std.proofs.lemmas.Bool.{cases_lt, cases_eq, ne_eqb}
@@ -15,7 +16,7 @@ use Rattle.aug_query.specs.Yields.{members_from, members_below, YieldsNext, Yiel
 use Rattle.aug_query.specs.inside.Paths.{IsNameOf, IsPath, IsCursor}
 use Rattle.aug_query.specs.declared.descent.cursor.Cursor.{Cursor}
 use Rattle.aug_query.proofs.Batches.{has_weight}
-use Rattle.aug_query.proofs.Choosing.{set_rises}
+use Rattle.aug_query.proofs.Choosing.{set_rises, child_fits}
 use Rattle.aug_query.proofs.Descending.{half_place, low_half, high_half, rank_before_right, rank_after_left}
 use Rattle.aug_query.proofs.Descents.{weight_is}
 use Rattle.aug_query.proofs.Nodes.{counts, leaf_first, leaf_end, left_low, right_high}
@@ -88,6 +89,22 @@ module _ {N : Type 0} {Names : ℕ → ℕ → N → Type 0} where
       let further : bits - i - 0 ≡ level + 1 = omega (arith, up) in
       let there = moved (bits - i) (key / 2 ^ (bits - i - 0)) (key / 2 ^ (level + 1)) (get_or path i found) (ap (λ (z : ℕ). key / 2 ^ z) further) (is.each i found (omega (arith, long, low, place))) in
       subst (IsNameOf Names (level + 1) (key / 2 ^ (level + 1))) (sym at) (subst (λ (z : ℕ). IsNameOf Names z (key / 2 ^ (level + 1)) (get_or path i found)) up there)
+
+  -- a path to a leaf is one to its key
+  pub path_leaf : (bits level place key : ℕ) (path : List (Option N)) → level ≡ 0 → place ≡ key → IsPath Names bits level place path → IsPath Names bits 0 key path
+  path_leaf bits level place key path leaf same is = subst (λ (l : ℕ). IsPath Names bits l key path) leaf (subst (λ (p : ℕ). IsPath Names bits level p path) same is)
+
+  -- a level below a node of the way to a key, and the places of that node's children, have few bits
+  pub way_fits : {set : SetFacts} (key level : ℕ) (path : List (Option N)) → ((level place : ℕ) (name : N) → Names level place name → IsTreeSet set × (end_key level place ≤ 2 ^ set.bits)) → IsPath Names set.bits 0 key path → level < set.bits → (level < 16) × (2 * (key / 2 ^ (level + 1)) + 1 < 2 ^ 16)
+  way_fits {set = set} key level path stands is low =
+      let long = is.long in
+      let i = set.bits - 1 - level in
+      let at = is.each i None (omega (arith, long, low)) in
+      let node = stands (set.bits - i) (key / 2 ^ (set.bits - i - 0)) at.name at.names in
+      let up : level + 1 ≡ set.bits - i = omega (arith, low) in
+      let same : set.bits - i - 0 ≡ level + 1 = omega (arith, low) in
+      let few = node.0.few_bits in
+      (omega (arith, few, low), subst (λ (z : ℕ). 2 * (key / 2 ^ z) + 1 < 2 ^ 16) same (child_fits set (set.bits - i) level (key / 2 ^ (set.bits - i - 0)) node.0 up node.1))
 
 -- a key that has a weight is a member
 weighed : (set : SetFacts) (k w : ℕ) → IsTreeSet set → Some w ≡ weight_of set.pairs k → 0 < length (range_of (list_of set) k (k + 1))
@@ -243,6 +260,10 @@ begins_at k all gap key whole is at =
       | inl below ↦ (omega (arith, low, whole), inl (same (omega (arith, below))))
       | inr past ↦ let end = last (omega (arith, past)) in (omega (arith, low, whole), inr (omega (arith, end, few, past, whole)))
     ]
+
+-- a key of a tree has few bits
+pub key_few : (set : SetFacts) (key : ℕ) → IsTreeSet set → key < 2 ^ set.bits → key < 2 ^ 16
+key_few set key is within = omega (arith, within, pow_mono is.few_bits)
 
 -- a gap beside a key is not past the end
 pub gap_few : (gap key n : ℕ) → (gap ≡ key) ⊎ (gap ≡ key + 1) → key < n → gap ≤ n

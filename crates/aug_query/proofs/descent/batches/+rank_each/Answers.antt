@@ -82,7 +82,7 @@ rank_each-requires-then-not-is_empty-2 g t c κs lives =
     let long = (part_lengths 0 c.args.keys.now c.halves.result.0.now c.halves.result.1.now c.halves.ensures.both).0 in
     let out : vec_len c.if-not-is_empty.out ≡ vec_len c.args.out.now + length c.halves.result.0.now = elim c.if-not-is_empty.branch [
       | then-not-is_empty w ↦ ap (λ o. vec_len o) w.out-is ∙ w.rank_each.ensures.length
-      | else-not-is_empty w ↦ omega (arith, ap (λ o. vec_len o) w.out-is, none_left c.is_empty.result _ c.is_empty.ensures w.if-not-is_empty.false)
+      | else-not-is_empty w ↦ omega (arith, ap (λ o. vec_len o) w.out-is, none_left c.is_empty.result (length c.halves.result.0.now) c.is_empty.ensures w.if-not-is_empty.false)
     ] in
     let wide : vec_capacity c.if-not-is_empty.out ≡ vec_capacity c.args.out.now = elim c.if-not-is_empty.branch [
       | then-not-is_empty w ↦ ap (λ o. vec_capacity o) w.out-is ∙ w.rank_each.ensures.room
@@ -98,37 +98,37 @@ returns-then-not-is_empty-2-clause-answer g t c =
       | else-not-is_empty w ↦ ap g.D.Descend.set_of w.tree-is
     ] in
     let front : c.if-not-is_empty.out.items ≡ c.args.out.now.items ++ map (answer (g.D.Descend.set_of c.args.tree.now)) c.halves.result.0.now = elim c.if-not-is_empty.branch [
-      | then-not-is_empty w ↦ ap (λ o. o.items) w.out-is ∙ one_part answer (g.D.Descend.set_of c.args.tree.now) _ _ _ _ w.left-left.ensures.descends.same_set w.rank_each.ensures.answer
-      | else-not-is_empty w ↦ no_part answer (g.D.Descend.set_of c.args.tree.now) _ _ _ (none_left c.is_empty.result _ c.is_empty.ensures w.if-not-is_empty.false) (ap (λ o. o.items) w.out-is)
+      | then-not-is_empty w ↦ ap (λ o. o.items) w.out-is ∙ one_part answer (g.D.Descend.set_of c.args.tree.now) (g.D.Descend.set_of w.left-left.new.self) c.halves.result.0.now c.args.out.now.items w.rank_each.new.out.items w.left-left.ensures.descends.same_set w.rank_each.ensures.answer
+      | else-not-is_empty w ↦ no_part answer (g.D.Descend.set_of c.args.tree.now) c.halves.result.0.now c.args.out.now.items c.if-not-is_empty.out.items (none_left c.is_empty.result (length c.halves.result.0.now) c.is_empty.ensures w.if-not-is_empty.false) (ap (λ o. o.items) w.out-is)
     ] in
-    both_parts answer (g.D.Descend.set_of c.args.tree.now) (g.D.Descend.set_of c.past_left-right.new.self) _ _ _ _ _ _ c.halves.ensures.both (c.past_left-right.ensures.descends.same_set ∙ same) front c.rank_each-then-not-is_empty-2.ensures.answer
+    both_parts answer (g.D.Descend.set_of c.args.tree.now) (g.D.Descend.set_of c.past_left-right.new.self) c.args.keys.now c.halves.result.0.now c.halves.result.1.now c.args.out.now.items c.if-not-is_empty.out.items c.rank_each-then-not-is_empty-2.new.out.items c.halves.ensures.both (c.past_left-right.ensures.descends.same_set ∙ same) front c.rank_each-then-not-is_empty-2.ensures.answer
 
 pub returns-then-not-is_empty-2-clause-descends : goal.returns-then-not-is_empty-2-clause-descends
 returns-then-not-is_empty-2-clause-descends g t c =
     let inner : 1 ≤ c.args.level = omega (arith, c.if-level-eq0.false) in
     let walk : Descends g.D.Descend.set_of g.D.Descend.loads_of g.D.Descend.Names g.D.Descend.KeepsRest (nodes_from c.args.level (length c.halves.result.0.now)) 0 0 (nodes_from c.args.level (length c.halves.result.0.now)) c.args.tree.now c.if-not-is_empty.tree = elim c.if-not-is_empty.branch [
-      | then-not-is_empty w ↦ subst (λ tree. Descends g.D.Descend.set_of g.D.Descend.loads_of g.D.Descend.Names g.D.Descend.KeepsRest (nodes_from c.args.level (length c.halves.result.0.now)) 0 0 (nodes_from c.args.level (length c.halves.result.0.now)) c.args.tree.now tree) (sym w.tree-is) (child_ranked g.met.D.Descend.keeps_on c.args.level (length c.halves.result.0.now) inner (some_left c.is_empty.result _ c.is_empty.ensures w.if-not-is_empty.true) (omega arith) w.left-left.ensures.descends w.rank_each.ensures.descends)
+      | then-not-is_empty w ↦ subst (λ tree. Descends g.D.Descend.set_of g.D.Descend.loads_of g.D.Descend.Names g.D.Descend.KeepsRest (nodes_from c.args.level (length c.halves.result.0.now)) 0 0 (nodes_from c.args.level (length c.halves.result.0.now)) c.args.tree.now tree) (sym w.tree-is) (child_ranked g.met.D.Descend.keeps_on c.args.level (length c.halves.result.0.now) inner (some_left c.is_empty.result (length c.halves.result.0.now) c.is_empty.ensures w.if-not-is_empty.true) (omega arith) w.left-left.ensures.descends w.rank_each.ensures.descends)
       | else-not-is_empty w ↦ subst (λ tree. Descends g.D.Descend.set_of g.D.Descend.loads_of g.D.Descend.Names g.D.Descend.KeepsRest (nodes_from c.args.level (length c.halves.result.0.now)) 0 0 (nodes_from c.args.level (length c.halves.result.0.now)) c.args.tree.now tree) (sym w.tree-is) (still g.met.D.Descend.keeps_so)
     ] in
-    parts_ranked g.met.D.Descend.keeps_on c.args.level _ _ _ c.halves.ensures.both walk (child_ranked g.met.D.Descend.keeps_on c.args.level (length c.halves.result.1.now) inner (some_left c.is_empty-2.result _ c.is_empty-2.ensures c.if-not-is_empty-2.true) (omega arith) c.past_left-right.ensures.descends c.rank_each-then-not-is_empty-2.ensures.descends)
+    parts_ranked g.met.D.Descend.keeps_on c.args.level c.args.keys.now c.halves.result.0.now c.halves.result.1.now c.halves.ensures.both walk (child_ranked g.met.D.Descend.keeps_on c.args.level (length c.halves.result.1.now) inner (some_left c.is_empty-2.result (length c.halves.result.1.now) c.is_empty-2.ensures c.if-not-is_empty-2.true) (omega arith) c.past_left-right.ensures.descends c.rank_each-then-not-is_empty-2.ensures.descends)
 
 pub returns-else-not-is_empty-2-clause-answer : goal.returns-else-not-is_empty-2-clause-answer
 returns-else-not-is_empty-2-clause-answer g t c =
     let answer = λ (s : SetFacts) (k : ℕ). rank_of (list_of s) k in
     let front : c.if-not-is_empty.out.items ≡ c.args.out.now.items ++ map (answer (g.D.Descend.set_of c.args.tree.now)) c.halves.result.0.now = elim c.if-not-is_empty.branch [
-      | then-not-is_empty w ↦ ap (λ o. o.items) w.out-is ∙ one_part answer (g.D.Descend.set_of c.args.tree.now) _ _ _ _ w.left-left.ensures.descends.same_set w.rank_each.ensures.answer
-      | else-not-is_empty w ↦ no_part answer (g.D.Descend.set_of c.args.tree.now) _ _ _ (none_left c.is_empty.result _ c.is_empty.ensures w.if-not-is_empty.false) (ap (λ o. o.items) w.out-is)
+      | then-not-is_empty w ↦ ap (λ o. o.items) w.out-is ∙ one_part answer (g.D.Descend.set_of c.args.tree.now) (g.D.Descend.set_of w.left-left.new.self) c.halves.result.0.now c.args.out.now.items w.rank_each.new.out.items w.left-left.ensures.descends.same_set w.rank_each.ensures.answer
+      | else-not-is_empty w ↦ no_part answer (g.D.Descend.set_of c.args.tree.now) c.halves.result.0.now c.args.out.now.items c.if-not-is_empty.out.items (none_left c.is_empty.result (length c.halves.result.0.now) c.is_empty.ensures w.if-not-is_empty.false) (ap (λ o. o.items) w.out-is)
     ] in
-    both_parts answer (g.D.Descend.set_of c.args.tree.now) (g.D.Descend.set_of c.args.tree.now) _ _ _ _ _ _ c.halves.ensures.both refl front (no_part answer (g.D.Descend.set_of c.args.tree.now) _ _ _ (none_left c.is_empty-2.result _ c.is_empty-2.ensures c.if-not-is_empty-2.false) refl)
+    both_parts answer (g.D.Descend.set_of c.args.tree.now) (g.D.Descend.set_of c.args.tree.now) c.args.keys.now c.halves.result.0.now c.halves.result.1.now c.args.out.now.items c.if-not-is_empty.out.items c.if-not-is_empty.out.items c.halves.ensures.both refl front (no_part answer (g.D.Descend.set_of c.args.tree.now) c.halves.result.1.now c.if-not-is_empty.out.items c.if-not-is_empty.out.items (none_left c.is_empty-2.result (length c.halves.result.1.now) c.is_empty-2.ensures c.if-not-is_empty-2.false) refl)
 
 pub returns-else-not-is_empty-2-clause-descends : goal.returns-else-not-is_empty-2-clause-descends
 returns-else-not-is_empty-2-clause-descends g t c =
     let inner : 1 ≤ c.args.level = omega (arith, c.if-level-eq0.false) in
     let walk : Descends g.D.Descend.set_of g.D.Descend.loads_of g.D.Descend.Names g.D.Descend.KeepsRest (nodes_from c.args.level (length c.halves.result.0.now)) 0 0 (nodes_from c.args.level (length c.halves.result.0.now)) c.args.tree.now c.if-not-is_empty.tree = elim c.if-not-is_empty.branch [
-      | then-not-is_empty w ↦ subst (λ tree. Descends g.D.Descend.set_of g.D.Descend.loads_of g.D.Descend.Names g.D.Descend.KeepsRest (nodes_from c.args.level (length c.halves.result.0.now)) 0 0 (nodes_from c.args.level (length c.halves.result.0.now)) c.args.tree.now tree) (sym w.tree-is) (child_ranked g.met.D.Descend.keeps_on c.args.level (length c.halves.result.0.now) inner (some_left c.is_empty.result _ c.is_empty.ensures w.if-not-is_empty.true) (omega arith) w.left-left.ensures.descends w.rank_each.ensures.descends)
+      | then-not-is_empty w ↦ subst (λ tree. Descends g.D.Descend.set_of g.D.Descend.loads_of g.D.Descend.Names g.D.Descend.KeepsRest (nodes_from c.args.level (length c.halves.result.0.now)) 0 0 (nodes_from c.args.level (length c.halves.result.0.now)) c.args.tree.now tree) (sym w.tree-is) (child_ranked g.met.D.Descend.keeps_on c.args.level (length c.halves.result.0.now) inner (some_left c.is_empty.result (length c.halves.result.0.now) c.is_empty.ensures w.if-not-is_empty.true) (omega arith) w.left-left.ensures.descends w.rank_each.ensures.descends)
       | else-not-is_empty w ↦ subst (λ tree. Descends g.D.Descend.set_of g.D.Descend.loads_of g.D.Descend.Names g.D.Descend.KeepsRest (nodes_from c.args.level (length c.halves.result.0.now)) 0 0 (nodes_from c.args.level (length c.halves.result.0.now)) c.args.tree.now tree) (sym w.tree-is) (still g.met.D.Descend.keeps_so)
     ] in
-    parts_ranked g.met.D.Descend.keeps_on c.args.level _ _ _ c.halves.ensures.both walk (still g.met.D.Descend.keeps_so)
+    parts_ranked g.met.D.Descend.keeps_on c.args.level c.args.keys.now c.halves.result.0.now c.halves.result.1.now c.halves.ensures.both walk (still g.met.D.Descend.keeps_so)
 
 pub returns-then-keys-eq1-clause-answer : goal.returns-then-keys-eq1-clause-answer
 returns-then-keys-eq1-clause-answer g t c =
@@ -139,7 +139,7 @@ returns-then-not-is_empty-2-clause-length g t c =
     let long = (part_lengths 0 c.args.keys.now c.halves.result.0.now c.halves.result.1.now c.halves.ensures.both).0 in
     let out : vec_len c.if-not-is_empty.out ≡ vec_len c.args.out.now + length c.halves.result.0.now = elim c.if-not-is_empty.branch [
       | then-not-is_empty w ↦ ap (λ o. vec_len o) w.out-is ∙ w.rank_each.ensures.length
-      | else-not-is_empty w ↦ omega (arith, ap (λ o. vec_len o) w.out-is, none_left c.is_empty.result _ c.is_empty.ensures w.if-not-is_empty.false)
+      | else-not-is_empty w ↦ omega (arith, ap (λ o. vec_len o) w.out-is, none_left c.is_empty.result (length c.halves.result.0.now) c.is_empty.ensures w.if-not-is_empty.false)
     ] in
     omega (arith, long, out, c.rank_each-then-not-is_empty-2.ensures.length)
 
@@ -156,9 +156,9 @@ returns-else-not-is_empty-2-clause-length g t c =
     let long = (part_lengths 0 c.args.keys.now c.halves.result.0.now c.halves.result.1.now c.halves.ensures.both).0 in
     let out : vec_len c.if-not-is_empty.out ≡ vec_len c.args.out.now + length c.halves.result.0.now = elim c.if-not-is_empty.branch [
       | then-not-is_empty w ↦ ap (λ o. vec_len o) w.out-is ∙ w.rank_each.ensures.length
-      | else-not-is_empty w ↦ omega (arith, ap (λ o. vec_len o) w.out-is, none_left c.is_empty.result _ c.is_empty.ensures w.if-not-is_empty.false)
+      | else-not-is_empty w ↦ omega (arith, ap (λ o. vec_len o) w.out-is, none_left c.is_empty.result (length c.halves.result.0.now) c.is_empty.ensures w.if-not-is_empty.false)
     ] in
-    omega (arith, long, out, none_left c.is_empty-2.result _ c.is_empty-2.ensures c.if-not-is_empty-2.false)
+    omega (arith, long, out, none_left c.is_empty-2.result (length c.halves.result.1.now) c.is_empty-2.ensures c.if-not-is_empty-2.false)
 
 pub returns-else-not-is_empty-2-clause-room : goal.returns-else-not-is_empty-2-clause-room
 returns-else-not-is_empty-2-clause-room g t c =

@@ -1,10 +1,10 @@
-use Rattle.std.proofs.Common.{◌≡◌, ◌+◌, ◌-◌, length, refl, ap, ◌∙◌, subst, arith}
+use Rattle.std.proofs.Common.{rules, ◌≡◌, ◌+◌, ◌-◌, ◌<◌, length, refl, ap, sym, ◌∙◌, subst, arith}
 use Rattle.aug_model.specs.Keys.{list_of}
 use Rattle.aug_model.specs.Queries.{rank_of, weight_in}
 use Rattle.aug_model.specs.NodeKeys.{end_key, keys_below}
 use Rattle.aug_query.proofs.Descending.{still, further, within}
-use Rattle.aug_query.proofs.Nodes.{of_set}
-use Rattle.aug_query.proofs.Paths.{path_stays, path_pushed, leaf_within, leaf_weight}
+use Rattle.aug_query.proofs.Nodes.{of_set, leaf_end}
+use Rattle.aug_query.proofs.Paths.{path_leaf, path_stays, path_pushed, leaf_within, leaf_weight}
 use Rattle.aug_query.proofs.descent.cursor.down_to_greatest.Goals as goal
 
 pub loop-level-init : goal.loop-level-init
@@ -55,3 +55,23 @@ returns-clause-weight g c =
     let inv = c.loop-level.invariant in
     let node = of_set inv.descends.same_set (g.met.D.Descend.name_stands c.loop-level.tree _ _ c.loop-level.node inv.name) in
     leaf_weight node (λ _. refl) (omega (arith, c.loop-level-test.false)) inv.some c.weight.result (c.weight.ensures ∙ ap (λ s. weight_in s.pairs c.loop-level.place) inv.descends.same_set)
+
+pub returns-clause-path : goal.returns-clause-path
+returns-clause-path g c = path_leaf _ _ _ _ _ (omega (arith, c.loop-level-test.false)) refl c.loop-level.invariant.path
+
+pub weight-requires : goal.weight-requires
+weight-requires g c =
+    let leaf : c.loop-level.level ≡ 0 = omega (arith, c.loop-level-test.false) in
+    subst (λ l. g.D.Descend.Names c.loop-level.tree l c.loop-level.place c.loop-level.node) leaf c.loop-level.invariant.name
+
+pub returns-clause-last : goal.returns-clause-last
+returns-clause-last g c =
+    let leaf = leaf_end c.loop-level.level c.loop-level.place (omega (arith, c.loop-level-test.false)) in
+    sym (ap (rank_of (list_of (g.D.Descend.set_of c.args.tree.now))) leaf) ∙ c.loop-level.invariant.last
+
+pub push-requires : goal.push-requires
+push-requires g c =
+    let inv = c.loop-level.invariant in
+    let few = (of_set inv.descends.same_set (g.met.D.Descend.name_stands c.loop-level.tree _ _ c.loop-level.node inv.name)).is_tree_set.few_bits in
+    let room : length c.loop-level.path.items < 16 = omega (arith, c.loop-level-test.true, inv.path.long, few) in
+    (search rules, room)

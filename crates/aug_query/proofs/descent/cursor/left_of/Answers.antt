@@ -1,8 +1,10 @@
-use Rattle.std.proofs.Common.{◌+◌, ap, sym, ◌∙◌, refl, arith}
+use Rattle.std.proofs.Common.{ap, sym, ◌∙◌, refl, subst, arith}
 use Rattle.aug_model.specs.Keys.{list_of}
 use Rattle.aug_model.specs.Queries.{rank_of}
 use Rattle.aug_query.proofs.Beside.{at_leaf}
-use Rattle.aug_query.proofs.Descending.{still}
+use Rattle.aug_query.specs.inside.Paths.{IsPath}
+use Rattle.aug_query.proofs.Descending.{still, further}
+use Rattle.aug_query.proofs.Paths.{path_stays}
 use Rattle.aug_query.proofs.Ways.{top_rank}
 use Rattle.aug_query.proofs.descent.cursor.left_of.Goals as goal
 
@@ -18,3 +20,14 @@ returns-clause-none g c =
     let inv = c.loop-level.invariant in
     let top = top_rank (list_of (g.D.Descend.set_of c.args.tree.now)) c.args.key c.loop-level.level (g.D.Descend.set_of c.args.tree.now).bits (omega (arith, inv.most, c.loop-level-test.false, c.bits-bits.ensures.value)) c.requires.key in
     sym (top ∙ inv.rank)
+
+pub left_at-requires-clause-path : goal.left_at-requires-clause-path
+left_at-requires-clause-path g c =
+    let walk = c.loop-level.invariant.walk in
+    subst (λ s. IsPath (g.D.Descend.Names c.loop-level.tree) s.bits 0 c.args.key c.args.path.now) (sym walk.same_set) (path_stays _ _ _ _ walk.keeps_names c.requires.path)
+
+pub returns-in-Some-clause-descends : goal.returns-in-Some-clause-descends
+returns-in-Some-clause-descends g c =
+    let some = c.loop-level-test.true in
+    let all = c.bits-bits.ensures.value in
+    further g.met.D.Descend.keeps_on c.loop-level.invariant.walk c.left_at.ensures.descends (omega (arith, some, all)) (omega (arith, some, all)) (omega arith) (omega arith)

@@ -1,4 +1,4 @@
-use Rattle.std.proofs.Common.{◌≡◌, ◌+◌, ◌-◌, ◌/◌, ◌^◌, ◌≤◌}
+use Rattle.std.proofs.Common.{◌≡◌, ◌-◌, ◌/◌, ◌^◌, ◌≤◌}
 use Rattle.aug_model.specs.Keys.{list_of}
 use Rattle.aug_model.specs.Queries.{rank_of}
 use Rattle.aug_model.specs.NodeKeys.{first_key}

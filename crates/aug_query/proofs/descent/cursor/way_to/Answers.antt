@@ -1,6 +1,6 @@
-use Rattle.std.proofs.Common.{◌+◌, ◌-◌, ◌/◌, ◌^◌, sym, subst, arith}
+use Rattle.std.proofs.Common.{◌≡◌, ◌-◌, ◌/◌, ◌^◌, ap, sym, ◌∙◌, subst, arith}
 use Rattle.aug_query.proofs.Descending.{further, within}
-use Rattle.aug_query.proofs.Paths.{path_empty, path_stays, path_pushed, place_above}
+use Rattle.aug_query.proofs.Paths.{path_empty, path_leaf, path_stays, path_pushed, place_above}
 use Rattle.aug_query.proofs.Ways.{top_place}
 use Rattle.aug_query.proofs.descent.cursor.way_to.Goals as goal
 
@@ -30,3 +30,9 @@ loop-level-preserved g c =
 
 pub returns-clause-descends : goal.returns-clause-descends
 returns-clause-descends g c = within c.loop-level.invariant.walk (omega arith) (omega arith) (omega arith) (omega arith)
+
+pub returns-clause-path : goal.returns-clause-path
+returns-clause-path g c =
+    let leaf : c.loop-level.level ≡ 0 = omega (arith, c.loop-level-test.false) in
+    let place : c.args.key / 2 ^ c.loop-level.level ≡ c.args.key = ap (λ l. c.args.key / 2 ^ l) leaf ∙ omega arith in
+    path_leaf _ _ _ _ _ leaf place c.loop-level.invariant.path

@@ -1,11 +1,13 @@
-use Rattle.std.proofs.Common.{rules, ◌≡◌, ◌+◌, ◌-◌, ◌*◌, ◌/◌, ◌^◌, ◌<◌, Some, inl, inr, length, take, refl, ap, sym, ◌∙◌, subst, arith}
+use Rattle.std.proofs.Common.{rules, ◌≡◌, ◌+◌, ◌-◌, ◌/◌, ◌^◌, Some, inr, length, take, refl, ap, sym, ◌∙◌, subst, arith}
+use Rattle.std.proofs.Math.Nat.{div-le_self}
 use Rattle.aug_model.specs.Keys.{list_of}
 use Rattle.aug_model.specs.NodeKeys.{first_key, keys_below}
 use Rattle.aug_model.specs.Queries.{rank_of, weight_of}
+use Rattle.aug_query.specs.Tree.{IsTreeSet}
 use Rattle.aug_query.specs.Yields.{YieldsNext}
 use Rattle.aug_query.specs.inside.Paths.{IsPath, IsCursor}
-use Rattle.aug_query.proofs.Descending.{further}
-use Rattle.aug_query.proofs.Paths.{path_stays, path_cut, cursor_kept, behind_some, behind_none, next_is, next_none, gap_few}
+use Rattle.aug_query.proofs.Descending.{still, further, within}
+use Rattle.aug_query.proofs.Paths.{path_stays, path_cut, cursor_kept, behind_some, behind_none, next_is, next_none, gap_few, key_few}
 use Rattle.aug_query.proofs.descent.cursor.Cursor.next.Goals as goal
 
 pub returns-in-Some-clause-answer : goal.returns-in-Some-clause-answer
@@ -71,3 +73,53 @@ pub returns-clause-descends : goal.returns-clause-descends
 returns-clause-descends g c =
     let low = c.in_ok-level.ensures.found.low in
     further {new = c.down_to_least-key.new.tree} g.met.D.Descend.keeps_on c.right_of.ensures.descends c.down_to_least-key.ensures.descends (omega (arith, low)) (omega (arith, low)) (omega arith) (omega arith)
+
+pub overflow_add-self : goal.overflow_add-self
+overflow_add-self g c = let of = c.requires.of_tree in omega (arith, key_few (g.D.Descend.set_of c.args.tree.now) c.args.self.now.key of.is_tree_set of.within)
+
+pub returns-in-Some-clause-descends : goal.returns-in-Some-clause-descends
+returns-in-Some-clause-descends g c = still g.met.D.Descend.keeps_so
+
+pub returns-in_err-level-clause-descends : goal.returns-in_err-level-clause-descends
+returns-in_err-level-clause-descends g c =
+    let some = c.requires.of_tree.is_tree_set.some_bits in
+    within c.right_of.ensures.descends (omega (arith, some)) (omega (arith, some)) (omega arith) (omega arith)
+
+pub overflow_cast-level : goal.overflow_cast-level
+overflow_cast-level g c =
+    let few = c.requires.of_tree.is_tree_set.few_bits in
+    let low = c.in_ok-level.ensures.found.low in
+    omega (arith, few, low)
+
+pub overflow_sub-len : goal.overflow_sub-len
+overflow_sub-len g c =
+    let long = c.requires.of_tree.path.long in
+    let low = c.in_ok-level.ensures.found.low in
+    omega (arith, long, low, c.len.ensures.value, ap (λ v. length v.items) c.take-path.ensures.value)
+
+pub overflow_shr-place : goal.overflow_shr-place
+overflow_shr-place g c =
+    let few = c.requires.of_tree.is_tree_set.few_bits in
+    let low = c.in_ok-level.ensures.found.low in
+    omega (arith, few, low)
+
+pub overflow_add-place : goal.overflow_add-place
+overflow_add-place g c =
+    let of = c.requires.of_tree in
+    let few = key_few (g.D.Descend.set_of c.args.tree.now) c.args.self.now.key of.is_tree_set of.within in
+    omega (arith, few, div-le_self c.args.self.now.key (2 ^ c.in_ok-level.level))
+
+pub overflow_add-key : goal.overflow_add-key
+overflow_add-key g c =
+    let same = c.right_of.ensures.descends.same_set in
+    let is = c.requires.of_tree.is_tree_set in
+    omega (arith, key_few (g.D.Descend.set_of c.right_of.new.tree) c.down_to_least-key.result.0 (subst IsTreeSet (sym same) is) c.down_to_least-key.ensures.within)
+
+pub branch-level-requires : goal.branch-level-requires
+branch-level-requires g c κs = search rules
+
+pub from_residual-requires : goal.from_residual-requires
+from_residual-requires g c κs = search rules
+
+pub array_drop-self-requires : goal.array_drop-self-requires
+array_drop-self-requires g c = search rules

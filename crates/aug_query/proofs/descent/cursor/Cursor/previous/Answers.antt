@@ -1,10 +1,10 @@
-use Rattle.std.proofs.Common.{rules, ◌≡◌, ◌+◌, ◌-◌, ◌*◌, ◌/◌, ◌^◌, ◌<◌, Some, inl, inr, length, take, refl, ap, sym, ◌∙◌, subst, arith}
+use Rattle.std.proofs.Common.{rules, ◌≡◌, ◌+◌, ◌-◌, ◌/◌, ◌^◌, Some, inl, length, take, refl, ap, sym, ◌∙◌, subst, arith}
 use Rattle.aug_model.specs.Keys.{list_of}
 use Rattle.aug_model.specs.NodeKeys.{end_key, keys_below}
 use Rattle.aug_model.specs.Queries.{rank_of, weight_of}
 use Rattle.aug_query.specs.Yields.{YieldsPrevious}
 use Rattle.aug_query.specs.inside.Paths.{IsPath, IsCursor}
-use Rattle.aug_query.proofs.Descending.{further}
+use Rattle.aug_query.proofs.Descending.{still, further, within}
 use Rattle.aug_query.proofs.Paths.{path_stays, path_cut, cursor_kept, before_some, before_none, previous_is, previous_none}
 use Rattle.aug_query.proofs.descent.cursor.Cursor.previous.Goals as goal
 
@@ -71,3 +71,41 @@ pub returns-clause-descends : goal.returns-clause-descends
 returns-clause-descends g c =
     let low = c.in_ok-level.ensures.found.low in
     further {new = c.down_to_greatest-key.new.tree} g.met.D.Descend.keeps_on c.left_of.ensures.descends c.down_to_greatest-key.ensures.descends (omega (arith, low)) (omega (arith, low)) (omega arith) (omega arith)
+
+pub returns-in-Some-clause-descends : goal.returns-in-Some-clause-descends
+returns-in-Some-clause-descends g c = still g.met.D.Descend.keeps_so
+
+pub returns-in_err-level-clause-descends : goal.returns-in_err-level-clause-descends
+returns-in_err-level-clause-descends g c =
+    let some = c.requires.of_tree.is_tree_set.some_bits in
+    within c.left_of.ensures.descends (omega (arith, some)) (omega (arith, some)) (omega arith) (omega arith)
+
+pub overflow_cast-level : goal.overflow_cast-level
+overflow_cast-level g c =
+    let few = c.requires.of_tree.is_tree_set.few_bits in
+    let low = c.in_ok-level.ensures.found.low in
+    omega (arith, few, low)
+
+pub overflow_sub-len : goal.overflow_sub-len
+overflow_sub-len g c =
+    let long = c.requires.of_tree.path.long in
+    let low = c.in_ok-level.ensures.found.low in
+    omega (arith, long, low, c.len.ensures.value, ap (λ v. length v.items) c.take-path.ensures.value)
+
+pub overflow_shr-place : goal.overflow_shr-place
+overflow_shr-place g c =
+    let few = c.requires.of_tree.is_tree_set.few_bits in
+    let low = c.in_ok-level.ensures.found.low in
+    omega (arith, few, low)
+
+pub overflow_sub-place : goal.overflow_sub-place
+overflow_sub-place g c = let parent = c.in_ok-level.ensures.found.parent in omega (arith, parent)
+
+pub branch-level-requires : goal.branch-level-requires
+branch-level-requires g c κs = search rules
+
+pub from_residual-requires : goal.from_residual-requires
+from_residual-requires g c κs = search rules
+
+pub array_drop-self-requires : goal.array_drop-self-requires
+array_drop-self-requires g c = search rules

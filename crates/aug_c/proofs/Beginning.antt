@@ -6,7 +6,7 @@ use Rattle.aug_monoid.specs.declared.sum.Sum.{Sum}
 use Rattle.aug_monoid.specs.declared.extent.Extent.{Extent}
 use Rattle.aug_core.specs.Layout.{IsOutside, IsWithin, IsRefused}
 use Rattle.aug_core.specs.declared.layout.LayoutError.TheVariants as layout
-use Rattle.aug_trie.specs.Crew.{BeginsRound}
+use Rattle.aug_trie.specs.Crew.{BeginsIn}
 use Rattle.aug_trie.specs.Ended.{EndedFacts}
 use Rattle.aug_trie.specs.declared.error.BeginError.{BeginError}
 use Rattle.aug_trie.specs.declared.error.BeginError.TheVariants.{BadWorkers, BadUpdates, TooLarge, OutOfMemory, BadBits, Narrower}
@@ -45,7 +45,7 @@ module _ (old : EndedFacts) (bits workers updates : ℕ) where
   coded rest cause is X code same memory says back both =
       ((λ z. let c = back z in let r = same (λ m. memory (sym c ∙ m)) in both.0 (λ i. Err (r i, c i))), (λ x. ap code_in (both.1 x) ∙ says))
 
-  pub begins_ok : (round : Running Sum Extent) → BeginsRound old.members bits workers updates (arc_value round.round) round.crew
+  pub begins_ok : (round : Running Sum Extent) → BeginsIn (length old.members) old.members bits workers updates (arc_value round.round) round.crew
       → (ok round ≡ err old BadBits) ↔ (IsOutside 1 16 bits)
       → (ok round ≡ err old Narrower) ↔ (IsWithin 1 16 bits × (bits < old.bits))
       → (ok round ≡ err old BadWorkers) ↔ ((old.bits ≤ bits) × IsRefused layout.BadWorkers bits workers updates (length old.members))

@@ -7,7 +7,7 @@ use Rattle.aug_monoid.specs.declared.sum.Sum.{Sum}
 use Rattle.aug_monoid.specs.declared.extent.Extent.{Extent}
 use Rattle.aug_core.specs.Layout.{IsOutside, IsWithin, IsRefused}
 use Rattle.aug_core.specs.declared.layout.LayoutError.TheVariants as layout
-use Rattle.aug_trie.specs.Crew.{BeginsRound, TakesBack, Ends}
+use Rattle.aug_trie.specs.Crew.{BeginsIn, TakesBack, Ends}
 use Rattle.aug_trie.specs.Ended.{EndedFacts, IsEmptyTrie}
 use Rattle.aug_trie.specs.Owned.{OpensPass}
 use Rattle.aug_trie.specs.declared.rounds.owned.OwnedPass.{OwnedPass}
@@ -28,7 +28,7 @@ pub record OpensTrie (bits : ℕ) (new : Option Stage) (code : ℤ) : Type 0 whe
 
 -- a round begins over a trie at rest, and if it is refused the trie has the same set
 pub record Begins (old : EndedFacts) (bits workers updates : ℕ) (new : Stage) (code : ℤ) : Type 0 where
-  pub begun : code ≡ pos 0 → (round : Running Sum Extent) × (new ≡ Working round) × BeginsRound old.members bits workers updates (arc_value round.round) round.crew
+  pub begun : code ≡ pos 0 → (round : Running Sum Extent) × (new ≡ Working round) × BeginsIn (length old.members) old.members bits workers updates (arc_value round.round) round.crew
   pub refused : code ≢ pos 0 → (rest : EndedFacts) × (new ≡ Resting rest) × (rest.members ≡ old.members) × ((rest.bits ≡ old.bits) ⊎ (rest.bits ≡ bits)) × (code ≢ codes.no_memory → rest ≡ old)
   pub bad_bits : (code ≡ codes.bad_bits) ↔ IsOutside 1 16 bits
   pub narrower : (code ≡ codes.narrower) ↔ (IsWithin 1 16 bits × (bits < old.bits))

@@ -2,8 +2,9 @@
 ghost use Rattle.std.specs.Prelude.{◌≡◌, ◌≢◌, ◌⊎◌, ◌↔◌, ◌+◌, ◌^◌, ◌<◌, ◌≤◌, length, IfOk, IfErr, IsOk, IsErr, IsErrOf};
 ghost use Rattle.std.specs.Arc.{arc_value};
 ghost use Rattle.aug_core.specs.Layout.{IsWithin, IsOutside, IsRefused};
-ghost use Rattle.aug_trie.specs.Crew.{BeginsRound, CrewLearns, Ends, TakesBack};
+ghost use Rattle.aug_trie.specs.Crew.{BeginsIn, CrewLearns, Ends, TakesBack};
 ghost use Rattle.aug_trie.specs.Owned.{OpensPass};
+ghost use Rattle.aug_trie.specs.Round.{table_of};
 
 use crate::error::OpenError;
 use aug_core::LayoutError;
@@ -20,7 +21,7 @@ pub struct Running<A: Monoid, B: Monoid> {
     // How many lanes there are, and how many keys there may be.
     pub(crate) workers: u32,
     pub(crate) keys: u32,
-    pub(crate) ghost together: { crew.round ≡ arc_value round },
+    pub(crate) ghost together: { table_of crew.round ≡ arc_value round },
     pub(crate) ghost workers_are: { workers ≡ crew.round.workers },
     pub(crate) ghost keys_are: { keys ≡ 2 ^ crew.round.bits },
 }
@@ -34,7 +35,7 @@ impl<A: Monoid, B: Monoid> Running<A, B> {
         workers: u32,
         updates: u32,
     ) -> Result<Running<A, B>, (Ended<A, B>, BeginError)>
-        ensures begun { IfOk result (λ r. BeginsRound rest.members rest.bits workers updates (arc_value r.round) r.crew) }
+        ensures begun { IfOk result (λ r. BeginsIn (length rest.members) rest.members rest.bits workers updates (arc_value r.round) r.crew) }
         ensures set { IfErr result (λ e. (e.0.members ≡ rest.members) × (e.0.bits ≡ rest.bits)) }
         ensures same { IfErr result (λ e. e.1 ≢ BeginError.OutOfMemory → e.0 ≡ rest) }
         ensures bad_workers { IsErrOf result (rest, BeginError.BadWorkers)
@@ -68,7 +69,7 @@ impl<A: Monoid, B: Monoid> Running<A, B> {
         workers: u32,
         updates: u32,
     ) -> Result<Running<A, B>, (Ended<A, B>, BeginError)>
-        ensures begun { IfOk result (λ r. BeginsRound rest.members bits workers updates (arc_value r.round) r.crew) }
+        ensures begun { IfOk result (λ r. BeginsIn (length rest.members) rest.members bits workers updates (arc_value r.round) r.crew) }
         ensures set { IfErr result (λ e. (e.0.members ≡ rest.members) × ((e.0.bits ≡ rest.bits) ⊎ (e.0.bits ≡ bits))) }
         ensures same { IfErr result (λ e. e.1 ≢ BeginError.OutOfMemory → e.0 ≡ rest) }
         ensures bad_bits { IsErrOf result (rest, BeginError.BadBits) ↔ IsOutside 1 16 bits }
@@ -97,9 +98,9 @@ impl<A: Monoid, B: Monoid> Running<A, B> {
         workers: u32,
         keys: u32,
     ) -> Result<Running<A, B>, (Round<A, B>, Crew<A, B>)>
-        requires together { crew.round ≡ round }
-        requires workers { workers ≡ round.workers }
-        requires keys { keys ≡ 2 ^ round.bits }
+        requires together { table_of crew.round ≡ round }
+        requires workers { workers ≡ crew.round.workers }
+        requires keys { keys ≡ 2 ^ crew.round.bits }
         ensures shared { IfOk result (λ r. (arc_value r.round ≡ round) × (r.crew ≡ crew)) }
         ensures same { IfErr result (λ e. (e.0 ≡ round) × (e.1 ≡ crew)) }
     {

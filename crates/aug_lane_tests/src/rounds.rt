@@ -1,6 +1,5 @@
 //! Rounds, their lanes, and the trie after them.
 ghost use Rattle.std.specs.Prelude.{◌≡◌, IfOk};
-ghost use Rattle.std.specs.Arc.{arc_value};
 
 use super::steps::{Query, Step, after, ask_all, ended, look, one_lane, opened, pairs, play};
 use crate::assertions::{equal, holds};
@@ -34,8 +33,8 @@ pub(super) fn begun(
 
 // Gives a lane back to its round.
 pub(super) fn back(round: Work, lane: Worker) -> Work
-    requires { arc_value lane.round ≡ arc_value round.round }
-    ensures { result.round ≡ round.round }
+    requires { lane.half.round ≡ round.crew.round }
+    ensures { result.crew.round ≡ round.crew.round }
 {
     round.back(lane)
 }

@@ -1,7 +1,6 @@
 //! Calls of a lane as data, each with its answer. What a call of the library promises is met here once, in functions that promise at most
 //! that the lane stays one of its round, so that the proof of a test does not carry it along.
 ghost use Rattle.std.specs.Prelude.{◌≡◌, length};
-ghost use Rattle.std.specs.Arc.{arc_value};
 
 use super::rounds::{Trie, Work, Worker, back, begun};
 use crate::assertions::{equal, holds};
@@ -39,23 +38,30 @@ fn accepted(done: Result<Outcome, UpdateError>) -> Result<bool, UpdateError> {
     }
 }
 
+// Makes an update of a key.
+fn updated(lane: Worker, key: u32, request: Request) -> (Worker, Result<Outcome, UpdateError>)
+    ensures { result.0.half.round ≡ lane.half.round }
+{
+    lane.update(key, request)
+}
+
 // Makes one update.
 fn make(rt: &impl Abort, lane: Worker, step: Step) -> Worker
-    ensures { result.round ≡ lane.round }
+    ensures { result.half.round ≡ lane.half.round }
 {
     match step {
         Step::Insert(key, answer) => {
-            let (lane, done) = lane.update(key, Request::Insert);
+            let (lane, done) = updated(lane, key, Request::Insert);
             equal(rt, accepted(done), answer);
             lane
         }
         Step::Remove(key, answer) => {
-            let (lane, done) = lane.update(key, Request::Remove);
+            let (lane, done) = updated(lane, key, Request::Remove);
             equal(rt, accepted(done), answer);
             lane
         }
         Step::Put(key, weight, answer) => {
-            let (lane, done) = lane.update(key, Request::Put(weight));
+            let (lane, done) = updated(lane, key, Request::Put(weight));
             equal(rt, done, answer);
             lane
         }
@@ -64,7 +70,7 @@ fn make(rt: &impl Abort, lane: Worker, step: Step) -> Worker
 
 /// Makes updates in their order.
 pub(super) fn play(rt: &impl Abort, lane: Worker, steps: &[Step]) -> Worker
-    ensures { result.round ≡ lane.round }
+    ensures { result.half.round ≡ lane.half.round }
 {
     let mut worker = lane;
     for step in steps {
@@ -169,8 +175,8 @@ pub(super) fn put_all(
 
 /// The next lane of a round.
 pub(super) fn opened(rt: &impl Abort, round: Work) -> (Work, Worker)
-    ensures of_round { arc_value result.1.round ≡ arc_value result.0.round }
-    ensures same { result.0.round ≡ round.round }
+    ensures of_round { result.1.half.round ≡ result.0.crew.round }
+    ensures same { result.0.crew.round ≡ round.crew.round }
 {
     let (round, lane) = round.open();
     (round, lane.expect(rt, "a lane"))

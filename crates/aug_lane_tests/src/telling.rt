@@ -1,6 +1,5 @@
 //! Lanes that tell others by notes what they know, and rounds that learn it.
 ghost use Rattle.std.specs.Prelude.{◌≡◌};
-ghost use Rattle.std.specs.Arc.{arc_value};
 
 use super::rounds::{Work, Worker, back, begun, members};
 use super::steps::{Query, Step, ask_all, ended, opened, play};
@@ -9,8 +8,7 @@ use aug_trie::{BeginError, Ended};
 
 // One lane tells another of its round.
 fn told(from: Worker, to: Worker) -> (Worker, Worker)
-    requires { arc_value to.round ≡ arc_value from.round }
-    ensures { (result.0.round ≡ from.round) × (result.1.round ≡ to.round) }
+    requires { to.half.round ≡ from.half.round }
 {
     let (from, note) = from.note();
     (from, to.learn(note))
@@ -18,8 +16,7 @@ fn told(from: Worker, to: Worker) -> (Worker, Worker)
 
 // A lane tells its round, and is dropped.
 fn lost(lane: Worker, round: Work) -> Work
-    requires { arc_value lane.round ≡ arc_value round.round }
-    ensures { result.round ≡ round.round }
+    requires { lane.half.round ≡ round.crew.round }
 {
     let (_, note) = lane.note();
     round.learn(note)
@@ -27,8 +24,7 @@ fn lost(lane: Worker, round: Work) -> Work
 
 // A round tells a lane.
 fn informed(lane: Worker, round: Work) -> (Worker, Work)
-    requires { arc_value lane.round ≡ arc_value round.round }
-    ensures { (result.0.round ≡ lane.round) × (result.1.round ≡ round.round) }
+    requires { lane.half.round ≡ round.crew.round }
 {
     let (round, note) = round.note();
     (lane.learn(note), round)

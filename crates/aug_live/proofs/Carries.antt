@@ -21,6 +21,10 @@ use Rattle.aug_trie.specs.Round.{RoundFacts}
 use Rattle.aug_trie.proofs.Chaining.{begins_alike, begins_longer, part_refl, part_trans}
 use Rattle.aug_live.specs.Carrying.{first_members, Leads}
 use Rattle.aug_live.specs.Ledgers.{Made, dated}
+use Rattle.aug_live.specs.LiveErrors.{IfRefused}
+use Rattle.aug_live.specs.declared.error.LiveError.{LiveError}
+use Rattle.aug_live.specs.declared.error.TryError.{TryError}
+use Rattle.aug_live.specs.declared.error.TryError.TheVariants.{Again, Refused}
 use Rattle.aug_live.specs.LiveHandles.{HandleFacts, IsSuccessor, Follows, Makes, added}
 use Rattle.aug_live.specs.inside.LaneKnowledge.{EndFacts, KnownFacts, LaneFacts, OutFacts, Worked, WorksHere, handle_by, rounds_at, worked}
 use Rattle.aug_live.proofs.Adding.{same_made}
@@ -181,6 +185,12 @@ ok_map P Q (Err e) f p = p
 pub err_map : {T E : Type 0} (P Q : E → Type 0) (r : Result T E) → ((e : E) → P e → Q e) → IfErr r P → IfErr r Q
 err_map P Q (Ok t) f p = p
 err_map P Q (Err e) f p = f e p
+
+-- of a call that waits for nobody, and is refused for such causes
+pub refused_map : {T M : Type 0} (P Q : LiveError → Type 0) (r : Result T (TryError M)) → ((cause : LiveError) → P cause → Q cause) → IfErr r (IfRefused P) → IfErr r (IfRefused Q)
+refused_map P Q (Ok t) f p = p
+refused_map P Q (Err (Again missed)) f p = p
+refused_map P Q (Err (Refused cause)) f p = f cause p
 
 -- a lane whose pass made an update
 pub works_here : (updates steps : ℕ) (does : PassFacts → PassFacts → Type 0) (a : HandleFacts) (b : PassFacts) → does a.half b → GoesOn updates steps a.half b → WorksHere updates does a (record a { half = b })

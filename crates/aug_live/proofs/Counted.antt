@@ -12,7 +12,7 @@ use Rattle.aug_trie.specs.Crew.{CrewFacts, Ends, RollsOver, crew_chain}
 use Rattle.aug_trie.specs.Ended.{EndedFacts}
 use Rattle.aug_trie.specs.History.{IsHistory, last_cut}
 use Rattle.aug_trie.specs.Knowledge.{inserts_of, removals_of}
-use Rattle.aug_trie.specs.Round.{RoundFacts}
+use Rattle.aug_trie.specs.Round.{TableFacts, RoundFacts, table_of}
 use Rattle.aug_trie.specs.Tallies.{Tallies, Weighs}
 use Rattle.aug_trie.proofs.Chaining.{begins_alike, begins_longer, part_refl, part_trans}
 use Rattle.aug_live.specs.Carrying.{Leads}
@@ -109,47 +109,47 @@ all_of_round crew ended ends none = let t = ends.tallies in
     }
 
 -- a trie on the desk goes on
-pub desk_on : (t : TrieFacts) (round round' : RoundFacts) (crew crew' : CrewFacts) (xs ys : List LaneKnown) → record { table = round.table; bits = round.bits; lanes = xs; rounds = crew_chain crew } ≡ t
-    → round'.table ≡ round.table → round'.bits ≡ round.bits → LanesGoOn xs ys → IsPart (crew_chain crew) (crew_chain crew') → KnowsMore t (record { table = round'.table; bits = round'.bits; lanes = ys; rounds = crew_chain crew' })
-desk_on t round round' crew crew' xs ys is table bits lanes part = subst (λ (z : TrieFacts). KnowsMore z (record { table = round'.table; bits = round'.bits; lanes = ys; rounds = crew_chain crew' })) is
-    (record { table = table; bits = bits; lanes = lanes; part = part })
+pub desk_on : (t : TrieFacts) {h h' : ℕ} (table : TableFacts) (crew crew' : CrewFacts) (xs ys : List LaneKnown) → record { table = table.table; bits = table.bits; lanes = xs; held = h; rounds = crew_chain crew } ≡ t
+    → LanesGoOn xs ys → IsPart (crew_chain crew) (crew_chain crew') → KnowsMore t (record { table = table.table; bits = table.bits; lanes = ys; held = h'; rounds = crew_chain crew' })
+desk_on t {h} {h'} table crew crew' xs ys is lanes part = subst (λ (z : TrieFacts). KnowsMore z (record { table = table.table; bits = table.bits; lanes = ys; held = h'; rounds = crew_chain crew' })) is
+    (record { table = refl; bits = refl; lanes = lanes; part = part })
 
 -- all that a crew knew of its rounds is known to that of the next round
-pub rolled_part : (round next : RoundFacts) (crew first : CrewFacts) (list : List (ℕ × ℕ)) (inserts removals : ℕ) → RollsOver crew round next first list inserts removals → crew.round ≡ round → IsPart (crew_chain crew) (crew_chain first)
-rolled_part round next crew first list inserts removals r same = let over : Chapter = (crew_chain r.last).now in
+pub rolled_part : (crew first : CrewFacts) (list : List (ℕ × ℕ)) (inserts removals : ℕ) → RollsOver crew first list inserts removals → IsPart (crew_chain crew) (crew_chain first)
+rolled_part crew first list inserts removals r = let over : Chapter = (crew_chain r.last).now in
     begins_longer crew.past (crew_chain crew).now first.past ((crew_chain first).now ∷ [])
-    (subst (BeginsWith crew.past (crew_chain crew).now) (sym (next_past 0 round next crew first list inserts removals r same))
+    (subst (BeginsWith crew.past (crew_chain crew).now) (sym (next_past 0 (table_of crew.round) crew first list inserts removals r refl))
     (begins_alike crew.past (crew_chain crew).now over [] record { members = ap (λ (z : CrewFacts). z.round.members) r.last_is; goes_on = r.goes_on }))
 
 -- how the desk is closed, whose round ended with all passes back
-pub closed_so : (t : TrieFacts) (set : SetFacts) (counts new : LiveCounts) (round : RoundFacts) (crew last : CrewFacts) (ended : EndedFacts) (xs ys : List LaneKnown) → record { table = round.table; bits = round.bits; lanes = xs; rounds = crew_chain crew } ≡ t
-    → crew.round ≡ round → counts.rounds ≡ length crew.past + 1 → AreCountsOf round.bits crew.past (flat_map (λ (lane : LaneKnown). made_through lane.done) ys) counts.inserts counts.removals → Leads round.bits crew.past round.members
+pub closed_so : (t : TrieFacts) {h : ℕ} (set : SetFacts) (counts new : LiveCounts) (table : TableFacts) (crew last : CrewFacts) (ended : EndedFacts) (xs ys : List LaneKnown) → record { table = table.table; bits = table.bits; lanes = xs; held = h; rounds = crew_chain crew } ≡ t
+    → table_of crew.round ≡ table → counts.rounds ≡ length crew.past + 1 → AreCountsOf table.bits crew.past (flat_map (λ (lane : LaneKnown). made_through lane.done) ys) counts.inserts counts.removals → Leads table.bits crew.past crew.round.members
     → SameChanges last.knows.accepted (made_in (length crew.past + 1) (flat_map (λ (lane : LaneKnown). made_through lane.done) ys)) → LanesGoOn xs ys
     → rounds_in last ≡ rounds_in crew → IsPrefix crew.knows.history last.knows.history → Ends last ended → ended.missing ≡ 0 → set ≡ record { bits = ended.bits; pairs = ended.members }
     → new.rounds ≡ counts.rounds → new.inserts ≡ counts.inserts + ended.inserts → new.removals ≡ counts.removals + ended.removals
     → new.handles ≡ sum_by (λ (lane : LaneKnown). length lane.done) ys → new.missing ≡ sum_by (λ (lane : LaneKnown). length (lost_of lane.done)) ys → Closes t set new
-closed_so t set counts new round crew last ended xs ys is here rounds_are counted led now lanes same more ends none set_is rounds inserts removals handles missing =
+closed_so t {h} set counts new table crew last ended xs ys is here rounds_are counted led now lanes same more ends none set_is rounds inserts removals handles missing =
     let made : List Made = flat_map (λ (lane : LaneKnown). made_through lane.done) ys in
     let past : last.past ≡ crew.past = ap (λ (z : RoundFacts × List Chapter). z.1) same in
-    let there : last.round ≡ round = ap (λ (z : RoundFacts × List Chapter). z.0) same ∙ here in
-    let bits : last.round.bits ≡ round.bits = ap (λ (z : RoundFacts). z.bits) there in
+    let there : last.round ≡ crew.round = ap (λ (z : RoundFacts × List Chapter). z.0) same in
+    let bits : last.round.bits ≡ table.bits = ap (λ (z : RoundFacts). z.bits) there ∙ ap (λ (z : TableFacts). z.bits) here in
     let over : Chapter = (crew_chain last).now in
-    let all : AreChangesOf round.bits over (made_in (length crew.past + 1) made) = changes_by round.bits over last.knows.accepted (made_in (length crew.past + 1) made) now (subst (λ (z : ℕ). AreChangesOf z over last.knows.accepted) bits (all_of_round last ended ends none)) in
-    let sum = counts_more round.bits crew.past over made counts.inserts counts.removals new.inserts new.removals counted all
+    let all : AreChangesOf table.bits over (made_in (length crew.past + 1) made) = changes_by table.bits over last.knows.accepted (made_in (length crew.past + 1) made) now (subst (λ (z : ℕ). AreChangesOf z over last.knows.accepted) bits (all_of_round last ended ends none)) in
+    let sum = counts_more table.bits crew.past over made counts.inserts counts.removals new.inserts new.removals counted all
     (inserts ∙ ap (λ n. counts.inserts + n) (ends.inserts ∙ inserts_by _ _ now)) (removals ∙ ap (λ n. counts.removals + n) (ends.removals ∙ removals_by _ _ now)) in
-    let history : IsHistory round.bits over.members over.history = subst (λ (z : ℕ). IsHistory z over.members over.history) bits ends.is_history in
-    let members : over.members ≡ round.members = ap (λ (z : RoundFacts). z.members) there in
-    let on : Leads round.bits (crew.past ++ over ∷ []) ended.members = leads_on round.bits crew.past over ended.members (subst (Leads round.bits crew.past) (sym members) led) history ends.members in
+    let history : IsHistory table.bits over.members over.history = subst (λ (z : ℕ). IsHistory z over.members over.history) bits ends.is_history in
+    let members : over.members ≡ crew.round.members = ap (λ (z : RoundFacts). z.members) there in
+    let on : Leads table.bits (crew.past ++ over ∷ []) ended.members = leads_on table.bits crew.past over ended.members (subst (Leads table.bits crew.past) (sym members) led) history ends.members in
     let chapters_are : crew.past ++ over ∷ [] ≡ chapters (crew_chain last) = ap (λ (z : List Chapter). z ++ over ∷ []) (sym past) in
-    let known : Closes (record { table = round.table; bits = round.bits; lanes = xs; rounds = crew_chain crew }) set new = record {
+    let known : Closes (record { table = table.table; bits = table.bits; lanes = xs; held = h; rounds = crew_chain crew }) set new = record {
       rounds = crew_chain last;
       part = crew_part crew last same more;
       bits = ap (λ (z : SetFacts). z.bits) set_is ∙ ends.bits ∙ bits;
-      led = subst (λ (z : List Chapter × List (ℕ × ℕ)). Leads round.bits z.0 z.1) (λ i. (chapters_are i, ap (λ (z : SetFacts). z.pairs) (sym set_is) i)) on;
+      led = subst (λ (z : List Chapter × List (ℕ × ℕ)). Leads table.bits z.0 z.1) (λ i. (chapters_are i, ap (λ (z : SetFacts). z.pairs) (sym set_is) i)) on;
       rounds_are = rounds ∙ rounds_are ∙ sym (length-append crew.past (over ∷ [])) ∙ ap length chapters_are;
       lanes = ys;
       lanes_go_on = lanes;
-      counted = subst (λ (z : List Chapter). AreCountsOf round.bits z made new.inserts new.removals) chapters_are sum;
+      counted = subst (λ (z : List Chapter). AreCountsOf table.bits z made new.inserts new.removals) chapters_are sum;
       handles_are = handles;
       missing_are = missing;
     } in subst (λ (z : TrieFacts). Closes z set new) is known
@@ -169,6 +169,6 @@ rolls_on (Ok x) own t t' new more is rolls = let e = no_longer own.rounds t.roun
 rolls_on (Err x) own t t' new more is rolls = rolls
 
 -- the counts of a trie on the desk might not go further
-pub exhausted_so : (t : TrieFacts) (round : RoundFacts) (crew : CrewFacts) (xs : List LaneKnown) (made : List Made) (inserts removals : ℕ) → record { table = round.table; bits = round.bits; lanes = xs; rounds = crew_chain crew } ≡ t
-    → AreCountsOf round.bits crew.past made inserts removals → (2 ^ 64 ≤ length crew.past + 2) ⊎ ((2 ^ 64 ≤ inserts + 2 ^ 33) ⊎ (2 ^ 64 ≤ removals + 2 ^ 33)) → IsExhausted t
-exhausted_so t round crew xs made inserts removals is counted many = subst IsExhausted is record { made = made; inserts = inserts; removals = removals; counted = counted; many = many }
+pub exhausted_so : (t : TrieFacts) {h : ℕ} (table : TableFacts) (crew : CrewFacts) (xs : List LaneKnown) (made : List Made) (inserts removals : ℕ) → record { table = table.table; bits = table.bits; lanes = xs; held = h; rounds = crew_chain crew } ≡ t
+    → AreCountsOf table.bits crew.past made inserts removals → (2 ^ 64 ≤ length crew.past + 2) ⊎ ((2 ^ 64 ≤ inserts + 2 ^ 33) ⊎ (2 ^ 64 ≤ removals + 2 ^ 33)) → IsExhausted t
+exhausted_so t {h} table crew xs made inserts removals is counted many = subst IsExhausted is record { made = made; inserts = inserts; removals = removals; counted = counted; many = many }

@@ -1,7 +1,7 @@
 -- The roller's end of a lane as passes come and go.
 use Rattle.std.proofs.Common.{◌≡◌, ◌≢◌, ◌+◌, ℕ, List, [], ◌∷◌, ◌++◌, true, false, refl, sym, ap, ◌∙◌, subst, ⊎_elim, length, length-append, append_assoc, arith}
 use Rattle.std.specs.Prelude.{drop, not, map, flat_map, reverse}
-use Rattle.std.proofs.lemmas.List.{append-nil, map-append, reverse-append}
+use Rattle.std.proofs.lemmas.List.{append-nil, map-append, reverse-append, reverse-reverse}
 use Rattle.std.proofs.lemmas.List.Concat.{flat_map-append}
 use Rattle.std.proofs.lemmas.List.Elements.{filter-append}
 use Rattle.atomic_table.specs.Seated.{TableId}
@@ -72,6 +72,19 @@ pub took_one : (pop ports back back' : List EndFacts) (port r : EndFacts) (all :
 took_one pop ports back back' port r all cut grown same was =
     ap (λ (z : List EndFacts). map kept_of pop ++ map kept_of z) (ap reverse grown ∙ reverse-append back (r ∷ [])) ∙ ap (λ (z : EndFacts). map kept_of pop ++ (z ∷ map kept_of (reverse back))) same
     ∙ sym (append_assoc (map kept_of pop) (kept_of port ∷ []) (map kept_of (reverse back))) ∙ ap (λ (z : List EndFacts). z ++ map kept_of (reverse back)) (sym (ap (map kept_of) cut ∙ map-append kept_of pop (port ∷ []))) ∙ was
+
+-- the same of the ends themselves, as one lane more is taken
+pub moved_one : (pop ports held held' : List EndFacts) (port one : EndFacts) (all : List EndFacts) → ports ≡ pop ++ port ∷ [] → held' ≡ held ++ one ∷ [] → one ≡ port → ports ++ reverse held ≡ all → pop ++ reverse held' ≡ all
+moved_one pop ports held held' port one all cut grown same was =
+    ap (λ (z : List EndFacts). pop ++ z) (ap reverse grown ∙ reverse-append held (one ∷ [])) ∙ ap (λ (z : EndFacts). pop ++ (z ∷ reverse held)) same
+    ∙ sym (append_assoc pop (port ∷ []) (reverse held)) ∙ ap (λ (z : List EndFacts). z ++ reverse held) (sym cut) ∙ was
+
+pub map_reverse : {A B : Type 0} (f : A → B) (xs : List A) → map f (reverse xs) ≡ reverse (map f xs)
+map_reverse f [] = refl
+map_reverse f (x ∷ xs) = ap (map f) (reverse-append (x ∷ []) xs) ∙ map-append f (reverse xs) (x ∷ []) ∙ ap (λ z. z ++ f x ∷ []) (map_reverse f xs) ∙ sym (reverse-append (f x ∷ []) (map f xs))
+
+pub kept_in_order : (xs ys : List EndFacts) → map kept_of (reverse xs) ≡ map kept_of (reverse ys) → map kept_of xs ≡ map kept_of ys
+kept_in_order xs ys same = sym (reverse-reverse (map kept_of xs)) ∙ ap reverse (sym (map_reverse kept_of xs) ∙ same ∙ map_reverse kept_of ys) ∙ reverse-reverse (map kept_of ys)
 
 pub dealt_one : (ports ports' pop back : List EndFacts) (port r : EndFacts) (all : List EndFacts) → back ≡ pop ++ port ∷ [] → ports' ≡ ports ++ r ∷ [] → kept_of r ≡ given_all port → map kept_of ports ++ map given_all (reverse back) ≡ all
     → map kept_of ports' ++ map given_all (reverse pop) ≡ all

@@ -10,7 +10,7 @@ use Rattle.aug_core.specs.Prefixes.{IsPrefix}
 use Rattle.aug_trie.specs.Chains.{Chapter, BeginsWith}
 use Rattle.aug_trie.specs.History.{IsHistory}
 use Rattle.aug_trie.specs.Pass.{PassFacts, chain_of}
-use Rattle.aug_trie.specs.Round.{RoundFacts}
+use Rattle.aug_trie.specs.Round.{TableFacts, RoundFacts, table_of}
 use Rattle.aug_trie.specs.Crew.{CrewFacts, RollsOver, crew_chain}
 use Rattle.aug_trie.proofs.Chaining.{begins_alike}
 use Rattle.aug_live.specs.Carrying.{Leads}
@@ -57,7 +57,7 @@ pub same_era : (rounds : RoundFacts × List Chapter) (era era' : ℕ) (h : List 
 same_era rounds era era' h e is = subst (λ (z : ℕ). IsBackIn rounds z h e) is
 
 -- what went back to a crew is a part of the rounds before the next one, which its crew begins in the memory of this one
-module _ (era : ℕ) (round next : RoundFacts) (crew first : CrewFacts) (list : List (ℕ × ℕ)) (inserts removals : ℕ) (r : RollsOver crew round next first list inserts removals) (same : crew.round ≡ round) where
+module _ (era : ℕ) (table : TableFacts) (crew first : CrewFacts) (list : List (ℕ × ℕ)) (inserts removals : ℕ) (r : RollsOver crew first list inserts removals) (same : table_of crew.round ≡ table) where
   abbrev pub over : Chapter
   over = (crew_chain r.last).now
 
@@ -65,28 +65,28 @@ module _ (era : ℕ) (round next : RoundFacts) (crew first : CrewFacts) (list : 
   pub next_past : first.past ≡ crew.past ++ over ∷ []
   next_past = ap (λ (z : CrewFacts). z.past) r.crew_is ∙ ap (λ (z : CrewFacts). z.past ++ over ∷ []) r.last_is
 
-  ended : (e : EndFacts) → IsBackIn (rounds_in crew) era crew.knows.history e → HasEnded next first.past era e
+  ended : (e : EndFacts) → IsBackIn (rounds_in crew) era crew.knows.history e → HasEnded table first.past era e
   ended e b = let p : PassFacts = e.known.at.half in
-      let was : p.round ≡ round = ap (λ (z : RoundFacts × List Chapter). z.0) b.round_is ∙ same in
+      let was : table_of p.round ≡ table = ap (λ (z : RoundFacts × List Chapter). table_of z.0) b.round_is ∙ same in
       let before : p.past ≡ crew.past = ap (λ (z : RoundFacts × List Chapter). z.1) b.round_is in
       let members : over.members ≡ p.round.members = ap (λ (z : CrewFacts). z.round.members) r.last_is ∙ ap (λ (z : RoundFacts × List Chapter). z.0.members) (sym b.round_is) in record {
         whose = b.whose;
         works = b.works;
         era_is = b.era_is;
-        table_is = ap (λ (z : RoundFacts). z.table) was ∙ ap (λ (z : RoundFacts). z.table) (sym r.round_is);
-        bits_are = ap (λ (z : RoundFacts). z.bits) was ∙ ap (λ (z : RoundFacts). z.bits) (sym r.round_is);
+        table_is = ap (λ (z : TableFacts). z.table) was;
+        bits_are = ap (λ (z : TableFacts). z.bits) was;
         part = subst (BeginsWith p.past (chain_of p).now) (ap (λ (z : List Chapter). z ++ over ∷ []) before ∙ sym next_past)
             (begins_alike p.past (chain_of p).now over [] record { members = members; goes_on = prefix_trans p.knows.history crew.knows.history r.last.knows.history b.known r.goes_on });
       }
 
-  pub all_ended : (xs : List EndFacts) → All (IsBackIn (rounds_in crew) era crew.knows.history) xs → All (HasEnded next first.past era) xs
+  pub all_ended : (xs : List EndFacts) → All (IsBackIn (rounds_in crew) era crew.knows.history) xs → All (HasEnded table first.past era) xs
   all_ended xs all k d low = ended (get_or xs k d) (all k d low)
 
   -- and they lead to the set with which it begins
-  pub next_led : Leads round.bits crew.past round.members → Leads next.bits first.past next.members
+  pub next_led : Leads table.bits crew.past crew.round.members → Leads table.bits first.past first.round.members
   next_led led =
-      let members : over.members ≡ round.members = ap (λ (z : CrewFacts). z.round.members) r.last_is ∙ ap (λ (z : RoundFacts). z.members) same in
-      let bits : r.last.round.bits ≡ round.bits = ap (λ (z : CrewFacts). z.round.bits) r.last_is ∙ ap (λ (z : RoundFacts). z.bits) same in
-      let is : IsHistory round.bits over.members over.history = subst (λ (z : ℕ). IsHistory z over.members over.history) bits r.ends.is_history in
-      let on : Leads round.bits (crew.past ++ over ∷ []) r.ended.members = leads_on round.bits crew.past over r.ended.members (subst (Leads round.bits crew.past) (sym members) led) is r.ends.members in
-      subst (λ (z : ℕ × List Chapter × List (ℕ × ℕ)). Leads z.0 z.1 z.2) (λ i. (ap (λ (z : RoundFacts). z.bits) (sym r.round_is) i, sym next_past i, ap (λ (z : RoundFacts). z.members) (sym r.round_is) i)) on
+      let members : over.members ≡ crew.round.members = ap (λ (z : CrewFacts). z.round.members) r.last_is in
+      let bits : r.last.round.bits ≡ table.bits = ap (λ (z : CrewFacts). z.round.bits) r.last_is ∙ ap (λ (z : TableFacts). z.bits) same in
+      let is : IsHistory table.bits over.members over.history = subst (λ (z : ℕ). IsHistory z over.members over.history) bits r.ends.is_history in
+      let on : Leads table.bits (crew.past ++ over ∷ []) r.ended.members = leads_on table.bits crew.past over r.ended.members (subst (Leads table.bits crew.past) (sym members) led) is r.ends.members in
+      subst (λ (z : List Chapter × List (ℕ × ℕ)). Leads table.bits z.0 z.1) (λ i. (sym next_past i, ap (λ (z : RoundFacts). z.members) (sym r.round_is) i)) on

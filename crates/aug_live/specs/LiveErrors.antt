@@ -5,7 +5,9 @@ use Rattle.std.specs.List.{sum_by}
 use Rattle.aug_live.specs.Ledgers.{Made}
 use Rattle.aug_live.specs.LiveTries.{AreCountsOf, LaneKnown, TrieFacts}
 use Rattle.aug_live.specs.declared.error.LiveError.{LiveError}
-use Rattle.aug_live.specs.declared.error.LiveError.TheVariants.{Closed, Exhausted, Replaced, NoLane}
+use Rattle.aug_live.specs.declared.error.TryError.{TryError}
+use Rattle.aug_live.specs.declared.error.TryError.TheVariants.{Again, Refused}
+use Rattle.aug_live.specs.declared.error.LiveError.TheVariants.{Closed, Exhausted, Replaced, NoLane, TooMany}
 
 -- how a refusal is printed: by its name
 abbrev pub live_text : LiveError → List ℕ
@@ -13,6 +15,12 @@ live_text Closed = codes "Closed"
 live_text Exhausted = codes "Exhausted"
 live_text Replaced = codes "Replaced"
 live_text NoLane = codes "NoLane"
+live_text TooMany = codes "TooMany"
+
+-- of a call that waits for nobody: if it is refused, and need not be made again, this holds of the cause
+abbrev pub IfRefused : {M : Type 0} → (LiveError → Type 0) → TryError M → Type 0
+IfRefused why (Again missed) = Unit {0}
+IfRefused why (Refused cause) = why cause
 
 -- the rounds of a trie that are over are as many as can be counted, or nearly as many keys were put in, or taken out, in them, by what was made in them
 pub record IsExhausted (trie : TrieFacts) : Type 0 where
@@ -28,6 +36,7 @@ RefusesRoll trie Closed = ⊥
 RefusesRoll trie Exhausted = IsExhausted trie
 RefusesRoll trie Replaced = ⊥
 RefusesRoll trie NoLane = ⊥
+RefusesRoll trie TooMany = ⊥
 
 -- why a trie gives no lane of this number to a new handle
 abbrev pub RefusesLane : ℕ → TrieFacts → LiveError → Type 0
@@ -35,3 +44,8 @@ RefusesLane lane trie Closed = ⊥
 RefusesLane lane trie Exhausted = 2 ^ 64 ≤ sum_by (λ (l : LaneKnown). length l.done) trie.lanes + length trie.lanes + 1
 RefusesLane lane trie Replaced = ⊥
 RefusesLane lane trie NoLane = length trie.lanes ≤ lane
+RefusesLane lane trie TooMany = Unit {0}
+
+-- why a call for a new handle of this lane is refused
+abbrev pub RefusesHandle : ℕ → TrieFacts → LiveError → Type 0
+RefusesHandle lane trie cause = RefusesRoll trie cause ⊎ RefusesLane lane trie cause

@@ -41,11 +41,13 @@ LanesGoOn [] (y ∷ ys) = ⊥
 LanesGoOn (x ∷ xs) [] = ⊥
 LanesGoOn (x ∷ xs) (y ∷ ys) = LaneGoesOn x y × LanesGoOn xs ys
 
--- a live trie as whoever has an end of its desk knows it: its table, the bits of its keys, its lanes, and its rounds, as far as they are known
+-- a live trie as whoever has an end of its desk knows it: its table, the bits of its keys, its lanes, how many of them a roll-over that is not over has taken, and
+-- its rounds, as far as they are known
 pub record TrieFacts : Type 0 where
   pub table : TableId
   pub bits : ℕ
   pub lanes : List LaneKnown
+  pub held : ℕ
   pub rounds : Chain
 
 -- the identities of its lanes, which are those that each of its handles knows

@@ -1,25 +1,26 @@
 //! The desk: the round that goes on, and the roller's ends of all lanes.
-ghost use Rattle.std.specs.Prelude.{◌≡◌, ◌+◌, ◌<◌, ◌≤◌, IfOk, IfErr, IsErr, length};
+ghost use Rattle.std.specs.Prelude.{◌≡◌, ◌+◌, ◌<◌, ◌≤◌, IfOk, IfErr, IsErr, length, vec_len, vec_capacity};
+ghost use Rattle.std.specs.List.{insert};
 ghost use mathlib.Core.Option.{some};
 ghost use lib.ListN.{get_elem?};
 ghost use Rattle.atomic_table.specs.Seated.{TableId};
 ghost use Rattle.aug_trie.specs.Note.{chain_of_note};
 ghost use Rattle.aug_trie.specs.Chains.{IsPart};
-ghost use Rattle.aug_live.specs.LiveErrors.{RefusesLane, RefusesRoll};
+ghost use Rattle.aug_live.specs.LiveErrors.{IfRefused, RefusesLane, RefusesRoll};
 ghost use Rattle.aug_live.specs.LiveTries.{Closes, KnowsMore, ids_of};
 ghost use Rattle.aug_live.specs.inside.Desks.{GivesLane, TakesEnd};
 ghost use Rattle.aug_live.specs.declared.known.Whose.TheVariants.{Handle};
 
 use crate::counts::LiveCounts;
 use crate::end::End;
-use crate::error::LiveError;
+use crate::error::{LiveError, TryError};
+use crate::held::{Emptied, Held};
 use crate::plan::Plan;
-use crate::rolling::{deal_all, finish, renewed, take_all};
+use crate::rolling::{deal_all, finish, give_all, take_all};
 use aug_monoid::Monoid;
-use aug_trie::{Crew, Members, Note, Round};
-use std::alloc::Global;
+use aug_trie::{Crew, Members, Note, SharedRound};
+use ruled_lock::Patience;
 use std::marker::Model;
-use std::sync::{Arc, Wait};
 
 // A round counts fewer than 2^32 keys put in or taken out. With no more than this before it, the next one can be counted too.
 const MOST_BEFORE: u64 = u64::MAX - 2 * u32::MAX as u64;
@@ -30,16 +31,19 @@ pub(crate) struct Working<A: Monoid, B: Monoid> {
     pub(crate) plan: Plan,
     pub(crate) counts: LiveCounts,
     pub(crate) bits: u32,
-    pub(crate) round: Arc<Round<A, B>, Global>,
+    pub(crate) round: SharedRound<A, B>,
     pub(crate) crew: Crew<A, B>,
     pub(crate) ports: Vec<End<A, B>>,
-    // Room for the ends once they are back, and for the members.
-    pub(crate) room: Vec<End<A, B>>,
+    // The last lanes, the last one first, if a roll-over took them and waits for the others.
+    pub(crate) held: Vec<Held<A, B>>,
+    // Room for them once their passes are back, for owners of the round, and for the members.
+    pub(crate) idle: Vec<Emptied<A, B>>,
+    pub(crate) shares: Vec<SharedRound<A, B>>,
     pub(crate) list: Vec<(u32, u32)>,
 }
 
 impl<A: Monoid, B: Monoid> Model for Working<A, B> {
-    ghost use Rattle.std.specs.Prelude.{◌≡◌, ◌≤◌, ◌^◌, [], map, vec_len, vec_capacity};
+    ghost use Rattle.std.specs.Prelude.{◌≡◌, ◌+◌, ◌++◌, ◌≤◌, ◌^◌, [], map, reverse, vec_len, vec_capacity};
     ghost use Rattle.std.specs.Arc.{arc_value};
     ghost use Rattle.aug_trie.specs.Crew.{crew_chain};
     ghost use Rattle.aug_live.specs.LiveTries.{TrieFacts};
@@ -48,67 +52,87 @@ impl<A: Monoid, B: Monoid> Model for Working<A, B> {
 
     ghost Value = { TrieFacts };
 
-    ghost view = { λ w. record { table = (arc_value w.round).table; bits = (arc_value w.round).bits; lanes = map lane_by w.ports.items; rounds = crew_chain w.crew } };
+    ghost view = { λ w. record { table = (arc_value w.round).table; bits = (arc_value w.round).bits; lanes = map lane_by (w.ports.items ++ reverse w.held.items); held = vec_len w.held; rounds = crew_chain w.crew } };
 
-    ghost invariant = { λ w. IsWorking w.plan.lanes w.plan.updates w.counts (arc_value w.round) w.crew w.ports.items (vec_len w.ports)
-        × (w.room.items ≡ []) × (vec_len w.ports ≤ vec_capacity w.room) × (w.list.items ≡ []) × (2 ^ (arc_value w.round).bits ≤ vec_capacity w.list)
-        × ((arc_value w.round).bits ≡ w.bits) };
+    ghost invariant = { λ w. IsWorking w.plan.lanes w.plan.updates w.counts (arc_value w.round) w.crew (w.ports.items ++ reverse w.held.items) (vec_len w.ports + vec_len w.held)
+        × (w.idle.items ≡ []) × (w.shares.items ≡ []) × (vec_len w.ports + vec_len w.held ≤ vec_capacity w.ports) × (vec_len w.ports + vec_len w.held ≤ vec_capacity w.held)
+        × (vec_len w.ports + vec_len w.held ≤ vec_capacity w.idle) × (vec_len w.ports + vec_len w.held ≤ vec_capacity w.shares)
+        × (w.list.items ≡ []) × (2 ^ (arc_value w.round).bits ≤ vec_capacity w.list) × ((arc_value w.round).bits ≡ w.bits) };
 }
 
 impl<A: Monoid, B: Monoid> Working<A, B> {
-    /// Ends the round: its set, and the counts of all rounds. It waits for each update and look of a handle.
-    pub(crate) fn stop<R: Wait>(self, rt: &R) -> (Members, LiveCounts)
-        ensures closes { Closes self result.0 result.1 }
-        ensures sizes { length result.0.pairs + result.1.removals ≡ result.1.opened + result.1.inserts }
+    /// Ends the round: its set, and the counts of all rounds. If a handle works or looks, the round comes back.
+    pub(crate) fn stop<W: Patience>(
+        self,
+        how: &W,
+    ) -> Result<(Members, LiveCounts), (Working<A, B>, W::Missed)>
+        ensures closes { IfOk result (λ t. Closes self t.0 t.1) }
+        ensures sizes { IfOk result (λ t. length t.0.pairs + t.1.removals ≡ t.1.opened + t.1.inserts) }
+        ensures more { IfErr result (λ e. KnowsMore self e.0) }
     {
+        let mut working = self;
+        if let Err(missed) = take_all(how, &mut working.ports, &mut working.held) {
+            return Err((working, missed));
+        }
         let Working {
             counts,
             round,
             crew,
-            ports,
-            room,
+            held,
+            idle,
+            shares,
             list,
             ..
-        } = self;
-        let ended = finish(rt, counts.rounds, round, crew, ports, room);
-        let inserts = counts.inserts + u64::from(ended.inserts());
-        let removals = counts.removals + u64::from(ended.removals());
+        } = working;
+        let (set, inserts, removals) = finish(counts.rounds, round, crew, held, idle, shares, list);
+        let inserts = counts.inserts + u64::from(inserts);
+        let removals = counts.removals + u64::from(removals);
         let counts = LiveCounts {
             inserts,
             removals,
             ..counts
         };
-        (ended.into_members_in(list), counts)
+        Ok((set, counts))
     }
 
-    /// Ends the round and begins the next one in its memory, so that nothing is asked for. It waits for each update and look of a handle. If the
-    /// counts might not go further, the round goes on.
-    pub(crate) fn roll<R: Wait>(self, rt: &R) -> (Working<A, B>, Result<(), LiveError>)
+    /// Ends the round and begins the next one in its memory, so that nothing is asked for. If a handle works or looks, the lanes that were taken stay
+    /// so, for whoever rolls the round over next. If the counts might not go further, the round goes on.
+    pub(crate) fn roll<W: Patience>(
+        self,
+        how: &W,
+    ) -> (Working<A, B>, Result<(), TryError<W::Missed>>)
         ensures more { KnowsMore self result.0 }
         ensures rolls { IfOk result.1 (λ _. length self.rounds.past < length result.0.rounds.past) }
-        ensures refused { IfErr result.1 (RefusesRoll result.0) }
+        ensures settled { IfOk result.1 (λ _. result.0.held ≡ 0) }
+        ensures refused { IfErr result.1 (IfRefused (RefusesRoll result.0)) }
     {
-        let counts = self.counts;
+        let mut working = self;
+        let counts = working.counts;
         if counts.rounds == u64::MAX
             || counts.inserts > MOST_BEFORE
             || counts.removals > MOST_BEFORE
         {
-            return (self, Err(LiveError::Exhausted));
+            return (working, Err(TryError::Refused(LiveError::Exhausted)));
+        }
+        if let Err(missed) = take_all(how, &mut working.ports, &mut working.held) {
+            return (working, Err(TryError::Again(missed)));
         }
         let Working {
             plan,
             bits,
-            mut round,
+            round,
             mut crew,
             mut ports,
-            mut room,
+            mut held,
+            mut idle,
+            mut shares,
             mut list,
             ..
-        } = self;
-        take_all(rt, counts.rounds, &mut crew, &mut ports, &mut room);
-        let (mut crew, inserts, removals) = renewed(rt, &mut round, crew, &mut list);
+        } = working;
+        give_all(counts.rounds, &mut crew, &mut held, &mut idle, &mut shares);
+        let (mut crew, inserts, removals) = round.renew(crew, &mut list);
         list.clear();
-        deal_all(rt, counts.rounds, &round, &mut crew, &mut room, &mut ports);
+        deal_all(counts.rounds, &mut crew, &mut idle, &mut shares, &mut ports);
         let working = Working {
             plan,
             counts: LiveCounts {
@@ -121,55 +145,80 @@ impl<A: Monoid, B: Monoid> Working<A, B> {
             round,
             crew,
             ports,
-            room,
+            held,
+            idle,
+            shares,
             list,
         };
         (working, Ok(()))
     }
 
+    /// Rolls the round over if that was begun.
+    pub(crate) fn settle<W: Patience>(
+        self,
+        how: &W,
+    ) -> (Working<A, B>, Result<(), TryError<W::Missed>>)
+        ensures more { KnowsMore self result.0 }
+        ensures settled { IfOk result.1 (λ _. result.0.held ≡ 0) }
+        ensures refused { IfErr result.1 (IfRefused (RefusesRoll result.0)) }
+    {
+        if self.held.is_empty() {
+            (self, Ok(()))
+        } else {
+            self.roll(how)
+        }
+    }
+
     /// Sees to it that a lane which was spent in this era has a pass: that of a newer round, a spare lane of the same, or one of the next, which
     /// then begins.
-    pub(crate) fn past<R: Wait>(
+    pub(crate) fn past<W: Patience>(
         self,
-        rt: &R,
+        how: &W,
         era: u64,
         lane: usize,
-    ) -> (Working<A, B>, Result<(), LiveError>)
+    ) -> (Working<A, B>, Result<(), TryError<W::Missed>>)
         ensures more { KnowsMore self result.0 }
-        ensures refused { IfErr result.1 (RefusesRoll result.0) }
+        ensures refused { IfErr result.1 (IfRefused (RefusesRoll result.0)) }
     {
-        let mut working = self;
-        if working.goes_on(rt, era, lane) {
-            (working, Ok(()))
-        } else {
-            working.roll(rt)
+        let (mut working, settled) = self.settle(how);
+        if let Err(cause) = settled {
+            return (working, Err(cause));
+        }
+        match working.goes_on(how, era, lane) {
+            Ok(true) => (working, Ok(())),
+            Ok(false) => working.roll(how),
+            Err(missed) => (working, Err(TryError::Again(missed))),
         }
     }
 
     /// Whether the round of this era is over, or goes on with a spare lane in the place of the one with this number.
-    fn goes_on<R: Wait>(&mut self, rt: &R, era: u64, lane: usize) -> bool
+    fn goes_on<W: Patience>(&mut self, how: &W, era: u64, lane: usize) -> Result<bool, W::Missed>
+        requires settled { self.old.held ≡ 0 }
         ensures { KnowsMore self.old self.new }
     {
         if self.counts.rounds != era {
-            return true;
+            return Ok(true);
         }
         if self.crew.handed() == self.plan.lanes || lane >= self.ports.len() {
-            return false;
+            return Ok(false);
         }
-        let port = self
-            .ports
-            .remove(lane)
-            .replace(rt, &self.round, &mut self.crew);
-        let Ok(()) = self.ports.insert(lane, port) else {
-            unreachable!()
-        };
-        true
+        match self.ports.remove(lane).replace(how, &mut self.crew) {
+            Ok(port) => {
+                put_in(&mut self.ports, lane, port);
+                Ok(true)
+            }
+            Err((port, missed)) => {
+                put_in(&mut self.ports, lane, port);
+                Err(missed)
+            }
+        }
     }
 
     /// Has the crew know what a note of this trie tells.
     pub(crate) fn learn(self, note: Note<A, B>) -> Working<A, B>
         requires { note.round.table ≡ self.table }
         ensures more { KnowsMore self result }
+        ensures held { result.held ≡ self.held }
         ensures learns { IsPart (chain_of_note note) result.rounds }
     {
         let mut working = self;
@@ -178,13 +227,14 @@ impl<A: Monoid, B: Monoid> Working<A, B> {
     }
 
     /// Takes back the handle of a lane, by its end. Refused with `Replaced` if the lane has a newer one, and with `NoLane`; then the same end comes back.
-    pub(crate) fn back<R: Wait>(
+    pub(crate) fn back<W: Patience>(
         &mut self,
-        rt: &R,
+        how: &W,
         lane: usize,
         number: u64,
         end: End<A, B>,
-    ) -> Result<(), (End<A, B>, LiveError)>
+    ) -> Result<(), (End<A, B>, TryError<W::Missed>)>
+        requires settled { self.old.held ≡ 0 }
         requires handle { end.known.whose ≡ Handle }
         requires some { 0 < end.known.at.era }
         requires number { end.known.number ≡ number }
@@ -194,51 +244,70 @@ impl<A: Monoid, B: Monoid> Working<A, B> {
         ensures same { IfErr result (λ e. e.0 ≡ end) }
     {
         if lane >= self.ports.len() {
-            return Err((end, LiveError::NoLane));
+            return Err((end, TryError::Refused(LiveError::NoLane)));
         }
-        let (port, is_last) = self.ports.remove(lane).is_of(rt, number);
-        if !is_last {
-            let Ok(()) = self.ports.insert(lane, port) else {
-                unreachable!()
-            };
-            return Err((end, LiveError::Replaced));
+        match self.ports.remove(lane).take_in(how, number, end) {
+            Ok(port) => {
+                put_in(&mut self.ports, lane, port);
+                self.counts.missing -= 1;
+                Ok(())
+            }
+            Err((port, end, cause)) => {
+                put_in(&mut self.ports, lane, port);
+                Err((end, cause))
+            }
         }
-        let Ok(()) = self.ports.insert(lane, port.take_in(rt, end)) else {
-            unreachable!()
-        };
-        self.counts.missing -= 1;
-        Ok(())
     }
 
     /// Gives a lane to a new handle, whose end it answers with the bits of its keys and its number. The handle knows all that the crew does.
     ///
-    /// Refused with `NoLane`, and with `Exhausted` if the handles cannot be counted further.
-    pub(crate) fn renew<R: Wait>(
+    /// Refused with `NoLane`, with `Exhausted` if the handles cannot be counted further, and with `TooMany`.
+    pub(crate) fn renew<W: Patience>(
         &mut self,
-        rt: &R,
+        how: &W,
         lane: usize,
-    ) -> Result<(End<A, B>, u32, u64), LiveError>
+    ) -> Result<(End<A, B>, u32, u64), TryError<W::Missed>>
+        requires settled { self.old.held ≡ 0 }
         ensures more { KnowsMore self.old self.new }
         ensures handle { IfOk result (λ h. GivesLane lane self.new h.0 h.1 h.2) }
-        ensures refused { IfErr result (RefusesLane lane self.new) }
+        ensures refused { IfErr result (IfRefused (RefusesLane lane self.new)) }
         ensures past { length self.old.lanes ≤ lane → IsErr result }
     {
         if lane >= self.ports.len() {
-            return Err(LiveError::NoLane);
+            return Err(TryError::Refused(LiveError::NoLane));
         }
         if self.counts.handles == u64::MAX || self.counts.missing == u64::MAX {
-            return Err(LiveError::Exhausted);
+            return Err(TryError::Refused(LiveError::Exhausted));
         }
-        let number = self.counts.handles + 1;
-        let (port, end) = self
-            .ports
-            .remove(lane)
-            .renew(rt, number, &self.round, &mut self.crew);
-        let Ok(()) = self.ports.insert(lane, port) else {
-            unreachable!()
+        let Ok(theirs) = self.ports[lane].share() else {
+            return Err(TryError::Refused(LiveError::TooMany));
         };
-        self.counts.handles = number;
-        self.counts.missing += 1;
-        Ok((end, self.bits, number))
+        let number = self.counts.handles + 1;
+        let port = self.ports.remove(lane);
+        match port.renew(how, number, theirs, &self.round, &mut self.crew) {
+            Ok((port, end)) => {
+                put_in(&mut self.ports, lane, port);
+                self.counts.handles = number;
+                self.counts.missing += 1;
+                Ok((end, self.bits, number))
+            }
+            Err((port, missed)) => {
+                put_in(&mut self.ports, lane, port);
+                Err(TryError::Again(missed))
+            }
+        }
     }
+}
+
+// Puts an end in the place from which one was taken.
+fn put_in<A: Monoid, B: Monoid>(ports: &mut Vec<End<A, B>>, lane: usize, port: End<A, B>)
+    requires lane { lane ≤ vec_len ports.old }
+    requires room { vec_len ports.old < vec_capacity ports.old }
+    ensures items { ports.new.items ≡ insert ports.old.items lane port }
+    ensures len { vec_len ports.new ≡ vec_len ports.old + 1 }
+    ensures room { vec_capacity ports.new ≡ vec_capacity ports.old }
+{
+    let Ok(()) = ports.insert(lane, port) else {
+        unreachable!()
+    };
 }

@@ -1,12 +1,13 @@
 //! The desk, and the ends of its lock.
-ghost use Rattle.std.specs.Prelude.{◌≡◌, ◌⊎◌, ◌+◌, ◌<◌, ◌≤◌, IfOk, IfErr, IsErr, None, Some, length};
+ghost use Rattle.std.specs.Prelude.{◌≡◌, ◌⊎◌, [], ◌∷◌, All, ◌+◌, ◌<◌, ◌≤◌, IfOk, IfErr, IsErr, IsSome, None, Some, length, vec_len, vec_capacity};
+ghost use Rattle.std.specs.Arc.{arc_value};
 ghost use Rattle.ruled_lock.specs.Locks.{Holds, HoldsNothing, IsSamePass, client_of};
 ghost use mathlib.Core.Option.{some};
 ghost use lib.ListN.{get_elem?};
 ghost use Rattle.atomic_table.specs.Seated.{TableId};
 ghost use Rattle.aug_trie.specs.Note.{chain_of_note};
 ghost use Rattle.aug_trie.specs.Chains.{IsPart};
-ghost use Rattle.aug_live.specs.LiveErrors.{RefusesLane, RefusesRoll};
+ghost use Rattle.aug_live.specs.LiveErrors.{IfRefused, RefusesLane, RefusesRoll};
 ghost use Rattle.aug_live.specs.LiveTries.{CameBack, Closes, KnowsMore, ids_of};
 ghost use Rattle.aug_live.specs.inside.Desks.{GivesLane};
 ghost use Rattle.aug_live.specs.declared.known.Whose.TheVariants.{Handle};
@@ -14,16 +15,14 @@ ghost use Rattle.aug_live.specs.declared.known.Whose.TheVariants.{Handle};
 use crate::counts::LiveCounts;
 use crate::desk::Working;
 use crate::end::End;
-use crate::error::LiveError;
-use crate::rolling::share;
+use crate::error::{LiveError, TryError};
 use atomic_table::Split;
 use aug_monoid::Monoid;
 use aug_trie::{Members, Note, PassHalf};
-use ruled_lock::{Lesson, LockRule, Outcome, Pass, RuledLock};
+use ruled_lock::{Lesson, LockRule, Outcome, Pass, Patience, RuledLock, Tries};
 use std::alloc::{AllocError, Global};
 use std::marker::Model;
-use std::sync::{Arc, Wait};
-use std::thread::yield_now;
+use std::sync::Arc;
 
 /// The desk: the round that goes on, unless the trie was closed or is not open yet.
 #[derive(Drop)]
@@ -36,6 +35,7 @@ pub(crate) struct Desk<A: Monoid, B: Monoid> {
 pub(crate) struct Told<A: Monoid, B: Monoid> {
     half: PassHalf<A, B>,
     lanes: Vec<End<A, B>>,
+    held: u64,
 }
 
 impl<A: Monoid, B: Monoid> Model for Told<A, B> {
@@ -46,7 +46,7 @@ impl<A: Monoid, B: Monoid> Model for Told<A, B> {
 
     ghost Value = { TrieFacts };
 
-    ghost view = { λ t. record { table = t.half.round.table; bits = t.half.round.bits; lanes = map lane_by t.lanes.items; rounds = chain_of t.half } };
+    ghost view = { λ t. record { table = t.half.round.table; bits = t.half.round.bits; lanes = map lane_by t.lanes.items; held = t.held; rounds = chain_of t.half } };
 }
 
 /// The rule of the desk's lock: each end knows a part of the rounds of the trie that lies there.
@@ -110,95 +110,172 @@ impl<A: Monoid, B: Monoid> Model for DeskEnd<A, B> {
     ghost invariant = { λ e. (e.pass.table_id ≡ (arc_value e.lock).table.shared.table_id) × HoldsNothing e.pass };
 }
 
-impl<A: Monoid, B: Monoid> DeskEnd<A, B> {
-    /// The first end of a desk on which nothing lies yet.
-    pub(crate) fn new(alloc: Global) -> Result<DeskEnd<A, B>, AllocError>
-        ensures { IfOk result (λ e. e.bits ≡ 0) }
+/// One more owner of the desk's lock.
+#[derive(Drop)]
+pub(crate) struct DeskShare<A: Monoid, B: Monoid> {
+    lock: Arc<DeskLock<A, B>, Global>,
+}
+
+impl<A: Monoid, B: Monoid> Model for DeskShare<A, B> {
+    ghost use Rattle.std.specs.Arc.{arc_value};
+    ghost use Rattle.atomic_table.specs.Seated.{TableId};
+
+    ghost Value = { TableId };
+
+    ghost view = { λ s. (arc_value s.lock).table.shared.table_id };
+}
+
+/// A desk on which nothing lies yet, which its first end has taken, and owners of its lock for the ends of the handles.
+#[derive(Drop)]
+pub(crate) struct NewDesk<A: Monoid, B: Monoid> {
+    lock: Arc<DeskLock<A, B>, Global>,
+    pass: Pass<Desk<A, B>, Told<A, B>>,
+    theirs: Vec<DeskShare<A, B>>,
+    pub(crate) ends: Vec<DeskEnd<A, B>>,
+    ghost of: { pass.table_id ≡ (arc_value lock).table.shared.table_id },
+    ghost same_lock: { All (λ s. s ≡ pass.table_id) theirs.items },
+    ghost out: { IsSome pass.me.0.taken × (pass.me.1 ≡ (0, None) ∷ []) },
+    ghost no_trie: { (client_of pass).bits ≡ 0 },
+    ghost none: { ends.items ≡ [] },
+    ghost room: { vec_len theirs ≤ vec_capacity ends },
+}
+
+impl<A: Monoid, B: Monoid> NewDesk<A, B> {
+    /// A desk for so many handles.
+    pub(crate) fn new(alloc: Global, handles: u32) -> Result<NewDesk<A, B>, AllocError>
+        ensures { IfOk result (λ d. vec_len d.theirs ≡ handles) }
     {
         let desk = Desk {
             working: None,
             opened: false,
         };
-        let (lock, pass) = RuledLock::new(alloc, desk)?;
+        let (lock, mut pass) = RuledLock::new(alloc, desk)?;
         let Ok(lock) = Arc::new(alloc, lock) else {
             return Err(AllocError);
         };
-        Ok(DeskEnd { lock, pass })
+        let mut theirs = Vec::with_capacity(alloc, handles as usize)?;
+        for _ in 0..handles {
+            let lock = Arc::try_clone(&lock)?;
+            theirs.push_reserved(DeskShare { lock });
+        }
+        let ends = Vec::with_capacity(alloc, handles as usize)?;
+        match lock.take::<Read, Tries>(&Tries, &mut pass) {
+            Ok(_) => Ok(NewDesk {
+                lock,
+                pass,
+                theirs,
+                ends,
+            }),
+            Err(_) => Err(AllocError),
+        }
     }
 
-    /// Lays the first round there.
-    pub(crate) fn place<R: Wait>(self, rt: &R, working: Working<A, B>) -> DeskEnd<A, B>
-        requires first { self.bits ≡ 0 }
+    /// Lays the first round there: the owner's end, and those of the handles.
+    pub(crate) fn place(self, working: Working<A, B>) -> (DeskEnd<A, B>, Vec<DeskEnd<A, B>>)
         requires some { 0 < working.bits }
-        ensures { result ≡ working }
+        ensures owner { result.0 ≡ working }
+        ensures handles { All (λ e. e ≡ working) result.1.items }
+        ensures len { vec_len result.1 ≡ vec_len self.theirs }
     {
-        let DeskEnd { lock, mut pass } = self;
-        let _ = lock.take::<Read, R>(rt, &mut pass);
+        let NewDesk {
+            lock,
+            mut pass,
+            theirs,
+            mut ends,
+        } = self;
         let desk = Desk {
             working: Some(working),
             opened: true,
         };
         lock.put::<Lay>(&mut pass, desk);
-        DeskEnd { lock, pass }
+        let mut mine = DeskEnd { lock, pass };
+        for share in theirs {
+            let DeskShare { lock } = share;
+            let pass = mine.lock.another::<Same>(&mut mine.pass);
+            ends.push_reserved(DeskEnd { lock, pass });
+        }
+        (mine, ends)
     }
+}
 
+impl<A: Monoid, B: Monoid> DeskEnd<A, B> {
     /// One more end of an open desk.
-    pub(crate) fn another<R: Wait>(&mut self, rt: &R) -> DeskEnd<A, B>
+    pub(crate) fn another(&mut self) -> Result<DeskEnd<A, B>, AllocError>
         requires some { 0 < self.old.bits }
         ensures same { self.new ≡ self.old }
-        ensures knows { result ≡ self.old }
+        ensures knows { IfOk result (λ e. e ≡ self.old) }
     {
+        let lock = Arc::try_clone(&self.lock)?;
         let pass = self.lock.another::<Same>(&mut self.pass);
-        let lock = share(rt, &self.lock);
-        DeskEnd { lock, pass }
+        Ok(DeskEnd { lock, pass })
+    }
+
+    /// Rolls the round over if that was begun.
+    pub(crate) fn settle<W: Patience>(&mut self, how: &W) -> Result<(), TryError<W::Missed>>
+        ensures more { KnowsMore self.old self.new }
+        ensures refused { IfErr result (IfRefused (λ cause. (cause ≡ LiveError.Closed) ⊎ RefusesRoll self.new cause)) }
+    {
+        match take_round(how, &self.lock, &mut self.pass) {
+            Ok((working, opened)) => {
+                let (working, done) = working.settle(how);
+                let working = Some(working);
+                self.lock
+                    .put::<Lay>(&mut self.pass, Desk { working, opened });
+                done
+            }
+            Err(cause) => Err(cause),
+        }
     }
 
     /// Sees to it that a lane which was spent in this era has a pass, as `Working::past` does.
-    pub(crate) fn past<R: Wait>(&mut self, rt: &R, era: u64, lane: usize) -> Result<(), LiveError>
+    pub(crate) fn past<W: Patience>(
+        &mut self,
+        how: &W,
+        era: u64,
+        lane: usize,
+    ) -> Result<(), TryError<W::Missed>>
         ensures more { KnowsMore self.old self.new }
-        ensures refused { IfErr result (λ cause. (cause ≡ LiveError.Closed) ⊎ RefusesRoll self.new cause) }
+        ensures refused { IfErr result (IfRefused (λ cause. (cause ≡ LiveError.Closed) ⊎ RefusesRoll self.new cause)) }
     {
-        let Desk { working, opened } = self.lock.take::<Read, R>(rt, &mut self.pass);
-        let Some(working) = working else {
-            self.lock.put::<Lay>(
-                &mut self.pass,
-                Desk {
-                    working: None,
-                    opened,
-                },
-            );
-            return Err(LiveError::Closed);
-        };
-        let (working, done) = working.past(rt, era, lane);
-        let working = Some(working);
-        self.lock
-            .put::<Lay>(&mut self.pass, Desk { working, opened });
-        done
+        match take_round(how, &self.lock, &mut self.pass) {
+            Ok((working, opened)) => {
+                let (working, done) = working.past(how, era, lane);
+                let working = Some(working);
+                self.lock
+                    .put::<Lay>(&mut self.pass, Desk { working, opened });
+                done
+            }
+            Err(cause) => Err(cause),
+        }
     }
 
     /// Rolls the round over.
-    pub(crate) fn roll<R: Wait>(&mut self, rt: &R) -> Result<(), LiveError>
+    pub(crate) fn roll<W: Patience>(&mut self, how: &W) -> Result<(), TryError<W::Missed>>
         ensures more { KnowsMore self.old self.new }
         ensures rolls { IfOk result (λ _. length self.old.rounds.past < length self.new.rounds.past) }
-        ensures refused { IfErr result (RefusesRoll self.new) }
+        ensures refused { IfErr result (IfRefused (λ cause. (cause ≡ LiveError.Closed) ⊎ RefusesRoll self.new cause)) }
     {
-        let (working, opened) = take_round(rt, &self.lock, &mut self.pass);
-        let (working, rolled) = working.roll(rt);
-        let working = Some(working);
-        self.lock
-            .put::<Lay>(&mut self.pass, Desk { working, opened });
-        rolled
+        match take_round(how, &self.lock, &mut self.pass) {
+            Ok((working, opened)) => {
+                let (working, done) = working.roll(how);
+                let working = Some(working);
+                self.lock
+                    .put::<Lay>(&mut self.pass, Desk { working, opened });
+                done
+            }
+            Err(cause) => Err(cause),
+        }
     }
 
     /// Takes back the handle of a lane, by its end and a note of what it knew. Refused as `Working::back`; then the same end comes back.
-    pub(crate) fn back<R: Wait>(
+    pub(crate) fn back<W: Patience>(
         &mut self,
-        rt: &R,
+        how: &W,
         note: Note<A, B>,
         lane: usize,
         number: u64,
         end: End<A, B>,
-    ) -> Result<(), (End<A, B>, LiveError)>
+    ) -> Result<(), (End<A, B>, TryError<W::Missed>)>
         requires trie { note.round.table ≡ self.old.table }
         requires handle { end.known.whose ≡ Handle }
         requires some { 0 < end.known.at.era }
@@ -209,74 +286,123 @@ impl<A: Monoid, B: Monoid> DeskEnd<A, B> {
         ensures takes { IfOk result (λ _. CameBack end.known.made self.old self.new) }
         ensures same { IfErr result (λ e. e.0 ≡ end) }
     {
-        let (working, opened) = take_round(rt, &self.lock, &mut self.pass);
-        let mut working = working.learn(note);
-        let done = working.back(rt, lane, number, end);
-        let working = Some(working);
-        self.lock
-            .put::<Lay>(&mut self.pass, Desk { working, opened });
-        done
+        match take_round(how, &self.lock, &mut self.pass) {
+            Ok((working, opened)) => {
+                let (working, settled) = working.settle(how);
+                match settled {
+                    Ok(()) => {
+                        let mut working = working.learn(note);
+                        let done = working.back(how, lane, number, end);
+                        let working = Some(working);
+                        self.lock
+                            .put::<Lay>(&mut self.pass, Desk { working, opened });
+                        done
+                    }
+                    Err(cause) => {
+                        let working = Some(working);
+                        self.lock
+                            .put::<Lay>(&mut self.pass, Desk { working, opened });
+                        Err((end, cause))
+                    }
+                }
+            }
+            Err(cause) => Err((end, cause)),
+        }
     }
 
     /// Gives a lane to a new handle, whose end it answers with the bits of its keys and its number.
-    pub(crate) fn renew<R: Wait>(
+    pub(crate) fn renew<W: Patience>(
         &mut self,
-        rt: &R,
+        how: &W,
         lane: usize,
-    ) -> Result<(End<A, B>, u32, u64), LiveError>
+    ) -> Result<(End<A, B>, u32, u64), TryError<W::Missed>>
         ensures more { KnowsMore self.old self.new }
         ensures handle { IfOk result (λ h. GivesLane lane self.new h.0 h.1 h.2) }
-        ensures refused { IfErr result (RefusesLane lane self.new) }
+        ensures refused { IfErr result (IfRefused (λ cause. (cause ≡ LiveError.Closed) ⊎ (RefusesRoll self.new cause ⊎ RefusesLane lane self.new cause))) }
         ensures past { length self.old.lanes ≤ lane → IsErr result }
     {
-        let (mut working, opened) = take_round(rt, &self.lock, &mut self.pass);
-        let renewed = working.renew(rt, lane);
-        let working = Some(working);
-        self.lock
-            .put::<Lay>(&mut self.pass, Desk { working, opened });
-        renewed
+        match take_round(how, &self.lock, &mut self.pass) {
+            Ok((working, opened)) => {
+                let (mut working, settled) = working.settle(how);
+                match settled {
+                    Ok(()) => {
+                        let renewed = working.renew(how, lane);
+                        let working = Some(working);
+                        self.lock
+                            .put::<Lay>(&mut self.pass, Desk { working, opened });
+                        renewed
+                    }
+                    Err(cause) => {
+                        let working = Some(working);
+                        self.lock
+                            .put::<Lay>(&mut self.pass, Desk { working, opened });
+                        Err(cause)
+                    }
+                }
+            }
+            Err(cause) => Err(cause),
+        }
     }
 
-    /// Ends the last round: its set, and the counts of all rounds.
-    pub(crate) fn stop<R: Wait>(self, rt: &R) -> (Members, LiveCounts)
-        ensures closes { Closes self result.0 result.1 }
-        ensures sizes { length result.0.pairs + result.1.removals ≡ result.1.opened + result.1.inserts }
+    /// Ends the last round: its set, and the counts of all rounds. If a handle works or looks, the end comes back.
+    pub(crate) fn stop<W: Patience>(
+        self,
+        how: &W,
+    ) -> Result<(Members, LiveCounts), (DeskEnd<A, B>, TryError<W::Missed>)>
+        ensures closes { IfOk result (λ t. Closes self t.0 t.1) }
+        ensures sizes { IfOk result (λ t. length t.0.pairs + t.1.removals ≡ t.1.opened + t.1.inserts) }
+        ensures more { IfErr result (λ e. KnowsMore self e.0) }
+        ensures refused { IfErr result (λ e. IfRefused (λ cause. cause ≡ LiveError.Closed) e.1) }
     {
         let DeskEnd { lock, mut pass } = self;
-        let (working, opened) = take_round(rt, &lock, &mut pass);
-        let none = Desk {
-            working: None,
-            opened,
-        };
-        lock.put::<Lay>(&mut pass, none);
-        working.stop(rt)
+        match take_round(how, &lock, &mut pass) {
+            Ok((working, opened)) => match working.stop(how) {
+                Ok(closed) => {
+                    let none = Desk {
+                        working: None,
+                        opened,
+                    };
+                    lock.put::<Lay>(&mut pass, none);
+                    Ok(closed)
+                }
+                Err((working, missed)) => {
+                    let working = Some(working);
+                    lock.put::<Lay>(&mut pass, Desk { working, opened });
+                    Err((DeskEnd { lock, pass }, TryError::Again(missed)))
+                }
+            },
+            Err(cause) => Err((DeskEnd { lock, pass }, cause)),
+        }
     }
 }
 
-// Takes the round off the desk for the owner of the trie, who alone closes it: so a round is there, and only the lock is waited for.
-fn take_round<R: Wait, A: Monoid, B: Monoid>(
-    rt: &R,
+// Takes the round off the desk. Refused with `Closed`, if there is none.
+fn take_round<W: Patience, A: Monoid, B: Monoid>(
+    how: &W,
     lock: &DeskLock<A, B>,
     pass: &mut Pass<Desk<A, B>, Told<A, B>>,
-) -> (Working<A, B>, bool)
+) -> Result<(Working<A, B>, bool), TryError<W::Missed>>
     requires lock { pass.old.table_id ≡ lock.now.table.shared.table_id }
     requires free { HoldsNothing pass.old }
     ensures same { IsSamePass pass.old pass.new }
     ensures view { client_of pass.new ≡ client_of pass.old }
-    ensures holds { Holds (record { working = Some result.0; opened = result.1 }) None pass.new }
-    ensures knows { KnowsMore (client_of pass.old) result.0 }
+    ensures holds { IfOk result (λ t. Holds (record { working = Some t.0; opened = t.1 }) None pass.new) }
+    ensures knows { IfOk result (λ t. KnowsMore (client_of pass.old) t.0) }
+    ensures free { IfErr result (λ _. HoldsNothing pass.new) }
+    ensures refused { IfErr result (IfRefused (λ cause. cause ≡ LiveError.Closed)) }
 {
-    for _ in rt.forever() {
-        let Desk { working, opened } = lock.take::<Read, R>(rt, pass);
-        if let Some(working) = working {
-            return (working, opened);
-        }
-        let none = Desk {
-            working: None,
-            opened,
-        };
-        lock.put::<Lay>(pass, none);
-        yield_now();
+    match lock.take::<Read, W>(how, pass) {
+        Ok(Desk { working, opened }) => match working {
+            Some(working) => Ok((working, opened)),
+            None => {
+                let none = Desk {
+                    working: None,
+                    opened,
+                };
+                lock.put::<Lay>(pass, none);
+                Err(TryError::Refused(LiveError::Closed))
+            }
+        },
+        Err(missed) => Err(TryError::Again(missed)),
     }
-    unreachable!()
 }

@@ -1,18 +1,18 @@
 //! The ends of a lane: a pass of its lock each.
 ghost use Rattle.std.specs.Prelude.{◌≡◌, [], true, false, ◌<◌, IfOk, IfErr};
+ghost use Rattle.std.specs.Arc.{arc_value};
 ghost use Rattle.aug_live.specs.LiveHandles.{Follows};
 ghost use Rattle.aug_live.specs.inside.LaneKnowledge.{IsWhole, Learnt, Rolls, Worked, dealt, given_out, handed, knows_nothing, left, made_at, renumbered, rolls, settled, taken_in, worked};
 ghost use Rattle.aug_live.specs.declared.known.Whose.TheVariants.{Alone, Free, Roller, Handle};
 
 use crate::known::Known;
-use crate::lane::Lane;
-use crate::rolling::share;
+use crate::lane::{Lane, Missed};
 use crate::tie::{Deal, Keep, Learn, Leave, Meet, Parts, Renumber, Settle, Tie, Work};
 use aug_monoid::Monoid;
-use ruled_lock::{Pass, RuledLock};
+use ruled_lock::{Pass, Patience, RuledLock, Tries};
 use std::alloc::{AllocError, Global};
 use std::marker::Model;
-use std::sync::{Arc, Wait};
+use std::sync::Arc;
 
 /// The lock of a lane.
 pub(crate) type LaneLock<A, B> = RuledLock<Lane<A, B>, Known<A, B>, Tie>;
@@ -60,27 +60,49 @@ impl<A: Monoid, B: Monoid> Model for Out<A, B> {
     ghost invariant = { λ o. (o.pass.table_id ≡ (arc_value o.lock).table.shared.table_id) × IsSome o.pass.me.0.taken × (o.pass.me.1 ≡ (0, None) ∷ []) };
 }
 
-impl<A: Monoid, B: Monoid> End<A, B> {
-    /// The roller's end of a new lane, which no handle has.
-    pub(crate) fn new(alloc: Global) -> Result<End<A, B>, AllocError>
-        ensures { IfOk result (λ e. e.known ≡ knows_nothing Alone) }
+/// A new lane, of which what lies there is taken out, and one more owner of its lock.
+#[derive(Drop)]
+pub(crate) struct Berth<A: Monoid, B: Monoid> {
+    pub(crate) out: Out<A, B>,
+    pub(crate) theirs: Arc<LaneLock<A, B>, Global>,
+    ghost same_lock: { (arc_value theirs).table.shared.table_id ≡ out.lock },
+}
+
+impl<A: Monoid, B: Monoid> Berth<A, B> {
+    /// A new lane, which no handle has.
+    pub(crate) fn new(alloc: Global) -> Result<Berth<A, B>, AllocError>
+        ensures known { IfOk result (λ b. b.out.known ≡ knows_nothing Alone) }
+        ensures number { IfOk result (λ b. b.out.taken.number ≡ 0) }
     {
         let (lock, pass) = RuledLock::new(alloc, Lane::new())?;
         let Ok(lock) = Arc::new(alloc, lock) else {
             return Err(AllocError);
         };
-        Ok(End { lock, pass })
+        let theirs = Arc::try_clone(&lock)?;
+        match (End { lock, pass }).take(&Tries) {
+            Ok((out, _)) => Ok(Berth { out, theirs }),
+            Err(_) => Err(AllocError),
+        }
+    }
+}
+
+impl<A: Monoid, B: Monoid> End<A, B> {
+    /// One more owner of the lane's lock.
+    pub(crate) fn share(&self) -> Result<Arc<LaneLock<A, B>, Global>, AllocError>
+        ensures { IfOk result (λ l. (arc_value l).table.shared.table_id ≡ self.now.lock) }
+    {
+        Arc::try_clone(&self.lock)
     }
 
-    /// The roller's end, and that of a new handle.
-    pub(crate) fn fork<R: Wait>(self, rt: &R) -> (End<A, B>, End<A, B>)
+    /// The roller's end, and that of a new handle, with this owner of the lane's lock.
+    pub(crate) fn fork(self, theirs: Arc<LaneLock<A, B>, Global>) -> (End<A, B>, End<A, B>)
         requires alone { self.known.whose ≡ Alone }
         requires some { 0 < self.known.at.era }
+        requires lock { (arc_value theirs).table.shared.table_id ≡ self.lock }
         ensures { (result.0 ≡ record self { known = given_out self.known }) × (result.1 ≡ record self { known = handed self.known }) }
     {
         let End { lock, mut pass } = self;
         let other = lock.another::<Parts>(&mut pass);
-        let theirs = share(rt, &lock);
         (
             End { lock, pass },
             End {
@@ -90,40 +112,28 @@ impl<A: Monoid, B: Monoid> End<A, B> {
         )
     }
 
-    /// The roller's end takes in that of its lane's handle, which came back.
-    pub(crate) fn join(self, other: End<A, B>) -> End<A, B>
-        requires roller { self.known.whose ≡ Roller }
-        requires handle { other.known.whose ≡ Handle }
-        requires some { (0 < self.known.at.era) × (0 < other.known.at.era) }
-        requires number { other.known.number ≡ self.known.number }
-        requires lock { other.lock ≡ self.lock }
-        ensures { result ≡ record self { known = taken_in self.known other.known } }
-    {
-        let End { lock, mut pass } = self;
-        let End { pass: other, .. } = other;
-        lock.join::<Meet>(&mut pass, other);
-        End { lock, pass }
-    }
-
-    /// Takes what lies in the lane for the roller, and waits while the handle has it.
-    pub(crate) fn take_to_roll<R: Wait>(self, rt: &R) -> (Out<A, B>, Lane<A, B>)
+    /// Takes what lies in the lane for the roller.
+    pub(crate) fn take_to_roll<W: Patience>(
+        self,
+        how: &W,
+    ) -> Result<(Out<A, B>, Lane<A, B>), (End<A, B>, W::Missed)>
         requires roller { rolls self.known.whose ≡ true }
         requires some { 0 < self.known.at.era }
-        ensures lock { result.0.lock ≡ self.lock }
-        ensures known { result.0.known ≡ self.known }
-        ensures taken { result.0.taken ≡ result.1 }
-        ensures rolls { Rolls self.known self.known.before result.1 }
+        ensures lock { IfOk result (λ t. t.0.lock ≡ self.lock) }
+        ensures known { IfOk result (λ t. t.0.known ≡ self.known) }
+        ensures taken { IfOk result (λ t. t.0.taken ≡ t.1) }
+        ensures rolls { IfOk result (λ t. Rolls self.known self.known.before t.1) }
+        ensures same { IfErr result (λ e. e.0 ≡ self) }
     {
-        self.take(rt)
+        self.take(how)
     }
 
-    /// Takes it for the handle with this number, and waits while the roller has it. If the lane has a newer handle, it stays there, and the end comes back.
+    /// Takes it for the handle with this number. If the lane has a newer handle, it stays there, and the end comes back.
     #[inline(always)]
-    pub(crate) fn take_to_work<R: Wait>(
+    pub(crate) fn take_to_work(
         self,
-        rt: &R,
         number: u64,
-    ) -> Result<(Out<A, B>, Lane<A, B>), End<A, B>>
+    ) -> Result<(Out<A, B>, Lane<A, B>), (End<A, B>, Missed)>
         requires handle { self.known.whose ≡ Handle }
         requires some { 0 < self.known.at.era }
         requires number { self.known.number ≡ number }
@@ -132,31 +142,56 @@ impl<A: Monoid, B: Monoid> End<A, B> {
         ensures taken { IfOk result (λ t. t.0.taken ≡ t.1) }
         ensures number { IfOk result (λ t. t.1.number ≡ self.known.number) }
         ensures follows { IfOk result (λ t. Follows self.known.at t.1.at) }
-        ensures same { IfErr result (λ e. e ≡ self) }
+        ensures same { IfErr result (λ e. e.0 ≡ self) }
     {
-        let (out, lane) = self.take(rt);
-        if lane.number == number {
-            Ok((out, lane))
-        } else {
-            Err(out.keep(lane))
+        match self.take(&Tries) {
+            Ok((out, lane)) => {
+                if lane.number == number {
+                    Ok((out, lane))
+                } else {
+                    Err((out.keep(lane), Missed::Replaced))
+                }
+            }
+            Err((end, shown)) => Err((end, Missed::Held(shown))),
         }
     }
 
-    /// Takes what lies in the lane, and waits while another end has it.
+    /// Takes what lies in the lane.
     #[inline(always)]
-    pub(crate) fn take<R: Wait>(self, rt: &R) -> (Out<A, B>, Lane<A, B>)
-        ensures lock { result.0.lock ≡ self.lock }
-        ensures known { result.0.known ≡ self.known }
-        ensures taken { result.0.taken ≡ result.1 }
-        ensures knows { Learnt self.known result.1 }
+    pub(crate) fn take<W: Patience>(
+        self,
+        how: &W,
+    ) -> Result<(Out<A, B>, Lane<A, B>), (End<A, B>, W::Missed)>
+        ensures lock { IfOk result (λ t. t.0.lock ≡ self.lock) }
+        ensures known { IfOk result (λ t. t.0.known ≡ self.known) }
+        ensures taken { IfOk result (λ t. t.0.taken ≡ t.1) }
+        ensures knows { IfOk result (λ t. Learnt self.known t.1) }
+        ensures same { IfErr result (λ e. e.0 ≡ self) }
     {
         let End { lock, mut pass } = self;
-        let lane = lock.take::<Learn, R>(rt, &mut pass);
-        (Out { lock, pass }, lane)
+        match lock.take::<Learn, W>(how, &mut pass) {
+            Ok(lane) => Ok((Out { lock, pass }, lane)),
+            Err(missed) => Err((End { lock, pass }, missed)),
+        }
     }
 }
 
 impl<A: Monoid, B: Monoid> Out<A, B> {
+    /// The roller's end takes in that of its lane's handle, which came back.
+    pub(crate) fn join(self, other: End<A, B>) -> Out<A, B>
+        requires roller { self.known.whose ≡ Roller }
+        requires handle { other.known.whose ≡ Handle }
+        requires some { (0 < self.known.at.era) × (0 < other.known.at.era) }
+        requires number { other.known.number ≡ self.known.number }
+        requires lock { other.lock ≡ self.lock }
+        ensures { result ≡ record self { known = taken_in self.known other.known } }
+    {
+        let Out { lock, mut pass } = self;
+        let End { pass: other, .. } = other;
+        lock.join::<Meet>(&mut pass, other);
+        Out { lock, pass }
+    }
+
     /// Puts the lane back, with what its handle made of it.
     #[inline(always)]
     pub(crate) fn put(self, lane: Lane<A, B>) -> End<A, B>

@@ -1,6 +1,7 @@
 //! Why an update or a look was not made.
 ghost use Rattle.std.specs.Prelude.{◌≡◌};
 
+use ruled_lock::WasOut;
 use std::error::Error;
 use std::fmt;
 
@@ -18,6 +19,29 @@ pub enum LiveError {
 
     /// Refusal 4: there is no lane of this number.
     NoLane,
+
+    /// Refusal 5: a lock of the trie has as many owners as can be counted. No machine gets there.
+    TooMany,
+}
+
+/// What a call that waits for nobody would have waited for.
+#[derive(Clone, Copy, Debug, PartialEq, Eq)]
+pub enum Busy {
+    /// A lock was taken: that of the desk, or of a lane that a roll-over takes.
+    Lock(WasOut),
+
+    /// The lane was spent, got another pass, and was spent or taken again.
+    Round,
+}
+
+/// Why a call that waits for nobody made nothing.
+#[derive(Clone, Copy, Debug, PartialEq, Eq)]
+pub enum TryError<M> {
+    /// What it would have waited for: call again.
+    Again(M),
+
+    /// It is refused, as the call that waits is.
+    Refused(LiveError),
 }
 
 impl fmt::Display for LiveError {
@@ -32,6 +56,7 @@ impl fmt::Display for LiveError {
             LiveError::Exhausted => "Exhausted",
             LiveError::Replaced => "Replaced",
             LiveError::NoLane => "NoLane",
+            LiveError::TooMany => "TooMany",
         })
     }
 }

@@ -8,16 +8,18 @@ ghost use Rattle.aug_trie.specs.Snapshot.{snapshot_cut};
 ghost use Rattle.aug_trie.specs.Chains.{IsPart};
 ghost use Rattle.aug_trie.specs.Note.{chain_of_note};
 ghost use Rattle.aug_trie.specs.Pass.{chain_of};
+ghost use Rattle.aug_live.specs.LiveErrors.{IfRefused};
 ghost use Rattle.aug_live.specs.LiveHandles.{Follows, Makes, handle_of, note_at};
 
 use crate::desk_end::DeskEnd;
 use crate::end::End;
-use crate::error::LiveError;
+use crate::error::{Busy, LiveError, TryError};
 use crate::lane::Missed;
 use crate::look::Look;
 use aug_model::Outcome;
 use aug_monoid::Monoid;
 use aug_trie::{Note, Request};
+use ruled_lock::{Patience, Tries, Waits, WasOut};
 use std::marker::Model;
 use std::sync::Wait;
 
@@ -92,6 +94,55 @@ impl<A: Monoid, B: Monoid> Handle<A, B> {
         self.update(rt, k, Request::Put(weight))
     }
 
+    /// Makes an update of a key, which comes to what `OwnedPass::update` says, and rolls the round over if it must.
+    #[inline(always)]
+    pub fn update<R: Wait>(
+        &mut self,
+        rt: &R,
+        k: u32,
+        request: Request,
+    ) -> Result<Outcome, LiveError>
+        requires key { k < 2 ^ self.old.half.round.bits }
+        ensures made { IfOk result (λ done. Makes 1 (λ a b. ComesTo request k done a.knows b.knows) self.old self.new) }
+        ensures not_made { IfErr result (λ _. Follows self.old self.new) }
+        ensures refused { IfErr result (λ cause. cause ≢ LiveError.NoLane) }
+    {
+        for _ in rt.forever() {
+            let missed = match self.attempt(k, request) {
+                Ok(done) => return Ok(done),
+                Err(missed) => missed,
+            };
+            match self.past(&Waits(rt), missed) {
+                Ok(()) => {}
+                Err(TryError::Refused(cause)) => return Err(cause),
+                Err(TryError::Again(never)) => match never {},
+            }
+        }
+        unreachable!()
+    }
+
+    /// The same, and waits for nobody. `Again` if the lane is spent and somebody has the desk, or if a roll-over is due and another handle is in a
+    /// call or holds a look. Then the lanes that the roll-over took wait for it, and whoever calls again goes on with it.
+    #[inline(always)]
+    pub fn try_update(&mut self, k: u32, request: Request) -> Result<Outcome, TryError<Busy>>
+        requires key { k < 2 ^ self.old.half.round.bits }
+        ensures made { IfOk result (λ done. Makes 1 (λ a b. ComesTo request k done a.knows b.knows) self.old self.new) }
+        ensures not_made { IfErr result (λ _. Follows self.old self.new) }
+        ensures refused { IfErr result (IfRefused (λ cause. cause ≢ LiveError.NoLane)) }
+    {
+        let missed = match self.attempt(k, request) {
+            Ok(done) => return Ok(done),
+            Err(missed) => missed,
+        };
+        if let Err(cause) = self.past(&Tries, missed) {
+            return Err(busy(cause));
+        }
+        match self.attempt(k, request) {
+            Ok(done) => Ok(done),
+            Err(missed) => Err(missed_again(missed)),
+        }
+    }
+
     /// Takes a snapshot to query. The look owns the handle, and `Look::done` gives it back; after a refusal it comes back at once. As
     /// long as the look exists it holds its lane: updates and looks of others continue, and a roll-over waits for it.
     pub fn look<R: Wait>(self, rt: &R) -> Result<Look<A, B>, (Handle<A, B>, LiveError)>
@@ -101,18 +152,39 @@ impl<A: Monoid, B: Monoid> Handle<A, B> {
     {
         let mut handle = self;
         for _ in rt.forever() {
-            let missed = match handle.try_look(rt) {
+            let missed = match handle.attempt_look() {
                 Ok(look) => return Ok(look),
                 Err((same, missed)) => {
                     handle = same;
                     missed
                 }
             };
-            if let Err(cause) = handle.past(rt, missed) {
-                return Err((handle, cause));
+            match handle.past(&Waits(rt), missed) {
+                Ok(()) => {}
+                Err(TryError::Refused(cause)) => return Err((handle, cause)),
+                Err(TryError::Again(never)) => match never {},
             }
         }
         unreachable!()
+    }
+
+    /// The same, and waits for nobody, as `try_update`.
+    pub fn try_look(self) -> Result<Look<A, B>, (Handle<A, B>, TryError<Busy>)>
+        ensures looks { IfOk result (λ look. Makes 0 (λ a b. TakesSnapshot a.knows b.knows (snapshot_cut b look.snapshot.number)) self (handle_of look)) }
+        ensures not_made { IfErr result (λ e. Follows self e.0) }
+        ensures refused { IfErr result (λ e. IfRefused (λ cause. cause ≢ LiveError.NoLane) e.1) }
+    {
+        let (mut handle, missed) = match self.attempt_look() {
+            Ok(look) => return Ok(look),
+            Err(missed) => missed,
+        };
+        if let Err(cause) = handle.past(&Tries, missed) {
+            return Err((handle, busy(cause)));
+        }
+        match handle.attempt_look() {
+            Ok(look) => Ok(look),
+            Err((handle, missed)) => Err((handle, missed_again(missed))),
+        }
     }
 
     /// Makes a note of all that the handle knows, its own updates among it, for another handle of this trie to learn. It goes with a message to
@@ -123,12 +195,14 @@ impl<A: Monoid, B: Monoid> Handle<A, B> {
         ensures refused { IfErr result (λ cause. cause ≢ LiveError.NoLane) }
     {
         for _ in rt.forever() {
-            let missed = match self.try_note(rt) {
+            let missed = match self.attempt_note() {
                 Ok(note) => return Ok(note),
                 Err(missed) => missed,
             };
-            if let Err(cause) = self.past(rt, missed) {
-                return Err(cause);
+            match self.past(&Waits(rt), missed) {
+                Ok(()) => {}
+                Err(TryError::Refused(cause)) => return Err(cause),
+                Err(TryError::Again(never)) => match never {},
             }
         }
         unreachable!()
@@ -149,15 +223,17 @@ impl<A: Monoid, B: Monoid> Handle<A, B> {
     {
         let mut note = note;
         for _ in rt.forever() {
-            let missed = match self.try_learn(rt, note) {
+            let missed = match self.attempt_learn(note) {
                 Ok(()) => return Ok(()),
                 Err((same, missed)) => {
                     note = same;
                     missed
                 }
             };
-            if let Err(cause) = self.past(rt, missed) {
-                return Err((note, cause));
+            match self.past(&Waits(rt), missed) {
+                Ok(()) => {}
+                Err(TryError::Refused(cause)) => return Err((note, cause)),
+                Err(TryError::Again(never)) => match never {},
             }
         }
         unreachable!()
@@ -170,29 +246,9 @@ impl<A: Monoid, B: Monoid> Handle<A, B> {
         1 << self.bits
     }
 
-    // Makes an update, and rolls the round over if it must.
+    // Makes an update, unless the lane is held, the round has to roll over first, or a newer handle has the lane.
     #[inline(always)]
-    fn update<R: Wait>(&mut self, rt: &R, k: u32, request: Request) -> Result<Outcome, LiveError>
-        requires key { k < 2 ^ self.old.half.round.bits }
-        ensures made { IfOk result (λ done. Makes 1 (λ a b. ComesTo request k done a.knows b.knows) self.old self.new) }
-        ensures not_made { IfErr result (λ _. Follows self.old self.new) }
-        ensures refused { IfErr result (λ cause. cause ≢ LiveError.NoLane) }
-    {
-        for _ in rt.forever() {
-            let missed = match self.try_update(rt, k, request) {
-                Ok(done) => return Ok(done),
-                Err(missed) => missed,
-            };
-            if let Err(cause) = self.past(rt, missed) {
-                return Err(cause);
-            }
-        }
-        unreachable!()
-    }
-
-    // Makes an update, unless the round has to roll over first, or a newer handle has the lane.
-    #[inline(always)]
-    fn try_update<R: Wait>(&mut self, rt: &R, k: u32, request: Request) -> Result<Outcome, Missed>
+    fn attempt(&mut self, k: u32, request: Request) -> Result<Outcome, Missed>
         requires key { k < 2 ^ self.old.half.round.bits }
         ensures made { IfOk result (λ done. Makes 1 (λ a b. ComesTo request k done a.knows b.knows) self.old self.new) }
         ensures not_made { IfErr result (λ _. Follows self.old self.new) }
@@ -200,11 +256,11 @@ impl<A: Monoid, B: Monoid> Handle<A, B> {
         let Some(end) = self.end.take() else {
             unreachable!()
         };
-        let (out, lane) = match end.take_to_work(rt, self.number) {
+        let (out, lane) = match end.take_to_work(self.number) {
             Ok(taken) => taken,
-            Err(same) => {
+            Err((same, missed)) => {
                 self.end = Some(same);
-                return Err(Missed::Replaced);
+                return Err(missed);
             }
         };
         let (lane, done) = lane.update(k, request);
@@ -212,8 +268,8 @@ impl<A: Monoid, B: Monoid> Handle<A, B> {
         done
     }
 
-    // Takes a snapshot, unless the next round has to begin first, or a newer handle has the lane.
-    fn try_look<R: Wait>(self, rt: &R) -> Result<Look<A, B>, (Handle<A, B>, Missed)>
+    // Takes a snapshot, unless the lane is held, the next round has to begin first, or a newer handle has the lane.
+    fn attempt_look(self) -> Result<Look<A, B>, (Handle<A, B>, Missed)>
         ensures looks { IfOk result (λ look. Makes 0 (λ a b. TakesSnapshot a.knows b.knows (snapshot_cut b look.snapshot.number)) self (handle_of look)) }
         ensures at_rest { IfErr result (λ e. Follows self e.0) }
     {
@@ -221,11 +277,11 @@ impl<A: Monoid, B: Monoid> Handle<A, B> {
         let Some(end) = handle.end.take() else {
             unreachable!()
         };
-        let (out, lane) = match end.take_to_work(rt, handle.number) {
+        let (out, lane) = match end.take_to_work(handle.number) {
             Ok(taken) => taken,
-            Err(same) => {
+            Err((same, missed)) => {
                 handle.end = Some(same);
-                return Err((handle, Missed::Replaced));
+                return Err((handle, missed));
             }
         };
         if lane.work.is_none() {
@@ -250,19 +306,19 @@ impl<A: Monoid, B: Monoid> Handle<A, B> {
         })
     }
 
-    // Makes a note, unless the next round has to begin first, or a newer handle has the lane.
-    fn try_note<R: Wait>(&mut self, rt: &R) -> Result<Note<A, B>, Missed>
+    // Makes a note, unless the lane is held, the next round has to begin first, or a newer handle has the lane.
+    fn attempt_note(&mut self) -> Result<Note<A, B>, Missed>
         ensures note { IfOk result (λ note. note ≡ note_at self.new.half) }
         ensures follows { Follows self.old self.new }
     {
         let Some(end) = self.end.take() else {
             unreachable!()
         };
-        let (out, lane) = match end.take_to_work(rt, self.number) {
+        let (out, lane) = match end.take_to_work(self.number) {
             Ok(taken) => taken,
-            Err(same) => {
+            Err((same, missed)) => {
                 self.end = Some(same);
-                return Err(Missed::Replaced);
+                return Err(missed);
             }
         };
         let (lane, noted) = lane.note();
@@ -270,8 +326,8 @@ impl<A: Monoid, B: Monoid> Handle<A, B> {
         noted
     }
 
-    // Learns a note, unless the next round has to begin first, or a newer handle has the lane.
-    fn try_learn<R: Wait>(&mut self, rt: &R, note: Note<A, B>) -> Result<(), (Note<A, B>, Missed)>
+    // Learns a note, unless the lane is held, the next round has to begin first, or a newer handle has the lane.
+    fn attempt_learn(&mut self, note: Note<A, B>) -> Result<(), (Note<A, B>, Missed)>
         requires trie { note.round.table ≡ self.old.half.round.table }
         ensures learns { IfOk result (λ _. IsPart (chain_of_note note) (chain_of self.new.half)) }
         ensures follows { Follows self.old self.new }
@@ -280,11 +336,11 @@ impl<A: Monoid, B: Monoid> Handle<A, B> {
         let Some(end) = self.end.take() else {
             unreachable!()
         };
-        let (out, lane) = match end.take_to_work(rt, self.number) {
+        let (out, lane) = match end.take_to_work(self.number) {
             Ok(taken) => taken,
-            Err(same) => {
+            Err((same, missed)) => {
                 self.end = Some(same);
-                return Err((note, Missed::Replaced));
+                return Err((note, missed));
             }
         };
         let (lane, learnt) = lane.learn(note);
@@ -293,13 +349,36 @@ impl<A: Monoid, B: Monoid> Handle<A, B> {
     }
 
     // Goes past what was missed: to the next round, or to a spare lane of this one.
-    fn past<R: Wait>(&mut self, rt: &R, missed: Missed) -> Result<(), LiveError>
+    fn past<W: Patience>(&mut self, how: &W, missed: Missed) -> Result<(), TryError<W::Missed>>
         ensures same { self.new ≡ self.old }
-        ensures refused { IfErr result (λ cause. cause ≢ LiveError.NoLane) }
+        ensures refused { IfErr result (IfRefused (λ cause. cause ≢ LiveError.NoLane)) }
     {
-        let Missed::Round(era) = missed else {
-            return Err(LiveError::Replaced);
-        };
-        self.desk.past(rt, era, self.lane)
+        match missed {
+            Missed::Held(_) => self.desk.settle(how),
+            Missed::Round(era) => self.desk.past(how, era, self.lane),
+            Missed::Replaced => Err(TryError::Refused(LiveError::Replaced)),
+        }
+    }
+}
+
+// What a call that waits for nobody answers, which could not go past what it missed.
+fn busy(cause: TryError<WasOut>) -> TryError<Busy>
+    requires { IfRefused (λ cause. cause ≢ LiveError.NoLane) cause }
+    ensures { IfRefused (λ cause. cause ≢ LiveError.NoLane) result }
+{
+    match cause {
+        TryError::Again(lock) => TryError::Again(Busy::Lock(lock)),
+        TryError::Refused(cause) => TryError::Refused(cause),
+    }
+}
+
+// And if it missed again.
+fn missed_again(missed: Missed) -> TryError<Busy>
+    ensures { IfRefused (λ cause. cause ≢ LiveError.NoLane) result }
+{
+    match missed {
+        Missed::Held(lock) => TryError::Again(Busy::Lock(lock)),
+        Missed::Round(_) => TryError::Again(Busy::Round),
+        Missed::Replaced => TryError::Refused(LiveError::Replaced),
     }
 }

@@ -11,6 +11,7 @@ use crate::seen::Seen;
 use aug_model::Outcome;
 use aug_monoid::Monoid;
 use aug_trie::{Note, OwnedPass, Request};
+use ruled_lock::WasOut;
 use std::marker::Model;
 
 /// What lies in a lane: the number of its round, counted from 1, the number of its handle, whether that is out, what its last pass knew,
@@ -24,9 +25,10 @@ pub(crate) struct Lane<A: Monoid, B: Monoid> {
     pub(crate) work: Option<OwnedPass<A, B>>,
 }
 
-/// Why a handle makes no update and no look: the round of this number has to roll over, or a newer handle has the lane.
+/// Why a handle makes no update and no look: the lane is taken, the round of this number has to roll over, or a newer handle has the lane.
 #[derive(Drop)]
 pub(crate) enum Missed {
+    Held(WasOut),
     Round(u64),
     Replaced,
 }

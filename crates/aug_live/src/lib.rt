@@ -7,6 +7,7 @@ mod desk_end;
 mod end;
 mod error;
 mod handle;
+mod held;
 mod known;
 mod lane;
 mod live;
@@ -18,7 +19,7 @@ mod tie;
 mod work;
 
 pub use counts::LiveCounts;
-pub use error::LiveError;
+pub use error::{Busy, LiveError, TryError};
 pub use handle::Handle;
 pub use live::Live;
 pub use look::Look;

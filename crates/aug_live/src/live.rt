@@ -1,31 +1,36 @@
 //! A shared trie whose rounds roll over.
-ghost use Rattle.std.specs.Prelude.{◌≡◌, ◌↔◌, ◌+◌, ◌<◌, ◌≤◌, ◌^◌, [], map, All, IsErr, IsErrOf, IfOk, IfErr, length, vec_len, vec_capacity};
+ghost use Rattle.std.specs.Prelude.{◌≡◌, ◌↔◌, ◌⊎◌, ◌+◌, ◌<◌, ◌≤◌, ◌^◌, [], map, All, IsErr, IsErrOf, IfOk, IfErr, length, vec_len, vec_capacity};
 ghost use Rattle.std.specs.Arc.{arc_value};
 ghost use Rattle.aug_core.specs.Layout.{IsRefused, IsLayout, IsWithin, IsOutside};
 ghost use Rattle.aug_trie.specs.Chains.{IsPart};
 ghost use Rattle.aug_trie.specs.Pass.{chain_of};
-ghost use Rattle.aug_live.specs.LiveErrors.{RefusesLane, RefusesRoll};
+ghost use Rattle.aug_trie.specs.Round.{table_of};
+ghost use Rattle.aug_live.specs.LiveErrors.{IfRefused, RefusesHandle, RefusesRoll};
 ghost use Rattle.aug_live.specs.LiveHandles.{Follows, IsNew};
 ghost use Rattle.aug_live.specs.LiveTries.{CameBack, Closes, IsHandleOf, IsOpenedTrie, KnowsMore, ids_of};
 ghost use Rattle.aug_live.specs.Plans.{Fits, least_plan};
-ghost use Rattle.aug_live.specs.inside.LaneKnowledge.{handle_by, knows_nothing};
+ghost use Rattle.aug_live.specs.inside.Desks.{IsNewBerth};
+ghost use Rattle.aug_live.specs.inside.LaneKnowledge.{handle_by};
 ghost use Rattle.aug_live.specs.inside.Rolls.{IsHandleEnd, IsOf, IsOpenedLane, Starts, rounds_in};
-ghost use Rattle.aug_live.specs.declared.known.Whose.TheVariants.{Alone};
 
 use crate::counts::LiveCounts;
 use crate::desk::Working;
-use crate::desk_end::DeskEnd;
-use crate::end::End;
-use crate::error::LiveError;
+use crate::desk_end::{DeskEnd, NewDesk};
+use crate::end::{Berth, End};
+use crate::error::{LiveError, TryError};
 use crate::handle::Handle;
+use crate::held::{Emptied, Held};
 use crate::plan::Plan;
-use crate::rolling::next_round;
+use crate::rolling::{Begun, next_round};
 use aug_core::{Layout, LayoutError};
 use aug_monoid::Monoid;
-use aug_trie::{BeginError, Crew, Members, Round};
+use aug_trie::{BeginError, Crew, Members, SharedRound};
+use ruled_lock::{Patience, Tries, Waits, WasOut};
 use std::alloc::{AllocError, Global};
 use std::marker::Model;
-use std::sync::{Arc, Wait};
+use std::snapshot::Snapshot;
+use std::sync::Wait;
+use std::thread::yield_now;
 
 /// A shared trie whose rounds roll over by themselves. Threads work with its handles.
 #[derive(Drop)]
@@ -45,13 +50,15 @@ impl<A: Monoid, B: Monoid> Model for Live<A, B> {
 // What it takes to open a trie: the lanes, and room for the ends.
 #[derive(Drop)]
 struct Room<A: Monoid, B: Monoid> {
-    firsts: Vec<End<A, B>>,
+    berths: Vec<Berth<A, B>>,
     ports: Vec<End<A, B>>,
-    room: Vec<End<A, B>>,
+    held: Vec<Held<A, B>>,
+    idle: Vec<Emptied<A, B>>,
+    shares: Vec<SharedRound<A, B>>,
     ends: Vec<End<A, B>>,
     handles: Vec<Handle<A, B>>,
     list: Vec<(u32, u32)>,
-    desk: DeskEnd<A, B>,
+    desk: NewDesk<A, B>,
 }
 
 impl<A: Monoid, B: Monoid> Live<A, B> {
@@ -59,8 +66,7 @@ impl<A: Monoid, B: Monoid> Live<A, B> {
     ///
     /// Refused with `BadWorkers`, `BadUpdates` and `TooLarge` as `Layout::new` refuses the plan for the full set of its
     /// bits, so that no later round is refused for it, and then with `OutOfMemory`. After a refusal the same set comes back.
-    pub fn open_with<R: Wait>(
-        rt: &R,
+    pub fn open_with(
         alloc: Global,
         set: Members,
         handles: u32,
@@ -80,24 +86,32 @@ impl<A: Monoid, B: Monoid> Live<A, B> {
         if let Err(cause) = Layout::new(bits, plan.lanes, plan.updates, universe) {
             return Err((set, BeginError::from(cause)));
         }
-        let (opened, count) = (set.size(), u64::from(handles));
+        let (opened, lanes, count) = (set.size(), handles, u64::from(handles));
         let Ok(room) = Room::new(alloc, handles, universe) else {
             return Err((set, BeginError::OutOfMemory));
         };
         let Room {
-            firsts,
+            berths,
             ports,
-            room,
+            held,
+            idle,
+            shares,
             ends,
             handles,
             list,
             desk,
         } = room;
-        let (round, mut crew, list) = match next_round(alloc, set, plan, list) {
+        let begun = match next_round(alloc, set, plan, list, shares, lanes) {
             Ok(begun) => begun,
             Err(set) => return Err((set, BeginError::OutOfMemory)),
         };
-        let (ports, ends) = open_lanes(rt, &round, &mut crew, firsts, ports, ends);
+        let Begun {
+            round,
+            mut crew,
+            list,
+            mut shares,
+        } = begun;
+        let (ports, ends) = open_lanes(&mut shares, &mut crew, berths, ports, ends);
         let working = Working {
             plan,
             counts: LiveCounts {
@@ -112,11 +126,13 @@ impl<A: Monoid, B: Monoid> Live<A, B> {
             round,
             crew,
             ports,
-            room,
+            held,
+            idle,
+            shares,
             list,
         };
-        let mut desk = desk.place(rt, working);
-        let handles = hand_out(rt, bits, &mut desk, ends, handles);
+        let (desk, desks) = desk.place(working);
+        let handles = hand_out(bits, Snapshot::of(&desk), desks, ends, handles);
         Ok((Live { desk }, handles))
     }
 
@@ -125,8 +141,7 @@ impl<A: Monoid, B: Monoid> Live<A, B> {
     ///
     /// Refused with `BadWorkers` for no handle and for more than 64, with `TooLarge` if a table with one update of each handle takes more
     /// bytes, and with `OutOfMemory`. After a refusal the same set comes back.
-    pub fn open<R: Wait>(
-        rt: &R,
+    pub fn open(
         alloc: Global,
         set: Members,
         handles: u32,
@@ -145,7 +160,7 @@ impl<A: Monoid, B: Monoid> Live<A, B> {
         let Some(plan) = Plan::new(set.bits(), handles, memory) else {
             return Err((set, BeginError::TooLarge));
         };
-        Self::open_with(rt, alloc, set, handles, plan)
+        Self::open_with(alloc, set, handles, plan)
     }
 
     /// Rolls the round over now, as in a quiet hour. It waits for the update or look that each handle is in. Refused with `Exhausted`.
@@ -154,7 +169,28 @@ impl<A: Monoid, B: Monoid> Live<A, B> {
         ensures rolls { IfOk result (λ _. length self.old.rounds.past < length self.new.rounds.past) }
         ensures refused { IfErr result (RefusesRoll self.new) }
     {
-        self.desk.roll(rt)
+        for _ in rt.forever() {
+            match self.desk.roll(&Waits(rt)) {
+                Ok(()) => return Ok(()),
+                Err(TryError::Refused(cause)) => {
+                    if cause != LiveError::Closed {
+                        return Err(cause);
+                    }
+                    yield_now();
+                }
+                Err(TryError::Again(never)) => match never {},
+            }
+        }
+        unreachable!()
+    }
+
+    /// The same, and waits for nobody: `Again` if another handle is in a call or holds a look.
+    pub fn try_roll(&mut self) -> Result<(), TryError<WasOut>>
+        ensures more { KnowsMore self.old self.new }
+        ensures rolls { IfOk result (λ _. length self.old.rounds.past < length self.new.rounds.past) }
+        ensures refused { IfErr result (IfRefused (λ cause. (cause ≡ LiveError.Closed) ⊎ RefusesRoll self.new cause)) }
+    {
+        self.desk.roll(&Tries)
     }
 
     /// Gives a lane to a new handle, if the lane's own handle came back, was dropped, or is in a thread that ended. Lanes are numbered from 0, in
@@ -162,23 +198,64 @@ impl<A: Monoid, B: Monoid> Live<A, B> {
     /// trie does. If the old one is still there, it answers `Replaced` from then on, and the call waits for the update or look that it is in. No
     /// round ends for it, and no memory is taken.
     ///
-    /// Refused with `NoLane` and `Exhausted`. After a refusal nothing has changed.
+    /// Refused with `NoLane`, `Exhausted` and `TooMany`. After a refusal nothing has changed.
     pub fn handle<R: Wait>(&mut self, rt: &R, lane: u32) -> Result<Handle<A, B>, LiveError>
         ensures more { KnowsMore self.old self.new }
         ensures bits { IfOk result (λ h. h.half.round.bits ≤ 16) }
         ensures of_trie { IfOk result (IsHandleOf self.new) }
-        ensures refused { IfErr result (RefusesLane lane self.new) }
+        ensures refused { IfErr result (RefusesHandle lane self.new) }
+        ensures past { length self.old.lanes ≤ lane → IsErr result }
+    {
+        for _ in rt.forever() {
+            match self.give(&Waits(rt), lane) {
+                Ok(handle) => return Ok(handle),
+                Err(TryError::Refused(cause)) => {
+                    if cause != LiveError::Closed {
+                        return Err(cause);
+                    }
+                    yield_now();
+                }
+                Err(TryError::Again(never)) => match never {},
+            }
+        }
+        unreachable!()
+    }
+
+    /// The same, and waits for nobody: `Again` if somebody has the desk, or the lane's old handle is in a call or holds a look.
+    pub fn try_handle(&mut self, lane: u32) -> Result<Handle<A, B>, TryError<WasOut>>
+        ensures more { KnowsMore self.old self.new }
+        ensures bits { IfOk result (λ h. h.half.round.bits ≤ 16) }
+        ensures of_trie { IfOk result (IsHandleOf self.new) }
+        ensures refused { IfErr result (IfRefused (λ cause. (cause ≡ LiveError.Closed) ⊎ RefusesHandle lane self.new cause)) }
+        ensures past { length self.old.lanes ≤ lane → IsErr result }
+    {
+        self.give(&Tries, lane)
+    }
+
+    // Gives a lane to a new handle.
+    fn give<W: Patience>(&mut self, how: &W, lane: u32) -> Result<Handle<A, B>, TryError<W::Missed>>
+        ensures more { KnowsMore self.old self.new }
+        ensures bits { IfOk result (λ h. h.half.round.bits ≤ 16) }
+        ensures of_trie { IfOk result (IsHandleOf self.new) }
+        ensures refused { IfErr result (IfRefused (λ cause. (cause ≡ LiveError.Closed) ⊎ RefusesHandle lane self.new cause)) }
         ensures past { length self.old.lanes ≤ lane → IsErr result }
     {
         let lane = lane as usize;
-        let (end, bits, number) = self.desk.renew(rt, lane)?;
-        Ok(Handle {
-            end: Some(end),
-            bits,
-            lane,
-            number,
-            desk: self.desk.another(rt),
-        })
+        let Ok(desk) = self.desk.another() else {
+            return Err(TryError::Refused(LiveError::TooMany));
+        };
+        match self.desk.renew(how, lane) {
+            Ok((end, bits, number)) => {
+                Ok(Handle {
+                    end: Some(end),
+                    bits,
+                    lane,
+                    number,
+                    desk,
+                })
+            }
+            Err(cause) => Err(cause),
+        }
     }
 
     /// Takes a handle of this trie back. The trie knows then what the handle knew, and what was made through it, and so does each handle that is made after
@@ -204,11 +281,17 @@ impl<A: Monoid, B: Monoid> Live<A, B> {
         let Some(end) = handle.end.take() else {
             unreachable!()
         };
-        match self.desk.back(rt, note, handle.lane, handle.number, end) {
+        match self
+            .desk
+            .back(&Waits(rt), note, handle.lane, handle.number, end)
+        {
             Ok(()) => Ok(()),
             Err((end, cause)) => {
                 handle.end = Some(end);
-                Err((handle, cause))
+                match cause {
+                    TryError::Refused(cause) => Err((handle, cause)),
+                    TryError::Again(never) => match never {},
+                }
             }
         }
     }
@@ -219,77 +302,106 @@ impl<A: Monoid, B: Monoid> Live<A, B> {
         ensures closes { Closes self result.0 result.1 }
         ensures sizes { length result.0.pairs + result.1.removals ≡ result.1.opened + result.1.inserts }
     {
+        let mut live = self;
+        for _ in rt.forever() {
+            let Live { desk } = live;
+            match desk.stop(&Waits(rt)) {
+                Ok(closed) => return closed,
+                Err((desk, _)) => live = Live { desk },
+            }
+            yield_now();
+        }
+        unreachable!()
+    }
+
+    /// The same, and waits for nobody: `Again` if another handle is in a call or holds a look. Then the same trie comes back.
+    pub fn try_close(self) -> Result<(Members, LiveCounts), (Live<A, B>, TryError<WasOut>)>
+        ensures closes { IfOk result (λ t. Closes self t.0 t.1) }
+        ensures sizes { IfOk result (λ t. length t.0.pairs + t.1.removals ≡ t.1.opened + t.1.inserts) }
+        ensures more { IfErr result (λ e. KnowsMore self e.0) }
+        ensures refused { IfErr result (λ e. IfRefused (λ cause. cause ≡ LiveError.Closed) e.1) }
+    {
         let Live { desk } = self;
-        desk.stop(rt)
+        match desk.stop(&Tries) {
+            Ok(closed) => Ok(closed),
+            Err((desk, cause)) => Err((Live { desk }, cause)),
+        }
     }
 }
 
 impl<A: Monoid, B: Monoid> Room<A, B> {
     // Lanes for `handles` handles, and room for what is to come.
     fn new(alloc: Global, handles: u32, universe: u32) -> Result<Room<A, B>, AllocError>
-        ensures firsts { IfOk result (λ r. All (λ e. e.known ≡ knows_nothing Alone) r.firsts.items × (vec_len r.firsts ≡ handles)) }
+        ensures berths { IfOk result (λ r. All IsNewBerth r.berths.items × (vec_len r.berths ≡ handles)) }
         ensures ports { IfOk result (λ r. (r.ports.items ≡ []) × (handles ≤ vec_capacity r.ports)) }
-        ensures room { IfOk result (λ r. (r.room.items ≡ []) × (handles ≤ vec_capacity r.room)) }
+        ensures held { IfOk result (λ r. (r.held.items ≡ []) × (handles ≤ vec_capacity r.held)) }
+        ensures idle { IfOk result (λ r. (r.idle.items ≡ []) × (handles ≤ vec_capacity r.idle)) }
+        ensures shares { IfOk result (λ r. (r.shares.items ≡ []) × (handles ≤ vec_capacity r.shares)) }
         ensures ends { IfOk result (λ r. (r.ends.items ≡ []) × (handles ≤ vec_capacity r.ends)) }
         ensures handles { IfOk result (λ r. (r.handles.items ≡ []) × (handles ≤ vec_capacity r.handles)) }
-        ensures desk { IfOk result (λ r. r.desk.bits ≡ 0) }
+        ensures desk { IfOk result (λ r. vec_len r.desk.theirs ≡ handles) }
         ensures list { IfOk result (λ r. (r.list.items ≡ []) × (universe ≤ vec_capacity r.list)) }
     {
         let count = handles as usize;
         Ok(Room {
-            firsts: first_ends(alloc, handles)?,
+            berths: new_berths(alloc, handles)?,
             ports: Vec::with_capacity(alloc, count)?,
-            room: Vec::with_capacity(alloc, count)?,
+            held: Vec::with_capacity(alloc, count)?,
+            idle: Vec::with_capacity(alloc, count)?,
+            shares: Vec::with_capacity(alloc, count)?,
             ends: Vec::with_capacity(alloc, count)?,
             handles: Vec::with_capacity(alloc, count)?,
             list: Vec::with_capacity(alloc, universe as usize)?,
-            desk: DeskEnd::new(alloc)?,
+            desk: NewDesk::new(alloc, handles)?,
         })
     }
 }
 
-// The first ends of `handles` new lanes.
-fn first_ends<A: Monoid, B: Monoid>(
+// So many new lanes.
+fn new_berths<A: Monoid, B: Monoid>(
     alloc: Global,
     handles: u32,
-) -> Result<Vec<End<A, B>>, AllocError>
-    ensures { IfOk result (λ ends. All (λ e. e.known ≡ knows_nothing Alone) ends.items × (vec_len ends ≡ handles)) }
+) -> Result<Vec<Berth<A, B>>, AllocError>
+    ensures { IfOk result (λ berths. All IsNewBerth berths.items × (vec_len berths ≡ handles)) }
 {
-    let mut ends = Vec::with_capacity(alloc, handles as usize)?;
-    for lane in 0..handles {
-        let _lane = lane;
-        ends.push_reserved(End::new(alloc)?);
+    let mut berths = Vec::with_capacity(alloc, handles as usize)?;
+    for _ in 0..handles {
+        berths.push_reserved(Berth::new(alloc)?);
     }
-    Ok(ends)
+    Ok(berths)
 }
 
 // Puts a pass into each lane, and makes its two ends.
-fn open_lanes<R: Wait, A: Monoid, B: Monoid>(
-    rt: &R,
-    round: &Arc<Round<A, B>, Global>,
+fn open_lanes<A: Monoid, B: Monoid>(
+    shares: &mut Vec<SharedRound<A, B>>,
     crew: &mut Crew<A, B>,
-    firsts: Vec<End<A, B>>,
+    berths: Vec<Berth<A, B>>,
     mut ports: Vec<End<A, B>>,
     mut ends: Vec<End<A, B>>,
 ) -> (Vec<End<A, B>>, Vec<End<A, B>>)
-    requires firsts { All (λ e. e.known ≡ knows_nothing Alone) firsts.items }
-    requires together { crew.old.round ≡ arc_value round.now }
+    requires berths { All IsNewBerth berths.items }
+    requires together { All (λ s. arc_value s ≡ table_of crew.old.round) shares.old.items }
+    requires as_many { vec_len shares.old ≡ vec_len berths }
     requires none_out { crew.old.handed ≡ 0 }
-    requires lanes { vec_len firsts ≤ (arc_value round.now).workers }
-    requires ports { (ports.items ≡ []) × (vec_len firsts ≤ vec_capacity ports) }
-    requires ends { (ends.items ≡ []) × (vec_len firsts ≤ vec_capacity ends) }
+    requires lanes { vec_len berths ≤ crew.old.round.workers }
+    requires ports { (ports.items ≡ []) × (vec_len berths ≤ vec_capacity ports) }
+    requires ends { (ends.items ≡ []) × (vec_len berths ≤ vec_capacity ends) }
     ensures of_round { All (IsOf (rounds_in crew.old) 1) result.0.items }
     ensures opened { All IsOpenedLane result.0.items }
     ensures starts { All (Starts (rounds_in crew.old)) result.1.items }
     ensures locks { map (λ e. e.lock) result.1.items ≡ map (λ e. e.lock) result.0.items }
     ensures same_changes { crew.new.knows.accepted ≡ crew.old.knows.accepted }
-    ensures len { (vec_len result.0 ≡ vec_len firsts) × (vec_len result.1 ≡ vec_len firsts) }
+    ensures len { (vec_len result.0 ≡ vec_len berths) × (vec_len result.1 ≡ vec_len berths) }
+    ensures room { (vec_len berths ≤ vec_capacity result.0) × (shares.new.items ≡ []) × (vec_capacity shares.new ≡ vec_capacity shares.old) }
     ensures round { rounds_in crew.new ≡ rounds_in crew.old }
-    ensures handed { crew.new.handed ≡ vec_len firsts }
+    ensures handed { crew.new.handed ≡ vec_len berths }
     ensures back { crew.new.back ≡ crew.old.back }
 {
-    for first in firsts {
-        let (port, mine) = first.open(rt, round, crew);
+    for berth in berths {
+        let Some(round) = shares.pop() else {
+            unreachable!()
+        };
+        let (port, mine) = berth.open(round, crew);
         ports.push_reserved(port);
         ends.push_reserved(mine);
     }
@@ -297,28 +409,30 @@ fn open_lanes<R: Wait, A: Monoid, B: Monoid>(
 }
 
 // Makes the handles of these ends of lanes.
-fn hand_out<R: Wait, A: Monoid, B: Monoid>(
-    rt: &R,
+fn hand_out<A: Monoid, B: Monoid>(
     bits: u32,
-    desk: &mut DeskEnd<A, B>,
+    trie: Snapshot<DeskEnd<A, B>>,
+    mut desks: Vec<DeskEnd<A, B>>,
     ends: Vec<End<A, B>>,
     mut handles: Vec<Handle<A, B>>,
 ) -> Vec<Handle<A, B>>
-    requires opened { 0 < desk.old.bits }
+    requires desks { All (λ d. d ≡ trie.value) desks.items × (vec_len desks ≡ vec_len ends) }
     requires ends { All (IsHandleEnd 1 bits) ends.items }
-    requires locks { map (λ e. e.lock) ends.items ≡ ids_of desk.old }
+    requires locks { map (λ e. e.lock) ends.items ≡ ids_of trie.value }
     requires handles { (handles.items ≡ []) × (vec_len ends ≤ vec_capacity handles) }
-    ensures same { desk.new ≡ desk.old }
-    ensures at { result.items ≡ map (λ e. handle_by (ids_of desk.old) (Some e)) ends.items }
+    ensures at { result.items ≡ map (λ e. handle_by (ids_of trie.value) (Some e)) ends.items }
 {
     for end in ends {
+        let Some(desk) = desks.pop() else {
+            unreachable!()
+        };
         let lane = handles.len();
         handles.push_reserved(Handle {
             end: Some(end),
             bits,
             lane,
             number: 1,
-            desk: desk.another(rt),
+            desk,
         });
     }
     handles

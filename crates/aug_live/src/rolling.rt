@@ -5,233 +5,210 @@ ghost use Rattle.aug_model.specs.Keys.{IsKeySet, keys_of};
 ghost use Rattle.aug_core.specs.Layout.{IsLayout};
 ghost use Rattle.aug_core.specs.Places.{shape_of};
 ghost use Rattle.aug_trie.specs.Chains.{IsPart};
-ghost use Rattle.aug_trie.specs.Crew.{BeginsIn, CrewFacts, Ends, RollsOver, crew_chain};
+ghost use Rattle.aug_trie.specs.Crew.{BeginsIn, crew_chain};
+ghost use Rattle.aug_trie.specs.Ended.{EndedFacts, set_of_ended};
+ghost use Rattle.aug_trie.specs.Round.{table_of};
 ghost use Rattle.aug_trie.specs.Pass.{chain_of};
 ghost use Rattle.aug_core.specs.Prefixes.{IsPrefix};
 ghost use Rattle.aug_core.specs.declared.view.Change.{Change};
 ghost use Rattle.aug_live.specs.Carrying.{Leads};
 ghost use Rattle.aug_live.specs.inside.LaneKnowledge.{knows_nothing, rolls, rounds_at, taken_in};
-ghost use Rattle.aug_live.specs.inside.Rolls.{FinishesRound, GetsHandle, HasEnded, IsBackIn, IsHandleEnd, IsOf, IsOpenedLane, Starts, accepted_by, given, given_all, kept_of, rounds_in};
+ghost use Rattle.aug_live.specs.inside.Rolls.{FinishesRound, GetsHandle, HasEnded, IsBackIn, IsHandleEnd, IsOf, IsOpenedLane, IsPort, Starts, accepted_by, given, given_all, kept_of, rounds_in};
 ghost use Rattle.aug_live.specs.declared.known.Whose.TheVariants.{Alone, Handle, Idle, Roller};
 
-use crate::end::End;
+use crate::end::{Berth, End, LaneLock};
+use crate::error::{LiveError, TryError};
+use crate::held::{Emptied, Held};
 use crate::lane::Lane;
 use crate::plan::Plan;
 use crate::work::start;
 use aug_monoid::Monoid;
-use aug_trie::{Crew, Ended, Members, Round};
+use aug_trie::{Crew, Members, Round, SharedRound};
+use ruled_lock::Patience;
 use std::alloc::{AllocFailed, Global};
 use std::snapshot::Snapshot;
-use std::sync::{Arc, Wait};
-use std::thread::yield_now;
+use std::sync::Arc;
 
-// Ends a round that nobody worked in.
-fn taken_back<A: Monoid, B: Monoid>(
-    set: Snapshot<Members>,
-    round: Round<A, B>,
-    crew: Crew<A, B>,
-    list: Vec<(u32, u32)>,
-) -> Members
-    requires keys { IsKeySet set.value.bits (keys_of set.value.pairs) }
-    requires begun { (lanes updates : ℕ) × BeginsIn (2 ^ set.value.bits) set.value.pairs set.value.bits lanes updates round crew }
-    requires list { (list.items ≡ []) × (2 ^ set.value.bits ≤ vec_capacity list) }
-    ensures { result ≡ set.value }
-{
-    round.end(crew).into_members_in(list)
+/// A round that was begun, with an owner of it for each lane.
+#[derive(Drop)]
+pub(crate) struct Begun<A: Monoid, B: Monoid> {
+    pub(crate) round: SharedRound<A, B>,
+    pub(crate) crew: Crew<A, B>,
+    pub(crate) list: Vec<(u32, u32)>,
+    pub(crate) shares: Vec<SharedRound<A, B>>,
 }
 
-/// Begins a round over a set of a plan, as `Live` does. It is refused only for lack of memory, and then the same set comes back.
+/// Begins a round over a set of a plan, as `Live` does, with `lanes` owners more. It is refused only for lack of memory, and then the same set
+/// comes back.
 pub(crate) fn next_round<A: Monoid, B: Monoid>(
     alloc: Global,
     set: Members,
     plan: Plan,
     list: Vec<(u32, u32)>,
-) -> Result<(Arc<Round<A, B>, Global>, Crew<A, B>, Vec<(u32, u32)>), Members>
+    shares: Vec<SharedRound<A, B>>,
+    lanes: u32,
+) -> Result<Begun<A, B>, Members>
     requires laid_out { IsLayout (shape_of set.bits plan.lanes plan.updates (2 ^ set.bits)) }
     requires few { length set.pairs ≤ 2 ^ set.bits }
     requires list { (list.items ≡ []) × (2 ^ set.bits ≤ vec_capacity list) }
-    ensures begun { IfOk result (λ t. BeginsIn (2 ^ set.bits) set.pairs set.bits plan.lanes plan.updates (arc_value t.0) t.1) }
-    ensures list { IfOk result (λ t. t.2 ≡ list) }
+    requires shares { (shares.items ≡ []) × (lanes ≤ vec_capacity shares) }
+    ensures begun { IfOk result (λ t. BeginsIn (2 ^ set.bits) set.pairs set.bits plan.lanes plan.updates (arc_value t.round) t.crew) }
+    ensures list { IfOk result (λ t. t.list ≡ list) }
+    ensures shares { IfOk result (λ t. All (λ s. arc_value s ≡ arc_value t.round) t.shares.items × (vec_len t.shares ≡ lanes) × (vec_capacity t.shares ≡ vec_capacity shares)) }
     ensures same { IfErr result (λ e. e ≡ set) }
 {
     let _universe = set.universe();
     let old = Snapshot::of(&set);
     let (round, crew) = Round::begin_for_all(alloc, set, plan.lanes, plan.updates)?;
-    match Arc::new(alloc, round) {
-        Ok(round) => Ok((round, crew, list)),
+    let round = match Arc::new(alloc, round) {
+        Ok(round) => round,
         Err(failed) => {
             let AllocFailed { value } = failed;
-            Err(taken_back(old, value, crew, list))
+            return Err(taken_back(old, &value, crew, list));
+        }
+    };
+    let mut shares = shares;
+    for _ in 0..lanes {
+        match Arc::try_clone(&round) {
+            Ok(share) => shares.push_reserved(share),
+            Err(_) => return Err(taken_back(old, &round, crew, list)),
         }
     }
+    Ok(Begun {
+        round,
+        crew,
+        list,
+        shares,
+    })
 }
 
-/// One more owner of a value.
-pub(crate) fn share<R: Wait, T>(rt: &R, value: &Arc<T, Global>) -> Arc<T, Global>
-    ensures { arc_value result ≡ arc_value value.now }
+// Ends a round that nobody worked in.
+fn taken_back<A: Monoid, B: Monoid>(
+    set: Snapshot<Members>,
+    round: &Round<A, B>,
+    crew: Crew<A, B>,
+    list: Vec<(u32, u32)>,
+) -> Members
+    requires keys { IsKeySet set.value.bits (keys_of set.value.pairs) }
+    requires begun { (lanes updates : ℕ) × BeginsIn (2 ^ set.value.bits) set.value.pairs set.value.bits lanes updates round.now crew }
+    requires list { (list.items ≡ []) × (2 ^ set.value.bits ≤ vec_capacity list) }
+    ensures { result ≡ set.value }
 {
-    for _ in rt.forever() {
-        if let Ok(shared) = Arc::try_clone(value) {
-            return shared;
-        }
-        yield_now();
-    }
-    unreachable!()
-}
-
-// The round itself, once no lane shares it.
-fn whole<R: Wait, A: Monoid, B: Monoid>(rt: &R, round: Arc<Round<A, B>, Global>) -> Round<A, B>
-    ensures { result ≡ arc_value round }
-{
-    let mut round = round;
-    for _ in rt.forever() {
-        match Arc::try_unwrap(round) {
-            Ok(whole) => return whole,
-            Err(same) => round = same,
-        }
-        yield_now();
-    }
-    unreachable!()
+    let (set, _, _) = round.finish(crew, list);
+    set
 }
 
 impl<A: Monoid, B: Monoid> End<A, B> {
-    // Takes the pass out of the lane, and gives it back to its crew.
-    fn give_back<R: Wait>(self, rt: &R, crew: &mut Crew<A, B>) -> End<A, B>
-        requires of_round { IsOf (rounds_in crew.old) self.known.at.era self }
-        requires some { 0 < self.known.at.era }
-        ensures back { IsBackIn (rounds_in crew.old) self.known.at.era crew.new.knows.history result }
-        ensures kept { kept_of result ≡ kept_of self }
-        ensures changes { crew.new.knows.accepted ≡ crew.old.knows.accepted ++ accepted_by result }
-        ensures goes_on { IsPrefix crew.old.knows.history crew.new.knows.history }
-        ensures round { rounds_in crew.new ≡ rounds_in crew.old }
-        ensures handed { crew.new.handed ≡ crew.old.handed }
-        ensures counted { crew.new.back ≡ crew.old.back + 1 }
-    {
-        let (out, lane) = self.take_to_roll(rt);
-        let (work, lane) = lane.into_work();
-        work.give_back(crew);
-        out.leave(lane)
-    }
-
     /// Gives the pass of the lane back to its crew, and puts the next one of the round in.
-    pub(crate) fn replace<R: Wait>(
+    pub(crate) fn replace<W: Patience>(
         self,
-        rt: &R,
-        round: &Arc<Round<A, B>, Global>,
+        how: &W,
         crew: &mut Crew<A, B>,
-    ) -> End<A, B>
+    ) -> Result<End<A, B>, (End<A, B>, W::Missed)>
         requires of_round { IsOf (rounds_in crew.old) self.known.at.era self }
         requires some { 0 < self.known.at.era }
-        requires together { crew.old.round ≡ arc_value round.now }
-        requires lane_left { crew.old.handed < (arc_value round.now).workers }
-        ensures of_round { IsOf (rounds_in crew.old) self.known.at.era result }
-        ensures changes { (changes : List Change) × (crew.new.knows.accepted ≡ crew.old.knows.accepted ++ changes) × (kept_of result ≡ given changes self) }
-        ensures goes_on { IsPrefix crew.old.knows.history crew.new.knows.history }
-        ensures round { rounds_in crew.new ≡ rounds_in crew.old }
-        ensures handed { crew.new.handed ≡ crew.old.handed + 1 }
-        ensures back { crew.new.back ≡ crew.old.back + 1 }
+        requires lane_left { crew.old.handed < crew.old.round.workers }
+        ensures of_round { IfOk result (IsOf (rounds_in crew.old) self.known.at.era) }
+        ensures changes { IfOk result (λ e. (changes : List Change) × (crew.new.knows.accepted ≡ crew.old.knows.accepted ++ changes) × (kept_of e ≡ given changes self)) }
+        ensures goes_on { IfOk result (λ _. IsPrefix crew.old.knows.history crew.new.knows.history) }
+        ensures round { IfOk result (λ _. rounds_in crew.new ≡ rounds_in crew.old) }
+        ensures handed { IfOk result (λ _. crew.new.handed ≡ crew.old.handed + 1) }
+        ensures back { IfOk result (λ _. crew.new.back ≡ crew.old.back + 1) }
+        ensures same { IfErr result (λ e. (e.0 ≡ self) × (crew.new ≡ crew.old)) }
     {
-        let (out, lane) = self.take_to_roll(rt);
-        let (spent, rest) = lane.into_work();
-        spent.give_back(crew);
-        let work = start(rt, round, crew);
-        out.deal(rest.with(work))
+        match self.take_to_roll(how) {
+            Ok((out, lane)) => {
+                let (spent, rest) = lane.into_work();
+                let round = spent.give_back(crew);
+                let work = start(round, crew);
+                Ok(out.deal(rest.with(work)))
+            }
+            Err(missed) => Err(missed),
+        }
     }
 
-    // Puts a pass of the next round in.
-    fn begin<R: Wait>(
+    /// Takes in the end of the handle with this number, which came back. If the lane has a newer handle, or it is not to be had, both ends come back.
+    pub(crate) fn take_in<W: Patience>(
         self,
-        rt: &R,
-        era: u64,
-        round: &Arc<Round<A, B>, Global>,
-        crew: &mut Crew<A, B>,
-    ) -> End<A, B>
-        requires ready { HasEnded (arc_value round.now) crew.old.past era self }
-        requires led { Leads (arc_value round.now).bits crew.old.past (arc_value round.now).members }
-        requires some { 0 < era }
-        requires small { era + 1 < 2 ^ 64 }
-        requires together { crew.old.round ≡ arc_value round.now }
-        requires lane_left { crew.old.handed < (arc_value round.now).workers }
-        ensures of_round { IsOf (rounds_in crew.old) (era + 1) result }
-        ensures kept { kept_of result ≡ given_all self }
-        ensures same_changes { crew.new.knows.accepted ≡ crew.old.knows.accepted }
-        ensures goes_on { IsPrefix crew.old.knows.history crew.new.knows.history }
-        ensures round { rounds_in crew.new ≡ rounds_in crew.old }
-        ensures handed { crew.new.handed ≡ crew.old.handed + 1 }
-        ensures back { crew.new.back ≡ crew.old.back }
-    {
-        let (out, lane) = self.take_to_roll(rt);
-        let work = start(rt, round, crew);
-        out.deal(lane.next(work))
-    }
-
-    /// Whether the lane's handle has this number, and is out.
-    pub(crate) fn is_of<R: Wait>(self, rt: &R, number: u64) -> (End<A, B>, bool)
+        how: &W,
+        number: u64,
+        other: End<A, B>,
+    ) -> Result<End<A, B>, (End<A, B>, End<A, B>, TryError<W::Missed>)>
         requires roller { rolls self.known.whose ≡ true }
-        requires some { 0 < self.known.at.era }
-        ensures same { result.0 ≡ self }
-        ensures number { result.1 ≡ true → self.known.number ≡ number }
-        ensures out { result.1 ≡ true → self.known.whose ≢ Idle }
-    {
-        let (out, lane) = self.take_to_roll(rt);
-        let is = lane.number == number && lane.is_out;
-        (out.keep(lane), is)
-    }
-
-    /// Takes in the end of the lane's handle, which came back.
-    pub(crate) fn take_in<R: Wait>(self, rt: &R, other: End<A, B>) -> End<A, B>
-        requires roller { self.known.whose ≡ Roller }
+        requires port { IsPort self.known.whose }
         requires handle { other.known.whose ≡ Handle }
         requires some { (0 < self.known.at.era) × (0 < other.known.at.era) }
-        requires number { other.known.number ≡ self.known.number }
+        requires number { other.known.number ≡ number }
         requires lock { other.lock ≡ self.lock }
-        ensures lock { result.lock ≡ self.lock }
-        ensures whose { result.known.whose ≡ Idle }
-        ensures same { rounds_at result.known.at.half ≡ rounds_at self.known.at.half }
-        ensures era { result.known.at.era ≡ self.known.at.era }
-        ensures works { result.known.works ≡ self.known.works }
-        ensures done { kept_of result ≡ kept_of (record self { known = record (taken_in self.known other.known) { whose = Idle } }) }
+        ensures lock { IfOk result (λ e. e.lock ≡ self.lock) }
+        ensures was { IfOk result (λ e. self.known.whose ≡ Roller) }
+        ensures whose { IfOk result (λ e. e.known.whose ≡ Idle) }
+        ensures same { IfOk result (λ e. rounds_at e.known.at.half ≡ rounds_at self.known.at.half) }
+        ensures era { IfOk result (λ e. e.known.at.era ≡ self.known.at.era) }
+        ensures works { IfOk result (λ e. e.known.works ≡ self.known.works) }
+        ensures done { IfOk result (λ e. kept_of e ≡ kept_of (record self { known = record (taken_in self.known other.known) { whose = Idle } })) }
+        ensures refused { IfErr result (λ e. (e.0 ≡ self) × (e.1 ≡ other)) }
     {
-        let (out, lane) = self.join(other).take_to_roll(rt);
-        out.settle(lane.settled())
+        match self.take_to_roll(how) {
+            Ok((out, lane)) => {
+                if lane.number == number && lane.is_out {
+                    Ok(out.join(other).settle(lane.settled()))
+                } else {
+                    let replaced = TryError::Refused(LiveError::Replaced);
+                    Err((out.keep(lane), other, replaced))
+                }
+            }
+            Err((end, missed)) => Err((end, other, TryError::Again(missed))),
+        }
     }
 
     /// Gives the lane to a new handle, whose end it answers beside the roller's. They know all that the crew does. An older handle finds its lane given on.
-    pub(crate) fn renew<R: Wait>(
+    pub(crate) fn renew<W: Patience>(
         self,
-        rt: &R,
+        how: &W,
         number: u64,
-        round: &Arc<Round<A, B>, Global>,
+        theirs: Arc<LaneLock<A, B>, Global>,
+        round: &SharedRound<A, B>,
         crew: &mut Crew<A, B>,
-    ) -> (End<A, B>, End<A, B>)
+    ) -> Result<(End<A, B>, End<A, B>), (End<A, B>, W::Missed)>
         requires of_round { IsOf (rounds_in crew.old) self.known.at.era self }
         requires some { 0 < self.known.at.era }
         requires newer { self.known.number < number }
-        requires together { crew.old.round ≡ arc_value round.now }
-        ensures port { IsOf (rounds_in crew.old) self.known.at.era result.0 }
-        ensures gets { GetsHandle number self result.0 }
-        ensures handle { IsHandleEnd number crew.old.round.bits result.1 × (result.1.lock ≡ self.lock) × (result.1.known.made ≡ []) }
-        ensures at { result.1.known.at ≡ result.0.known.at }
-        ensures knows { IsPart (crew_chain crew.old) (chain_of result.0.known.at.half) }
+        requires owner { (arc_value theirs).table.shared.table_id ≡ self.lock }
+        requires together { table_of crew.old.round ≡ arc_value round.now }
+        ensures port { IfOk result (λ e. IsOf (rounds_in crew.old) self.known.at.era e.0) }
+        ensures gets { IfOk result (λ e. GetsHandle number self e.0) }
+        ensures handle { IfOk result (λ e. IsHandleEnd number crew.old.round.bits e.1 × (e.1.lock ≡ self.lock) × (e.1.known.made ≡ [])) }
+        ensures at { IfOk result (λ e. e.1.known.at ≡ e.0.known.at) }
+        ensures knows { IfOk result (λ e. IsPart (crew_chain crew.old) (chain_of e.0.known.at.half)) }
         ensures same { crew.new ≡ crew.old }
+        ensures missed { IfErr result (λ e. e.0 ≡ self) }
     {
-        let (out, lane) = self.take_to_roll(rt);
-        let (work, Lane { era, .. }) = lane.into_work();
-        let work = work.learn(crew.note(round));
-        out.renumber(Lane::working(era, number, true, work))
-            .fork(rt)
+        match self.take_to_roll(how) {
+            Ok((out, lane)) => {
+                let (work, Lane { era, .. }) = lane.into_work();
+                let work = work.learn(crew.note(round));
+                Ok(
+                    out.renumber(Lane::working(era, number, true, work))
+                        .fork(theirs),
+                )
+            }
+            Err(missed) => Err(missed),
+        }
     }
+}
 
-    /// Puts a pass of the first round in, and makes the end of the lane's first handle.
-    pub(crate) fn open<R: Wait>(
+impl<A: Monoid, B: Monoid> Berth<A, B> {
+    /// Puts a pass of the first round in, with this owner of it, and makes the end of the lane's first handle.
+    pub(crate) fn open(
         self,
-        rt: &R,
-        round: &Arc<Round<A, B>, Global>,
+        round: SharedRound<A, B>,
         crew: &mut Crew<A, B>,
     ) -> (End<A, B>, End<A, B>)
-        requires first { self.known ≡ knows_nothing Alone }
-        requires together { crew.old.round ≡ arc_value round.now }
-        requires lane_left { crew.old.handed < (arc_value round.now).workers }
+        requires first { self.out.known ≡ knows_nothing Alone }
+        requires number { self.out.taken.number ≡ 0 }
+        requires together { table_of crew.old.round ≡ arc_value round }
+        requires lane_left { crew.old.handed < crew.old.round.workers }
         ensures of_round { IsOf (rounds_in crew.old) 1 result.0 }
         ensures opened { IsOpenedLane result.0 }
         ensures handle { Starts (rounds_in crew.old) result.1 }
@@ -241,121 +218,137 @@ impl<A: Monoid, B: Monoid> End<A, B> {
         ensures handed { crew.new.handed ≡ crew.old.handed + 1 }
         ensures back { crew.new.back ≡ crew.old.back }
     {
-        let (out, _) = self.take(rt);
-        let work = start(rt, round, crew);
-        out.renumber(Lane::working(1, 1, true, work)).fork(rt)
+        let Berth { out, theirs } = self;
+        let work = start(round, crew);
+        out.renumber(Lane::working(1, 1, true, work)).fork(theirs)
     }
 }
 
-/// Takes the pass out of each lane and gives it back to its crew, from the last lane on. It waits for each handle that works or looks.
-pub(crate) fn take_all<R: Wait, A: Monoid, B: Monoid>(
-    rt: &R,
+/// Takes what lies in each lane, from the last lane on, unless a handle works or looks there. The lanes that it took stay taken.
+pub(crate) fn take_all<W: Patience, A: Monoid, B: Monoid>(
+    how: &W,
+    ports: &mut Vec<End<A, B>>,
+    held: &mut Vec<Held<A, B>>,
+) -> Result<(), W::Missed>
+    requires rolls { All (λ e. (rolls e.known.whose ≡ true) × (0 < e.known.at.era)) ports.old.items }
+    requires room { vec_len ports.old + vec_len held.old ≤ vec_capacity held.old }
+    ensures same { ports.new.items ++ reverse held.new.items ≡ ports.old.items ++ reverse held.old.items }
+    ensures len { vec_len ports.new + vec_len held.new ≡ vec_len ports.old + vec_len held.old }
+    ensures all { IfOk result (λ _. ports.new.items ≡ []) }
+    ensures room { vec_capacity ports.new ≡ vec_capacity ports.old }
+    ensures held_room { vec_capacity held.new ≡ vec_capacity held.old }
+{
+    while let Some(port) = ports.pop() {
+        match port.take_to_roll(how) {
+            Ok((out, lane)) => held.push_reserved(Held { out, lane }),
+            Err((port, missed)) => {
+                ports.push_reserved(port);
+                return Err(missed);
+            }
+        }
+    }
+    Ok(())
+}
+
+/// Gives the pass of each lane that was taken back to its crew, from the last lane on, and puts the owners of the round together.
+pub(crate) fn give_all<A: Monoid, B: Monoid>(
     era: u64,
     crew: &mut Crew<A, B>,
-    ports: &mut Vec<End<A, B>>,
-    back: &mut Vec<End<A, B>>,
+    held: &mut Vec<Held<A, B>>,
+    idle: &mut Vec<Emptied<A, B>>,
+    shares: &mut Vec<SharedRound<A, B>>,
 )
-    requires of_round { All (IsOf (rounds_in crew.old) era) ports.old.items }
+    requires of_round { All (IsOf (rounds_in crew.old) era) held.old.items }
     requires some { 0 < era }
-    requires empty { back.old.items ≡ [] }
-    requires room { vec_len ports.old ≤ vec_capacity back.old }
-    ensures back { All (IsBackIn (rounds_in crew.old) era crew.new.knows.history) back.new.items }
-    ensures kept { map kept_of (reverse back.new.items) ≡ map kept_of ports.old.items }
-    ensures changes { crew.new.knows.accepted ≡ crew.old.knows.accepted ++ flat_map accepted_by back.new.items }
-    ensures len { vec_len back.new ≡ vec_len ports.old }
-    ensures none_left { ports.new.items ≡ [] }
-    ensures room { vec_capacity ports.new ≡ vec_capacity ports.old }
-    ensures back_room { vec_capacity back.new ≡ vec_capacity back.old }
+    requires empty { (idle.old.items ≡ []) × (shares.old.items ≡ []) }
+    requires room { (vec_len held.old ≤ vec_capacity idle.old) × (vec_len held.old ≤ vec_capacity shares.old) }
+    ensures back { All (IsBackIn (rounds_in crew.old) era crew.new.knows.history) idle.new.items }
+    ensures kept { map kept_of idle.new.items ≡ map kept_of held.old.items }
+    ensures changes { crew.new.knows.accepted ≡ crew.old.knows.accepted ++ flat_map accepted_by idle.new.items }
+    ensures shared { All (λ s. arc_value s ≡ table_of crew.old.round) shares.new.items }
+    ensures len { (vec_len idle.new ≡ vec_len held.old) × (vec_len shares.new ≡ vec_len held.old) }
+    ensures none_left { held.new.items ≡ [] }
+    ensures room { (vec_capacity held.new ≡ vec_capacity held.old) × (vec_capacity idle.new ≡ vec_capacity idle.old) × (vec_capacity shares.new ≡ vec_capacity shares.old) }
     ensures goes_on { IsPrefix crew.old.knows.history crew.new.knows.history }
     ensures round { rounds_in crew.new ≡ rounds_in crew.old }
     ensures handed { crew.new.handed ≡ crew.old.handed }
-    ensures counted { crew.new.back ≡ crew.old.back + vec_len ports.old }
+    ensures counted { crew.new.back ≡ crew.old.back + vec_len held.old }
 {
-    while let Some(port) = ports.pop() {
-        back.push_reserved(port.give_back(rt, crew));
+    held.reverse();
+    while let Some(one) = held.pop() {
+        let (one, round) = one.give_back(crew);
+        idle.push_reserved(one);
+        shares.push_reserved(round);
     }
 }
 
-/// Ends a round to which all passes are back, and begins the next over its set in the same memory, once no lane shares it. The list has that set
-/// afterwards.
-pub(crate) fn renewed<R: Wait, A: Monoid, B: Monoid>(
-    rt: &R,
-    round: &mut Arc<Round<A, B>, Global>,
-    crew: Crew<A, B>,
-    list: &mut Vec<(u32, u32)>,
-) -> (Crew<A, B>, u32, u32)
-    requires together { crew.round ≡ arc_value round.old }
-    requires all_back { crew.back ≡ crew.handed }
-    requires room { 2 ^ (arc_value round.old).bits ≤ (arc_value round.old).room }
-    requires empty { list.old.items ≡ [] }
-    requires list_room { 2 ^ (arc_value round.old).bits ≤ vec_capacity list.old }
-    ensures rolls { RollsOver crew (arc_value round.old) (arc_value round.new) result.0 list.new.items result.1 result.2 }
-    ensures list_room { vec_capacity list.new ≡ vec_capacity list.old }
-{
-    for _ in rt.forever() {
-        if let Some(whole) = Arc::get_mut(round) {
-            return whole.renew(crew, list);
-        }
-        yield_now();
-    }
-    unreachable!()
-}
-
-/// Puts a pass of the next round into each lane, the last lane of the list first.
-pub(crate) fn deal_all<R: Wait, A: Monoid, B: Monoid>(
-    rt: &R,
+/// Puts a pass of the next round into each lane, the last lane of the list first, and lets the lanes go.
+pub(crate) fn deal_all<A: Monoid, B: Monoid>(
     era: u64,
-    round: &Arc<Round<A, B>, Global>,
     crew: &mut Crew<A, B>,
-    back: &mut Vec<End<A, B>>,
+    idle: &mut Vec<Emptied<A, B>>,
+    shares: &mut Vec<SharedRound<A, B>>,
     ports: &mut Vec<End<A, B>>,
 )
-    requires ready { All (HasEnded (arc_value round.now) crew.old.past era) back.old.items }
-    requires led { Leads (arc_value round.now).bits crew.old.past (arc_value round.now).members }
+    requires ready { All (HasEnded (table_of crew.old.round) crew.old.past era) idle.old.items }
+    requires led { Leads crew.old.round.bits crew.old.past crew.old.round.members }
     requires some { 0 < era }
     requires small { era + 1 < 2 ^ 64 }
-    requires together { crew.old.round ≡ arc_value round.now }
+    requires together { All (λ s. arc_value s ≡ table_of crew.old.round) shares.old.items }
+    requires as_many { vec_len shares.old ≡ vec_len idle.old }
     requires none_out { crew.old.handed ≡ 0 }
-    requires lanes { vec_len back.old ≤ (arc_value round.now).workers }
+    requires lanes { vec_len idle.old ≤ crew.old.round.workers }
     requires empty { ports.old.items ≡ [] }
-    requires room { vec_len back.old ≤ vec_capacity ports.old }
+    requires room { vec_len idle.old ≤ vec_capacity ports.old }
     ensures of_round { All (IsOf (rounds_in crew.old) (era + 1)) ports.new.items }
-    ensures kept { map kept_of ports.new.items ≡ map given_all (reverse back.old.items) }
+    ensures kept { map kept_of ports.new.items ≡ map given_all (reverse idle.old.items) }
     ensures same_changes { crew.new.knows.accepted ≡ crew.old.knows.accepted }
-    ensures len { vec_len ports.new ≡ vec_len back.old }
-    ensures none_left { back.new.items ≡ [] }
-    ensures room { vec_capacity ports.new ≡ vec_capacity ports.old }
-    ensures back_room { vec_capacity back.new ≡ vec_capacity back.old }
+    ensures len { vec_len ports.new ≡ vec_len idle.old }
+    ensures none_left { (idle.new.items ≡ []) × (shares.new.items ≡ []) }
+    ensures room { (vec_capacity ports.new ≡ vec_capacity ports.old) × (vec_capacity idle.new ≡ vec_capacity idle.old) × (vec_capacity shares.new ≡ vec_capacity shares.old) }
     ensures goes_on { IsPrefix crew.old.knows.history crew.new.knows.history }
     ensures round { rounds_in crew.new ≡ rounds_in crew.old }
-    ensures handed { crew.new.handed ≡ vec_len back.old }
+    ensures handed { crew.new.handed ≡ vec_len idle.old }
     ensures back { crew.new.back ≡ crew.old.back }
 {
-    while let Some(port) = back.pop() {
-        ports.push_reserved(port.begin(rt, era, round, crew));
+    while let Some(one) = idle.pop() {
+        let Some(round) = shares.pop() else {
+            unreachable!()
+        };
+        ports.push_reserved(one.begin(era, round, crew));
     }
 }
 
-/// Ends the round whose passes lie in the lanes. The lanes are done with it.
-pub(crate) fn finish<R: Wait, A: Monoid, B: Monoid>(
-    rt: &R,
+/// Lets each lane go without a pass.
+pub(crate) fn leave_all<A: Monoid, B: Monoid>(mut idle: Vec<Emptied<A, B>>) {
+    while let Some(one) = idle.pop() {
+        drop(one.leave());
+    }
+}
+
+/// Ends the round whose passes lie in lanes that were taken: its set, and how many keys it put in and took out. The lanes are done with it.
+pub(crate) fn finish<A: Monoid, B: Monoid>(
     era: u64,
-    round: Arc<Round<A, B>, Global>,
+    round: SharedRound<A, B>,
     crew: Crew<A, B>,
-    ports: Vec<End<A, B>>,
-    back: Vec<End<A, B>>,
-) -> Ended<A, B>
-    requires of_round { All (IsOf (rounds_in crew) era) ports.items }
+    held: Vec<Held<A, B>>,
+    idle: Vec<Emptied<A, B>>,
+    shares: Vec<SharedRound<A, B>>,
+    list: Vec<(u32, u32)>,
+) -> (Members, u32, u32)
+    requires of_round { All (IsOf (rounds_in crew) era) held.items }
     requires some { 0 < era }
-    requires together { crew.round ≡ arc_value round }
-    requires all_out { crew.handed ≡ vec_len ports + crew.back }
-    requires empty { back.items ≡ [] }
-    requires room { vec_len ports ≤ vec_capacity back }
-    ensures ends { FinishesRound era crew ports.items result }
-    ensures sizes { length result.members + result.removals ≡ length (arc_value round).members + result.inserts }
-    ensures few { length result.members ≤ 2 ^ (arc_value round).bits }
+    requires together { table_of crew.round ≡ arc_value round }
+    requires all_out { crew.handed ≡ vec_len held + crew.back }
+    requires empty { (idle.items ≡ []) × (shares.items ≡ []) × (list.items ≡ []) }
+    requires room { (vec_len held ≤ vec_capacity idle) × (vec_len held ≤ vec_capacity shares) }
+    requires all_keys { 2 ^ crew.round.bits ≤ crew.round.room }
+    requires list_room { 2 ^ crew.round.bits ≤ vec_capacity list }
+    ensures ends { (ended : EndedFacts) × FinishesRound era crew (reverse held.items) ended × (result.0 ≡ set_of_ended ended) × (result.1 ≡ ended.inserts) × (result.2 ≡ ended.removals) }
+    ensures sizes { length result.0.pairs + result.2 ≡ length crew.round.members + result.1 }
 {
-    let (mut crew, mut ports, mut back) = (crew, ports, back);
-    take_all(rt, era, &mut crew, &mut ports, &mut back);
-    whole(rt, round).end(crew)
+    let (mut crew, mut held, mut idle, mut shares) = (crew, held, idle, shares);
+    give_all(era, &mut crew, &mut held, &mut idle, &mut shares);
+    leave_all(idle);
+    round.finish(crew, list)
 }

@@ -102,7 +102,7 @@ fn are_all_below(set: &[(u32, u32)], count: u32) -> bool {
 
 // What the trie of a row comes to.
 fn assert_goes_on<R: Wait + Abort>(rt: &R, alloc: Global, it: &Crowd) -> Result<(), BeginError> {
-    let (mut live, mut hands) = opened(rt, alloc, 9, it.handles, it.spare, it.updates)?;
+    let (mut live, mut hands) = opened(alloc, 9, it.handles, it.spare, it.updates)?;
     equal(rt, hands.len(), it.handles as usize);
     let mut members = 0u32;
     for _ in 0..3 {

@@ -32,7 +32,7 @@ fn planned<R: Wait + Abort>(
 ) -> Result<Members, BeginError>
     requires { handles ≤ lanes }
 {
-    match Live::open_with(rt, alloc, set, handles, Plan { lanes, updates }) {
+    match Live::open_with(alloc, set, handles, Plan { lanes, updates }) {
         Ok(opened) => Ok(closed(rt, opened, handles)),
         Err((_, cause)) => Err(cause),
     }
@@ -46,7 +46,7 @@ fn within<R: Wait + Abort>(
     handles: u32,
     memory: u64,
 ) -> Result<Members, BeginError> {
-    match Live::open(rt, alloc, set, handles, memory) {
+    match Live::open(alloc, set, handles, memory) {
         Ok(opened) => Ok(closed(rt, opened, handles)),
         Err((_, cause)) => Err(cause),
     }
@@ -113,7 +113,8 @@ fn tries<R: Wait + Abort>(rt: &R, alloc: Global, it: &Sweep) -> Result<u32, Begi
     Ok(tries)
 }
 
-const EACH: &[u32] = &[
+/// All numbers of handles.
+pub(super) const EACH: &[u32] = &[
     1, 2, 3, 4, 5, 6, 7, 8, 9, 10, 11, 12, 13, 14, 15, 16, 17, 18, 19, 20, 21, 22, 23, 24, 25, 26,
     27, 28, 29, 30, 31, 32, 33, 34, 35, 36, 37, 38, 39, 40, 41, 42, 43, 44, 45, 46, 47, 48, 49, 50,
     51, 52, 53, 54, 55, 56, 57, 58, 59, 60, 61, 62, 63, 64,
@@ -228,7 +229,7 @@ fn grown<R: Wait + Abort>(
         updates: count.max(1),
     };
     let memory = words_of(set.bits(), plan).saturating_mul(8);
-    let set = match Live::open_with(rt, alloc, set, 1, plan) {
+    let set = match Live::open_with(alloc, set, 1, plan) {
         Ok(opened) => filled(rt, opened, from, count),
         Err((_, cause)) => return Err(cause),
     };

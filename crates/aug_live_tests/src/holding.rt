@@ -46,7 +46,7 @@ fn stays<R: Wait + Abort>(
 #[test]
 fn a_roll_over_waits_for_a_look_that_is_held(rt: HostRuntime) -> Result<(), BeginError> {
     let r = &rt;
-    let (live, mut hands) = opened(r, r.alloc(), 6, 2, 0, 4)?;
+    let (live, mut hands) = opened(r.alloc(), 6, 2, 0, 4)?;
     let mut hand = last(r, &mut hands);
     equal(r, fill(r, &mut hand, 0, 4), 4);
     let other = last(r, &mut hands);

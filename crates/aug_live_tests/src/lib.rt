@@ -3,6 +3,8 @@
 #![tactic(auto)]
 
 #[cfg(test)]
+mod again;
+#[cfg(test)]
 mod assertions;
 #[cfg(test)]
 mod crowds;
@@ -28,3 +30,7 @@ mod sleeping;
 mod steps;
 #[cfg(test)]
 mod telling;
+#[cfg(test)]
+mod trying;
+#[cfg(test)]
+mod unhindered;

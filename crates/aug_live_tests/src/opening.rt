@@ -1,10 +1,11 @@
 //! How tries are opened, and the calls of a trie and its handles that tests make, in functions that promise nothing.
 
-use aug_live::{Handle, Live, LiveError, Look, Plan};
+use aug_live::{Busy, Handle, Live, LiveCounts, LiveError, Look, Plan, TryError};
 use aug_model::Outcome;
 use aug_monoid::{Extent, Sum};
 use aug_query::descent::{Has, Size};
-use aug_trie::{BeginError, Ended, Members};
+use aug_trie::{BeginError, Ended, Members, Request};
+use ruled_lock::WasOut;
 use std::alloc::Global;
 use std::process::Abort;
 use std::sync::Wait;
@@ -25,8 +26,7 @@ pub(super) fn no_keys(alloc: Global, bits: u32) -> Result<Members, BeginError> {
 }
 
 /// A trie over the empty set of keys of `bits` bits, with `spare` spare lanes.
-pub(super) fn opened<R: Wait>(
-    rt: &R,
+pub(super) fn opened(
     alloc: Global,
     bits: u32,
     handles: u32,
@@ -37,7 +37,7 @@ pub(super) fn opened<R: Wait>(
         lanes: handles.saturating_add(spare),
         updates,
     };
-    match Live::open_with(rt, alloc, no_keys(alloc, bits)?, handles, plan) {
+    match Live::open_with(alloc, no_keys(alloc, bits)?, handles, plan) {
         Ok(opened) => Ok(opened),
         Err((_, cause)) => Err(cause),
     }
@@ -75,6 +75,19 @@ pub(super) fn put<R: Wait>(
     }
 }
 
+/// Makes an update, unless it would have to wait. A key of more bits is refused.
+pub(super) fn try_update(
+    hand: &mut Hand,
+    k: u32,
+    request: Request,
+) -> Result<Outcome, TryError<Busy>> {
+    if k < hand.universe() {
+        hand.try_update(k, request)
+    } else {
+        Ok(Outcome::Refused)
+    }
+}
+
 /// The last of some handles.
 pub(super) fn last(rt: &impl Abort, hands: &mut Vec<Hand>) -> Hand {
     hands.pop().expect(rt, "a handle")
@@ -85,9 +98,19 @@ pub(super) fn renewed<R: Wait>(rt: &R, live: &mut Trie, lane: u32) -> Result<Han
     live.handle(rt, lane)
 }
 
+/// The same, unless it would have to wait.
+pub(super) fn try_renewed(live: &mut Trie, lane: u32) -> Result<Hand, TryError<WasOut>> {
+    live.try_handle(lane)
+}
+
 /// Rolls the round over.
 pub(super) fn rolled<R: Wait>(rt: &R, live: &mut Trie) -> Result<(), LiveError> {
     live.roll(rt)
+}
+
+/// The same, unless it would have to wait.
+pub(super) fn try_rolled(live: &mut Trie) -> Result<(), TryError<WasOut>> {
+    live.try_roll()
 }
 
 /// How many members a trie has at its end, its rounds, and how many keys were put in.
@@ -96,14 +119,24 @@ pub(super) fn closed<R: Wait>(rt: &R, live: Trie) -> (u32, u64, u64) {
     (set.size(), counts.rounds, counts.inserts)
 }
 
+/// The end of a trie, or the same trie if that would have to wait.
+pub(super) fn try_closed(live: Trie) -> Result<(Members, LiveCounts), (Trie, TryError<WasOut>)> {
+    live.try_close()
+}
+
 /// A look, or the handle with why there is none.
-pub(super) fn try_look<R: Wait>(rt: &R, hand: Hand) -> Result<View, (Hand, LiveError)> {
+pub(super) fn may_look<R: Wait>(rt: &R, hand: Hand) -> Result<View, (Hand, LiveError)> {
     hand.look(rt)
+}
+
+/// The same, unless it would have to wait.
+pub(super) fn try_look(hand: Hand) -> Result<View, (Hand, TryError<Busy>)> {
+    hand.try_look()
 }
 
 /// A look.
 pub(super) fn looked<R: Wait + Abort>(rt: &R, hand: Hand) -> View {
-    let Ok(look) = try_look(rt, hand) else {
+    let Ok(look) = may_look(rt, hand) else {
         panic!(rt; "no look");
     };
     look

@@ -14,25 +14,21 @@ use std::process::Abort;
 use std::sync::Wait;
 
 // Opens a trie over a set with one handle, for rounds of two updates.
-fn opened_over<R: Wait>(
-    rt: &R,
-    alloc: Global,
-    set: Members,
-) -> Result<(Trie, Vec<Hand>), (Members, BeginError)> {
+fn opened_over(alloc: Global, set: Members) -> Result<(Trie, Vec<Hand>), (Members, BeginError)> {
     let plan = Plan {
         lanes: 1,
         updates: 2,
     };
-    Live::open_with(rt, alloc, set, 1, plan)
+    Live::open_with(alloc, set, 1, plan)
 }
 
 // Opens a trie with one handle, again if memory was refused.
-fn opened_again<R: Wait + Abort>(rt: &R, alloc: Global) -> Result<(Trie, Vec<Hand>), BeginError> {
+fn opened_again(rt: &impl Abort, alloc: Global) -> Result<(Trie, Vec<Hand>), BeginError> {
     let set = match no_keys(alloc, 4) {
         Ok(set) => set,
         Err(_) => no_keys(alloc, 4)?,
     };
-    let set = match opened_over(rt, alloc, set) {
+    let set = match opened_over(alloc, set) {
         Ok(opened) => return Ok(opened),
         Err((set, cause)) => {
             equal(
@@ -43,7 +39,7 @@ fn opened_again<R: Wait + Abort>(rt: &R, alloc: Global) -> Result<(Trie, Vec<Han
             set
         }
     };
-    match opened_over(rt, alloc, set) {
+    match opened_over(alloc, set) {
         Ok(opened) => Ok(opened),
         Err((_, cause)) => Err(cause),
     }
@@ -71,7 +67,7 @@ fn refused_memory_loses_nothing_of_a_live_trie(rt: HostRuntime) -> Result<(), Be
 
 // The set of 3, which weighs 30, and 9, which weighs itself.
 fn two_keys<R: Wait + Abort>(rt: &R, alloc: Global) -> Result<Members, BeginError> {
-    let (live, mut hands) = opened(rt, alloc, 4, 1, 0, 2)?;
+    let (live, mut hands) = opened(alloc, 4, 1, 0, 2)?;
     let mut hand = last(rt, &mut hands);
     equal(rt, put(rt, &mut hand, 3, 30), Ok(Outcome::Accepted));
     equal(rt, insert(rt, &mut hand, 9), Ok(true));
@@ -91,7 +87,7 @@ fn opened_within<R: Wait>(
     alloc: Global,
     set: Members,
 ) -> Result<Members, (Members, BeginError)> {
-    let (live, _) = Live::<Sum, Extent>::open(rt, alloc, set, 2, 1 << 16)?;
+    let (live, _) = Live::<Sum, Extent>::open(alloc, set, 2, 1 << 16)?;
     let (set, _) = live.close(rt);
     Ok(set)
 }

@@ -1,25 +1,28 @@
 //! Threads that update and look while rounds roll over, and while handles are made anew.
 
+use super::again;
 use super::opening::{
-    Hand, Trie, View, closed, has, insert, opened, over, remove, renewed, try_look,
+    Hand, Trie, View, closed, has, insert, may_look, opened, over, remove, renewed,
 };
 use crate::assertions::{equal, holds};
 use aug_live::LiveError;
 use aug_model::KeySet;
-use aug_trie::BeginError;
+use aug_trie::{BeginError, Members, Request};
 use std::alloc::Global;
 use std::process::Abort;
 use std::sync::Wait;
 use std::thread;
 use std::thread::Threads;
 
-// A thread's handle, its own keys, which leave this remainder divided by 4, and the seed of what it does.
+// A thread's handle, its own keys, which leave this remainder divided by 4, and the seed of what it does. Its calls wait, or they wait for nobody
+// and are made again until they are done.
 #[derive(Drop)]
 struct Job {
     hand: Hand,
     model: KeySet,
     lane: u32,
     steps: u32,
+    waits: bool,
 }
 
 // What a thread did: how many keys it put in and took out, and whether all that it saw was right.
@@ -54,8 +57,14 @@ fn looks_right<R: Wait>(rt: &R, job: Job) -> (Job, bool) {
         model,
         lane,
         steps,
+        waits,
     } = job;
-    let (hand, right) = match try_look(rt, hand) {
+    let seen = if waits {
+        may_look(rt, hand)
+    } else {
+        again::look(rt, hand)
+    };
+    let (hand, right) = match seen {
         Ok(mut look) => {
             let right = shows(&mut look, &model, lane);
             (over(look), right)
@@ -67,8 +76,24 @@ fn looks_right<R: Wait>(rt: &R, job: Job) -> (Job, bool) {
         model,
         lane,
         steps,
+        waits,
     };
     (job, right)
+}
+
+// Puts a key in, or takes it out.
+fn made<R: Wait>(
+    rt: &R,
+    hand: &mut Hand,
+    waits: bool,
+    k: u32,
+    request: Request,
+) -> Result<bool, LiveError> {
+    match (waits, request) {
+        (false, _) => again::update(rt, hand, k, request),
+        (true, Request::Remove) => remove(rt, hand, k),
+        (true, _) => insert(rt, hand, k),
+    }
 }
 
 // Makes one update of an own key, and says whether its answer is the model's.
@@ -78,7 +103,7 @@ fn step<R: Wait>(rt: &R, job: &mut Job, did: &mut Did, seed: u64) -> bool {
         return false;
     }
     if (seed >> 40) % 2 == 0 {
-        return match insert(rt, &mut job.hand, k) {
+        return match made(rt, &mut job.hand, job.waits, k, Request::Insert) {
             Ok(done) => {
                 did.inserts = did.inserts.saturating_add(u64::from(done));
                 done == job.model.insert(k)
@@ -86,7 +111,7 @@ fn step<R: Wait>(rt: &R, job: &mut Job, did: &mut Did, seed: u64) -> bool {
             Err(cause) => did.is_over(cause),
         };
     }
-    match remove(rt, &mut job.hand, k) {
+    match made(rt, &mut job.hand, job.waits, k, Request::Remove) {
         Ok(done) => {
             did.removals = did.removals.saturating_add(u64::from(done));
             done == job.model.remove(k)
@@ -128,8 +153,8 @@ fn work<R: Wait>(rt: &R, job: Job) -> Did {
     did
 }
 
-// A job for each handle.
-fn jobs(rt: &impl Abort, alloc: Global, hands: Vec<Hand>, steps: u32) -> Vec<Job> {
+// A job for each handle. The calls of the first `trying` ones wait for nobody.
+fn jobs(rt: &impl Abort, alloc: Global, hands: Vec<Hand>, steps: u32, trying: u32) -> Vec<Job> {
     let mut jobs = Vec::new(alloc);
     let mut lane = 0;
     for hand in hands {
@@ -139,6 +164,7 @@ fn jobs(rt: &impl Abort, alloc: Global, hands: Vec<Hand>, steps: u32) -> Vec<Job
             model,
             lane,
             steps,
+            waits: lane >= trying,
         };
         jobs.push(job).expect(rt, "memory");
         lane = if lane < 3 { lane + 1 } else { 0 };
@@ -166,17 +192,19 @@ fn worked<R: Threads + Wait + Abort + Sync>(
     alloc: Global,
     hands: Vec<Hand>,
     steps: u32,
+    trying: u32,
 ) -> (u64, u64) {
-    let jobs = jobs(rt, alloc, hands, steps);
+    let jobs = jobs(rt, alloc, hands, steps, trying);
     let done = thread::map_vec(rt, jobs, &|job| work(rt, job)).expect(rt, "memory");
     summed(rt, done, false)
 }
 
 // How a trie with four handles is used: by threads that make so many calls each, in rounds with spare lanes and with updates for each lane, and how many
-// rounds come of it. If one handle is idle, another one is dropped, and two are used.
+// rounds come of it. If one handle is idle, another one is dropped, and two are used. The calls of the first `trying` threads wait for nobody.
 #[derive(Clone, Copy)]
 struct Use {
     idle: bool,
+    trying: u32,
     steps: u32,
     spare: u32,
     updates: u32,
@@ -184,9 +212,10 @@ struct Use {
     most: u64,
 }
 
-const USES: [Use; 3] = [
+const WAITING: [Use; 3] = [
     Use {
         idle: false,
+        trying: 0,
         steps: 200_000,
         spare: 0,
         updates: 1000,
@@ -195,6 +224,7 @@ const USES: [Use; 3] = [
     },
     Use {
         idle: true,
+        trying: 0,
         steps: 200,
         spare: 0,
         updates: 1,
@@ -204,6 +234,7 @@ const USES: [Use; 3] = [
     // 80,000 calls. A round has room for 4,000, and uses all of them except those of lanes that were not spent at its end.
     Use {
         idle: false,
+        trying: 0,
         steps: 20_000,
         spare: 12,
         updates: 250,
@@ -218,14 +249,14 @@ fn use_it<R: Threads + Wait + Abort + Sync>(
     alloc: Global,
     with: Use,
 ) -> Result<(), BeginError> {
-    let (live, mut hands) = opened(rt, alloc, 6, 4, with.spare, with.updates)?;
+    let (live, mut hands) = opened(alloc, 6, 4, with.spare, with.updates)?;
     let idle = if with.idle {
         drop(hands.pop());
         hands.pop()
     } else {
         None
     };
-    let (inserts, left) = worked(rt, alloc, hands, with.steps);
+    let (inserts, left) = worked(rt, alloc, hands, with.steps, with.trying);
     drop(idle);
     let (size, rounds, made) = closed(rt, live);
     equal(rt, (u64::from(size), made), (left, inserts));
@@ -235,32 +266,152 @@ fn use_it<R: Threads + Wait + Abort + Sync>(
 
 #[test]
 fn threads_see_their_own_updates_in_every_round(rt: HostRuntime) -> Result<(), BeginError> {
-    for with in USES {
+    for with in WAITING {
         use_it(&rt, rt.alloc(), with)?;
     }
     Ok(())
 }
 
+const TRYING: [Use; 3] = [
+    Use {
+        idle: true,
+        trying: 2,
+        steps: 200,
+        spare: 0,
+        updates: 1,
+        least: 200,
+        most: 401,
+    },
+    // 16,000 calls. A round has room for 800.
+    Use {
+        idle: false,
+        trying: 4,
+        steps: 4_000,
+        spare: 12,
+        updates: 50,
+        least: 20,
+        most: 26,
+    },
+    // Two threads wait, and two wait for nobody.
+    Use {
+        idle: false,
+        trying: 2,
+        steps: 10_000,
+        spare: 0,
+        updates: 100,
+        least: 100,
+        most: 401,
+    },
+];
+
+#[test]
+fn threads_that_wait_for_nobody_see_their_own_updates(rt: HostRuntime) -> Result<(), BeginError> {
+    for with in TRYING {
+        use_it(&rt, rt.alloc(), with)?;
+    }
+    Ok(())
+}
+
+// The set that four threads come to, of which the calls of the first `trying` ones wait for nobody.
+fn comes_to<R: Threads + Wait + Abort + Sync>(
+    rt: &R,
+    alloc: Global,
+    trying: u32,
+) -> Result<Members, BeginError> {
+    let (live, hands) = opened(alloc, 6, 4, 2, 50)?;
+    worked(rt, alloc, hands, 3_001, trying);
+    let (set, _) = live.close(rt);
+    Ok(set)
+}
+
+#[test]
+fn calls_that_are_made_again_reach_the_set_of_calls_that_wait(
+    rt: HostRuntime,
+) -> Result<(), BeginError> {
+    let waited = comes_to(&rt, rt.alloc(), 0)?;
+    for trying in [2, 4] {
+        let tried = comes_to(&rt, rt.alloc(), trying)?;
+        equal(&rt, tried.as_slice(), waited.as_slice());
+    }
+    holds(&rt, waited.size() > 0);
+    Ok(())
+}
+
+// What a trie comes to at its end.
+fn ended<R: Wait>(rt: &R, live: Trie, waits: bool) -> Result<(u32, u64, u64), LiveError> {
+    if waits {
+        Ok(closed(rt, live))
+    } else {
+        again::close(rt, live)
+    }
+}
+
+// A trie ends while threads work, by a call that waits if those of all threads do.
+fn assert_closed<R: Threads + Wait + Abort + Sync>(
+    rt: &R,
+    alloc: Global,
+    trying: u32,
+) -> Result<(), BeginError> {
+    let (live, hands) = opened(alloc, 6, 4, 0, 500)?;
+    let jobs = jobs(rt, alloc, hands, 5_000_000, trying);
+    let (done, end) = thread::join(
+        rt,
+        || thread::map_vec(rt, jobs, &|job| work(rt, job)),
+        move || ended(rt, live, trying == 0),
+    );
+    let (_, left) = summed(rt, done.expect(rt, "memory"), true);
+    let Ok(end) = end else {
+        panic!(rt; "not closed");
+    };
+    equal(rt, u64::from(end.0), left);
+    Ok(())
+}
+
 #[test]
 fn a_trie_is_closed_while_others_work(rt: HostRuntime) -> Result<(), BeginError> {
-    let (live, hands) = opened(&rt, rt.alloc(), 6, 4, 0, 500)?;
-    let r = &rt;
-    let jobs = jobs(r, rt.alloc(), hands, 5_000_000);
-    let (done, end) = thread::join(
+    for trying in [0, 2, 4] {
+        assert_closed(&rt, rt.alloc(), trying)?;
+    }
+    Ok(())
+}
+
+// Rolls the round over, `times` times, by calls that wait for nobody. Whether each was done in the end.
+fn roll_often<R: Wait>(rt: &R, live: &mut Trie, times: u32) -> bool {
+    let mut right = true;
+    for _ in 0..times {
+        right &= again::roll(rt, live) == Ok(());
+    }
+    right
+}
+
+#[test]
+fn a_round_rolls_over_by_calls_that_are_made_again(rt: HostRuntime) -> Result<(), BeginError> {
+    let (mut live, hands) = opened(rt.alloc(), 6, 4, 0, 1000)?;
+    let (r, alloc, trie) = (&rt, rt.alloc(), &mut live);
+    let jobs = jobs(r, alloc, hands, 5_000, 2);
+    let (done, right) = thread::join(
         r,
         || thread::map_vec(r, jobs, &|job| work(r, job)),
-        move || closed(r, live),
+        || roll_often(r, trie, 200),
     );
-    let (_, left) = summed(r, done.expect(r, "memory"), true);
-    equal(&rt, u64::from(end.0), left);
+    holds(&rt, right);
+    let (_, left) = summed(r, done.expect(r, "memory"), false);
+    let (size, rounds, _) = closed(r, live);
+    equal(&rt, u64::from(size), left);
+    holds(&rt, rounds > 200);
     Ok(())
 }
 
 // Puts key 3 in and takes it out in turn, `times` times, each time with a new handle for the lane 3. Whether all was right.
-fn renew_often<R: Wait>(rt: &R, live: &mut Trie, times: u32) -> bool {
+fn renew_often<R: Wait>(rt: &R, live: &mut Trie, times: u32, waits: bool) -> bool {
     let mut right = true;
     for number in 0..times {
-        let Ok(mut hand) = renewed(rt, live, 3) else {
+        let new = if waits {
+            renewed(rt, live, 3)
+        } else {
+            again::renew(rt, live, 3)
+        };
+        let Ok(mut hand) = new else {
             return false;
         };
         right &= if number % 2 == 0 {
@@ -272,22 +423,36 @@ fn renew_often<R: Wait>(rt: &R, live: &mut Trie, times: u32) -> bool {
     right
 }
 
+// Handles of a lane are made anew, `times` times, while threads work with the others, by calls that wait if those of all threads do.
+fn assert_renewed<R: Threads + Wait + Abort + Sync>(
+    rt: &R,
+    alloc: Global,
+    trying: u32,
+    steps: u32,
+    times: u32,
+) -> Result<u64, BeginError> {
+    let (mut live, mut hands) = opened(alloc, 6, 4, 0, 1000)?;
+    drop(hands.pop());
+    let trie = &mut live;
+    let jobs = jobs(rt, alloc, hands, steps, trying);
+    let (done, right) = thread::join(
+        rt,
+        || thread::map_vec(rt, jobs, &|job| work(rt, job)),
+        || renew_often(rt, trie, times, trying == 0),
+    );
+    holds(rt, right);
+    let (_, left) = summed(rt, done.expect(rt, "memory"), false);
+    let (size, rounds, _) = closed(rt, live);
+    equal(rt, u64::from(size), left.saturating_add(1));
+    Ok(rounds)
+}
+
 #[test]
 fn handles_are_dropped_and_made_anew_while_others_work(rt: HostRuntime) -> Result<(), BeginError> {
-    let (mut live, mut hands) = opened(&rt, rt.alloc(), 6, 4, 0, 1000)?;
-    drop(hands.pop());
-    let (r, alloc, trie) = (&rt, rt.alloc(), &mut live);
-    let jobs = jobs(r, alloc, hands, 50_000);
-    let (done, right) = thread::join(
-        r,
-        || thread::map_vec(r, jobs, &|job| work(r, job)),
-        || renew_often(r, trie, 1001),
-    );
-    holds(&rt, right);
-    let (_, left) = summed(r, done.expect(r, "memory"), false);
-    let (size, rounds, _) = closed(r, live);
-    equal(&rt, u64::from(size), left.saturating_add(1));
-    // 151,001 updates, of which each lane has 1,000 in a round.
+    // 151,001 updates, of which each lane has 1,000 in a round, and 15,001.
+    let rounds = assert_renewed(&rt, rt.alloc(), 0, 50_000, 1001)?;
     holds(&rt, rounds >= 50 && rounds <= 152);
+    let rounds = assert_renewed(&rt, rt.alloc(), 2, 5_000, 101)?;
+    holds(&rt, rounds >= 5 && rounds <= 16);
     Ok(())
 }

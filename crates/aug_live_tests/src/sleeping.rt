@@ -23,7 +23,7 @@ fn looks_for_1_second<R: Wait + Abort + Clock>(rt: &R, hand: Hand, held: Sender<
 #[test]
 fn a_thread_that_waits_for_a_look_sleeps_for_1_second(rt: HostRuntime) -> Result<(), BeginError> {
     let r = &rt;
-    let (live, mut hands) = opened(r, r.alloc(), 6, 2, 0, 4)?;
+    let (live, mut hands) = opened(r.alloc(), 6, 2, 0, 4)?;
     let mut hand = last(r, &mut hands);
     equal(r, fill(r, &mut hand, 0, 4), 4);
     let other = last(r, &mut hands);

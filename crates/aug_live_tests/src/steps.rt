@@ -1,13 +1,17 @@
 //! Tries as rows of tables: what is done with a trie, its handles and a look, one step after the other, and what each step comes to. What a call
 //! of the library promises is met here once, in functions that promise nothing, so that the proof of a test is that of its data.
 
-use super::opening::{Hand, Trie, View, insert, opened, put, remove, renewed, rolled};
+use super::opening::{
+    Hand, Trie, View, insert, opened, put, remove, renewed, rolled, try_closed, try_look,
+    try_renewed, try_rolled, try_update,
+};
 use super::own::Band;
 use crate::assertions::equal;
-use aug_live::LiveError;
+use aug_live::{Busy, LiveCounts, LiveError, TryError};
 use aug_model::Outcome;
 use aug_query::descent::{Has, Pairs, SelectByWeight, Size, Weight};
-use aug_trie::BeginError;
+use aug_trie::{BeginError, Members, Request};
+use ruled_lock::WasOut;
 use std::alloc::Global;
 use std::mem;
 use std::process::Abort;
@@ -45,6 +49,15 @@ pub(super) enum Act {
     Roll,
     /// The trie is closed.
     Close,
+    /// The same, by calls that wait for nobody.
+    TryInsert(u32),
+    TryRemove(u32),
+    TryPut(u32, u32),
+    TryFill(u32, u32),
+    TryLook,
+    TryRenew(u32),
+    TryRoll,
+    TryClose,
 }
 
 /// What an act comes to.
@@ -54,6 +67,8 @@ pub(super) enum Reply {
     Done,
     Not,
     Fails(LiveError),
+    /// It would have to wait for a lock.
+    Later,
     Is(bool),
     Came(Outcome),
     Number(u32),
@@ -112,6 +127,30 @@ fn came(res: Result<Outcome, LiveError>) -> Reply {
     }
 }
 
+/// What a call comes to that waits for nobody.
+fn tried(res: Result<(), TryError<WasOut>>) -> Reply {
+    match res {
+        Ok(()) => Reply::Done,
+        Err(TryError::Again(_)) => Reply::Later,
+        Err(TryError::Refused(cause)) => Reply::Fails(cause),
+    }
+}
+
+/// Why an update or a look was not made that waits for nobody. One thread alone never finds the new pass of its lane spent.
+fn missed(cause: TryError<Busy>) -> Reply {
+    match cause {
+        TryError::Again(Busy::Lock(_)) => Reply::Later,
+        TryError::Again(Busy::Round) => Reply::Not,
+        TryError::Refused(cause) => Reply::Fails(cause),
+    }
+}
+
+/// The end of a trie.
+fn ended(end: (Members, LiveCounts)) -> Reply {
+    let (set, counts) = end;
+    Reply::Ended(set.size(), counts.rounds, counts.inserts, counts.removals)
+}
+
 /// Puts `count` keys in, from the key `from` on. How many of them went in.
 pub(super) fn fill<R: Wait>(rt: &R, hand: &mut Hand, from: u32, count: u32) -> u32 {
     let mut made = 0u32;
@@ -119,6 +158,24 @@ pub(super) fn fill<R: Wait>(rt: &R, hand: &mut Hand, from: u32, count: u32) -> u
         made = made.saturating_add(u32::from(insert(rt, hand, k) == Ok(true)));
     }
     made
+}
+
+/// The same, by calls that wait for nobody.
+pub(super) fn try_fill(hand: &mut Hand, from: u32, count: u32) -> u32 {
+    let mut made = 0u32;
+    for k in from..from.saturating_add(count) {
+        let done = try_update(hand, k, Request::Insert) == Ok(Outcome::Accepted);
+        made = made.saturating_add(u32::from(done));
+    }
+    made
+}
+
+/// Makes an update that waits for nobody.
+fn try_to(hand: &mut Hand, k: u32, request: Request) -> Reply {
+    match try_update(hand, k, request) {
+        Ok(outcome) => Reply::Came(outcome),
+        Err(cause) => missed(cause),
+    }
 }
 
 /// What a note comes to, which is dropped.
@@ -134,6 +191,10 @@ fn by_hand<R: Wait>(rt: &R, hand: &mut Hand, act: Act) -> Reply {
         Act::Put(k, weight) => came(put(rt, hand, k, weight)),
         Act::Fill(from, count) => Reply::Number(fill(rt, hand, from, count)),
         Act::Note => noted(rt, hand),
+        Act::TryInsert(k) => try_to(hand, k, Request::Insert),
+        Act::TryRemove(k) => try_to(hand, k, Request::Remove),
+        Act::TryPut(k, weight) => try_to(hand, k, Request::Put(weight)),
+        Act::TryFill(from, count) => Reply::Number(try_fill(hand, from, count)),
         _ => Reply::Not,
     }
 }
@@ -190,6 +251,23 @@ fn look<R: Wait>(rt: &R, state: &mut State) -> Reply {
     }
 }
 
+/// The same, if it need not wait.
+fn look_now(state: &mut State) -> Reply {
+    let Some(hand) = state.hand.take() else {
+        return Reply::Not;
+    };
+    match try_look(hand) {
+        Ok(look) => {
+            end(mem::replace(&mut state.look, Some(look)));
+            Reply::Done
+        }
+        Err((hand, cause)) => {
+            state.hand = Some(hand);
+            missed(cause)
+        }
+    }
+}
+
 /// The look is over.
 fn over(state: &mut State) -> Reply {
     let Some(look) = state.look.take() else {
@@ -213,6 +291,20 @@ fn renew<R: Wait>(rt: &R, state: &mut State, lane: u32) -> Reply {
     }
 }
 
+/// The same, if it need not wait.
+fn renew_now(state: &mut State, lane: u32) -> Reply {
+    let Some(live) = &mut state.live else {
+        return Reply::Not;
+    };
+    match try_renewed(live, lane) {
+        Ok(hand) => {
+            state.hand = Some(hand);
+            Reply::Done
+        }
+        Err(cause) => tried(Err(cause)),
+    }
+}
+
 /// The round rolls over.
 fn roll<R: Wait>(rt: &R, state: &mut State) -> Reply {
     match &mut state.live {
@@ -221,13 +313,34 @@ fn roll<R: Wait>(rt: &R, state: &mut State) -> Reply {
     }
 }
 
+/// The same, if it need not wait.
+fn roll_now(state: &mut State) -> Reply {
+    match &mut state.live {
+        Some(live) => tried(try_rolled(live)),
+        None => Reply::Not,
+    }
+}
+
 /// The trie is closed.
 fn close<R: Wait>(rt: &R, state: &mut State) -> Reply {
+    match state.live.take() {
+        Some(live) => ended(live.close(rt)),
+        None => Reply::Not,
+    }
+}
+
+/// The same, if it need not wait.
+fn close_now(state: &mut State) -> Reply {
     let Some(live) = state.live.take() else {
         return Reply::Not;
     };
-    let (set, counts) = live.close(rt);
-    Reply::Ended(set.size(), counts.rounds, counts.inserts, counts.removals)
+    match try_closed(live) {
+        Ok(end) => ended(end),
+        Err((live, cause)) => {
+            state.live = Some(live);
+            tried(Err(cause))
+        }
+    }
 }
 
 /// What is done with the handles or the look.
@@ -252,6 +365,10 @@ fn acted<R: Wait>(rt: &R, alloc: Global, state: &mut State, act: Act) -> Reply {
         Act::Renew(lane) => renew(rt, state, lane),
         Act::Roll => roll(rt, state),
         Act::Close => close(rt, state),
+        Act::TryLook => look_now(state),
+        Act::TryRenew(lane) => renew_now(state, lane),
+        Act::TryRoll => roll_now(state),
+        Act::TryClose => close_now(state),
         Act::Drop => {
             state.hand = None;
             Reply::Done
@@ -300,7 +417,7 @@ pub(super) struct Row {
 // A row.
 fn play<R: Wait + Abort>(rt: &R, alloc: Global, row: &Row) -> Result<(), BeginError> {
     let (bits, handles, spare, updates) = row.numbers;
-    let (live, hands) = opened(rt, alloc, bits, handles, spare, updates)?;
+    let (live, hands) = opened(alloc, bits, handles, spare, updates)?;
     steps(rt, alloc, state_of(live, hands), row.shows, row.steps);
     Ok(())
 }

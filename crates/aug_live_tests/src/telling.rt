@@ -19,7 +19,7 @@ fn two<R: Wait + Abort>(rt: &R, alloc: Global) -> Result<(Trie, Hand, Hand), Beg
         lanes: 2,
         updates: 4,
     };
-    let (live, mut hands) = match Live::open_with(rt, alloc, no_keys(alloc, 6)?, 2, plan) {
+    let (live, mut hands) = match Live::open_with(alloc, no_keys(alloc, 6)?, 2, plan) {
         Ok(opened) => opened,
         Err((_, cause)) => return Err(cause),
     };
@@ -121,5 +121,29 @@ fn a_trie_knows_what_a_handle_did_that_came_back(rt: HostRuntime) -> Result<(), 
     let (mut live, a, b) = two(&rt, rt.alloc())?;
     assert_not_back(&rt, &mut live, b);
     assert_back(&rt, live, a);
+    Ok(())
+}
+
+// A handle comes back whose lane a roll-over took, which waited for a look of another.
+fn assert_back_later<R: Wait + Abort>(rt: &R, live: Trie, hand: Hand, other: Hand)
+    requires table { hand.half.round.table ≡ live.table }
+    requires lanes { hand.lanes ≡ ids_of live }
+{
+    let mut live = live;
+    let look = looked(rt, other);
+    let tried = live.try_roll();
+    drop(over(look));
+    holds(rt, tried.is_err());
+    let Ok(()) = live.back(rt, hand) else {
+        panic!(rt; "not taken back");
+    };
+    let (set, counts) = live.close(rt);
+    equal(rt, (set.size(), counts.rounds, counts.missing), (0, 2, 1));
+}
+
+#[test]
+fn a_handle_comes_back_whose_lane_a_roll_over_took(rt: HostRuntime) -> Result<(), BeginError> {
+    let (live, a, b) = two(&rt, rt.alloc())?;
+    assert_back_later(&rt, live, b, a);
     Ok(())
 }

@@ -7,6 +7,7 @@ use Rattle.aug_core.specs.Cuts.{Cut, shown_of, serial_of, IsAtMost}
 use Rattle.aug_core.specs.declared.view.Change.{Change}
 use Rattle.aug_trie.specs.Tallies.{times, Tallies}
 use Rattle.aug_report.proofs.Histories.{Below}
+use Rattle.aug_trie.proofs.Risen.{same_shown}
 use Rattle.aug_trie.proofs.TallyLemmas.{counted-append, counted-cons, exactly, times_first, none_low, none_high, once_between}
 
 -- the changes show in a cut
@@ -69,21 +70,6 @@ module _ (c d f : Cut) (front rest : List Change) (tallies : Tallies c f (front 
             rw (lt-ltb (serial_of d k) n high) (omega (arith, here, none))
         | inr low ↦ past_none d rest k n past low ∙ rw (le-ltb (serial_of d k) n low)
       ]
-
--- where a key's serial is the same, so is all that is shown of it
-same_shown : (c d : Cut) (k : ℕ) → IsAtMost c d → serial_of d k ≤ serial_of c k → shown_of c k ≡ shown_of d k
-same_shown c d k le no_more = elim (le.no_greater k) [
-  | inl less ↦ absurd (omega (arith, less, no_more))
-  | inr same ↦ same
-]
-
--- where nothing happened, all keys are shown as they were
-pub tally_nothing : (c d : Cut) → IsAtMost c d → Tallies c d [] → (k : ℕ) → shown_of c k ≡ shown_of d k
-tally_nothing c d le tallies k =
-    elim (cases_lt (serial_of c k) (serial_of d k)) [
-      | inl lt ↦ absurd (omega (arith, once_between c d [] tallies k (serial_of d k) lt (omega arith)))
-      | inr ge ↦ same_shown c d k le ge
-    ]
 
 -- a key's serial went up to `last`, the first number past the one that it had is `first`, and nothing changed of other keys
 pub record ChangesOne (c d : Cut) (k first last : ℕ) : Type 0 where

@@ -1,12 +1,10 @@
 -- Beginnings of one history.
-use Rattle.std.proofs.Common.{◌≡◌, ℕ, zero, suc, ◌+◌, ◌-◌, ◌<◌, ◌≤◌, List, [], ◌∷◌, length, get_or, refl, sym, ap, ◌∙◌, inl, inr, arith}
+use Rattle.std.proofs.Common.{◌≡◌, ℕ, ◌-◌, ◌≤◌, List, [], length, sym, ◌∙◌}
 use Rattle.std.proofs.lemmas.List.{append-nil}
-use Rattle.std.proofs.lemmas.List.Prefix.{front_reads, front_fits}
-use Rattle.aug_core.specs.Cuts.{Cut, serial_of, IsAtMost, opening_cut}
+use Rattle.std.proofs.lemmas.List.Prefix.{front_fits}
+use Rattle.aug_core.specs.Cuts.{Cut, serial_of, IsAtMost}
 use Rattle.aug_core.specs.Prefixes.{IsPrefix}
-use Rattle.aug_trie.specs.History.{last_cut, IsHistory}
 use Rattle.aug_trie.proofs.CutLemmas.{serial_rises}
-use Rattle.aug_core.proofs.PrefixLemmas.{prefix_refl, prefix_trans}
 
 pub prefix-same : {A : Type 0} (xs ys : List A) → ys ≡ xs → IsPrefix xs ys
 prefix-same xs ys is = ([], is ∙ sym (append-nil xs))
@@ -20,51 +18,3 @@ Below c d = (key : ℕ) → serial_of c key ≤ serial_of d key
 
 pub below_of : (c d : Cut) → IsAtMost c d → Below c d
 below_of c d le = λ key. serial_rises c d key le
-
-pub at_most-refl : (c : Cut) → IsAtMost c c
-at_most-refl c = record { same_keys = refl; no_greater = λ key. inr refl }
-
-pub at_most-trans : (c d e : Cut) → IsAtMost c d → IsAtMost d e → IsAtMost c e
-at_most-trans c d e cd de = record {
-  same_keys = cd.same_keys ∙ de.same_keys;
-  no_greater = λ key. elim (cd.no_greater key) [
-    | inl less ↦ inl (omega (arith, less, serial_rises d e key de))
-    | inr same ↦ elim (de.no_greater key) [
-      | inl less ↦ inl (omega (arith, less, ap (λ (z : ℕ × ℕ). z.0) same))
-      | inr stays ↦ inr (same ∙ stays)
-    ]
-  ];
-}
-
-module _ (bits : ℕ) (members : List (ℕ × ℕ)) (history : List Cut) (is_history : IsHistory bits members history) where
-  rises_by : (i d : ℕ) → i + d < length history → IsAtMost (get_or history i []) (get_or history (i + d) [])
-  rises_by i zero below = let e : i + zero ≡ i = omega arith in rw e (at_most-refl (get_or history i []))
-  rises_by i (suc d) below =
-      let e : i + suc d ≡ i + d + 1 = omega arith in
-      rw e (at_most-trans (get_or history i []) (get_or history (i + d) []) (get_or history (i + d + 1) []) (rises_by i d (omega arith)) (is_history.rises (i + d) (omega arith)))
-
-  pub rises_to : (i j : ℕ) → i ≤ j → j < length history → IsAtMost (get_or history i []) (get_or history j [])
-  rises_to i j le below =
-      let e : i + (j - i) ≡ j = omega arith in
-      let r = rises_by i (j - i) (omega arith) in
-      rw e at r
-
-  last_of : (front : List Cut) → 0 < length front → IsPrefix front history → last_cut front ≡ get_or history (length front - 1) []
-  last_of front some b = sym (front_reads [] history front b.0 b.1 (length front - 1) (omega arith))
-
-  -- of two beginnings the longer shows at least what the shorter shows
-  pub last-rises : (short long : List Cut) → 0 < length short → IsPrefix short long → IsPrefix long history → IsAtMost (last_cut short) (last_cut long)
-  last-rises short long some b rest =
-      let fits = prefix-length short long b in
-      let within = prefix-length long history rest in
-      let le = rises_to (length short - 1) (length long - 1) (omega arith) (omega arith) in
-      rw (last_of short some (prefix_trans short long history b rest), last_of long (omega arith) rest) le
-
-  pub last-at_most_final : (front : List Cut) → 0 < length front → IsPrefix front history → IsAtMost (last_cut front) (last_cut history)
-  last-at_most_final front some b = last-rises front history some b (prefix_refl history)
-
-  pub opening-at_most : (front : List Cut) → IsPrefix (opening_cut bits members ∷ []) front → IsPrefix front history → IsAtMost (opening_cut bits members) (last_cut front)
-  opening-at_most front opens b = last-rises (opening_cut bits members ∷ []) front (omega arith) opens b
-
-  pub opens-some : (front : List Cut) → IsPrefix (opening_cut bits members ∷ []) front → 0 < length front
-  opens-some front opens = prefix-length (opening_cut bits members ∷ []) front opens

@@ -17,6 +17,7 @@ use Rattle.aug_trie.specs.Knowledge.{Knowledge, StandsIn, insertion, removal, in
 use Rattle.aug_trie.specs.Updates.{AcceptedUpdate, RefusedUpdate, ReplacedUpdate, RefusedPut, ComesTo}
 use Rattle.aug_trie.specs.declared.updates.request.Request.TheVariants as request
 use Rattle.aug_trie.specs.Tallies.{Tallies}
+use Rattle.aug_trie.proofs.Risen.{last-at_most_final, last-rises, tally_nothing}
 use Rattle.aug_report.specs.AllowedReport.{Lane, AnswersPut, reply_to_put, Answers, AnswersAll}
 use Rattle.aug_monoid.specs.Extent.{extent_parts}
 use Rattle.aug_monoid.specs.Sum.{sum_parts}
@@ -28,9 +29,9 @@ use Rattle.aug_script.specs.declared.row.Row.{Row}
 use Rattle.aug_script.specs.declared.verb.Verb.{Verb}
 use Rattle.aug_script.specs.declared.verb.Verb.TheVariants as verb
 use Rattle.aug_trie.proofs.CutLemmas.{serial_rises, is_member-set_of_cut, same_cut, odd}
-use Rattle.aug_report.proofs.Histories.{below_of, prefix-same, prefix-length, last-rises, last-at_most_final}
+use Rattle.aug_report.proofs.Histories.{below_of, prefix-same, prefix-length}
 use Rattle.aug_core.proofs.PrefixLemmas.{prefix_trans}
-use Rattle.aug_report.proofs.Advances.{AllShow, AllPast, ChangesOne, tally_one, tally_two, tally_nothing, tallies-front, tallies-rest}
+use Rattle.aug_report.proofs.Advances.{AllShow, AllPast, ChangesOne, tally_one, tally_two, tallies-front, tallies-rest}
 use Rattle.aug_trie.proofs.TallyLemmas.{counted, counted-append}
 use Rattle.aug_report.proofs.SetChanges.{pairs-with_key, pairs-without_key}
 

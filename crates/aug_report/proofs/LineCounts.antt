@@ -11,11 +11,11 @@ use Rattle.aug_script.specs.Replies.{is_insertion, is_removal, count_of}
 use Rattle.aug_script.specs.declared.reply.Reply.{Reply}
 use Rattle.aug_script.specs.declared.report.Report.{Report}
 use Rattle.aug_script.specs.declared.row.Row.{Row}
+use Rattle.aug_trie.proofs.Risen.{opening-at_most, opens-some}
 use Rattle.aug_report.specs.AllowedReport.{Lane, AllowedReport, lines_of, all_accepted}
 use Rattle.aug_trie.proofs.CutLemmas.{set_of_cut-opening}
 use Rattle.aug_core.proofs.PrefixLemmas.{prefix_refl}
 use Rattle.aug_trie.proofs.TallyLemmas.{counted, counted-append, sizes}
-use Rattle.aug_report.proofs.Histories.{opening-at_most, opens-some}
 use Rattle.aug_report.proofs.Lanes.{story}
 use Rattle.aug_report.proofs.TwoInsertions.{nobody}
 

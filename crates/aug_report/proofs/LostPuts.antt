@@ -18,12 +18,12 @@ use Rattle.aug_script.specs.declared.report.Report.{Report}
 use Rattle.aug_script.specs.declared.row.Row.{Row}
 use Rattle.aug_script.specs.declared.verb.Verb.{Verb}
 use Rattle.aug_script.specs.declared.verb.Verb.TheVariants as verb
+use Rattle.aug_trie.proofs.Risen.{last-at_most_final, opening-at_most, opens-some, tally_nothing}
 use Rattle.aug_report.specs.AllowedReport.{Lane, Answers, AnswersAll, AllowedReport, lines_of, all_accepted, reply_to_put}
 use Rattle.aug_trie.proofs.CutLemmas.{serial_rises}
 use Rattle.aug_core.proofs.PrefixLemmas.{prefix_refl, prefix_trans}
 use Rattle.aug_trie.proofs.TallyLemmas.{counted-cons}
-use Rattle.aug_report.proofs.Advances.{tally_nothing}
-use Rattle.aug_report.proofs.Histories.{opening-at_most, opens-some, prefix-length, last-at_most_final}
+use Rattle.aug_report.proofs.Histories.{prefix-length}
 use Rattle.aug_report.proofs.Lanes.{step, story}
 use Rattle.aug_report.proofs.TwoInsertions.{nobody}
 

@@ -10,6 +10,7 @@ use Rattle.aug_trie.specs.History.{last_cut, IsHistory}
 use Rattle.aug_core.specs.declared.view.Change.{Change}
 use Rattle.aug_trie.specs.Knowledge.{inserts_of, removals_of}
 use Rattle.aug_trie.specs.Tallies.{Tallies}
+use Rattle.aug_trie.proofs.Risen.{last-at_most_final, opening-at_most, opens-some, tally_nothing}
 use Rattle.aug_report.specs.AllowedReport.{Lane, AnswersAll, RunsLane, AllowedReport, lines_of, all_accepted}
 use Rattle.aug_report.specs.InTurn.{IsInTurn}
 use Rattle.aug_script.specs.Replies.{Sets, replies_of, sets_of, opening_sets, report_of, count_of, is_insertion, is_removal}
@@ -17,9 +18,9 @@ use Rattle.aug_script.specs.declared.reply.Reply.{Reply}
 use Rattle.aug_script.specs.declared.report.Report.{Report}
 use Rattle.aug_script.specs.declared.row.Row.{Row}
 use Rattle.aug_trie.proofs.CutLemmas.{same_cut, pairs_of_cut-opening}
-use Rattle.aug_report.proofs.Histories.{below_of, opening-at_most, opens-some, last-at_most_final}
+use Rattle.aug_report.proofs.Histories.{below_of}
 use Rattle.aug_core.proofs.PrefixLemmas.{prefix_trans}
-use Rattle.aug_report.proofs.Advances.{tally_nothing, tallies-front, tallies-rest}
+use Rattle.aug_report.proofs.Advances.{tallies-front, tallies-rest}
 use Rattle.aug_report.proofs.Lanes.{story, sets_of_lane}
 
 -- the lines of the one lane are all lines, and those of another none

@@ -21,9 +21,9 @@ use Rattle.aug_script.specs.declared.report.Report.{Report}
 use Rattle.aug_script.specs.declared.row.Row.{Row}
 use Rattle.aug_script.specs.declared.script_round.ScriptRound.{ScriptRound}
 use Rattle.aug_script.proofs.Runnable.{runnable_rounds}
+use Rattle.aug_trie.proofs.Risen.{opening-at_most}
 use Rattle.aug_report.specs.AllowedReport.{AllowedReport, AllowedReports, IsReportOf}
 use Rattle.aug_report.specs.InTurn.{IsInTurn, OfOneLane, reports_of}
-use Rattle.aug_report.proofs.Histories.{opening-at_most}
 use Rattle.aug_report.proofs.OneLane.{one_lane_in_turn}
 
 -- a round closes with a set of keys of its bits

@@ -14,10 +14,10 @@ use Rattle.aug_script.specs.declared.reply.Reply.TheVariants as reply
 use Rattle.aug_script.specs.declared.report.Report.{Report}
 use Rattle.aug_script.specs.declared.row.Row.{Row}
 use Rattle.aug_script.specs.declared.verb.Verb.TheVariants as verb
+use Rattle.aug_trie.proofs.Risen.{last-rises, opens-some}
 use Rattle.aug_report.specs.AllowedReport.{AllowedReport, AllowedReports}
 use Rattle.aug_report.specs.Theorems.{row_at, report_with, insertion_line, round_with}
 use Rattle.aug_core.proofs.PrefixLemmas.{prefix_refl}
-use Rattle.aug_report.proofs.Histories.{last-rises, opens-some}
 use Rattle.aug_report.proofs.OneKey.{empty_set}
 use Rattle.aug_report.proofs.OneLane.{one_report}
 

@@ -21,13 +21,14 @@ use Rattle.aug_script.specs.declared.reply.Reply.{Reply}
 use Rattle.aug_script.specs.declared.reply.Reply.TheVariants as reply
 use Rattle.aug_script.specs.declared.verb.Verb.{Verb}
 use Rattle.aug_script.specs.declared.verb.Verb.TheVariants as verb
+use Rattle.aug_trie.proofs.Risen.{last-at_most_final, last-rises, opening-at_most}
 use Rattle.aug_report.specs.AllowedReport.{Lane, Answers, AnswersAll, RunsLane, AllowedReport, all_accepted, reply_to_put}
 use Rattle.aug_report.specs.Theorems.{row_at, report_with, put_and_query}
 use Rattle.aug_trie.proofs.CutLemmas.{serial-opening, serial_rises, is_member-set_of_cut}
 use Rattle.aug_core.proofs.PrefixLemmas.{prefix_trans, either_prefix}
 use Rattle.aug_trie.proofs.TallyLemmas.{times_first, none_low, once_between}
 use Rattle.aug_report.proofs.Advances.{times_either}
-use Rattle.aug_report.proofs.Histories.{opening-at_most, prefix-length, last-rises, last-at_most_final}
+use Rattle.aug_report.proofs.Histories.{prefix-length}
 use Rattle.aug_report.proofs.Lanes.{there_if_odd}
 use Rattle.aug_report.proofs.TwoInsertions.{nobody, two_lanes, serial-absent}
 

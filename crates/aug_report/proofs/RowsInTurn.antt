@@ -19,11 +19,11 @@ use Rattle.aug_script.specs.declared.reply.Reply.{Reply}
 use Rattle.aug_script.specs.declared.row.Row.{Row}
 use Rattle.aug_script.specs.declared.verb.Verb.{Verb}
 use Rattle.aug_script.specs.declared.verb.Verb.TheVariants as verb
+use Rattle.aug_trie.proofs.Risen.{at_most-refl, at_most-trans, opening-at_most, opens-some, rises_to}
 use Rattle.aug_report.specs.AllowedReport.{Lane, Answers, AnswersAll, RunsLane, AllowedReport, lines_of, all_accepted}
 use Rattle.aug_trie.proofs.CutLemmas.{length-opening, serial_rises, pairs_of_cut-opening}
 use Rattle.aug_core.proofs.PrefixLemmas.{prefix_refl, prefix_trans}
 use Rattle.aug_report.proofs.Advances.{ChangesOne}
-use Rattle.aug_report.proofs.Histories.{opening-at_most, opens-some, rises_to, at_most-refl, at_most-trans}
 use Rattle.aug_report.proofs.Lanes.{step, sets_of_lane, there_if_odd}
 use Rattle.aug_report.proofs.OneLane.{alone, lines-all}
 use Rattle.aug_report.proofs.Tallied.{nothing_tallies, one_tallies, tallies-join}

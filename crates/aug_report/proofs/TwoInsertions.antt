@@ -13,11 +13,12 @@ use Rattle.aug_script.specs.declared.reply.Reply.{Reply}
 use Rattle.aug_script.specs.declared.reply.Reply.TheVariants as reply
 use Rattle.aug_script.specs.declared.row.Row.{Row}
 use Rattle.aug_script.specs.declared.verb.Verb.TheVariants as verb
+use Rattle.aug_trie.proofs.Risen.{last-at_most_final, last-rises, opens-some}
 use Rattle.aug_report.specs.AllowedReport.{Lane, AnswersAll, RunsLane, AllowedReport, lines_of, all_accepted}
 use Rattle.aug_report.specs.Theorems.{row_at, report_with, two_insertions}
 use Rattle.aug_trie.proofs.CutLemmas.{serial-opening, length-opening, serial_past, serial_rises}
 use Rattle.aug_trie.proofs.TallyLemmas.{counted-cons, exactly, times_first, none_high, once_between}
-use Rattle.aug_report.proofs.Histories.{opens-some, prefix-length, last-rises, last-at_most_final}
+use Rattle.aug_report.proofs.Histories.{prefix-length}
 use Rattle.aug_report.proofs.Lanes.{story}
 use Rattle.aug_report.proofs.OneKey.{empty-serial, shown-key, serial-key, pairs-key, two_cuts, two_history, two_weigh, first_change, early, opens_early}
 use Rattle.aug_report.proofs.Tallied.{one_tallies}

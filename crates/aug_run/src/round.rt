@@ -1,7 +1,8 @@
 //! A round on worker threads, one for each lane.
 ghost use Rattle.std.specs.Prelude.{◌≡◌, ◌+◌, ◌≤◌, length, Err, IfOk, OnErr};
 ghost use Rattle.aug_model.specs.Keys.{IsKeySet, keys_of};
-ghost use Rattle.aug_trie.specs.Crew.{BeginsRound};
+ghost use Rattle.aug_trie.specs.Crew.{BeginsIn};
+ghost use Rattle.aug_trie.specs.Round.{table_of};
 ghost use Rattle.aug_report.specs.AllowedReport.{AllowedReport, IsReportOf};
 ghost use Rattle.aug_report.specs.InTurn.{IsInTurn};
 ghost use Rattle.aug_run.specs.inside.Returns.{IsFreshCrew, RanLanes};
@@ -19,6 +20,7 @@ use crate::trie::{Hands, Table, Trie};
 use aug_script::{Limits, Listed, Reply, Report, Row, ScriptRound};
 use aug_trie::{BeginError, Round};
 use std::alloc::{AllocError, Global};
+use std::snapshot::Snapshot;
 use std::sync::Wait;
 use std::thread::Threads;
 
@@ -73,7 +75,8 @@ pub fn run_round<R: Threads + Wait, G: Gate>(
     let (table, mut crew) = begin(alloc, ended, limits, round.bits)?;
     let rows = round.rows.as_slice();
     let lines = run_lanes(rt, alloc, &table, &mut crew, limits.workers(), rows, gate)?;
-    let ended = table.end(crew);
+    let Table { shared, .. } = table;
+    let ended = shared.end(crew);
     let report = Report {
         number,
         rows: Listed::from_vec(lines),
@@ -93,11 +96,15 @@ fn begin(
 ) -> Result<(Table, Hands), AllocError>
     requires wider { ended.bits ≤ bits }
     requires bounds { IsBounds (bounds_at limits.now bits) }
-    ensures begun { IfOk result (λ t. BeginsRound ended.members bits limits.now.workers limits.now.updates t.0 t.1) }
+    ensures begun { IfOk result (λ t. BeginsIn (length ended.members) ended.members bits limits.now.workers limits.now.updates (table_of t.0) t.1) }
+    ensures together { IfOk result (λ t. t.1.round ≡ t.0) }
     ensures keys { IsKeySet ended.bits (keys_of ended.members) }
 {
     match Round::begin_wider(alloc, ended, bits, limits.workers(), limits.updates()) {
-        Ok(begun) => Ok(begun),
+        Ok((shared, crew)) => {
+            let begun = Snapshot::of(&crew);
+            Ok((Table { shared, begun }, crew))
+        }
         Err((_, cause)) => match cause {
             BeginError::OutOfMemory => Err(AllocError),
             _ => unreachable!(),

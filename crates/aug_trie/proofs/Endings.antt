@@ -15,7 +15,6 @@ use Rattle.aug_core.specs.Addresses.{IsInner, root_place}
 use Rattle.aug_core.specs.Book.{At, history_of}
 use Rattle.aug_core.specs.Counts.{changes_of}
 use Rattle.aug_core.specs.Cuts.{Cut, weight_at, set_of_cut, pairs_of_cut, opening_cut, IsAtMost}
-use Rattle.aug_core.specs.Opening.{Opening}
 use Rattle.aug_core.specs.Rule.{Kept}
 use Rattle.aug_core.specs.Told.{opening_of}
 use Rattle.aug_core.specs.declared.view.Entry.{Entry}
@@ -26,7 +25,7 @@ use Rattle.aug_core.proofs.Sizes.{twice}
 use Rattle.aug_core.proofs.Moves.{St}
 use Rattle.aug_core.specs.Renewals.{EndWith}
 use Rattle.aug_words.specs.Rests.{AtRest, ShowAll}
-use Rattle.aug_words.specs.Seats.{Store, Known, AreTogether}
+use Rattle.aug_words.specs.Seats.{Known}
 use Rattle.aug_trie.specs.History.{last_cut}
 use Rattle.aug_trie.specs.Knowledge.{insertion, removal, inserts_of, removals_of}
 use Rattle.aug_core.specs.declared.view.Change.{Change}
@@ -35,11 +34,8 @@ use Rattle.aug_trie.specs.inside.CrewState.{crew_facts, HoldsCrew}
 use Rattle.aug_trie.specs.Ended.{EndedFacts}
 use Rattle.aug_trie.specs.inside.EndedTree.{word_in}
 use Rattle.aug_trie.specs.Crew.{CrewFacts, Ends}
-use Rattle.aug_trie.specs.Round.{RoundFacts}
-use Rattle.aug_trie.specs.inside.RoundState.{store_round}
 use Rattle.aug_trie.specs.Tallies.{TalliesWithLost}
 use Rattle.aug_core.proofs.Counting.{filter_shorter}
-use Rattle.aug_trie.proofs.RoundLemmas.{of_round}
 use Rattle.aug_trie.proofs.Tallying.{held_few, tallies_at_end, none_lost_tallies}
 use Rattle.aug_trie.proofs.CutLemmas.{set_of_cut-opening, pairs_of_cut-opening}
 use Rattle.aug_trie.proofs.TallyLemmas.{sizes}
@@ -47,16 +43,10 @@ use Rattle.aug_trie.proofs.Histories.{root_some, first_cut, last_is}
 use Rattle.aug_core.proofs.EntryCuts.{root_rises}
 use Rattle.aug_core.specs.inside.RootCuts.{root_cut}
 
--- ---- the words at rest, in terms of what the lead knows
-
-module _ (store : Store) (lead : Known) (rest : AtRest) (t : AreTogether store lead) (shape : rest.shape ≡ store.opening.shape) where
-  pub rest_shape : rest.shape ≡ lead.view.shape
-  rest_shape = shape ∙ sym t.one_shape
-
-  pub shows_seen : (face : ℕ → ℕ → List (ℕ × ℕ) → List ℕ) → ShowAll face store.opening lead.view rest.words
-      → (q i field : ℕ) (e : Entry) → IsInner lead.view.shape q → At lead.view.seen q i e → field < record_words → word_in rest e.number field ≡ get_or e.words field 0
-  shows_seen face all q i field e inner p low = ap (λ (z : Shape). word_in (record { shape = z; words = rest.words }) e.number field) shape
-      ∙ all.seen_records q i field e (subst (λ (z : Shape). IsInner z q) t.one_shape inner) p low
+-- the words at rest, in terms of what the lead knows
+pub shows_seen : (face : ℕ → ℕ → List (ℕ × ℕ) → List ℕ) (v : SeatView) (rest : AtRest) → rest.shape ≡ v.shape → ShowAll face (opening_of v) v rest.words
+    → (q i field : ℕ) (e : Entry) → IsInner v.shape q → At v.seen q i e → field < record_words → word_in rest e.number field ≡ get_or e.words field 0
+shows_seen face v rest shape all q i field e inner p low = ap (λ (z : Shape). word_in (record { shape = z; words = rest.words }) e.number field) shape ∙ all.seen_records q i field e inner p low
 
 -- ---- the end of a round
 
@@ -113,29 +103,22 @@ module _ (face : ℕ → ℕ → List (ℕ × ℕ) → List ℕ) (v : SeatView) 
       let sum = sizes first last all risen tally in let opened : length (set_of_cut first) ≡ length v.members = ap (λ (z : List ℕ). length z) (set_of_cut-opening v.shape.bits v.members c.is_crew.knows_table.key_set) ∙ length-keys_of v.members in
       let members : length ended.members ≡ length (set_of_cut last) = ap (λ (z : List (ℕ × ℕ)). length z) e.members ∙ length-pairs_of (weight_at last) (set_of_cut last) in let ins = e.inserts in let rem = e.removals in omega arith
 
--- the rule at the end, for the opening that the lead knows
-pub kept_for : (face : ℕ → ℕ → List (ℕ × ℕ) → List ℕ) (store : Store) (lead : Known) (words : List ℕ) → AreTogether store lead → (e : EndWith face store.opening lead.view words) → Kept face (opening_of lead.view) e.state
-kept_for face store lead words t e = subst (λ (z : Opening). Kept face z e.state) (λ i. record { shape = sym t.one_shape i; members = sym t.same_members i }) e.kept
-
--- the lead and the table of one round, whose table is at rest: what is left is the round's end, and its sizes tally where no pass is missing
-module _ (face : ℕ → ℕ → List (ℕ × ℕ) → List ℕ) (store : Store) (lead : Known) (now : CrewFacts) (round : RoundFacts) (handed : ℕ) {era back inserts removals : ℕ} {words : List ℕ} (is : crew_facts lead ≡ now) (one : now.round ≡ round) (store_is : store_round store era ≡ round)
-    (holds : HoldsCrew face lead.view back inserts removals) (spare : lead.view.spare ≡ Some handed) (e : EndWith face store.opening lead.view words) where
-  together : AreTogether store lead
-  together = of_round store lead now round is one store_is
-
+-- the lead of a round whose table is at rest: what is left is the round's end, and its sizes tally where no pass is missing
+module _ (face : ℕ → ℕ → List (ℕ × ℕ) → List ℕ) (lead : Known) (now : CrewFacts) (handed : ℕ) {back inserts removals : ℕ} {words : List ℕ} (is : crew_facts lead ≡ now)
+    (holds : HoldsCrew face lead.view back inserts removals) (spare : lead.view.spare ≡ Some handed) (e : EndWith face (opening_of lead.view) lead.view words) where
   pub no_more_back : back ≤ handed
-  no_more_back = let at : holds.handed ≡ handed = ap (λ (z : Option ℕ). unwrap_or z 0) (sym holds.is_crew.hands_out ∙ spare) in let few = back_few face lead.view back inserts removals holds e.state (kept_for face store lead words together e) e.seat e.view_is in omega arith
+  no_more_back = let at : holds.handed ≡ handed = ap (λ (z : Option ℕ). unwrap_or z 0) (sym holds.is_crew.hands_out ∙ spare) in let few = back_few face lead.view back inserts removals holds e.state e.kept e.seat e.view_is in omega arith
 
   -- no pass is left out where as many came back as were handed out
   pub none_left : length lead.view.held ≡ handed → 0 ≡ handed - back
-  none_left all = let exact = back_exact face lead.view back inserts removals holds e.state (kept_for face store lead words together e) e.seat e.view_is in omega arith
+  none_left all = let exact = back_exact face lead.view back inserts removals holds e.state e.kept e.seat e.view_is in omega arith
 
-  pub round_ended : (ended : EndedFacts) → ended.bits ≡ store.opening.shape.bits → ended.members ≡ pairs_of_cut (last_cut (knows lead.view).history) → ended.inserts ≡ inserts → ended.removals ≡ removals → ended.missing ≡ handed - back → ended.calls ≡ 0
-      → Ends now ended × (ended.missing ≡ 0 → length ended.members + ended.removals ≡ length round.members + ended.inserts)
-  round_ended ended bits members ins rem miss loads = let kept = kept_for face store lead words together e in
-      let ends = ends_so face lead.view back inserts removals holds e.state kept e.seat e.view_is lead.table ended (bits ∙ sym (ap (λ (z : Shape). z.bits) together.one_shape)) members ins rem (miss ∙ ap (λ (z : Option ℕ). unwrap_or z 0 - back) (sym spare ∙ holds.is_crew.hands_out)) loads in
-      let sizes = sizes_so face lead.view back inserts removals holds e.state kept e.seat e.view_is lead.table ended ends in
-      (subst (λ (z : CrewFacts). Ends z ended) is ends, subst (λ (z : RoundFacts). ended.missing ≡ 0 → length ended.members + ended.removals ≡ length z.members + ended.inserts) (ap (λ (z : CrewFacts). z.round) is ∙ one) sizes)
+  pub round_ended : (ended : EndedFacts) → ended.bits ≡ lead.view.shape.bits → ended.members ≡ pairs_of_cut (last_cut (knows lead.view).history) → ended.inserts ≡ inserts → ended.removals ≡ removals → ended.missing ≡ handed - back → ended.calls ≡ 0
+      → Ends now ended × (ended.missing ≡ 0 → length ended.members + ended.removals ≡ length now.round.members + ended.inserts)
+  round_ended ended bits members ins rem miss loads =
+      let ends = ends_so face lead.view back inserts removals holds e.state e.kept e.seat e.view_is lead.table ended bits members ins rem (miss ∙ ap (λ (z : Option ℕ). unwrap_or z 0 - back) (sym spare ∙ holds.is_crew.hands_out)) loads in
+      let sizes = sizes_so face lead.view back inserts removals holds e.state e.kept e.seat e.view_is lead.table ended ends in
+      subst (λ (z : CrewFacts). Ends z ended × (ended.missing ≡ 0 → length ended.members + ended.removals ≡ length z.round.members + ended.inserts)) is (ends, sizes)
 
 -- ---- the empty trie
 
@@ -149,12 +132,12 @@ none_own bits (suc level) = let is = none_own bits level in omega arith
 pub smallest : (bits : ℕ) → IsWithin 1 16 bits → IsLayout (shape_of bits 1 1 0)
 smallest bits within = let t = twice bits in let k = keys-within bits within.0 within.1 in let none = none_own bits bits in record { bits = within; workers = (omega arith, omega arith); updates = (omega arith, omega arith); words = omega arith }
 
-pub no_keys : (bits : ℕ) (members : List (ℕ × ℕ)) → members ≡ [] → IsKeySet bits (keys_of members)
-no_keys bits members is = subst (λ (z : List (ℕ × ℕ)). IsKeySet bits (keys_of z)) (sym is) record { rising = λ k low. absurd (let e : k + 1 < 0 = low in omega arith); below = All-nil (λ k. k < 2 ^ bits) }
+pub no_keys : (bits : ℕ) → IsKeySet bits (keys_of [])
+no_keys bits = record { rising = λ k low. absurd (let e : k + 1 < 0 = low in omega arith); below = All-nil (λ k. k < 2 ^ bits) }
 
-pub none_fit : (members : List (ℕ × ℕ)) → members ≡ [] → All FitsPair members
-none_fit members is = subst (All FitsPair) (sym is) (All-nil FitsPair)
+pub none_fit : All FitsPair []
+none_fit = All-nil FitsPair
 
 -- the opening cut of no members shows none
 pub none_shown : (bits : ℕ) → pairs_of_cut (opening_cut bits []) ≡ []
-none_shown bits = pairs_of_cut-opening bits [] (no_keys bits [] refl)
+none_shown bits = pairs_of_cut-opening bits [] (no_keys bits)

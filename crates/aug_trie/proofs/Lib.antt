@@ -15,6 +15,7 @@ pub mod Handing
 pub mod Keeping
 pub mod Walking
 pub mod Looking
+pub mod Risen
 pub mod Rising
 pub mod Trees
 pub mod Passing

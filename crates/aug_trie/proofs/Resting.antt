@@ -17,48 +17,41 @@ use Rattle.aug_trie.specs.inside.Knows.{knows}
 use Rattle.aug_trie.specs.inside.RestWalks.{rest_of, ListsRest}
 use Rattle.aug_trie.specs.inside.RoundState.{eras_of}
 use Rattle.aug_trie.proofs.Versions.{members_are, holds_version}
-use Rattle.aug_trie.proofs.Endings.{rest_shape, shows_seen}
+use Rattle.aug_trie.proofs.Endings.{shows_seen}
 
-module _ {A B : Type 0} (m : Parts A) (n : Parts B) (store : Store) (lead : Known) (idle : SeatView) (bits root : ℕ) (bits_are : bits ≡ store.opening.shape.bits) (t : AreTogether store lead) (r : ComesToRest (face m n) store.opening lead.view root idle) where
-  abbrev last : Known
-  last = record { table = lead.table; view = r.last }
-
+module _ {A B : Type 0} (m : Parts A) (n : Parts B) (store : Store) (lead : Known) (idle : SeatView) (bits root : ℕ) (bits_are : bits ≡ store.shape.bits) (t : AreTogether store lead) (r : ComesToRest (face m n) lead.view root idle) where
   abbrev rest : AtRest
   rest = rest_of idle
 
-  together : AreTogether store last
-  together = record {
-    one_table = t.one_table;
-    one_shape = ap (λ (z : SeatView). z.shape) r.loaded.stepped ∙ t.one_shape;
-    same_members = ap (λ (z : SeatView). z.members) r.loaded.stepped ∙ t.same_members;
-  }
+  last_shape : r.last.shape ≡ store.shape
+  last_shape = ap (λ (z : SeatView). z.shape) r.loaded.stepped ∙ t.one_shape
 
-  rested_shape : idle.shape ≡ store.opening.shape
-  rested_shape = ap (λ (z : SeatView). z.shape) r.idle_is ∙ together.one_shape
+  there : idle.shape ≡ r.last.shape
+  there = ap (λ (z : SeatView). z.shape) r.idle_is
 
   bits_last : r.last.shape.bits ≡ bits
-  bits_last = ap (λ (z : Shape). z.bits) together.one_shape ∙ sym bits_are
+  bits_last = ap (λ (z : Shape). z.bits) last_shape ∙ sym bits_are
 
   -- the words at rest name a version of the tree of the last cut
   pub record Rested : Type 0 where
-    pub shape : idle.shape ≡ store.opening.shape
+    pub shape : idle.shape ≡ store.shape
     pub holds : HoldsVersion (face m n) rest root bits
     pub few : length (pairs_at_rest rest bits 0 root) ≤ 2 ^ bits
     pub set : pairs_at_rest rest bits 0 root ≡ pairs_of_cut (last_cut (knows r.last).history)
 
   pub rested : Rested
   rested =
-      let there = rest_shape store last rest together rested_shape in let shows = shows_seen store last rest together rested_shape (face m n) r.words in
+      let shows = shows_seen (face m n) r.last rest there r.words in
       let holds : HoldsVersion (face m n) rest root bits = subst (HoldsVersion (face m n) rest root) bits_last (holds_version m n r.last r.knows root r.named rest there shows) in
       let list : List (ℕ × ℕ) = pairs_at_rest rest bits 0 root in record {
-        shape = rested_shape;
+        shape = there ∙ last_shape;
         holds = holds;
         few = subst (λ (z : ℕ). z ≤ 2 ^ bits) (length-keys_of list) (IsKeySet-few bits (keys_of list) holds.is_key_set);
         set = ap (λ (z : ℕ). pairs_at_rest rest z 0 root) (sym bits_last) ∙ members_are m n r.last r.knows root r.named rest there shows;
       }
 
   -- a list that has what the root names has the set
-  pub lists_rest : (eras : SeatView) (list : List (ℕ × ℕ)) → eras_of eras ≡ eras_of idle → list ≡ pairs_at_rest rest bits 0 root → ListsRest (face m n) store.opening lead.view eras.era eras.past list
+  pub lists_rest : (eras : SeatView) (list : List (ℕ × ℕ)) → eras_of eras ≡ eras_of idle → list ≡ pairs_at_rest rest bits 0 root → ListsRest (face m n) lead.view eras.era eras.past list
   lists_rest eras list same is = let from : eras_of idle ≡ (r.last.era + 1, r.last.past ++ record { members = r.last.members; book = r.last.seen } ∷ []) = ap eras_of r.idle_is in record {
     last = r.last;
     root = root;

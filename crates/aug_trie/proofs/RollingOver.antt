@@ -22,40 +22,40 @@ use Rattle.aug_words.specs.Seats.{Store, Known, AreTogether}
 use Rattle.aug_trie.specs.Chains.{chapters}
 use Rattle.aug_trie.specs.Crew.{CrewFacts, crew_chain}
 use Rattle.aug_trie.specs.Knowledge.{inserts_of, removals_of}
-use Rattle.aug_trie.specs.Round.{root_of}
+use Rattle.aug_trie.specs.Round.{RoundFacts, root_of, table_of}
 use Rattle.aug_trie.specs.inside.CrewState.{crew_facts, HoldsCrew}
 use Rattle.aug_trie.specs.inside.Knows.{knows, root_history}
-use Rattle.aug_trie.specs.inside.RoundState.{round_of, past_rounds, store_round}
+use Rattle.aug_trie.specs.inside.RoundState.{round_of, past_rounds, facts_of}
 use Rattle.aug_trie.proofs.Accepting.{knows_on}
 use Rattle.aug_trie.proofs.Crews.{begins_crew, begins_history}
 use Rattle.aug_trie.proofs.Handing.{loaded_table, loaded_knowledge}
 
-module _ (face : ℕ → ℕ → List (ℕ × ℕ) → List ℕ) (old store : Store) (lead : Known) (before : SeatView) (list : List (ℕ × ℕ)) (table : store.table ≡ old.table) (opening : store.opening ≡ opening_with old.opening.shape list) (together : AreTogether store lead) (opened : lead.view ≡ reopening face list before)
-    (laid_out : IsLayout old.opening.shape) (set : IsKeySet old.opening.shape.bits (keys_of list)) (fit : All FitsPair list) (few : length list ≤ old.opening.shape.members) where
+module _ (face : ℕ → ℕ → List (ℕ × ℕ) → List ℕ) (store : Store) (lead : Known) (before : SeatView) (list : List (ℕ × ℕ)) (together : AreTogether store lead) (opened : lead.view ≡ reopening face list before)
+    (laid_out : IsLayout store.shape) (set : IsKeySet store.shape.bits (keys_of list)) (fit : All FitsPair list) (few : length list ≤ store.shape.members) where
   abbrev o : Opening
-  o = opening_with old.opening.shape list
+  o = opening_with store.shape list
 
   -- its lead knows what that of a table knows which was just opened
   opener_is : lead.view ≡ opener face o before.past before.era before.words
-  opener_is = let shape : before.shape ≡ old.opening.shape = sym (ap (λ (z : SeatView). z.shape) opened) ∙ together.one_shape ∙ ap (λ (z : Opening). z.shape) opening in
+  opener_is = let shape : before.shape ≡ store.shape = sym (ap (λ (z : SeatView). z.shape) opened) ∙ together.one_shape in
       opened ∙ ap (λ (z : Shape). opener face (opening_with z list) before.past before.era before.words) shape
 
   pub next_crew : HoldsCrew face lead.view 0 0 0
   next_crew = subst (λ (z : SeatView). HoldsCrew face z 0 0 0) (sym opener_is) (begins_crew face o laid_out set fit few before.past before.era before.words)
 
-  -- the round has the same numbers, and opens with the list, in the next era
-  pub next_round : (era next : ℕ) → next ≡ era + 1 → store_round store next ≡ record (store_round old era) { era = era + 1; members = list }
-  next_round era next is j = store_round (record { table = table j; opening = opening j }) (is j)
+  -- the round is of its table, and opens with the list
+  pub next_round : (now : RoundFacts) → lead.view.era ≡ now.era + 1 → table_of now ≡ facts_of store → round_of lead.table lead.view ≡ record now { era = now.era + 1; members = list }
+  next_round now era is = let list_is : lead.view.members ≡ list = ap (λ (z : SeatView). z.members) opened in (λ j. round_of (together.one_table j) (record lead.view { era = era j; shape = together.one_shape j; members = list_is j }))
+      ∙ (λ j. record { table = (sym is j).table; era = now.era + 1; bits = (sym is j).bits; members = list; workers = (sym is j).workers; updates = (sym is j).updates; room = (sym is j).room })
 
   -- and the crew knows the opening cut alone, and has handed nothing out
-  pub next_facts : (era : ℕ) → lead.view.era ≡ era → crew_facts lead ≡ record { round = store_round store era; past = past_rounds lead.view.shape lead.view.past; knows = record { history = opening_cut old.opening.shape.bits list ∷ []; accepted = [] }; steps = lead.view.steps; handed = 0; back = 0 }
-  next_facts era is =
+  pub next_facts : crew_facts lead ≡ record { round = round_of lead.table lead.view; past = past_rounds lead.view.shape lead.view.past; knows = record { history = opening_cut store.shape.bits list ∷ []; accepted = [] }; steps = lead.view.steps; handed = 0; back = 0 }
+  next_facts =
       let first = begins_history face o laid_out set fit few in
-      let same : round_of lead.table lead.view ≡ store_round store era = λ j. round_of (together.one_table j) (record lead.view { era = is j; shape = together.one_shape j; members = together.same_members j }) in
       let knew : knows lead.view ≡ record { history = opening_cut o.shape.bits o.members ∷ []; accepted = [] } = ap knows opener_is ∙ (λ j. record { history = first j; accepted = [] }) in
       let none_out : unwrap_or lead.view.spare 0 ≡ 0 = ap (λ (z : SeatView). unwrap_or z.spare 0) opener_is in
       let none_back : length lead.view.held ≡ 0 = ap (λ (z : SeatView). length z.held) opener_is in
-      λ j. record { round = same j; past = past_rounds lead.view.shape lead.view.past; knows = knew j; steps = lead.view.steps; handed = none_out j; back = none_back j }
+      λ j. record { round = round_of lead.table lead.view; past = past_rounds lead.view.shape lead.view.past; knows = knew j; steps = lead.view.steps; handed = none_out j; back = none_back j }
 
 -- ---- the round that ended
 
@@ -84,9 +84,6 @@ module _ (face : ℕ → ℕ → List (ℕ × ℕ) → List ℕ) (lead : Known) 
   last_is = (λ i. let after : CrewFacts = crew_facts known in
       record after { round = round_of lead.table (l.stepped i); past = past_rounds (l.stepped i).shape (l.stepped i).past; handed = unwrap_or (l.stepped i).spare 0; back = length (l.stepped i).held })
       ∙ ap (λ (z : CrewFacts). record z { knows = knows last; steps = last.steps }) is
-
-  pub last_round : (crew_facts known).round ≡ now.round
-  last_round = ap (λ (z : CrewFacts). z.round) last_is
 
   pub last_goes_on : IsPrefix now.knows.history (knows last).history
   last_goes_on = subst (λ (z : CrewFacts). IsPrefix z.knows.history (knows last).history) is (knows_on face lead.view last holds.is_crew.knows_table (ap (λ (z : SeatView). z.shape) l.stepped) l.sees.later)

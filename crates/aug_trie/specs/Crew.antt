@@ -7,7 +7,7 @@ use Rattle.aug_core.specs.declared.step.StepTaken.{StepTaken}
 use Rattle.aug_trie.specs.History.{IsHistory, last_cut}
 use Rattle.aug_trie.specs.Knowledge.{Knowledge, IsKnowledge, inserts_of, removals_of}
 use Rattle.aug_trie.specs.Passes.{HandedOut, HandedBack, HasLearnt}
-use Rattle.aug_trie.specs.Round.{RoundFacts, root_of}
+use Rattle.aug_trie.specs.Round.{TableFacts, RoundFacts, table_of, root_of}
 use Rattle.aug_trie.specs.Chains.{Chapter, Chain, chain, chapters}
 use Rattle.aug_trie.specs.Note.{NoteFacts}
 use Rattle.aug_trie.specs.Pass.{PassFacts}
@@ -27,15 +27,12 @@ pub record CrewFacts : Type 0 where
 abbrev pub crew_chain : CrewFacts → Chain
 crew_chain crew = chain crew.past crew.round.members crew.knows.history
 
--- a round of keys of `bits` bits over a set with these members, and its crew, which knows only the opening cut and has handed nothing out
-pub record BeginsRound (members : List (ℕ × ℕ)) (bits workers updates : ℕ) (round : RoundFacts) (crew : CrewFacts) : Type 0 where
-  pub round_is : round ≡ record { table = round.table; era = 0; bits = bits; members = members; workers = workers; updates = updates; room = length members }
-  pub crew_is : crew ≡ record { round = round; past = []; knows = record { history = opening_cut bits members ∷ []; accepted = [] }; steps = crew.steps; handed = 0; back = 0 }
-
--- the same for a round that is laid out for `room` members
-pub record BeginsIn (room : ℕ) (members : List (ℕ × ℕ)) (bits workers updates : ℕ) (round : RoundFacts) (crew : CrewFacts) : Type 0 where
-  pub round_is : round ≡ record { table = round.table; era = 0; bits = bits; members = members; workers = workers; updates = updates; room = room }
-  pub crew_is : crew ≡ record { round = round; past = []; knows = record { history = opening_cut bits members ∷ []; accepted = [] }; steps = crew.steps; handed = 0; back = 0 }
+-- a table of keys of `bits` bits, laid out for `room` members, and the crew of its first round, over a set with these members, which knows only the opening
+-- cut and has handed nothing out
+pub record BeginsIn (room : ℕ) (members : List (ℕ × ℕ)) (bits workers updates : ℕ) (table : TableFacts) (crew : CrewFacts) : Type 0 where
+  pub round_is : crew.round ≡ record { table = table.table; era = 0; bits = bits; members = members; workers = workers; updates = updates; room = room }
+  pub together : table_of crew.round ≡ table
+  pub crew_is : crew ≡ record { round = crew.round; past = []; knows = record { history = opening_cut bits members ∷ []; accepted = [] }; steps = crew.steps; handed = 0; back = 0 }
 
 -- the crew's one step loads the root's word
 abbrev pub LoadsRoot : CrewFacts → CrewFacts → Type 0
@@ -79,7 +76,7 @@ pub record Ends (crew : CrewFacts) (ended : EndedFacts) : Type 0 where
 
 -- a round ends to which all passes came back, with a load of the root, and the next one begins over its set, in the same table: the list has the set, and
 -- the counts are those of the round that ended. All of its history is known then
-pub record RollsOver (old : CrewFacts) (round new_round : RoundFacts) (crew : CrewFacts) (list : List (ℕ × ℕ)) (inserts removals : ℕ) : Type 0 where
+pub record RollsOver (old crew : CrewFacts) (list : List (ℕ × ℕ)) (inserts removals : ℕ) : Type 0 where
   pub last : CrewFacts
   pub last_is : last ≡ record old { knows = last.knows; steps = last.steps }
   pub goes_on : IsPrefix old.knows.history last.knows.history
@@ -88,9 +85,9 @@ pub record RollsOver (old : CrewFacts) (round new_round : RoundFacts) (crew : Cr
   pub ended : EndedFacts
   pub ends : Ends last ended
   pub none_missing : ended.missing ≡ 0
-  pub sizes : length ended.members + ended.removals ≡ length round.members + ended.inserts
+  pub sizes : length ended.members + ended.removals ≡ length old.round.members + ended.inserts
   pub list_is : list ≡ ended.members
   pub inserts_are : inserts ≡ ended.inserts
   pub removals_are : removals ≡ ended.removals
-  pub round_is : new_round ≡ record round { era = round.era + 1; members = ended.members }
-  pub crew_is : crew ≡ record { round = new_round; past = chapters (crew_chain last); knows = record { history = opening_cut round.bits ended.members ∷ []; accepted = [] }; steps = crew.steps; handed = 0; back = 0 }
+  pub round_is : crew.round ≡ record old.round { era = old.round.era + 1; members = ended.members }
+  pub crew_is : crew ≡ record { round = crew.round; past = chapters (crew_chain last); knows = record { history = opening_cut old.round.bits ended.members ∷ []; accepted = [] }; steps = crew.steps; handed = 0; back = 0 }

@@ -1,7 +1,14 @@
--- What contracts see of a round. `era` is how often its table had been renewed before, so a renewed round is another round than the one before, also
--- over the same set.
+-- What contracts see of a round and of its table.
 use Rattle.std.specs.Prelude.{ℕ, ◌+◌, ◌-◌, ◌^◌, List}
 use Rattle.atomic_table.specs.Seated.{TableId}
+
+-- what the passes of all rounds of a table share: the table, the bits of its keys, its lanes, the updates of each, and for how many members it was laid out
+pub record TableFacts : Type 0 where
+  pub table : TableId
+  pub bits : ℕ
+  pub workers : ℕ
+  pub updates : ℕ
+  pub room : ℕ
 
 -- a round: its table and how often that was renewed before, the bits of its keys, the set that it opened with, its lanes, the updates of each, and for how
 -- many members it was laid out
@@ -13,6 +20,10 @@ pub record RoundFacts : Type 0 where
   pub workers : ℕ
   pub updates : ℕ
   pub room : ℕ
+
+-- the table of a round, which is the same for the next one
+abbrev pub table_of : RoundFacts → TableFacts
+table_of round = record { table = round.table; bits = round.bits; workers = round.workers; updates = round.updates; room = round.room }
 
 -- the place of the root's word in a round's table
 abbrev pub root_of : RoundFacts → ℕ

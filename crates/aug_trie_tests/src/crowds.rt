@@ -1,5 +1,6 @@
 //! Threads that change the same keys at once, and one that looks meanwhile.
 ghost use Rattle.std.specs.Prelude.{◌≡◌, IfOk};
+ghost use Rattle.aug_trie.specs.Round.{table_of};
 
 use super::asking::seen_size;
 use super::playing::Act::{AddsUp, Back, Now, Open};
@@ -20,9 +21,9 @@ use std::thread::Threads;
 
 // Halves of the passes of the next four lanes.
 fn four_halves(crew: &mut Hands, round: &Table) -> Result<(Half, Half, Half, Half), CrewError>
-    requires together { crew.old.round ≡ round.now }
-    ensures together { crew.new.round ≡ round.now }
-    ensures rounds { IfOk result (λ t. (t.0.round ≡ round.now) × (t.1.round ≡ round.now) × (t.2.round ≡ round.now) × (t.3.round ≡ round.now)) }
+    requires together { table_of crew.old.round ≡ round.now }
+    ensures together { crew.new.round ≡ crew.old.round }
+    ensures rounds { IfOk result (λ t. (t.0.round ≡ crew.old.round) × (t.1.round ≡ crew.old.round) × (t.2.round ≡ crew.old.round) × (t.3.round ≡ crew.old.round)) }
 {
     let one = next_half(crew, round)?;
     let two = next_half(crew, round)?;
@@ -39,21 +40,21 @@ fn five<R: Threads + Wait + Sync>(
     fifth: Half,
     tasks: (Task, Task, Task),
 ) -> (((Worked, Worked), (Worked, Worked)), Worked)
-    requires rounds { (halves.0.round ≡ round.now) × (halves.1.round ≡ round.now) × (halves.2.round ≡ round.now) × (halves.3.round ≡ round.now) }
-    requires fifth { fifth.round ≡ round.now }
-    ensures four { (result.0.0.0.0.round ≡ round.now) × (result.0.0.1.0.round ≡ round.now) × (result.0.1.0.0.round ≡ round.now) × (result.0.1.1.0.round ≡ round.now) }
-    ensures fifth { result.1.0.round ≡ round.now }
+    requires rounds { (table_of halves.0.round ≡ round.now) × (table_of halves.1.round ≡ round.now) × (table_of halves.2.round ≡ round.now) × (table_of halves.3.round ≡ round.now) }
+    requires fifth { table_of fifth.round ≡ round.now }
+    ensures four { (result.0.0.0.0.round ≡ halves.0.round) × (result.0.0.1.0.round ≡ halves.1.round) × (result.0.1.0.0.round ≡ halves.2.round) × (result.0.1.1.0.round ≡ halves.3.round) }
+    ensures fifth { result.1.0.round ≡ fifth.round }
 {
     let (one, two, three, four) = halves;
     let (first, second, third) = tasks;
     thread::join(
         rt,
         move ||
-            requires { (one.round ≡ round.now) × (two.round ≡ round.now) × (three.round ≡ round.now) × (four.round ≡ round.now) }
+            requires { (table_of one.round ≡ round.now) × (table_of two.round ≡ round.now) × (table_of three.round ≡ round.now) × (table_of four.round ≡ round.now) }
             ensures { (result.0.0.0.round ≡ one.round) × (result.0.1.0.round ≡ two.round) × (result.1.0.0.round ≡ three.round) × (result.1.1.0.round ≡ four.round) }
         { work(rt, round, (one, two, three, four), first, second) },
         move ||
-            requires { fifth.round ≡ round.now }
+            requires { table_of fifth.round ≡ round.now }
             ensures { result.0.round ≡ fifth.round }
         { done(round, fifth, third) },
     )
@@ -69,8 +70,8 @@ fn crowded<R: Threads + Wait + Sync + Abort>(
     crew: &mut Hands,
     tasks: (Task, Task, Task),
 ) -> Seen
-    requires together { crew.old.round ≡ round.now }
-    ensures { crew.new.round ≡ round.now }
+    requires together { table_of crew.old.round ≡ round.now }
+    ensures { crew.new.round ≡ crew.old.round }
 {
     let halves = four_halves(crew, round).expect(rt, "four lanes");
     let fifth = next_half(crew, round).expect(rt, "lane 4");

@@ -1,5 +1,6 @@
 //! Calls that take memory while there is enough: none is refused for want of it, whatever its numbers and its set are.
 ghost use Rattle.std.specs.Prelude.{◌≡◌, ◌^◌, ◌≤◌};
+ghost use Rattle.aug_trie.specs.Round.{table_of};
 
 use super::playing::Change::Put;
 use super::playing::changed;
@@ -150,9 +151,9 @@ fn no_round_is_refused_for_its_updates(rt: HostRuntime) -> Result<(), BeginError
 
 // Puts the keys from the first up to the second in, as long as updates are left.
 fn fill(round: &Table, crew: &mut Hands, universe: u32, keys: (u32, u32), less: u32)
-    requires together { crew.old.round ≡ round.now }
-    requires universe { universe ≡ 2 ^ round.now.bits }
-    ensures { crew.new.round ≡ round.now }
+    requires together { table_of crew.old.round ≡ round.now }
+    requires universe { universe ≡ 2 ^ crew.old.round.bits }
+    ensures { crew.new.round ≡ crew.old.round }
 {
     if let Ok(mut pass) = next_pass(crew, round) {
         let mut weight = u32::MAX;

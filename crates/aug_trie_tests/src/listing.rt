@@ -1,5 +1,6 @@
 //! Rounds over the list of a set, whose trie was given back.
 ghost use Rattle.std.specs.Prelude.{◌≡◌, IfOk};
+ghost use Rattle.aug_trie.specs.Round.{table_of};
 
 use super::playing::Reply::{Counted, Finds, Number};
 use super::playing::{Reply, steps};
@@ -43,8 +44,8 @@ fn begun_at_last(
     alloc: Global,
     members: Members,
 ) -> Result<(Table, Hands), BeginError>
-    ensures bits { IfOk result (λ t. t.0.bits ≡ 4) }
-    ensures together { IfOk result (λ t. t.1.round ≡ t.0) }
+    ensures bits { IfOk result (λ t. t.1.round.bits ≡ 4) }
+    ensures together { IfOk result (λ t. table_of t.1.round ≡ t.0) }
 {
     match tried_over(alloc, members, (4, 1, 2)) {
         Ok(begun) => Ok(begun),

@@ -1,6 +1,7 @@
 //! Rounds as scripts: what the lanes of a round do, one step after the other, and what each step comes to. The heavy contracts of passes are
 //! met here once, so that the proof of a test is that of its data.
 ghost use Rattle.std.specs.Prelude.{◌≡◌, ◌^◌, IfSome};
+ghost use Rattle.aug_trie.specs.Round.{table_of};
 
 use super::asking::{look, look_closer, seen_size, seen_weight, sees};
 use super::rounds::{Climber, Hands, Table, Walker, next_pass};
@@ -160,11 +161,10 @@ pub(super) fn changed(pass: &mut Pass<Sum, Extent>, universe: u32, change: Chang
 }
 
 // Begins an update by turns, if one is left.
-fn start<'r>(round: &'r Table, pass: Walker<'r>, universe: u32, change: Change) -> (Lane<'r>, Reply)
-    requires universe { universe ≡ 2 ^ round.now.bits }
-    requires lane { pass.round ≡ round.now }
-    ensures pass { IfSome result.0.pass (λ pass. pass.round ≡ round.now) }
-    ensures climb { IfSome result.0.climb (λ climb. climb.start.round ≡ round.now) }
+fn start<'r>(pass: Walker<'r>, universe: u32, change: Change) -> (Lane<'r>, Reply)
+    requires universe { universe ≡ 2 ^ pass.round.bits }
+    ensures pass { IfSome result.0.pass (λ p. p.round ≡ pass.entry.round) }
+    ensures climb { IfSome result.0.climb (λ c. c.start.round ≡ pass.entry.round) }
 {
     if pass.budget() == 0 {
         return (walking(pass), Reply::Not);
@@ -207,12 +207,12 @@ fn walked<'r>(
     universe: u32,
     act: Act,
 ) -> (Lane<'r>, Reply)
-    requires together { crew.old.round ≡ round.now }
-    requires universe { universe ≡ 2 ^ round.now.bits }
-    requires lane { pass.round ≡ round.now }
-    ensures together { crew.new.round ≡ round.now }
-    ensures pass { IfSome result.0.pass (λ pass. pass.round ≡ round.now) }
-    ensures climb { IfSome result.0.climb (λ climb. climb.start.round ≡ round.now) }
+    requires together { table_of crew.old.round ≡ round.now }
+    requires universe { universe ≡ 2 ^ crew.old.round.bits }
+    requires lane { pass.round ≡ crew.old.round }
+    ensures together { crew.new.round ≡ crew.old.round }
+    ensures pass { IfSome result.0.pass (λ pass. pass.round ≡ crew.old.round) }
+    ensures climb { IfSome result.0.climb (λ climb. climb.start.round ≡ crew.old.round) }
 {
     match act {
         Act::Back => {
@@ -230,7 +230,7 @@ fn walked<'r>(
             let half = pass.into_half();
             (walking(round.pass(half)), Reply::Done)
         }
-        Act::Start(change) => start(round, pass, universe, change),
+        Act::Start(change) => start(pass, universe, change),
         _ => {
             let mut pass = pass;
             let reply = walk(&mut pass, alloc, universe, act);
@@ -240,10 +240,9 @@ fn walked<'r>(
 }
 
 // What a lane does whose pass makes an update by turns.
-fn climbed<'r>(round: &'r Table, climb: Climber<'r>, act: Act) -> (Lane<'r>, Reply)
-    requires { climb.start.round ≡ round.now }
-    ensures pass { IfSome result.0.pass (λ pass. pass.round ≡ round.now) }
-    ensures climb { IfSome result.0.climb (λ climb. climb.start.round ≡ round.now) }
+fn climbed<'r>(climb: Climber<'r>, act: Act) -> (Lane<'r>, Reply)
+    ensures pass { IfSome result.0.pass (λ p. p.round ≡ climb.entry.start.round) }
+    ensures climb { IfSome result.0.climb (λ c. c.start.round ≡ climb.entry.start.round) }
 {
     match act {
         Act::TurnsLeft => {
@@ -280,20 +279,20 @@ fn done<'r>(
     universe: u32,
     act: Act,
 ) -> (Lane<'r>, Reply)
-    requires together { crew.old.round ≡ round.now }
-    requires universe { universe ≡ 2 ^ round.now.bits }
-    requires pass { IfSome lane.pass (λ pass. pass.round ≡ round.now) }
-    requires climb { IfSome lane.climb (λ climb. climb.start.round ≡ round.now) }
-    ensures together { crew.new.round ≡ round.now }
-    ensures pass { IfSome result.0.pass (λ pass. pass.round ≡ round.now) }
-    ensures climb { IfSome result.0.climb (λ climb. climb.start.round ≡ round.now) }
+    requires together { table_of crew.old.round ≡ round.now }
+    requires universe { universe ≡ 2 ^ crew.old.round.bits }
+    requires pass { IfSome lane.pass (λ pass. pass.round ≡ crew.old.round) }
+    requires climb { IfSome lane.climb (λ climb. climb.start.round ≡ crew.old.round) }
+    ensures together { crew.new.round ≡ crew.old.round }
+    ensures pass { IfSome result.0.pass (λ pass. pass.round ≡ crew.old.round) }
+    ensures climb { IfSome result.0.climb (λ climb. climb.start.round ≡ crew.old.round) }
 {
     let Lane { pass, climb } = lane;
     if let Some(pass) = pass {
         return walked(round, crew, pass, alloc, universe, act);
     }
     if let Some(climb) = climb {
-        return climbed(round, climb, act);
+        return climbed(climb, act);
     }
     match act {
         Act::Open => match next_pass(crew, round) {
@@ -323,21 +322,21 @@ fn acted<'r>(
     who: Who,
     act: Act,
 ) -> (Lanes<'r>, Reply)
-    requires together { crew.old.round ≡ round.now }
-    requires universe { universe ≡ 2 ^ round.now.bits }
-    requires pass_a { IfSome lanes.a.pass (λ pass. pass.round ≡ round.now) }
-    requires climb_a { IfSome lanes.a.climb (λ climb. climb.start.round ≡ round.now) }
-    requires pass_b { IfSome lanes.b.pass (λ pass. pass.round ≡ round.now) }
-    requires climb_b { IfSome lanes.b.climb (λ climb. climb.start.round ≡ round.now) }
-    requires pass_c { IfSome lanes.c.pass (λ pass. pass.round ≡ round.now) }
-    requires climb_c { IfSome lanes.c.climb (λ climb. climb.start.round ≡ round.now) }
-    ensures together { crew.new.round ≡ round.now }
-    ensures pass_a { IfSome result.0.a.pass (λ pass. pass.round ≡ round.now) }
-    ensures climb_a { IfSome result.0.a.climb (λ climb. climb.start.round ≡ round.now) }
-    ensures pass_b { IfSome result.0.b.pass (λ pass. pass.round ≡ round.now) }
-    ensures climb_b { IfSome result.0.b.climb (λ climb. climb.start.round ≡ round.now) }
-    ensures pass_c { IfSome result.0.c.pass (λ pass. pass.round ≡ round.now) }
-    ensures climb_c { IfSome result.0.c.climb (λ climb. climb.start.round ≡ round.now) }
+    requires together { table_of crew.old.round ≡ round.now }
+    requires universe { universe ≡ 2 ^ crew.old.round.bits }
+    requires pass_a { IfSome lanes.a.pass (λ pass. pass.round ≡ crew.old.round) }
+    requires climb_a { IfSome lanes.a.climb (λ climb. climb.start.round ≡ crew.old.round) }
+    requires pass_b { IfSome lanes.b.pass (λ pass. pass.round ≡ crew.old.round) }
+    requires climb_b { IfSome lanes.b.climb (λ climb. climb.start.round ≡ crew.old.round) }
+    requires pass_c { IfSome lanes.c.pass (λ pass. pass.round ≡ crew.old.round) }
+    requires climb_c { IfSome lanes.c.climb (λ climb. climb.start.round ≡ crew.old.round) }
+    ensures together { crew.new.round ≡ crew.old.round }
+    ensures pass_a { IfSome result.0.a.pass (λ pass. pass.round ≡ crew.old.round) }
+    ensures climb_a { IfSome result.0.a.climb (λ climb. climb.start.round ≡ crew.old.round) }
+    ensures pass_b { IfSome result.0.b.pass (λ pass. pass.round ≡ crew.old.round) }
+    ensures climb_b { IfSome result.0.b.climb (λ climb. climb.start.round ≡ crew.old.round) }
+    ensures pass_c { IfSome result.0.c.pass (λ pass. pass.round ≡ crew.old.round) }
+    ensures climb_c { IfSome result.0.c.climb (λ climb. climb.start.round ≡ crew.old.round) }
 {
     let Lanes { a, b, c } = lanes;
     match who {
@@ -366,9 +365,9 @@ pub(super) fn steps(
     shows: &str,
     script: &[Step],
 )
-    requires together { crew.old.round ≡ round.now }
-    requires universe { universe ≡ 2 ^ round.now.bits }
-    ensures { crew.new.round ≡ round.now }
+    requires together { table_of crew.old.round ≡ round.now }
+    requires universe { universe ≡ 2 ^ crew.old.round.bits }
+    ensures { crew.new.round ≡ crew.old.round }
 {
     let mut lanes = Lanes {
         a: out(),

@@ -1,6 +1,7 @@
 //! Rounds that are refused, for want of memory or for their numbers: the trie that comes back answers as before, and a later call
 //! begins a round.
 ghost use Rattle.std.specs.Prelude.{◌≡◌, IfOk};
+ghost use Rattle.aug_trie.specs.Round.{table_of};
 
 use super::asking::seen_weight;
 use super::carrying::{HEAVY_ANSWERS, heavy};
@@ -38,8 +39,8 @@ pub(super) fn begun_at_last(
     way: Way,
     numbers: Numbers,
 ) -> Result<(Table, Hands), BeginError>
-    ensures bits { IfOk result (λ t. t.0.bits ≡ numbers.0) }
-    ensures together { IfOk result (λ t. t.1.round ≡ t.0) }
+    ensures bits { IfOk result (λ t. t.1.round.bits ≡ numbers.0) }
+    ensures together { IfOk result (λ t. table_of t.1.round ≡ t.0) }
 {
     let made = heavy_at_last(rt, alloc, bits)?;
     let mut ended = match tried(alloc, made, way, numbers) {

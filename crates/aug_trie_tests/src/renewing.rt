@@ -1,5 +1,6 @@
 //! Rounds that are renewed in their own memory.
 ghost use Rattle.std.specs.Prelude.{◌≡◌, ◌≤◌, IfOk, IfErr};
+ghost use Rattle.aug_trie.specs.Round.{table_of};
 
 use super::asking::sees;
 use super::playing::Change::Insert;
@@ -25,9 +26,9 @@ fn nothing(alloc: Global) -> Result<Members, BeginError>
 // A round of two lanes with two updates each, with room for all keys.
 fn begun(alloc: Global, set: Members) -> Result<(Table, Hands), Members>
     requires { set.bits ≡ 4 }
-    ensures bits { IfOk result (λ t. t.0.bits ≡ 4) }
-    ensures room { IfOk result (λ t. 16 ≤ t.0.room) }
-    ensures together { IfOk result (λ t. t.1.round ≡ t.0) }
+    ensures bits { IfOk result (λ t. t.1.round.bits ≡ 4) }
+    ensures room { IfOk result (λ t. 16 ≤ t.1.round.room) }
+    ensures together { IfOk result (λ t. table_of t.1.round ≡ t.0) }
     ensures none_out { IfOk result (λ t. t.1.back ≡ t.1.handed) }
     ensures same { IfErr result (λ e. e ≡ set) }
 {
@@ -36,7 +37,7 @@ fn begun(alloc: Global, set: Members) -> Result<(Table, Hands), Members>
 
 #[test]
 fn a_note_of_the_round_before_is_of_another_round(rt: HostRuntime) -> Result<(), BeginError> {
-    let Ok((mut round, mut crew)) = begun(rt.alloc(), nothing(rt.alloc())?) else {
+    let Ok((round, mut crew)) = begun(rt.alloc(), nothing(rt.alloc())?) else {
         return Err(BeginError::OutOfMemory);
     };
     let Ok(mut list) = Vec::with_capacity(rt.alloc(), 16) else {
@@ -46,7 +47,7 @@ fn a_note_of_the_round_before_is_of_another_round(rt: HostRuntime) -> Result<(),
     equal(&rt, changed(&mut pass, 16, Insert(5)), Is(true));
     let note = pass.note();
     let half = pass.into_half();
-    let mut crew = gone_on(&mut round, crew, half, &note, &mut list);
+    let mut crew = gone_on(&round, crew, half, &note, &mut list);
     equal(&rt, list.as_slice(), [(5, 5)].as_slice());
     let mut pass = crew.pass(&round).expect(&rt, "lane 0 of the next round");
     pass.learn(note);

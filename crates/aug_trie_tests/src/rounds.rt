@@ -1,5 +1,6 @@
 //! How rounds begin, and their passes.
 ghost use Rattle.std.specs.Prelude.{◌≡◌, IfOk};
+ghost use Rattle.aug_trie.specs.Round.{table_of};
 
 use aug_monoid::{Extent, Sum};
 use aug_trie::{BeginError, Climb, Crew, CrewError, Ended, Members, Pass, PassHalf, Round};
@@ -35,8 +36,8 @@ pub(super) fn tried(
     way: Way,
     numbers: Numbers,
 ) -> Result<(Table, Hands), (Trie, BeginError)>
-    ensures bits { IfOk result (λ t. t.0.bits ≡ numbers.0) }
-    ensures together { IfOk result (λ t. t.1.round ≡ t.0) }
+    ensures bits { IfOk result (λ t. t.1.round.bits ≡ numbers.0) }
+    ensures together { IfOk result (λ t. table_of t.1.round ≡ t.0) }
 {
     let (bits, workers, updates) = numbers;
     if matches!(way, Way::Begin) && ended.bits() == bits {
@@ -51,8 +52,8 @@ pub(super) fn tried_over(
     members: Members,
     numbers: Numbers,
 ) -> Result<(Table, Hands), (Members, BeginError)>
-    ensures bits { IfOk result (λ t. t.0.bits ≡ numbers.0) }
-    ensures together { IfOk result (λ t. t.1.round ≡ t.0) }
+    ensures bits { IfOk result (λ t. t.1.round.bits ≡ numbers.0) }
+    ensures together { IfOk result (λ t. table_of t.1.round ≡ t.0) }
 {
     let (bits, workers, updates) = numbers;
     Round::begin_over(alloc, members, bits, workers, updates)
@@ -60,8 +61,8 @@ pub(super) fn tried_over(
 
 // A round over the list of a trie's set.
 fn begun_over(alloc: Global, ended: Trie, numbers: Numbers) -> Result<(Table, Hands), BeginError>
-    ensures bits { IfOk result (λ t. t.0.bits ≡ numbers.0) }
-    ensures together { IfOk result (λ t. t.1.round ≡ t.0) }
+    ensures bits { IfOk result (λ t. t.1.round.bits ≡ numbers.0) }
+    ensures together { IfOk result (λ t. table_of t.1.round ≡ t.0) }
 {
     let Ok(members) = ended.into_members(alloc) else {
         return Err(BeginError::OutOfMemory);
@@ -79,8 +80,8 @@ pub(super) fn begun(
     way: Way,
     numbers: Numbers,
 ) -> Result<(Table, Hands), BeginError>
-    ensures bits { IfOk result (λ t. t.0.bits ≡ numbers.0) }
-    ensures together { IfOk result (λ t. t.1.round ≡ t.0) }
+    ensures bits { IfOk result (λ t. t.1.round.bits ≡ numbers.0) }
+    ensures together { IfOk result (λ t. table_of t.1.round ≡ t.0) }
 {
     if matches!(way, Way::OverList) {
         return begun_over(alloc, ended, numbers);
@@ -93,8 +94,8 @@ pub(super) fn begun(
 
 // A round over the empty set, and its crew.
 pub(super) fn opened(alloc: Global, numbers: Numbers) -> Result<(Table, Hands), BeginError>
-    ensures bits { IfOk result (λ t. t.0.bits ≡ numbers.0) }
-    ensures together { IfOk result (λ t. t.1.round ≡ t.0) }
+    ensures bits { IfOk result (λ t. t.1.round.bits ≡ numbers.0) }
+    ensures together { IfOk result (λ t. table_of t.1.round ≡ t.0) }
 {
     let ended: Trie = Ended::empty(alloc, numbers.0)?;
     begun(alloc, ended, Way::Begin, numbers)
@@ -102,9 +103,9 @@ pub(super) fn opened(alloc: Global, numbers: Numbers) -> Result<(Table, Hands), 
 
 // The pass of the next lane.
 pub(super) fn next_pass<'r>(crew: &mut Hands, round: &'r Table) -> Result<Walker<'r>, CrewError>
-    requires together { crew.old.round ≡ round.now }
-    ensures together { crew.new.round ≡ round.now }
-    ensures round { IfOk result (λ pass. pass.round ≡ round.now) }
+    requires together { table_of crew.old.round ≡ round.now }
+    ensures together { crew.new.round ≡ crew.old.round }
+    ensures round { IfOk result (λ pass. pass.round ≡ crew.old.round) }
 {
     crew.pass(round)
 }

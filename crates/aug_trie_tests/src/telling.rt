@@ -1,7 +1,7 @@
 //! What is told by notes: at once, by way of the crew, and across a channel.
 ghost use Rattle.std.specs.Prelude.{◌≡◌, ◌^◌, ◌<◌};
 ghost use Rattle.std.specs.Bool.{OnTrue};
-ghost use Rattle.aug_trie.specs.Round.{RoundFacts};
+ghost use Rattle.aug_trie.specs.Round.{RoundFacts, table_of};
 ghost use Rattle.aug_trie.specs.Snapshot.{HasSnapshot, snapshot_cut};
 ghost use Rattle.aug_trie_tests.specs.Reports.{ShowsInsertion, no_round};
 
@@ -40,8 +40,8 @@ fn told(from: &mut Walker<'_>, to: &mut Walker<'_>, key: u32) -> (bool, Snapshot
 
 // A pass of a round of 4 bits tells another what it did, and the crew tells it again once the pass is back.
 fn assert_notes(rt: &impl Abort, round: &Table, crew: &mut Hands)
-    requires together { crew.old.round ≡ round.now }
-    requires bits { round.now.bits ≡ 4 }
+    requires together { table_of crew.old.round ≡ round.now }
+    requires bits { crew.old.round.bits ≡ 4 }
 {
     let mut a = next_pass(crew, round).expect(rt, "lane 0");
     let mut b = next_pass(crew, round).expect(rt, "lane 1");
@@ -117,9 +117,9 @@ impl<K: OfRound> News<K> {
 
 // Puts the keys of 4 bits in, and tells of each.
 fn tells<K: OfRound, R: Wait>(rt: &R, round: &Table, half: Half, to: Sender<News<K>>) -> Half
-    requires round { round.now ≡ K.round }
-    requires half { half.round ≡ round.now }
-    requires bits { round.now.bits ≡ 4 }
+    requires table { table_of K.round ≡ round.now }
+    requires half { half.round ≡ K.round }
+    requires bits { K.round.bits ≡ 4 }
     ensures { result.round ≡ half.round }
 {
     let mut pass = round.pass(half);
@@ -137,8 +137,8 @@ fn hears<K: OfRound, R: Wait>(
     half: Half,
     from: Receiver<News<K>>,
 ) -> (Half, bool)
-    requires round { round.now ≡ K.round }
-    requires half { half.round ≡ round.now }
+    requires table { table_of K.round ≡ round.now }
+    requires half { half.round ≡ K.round }
     ensures { result.0.round ≡ half.round }
 {
     let mut pass = round.pass(half);
@@ -162,20 +162,20 @@ fn spoken<K: OfRound + Send, R: Threads + Wait + Sync + Abort>(
     one: Half,
     two: Half,
 ) -> (Half, (Half, bool))
-    requires round { round.now ≡ K.round }
-    requires halves { (one.round ≡ round.now) × (two.round ≡ round.now) }
-    requires bits { round.now.bits ≡ 4 }
-    ensures { (result.0.round ≡ round.now) × (result.1.0.round ≡ round.now) }
+    requires table { table_of K.round ≡ round.now }
+    requires halves { (one.round ≡ K.round) × (two.round ≡ K.round) }
+    requires bits { K.round.bits ≡ 4 }
+    ensures { (result.0.round ≡ K.round) × (result.1.0.round ≡ K.round) }
 {
     let (to, from) = unbounded::<News<K>, Global>(alloc).expect(rt, "memory");
     thread::join(
         rt,
         move ||
-            requires { (one.round ≡ round.now) × (round.now ≡ K.round) × (round.now.bits ≡ 4) }
+            requires { (one.round ≡ K.round) × (table_of K.round ≡ round.now) × (K.round.bits ≡ 4) }
             ensures { result.round ≡ one.round }
         { tells::<K, R>(rt, round, one, to) },
         move ||
-            requires { (two.round ≡ round.now) × (round.now ≡ K.round) }
+            requires { (two.round ≡ K.round) × (table_of K.round ≡ round.now) }
             ensures { result.0.round ≡ two.round }
         { hears::<K, R>(rt, round, two, from) },
     )

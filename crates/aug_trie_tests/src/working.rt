@@ -1,5 +1,6 @@
 //! Lanes at work in threads of their own: each does the same with some keys, again and again, or looks at what the others do.
 ghost use Rattle.std.specs.Prelude.{◌≡◌, ◌^◌, IfOk};
+ghost use Rattle.aug_trie.specs.Round.{table_of};
 
 use super::asking::{adds_up, seen_size};
 use super::playing::Change::{Insert, Put, Remove};
@@ -12,9 +13,9 @@ use std::thread::Threads;
 
 // A half of the pass of the next lane.
 pub(super) fn next_half(crew: &mut Hands, round: &Table) -> Result<Half, CrewError>
-    requires together { crew.old.round ≡ round.now }
-    ensures together { crew.new.round ≡ round.now }
-    ensures round { IfOk result (λ half. half.round ≡ round.now) }
+    requires together { table_of crew.old.round ≡ round.now }
+    ensures together { crew.new.round ≡ crew.old.round }
+    ensures round { IfOk result (λ half. half.round ≡ crew.old.round) }
 {
     match next_pass(crew, round) {
         Ok(pass) => Ok(pass.into_half()),
@@ -24,9 +25,9 @@ pub(super) fn next_half(crew: &mut Hands, round: &Table) -> Result<Half, CrewErr
 
 // Takes the pass of a half back.
 pub(super) fn back(crew: &mut Hands, round: &Table, half: Half)
-    requires together { crew.old.round ≡ round.now }
-    requires round { half.round ≡ round.now }
-    ensures { crew.new.round ≡ round.now }
+    requires together { table_of crew.old.round ≡ round.now }
+    requires round { half.round ≡ crew.old.round }
+    ensures { crew.new.round ≡ crew.old.round }
 {
     crew.back(round.pass(half));
 }
@@ -93,7 +94,7 @@ pub(super) type Worked = (Half, Option<u32>);
 
 // A task, done by the pass of a half.
 pub(super) fn done(round: &Table, half: Half, task: Task) -> Worked
-    requires { half.round ≡ round.now }
+    requires { table_of half.round ≡ round.now }
     ensures { result.0.round ≡ half.round }
 {
     let universe = half.universe();
@@ -117,17 +118,17 @@ fn pair<R: Threads + Wait + Sync>(
     two: Half,
     task: Task,
 ) -> (Worked, Worked)
-    requires { (one.round ≡ round.now) × (two.round ≡ round.now) }
+    requires { (table_of one.round ≡ round.now) × (table_of two.round ≡ round.now) }
     ensures { (result.0.0.round ≡ one.round) × (result.1.0.round ≡ two.round) }
 {
     thread::join(
         rt,
         move ||
-            requires { one.round ≡ round.now }
+            requires { table_of one.round ≡ round.now }
             ensures { result.0.round ≡ one.round }
         { done(round, one, task) },
         move ||
-            requires { two.round ≡ round.now }
+            requires { table_of two.round ≡ round.now }
             ensures { result.0.round ≡ two.round }
         { done(round, two, task) },
     )
@@ -141,18 +142,18 @@ pub(super) fn work<R: Threads + Wait + Sync>(
     first: Task,
     second: Task,
 ) -> ((Worked, Worked), (Worked, Worked))
-    requires { (halves.0.round ≡ round.now) × (halves.1.round ≡ round.now) × (halves.2.round ≡ round.now) × (halves.3.round ≡ round.now) }
-    ensures { (result.0.0.0.round ≡ round.now) × (result.0.1.0.round ≡ round.now) × (result.1.0.0.round ≡ round.now) × (result.1.1.0.round ≡ round.now) }
+    requires { (table_of halves.0.round ≡ round.now) × (table_of halves.1.round ≡ round.now) × (table_of halves.2.round ≡ round.now) × (table_of halves.3.round ≡ round.now) }
+    ensures { (result.0.0.0.round ≡ halves.0.round) × (result.0.1.0.round ≡ halves.1.round) × (result.1.0.0.round ≡ halves.2.round) × (result.1.1.0.round ≡ halves.3.round) }
 {
     let (one, two, three, four) = halves;
     thread::join(
         rt,
         move ||
-            requires { (one.round ≡ round.now) × (two.round ≡ round.now) }
+            requires { (table_of one.round ≡ round.now) × (table_of two.round ≡ round.now) }
             ensures { (result.0.0.round ≡ one.round) × (result.1.0.round ≡ two.round) }
         { pair(rt, round, one, two, first) },
         move ||
-            requires { (three.round ≡ round.now) × (four.round ≡ round.now) }
+            requires { (table_of three.round ≡ round.now) × (table_of four.round ≡ round.now) }
             ensures { (result.0.0.round ≡ three.round) × (result.1.0.round ≡ four.round) }
         { pair(rt, round, three, four, second) },
     )

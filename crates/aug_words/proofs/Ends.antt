@@ -45,17 +45,17 @@ module _ (face : ℕ → ℕ → List (ℕ × ℕ) → List ℕ) (o : Opening) w
     ends_showing = subst (λ (z : List ℕ). ShowAll face o v z) end.words_are (shows_all end.state end.kept end.seat v end.view_is)
 
 -- a lead that began to renew its table brought it to rest
-pub comes_to_rest : (face : ℕ → ℕ → List (ℕ × ℕ) → List ℕ) (o : Opening) (v : SeatView) (root : ℕ) (idle : SeatView) → KnowsTable face v → opening_of v ≡ o → BeginsRenewal face v (root_place v.shape) root idle → ComesToRest face o v root idle
-comes_to_rest face o v root idle knows same b =
+pub comes_to_rest : (face : ℕ → ℕ → List (ℕ × ℕ) → List ℕ) (v : SeatView) (root : ℕ) (idle : SeatView) → KnowsTable face v → BeginsRenewal face v (root_place v.shape) root idle → ComesToRest face v root idle
+comes_to_rest face v root idle knows b =
     let shape : b.last.shape ≡ v.shape = ap (λ (z : SeatView). z.shape) b.loaded.stepped in
-    let rule : EndWith face o b.last idle.words = subst (λ (z : Opening). EndWith face z b.last idle.words) same b.ends in record {
+    let rule : EndWith face (opening_of b.last) b.last idle.words = subst (λ (z : Opening). EndWith face z b.last idle.words) (ap opening_of (sym b.loaded.stepped)) b.ends in record {
       last = b.last;
       loaded = b.loaded;
       knows = knows_shown face v b.last knows b.loaded.sees shape (ap (λ (z : SeatView). z.members) b.loaded.stepped);
       named = record { index = b.loaded.index; entry = b.loaded.entry; newest = subst (λ (z : Shape). IsNewest b.last.seen (root_place z) b.loaded.index b.loaded.entry) (sym shape) b.loaded.newest; named = b.loaded.found };
       idle_is = b.stepped;
       rule = rule;
-      words = ends_showing face o b.last idle.words rule;
+      words = ends_showing face (opening_of b.last) b.last idle.words rule;
     }
 
 -- a table that a lead closes met the rule of the opening that the lead knows

@@ -31,28 +31,28 @@ use mathlib.Core.Option.{some}
 use lib.ListN.{get_elem?}
 use Rattle.aug_words.specs.Leads.{HandsLaneOut}
 use Rattle.aug_words.specs.Notes.{LearnsNote}
-use Rattle.aug_words.specs.inside.SeatState.{SitsAt, IsPassSeat, IsLeadSeat, IsStore}
+use Rattle.aug_words.specs.inside.SeatState.{SitsAt, IsPassSeat, IsLeadSeat, IsStore, IsDraft}
 use Rattle.aug_words.specs.Seats.{IsNextLane}
 
 -- a table has a word
-pub some_words : (table : TableId) (made opening : Opening) (layout : Shape) (lanes records : ℕ) (draft : List ℕ) → IsStore table made opening layout lanes records draft → 0 < table.words
-some_words table made opening layout lanes records draft store = let wide = store.wide in let workers = store.laid_out.workers.0 in omega arith
+pub some_words : (table : TableId) (made : Opening) (layout : Shape) (lanes records : ℕ) → IsStore table made layout lanes records → 0 < table.words
+some_words table made layout lanes records store = let wide = store.wide in let workers = store.laid_out.workers.0 in omega arith
 
 pub pass_has_words : (face : ℕ → ℕ → List (ℕ × ℕ) → List ℕ) (seat_table table : TableId) (lanes records lane : ℕ) (me : Sat) → SitsAt seat_table table lanes records me.0.shape → IsPassSeat face lane me → 0 < table.words
 pass_has_words face seat_table table lanes records lane me sits seat = let wide = sits.wide in let low = seat.exists in omega arith
 
 -- the first lane's word comes after the root's
-pub lanes_at : (table : TableId) (made opening : Opening) (layout : Shape) (lanes records : ℕ) (draft : List ℕ) → IsStore table made opening layout lanes records draft → (lanes ≡ root_place opening.shape + 1) × (2 ≤ lanes) × (lanes < word_count opening.shape)
-lanes_at table made opening layout lanes records draft store = let begins = store.lanes_are in let workers = store.laid_out.workers.0 in let bits = keys-within opening.shape.bits store.laid_out.bits.0 store.laid_out.bits.1 in let b = bits.0 in let t = twice opening.shape.bits in (omega arith, omega arith, omega arith)
+pub lanes_at : (table : TableId) (made : Opening) (layout : Shape) (lanes records : ℕ) → IsStore table made layout lanes records → (lanes ≡ root_place layout + 1) × (2 ≤ lanes) × (lanes < word_count layout)
+lanes_at table made layout lanes records store = let begins = store.lanes_are in let workers = store.laid_out.workers.0 in let bits = keys-within layout.bits store.laid_out.bits.0 store.laid_out.bits.1 in let b = bits.0 in let t = twice layout.bits in (omega arith, omega arith, omega arith)
 
 -- the root is an inner node
 pub root_inner : (s : Shape) → 1 ≤ s.bits → s.bits ≤ 16 → IsInner s (root_place s)
 root_inner s some_bits few = let b = (keys-within s.bits some_bits few).0 in let t = twice s.bits in record { past_leaves = omega arith; inside = omega arith }
 
 -- the seat that opens a table, which has the number of the root's opening record
-pub opening_seat : (face : ℕ → ℕ → List (ℕ × ℕ) → List ℕ) (o : Opening) (past : List PastEra) (era : ℕ) (words : List ℕ) (number : ℕ) → IsLayout o.shape → IsKeySet o.shape.bits (keys_of o.members) → All FitsPair o.members → length (keys_of o.members) ≤ o.shape.members
-    → number ≡ opening_number o (root_place o.shape) → IsLeadSeat face 0 number (opener face o past era words, [])
-opening_seat face o past era words number laid_out set fit few named = let inner = root_inner o.shape laid_out.bits.0 laid_out.bits.1 in let only = inner_history face o (root_place o.shape) inner in record {
+pub opening_seat : (face : ℕ → ℕ → List (ℕ × ℕ) → List ℕ) (o : Opening) (past : List PastEra) (era : ℕ) (words : List ℕ) (number : ℕ) (draft : List ℕ) → IsLayout o.shape → IsKeySet o.shape.bits (keys_of o.members) → All FitsPair o.members → length (keys_of o.members) ≤ o.shape.members
+    → number ≡ opening_number o (root_place o.shape) → IsDraft o.shape draft → IsLeadSeat face 0 number draft (opener face o past era words, [])
+opening_seat face o past era words number draft laid_out set fit few named drafts = let inner = root_inner o.shape laid_out.bits.0 laid_out.bits.1 in let only = inner_history face o (root_place o.shape) inner in record {
   live = refl;
   no_slot = refl;
   hands_out = refl;
@@ -63,11 +63,12 @@ opening_seat face o past era words number laid_out set fit few named = let inner
     newest = record { at = subst (λ (z : List Entry). get_elem? z 0 ≡ some (opening_entry face o (root_place o.shape))) (sym only) refl; last = ap (λ (z : List Entry). length z) only };
     named = named;
   };
+  drafts = drafts;
 }
 
-module _ (face : ℕ → ℕ → List (ℕ × ℕ) → List ℕ) (next root : ℕ) (me me' : Sat) (seat : IsLeadSeat face next root me) where
+module _ (face : ℕ → ℕ → List (ℕ × ℕ) → List ℕ) (next root : ℕ) (draft : List ℕ) (me me' : Sat) (seat : IsLeadSeat face next root draft me) where
   -- a lead that loaded the root's word
-  pub lead_loaded : (found : ℕ) → me'.1 ≡ [] → LoadsNode face me.0 (root_place me.0.shape) found me'.0 → IsLeadSeat face next found me'
+  pub lead_loaded : (found : ℕ) → me'.1 ≡ [] → LoadsNode face me.0 (root_place me.0.shape) found me'.0 → IsLeadSeat face next found draft me'
   lead_loaded found empty did = let is = did.stepped in record {
     live = ap (λ (z : SeatView). z.live) is ∙ seat.live;
     no_slot = empty;
@@ -79,36 +80,40 @@ module _ (face : ℕ → ℕ → List (ℕ × ℕ) → List ℕ) (next root : �
       newest = subst (λ (z : Shape). IsNewest me'.0.seen (root_place z) did.index did.entry) (sym (ap (λ (z : SeatView). z.shape) is)) did.newest;
       named = did.found;
     };
+    drafts = subst (λ (z : SeatView). IsDraft z.shape draft) (sym is) seat.drafts;
   }
 
   -- one that handed a lane out
-  pub lead_handed : me'.0 ≡ handing_out me.0 → me'.1 ≡ me.1 → IsLeadSeat face (next + 1) root me'
-  lead_handed is same = subst (IsLeadSeat face (next + 1) root) (λ i. (sym is i, sym same i)) record {
+  pub lead_handed : me'.0 ≡ handing_out me.0 → me'.1 ≡ me.1 → IsLeadSeat face (next + 1) root draft me'
+  lead_handed is same = subst (IsLeadSeat face (next + 1) root draft) (λ i. (sym is i, sym same i)) record {
     live = seat.live;
     no_slot = seat.no_slot;
     hands_out = ap (option_map (λ n. n + 1)) seat.hands_out;
     knows = knows_same face me.0 me.0.live me.0.also me.0.held (option_map (λ n. n + 1) me.0.spare) me.0.began me.0.steps seat.knows;
     names_root = let at = seat.names_root in record { index = at.index; entry = at.entry; newest = at.newest; named = at.named };
+    drafts = seat.drafts;
   }
 
   -- one that took a pass in
-  pub lead_joined : (w : SeatView) → me'.0 ≡ taking_back me.0 w → me'.1 ≡ me.1 → IsLeadSeat face next root me'
-  lead_joined w is same = subst (IsLeadSeat face next root) (λ i. (sym is i, sym same i)) record {
+  pub lead_joined : (w : SeatView) → me'.0 ≡ taking_back me.0 w → me'.1 ≡ me.1 → IsLeadSeat face next root draft me'
+  lead_joined w is same = subst (IsLeadSeat face next root draft) (λ i. (sym is i, sym same i)) record {
     live = seat.live;
     no_slot = seat.no_slot;
     hands_out = seat.hands_out;
     knows = knows_same face me.0 me.0.live w.seen (me.0.held ++ w.held) me.0.spare me.0.began me.0.steps seat.knows;
     names_root = let at = seat.names_root in record { index = at.index; entry = at.entry; newest = at.newest; named = at.named };
+    drafts = seat.drafts;
   }
 
   -- one that took in a note
-  pub lead_learnt : (w : SeatView) → me'.0 ≡ learning me.0 w → me'.1 ≡ me.1 → IsLeadSeat face next root me'
-  lead_learnt w is same = subst (IsLeadSeat face next root) (λ i. (sym is i, sym same i)) record {
+  pub lead_learnt : (w : SeatView) → me'.0 ≡ learning me.0 w → me'.1 ≡ me.1 → IsLeadSeat face next root draft me'
+  lead_learnt w is same = subst (IsLeadSeat face next root draft) (λ i. (sym is i, sym same i)) record {
     live = seat.live;
     no_slot = seat.no_slot;
     hands_out = seat.hands_out;
     knows = knows_told face me.0 (seen_in me.0.era w).seen (Some (learnt_of w)) seat.knows;
     names_root = let at = seat.names_root in record { index = at.index; entry = at.entry; newest = at.newest; named = at.named };
+    drafts = seat.drafts;
   }
 
 -- a lead that may hand a lane out may do so after it loaded a node
@@ -118,8 +123,8 @@ may_hand_out face old new q found lane next did room spare =
     let shaped = ap (λ (z : SeatView). z.shape) did.stepped in subst (λ (z : Shape). next < z.workers) (sym shaped) (let low = room.exists in omega arith)
 
 -- the seat that was split off a lead's, once it took its lane
-pub new_pass : (face : ℕ → ℕ → List (ℕ × ℕ) → List ℕ) (next root place : ℕ) (lead me : Sat) → IsLeadSeat face next root lead → next < lead.0.shape.workers → me.1 ≡ [] → me.0 ≡ taking (handed_out lead.0) place → IsPassSeat face next me
-new_pass face next root place lead me seat low empty is =
+pub new_pass : (face : ℕ → ℕ → List (ℕ × ℕ) → List ℕ) (next root place : ℕ) (draft : List ℕ) (lead me : Sat) → IsLeadSeat face next root draft lead → next < lead.0.shape.workers → me.1 ≡ [] → me.0 ≡ taking (handed_out lead.0) place → IsPassSeat face next me
+new_pass face next root place draft lead me seat low empty is =
     let which : unwrap_or lead.0.spare 0 ≡ next = ap (λ (z : Option ℕ). unwrap_or z 0) seat.hands_out in
     subst (IsPassSeat face next) (λ i. (sym is i, sym empty i)) record {
       live = seat.live;
@@ -146,13 +151,10 @@ learnt_note face v note w found did told = record {
 pub took_back : (face : ℕ → ℕ → List (ℕ × ℕ) → List ℕ) (v w u x : SeatView) (q found : ℕ) → LoadsNode face (taking_back v w) q found u → w.seen ≡ x.seen → GoesOnFromBoth v.seen x.seen u.seen
 took_back face v w u x q found did same = goes_on_from_both u.seen v.seen x.seen did.sees.later (subst (λ (z : Book). ArePrefixes z u.seen) same did.sees.also_later)
 
--- a lane that is handed out leaves how the table is laid out and opened, and the next one is the next
+-- a lane that is handed out leaves how the table is laid out, and the next one is the next
 module _ (face : ℕ → ℕ → List (ℕ × ℕ) → List ℕ) (lead after pass : SeatView) (h : HandsLaneOut face lead after pass) where
   pub lead_shape : after.shape ≡ lead.shape
   lead_shape = ap (λ (z : SeatView). z.shape) h.lead_is ∙ ap (λ (z : SeatView). z.shape) h.loaded.stepped
-
-  pub lead_members : after.members ≡ lead.members
-  lead_members = ap (λ (z : SeatView). z.members) h.lead_is ∙ ap (λ (z : SeatView). z.members) h.loaded.stepped
 
   pub pass_shape : pass.shape ≡ lead.shape
   pass_shape = ap (λ (z : SeatView). z.shape) h.pass_is ∙ ap (λ (z : SeatView). z.shape) h.loaded.stepped

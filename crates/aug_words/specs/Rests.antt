@@ -8,7 +8,7 @@ use Rattle.aug_core.specs.Addresses.{IsInner, root_place}
 use Rattle.aug_core.specs.Lanes.{IsOfLane, word_of_state}
 use Rattle.aug_core.specs.Book.{At}
 use Rattle.aug_core.specs.Opening.{Opening, IsIdle, opening_number, opening_words, shared_words}
-use Rattle.aug_core.specs.Told.{KnowsTable, LoadsNode, held_word}
+use Rattle.aug_core.specs.Told.{KnowsTable, LoadsNode, held_word, opening_of}
 use Rattle.aug_core.specs.Renewals.{EndWith, renewing}
 use Rattle.aug_core.specs.declared.view.Entry.{Entry}
 use Rattle.aug_core.specs.declared.view.Held.{Held}
@@ -36,7 +36,7 @@ module _ (face : ℕ → ℕ → List (ℕ × ℕ) → List ℕ) (o : Opening) (
     -- and so is each word of its records
     pub records : (a number field : ℕ) (h : Held) → get_elem? v.held a ≡ some h → IsOfLane o.shape h.lane number → field < record_words → slice_index words (record_start o.shape number + field) ≡ held_word o.shape h number field
 
-module _ (face : ℕ → ℕ → List (ℕ × ℕ) → List ℕ) (o : Opening) where
+module _ (face : ℕ → ℕ → List (ℕ × ℕ) → List ℕ) where
   -- a lead that brings its table to rest loads the root, by which it knows the last book of the era; and from then on it knows all words
   pub record ComesToRest (v : SeatView) (root : ℕ) (idle : SeatView) : Type 0 where
     pub last : SeatView
@@ -44,5 +44,5 @@ module _ (face : ℕ → ℕ → List (ℕ × ℕ) → List ℕ) (o : Opening) w
     pub knows : KnowsTable face last
     pub named : NamesRoot last root
     pub idle_is : idle ≡ renewing last idle.words
-    pub rule : EndWith face o last idle.words
-    pub words : ShowAll face o last idle.words
+    pub rule : EndWith face (opening_of last) last idle.words
+    pub words : ShowAll face (opening_of last) last idle.words

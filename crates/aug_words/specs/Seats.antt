@@ -2,31 +2,29 @@
 -- definition of `Told` over that view: in the example `load_leaf` asks for a key below 4, and its clause is `LoadsLeaf`.
 use Rattle.std.specs.Prelude.{◌≡◌, ℕ, ◌+◌, ◌<◌, ◌⊎◌, ◌↔◌, Bool, IsTrue, List, Some}
 use Rattle.atomic_table.specs.Seated.{TableId}
-use Rattle.aug_core.specs.Places.{record_start}
+use Rattle.aug_core.specs.Places.{Shape, record_start}
 use Rattle.aug_core.specs.Addresses.{root_place}
 use Rattle.aug_core.specs.Book.{At, IsNewest}
-use Rattle.aug_core.specs.Opening.{Opening}
 use Rattle.aug_core.specs.Kinds.{load_record_word}
 use Rattle.aug_core.specs.Told.{stepping, HasSeen, Owns, Says, SaysOwn, IsAdvance, old_word, new_word, TriesLeaf, TriesNode}
 use Rattle.aug_core.specs.declared.view.Advance.{Advance}
 use Rattle.aug_core.specs.declared.view.Entry.{Entry}
 use Rattle.aug_core.specs.declared.view.SeatView.{SeatView}
 
--- a table, and how it was opened
+-- a table, and how it is laid out. It is the same in each of its eras
 pub record Store : Type 0 where
   pub table : TableId
-  pub opening : Opening
+  pub shape : Shape
 
 -- a seat: its table, and what it knows of it
 pub record Known : Type 0 where
   pub table : TableId
   pub view : SeatView
 
--- the seat was made with the table, or comes from one that was
+-- the seat is one of the table's
 pub record AreTogether (store : Store) (known : Known) : Type 0 where
   pub one_table : known.table ≡ store.table
-  pub one_shape : known.view.shape ≡ store.opening.shape
-  pub same_members : known.view.members ≡ store.opening.members
+  pub one_shape : known.view.shape ≡ store.shape
 
 -- the pass is one of the lead's: it sits at the same table
 pub record IsOfLead (lead pass : Known) : Type 0 where

@@ -26,6 +26,8 @@ pub struct Lead<A: Monoid, B: Monoid> {
     pub(crate) next: u32,
     // The number of the newest record of the root that the lead has seen.
     pub(crate) root: u64,
+    // Room for the words with which the table is opened again.
+    pub(crate) draft: Vec<u64>,
     pub(crate) sums: PhantomData<(A, B)>,
 }
 
@@ -38,7 +40,7 @@ impl<A: Monoid, B: Monoid> Model for Lead<A, B> {
 
     ghost view = { λ p. record { table = p.seat.table_id; view = p.seat.me.0 } };
 
-    ghost invariant = { λ p. IsLeadSeat (face A.parts B.parts) p.next p.root p.seat.me };
+    ghost invariant = { λ p. IsLeadSeat (face A.parts B.parts) p.next p.root p.draft.items p.seat.me };
 }
 
 // Takes the lane of a seat that was just split off: a compare-exchange of its word from free to taken.

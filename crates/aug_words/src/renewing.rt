@@ -18,12 +18,11 @@ use crate::lead::Lead;
 use crate::words::Words;
 use atomic_table::Seat;
 use aug_core::{
-    BeginRenewal, LoadAnyWord, OpenAgain, OpeningKey, RECORD_WORDS, RecordField, SeatView,
-    SharedWords, StoreAnyWord,
+    BeginRenewal, LoadAnyWord, OpenAgain, RECORD_WORDS, RecordField, SeatView, SharedWords,
+    StoreAnyWord,
 };
 use aug_monoid::Monoid;
 use std::marker::{Model, PhantomData};
-use std::mem;
 
 // Begins to renew a table whose lanes are all back: a load of the root's word.
 fn begin_renewal<A: Monoid, B: Monoid>(
@@ -87,6 +86,8 @@ fn reopen<A: Monoid, B: Monoid>(
 #[derive(Drop)]
 pub struct IdleLead<A: Monoid, B: Monoid> {
     seat: Seat<(), SeatView>,
+    // Room for the words with which the table is opened again.
+    draft: Vec<u64>,
     sums: PhantomData<(A, B)>,
 }
 
@@ -98,14 +99,14 @@ impl<A: Monoid, B: Monoid> Model for IdleLead<A, B> {
 
     ghost view = { λ p. record { table = p.seat.table_id; view = p.seat.me.0 } };
 
-    ghost invariant = { λ p. IsIdleSeat p.seat.me };
+    ghost invariant = { λ p. IsIdleSeat p.draft.items p.seat.me };
 }
 
 impl<A: Monoid, B: Monoid> IdleLead<A, B> {
     /// One of the five words of the record with this number, opening records first.
     pub fn record_word(&mut self, words: &Words<A, B>, number: u64, field: RecordField) -> u64
         requires table { self.old.table ≡ words.now.table }
-        requires shape { self.old.view.shape ≡ words.now.opening.shape }
+        requires shape { self.old.view.shape ≡ words.now.shape }
         requires number { number < record_count self.old.view.shape }
         ensures same { self.new ≡ self.old }
         ensures value { result ≡ slice_index self.old.view.words (record_start self.old.view.shape number + field_offset field) }
@@ -125,34 +126,35 @@ impl<A: Monoid, B: Monoid> Words<A, B> {
         requires together { AreTogether self.now lead }
         requires all { HoldsAll lead.view }
         ensures table { result.0.table ≡ self.now.table }
-        ensures rests { ComesToRest (face A.parts B.parts) self.now.opening lead.view result.1 result.0.view }
+        ensures rests { ComesToRest (face A.parts B.parts) lead.view result.1 result.0.view }
     {
         let Lead {
             mut seat,
-            next: _,
-            root: _,
+            draft,
             sums,
+            ..
         } = lead;
         let root = begin_renewal(&self.table.shared, &mut seat, self.lanes - 1);
-        (IdleLead { seat, sums }, root)
+        (IdleLead { seat, draft, sums }, root)
     }
 
     /// Opens the table again, over these members. The lead hands out all lanes anew. The call stores the words of the leaves, of the nodes, of
     /// the lanes and of the opening records, and no others. It takes no memory.
-    pub fn open_again(&mut self, idle: IdleLead<A, B>, members: &[(u32, u32)]) -> Lead<A, B>
-        requires table { idle.table ≡ self.old.table }
-        requires shape { idle.view.shape ≡ self.old.opening.shape }
-        requires keys { IsKeySet self.old.opening.shape.bits (keys_of members.now) }
+    pub fn open_again(&self, idle: IdleLead<A, B>, members: &[(u32, u32)]) -> Lead<A, B>
+        requires table { idle.table ≡ self.now.table }
+        requires shape { idle.view.shape ≡ self.now.shape }
+        requires keys { IsKeySet self.now.shape.bits (keys_of members.now) }
         requires members_fit { All FitsPair members.now }
-        requires few { length members.now ≤ self.old.opening.shape.members }
-        ensures table { self.new.table ≡ self.old.table }
-        ensures opening { self.new.opening ≡ opening_with self.old.opening.shape members.now }
-        ensures together { AreTogether self.new result }
+        requires few { length members.now ≤ self.now.shape.members }
+        ensures together { AreTogether self.now result }
         ensures era { (result.view.era ≡ idle.view.era) × (result.view.past ≡ idle.view.past) }
         ensures opened { (before : View) × (result.view ≡ reopening (face A.parts B.parts) members.now before) }
     {
-        let IdleLead { mut seat, sums } = idle;
-        let mut draft = mem::replace(&mut self.draft, Vec::new(self.alloc));
+        let IdleLead {
+            mut seat,
+            mut draft,
+            sums,
+        } = idle;
         draft.fill(0);
         let Building { words: draft, .. } = Building::over::<A, B>(
             draft,
@@ -164,12 +166,11 @@ impl<A: Monoid, B: Monoid> Words<A, B> {
         rewrite(&self.table.shared, &mut seat, &draft[..written]);
         reopen(&self.table.shared, &mut seat, members);
         let root = draft[self.lanes - 1];
-        self.opening = OpeningKey::new(&self.layout, members);
-        self.draft = draft;
         Lead {
             seat,
             next: 0,
             root,
+            draft,
             sums,
         }
     }

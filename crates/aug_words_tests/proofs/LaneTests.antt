@@ -4,7 +4,7 @@ use Rattle.std.proofs.Common.{◌≡◌, ℕ, List, ◌+◌, ◌*◌, ◌<◌, �
 use Rattle.aug_core.specs.Places.{Shape, shape_of, own_records, record_count}
 use Rattle.aug_core.specs.Lanes.{IsOfLane}
 use Rattle.aug_core.specs.declared.view.SeatView.{SeatView}
-use Rattle.aug_words.specs.Leads.{HandsLaneOut, TakesLaneBack}
+use Rattle.aug_words.specs.Leads.{TakesLaneBack}
 
 own_of_small : own_records 2 2 2 ≡ 3
 unfolding own_records
@@ -23,13 +23,7 @@ own_of_least = refl
 pub only_lane : (s : Shape) → s ≡ shape_of 1 1 1 1 → IsOfLane s 0 2
 only_lane s e = subst (λ (z : Shape). IsOfLane z 0 2) (sym e) (let own = own_of_least in record { from_first = omega arith; below_next = omega arith })
 
--- what a lane that is handed out, and one that is taken back, leave
-pub pass_members : (face : ℕ → ℕ → List (ℕ × ℕ) → List ℕ) (lead after pass : SeatView) → HandsLaneOut face lead after pass → pass.members ≡ lead.members
-pass_members face lead after pass h = ap (λ (z : SeatView). z.members) h.pass_is ∙ ap (λ (z : SeatView). z.members) h.loaded.stepped
-
+-- a lane that is taken back leaves how the table is laid out
 module _ (face : ℕ → ℕ → List (ℕ × ℕ) → List ℕ) (lead pass after : SeatView) (h : TakesLaneBack face lead pass after) where
   pub shape_back : after.shape ≡ lead.shape
   shape_back = ap (λ (z : SeatView). z.shape) h.loaded.stepped
-
-  pub members_back : after.members ≡ lead.members
-  members_back = ap (λ (z : SeatView). z.members) h.loaded.stepped

@@ -29,7 +29,7 @@ pub(super) fn table_of(
     requires fit { All FitsPair members.now }
     requires few { length members.now ≤ room }
     ensures together { IfOk result (λ t. AreTogether t.0 t.1) }
-    ensures shape { IfOk result (λ t. t.0.opening.shape ≡ shape_of bits workers updates room) }
+    ensures shape { IfOk result (λ t. t.0.shape ≡ shape_of bits workers updates room) }
     ensures spare { IfOk result (λ t. t.1.view.spare ≡ Some 0) }
 {
     let Ok(layout) = Layout::new(bits, workers, updates, room) else {
@@ -41,7 +41,7 @@ pub(super) fn table_of(
 // A table of 2 bits, 3 workers and 2 updates, which opens with the keys 0 and 1.
 pub(super) fn small(alloc: Global) -> Result<(Table, Lead<Sum, Extent>), WordsError>
     ensures together { IfOk result (λ t. AreTogether t.0 t.1) }
-    ensures shape { IfOk result (λ t. t.0.opening.shape ≡ shape_of 2 3 2 2) }
+    ensures shape { IfOk result (λ t. t.0.shape ≡ shape_of 2 3 2 2) }
     ensures spare { IfOk result (λ t. t.1.view.spare ≡ Some 0) }
 {
     table_of(alloc, 2, 3, 2, 2, &[(0, 0), (1, 1)])
@@ -55,9 +55,9 @@ pub(super) fn next_pass<'r, A: Monoid, B: Monoid>(
     number: u64,
 ) -> WordPass<'r, A, B>
     requires together { AreTogether words.now lead.old }
-    requires lane { (lead.old.view.spare ≡ Some lane) × (lane < words.now.opening.shape.workers) }
-    requires updates { 0 < words.now.opening.shape.updates }
-    requires number { IsOfLane words.now.opening.shape lane number }
+    requires lane { (lead.old.view.spare ≡ Some lane) × (lane < words.now.shape.workers) }
+    requires updates { 0 < words.now.shape.updates }
+    requires number { IsOfLane words.now.shape lane number }
     ensures together { AreTogether words.now lead.new }
     ensures lead { lead.new.view.spare ≡ Some (lane + 1) }
     ensures pass { AreTogether words.now result }
@@ -74,7 +74,7 @@ pub(super) fn join<A: Monoid, B: Monoid>(
     pass: WordPass<'_, A, B>,
 )
     requires together { AreTogether words.now lead.old }
-    requires pass { (pass.table ≡ words.now.table) × (pass.view.shape ≡ words.now.opening.shape) }
+    requires pass { (pass.table ≡ words.now.table) × (pass.view.shape ≡ words.now.shape) }
     ensures { AreTogether words.now lead.new }
 {
     let _words = words;

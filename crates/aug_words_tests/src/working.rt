@@ -30,9 +30,9 @@ pub(super) fn next_half(
     number: u64,
 ) -> WordHalf<Sum, Extent>
     requires together { AreTogether words.now lead.old }
-    requires lane { (lead.old.view.spare ≡ Some lane) × (lane < words.now.opening.shape.workers) }
-    requires updates { 0 < words.now.opening.shape.updates }
-    requires number { IsOfLane words.now.opening.shape lane number }
+    requires lane { (lead.old.view.spare ≡ Some lane) × (lane < words.now.shape.workers) }
+    requires updates { 0 < words.now.shape.updates }
+    requires number { IsOfLane words.now.shape lane number }
     ensures together { AreTogether words.now lead.new }
     ensures lead { lead.new.view.spare ≡ Some (lane + 1) }
     ensures half { AreTogether words.now result }

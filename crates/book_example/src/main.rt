@@ -2,6 +2,7 @@
 #![tactic(auto)]
 
 ghost use Rattle.std.specs.Prelude.{◌≡◌, ◌+◌, ◌≤◌, IfOk};
+ghost use Rattle.aug_trie.specs.Round.{table_of};
 ghost use Rattle.aug_trie.specs.Snapshot.{HasSnapshot, set_at};
 ghost use Rattle.book_example.specs.Bids.{bids_agree};
 
@@ -26,7 +27,7 @@ const MIDDLE: u32 = 2_000;
 // Puts an order of 10 in at each of 100 prices from the lowest on, takes every fifth of them out again, and replaces the one
 // behind each of these by an order of 25. No snapshot shows such a price without an order in between.
 fn trade(book: &Book, half: Half, lowest: u32) -> Half
-    requires book { half.round ≡ book.now }
+    requires book { table_of half.round ≡ book.now }
     requires bits { half.round.bits ≡ 12 }
     requires budget { half.spent + 200 ≤ half.round.updates }
     requires prices { lowest + 100 ≤ 4096 }
@@ -65,7 +66,7 @@ fn agrees(pass: &mut Pass<Sum, Extent>, now: Snapshot) -> bool
 
 // Reads the book 500 times, each time from a new snapshot: whether each of them agreed with itself.
 fn watch(book: &Book, half: Half) -> (Half, bool)
-    requires { half.round ≡ book.now }
+    requires { table_of half.round ≡ book.now }
     ensures { result.0.round ≡ half.round }
 {
     let mut pass = book.pass(half);
@@ -83,20 +84,20 @@ fn at_work<R: Threads + Sync>(
     book: &Book,
     halves: (Half, Half, Half),
 ) -> (Half, (Half, (Half, bool)))
-    requires book { (halves.0.round ≡ book.now) × (halves.1.round ≡ book.now) × (halves.2.round ≡ book.now) }
-    requires bits { book.now.bits ≡ 12 }
-    requires budget { (halves.0.spent + 200 ≤ book.now.updates) × (halves.1.spent + 200 ≤ book.now.updates) }
-    ensures one { result.0.round ≡ book.now }
-    ensures two { result.1.0.round ≡ book.now }
-    ensures three { result.1.1.0.round ≡ book.now }
+    requires book { (table_of halves.0.round ≡ book.now) × (table_of halves.1.round ≡ book.now) × (table_of halves.2.round ≡ book.now) }
+    requires bits { (halves.0.round.bits ≡ 12) × (halves.1.round.bits ≡ 12) }
+    requires budget { (halves.0.spent + 200 ≤ halves.0.round.updates) × (halves.1.spent + 200 ≤ halves.1.round.updates) }
+    ensures one { result.0.round ≡ halves.0.round }
+    ensures two { result.1.0.round ≡ halves.1.round }
+    ensures three { result.1.1.0.round ≡ halves.2.round }
 {
     let (one, two, three) = halves;
     thread::join(
         rt,
         || trade(book, one, 1_900),
         move ||
-            requires { (two.round ≡ book.now) × (three.round ≡ book.now) × (book.now.bits ≡ 12)
-                × (two.spent + 200 ≤ book.now.updates) }
+            requires { (table_of two.round ≡ book.now) × (table_of three.round ≡ book.now) × (two.round.bits ≡ 12)
+                × (two.spent + 200 ≤ two.round.updates) }
             ensures { (result.0.round ≡ two.round) × (result.1.0.round ≡ three.round) }
         { thread::join(rt, || trade(book, two, MIDDLE + 1), || watch(book, three)) },
     )
@@ -122,11 +123,11 @@ fn traded<R: Threads + Sync>(
     book: &Book,
     crew: &mut Crew<Sum, Extent>,
 ) -> Result<bool, CrewError>
-    requires book { crew.old.round ≡ book.now }
-    requires bits { book.now.bits ≡ 12 }
-    requires updates { book.now.updates ≡ 200 }
+    requires book { table_of crew.old.round ≡ book.now }
+    requires bits { crew.old.round.bits ≡ 12 }
+    requires updates { crew.old.round.updates ≡ 200 }
     requires all_back { crew.old.back ≡ crew.old.handed }
-    ensures { IfOk result (λ _. (crew.new.round ≡ book.now) × (crew.new.back ≡ crew.new.handed)) }
+    ensures { IfOk result (λ _. (crew.new.round ≡ crew.old.round) × (crew.new.back ≡ crew.new.handed)) }
 {
     let one = crew.pass(book)?.into_half();
     let two = crew.pass(book)?.into_half();

@@ -34,7 +34,7 @@ fn main(rt: HostRuntime) -> anyhow::Result<()> {
     let (r, alloc) = (&rt, rt.alloc());
     let empty: Ended<Sum, Nothing> = Ended::empty(alloc, 12)?;
     let set = empty.into_members(alloc).or(Err(BeginError::OutOfMemory))?;
-    let (book, mut users) = Live::open(r, alloc, set, 2, 1 << 20).map_err(|(_, cause)| cause)?;
+    let (book, mut users) = Live::open(alloc, set, 2, 1 << 20).map_err(|(_, cause)| cause)?;
     let one = users.pop().ok_or(BeginError::BadWorkers)?;
     let two = users.pop().ok_or(BeginError::BadWorkers)?;
     let (offered, agree) = thread::join(r, || offer(r, one), || watch(r, two));

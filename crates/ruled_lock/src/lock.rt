@@ -1,8 +1,9 @@
 //! The lock.
-ghost use Rattle.std.specs.Prelude.{◌≡◌, ◌<◌, [], ◌∷◌, IfOk, IfSome, IsSome, None, Some};
+ghost use Rattle.std.specs.Prelude.{◌≡◌, ◌≢◌, ◌<◌, [], ◌∷◌, IfErr, IfOk, IfSome, IsSome, None, Some};
 ghost use Rattle.ruled_lock.specs.Locks.{client_of, IsSamePass, HoldsNothing, Holds, Learns, TurnsAt, Forks, Meets};
 
 use crate::holding::Holding;
+use crate::patience::Patience;
 use crate::plays::{Both, Cut, Give, Try};
 use crate::rule::{Lesson, LockRule, Outcome};
 use atomic_table::{Join, Seat, Split, Table, TableRule};
@@ -75,33 +76,55 @@ impl<T, V, P: LockRule<T, V>> RuledLock<T, V, P> {
         requires free { HoldsNothing other }
         requires rule { Meets P.holds pass.old.id (client_of pass.old) other.id (client_of other) (M.both (client_of pass.old) (client_of other)) M.spent }
         ensures same { IsSamePass pass.old pass.new }
-        ensures free { HoldsNothing pass.old → HoldsNothing pass.new }
+        ensures taken { pass.new.me.0.taken ≡ pass.old.me.0.taken }
+        ensures slots { pass.new.me.1 ≡ pass.old.me.1 }
         ensures both { client_of pass.new ≡ M.both (client_of pass.old) (client_of other) }
     {
         self.table.shared.join_seat::<Both<M>>(pass, other);
     }
 
-    /// Takes the value out, and waits while another pass has it.
+    /// Takes the value out. If another pass has it, the call waits or gives up, as its patience says.
     #[inline(always)]
-    pub fn take<M: Lesson<T, V>, R: Wait>(&self, rt: &R, pass: &mut Pass<T, V>) -> T
+    pub fn take<M: Lesson<T, V>, W: Patience>(
+        &self,
+        how: &W,
+        pass: &mut Pass<T, V>,
+    ) -> Result<T, W::Missed>
         requires lock { pass.old.table_id ≡ self.now.table.shared.table_id }
         requires free { HoldsNothing pass.old }
         requires rule { Learns P.holds pass.old.id (client_of pass.old) M.fact }
         ensures same { IsSamePass pass.old pass.new }
         ensures view { client_of pass.new ≡ client_of pass.old }
-        ensures holds { Holds result None pass.new }
-        ensures fact { M.fact (client_of pass.old) result }
+        ensures holds { IfOk result (λ t. Holds t None pass.new) }
+        ensures fact { IfOk result (λ t. M.fact (client_of pass.old) t) }
+        ensures free { IfErr result (λ _. HoldsNothing pass.new) }
     {
-        self.acquire::<M, R>(rt, pass);
-        match self.table.shared.exchange(pass, 0, None) {
-            Some(value) => value,
-            None => unreachable!(),
+        match how.acquire::<T, V, P, M>(self, pass) {
+            Ok(()) => match self.table.shared.exchange(pass, 0, None) {
+                Some(value) => Ok(value),
+                None => unreachable!(),
+            },
+            Err(missed) => Err(missed),
         }
+    }
+
+    // Takes the slot, unless another pass has it: the word as it was, which is then not 0.
+    #[inline(always)]
+    pub(crate) fn try_for<M: Lesson<T, V>>(&self, pass: &mut Pass<T, V>) -> u64
+        requires lock { pass.old.table_id ≡ self.now.table.shared.table_id }
+        requires free { HoldsNothing pass.old }
+        requires rule { Learns P.holds pass.old.id (client_of pass.old) M.fact }
+        ensures same { IsSamePass pass.old pass.new }
+        ensures view { client_of pass.new ≡ client_of pass.old }
+        ensures holds { result ≡ 0 → (t : T) × Holds t (Some t) pass.new × M.fact (client_of pass.old) t }
+        ensures free { result ≢ 0 → HoldsNothing pass.new }
+    {
+        self.table.shared.compare_exchange::<Try<M>>(pass, 0, 0, 1)
     }
 
     // Takes the slot, and waits while another pass has it.
     #[inline(always)]
-    fn acquire<M: Lesson<T, V>, R: Wait>(&self, rt: &R, pass: &mut Pass<T, V>)
+    pub(crate) fn wait_for<M: Lesson<T, V>, R: Wait>(&self, rt: &R, pass: &mut Pass<T, V>)
         requires lock { pass.old.table_id ≡ self.now.table.shared.table_id }
         requires free { HoldsNothing pass.old }
         requires rule { Learns P.holds pass.old.id (client_of pass.old) M.fact }
@@ -109,7 +132,7 @@ impl<T, V, P: LockRule<T, V>> RuledLock<T, V, P> {
         ensures view { client_of pass.new ≡ client_of pass.old }
         ensures holds { (t : T) × Holds t (Some t) pass.new × M.fact (client_of pass.old) t }
     {
-        if self.table.shared.compare_exchange::<Try<M>>(pass, 0, 0, 1) == 0 {
+        if self.try_for::<M>(pass) == 0 {
             return;
         }
         for _ in rt.forever() {

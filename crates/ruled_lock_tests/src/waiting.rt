@@ -1,11 +1,12 @@
-//! A thread that waits for a lock, and nobody but the one that has it to wake it.
+//! Tries that take a value or miss it, and a thread that waits for a lock, and nobody but the one that has it to wake it.
 ghost use Rattle.std.specs.Prelude.{◌≡◌, None};
 ghost use Rattle.ruled_lock.specs.Locks.{Holds, HoldsNothing};
 
 use crate::assertions::equal;
 use atomic_table::Split;
-use ruled_lock::{Lesson, LockRule, Outcome, Pass, RuledLock};
+use ruled_lock::{Lesson, LockRule, Outcome, Pass, RuledLock, Tries, Waits, WasOut};
 use std::alloc::AllocError;
+use std::process::Abort;
 use std::sync::Wait;
 use std::sync::atomic::AtomicU64;
 use std::sync::atomic::Ordering::SeqCst;
@@ -60,8 +61,19 @@ impl<'l> End<'l> {
     // Takes the count, and waits while the other end has it.
     fn take<R: Wait>(self, rt: &R) -> Held<'l> {
         let End { lock, mut pass } = self;
-        let count = lock.take::<Anything, R>(rt, &mut pass);
-        Held { lock, pass, count }
+        match lock.take::<Anything, Waits<'_, R>>(&Waits(rt), &mut pass) {
+            Ok(count) => Held { lock, pass, count },
+            Err(never) => match never {},
+        }
+    }
+
+    // Takes the count, unless another end has it.
+    fn try_take(self) -> Result<Held<'l>, (End<'l>, WasOut)> {
+        let End { lock, mut pass } = self;
+        match lock.take::<Anything, Tries>(&Tries, &mut pass) {
+            Ok(count) => Ok(Held { lock, pass, count }),
+            Err(missed) => Err((End { lock, pass }, missed)),
+        }
     }
 }
 
@@ -78,14 +90,61 @@ impl<'l> Held<'l> {
     }
 }
 
-// The two ends of a lock, of its first pass.
-fn ends<'l>(lock: &'l Lock, first: Pass<u64, ()>) -> (End<'l>, End<'l>)
+// Three ends of a lock, of its first pass.
+fn ends<'l>(lock: &'l Lock, first: Pass<u64, ()>) -> (End<'l>, End<'l>, End<'l>)
     requires of { first.table_id ≡ lock.now.table.shared.table_id }
     requires free { HoldsNothing first }
 {
     let mut pass = first;
     let other = lock.another::<Anything>(&mut pass);
-    (End { lock, pass }, End { lock, pass: other })
+    let third = lock.another::<Anything>(&mut pass);
+    (
+        End { lock, pass },
+        End { lock, pass: other },
+        End { lock, pass: third },
+    )
+}
+
+// Tries to take the count, while another end has it.
+fn misses<'l>(rt: &impl Abort, end: End<'l>) -> End<'l> {
+    match end.try_take() {
+        Ok(held) => {
+            drop(held.put());
+            panic!(rt; "taken, while it was out");
+        }
+        Err((end, _)) => end,
+    }
+}
+
+// Tries to take the count, while no other end has it, and puts it back with one more.
+fn raises<'l>(rt: &impl Abort, end: End<'l>, count: u64) -> End<'l> {
+    let Ok(held) = end.try_take() else {
+        panic!(rt; "not taken, while it was there");
+    };
+    equal(rt, held.count, count);
+    held.put()
+}
+
+#[test]
+fn a_try_takes_the_value_unless_it_is_out(rt: HostRuntime) -> Result<(), AllocError> {
+    let (lock, first): (Lock, Pass<u64, ()>) = RuledLock::new(rt.alloc(), 7)?;
+    let (one, other, third) = ends(&lock, first);
+    let other = raises(&rt, other, 7);
+    let held = one.take(&rt);
+    equal(&rt, held.count, 8);
+    let (other, third) = (misses(&rt, other), misses(&rt, third));
+    let other = misses(&rt, other);
+    let one = held.put();
+    let other = raises(&rt, other, 9);
+    let one = raises(&rt, one, 10);
+    let Ok(held) = third.try_take() else {
+        panic!(&rt; "not taken, while it was there");
+    };
+    drop((misses(&rt, one), misses(&rt, other)));
+    let held = held.put().take(&rt);
+    equal(&rt, held.count, 12);
+    drop(held.put());
+    Ok(())
 }
 
 // How far two threads have come, each of which waits for the other.
@@ -112,14 +171,15 @@ impl Turns {
 const TIMES: u64 = 1_000;
 
 // Takes the lock, puts the count back once the other thread waits and had time to fall asleep, and takes the lock again only once that one has
-// had it. The count at the end.
-fn lends<R: Wait + Clock>(rt: &R, end: End<'_>, turns: &Turns) -> u64 {
-    let mut end = end;
+// had it. Meanwhile a third end tries to take the lock, which costs the other thread nothing. The count at the end.
+fn lends<R: Wait + Clock + Abort>(rt: &R, end: End<'_>, third: End<'_>, turns: &Turns) -> u64 {
+    let (mut end, mut third) = (end, third);
     for i in 0..TIMES {
         let held = end.take(rt);
         turns.raise();
         turns.wait_for(rt, 3 * i + 2);
         thread::sleep(rt, Duration::from_micros(200));
+        third = misses(rt, third);
         end = held.put();
         turns.wait_for(rt, 3 * i + 3);
     }
@@ -145,12 +205,16 @@ fn a_thread_that_waits_is_woken_1000_times_by_one_release(
     rt: HostRuntime,
 ) -> Result<(), AllocError> {
     let (lock, first): (Lock, Pass<u64, ()>) = RuledLock::new(rt.alloc(), 0)?;
-    let (one, other) = ends(&lock, first);
+    let (one, other, third) = ends(&lock, first);
     let turns = Turns {
         count: AtomicU64::new(0),
     };
     let (r, t) = (&rt, &turns);
-    let (count, ()) = thread::join(r, move || lends(r, one, t), move || borrows(r, other, t));
+    let (count, ()) = thread::join(
+        r,
+        move || lends(r, one, third, t),
+        move || borrows(r, other, t),
+    );
     equal(r, count, 2 * TIMES);
     Ok(())
 }

@@ -43,7 +43,7 @@ fn main(rt: HostRuntime) -> anyhow::Result<()> {
         None => 1u64,
     };
     let length = Duration::from_secs(seconds);
-    let (live, handles) = match Wheel::open(&rt, alloc, empty_wheel(alloc)?, 4, 1 << 20) {
+    let (live, handles) = match Wheel::open(alloc, empty_wheel(alloc)?, 4, 1 << 20) {
         Ok(opened) => opened,
         Err((_, cause)) => return Err(cause.into()),
     };

@@ -8,7 +8,7 @@ use Rattle.aug_live.specs.inside.LaneKnowledge.{no_half}
 
 -- the first end, before a trie lies there, knows of no trie
 abbrev pub no_trie : TrieFacts
-no_trie = record { table = no_half.round.table; bits = 0; lanes = []; rounds = record { past = []; now = record { members = []; history = [] } } }
+no_trie = record { table = no_half.round.table; bits = 0; lanes = []; held = 0; rounds = record { past = []; now = record { members = []; history = [] } } }
 
 -- an end knows whether a trie was laid there yet, before which there is no other end, and what it knows of the trie is a part of what lies there
 pub record IsTold {A B : Type 0} (desk : Desk A B) (end : ℕ) (v : TrieFacts) : Type 0 where

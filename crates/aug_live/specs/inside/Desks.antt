@@ -7,17 +7,22 @@ use Rattle.aug_core.specs.Layout.{IsLayout}
 use Rattle.aug_core.specs.Places.{shape_of}
 use Rattle.aug_trie.specs.Chains.{IsPart}
 use Rattle.aug_trie.specs.Pass.{chain_of}
-use Rattle.aug_trie.specs.Round.{RoundFacts}
+use Rattle.aug_trie.specs.Round.{TableFacts, table_of}
 use Rattle.aug_trie.specs.Crew.{CrewFacts}
 use Rattle.aug_live.specs.declared.counts.LiveCounts.{LiveCounts}
+use Rattle.aug_live.specs.declared.end.Berth.{Berth}
 use Rattle.aug_live.specs.declared.known.Whose.{Whose}
 use Rattle.aug_live.specs.declared.known.Whose.TheVariants.{Alone, Roller, Free, Idle, Handle, Gone}
 use Rattle.aug_live.specs.Carrying.{Leads}
 use Rattle.aug_live.specs.Ledgers.{Made, made_in}
 use Rattle.aug_live.specs.LiveTries.{AreCountsOf, LaneKnown, TrieFacts, ids_of, lost_of}
-use Rattle.aug_live.specs.inside.LaneKnowledge.{EndFacts}
+use Rattle.aug_live.specs.inside.LaneKnowledge.{EndFacts, knows_nothing}
 use Rattle.aug_live.specs.inside.Rolls.{IsHandleEnd, IsOf, kept_of, rounds_in}
 use Rattle.aug_live.specs.inside.SameChanges.{SameChanges}
+
+-- a lane that no handle had yet
+abbrev pub IsNewBerth : {A B : Type 0} → Berth A B → Type 0
+IsNewBerth berth = (berth.out.known ≡ knows_nothing Alone) × (berth.out.taken.number ≡ 0)
 
 -- the counts of the rounds so far, at a set with so many members
 pub record AreCounts (counts : LiveCounts) (members : ℕ) : Type 0 where
@@ -54,20 +59,20 @@ pub record Accounts (bits : ℕ) (counts : LiveCounts) (crew : CrewFacts) (lanes
   pub numbers : All (λ (e : EndFacts). e.known.number ≤ counts.handles) lanes
 
 -- a round of so many lanes goes on: the passes that its crew handed out lie in those of the handles, or came back
-pub record IsWorking (lanes updates : ℕ) (counts : LiveCounts) (round : RoundFacts) (crew : CrewFacts) (ports : List EndFacts) (count : ℕ) : Type 0 where
-  pub together : crew.round ≡ round
-  pub workers : round.workers ≡ lanes
+pub record IsWorking (lanes updates : ℕ) (counts : LiveCounts) (table : TableFacts) (crew : CrewFacts) (ports : List EndFacts) (count : ℕ) : Type 0 where
+  pub together : table_of crew.round ≡ table
+  pub workers : table.workers ≡ lanes
   pub all_out : crew.handed ≡ count + crew.back
   pub within : crew.handed ≤ lanes
   pub of_round : All (IsOf (rounds_in crew) counts.rounds) ports
-  pub led : Leads round.bits crew.past round.members
-  pub counted : AreCounts counts (length round.members)
+  pub led : Leads table.bits crew.past crew.round.members
+  pub counted : AreCounts counts (length crew.round.members)
   pub rounds_are : counts.rounds ≡ length crew.past + 1
-  pub accounts : Accounts round.bits counts crew (map kept_of ports)
+  pub accounts : Accounts table.bits counts crew (map kept_of ports)
   pub few_inserts : counts.inserts + 2 ^ 32 ≤ 2 ^ 64
   pub few_removals : counts.removals + 2 ^ 32 ≤ 2 ^ 64
-  pub laid_out : IsLayout (shape_of round.bits lanes updates (2 ^ round.bits))
-  pub room : 2 ^ round.bits ≤ round.room
+  pub laid_out : IsLayout (shape_of table.bits lanes updates (2 ^ table.bits))
+  pub room : 2 ^ table.bits ≤ table.room
 
 -- the handle of this lane is done, through which this was made
 pub record TakesEnd (number : ℕ) (made : List Made) (old new : TrieFacts) : Type 0 where

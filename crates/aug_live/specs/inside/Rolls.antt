@@ -8,7 +8,7 @@ use Rattle.aug_trie.specs.Chains.{Chapter, BeginsWith}
 use Rattle.aug_trie.specs.Crew.{CrewFacts, Ends}
 use Rattle.aug_trie.specs.Ended.{EndedFacts}
 use Rattle.aug_trie.specs.Pass.{PassFacts, chain_of}
-use Rattle.aug_trie.specs.Round.{RoundFacts}
+use Rattle.aug_trie.specs.Round.{TableFacts, RoundFacts}
 use Rattle.aug_live.specs.Ledgers.{Made, dated}
 use Rattle.aug_live.specs.LiveHandles.{HandleFacts}
 use Rattle.aug_live.specs.inside.LaneKnowledge.{EndFacts, IsWhole, handle_by, nothing_known, rounds_at}
@@ -55,12 +55,12 @@ pub record IsBackIn (rounds : RoundFacts × List Chapter) (era : ℕ) (history :
   pub whole : IsWhole e.known e.known.at
 
 -- and its round is one of those before the next one of its table
-pub record HasEnded (round : RoundFacts) (past : List Chapter) (era : ℕ) (e : EndFacts) : Type 0 where
+pub record HasEnded (table : TableFacts) (past : List Chapter) (era : ℕ) (e : EndFacts) : Type 0 where
   pub whose : IsPort e.known.whose
   pub works : e.known.works ≡ false
   pub era_is : e.known.at.era ≡ era
-  pub table_is : e.known.at.half.round.table ≡ round.table
-  pub bits_are : e.known.at.half.round.bits ≡ round.bits
+  pub table_is : e.known.at.half.round.table ≡ table.table
+  pub bits_are : e.known.at.half.round.bits ≡ table.bits
   pub part : BeginsWith e.known.at.half.past (chain_of e.known.at.half).now past
 
 -- a round ends whose passes lay in these lanes: they are back, and the lanes have what their last passes knew, the last lane first

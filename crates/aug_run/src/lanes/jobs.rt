@@ -53,7 +53,7 @@ pub(crate) fn jobs(
     let mut jobs = Vec::with_capacity(alloc, workers as usize)?;
     for lane in 0..workers {
         let replies = Vec::with_capacity(alloc, counts[lane as usize])?;
-        let Ok(pass) = crew.pass(round) else {
+        let Ok(pass) = crew.pass(&round.shared) else {
             unreachable!()
         };
         jobs.push_reserved(Job {

@@ -33,7 +33,7 @@ pub(crate) fn work<'r, G: Gate>(job: Job, rows: &[Row], round: &'r Table, gate: 
         half,
         mut replies,
     } = job;
-    let mut pass = round.pass(half);
+    let mut pass = round.shared.pass(half);
     let mut held = pass.snapshot();
     for row in rows {
         if row.lane == lane {

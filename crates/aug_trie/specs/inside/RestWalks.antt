@@ -3,9 +3,8 @@ use Rattle.std.specs.Prelude.{◌≡◌, ℕ, ◌+◌, List, [], ◌∷◌, ◌+
 use Rattle.atomic_table.specs.Seated.{TableId}
 use Rattle.aug_core.specs.Addresses.{root_place}
 use Rattle.aug_core.specs.Cuts.{pairs_of_cut}
-use Rattle.aug_core.specs.Opening.{Opening}
 use Rattle.aug_core.specs.Renewals.{EndWith}
-use Rattle.aug_core.specs.Told.{LoadsNode}
+use Rattle.aug_core.specs.Told.{LoadsNode, opening_of}
 use Rattle.aug_core.specs.declared.view.PastEra.{PastEra}
 use Rattle.aug_core.specs.declared.view.SeatView.{SeatView}
 use Rattle.aug_query.specs.declared.loaded.Loaded.{Loaded}
@@ -46,7 +45,7 @@ pub record KeepsRest (old new : RestWalkFacts) : Type 0 where
   pub eras : new.eras ≡ old.eras
 
 -- a lead loaded the root once more and brought its table to rest: the list has the set of the last cut that it then knew, and its era is over
-pub record ListsRest (face : ℕ → ℕ → List (ℕ × ℕ) → List ℕ) (o : Opening) (lead : SeatView) (era : ℕ) (past : List PastEra) (list : List (ℕ × ℕ)) : Type 0 where
+pub record ListsRest (face : ℕ → ℕ → List (ℕ × ℕ) → List ℕ) (lead : SeatView) (era : ℕ) (past : List PastEra) (list : List (ℕ × ℕ)) : Type 0 where
   pub last : SeatView
   pub root : ℕ
   pub loaded : LoadsNode face lead (root_place lead.shape) root last
@@ -54,4 +53,4 @@ pub record ListsRest (face : ℕ → ℕ → List (ℕ × ℕ) → List ℕ) (o 
   pub past_is : past ≡ last.past ++ record { members = last.members; book = last.seen } ∷ []
   pub set : list ≡ pairs_of_cut (last_cut (knows last).history)
   pub words : List ℕ
-  pub rule : EndWith face o last words
+  pub rule : EndWith face (opening_of last) last words

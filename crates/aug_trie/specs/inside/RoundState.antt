@@ -1,4 +1,4 @@
--- The round of a table, and of a view of it.
+-- The table of a round, and the round of a view of it.
 use Rattle.std.specs.Prelude.{ℕ, List, map}
 use Rattle.atomic_table.specs.Seated.{TableId}
 use Rattle.aug_words.specs.Seats.{Store}
@@ -6,7 +6,7 @@ use Rattle.aug_core.specs.Places.{Shape}
 use Rattle.aug_core.specs.declared.view.PastEra.{PastEra}
 use Rattle.aug_core.specs.declared.view.SeatView.{SeatView}
 use Rattle.aug_trie.specs.Chains.{Chapter}
-use Rattle.aug_trie.specs.Round.{RoundFacts}
+use Rattle.aug_trie.specs.Round.{TableFacts, RoundFacts}
 use Rattle.aug_trie.specs.inside.Knows.{root_history}
 
 -- the era of a view, and those before it
@@ -17,18 +17,10 @@ eras_of v = (v.era, v.past)
 abbrev pub past_rounds : Shape → List PastEra → List Chapter
 past_rounds s past = map (λ era. record { members = era.members; history = root_history s era.book }) past
 
--- the round of a table that was opened so
+-- the round that a view of a table is of
 abbrev pub round_of : TableId → SeatView → RoundFacts
 round_of table v = record { table = table; era = v.era; bits = v.shape.bits; members = v.members; workers = v.shape.workers; updates = v.shape.updates; room = v.shape.members }
 
--- the same of the table itself, which was renewed so often
-abbrev pub store_round : Store → ℕ → RoundFacts
-store_round store era = record {
-  table = store.table;
-  era = era;
-  bits = store.opening.shape.bits;
-  members = store.opening.members;
-  workers = store.opening.shape.workers;
-  updates = store.opening.shape.updates;
-  room = store.opening.shape.members;
-}
+-- the table itself
+abbrev pub facts_of : Store → TableFacts
+facts_of store = record { table = store.table; bits = store.shape.bits; workers = store.shape.workers; updates = store.shape.updates; room = store.shape.members }

@@ -1,6 +1,7 @@
 //! The crew of a round, which hands its passes out and takes them back.
 ghost use Rattle.std.specs.Prelude.{◌≡◌, ◌↔◌, IsErr, OnErr, IfOk};
 ghost use Rattle.aug_trie.specs.Crew.{HandsOut, TakesBack};
+ghost use Rattle.aug_trie.specs.Round.{table_of};
 
 use crate::error::CrewError;
 use crate::rounds::account::Account;
@@ -37,7 +38,7 @@ impl<A: Monoid, B: Monoid> Crew<A, B> {
     /// Hands out the next lane, 0 first, to a new pass. The pass knows what the crew knows after the call. Refused with `NoLane`
     /// once all lanes were handed out.
     pub fn pass<'r>(&mut self, round: &'r Round<A, B>) -> Result<Pass<'r, A, B>, CrewError>
-        requires together { self.old.round ≡ round.now }
+        requires together { table_of self.old.round ≡ round.now }
         ensures no_lane { IsErr result ↔ (self.old.handed ≡ self.old.round.workers) }
         ensures refused { OnErr result (self.new ≡ self.old) }
         ensures handed { IfOk result (λ pass. HandsOut self.old self.new pass) }

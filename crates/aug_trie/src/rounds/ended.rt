@@ -2,6 +2,7 @@
 ghost use Rattle.std.specs.Prelude.{◌≡◌, ◌⊎◌, ◌↔◌, ◌^◌, ◌≤◌, [], length, vec_capacity, IsErrOf, IfOk, IfErr};
 ghost use Rattle.aug_core.specs.Faces.{face};
 ghost use Rattle.aug_core.specs.Layout.{IsOutside};
+ghost use Rattle.aug_core.specs.Told.{opening_of};
 ghost use Rattle.aug_core.specs.Cuts.{pairs_of_cut};
 ghost use Rattle.aug_words.specs.Seats.{AreTogether};
 ghost use Rattle.aug_core.specs.Renewals.{EndWith};
@@ -73,7 +74,7 @@ impl<A: Monoid, B: Monoid> Ended<A, B> {
         ensures no_removals { result.removals ≡ 0 }
         ensures none_missing { result.missing ≡ 0 }
         ensures no_calls { result.calls ≡ 0 }
-        ensures rule { EndWith (face A.parts B.parts) words.opening lead.view result.rest.words }
+        ensures rule { EndWith (face A.parts B.parts) (opening_of lead.view) lead.view result.rest.words }
     {
         let root = lead.root();
         let rest = words.close(lead);

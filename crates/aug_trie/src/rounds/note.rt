@@ -6,7 +6,7 @@ ghost use Rattle.aug_trie.specs.Crew.{CrewLearns};
 ghost use Rattle.aug_trie.specs.Node.{Keeps};
 ghost use Rattle.aug_trie.specs.Pass.{GoesOn, chain_of};
 ghost use Rattle.aug_trie.specs.Passes.{HasLearnt};
-ghost use Rattle.aug_trie.specs.Round.{root_of};
+ghost use Rattle.aug_trie.specs.Round.{root_of, table_of};
 ghost use Rattle.aug_trie.specs.Snapshot.{HasSnapshot, snapshot_cut};
 ghost use Rattle.aug_trie.specs.Updates.{TakesSnapshot};
 
@@ -100,7 +100,7 @@ impl<'r, A: Monoid, B: Monoid> Pass<'r, A, B> {
 impl<A: Monoid, B: Monoid> Crew<A, B> {
     /// Makes a note of all that the crew knows, the updates of the passes that came back among it.
     pub fn note(&mut self, round: &Round<A, B>) -> Note<A, B>
-        requires together { self.old.round ≡ round.now }
+        requires together { table_of self.old.round ≡ round.now }
         ensures same { self.new ≡ self.old }
         ensures note { result ≡ record { round = self.old.round; past = self.old.past; history = self.old.knows.history } }
     {
@@ -113,7 +113,7 @@ impl<A: Monoid, B: Monoid> Crew<A, B> {
     /// Learns a note of this table, and loads the root's word. Each pass that is handed out after that knows what the note says, and so does the
     /// trie at the round's end, also if the pass that made the note does not come back.
     pub fn learn(&mut self, round: &Round<A, B>, note: Note<A, B>)
-        requires together { self.old.round ≡ round.now }
+        requires together { table_of self.old.round ≡ round.now }
         requires table { note.round.table ≡ self.old.round.table }
         ensures { CrewLearns self.old self.new note }
     {

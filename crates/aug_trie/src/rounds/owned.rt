@@ -5,7 +5,7 @@ ghost use Rattle.aug_core.specs.Kinds.{load_node};
 ghost use Rattle.aug_model.specs.Folds.{summary_of};
 ghost use Rattle.aug_trie.specs.Knowledge.{IsKnowledge, inserts_of, removals_of};
 ghost use Rattle.aug_trie.specs.Updates.{TakesSnapshot};
-ghost use Rattle.aug_trie.specs.Round.{root_of};
+ghost use Rattle.aug_trie.specs.Round.{root_of, table_of};
 ghost use Rattle.aug_trie.specs.Pass.{GoesOn, chain_of};
 ghost use Rattle.aug_trie.specs.Passes.{HasLearnt};
 ghost use Rattle.aug_trie.specs.Node.{Keeps, Reads, steps_for};
@@ -63,14 +63,14 @@ pub struct OwnedPass<A: Monoid, B: Monoid> {
     pub(crate) round: SharedRound<A, B>,
     pub(crate) half: PassHalf<A, B>,
     pub(crate) held: Snapshot,
-    pub(crate) ghost of_round: { half.round ≡ arc_value round },
+    pub(crate) ghost of_round: { table_of half.round ≡ arc_value round },
     pub(crate) ghost shows: { HasSnapshot half held.number },
 }
 
 impl<A: Monoid, B: Monoid> OwnedPass<A, B> {
     /// The next pass of a round, with a first snapshot. It keeps this owner of the round.
     pub fn open(round: SharedRound<A, B>, crew: &mut Crew<A, B>) -> OwnedPass<A, B>
-        requires together { crew.old.round ≡ arc_value round }
+        requires together { table_of crew.old.round ≡ arc_value round }
         requires lane_left { crew.old.handed < crew.old.round.workers }
         ensures opens { OpensPass crew.old crew.new result.half result.held.number }
         ensures round { result.round ≡ round }
@@ -83,13 +83,15 @@ impl<A: Monoid, B: Monoid> OwnedPass<A, B> {
         OwnedPass { round, half, held }
     }
 
-    /// Gives the pass back to the crew of its round, which learns what it knows.
-    pub fn give_back(self, crew: &mut Crew<A, B>)
+    /// Gives the pass back to the crew of its round, which learns what it knows. The answer is its owner of the round.
+    pub fn give_back(self, crew: &mut Crew<A, B>) -> SharedRound<A, B>
         requires { self.half.round ≡ crew.old.round }
-        ensures { TakesBack crew.old crew.new self.half }
+        ensures takes { TakesBack crew.old crew.new self.half }
+        ensures round { arc_value result ≡ table_of self.half.round }
     {
         let OwnedPass { round, half, .. } = self;
         crew.back(round.pass(half));
+        round
     }
 
     /// Makes an update of a key, which comes to what that of a pass does: `Accepted` or `Refused` where `Pass::insert` and `remove`

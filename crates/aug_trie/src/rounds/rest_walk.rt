@@ -40,7 +40,7 @@ impl<'r, A: Monoid, B: Monoid> Model for RestWalk<'r, A, B> {
 
     ghost view = { λ w. record { ended = ended_at w.idle.view w.root w.bits; loaded = w.loaded; table = w.idle.table; eras = eras_of w.idle.view } };
 
-    ghost invariant = { λ w. HoldsVersion (face A.parts B.parts) (rest_of w.idle.view) w.root w.bits × (w.idle.table ≡ w.words.now.table) × (w.idle.view.shape ≡ w.words.now.opening.shape) };
+    ghost invariant = { λ w. HoldsVersion (face A.parts B.parts) (rest_of w.idle.view) w.root w.bits × (w.idle.table ≡ w.words.now.table) × (w.idle.view.shape ≡ w.words.now.shape) };
 }
 
 impl<A: Monoid, B: Monoid> RestWalk<'_, A, B> {

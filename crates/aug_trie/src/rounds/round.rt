@@ -1,4 +1,4 @@
-//! A round: the table that its passes work on.
+//! A round: the table that its passes share.
 ghost use Rattle.std.specs.Prelude.{◌≡◌, ◌≢◌, ◌↔◌, ◌+◌, ◌^◌, ◌<◌, ◌≤◌, [], length, All, IsErrOf, IfOk, IfErr, vec_capacity};
 ghost use Rattle.aug_monoid.specs.Weighted.{FitsPair};
 ghost use Rattle.aug_model.specs.Keys.{IsKeySet, keys_of};
@@ -7,7 +7,8 @@ ghost use Rattle.aug_core.specs.Places.{shape_of};
 ghost use Rattle.aug_core.specs.Faces.{face};
 ghost use Rattle.aug_core.specs.Renewals.{HoldsAll};
 ghost use Rattle.aug_words.specs.Seats.{AreTogether};
-ghost use Rattle.aug_trie.specs.Crew.{BeginsRound, BeginsIn, Ends, RollsOver};
+ghost use Rattle.aug_trie.specs.Crew.{BeginsIn, CrewFacts, Ends, RollsOver};
+ghost use Rattle.aug_trie.specs.Round.{table_of};
 ghost use Rattle.aug_trie.specs.inside.RestWalks.{ListsRest};
 
 use crate::error::BeginError;
@@ -19,30 +20,29 @@ use crate::rounds::pass::Pass;
 use crate::rounds::rest_walk::RestWalk;
 use aug_core::{Layout, LayoutError};
 use aug_monoid::Monoid;
-use aug_query::{Calls, Loaded, descent, pairs};
+use aug_query::{Loaded, descent, pairs};
 use aug_words::{IdleLead, Lead, Words, WordsError};
 use std::alloc::Global;
 use std::marker::Model;
 
-/// A round: the table that the passes of its crew work on until the round ends.
+/// What the crew of a round and its passes share: the table that they work on. It is the same value from one round to the next, so a shared
+/// reference renews it; which round it is, the crew knows, and its passes.
 #[derive(Drop)]
 pub struct Round<A: Monoid, B: Monoid> {
     pub(crate) words: Words<A, B>,
     pub(crate) layout: Layout,
-    // How often the round was renewed. Only contracts read it.
-    pub(crate) renewals: Calls,
 }
 
 impl<A: Monoid, B: Monoid> Model for Round<A, B> {
     ghost use Rattle.std.specs.Prelude.{◌≡◌};
-    ghost use Rattle.aug_trie.specs.Round.{RoundFacts};
-    ghost use Rattle.aug_trie.specs.inside.RoundState.{store_round};
+    ghost use Rattle.aug_trie.specs.Round.{TableFacts};
+    ghost use Rattle.aug_trie.specs.inside.RoundState.{facts_of};
 
-    ghost Value = { RoundFacts };
+    ghost Value = { TableFacts };
 
-    ghost view = { λ r. store_round r.words r.renewals.made };
+    ghost view = { λ r. facts_of r.words };
 
-    ghost invariant = { λ r. r.layout ≡ r.words.opening.shape };
+    ghost invariant = { λ r. r.layout ≡ r.words.shape };
 }
 
 impl<A: Monoid, B: Monoid> Round<A, B> {
@@ -53,7 +53,7 @@ impl<A: Monoid, B: Monoid> Round<A, B> {
         workers: u32,
         updates: u32,
     ) -> Result<(Round<A, B>, Crew<A, B>), (Ended<A, B>, BeginError)>
-        ensures begun { IfOk result (λ t. BeginsRound ended.members ended.bits workers updates t.0 t.1) }
+        ensures begun { IfOk result (λ t. BeginsIn (length ended.members) ended.members ended.bits workers updates t.0 t.1) }
         ensures same { IfErr result (λ e. e.0 ≡ record ended { calls = e.0.calls }) }
         ensures not_walked { IfErr result (λ e. e.1 ≢ BeginError.OutOfMemory → e.0 ≡ ended) }
         ensures bad_workers { IsErrOf result (ended, BeginError.BadWorkers)
@@ -85,7 +85,7 @@ impl<A: Monoid, B: Monoid> Round<A, B> {
         workers: u32,
         updates: u32,
     ) -> Result<(Round<A, B>, Crew<A, B>), (Ended<A, B>, BeginError)>
-        ensures begun { IfOk result (λ t. BeginsRound ended.members bits workers updates t.0 t.1) }
+        ensures begun { IfOk result (λ t. BeginsIn (length ended.members) ended.members bits workers updates t.0 t.1) }
         ensures same { IfErr result (λ e. e.0 ≡ record ended { calls = e.0.calls }) }
         ensures not_walked { IfErr result (λ e. e.1 ≢ BeginError.OutOfMemory → e.0 ≡ ended) }
         ensures bad_bits { IsErrOf result (ended, BeginError.BadBits) ↔ IsOutside 1 16 bits }
@@ -127,7 +127,7 @@ impl<A: Monoid, B: Monoid> Round<A, B> {
         workers: u32,
         updates: u32,
     ) -> Result<(Round<A, B>, Crew<A, B>), (Members, BeginError)>
-        ensures begun { IfOk result (λ t. BeginsRound members.pairs bits workers updates t.0 t.1) }
+        ensures begun { IfOk result (λ t. BeginsIn (length members.pairs) members.pairs bits workers updates t.0 t.1) }
         ensures same { IfErr result (λ e. e.0 ≡ members) }
         ensures bad_bits { IsErrOf result (members, BeginError.BadBits) ↔ IsOutside 1 16 bits }
         ensures narrower { IsErrOf result (members, BeginError.Narrower) ↔ IsWithin 1 16 bits × (bits < members.bits) }
@@ -151,20 +151,6 @@ impl<A: Monoid, B: Monoid> Round<A, B> {
         }
     }
 
-    // The round of a layout over a set with these members.
-    fn over(
-        alloc: Global,
-        layout: Layout,
-        members: &[(u32, u32)],
-    ) -> Result<(Round<A, B>, Crew<A, B>), WordsError>
-        requires keys { IsKeySet layout.bits (keys_of members.now) }
-        requires fit { All FitsPair members.now }
-        requires room { layout.members ≡ length members.now }
-        ensures { IfOk result (λ t. BeginsRound members.now layout.bits layout.workers layout.updates t.0 t.1) }
-    {
-        Round::in_room(alloc, layout, members)
-    }
-
     /// Begins a round over a set that was listed, with its bits and with room for all keys. Such a round can be renewed (`renew`). The
     /// numbers are those of a table that can be laid out, so it is refused only for lack of memory, and then the same list comes back.
     pub fn begin_for_all(
@@ -181,14 +167,14 @@ impl<A: Monoid, B: Monoid> Round<A, B> {
         let Ok(layout) = Layout::new(bits, workers, updates, members.universe()) else {
             unreachable!()
         };
-        match Round::in_room(alloc, layout, members.as_slice()) {
+        match Round::over(alloc, layout, members.as_slice()) {
             Ok(begun) => Ok(begun),
             Err(WordsError::OutOfMemory) => Err(members),
         }
     }
 
     // The round of a layout over a set, for which it has room.
-    fn in_room(
+    fn over(
         alloc: Global,
         layout: Layout,
         members: &[(u32, u32)],
@@ -205,28 +191,18 @@ impl<A: Monoid, B: Monoid> Round<A, B> {
             inserts: 0,
             removals: 0,
         };
-        let renewals = Calls::new();
-        let round = Round {
-            words,
-            layout,
-            renewals,
-        };
-        Ok((round, crew))
+        Ok((Round { words, layout }, crew))
     }
 
     /// Ends the round, also if passes did not come back. The set is that of the last version of the root that the crew
     /// knows. The call makes no step, takes no memory and has no refusal.
     pub fn end(self, crew: Crew<A, B>) -> Ended<A, B>
-        requires together { crew.round ≡ self }
+        requires together { table_of crew.round ≡ self }
         ensures ends { Ends crew result }
-        ensures sizes { result.missing ≡ 0 → length result.members + result.removals ≡ length self.members + result.inserts }
+        ensures sizes { result.missing ≡ 0 → length result.members + result.removals ≡ length crew.round.members + result.inserts }
         ensures few { length result.members ≤ 2 ^ result.bits }
     {
-        let Round {
-            words,
-            layout,
-            renewals: _,
-        } = self;
+        let Round { words, layout } = self;
         let Crew {
             lead,
             back,
@@ -244,13 +220,15 @@ impl<A: Monoid, B: Monoid> Round<A, B> {
     /// Ends the round, to which all passes have come back, and begins the next over its set, in the same memory and with the same
     /// numbers. `list` is empty and has room for all keys; it has the set afterwards. Returns the crew of the next round, and how many keys
     /// the round that ended put in and took out. The call takes no memory and has no refusal.
-    pub fn renew(&mut self, crew: Crew<A, B>, list: &mut Vec<(u32, u32)>) -> (Crew<A, B>, u32, u32)
-        requires together { crew.round ≡ self.old }
+    pub fn renew(&self, crew: Crew<A, B>, list: &mut Vec<(u32, u32)>) -> (Crew<A, B>, u32, u32)
+        requires together { table_of crew.round ≡ self.now }
         requires all_back { crew.back ≡ crew.handed }
-        requires room { 2 ^ self.old.bits ≤ self.old.room }
+        requires room { 2 ^ crew.round.bits ≤ crew.round.room }
         requires empty { list.old.items ≡ [] }
-        requires list_room { 2 ^ self.old.bits ≤ vec_capacity list.old }
-        ensures rolls { RollsOver crew self.old self.new result.0 list.new.items result.1 result.2 }
+        requires list_room { 2 ^ crew.round.bits ≤ vec_capacity list.old }
+        ensures rolls { RollsOver crew result.0 list.new.items result.1 result.2 }
+        ensures keys { IsKeySet crew.round.bits (keys_of list.new.items) }
+        ensures fit { All FitsPair list.new.items }
         ensures list_room { vec_capacity list.new ≡ vec_capacity list.old }
     {
         let Crew {
@@ -261,7 +239,6 @@ impl<A: Monoid, B: Monoid> Round<A, B> {
         } = crew;
         let idle = rest_and_list(&self.words, lead, self.layout.bits(), list);
         let lead = self.words.open_again(idle, list.as_slice());
-        self.renewals = self.renewals.one_more();
         let crew = Crew {
             lead,
             back: 0,
@@ -271,9 +248,27 @@ impl<A: Monoid, B: Monoid> Round<A, B> {
         (crew, inserts, removals)
     }
 
+    /// Ends the round for good, to which all passes have come back: its set, and how many keys it put in and took out. `list` is as `renew` takes it,
+    /// and the call takes no memory and has no refusal. The table goes with its last owner.
+    pub fn finish(&self, crew: Crew<A, B>, list: Vec<(u32, u32)>) -> (Members, u32, u32)
+        requires together { table_of crew.round ≡ self.now }
+        requires all_back { crew.back ≡ crew.handed }
+        requires room { 2 ^ crew.round.bits ≤ crew.round.room }
+        requires empty { list.items ≡ [] }
+        requires list_room { 2 ^ crew.round.bits ≤ vec_capacity list }
+        ensures rolls { (next : CrewFacts) × RollsOver crew next result.0.pairs result.1 result.2 }
+        ensures bits { result.0.bits ≡ crew.round.bits }
+    {
+        let bits = self.layout.bits();
+        let mut list = list;
+        let (_, inserts, removals) = self.renew(crew, &mut list);
+        let members = Members { bits, pairs: list };
+        (members, inserts, removals)
+    }
+
     /// The pass of a half that was taken from a pass of this round.
     pub fn pass<'r>(&'r self, half: PassHalf<A, B>) -> Pass<'r, A, B>
-        requires { half.round ≡ self.now }
+        requires { table_of half.round ≡ self.now }
         ensures { result ≡ half }
     {
         let PassHalf { words, account } = half;
@@ -291,15 +286,15 @@ fn rest_and_list<A: Monoid, B: Monoid>(
     bits: u32,
     list: &mut Vec<(u32, u32)>,
 ) -> IdleLead<A, B>
-    requires bits { bits ≡ words.now.opening.shape.bits }
+    requires bits { bits ≡ words.now.shape.bits }
     requires together { AreTogether words.now lead }
     requires all { HoldsAll lead.view }
     requires empty { list.old.items ≡ [] }
-    requires room { 2 ^ words.now.opening.shape.bits ≤ vec_capacity list.old }
+    requires room { 2 ^ words.now.shape.bits ≤ vec_capacity list.old }
     ensures table { result.table ≡ words.now.table }
-    ensures shape { result.view.shape ≡ words.now.opening.shape }
-    ensures lists { ListsRest (face A.parts B.parts) words.now.opening lead.view result.view.era result.view.past list.new.items }
-    ensures keys { IsKeySet words.now.opening.shape.bits (keys_of list.new.items) }
+    ensures shape { result.view.shape ≡ words.now.shape }
+    ensures lists { ListsRest (face A.parts B.parts) lead.view result.view.era result.view.past list.new.items }
+    ensures keys { IsKeySet words.now.shape.bits (keys_of list.new.items) }
     ensures fit { All FitsPair list.new.items }
     ensures room { vec_capacity list.new ≡ vec_capacity list.old }
 {

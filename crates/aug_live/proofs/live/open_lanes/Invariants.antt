@@ -1,15 +1,17 @@
 use Rattle.std.specs.Prelude.{◌≡◌, ℕ, ◌+◌, ◌<◌, ◌≤◌, get_or, map, All, vec_len, vec_capacity}
+use Rattle.std.specs.Arc.{arc_value}
 use Rattle.std.specs.Vec.Iter.{into_iter_items, into_iter_len}
-use Rattle.aug_live.specs.inside.LaneKnowledge.{EndFacts, knows_nothing}
+use Rattle.aug_trie.specs.Round.{table_of}
+use Rattle.aug_live.specs.inside.Desks.{IsNewBerth}
+use Rattle.aug_live.specs.inside.LaneKnowledge.{EndFacts}
 use Rattle.aug_live.specs.inside.Rolls.{IsOf, IsOpenedLane, Starts, rounds_in}
-use Rattle.aug_live.specs.declared.known.Whose.TheVariants.{Alone}
 use Rattle.aug_live.proofs.live.open_lanes.Given as goal
 
-abbrev pub invariant-loop-first : goal.invariant-loop-first
-invariant-loop-first g l =
-    let n = vec_len l.ports in let rest = l.first-iterator in let all = l.initial.first-iterator in
+abbrev pub invariant-loop-berth : goal.invariant-loop-berth
+invariant-loop-berth g l =
+    let n = vec_len l.ports in let rest = l.berth-iterator in let all = l.initial.berth-iterator in
     (n + into_iter_len rest ≡ into_iter_len all)
-    × ((k : ℕ) (d : _) → k < into_iter_len rest → (get_or (into_iter_items rest) k d).known ≡ knows_nothing Alone)
+    × ((k : ℕ) (d : _) → k < into_iter_len rest → IsNewBerth (get_or (into_iter_items rest) k d))
     × All (IsOf (rounds_in l.initial.crew) 1) l.ports.items
     × (rounds_in l.crew ≡ rounds_in l.initial.crew)
     × (into_iter_len all ≤ vec_capacity l.ports)
@@ -21,3 +23,6 @@ invariant-loop-first g l =
     × All IsOpenedLane l.ports.items
     × (map (λ (e : EndFacts). e.lock) l.ends.items ≡ map (λ (e : EndFacts). e.lock) l.ports.items)
     × (l.crew.knows.accepted ≡ l.initial.crew.knows.accepted)
+    × All (λ s. arc_value s ≡ table_of l.initial.crew.round) l.shares.items
+    × (vec_len l.shares ≡ into_iter_len rest)
+    × (vec_capacity l.shares ≡ vec_capacity l.initial.shares)

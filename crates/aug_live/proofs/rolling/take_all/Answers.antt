@@ -1,37 +1,19 @@
-use Rattle.std.proofs.Common.{◌≡◌, ◌+◌, ◌<◌, ◌∙◌, ℕ, List, [], ◌∷◌, ◌++◌, vec_len, ap, arith, subst, sym}
+use Rattle.std.proofs.Common.{◌≡◌, ◌+◌, ◌<◌, ◌∙◌, List, [], ◌∷◌, ◌++◌, true, vec_len, ap, arith}
 use Rattle.std.specs.Prelude.{Option, option_to_list}
-use Rattle.aug_trie.specs.Chains.{Chapter}
-use Rattle.aug_trie.specs.Round.{RoundFacts}
-use Rattle.aug_core.proofs.PrefixLemmas.{prefix_trans}
-use Rattle.aug_live.specs.inside.LaneKnowledge.{EndFacts}
-use Rattle.aug_live.specs.inside.Rolls.{IsOf, IsBackIn, rounds_in}
-use Rattle.aug_live.proofs.Dealing.{gave_one, took_one}
-use Rattle.aug_live.proofs.Moving.{one_more, all_but_last, last_one, all_back_on, same_era}
+use Rattle.aug_live.specs.inside.LaneKnowledge.{EndFacts, rolls}
+use Rattle.aug_live.proofs.Dealing.{moved_one}
+use Rattle.aug_live.proofs.Moving.{all_but_last}
 use Rattle.aug_live.proofs.rolling.take_all.Goals as goal
-
-pub give_back-requires : goal.give_back-requires
-give_back-requires g c =
-    let was = c.loop-port.invariant in let round = rounds_in c.args.crew.now in let era = c.args.era in
-    let cut : c.loop-port.ports.items ≡ c.pop.new.self.items ++ c.in-Some.port ∷ [] = c.pop.ensures.items ∙ ap (λ (z : Option EndFacts). c.pop.new.self.items ++ option_to_list z) c.in-Some.is in
-    let mine = last_one (IsOf round era) c.pop.new.self.items c.loop-port.ports.items c.in-Some.port cut was.1 in
-    record { of_round = subst (λ (z : (RoundFacts × List Chapter) × ℕ). IsOf z.0 z.1 c.in-Some.port) (λ i. (sym was.3 i, sym mine.era_is i)) mine; some = subst (λ z. 0 < z) (sym mine.era_is) c.requires.some }
 
 pub loop-port-preserved : goal.loop-port-preserved
 loop-port-preserved g c =
-    let was = c.loop-port.invariant in let gave = c.give_back.ensures in let round = rounds_in c.args.crew.now in let era = c.args.era in
+    let was = c.loop-port.invariant in
     let cut : c.loop-port.ports.items ≡ c.pop.new.self.items ++ c.in-Some.port ∷ [] = c.pop.ensures.items ∙ ap (λ (z : Option EndFacts). c.pop.new.self.items ++ option_to_list z) c.in-Some.is in
-    let mine = last_one (IsOf round era) c.pop.new.self.items c.loop-port.ports.items c.in-Some.port cut was.1 in
-    let grown : vec_len c.push_reserved.new.self ≡ vec_len c.loop-port.back + 1 = c.push_reserved.ensures.len in let shrunk : vec_len c.pop.new.self + 1 ≡ vec_len c.loop-port.ports = c.in-Some.ensures.cases in (
-      omega (arith, was.0, grown, shrunk),
-      all_but_last (IsOf round era) c.pop.new.self.items c.loop-port.ports.items c.in-Some.port cut was.1,
-      one_more (IsBackIn round era c.give_back.new.crew.knows.history) c.loop-port.back.items c.push_reserved.new.self.items c.give_back.result c.push_reserved.ensures.items
-          (all_back_on _ _ _ _ _ gave.goes_on was.2) (same_era _ _ _ _ _ mine.era_is (subst (λ (z : RoundFacts × List Chapter). IsBackIn z c.in-Some.port.known.at.era c.give_back.new.crew.knows.history c.give_back.result) was.3 gave.back)),
-      gave.round ∙ was.3,
+    let grown : vec_len c.push_reserved.new.self ≡ vec_len c.loop-port.held + 1 = c.push_reserved.ensures.len in let shrunk : vec_len c.pop.new.self + 1 ≡ vec_len c.loop-port.ports = c.in-Some.ensures.cases in (
+      moved_one c.pop.new.self.items c.loop-port.ports.items c.loop-port.held.items c.push_reserved.new.self.items c.in-Some.port (record { lock = c.in-Ok.out.lock; known = c.in-Ok.out.known }) _ cut c.push_reserved.ensures.items
+          (λ i. record { lock = c.in-Ok.ensures.lock i; known = c.in-Ok.ensures.known i }) was.0,
+      omega (arith, was.1, grown, shrunk),
+      all_but_last (λ (e : EndFacts). (rolls e.known.whose ≡ true) × (0 < e.known.at.era)) c.pop.new.self.items c.loop-port.ports.items c.in-Some.port cut was.2,
+      c.pop.ensures.capacity ∙ was.3,
       c.push_reserved.ensures.capacity ∙ was.4,
-      c.pop.ensures.capacity ∙ was.5,
-      gave.handed ∙ was.6,
-      omega (arith, gave.counted, was.7, grown),
-      prefix_trans c.args.crew.now.knows.history c.loop-port.crew.knows.history c.give_back.new.crew.knows.history was.8 gave.goes_on,
-      took_one c.pop.new.self.items c.loop-port.ports.items c.loop-port.back.items c.push_reserved.new.self.items c.in-Some.port c.give_back.result _ cut c.push_reserved.ensures.items gave.kept was.9,
-      gave_one c.args.crew.now.knows.accepted c.loop-port.crew.knows.accepted c.give_back.new.crew.knows.accepted c.loop-port.back.items c.push_reserved.new.self.items c.give_back.result c.push_reserved.ensures.items gave.changes was.10,
     )

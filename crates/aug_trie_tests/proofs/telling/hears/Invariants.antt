@@ -1,4 +1,4 @@
-use Rattle.std.specs.Prelude.{◌≡◌, ◌≤◌}
+use Rattle.std.specs.Prelude.{◌≡◌}
 use Rattle.aug_trie_tests.proofs.telling.hears.Given as goal
 
 abbrev pub invariant-loop : goal.invariant-loop

@@ -1,6 +1,6 @@
 use Rattle.std.proofs.Common.{sym, ◌∙◌}
 use Rattle.aug_core.specs.Faces.{face}
-use Rattle.aug_words_tests.proofs.LaneTests.{shape_back, members_back}
+use Rattle.aug_words_tests.proofs.LaneTests.{shape_back}
 use Rattle.aug_words_tests.proofs.tables.join.Goals as goal
 
 pub join-requires : goal.join-requires
@@ -10,5 +10,4 @@ pub returns : goal.returns
 returns g c = let f = face g.A.Monoid.parts g.B.Monoid.parts in let t = c.requires.together in let h = c.join.ensures.takes_back in record {
   one_table = c.join.ensures.table ∙ t.one_table;
   one_shape = shape_back f _ _ _ h ∙ t.one_shape;
-  same_members = members_back f _ _ _ h ∙ t.same_members;
 }

@@ -2,8 +2,7 @@ use Rattle.std.proofs.Common.{sym, subst, ◌∙◌, ◌<◌}
 use Rattle.aug_core.specs.Faces.{face}
 use Rattle.aug_core.specs.Lanes.{IsOfLane}
 use Rattle.aug_core.specs.Places.{Shape}
-use Rattle.aug_words.proofs.Leads.{lead_shape, lead_members, next_spare, pass_shape, pass_may_store, pass_may_change}
-use Rattle.aug_words_tests.proofs.LaneTests.{pass_members}
+use Rattle.aug_words.proofs.Leads.{lead_shape, next_spare, pass_shape, pass_may_store, pass_may_change}
 use Rattle.aug_words_tests.proofs.tables.next_pass.Goals as goal
 
 pub split-requires-clause-room : goal.split-requires-clause-room
@@ -13,7 +12,6 @@ pub returns-clause-together : goal.returns-clause-together
 returns-clause-together g c = let f = face g.A.Monoid.parts g.B.Monoid.parts in let h = c.split.ensures.hands_out in let t = c.requires.together in record {
   one_table = c.split.ensures.table ∙ t.one_table;
   one_shape = lead_shape f _ _ _ h ∙ t.one_shape;
-  same_members = lead_members f _ _ _ h ∙ t.same_members;
 }
 
 pub returns-clause-lead : goal.returns-clause-lead
@@ -23,7 +21,6 @@ pub returns-clause-pass : goal.returns-clause-pass
 returns-clause-pass g c = let f = face g.A.Monoid.parts g.B.Monoid.parts in let h = c.split.ensures.hands_out in let t = c.requires.together in record {
   one_table = c.split.ensures.pass_table ∙ t.one_table;
   one_shape = pass_shape f _ _ _ h ∙ t.one_shape;
-  same_members = pass_members _ _ _ _ h ∙ t.same_members;
 }
 
 pub returns-clause-own : goal.returns-clause-own

@@ -1,60 +1,94 @@
-use Rattle.std.proofs.Common.{◌∙◌, All, List, ap, inl, inr, subst, sym, rules, arith}
+use Rattle.std.proofs.Common.{◌≡◌, ◌+◌, ◌∙◌, ◌++◌, [], All, List, ap, inl, inr, length, map, subst, sym, vec_len, rules, arith}
+use Rattle.std.specs.Prelude.{reverse}
 use Rattle.std.specs.Arc.{arc_value}
 use Rattle.aug_trie.specs.Chains.{Chapter}
-use Rattle.aug_trie.specs.Round.{RoundFacts}
+use Rattle.aug_trie.specs.Round.{TableFacts, RoundFacts, table_of}
 use Rattle.aug_live.specs.Carrying.{Leads}
-use Rattle.aug_live.specs.inside.Rolls.{IsBackIn}
+use Rattle.aug_live.specs.inside.LaneKnowledge.{EndFacts, lane_by}
+use Rattle.aug_live.specs.inside.Rolls.{HasEnded, IsBackIn, IsOf, rounds_in}
+use Rattle.aug_live.specs.LiveTries.{LanesGoOn}
 use Rattle.aug_trie.specs.Crew.{crew_chain}
-use Rattle.aug_trie.proofs.Chaining.{part_trans}
+use Rattle.aug_trie.proofs.Chaining.{part_refl, part_trans}
 use Rattle.aug_live.proofs.Counted.{crew_part, desk_on, exhausted_so, more_self, rolled_part}
-use Rattle.aug_live.proofs.Desks.{rolled_on}
-use Rattle.aug_live.proofs.Lanes.{rolled_lanes}
+use Rattle.aug_live.proofs.Desks.{all_taken, kept_taken, may_take, no_lanes, rolled_on, taken_of, unsettled}
+use Rattle.aug_live.proofs.Lanes.{lanes_same, rolled_lanes}
 use Rattle.aug_live.proofs.Moving.{all_ended, next_led}
 use Rattle.aug_live.proofs.desk.Working.roll.Goals as goal
 use Rattle.aug_live.proofs.desk.Working.roll.Goals.{then-counts-via-then-counts, then-counts-via-else-counts+then-counts-gt-MOST_BEFORE, then-counts-via-else-counts+else-counts-gt-MOST_BEFORE+then-counts-gt-MOST_BEFORE-2}
 
-pub deal_all-requires-clause-ready : goal.deal_all-requires-clause-ready
-deal_all-requires-clause-ready g c =
-    let round : RoundFacts = arc_value c.self.inside.round in let back = c.take_all.new.back.items in let now = c.take_all.new.crew in let era = c.self.inside.counts.rounds in
-    all_ended era round (arc_value c.renewed-crew.new.round) now c.renewed-crew.result.0 _ _ _ c.renewed-crew.ensures.rolls (ap (λ (z : RoundFacts × List Chapter). z.0) c.take_all.ensures.round ∙ c.self.invariant.0.together) back
-    (subst (λ (z : RoundFacts × List Chapter). All (IsBackIn z era now.knows.history) back) (sym c.take_all.ensures.round) c.take_all.ensures.back)
-
-pub deal_all-requires-clause-led : goal.deal_all-requires-clause-led
-deal_all-requires-clause-led g c =
-    let round : RoundFacts = arc_value c.self.inside.round in let now = c.take_all.new.crew in
-    next_led c.self.inside.counts.rounds round (arc_value c.renewed-crew.new.round) now c.renewed-crew.result.0 _ _ _ c.renewed-crew.ensures.rolls (ap (λ (z : RoundFacts × List Chapter). z.0) c.take_all.ensures.round ∙ c.self.invariant.0.together)
-    (subst (λ (z : List Chapter). Leads round.bits z round.members) (sym (ap (λ (z : RoundFacts × List Chapter). z.1) c.take_all.ensures.round)) c.self.invariant.0.led)
-
-pub invariant_of-working : goal.invariant_of-working
-invariant_of-working g c =
-    let was = c.self.invariant in let dealt = c.deal_all.ensures in (
-      rolled_on c.self.inside.plan.lanes c.self.inside.plan.updates c.self.inside.counts _ (arc_value c.self.inside.round) (arc_value c.renewed-crew.new.round) c.self.inside.crew c.take_all.new.crew c.renewed-crew.result.0 c.deal_all.new.crew
-          c.self.inside.ports.items c.take_all.new.back.items c.deal_all.new.ports.items _ _ c.renewed-crew.new.list.items c.renewed-crew.result.1 c.renewed-crew.result.2
-          was.0 c.renewed-crew.ensures.rolls c.take_all.ensures.round dealt.of_round (search rules) c.take_all.ensures.kept c.take_all.ensures.back c.take_all.ensures.changes dealt.kept dealt.same_changes dealt.round (search rules) dealt.back (search rules) (search rules) (search rules) (search rules) (search rules) (search rules) (search rules) (search rules),
-      search rules,
-      search rules,
-      search rules,
-      search rules,
-      search rules,
-    )
-
 pub returns-then-counts-clause-more : goal.returns-then-counts-clause-more
 returns-then-counts-clause-more g c = more_self c.args.self
 
-pub returns-clause-more : goal.returns-clause-more
-returns-clause-more g c =
-    let w = c.self.inside in let now = c.take_all.new.crew in let first = c.renewed-crew.result.0 in let dealt = c.deal_all.ensures in let took = c.take_all.ensures in
-    let round : RoundFacts = arc_value w.round in let next : RoundFacts = arc_value c.renewed-crew.new.round in let rolls = c.renewed-crew.ensures.rolls in
-    let here = ap (λ (z : RoundFacts × List Chapter). z.0) took.round ∙ c.self.invariant.0.together in
-    desk_on _ round next w.crew c.deal_all.new.crew _ _ c.self.view_is (ap (λ (z : RoundFacts). z.table) rolls.round_is) (ap (λ (z : RoundFacts). z.bits) rolls.round_is) (rolled_lanes w.ports.items c.deal_all.new.ports.items c.take_all.new.back.items took.kept dealt.kept)
-    (part_trans (crew_chain w.crew) (crew_chain now) (crew_chain c.deal_all.new.crew) (crew_part w.crew now took.round took.goes_on)
-    (part_trans (crew_chain now) (crew_chain first) (crew_chain c.deal_all.new.crew) (rolled_part round next now first _ _ _ rolls here) (crew_part first c.deal_all.new.crew dealt.round dealt.goes_on)))
-
 pub returns-then-counts-clause-refused : goal.returns-then-counts-clause-refused
-returns-then-counts-clause-refused g c = let w = c.self.inside in let was = c.self.invariant.0 in let rounds = was.rounds_are in
-    exhausted_so c.args.self (arc_value w.round) w.crew _ _ w.counts.inserts w.counts.removals c.self.view_is was.accounts.past
+returns-then-counts-clause-refused g c = let w = c.working.inside in let was = c.working.invariant.0 in let rounds = was.rounds_are in
+    exhausted_so c.args.self (arc_value w.round) w.crew _ _ w.counts.inserts w.counts.removals c.working.view_is was.accounts.past
     (elim c.then-counts.branch [
       | then-counts-via-then-counts b ↦ inl (omega arith)
       | then-counts-via-else-counts+then-counts-gt-MOST_BEFORE b ↦ inr (inl (omega arith))
       | then-counts-via-else-counts+else-counts-gt-MOST_BEFORE+then-counts-gt-MOST_BEFORE-2 b ↦ inr (inr (omega arith))
     ])
+
+pub take_all-requires-clause-rolls : goal.take_all-requires-clause-rolls
+take_all-requires-clause-rolls g c = may_take c.working.inside.ports.items c.working.inside.held.items c.working.invariant.0
+
+pub returns-in-Err-clause-more : goal.returns-in-Err-clause-more
+returns-in-Err-clause-more g c = let w = c.working.inside in
+    desk_on _ (arc_value w.round) w.crew w.crew _ _ c.working.view_is (lanes_same _ _ (ap (map lane_by) c.take_all.ensures.same)) (part_refl (crew_chain w.crew))
+
+pub give_all-requires-clause-of_round : goal.give_all-requires-clause-of_round
+give_all-requires-clause-of_round g c = let w = c.working.inside in
+    taken_of (IsOf (rounds_in w.crew) w.counts.rounds) c.take_all.new.held.items (w.ports.items ++ reverse w.held.items) (all_taken w.ports.items w.held.items c.take_all.new.ports.items c.take_all.new.held.items (search rules) c.take_all.ensures.same) c.working.invariant.0.of_round
+
+pub deal_all-requires-clause-ready : goal.deal_all-requires-clause-ready
+deal_all-requires-clause-ready g c =
+    let w = c.working.inside in let table : TableFacts = arc_value w.round in let gave = c.give_all.ensures in let back = c.give_all.new.idle.items in let now = c.give_all.new.crew in let first = c.renew-crew.result.0 in let era = w.counts.rounds in
+    let rolls = c.renew-crew.ensures.rolls in let here : table_of now.round ≡ table = ap (λ (z : RoundFacts × List Chapter). table_of z.0) gave.round ∙ c.working.invariant.0.together in
+    subst (λ (z : TableFacts). All (HasEnded z first.past era) back) (sym (ap table_of rolls.round_is ∙ here))
+    (all_ended era table now first _ _ _ rolls here back (subst (λ (z : RoundFacts × List Chapter). All (IsBackIn z era now.knows.history) back) (sym gave.round) gave.back))
+
+pub deal_all-requires-clause-led : goal.deal_all-requires-clause-led
+deal_all-requires-clause-led g c =
+    let w = c.working.inside in let table : TableFacts = arc_value w.round in let gave = c.give_all.ensures in let now = c.give_all.new.crew in let first = c.renew-crew.result.0 in
+    let rolls = c.renew-crew.ensures.rolls in let here : table_of now.round ≡ table = ap (λ (z : RoundFacts × List Chapter). table_of z.0) gave.round ∙ c.working.invariant.0.together in
+    subst (λ (z : TableFacts). Leads z.bits first.past first.round.members) (sym (ap table_of rolls.round_is ∙ here))
+    (next_led w.counts.rounds table now first _ _ _ rolls here (subst (λ (z : RoundFacts × List Chapter). Leads table.bits z.1 z.0.members) (sym gave.round) c.working.invariant.0.led))
+
+pub deal_all-requires-clause-together : goal.deal_all-requires-clause-together
+deal_all-requires-clause-together g c =
+    let w = c.working.inside in let gave = c.give_all.ensures in let now = c.give_all.new.crew in
+    let same : table_of w.crew.round ≡ table_of now.round = ap (λ (z : RoundFacts × List Chapter). table_of z.0) (sym gave.round) in
+    subst (λ (z : TableFacts). All (λ s. arc_value s ≡ z) c.give_all.new.shares.items) (same ∙ sym (ap table_of c.renew-crew.ensures.rolls.round_is)) gave.shared
+
+pub invariant_of-working-2 : goal.invariant_of-working-2
+invariant_of-working-2 g c =
+    let inv = c.working.invariant in let w = c.working.inside in let gave = c.give_all.ensures in let dealt = c.deal_all.ensures in let took = c.take_all.ensures in
+    let none : c.take_all.new.ports.items ≡ [] = search rules in let zero : length c.take_all.new.ports.items ≡ 0 = ap length none in
+    let all : List EndFacts = w.ports.items ++ reverse w.held.items in let taken = all_taken w.ports.items w.held.items c.take_all.new.ports.items c.take_all.new.held.items none took.same in
+    let kept = kept_taken c.give_all.new.idle.items c.take_all.new.held.items all gave.kept taken in
+    let left : length c.give_all.new.held.items ≡ 0 = ap length gave.none_left in let few : vec_len c.give_all.new.held ≡ 0 = omega (arith, left) in
+    let as_many : vec_len c.deal_all.new.ports ≡ vec_len w.ports + vec_len w.held = omega (arith, dealt.len, gave.len.0, took.len, zero) in
+    let handed : c.deal_all.new.crew.handed ≡ vec_len w.ports + vec_len w.held = omega (arith, dealt.handed, gave.len.0, took.len, zero) in (
+      unsettled c.deal_all.new.ports.items c.give_all.new.held.items (vec_len c.deal_all.new.ports) (vec_len c.give_all.new.held) left few
+          (rolled_on w.plan.lanes w.plan.updates w.counts _ (arc_value w.round) w.crew c.give_all.new.crew c.renew-crew.result.0 c.deal_all.new.crew all c.give_all.new.idle.items c.deal_all.new.ports.items _ _ c.renew-crew.new.list.items c.renew-crew.result.1 c.renew-crew.result.2
+          inv.0 c.renew-crew.ensures.rolls gave.round dealt.of_round as_many kept gave.back gave.changes dealt.kept dealt.same_changes dealt.round handed dealt.back (search rules) (search rules) (search rules) (search rules) (search rules) (search rules) (search rules) (search rules)),
+      dealt.none_left.0,
+      dealt.none_left.1,
+      omega (arith, as_many, few, dealt.room.0, took.room, inv.3),
+      omega (arith, as_many, few, gave.room.0, took.held_room, inv.4),
+      omega (arith, as_many, few, dealt.room.1, gave.room.1, inv.5),
+      omega (arith, as_many, few, dealt.room.2, gave.room.2, inv.6),
+      search rules,
+      search rules,
+      inv.9,
+    )
+
+pub returns-clause-more : goal.returns-clause-more
+returns-clause-more g c =
+    let w = c.working.inside in let gave = c.give_all.ensures in let dealt = c.deal_all.ensures in let took = c.take_all.ensures in let now = c.give_all.new.crew in let first = c.renew-crew.result.0 in
+    let none : c.take_all.new.ports.items ≡ [] = search rules in
+    let all : List EndFacts = w.ports.items ++ reverse w.held.items in let taken = all_taken w.ports.items w.held.items c.take_all.new.ports.items c.take_all.new.held.items none took.same in
+    let kept = kept_taken c.give_all.new.idle.items c.take_all.new.held.items all gave.kept taken in
+    desk_on _ (arc_value w.round) w.crew c.deal_all.new.crew _ _ c.working.view_is
+    (subst (λ (z : List EndFacts). LanesGoOn (map lane_by all) (map lane_by z)) (sym (no_lanes c.deal_all.new.ports.items c.give_all.new.held.items (ap length gave.none_left))) (rolled_lanes all c.deal_all.new.ports.items c.give_all.new.idle.items kept dealt.kept))
+    (part_trans (crew_chain w.crew) (crew_chain now) (crew_chain c.deal_all.new.crew) (crew_part w.crew now gave.round gave.goes_on)
+    (part_trans (crew_chain now) (crew_chain first) (crew_chain c.deal_all.new.crew) (rolled_part now first _ _ _ c.renew-crew.ensures.rolls) (crew_part first c.deal_all.new.crew dealt.round dealt.goes_on)))

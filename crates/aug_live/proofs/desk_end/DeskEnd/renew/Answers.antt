@@ -1,28 +1,47 @@
-use Rattle.std.proofs.Common.{refl, subst, sym, arith}
+use Rattle.std.proofs.Common.{◌∙◌, List, ap, refl, subst, sym, arith}
 use Rattle.std.specs.Prelude.{Some, IfErr}
+use lib.ListN.{get_elem?}
+use Rattle.atomic_table.specs.Seated.{TableId}
 use Rattle.ruled_lock.specs.Locks.{client_of}
-use Rattle.aug_live.specs.LiveErrors.{RefusesLane}
-use Rattle.aug_live.specs.LiveTries.{KnowsMore, TrieFacts}
-use Rattle.aug_live.proofs.Counted.{more_on}
+use Rattle.aug_trie.specs.Chains.{IsPart}
+use Rattle.aug_trie.specs.Note.{chain_of_note}
+use Rattle.aug_trie.proofs.Chaining.{part_trans}
+use Rattle.aug_live.specs.inside.Desks.{GivesLane, TakesEnd}
+use Rattle.aug_live.specs.LiveTries.{CameBack, KnowsMore, TrieFacts}
+use Rattle.aug_live.proofs.Carries.{ok_any, ok_map}
+use Rattle.aug_live.proofs.Counted.{came_from, ids_more, more_on, more_self}
 use Rattle.aug_live.proofs.Lanes.{as_many}
 use Rattle.aug_live.proofs.Told.{put_told, turns}
 use Rattle.aug_live.proofs.desk_end.DeskEnd.renew.Goals as goal
 
 pub put-requires-clause-holds : goal.put-requires-clause-holds
-put-requires-clause-holds g c = let take = c.take_round-working in let was = take.result.0 in let now = c.renew-renewed.new.self in (
-  record { working = Some was; opened = take.result.1 },
-  take.ensures.holds,
-  λ views on at. turns _ (client_of take.new.pass) (record { working = Some was; opened = take.result.1 }) (record { working = Some now; opened = take.result.1 }) views on at refl (λ x k. more_on x was now k c.renew-renewed.ensures.more),
+put-requires-clause-holds g c = let was = c.in-Ok.working in let laid = c.in-Ok.opened in let mid = c.settle-working.result.0 in let now = c.renew-renewed.new.self in (
+  record { working = Some was; opened = laid },
+  c.in-Ok.ensures.holds,
+  λ views on at. turns _ (client_of c.take_round.new.pass) (record { working = Some was; opened = laid }) (record { working = Some now; opened = laid }) views on at refl (λ x k. more_on x was now k (more_on was mid now c.settle-working.ensures.more c.renew-renewed.ensures.more)),
 )
 
-pub returns-clause-more : goal.returns-clause-more
-returns-clause-more g c = let take = c.take_round-working in let now = c.renew-renewed.new.self in
-    subst (KnowsMore c.args.self.now) (sym (put_told take.new.pass.me.0.taken (record { working = Some take.result.0; opened = take.result.1 }) (record { working = Some now; opened = take.result.1 }) (client_of take.new.pass) (client_of c.put.new.pass) take.ensures.holds.0 c.put.ensures.then))
-    (more_on c.args.self.now take.result.0 now (subst (λ (z : TrieFacts). KnowsMore z take.result.0) c.self.view_is take.ensures.knows) c.renew-renewed.ensures.more)
+pub put-requires-in-Err-settled-clause-holds : goal.put-requires-in-Err-settled-clause-holds
+put-requires-in-Err-settled-clause-holds g c = let was = c.in-Ok.working in let laid = c.in-Ok.opened in let mid = c.settle-working.result.0 in let now = mid in (
+  record { working = Some was; opened = laid },
+  c.in-Ok.ensures.holds,
+  λ views on at. turns _ (client_of c.take_round.new.pass) (record { working = Some was; opened = laid }) (record { working = Some now; opened = laid }) views on at refl (λ x k. more_on x was now k c.settle-working.ensures.more),
+)
 
-pub returns-clause-refused : goal.returns-clause-refused
-returns-clause-refused g c = let take = c.take_round-working in let now = c.renew-renewed.new.self in
-    subst (λ (z : TrieFacts). IfErr c.renew-renewed.result (RefusesLane c.args.lane z)) (sym (put_told take.new.pass.me.0.taken (record { working = Some take.result.0; opened = take.result.1 }) (record { working = Some now; opened = take.result.1 }) (client_of take.new.pass) (client_of c.put.new.pass) take.ensures.holds.0 c.put.ensures.then)) c.renew-renewed.ensures.refused
+pub returns-in-Ok-settled-clause-more : goal.returns-in-Ok-settled-clause-more
+returns-in-Ok-settled-clause-more g c = let was = c.in-Ok.working in let laid = c.in-Ok.opened in let mid = c.settle-working.result.0 in let now = c.renew-renewed.new.self in
+    subst (KnowsMore c.args.self.now) (sym (put_told c.take_round.new.pass.me.0.taken (record { working = Some was; opened = laid }) (record { working = Some now; opened = laid }) (client_of c.take_round.new.pass) (client_of c.put.new.pass) c.in-Ok.ensures.holds.0 c.put.ensures.then))
+    (more_on c.args.self.now was now (subst (λ (z : TrieFacts). KnowsMore z was) c.self.view_is c.in-Ok.ensures.knows) (more_on was mid now c.settle-working.ensures.more c.renew-renewed.ensures.more))
 
-pub returns-clause-past : goal.returns-clause-past
-returns-clause-past g c = λ high. let take = c.take_round-working in let many = as_many c.args.self.now.lanes take.result.0.lanes (subst (λ (z : TrieFacts). KnowsMore z take.result.0) c.self.view_is take.ensures.knows).lanes in c.renew-renewed.ensures.past (omega (arith, many, high))
+pub returns-in-Err-settled-clause-more : goal.returns-in-Err-settled-clause-more
+returns-in-Err-settled-clause-more g c = let was = c.in-Ok.working in let laid = c.in-Ok.opened in let mid = c.settle-working.result.0 in let now = mid in
+    subst (KnowsMore c.args.self.now) (sym (put_told c.take_round.new.pass.me.0.taken (record { working = Some was; opened = laid }) (record { working = Some now; opened = laid }) (client_of c.take_round.new.pass) (client_of c.put-in-Err-settled.new.pass) c.in-Ok.ensures.holds.0 c.put-in-Err-settled.ensures.then))
+    (more_on c.args.self.now was now (subst (λ (z : TrieFacts). KnowsMore z was) c.self.view_is c.in-Ok.ensures.knows) c.settle-working.ensures.more)
+
+pub returns-in-Err-clause-more : goal.returns-in-Err-clause-more
+returns-in-Err-clause-more g c = subst (KnowsMore c.args.self.now) (sym (c.take_round.ensures.view ∙ c.self.view_is)) (more_self c.args.self.now)
+
+pub returns-in-Ok-settled-clause-past : goal.returns-in-Ok-settled-clause-past
+returns-in-Ok-settled-clause-past g c = λ high. let was = c.in-Ok.working in let mid = c.settle-working.result.0 in
+    let many = as_many c.args.self.now.lanes was.lanes (subst (λ (z : TrieFacts). KnowsMore z was) c.self.view_is c.in-Ok.ensures.knows).lanes in let more = as_many was.lanes mid.lanes c.settle-working.ensures.more.lanes in
+    c.renew-renewed.ensures.past (omega (arith, many, more, high))

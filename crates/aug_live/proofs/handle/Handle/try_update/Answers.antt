@@ -1,13 +1,10 @@
-use Rattle.std.proofs.Common.{◌∙◌, sym}
-use Rattle.aug_live.specs.LiveTries.{ids_of}
-use Rattle.aug_live.proofs.Carries.{unchanged, made_end, unmade_end}
+use Rattle.std.proofs.Common.{sym, subst}
+use Rattle.aug_live.specs.LiveHandles.{Follows}
+use Rattle.aug_live.proofs.Carries.{follows_on, makes_on}
 use Rattle.aug_live.proofs.handle.Handle.try_update.Goals as goal
 
-pub returns-in-Err-clause-not_made : goal.returns-in-Err-clause-not_made
-returns-in-Err-clause-not_made g c = unchanged (ids_of c.self.inside.desk) c.args.self.now c.self.inside.end c.in-Some.end c.in-Err.same c.self.view_is (sym c.take.ensures.value ∙ c.in-Some.is) c.in-Err.ensures.same
+pub returns-in-Ok-attempt-clause-made : goal.returns-in-Ok-attempt-clause-made
+returns-in-Ok-attempt-clause-made g c = makes_on 1 _ c.args.self.now c.past.new.self _ (subst (Follows c.args.self.now) (sym c.past.ensures.same) c.in-Err.ensures.not_made) c.in-Ok-attempt.ensures.made
 
-pub returns-clause-made : goal.returns-clause-made
-returns-clause-made g c = made_end (ids_of c.self.inside.desk) c.args.self.now c.self.inside.end c.in-Some.end c.put.result c.self.view_is (sym c.take.ensures.value ∙ c.in-Some.is) c.in-Ok.taken.0 c.in-Ok.taken.1 c.update-lane.result.0 c.in-Ok.ensures.known c.in-Ok.ensures.taken c.put.ensures c.in-Ok.ensures.follows c.update-lane.result.1 1 _ c.update-lane.ensures.made
-
-pub returns-clause-not_made : goal.returns-clause-not_made
-returns-clause-not_made g c = unmade_end (ids_of c.self.inside.desk) c.args.self.now c.self.inside.end c.in-Some.end c.put.result c.self.view_is (sym c.take.ensures.value ∙ c.in-Some.is) c.in-Ok.taken.0 c.in-Ok.taken.1 c.update-lane.result.0 c.in-Ok.ensures.known c.in-Ok.ensures.taken c.put.ensures c.in-Ok.ensures.follows c.update-lane.result.1 c.update-lane.ensures.same
+pub returns-in-Err-attempt-clause-not_made : goal.returns-in-Err-attempt-clause-not_made
+returns-in-Err-attempt-clause-not_made g c = follows_on c.args.self.now c.past.new.self c.attempt-2.new.self (subst (Follows c.args.self.now) (sym c.past.ensures.same) c.in-Err.ensures.not_made) c.in-Err-attempt.ensures.not_made

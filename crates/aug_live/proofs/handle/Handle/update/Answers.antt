@@ -7,10 +7,10 @@ pub returns-in-Ok-clause-made : goal.returns-in-Ok-clause-made
 returns-in-Ok-clause-made g c = makes_on 1 _ c.args.self.now c.loop.self _ c.loop.invariant c.in-Ok.ensures.made
 
 pub loop-preserved : goal.loop-preserved
-loop-preserved g c = subst (Follows c.args.self.now) (sym c.past.ensures.same) (follows_on c.args.self.now c.loop.self c.try_update.new.self c.loop.invariant c.in-Err.ensures.not_made)
+loop-preserved g c = subst (Follows c.args.self.now) (sym c.past.ensures.same) (follows_on c.args.self.now c.loop.self c.attempt.new.self c.loop.invariant c.in-Err.ensures.not_made)
 
-pub returns-in-Err-past-clause-not_made : goal.returns-in-Err-past-clause-not_made
-returns-in-Err-past-clause-not_made g c = subst (Follows c.args.self.now) (sym c.past.ensures.same) (follows_on c.args.self.now c.loop.self c.try_update.new.self c.loop.invariant c.in-Err.ensures.not_made)
+pub returns-in-Err-Refused-clause-not_made : goal.returns-in-Err-Refused-clause-not_made
+returns-in-Err-Refused-clause-not_made g c = subst (Follows c.args.self.now) (sym c.past.ensures.same) (follows_on c.args.self.now c.loop.self c.attempt.new.self c.loop.invariant c.in-Err.ensures.not_made)
 
 pub loop-init : goal.loop-init
 loop-init g c = follows_self c.args.self.now

@@ -13,7 +13,7 @@ use Rattle.aug_live.specs.inside.LaneKnowledge.{handle_by}
 use Rattle.aug_live.proofs.Counted.{more_self}
 use Rattle.aug_live.proofs.Looked.{lock_of}
 use Rattle.aug_live.proofs.live.Live.back.Goals as goal
-use Rattle.aug_live.proofs.live.Live.back.Goals.{in-Ok-back, in-Err-back}
+use Rattle.aug_live.proofs.live.Live.back.Goals.{in-Ok-back, in-Err-back+in-Refused}
 
 pub returns-in-Err-clause-more : goal.returns-in-Err-clause-more
 returns-in-Err-clause-more g c = more_self c.args.self.now
@@ -32,7 +32,7 @@ returns-clause-knows g c = let mine = chain_of c.args.handle.half in let note = 
     let told : IsPart mine note = subst (λ (z : NoteFacts). IsPart mine (chain_of_note z)) (sym c.in-Ok.ensures.note) c.in-Ok.ensures.follows.goes_on in
     elim c.match-back.branch [
       | in-Ok-back w ↦ subst (λ (r : Result _ _). IfOk r (λ _. IsPart mine rounds)) (sym w.result-is) (part_trans mine note rounds told w.in-Ok-back.ensures.learns)
-      | in-Err-back w ↦ subst (λ (r : Result _ _). IfOk r (λ _. IsPart mine rounds)) (sym w.result-is) tt
+      | in-Err-back+in-Refused w ↦ subst (λ (r : Result _ _). IfOk r (λ _. IsPart mine rounds)) (sym w.result-is) tt
     ]
 
 pub returns-clause-done : goal.returns-clause-done
@@ -42,5 +42,5 @@ returns-clause-done g c = let i = c.handle.inside in let there : i.end ≡ Some 
     elim c.match-back.branch [
       | in-Ok-back w ↦ subst (λ (r : Result _ _). IfOk r (λ _. CameBack c.args.handle.made c.args.self.now new)) (sym w.result-is)
           (subst (λ (z : List Made × TrieFacts). CameBack z.0 z.1 new) (λ k. (made k, c.self.view_is k)) w.in-Ok-back.ensures.takes)
-      | in-Err-back w ↦ subst (λ (r : Result _ _). IfOk r (λ _. CameBack c.args.handle.made c.args.self.now new)) (sym w.result-is) tt
+      | in-Err-back+in-Refused w ↦ subst (λ (r : Result _ _). IfOk r (λ _. CameBack c.args.handle.made c.args.self.now new)) (sym w.result-is) tt
     ]

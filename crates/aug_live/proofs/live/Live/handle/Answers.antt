@@ -1,28 +1,19 @@
-use Rattle.std.proofs.Common.{◌∙◌, List, ap, refl, sym, subst}
-use lib.ListN.{get_elem?}
-use Rattle.atomic_table.specs.Seated.{TableId}
-use Rattle.aug_trie.specs.Chains.{IsPart}
-use Rattle.aug_trie.specs.Pass.{chain_of}
-use Rattle.aug_live.specs.LiveTries.{TrieFacts, ids_of}
+use Rattle.std.proofs.Common.{arith}
+use Rattle.aug_live.proofs.Counted.{more_on, more_self}
+use Rattle.aug_live.proofs.Lanes.{as_many}
 use Rattle.aug_live.proofs.live.Live.handle.Goals as goal
 
-pub returns-clause-of_trie : goal.returns-clause-of_trie
-returns-clause-of_trie g c = let h = c.in_ok-end.ensures.handle in let end = c.in_ok-end.end in let same = sym c.another.ensures.same in record {
-  table = h.table ∙ ap (λ (z : TrieFacts). z.table) same;
-  of_lanes = ap ids_of (c.another.ensures.knows ∙ same);
-  none_made = h.none_made;
-  bits = h.is_end.bits_are ∙ h.of_bits ∙ ap (λ (z : TrieFacts). z.bits) same;
-  knows = subst (λ (z : TrieFacts). IsPart z.rounds (chain_of end.known.at.half)) same h.knows;
-}
+pub loop-init : goal.loop-init
+loop-init g c = more_self c.args.self.now
 
-pub invariant_of-result : goal.invariant_of-result
-invariant_of-result g c = let h = c.in_ok-end.ensures.handle in let mine = h.is_end in record {
-  mine = c.in_ok-end.end;
-  there = refl;
-  whose = mine.whose;
-  id = ap (λ (z : List TableId). get_elem? z c.args.lane) (ap ids_of c.another.ensures.knows) ∙ h.id;
-  number_is = mine.number_is;
-  some_era = mine.some_era;
-  bits_are = mine.bits_are;
-  few_bits = mine.few_bits;
-}
+pub returns-in-Ok-clause-more : goal.returns-in-Ok-clause-more
+returns-in-Ok-clause-more g c = more_on c.args.self.now c.loop.self c.give.new.self c.loop.invariant c.in-Ok.ensures.more
+
+pub returns-in-Ok-clause-past : goal.returns-in-Ok-clause-past
+returns-in-Ok-clause-past g c = λ high. let many = as_many c.args.self.now.lanes c.loop.self.lanes c.loop.invariant.lanes in c.in-Ok.ensures.past (omega (arith, many, high))
+
+pub returns-then-ne-clause-more : goal.returns-then-ne-clause-more
+returns-then-ne-clause-more g c = more_on c.args.self.now c.loop.self c.give.new.self c.loop.invariant c.give.ensures.more
+
+pub loop-preserved : goal.loop-preserved
+loop-preserved g c = more_on c.args.self.now c.loop.self c.give.new.self c.loop.invariant c.give.ensures.more

@@ -1,6 +1,6 @@
-use Rattle.std.proofs.Common.{◌≡◌, ◌∙◌, ◌^◌, [], length, vec_len, All, List, map, ap, refl, sym, subst, rules, arith}
+use Rattle.std.proofs.Common.{◌≡◌, ◌∙◌, ◌^◌, ◌++◌, [], length, vec_len, All, List, map, ap, refl, sym, subst, rules, arith}
 use Rattle.std.specs.Arc.{arc_value}
-use Rattle.std.specs.Prelude.{Some}
+use Rattle.std.specs.Prelude.{Some, reverse}
 use Rattle.std.proofs.lemmas.List.{length-map}
 use Rattle.std.proofs.lemmas.List.Elements.{All-map}
 use Rattle.aug_core.specs.Layout.{IsLayout}
@@ -10,30 +10,45 @@ use Rattle.aug_model.proofs.Boundaries.{IsKeySet-few}
 use Rattle.aug_model.proofs.Pairs.{length-keys_of}
 use Rattle.aug_trie.specs.Chains.{Chapter}
 use Rattle.aug_trie.specs.Crew.{CrewFacts}
-use Rattle.aug_trie.specs.Round.{RoundFacts}
+use Rattle.aug_trie.specs.Round.{RoundFacts, TableFacts}
 use Rattle.aug_live.specs.LiveHandles.{HandleFacts, IsNew}
 use Rattle.aug_live.specs.LiveTries.{IsOpenedTrie, LaneKnown, TrieFacts, ids_of}
 use Rattle.aug_live.specs.inside.LaneKnowledge.{EndFacts, handle_by, lane_by}
 use Rattle.aug_live.specs.inside.Rolls.{IsFirst, IsOf, rounds_in}
-use Rattle.aug_live.proofs.Desks.{all_new, opened_at}
+use Rattle.aug_live.proofs.Desks.{all_new, no_lanes, opened_at, unsettled}
 use Rattle.aug_live.proofs.Lanes.{ids_are}
 use Rattle.aug_live.proofs.live.Live.open_with.Goals as goal
 
 pub next_round-requires-clause-few : goal.next_round-requires-clause-few
 next_round-requires-clause-few g c = omega (arith, IsKeySet-few _ _ c.universe-universe.ensures.keys, length-keys_of c.args.set.pairs)
 
+pub open_lanes-ports-requires-clause-together : goal.open_lanes-ports-requires-clause-together
+open_lanes-ports-requires-clause-together g c = let begun = c.in-Ok-next_round.ensures.begun in let shares = c.in-Ok-next_round.ensures.shares.0 in λ k d low. shares k d low ∙ sym begun.together
+
 pub invariant_of-working : goal.invariant_of-working
 invariant_of-working g c =
-    let begun = c.in-Ok-next_round.ensures.begun in let opened = c.open_lanes-ports.ensures in (
-      opened_at c.args.plan.lanes c.args.plan.updates _ c.args.set _ c.in-Ok-next_round.begun.1 c.open_lanes-ports.new.crew c.open_lanes-ports.result.0.items _ (search rules) begun
-          (subst (λ (z : RoundFacts × List Chapter). All (IsOf z 1) c.open_lanes-ports.result.0.items) (sym opened.round) opened.of_round) opened.opened (search rules) (search rules) opened.round (ap (λ (z : CrewFacts). z.round) begun.crew_is)
-          (opened.handed ∙ sym opened.len.0) opened.back opened.same_changes refl (search rules) refl refl (search rules) (search rules),
+    let begun = c.in-Ok-next_round.ensures.begun in let opened = c.open_lanes-ports.ensures in let ports = c.open_lanes-ports.result.0 in let held = c.in-Ok.room.held in
+    let none : length held.items ≡ 0 = ap length c.in-Ok.ensures.held.0 in let few : vec_len held ≡ 0 = omega (arith, none) in (
+      unsettled ports.items held.items (vec_len ports) (vec_len held) none few
+          (opened_at c.args.plan.lanes c.args.plan.updates _ c.args.set _ c.in-Ok-next_round.begun.crew c.open_lanes-ports.new.crew ports.items (vec_len ports) (search rules) begun
+          (subst (λ (z : RoundFacts × List Chapter). All (IsOf z 1) ports.items) (sym opened.round) opened.of_round) opened.opened (search rules) (search rules) opened.round
+          (opened.handed ∙ sym opened.len.0) opened.back opened.same_changes refl (search rules) refl refl (search rules) (search rules)),
+      search rules,
+      search rules,
+      search rules,
+      search rules,
       search rules,
       search rules,
       search rules,
       search rules,
       search rules,
     )
+
+pub hand_out-handles-requires-clause-desks : goal.hand_out-handles-requires-clause-desks
+hand_out-handles-requires-clause-desks g c = let placed = c.place-desk.ensures in (
+  λ k d low. placed.handles k d low ∙ sym (c.of.ensures ∙ placed.owner),
+  placed.len ∙ search rules,
+)
 
 pub hand_out-handles-requires-clause-ends : goal.hand_out-handles-requires-clause-ends
 hand_out-handles-requires-clause-ends g c =
@@ -43,35 +58,38 @@ hand_out-handles-requires-clause-ends g c =
       whose = s.whose;
       number_is = s.number;
       some_era = omega (arith, s.era_is);
-      bits_are = ap (λ (z : RoundFacts × List Chapter). z.0.bits) s.fresh.round_is ∙ ap (λ (z : CrewFacts). z.round.bits) begun.crew_is ∙ ap (λ (z : RoundFacts). z.bits) begun.round_is ∙ sym c.bits-bits.ensures;
+      bits_are = ap (λ (z : RoundFacts × List Chapter). z.0.bits) s.fresh.round_is ∙ ap (λ (z : RoundFacts). z.bits) begun.round_is ∙ sym c.bits-bits.ensures;
       few_bits = omega (arith, laid.bits.1, c.bits-bits.ensures);
     }
 
 pub hand_out-handles-requires-clause-locks : goal.hand_out-handles-requires-clause-locks
-hand_out-handles-requires-clause-locks g c = c.open_lanes-ports.ensures.locks ∙ sym (ids_are c.open_lanes-ports.result.0.items) ∙ ap ids_of (sym c.place-desk.ensures)
+hand_out-handles-requires-clause-locks g c = let ports = c.open_lanes-ports.result.0.items in let held = c.in-Ok.room.held.items in
+    c.open_lanes-ports.ensures.locks ∙ sym (ids_are ports) ∙ ap (λ (z : List EndFacts). map (λ (l : LaneKnown). l.id) (map lane_by z)) (sym (no_lanes ports held (ap length c.in-Ok.ensures.held.0))) ∙ ap ids_of (sym (c.of.ensures ∙ c.place-desk.ensures.owner))
 
 pub returns-clause-new : goal.returns-clause-new
 returns-clause-new g c =
-    let begun = c.in-Ok-next_round.ensures.begun in let lanes = c.open_lanes-ports.ensures in let rounds = rounds_in c.in-Ok-next_round.begun.1 in let out = c.hand_out-handles.ensures in
-    let is = out.same ∙ c.place-desk.ensures in let ends = c.open_lanes-ports.result.1.items in let ids = ids_of c.place-desk.result in let at = λ (e : EndFacts). handle_by ids (Some e) in
+    let begun = c.in-Ok-next_round.ensures.begun in let lanes = c.open_lanes-ports.ensures in let first = c.in-Ok-next_round.begun.crew in let rounds = rounds_in first in let out = c.hand_out-handles.ensures in
+    let is = c.place-desk.ensures.owner in let ends = c.open_lanes-ports.result.1.items in let ids = ids_of c.of.result.value in let at = λ (e : EndFacts). handle_by ids (Some e) in
     let firsts = All-map (IsFirst rounds ids) at ends (λ k d low. let s = lanes.starts k d low in record { of_lanes = refl; era_is = s.era_is; fresh = s.fresh; none_made = s.none_made }) in
-    subst (λ (z : TableId × List TableId × List HandleFacts). All (IsNew z.0 z.1 c.args.set c.args.plan.updates) z.2) (λ i. (sym (ap (λ (z : TrieFacts). z.table) is) i, sym (ap ids_of out.same) i, sym out.at i))
-    (all_new c.args.set c.args.plan.lanes c.args.plan.updates (arc_value c.in-Ok-next_round.begun.0) c.in-Ok-next_round.begun.1 ids (map at ends) begun firsts)
+    subst (λ (z : TableId × List TableId × List HandleFacts). All (IsNew z.0 z.1 c.args.set c.args.plan.updates) z.2) (λ i. (sym (ap (λ (z : TrieFacts). z.table) is) i, ap ids_of c.of.ensures i, sym out.at i))
+    (all_new c.args.set c.args.plan.lanes c.args.plan.updates (arc_value c.in-Ok-next_round.begun.round) first ids (map at ends) begun firsts)
 
 pub returns-clause-opened : goal.returns-clause-opened
 returns-clause-opened g c =
-    let begun = c.in-Ok-next_round.ensures.begun in let lanes = c.open_lanes-ports.ensures in let is = c.hand_out-handles.ensures.same ∙ c.place-desk.ensures in let ports = c.open_lanes-ports.result.0.items in
-    let long : length ports ≡ vec_len c.open_lanes-ports.result.0 = search rules in
+    let begun = c.in-Ok-next_round.ensures.begun in let lanes = c.open_lanes-ports.ensures in let is = c.place-desk.ensures.owner in let ports = c.open_lanes-ports.result.0.items in let held = c.in-Ok.room.held.items in
+    let long : length ports ≡ vec_len c.open_lanes-ports.result.0 = search rules in let alone = sym (no_lanes ports held (ap length c.in-Ok.ensures.held.0)) in
+    let count : length (map lane_by ports) ≡ c.args.handles = length-map ports lane_by ∙ long ∙ lanes.len.0 ∙ c.in-Ok.ensures.berths.1 in
+    let bare : All (λ (lane : LaneKnown). lane.done ≡ []) (map lane_by ports) = All-map (λ (lane : LaneKnown). lane.done ≡ []) lane_by ports (λ k d low. (lanes.opened k d low).none_done) in
     subst (IsOpenedTrie c.args.set c.args.handles) (sym is) (record {
-      bits = ap (λ (z : RoundFacts). z.bits) begun.round_is;
-      lane_count = length-map ports lane_by ∙ long ∙ lanes.len.0 ∙ c.in-Ok.ensures.firsts.1;
-      none_done = All-map (λ (lane : LaneKnown). lane.done ≡ []) lane_by ports (λ k d low. (lanes.opened k d low).none_done);
+      bits = ap (λ (z : TableFacts). z.bits) (sym begun.together) ∙ ap (λ (z : RoundFacts). z.bits) begun.round_is;
+      lane_count = subst (λ (z : List EndFacts). length (map lane_by z) ≡ c.args.handles) alone count;
+      none_done = subst (λ (z : List EndFacts). All (λ (lane : LaneKnown). lane.done ≡ []) (map lane_by z)) alone bare;
       none_before = ap (λ (z : RoundFacts × List Chapter). z.1) lanes.round ∙ ap (λ (z : CrewFacts). z.past) begun.crew_is;
-      members = ap (λ (z : RoundFacts × List Chapter). z.0.members) lanes.round ∙ ap (λ (z : CrewFacts). z.round.members) begun.crew_is ∙ ap (λ (z : RoundFacts). z.members) begun.round_is;
+      members = ap (λ (z : RoundFacts × List Chapter). z.0.members) lanes.round ∙ ap (λ (z : RoundFacts). z.members) begun.round_is;
     })
 
 pub returns-clause-handles : goal.returns-clause-handles
 returns-clause-handles g c =
     let lanes = c.open_lanes-ports.ensures in let out = c.hand_out-handles.ensures in let handles = c.hand_out-handles.result in let ends = c.open_lanes-ports.result.1 in
-    let at = λ (e : EndFacts). handle_by (ids_of c.place-desk.result) (Some e) in
-    omega (arith, handles.ok.0, ends.ok.0, ap (λ (z : List HandleFacts). length z) out.at, length-map ends.items at, lanes.len.1, c.in-Ok.ensures.firsts.1)
+    let at = λ (e : EndFacts). handle_by (ids_of c.of.result.value) (Some e) in
+    omega (arith, handles.ok.0, ends.ok.0, ap (λ (z : List HandleFacts). length z) out.at, length-map ends.items at, lanes.len.1, c.in-Ok.ensures.berths.1)

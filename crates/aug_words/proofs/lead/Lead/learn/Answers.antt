@@ -17,12 +17,12 @@ join_seat-requires g c = let here = c.requires.together.one_table ∙ ap (λ (s 
   ap (λ (k : Known). k.table) c.self.view_is ∙ here,
   ap (λ (k : Known). k.table) c.note.view_is ∙ c.requires.table ∙ here,
   c.note.invariant.no_slot,
-  some_words _ _ _ _ _ _ _ c.words.invariant,
+  some_words _ _ _ _ _ c.words.invariant,
   learns_in_its_era _ _ _ _ _ _ (hands_out c.self.inside.seat.me.0 c.self.inside.next c.self.invariant.hands_out) c.self.invariant.live c.note.invariant.live c.note.invariant.no_lane,
 )
 
 pub overflow_sub-words-inside : goal.overflow_sub-words-inside
-overflow_sub-words-inside g c = let at = lanes_at _ _ _ _ _ _ _ c.words.invariant in omega arith
+overflow_sub-words-inside g c = let at = lanes_at _ _ _ _ _ c.words.invariant in omega arith
 
 pub returns-clause-learns : goal.returns-clause-learns
 returns-clause-learns g c = let m = g.A.Monoid in let n = g.B.Monoid in let f = face m.parts n.parts in

@@ -22,18 +22,17 @@ use Rattle.aug_words.proofs.words.Words.open_again.Goals as goal
 
 pub reopen-requires-clause-opened : goal.reopen-requires-clause-opened
 reopen-requires-clause-opened g c =
-    let f = face g.A.Monoid.parts g.B.Monoid.parts in let s : Shape = c.self.inside.opening.shape in let members : List (ℕ × ℕ) = c.args.members.now in
+    let f = face g.A.Monoid.parts g.B.Monoid.parts in let s : Shape = c.self.inside.layout in let members : List (ℕ × ℕ) = c.args.members.now in
     let v : SeatView = c.idle.inside.seat.me.0 in let w : SeatView = c.rewrite.new.seat.me.0 in let draft : List ℕ = c.over-draft.result.words.items in let n : ℕ = c.self.inside.records + record_words * c.first_record-opening.result in
     let first : List ℕ = take n c.deref.result.now in let r : Rewrites v w first (length first) = c.rewrite.ensures.view in
-    let stored : c.args.self.now.opening.shape ≡ s = ap (λ (z : Store). z.opening.shape) (sym c.self.view_is) in
-    let layout : c.self.inside.layout ≡ s = c.self.invariant.one_layout in
-    let narrowed : c.over-draft.result.plan.key ≡ opening_with (narrow s) members = λ i. record { shape = (c.over-draft.ensures.key.0 ∙ c.narrowest.ensures.value ∙ ap narrow layout) i; members = c.over-draft.ensures.key.1 i } in
+    let stored : c.args.self.now.shape ≡ s = ap (λ (z : Store). z.shape) (sym c.self.view_is) in
+    let narrowed : c.over-draft.result.plan.key ≡ opening_with (narrow s) members = λ i. record { shape = (c.over-draft.ensures.key.0 ∙ c.narrowest.ensures.value) i; members = c.over-draft.ensures.key.1 i } in
     let built : IsBuilt f (opening_with (narrow s) members) s.bits (place_count s) draft = subst (λ (o : Opening). IsBuilt f o o.shape.bits (place_count o.shape) draft) narrowed c.over-draft.ensures.built in
     let set : IsKeySet s.bits (keys_of members) = subst (λ (z : Shape). IsKeySet z.bits (keys_of members)) stored c.requires.keys in
     let few : length (keys_of members) ≤ s.members = subst (λ (z : Shape). length (keys_of members) ≤ z.members) stored (let long = length-keys_of members in let fit = c.requires.few in omega arith) in
     let idle : v.shape ≡ s = ap (λ (k : Known). k.view.shape) c.idle.view_is ∙ c.requires.shape ∙ stored in
     let shaped : w.shape ≡ s = ap (λ (z : SeatView). z.shape) r.view_is ∙ idle in
-    let opening : c.first_record-opening.result ≡ first_record s 0 = c.first_record-opening.ensures.value ∙ ap (λ (z : Shape). first_record z 0) layout in
+    let opening : c.first_record-opening.result ≡ first_record s 0 = c.first_record-opening.ensures.value in
     let at : n ≡ block_start s 0 = (let records = c.self.invariant.records_are in omega arith) in
     let same : first ≡ take n draft = ap (take n) c.deref.ensures.value in
     let long : length draft ≡ word_count (narrow s) = built.long in
@@ -44,11 +43,10 @@ reopen-requires-clause-opened g c =
 
 pub invariant_of-result : goal.invariant_of-result
 invariant_of-result g c =
-    let f = face g.A.Monoid.parts g.B.Monoid.parts in let s : Shape = c.self.inside.opening.shape in let members : List (ℕ × ℕ) = c.args.members.now in
+    let f = face g.A.Monoid.parts g.B.Monoid.parts in let s : Shape = c.self.inside.layout in let members : List (ℕ × ℕ) = c.args.members.now in
     let w : SeatView = c.rewrite.new.seat.me.0 in let draft : List ℕ = c.over-draft.result.words.items in
-    let stored : c.args.self.now.opening.shape ≡ s = ap (λ (z : Store). z.opening.shape) (sym c.self.view_is) in
-    let layout : c.self.inside.layout ≡ s = c.self.invariant.one_layout in
-    let narrowed : c.over-draft.result.plan.key ≡ opening_with (narrow s) members = λ i. record { shape = (c.over-draft.ensures.key.0 ∙ c.narrowest.ensures.value ∙ ap narrow layout) i; members = c.over-draft.ensures.key.1 i } in
+    let stored : c.args.self.now.shape ≡ s = ap (λ (z : Store). z.shape) (sym c.self.view_is) in
+    let narrowed : c.over-draft.result.plan.key ≡ opening_with (narrow s) members = λ i. record { shape = (c.over-draft.ensures.key.0 ∙ c.narrowest.ensures.value) i; members = c.over-draft.ensures.key.1 i } in
     let built : IsBuilt f (opening_with (narrow s) members) s.bits (place_count s) draft = subst (λ (o : Opening). IsBuilt f o o.shape.bits (place_count o.shape) draft) narrowed c.over-draft.ensures.built in
     let set : IsKeySet s.bits (keys_of members) = subst (λ (z : Shape). IsKeySet z.bits (keys_of members)) stored c.requires.keys in
     let few : length (keys_of members) ≤ s.members = subst (λ (z : Shape). length (keys_of members) ≤ z.members) stored (let long = length-keys_of members in let fit = c.requires.few in omega arith) in
@@ -58,11 +56,11 @@ invariant_of-result g c =
     let long : length draft ≡ word_count (narrow s) = built.long in
     let named : c.index-root.result.now ≡ opening_number (opening_with s members) (root_place s) =
     get_or_read draft (c.self.inside.lanes - 1) c.index-root.result.now (omega arith) c.index-root.ensures 0 ∙ ap (λ (z : ℕ). get_or draft z 0) root ∙ built.named (root_place s) inner.inside in
-    let seat : IsLeadSeat f 0 c.index-root.result.now (opener f (opening_with s members) w.past w.era w.words, []) = opening_seat f (opening_with s members) w.past w.era w.words c.index-root.result.now laid_out set c.requires.members_fit few named in
-    subst (IsLeadSeat f 0 c.index-root.result.now) (λ i. ((ap (λ (z : Shape). opener f (opening_with z members) w.past w.era w.words) (sym shaped) ∙ sym c.reopen.ensures.view) i, sym c.reopen.ensures.no_slot i)) seat
+    let seat : IsLeadSeat f 0 c.index-root.result.now draft (opener f (opening_with s members) w.past w.era w.words, []) = opening_seat f (opening_with s members) w.past w.era w.words c.index-root.result.now draft laid_out set c.requires.members_fit few named long in
+    subst (IsLeadSeat f 0 c.index-root.result.now draft) (λ i. ((ap (λ (z : Shape). opener f (opening_with z members) w.past w.era w.words) (sym shaped) ∙ sym c.reopen.ensures.view) i, sym c.reopen.ensures.no_slot i)) seat
 
 pub overflow_sub-self-inside : goal.overflow_sub-self-inside
-overflow_sub-self-inside g c = let s : Shape = c.self.inside.opening.shape in let lanes = c.self.invariant.lanes_are in let t = twice s.bits in let one = some_leaf s.bits in omega arith
+overflow_sub-self-inside g c = let s : Shape = c.self.inside.layout in let lanes = c.self.invariant.lanes_are in let t = twice s.bits in let one = some_leaf s.bits in omega arith
 
 pub returns-clause-era : goal.returns-clause-era
 returns-clause-era g c = (

@@ -3,5 +3,5 @@ use Rattle.atomic_table.specs.Table.{rest}
 use Rattle.ruled_lock.proofs.lock.RuledLock.take.Goals as goal
 
 pub exchange-requires : goal.exchange-requires
-exchange-requires g c = let t = c.acquire.ensures.holds.0 in let is = c.acquire.ensures.holds.1.1 in
+exchange-requires g c = let t = c.in-Ok.ensures.holds.0 in let is = c.in-Ok.ensures.holds.1.1 in
     (search rules, (Some t, is ∙ ap (λ m. (0, Some t) ∷ rest m) (sym is)))

@@ -1,6 +1,6 @@
-use Rattle.std.proofs.Common.{◌≡◌, ◌<◌, ◌≤◌, ◌∙◌, inl, inr, ℕ, List, [], ap, sym, subst, arith, rules, refl, ⊎_elim, length}
+use Rattle.std.proofs.Common.{◌≡◌, ◌<◌, ◌≤◌, ◌∙◌, inl, inr, List, [], ap, sym, subst, arith, rules, refl, ⊎_elim}
 use Rattle.std.proofs.lemmas.Bool.{cases_lt, false≢true}
-use Rattle.aug_core.specs.Cuts.{Cut, pairs_of_cut, opening_cut}
+use Rattle.aug_core.specs.Cuts.{Cut, pairs_of_cut}
 use Rattle.aug_core.specs.Faces.{face}
 use Rattle.aug_core.specs.Layout.{IsLayout}
 use Rattle.aug_core.specs.Opening.{Opening}
@@ -21,11 +21,10 @@ returns-in_default-clause-bad_bits g c = (
 )
 
 pub returns-in-Ok-open-clause-empty : goal.returns-in-Ok-open-clause-empty
-returns-in-Ok-open-clause-empty g c = let f = face g.A.Monoid.parts g.B.Monoid.parts in let o : Opening = c.in-Ok-open.words.opening in let opened = c.in-Ok-open.ensures.opening in let made = c.at_rest.ensures in
-    let shape : o.shape ≡ shape_of c.args.bits 1 1 0 = opened.0 ∙ c.in-Ok.ensures.layout in
+returns-in-Ok-open-clause-empty g c = let f = face g.A.Monoid.parts g.B.Monoid.parts in let o : Opening = record { shape = c.in-Ok.layout; members = [] } in let made = c.at_rest.ensures in
     let laid : IsLayout (shape_of c.args.bits 1 1 0) = search rules in
-    let first = begins_history f o (subst IsLayout (sym shape) laid) (no_keys o.shape.bits o.members opened.1) (none_fit o.members opened.1) (let long = ap (λ (z : List (ℕ × ℕ)). length z) opened.1 in omega arith) in
+    let first = begins_history f o (subst IsLayout (sym c.in-Ok.ensures.layout) laid) (no_keys o.shape.bits) none_fit (omega arith) in
     let no_members : c.at_rest.result.members ≡ [] = made.members ∙ ap (λ (z : SeatView). pairs_of_cut (last_cut (knows z).history)) c.in-Ok-open.ensures.lead ∙ ap (λ (z : List Cut). pairs_of_cut (last_cut z)) first
-    ∙ ap (λ (z : List (ℕ × ℕ)). pairs_of_cut (opening_cut o.shape.bits z)) opened.1 ∙ none_shown o.shape.bits in
+    ∙ none_shown o.shape.bits in
     let ended : EndedFacts = c.at_rest.result in
     λ j. record ended { bits = made.bits j; members = no_members j; inserts = made.no_inserts j; removals = made.no_removals j; missing = made.none_missing j; calls = made.no_calls j }

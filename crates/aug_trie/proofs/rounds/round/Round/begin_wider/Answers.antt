@@ -5,7 +5,7 @@ use Rattle.aug_model.proofs.Rising.{is_wider}
 use Rattle.aug_core.specs.Places.{Shape, shape_of}
 use Rattle.aug_core.specs.Layout.{IsLayout}
 use Rattle.aug_trie.specs.inside.EndedState.{pairs_at_rest}
-use Rattle.aug_trie.specs.Crew.{BeginsRound}
+use Rattle.aug_trie.specs.Crew.{BeginsIn}
 use Rattle.aug_trie.specs.Ended.{EndedFacts}
 use Rattle.aug_trie.proofs.Refusals.{are_fewer, not_fewer, says_narrower, says_cause, says_no_memory, says_begun}
 use Rattle.aug_trie.proofs.rounds.round.Round.begin_wider.Goals as goal
@@ -88,9 +88,9 @@ returns-in-Err-OutOfMemory g c = let e = c.args.ended in let are = c.in-Ok.ensur
 pub returns-in-Ok-over : goal.returns-in-Ok-over
 returns-in-Ok-over g c = let e = c.args.ended in let are = c.in-Ok.ensures in
     let says = says_begun (Ok c.in-Ok.layout) e e.bits c.args.bits c.args.workers c.args.updates c.size.result (length e.members) c.size.ensures (not_fewer (ap (λ (z : EndedFacts). z.bits) c.ended.view_is) c.if-contains.ensures.cases) are.bad_bits are.bad_workers are.bad_updates are.too_large c.in-Ok.layout c.in-Ok-over.begun refl in
-    let members : c.as_slice.result.now ≡ e.members = c.as_slice.ensures.value ∙ c.in-Ok-pairs.ensures.answer in
+    let members : c.as_slice.result.now ≡ e.members = c.as_slice.ensures.value ∙ c.in-Ok-pairs.ensures.answer in let room : c.in-Ok.layout.members ≡ length e.members = ap (λ (z : Shape). z.members) are.layout ∙ c.size.ensures in
     record {
-      begun = subst (λ (z : Shape × List (ℕ × ℕ)). BeginsRound z.1 z.0.bits z.0.workers z.0.updates c.in-Ok-over.begun.0 c.in-Ok-over.begun.1) (λ j. (are.layout j, members j)) c.in-Ok-over.ensures;
+      begun = subst (λ (z : Shape × List (ℕ × ℕ)). BeginsIn z.0.members z.1 z.0.bits z.0.workers z.0.updates c.in-Ok-over.begun.0 c.in-Ok-over.begun.1) (λ j. (record (are.layout j) { members = room j }, members j)) c.in-Ok-over.ensures;
       same = tt;
       not_walked = tt;
       bad_bits = says.bad_bits;
@@ -102,5 +102,7 @@ returns-in-Ok-over g c = let e = c.args.ended in let are = c.in-Ok.ensures in
       fit = subst (λ (z : EndedFacts). All FitsPair z.members) c.ended.view_is c.ended.invariant.fit;
     }
 
-pub over-requires-clause-room : goal.over-requires-clause-room
-over-requires-clause-room g c = ap (λ (z : Shape). z.members) c.in-Ok.ensures.layout ∙ c.size.ensures ∙ sym (ap (λ (z : List (ℕ × ℕ)). length z) (c.as_slice.ensures.value ∙ c.in-Ok-pairs.ensures.answer))
+pub over-requires-clause-few : goal.over-requires-clause-few
+over-requires-clause-few g c =
+    let room : c.in-Ok.layout.members ≡ c.size.result = ap (λ (z : Shape). z.members) c.in-Ok.ensures.layout in let all = c.size.ensures in
+    let same = ap (λ (z : List (ℕ × ℕ)). length z) (c.as_slice.ensures.value ∙ c.in-Ok-pairs.ensures.answer) in omega (arith, room, all, same)

@@ -1,0 +1,5 @@
+use Rattle.aug_live.proofs.Told.{learns}
+use Rattle.aug_live.proofs.desk_end.NewDesk.new.Goals as goal
+
+pub take-requires-clause-rule : goal.take-requires-clause-rule
+take-requires-clause-rule g c = learns _ _

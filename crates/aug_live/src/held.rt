@@ -1,0 +1,107 @@
+//! The lanes that a roll-over took.
+ghost use Rattle.std.specs.Prelude.{◌≡◌, ◌+◌, ◌^◌, ◌<◌, ◌++◌, true};
+ghost use Rattle.std.specs.Arc.{arc_value};
+ghost use Rattle.aug_core.specs.Prefixes.{IsPrefix};
+ghost use Rattle.aug_trie.specs.Round.{table_of};
+ghost use Rattle.aug_live.specs.Carrying.{Leads};
+ghost use Rattle.aug_live.specs.inside.Rolls.{HasEnded, IsBackIn, IsOf, accepted_by, given_all, kept_of, rounds_in};
+
+use crate::end::{End, Out};
+use crate::lane::Lane;
+use crate::work::start;
+use aug_monoid::Monoid;
+use aug_trie::{Crew, SharedRound};
+use std::marker::Model;
+
+/// A lane that the roller took, with what lies in it.
+#[derive(Drop)]
+pub(crate) struct Held<A: Monoid, B: Monoid> {
+    pub(crate) out: Out<A, B>,
+    pub(crate) lane: Lane<A, B>,
+}
+
+impl<A: Monoid, B: Monoid> Model for Held<A, B> {
+    ghost use Rattle.std.specs.Prelude.{◌≡◌, true};
+    ghost use Rattle.aug_live.specs.inside.LaneKnowledge.{EndFacts, Rolls, rolls};
+
+    ghost Value = { EndFacts };
+
+    ghost view = { λ h. record { lock = h.out.lock; known = h.out.known } };
+
+    ghost invariant = { λ h. (h.out.taken ≡ h.lane) × (rolls h.out.known.whose ≡ true) × Rolls h.out.known h.out.known.before h.lane };
+}
+
+/// The same, whose pass went back to its crew.
+#[derive(Drop)]
+pub(crate) struct Emptied<A: Monoid, B: Monoid> {
+    out: Out<A, B>,
+    rest: Lane<A, B>,
+}
+
+impl<A: Monoid, B: Monoid> Model for Emptied<A, B> {
+    ghost use Rattle.std.specs.Prelude.{◌≡◌, ◌<◌, true};
+    ghost use Rattle.aug_live.specs.inside.LaneKnowledge.{EndFacts, left, rolls};
+
+    ghost Value = { EndFacts };
+
+    ghost view = { λ i. record { lock = i.out.lock; known = left i.out.known i.rest } };
+
+    ghost invariant = { λ i. (i.rest.at ≡ i.out.taken.at) × (i.rest.number ≡ i.out.taken.number) × (i.rest.is_out ≡ i.out.taken.is_out) × (rolls i.out.known.whose ≡ true) × (0 < i.out.known.at.era) };
+}
+
+impl<A: Monoid, B: Monoid> Held<A, B> {
+    /// Gives the pass back to its crew: the lane without it, and the pass's owner of the round.
+    pub(crate) fn give_back(self, crew: &mut Crew<A, B>) -> (Emptied<A, B>, SharedRound<A, B>)
+        requires of_round { IsOf (rounds_in crew.old) self.known.at.era self }
+        requires some { 0 < self.known.at.era }
+        ensures back { IsBackIn (rounds_in crew.old) self.known.at.era crew.new.knows.history result.0 }
+        ensures kept { kept_of result.0 ≡ kept_of self }
+        ensures changes { crew.new.knows.accepted ≡ crew.old.knows.accepted ++ accepted_by result.0 }
+        ensures shared { arc_value result.1 ≡ table_of crew.old.round }
+        ensures goes_on { IsPrefix crew.old.knows.history crew.new.knows.history }
+        ensures round { rounds_in crew.new ≡ rounds_in crew.old }
+        ensures handed { crew.new.handed ≡ crew.old.handed }
+        ensures counted { crew.new.back ≡ crew.old.back + 1 }
+    {
+        let Held { out, lane } = self;
+        let (work, rest) = lane.into_work();
+        let round = work.give_back(crew);
+        (Emptied { out, rest }, round)
+    }
+}
+
+impl<A: Monoid, B: Monoid> Emptied<A, B> {
+    /// Puts a pass of the next round in, with this owner of it, and lets the lane go.
+    pub(crate) fn begin(
+        self,
+        era: u64,
+        round: SharedRound<A, B>,
+        crew: &mut Crew<A, B>,
+    ) -> End<A, B>
+        requires ready { HasEnded (table_of crew.old.round) crew.old.past era self }
+        requires led { Leads crew.old.round.bits crew.old.past crew.old.round.members }
+        requires some { 0 < era }
+        requires small { era + 1 < 2 ^ 64 }
+        requires together { table_of crew.old.round ≡ arc_value round }
+        requires lane_left { crew.old.handed < crew.old.round.workers }
+        ensures of_round { IsOf (rounds_in crew.old) (era + 1) result }
+        ensures kept { kept_of result ≡ given_all self }
+        ensures same_changes { crew.new.knows.accepted ≡ crew.old.knows.accepted }
+        ensures goes_on { IsPrefix crew.old.knows.history crew.new.knows.history }
+        ensures round { rounds_in crew.new ≡ rounds_in crew.old }
+        ensures handed { crew.new.handed ≡ crew.old.handed + 1 }
+        ensures back { crew.new.back ≡ crew.old.back }
+    {
+        let Emptied { out, rest } = self;
+        let work = start(round, crew);
+        out.deal(rest.next(work))
+    }
+
+    /// Lets the lane go without a pass.
+    pub(crate) fn leave(self) -> End<A, B>
+        ensures { result ≡ self }
+    {
+        let Emptied { out, rest } = self;
+        out.leave(rest)
+    }
+}

@@ -1,0 +1,76 @@
+//! How a call meets a lock whose value is out.
+ghost use Rattle.std.specs.Prelude.{◌≡◌, IfErr, IfOk, Some};
+ghost use Rattle.ruled_lock.specs.Locks.{client_of, IsSamePass, HoldsNothing, Holds, Learns};
+
+use crate::lock::{Pass, RuledLock};
+use crate::rule::{Lesson, LockRule};
+use std::sync::Wait;
+
+/// How long a call waits for a value that another pass has.
+pub trait Patience {
+    /// What shows that the call gave up.
+    type Missed;
+
+    /// Takes the slot of a lock. If it gives up, nothing has changed.
+    fn acquire<T, V, P: LockRule<T, V>, M: Lesson<T, V>>(
+        &self,
+        lock: &RuledLock<T, V, P>,
+        pass: &mut Pass<T, V>,
+    ) -> Result<(), Self::Missed>
+        requires lock { pass.old.table_id ≡ lock.now.table.shared.table_id }
+        requires free { HoldsNothing pass.old }
+        requires rule { Learns P.holds pass.old.id (client_of pass.old) M.fact }
+        ensures same { IsSamePass pass.old pass.new }
+        ensures view { client_of pass.new ≡ client_of pass.old }
+        ensures holds { IfOk result (λ _. (t : T) × Holds t (Some t) pass.new × M.fact (client_of pass.old) t) }
+        ensures free { IfErr result (λ _. HoldsNothing pass.new) };
+}
+
+/// It waits until the value is back, and gives up never.
+#[derive(Drop)]
+pub struct Waits<'r, R: Wait>(pub &'r R);
+
+/// There is no value of it.
+#[derive(Drop)]
+pub enum Never {}
+
+impl<R: Wait> Patience for Waits<'_, R> {
+    type Missed = Never;
+
+    #[inline(always)]
+    fn acquire<T, V, P: LockRule<T, V>, M: Lesson<T, V>>(
+        &self,
+        lock: &RuledLock<T, V, P>,
+        pass: &mut Pass<T, V>,
+    ) -> Result<(), Never> {
+        lock.wait_for::<M, R>(self.0, pass);
+        Ok(())
+    }
+}
+
+/// It waits for nobody.
+#[derive(Drop)]
+pub struct Tries;
+
+/// Shows that a value was out when a call tried to take it. Nothing but such a try makes it.
+#[derive(Clone, Copy, Debug, PartialEq, Eq)]
+pub struct WasOut {
+    found: (),
+}
+
+impl Patience for Tries {
+    type Missed = WasOut;
+
+    #[inline(always)]
+    fn acquire<T, V, P: LockRule<T, V>, M: Lesson<T, V>>(
+        &self,
+        lock: &RuledLock<T, V, P>,
+        pass: &mut Pass<T, V>,
+    ) -> Result<(), WasOut> {
+        if lock.try_for::<M>(pass) == 0 {
+            Ok(())
+        } else {
+            Err(WasOut { found: () })
+        }
+    }
+}

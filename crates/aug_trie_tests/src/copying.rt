@@ -6,8 +6,8 @@ use super::playing::Who::A;
 use super::resting::Ask;
 use super::rounds::Way;
 use super::rows::{Play, Row, rows};
-use aug_model::Outcome::Accepted;
 use aug_trie::BeginError;
+use aug_trie::Outcome::Accepted;
 
 const COPIES: &[Row] = &[
     Row {

@@ -111,6 +111,8 @@ pub(super) enum Act {
     Right,
     // What a snapshot and its clone show before and after a put of 1 with this weight, or an insertion of 2 and a removal of 1.
     KeptOver(Option<u32>),
+    // What a cursor passes over a new snapshot: on from the first key, on once more after the pass took the second key out, and back.
+    PassesOver(u32, u32),
     // How many of the keys of 2 bits are members, if the sums of all are those of each key.
     AddsUp,
     // The number of the lane, and what its pass counts: insertions, removals, and updates that are left.

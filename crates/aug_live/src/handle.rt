@@ -25,7 +25,7 @@ use std::sync::Wait;
 /// A thread's access to a trie, for updates and looks. It may go to another thread, and has a lane of its own. A handle that is
 /// dropped leaves its lane behind, and holds nobody up; `Live::handle` gives the lane to a new one.
 ///
-/// A call waits for a roll-over and for nothing else: it then continues in the next round. If the updates of its lane are spent, it takes a
+/// A call with an `rt` waits for a roll-over and for nothing else: it then continues in the next round. If the updates of its lane are spent, it takes a
 /// spare lane of the round, and waits only for a handle that does the same. If no spare lane is left, it rolls the round over itself, which
 /// waits for the update that another handle is in, and for each look.
 #[derive(Drop)]

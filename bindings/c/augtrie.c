@@ -24,6 +24,8 @@ const char *aug_error_text(int64_t code) {
         case AUG_OPEN: return "the handle is open already";
         case AUG_NO_ROOM: return "the memory handed in is missing or too short, or the keys are more than 65,536";
         case AUG_NARROWER: return "the bits are fewer than the trie's";
+        case AUG_TOO_GREAT: return "the weight and the amount together do not fit 32 bits";
+        case AUG_TOO_LITTLE: return "the key is no member, or weighs less than the amount";
         default: return code < 0 ? "no code of this library" : "no refusal";
     }
 }

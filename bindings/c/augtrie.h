@@ -120,7 +120,9 @@ enum {
     AUG_OTHER_ROUND = -14, /* the lane is of another round */
     AUG_OPEN = -15,       /* the handle is open already */
     AUG_NO_ROOM = -16,    /* the memory handed in is missing or too short, or the keys are more than 65,536 */
-    AUG_NARROWER = -17    /* the bits are fewer than the trie's */
+    AUG_NARROWER = -17,   /* the bits are fewer than the trie's */
+    AUG_TOO_GREAT = -18,  /* the weight and the amount together do not fit 32 bits */
+    AUG_TOO_LITTLE = -19  /* the key is no member, or weighs less than the amount */
 };
 
 /* The version of the library, as "0.1.0". */
@@ -165,6 +167,16 @@ AUG_NODISCARD int64_t aug_remove(aug_lane *lane, uint32_t key);
 /* Puts a key in with a weight, or gives a member this weight. Answers 1 if it was not there, 2 if it was, 0 if another lane
    changed the key meanwhile and nothing was stored, or as aug_insert. */
 AUG_NODISCARD int64_t aug_put(aug_lane *lane, uint32_t key, uint32_t weight);
+
+/* Adds an amount to a key's weight. A key that is not there goes in with it. Answers 1 if it was not there, 2 if it was, 3 if the amount
+   is 0, 0 if another lane changed the key meanwhile, AUG_TOO_GREAT, or as aug_insert. Unless it answers 1 or 2 nothing was stored. An answer
+   AUG_TOO_GREAT uses up an update too, and so does AUG_TOO_LITTLE. */
+AUG_NODISCARD int64_t aug_add(aug_lane *lane, uint32_t key, uint32_t amount);
+
+/* Takes an amount from a key's weight. A key of whose weight nothing is left goes out. Answers 1 if it went out, 2 if it is still there, 3
+   if the amount is 0, 0 if another lane changed the key meanwhile, AUG_TOO_LITTLE, or as aug_insert. Unless it answers 1 or 2 nothing was
+   stored. */
+AUG_NODISCARD int64_t aug_sub(aug_lane *lane, uint32_t key, uint32_t amount);
 
 /* Puts n keys in, each by an update of its own, in their order. Answers how many were not there, or AUG_CLOSED; or AUG_BAD_KEY if one of
    them is no key of the trie, and AUG_SPENT if the lane has fewer updates left than n. After such an answer no update was made. */
@@ -267,6 +279,14 @@ AUG_NODISCARD static inline int64_t aug_put_(aug_lane *l, uint32_t key, uint32_t
     if (!l) return AUG_CLOSED;
     return aug_put(l, key, weight);
 }
+AUG_NODISCARD static inline int64_t aug_add_(aug_lane *l, uint32_t key, uint32_t amount) {
+    if (!l) return AUG_CLOSED;
+    return aug_add(l, key, amount);
+}
+AUG_NODISCARD static inline int64_t aug_sub_(aug_lane *l, uint32_t key, uint32_t amount) {
+    if (!l) return AUG_CLOSED;
+    return aug_sub(l, key, amount);
+}
 AUG_NODISCARD static inline int64_t aug_insert_all_(aug_lane *l, const uint32_t *keys, size_t n) {
     const uint32_t none = 0;
     if (!l) return AUG_CLOSED;
@@ -360,6 +380,8 @@ static inline int64_t aug_drop_lane_(aug_lane *l) {
 #define aug_insert aug_insert_
 #define aug_remove aug_remove_
 #define aug_put aug_put_
+#define aug_add aug_add_
+#define aug_sub aug_sub_
 #define aug_insert_all aug_insert_all_
 #define aug_remove_all aug_remove_all_
 #define aug_put_all aug_put_all_

@@ -109,6 +109,18 @@ def weights_are_replaced():
 
 
 @test
+def an_amount_changes_the_weight_by_itself():
+    with Trie(bits=4) as trie, trie.round(lanes=1, updates=7) as lanes:
+        lane = lanes[0]
+        assert lane.increase(3, 5) == "accepted" and lane.increase(3, (1 << 32) - 6) == "replaced"
+        assert raises(augtrie.TooGreat, lane.increase, 3, 1)
+        assert lane.decrease(3, (1 << 32) - 3) == "replaced" and lane.look().weight(3) == 2
+        assert raises(augtrie.TooLittle, lane.decrease, 3, 3)
+        assert lane.decrease(3, 2) == "accepted" and 3 not in lane.look()
+        assert lane.increase(3, 0) == "unchanged" and lane.budget == 0
+
+
+@test
 def four_threads_work_at_once():
     with Trie(bits=12) as trie:
         with trie.round(lanes=4, updates=4096) as lanes:

@@ -27,8 +27,8 @@ static void list_all(aug_lane *lane) {
 
 /* Each code has a text of its own, and no other number has one of them. */
 static void read_texts(void) {
-    for (int64_t code = AUG_NARROWER; code <= AUG_NONE; code++)
-        for (int64_t other = AUG_NARROWER - 1; other <= AUG_OK; other++)
+    for (int64_t code = AUG_TOO_LITTLE; code <= AUG_NONE; code++)
+        for (int64_t other = AUG_TOO_LITTLE - 1; other <= AUG_OK; other++)
             WANT(!strcmp(aug_error_text(code), aug_error_text(other)), code == other);
     WANT(strcmp(aug_error_text(AUG_OTHER_ROUND), "the lane is of another round"), 0);
     WANT(strcmp(aug_error_text(INT64_MIN), aug_error_text(-1000)), 0);

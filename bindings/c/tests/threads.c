@@ -105,6 +105,7 @@ int main(void) {
     WANT(aug_select(&more, 1), AUG_NONE);
     WANT(aug_close(&other), 0);
     WANT(aug_rank(&more, 4000000000u), 1);
+    WANT(aug_add(&more, 9, 1), AUG_SPENT);
     WANT(aug_drop_lane(&more), 0);
     WANT(aug_drop_lane(&more), AUG_CLOSED);
     uint32_t size = report.size;

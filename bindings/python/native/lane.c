@@ -70,15 +70,28 @@ static PyObject *lane_discard(PyObject *self, PyObject *key) {
     return changed(aug_remove(&((Lane *)self)->handle, at));
 }
 
-static PyObject *lane_put(PyObject *self, PyObject *args) {
-    static const char *const words[] = {"refused", "accepted", "replaced"};
+/* An update of a key with a number, and a word for its answer. */
+static PyObject *update_by(PyObject *self, PyObject *args, const char *name, int64_t (*update)(aug_lane *, uint32_t, uint32_t)) {
+    static const char *const words[] = {"refused", "accepted", "replaced", "unchanged"};
     PyObject *key, *weight;
     uint32_t at, heavy;
-    if (!PyArg_UnpackTuple(args, "put", 2, 2, &key, &weight)) return NULL;
+    if (!PyArg_UnpackTuple(args, name, 2, 2, &key, &weight)) return NULL;
     if (read_key(key, &at) || read_weight(weight, &heavy)) return NULL;
     await_turn((Lane *)self);
-    int64_t answer = aug_put(&((Lane *)self)->handle, at, heavy);
+    int64_t answer = update(&((Lane *)self)->handle, at, heavy);
     return answer < 0 ? raise_code(answer) : PyUnicode_InternFromString(words[answer]);
+}
+
+static PyObject *lane_put(PyObject *self, PyObject *args) {
+    return update_by(self, args, "put", aug_put);
+}
+
+static PyObject *lane_increase(PyObject *self, PyObject *args) {
+    return update_by(self, args, "increase", aug_add);
+}
+
+static PyObject *lane_decrease(PyObject *self, PyObject *args) {
+    return update_by(self, args, "decrease", aug_sub);
 }
 
 /* Makes the same update of many keys. */
@@ -144,6 +157,12 @@ static PyMethodDef methods[] = {
     {"put", lane_put, METH_VARARGS,
      "put($self, key, weight, /)\n--\n\nPuts a key in with a weight, or gives a member this weight: 'accepted', 'replaced', or 'refused' if another "
      "lane came between."},
+    {"increase", lane_increase, METH_VARARGS,
+     "increase($self, key, amount, /)\n--\n\nAdds an amount to a key's weight. A key that is not there goes in with it: 'accepted', 'replaced', "
+     "'unchanged' if the amount is 0, or 'refused' if another lane came between. TooGreat if the sum does not fit 32 bits."},
+    {"decrease", lane_decrease, METH_VARARGS,
+     "decrease($self, key, amount, /)\n--\n\nTakes an amount from a key's weight. A key of whose weight nothing is left goes out: 'accepted' then, "
+     "and else as increase. TooLittle if the key is not there, or weighs less."},
     {"add_all", lane_add_all, METH_O,
      "add_all($self, keys, /)\n--\n\nPuts keys in, each by an update of its own: how many were not there. If one is no key of the trie, or fewer "
      "updates are left than there are keys, none is made."},

@@ -7,7 +7,7 @@ PyTypeObject *lane_type, *snapshot_type, *iterator_type, *trie_type, *round_type
 PyObject *any_error;
 
 /* The exceptions by the codes that they stand for, with the sign turned. */
-enum { CODES = 18 };
+enum { CODES = 20 };
 static PyObject *errors[CODES];
 
 static const struct {
@@ -31,6 +31,8 @@ static const struct {
     {AUG_OPEN, "augtrie.Open", NULL},
     {AUG_NO_ROOM, "augtrie.NoRoom", NULL},
     {AUG_NARROWER, "augtrie.Narrower", &PyExc_ValueError},
+    {AUG_TOO_GREAT, "augtrie.TooGreat", &PyExc_ValueError},
+    {AUG_TOO_LITTLE, "augtrie.TooLittle", &PyExc_ValueError},
 };
 
 PyObject *raise_code(int64_t code) {

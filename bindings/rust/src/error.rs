@@ -39,15 +39,19 @@ pub enum Error {
     NoRoom = -16,
     /// The bits are fewer than the trie's.
     Narrower = -17,
+    /// The weight and the amount together do not fit 32 bits.
+    TooGreat = -18,
+    /// The key is no member, or weighs less than the amount.
+    TooLittle = -19,
     /// The program made 2^32 tries, or the trie 2^32 rounds, and no number is left that tells another one apart.
     NoNumber = -1_000,
 }
 
 // Those that are codes of the library.
-const CODES: [Error; 16] = [
+const CODES: [Error; 18] = [
     Error::Closed, Error::BadKey, Error::Spent, Error::NoMemory, Error::BadBits, Error::BadLanes,
     Error::BadUpdates, Error::TooLarge, Error::InRound, Error::AtRest, Error::NoLane, Error::LanesOut,
-    Error::OtherRound, Error::Open, Error::NoRoom, Error::Narrower,
+    Error::OtherRound, Error::Open, Error::NoRoom, Error::Narrower, Error::TooGreat, Error::TooLittle,
 ];
 
 impl Error {

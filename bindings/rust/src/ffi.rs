@@ -55,6 +55,8 @@ unsafe extern "C" {
     pub safe fn aug_insert(lane: &mut Handle, key: u32) -> i64;
     pub safe fn aug_remove(lane: &mut Handle, key: u32) -> i64;
     pub safe fn aug_put(lane: &mut Handle, key: u32, weight: u32) -> i64;
+    pub safe fn aug_add(lane: &mut Handle, key: u32, amount: u32) -> i64;
+    pub safe fn aug_sub(lane: &mut Handle, key: u32, amount: u32) -> i64;
     pub fn aug_insert_all(lane: &mut Handle, keys: *const u32, n: usize) -> i64;
     pub fn aug_remove_all(lane: &mut Handle, keys: *const u32, n: usize) -> i64;
     pub fn aug_put_all(lane: &mut Handle, keys: *const u32, n: usize, weights: *const u32, weight_count: usize) -> i64;

@@ -14,6 +14,31 @@ pub enum Put {
     Refused,
 }
 
+/// What came of adding an amount to a weight, or of taking it away.
+#[derive(Debug, Clone, Copy, PartialEq, Eq)]
+#[must_use = "an update may be refused, and then nothing was stored"]
+pub enum Sum {
+    /// The key went in with the amount, or out with the last of its weight.
+    Accepted,
+    /// The key was a member and still is, with the new weight.
+    Replaced,
+    /// The amount is 0, and nothing was to be changed.
+    Unchanged,
+    /// Another lane changed the key in between, and nothing was stored.
+    Refused,
+}
+
+impl Sum {
+    fn of_answer(done: u32) -> Sum {
+        match done {
+            1 => Sum::Accepted,
+            2 => Sum::Replaced,
+            3 => Sum::Unchanged,
+            _ => Sum::Refused,
+        }
+    }
+}
+
 /// A lane of a round: it updates the set and looks at it. Its calls take `&mut`, so no two run at the same time.
 #[derive(Debug)]
 pub struct Lane(pub(crate) Handle);
@@ -39,6 +64,16 @@ impl Lane {
             2 => Put::Replaced,
             _ => Put::Refused,
         })
+    }
+
+    /// Adds an amount to a key's weight. A key that is not there goes in with it. If the sum does not fit 32 bits it is `TooGreat`.
+    pub fn add(&mut self, key: u32, amount: u32) -> Result<Sum, Error> {
+        number(ffi::aug_add(&mut self.0, key, amount)).map(Sum::of_answer)
+    }
+
+    /// Takes an amount from a key's weight. A key of whose weight nothing is left goes out. If it is not there or weighs less it is `TooLittle`.
+    pub fn sub(&mut self, key: u32, amount: u32) -> Result<Sum, Error> {
+        number(ffi::aug_sub(&mut self.0, key, amount)).map(Sum::of_answer)
     }
 
     /// Puts keys in, each by an update of its own, in their order. How many were not there. If one of them is no key of the trie, or fewer

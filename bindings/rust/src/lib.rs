@@ -49,7 +49,7 @@ use std::ffi::CStr;
 
 pub use error::Error;
 pub use ffi::{Report, Span};
-pub use lane::{Lane, Put};
+pub use lane::{Lane, Put, Sum};
 pub use snapshot::{Keys, Snapshot};
 pub use trie::Trie;
 

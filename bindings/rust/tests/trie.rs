@@ -1,5 +1,5 @@
 //! The crate's calls, threads, and misuses that its types let through.
-use augtrie::{Error, Put, Trie};
+use augtrie::{Error, Put, Sum, Trie};
 use std::collections::BTreeMap;
 use std::thread;
 
@@ -62,6 +62,51 @@ fn four_threads_work_at_once() -> Result<(), Error> {
     })?;
     let want = (0..4_096).filter(|key| (2..6).any(|step| key % step == 0)).count();
     assert_eq!((report.size as usize, report.inserts as usize, report.missing), (want, want, 0));
+    Ok(())
+}
+
+#[test]
+fn an_amount_changes_the_weight_by_itself() -> Result<(), Error> {
+    let mut trie = Trie::new(4)?;
+    let ((), report) = trie.round(1, 9, |lanes| {
+        let lane = &mut lanes[0];
+        assert_eq!(lane.add(7, 5), Ok(Sum::Accepted));
+        assert_eq!(lane.add(7, u32::MAX - 5), Ok(Sum::Replaced));
+        assert_eq!(lane.add(7, 1), Err(Error::TooGreat));
+        assert_eq!(lane.look().weight(7), Some(u32::MAX));
+        assert_eq!(lane.sub(7, u32::MAX - 2), Ok(Sum::Replaced));
+        assert_eq!(lane.sub(7, 3), Err(Error::TooLittle));
+        assert_eq!(lane.sub(7, 2), Ok(Sum::Accepted));
+        assert_eq!(lane.sub(7, 1), Err(Error::TooLittle));
+        assert_eq!(lane.add(7, 0), Ok(Sum::Unchanged));
+        assert_eq!(lane.sub(16, 1), Err(Error::BadKey));
+        assert_eq!(lane.budget(), 1);
+    })?;
+    assert_eq!((report.size, report.inserts, report.removals), (0, 3, 3));
+    Ok(())
+}
+
+#[test]
+fn each_unit_of_four_threads_is_there() -> Result<(), Error> {
+    let mut trie = Trie::new(4)?;
+    let ((), report) = trie.round(4, 4_000, |lanes| {
+        thread::scope(|scope| {
+            for lane in lanes {
+                scope.spawn(move || {
+                    for unit in 0..1_000 {
+                        while lane.add(unit % 10, 1) == Ok(Sum::Refused) {}
+                    }
+                });
+            }
+        });
+    })?;
+    assert_eq!(report.size, 10);
+    let ((), _) = trie.round(1, 1, |lanes| {
+        let now = lanes[0].look();
+        for key in 0..10 {
+            assert_eq!(now.weight(key), Some(400));
+        }
+    })?;
     Ok(())
 }
 

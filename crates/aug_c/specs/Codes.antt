@@ -69,3 +69,11 @@ no_room = negsuc 15
 -- the bits are fewer than the trie's
 abbrev pub narrower : ℤ
 narrower = negsuc 16
+
+-- the weight and the amount together are no weight of 32 bits
+abbrev pub too_great : ℤ
+too_great = negsuc 17
+
+-- the key is no member, or weighs less than the amount
+abbrev pub too_little : ℤ
+too_little = negsuc 18

@@ -10,8 +10,8 @@ use Rattle.aug_monoid.specs.declared.extent.Extent.{Extent}
 use Rattle.aug_model.specs.Folds.{summary_of}
 use Rattle.aug_model.specs.Keys.{SetFacts}
 use Rattle.aug_model.specs.declared.summary.Summary.{Summary}
-use Rattle.aug_model.specs.declared.outcome.Outcome.{Outcome}
-use Rattle.aug_model.specs.declared.outcome.Outcome.TheVariants.{Accepted, Replaced, Refused}
+use Rattle.aug_trie.specs.declared.updates.outcome.Outcome.{Outcome}
+use Rattle.aug_trie.specs.declared.updates.outcome.Outcome.TheVariants.{Accepted, Replaced, Refused, Unchanged, TooGreat, TooLittle}
 use Rattle.aug_trie.specs.declared.updates.request.Request.{Request}
 use Rattle.aug_trie.specs.Updates.{TakesSnapshot}
 use Rattle.aug_trie.specs.Pass.{PassFacts, GoesOn}
@@ -22,7 +22,7 @@ use Rattle.aug_trie.specs.declared.error.UpdateError.{UpdateError}
 use Rattle.aug_trie.specs.declared.error.UpdateError.TheVariants.{BadKey, Spent}
 use Rattle.aug_trie.specs.declared.rounds.owned.OwnedPass.{OwnedPass}
 use Rattle.aug_c.specs.declared.span.Span.{Span}
-use Rattle.aug_c.specs.Codes.{none, bad_key, lane_spent}
+use Rattle.aug_c.specs.Codes.{none, bad_key, lane_spent, too_great, too_little}
 
 -- the number of the keys, the sum of their weights, and the least and the greatest of them
 abbrev pub span_of : List (ℕ × ℕ) → Summary Sum Extent
@@ -32,11 +32,15 @@ span_of pairs = summary_of sum_parts extent_parts pairs
 abbrev pub shown : OwnedPass Sum Extent → SetFacts
 shown lane = set_at lane.half lane.held
 
--- what an update answers: 1 if it changed the key, or 2 if it gave a member a weight, and 0 if it changed nothing
+-- what an update answers: 1 if it put the key in or took it out, 2 if it gave a member a weight, 0 if it changed nothing, and 3 if there was nothing to
+-- change
 abbrev pub update_code : Result Outcome UpdateError → ℤ
 update_code (Ok Accepted) = pos 1
 update_code (Ok Replaced) = pos 2
 update_code (Ok Refused) = pos 0
+update_code (Ok Unchanged) = pos 3
+update_code (Ok TooGreat) = too_great
+update_code (Ok TooLittle) = too_little
 update_code (Err BadKey) = bad_key
 update_code (Err Spent) = lane_spent
 

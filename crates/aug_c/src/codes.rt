@@ -50,3 +50,9 @@ pub const NO_ROOM: i64 = -16;
 
 /// The bits are fewer than the trie's.
 pub const NARROWER: i64 = -17;
+
+/// The weight and the amount together are no weight of 32 bits.
+pub const TOO_GREAT: i64 = -18;
+
+/// The key is no member, or weighs less than the amount.
+pub const TOO_LITTLE: i64 = -19;

@@ -6,10 +6,9 @@ ghost use Rattle.aug_c.specs.Codes.{no_room};
 ghost use Rattle.aug_c.specs.Handles.{lane_of, On};
 ghost use Rattle.aug_c.specs.LaneCalls.{span_of, update_code, all_code, UpdatesKey, UpdatesAll, TakesLook, TellsLeft};
 
-use crate::codes::{BAD_KEY, CLOSED, NO_ROOM, SPENT};
+use crate::codes::{BAD_KEY, CLOSED, NO_ROOM, SPENT, TOO_GREAT, TOO_LITTLE};
 use crate::lane_handle::LaneHandle;
-use aug_model::Outcome;
-use aug_trie::{Request, UpdateError};
+use aug_trie::{Outcome, Request, UpdateError};
 use std::alloc::Global;
 
 #[inline(always)]
@@ -20,6 +19,9 @@ fn code_of(answer: Result<Outcome, UpdateError>) -> i64
         Ok(Outcome::Accepted) => 1,
         Ok(Outcome::Replaced) => 2,
         Ok(Outcome::Refused) => 0,
+        Ok(Outcome::Unchanged) => 3,
+        Ok(Outcome::TooGreat) => TOO_GREAT,
+        Ok(Outcome::TooLittle) => TOO_LITTLE,
         Err(UpdateError::BadKey) => BAD_KEY,
         Err(UpdateError::Spent) => SPENT,
     }
@@ -76,6 +78,26 @@ pub extern "C" fn aug_put(alloc: Global, lane: &mut LaneHandle, key: u32, weight
     ensures foreign { IsNone lane.old.held.value → lane.new ≡ lane.old }
 {
     update(alloc, lane, key, Request::Put(weight))
+}
+
+/// Adds an amount to the weight of a key, which goes in with it if it is not there: 1 if it was not there, 2 if it was, 3 if the amount is 0,
+/// and 0 if another change of the key came in between. Nothing is stored if the answer is not 1 or 2.
+#[unsafe(no_mangle)]
+pub extern "C" fn aug_add(alloc: Global, lane: &mut LaneHandle, key: u32, amount: u32) -> i64
+    ensures updates { On (UpdatesKey (request.Add amount) key) (lane_of lane.old) (lane_of lane.new) result }
+    ensures foreign { IsNone lane.old.held.value → lane.new ≡ lane.old }
+{
+    update(alloc, lane, key, Request::Add(amount))
+}
+
+/// Takes an amount from the weight of a key, which goes out with the last of it: 1 if it went out, 2 if it is still there, 3 if the amount is
+/// 0, and 0 if another change of the key came in between. Nothing is stored if the answer is not 1 or 2.
+#[unsafe(no_mangle)]
+pub extern "C" fn aug_sub(alloc: Global, lane: &mut LaneHandle, key: u32, amount: u32) -> i64
+    ensures updates { On (UpdatesKey (request.Sub amount) key) (lane_of lane.old) (lane_of lane.new) result }
+    ensures foreign { IsNone lane.old.held.value → lane.new ≡ lane.old }
+{
+    update(alloc, lane, key, Request::Sub(amount))
 }
 
 /// Takes a new snapshot, which the queries are answered from.

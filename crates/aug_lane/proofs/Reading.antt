@@ -11,7 +11,7 @@ use Rattle.aug_core.proofs.PrefixLemmas.{prefix_refl, prefix_trans}
 
 module _ {A B : Type 0} (summary_of : List (ℕ × ℕ) → Summary A B) where
   pub keeps_self : (p : PassFacts) → Keeps summary_of p p
-  keeps_self p = record { snapshots = λ s h. h; same_cuts = λ s h. refl; same_sets = λ s h. refl; nodes = λ n h. h }
+  keeps_self p = record { snapshots = λ s h. h; same_cuts = λ s h. refl; same_sets = λ s h. refl; nodes = λ n h. h; weights = λ k i w h. h }
 
   pub keeps_on : (p q r : PassFacts) → Keeps summary_of p q → Keeps summary_of q r → Keeps summary_of p r
   keeps_on p q r a b = record {
@@ -19,6 +19,7 @@ module _ {A B : Type 0} (summary_of : List (ℕ × ℕ) → Summary A B) where
     same_cuts = λ s h. b.same_cuts s (a.snapshots s h) ∙ a.same_cuts s h;
     same_sets = λ s h. b.same_sets s (a.snapshots s h) ∙ a.same_sets s h;
     nodes = λ n h. b.nodes n (a.nodes n h);
+    weights = λ k i w h. b.weights k i w (a.weights k i w h);
   }
 
   pub reads_none : (p : PassFacts) → Reads summary_of 0 p p

@@ -3,7 +3,7 @@ use Rattle.std.proofs.Common.{◌≡◌, ◌+◌, ◌<◌, ◌++◌, ◌∙◌, 
 use Rattle.std.proofs.lemmas.List.{take_more, length-append}
 use Rattle.std.proofs.lemmas.Slice.Zip.{length-zip, get_or-zip}
 use Rattle.std.specs.List.{zip}
-use Rattle.aug_model.specs.declared.outcome.Outcome.{Outcome}
+use Rattle.aug_trie.specs.declared.updates.outcome.Outcome.{Outcome}
 use Rattle.aug_model.specs.declared.summary.Summary.{Summary}
 use Rattle.aug_trie.specs.Pass.{PassFacts, GoesOn}
 use Rattle.aug_trie.specs.Node.{Keeps}

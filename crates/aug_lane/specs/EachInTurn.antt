@@ -3,8 +3,8 @@
 -- changes.
 use Rattle.std.specs.Prelude.{◌≡◌, ℕ, ◌+◌, List, [], ◌∷◌, length}
 use Rattle.std.specs.List.{zip}
-use Rattle.aug_model.specs.declared.outcome.Outcome.{Outcome}
-use Rattle.aug_model.specs.declared.outcome.Outcome.TheVariants.{Accepted, Replaced, Refused}
+use Rattle.aug_trie.specs.declared.updates.outcome.Outcome.{Outcome}
+use Rattle.aug_trie.specs.declared.updates.outcome.Outcome.TheVariants.{Accepted, Replaced}
 use Rattle.aug_model.specs.declared.summary.Summary.{Summary}
 use Rattle.aug_trie.specs.Pass.{PassFacts}
 use Rattle.aug_trie.specs.Node.{Keeps}
@@ -23,7 +23,7 @@ InTurn {X} {S} does (x ∷ xs) (done ∷ more) old new = (next : S) × does x do
 abbrev pub change_by : Outcome → ℕ
 change_by Accepted = 1
 change_by Replaced = 1
-change_by Refused = 0
+change_by done = 0
 
 -- how many of the outcomes are of a change
 abbrev pub changes : List Outcome → ℕ

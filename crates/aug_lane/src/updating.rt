@@ -4,9 +4,8 @@ ghost use Rattle.aug_model.specs.Folds.{summary_of};
 ghost use Rattle.aug_trie.specs.Owned.{OneUpdate};
 ghost use Rattle.aug_lane.specs.EachInTurn.{change_by, UpdatesEach, Puts};
 
-use aug_model::Outcome;
 use aug_monoid::Monoid;
-use aug_trie::{OwnedPass, Request, UpdateError};
+use aug_trie::{Outcome, OwnedPass, Request, UpdateError};
 
 // Whether all keys are below a bound.
 fn are_below(keys: &[u32], bound: u32) -> bool
@@ -27,7 +26,7 @@ fn changed_by(done: Outcome) -> u32
 {
     match done {
         Outcome::Accepted | Outcome::Replaced => 1,
-        Outcome::Refused => 0,
+        _ => 0,
     }
 }
 

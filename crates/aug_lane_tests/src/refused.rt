@@ -4,9 +4,8 @@ use super::rounds::{Trie, Work, begun, members};
 use super::steps::{Step, after, ended};
 use crate::assertions::{equal, equal_length, holds};
 use aug_lane::Running;
-use aug_model::Outcome;
 use aug_query::{pairs, weight};
-use aug_trie::{BeginError, Ended};
+use aug_trie::{BeginError, Ended, Outcome};
 use std::alloc::{AllocError, Global};
 use std::process::Abort;
 

@@ -4,11 +4,10 @@ ghost use Rattle.std.specs.Prelude.{◌≡◌, IfOk};
 use super::steps::{Query, Step, after, ask_all, ended, look, one_lane, opened, pairs, play};
 use crate::assertions::{equal, holds};
 use aug_lane::{OpenError, Running};
-use aug_model::Outcome;
 use aug_monoid::{Extent, Sum};
 use aug_query::descent::{Keys, Range};
 use aug_query::{keys, weight};
-use aug_trie::{BeginError, Ended, OwnedPass, UpdateError};
+use aug_trie::{BeginError, Ended, Outcome, OwnedPass, UpdateError};
 use std::alloc::{AllocError, Global};
 use std::process::Abort;
 

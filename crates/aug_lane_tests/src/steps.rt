@@ -4,9 +4,8 @@ ghost use Rattle.std.specs.Prelude.{◌≡◌, length};
 
 use super::rounds::{Trie, Work, Worker, back, begun};
 use crate::assertions::{equal, holds};
-use aug_model::Outcome;
 use aug_query::descent::{After, Before, Has, Pairs, Rank, Select, Size, Weight};
-use aug_trie::{BeginError, Ended, Request, UpdateError};
+use aug_trie::{BeginError, Ended, Outcome, Request, UpdateError};
 use std::alloc::Global;
 use std::process::Abort;
 

@@ -13,8 +13,8 @@ use Rattle.aug_trie.specs.Knowledge.{Knowledge}
 use Rattle.aug_trie.specs.Updates.{ComesTo}
 use Rattle.aug_trie.specs.declared.updates.request.Request.{Request}
 use Rattle.aug_trie.specs.declared.updates.request.Request.TheVariants as asked
-use Rattle.aug_model.specs.declared.outcome.Outcome.{Outcome}
-use Rattle.aug_model.specs.declared.outcome.Outcome.TheVariants as outcome
+use Rattle.aug_trie.specs.declared.updates.outcome.Outcome.{Outcome}
+use Rattle.aug_trie.specs.declared.updates.outcome.Outcome.TheVariants as outcome
 use Rattle.atomic_table.specs.Seated.{TableId}
 use Rattle.aug_trie.specs.Pass.{PassFacts, GoesOn, chain_of}
 use Rattle.aug_trie.specs.Round.{RoundFacts}
@@ -37,6 +37,14 @@ first_on (x ∷ xs) now next = refl
 pub leads_on : (bits : ℕ) (past : List Chapter) (now : Chapter) (next : List (ℕ × ℕ)) → Leads bits past now.members → IsHistory bits now.members now.history → next ≡ pairs_of_cut (last_cut now.history) → Leads bits (past ++ now ∷ []) next
 leads_on bits [] now next l is ends = (is, ends, tt)
 leads_on bits (x ∷ xs) now next l is ends = (l.0, first_on xs now next ∙ l.1, leads_on bits xs now next l.2 is ends)
+
+-- an update that was refused changes nothing of what was accepted
+refused_same : (request : Request) (key : ℕ) (a b : Knowledge) → ComesTo request key outcome.Refused a b → IsPrefix a.history b.history × (b.accepted ≡ a.accepted)
+refused_same asked.Insert key a b c = (c.goes_on, c.same_changes)
+refused_same asked.Remove key a b c = (c.goes_on, c.same_changes)
+refused_same (asked.Put weight) key a b c = (c.goes_on, c.same_changes)
+refused_same (asked.Add amount) key a b c = (c.goes_on, c.same_changes)
+refused_same (asked.Sub amount) key a b c = (c.goes_on, c.same_changes)
 
 -- a later pass of a round is in the same one, after the same ones
 same_rounds : (a b : PassFacts) → (b ≡ a) ⊎ IsSuccessor a b → rounds_at b ≡ rounds_at a
@@ -105,6 +113,21 @@ follows_by lanes made made' a b same f = record { not_later = f.not_later; same 
 -- an update from where the lane stands, and where that follows
 pub makes_on : (updates : ℕ) (does : PassFacts → PassFacts → Type 0) (a b c : HandleFacts) → Follows a b → Makes updates does b c → Makes updates does a c
 makes_on updates does a b c x m = record { start = m.start; follows = follows_on a b m.start x m.follows; same_era = m.same_era; done = m.done; steps = m.steps; goes_on = m.goes_on; lanes = m.lanes; made = m.made }
+
+-- after an update that was refused it is where it may make another one
+pub refused_follows : (request : Request) (key : ℕ) (a b : HandleFacts) → Makes 1 (λ x y. ComesTo request key outcome.Refused x.knows y.knows) a b → Follows a b
+refused_follows request key a b m = let s : HandleFacts = m.start in let none = refused_same request key s.half.knows b.half.knows m.done in let on = m.goes_on.same in
+    let succ : IsSuccessor s.half b.half = record { round = ap (λ (z : PassFacts). z.round) on; past = ap (λ (z : PassFacts). z.past) on; goes_on = none.0 } in
+    follows_on a s b m.follows record {
+      not_later = let e = m.same_era in omega arith;
+      same = λ _. inr succ;
+      goes_on = successor_part s.half b.half succ;
+      led = λ less. let e = m.same_era in absurd (omega arith);
+      table = ap (λ (z : RoundFacts). z.table) succ.round;
+      bits = ap (λ (z : RoundFacts). z.bits) succ.round;
+      lanes = m.lanes;
+      made = m.made ∙ same_made s.made b.era s.half b.half none.1;
+    }
 
 -- a call of a handle leaves it at its trie
 pub makes_table : (updates : ℕ) (does : PassFacts → PassFacts → Type 0) (a b : HandleFacts) → Makes updates does a b → b.half.round.table ≡ a.half.round.table
@@ -178,6 +201,10 @@ pub ok_any : {T E : Type 0} {P : Type 0} (r : Result T E) → P → IfOk r (λ _
 ok_any (Ok t) p = p
 ok_any (Err e) p = tt
 
+pub err_any : {T E : Type 0} {P : Type 0} (r : Result T E) → P → IfErr r (λ _. P)
+err_any (Ok t) p = tt
+err_any (Err e) p = p
+
 pub ok_map : {T E : Type 0} (P Q : T → Type 0) (r : Result T E) → ((t : T) → P t → Q t) → IfOk r P → IfOk r Q
 ok_map P Q (Ok t) f p = f t p
 ok_map P Q (Err e) f p = p
@@ -239,9 +266,30 @@ pub accepts_on : (request : Request) (key : ℕ) (done : Outcome) (a b : Knowled
 accepts_on asked.Insert key outcome.Accepted a b c = (_, c.adds)
 accepts_on asked.Insert key outcome.Refused a b c = ([], c.same_changes ∙ sym (append-nil a.accepted))
 accepts_on asked.Insert key outcome.Replaced a b c = absurd c
+accepts_on asked.Insert key outcome.Unchanged a b c = absurd c
+accepts_on asked.Insert key outcome.TooGreat a b c = absurd c
+accepts_on asked.Insert key outcome.TooLittle a b c = absurd c
 accepts_on asked.Remove key outcome.Accepted a b c = (_, c.adds)
 accepts_on asked.Remove key outcome.Refused a b c = ([], c.same_changes ∙ sym (append-nil a.accepted))
 accepts_on asked.Remove key outcome.Replaced a b c = absurd c
+accepts_on asked.Remove key outcome.Unchanged a b c = absurd c
+accepts_on asked.Remove key outcome.TooGreat a b c = absurd c
+accepts_on asked.Remove key outcome.TooLittle a b c = absurd c
 accepts_on (asked.Put weight) key outcome.Accepted a b c = (_, c.adds)
 accepts_on (asked.Put weight) key outcome.Refused a b c = ([], c.same_changes ∙ sym (append-nil a.accepted))
 accepts_on (asked.Put weight) key outcome.Replaced a b c = (_, c.adds)
+accepts_on (asked.Put weight) key outcome.Unchanged a b c = absurd c
+accepts_on (asked.Put weight) key outcome.TooGreat a b c = absurd c
+accepts_on (asked.Put weight) key outcome.TooLittle a b c = absurd c
+accepts_on (asked.Add amount) key outcome.Accepted a b c = (_, c.adds)
+accepts_on (asked.Add amount) key outcome.Replaced a b c = (_, c.2.replaced.adds)
+accepts_on (asked.Add amount) key outcome.Refused a b c = ([], c.same_changes ∙ sym (append-nil a.accepted))
+accepts_on (asked.Add amount) key outcome.Unchanged a b c = ([], c.same_changes ∙ sym (append-nil a.accepted))
+accepts_on (asked.Add amount) key outcome.TooGreat a b c = ([], c.same_changes ∙ sym (append-nil a.accepted))
+accepts_on (asked.Add amount) key outcome.TooLittle a b c = absurd c
+accepts_on (asked.Sub amount) key outcome.Accepted a b c = (_, c.removed.adds)
+accepts_on (asked.Sub amount) key outcome.Replaced a b c = (_, c.2.replaced.adds)
+accepts_on (asked.Sub amount) key outcome.Refused a b c = ([], c.same_changes ∙ sym (append-nil a.accepted))
+accepts_on (asked.Sub amount) key outcome.Unchanged a b c = ([], c.same_changes ∙ sym (append-nil a.accepted))
+accepts_on (asked.Sub amount) key outcome.TooGreat a b c = absurd c
+accepts_on (asked.Sub amount) key outcome.TooLittle a b c = ([], c.same_changes ∙ sym (append-nil a.accepted))

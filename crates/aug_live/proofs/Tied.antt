@@ -418,6 +418,6 @@ meets id v other w out begun handle begun' number lane views t at ne at' =
     }
 
 -- what an option has
-pub what_is : (o : Option LaneFacts) (or : LaneFacts) → IsSome o → o ≡ Some (unwrap_or o or)
+pub what_is : {T : Type 0} (o : Option T) (or : T) → IsSome o → o ≡ Some (unwrap_or o or)
 what_is None or s = absurd (false≢true s)
 what_is (Some x) or s = refl

@@ -1,6 +1,6 @@
 -- Each step on the lock of the desk keeps its rule.
 use Rattle.std.proofs.Common.{◌≡◌, ◌≢◌, ◌⊎◌, ℕ, zero, suc, ◌<◌, List, [], ◌∷◌, set, true, false, sym, refl, ap, ◌∙◌, subst, ⊎_elim, arith}
-use Rattle.std.specs.Prelude.{Option, Some, None, IfSome, IsSome, unwrap_or}
+use Rattle.std.specs.Prelude.{Option, Some, None, IfSome}
 use Rattle.std.proofs.lemmas.Bool.{false≢true, cases_Bool}
 use mathlib.Core.Option.{some, some-injective, some-ne-none}
 use lib.ListN.{get_elem?}
@@ -89,9 +89,6 @@ module _ {A B : Type 0} where
         )
 
 -- what an end took
-pub desk_is : {A B : Type 0} (o : Option (Desk A B)) (or : Desk A B) → IsSome o → o ≡ Some (unwrap_or o or)
-desk_is None or s = absurd (false≢true s)
-desk_is (Some x) or s = refl
 
 -- what whoever takes a trie off the desk and lays a later state of it there leaves to others
 pub keeps_on : (o : Option TrieFacts) (t t' x : TrieFacts) → o ≡ Some t → KnowsMore t t' → IfSome o (KnowsMore x) → KnowsMore x t'

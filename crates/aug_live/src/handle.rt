@@ -16,9 +16,8 @@ use crate::end::End;
 use crate::error::{Busy, LiveError, TryError};
 use crate::lane::Missed;
 use crate::look::Look;
-use aug_model::Outcome;
 use aug_monoid::Monoid;
-use aug_trie::{Note, Request};
+use aug_trie::{Note, Outcome, Request};
 use ruled_lock::{Patience, Tries, Waits, WasOut};
 use std::marker::Model;
 use std::sync::Wait;
@@ -26,7 +25,7 @@ use std::sync::Wait;
 /// A thread's access to a trie, for updates and looks. It may go to another thread, and has a lane of its own. A handle that is
 /// dropped leaves its lane behind, and holds nobody up; `Live::handle` gives the lane to a new one.
 ///
-/// A call waits for a roll-over and for nothing else: it then continues in the next round. If the updates of its lane are spent, it takes a
+/// A call with an `rt` waits for a roll-over and for nothing else: it then continues in the next round. If the updates of its lane are spent, it takes a
 /// spare lane of the round, and waits only for a handle that does the same. If no spare lane is left, it rolls the round over itself, which
 /// waits for the update that another handle is in, and for each look.
 #[derive(Drop)]
@@ -92,6 +91,52 @@ impl<A: Monoid, B: Monoid> Handle<A, B> {
         ensures refused { IfErr result (λ cause. cause ≢ LiveError.NoLane) }
     {
         self.update(rt, k, Request::Put(weight))
+    }
+
+    /// Adds an amount to the weight of a key, as `Pass::add` does, and again if another change of the key came in between: so it is never
+    /// `Refused`. That is lock-free, and no more: it goes around only after another call changed the key, and each time makes one more update.
+    pub fn add<R: Wait>(&mut self, rt: &R, k: u32, amount: u32) -> Result<Outcome, LiveError>
+        requires key { k < 2 ^ self.old.half.round.bits }
+        ensures made { IfOk result (λ done. Makes 1 (λ a b. ComesTo (asked.Add amount) k done a.knows b.knows) self.old self.new) }
+        ensures made_at_last { IfOk result (λ done. done ≢ Outcome.Refused) }
+        ensures not_made { IfErr result (λ _. Follows self.old self.new) }
+        ensures refused { IfErr result (λ cause. cause ≢ LiveError.NoLane) }
+    {
+        self.until_made(rt, k, Request::Add(amount))
+    }
+
+    /// Takes an amount from the weight of a member, as `Pass::sub` does, and again as `add`.
+    pub fn sub<R: Wait>(&mut self, rt: &R, k: u32, amount: u32) -> Result<Outcome, LiveError>
+        requires key { k < 2 ^ self.old.half.round.bits }
+        ensures made { IfOk result (λ done. Makes 1 (λ a b. ComesTo (asked.Sub amount) k done a.knows b.knows) self.old self.new) }
+        ensures made_at_last { IfOk result (λ done. done ≢ Outcome.Refused) }
+        ensures not_made { IfErr result (λ _. Follows self.old self.new) }
+        ensures refused { IfErr result (λ cause. cause ≢ LiveError.NoLane) }
+    {
+        self.until_made(rt, k, Request::Sub(amount))
+    }
+
+    // Makes an update, and makes it again while another change of its key comes in between.
+    fn until_made<R: Wait>(
+        &mut self,
+        rt: &R,
+        k: u32,
+        request: Request,
+    ) -> Result<Outcome, LiveError>
+        requires key { k < 2 ^ self.old.half.round.bits }
+        ensures made { IfOk result (λ done. Makes 1 (λ a b. ComesTo request k done a.knows b.knows) self.old self.new) }
+        ensures made_at_last { IfOk result (λ done. done ≢ Outcome.Refused) }
+        ensures not_made { IfErr result (λ _. Follows self.old self.new) }
+        ensures refused { IfErr result (λ cause. cause ≢ LiveError.NoLane) }
+    {
+        for _ in rt.forever() {
+            let done = self.update(rt, k, request)?;
+            match done {
+                Outcome::Refused => {}
+                _ => return Ok(done),
+            }
+        }
+        unreachable!()
     }
 
     /// Makes an update of a key, which comes to what `OwnedPass::update` says, and rolls the round over if it must.

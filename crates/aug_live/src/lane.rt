@@ -8,9 +8,8 @@ ghost use Rattle.aug_live.specs.LiveHandles.{Follows, note_at};
 ghost use Rattle.aug_live.specs.inside.LaneKnowledge.{Worked, WorksHere, stands};
 
 use crate::seen::Seen;
-use aug_model::Outcome;
 use aug_monoid::Monoid;
-use aug_trie::{Note, OwnedPass, Request};
+use aug_trie::{Note, Outcome, OwnedPass, Request};
 use ruled_lock::WasOut;
 use std::marker::Model;
 

@@ -184,7 +184,8 @@ impl<A: Monoid, B: Monoid> Live<A, B> {
         unreachable!()
     }
 
-    /// The same, and waits for nobody: `Again` if another handle is in a call or holds a look.
+    /// The same, and waits for nobody: `Again` if somebody has the desk, or another handle is in a call or holds a look. The lanes that it took then
+    /// stay taken until the round has rolled over, which whoever comes to one of them tries.
     pub fn try_roll(&mut self) -> Result<(), TryError<WasOut>>
         ensures more { KnowsMore self.old self.new }
         ensures rolls { IfOk result (λ _. length self.old.rounds.past < length self.new.rounds.past) }
@@ -196,7 +197,7 @@ impl<A: Monoid, B: Monoid> Live<A, B> {
     /// Gives a lane to a new handle, if the lane's own handle came back, was dropped, or is in a thread that ended. Lanes are numbered from 0, in
     /// the order of the handles that `open` gave. The new handle continues from the state in which the old one left the lane, and knows what the
     /// trie does. If the old one is still there, it answers `Replaced` from then on, and the call waits for the update or look that it is in. No
-    /// round ends for it, and no memory is taken.
+    /// round ends for it, unless a roll-over was begun, and no memory is taken.
     ///
     /// Refused with `NoLane`, `Exhausted` and `TooMany`. After a refusal nothing has changed.
     pub fn handle<R: Wait>(&mut self, rt: &R, lane: u32) -> Result<Handle<A, B>, LiveError>
@@ -221,7 +222,8 @@ impl<A: Monoid, B: Monoid> Live<A, B> {
         unreachable!()
     }
 
-    /// The same, and waits for nobody: `Again` if somebody has the desk, or the lane's old handle is in a call or holds a look.
+    /// The same, and waits for nobody: `Again` if somebody has the desk, or the lane's old handle is in a call or holds a look,
+    /// or any handle is if a roll-over was begun.
     pub fn try_handle(&mut self, lane: u32) -> Result<Handle<A, B>, TryError<WasOut>>
         ensures more { KnowsMore self.old self.new }
         ensures bits { IfOk result (λ h. h.half.round.bits ≤ 16) }
@@ -314,7 +316,7 @@ impl<A: Monoid, B: Monoid> Live<A, B> {
         unreachable!()
     }
 
-    /// The same, and waits for nobody: `Again` if another handle is in a call or holds a look. Then the same trie comes back.
+    /// The same, and waits for nobody: `Again` as `try_roll`, with what that says of lanes. Then the same trie comes back.
     pub fn try_close(self) -> Result<(Members, LiveCounts), (Live<A, B>, TryError<WasOut>)>
         ensures closes { IfOk result (λ t. Closes self t.0 t.1) }
         ensures sizes { IfOk result (λ t. length t.0.pairs + t.1.removals ≡ t.1.opened + t.1.inserts) }

@@ -14,7 +14,7 @@ use aug_trie::OwnedPass;
 use std::marker::Model;
 
 /// A look of a handle: a snapshot, which is asked as a pass's is. Nothing that anybody does changes what it shows. As long as
-/// it is there a roll-over waits for it, and with that each handle whose updates are spent. So a look cannot be dropped: the
+/// it is there a roll-over waits for it, and with that each handle whose updates are spent, or whose lane the roll-over took. So a look cannot be dropped: the
 /// check refuses a program that does not end it by `done`, which gives the handle back.
 pub struct Look<A: Monoid, B: Monoid> {
     pub(crate) out: Out<A, B>,

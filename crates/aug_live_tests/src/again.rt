@@ -2,8 +2,7 @@
 
 use super::opening::{Hand, Trie, View, try_closed, try_look, try_renewed, try_rolled, try_update};
 use aug_live::{LiveError, TryError};
-use aug_model::Outcome;
-use aug_trie::Request;
+use aug_trie::{Outcome, Request};
 use std::sync::Wait;
 use std::thread::yield_now;
 

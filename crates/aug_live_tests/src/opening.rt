@@ -1,10 +1,9 @@
 //! How tries are opened, and the calls of a trie and its handles that tests make, in functions that promise nothing.
 
 use aug_live::{Busy, Handle, Live, LiveCounts, LiveError, Look, Plan, TryError};
-use aug_model::Outcome;
 use aug_monoid::{Extent, Sum};
 use aug_query::descent::{Has, Size};
-use aug_trie::{BeginError, Ended, Members, Request};
+use aug_trie::{BeginError, Ended, Members, Outcome, Request};
 use ruled_lock::WasOut;
 use std::alloc::Global;
 use std::process::Abort;
@@ -70,6 +69,34 @@ pub(super) fn put<R: Wait>(
 ) -> Result<Outcome, LiveError> {
     if k < hand.universe() {
         hand.put(rt, k, weight)
+    } else {
+        Ok(Outcome::Refused)
+    }
+}
+
+/// Adds to a key's weight.
+pub(super) fn add<R: Wait>(
+    rt: &R,
+    hand: &mut Hand,
+    k: u32,
+    amount: u32,
+) -> Result<Outcome, LiveError> {
+    if k < hand.universe() {
+        hand.add(rt, k, amount)
+    } else {
+        Ok(Outcome::Refused)
+    }
+}
+
+/// Takes from a key's weight.
+pub(super) fn sub<R: Wait>(
+    rt: &R,
+    hand: &mut Hand,
+    k: u32,
+    amount: u32,
+) -> Result<Outcome, LiveError> {
+    if k < hand.universe() {
+        hand.sub(rt, k, amount)
     } else {
         Ok(Outcome::Refused)
     }

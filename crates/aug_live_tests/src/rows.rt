@@ -7,8 +7,8 @@ use super::steps::Act::{
 use super::steps::Reply::{Came, Done, Ended, Fails, Finds, Is, Listed, Number};
 use super::steps::{Row, rows};
 use aug_live::LiveError::{Closed, NoLane, Replaced};
-use aug_model::Outcome::{Accepted, Replaced as Changed};
 use aug_trie::BeginError;
+use aug_trie::Outcome::{Accepted, Replaced as Changed};
 
 const ROUNDS: &[Row] = &[
     // Three of 21 updates in each round.

@@ -2,15 +2,14 @@
 //! of the library promises is met here once, in functions that promise nothing, so that the proof of a test is that of its data.
 
 use super::opening::{
-    Hand, Trie, View, insert, opened, put, remove, renewed, rolled, try_closed, try_look,
+    Hand, Trie, View, add, insert, opened, put, remove, renewed, rolled, sub, try_closed, try_look,
     try_renewed, try_rolled, try_update,
 };
 use super::own::Band;
 use crate::assertions::equal;
 use aug_live::{Busy, LiveCounts, LiveError, TryError};
-use aug_model::Outcome;
 use aug_query::descent::{Has, Pairs, SelectByWeight, Size, Weight};
-use aug_trie::{BeginError, Members, Request};
+use aug_trie::{BeginError, Members, Outcome, Request};
 use ruled_lock::WasOut;
 use std::alloc::Global;
 use std::mem;
@@ -24,6 +23,8 @@ pub(super) enum Act {
     Insert(u32),
     Remove(u32),
     Put(u32, u32),
+    Add(u32, u32),
+    Sub(u32, u32),
     /// Puts keys in, from the first number on as many as the second. How many of them went in.
     Fill(u32, u32),
     /// The handle makes a note, which is dropped.
@@ -189,6 +190,8 @@ fn by_hand<R: Wait>(rt: &R, hand: &mut Hand, act: Act) -> Reply {
         Act::Insert(k) => is(insert(rt, hand, k)),
         Act::Remove(k) => is(remove(rt, hand, k)),
         Act::Put(k, weight) => came(put(rt, hand, k, weight)),
+        Act::Add(k, amount) => came(add(rt, hand, k, amount)),
+        Act::Sub(k, amount) => came(sub(rt, hand, k, amount)),
         Act::Fill(from, count) => Reply::Number(fill(rt, hand, from, count)),
         Act::Note => noted(rt, hand),
         Act::TryInsert(k) => try_to(hand, k, Request::Insert),

@@ -8,8 +8,8 @@ use super::steps::Act::{
 use super::steps::Reply::{Came, Done, Ended, Fails, Finds, Is, Later, Listed, Number};
 use super::steps::{Row, rows};
 use aug_live::LiveError::{Closed, NoLane, Replaced};
-use aug_model::Outcome::{Accepted, Refused, Replaced as Changed};
 use aug_trie::BeginError;
+use aug_trie::Outcome::{Accepted, Refused, Replaced as Changed};
 
 const ALONE: &[Row] = &[
     Row {

@@ -6,8 +6,7 @@ use super::opening::{
     try_renewed, try_rolled, try_update,
 };
 use crate::assertions::{equal, holds};
-use aug_model::Outcome;
-use aug_trie::{BeginError, Request};
+use aug_trie::{BeginError, Outcome, Request};
 use std::alloc::Global;
 use std::process::Abort;
 use std::sync::Wait;

@@ -2,8 +2,8 @@
 use Rattle.std.proofs.Common.{◌≡◌, ◌≢◌, ℕ, ◌%◌, ◌<◌, ◌≤◌, Bool, true, false, ◌==◌, List, [], ◌∷◌, get_or, refl, ap, sym, ◌∙◌, inl, inr, arith, All, if◌then◌else◌}
 use Rattle.std.proofs.lemmas.Bool.{eq-eqb, ne_eqb, cases_eq}
 use Rattle.std.proofs.lemmas.List.Elements.{All-nil, All-cons, All-head, All-tail}
-use Rattle.aug_model.specs.declared.outcome.Outcome.{Outcome}
-use Rattle.aug_model.specs.declared.outcome.Outcome.TheVariants as outcome
+use Rattle.aug_trie.specs.declared.updates.outcome.Outcome.{Outcome}
+use Rattle.aug_trie.specs.declared.updates.outcome.Outcome.TheVariants as outcome
 use Rattle.aug_model.specs.Keys.{is_member, keys_of}
 use Rattle.aug_core.specs.Cuts.{Cut, serial_of, pairs_of_cut, opening_cut}
 use Rattle.aug_core.specs.declared.view.Change.{Change}
@@ -66,6 +66,9 @@ not_lost (verb.Put k w) r old new a still lost = by_outcome a.outcome a.puts a.a
     by_outcome outcome.Accepted puts is = omega (arith, ap is_lost (sym is ∙ lost))
     by_outcome outcome.Replaced puts is = omega (arith, ap is_lost (sym is ∙ lost))
     by_outcome outcome.Refused puts is = omega (arith, puts.rises, still k)
+    by_outcome outcome.Unchanged puts is = puts
+    by_outcome outcome.TooGreat puts is = puts
+    by_outcome outcome.TooLittle puts is = puts
 not_lost verb.Look r old new a still lost = omega (arith, ap is_lost (sym a.0 ∙ lost))
 not_lost (verb.Has k) r old new a still lost = omega (arith, ap is_lost (sym a.0 ∙ lost), never (is_member (keys_of (pairs_of_cut old.held)) k))
 not_lost (verb.Weight k) r old new a still lost = omega (arith, ap is_lost (sym a.0 ∙ lost))

@@ -6,8 +6,8 @@ use Rattle.std.proofs.lemmas.List.Elements.{All-get_or}
 use Rattle.std.proofs.lemmas.List.Prefix.{front_reads}
 use Rattle.aug_model.specs.Keys.{is_member, keys_of, pairs_of}
 use Rattle.aug_model.specs.Queries.{weight_of}
-use Rattle.aug_model.specs.declared.outcome.Outcome.{Outcome}
-use Rattle.aug_model.specs.declared.outcome.Outcome.TheVariants as outcome
+use Rattle.aug_trie.specs.declared.updates.outcome.Outcome.{Outcome}
+use Rattle.aug_trie.specs.declared.updates.outcome.Outcome.TheVariants as outcome
 use Rattle.aug_core.specs.Counts.{change}
 use Rattle.aug_core.specs.Cuts.{Cut, serial_of, weight_at, set_of_cut, pairs_of_cut, opening_cut}
 use Rattle.aug_core.specs.declared.view.Change.{Change}
@@ -64,6 +64,9 @@ was_set opening history k w number lane end ran = by_outcome ran.runs.1.outcome 
     by_outcome : (done : Outcome) → ComesTo (request.Put w) k done ran.start.knows ran.runs.0.knows → reply.Set ≡ reply_to_put done → WasSet k w end
     by_outcome outcome.Accepted puts is = absurd (omega (arith, ap put_reply is))
     by_outcome outcome.Refused puts is = absurd (omega (arith, ap put_reply is))
+    by_outcome outcome.Unchanged puts is = absurd puts
+    by_outcome outcome.TooGreat puts is = absurd puts
+    by_outcome outcome.TooLittle puts is = absurd puts
     by_outcome outcome.Replaced puts is =
         let same : end ≡ ran.runs.0 = ran.runs.2 in
         subst (λ (l : Lane). WasSet k w l) (sym same) (record {
@@ -87,6 +90,9 @@ was_put opening history k w number lane end ran = by_outcome ran.runs.1.outcome 
     by_outcome : (done : Outcome) → ComesTo (request.Put w) k done ran.start.knows ran.runs.0.knows → reply.New ≡ reply_to_put done → WasPut k w end
     by_outcome outcome.Replaced puts is = absurd (omega (arith, ap put_reply is))
     by_outcome outcome.Refused puts is = absurd (omega (arith, ap put_reply is))
+    by_outcome outcome.Unchanged puts is = absurd puts
+    by_outcome outcome.TooGreat puts is = absurd puts
+    by_outcome outcome.TooLittle puts is = absurd puts
     by_outcome outcome.Accepted puts is =
         let same : end ≡ ran.runs.0 = ran.runs.2 in
         subst (λ (l : Lane). WasPut k w l) (sym same) (record {

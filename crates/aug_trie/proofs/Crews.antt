@@ -40,6 +40,7 @@ use Rattle.aug_trie.proofs.Counters.{counted_none, is_insertion, is_removal}
 use Rattle.aug_core.proofs.Counting.{hits-append}
 use Rattle.aug_trie.proofs.Handing.{crew_begins, handed_out_is, handed_back_is, crew_after, pass_table, pass_begins, crew_out}
 use Rattle.aug_trie.proofs.Histories.{numbers_long}
+use Rattle.aug_trie.proofs.Keeping.{weighs_later}
 use Rattle.aug_trie.proofs.RoundLemmas.{of_round}
 
 module _ (face : ℕ → ℕ → List (ℕ × ℕ) → List ℕ) where
@@ -114,6 +115,7 @@ module _ (face : ℕ → ℕ → List (ℕ × ℕ) → List ℕ) where
       crew_is = let one_more : unwrap_or new.spare 0 ≡ unwrap_or old.spare 0 + 1 = ap (λ (z : Option ℕ). unwrap_or (option_map (λ n. n + 1) z) 0) (same_spare ∙ out) ∙ ap (λ n. n + 1) (sym at) in
           let facts : CrewFacts = crew_facts (record { table = table; view = new }) in
           λ i. record facts { round = round_of table (record old { era = (same_eras i).0; shape = same_shape i; members = same_members i }); past = past_rounds (same_shape i) (same_eras i).1; handed = one_more i; back = length (same_held i) };
+      weights = λ key serial weight. weighs_later old.seen b.seen key serial weight l.sees.later;
       pass_is = let fresh : b.shape.updates - left ≡ 0 = let e : b.shape.updates ≡ old.shape.updates = ap (λ (z : Shape). z.updates) same_shape in omega arith in
           let facts : PassFacts = pass_facts (record { table = table; view = pass }) left in
           λ i. record facts { round = round_of table (record old { era = (same_eras i).0; shape = same_shape i; members = same_members i }); past = past_rounds (same_shape i) (same_eras i).1; lane = unwrap_or (same_spare i) 0; spent = fresh i };
@@ -180,6 +182,8 @@ module _ (face : ℕ → ℕ → List (ℕ × ℕ) → List ℕ) where
       knows = back_knows;
       crew_is = let facts : CrewFacts = crew_facts (record { table = table; view = w }) in
           λ i. record facts { round = round_of table (l.stepped i); past = past_rounds (l.stepped i).shape (l.stepped i).past; handed = unwrap_or (l.stepped i).spare 0; back = one_back i };
+      weights = λ key serial weight. weighs_later old.seen w.seen key serial weight l.sees.later;
+      weights_of_pass = λ key serial weight. weighs_later p.seen w.seen key serial weight l.sees.also_later;
       knowledge = (crew_after face old p w place r lane c.is_crew.knows_table kp one_shape only l c.handed (length old.held) c.is_crew known).knowledge;
       loads = (r, ap (λ (z : SeatView). z.steps) l.stepped);
     }

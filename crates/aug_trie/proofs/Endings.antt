@@ -1,5 +1,5 @@
 -- How a round ends, and the trie that no round ended.
-use Rattle.std.proofs.Common.{◌≡◌, ℕ, zero, suc, ◌+◌, ◌-◌, ◌*◌, ◌%◌, ◌^◌, ◌<◌, ◌≤◌, eqb, List, [], ◌∷◌, All, get_or, length, length-append, refl, sym, ap, ◌∙◌, subst, arith, Option, Some}
+use Rattle.std.proofs.Common.{◌≡◌, ℕ, zero, suc, ◌+◌, ◌-◌, ◌*◌, ◌%◌, ◌^◌, ◌<◌, ◌≤◌, eqb, List, [], ◌∷◌, ◌++◌, flat_map, All, get_or, length, length-append, refl, sym, ap, ◌∙◌, subst, arith, Option, Some}
 use Rattle.std.specs.Prelude.{unwrap_or}
 use Rattle.std.proofs.Math.Nat.{mod-eq_of_lt}
 use mathlib.Core.Option.{some}
@@ -34,9 +34,10 @@ use Rattle.aug_trie.specs.inside.CrewState.{crew_facts, HoldsCrew}
 use Rattle.aug_trie.specs.Ended.{EndedFacts}
 use Rattle.aug_trie.specs.inside.EndedTree.{word_in}
 use Rattle.aug_trie.specs.Crew.{CrewFacts, Ends}
+use Rattle.aug_trie.specs.Ledger.{IsLedger}
 use Rattle.aug_trie.specs.Tallies.{TalliesWithLost}
 use Rattle.aug_core.proofs.Counting.{filter_shorter}
-use Rattle.aug_trie.proofs.Tallying.{held_few, tallies_at_end, none_lost_tallies}
+use Rattle.aug_trie.proofs.Tallying.{held_few, accounts_at_end, none_lost_tallies}
 use Rattle.aug_trie.proofs.CutLemmas.{set_of_cut-opening, pairs_of_cut-opening}
 use Rattle.aug_trie.proofs.TallyLemmas.{sizes}
 use Rattle.aug_trie.proofs.Histories.{root_some, first_cut, last_is}
@@ -76,25 +77,32 @@ module _ (face : ℕ → ℕ → List (ℕ × ℕ) → List ℕ) (v : SeatView) 
   removals_exact : removals ≡ removals_of (changes_of v.held)
   removals_exact = let fit = changes_fit in let le : removals_of (changes_of v.held) ≤ length (changes_of v.held) = filter_shorter (λ (z : Change). eqb (z.serial % 2) removal) (changes_of v.held) in c.removals_are ∙ mod-eq_of_lt (omega arith)
 
-  pub ends_so : (table : TableId) (ended : EndedFacts) → ended.bits ≡ v.shape.bits → ended.members ≡ pairs_of_cut (last_cut (knows v).history) → ended.inserts ≡ inserts → ended.removals ≡ removals → ended.missing ≡ c.handed - back → ended.calls ≡ 0
-      → Ends (crew_facts (record { table = table; view = v })) ended
-  ends_so table ended bits members ins rem miss loads = let spare : unwrap_or v.spare 0 ≡ c.handed = ap (λ (z : Option ℕ). unwrap_or z 0) c.is_crew.hands_out in record {
-    bits = bits;
-    members = members;
-    inserts = ins ∙ inserts_exact;
-    removals = rem ∙ removals_exact;
-    missing = let few = back_few in let is = back_exact in omega arith;
-    no_calls = loads;
-    is_history = c.is_crew.knowledge.is_history;
-    tallies = subst (λ (z : ℕ). TalliesWithLost v.shape.updates z (opening_cut v.shape.bits v.members) (last_cut (knows v).history) (knows v).history (changes_of v.held)) (ap (λ (z : ℕ). c.handed - z) (sym back_exact) ∙ sym miss)
-        (tallies_at_end face s id c.handed v r at c.is_crew.hands_out c.is_crew.knows_table c.is_crew.knowledge.stands (length v.held) refl);
-  }
-
   -- the last cut is no lower than the opening one
   risen : IsAtMost (opening_cut v.shape.bits v.members) (last_cut (knows v).history)
   risen = let kn = c.is_crew.knows_table in let some_there = root_some face v kn in let i : ℕ = length (history_of v.seen (root_place v.shape)) - 1 in
       subst (λ (z : Cut). IsAtMost z (last_cut (knows v).history)) (first_cut face v kn)
       (subst (IsAtMost (root_cut v.shape v.seen 0)) (sym (last_is v.shape v.seen i (omega arith))) (root_rises face v.shape v.seen kn.book 0 i (omega arith) (omega arith)))
+
+  -- with so many passes missing
+  abbrev Accounts : ℕ → Type 0
+  Accounts missing = (t : TalliesWithLost v.shape.updates missing (opening_cut v.shape.bits v.members) (last_cut (knows v).history) (knows v).history (changes_of v.held))
+      × IsLedger (record { shape = v.shape; book = v.seen }) v.shape.bits v.members (knows v).history (changes_of v.held ++ flat_map (λ list. list) t.lost)
+
+  pub ends_so : (table : TableId) (ended : EndedFacts) → ended.bits ≡ v.shape.bits → ended.members ≡ pairs_of_cut (last_cut (knows v).history) → ended.inserts ≡ inserts → ended.removals ≡ removals → ended.missing ≡ c.handed - back → ended.calls ≡ 0
+      → Ends (crew_facts (record { table = table; view = v })) ended
+  ends_so table ended bits members ins rem miss loads = let spare : unwrap_or v.spare 0 ≡ c.handed = ap (λ (z : Option ℕ). unwrap_or z 0) c.is_crew.hands_out in
+      let both : Accounts ended.missing = subst Accounts (ap (λ (z : ℕ). c.handed - z) (sym back_exact) ∙ sym miss)
+      (accounts_at_end face s id c.handed v r at c.is_crew.hands_out c.is_crew.knows_table c.is_crew.knowledge.stands (length v.held) refl risen) in record {
+        bits = bits;
+        members = members;
+        inserts = ins ∙ inserts_exact;
+        removals = rem ∙ removals_exact;
+        missing = let few = back_few in let is = back_exact in omega arith;
+        no_calls = loads;
+        is_history = c.is_crew.knowledge.is_history;
+        tallies = both.0;
+        ledger = both.1;
+      }
 
   -- so where no pass is missing, the set grew by the insertions and shrank by the removals
   pub sizes_so : (table : TableId) (ended : EndedFacts) → Ends (crew_facts (record { table = table; view = v })) ended → ended.missing ≡ 0 → length ended.members + ended.removals ≡ length v.members + ended.inserts

@@ -11,7 +11,12 @@ use Rattle.aug_core.proofs.Levels.{root_word}
 use Rattle.aug_core.proofs.EntryCuts.{entry_later, cut_later}
 use Rattle.aug_trie.specs.inside.NamedCuts.{IsSnapshotOf}
 use Rattle.aug_trie.specs.inside.NodeWords.{IsNodeAt}
+use Rattle.aug_trie.specs.inside.Weights.{WeighsAt}
 use Rattle.aug_core.proofs.PrefixLemmas.{entry_stays}
+
+-- so does what is known of weights
+pub weighs_later : (book later : Book) (key serial weight : ℕ) → ArePrefixes book later → WeighsAt book key serial weight → WeighsAt later key serial weight
+weighs_later book later key serial weight grows h = record { entry = h.entry; at = entry_stays grows key serial h.entry h.at; weighs = h.weighs }
 
 module _ (face : ℕ → ℕ → List (ℕ × ℕ) → List ℕ) (s : Shape) (book later : Book) (b : IsBook face s book) (grows : ArePrefixes book later) where
   pub part_later : (cut : Cut) (level place q i : ℕ) → IsPartOfCut s book cut level place q i → IsPartOfCut s later cut level place q i

@@ -6,6 +6,7 @@ pub mod Standing
 pub mod Accepting
 pub mod Counters
 pub mod Tallying
+pub mod LedgerSums
 pub mod Telling
 pub mod Publishing
 pub mod Whole

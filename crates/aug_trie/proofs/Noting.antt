@@ -32,6 +32,7 @@ use Rattle.aug_trie.specs.inside.PassState.{pass_facts, known_in, IsPass}
 use Rattle.aug_trie.specs.inside.RoundState.{round_of, past_rounds}
 use Rattle.aug_trie.specs.declared.rounds.account.Account.{Account}
 use Rattle.aug_trie.proofs.Accepting.{knows_on, stands_on}
+use Rattle.aug_trie.proofs.Keeping.{weighs_later}
 use Rattle.aug_trie.proofs.Chaining.{begins_alike, either_part}
 use Rattle.aug_trie.proofs.Histories.{is_history}
 use Rattle.aug_trie.proofs.PassCalls.{Holds, SnapshotTaken, snapshot_taken}
@@ -211,6 +212,7 @@ module _ (f : ℕ → ℕ → List (ℕ × ℕ) → List ℕ) where
           learns = both;
           crew_is = let after : CrewFacts = crew_facts w in
               λ i. record after { round = round_of (table i) (l.loaded.stepped i); past = past_rounds (l.loaded.stepped i).shape (l.loaded.stepped i).past; handed = unwrap_or (l.loaded.stepped i).spare 0; back = length (l.loaded.stepped i).held };
+          weights = λ key serial weight. weighs_later v.seen w.view.seen key serial weight l.loaded.sees.later;
           knowledge = record { is_history = known.is_history; stands = known.stands };
           loads = (found, ap (λ (z : SeatView). z.steps) l.loaded.stepped);
         }

@@ -1,9 +1,9 @@
 -- A pass stays one.
-use Rattle.std.proofs.Common.{◌≡◌, Option, Some, ℕ, suc, ◌+◌, ◌-◌, ◌*◌, ◌^◌, ◌<◌, ◌≤◌, List, [], ◌∷◌, length, length-append, suc-mul, sym, ap, ◌∙◌, subst, arith}
+use Rattle.std.proofs.Common.{◌≡◌, Option, Some, ℕ, suc, ◌+◌, ◌-◌, ◌*◌, ◌^◌, ◌<◌, ◌≤◌, List, [], ◌∷◌, ◌++◌, length, length-append, suc-mul, sym, ap, ◌∙◌, subst, arith}
 use Rattle.aug_core.specs.Places.{Shape}
 use Rattle.aug_core.specs.Lanes.{first_record, lane_records}
-use Rattle.aug_core.specs.Counts.{changes_of}
-use Rattle.aug_core.specs.Told.{made_by}
+use Rattle.aug_core.specs.Counts.{change, changes_of}
+use Rattle.aug_core.specs.Told.{made_by, new_serial}
 use Rattle.aug_core.specs.Kinds.{load_leaf}
 use Rattle.aug_core.specs.declared.step.StepTaken.{StepTaken}
 use Rattle.aug_core.specs.declared.view.Change.{Change}
@@ -11,18 +11,21 @@ use Rattle.aug_core.specs.declared.view.SeatView.{SeatView}
 use Rattle.atomic_table.specs.Seated.{TableId}
 use Rattle.aug_words.specs.Seats.{Known}
 use Rattle.aug_trie.specs.inside.Goes.{HasLeaves, Goes}
-use Rattle.aug_model.specs.declared.outcome.Outcome.{Outcome}
-use Rattle.aug_model.specs.declared.outcome.Outcome.TheVariants.{Accepted, Replaced, Refused}
-use Rattle.aug_trie.specs.inside.Climbing.{Updated, CameTo, advance_from}
+use Rattle.aug_trie.specs.declared.updates.outcome.Outcome.{Outcome}
+use Rattle.aug_trie.specs.declared.updates.outcome.Outcome.TheVariants.{Accepted, Replaced, Refused, Unchanged, TooGreat, TooLittle}
+use Rattle.aug_trie.specs.inside.Climbing.{CameTo, WentUp, Updated, advance_from}
+use Rattle.aug_trie.specs.inside.Weights.{WeighsAt}
+use Rattle.aug_trie.specs.LeafWords.{serial_in_word, weight_in_word}
+use Rattle.aug_trie.specs.Requests.{word_after, changes_by}
+use Rattle.aug_trie.proofs.LeafWords.{weight_of_leaf}
 use Rattle.aug_trie.specs.declared.updates.request.Request.{Request}
 use Rattle.aug_trie.specs.inside.Knows.{KnowsRound}
 use Rattle.aug_trie.specs.Pass.{PassFacts, GoesOn, StepsOf}
 use Rattle.aug_trie.specs.inside.PassState.{pass_facts, known_in, IsPass, HoldsPass}
 use Rattle.aug_trie.specs.inside.RoundState.{round_of, past_rounds}
-use Rattle.aug_trie.proofs.Accepting.{updated_knowledge, shown_number}
+use Rattle.aug_trie.proofs.Accepting.{updated_knowledge, shown_number, stayed_by, stored_fits}
 use Rattle.aug_trie.proofs.Going.{free_from}
-use Rattle.aug_trie.proofs.Requesting.{made_few}
-use Rattle.aug_trie.specs.LeafWords.{serial_in_word}
+use Rattle.aug_trie.proofs.Requesting.{made_few, made_one, made_two, serial_is, weight_is, to_word}
 use Rattle.aug_trie.proofs.Histories.{numbers_long}
 
 module _ (face : ℕ → ℕ → List (ℕ × ℕ) → List ℕ) where
@@ -52,9 +55,37 @@ module _ (face : ℕ → ℕ → List (ℕ × ℕ) → List ℕ) where
     gained_by Accepted u = let a = advance_from request key u.loaded in (made_by key a, made_few key a, u.came_to.0.goes)
     gained_by Replaced u = let a = advance_from request key u.loaded in (made_by key a, made_few key a, u.came_to.0.goes)
     gained_by Refused u = ([], omega arith, u.came_to.goes)
+    gained_by Unchanged u = ([], omega arith, u.came_to.stayed.goes)
+    gained_by TooGreat u = ([], omega arith, u.came_to.stayed.goes)
+    gained_by TooLittle u = ([], omega arith, u.came_to.stayed.goes)
 
     pub pass_after : (done : Outcome) → Updated face (next + bits) v key request w done → IsPass face w leaves bits (next + bits) (left - 1)
     pass_after done u = let g = gained_by done u in pass_on v w leaves bits next left g.0 p some g.1 g.2 (known_after done u)
+
+    -- the weight in the word that it found
+    weighed_by : (done : Outcome) (loaded : ℕ) → CameTo face (next + bits) v key request w loaded done → WeighsAt w.seen key (serial_in_word loaded) (weight_in_word loaded)
+    weighed_by Accepted loaded c = subst (λ (z : ℕ × ℕ). WeighsAt w.seen key z.0 z.1) (λ i. (serial_is request key loaded i, weight_is request key loaded i)) c.0.weighed
+    weighed_by Replaced loaded c = subst (λ (z : ℕ × ℕ). WeighsAt w.seen key z.0 z.1) (λ i. (serial_is request key loaded i, weight_is request key loaded i)) c.0.weighed
+    weighed_by Refused loaded c = c.weighed
+    weighed_by Unchanged loaded c = c.stayed.weighed
+    weighed_by TooGreat loaded c = c.stayed.weighed
+    weighed_by TooLittle loaded c = c.stayed.weighed
+
+    -- the weight in the word that it stored
+    weight_stored : (loaded : ℕ) → WentUp face (next + bits) v key request w (advance_from request key loaded) → (advance_from request key loaded).new_weight ≡ weight_in_word (word_after request key loaded)
+    weight_stored loaded up = let a = advance_from request key loaded in
+        sym (ap weight_in_word (to_word request key loaded) ∙ weight_of_leaf (new_serial a) a.new_weight (stored_fits face (next + bits) v key request w p.knows_table low a up))
+
+    -- and so its changes
+    stored_by : (done : Outcome) (loaded : ℕ) → CameTo face (next + bits) v key request w loaded done → changes_of w.held ≡ changes_of v.held ++ changes_by request key loaded done
+    stored_by Accepted loaded c = let a = advance_from request key loaded in let stored = weight_stored loaded c.0 in
+        c.0.goes.changes ∙ ap (λ (z : List Change). changes_of v.held ++ z) (made_one key a c.1 ∙ (λ i. change key (serial_is request key loaded i + 1) (stored i) ∷ []))
+    stored_by Replaced loaded c = let a = advance_from request key loaded in let stored = weight_stored loaded c.0 in
+        c.0.goes.changes ∙ ap (λ (z : List Change). changes_of v.held ++ z) (made_two key a c.1 ∙ (λ i. change key (serial_is request key loaded i + 1) 0 ∷ change key (serial_is request key loaded i + 2) (stored i) ∷ []))
+    stored_by Refused loaded c = c.goes.changes
+    stored_by Unchanged loaded c = c.stayed.goes.changes
+    stored_by TooGreat loaded c = c.stayed.goes.changes
+    stored_by TooLittle loaded c = c.stayed.goes.changes
 
     -- what contracts see of it
     pub goes_on_by : (table : TableId) (done : Outcome) (u : Updated face (next + bits) v key request w done)
@@ -78,7 +109,9 @@ module _ (face : ℕ → ℕ → List (ℕ × ℕ) → List ℕ) where
       step_count = (u.least_steps, u.most_steps);
       refuses = u.refusing;
       tries = u.tried;
-      shows = λ refused. shown_number face (next + bits) v key request w p.knows_table low (serial_in_word u.loaded) (subst (CameTo face (next + bits) v key request w u.loaded) refused u.came_to);
+      shows = λ nothing. shown_number face (next + bits) v key request w p.knows_table low u.loaded (stayed_by face (next + bits) v key request w p.knows_table low u.loaded done nothing u.came_to);
+      weighed = weighed_by done u.loaded u.came_to;
+      stored = stored_by done u.loaded u.came_to;
     }
 
 -- a pass whose seat was taken out for an update

@@ -29,6 +29,8 @@ use Rattle.aug_trie.specs.inside.RoundState.{round_of, past_rounds, facts_of}
 use Rattle.aug_trie.proofs.Accepting.{knows_on}
 use Rattle.aug_trie.proofs.Crews.{begins_crew, begins_history}
 use Rattle.aug_trie.proofs.Handing.{loaded_table, loaded_knowledge}
+use Rattle.aug_trie.proofs.Keeping.{weighs_later}
+use Rattle.aug_trie.specs.Pass.{KeepWeights}
 
 module _ (face : ℕ → ℕ → List (ℕ × ℕ) → List ℕ) (store : Store) (lead : Known) (before : SeatView) (list : List (ℕ × ℕ)) (together : AreTogether store lead) (opened : lead.view ≡ reopening face list before)
     (laid_out : IsLayout store.shape) (set : IsKeySet store.shape.bits (keys_of list)) (fit : All FitsPair list) (few : length list ≤ store.shape.members) where
@@ -49,13 +51,13 @@ module _ (face : ℕ → ℕ → List (ℕ × ℕ) → List ℕ) (store : Store)
       ∙ (λ j. record { table = (sym is j).table; era = now.era + 1; bits = (sym is j).bits; members = list; workers = (sym is j).workers; updates = (sym is j).updates; room = (sym is j).room })
 
   -- and the crew knows the opening cut alone, and has handed nothing out
-  pub next_facts : crew_facts lead ≡ record { round = round_of lead.table lead.view; past = past_rounds lead.view.shape lead.view.past; knows = record { history = opening_cut store.shape.bits list ∷ []; accepted = [] }; steps = lead.view.steps; handed = 0; back = 0 }
+  pub next_facts : crew_facts lead ≡ record { round = round_of lead.table lead.view; past = past_rounds lead.view.shape lead.view.past; knows = record { history = opening_cut store.shape.bits list ∷ []; accepted = [] }; steps = lead.view.steps; handed = 0; back = 0; words = (crew_facts lead).words }
   next_facts =
       let first = begins_history face o laid_out set fit few in
       let knew : knows lead.view ≡ record { history = opening_cut o.shape.bits o.members ∷ []; accepted = [] } = ap knows opener_is ∙ (λ j. record { history = first j; accepted = [] }) in
       let none_out : unwrap_or lead.view.spare 0 ≡ 0 = ap (λ (z : SeatView). unwrap_or z.spare 0) opener_is in
       let none_back : length lead.view.held ≡ 0 = ap (λ (z : SeatView). length z.held) opener_is in
-      λ j. record { round = round_of lead.table lead.view; past = past_rounds lead.view.shape lead.view.past; knows = knew j; steps = lead.view.steps; handed = none_out j; back = none_back j }
+      λ j. record { round = round_of lead.table lead.view; past = past_rounds lead.view.shape lead.view.past; knows = knew j; steps = lead.view.steps; handed = none_out j; back = none_back j; words = (crew_facts lead).words }
 
 -- ---- the round that ended
 
@@ -80,13 +82,16 @@ module _ (face : ℕ → ℕ → List (ℕ × ℕ) → List ℕ) (lead : Known) 
   }
 
   -- what contracts see of that crew
-  pub last_is : crew_facts known ≡ record now { knows = knows last; steps = last.steps }
+  pub last_is : crew_facts known ≡ record now { knows = knows last; steps = last.steps; words = (crew_facts known).words }
   last_is = (λ i. let after : CrewFacts = crew_facts known in
       record after { round = round_of lead.table (l.stepped i); past = past_rounds (l.stepped i).shape (l.stepped i).past; handed = unwrap_or (l.stepped i).spare 0; back = length (l.stepped i).held })
-      ∙ ap (λ (z : CrewFacts). record z { knows = knows last; steps = last.steps }) is
+      ∙ ap (λ (z : CrewFacts). record z { knows = knows last; steps = last.steps; words = (crew_facts known).words }) is
 
   pub last_goes_on : IsPrefix now.knows.history (knows last).history
   last_goes_on = subst (λ (z : CrewFacts). IsPrefix z.knows.history (knows last).history) is (knows_on face lead.view last holds.is_crew.knows_table (ap (λ (z : SeatView). z.shape) l.stepped) l.sees.later)
+
+  pub last_weights : KeepWeights now.words (crew_facts known).words
+  last_weights = subst (λ (z : CrewFacts). KeepWeights z.words (crew_facts known).words) is (λ key serial weight. weighs_later lead.view.seen last.seen key serial weight l.sees.later)
 
   pub last_changes : changes_of last.held ≡ now.knows.accepted
   last_changes = ap (λ (z : SeatView). changes_of z.held) l.stepped ∙ ap (λ (z : CrewFacts). z.knows.accepted) is

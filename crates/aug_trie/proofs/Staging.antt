@@ -9,8 +9,8 @@ use Rattle.aug_core.specs.Told.{own_lane, MayChange, BeginsAtLeaf, TriesLeaf, ol
 use Rattle.aug_core.specs.declared.view.Advance.{Advance}
 use Rattle.aug_core.specs.declared.view.Change as changed
 use Rattle.aug_core.specs.declared.view.SeatView.{SeatView}
-use Rattle.aug_model.specs.declared.outcome.Outcome.{Outcome}
-use Rattle.aug_model.specs.declared.outcome.Outcome.TheVariants.{Refused}
+use Rattle.aug_trie.specs.declared.updates.outcome.Outcome.{Outcome}
+use Rattle.aug_trie.specs.declared.updates.outcome.Outcome.TheVariants.{Refused}
 use Rattle.aug_words.specs.Seats.{MayAdvance, TriedLeaf}
 use Rattle.aug_trie.specs.inside.RoundState.{eras_of}
 use Rattle.aug_trie.specs.inside.Goes.{HasLeaves, HasRoom, Goes, try_steps, level_steps, most_rise_steps}
@@ -18,7 +18,7 @@ use Rattle.aug_trie.specs.inside.Climbing.{Updated, advance_from}
 use Rattle.aug_trie.specs.inside.PassState.{IsPass}
 use Rattle.aug_trie.specs.LeafWords.{serial_in_word}
 use Rattle.aug_trie.specs.inside.Points.{OneStep, QuietStep}
-use Rattle.aug_trie.specs.Requests.{goes_from, word_after, outcome_by}
+use Rattle.aug_trie.specs.Requests.{goes_from, word_after, outcome_by, outcome_at_once}
 use Rattle.aug_trie.specs.inside.Stages.{HasRisen, IsOnWay, HasBegun, IsRising, StageAt, ascent_turns}
 use Rattle.aug_trie.specs.declared.updates.request.Request.{Request}
 use Rattle.aug_trie.specs.declared.turns.points.Point.TheVariants.{Node}
@@ -70,11 +70,11 @@ module _ (f : ℕ → ℕ → List (ℕ × ℕ) → List ℕ) where
       from_start : BeginsAtLeaf f u key word w
       from_start = subst (λ (z : SeatView). BeginsAtLeaf f z key word w) t.is_stage loaded
 
-      pub begun_change : goes_from request (serial_in_word word) ≡ true → StageAt f leaves bits number left key request u (Change word) w
+      pub begun_change : goes_from request word ≡ true → StageAt f leaves bits number left key request u (Change word) w
       begun_change lets = record { is_pass = t.is_pass; some = t.some; low = t.low; fits = t.fits; is_stage = record { loaded = from_start; lets = lets } }
 
-      pub begun_up : (a : Ascent) → goes_from request (serial_in_word word) ≡ false → a.level ≡ 0 → a.node ≡ leaves + key / 2 → a.second ≡ false → a.point ≡ Node → StageAt f leaves bits number left key request u (Up Refused a) w
-      begun_up a other el en es ep = let p = t.is_pass in let r = room_one u leaves bits number left p t.some in let g = goes_begun f u w key word p.knows_table from_start in
+      pub begun_up : (done : Outcome) (a : Ascent) → goes_from request word ≡ false → done ≡ outcome_at_once request → a.level ≡ 0 → a.node ≡ leaves + key / 2 → a.second ≡ false → a.point ≡ Node → StageAt f leaves bits number left key request u (Up done a) w
+      begun_up done a other says el en es ep = let p = t.is_pass in let r = room_one u leaves bits number left p t.some in let g = goes_begun f u w key word p.knows_table from_start in
           let m = may_rise f bits number key [] u w t.low p.bits_are r.0 g in record {
             is_pass = p;
             some = t.some;
@@ -84,7 +84,7 @@ module _ (f : ℕ → ℕ → List (ℕ × ℕ) → List ℕ) where
               leaf = w;
               has_begun = begun_here;
               has_left = record { found = word; more = []; steps = ap (λ (z : SeatView). z.steps) from_start.stepped; tried = λ lets. absurd (false≢true (sym other ∙ lets)) };
-              finish = λ z risen. refused_at_once f u w key word request bits number t.low p.bits_are r.2 p.knows_table from_start z other risen;
+              finish = λ z risen. subst (Updated f (number + bits) u key request z) (sym says) (refused_at_once f u w key word request bits number t.low p.bits_are r.2 p.knows_table from_start z other risen);
               on_way = way_begins f bits number key w m a r.2 el (en ∙ ap (λ (z : ℕ). z + key / 2) (p.leaves_are.are ∙ ap (λ (z : Shape). 2 ^ z.bits) (sym g.shaped))) es ep;
             };
           }

@@ -19,7 +19,7 @@ use Rattle.aug_core.proofs.CutsUnder.{reached, shows_reached}
 use Rattle.aug_core.proofs.EntryCuts.{Has, entry_is, reached_shown, not_passed}
 use Rattle.aug_core.proofs.PrefixLemmas.{prefix_long}
 use Rattle.aug_core.proofs.Showing.{above_root}
-use Rattle.aug_trie.specs.inside.Climbing.{WeighsAt}
+use Rattle.aug_trie.specs.inside.Weights.{WeighsAt}
 use Rattle.aug_trie.specs.History.{IsHistory, last_cut}
 use Rattle.aug_trie.specs.Knowledge.{StandsIn}
 use Rattle.aug_trie.specs.inside.Knows.{root_history}
@@ -64,11 +64,20 @@ never_shows face s book b key n low some passed =
     let serial : serial_of (get_or (root_history s book) i []) key ≡ reached s book key (suc (s.bits - 1)) i = ap (λ (z : Cut). serial_of z key) (cut_at s book i here) ∙ root_serial s book key i low ∙ ap (λ (z : ℕ). reached s book key z i) level in
     not_passed face s book b key (s.bits - 1) i n low (omega arith) at passed (sym serial ∙ is))
 
--- where a cut shows a serial past the opening one, the change with that serial and that weight stands in the changes of one view
-pub shown_stands : (face : ℕ → ℕ → List (ℕ × ℕ) → List ℕ) (o : Opening) (book : Book) (views : List SeatView) → IsBook face o.shape book → AreCounted o book views → 1 ≤ o.shape.bits → (key i : ℕ) → key < 2 ^ o.shape.bits → Has book (root_place o.shape) i
-    → opening_serial o.members key < serial_of (root_cut o.shape book i) key → Stands views (change key (serial_of (root_cut o.shape book i) key) (weight_at (root_cut o.shape book i) key))
-shown_stands face o book views b counted some key i low here past =
-    let s : Shape = o.shape in
+-- each cut of the history that shows a serial shows it with the weight of the leaf's entry
+pub shows_weight : (s : Shape) (book : Book) (key n weight : ℕ) → key < 2 ^ s.bits → WeighsAt book key n weight → All (λ cut. serial_of cut key ≡ n → weight_at cut key ≡ weight) (root_history s book)
+shows_weight s book key n weight low weighs =
+    All-from_get_or (λ cut. serial_of cut key ≡ n → weight_at cut key ≡ weight) (root_history s book) [] (λ i within is.
+    let long = history_long s book in
+    let here : Has book (root_place s) i = omega arith in
+    let shown : shown_of (get_or (root_history s book) i []) key ≡ (reached s book key s.bits i, (entry_of book key (reached s book key s.bits i)).weight) =
+    ap (λ (z : Cut). shown_of z key) (cut_at s book i here) ∙ root_shows s book key i low in
+    let same : reached s book key s.bits i ≡ n = ap (λ (z : ℕ × ℕ). z.0) (sym shown) ∙ is in
+    ap (λ (z : ℕ × ℕ). z.1) shown ∙ ap (λ (z : ℕ). (entry_of book key z).weight) same ∙ ap (λ e. e.weight) (entry_is book key n weighs.entry weighs.at) ∙ weighs.weighs)
+
+-- what a cut shows of a key is what an entry of its leaf says
+pub shown_weighs : (face : ℕ → ℕ → List (ℕ × ℕ) → List ℕ) (s : Shape) (book : Book) → IsBook face s book → 1 ≤ s.bits → (key i : ℕ) → key < 2 ^ s.bits → Has book (root_place s) i → WeighsAt book key (serial_of (root_cut s book i) key) (weight_at (root_cut s book i) key)
+shown_weighs face s book b some key i low here =
     let root : above s key s.bits ≡ root_place s = above_root s key low in
     let level : s.bits ≡ suc (s.bits - 1) = omega arith in
     let at : Has book (above s key (suc (s.bits - 1))) i = subst (λ (z : ℕ). Has book (above s key z) i) level (subst (λ (z : ℕ). Has book z i) (sym root) here) in
@@ -76,14 +85,17 @@ shown_stands face o book views b counted some key i low here past =
     let is : shown_of (root_cut s book i) key ≡ (reached s book key s.bits i, (entry_of book key (reached s book key s.bits i)).weight) = root_shows s book key i low in
     let back : reached s book key (suc (s.bits - 1)) i ≡ reached s book key s.bits i = ap (λ (z : ℕ). reached s book key z i) (sym level) in
     let there : At book key (reached s book key s.bits i) t.0 = subst (λ (z : ℕ). At book key z t.0) back t.1 in
-    let serial : reached s book key s.bits i ≡ serial_of (root_cut s book i) key = ap (λ (z : ℕ × ℕ). z.0) (sym is) in
-    counted.all (change key (serial_of (root_cut s book i) key) (weight_at (root_cut s book i) key)) record {
-      exists = low;
-      past_opening = past;
+    let serial : reached s book key s.bits i ≡ serial_of (root_cut s book i) key = ap (λ (z : ℕ × ℕ). z.0) (sym is) in record {
       entry = t.0;
-      reached = subst (λ (z : ℕ). At book key z t.0) serial there;
+      at = subst (λ (z : ℕ). At book key z t.0) serial there;
       weighs = ap (λ e. e.weight) (sym (entry_is book key (reached s book key s.bits i) t.0 there)) ∙ ap (λ (z : ℕ × ℕ). z.1) (sym is);
     }
+
+-- where a cut shows a serial past the opening one, the change with that serial and that weight stands in the changes of one view
+pub shown_stands : (face : ℕ → ℕ → List (ℕ × ℕ) → List ℕ) (o : Opening) (book : Book) (views : List SeatView) → IsBook face o.shape book → AreCounted o book views → 1 ≤ o.shape.bits → (key i : ℕ) → key < 2 ^ o.shape.bits → Has book (root_place o.shape) i
+    → opening_serial o.members key < serial_of (root_cut o.shape book i) key → Stands views (change key (serial_of (root_cut o.shape book i) key) (weight_at (root_cut o.shape book i) key))
+shown_stands face o book views b counted some key i low here past = let h = shown_weighs face o.shape book b some key i low here in
+    counted.all (change key (serial_of (root_cut o.shape book i) key) (weight_at (root_cut o.shape book i) key)) record { exists = low; past_opening = past; entry = h.entry; reached = h.at; weighs = h.weighs }
 
 -- what stands in the last cut of a beginning of a history stands in its last cut
 module _ (bits : ℕ) (members : List (ℕ × ℕ)) (history : List Cut) (is_history : IsHistory bits members history) (c : Change) where

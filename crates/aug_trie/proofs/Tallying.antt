@@ -1,8 +1,9 @@
 -- The changes that a lead holds, and those of the lanes that it does not hold, are all that happened.
-use Rattle.std.proofs.Common.{◌≡◌, ◌≢◌, ℕ, ◌+◌, ◌-◌, ◌*◌, ◌^◌, ◌<◌, ◌≤◌, Bool, true, false, eqb, eq-eqb, leb, ltb, lt-ltb, le-ltb, ◌&&◌, if◌then◌else◌, List, [], ◌∷◌, ◌++◌, length, filter, map, flat_map, All, sym, refl, ap, ◌∙◌, subst, ⊎_elim, arith, Some}
+use Rattle.std.proofs.Common.{◌≡◌, ◌≢◌, ℕ, suc, ◌+◌, ◌%◌, ◌-◌, ◌*◌, ◌^◌, ◌<◌, ◌≤◌, Bool, true, false, eqb, eq-eqb, ne_eqb, leb, ltb, lt-ltb, le-ltb, ◌&&◌, if◌then◌else◌, List, [], ◌∷◌, ◌++◌, length, filter, map, flat_map, All, sym, refl, ap, ◌∙◌, subst, ⊎_elim, arith, Some}
 use Rattle.std.proofs.lemmas.Bool.{cases_eq, cases_lt, eqb-true, le-leb, lt-leb}
 use Rattle.std.proofs.lemmas.List.{length-map, append-nil}
-use Rattle.std.proofs.lemmas.List.Elements.{All-from_get_or}
+use Rattle.std.proofs.lemmas.List.Elements.{All-nil, All-cons, All-append, All-filter, All-from_get_or}
+use Rattle.std.specs.List.{sum_by}
 use mathlib.Core.Option.{some, some-injective}
 use lib.ListN.{get_elem?}
 use Rattle.aug_core.specs.Addresses.{root_place}
@@ -17,7 +18,7 @@ use Rattle.aug_core.proofs.Books.{at_below, no_shorter}
 use Rattle.aug_core.proofs.Moves.{St}
 use Rattle.aug_core.specs.inside.Shows.{above}
 use Rattle.aug_core.proofs.Showing.{shows_leaf, above_root}
-use Rattle.aug_core.specs.Cuts.{Cut, serial_of, weight_at, opening_cut, IsAtMost}
+use Rattle.aug_core.specs.Cuts.{Cut, serial_of, weight_at, pairs_of_cut, opening_cut, IsAtMost}
 use Rattle.aug_trie.specs.History.{last_cut}
 use Rattle.aug_trie.specs.Knowledge.{StandsIn}
 use Rattle.aug_trie.specs.Tallies.{times, Tallies, Weighs, TalliesWithLost}
@@ -29,12 +30,24 @@ use Rattle.aug_core.proofs.Levels.{root_word}
 use Rattle.aug_core.proofs.CutsUnder.{cut_long, reached}
 use Rattle.aug_core.proofs.EntryCuts.{Has, entry_at, entry_is, reached_shows, root_rises, cut_later}
 use Rattle.aug_core.proofs.CutLists.{read}
-use Rattle.aug_trie.proofs.CutLemmas.{serial_past, serial_rises, serial-opening}
-use Rattle.aug_trie.proofs.Histories.{history_long, cut_at, last_is, root_serial, root_some}
-use Rattle.aug_trie.proofs.Standing.{at_least, shown_stands}
+use Rattle.aug_trie.proofs.CutLemmas.{serial_past, serial_rises, serial-opening, pairs_of_cut-opening}
+use Rattle.aug_trie.proofs.LedgerSums.{summed, sum_same, total_below, balance, members_weigh}
+use Rattle.aug_trie.specs.Ledger.{IsLedger, total_weight}
+use Rattle.aug_trie.specs.inside.Weights.{WeighsAt}
+use Rattle.aug_trie.proofs.Histories.{history_long, cut_at, last_is, first_cut, root_serial, root_some}
+use Rattle.aug_trie.proofs.Standing.{at_least, shown_weighs, shown_stands}
 use Rattle.aug_core.proofs.Counting.{and_left, and_right, hits-append, hits_none, hits_one, hits_all, filter_shorter, flat_none, flat_one, twice_same, twice_none, twice_less, filter_place, at_longer, at_after, flat_place, IsIn, all_at, all_map, map_at, at_map}
 use Rattle.aug_core.proofs.Missing.{HeldIn, search_views, Missing, missing}
 use Rattle.aug_core.proofs.PrefixLemmas.{entry_stays}
+
+-- what holds of each item holds of all
+all_listed : {A : Type 0} (P : A → Type 0) (xs : List A) → ((k : ℕ) (x : A) → get_elem? xs k ≡ some x → P x) → All P xs
+all_listed P [] each = All-nil P
+all_listed P (x ∷ xs) each = All-cons P x xs (each 0 x refl) (all_listed P xs (λ k y p. each (suc k) y p))
+
+all_flat : {A B : Type 0} (P : B → Type 0) (f : A → List B) (xs : List A) → ((k : ℕ) (x : A) → get_elem? xs k ≡ some x → All P (f x)) → All P (flat_map f xs)
+all_flat P f [] each = All-nil P
+all_flat P f (x ∷ xs) each = All-append P (f x) (flat_map f xs) (each 0 x refl) (all_flat P f xs (λ k y p. each (suc k) y p))
 
 abbrev test : ℕ → ℕ → Change → Bool
 test key number c = eqb c.key key && eqb c.serial number
@@ -75,6 +88,21 @@ module _ (face : ℕ → ℕ → List (ℕ × ℕ) → List ℕ) (s : St) (id n 
       let t = shows_leaf v.shape v.seen key v.shape.bits i (reached v.shape v.seen key v.shape.bits i) (reached_shows face v.shape v.seen kn.book key v.shape.bits i low (omega arith) has) in
       let up = t.3 in let below = at_below (history_of r.book key) t.0 t.1 (entry_stays (r.each_view id v at).saw key t.0 t.1 t.2) in omega arith
 
+  -- what a key weighs with a serial
+  abbrev weight_of : ℕ → ℕ → ℕ
+  weight_of key number = (entry_of r.book key number).weight
+
+  -- that is what the view's words tell
+  weighed_is : (key serial weight : ℕ) → WeighsAt v.seen key serial weight → weight_of key serial ≡ weight
+  weighed_is key serial weight h = ap (λ (z : Entry). z.weight) (entry_is r.book key serial h.entry (entry_stays (r.each_view id v at).saw key serial h.entry h.at)) ∙ h.weighs
+
+  -- and what a change stored
+  abbrev IsStored : Change → Type 0
+  IsStored c = weight_of c.key c.serial ≡ c.weight
+
+  stored_is : (i a k : ℕ) (c : Change) → StandsAt s.views i a k c → IsStored c
+  stored_is i a k c t = let was = r.changes.counted.none_else i a k c t in ap (λ (z : Entry). z.weight) (entry_is r.book c.key c.serial was.entry was.reached) ∙ was.weighs
+
   -- the change of a key with a serial that its leaf has reached: it has the weight of its entry
   abbrev made : ℕ → ℕ → Change
   made key number = change key number (entry_of r.book key number).weight
@@ -96,6 +124,7 @@ module _ (face : ℕ → ℕ → List (ℕ × ℕ) → List ℕ) (s : St) (id n 
     past : (key number : ℕ) → serial_of last key < number → times key number list ≡ 0
     one : (key number : ℕ) → HasChange lane (made key number) → number ≤ serial_of last key → times key number list ≡ 1
     has : (c : Change) → HasChange lane c → c.serial ≤ serial_of last c.key → IsIn list c
+    stored : All IsStored list
 
   abbrev stays : Change → Bool
   stays c = leb c.serial (serial_of last c.key)
@@ -131,6 +160,7 @@ module _ (face : ℕ → ℕ → List (ℕ × ℕ) → List ℕ) (s : St) (id n 
           (λ c is. let e1 = same_number key number c is in let e2 : serial_of last c.key ≡ serial_of last key = ap (serial_of last) (same_key key number c is) in
           le-leb c.serial (serial_of last c.key) (omega arith)) g.changes ∙ one_here key number f;
       has = λ c f le. let l = listed_here c f in filter_place stays g.changes l.0 c l.1 (le-leb c.serial (serial_of last c.key) le);
+      stored = All-filter stays IsStored g.changes (all_listed IsStored g.changes (λ k c p. stored_is i a k c (here k c p)));
     }
 
   lost_of : (lane : ℕ) → Lost lane
@@ -142,6 +172,7 @@ module _ (face : ℕ → ℕ → List (ℕ × ℕ) → List ℕ) (s : St) (id n 
         past = λ key number lt. refl;
         one = λ key number f le. absurd (nobody (f.0, f.3.view, f.3.sits, (f.1, f.3.lane, f.3.held, f.4)));
         has = λ c f le. absurd (nobody (f.0, f.3.view, f.3.sits, (f.1, f.3.lane, f.3.held, f.4)));
+        stored = All-nil IsStored;
       }) (search_views s.views lane)
 
   module _ (stand : All (StandsIn last) (changes_of v.held)) where
@@ -253,8 +284,52 @@ module _ (face : ℕ → ℕ → List (ℕ × ℕ) → List ℕ) (s : St) (id n 
     weigh = let long = history_long v.shape v.seen in All-from_get_or (Weighs first all) (knows v).history []
         (λ i within. let here : Has v.seen (root_place v.shape) i = omega arith in subst (Weighs first all) (sym (cut_at v.shape v.seen i here)) (weighs_at i here))
 
+    -- ---- the ledger
+
+    held_stored : All IsStored (changes_of v.held)
+    held_stored = all_flat IsStored (λ (z : Held). z.changes) v.held (λ a g pa. all_listed IsStored g.changes (λ k c pk. stored_is id a k c record { view = v; lane = g; sits = at; held = pa; listed = pk }))
+
+    lost_stored : All IsStored (flat_map (λ list. list) lists)
+    lost_stored = all_flat IsStored (λ (z : List Change). z) lists (λ k z p. let u = map_at (λ l. (lost_of l).list) away.list k z p in subst (All IsStored) u.2 (lost_of u.0).stored)
+
+    all_stored : All IsStored all
+    all_stored = All-append IsStored (changes_of v.held) (flat_map (λ list. list) lists) held_stored lost_stored
+
+    -- what a cut shows of a key
+    shown_at : (i key : ℕ) → Has v.seen (root_place v.shape) i → key < 2 ^ v.shape.bits → WeighsAt v.seen key (serial_of (root_cut v.shape v.seen i) key) (weight_at (root_cut v.shape v.seen i) key)
+    shown_at i key here low = shown_weighs face v.shape v.seen kn.book kn.laid_out.bits.0 key i low here
+
+    abbrev Shows : Cut → Type 0
+    Shows cut = (key : ℕ) → key < 2 ^ v.shape.bits → weight_of key (serial_of cut key) ≡ weight_at cut key
+
+    shown : All Shows (knows v).history
+    shown = let long = history_long v.shape v.seen in All-from_get_or Shows (knows v).history [] (λ i within. let here : Has v.seen (root_place v.shape) i = omega arith in
+        subst Shows (sym (cut_at v.shape v.seen i here)) (λ key low. weighed_is key (serial_of (root_cut v.shape v.seen i) key) (weight_at (root_cut v.shape v.seen i) key) (shown_at i key here low)))
+
+    -- a key that is no member weighs nothing
+    weighs_in : (i : ℕ) → Has v.seen (root_place v.shape) i → (k : ℕ) → k < length (root_cut v.shape v.seen i) → weight_of k (serial_of (root_cut v.shape v.seen i) k) ≡ (if eqb (serial_of (root_cut v.shape v.seen i) k % 2) 1 then weight_at (root_cut v.shape v.seen i) k else 0)
+    weighs_in i here k within =
+        let cut : Cut = root_cut v.shape v.seen i in let long = cut_long v.shape v.seen v.shape.bits (root_place v.shape) i in let low : k < 2 ^ v.shape.bits = omega arith in
+        let h = shown_at i k here low in let is = weighed_is k (serial_of cut k) (weight_at cut k) h in ⊎_elim
+        (λ (odd : serial_of cut k % 2 ≡ 1). is ∙ ap (λ (z : Bool). if z then weight_at cut k else 0) (sym (eq-eqb (serial_of cut k % 2) 1 odd)))
+        (λ (other : serial_of cut k % 2 ≢ 1). let none = (kn.book.serials k (serial_of cut k) h.entry low h.at).none_if_even (omega (arith, other)) in
+        is ∙ sym h.weighs ∙ none ∙ ap (λ (z : Bool). if z then weight_at cut k else 0) (sym (ne_eqb (serial_of cut k % 2) 1 other))) (cases_eq (serial_of cut k % 2) 1)
+
+    total_at : (cut : Cut) (i : ℕ) → Has v.seen (root_place v.shape) i → root_cut v.shape v.seen i ≡ cut → total_weight (pairs_of_cut cut) ≡ total_below weight_of cut (length cut)
+    total_at cut i here is = subst (λ (z : Cut). total_weight (pairs_of_cut z) ≡ total_below weight_of z (length z)) is (members_weigh weight_of (root_cut v.shape v.seen i) (weighs_in i here))
+
+    sums : IsAtMost first last → total_weight (pairs_of_cut last) + summed (λ k m. weight_of k (m - 1)) all ≡ total_weight v.members + sum_by (λ (c : Change). c.weight) all
+    sums le =
+        let some_there = root_some face v kn in let j : ℕ = length (history_of v.seen (root_place v.shape)) - 1 in
+        let now = total_at last j (omega arith) (sym (last_cut_is j (omega arith))) in let early = total_at first 0 (omega arith) (first_cut face v kn) in
+        let opened : total_weight (pairs_of_cut first) ≡ total_weight v.members = ap total_weight (pairs_of_cut-opening v.shape.bits v.members kn.key_set) in
+        let is = balance first last all tallies weight_of le in let same = sum_same (λ (c : Change). weight_of c.key c.serial) (λ (c : Change). c.weight) all all_stored in omega (arith, now, early, opened, is, same)
+
+    ledger : IsAtMost first last → IsLedger (record { shape = v.shape; book = v.seen }) v.shape.bits v.members (knows v).history all
+    ledger le = record { weight_of = weight_of; told = weighed_is; stored = all_stored; shown = shown; sums = sums le }
+
     -- the changes that the lead holds tally with the last cut that it knows, once those of the lanes that it does not hold are added
-    pub tallies_with_lost : (gone : ℕ) → gone + length v.held ≡ n → TalliesWithLost v.shape.updates gone first last (knows v).history (changes_of v.held)
+    abbrev tallies_with_lost : (gone : ℕ) → gone + length v.held ≡ n → TalliesWithLost v.shape.updates gone first last (knows v).history (changes_of v.held)
     tallies_with_lost gone total = record {
       lost = lists;
       one_each = let all = hits_all (λ (z : Held). ltb z.lane n) v.held (λ a g pa. lt-ltb g.lane n (r.apart.handed_out id id a n v v g at at spare pa)) in let c = away.counted in
@@ -267,8 +342,10 @@ module _ (face : ℕ → ℕ → List (ℕ × ℕ) → List ℕ) (s : St) (id n 
     pub held_few : length v.held ≤ n
     held_few = let all = hits_all (λ (z : Held). ltb z.lane n) v.held (λ a g pa. lt-ltb g.lane n (r.apart.handed_out id id a n v v g at at spare pa)) in let c = away.counted in omega arith
 
-    pub tallies_at_end : (back : ℕ) → length v.held ≡ back → TalliesWithLost v.shape.updates (n - back) first last (knows v).history (changes_of v.held)
-    tallies_at_end back is = let le = held_few in tallies_with_lost (n - back) (omega arith)
+    -- and all of them keep one ledger
+    pub accounts_at_end : (back : ℕ) → length v.held ≡ back → IsAtMost first last
+        → (t : TalliesWithLost v.shape.updates (n - back) first last (knows v).history (changes_of v.held)) × IsLedger (record { shape = v.shape; book = v.seen }) v.shape.bits v.members (knows v).history (changes_of v.held ++ flat_map (λ list. list) t.lost)
+    accounts_at_end back is le = let few = held_few in (tallies_with_lost (n - back) (omega arith), ledger le)
 
 -- where nothing is lost, the changes tally
 pub none_lost_tallies : (updates : ℕ) (first last : Cut) (history : List Cut) (changes : List Change) → TalliesWithLost updates 0 first last history changes → Tallies first last changes

@@ -42,7 +42,7 @@ use Rattle.aug_trie.specs.TreeOf.{IsTreeOf}
 use Rattle.aug_trie.specs.declared.queries.node.Node.{Node}
 use Rattle.aug_trie.proofs.Counters.{counted_still}
 use Rattle.aug_trie.proofs.Histories.{some_bits, history_long, numbers_long}
-use Rattle.aug_trie.proofs.Keeping.{node_later}
+use Rattle.aug_trie.proofs.Keeping.{node_later, weighs_later}
 use Rattle.aug_trie.proofs.Looking.{goes_looking, leaf_weighs}
 use Rattle.aug_trie.proofs.Snapshots.{named_there, index_is, cut_is, pass_still}
 use Rattle.aug_trie.proofs.Rising.{cut_keys}
@@ -153,7 +153,7 @@ module _ {A B : Type 0} (parts_a : Parts A) (parts_b : Parts B) where
     }
 
     pub keeps_on : Keeps (summary_of parts_a parts_b) (pass_facts old left) (pass_facts new rest)
-    keeps_on = record { snapshots = λ z. snapshot_on z.number; same_cuts = λ z. cut_on z.number; same_sets = λ z has. (λ i. members_of (shaped i).bits (cut_on z.number has i)); nodes = node_on }
+    keeps_on = record { snapshots = λ z. snapshot_on z.number; same_cuts = λ z. cut_on z.number; same_sets = λ z has. (λ i. members_of (shaped i).bits (cut_on z.number has i)); nodes = node_on; weights = λ key serial weight. weighs_later book later key serial weight grows }
 
   -- a pass that looked
   pub reads_by : (known : Known) (w : SeatView) (left most : ℕ) → Looks most known.view w → Reads (summary_of parts_a parts_b) most (pass_facts known left) (pass_facts (record { table = known.table; view = w }) left)
@@ -166,6 +166,7 @@ module _ {A B : Type 0} (parts_a : Parts A) (parts_b : Parts B) where
         same_cuts = λ z has. refl;
         same_sets = λ z has. refl;
         nodes = λ node has. record { of_pass = has.of_pass; is_tree_set = has.is_tree_set; named = has.named; tells = has.tells; weighs = has.weighs };
+        weights = λ key serial weight has. has;
       };
     };
     few_steps = let long = length-append known.view.steps l.more in let few = l.few in omega arith;

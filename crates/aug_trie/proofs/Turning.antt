@@ -11,7 +11,7 @@ use Rattle.aug_core.specs.Counts.{changes_of}
 use Rattle.aug_core.specs.Kinds.{load_leaf, try_leaf}
 use Rattle.aug_core.specs.Told.{own_lane, KnowsTable}
 use Rattle.aug_core.specs.declared.view.SeatView.{SeatView}
-use Rattle.aug_model.specs.declared.outcome.Outcome.{Outcome}
+use Rattle.aug_trie.specs.declared.updates.outcome.Outcome.{Outcome}
 use Rattle.aug_trie.specs.inside.Climbing.{Updated}
 use Rattle.aug_trie.specs.inside.Goes.{part_steps, try_steps, level_steps, most_rise_steps}
 use Rattle.aug_trie.specs.inside.Knows.{root_history, knows, root_numbers}
@@ -46,7 +46,6 @@ use Rattle.aug_trie.proofs.Updating.{goes_begun}
 use Rattle.std.specs.Prelude.{unwrap_or, slice_index_or, drop}
 use Rattle.std.proofs.lemmas.List.{append_cancel_left}
 use Rattle.aug_core.specs.declared.step.StepTaken.{StepTaken}
-use Rattle.aug_trie.specs.LeafWords.{serial_in_word}
 
 -- ---- the turns that are left
 
@@ -152,13 +151,13 @@ module _ (f : ℕ → ℕ → List (ℕ × ℕ) → List ℕ) where
       first_loads (Up done a) t told is = let left = t.is_stage.has_left in absurd (made_some v.began.steps v.steps (load_leaf key left.found) left.more (left_steps v done a t.is_stage) is)
 
       second_tries : (stage : Stage) → StageAt f leaves bits number left key request u stage v → ((word : ℕ) → stage ≡ Change word → (found : ℕ) × (w.steps ≡ v.steps ++ try_leaf key word (word_after request key word) found ∷ []))
-          → (loaded : ℕ) → v.steps ≡ (start_facts (record { table = table; view = v }) left stage).steps ++ load_leaf key loaded ∷ [] → goes_from request (serial_in_word loaded) ≡ true
+          → (loaded : ℕ) → v.steps ≡ (start_facts (record { table = table; view = v }) left stage).steps ++ load_leaf key loaded ∷ [] → goes_from request loaded ≡ true
           → (found : ℕ) × (w.steps ≡ v.steps ++ try_leaf key loaded (word_after request key loaded) found ∷ [])
       second_tries Leaf t told loaded is lets = absurd (made_some v.steps v.steps (load_leaf key loaded) [] is refl)
       second_tries (Change word) t told loaded is lets = let same = (one_load key word loaded v.began.steps [] [] (sym (loaded_steps v word t.is_stage) ∙ is)).0 in
           subst (λ (z : ℕ). (found : ℕ) × (w.steps ≡ v.steps ++ try_leaf key z (word_after request key z) found ∷ [])) same (told word refl)
       second_tries (Up done a) t told loaded is lets = let left = t.is_stage.has_left in let one = one_load key left.found loaded v.began.steps left.more [] (sym (left_steps v done a t.is_stage) ∙ is) in
-          absurd (let some = left.tried (subst (λ (z : ℕ). goes_from request (serial_in_word z) ≡ true) (sym one.0) lets) in let none = ap (λ (z : List StepTaken). length z) one.1 in omega arith)
+          absurd (let some = left.tried (subst (λ (z : ℕ). goes_from request z ≡ true) (sym one.0) lets) in let none = ap (λ (z : List StepTaken). length z) one.1 in omega arith)
 
       pub turns_on : (next : Stage) → StageAt f leaves bits number left key request u next w → OneStep v w → stage_turns bits next < stage_turns bits stage → 1 ≤ stage_turns bits next
           → (stage ≡ Leaf → (found : ℕ) × (w.steps ≡ v.steps ++ load_leaf key found ∷ [])) → ((word : ℕ) → stage ≡ Change word → (found : ℕ) × (w.steps ≡ v.steps ++ try_leaf key word (word_after request key word) found ∷ []))

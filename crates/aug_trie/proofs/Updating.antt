@@ -3,7 +3,7 @@ use Rattle.std.proofs.Common.{◌≡◌, ◌≢◌, ℕ, ◌+◌, ◌*◌, ◌^�
 use Rattle.std.proofs.lemmas.Bool.{cases_eq, cases_Bool, eqb-false, eqb-true, false≢true}
 use Rattle.std.proofs.lemmas.Nat.{mul-le}
 use Rattle.aug_core.specs.Places.{Shape}
-use Rattle.aug_core.specs.Book.{Book, At, IsNewest}
+use Rattle.aug_core.specs.Book.{Book, ArePrefixes, At, IsNewest}
 use Rattle.aug_core.specs.Kinds.{load_leaf, try_leaf}
 use Rattle.aug_core.specs.inside.Shows.{NewestShows, ShowsAtMost}
 use Rattle.aug_core.specs.Told.{HoldsOnly, KnowsTable, BeginsAtLeaf, TriesLeaf, old_word, new_serial, made_by}
@@ -16,15 +16,17 @@ use Rattle.aug_core.specs.declared.view.SeatView.{SeatView}
 use Rattle.aug_core.proofs.Books.{newest_is_last}
 use Rattle.aug_core.proofs.PlaceLemmas.{keys-within}
 use Rattle.aug_core.proofs.Showing.{shows_leaf}
-use Rattle.aug_model.specs.declared.outcome.Outcome.{Outcome}
-use Rattle.aug_model.specs.declared.outcome.Outcome.TheVariants.{Accepted, Replaced, Refused}
+use Rattle.aug_trie.specs.declared.updates.outcome.Outcome.{Outcome}
+use Rattle.aug_trie.specs.declared.updates.outcome.Outcome.TheVariants.{Accepted, Replaced, Refused, Unchanged, TooGreat, TooLittle}
 use Rattle.aug_words.specs.Seats.{MayAdvance, TriedLeaf}
 use Rattle.aug_trie.specs.inside.Goes.{Goes, HasRoom}
 use Rattle.aug_trie.specs.inside.Climbing.{WentUp, Stayed, CameTo, Updated, FitsRequest, advance_from}
+use Rattle.aug_trie.specs.inside.Weights.{WeighsAt}
 use Rattle.aug_trie.specs.LeafWords.{serial_in_word, weight_in_word}
-use Rattle.aug_trie.specs.Requests.{goes_from, word_after, outcome_by}
+use Rattle.aug_trie.specs.Requests.{goes_from, word_after, outcome_by, outcome_at_once}
 use Rattle.aug_trie.specs.inside.Stages.{MayRise, HasRisen}
 use Rattle.aug_trie.specs.declared.updates.request.Request.{Request}
+use Rattle.aug_trie.specs.declared.updates.request.Request.TheVariants.{Insert, Remove, Put, Add, Sub}
 use Rattle.aug_trie.proofs.Going.{room_on, goes_on, goes_after, goes_beginning, goes_seeing, goes_changing}
 use Rattle.aug_trie.proofs.LeafWords.{serial_of_leaf, weight_of_leaf}
 use Rattle.aug_trie.proofs.Requesting.{is_advance, from_word, to_word, outcome_is, serial_is, weight_is, way_found, way_next}
@@ -34,6 +36,22 @@ newest_shows : (s : Shape) (book : Book) (key index n : ℕ) (e : Entry) → IsN
 newest_shows s book key index n e newest le = record { index = index; entry = e; newest = newest; shows = ((e, newest.at), le) }
 
 module _ (f : ℕ → ℕ → List (ℕ × ℕ) → List ℕ) where
+  -- what an update comes to that the word of its leaf prevents
+  came_at_once : (used : ℕ) (v : SeatView) (key : ℕ) (w : SeatView) (word : ℕ) (request : Request) → goes_from request word ≡ false → Stayed f used v key request w word → CameTo f used v key request w word (outcome_at_once request)
+  came_at_once used v key w word Insert stops stayed = stayed
+  came_at_once used v key w word Remove stops stayed = stayed
+  came_at_once used v key w word (Put weight) stops stayed = stayed
+  came_at_once used v key w word (Add amount) stops stayed = by_nothing (amount == 0) refl
+    where
+      by_nothing : (b : Bool) → (amount == 0) ≡ b → CameTo f used v key (Add amount) w word (if b then Unchanged else TooGreat)
+      by_nothing true e = record { stayed = stayed; stops = stops; says = ap (λ (z : Bool). if z then Unchanged else TooGreat) (sym e) }
+      by_nothing false e = record { stayed = stayed; stops = stops; says = ap (λ (z : Bool). if z then Unchanged else TooGreat) (sym e) }
+  came_at_once used v key w word (Sub amount) stops stayed = by_nothing (amount == 0) refl
+    where
+      by_nothing : (b : Bool) → (amount == 0) ≡ b → CameTo f used v key (Sub amount) w word (if b then Unchanged else TooLittle)
+      by_nothing true e = record { stayed = stayed; stops = stops; says = ap (λ (z : Bool). if z then Unchanged else TooLittle) (sym e) }
+      by_nothing false e = record { stayed = stayed; stops = stops; says = ap (λ (z : Bool). if z then Unchanged else TooLittle) (sym e) }
+
   pub goes_begun : (v w : SeatView) (key word : ℕ) → KnowsTable f v → BeginsAtLeaf f v key word w → Goes f 0 [] v w
   goes_begun v w key word kn l = goes_beginning f v w _ l.stepped kn l.sees
 
@@ -52,7 +70,7 @@ module _ (f : ℕ → ℕ → List (ℕ × ℕ) → List ℕ) where
   small_key v key kn low = let few = (keys-within v.shape.bits kn.laid_out.bits.0 kn.laid_out.bits.1).1 in omega arith
 
   -- the leaf may be exchanged as the request says
-  pub advances : (v w : SeatView) (key word : ℕ) (request : Request) → key < 2 ^ v.shape.bits → KnowsTable f v → BeginsAtLeaf f v key word w → FitsRequest request → goes_from request (serial_in_word word) ≡ true → MayAdvance w key word (word_after request key word)
+  pub advances : (v w : SeatView) (key word : ℕ) (request : Request) → key < 2 ^ v.shape.bits → KnowsTable f v → BeginsAtLeaf f v key word w → FitsRequest request → goes_from request word ≡ true → MayAdvance w key word (word_after request key word)
   advances v w key word request low kn l fits lets = let is = loaded_serial v w key word low l in record {
     advance = advance_from request key word;
     is_advance = is_advance request key word fits (small_key v key kn low) lets;
@@ -102,8 +120,16 @@ module _ (f : ℕ → ℕ → List (ℕ × ℕ) → List ℕ) where
     at_leaf : serial_in_word word ≡ loaded.index
     at_leaf = (loaded_serial v w0 key word low loaded).0
 
-    -- the serial that was loaded refuses the update
-    pub refused_at_once : (w : SeatView) → goes_from request (serial_in_word word) ≡ false → HasRisen f bits number key w0 bits w → Updated f (number + bits) v key request w Refused
+    -- the leaf's entry with the serial that was loaded has the weight that was loaded, now and later
+    weighed_on : (book : Book) → ArePrefixes w0.seen book → WeighsAt book key (serial_in_word word) (weight_in_word word)
+    weighed_on book later = record {
+      entry = loaded.entry;
+      at = entry_stays later key (serial_in_word word) loaded.entry (subst (λ (z : ℕ). At w0.seen key z loaded.entry) (sym at_leaf) loaded.newest.at);
+      weighs = sym (loaded_serial v w0 key word low loaded).1;
+    }
+
+    -- the word that was loaded refuses the update
+    pub refused_at_once : (w : SeatView) → goes_from request word ≡ false → HasRisen f bits number key w0 bits w → Updated f (number + bits) v key request w (outcome_at_once request)
     refused_at_once w other h = let goes = h.goes in let between = h.took in let lifts = h.lifts in let least = between.least_steps in let most = between.most_steps in let count = between.took.count in record {
       loaded = word;
       more = between.took.more;
@@ -112,16 +138,17 @@ module _ (f : ℕ → ℕ → List (ℕ × ℕ) → List ℕ) where
       most_steps = omega arith;
       tried = λ lets. absurd (false≢true (sym other ∙ lets));
       refusing = λ _. (refl, between.took.no_try);
-      came_to = record {
+      came_to = came_at_once (number + bits) v key w word request other (record {
         goes = goes_on f 0 used used [] v w0 w (omega arith) (omega arith) first goes;
         before = at_most v w0 key word low loaded;
-        shown = subst (λ (z : Shape × ℕ × ℕ). NewestShows z.0 w.seen key z.1 z.2) (λ i. (shaped0 i, is i, sym (way_found request (serial_in_word word) other) i))
+        shown = subst (λ (z : Shape × ℕ × ℕ). NewestShows z.0 w.seen key z.1 z.2) (λ i. (shaped0 i, is i, sym (way_found request word other) i))
             (lifts.lifted (serial_in_word word) (newest_shows w0.shape w0.seen key loaded.index (serial_in_word word) loaded.entry loaded.newest (omega (arith, at_leaf))));
-      };
+        weighed = weighed_on w.seen goes.later;
+      });
     }
 
     -- the leaf was tried
-    module _ (fits : FitsRequest request) (lets : goes_from request (serial_in_word word) ≡ true) (w1 : SeatView) (ok : Bool) (h : Held) (only : HoldsOnly w0 h) (tried : TriedLeaf f w0 key word (word_after request key word) ok w1) where
+    module _ (fits : FitsRequest request) (lets : goes_from request word ≡ true) (w1 : SeatView) (ok : Bool) (h : Held) (only : HoldsOnly w0 h) (tried : TriedLeaf f w0 key word (word_after request key word) ok w1) where
       abbrev from : word ≡ old_word a
       from = from_word request key word
 
@@ -150,9 +177,13 @@ module _ (f : ℕ → ℕ → List (ℕ × ℕ) → List ℕ) where
         shown_up : (n : ℕ) → n ≤ told.index → NewestShows v.shape w.seen key v.shape.bits n
         shown_up n le = subst (λ (z : Shape × ℕ). NewestShows z.0 w.seen key z.1 n) (λ i. (shaped1 i, is i)) (r.lifts.lifted n (newest_shows w1.shape w1.seen key told.index n told.entry told.newest le))
 
+        -- and the weight that was loaded it still had
+        weighed_up : WeighsAt w.seen key (serial_in_word word) (weight_in_word word)
+        weighed_up = let was = weighed_on w1.seen told.sees.later in record { entry = was.entry; at = entry_stays r.goes.later key (serial_in_word word) was.entry was.at; weighs = was.weighs }
+
         went_up : tried.found ≡ word → WentUp f (number + bits) v key request w a
         went_up same = let hit = told.hit (same ∙ from) in let reached : told.index ≡ new_serial a = hit.1 in let gained : List Change = made_by key a in record {
-          lets = subst (λ (z : ℕ). goes_from request z ≡ true) (sym (serial_is request key word)) lets;
+          weighed = subst (λ (z : ℕ × ℕ). WeighsAt w.seen key z.0 z.1) (λ i. (sym (serial_is request key word) i, sym (weight_is request key word) i)) weighed_up;
           goes = goes_on f 0 used used gained v w1 w (omega arith) (omega arith)
               (goes_after f 0 0 0 [] gained gained v w0 w1 (omega arith) (omega arith) refl first (goes_changing f w0 w1 gained _ h only hit.0 first.knows_table told.sees)) r.goes;
           before = subst (ShowsAtMost v.shape v.seen key) (sym (serial_is request key word)) (at_most v w0 key word low loaded);
@@ -161,16 +192,17 @@ module _ (f : ℕ → ℕ → List (ℕ × ℕ) → List ℕ) where
           passes = λ e. let p = told.passes (same ∙ from) e in record { entry = p.entry; at = entry_stays r.goes.later key (a.serial + 1) p.entry p.at; passed = p.passed };
         }
 
-        stayed : tried.found ≢ word → Stayed f (number + bits) v key request w (serial_in_word word)
+        stayed : tried.found ≢ word → Stayed f (number + bits) v key request w word
         stayed other = let miss = told.miss (missed other) in let past = miss.1 in let serial = serial_is request key word in record {
           goes = goes_on f 0 used used [] v w1 w (omega arith) (omega arith) (goes_on f 0 0 0 [] v w0 w1 (omega arith) (omega arith) first (goes_seeing f w0 w1 _ miss.0 first.knows_table told.sees)) r.goes;
           before = at_most v w0 key word low loaded;
-          shown = subst (NewestShows v.shape w.seen key v.shape.bits) (sym (way_next request (serial_in_word word) lets)) (shown_up (serial_in_word word + 1) (omega (arith, past, serial)));
+          shown = subst (NewestShows v.shape w.seen key v.shape.bits) (sym (way_next request word lets)) (shown_up (serial_in_word word + 1) (omega (arith, past, serial)));
+          weighed = weighed_up;
         }
 
         by_replaces : (b : Bool) → a.replaces ≡ b → WentUp f (number + bits) v key request w a → CameTo f (number + bits) v key request w word (if b then Replaced else Accepted)
-        by_replaces true e up = (up, e)
-        by_replaces false e up = (up, e)
+        by_replaces true e up = (up, e, lets)
+        by_replaces false e up = (up, e, lets)
 
         -- an update that tried its leaf
         pub updated : (done : Outcome) → done ≡ (if ok then outcome_by request word else Refused) → Updated f (number + bits) v key request w done
@@ -203,7 +235,7 @@ module _ (f : ℕ → ℕ → List (ℕ × ℕ) → List ℕ) where
     pub updated : (w : SeatView) (done : Outcome) → HasRisen f bits number key w1 bits w → done ≡ (if ok then outcome_by request word else Refused) → Updated f (number + bits) v key request w done
 
   pub leaf_tried : {v w0 w1 : SeatView} {key word bits number new : ℕ} {ok : Bool} (request : Request) → key < 2 ^ v.shape.bits → bits ≡ v.shape.bits → KnowsTable f v → HasRoom v number bits → BeginsAtLeaf f v key word w0
-      → FitsRequest request → goes_from request (serial_in_word word) ≡ true → new ≡ word_after request key word → TriedLeaf f w0 key word new ok w1 → LeafTried v w1 key word bits number request ok
+      → FitsRequest request → goes_from request word ≡ true → new ≡ word_after request key word → TriedLeaf f w0 key word new ok w1 → LeafTried v w1 key word bits number request ok
   leaf_tried {v} {w0} {w1} {key} {word} {bits} {number} {new} {ok} request low is kn room l fits lets is_new tries = let some = kn.laid_out.bits.0 in let few : 1 ≤ bits = omega arith in
       let g0 = goes_begun v w0 key word kn l in let free = (room_on f [] v w0 number bits g0 room).is_free in let t = subst (λ (z : ℕ). TriedLeaf f w0 key word z ok w1) is_new tries in
       let g1 = tried_goes v w0 key word request bits number low is few kn l fits lets w1 ok free.lane free.only t in let g = goes_after f 0 0 0 [] g1.0 g1.0 v w0 w1 (omega arith) (omega arith) refl g0 g1.1 in record {

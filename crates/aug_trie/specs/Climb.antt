@@ -4,12 +4,11 @@
 use Rattle.std.specs.Prelude.{◌≡◌, ℕ, ◌<◌, ◌≤◌, true, [], ◌∷◌, ◌++◌}
 use Rattle.aug_core.specs.Kinds.{load_leaf, try_leaf}
 use Rattle.aug_core.specs.declared.step.StepTaken.{StepTaken}
-use Rattle.aug_model.specs.declared.outcome.Outcome.{Outcome}
+use Rattle.aug_trie.specs.declared.updates.outcome.Outcome.{Outcome}
 use Rattle.aug_core.specs.Prefixes.{IsPrefix}
 use Rattle.aug_trie.specs.Updates.{ComesTo}
 use Rattle.aug_trie.specs.Pass.{PassFacts, GoesOn, most_update_steps, StepsOf}
 use Rattle.aug_trie.specs.Requests.{word_after, goes_from}
-use Rattle.aug_trie.specs.LeafWords.{serial_in_word}
 use Rattle.aug_trie.specs.declared.updates.request.Request.{Request}
 
 -- an update by turns: its pass as it was at the start and as it is now, its request, its key, and the greatest number of turns that may be left
@@ -38,7 +37,7 @@ pub record TurnsOn (old new : ClimbFacts) : Type 0 where
   pub falls : new.left < old.left
   pub some : 1 ≤ new.left
   pub first : old.now.steps ≡ old.start.steps → (found : ℕ) × (new.now.steps ≡ old.now.steps ++ load_leaf old.key found ∷ [])
-  pub second : (loaded : ℕ) → old.now.steps ≡ old.start.steps ++ load_leaf old.key loaded ∷ [] → goes_from old.request (serial_in_word loaded) ≡ true
+  pub second : (loaded : ℕ) → old.now.steps ≡ old.start.steps ++ load_leaf old.key loaded ∷ [] → goes_from old.request loaded ≡ true
       → (found : ℕ) × (new.now.steps ≡ old.now.steps ++ try_leaf old.key loaded (word_after old.request old.key loaded) found ∷ [])
 
 -- the last turn: the outcome of the update, from what was known at the start to what is known now. The update counts as one of the pass's budget

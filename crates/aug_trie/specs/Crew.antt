@@ -1,5 +1,5 @@
 -- What contracts see of a crew: how its round begins, how its passes come and go, and how the round ends.
-use Rattle.std.specs.Prelude.{◌≡◌, ℕ, ◌+◌, ◌<◌, List, [], ◌∷◌, ◌++◌, length}
+use Rattle.std.specs.Prelude.{◌≡◌, ℕ, ◌+◌, ◌<◌, List, [], ◌∷◌, ◌++◌, length, flat_map}
 use Rattle.aug_core.specs.Cuts.{opening_cut, pairs_of_cut}
 use Rattle.aug_core.specs.Kinds.{load_node}
 use Rattle.aug_core.specs.Prefixes.{IsPrefix}
@@ -10,11 +10,13 @@ use Rattle.aug_trie.specs.Passes.{HandedOut, HandedBack, HasLearnt}
 use Rattle.aug_trie.specs.Round.{TableFacts, RoundFacts, table_of, root_of}
 use Rattle.aug_trie.specs.Chains.{Chapter, Chain, chain, chapters}
 use Rattle.aug_trie.specs.Note.{NoteFacts}
-use Rattle.aug_trie.specs.Pass.{PassFacts}
+use Rattle.aug_trie.specs.Ledger.{IsLedger}
+use Rattle.aug_trie.specs.Pass.{PassFacts, WordsSeen, KeepWeights}
 use Rattle.aug_trie.specs.Tallies.{TalliesWithLost}
 use Rattle.aug_trie.specs.Ended.{EndedFacts}
 
--- a crew: its round, the rounds before in its table, what it knows, its atomic steps, and how many passes it handed out and took back
+-- a crew: its round, the rounds before in its table, what it knows, its atomic steps, how many passes it handed out and took back, and the words that it
+-- has seen
 pub record CrewFacts : Type 0 where
   pub round : RoundFacts
   pub past : List Chapter
@@ -22,6 +24,7 @@ pub record CrewFacts : Type 0 where
   pub steps : List StepTaken
   pub handed : ℕ
   pub back : ℕ
+  pub words : WordsSeen
 
 -- what it knows of the rounds of its table
 abbrev pub crew_chain : CrewFacts → Chain
@@ -32,7 +35,7 @@ crew_chain crew = chain crew.past crew.round.members crew.knows.history
 pub record BeginsIn (room : ℕ) (members : List (ℕ × ℕ)) (bits workers updates : ℕ) (table : TableFacts) (crew : CrewFacts) : Type 0 where
   pub round_is : crew.round ≡ record { table = table.table; era = 0; bits = bits; members = members; workers = workers; updates = updates; room = room }
   pub together : table_of crew.round ≡ table
-  pub crew_is : crew ≡ record { round = crew.round; past = []; knows = record { history = opening_cut bits members ∷ []; accepted = [] }; steps = crew.steps; handed = 0; back = 0 }
+  pub crew_is : crew ≡ record { round = crew.round; past = []; knows = record { history = opening_cut bits members ∷ []; accepted = [] }; steps = crew.steps; handed = 0; back = 0; words = crew.words }
 
 -- the crew's one step loads the root's word
 abbrev pub LoadsRoot : CrewFacts → CrewFacts → Type 0
@@ -41,7 +44,8 @@ LoadsRoot old new = (found : ℕ) × (new.steps ≡ old.steps ++ load_node (root
 -- the crew hands out its next lane, after it loaded the root
 pub record HandsOut (old new : CrewFacts) (pass : PassFacts) : Type 0 where
   pub knows : HandedOut old.knows new.knows pass.knows
-  pub crew_is : new ≡ record old { knows = new.knows; steps = new.steps; handed = old.handed + 1 }
+  pub crew_is : new ≡ record old { knows = new.knows; steps = new.steps; handed = old.handed + 1; words = new.words }
+  pub weights : KeepWeights old.words new.words
   pub pass_is : pass ≡ record pass { round = old.round; past = old.past; lane = old.handed; spent = 0 }
   pub exists : old.handed < old.round.workers
   pub knowledge : IsKnowledge pass.round.bits pass.round.members pass.knows
@@ -51,19 +55,22 @@ pub record HandsOut (old new : CrewFacts) (pass : PassFacts) : Type 0 where
 -- the crew takes a pass back, and then loads the root
 pub record TakesBack (old new : CrewFacts) (pass : PassFacts) : Type 0 where
   pub knows : HandedBack old.knows pass.knows new.knows
-  pub crew_is : new ≡ record old { knows = new.knows; steps = new.steps; back = old.back + 1 }
+  pub crew_is : new ≡ record old { knows = new.knows; steps = new.steps; back = old.back + 1; words = new.words }
+  pub weights : KeepWeights old.words new.words
+  pub weights_of_pass : KeepWeights pass.words new.words
   pub knowledge : IsKnowledge new.round.bits new.round.members new.knows
   pub loads : LoadsRoot old new
 
 -- the crew learns a note, and then loads the root
 pub record CrewLearns (old new : CrewFacts) (note : NoteFacts) : Type 0 where
   pub learns : HasLearnt old.round.era (crew_chain old) old.knows note (crew_chain new) new.knows
-  pub crew_is : new ≡ record old { knows = new.knows; steps = new.steps }
+  pub crew_is : new ≡ record old { knows = new.knows; steps = new.steps; words = new.words }
+  pub weights : KeepWeights old.words new.words
   pub knowledge : IsKnowledge new.round.bits new.round.members new.knows
   pub loads : LoadsRoot old new
 
 -- a round ends: its set is that of the last cut that the crew knows; the changes that the crew knows, with lists of those of the passes that did not come back,
--- are all that happened from the opening cut to that one; and the counts are the crew's
+-- are all that happened from the opening cut to that one, and keep one ledger; and the counts are the crew's
 pub record Ends (crew : CrewFacts) (ended : EndedFacts) : Type 0 where
   pub bits : ended.bits ≡ crew.round.bits
   pub members : ended.members ≡ pairs_of_cut (last_cut crew.knows.history)
@@ -73,12 +80,14 @@ pub record Ends (crew : CrewFacts) (ended : EndedFacts) : Type 0 where
   pub no_calls : ended.calls ≡ 0
   pub is_history : IsHistory crew.round.bits crew.round.members crew.knows.history
   pub tallies : TalliesWithLost crew.round.updates ended.missing (opening_cut crew.round.bits crew.round.members) (last_cut crew.knows.history) crew.knows.history crew.knows.accepted
+  pub ledger : IsLedger crew.words crew.round.bits crew.round.members crew.knows.history (crew.knows.accepted ++ flat_map (λ list. list) tallies.lost)
 
 -- a round ends to which all passes came back, with a load of the root, and the next one begins over its set, in the same table: the list has the set, and
 -- the counts are those of the round that ended. All of its history is known then
 pub record RollsOver (old crew : CrewFacts) (list : List (ℕ × ℕ)) (inserts removals : ℕ) : Type 0 where
   pub last : CrewFacts
-  pub last_is : last ≡ record old { knows = last.knows; steps = last.steps }
+  pub last_is : last ≡ record old { knows = last.knows; steps = last.steps; words = last.words }
+  pub weights : KeepWeights old.words last.words
   pub goes_on : IsPrefix old.knows.history last.knows.history
   pub same_changes : last.knows.accepted ≡ old.knows.accepted
   pub loads : LoadsRoot old last
@@ -90,4 +99,4 @@ pub record RollsOver (old crew : CrewFacts) (list : List (ℕ × ℕ)) (inserts 
   pub inserts_are : inserts ≡ ended.inserts
   pub removals_are : removals ≡ ended.removals
   pub round_is : crew.round ≡ record old.round { era = old.round.era + 1; members = ended.members }
-  pub crew_is : crew ≡ record { round = crew.round; past = chapters (crew_chain last); knows = record { history = opening_cut old.round.bits ended.members ∷ []; accepted = [] }; steps = crew.steps; handed = 0; back = 0 }
+  pub crew_is : crew ≡ record { round = crew.round; past = chapters (crew_chain last); knows = record { history = opening_cut old.round.bits ended.members ∷ []; accepted = [] }; steps = crew.steps; handed = 0; back = 0; words = crew.words }

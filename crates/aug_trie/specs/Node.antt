@@ -7,7 +7,7 @@ use Rattle.aug_query.specs.Descend.{Loads}
 use Rattle.aug_core.specs.Prefixes.{IsPrefix}
 use Rattle.aug_trie.specs.LeafWords.{weight_in_word}
 use Rattle.aug_trie.specs.TreeOf.{IsTreeOf}
-use Rattle.aug_trie.specs.Pass.{PassFacts}
+use Rattle.aug_trie.specs.Pass.{PassFacts, KeepWeights}
 use Rattle.aug_trie.specs.inside.NodeWords.{IsNodeAt}
 use Rattle.aug_trie.specs.Snapshot.{HasSnapshot, snapshot_cut, set_at}
 use Rattle.aug_trie.specs.declared.queries.node.Node.{Node}
@@ -26,12 +26,14 @@ module _ {A B : Type 0} (summary_of : List (ℕ × ℕ) → Summary A B) where
     pub tells : IsTreeOf summary_of pass.round.bits (snapshot_cut pass node.snapshot.number) node.level node.place node.summary
     pub weighs : node.level ≡ 0 → weight_in_word node.word ≡ weight_in (set_at pass node.snapshot).pairs node.place
 
-  -- each snapshot of the pass is still one of it, with the same cut and set, and each node of a snapshot is still one of that snapshot
+  -- each snapshot of the pass is still one of it, with the same cut and set, each node of a snapshot is still one of that snapshot, and what was known of
+  -- weights is known
   pub record Keeps (old new : PassFacts) : Type 0 where
     pub snapshots : (s : Snapshot) → HasSnapshot old s.number → HasSnapshot new s.number
     pub same_cuts : (s : Snapshot) → HasSnapshot old s.number → snapshot_cut new s.number ≡ snapshot_cut old s.number
     pub same_sets : (s : Snapshot) → HasSnapshot old s.number → set_at new s ≡ set_at old s
     pub nodes : (node : Node A B) → HasNode old node → HasNode new node
+    pub weights : KeepWeights old.words new.words
 
   -- the pass made steps from which it learned nothing new
   pub record Stays (old new : PassFacts) : Type 0 where

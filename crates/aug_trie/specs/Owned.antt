@@ -1,6 +1,6 @@
 -- A pass that keeps its round.
 use Rattle.std.specs.Prelude.{ℕ, List}
-use Rattle.aug_model.specs.declared.outcome.Outcome.{Outcome}
+use Rattle.aug_trie.specs.declared.updates.outcome.Outcome.{Outcome}
 use Rattle.aug_model.specs.declared.summary.Summary.{Summary}
 use Rattle.aug_trie.specs.Updates.{ComesTo, TakesSnapshot}
 use Rattle.aug_trie.specs.Snapshot.{snapshot_cut}

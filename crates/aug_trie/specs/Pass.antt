@@ -6,11 +6,12 @@ use Rattle.aug_core.specs.Book.{Book}
 use Rattle.aug_core.specs.Cuts.{serial_of}
 use Rattle.aug_core.specs.Kinds.{load_leaf, try_leaf}
 use Rattle.aug_core.specs.declared.step.StepTaken.{StepTaken}
-use Rattle.aug_model.specs.declared.outcome.Outcome.{Outcome}
-use Rattle.aug_model.specs.declared.outcome.Outcome.TheVariants.{Refused}
+use Rattle.aug_trie.specs.declared.updates.outcome.Outcome.{Outcome}
+use Rattle.aug_trie.specs.declared.updates.outcome.Outcome.TheVariants.{Refused}
 use Rattle.aug_core.specs.declared.step.StepKind.TheVariants.{TryLeaf}
-use Rattle.aug_trie.specs.LeafWords.{serial_in_word}
-use Rattle.aug_trie.specs.Requests.{goes_from, in_the_way, word_after, outcome_by}
+use Rattle.aug_trie.specs.LeafWords.{serial_in_word, weight_in_word}
+use Rattle.aug_trie.specs.inside.Weights.{WeighsAt}
+use Rattle.aug_trie.specs.Requests.{goes_from, in_the_way, word_after, outcome_by, outcome_at_once, stores_nothing, changes_by}
 use Rattle.aug_core.specs.Prefixes.{IsPrefix}
 use Rattle.aug_trie.specs.Chains.{Chapter, Chain, chain}
 use Rattle.aug_trie.specs.History.{last_cut}
@@ -22,6 +23,14 @@ use Rattle.aug_trie.specs.declared.updates.request.Request.{Request}
 pub record WordsSeen : Type 0 where
   pub shape : Shape
   pub book : Book
+
+-- a key had this weight with this serial, as the words tell
+abbrev pub Weighed : WordsSeen → ℕ → ℕ → ℕ → Type 0
+Weighed words key serial weight = WeighsAt words.book key serial weight
+
+-- whatever the earlier words tell of weights the later ones tell too
+abbrev pub KeepWeights : WordsSeen → WordsSeen → Type 0
+KeepWeights earlier later = (key serial weight : ℕ) → Weighed earlier key serial weight → Weighed later key serial weight
 
 -- a pass: its round, the rounds before in its table, its lane, what it knows, for each cut of its history the number of the root's record that shows
 -- it, how many updates it made, its atomic steps, and the words that it has seen
@@ -69,14 +78,17 @@ least_update_steps bits = 15 * bits - 5
 abbrev pub most_update_steps : ℕ → ℕ
 most_update_steps bits = 30 * bits - 10
 
--- an update's steps: their number has a lower and an upper bound; the first loads the key's leaf. If the serial found refuses, no leaf is exchanged.
+-- an update's steps: their number has a lower and an upper bound; the first loads the key's leaf. If the word found refuses, no leaf is exchanged.
 -- Otherwise the second step is the only exchange of a leaf, of the word found for the one that the request makes of it, and the outcome says whether
--- it succeeded. After a refusal the last cut shows what prevented the update, so the steps brought that to the root
+-- it succeeded. If nothing was stored, the last cut shows what prevented the update, so the steps brought that to the root. What was stored is reckoned
+-- from the weight that the key had just before, which is the one in the word found
 pub record StepsOf (request : Request) (key : ℕ) (done : Outcome) (old new : PassFacts) : Type 0 where
   pub found : ℕ
   pub more : List StepTaken
   pub steps : new.steps ≡ old.steps ++ load_leaf key found ∷ more
   pub step_count : IsWithin (least_update_steps old.round.bits) (most_update_steps old.round.bits) (length more + 1)
-  pub refuses : goes_from request (serial_in_word found) ≡ false → (done ≡ Refused) × TryNoLeaf more
-  pub tries : goes_from request (serial_in_word found) ≡ true → Tried request key found more done
-  pub shows : done ≡ Refused → in_the_way request (serial_in_word found) ≤ serial_of (last_cut new.knows.history) key
+  pub refuses : goes_from request found ≡ false → (done ≡ outcome_at_once request) × TryNoLeaf more
+  pub tries : goes_from request found ≡ true → Tried request key found more done
+  pub shows : stores_nothing done ≡ true → in_the_way request found ≤ serial_of (last_cut new.knows.history) key
+  pub weighed : Weighed new.words key (serial_in_word found) (weight_in_word found)
+  pub stored : new.knows.accepted ≡ old.knows.accepted ++ changes_by request key found done

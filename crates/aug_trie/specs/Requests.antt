@@ -1,30 +1,69 @@
--- The requests of updates, and what an update makes of a leaf. A put of 1 with the weight 5 makes `3 * 2^32 + 5` of `2^32 + 1`.
-use Rattle.std.specs.Prelude.{ℕ, ◌+◌, ◌%◌, ◌==◌, Bool, true, if◌then◌else◌}
+-- The requests of updates, and what an update makes of a leaf. A put of 1 with the weight 5 makes `3 * 2^32 + 5` of `2^32 + 1`. What additions and
+-- subtractions make of a leaf with the serial 1, whose key weighs 7, and of one with the serial 2, whose key is no member; `-` stands for a leaf that
+-- stays:
+--
+--     request      | serial 1, weight 7  | serial 2, weight 0
+--     -------------+---------------------+--------------------
+--     Add 5        | 3, 12      Replaced | 3, 5       Accepted
+--     Add 2^32 - 8 | 3, 2^32-1  Replaced | 3, 2^32-8  Accepted
+--     Add 2^32 - 7 | -          TooGreat | 3, 2^32-7  Accepted
+--     Sub 5        | 3, 2       Replaced | -          TooLittle
+--     Sub 7        | 2, 0       Accepted | -          TooLittle
+--     Sub 8        | -         TooLittle | -          TooLittle
+--     Add 0, Sub 0 | -         Unchanged | -          Unchanged
+use Rattle.std.specs.Prelude.{ℕ, ◌+◌, ◌-◌, ◌%◌, ◌^◌, ◌==◌, ◌&&◌, nat_lt, nat_le, Bool, true, false, if◌then◌else◌, List, [], ◌∷◌}
 use Rattle.aug_core.specs.Book.{word_of_leaf}
-use Rattle.aug_model.specs.declared.outcome.Outcome.{Outcome}
-use Rattle.aug_model.specs.declared.outcome.Outcome.TheVariants.{Accepted, Replaced}
-use Rattle.aug_trie.specs.LeafWords.{serial_in_word}
+use Rattle.aug_core.specs.Counts.{change}
+use Rattle.aug_core.specs.declared.view.Change.{Change}
+use Rattle.aug_trie.specs.declared.updates.outcome.Outcome.{Outcome}
+use Rattle.aug_trie.specs.declared.updates.outcome.Outcome.TheVariants.{Accepted, Replaced, Refused, Unchanged, TooGreat, TooLittle}
+use Rattle.aug_trie.specs.LeafWords.{serial_in_word, weight_in_word}
 use Rattle.aug_trie.specs.declared.updates.request.Request.{Request}
-use Rattle.aug_trie.specs.declared.updates.request.Request.TheVariants.{Insert, Remove, Put}
+use Rattle.aug_trie.specs.declared.updates.request.Request.TheVariants.{Insert, Remove, Put, Add, Sub}
 
--- whether an update continues from a leaf with this serial: an insertion if the key is not there, a removal if it is, and a put always
+-- whether an update continues from a leaf with this word: an insertion if the key is not there, a removal if it is, and a put always; an addition if the
+-- sum is a weight, where a key that is not there weighs 0, and a subtraction if the key is there and weighs as much as that. Neither does with nothing
 abbrev pub goes_from : Request → ℕ → Bool
-goes_from Insert serial = serial % 2 == 0
-goes_from Remove serial = serial % 2 == 1
-goes_from (Put weight) serial = true
+goes_from Insert word = serial_in_word word % 2 == 0
+goes_from Remove word = serial_in_word word % 2 == 1
+goes_from (Put weight) word = true
+goes_from (Add amount) word = nat_lt 0 amount && nat_lt (weight_in_word word + amount) (2 ^ 32)
+goes_from (Sub amount) word = nat_lt 0 amount && (serial_in_word word % 2 == 1 && nat_le amount (weight_in_word word))
 
--- the serial that prevents an update that is refused: the one that was found, or the next one if the update would have continued from the one that
--- was found
+-- the outcomes with which nothing was stored
+abbrev pub stores_nothing : Outcome → Bool
+stores_nothing Accepted = false
+stores_nothing Replaced = false
+stores_nothing done = true
+
+-- the outcome of an update that does not continue
+abbrev pub outcome_at_once : Request → Outcome
+outcome_at_once (Add amount) = if amount == 0 then Unchanged else TooGreat
+outcome_at_once (Sub amount) = if amount == 0 then Unchanged else TooLittle
+outcome_at_once request = Refused
+
+-- the serial that prevents an update that stores nothing: the one in the word that was found, or the next one if the update would have continued from
+-- the word that was found
 abbrev pub in_the_way : Request → ℕ → ℕ
-in_the_way request serial = if goes_from request serial then serial + 1 else serial
+in_the_way request word = if goes_from request word then serial_in_word word + 1 else serial_in_word word
 
--- the word that it makes of a leaf's word: with the next serial, or with the one after that if a put replaces the weight of a key that is there
+-- the word that it makes of a leaf's word: with the next serial, or with the one after that if the weight of a key that is there is replaced
 abbrev pub word_after : Request → ℕ → ℕ → ℕ
 word_after Insert key word = word_of_leaf (serial_in_word word + 1) key
 word_after Remove key word = word_of_leaf (serial_in_word word + 1) 0
 word_after (Put weight) key word = word_of_leaf (if serial_in_word word % 2 == 1 then serial_in_word word + 2 else serial_in_word word + 1) weight
+word_after (Add amount) key word = word_of_leaf (if serial_in_word word % 2 == 1 then serial_in_word word + 2 else serial_in_word word + 1) (weight_in_word word + amount)
+word_after (Sub amount) key word = word_of_leaf (if nat_lt amount (weight_in_word word) then serial_in_word word + 2 else serial_in_word word + 1) (weight_in_word word - amount)
+
+-- the changes that it makes if it comes to this: one to the next serial, or two if the weight of a key that is there is replaced
+abbrev pub changes_by : Request → ℕ → ℕ → Outcome → List Change
+changes_by request key word Accepted = change key (serial_in_word word + 1) (weight_in_word (word_after request key word)) ∷ []
+changes_by request key word Replaced = change key (serial_in_word word + 1) 0 ∷ change key (serial_in_word word + 2) (weight_in_word (word_after request key word)) ∷ []
+changes_by request key word done = []
 
 -- the outcome of the update if the leaf still had the word that was loaded
 abbrev pub outcome_by : Request → ℕ → Outcome
 outcome_by (Put weight) word = if serial_in_word word % 2 == 1 then Replaced else Accepted
+outcome_by (Add amount) word = if serial_in_word word % 2 == 1 then Replaced else Accepted
+outcome_by (Sub amount) word = if nat_lt amount (weight_in_word word) then Replaced else Accepted
 outcome_by request word = Accepted

@@ -1,14 +1,14 @@
 -- What one call of a pass does to what it knows. An insertion of 1 into the example is refused because of the serial 1 that was there. A put of 1
 -- with the weight 5 is a `ReplacedUpdate`: the changes of key 1 to serial 2 and, with the weight 5, to serial 3 are both accepted, and no cut shows
--- the serial 2.
-use Rattle.std.specs.Prelude.{◌≡◌, ◌≢◌, ℕ, ◌+◌, ◌%◌, ◌<◌, ◌⊎◌, [], ◌∷◌, ◌++◌, All}
+-- the serial 2. An addition of 5 to 1 is a `Reckoned` one: no cut shows the serial 1 of key 1 with another weight than 1, so the weight is 6 then.
+use Rattle.std.specs.Prelude.{◌≡◌, ◌≢◌, ℕ, ◌+◌, ◌%◌, ◌^◌, ◌<◌, ◌≤◌, ◌⊎◌, List, [], ◌∷◌, ◌++◌, All}
 use Rattle.aug_core.specs.Counts.{change}
-use Rattle.aug_core.specs.Cuts.{Cut, serial_of}
+use Rattle.aug_core.specs.Cuts.{Cut, serial_of, weight_at}
 use Rattle.aug_core.specs.Prefixes.{IsPrefix}
 use Rattle.aug_trie.specs.History.{last_cut}
 use Rattle.aug_trie.specs.Knowledge.{Knowledge, StandsIn, insertion, removal}
-use Rattle.aug_model.specs.declared.outcome.Outcome.{Outcome}
-use Rattle.aug_model.specs.declared.outcome.Outcome.TheVariants as outcome
+use Rattle.aug_trie.specs.declared.updates.outcome.Outcome.{Outcome}
+use Rattle.aug_trie.specs.declared.updates.outcome.Outcome.TheVariants as outcome
 use Rattle.aug_trie.specs.declared.updates.request.Request.{Request}
 use Rattle.aug_trie.specs.declared.updates.request.Request.TheVariants as request
 
@@ -39,7 +39,39 @@ pub record ReplacedUpdate (key weight : ℕ) (old new : Knowledge) : Type 0 wher
   pub never_shown : All (λ cut. serial_of cut key ≢ number) new.history
   pub adds : new.accepted ≡ old.accepted ++ change key number 0 ∷ change key (number + 1) weight ∷ []
 
--- a put that was refused: another change of the key came between then and now
+-- the cuts that show the key with this serial show it with this weight
+abbrev pub WeighsWith : ℕ → ℕ → ℕ → List Cut → Type 0
+WeighsWith key serial weight history = All (λ cut. serial_of cut key ≡ serial → weight_at cut key ≡ weight) history
+
+-- a replacement whose weight is reckoned from the one before, which is what the key weighs with the serial just before the new ones. The last cut is past
+-- that serial, so no cut of the round, whoever takes it, shows it with another weight
+pub record Reckoned (key before after : ℕ) (old new : Knowledge) : Type 0 where
+  pub replaced : ReplacedUpdate key after old new
+  pub last : ℕ
+  pub next : replaced.number ≡ last + 1
+  pub was : WeighsWith key last before new.history
+
+-- a removal of a key that had just this weight, with the serial just before the new one
+pub record UsedUp (key weight : ℕ) (old new : Knowledge) : Type 0 where
+  pub removed : AcceptedUpdate removal key 0 old new
+  pub last : ℕ
+  pub next : removed.number ≡ last + 1
+  pub was : WeighsWith key last weight new.history
+
+-- an update that stored nothing because of what the key weighed: between then and now the key had this serial and this weight, and these were as said. A
+-- key that is no member weighs nothing
+pub record Prevented (key : ℕ) (by : ℕ → ℕ → Type 0) (old new : Knowledge) : Type 0 where
+  pub goes_on : IsPrefix old.history new.history
+  pub serial : ℕ
+  pub weight : ℕ
+  pub not_before : serial_of (last_cut old.history) key ≤ serial
+  pub not_after : serial ≤ serial_of (last_cut new.history) key
+  pub was : WeighsWith key serial weight new.history
+  pub none_if_even : serial % 2 ≡ removal → weight ≡ 0
+  pub prevents : by serial weight
+  pub same_changes : new.accepted ≡ old.accepted
+
+-- a put that was refused, or an addition or a subtraction: another change of the key came between then and now
 pub record RefusedPut (key : ℕ) (old new : Knowledge) : Type 0 where
   pub goes_on : IsPrefix old.history new.history
   pub rises : serial_of (last_cut old.history) key < serial_of (last_cut new.history) key
@@ -54,7 +86,17 @@ ComesTo request.Remove key outcome.Refused old new = RefusedUpdate removal key o
 ComesTo (request.Put weight) key outcome.Accepted old new = AcceptedUpdate insertion key weight old new
 ComesTo (request.Put weight) key outcome.Replaced old new = ReplacedUpdate key weight old new
 ComesTo (request.Put weight) key outcome.Refused old new = RefusedPut key old new
-ComesTo asked key outcome.Replaced old new = ⊥
+ComesTo (request.Add amount) key outcome.Accepted old new = AcceptedUpdate insertion key amount old new
+ComesTo (request.Add amount) key outcome.Replaced old new = (before : ℕ) × (before + amount < 2 ^ 32) × Reckoned key before (before + amount) old new
+ComesTo (request.Add amount) key outcome.Refused old new = RefusedPut key old new
+ComesTo (request.Add amount) key outcome.Unchanged old new = Prevented key (λ serial weight. amount ≡ 0) old new
+ComesTo (request.Add amount) key outcome.TooGreat old new = Prevented key (λ serial weight. 2 ^ 32 ≤ weight + amount) old new
+ComesTo (request.Sub amount) key outcome.Accepted old new = UsedUp key amount old new
+ComesTo (request.Sub amount) key outcome.Replaced old new = (after : ℕ) × (1 ≤ after) × Reckoned key (after + amount) after old new
+ComesTo (request.Sub amount) key outcome.Refused old new = RefusedPut key old new
+ComesTo (request.Sub amount) key outcome.Unchanged old new = Prevented key (λ serial weight. amount ≡ 0) old new
+ComesTo (request.Sub amount) key outcome.TooLittle old new = Prevented key (λ serial weight. weight < amount) old new
+ComesTo asked key done old new = ⊥
 
 -- a snapshot is the last cut of the history as it is known then
 pub record TakesSnapshot (old new : Knowledge) (snapshot : Cut) : Type 0 where

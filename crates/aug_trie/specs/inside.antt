@@ -22,3 +22,4 @@ pub mod SnapshotWalk
 pub mod SnapshotWalkLaws
 pub mod Stages
 pub mod ViewLaws
+pub mod Weights

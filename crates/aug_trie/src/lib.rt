@@ -22,4 +22,5 @@ pub use rounds::owned::{OwnedPass, SharedRound};
 pub use rounds::pass::Pass;
 pub use rounds::round::Round;
 pub use turns::climb::{Climb, Turn};
+pub use updates::outcome::Outcome;
 pub use updates::request::Request;

@@ -67,12 +67,30 @@ pub(super) fn look_closer(
         Act::Keys | Act::Pairs => list(pass, alloc, act),
         Act::Top | Act::Left | Act::Right => node(pass, act),
         Act::KeptOver(weight) => kept_over(pass, universe, weight),
+        Act::PassesOver(from, key) => passes_over(pass, universe, from, key),
         Act::AddsUp => match adds_up(pass) {
             Some(count) => Reply::Number(count),
             None => Reply::Not,
         },
         _ => Reply::Not,
     }
+}
+
+// What a cursor passes on from a key, on once more behind a removal, and back.
+fn passes_over(pass: &mut Pass<Sum, Extent>, universe: u32, from: u32, key: u32) -> Reply
+    requires { universe ≡ 2 ^ pass.old.round.bits }
+    ensures { pass.new.round ≡ pass.old.round }
+{
+    if key >= universe || pass.budget() == 0 {
+        return Reply::Not;
+    }
+    let s = pass.snapshot();
+    let mut at = pass.cursor_from(s, from);
+    let first = pass.next(&mut at);
+    pass.remove(key);
+    let next = pass.next(&mut at);
+    let back = pass.previous(&mut at);
+    Reply::Listed(first, next, back)
 }
 
 // A list of at most two keys.

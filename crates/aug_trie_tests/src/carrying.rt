@@ -7,8 +7,8 @@ use super::playing::{Reply, Step};
 use super::resting::Ask;
 use super::rounds::{Trie, Way};
 use super::rows::{Play, Row, played_from_empty, rows};
-use aug_model::Outcome::{Accepted, Replaced};
 use aug_trie::BeginError;
+use aug_trie::Outcome::{Accepted, Replaced};
 use std::alloc::Global;
 use std::process::Abort;
 

@@ -1,13 +1,15 @@
 //! Copies of snapshots and nodes: each is used as what it is a copy of. And snapshots that stay what they were.
-use super::playing::Act::{Back, Counts, KeptOver, Now, Open, Right, Sees, Size, Top, Weight};
+use super::playing::Act::{
+    Back, Counts, KeptOver, Now, Open, PassesOver, Right, Sees, Size, Top, Weight,
+};
 use super::playing::Change::{Insert, Put};
-use super::playing::Reply::{Came, Counted, Done, Finds, Is, Kept, Number, Stands};
+use super::playing::Reply::{Came, Counted, Done, Finds, Is, Kept, Listed, Number, Stands};
 use super::playing::Who::A;
 use super::resting::Ask;
 use super::rounds::Way;
 use super::rows::{Play, Row, rows};
-use aug_model::Outcome::Accepted;
 use aug_trie::BeginError;
+use aug_trie::Outcome::Accepted;
 
 const COPIES: &[Row] = &[
     Row {
@@ -36,6 +38,28 @@ const COPIES: &[Row] = &[
                 (A, Sees(1), Is(false)),
                 (A, Sees(2), Is(true)),
                 (A, Counts, Counted(2, 1, 0)),
+            ],
+            rest: &[],
+        }],
+    },
+    Row {
+        shows: "a cursor passes the members of its snapshot, also behind a removal",
+        plays: &[Play {
+            way: Way::Begin,
+            numbers: (3, 1, 5),
+            steps: &[
+                (A, Open, Done),
+                (A, Now(Put(1, 70)), Came(Accepted)),
+                (A, Now(Put(6, 30)), Came(Accepted)),
+                (
+                    A,
+                    PassesOver(0, 6),
+                    Listed(Some((1, 70)), Some((6, 30)), Some((6, 30))),
+                ),
+                (A, Sees(6), Is(false)),
+                (A, PassesOver(2, 1), Listed(None, None, Some((1, 70)))),
+                (A, Sees(1), Is(false)),
+                (A, PassesOver(9, 1), Listed(None, None, None)),
             ],
             rest: &[],
         }],

@@ -3,9 +3,10 @@ ghost use Rattle.std.specs.Prelude.{◌≡◌, IfOk};
 ghost use Rattle.aug_trie.specs.Round.{table_of};
 
 use super::asking::seen_size;
-use super::playing::Act::{AddsUp, Back, Now, Open};
+use super::playing::Act::{AddsUp, Back, Now, Open, Range, Weight};
 use super::playing::Change::{Insert, Remove};
-use super::playing::Reply::{Counted, Done, Is, Number};
+use super::playing::Reply;
+use super::playing::Reply::{Counted, Done, Finds, Folded, Is, Number};
 use super::playing::Who::{A, B};
 use super::resting::Ask;
 use super::rounds::{Half, Hands, Table, Trie, Way, opened};
@@ -165,6 +166,21 @@ const FILL: Task = Task {
     deed: Deed::Insert,
 };
 
+const ADD_AT_TEN: Task = Task {
+    keys: 10,
+    times: 90,
+    deed: Deed::Add,
+};
+
+const ADD_AND_SUB_AT_TEN: Task = Task {
+    keys: 10,
+    times: 90,
+    deed: Deed::AddAndSub,
+};
+
+// What four lanes added to a key 90 times.
+const ADDED: Reply = Finds(Some(909_090_090));
+
 const CROWDS: &[Crowd] = &[
     // A put is refused only if one of the other lane came between, and each of those refuses one.
     Crowd {
@@ -212,6 +228,47 @@ const CROWDS: &[Crowd] = &[
             steps: &[(A, Open, Done), (A, AddsUp, Number(4))],
             rest: &[],
         }],
+    },
+    // Of the updates of a lane that are refused each is so by an update of another lane that was made.
+    Crowd {
+        shows: "each unit that four threads add at ten keys is there, and none twice",
+        rounds: 2,
+        bits: 4,
+        updates: 3_600,
+        tasks: (ADD_AT_TEN, ADD_AT_TEN, IDLE),
+        each_sees: Some(10),
+        inserts: (3_600, 3_600),
+        members: (10, 10),
+        plays: &[Play {
+            way: Way::Begin,
+            numbers: (4, 1, 1),
+            steps: &[
+                (A, Open, Done),
+                (A, Weight(0), ADDED),
+                (A, Weight(1), ADDED),
+                (A, Weight(2), ADDED),
+                (A, Weight(3), ADDED),
+                (A, Weight(4), ADDED),
+                (A, Weight(5), ADDED),
+                (A, Weight(6), ADDED),
+                (A, Weight(7), ADDED),
+                (A, Weight(8), ADDED),
+                (A, Weight(9), ADDED),
+                (A, Range(0, 16), Folded(10, 9_090_900_900, Some((0, 9)))),
+            ],
+            rest: &[],
+        }],
+    },
+    Crowd {
+        shows: "four threads that take what they added at ten keys leave none of it",
+        rounds: 2,
+        bits: 4,
+        updates: 7_200,
+        tasks: (ADD_AND_SUB_AT_TEN, ADD_AND_SUB_AT_TEN, IDLE),
+        each_sees: None,
+        inserts: (3_600, 7_200),
+        members: (0, 0),
+        plays: &[],
     },
 
     // The threads meet otherwise in each round.

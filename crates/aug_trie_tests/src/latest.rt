@@ -6,8 +6,8 @@ use super::playing::Reply::{Came, Done, Finds, Is, Number};
 use super::playing::Who::{A, B, C};
 use super::rounds::Way;
 use super::rows::{Play, Row, rows};
-use aug_model::Outcome::{Accepted, Refused, Replaced};
 use aug_trie::BeginError;
+use aug_trie::Outcome::{Accepted, Refused, Replaced};
 
 // A round of 1 bit that leaves 0 alone, which weighs 0.
 pub(super) const ZERO: Play = Play {

@@ -7,10 +7,9 @@ use super::asking::{look, look_closer, seen_size, seen_weight, sees};
 use super::rounds::{Climber, Hands, Table, Walker, next_pass};
 use super::turning::{last, to_the_end, turns};
 use crate::assertions::equal;
-use aug_model::Outcome;
 use aug_monoid::{Extent, Sum};
 use aug_query::rank;
-use aug_trie::Pass;
+use aug_trie::{Outcome, Pass};
 use std::alloc::Global;
 use std::process::Abort;
 
@@ -68,6 +67,8 @@ pub(super) enum Change {
     Insert(u32),
     Remove(u32),
     Put(u32, u32),
+    Add(u32, u32),
+    Sub(u32, u32),
 }
 
 // What a lane does.
@@ -110,6 +111,8 @@ pub(super) enum Act {
     Right,
     // What a snapshot and its clone show before and after a put of 1 with this weight, or an insertion of 2 and a removal of 1.
     KeptOver(Option<u32>),
+    // What a cursor passes over a new snapshot: on from the first key, on once more after the pass took the second key out, and back.
+    PassesOver(u32, u32),
     // How many of the keys of 2 bits are members, if the sums of all are those of each key.
     AddsUp,
     // The number of the lane, and what its pass counts: insertions, removals, and updates that are left.
@@ -156,6 +159,8 @@ pub(super) fn changed(pass: &mut Pass<Sum, Extent>, universe: u32, change: Chang
         Change::Insert(k) if k < universe => Reply::Is(pass.insert(k)),
         Change::Remove(k) if k < universe => Reply::Is(pass.remove(k)),
         Change::Put(k, weight) if k < universe => Reply::Came(pass.put(k, weight)),
+        Change::Add(k, amount) if k < universe => Reply::Came(pass.add(k, amount)),
+        Change::Sub(k, amount) if k < universe => Reply::Came(pass.sub(k, amount)),
         _ => Reply::Not,
     }
 }
@@ -174,6 +179,12 @@ fn start<'r>(pass: Walker<'r>, universe: u32, change: Change) -> (Lane<'r>, Repl
         Change::Remove(k) if k < universe => (climbing(pass.start_remove(k)), Reply::Done),
         Change::Put(k, weight) if k < universe => {
             (climbing(pass.start_put(k, weight)), Reply::Done)
+        }
+        Change::Add(k, amount) if k < universe => {
+            (climbing(pass.start_add(k, amount)), Reply::Done)
+        }
+        Change::Sub(k, amount) if k < universe => {
+            (climbing(pass.start_sub(k, amount)), Reply::Done)
         }
         _ => (walking(pass), Reply::Not),
     }

@@ -7,8 +7,8 @@ use super::playing::Who::A;
 use super::resting::Ask;
 use super::rounds::Way;
 use super::rows::{Play, Row, rows};
-use aug_model::Outcome::{Accepted, Replaced};
 use aug_trie::BeginError;
+use aug_trie::Outcome::{Accepted, Replaced};
 
 const PUTS: &[Row] = &[
     // A put of the same weight replaces too.

@@ -10,8 +10,8 @@ use super::playing::Who::{A, B};
 use super::resting::Ask;
 use super::rounds::Way;
 use super::rows::{Play, Row, rows};
-use aug_model::Outcome::{Accepted, Refused, Replaced};
 use aug_trie::BeginError;
+use aug_trie::Outcome::{Accepted, Refused, Replaced};
 
 const PUTS: &[Row] = &[
     Row {

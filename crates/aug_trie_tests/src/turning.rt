@@ -11,9 +11,8 @@ use super::playing::Who::{A, B, C};
 use super::resting::{Ask, rests};
 use super::rounds::{Climber, Trie, Walker, Way};
 use super::rows::{Play, Row, played, played_from_empty, rows};
-use aug_model::Outcome;
-use aug_model::Outcome::{Accepted, Refused};
-use aug_trie::{BeginError, Turn};
+use aug_trie::Outcome::{Accepted, Refused};
+use aug_trie::{BeginError, Outcome, Turn};
 use std::alloc::Global;
 use std::process::Abort;
 

@@ -11,9 +11,9 @@ use super::resting::Ask;
 use super::rounds::{Trie, Way};
 use super::rows::{Play, Row, rows};
 use crate::assertions::equal;
-use aug_model::Outcome::Accepted;
 use aug_query::pairs;
 use aug_trie::BeginError;
+use aug_trie::Outcome::Accepted;
 use std::alloc::Global;
 
 const WIDER: &[Row] = &[

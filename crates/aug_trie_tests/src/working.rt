@@ -3,10 +3,11 @@ ghost use Rattle.std.specs.Prelude.{◌≡◌, ◌^◌, IfOk};
 ghost use Rattle.aug_trie.specs.Round.{table_of};
 
 use super::asking::{adds_up, seen_size};
-use super::playing::Change::{Insert, Put, Remove};
-use super::playing::changed;
+use super::playing::Change::{Add, Insert, Put, Remove, Sub};
+use super::playing::Reply::Came;
+use super::playing::{Change, changed};
 use super::rounds::{Half, Hands, Table, Walker, next_pass};
-use aug_trie::CrewError;
+use aug_trie::{CrewError, Outcome};
 use std::sync::Wait;
 use std::thread;
 use std::thread::Threads;
@@ -41,6 +42,10 @@ pub(super) enum Deed {
     InsertAndRemove,
     // It puts the key in with a weight that changes from call to call and from lane to lane.
     Put,
+    // It adds to the key's weight, each lane an amount of its own, and tries again if another lane came between.
+    Add,
+    // It adds to the key's weight, and takes as much of it again.
+    AddAndSub,
     // It looks whether each snapshot adds up and has no fewer members than the one before.
     Watch,
 }
@@ -51,6 +56,29 @@ pub(super) struct Task {
     pub(super) keys: u32,
     pub(super) times: u32,
     pub(super) deed: Deed,
+}
+
+// What a lane adds. A hundred of each show in the weight's decimals how often each lane added.
+fn amount_of(lane: u32) -> u32 {
+    match lane {
+        0 => 1,
+        1 => 1_000,
+        2 => 100_000,
+        _ => 10_000_000,
+    }
+}
+
+// An update until no other lane comes between.
+fn until_made(pass: &mut Walker<'_>, universe: u32, change: Change)
+    requires { universe ≡ 2 ^ pass.old.round.bits }
+    ensures { pass.new.round ≡ pass.old.round }
+{
+    let mut made = false;
+    for _ in 0..pass.budget() {
+        if !made {
+            made = changed(pass, universe, change) != Came(Outcome::Refused);
+        }
+    }
 }
 
 // One deed.
@@ -70,6 +98,15 @@ fn do_once(pass: &mut Walker<'_>, universe: u32, deed: Deed, key: u32)
             let weight = pass.budget().wrapping_mul(64_000_003);
             let weight = weight.wrapping_add(pass.lane());
             changed(pass, universe, Put(key, weight));
+        }
+        Deed::Add => {
+            let amount = amount_of(pass.lane());
+            until_made(pass, universe, Add(key, amount));
+        }
+        Deed::AddAndSub => {
+            let amount = amount_of(pass.lane());
+            until_made(pass, universe, Add(key, amount));
+            until_made(pass, universe, Sub(key, amount));
         }
         Deed::Watch => {}
     }

@@ -105,12 +105,6 @@ module _ {T V : Type 0} (holds : T → List V → Type 0) where
         ))
         (λ miss. (me.0, keeps, tt, misses s r (f (word s)) id me.1 me.0 at miss (up (word s)), ((λ hit. absurd (miss hit)), λ _. refl)))
 
-    -- the same of a seat that is as another was
-    pub tries_again : (slots id id' : ℕ) (me me' : M) → id' ≡ id → me' ≡ me → me.0.taken ≡ None → me.1 ≡ [] → Learns holds id me.0.client fact
-        → Allows Rule slots id' me' 0 (λ _. 2) (tried fact (step slots 0 2 0 none) me')
-    tries_again slots id id' me me' same_id same free empty learns = tries slots id' me' (λ _. 2) 2 0 (λ n. omega arith) (ap (λ (m : M). m.0.taken) same ∙ free) (ap (λ (m : M). m.1) same ∙ empty)
-        (subst (λ (z : ℕ × M). Learns holds z.0 z.1.0.client fact) (λ i. (sym same_id i, sym same i)) learns)
-
   module _ (then : V → T → T → V → Type 0) where
     -- the value is put back, and the word becomes 0
     pub puts : (slots id : ℕ) (me : M) (t y : T) → 0 < slots → me.0.taken ≡ Some t → me.1 ≡ (0, Some y) ∷ [] → TurnsAt holds id me.0.client t y then

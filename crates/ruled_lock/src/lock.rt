@@ -10,6 +10,10 @@ use atomic_table::{Join, Seat, Split, Table, TableRule};
 use std::alloc::{AllocError, Global};
 use std::marker::PhantomData;
 use std::sync::Wait;
+use std::time::Duration;
+
+// How many microseconds a thread that waits sleeps before it tries again.
+const PAUSE: u64 = 50;
 
 /// The rule of a lock's table: `P` is the caller's rule, which holds for the value whenever the lock is free.
 pub struct Locked<P> {
@@ -29,7 +33,7 @@ pub type Pass<T, V> = Seat<Option<T>, Holding<T, V>>;
 
 /// A value that one thread at a time holds, under a rule of the caller's.
 pub struct RuledLock<T, V, P: LockRule<T, V>> {
-    // The word is 0 if the value is in the lock, 1 if a pass holds it, and 2 if a pass holds it and a thread may sleep.
+    // The word is 0 if the value is in the lock, and 1 if a pass holds it.
     pub table: Table<Option<T>, Holding<T, V>, (), Locked<P>, Global>,
     ghost counts: { (table.shared.table_id.words ≡ 1) × (table.shared.table_id.slots ≡ 1) },
 }
@@ -122,7 +126,8 @@ impl<T, V, P: LockRule<T, V>> RuledLock<T, V, P> {
         self.table.shared.compare_exchange::<Try<M>>(pass, 0, 0, 1)
     }
 
-    // Takes the slot, and waits while another pass has it.
+    // Takes the slot, and sleeps for a while again and again as long as another pass has it. Nobody wakes it: a static library, which
+    // may wake nobody, can put values back too.
     #[inline(always)]
     pub(crate) fn wait_for<M: Lesson<T, V>, R: Wait>(&self, rt: &R, pass: &mut Pass<T, V>)
         requires lock { pass.old.table_id ≡ self.now.table.shared.table_id }
@@ -132,14 +137,12 @@ impl<T, V, P: LockRule<T, V>> RuledLock<T, V, P> {
         ensures view { client_of pass.new ≡ client_of pass.old }
         ensures holds { (t : T) × Holds t (Some t) pass.new × M.fact (client_of pass.old) t }
     {
-        if self.try_for::<M>(pass) == 0 {
-            return;
-        }
         for _ in rt.forever() {
-            if self.table.shared.swap::<Try<M>>(pass, 0, 2) == 0 {
+            if self.try_for::<M>(pass) == 0 {
                 return;
             }
-            self.table.shared.park(rt, 0, 2);
+            let pause = Duration::from_micros(PAUSE);
+            self.table.shared.park_timeout(rt, 0, 1, pause);
         }
         unreachable!()
     }
@@ -157,8 +160,6 @@ impl<T, V, P: LockRule<T, V>> RuledLock<T, V, P> {
             Some(_) => unreachable!(),
             None => {}
         }
-        if self.table.shared.swap::<Give<M>>(pass, 0, 0) == 2 {
-            self.table.shared.wake_one(0);
-        }
+        self.table.shared.swap::<Give<M>>(pass, 0, 0);
     }
 }

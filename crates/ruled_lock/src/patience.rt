@@ -52,7 +52,7 @@ impl<R: Wait> Patience for Waits<'_, R> {
 #[derive(Drop)]
 pub struct Tries;
 
-/// Shows that a value was out when a call tried to take it. Nothing but such a try makes it.
+/// Shows that a value was out when a call tried to take it. Only `Tries` makes it.
 #[derive(Clone, Copy, Debug, PartialEq, Eq)]
 pub struct WasOut {
     found: (),

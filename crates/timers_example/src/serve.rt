@@ -2,9 +2,9 @@
 ghost use Rattle.std.specs.Prelude.{◌≡◌, ◌<◌, IfOk, vec_len};
 
 use aug_live::{Handle, Live};
-use aug_model::Outcome;
 use aug_monoid::{Nothing, Sum};
 use aug_query::descent::{After, Range, Weight};
+use aug_trie::Outcome;
 use std::alloc::{AllocError, Global};
 use std::sync::Wait;
 use std::time::{Clock, Duration, Instant};

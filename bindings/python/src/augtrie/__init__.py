@@ -12,7 +12,8 @@
 
 from augtrie._augtrie import (
     AtRest, AugtrieError, BadBits, BadKey, BadLanes, BadUpdates, Closed, InRound, Lane, LanesOut, Narrower, NoLane, NoMemory, NoRoom, Open,
-    OtherRound, Report, Round, Snapshot, Span, Spent, TooLarge, Trie, __version__)
+    OtherRound, Report, Round, Snapshot, Span, Spent, TooGreat, TooLarge, TooLittle, Trie, __version__)
 
 __all__ = ["Trie", "Round", "Lane", "Snapshot", "Span", "Report", "AugtrieError", "BadKey", "Spent", "NoMemory", "BadBits", "BadLanes",
-           "BadUpdates", "TooLarge", "InRound", "AtRest", "NoLane", "LanesOut", "OtherRound", "Closed", "Open", "NoRoom", "Narrower"]
+           "BadUpdates", "TooLarge", "InRound", "AtRest", "NoLane", "LanesOut", "OtherRound", "Closed", "Open", "NoRoom", "Narrower", "TooGreat",
+           "TooLittle"]

@@ -6,10 +6,9 @@ ghost use Rattle.aug_script.specs.Script.{is_in_bounds, is_update};
 ghost use Rattle.aug_run.specs.inside.Workers.{lane_at};
 
 use crate::trie::Hand;
-use aug_model::Outcome;
 use aug_query::descent::{After, Before, Has, Range, Rank, Select, Size, Weight};
 use aug_script::{Reply, Verb};
-use aug_trie::Snapshot;
+use aug_trie::{Outcome, Snapshot};
 
 /// Runs a verb and answers it: updates on the pass, `look` by a new snapshot, and queries from the snapshot that is held.
 pub(crate) fn answer(pass: &mut Hand, held: &mut Snapshot, verb: Verb) -> Reply
@@ -65,6 +64,6 @@ fn put_reply(outcome: Outcome) -> Reply
     match outcome {
         Outcome::Accepted => Reply::New,
         Outcome::Replaced => Reply::Set,
-        Outcome::Refused => Reply::Lost,
+        _ => Reply::Lost,
     }
 }

@@ -11,7 +11,7 @@ use Rattle.aug_trie.specs.Crew.{CrewFacts}
 
 -- the crew whose seat knows this
 abbrev pub crew_facts : Known → CrewFacts
-crew_facts known = record { round = round_of known.table known.view; past = past_rounds known.view.shape known.view.past; knows = knows known.view; steps = known.view.steps; handed = unwrap_or known.view.spare 0; back = length known.view.held }
+crew_facts known = record { round = round_of known.table known.view; past = past_rounds known.view.shape known.view.past; knows = knows known.view; steps = known.view.steps; handed = unwrap_or known.view.spare 0; back = length known.view.held; words = record { shape = known.view.shape; book = known.view.seen } }
 
 module _ (face : ℕ → ℕ → List (ℕ × ℕ) → List ℕ) where
   -- the view of a lead that handed out `handed` lanes and took `back` passes back

@@ -10,10 +10,9 @@ use Rattle.aug_core.specs.declared.view.SeatView.{SeatView}
 use Rattle.aug_trie.specs.inside.RoundState.{eras_of}
 use Rattle.aug_trie.specs.inside.Goes.{Goes, Took, TookBetween, HasRoom, part_words, part_steps, try_steps, level_steps, least_rise_steps, most_rise_steps}
 use Rattle.aug_trie.specs.inside.Climbing.{Updated, FitsRequest}
-use Rattle.aug_model.specs.declared.outcome.Outcome.{Outcome}
+use Rattle.aug_trie.specs.declared.updates.outcome.Outcome.{Outcome}
 use Rattle.aug_trie.specs.inside.PassState.{IsPass}
 use Rattle.aug_trie.specs.Pass.{most_update_steps}
-use Rattle.aug_trie.specs.LeafWords.{serial_in_word}
 use Rattle.aug_trie.specs.Requests.{goes_from}
 use Rattle.aug_trie.specs.inside.Points.{TryAt, TryOver, point_turns}
 use Rattle.aug_trie.specs.declared.updates.request.Request.{Request}
@@ -98,14 +97,14 @@ module _ (face : ℕ → ℕ → List (ℕ × ℕ) → List ℕ) where
     -- its leaf was loaded, and it may exchange it
     pub record MayTry (word : ℕ) (w : SeatView) : Type 0 where
       pub loaded : BeginsAtLeaf face u key word w
-      pub lets : goes_from request (serial_in_word word) ≡ true
+      pub lets : goes_from request word ≡ true
 
     -- its leaf was loaded, and then exchanged if the serial that was found let the update continue
     pub record HasLeft (w : SeatView) : Type 0 where
       pub found : ℕ
       pub more : List StepTaken
       pub steps : w.steps ≡ u.steps ++ load_leaf key found ∷ more
-      pub tried : goes_from request (serial_in_word found) ≡ true → 1 ≤ length more
+      pub tried : goes_from request found ≡ true → 1 ≤ length more
 
     -- it is on its way, and will be a complete update when it has reached the root
     pub record IsRising (done : Outcome) (a : Ascent) (w : SeatView) : Type 0 where

@@ -34,7 +34,7 @@ module _ {A B : Type 0} (summary_of : List (ℕ × ℕ) → Summary A B) where
   stays_so p = record {
     same = refl;
     steps_stay = ([], sym (append-nil p.steps));
-    keeps = record { snapshots = λ s has. has; same_cuts = λ s has. refl; same_sets = λ s has. refl; nodes = λ node has. has };
+    keeps = record { snapshots = λ s has. has; same_cuts = λ s has. refl; same_sets = λ s has. refl; nodes = λ node has. has; weights = λ key serial weight has. has };
   }
 
   stays_on : (p q r : PassFacts) → Stays summary_of p q → Stays summary_of q r → Stays summary_of p r
@@ -46,6 +46,7 @@ module _ {A B : Type 0} (summary_of : List (ℕ × ℕ) → Summary A B) where
       same_cuts = λ s has. b.keeps.same_cuts s (a.keeps.snapshots s has) ∙ a.keeps.same_cuts s has;
       same_sets = λ s has. b.keeps.same_sets s (a.keeps.snapshots s has) ∙ a.keeps.same_sets s has;
       nodes = λ node has. b.keeps.nodes node (a.keeps.nodes node has);
+      weights = λ key serial weight has. b.keeps.weights key serial weight (a.keeps.weights key serial weight has);
     };
   }
 

@@ -20,8 +20,8 @@ use crate::rounds::half::PassHalf;
 use crate::rounds::note::Note;
 use crate::rounds::pass::Pass;
 use crate::rounds::round::Round;
+use crate::updates::outcome::Outcome;
 use crate::updates::request::Request;
-use aug_model::Outcome;
 use aug_monoid::Monoid;
 use aug_query::Query;
 use std::alloc::Global;
@@ -53,6 +53,8 @@ fn make<A: Monoid, B: Monoid>(pass: &mut Pass<'_, A, B>, key: u32, request: Requ
         Request::Insert => accepted_if(pass.insert(key)),
         Request::Remove => accepted_if(pass.remove(key)),
         Request::Put(weight) => pass.put(key, weight),
+        Request::Add(amount) => pass.add(key, amount),
+        Request::Sub(amount) => pass.sub(key, amount),
     }
 }
 

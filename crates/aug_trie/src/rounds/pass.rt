@@ -13,9 +13,9 @@ ghost use Rattle.aug_trie.specs.Snapshot.{HasSnapshot, snapshot_cut};
 
 use crate::queries::snapshot::Snapshot;
 use crate::rounds::account::Account;
+use crate::updates::outcome::Outcome;
 use crate::updates::request::Request;
 use crate::updates::update::update;
-use aug_model::Outcome;
 use aug_monoid::Monoid;
 use aug_words::WordPass;
 use std::marker::Model;
@@ -88,6 +88,40 @@ impl<'r, A: Monoid, B: Monoid> Pass<'r, A, B> {
         ensures steps { StepsOf (Request.Put weight) k result self.old self.new }
     {
         self.update(k, Request::Put(weight))
+    }
+
+    /// Adds an amount to the weight of a key. A key that is no member weighs nothing, and goes in with the amount.
+    ///
+    /// `Accepted` if this call put the key in. `Replaced` if it was a member: then it weighs the amount more than in the state just before, and that
+    /// counts as a removal and an insertion, as with `put`. `TooGreat` if the sum does not fit 32 bits. `Refused` if another change of the key came
+    /// in meanwhile. After these two nothing is stored.
+    #[inline(never)]
+    pub fn add(&mut self, k: u32, amount: u32) -> Outcome
+        requires key { k < 2 ^ self.old.round.bits }
+        requires budget { self.old.spent < self.old.round.updates }
+        ensures adds { ComesTo (Request.Add amount) k result self.old.knows self.new.knows }
+        ensures goes_on { (steps : ℕ) × GoesOn 1 steps self.old self.new }
+        ensures keeps { Keeps (summary_of A.parts B.parts) self.old self.new }
+        ensures steps { StepsOf (Request.Add amount) k result self.old self.new }
+    {
+        self.update(k, Request::Add(amount))
+    }
+
+    /// Takes an amount from the weight of a member. A member of whose weight nothing is left goes out.
+    ///
+    /// `Accepted` if this call took the key out. `Replaced` if the key weighs the amount less than in the state just before, and is still a member.
+    /// `TooLittle` if it is no member, or weighs less than the amount. `Refused` if another change of the key came in meanwhile. After these two
+    /// nothing is stored.
+    #[inline(never)]
+    pub fn sub(&mut self, k: u32, amount: u32) -> Outcome
+        requires key { k < 2 ^ self.old.round.bits }
+        requires budget { self.old.spent < self.old.round.updates }
+        ensures subs { ComesTo (Request.Sub amount) k result self.old.knows self.new.knows }
+        ensures goes_on { (steps : ℕ) × GoesOn 1 steps self.old self.new }
+        ensures keeps { Keeps (summary_of A.parts B.parts) self.old self.new }
+        ensures steps { StepsOf (Request.Sub amount) k result self.old self.new }
+    {
+        self.update(k, Request::Sub(amount))
     }
 
     // Makes an update of a key.

@@ -1,7 +1,7 @@
 //! Updates by single turns.
 ghost use Rattle.std.specs.Prelude.{◌≡◌, ℕ, ◌+◌, ◌-◌, ◌*◌, ◌^◌, ◌<◌, ◌≤◌};
 ghost use Rattle.aug_model.specs.Folds.{summary_of};
-ghost use Rattle.aug_model.specs.declared.outcome.Outcome.{Outcome as Told};
+ghost use Rattle.aug_trie.specs.declared.updates.outcome.Outcome.{Outcome as Told};
 ghost use Rattle.aug_core.specs.Layout.{IsWithin};
 ghost use Rattle.aug_trie.specs.Pass.{PassFacts, most_update_steps};
 ghost use Rattle.aug_trie.specs.inside.Goes.{part_words, try_steps};
@@ -16,10 +16,10 @@ use crate::rounds::pass::Pass;
 use crate::turns::ascents::Ascent;
 use crate::turns::points::{Point, READING_WORDS};
 use crate::turns::stages::{Next, Stage, next_stage};
+use crate::updates::outcome::Outcome;
 use crate::updates::parts::PART_WORDS;
 use crate::updates::refreshing::PUBLISH_STEPS;
 use crate::updates::request::Request;
-use aug_model::Outcome;
 use aug_monoid::Monoid;
 use aug_words::WordPass;
 use std::marker::Model;
@@ -53,7 +53,7 @@ impl<'r, A: Monoid, B: Monoid> Model for Climb<'r, A, B> {
 pub enum Turn<'r, A: Monoid, B: Monoid> {
     /// There is more to do.
     More(Climb<'r, A, B>),
-    /// The update is done: its pass, and its outcome. Only a put can be `Replaced`.
+    /// The update is done: its pass, and its outcome.
     Done(Pass<'r, A, B>, Outcome),
 }
 
@@ -83,6 +83,24 @@ impl<'r, A: Monoid, B: Monoid> Pass<'r, A, B> {
         ensures { BeginsClimb (Request.Put weight) k self.entry result }
     {
         start(self, k, Request::Put(weight))
+    }
+
+    /// Begins to add to the weight of a key, as `add`, turn by turn. No step is made yet.
+    pub fn start_add(self, k: u32, amount: u32) -> Climb<'r, A, B>
+        requires key { k < 2 ^ self.round.bits }
+        requires budget { self.spent < self.round.updates }
+        ensures { BeginsClimb (Request.Add amount) k self.entry result }
+    {
+        start(self, k, Request::Add(amount))
+    }
+
+    /// Begins to take from the weight of a key, as `sub`, turn by turn. No step is made yet.
+    pub fn start_sub(self, k: u32, amount: u32) -> Climb<'r, A, B>
+        requires key { k < 2 ^ self.round.bits }
+        requires budget { self.spent < self.round.updates }
+        ensures { BeginsClimb (Request.Sub amount) k self.entry result }
+    {
+        start(self, k, Request::Sub(amount))
     }
 }
 

@@ -8,9 +8,9 @@ ghost use Rattle.aug_trie.specs.Requests.{word_after as word_of_request};
 ghost use Rattle.aug_trie.specs.inside.Stages.{StageAt, Climbs, StageFalls};
 
 use crate::turns::ascents::{Ascent, ascend};
+use crate::updates::outcome::Outcome;
 use crate::updates::request::Request;
-use crate::updates::update::{goes_on, outcome_of, word_after};
-use aug_model::Outcome;
+use crate::updates::update::{at_once, goes_on, outcome_of, word_after};
 use aug_monoid::Monoid;
 use aug_words::WordPass;
 
@@ -59,7 +59,7 @@ pub(crate) fn next_stage<A: Monoid, B: Monoid>(
             if goes_on(request, word) {
                 Next::More(Stage::Change(word))
             } else {
-                Next::More(Stage::Up(Outcome::Refused, Ascent::from_leaf(leaves, leaf)))
+                Next::More(Stage::Up(at_once(request), Ascent::from_leaf(leaves, leaf)))
             }
         }
         Stage::Change(word) => {

@@ -2,7 +2,7 @@
 ghost use Rattle.std.specs.Prelude.{◌≡◌, ◌≤◌};
 ghost use Rattle.aug_trie.specs.inside.Counted.{insertions_by as insertions, removals_by as removals};
 
-use aug_model::Outcome;
+use crate::updates::outcome::Outcome;
 
 /// What an update does to its key.
 #[derive(Clone, Copy)]
@@ -13,6 +13,10 @@ pub enum Request {
     Remove,
     /// It puts the key in with this weight, or gives this weight to it if it is there.
     Put(u32),
+    /// It adds this amount to the weight of the key, and puts the key in with it if it is not there. An amount of 0 changes nothing.
+    Add(u32),
+    /// It takes this amount from the weight of the key, and takes the key out if nothing of it is left. An amount of 0 changes nothing.
+    Sub(u32),
 }
 
 // How many insertions it is that came to this.
@@ -22,8 +26,9 @@ pub(crate) fn insertions_by(request: Request, outcome: Outcome) -> u32
     ensures few { result ≤ 1 }
 {
     match (request, outcome) {
-        (_, Outcome::Refused) | (Request::Remove, Outcome::Accepted) => 0,
-        _ => 1,
+        (_, Outcome::Replaced) => 1,
+        (Request::Insert | Request::Put(_) | Request::Add(_), Outcome::Accepted) => 1,
+        _ => 0,
     }
 }
 
@@ -34,7 +39,8 @@ pub(crate) fn removals_by(request: Request, outcome: Outcome) -> u32
     ensures few { result ≤ 1 }
 {
     match (request, outcome) {
-        (_, Outcome::Replaced) | (Request::Remove, Outcome::Accepted) => 1,
+        (_, Outcome::Replaced) => 1,
+        (Request::Remove | Request::Sub(_), Outcome::Accepted) => 1,
         _ => 0,
     }
 }

@@ -3,37 +3,53 @@ ghost use Rattle.std.specs.Prelude.{◌≡◌, ℕ, ◌+◌, ◌*◌, ◌^◌, �
 ghost use Rattle.aug_core.specs.Faces.{face};
 ghost use Rattle.aug_core.specs.Counts.{changes_of};
 ghost use Rattle.aug_core.specs.Told.{KnowsTable};
-ghost use Rattle.aug_model.specs.declared.outcome.Outcome.TheVariants as outcome;
+ghost use Rattle.aug_trie.specs.declared.updates.outcome.Outcome.TheVariants as outcome;
 ghost use Rattle.aug_trie.specs.inside.Climbing.{Updated, FitsRequest};
 ghost use Rattle.aug_trie.specs.inside.Goes.{HasLeaves, HasRoom};
 ghost use Rattle.aug_trie.specs.LeafWords.{serial_in_word};
-ghost use Rattle.aug_trie.specs.Requests.{goes_from, outcome_by, word_after as word_of_request};
+ghost use Rattle.aug_trie.specs.Requests.{goes_from, outcome_by, outcome_at_once, word_after as word_of_request};
 
 use crate::updates::climbing::propagate;
-use crate::updates::leaf_words::{leaf_serial, leaf_word};
+use crate::updates::leaf_words::{leaf_serial, leaf_weight, leaf_word};
+use crate::updates::outcome::Outcome;
 use crate::updates::request::Request;
-use aug_model::Outcome;
 use aug_monoid::Monoid;
 use aug_words::WordPass;
 
 // Whether an update goes on from a leaf with this word.
 #[inline(always)]
 pub(crate) fn goes_on(request: Request, word: u64) -> bool
-    ensures { result ≡ goes_from request (serial_in_word word) }
+    ensures { result ≡ goes_from request word }
 {
     let odd = leaf_serial(word) % 2 == 1;
     match request {
         Request::Insert => !odd,
         Request::Remove => odd,
         Request::Put(_) => true,
+        Request::Add(amount) => amount > 0 && amount <= u32::MAX - leaf_weight(word),
+        Request::Sub(amount) => amount > 0 && odd && amount <= leaf_weight(word),
     }
 }
 
-// The word that an update makes of that of its leaf. If the key of a put is there, the serial goes past the removal to the insertion
-// after it, so that no word ever says that the key was gone.
+// What an update comes to that does not go on.
+#[inline(always)]
+pub(crate) fn at_once(request: Request) -> Outcome
+    ensures { result ≡ outcome_at_once request }
+{
+    match request {
+        Request::Add(0) | Request::Sub(0) => Outcome::Unchanged,
+        Request::Add(_) => Outcome::TooGreat,
+        Request::Sub(_) => Outcome::TooLittle,
+        _ => Outcome::Refused,
+    }
+}
+
+// The word that an update makes of that of its leaf. If a key that is there gets another weight, the serial goes past the removal to the
+// insertion after it, so that no word ever says that the key was gone.
 #[inline(always)]
 pub(crate) fn word_after(request: Request, key: u32, word: u64) -> u64
-    requires { serial_in_word word < 2 ^ 31 }
+    requires few { serial_in_word word < 2 ^ 31 }
+    requires lets { goes_from request word ≡ true }
     ensures { result ≡ word_of_request request key word }
 {
     let serial = leaf_serial(word);
@@ -41,6 +57,11 @@ pub(crate) fn word_after(request: Request, key: u32, word: u64) -> u64
         Request::Insert => leaf_word(serial + 1, key),
         Request::Remove => leaf_word(serial + 1, 0),
         Request::Put(weight) => leaf_word(serial + 1 + serial % 2, weight),
+        Request::Add(amount) => leaf_word(serial + 1 + serial % 2, leaf_weight(word) + amount),
+        Request::Sub(amount) if amount < leaf_weight(word) => {
+            leaf_word(serial + 2, leaf_weight(word) - amount)
+        }
+        Request::Sub(_) => leaf_word(serial + 1, 0),
     }
 }
 
@@ -51,12 +72,13 @@ pub(crate) fn outcome_of(request: Request, word: u64, done: bool) -> Outcome
 {
     match request {
         _ if !done => Outcome::Refused,
-        Request::Put(_) if leaf_serial(word) % 2 == 1 => Outcome::Replaced,
+        Request::Put(_) | Request::Add(_) if leaf_serial(word) % 2 == 1 => Outcome::Replaced,
+        Request::Sub(amount) if amount < leaf_weight(word) => Outcome::Replaced,
         _ => Outcome::Accepted,
     }
 }
 
-// Changes the leaf of a key as it is asked to, unless its serial refuses that, and brings what it is then to the root, whatever it is. The
+// Changes the leaf of a key as it is asked to, unless its word refuses that, and brings what it is then to the root, whatever it is. The
 // pass goes by value, so that all its steps keep it in registers.
 #[inline(always)]
 pub(crate) fn update<'r, A: Monoid, B: Monoid>(
@@ -84,7 +106,7 @@ pub(crate) fn update<'r, A: Monoid, B: Monoid>(
     if !goes_on(request, word) {
         return (
             propagate(pass, leaves, bits, leaf, number),
-            Outcome::Refused,
+            at_once(request),
         );
     }
     let done = pass.try_leaf(leaf, word, word_after(request, key, word));

@@ -1,7 +1,7 @@
 use Rattle.std.proofs.Common.{◌≡◌, ◌≤◌, ℕ, take}
 use Rattle.std.specs.List.{zip}
 use Rattle.aug_model.specs.Folds.{summary_of}
-use Rattle.aug_model.specs.declared.outcome.Outcome.{Outcome}
+use Rattle.aug_trie.specs.declared.updates.outcome.Outcome.{Outcome}
 use Rattle.aug_trie.specs.declared.updates.request.Request.TheVariants as request
 use Rattle.aug_lane.specs.EachInTurn.{Updates}
 use Rattle.aug_trie.specs.Owned.{OneUpdate}

@@ -1,6 +1,6 @@
 use Rattle.std.proofs.Common.{rules, ◌∙◌, ◌+◌, ℕ, take, get_or, refl, sym, subst, arith}
 use Rattle.aug_model.specs.Folds.{summary_of}
-use Rattle.aug_model.specs.declared.outcome.Outcome.{Outcome}
+use Rattle.aug_trie.specs.declared.updates.outcome.Outcome.{Outcome}
 use Rattle.aug_lane.specs.EachInTurn.{UpdatesEach}
 use Rattle.aug_trie.specs.Owned.{OneUpdate}
 use Rattle.aug_lane.proofs.Turns.{updates_more}

@@ -1,7 +1,7 @@
 use Rattle.std.proofs.Common.{◌≡◌, ℕ, List, Result, Ok, Err, IfOk, IfErr, ap}
 use Rattle.aug_monoid.specs.declared.sum.Sum.{Sum}
 use Rattle.aug_monoid.specs.declared.extent.Extent.{Extent}
-use Rattle.aug_model.specs.declared.outcome.Outcome.{Outcome}
+use Rattle.aug_trie.specs.declared.updates.outcome.Outcome.{Outcome}
 use Rattle.aug_model.specs.declared.summary.Summary.{Summary}
 use Rattle.aug_trie.specs.Owned.{OneUpdate}
 use Rattle.aug_trie.specs.Pass.{PassFacts}

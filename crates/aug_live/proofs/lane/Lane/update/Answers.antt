@@ -1,7 +1,7 @@
 use Rattle.std.proofs.Common.{◌∙◌, true, ap, sym, subst, rules}
 use Rattle.std.specs.Prelude.{Result, IfOk}
 use Rattle.aug_core.specs.Prefixes.{IsPrefix}
-use Rattle.aug_model.specs.declared.outcome.Outcome.{Outcome}
+use Rattle.aug_trie.specs.declared.updates.outcome.Outcome.{Outcome}
 use Rattle.aug_model.specs.Folds.{summary_of}
 use Rattle.aug_trie.specs.Owned.{OneUpdate}
 use Rattle.aug_trie.specs.declared.error.UpdateError.{UpdateError}

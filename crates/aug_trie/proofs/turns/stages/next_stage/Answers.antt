@@ -17,7 +17,7 @@ ascend-requires-clause-on_way g c = let t = stage_is (face g.A.Monoid.parts g.B.
 
 pub returns-else-goes_on-clause-on : goal.returns-else-goes_on-clause-on
 returns-else-goes_on-clause-on g c = λ left u t. let f = face g.A.Monoid.parts g.B.Monoid.parts in let is = c.from_leaf.ensures in
-    begun_up f (stage_is f c.in-Leaf.is t) c.begin_at_leaf-word.ensures.view c.from_leaf.result (sym c.goes_on.ensures ∙ c.if-goes_on.false) is.level is.node is.second is.point
+    begun_up f (stage_is f c.in-Leaf.is t) c.begin_at_leaf-word.ensures.view c.at_once.result c.from_leaf.result (sym c.goes_on.ensures ∙ c.if-goes_on.false) c.at_once.ensures is.level is.node is.second is.point
 
 pub returns-in-Change-clause-on : goal.returns-in-Change-clause-on
 returns-in-Change-clause-on g c = λ left u t. let f = face g.A.Monoid.parts g.B.Monoid.parts in let is = c.from_leaf-in-Change.ensures in
@@ -34,8 +34,8 @@ returns-in-Change-clause-second g c = λ word is. let f = face g.A.Monoid.parts 
     let tried = subst (λ (z : ℕ). TriedLeaf f old c.args.key c.in-Change.word z c.try_leaf-done.result w) c.word_after.ensures c.try_leaf-done.ensures.view in
     subst (λ (z : ℕ). (x : ℕ) × (w.steps ≡ old.steps ++ try_leaf c.args.key z (word_after c.args.request c.args.key z) x ∷ [])) (ap exchanged_word (sym c.in-Change.is ∙ is)) (tried.found, tried_steps f (stage_is f c.in-Change.is c.requires.at.2) tried)
 
-pub word_after-requires : goal.word_after-requires
-word_after-requires g c = let f = face g.A.Monoid.parts g.B.Monoid.parts in low_serial f (stage_is f c.in-Change.is c.requires.at.2)
+pub word_after-requires-clause-few : goal.word_after-requires-clause-few
+word_after-requires-clause-few g c = let f = face g.A.Monoid.parts g.B.Monoid.parts in low_serial f (stage_is f c.in-Change.is c.requires.at.2)
 
 pub try_leaf-done-requires-clause-advance : goal.try_leaf-done-requires-clause-advance
 try_leaf-done-requires-clause-advance g c = let f = face g.A.Monoid.parts g.B.Monoid.parts in
@@ -52,3 +52,6 @@ returns-in-None-clause-on g c = λ left u t. let f = face g.A.Monoid.parts g.B.M
 
 pub returns-then-goes_on-clause-on : goal.returns-then-goes_on-clause-on
 returns-then-goes_on-clause-on g c = λ left u t. let f = face g.A.Monoid.parts g.B.Monoid.parts in begun_change f (stage_is f c.in-Leaf.is t) c.begin_at_leaf-word.ensures.view (sym c.goes_on.ensures ∙ c.if-goes_on.true)
+
+pub word_after-requires-clause-lets : goal.word_after-requires-clause-lets
+word_after-requires-clause-lets g c = let f = face g.A.Monoid.parts g.B.Monoid.parts in (stage_is f c.in-Change.is c.requires.at.2).is_stage.lets

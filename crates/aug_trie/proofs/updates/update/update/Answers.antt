@@ -1,8 +1,9 @@
-use Rattle.std.proofs.Common.{arith, subst, sym, ◌∙◌, []}
+use Rattle.std.proofs.Common.{arith, subst, sym, ◌+◌, ◌∙◌, []}
 use Rattle.aug_core.specs.Faces.{face}
 use Rattle.aug_core.specs.Places.{Shape}
 use Rattle.aug_core.specs.declared.view.SeatView.{SeatView}
 use Rattle.aug_words.specs.Seats.{MayAdvance}
+use Rattle.aug_trie.specs.inside.Climbing.{Updated}
 use Rattle.aug_trie.specs.inside.Goes.{HasLeaves}
 use Rattle.aug_trie.proofs.Updating.{goes_begun, advances, serial_few, may_rise, refused_at_once, leaf_tried}
 use Rattle.aug_trie.proofs.updates.update.update.Goals as goal
@@ -13,11 +14,11 @@ propagate-requires-clause-rises g c = let f = face g.A.Monoid.parts g.B.Monoid.p
 
 pub returns-then-not-goes_on-clause-updated : goal.returns-then-not-goes_on-clause-updated
 returns-then-not-goes_on-clause-updated g c = let f = face g.A.Monoid.parts g.B.Monoid.parts in let is = c.requires.bits in let some = c.requires.knows.laid_out.bits.0 in
-    refused_at_once f c.args.pass.view c.begin_at_leaf-word.new.self.view c.args.key c.begin_at_leaf-word.result c.args.request c.args.bits c.args.number c.requires.key is (omega arith) c.requires.knows c.begin_at_leaf-word.ensures.view c.propagate.result.view
-    (sym c.goes_on.ensures ∙ c.if-not-goes_on.true) c.propagate.ensures.risen
+    subst (Updated f (c.args.number + c.args.bits) c.args.pass.view c.args.key c.args.request c.propagate.result.view) (sym c.at_once.ensures) (refused_at_once f c.args.pass.view c.begin_at_leaf-word.new.self.view c.args.key c.begin_at_leaf-word.result c.args.request c.args.bits c.args.number c.requires.key is (omega arith) c.requires.knows c.begin_at_leaf-word.ensures.view c.propagate.result.view
+    (sym c.goes_on.ensures ∙ c.if-not-goes_on.true) c.propagate.ensures.risen)
 
-pub word_after-requires : goal.word_after-requires
-word_after-requires g c = serial_few (face g.A.Monoid.parts g.B.Monoid.parts) c.args.pass.view c.begin_at_leaf-word.new.self.view c.args.key c.begin_at_leaf-word.result c.requires.key c.requires.knows c.begin_at_leaf-word.ensures.view
+pub word_after-requires-clause-few : goal.word_after-requires-clause-few
+word_after-requires-clause-few g c = serial_few (face g.A.Monoid.parts g.B.Monoid.parts) c.args.pass.view c.begin_at_leaf-word.new.self.view c.args.key c.begin_at_leaf-word.result c.requires.key c.requires.knows c.begin_at_leaf-word.ensures.view
 
 pub try_leaf-done-requires-clause-advance : goal.try_leaf-done-requires-clause-advance
 try_leaf-done-requires-clause-advance g c = let w0 : SeatView = c.begin_at_leaf-word.new.self.view in let word = c.begin_at_leaf-word.result in subst (MayAdvance w0 c.args.key word) (sym c.word_after.ensures)
@@ -34,3 +35,6 @@ returns-clause-updated g c = (leaf_tried (face g.A.Monoid.parts g.B.Monoid.parts
 pub propagate-requires-2-clause-leaves : goal.propagate-requires-2-clause-leaves
 propagate-requires-2-clause-leaves g c = subst (λ (z : Shape). HasLeaves z c.args.leaves) (sym (leaf_tried (face g.A.Monoid.parts g.B.Monoid.parts) c.args.request c.requires.key c.requires.bits c.requires.knows c.requires.room c.begin_at_leaf-word.ensures.view
     c.requires.fits (sym c.goes_on.ensures ∙ c.if-not-goes_on.false) c.word_after.ensures c.try_leaf-done.ensures.view).same_shape) c.requires.leaves
+
+pub word_after-requires-clause-lets : goal.word_after-requires-clause-lets
+word_after-requires-clause-lets g c = sym c.goes_on.ensures ∙ c.if-not-goes_on.false

@@ -9,7 +9,7 @@ use Rattle.aug_core.specs.declared.view.SeatView.{SeatView}
 use Rattle.aug_words.specs.Seats.{Known}
 use Rattle.aug_trie.specs.inside.Knows.{knows}
 use Rattle.aug_trie.specs.inside.RoundState.{round_of, past_rounds, facts_of}
-use Rattle.aug_trie.specs.inside.CrewState.{HoldsCrew}
+use Rattle.aug_trie.specs.inside.CrewState.{HoldsCrew, crew_facts}
 use Rattle.aug_trie.proofs.Crews.{begins_crew, begins_history}
 use Rattle.aug_trie.proofs.rounds.round.Round.over.Goals as goal
 
@@ -29,5 +29,5 @@ returns g c = let f = face g.A.Monoid.parts g.B.Monoid.parts in let e = c.in_ok-
     record {
       round_is = λ j. round_of (tog.one_table j) (is j);
       together = λ j. facts_of (record { table = tog.one_table j; shape = tog.one_shape j });
-      crew_is = λ j. record { round = round_of lead.table lead.view; past = none_before j; knows = opening j; steps = lead.view.steps; handed = none_out j; back = none_back j };
+      crew_is = λ j. record { round = round_of lead.table lead.view; past = none_before j; knows = opening j; steps = lead.view.steps; handed = none_out j; back = none_back j; words = (crew_facts lead).words };
     }

@@ -17,7 +17,7 @@ use Rattle.aug_trie.specs.Round.{TableFacts, RoundFacts}
 use Rattle.aug_trie.specs.inside.CrewState.{crew_facts}
 use Rattle.aug_trie.specs.inside.RoundState.{round_of, past_rounds}
 use Rattle.aug_trie.proofs.Endings.{none_left, round_ended}
-use Rattle.aug_trie.proofs.RollingOver.{next_crew, next_round, next_facts, last_crew, last_is, last_goes_on, last_changes, last_loads, over_now}
+use Rattle.aug_trie.proofs.RollingOver.{next_crew, next_round, next_facts, last_crew, last_is, last_goes_on, last_weights, last_changes, last_loads, over_now}
 use Rattle.aug_trie.proofs.RoundLemmas.{of_round}
 use Rattle.aug_trie.proofs.rounds.round.Round.renew.Goals as goal
 
@@ -66,6 +66,7 @@ returns-clause-rolls g c =
     record {
       last = after;
       last_is = is;
+      weights = last_weights f lead c.args.crew back inserts removals lists.root last c.crew.view_is holds lists.loaded;
       goes_on = last_goes_on f lead c.args.crew back inserts removals lists.root last c.crew.view_is holds lists.loaded;
       same_changes = last_changes f lead c.args.crew back inserts removals lists.root last c.crew.view_is holds lists.loaded;
       loads = (lists.root, last_loads f lead c.args.crew back inserts removals lists.root last c.crew.view_is holds lists.loaded);
@@ -77,5 +78,5 @@ returns-clause-rolls g c =
       inserts_are = refl;
       removals_are = refl;
       round_is = round ∙ (λ j. record now { era = now.era + 1; members = stored j });
-      crew_is = facts ∙ (λ j. record { round = round_of next.table next.view; past = over j; knows = record { history = opening_cut (bits j) (stored j) ∷ []; accepted = [] }; steps = next.view.steps; handed = 0; back = 0 });
+      crew_is = facts ∙ (λ j. record { round = round_of next.table next.view; past = over j; knows = record { history = opening_cut (bits j) (stored j) ∷ []; accepted = [] }; steps = next.view.steps; handed = 0; back = 0; words = (crew_facts next).words });
     }

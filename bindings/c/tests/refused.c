@@ -18,22 +18,24 @@ void *__wrap_malloc(size_t n) {
     printf("%-28s refused %ld times\n", #call, n_); } while (0)
 
 int main(void) {
-    aug_trie trie = {0};
-    aug_lane lane = {0};
+    aug_trie trie = AUG_ZEROED;
+    aug_user user = AUG_ZEROED, next = AUG_ZEROED;
     aug_report report;
-    EACH(aug_open(&trie, 6, 1), 0);
-    EACH(aug_begin(&trie, 6, 2, 64), 0);
-    EACH(aug_open_lane(&trie, &lane), 0);
-    for (uint32_t k = 0; k < 64; k += 3) EACH(aug_insert(&lane, k), 1);
-    EACH(aug_give_back(&trie, &lane), 0);
-    EACH(aug_end(&trie, &report), 0);
-    EACH(aug_begin(&trie, 6, 1, 1), 0);
-    EACH(aug_open_lane(&trie, &lane), 0);
-    for (uint32_t i = 0; i < 22; i++) if (aug_select(&lane, i) != 3 * i) return 1;
-    EACH(aug_give_back(&trie, &lane), 0);
-    EACH(aug_end(&trie, &report), 0);
+    EACH(aug_open(&trie, 6, 2, 8000), 0);
+    EACH(aug_user_open(&trie, &user), 0);
+    /* The updates go through many rounds of so small a table, and take no memory. */
+    for (uint32_t i = 0; i < 10; i++)
+        for (uint32_t k = 0; k < 64; k++) EACH(i % 2 ? aug_remove(&user, k) : aug_insert(&user, k), 1);
+    for (uint32_t k = 0; k < 64; k += 3) EACH(aug_put(&user, k, k), 1);
+    EACH(aug_look(&user), 0);
+    for (uint32_t i = 0; i < 22; i++) if (aug_select(&user, i) != 3 * i) return 1;
+    EACH(aug_user_close(&user), 0);
+    EACH(aug_user_open(&trie, &next), 0);
+    EACH(aug_user_open(&trie, &user), 0);
+    EACH(aug_close(&trie, &report), 0);
+    EACH(aug_user_close(&next), 0);
+    EACH(aug_user_close(&user), 0);
     if (report.size != 22) return 1;
-    aug_close(&trie);
     printf("ok: %lu refused\n", refused);
     return 0;
 }

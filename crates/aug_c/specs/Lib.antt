@@ -1,7 +1,7 @@
-pub mod LaneHolding
+pub mod UserHolding
 pub mod TrieHolding
 pub mod Codes
 pub mod Handles
-pub mod LaneCalls
+pub mod UserCalls
 pub mod TrieCalls
 pub mod inside

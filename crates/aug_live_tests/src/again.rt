@@ -1,6 +1,8 @@
 //! Calls that wait for nobody, made again until they are done. They come to what the calls that wait do.
 
-use super::opening::{Hand, Trie, View, try_closed, try_look, try_renewed, try_rolled, try_update};
+use super::opening::{
+    HandleOf, LiveOf, LookOf, try_closed, try_look, try_renewed, try_rolled, try_update,
+};
 use aug_live::{LiveError, TryError};
 use aug_trie::{Outcome, Request};
 use std::sync::Wait;
@@ -9,7 +11,7 @@ use std::thread::yield_now;
 /// An update: whether this call made it.
 pub(super) fn update<R: Wait>(
     rt: &R,
-    hand: &mut Hand,
+    hand: &mut HandleOf,
     k: u32,
     request: Request,
 ) -> Result<bool, LiveError> {
@@ -24,7 +26,7 @@ pub(super) fn update<R: Wait>(
 }
 
 /// A look, or the handle with why there is none.
-pub(super) fn look<R: Wait>(rt: &R, hand: Hand) -> Result<View, (Hand, LiveError)> {
+pub(super) fn look<R: Wait>(rt: &R, hand: HandleOf) -> Result<LookOf, (HandleOf, LiveError)> {
     let mut hand = hand;
     for _ in rt.forever() {
         match try_look(hand) {
@@ -40,7 +42,7 @@ pub(super) fn look<R: Wait>(rt: &R, hand: Hand) -> Result<View, (Hand, LiveError
 }
 
 /// A new handle for a lane.
-pub(super) fn renew<R: Wait>(rt: &R, live: &mut Trie, lane: u32) -> Result<Hand, LiveError> {
+pub(super) fn renew<R: Wait>(rt: &R, live: &mut LiveOf, lane: u32) -> Result<HandleOf, LiveError> {
     for _ in rt.forever() {
         match try_renewed(live, lane) {
             Ok(hand) => return Ok(hand),
@@ -52,7 +54,7 @@ pub(super) fn renew<R: Wait>(rt: &R, live: &mut Trie, lane: u32) -> Result<Hand,
 }
 
 /// Rolls the round over.
-pub(super) fn roll<R: Wait>(rt: &R, live: &mut Trie) -> Result<(), LiveError> {
+pub(super) fn roll<R: Wait>(rt: &R, live: &mut LiveOf) -> Result<(), LiveError> {
     for _ in rt.forever() {
         match try_rolled(live) {
             Ok(()) => return Ok(()),
@@ -64,7 +66,7 @@ pub(super) fn roll<R: Wait>(rt: &R, live: &mut Trie) -> Result<(), LiveError> {
 }
 
 /// How many members a trie has at its end, its rounds, and how many keys were put in, as `closed` says it.
-pub(super) fn close<R: Wait>(rt: &R, live: Trie) -> Result<(u32, u64, u64), LiveError> {
+pub(super) fn close<R: Wait>(rt: &R, live: LiveOf) -> Result<(u32, u64, u64), LiveError> {
     let mut live = live;
     for _ in rt.forever() {
         match try_closed(live) {

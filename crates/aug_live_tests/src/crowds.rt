@@ -1,6 +1,6 @@
 //! More handles than a few: each of them goes on over roll-overs, and behind calls that are refused.
 
-use super::opening::{Hand, Trie, insert, last, looked, opened, over, renewed, rolled, size};
+use super::opening::{HandleOf, LiveOf, insert, last, looked, opened, over, renewed, rolled, size};
 use super::steps::fill;
 use crate::assertions::{equal, holds};
 use aug_live::LiveError;
@@ -61,7 +61,7 @@ const CROWDS: &[Crowd] = &[
 ];
 
 // Each handle puts two keys in: the first one this key and the next, and each other one the two keys after those of the one before it.
-fn each_inserts<R: Wait + Abort>(rt: &R, hands: &mut [Hand], from: u32) {
+fn each_inserts<R: Wait + Abort>(rt: &R, hands: &mut [HandleOf], from: u32) {
     let mut k = from;
     for hand in hands.iter_mut() {
         equal(rt, fill(rt, hand, k, 2), 2);
@@ -70,7 +70,12 @@ fn each_inserts<R: Wait + Abort>(rt: &R, hands: &mut [Hand], from: u32) {
 }
 
 // Calls that are refused: a lane is asked for that is not there, and the handle of the last lane makes an update once a new one has its place.
-fn are_refused<R: Wait + Abort>(rt: &R, live: &mut Trie, hands: &mut Vec<Hand>, handles: u32) {
+fn are_refused<R: Wait + Abort>(
+    rt: &R,
+    live: &mut LiveOf,
+    hands: &mut Vec<HandleOf>,
+    handles: u32,
+) {
     let refused = renewed(rt, live, handles);
     equal(rt, refused.err(), Some(LiveError::NoLane));
     let mut old = last(rt, hands);
@@ -80,7 +85,7 @@ fn are_refused<R: Wait + Abort>(rt: &R, live: &mut Trie, hands: &mut Vec<Hand>, 
 }
 
 // Each handle has a look, which shows so many members.
-fn each_sees<R: Wait + Abort>(rt: &R, hands: Vec<Hand>, members: u32) {
+fn each_sees<R: Wait + Abort>(rt: &R, hands: Vec<HandleOf>, members: u32) {
     for hand in hands {
         let mut look = looked(rt, hand);
         equal(rt, size(&mut look), members);

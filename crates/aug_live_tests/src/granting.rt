@@ -1,7 +1,7 @@
 //! Tries that are opened while there is enough memory: none is refused for want of it, whatever its numbers and its set are.
 ghost use Rattle.std.specs.Prelude.{◌≤◌};
 
-use super::opening::{Hand, Trie, last, no_keys};
+use super::opening::{HandleOf, LiveOf, last, no_keys};
 use super::planning::words_of;
 use super::steps::fill;
 use crate::assertions::equal;
@@ -13,7 +13,7 @@ use std::process::Abort;
 use std::sync::Wait;
 
 // The set that a trie with so many handles closes with.
-fn closed<R: Wait + Abort>(rt: &R, opened: (Trie, Vec<Hand>), handles: u32) -> Members {
+fn closed<R: Wait + Abort>(rt: &R, opened: (LiveOf, Vec<HandleOf>), handles: u32) -> Members {
     let (live, hands) = opened;
     equal(rt, hands.len(), handles as usize);
     drop(hands);
@@ -207,7 +207,12 @@ fn no_trie_is_refused_for_its_updates(rt: HostRuntime) -> Result<(), BeginError>
 }
 
 // The last handle of a trie puts keys in: the set after that.
-fn filled<R: Wait + Abort>(rt: &R, opened: (Trie, Vec<Hand>), from: u32, count: u32) -> Members {
+fn filled<R: Wait + Abort>(
+    rt: &R,
+    opened: (LiveOf, Vec<HandleOf>),
+    from: u32,
+    count: u32,
+) -> Members {
     let (live, mut hands) = opened;
     let mut hand = last(rt, &mut hands);
     equal(rt, fill(rt, &mut hand, from, count), count);

@@ -1,6 +1,8 @@
 //! A look that is held while another thread's roll-over waits for it.
 
-use super::opening::{Hand, closed, insert, last, looked, opened, over, size, take_newer_snapshot};
+use super::opening::{
+    HandleOf, closed, insert, last, looked, opened, over, size, take_newer_snapshot,
+};
 use super::steps::fill;
 use crate::assertions::{equal, holds};
 use aug_trie::BeginError;
@@ -16,7 +18,7 @@ pub(super) fn signal(rt: &impl Abort, alloc: Global) -> (Sender<()>, Receiver<()
 }
 
 // Makes an update for which the round has to roll over, once the other thread has its look, and says that it was made.
-pub(super) fn rolls<R: Wait>(rt: &R, hand: Hand, held: Receiver<()>, made: Sender<()>) -> bool {
+pub(super) fn rolls<R: Wait>(rt: &R, hand: HandleOf, held: Receiver<()>, made: Sender<()>) -> bool {
     let mut hand = hand;
     let began = held.recv(rt).is_ok();
     let done = insert(rt, &mut hand, 63);
@@ -28,11 +30,11 @@ pub(super) fn rolls<R: Wait>(rt: &R, hand: Hand, held: Receiver<()>, made: Sende
 // thread's update was not made meanwhile.
 fn stays<R: Wait + Abort>(
     rt: &R,
-    hand: Hand,
+    hand: HandleOf,
     members: u32,
     held: Sender<()>,
     made: Receiver<()>,
-) -> (Hand, bool) {
+) -> (HandleOf, bool) {
     let mut look = looked(rt, hand);
     let mut right = held.send(rt, ()).is_ok();
     for _ in 0..5_000 {

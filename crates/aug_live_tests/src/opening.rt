@@ -9,11 +9,11 @@ use std::alloc::Global;
 use std::process::Abort;
 use std::sync::Wait;
 
-pub(super) type Trie = Live<Sum, Extent>;
+pub(super) type LiveOf = Live<Sum, Extent>;
 
-pub(super) type Hand = Handle<Sum, Extent>;
+pub(super) type HandleOf = Handle<Sum, Extent>;
 
-pub(super) type View = Look<Sum, Extent>;
+pub(super) type LookOf = Look<Sum, Extent>;
 
 /// The empty set of keys of `bits` bits.
 pub(super) fn no_keys(alloc: Global, bits: u32) -> Result<Members, BeginError> {
@@ -31,7 +31,7 @@ pub(super) fn opened(
     handles: u32,
     spare: u32,
     updates: u32,
-) -> Result<(Trie, Vec<Hand>), BeginError> {
+) -> Result<(LiveOf, Vec<HandleOf>), BeginError> {
     let plan = Plan {
         lanes: handles.saturating_add(spare),
         updates,
@@ -43,7 +43,7 @@ pub(super) fn opened(
 }
 
 /// Puts a key in. A key of more bits is never put in.
-pub(super) fn insert<R: Wait>(rt: &R, hand: &mut Hand, k: u32) -> Result<bool, LiveError> {
+pub(super) fn insert<R: Wait>(rt: &R, hand: &mut HandleOf, k: u32) -> Result<bool, LiveError> {
     if k < hand.universe() {
         hand.insert(rt, k)
     } else {
@@ -52,7 +52,7 @@ pub(super) fn insert<R: Wait>(rt: &R, hand: &mut Hand, k: u32) -> Result<bool, L
 }
 
 /// Takes a key out.
-pub(super) fn remove<R: Wait>(rt: &R, hand: &mut Hand, k: u32) -> Result<bool, LiveError> {
+pub(super) fn remove<R: Wait>(rt: &R, hand: &mut HandleOf, k: u32) -> Result<bool, LiveError> {
     if k < hand.universe() {
         hand.remove(rt, k)
     } else {
@@ -63,7 +63,7 @@ pub(super) fn remove<R: Wait>(rt: &R, hand: &mut Hand, k: u32) -> Result<bool, L
 /// Gives a key a weight.
 pub(super) fn put<R: Wait>(
     rt: &R,
-    hand: &mut Hand,
+    hand: &mut HandleOf,
     k: u32,
     weight: u32,
 ) -> Result<Outcome, LiveError> {
@@ -77,7 +77,7 @@ pub(super) fn put<R: Wait>(
 /// Adds to a key's weight.
 pub(super) fn add<R: Wait>(
     rt: &R,
-    hand: &mut Hand,
+    hand: &mut HandleOf,
     k: u32,
     amount: u32,
 ) -> Result<Outcome, LiveError> {
@@ -91,7 +91,7 @@ pub(super) fn add<R: Wait>(
 /// Takes from a key's weight.
 pub(super) fn sub<R: Wait>(
     rt: &R,
-    hand: &mut Hand,
+    hand: &mut HandleOf,
     k: u32,
     amount: u32,
 ) -> Result<Outcome, LiveError> {
@@ -104,7 +104,7 @@ pub(super) fn sub<R: Wait>(
 
 /// Makes an update, unless it would have to wait. A key of more bits is refused.
 pub(super) fn try_update(
-    hand: &mut Hand,
+    hand: &mut HandleOf,
     k: u32,
     request: Request,
 ) -> Result<Outcome, TryError<Busy>> {
@@ -116,53 +116,59 @@ pub(super) fn try_update(
 }
 
 /// The last of some handles.
-pub(super) fn last(rt: &impl Abort, hands: &mut Vec<Hand>) -> Hand {
+pub(super) fn last(rt: &impl Abort, hands: &mut Vec<HandleOf>) -> HandleOf {
     hands.pop().expect(rt, "a handle")
 }
 
 /// A new handle for a lane.
-pub(super) fn renewed<R: Wait>(rt: &R, live: &mut Trie, lane: u32) -> Result<Hand, LiveError> {
+pub(super) fn renewed<R: Wait>(
+    rt: &R,
+    live: &mut LiveOf,
+    lane: u32,
+) -> Result<HandleOf, LiveError> {
     live.handle(rt, lane)
 }
 
 /// The same, unless it would have to wait.
-pub(super) fn try_renewed(live: &mut Trie, lane: u32) -> Result<Hand, TryError<WasOut>> {
+pub(super) fn try_renewed(live: &mut LiveOf, lane: u32) -> Result<HandleOf, TryError<WasOut>> {
     live.try_handle(lane)
 }
 
 /// Rolls the round over.
-pub(super) fn rolled<R: Wait>(rt: &R, live: &mut Trie) -> Result<(), LiveError> {
+pub(super) fn rolled<R: Wait>(rt: &R, live: &mut LiveOf) -> Result<(), LiveError> {
     live.roll(rt)
 }
 
 /// The same, unless it would have to wait.
-pub(super) fn try_rolled(live: &mut Trie) -> Result<(), TryError<WasOut>> {
+pub(super) fn try_rolled(live: &mut LiveOf) -> Result<(), TryError<WasOut>> {
     live.try_roll()
 }
 
 /// How many members a trie has at its end, its rounds, and how many keys were put in.
-pub(super) fn closed<R: Wait>(rt: &R, live: Trie) -> (u32, u64, u64) {
+pub(super) fn closed<R: Wait>(rt: &R, live: LiveOf) -> (u32, u64, u64) {
     let (set, counts) = live.close(rt);
     (set.size(), counts.rounds, counts.inserts)
 }
 
 /// The end of a trie, or the same trie if that would have to wait.
-pub(super) fn try_closed(live: Trie) -> Result<(Members, LiveCounts), (Trie, TryError<WasOut>)> {
+pub(super) fn try_closed(
+    live: LiveOf,
+) -> Result<(Members, LiveCounts), (LiveOf, TryError<WasOut>)> {
     live.try_close()
 }
 
 /// A look, or the handle with why there is none.
-pub(super) fn may_look<R: Wait>(rt: &R, hand: Hand) -> Result<View, (Hand, LiveError)> {
+pub(super) fn may_look<R: Wait>(rt: &R, hand: HandleOf) -> Result<LookOf, (HandleOf, LiveError)> {
     hand.look(rt)
 }
 
 /// The same, unless it would have to wait.
-pub(super) fn try_look(hand: Hand) -> Result<View, (Hand, TryError<Busy>)> {
+pub(super) fn try_look(hand: HandleOf) -> Result<LookOf, (HandleOf, TryError<Busy>)> {
     hand.try_look()
 }
 
 /// A look.
-pub(super) fn looked<R: Wait + Abort>(rt: &R, hand: Hand) -> View {
+pub(super) fn looked<R: Wait + Abort>(rt: &R, hand: HandleOf) -> LookOf {
     let Ok(look) = may_look(rt, hand) else {
         panic!(rt; "no look");
     };
@@ -170,21 +176,21 @@ pub(super) fn looked<R: Wait + Abort>(rt: &R, hand: Hand) -> View {
 }
 
 /// Ends a look.
-pub(super) fn over(look: View) -> Hand {
+pub(super) fn over(look: LookOf) -> HandleOf {
     look.done()
 }
 
 /// Takes a newer snapshot.
-pub(super) fn take_newer_snapshot(look: &mut View) {
+pub(super) fn take_newer_snapshot(look: &mut LookOf) {
     look.again();
 }
 
 /// Whether a key is a member.
-pub(super) fn has(look: &mut View, k: u32) -> bool {
+pub(super) fn has(look: &mut LookOf, k: u32) -> bool {
     look.ask(Has(k))
 }
 
 /// How many members a look shows.
-pub(super) fn size(look: &mut View) -> u32 {
+pub(super) fn size(look: &mut LookOf) -> u32 {
     look.ask(Size)
 }

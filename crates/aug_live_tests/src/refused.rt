@@ -1,6 +1,6 @@
 //! Memory refused: nothing is lost, and a later call succeeds.
 
-use super::opening::{Hand, Trie, insert, last, no_keys, opened, put};
+use super::opening::{HandleOf, LiveOf, insert, last, no_keys, opened, put};
 use super::steps::Act::{Close, Fill, Insert, Look, Over, Remove, Renew, Roll, Size};
 use super::steps::Reply::{Done, Ended, Is, Number};
 use super::steps::{state_of, steps};
@@ -13,7 +13,10 @@ use std::process::Abort;
 use std::sync::Wait;
 
 // Opens a trie over a set with one handle, for rounds of two updates.
-fn opened_over(alloc: Global, set: Members) -> Result<(Trie, Vec<Hand>), (Members, BeginError)> {
+fn opened_over(
+    alloc: Global,
+    set: Members,
+) -> Result<(LiveOf, Vec<HandleOf>), (Members, BeginError)> {
     let plan = Plan {
         lanes: 1,
         updates: 2,
@@ -22,7 +25,7 @@ fn opened_over(alloc: Global, set: Members) -> Result<(Trie, Vec<Hand>), (Member
 }
 
 // Opens a trie with one handle, again if memory was refused.
-fn opened_again(rt: &impl Abort, alloc: Global) -> Result<(Trie, Vec<Hand>), BeginError> {
+fn opened_again(rt: &impl Abort, alloc: Global) -> Result<(LiveOf, Vec<HandleOf>), BeginError> {
     let set = match no_keys(alloc, 4) {
         Ok(set) => set,
         Err(_) => no_keys(alloc, 4)?,

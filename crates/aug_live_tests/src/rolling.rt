@@ -2,7 +2,7 @@
 
 use super::again;
 use super::opening::{
-    Hand, Trie, View, closed, has, insert, may_look, opened, over, remove, renewed,
+    HandleOf, LiveOf, LookOf, closed, has, insert, may_look, opened, over, remove, renewed,
 };
 use crate::assertions::{equal, holds};
 use aug_live::LiveError;
@@ -18,7 +18,7 @@ use std::thread::Threads;
 // and are made again until they are done.
 #[derive(Drop)]
 struct Job {
-    hand: Hand,
+    hand: HandleOf,
     model: KeySet,
     lane: u32,
     steps: u32,
@@ -41,7 +41,7 @@ fn next(seed: u64) -> u64 {
 }
 
 // Whether a look shows each own key as the model has it, for some keys.
-fn shows(look: &mut View, model: &KeySet, lane: u32) -> bool {
+fn shows(look: &mut LookOf, model: &KeySet, lane: u32) -> bool {
     let mut right = true;
     for i in 0..16 {
         let k = 4 * i + lane % 4;
@@ -84,7 +84,7 @@ fn looks_right<R: Wait>(rt: &R, job: Job) -> (Job, bool) {
 // Puts a key in, or takes it out.
 fn made<R: Wait>(
     rt: &R,
-    hand: &mut Hand,
+    hand: &mut HandleOf,
     waits: bool,
     k: u32,
     request: Request,
@@ -154,7 +154,7 @@ fn work<R: Wait>(rt: &R, job: Job) -> Did {
 }
 
 // A job for each handle. The calls of the first `trying` ones wait for nobody.
-fn jobs(rt: &impl Abort, alloc: Global, hands: Vec<Hand>, steps: u32, trying: u32) -> Vec<Job> {
+fn jobs(rt: &impl Abort, alloc: Global, hands: Vec<HandleOf>, steps: u32, trying: u32) -> Vec<Job> {
     let mut jobs = Vec::new(alloc);
     let mut lane = 0;
     for hand in hands {
@@ -190,7 +190,7 @@ fn summed(rt: &impl Abort, done: Vec<Did>, closed: bool) -> (u64, u64) {
 fn worked<R: Threads + Wait + Abort + Sync>(
     rt: &R,
     alloc: Global,
-    hands: Vec<Hand>,
+    hands: Vec<HandleOf>,
     steps: u32,
     trying: u32,
 ) -> (u64, u64) {
@@ -338,7 +338,7 @@ fn calls_that_are_made_again_reach_the_set_of_calls_that_wait(
 }
 
 // What a trie comes to at its end.
-fn ended<R: Wait>(rt: &R, live: Trie, waits: bool) -> Result<(u32, u64, u64), LiveError> {
+fn ended<R: Wait>(rt: &R, live: LiveOf, waits: bool) -> Result<(u32, u64, u64), LiveError> {
     if waits {
         Ok(closed(rt, live))
     } else {
@@ -376,7 +376,7 @@ fn a_trie_is_closed_while_others_work(rt: HostRuntime) -> Result<(), BeginError>
 }
 
 // Rolls the round over, `times` times, by calls that wait for nobody. Whether each was done in the end.
-fn roll_often<R: Wait>(rt: &R, live: &mut Trie, times: u32) -> bool {
+fn roll_often<R: Wait>(rt: &R, live: &mut LiveOf, times: u32) -> bool {
     let mut right = true;
     for _ in 0..times {
         right &= again::roll(rt, live) == Ok(());
@@ -403,7 +403,7 @@ fn a_round_rolls_over_by_calls_that_are_made_again(rt: HostRuntime) -> Result<()
 }
 
 // Puts key 3 in and takes it out in turn, `times` times, each time with a new handle for the lane 3. Whether all was right.
-fn renew_often<R: Wait>(rt: &R, live: &mut Trie, times: u32, waits: bool) -> bool {
+fn renew_often<R: Wait>(rt: &R, live: &mut LiveOf, times: u32, waits: bool) -> bool {
     let mut right = true;
     for number in 0..times {
         let new = if waits {

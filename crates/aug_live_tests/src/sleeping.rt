@@ -1,7 +1,7 @@
 //! A thread that waits for a look. tests/faults runs this test, and measures how long a processor works meanwhile.
 
 use super::holding::{rolls, signal};
-use super::opening::{Hand, closed, last, looked, opened, over};
+use super::opening::{HandleOf, closed, last, looked, opened, over};
 use super::steps::fill;
 use crate::assertions::{equal, holds};
 use aug_trie::BeginError;
@@ -12,7 +12,7 @@ use std::thread;
 use std::time::{Clock, Duration};
 
 // Takes a look, says so, and holds it for a second.
-fn looks_for_1_second<R: Wait + Abort + Clock>(rt: &R, hand: Hand, held: Sender<()>) -> bool {
+fn looks_for_1_second<R: Wait + Abort + Clock>(rt: &R, hand: HandleOf, held: Sender<()>) -> bool {
     let look = looked(rt, hand);
     let said = held.send(rt, ()).is_ok();
     thread::sleep(rt, Duration::from_secs(1));

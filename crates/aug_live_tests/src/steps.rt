@@ -2,8 +2,8 @@
 //! of the library promises is met here once, in functions that promise nothing, so that the proof of a test is that of its data.
 
 use super::opening::{
-    Hand, Trie, View, add, insert, opened, put, remove, renewed, rolled, sub, try_closed, try_look,
-    try_renewed, try_rolled, try_update,
+    HandleOf, LiveOf, LookOf, add, insert, opened, put, remove, renewed, rolled, sub, try_closed,
+    try_look, try_renewed, try_rolled, try_update,
 };
 use super::own::Band;
 use crate::assertions::equal;
@@ -85,14 +85,14 @@ pub(super) type Step = (Act, Reply);
 
 /// A trie that is not closed, two handles and a look, if they are there.
 pub(super) struct State {
-    live: Option<Trie>,
-    hand: Option<Hand>,
-    other: Option<Hand>,
-    look: Option<View>,
+    live: Option<LiveOf>,
+    hand: Option<HandleOf>,
+    other: Option<HandleOf>,
+    look: Option<LookOf>,
 }
 
 /// The state of a trie that was opened. Of its handles two stay.
-pub(super) fn state_of(live: Trie, hands: Vec<Hand>) -> State {
+pub(super) fn state_of(live: LiveOf, hands: Vec<HandleOf>) -> State {
     let mut hands = hands;
     let hand = hands.pop();
     let other = hands.pop();
@@ -153,7 +153,7 @@ fn ended(end: (Members, LiveCounts)) -> Reply {
 }
 
 /// Puts `count` keys in, from the key `from` on. How many of them went in.
-pub(super) fn fill<R: Wait>(rt: &R, hand: &mut Hand, from: u32, count: u32) -> u32 {
+pub(super) fn fill<R: Wait>(rt: &R, hand: &mut HandleOf, from: u32, count: u32) -> u32 {
     let mut made = 0u32;
     for k in from..from.saturating_add(count) {
         made = made.saturating_add(u32::from(insert(rt, hand, k) == Ok(true)));
@@ -162,7 +162,7 @@ pub(super) fn fill<R: Wait>(rt: &R, hand: &mut Hand, from: u32, count: u32) -> u
 }
 
 /// The same, by calls that wait for nobody.
-pub(super) fn try_fill(hand: &mut Hand, from: u32, count: u32) -> u32 {
+pub(super) fn try_fill(hand: &mut HandleOf, from: u32, count: u32) -> u32 {
     let mut made = 0u32;
     for k in from..from.saturating_add(count) {
         let done = try_update(hand, k, Request::Insert) == Ok(Outcome::Accepted);
@@ -172,7 +172,7 @@ pub(super) fn try_fill(hand: &mut Hand, from: u32, count: u32) -> u32 {
 }
 
 /// Makes an update that waits for nobody.
-fn try_to(hand: &mut Hand, k: u32, request: Request) -> Reply {
+fn try_to(hand: &mut HandleOf, k: u32, request: Request) -> Reply {
     match try_update(hand, k, request) {
         Ok(outcome) => Reply::Came(outcome),
         Err(cause) => missed(cause),
@@ -180,12 +180,12 @@ fn try_to(hand: &mut Hand, k: u32, request: Request) -> Reply {
 }
 
 /// What a note comes to, which is dropped.
-fn noted<R: Wait>(rt: &R, hand: &mut Hand) -> Reply {
+fn noted<R: Wait>(rt: &R, hand: &mut HandleOf) -> Reply {
     done(hand.note(rt).map(drop))
 }
 
 /// What the handle does.
-fn by_hand<R: Wait>(rt: &R, hand: &mut Hand, act: Act) -> Reply {
+fn by_hand<R: Wait>(rt: &R, hand: &mut HandleOf, act: Act) -> Reply {
     match act {
         Act::Insert(k) => is(insert(rt, hand, k)),
         Act::Remove(k) => is(remove(rt, hand, k)),
@@ -203,7 +203,7 @@ fn by_hand<R: Wait>(rt: &R, hand: &mut Hand, act: Act) -> Reply {
 }
 
 /// How many members there are, the first of them and the last.
-fn listed(alloc: Global, look: &mut View) -> Reply {
+fn listed(alloc: Global, look: &mut LookOf) -> Reply {
     match look.ask(Pairs(alloc)) {
         Ok(list) => {
             let list = list.as_slice();
@@ -214,7 +214,7 @@ fn listed(alloc: Global, look: &mut View) -> Reply {
 }
 
 /// What the look shows.
-fn by_look(alloc: Global, look: &mut View, act: Act) -> Reply {
+fn by_look(alloc: Global, look: &mut LookOf, act: Act) -> Reply {
     match act {
         Act::Again => {
             look.again();
@@ -231,7 +231,7 @@ fn by_look(alloc: Global, look: &mut View, act: Act) -> Reply {
 }
 
 /// Ends a look, if there is one.
-fn end(look: Option<View>) {
+fn end(look: Option<LookOf>) {
     if let Some(look) = look {
         drop(look.done());
     }

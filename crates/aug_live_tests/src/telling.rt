@@ -2,7 +2,7 @@
 ghost use Rattle.std.specs.Prelude.{◌≡◌, IfOk};
 ghost use Rattle.aug_live.specs.LiveTries.{ids_of};
 
-use super::opening::{Hand, Trie, has, looked, no_keys, over, renewed, rolled};
+use super::opening::{HandleOf, LiveOf, has, looked, no_keys, over, renewed, rolled};
 use crate::assertions::{equal, holds};
 use aug_live::{Live, LiveError, Plan};
 use aug_trie::BeginError;
@@ -11,7 +11,7 @@ use std::process::Abort;
 use std::sync::Wait;
 
 // A trie over no keys of 6 bits, and two handles of it.
-fn two<R: Wait + Abort>(rt: &R, alloc: Global) -> Result<(Trie, Hand, Hand), BeginError>
+fn two<R: Wait + Abort>(rt: &R, alloc: Global) -> Result<(LiveOf, HandleOf, HandleOf), BeginError>
     ensures tables { IfOk result (λ t. (t.1.half.round.table ≡ t.0.table) × (t.2.half.round.table ≡ t.0.table)) }
     ensures lanes { IfOk result (λ t. (t.1.lanes ≡ ids_of t.0) × (t.2.lanes ≡ ids_of t.0)) }
 {
@@ -33,7 +33,7 @@ fn two<R: Wait + Abort>(rt: &R, alloc: Global) -> Result<(Trie, Hand, Hand), Beg
 }
 
 // Puts a key in.
-fn insert<R: Wait + Abort>(rt: &R, hand: &mut Hand, key: u32)
+fn insert<R: Wait + Abort>(rt: &R, hand: &mut HandleOf, key: u32)
     ensures table { hand.new.half.round.table ≡ hand.old.half.round.table }
     ensures lanes { hand.new.lanes ≡ hand.old.lanes }
 {
@@ -42,7 +42,7 @@ fn insert<R: Wait + Abort>(rt: &R, hand: &mut Hand, key: u32)
 }
 
 // Whether a look of the handle shows a key.
-fn sees<R: Wait + Abort>(rt: &R, hand: Hand, key: u32) -> bool {
+fn sees<R: Wait + Abort>(rt: &R, hand: HandleOf, key: u32) -> bool {
     let mut look = looked(rt, hand);
     let seen = has(&mut look, key);
     drop(over(look));
@@ -50,7 +50,7 @@ fn sees<R: Wait + Abort>(rt: &R, hand: Hand, key: u32) -> bool {
 }
 
 // One handle puts a key in, and another sees it that learnt of it. The round rolls over before the note is made and before it is learnt.
-fn assert_told<R: Wait + Abort>(rt: &R, live: &mut Trie, from: Hand, to: Hand)
+fn assert_told<R: Wait + Abort>(rt: &R, live: &mut LiveOf, from: HandleOf, to: HandleOf)
     requires { to.half.round.table ≡ from.half.round.table }
 {
     let (mut from, mut to) = (from, to);
@@ -88,7 +88,7 @@ fn a_handle_that_was_replaced_learns_nothing(rt: HostRuntime) -> Result<(), Begi
 }
 
 // A handle that was replaced does not come back.
-fn assert_not_back<R: Wait + Abort>(rt: &R, live: &mut Trie, hand: Hand)
+fn assert_not_back<R: Wait + Abort>(rt: &R, live: &mut LiveOf, hand: HandleOf)
     requires table { hand.half.round.table ≡ live.old.table }
     requires lanes { hand.lanes ≡ ids_of live.old }
     ensures table { live.new.table ≡ live.old.table }
@@ -102,7 +102,7 @@ fn assert_not_back<R: Wait + Abort>(rt: &R, live: &mut Trie, hand: Hand)
 }
 
 // A handle puts a key in and comes back, as one of three, and the trie ends.
-fn assert_back<R: Wait + Abort>(rt: &R, live: Trie, hand: Hand)
+fn assert_back<R: Wait + Abort>(rt: &R, live: LiveOf, hand: HandleOf)
     requires table { hand.half.round.table ≡ live.table }
     requires lanes { hand.lanes ≡ ids_of live }
 {
@@ -125,7 +125,7 @@ fn a_trie_knows_what_a_handle_did_that_came_back(rt: HostRuntime) -> Result<(), 
 }
 
 // A handle comes back whose lane a roll-over took, which waited for a look of another.
-fn assert_back_later<R: Wait + Abort>(rt: &R, live: Trie, hand: Hand, other: Hand)
+fn assert_back_later<R: Wait + Abort>(rt: &R, live: LiveOf, hand: HandleOf, other: HandleOf)
     requires table { hand.half.round.table ≡ live.table }
     requires lanes { hand.lanes ≡ ids_of live }
 {

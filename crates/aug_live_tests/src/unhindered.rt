@@ -2,8 +2,8 @@
 
 use super::granting::EACH;
 use super::opening::{
-    Hand, Trie, looked, opened, over, put, remove, renewed, rolled, size, try_closed, try_look,
-    try_renewed, try_rolled, try_update,
+    HandleOf, LiveOf, looked, opened, over, put, remove, renewed, rolled, size, try_closed,
+    try_look, try_renewed, try_rolled, try_update,
 };
 use crate::assertions::{equal, holds};
 use aug_trie::{BeginError, Outcome, Request};
@@ -12,7 +12,7 @@ use std::process::Abort;
 use std::sync::Wait;
 
 // Gives a key a weight, by a call that waits or by one that waits for nobody. Whether it came to this.
-fn puts<R: Wait>(rt: &R, hand: &mut Hand, k: u32, weight: u32, outcome: Outcome) -> bool {
+fn puts<R: Wait>(rt: &R, hand: &mut HandleOf, k: u32, weight: u32, outcome: Outcome) -> bool {
     if (k ^ weight) % 2 == 0 {
         put(rt, hand, k, weight) == Ok(outcome)
     } else {
@@ -21,7 +21,13 @@ fn puts<R: Wait>(rt: &R, hand: &mut Hand, k: u32, weight: u32, outcome: Outcome)
 }
 
 // Gives each key below a number this weight. Whether each call came to this.
-fn puts_all<R: Wait>(rt: &R, hand: &mut Hand, keys: u32, weight: u32, outcome: Outcome) -> bool {
+fn puts_all<R: Wait>(
+    rt: &R,
+    hand: &mut HandleOf,
+    keys: u32,
+    weight: u32,
+    outcome: Outcome,
+) -> bool {
     let mut right = true;
     for k in 0..keys {
         right &= puts(rt, hand, k, weight, outcome);
@@ -30,7 +36,7 @@ fn puts_all<R: Wait>(rt: &R, hand: &mut Hand, keys: u32, weight: u32, outcome: O
 }
 
 // Takes a key out, by a call that waits or by one that waits for nobody.
-fn takes_out<R: Wait>(rt: &R, hand: &mut Hand, k: u32, waits: bool) -> bool {
+fn takes_out<R: Wait>(rt: &R, hand: &mut HandleOf, k: u32, waits: bool) -> bool {
     if waits {
         remove(rt, hand, k) == Ok(true)
     } else {
@@ -39,7 +45,7 @@ fn takes_out<R: Wait>(rt: &R, hand: &mut Hand, k: u32, waits: bool) -> bool {
 }
 
 // How many members a look of the handle shows, which waits or waits for nobody.
-fn sees<R: Wait + Abort>(rt: &R, hand: Hand, waits: bool) -> u32 {
+fn sees<R: Wait + Abort>(rt: &R, hand: HandleOf, waits: bool) -> u32 {
     let mut look = if waits {
         looked(rt, hand)
     } else {
@@ -54,7 +60,7 @@ fn sees<R: Wait + Abort>(rt: &R, hand: Hand, waits: bool) -> u32 {
 }
 
 // Each handle gives each key a weight of its own, and sees them all.
-fn each_puts<R: Wait + Abort>(rt: &R, hands: Vec<Hand>, keys: u32) {
+fn each_puts<R: Wait + Abort>(rt: &R, hands: Vec<HandleOf>, keys: u32) {
     let mut outcome = Outcome::Accepted;
     let mut weight = 0u32;
     for hand in hands {
@@ -67,7 +73,7 @@ fn each_puts<R: Wait + Abort>(rt: &R, hands: Vec<Hand>, keys: u32) {
 }
 
 // A new handle for a lane, by a call that waits or by one that waits for nobody.
-fn given<R: Wait + Abort>(rt: &R, live: &mut Trie, lane: u32, waits: bool) -> Hand {
+fn given<R: Wait + Abort>(rt: &R, live: &mut LiveOf, lane: u32, waits: bool) -> HandleOf {
     if waits {
         return renewed(rt, live, lane).expect(rt, "a handle");
     }
@@ -75,7 +81,7 @@ fn given<R: Wait + Abort>(rt: &R, live: &mut Trie, lane: u32, waits: bool) -> Ha
 }
 
 // A new handle of each lane takes a key out, the least that is left.
-fn each_lane_takes_out<R: Wait + Abort>(rt: &R, live: &mut Trie, handles: u32, keys: u32) {
+fn each_lane_takes_out<R: Wait + Abort>(rt: &R, live: &mut LiveOf, handles: u32, keys: u32) {
     for lane in 0..handles {
         let mut hand = given(rt, live, lane, lane % 2 == 0);
         if lane < keys {

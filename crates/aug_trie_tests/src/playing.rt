@@ -4,7 +4,7 @@ ghost use Rattle.std.specs.Prelude.{◌≡◌, ◌^◌, IfSome};
 ghost use Rattle.aug_trie.specs.Round.{table_of};
 
 use super::asking::{look, look_closer, seen_size, seen_weight, sees};
-use super::rounds::{Climber, Hands, Table, Walker, next_pass};
+use super::rounds::{Climber, CrewOf, RoundOf, Walker, next_pass};
 use super::turning::{last, to_the_end, turns};
 use crate::assertions::equal;
 use aug_monoid::{Extent, Sum};
@@ -211,8 +211,8 @@ fn walk(pass: &mut Pass<Sum, Extent>, alloc: Global, universe: u32, act: Act) ->
 
 // What a lane does whose pass makes whole updates.
 fn walked<'r>(
-    round: &'r Table,
-    crew: &mut Hands,
+    round: &'r RoundOf,
+    crew: &mut CrewOf,
     pass: Walker<'r>,
     alloc: Global,
     universe: u32,
@@ -283,8 +283,8 @@ fn climbed<'r>(climb: Climber<'r>, act: Act) -> (Lane<'r>, Reply)
 
 // What a lane does.
 fn done<'r>(
-    round: &'r Table,
-    crew: &mut Hands,
+    round: &'r RoundOf,
+    crew: &mut CrewOf,
     lane: Lane<'r>,
     alloc: Global,
     universe: u32,
@@ -325,8 +325,8 @@ struct Lanes<'r> {
 
 // What one of three lanes does.
 fn acted<'r>(
-    round: &'r Table,
-    crew: &mut Hands,
+    round: &'r RoundOf,
+    crew: &mut CrewOf,
     lanes: Lanes<'r>,
     alloc: Global,
     universe: u32,
@@ -370,8 +370,8 @@ fn acted<'r>(
 pub(super) fn steps(
     rt: &impl Abort,
     alloc: Global,
-    round: &Table,
-    crew: &mut Hands,
+    round: &RoundOf,
+    crew: &mut CrewOf,
     universe: u32,
     shows: &str,
     script: &[Step],

@@ -9,9 +9,9 @@ ghost use Rattle.aug_trie.specs.inside.Goes.{HasLeaves, HasRoom};
 ghost use Rattle.aug_trie.specs.LeafWords.{serial_in_word};
 ghost use Rattle.aug_trie.specs.Requests.{goes_from, outcome_by, outcome_at_once, word_after as word_of_request};
 
-use crate::updates::climbing::propagate;
 use crate::updates::leaf_words::{leaf_serial, leaf_weight, leaf_word};
 use crate::updates::outcome::Outcome;
+use crate::updates::propagate::propagate;
 use crate::updates::request::Request;
 use aug_monoid::Monoid;
 use aug_words::WordPass;

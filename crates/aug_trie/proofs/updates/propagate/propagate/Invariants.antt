@@ -2,7 +2,7 @@ use Rattle.std.proofs.Common.{◌≡◌}
 use Rattle.aug_core.specs.Faces.{face}
 use Rattle.aug_core.specs.inside.Shows.{above}
 use Rattle.aug_trie.specs.inside.Stages.{HasRisen}
-use Rattle.aug_trie.proofs.updates.climbing.propagate.Given as goal
+use Rattle.aug_trie.proofs.updates.propagate.propagate.Given as goal
 
 abbrev pub invariant-loop-level : goal.invariant-loop-level
 invariant-loop-level g l = record {

@@ -33,10 +33,10 @@ use denote.Triple.Entry.{on_entry, alive}
 use denote.Triple.Spec.{Meets, triple_of}
 use denote.Triple.Table.{entered}
 use denote.Triple.Walked.{says, Stays, stay_dropped, walk_of, ends_at, Goes-dropped, walk_Meets}
-use Rattle.aug_live.specs.contracts.seen.Seen.of.{ended, clauses}
-use Rattle.aug_live.specs.contracts.seen.Seen.of.Key.{name as #self}
-use Rattle.aug_live.proofs.seen.Seen.of.Statement as stated
-use Rattle.aug_live.proofs.seen.Seen.of.Code as code
+use Rattle.aug_live.specs.contracts.ghost_value.GhostValue.of.{ended, clauses}
+use Rattle.aug_live.specs.contracts.ghost_value.GhostValue.of.Key.{name as #self}
+use Rattle.aug_live.proofs.ghost_value.GhostValue.of.Statement as stated
+use Rattle.aug_live.proofs.ghost_value.GhostValue.of.Code as code
 
 module _ (Y : RattleType) where
   abbrev R : RattleType

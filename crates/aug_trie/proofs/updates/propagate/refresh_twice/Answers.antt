@@ -4,7 +4,7 @@ use Rattle.aug_core.specs.declared.view.SeatView.{SeatView}
 use Rattle.aug_trie.specs.inside.Points.{TryOver}
 use Rattle.aug_trie.proofs.Ascending.{missed, covered_once, covered_twice}
 use Rattle.aug_trie.proofs.Going.{room_again}
-use Rattle.aug_trie.proofs.updates.climbing.refresh_twice.Goals as goal
+use Rattle.aug_trie.proofs.updates.propagate.refresh_twice.Goals as goal
 
 pub refresh-requires-2-clause-room : goal.refresh-requires-2-clause-room
 refresh-requires-2-clause-room g c = let over = c.refresh.ensures.over in

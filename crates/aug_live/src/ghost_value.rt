@@ -5,30 +5,30 @@ use std::marker::{Model, PhantomData, Send};
 
 /// A `T` as clauses saw it. It has no bytes and owns nothing. (The `Snapshot` of std is the same, but cannot be declared to go to
 /// another thread.)
-pub(crate) struct Seen<T> {
+pub(crate) struct GhostValue<T> {
     of: PhantomData<T>,
     pub ghost value: { T },
 }
 
-impl<T> Model for Seen<T> {
+impl<T> Model for GhostValue<T> {
     ghost use base.Fml.{ftrue};
 
     ghost also_owns = { λ _. ftrue };
 }
 
-impl<T> Seen<T> {
+impl<T> GhostValue<T> {
     /// What the reference shows.
-    pub(crate) fn of(x: &T) -> Seen<T>
+    pub(crate) fn of(x: &T) -> GhostValue<T>
         ensures { result.value ≡ x.now }
     {
         let _ = x;
-        Seen { of: PhantomData }
+        GhostValue { of: PhantomData }
     }
 }
 
-unsafe impl<T> Send for Seen<T> {}
+unsafe impl<T> Send for GhostValue<T> {}
 
-impl<T> Drop for Seen<T> {
+impl<T> Drop for GhostValue<T> {
     fn drop(self) {
         let Self { of: _ } = self;
     }

@@ -7,7 +7,7 @@ use Rattle.aug_trie.specs.inside.Goes.{HasLeaves, HasRoom}
 use Rattle.aug_trie.specs.inside.Stages.{IsCovered, HasRisen}
 use Rattle.aug_trie.proofs.Ascending.{risen_none, inner_above, room_above, risen_on}
 use Rattle.aug_trie.proofs.Levels.{place_is}
-use Rattle.aug_trie.proofs.updates.climbing.propagate.Goals as goal
+use Rattle.aug_trie.proofs.updates.propagate.propagate.Goals as goal
 
 pub loop-level-init : goal.loop-level-init
 loop-level-init g c = record { table = refl; node = refl; risen = risen_none (face g.A.Monoid.parts g.B.Monoid.parts) c.args.bits c.args.number c.args.leaf c.args.pass.view c.requires.rises }

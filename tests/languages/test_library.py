@@ -30,7 +30,7 @@ WARNINGS = ["-Wall", "-Wextra", "-Werror", "-pedantic"]
 PYTHON, PIP = "Python.h or pip", [sys.executable, "-m", "pip", "install", "-q", "--no-index", "--disable-pip-version-check"]
 
 # The fewest tests that each part must have run in one folder, and the fewest answers that the benchmark compares of an engine and a workload.
-LEAST_PYTHON, LEAST_RUST, LEAST_ANSWERS = 19, 12, 2001
+LEAST_PYTHON, LEAST_RUST, LEAST_ANSWERS = 19, 24, 2001
 
 # The engines of the benchmark, and the types that their threads work with. The last one needs a crate that may not be there.
 ENGINES = {
@@ -49,8 +49,8 @@ WORKLOADS = ["updates", "tenth", "queries", "batches"]
 # What the examples print.
 PRINTED = {
     "timers": ["due before 200: 180", "fired 90, next at 102", "left 3596, set 4096"],
-    "order_book": ["160 orders are left, 240 came, 80 went", "each snapshot agreed with itself: true",
-                   "best bid 1999, best offer 2002, depth from 1950 on 550"],
+    "order_book": ["each of 500 snapshots agreed with itself", "160 prices, 6400 in all, 1600 from 1950 up to the middle",
+                   "best bid 1999, best offer 2001"],
     "index": ["1440 seconds have events, the first are [0, 3, 5, 7, 10], the last is 3599",
               "in the tenth minute: 101 events in 24 seconds", "before 1000: 400; after 1000 comes 1003", "missing: 0"],
 }
@@ -115,7 +115,9 @@ def test_names_of_the_header():
 
 
 def test_names_in_rust():
-    assert set(re.findall(r"pub (?:safe )?fn (aug_\w+)\(", read("bindings", "rust", "src", "ffi.rs"))) == calls()
+    # The crate has those that wait.
+    waits = {name for name in shown() if not name.startswith("aug_try_")}
+    assert set(re.findall(r"pub (?:safe )?fn (aug_\w+)\(", read("bindings", "rust", "src", "ffi.rs"))) == waits
 
 
 def test_names_in_python():

@@ -141,10 +141,9 @@ int64_t aug_user_open(aug_trie *trie, aug_user *user) {
 }
 
 int64_t aug_user_close(aug_user *user) {
-    if (!user || !user->of) return AUG_CLOSED;
-    struct shared *s = user->of;
-    int64_t ended = aug_try_look_done(user);
+    int64_t ended = aug_look_done(user);
     if (ended != AUG_OK && ended != AUG_NOT_LOOKING) return ended;
+    struct shared *s = user->of;
     pthread_mutex_lock(&s->lock);
     if (s->trie.tag) s->idle[s->idle_count++] = (struct handle){user->tag, user->at};
     else aug_user_free(user);
@@ -157,7 +156,7 @@ int64_t aug_user_close(aug_user *user) {
 static int64_t try_close(struct shared *s, aug_report *report) {
     pthread_mutex_lock(&s->lock);
     int64_t code = aug_try_close(&s->trie, report);
-    if (code == AUG_AGAIN) {
+    if (code != AUG_OK) {
         pthread_mutex_unlock(&s->lock);
         return code;
     }
@@ -220,16 +219,18 @@ int64_t aug_range(aug_user *user, uint32_t from, uint32_t to, aug_span *span) {
 
 /* ---- Calls of a user for arrays ---- */
 
-/* How many keys there are, or 0 if the user is not open. */
-static size_t universe(const aug_user *user) {
-    const struct shared *s = user ? user->of : NULL;
-    return s ? (size_t)1 << s->bits : 0;
+/* How many keys there are, or 0 if the user is not open. The handle of a trie is shorter, and has nothing behind what the proved calls read. */
+static size_t universe(aug_user *user) {
+    if (aug_size(user) == AUG_CLOSED) return 0;
+    const struct shared *s = user->of;
+    return (size_t)1 << s->bits;
 }
 
 /* Why n keys that may not be read, or so many places that may not be written, are refused, or 0. */
-static int64_t refuses(const aug_user *user, const void *keys, size_t n, const void *out, size_t room) {
-    if (!universe(user)) return AUG_CLOSED;
-    return n > universe(user) || (n && !keys) || room > SIZE_MAX / 8 || (room && !out) || room < n ? AUG_BAD_LENGTH : AUG_OK;
+static int64_t refuses(aug_user *user, const void *keys, size_t n, const void *out, size_t room) {
+    size_t key_count = universe(user);
+    if (!key_count) return AUG_CLOSED;
+    return n > key_count || (n && !keys) || room > SIZE_MAX / 8 || (room && !out) || room < n ? AUG_BAD_LENGTH : AUG_OK;
 }
 
 enum update { INSERT, REMOVE, PUT };
@@ -239,7 +240,8 @@ static int64_t update_all(enum update asked, aug_user *user, const uint32_t *key
     int64_t code = refuses(user, keys, n, keys, n);
     if (code != AUG_OK) return code;
     if (so_far->made > n) return AUG_BAD_LENGTH;
-    for (size_t i = 0; i < n; i++) if (keys[i] >= universe(user)) return AUG_BAD_KEY;
+    size_t key_count = universe(user);
+    for (size_t i = 0; i < n; i++) if (keys[i] >= key_count) return AUG_BAD_KEY;
     for (; so_far->made < n; so_far->made++) {
         uint32_t key = keys[so_far->made];
         switch (asked) {

@@ -1,11 +1,12 @@
 """Installs the library for other languages below a folder of its own, as both compilers of the toolchain build it, and runs the tests and
-examples of bindings/ over it, and those in C under valgrind as well. Over the library as LLVM builds it, the benchmark in bench/ runs briefly, and
-what tools/package makes is used in a place that has neither the toolchain nor this repository. Tests with `names` in their names build nothing, and
-compare the names of the calls and the codes.
+examples of bindings/ over it, and those in C under valgrind as well. Over the library as LLVM builds it, some in C run under sanitizers, the benchmark
+in bench/ runs briefly, and what tools/package makes is used in a place that has neither the toolchain nor this repository. Tests with `names` in their
+names build nothing, and compare the names of the calls and the codes.
 
 What is not proved yet is proved first. AFTER_CI=1 in the environment is for a tree in which `rt ci` has just run: the library is proved once for both
-compilers, over the libraries below it as that run left them, which `rt lib` would prove again. It says what it leaves out if a compiler, Python's
-headers or another tool is missing. It needs the toolchain.
+compilers, over the libraries below it as that run left them, which `rt lib` would prove again. With CROWD_SECONDS=60, each test with a crowd of
+threads takes a minute, and not some seconds. It says what it leaves out if a compiler, Python's headers or another tool is missing. It needs the
+toolchain.
 """
 
 import functools
@@ -29,6 +30,24 @@ CXX = os.environ.get("CXX", "c++")
 WARNINGS = ["-Wall", "-Wextra", "-Werror", "-pedantic"]
 PYTHON, PIP = "Python.h or pip", [sys.executable, "-m", "pip", "install", "-q", "--no-index", "--disable-pip-version-check"]
 
+# The calls in whose place the test of refusals has its own.
+REFUSED = "-Wl,--wrap=malloc,--wrap=calloc,--wrap=realloc,--wrap=pthread_mutex_init,--wrap=aug_try_add"
+
+# For how many seconds a crowd of threads works.
+CROWD_SECONDS = os.environ.get("CROWD_SECONDS", "2")
+
+# How programs are built for the sanitizers, and how these are told to report what they find.
+SANITIZERS = {
+    "thread": ["-fsanitize=thread"],
+    "address": ["-fsanitize=address,undefined", "-fno-sanitize-recover=all"],
+}
+SUPPRESSED = os.path.join(BINDINGS, "c", "tests", "proved.supp")
+REPORTS = {
+    "TSAN_OPTIONS": f"halt_on_error=1:exitcode=66:suppressions={SUPPRESSED}",
+    "ASAN_OPTIONS": "detect_leaks=1:exitcode=66",
+    "LSAN_OPTIONS": "exitcode=66",
+}
+
 # The fewest tests that each part must have run in one folder, and the fewest answers that the benchmark compares of an engine and a workload.
 LEAST_PYTHON, LEAST_RUST, LEAST_ANSWERS = 19, 24, 2001
 
@@ -45,6 +64,9 @@ if not glob.glob("/usr/share/cargo/registry/arc-swap-*"):
     del ENGINES["copies"]
 
 WORKLOADS = ["updates", "tenth", "queries", "batches"]
+
+# What the crowd prints.
+CROWD = re.compile(r"ok: \d{4,} operations, \d{3,} looks\n")
 
 # What the examples print.
 PRINTED = {
@@ -69,9 +91,23 @@ def runs(tool, *words):
     return bool(shutil.which(tool)) and subprocess.run([tool, *words, "--version"], stdin=subprocess.DEVNULL, capture_output=True).returncode == 0
 
 
+@functools.lru_cache
+def compiler_for(sanitizer):
+    """A C compiler that has what a sanitizer needs, or None."""
+    with tempfile.TemporaryDirectory() as folder:
+        program = os.path.join(folder, "nothing")
+        for compiler in filter(runs, (CC, "gcc", "clang")):
+            words = [compiler, *SANITIZERS[sanitizer], "-x", "c", "-", "-o", program]
+            built = subprocess.run(words, input="int main(void) { return 0; }", text=True, capture_output=True)
+            if built.returncode == 0 and subprocess.run([program], capture_output=True).returncode == 0:
+                return compiler
+    return None
+
+
 MISSING = {tool for tool in ("ar", CC, CXX, "cargo", "cmake", "pkg-config", "valgrind") if not runs(tool)}
 if not os.path.exists(os.path.join(sysconfig.get_path("include"), "Python.h")) or not runs(*PIP[:3]):
     MISSING.add(PYTHON)
+MISSING |= {f"{name} sanitizer" for name in SANITIZERS if not compiler_for(name)}
 for tool in sorted(MISSING):
     print(f"no {tool}: its tests are left out")
 
@@ -196,8 +232,11 @@ class Installed:
         assert int(re.fullmatch(r"ok: (\d+) answers\n", said)[1]) >= 10000
 
     def test_c_each_request_for_memory_refused(self):
-        said = said_by(self.compiled("c", "tests", "refused.c", words=[CC, "-std=c11", "-Wl,--wrap=malloc"]))
-        assert int(re.search(r"^ok: (\d+) refused$", said, re.M)[1]) >= 10
+        said = said_by(self.compiled("c", "tests", "refused.c", words=[CC, "-std=c11", REFUSED]))
+        assert int(re.fullmatch(r"ok: (\d+) refused\n", said)[1]) >= 60
+
+    def test_c_crowd(self):
+        assert CROWD.fullmatch(said_by(self.compiled("c", "tests", "crowd.c"), CROWD_SECONDS))
 
     def test_c_many_keys(self):
         said = said_by(self.compiled("c", "tests", "many.c"))
@@ -274,9 +313,53 @@ class Checked:
 
     def test_c_under_valgrind(self):
         for name in ("threads", "refused", "many", "tries"):
-            words = ["-g", "-Wl,--wrap=malloc"] if name == "refused" else ["-g"]
+            words = ["-g", REFUSED] if name == "refused" else ["-g"]
             program = self.compiled("c", "tests", f"{name}.c", words=[CC, "-std=c11", *words])
             said_by("valgrind", "-q", "--error-exitcode=9", "--leak-check=full", program)
+
+
+class Sanitized:
+    """What sanitizers say of the C that has no proof, while threads work. Of what the proved object does, they see calls of the C library alone."""
+
+    def sanitized(self, sanitizer, name, *words, faults=(), library_faults=(), status=0):
+        """What a program prints that is built for a sanitizer with augtrie.c, which hides the one in the shared object."""
+        program = os.path.join(self.folder, f"{name}_{sanitizer}")
+        build = [compiler_for(sanitizer), "-std=c11", "-g", *WARNINGS, *SANITIZERS[sanitizer], f"-I{os.path.join(self.folder, 'include')}"]
+        said_by(*build, *library_faults, "-c", os.path.join(BINDINGS, "c", "augtrie.c"), "-o", f"{program}.o")
+        library = os.path.join(self.folder, "lib")
+        libraries = [f"-L{library}", f"-Wl,-rpath,{library}", "-laugtrie", "-lpthread"]
+        said_by(*build, *faults, os.path.join(BINDINGS, "c", "tests", f"{name}.c"), f"{program}.o", *libraries, "-o", program)
+        return said_by(program, *words, status=status, env={**os.environ, **REPORTS})
+
+    def check_sanitized(self, sanitizer):
+        assert CROWD.fullmatch(self.sanitized(sanitizer, "crowd", CROWD_SECONDS))
+        assert re.fullmatch(r"ok: \d+ answers, \d+ checks\n", self.sanitized(sanitizer, "threads"))
+
+    @with_tool("thread sanitizer")
+    def test_c_has_no_race(self):
+        self.check_sanitized("thread")
+
+    @with_tool("address sanitizer")
+    def test_c_stays_in_its_memory_and_gives_it_back(self):
+        self.check_sanitized("address")
+
+    @with_tool("thread sanitizer")
+    def test_c_race_is_found(self):
+        # The lock is neither taken nor let go: for a lock of its kind, this call does nothing.
+        faults = [f"-Dpthread_mutex_{call}=pthread_mutex_consistent" for call in ("lock", "unlock")]
+        said = self.sanitized("thread", "crowd", "0", library_faults=faults, status=66)
+        assert re.search(r"WARNING: ThreadSanitizer: data race(?s:.)*?#0 \w+ \S*augtrie\.c:", said), said
+
+    @with_tool("address sanitizer")
+    def test_c_overrun_is_found(self):
+        said = self.sanitized("address", "crowd", "0", faults=["-DPLACES=1"], status=66)
+        assert re.search(r"AddressSanitizer: heap-buffer-overflow(?s:.)*?#0 \w+ in \w+ \S*augtrie\.c:", said), said
+
+    @with_tool("address sanitizer")
+    def test_c_leak_is_found(self):
+        # The users that are left when a trie is closed are not freed: this call leaves them as they are.
+        said = self.sanitized("address", "crowd", "0", library_faults=["-Daug_user_free=aug_try_look_done"], status=66)
+        assert "LeakSanitizer: detected memory leaks" in said
 
 
 class Crate:
@@ -463,6 +546,7 @@ class Counted:
 PARTS = [
     (["ar", CC], Installed, BACKENDS),
     (["valgrind"], Checked, BACKENDS),
+    ([], Sanitized, ["llvm"]),
     ([CXX], Plus, BACKENDS),
     ([PYTHON], Module, BACKENDS),
     (["cargo"], Crate, BACKENDS),

@@ -19,7 +19,7 @@ static void read_texts(void) {
         for (int64_t other = AUG_TOO_LITTLE - 1; other <= AUG_OK; other++)
             WANT(!strcmp(aug_error_text(code), aug_error_text(other)), code == other);
     WANT(strcmp(aug_error_text(AUG_NO_USER), "all users of the trie are open"), 0);
-    WANT(strcmp(aug_error_text(AUG_TOO_GREAT), "the weight would be too great"), 0);
+    WANT(strcmp(aug_error_text(AUG_TOO_GREAT), "the weight and the amount together are no weight of 32 bits"), 0);
     WANT(strcmp(aug_error_text(INT64_MIN), aug_error_text(-1000)), 0);
     WANT(strcmp(aug_error_text(INT64_MAX), aug_error_text(AUG_OK)), 0);
     WANT(strcmp(aug_version(), AUG_VERSION), 0);

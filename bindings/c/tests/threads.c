@@ -67,7 +67,8 @@ static uint32_t threads_agree(void) {
 /* Each misuse has its code. */
 static void misuses(void) {
     aug_trie other = AUG_ZEROED;
-    aug_user one = AUG_ZEROED, two = AUG_ZEROED, more = AUG_ZEROED, wild = {0x1234, (void *)8, NULL};
+    aug_user one = AUG_ZEROED, two = AUG_ZEROED, more = AUG_ZEROED, wild = {0x1234, (void *)8, (void *)8};
+    uint32_t key = 9;
     WANT(aug_open(NULL, BITS, 1, 1 << 20), AUG_CLOSED);
     WANT(aug_insert(NULL, 1), AUG_CLOSED);
     WANT(aug_close(&other, NULL), AUG_CLOSED);
@@ -75,6 +76,9 @@ static void misuses(void) {
     WANT(aug_user_close(&one), AUG_CLOSED);
     WANT(aug_insert(&one, 1), AUG_CLOSED);
     WANT(aug_insert(&wild, 1), AUG_CLOSED);
+    WANT(aug_insert_all(&wild, &key, 1), AUG_CLOSED);
+    WANT(aug_user_close(&wild), AUG_CLOSED);
+    WANT(aug_user_close(NULL), AUG_CLOSED);
     WANT(aug_insert((aug_user *)&other, 1), AUG_CLOSED);
     WANT(aug_open(&other, 0, 1, 1 << 20), AUG_BAD_BITS);
     WANT(aug_open(&other, 17, 1, 1 << 20), AUG_BAD_BITS);
@@ -83,6 +87,11 @@ static void misuses(void) {
     WANT(aug_open(&other, BITS, 1, 1000), AUG_TOO_LARGE);
     WANT(aug_open(&other, BITS, 2, 1 << 20), 0);
     WANT(aug_open(&other, BITS, 2, 1 << 20), AUG_OPEN);
+    /* The handle of a trie is no user, and nothing behind it is read. */
+    WANT(aug_insert((aug_user *)&other, 1), AUG_CLOSED);
+    WANT(aug_remove_all((aug_user *)&other, &key, 1), AUG_CLOSED);
+    WANT(aug_keys((aug_user *)&other, 0, &key, 1), AUG_CLOSED);
+    WANT(aug_user_close((aug_user *)&other), AUG_CLOSED);
     WANT(aug_user_open(&other, &one), 0);
     WANT(aug_user_open(&other, &one), AUG_OPEN);
     WANT(aug_user_open(&other, &two), 0);

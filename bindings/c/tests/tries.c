@@ -78,7 +78,8 @@ static void cross(void) {
     for (int i = 0; i < THREADS - 1; i++) WANT(pthread_create(&threads[i], 0, go, &mine[i]), 0);
     for (int i = 0; i < THREADS - 1; i++) { WANT(pthread_join(threads[i], &what), 0); WANT(what == NULL, 1); }
     WANT(aug_close(&shared, NULL), 0);
-    WANT(aug_put(&mine[THREADS - 1], 1, 1), AUG_CLOSED);
+    for (int i = 0; i < THREADS; i++) WANT(aug_put(&mine[i], 1, 1), AUG_CLOSED);
+    for (int i = 0; i < THREADS - 1; i++) WANT(aug_user_close(&mine[i]), AUG_CLOSED);
     WANT(aug_user_close(&mine[THREADS - 1]), 0);
 }
 

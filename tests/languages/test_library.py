@@ -11,6 +11,7 @@ toolchain.
 
 import functools
 import glob
+import itertools
 import os
 import re
 import shutil
@@ -53,8 +54,8 @@ LEAST_PYTHON, LEAST_RUST, LEAST_ANSWERS = 19, 24, 2001
 
 # The engines of the benchmark, and the types that their threads work with. The last one needs a crate that may not be there.
 ENGINES = {
-    "trie": r"&mut augtrie::lane::Lane",
-    "plain": r"augtrie_bench::plain::pass::Pass<.*false>",
+    "trie": r"augtrie::user::User",
+    "plain": r"augtrie_bench::plain::Worker(?:<'_>)?",
     "mutex": r"&std::[\w:]*::Mutex<augtrie_bench::sums::Sums>",
     "rwlock": r"&std::[\w:]*::RwLock<augtrie_bench::sums::Sums>",
     "btree": r"&std::[\w:]*::RwLock<alloc::[\w:]*::BTreeMap<u32, u32>>",
@@ -444,15 +445,12 @@ class Packed:
 
 
 def table(lines, first):
-    """The rows of the table whose head begins with a cell, by their first cells: each has its cells by the names of the columns, the first of those
-    that have a name twice."""
-    rows = [[cell.strip() for cell in line.strip("|").split("|")] for line in lines if line.startswith("|")]
-    at = next(number for number, row in enumerate(rows) if row[0] == first)
-    found = {}
-    for row in rows[at + 2 :]:
-        if len(row) != len(rows[at]) or row[0] in found:
-            break
-        found[row[0]] = dict(reversed(list(zip(rows[at], row))))
+    """The rows of the table whose head begins with a cell, by their first cells: each has its cells by the names of the columns."""
+    at = next(number for number, line in enumerate(lines) if line.startswith(f"| {first} |"))
+    own = itertools.takewhile(lambda line: line.startswith("|"), lines[at:])
+    head, _, *rows = [[cell.strip() for cell in line.strip("|").split("|")] for line in own]
+    found = {row[0]: dict(zip(head, row)) for row in rows}
+    assert len(found) == len(rows) and {len(row) for row in rows} == {len(head)}
     return found
 
 
@@ -485,10 +483,11 @@ class Bench:
             assert f"bench: {names[0]} was run under the name of {names[1]}\n" in said
 
     def test_bench_measures_each_engine(self):
-        said = self.script("run", "--passes", "1", "--slice", "2", "--updates", "64", "--into", os.path.join(self.folder, "measured"))
+        said = self.script("run", "--passes", "1", "--slice", "2", "--bytes", str(1 << 22), "--into", os.path.join(self.folder, "measured"))
         with open(os.path.join(self.folder, "measured", "throughput.md"), encoding="utf-8") as file:
             lines = file.read().splitlines()
         assert "\n".join(lines) in said
+        assert any(line.endswith(f" tables of at most {1 << 22} bytes") for line in lines)
         seats = table(lines, "Engine")
         assert list(seats) == list(ENGINES)
         for name, seat in ENGINES.items():
@@ -498,10 +497,10 @@ class Bench:
         cases = [f"{workload}, {count} thread{'s' * (count > 1)}" for workload in WORKLOADS for count in (1, 2, 4) if count <= processors]
         assert (list(rates), list(ratios)) == (cases, cases)
         for case in cases:
-            self.check_case(rates[case], ratios[case], case.startswith("queries"))
+            self.check_case(rates[case], ratios[case])
         self.check_picture(os.path.join(self.folder, "measured", "throughput.svg"), len(cases) // len(WORKLOADS))
 
-    def check_case(self, rates, ratios, is_queries):
+    def check_case(self, rates, ratios):
         """Holds the numbers of a case to one another. Of one pass, each median is the number itself."""
         number = lambda text: float(text.partition(" ")[0])
         rate = {name: number(rates[name]) for name in ENGINES}
@@ -512,21 +511,15 @@ class Bench:
         best_ratio = re.fullmatch(r"(\S+) \(.*\) of (\w+)", ratios["the best lock's"])
         assert rate[best] / rate[best_ratio[2]] <= 1.01
         assert number(ratios[best_ratio[2]]) == float(best_ratio[1])
-        opened = rates["openings counted in"], ratios["this with openings counted in"]
-        if is_queries:
-            assert opened == ("", "")
-        else:
-            assert number(opened[0]) < rate["trie"]
-            assert number(opened[1]) <= float(best_ratio[1])
 
     def check_picture(self, path, points):
-        """There is a panel a workload, and in it a line an engine, and another one for its openings, through as many points as there are cases."""
+        """There is a panel a workload, and in it a line an engine, through as many points as there are cases."""
         name = "{http://www.w3.org/2000/svg}"
         panels = xml.etree.ElementTree.parse(path).getroot().findall(f"{name}g")
         assert len(panels) == len(WORKLOADS)
-        for workload, panel in zip(WORKLOADS, panels):
+        for panel in panels:
             lines = [it.get("d") for it in panel.findall(f"{name}path") if it.get("stroke-width") == "2"]
-            assert len(lines) == len(ENGINES) + (0 if workload == "queries" else 2)
+            assert len(lines) == len(ENGINES)
             assert {line.count("L") + 1 for line in lines} == {points}
 
 
@@ -538,8 +531,8 @@ class Counted:
         counts = table(lines, "Instructions of a call")
         assert list(counts) == ["the library through C", "plain Rust, bounds checks", "plain Rust, no bounds checks"]
         for row in counts.values():
-            # A rank goes down 16 levels.
-            assert 0 < 3 * int(row["`size`"]) < int(row["`rank`"]) < 2000, counts
+            # A rank goes down 16 levels, and a size none.
+            assert 0 < int(row["`size`"]) < int(row["`rank`"]) - 16 * 5 < 2000, counts
 
 
 # The parts, each with the tools that it needs beside those of the first, and the builds that it is for: what needs one build alone has LLVM's.

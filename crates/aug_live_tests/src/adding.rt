@@ -79,7 +79,7 @@ fn assert_units<R: Threads + Wait + Abort + Sync>(
     let made = thread::map_vec(rt, hands, &|hand| works(rt, hand, amounts)).expect(rt, "memory");
     equal(rt, made.as_slice(), &[20 * TIMES; 4]);
     let (set, _) = live.close(rt);
-    let left = 4 * TIMES * amounts.0.saturating_sub(amounts.1);
+    let left = (amounts.0.saturating_sub(amounts.1)).saturating_mul(4 * TIMES);
     if left == 0 {
         equal(rt, set.size(), 0);
     } else {

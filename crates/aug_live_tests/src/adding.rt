@@ -1,10 +1,10 @@
 //! Additions and subtractions through handles: over rounds, and by four threads at the same ten keys.
 
-use super::opening::{HandleOf, add, opened, sub};
 use super::steps::Act::{Add, Close, Insert, Look, Over, Renew, Roll, Size, Sub, Weight};
 use super::steps::Reply::{Came, Done, Ended, Finds, Is, Number};
 use super::steps::{Row, rows};
 use crate::assertions::equal;
+use aug_live_testing::opening::{HandleOf, add, opened, sub};
 use aug_trie::BeginError;
 use aug_trie::Outcome::{Accepted, Replaced, TooGreat, TooLittle, Unchanged};
 use std::alloc::Global;

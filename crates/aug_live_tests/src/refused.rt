@@ -1,11 +1,11 @@
 //! Memory refused: nothing is lost, and a later call succeeds.
 
-use super::opening::{HandleOf, LiveOf, insert, last, no_keys, opened, put};
 use super::steps::Act::{Close, Fill, Insert, Look, Over, Remove, Renew, Roll, Size};
 use super::steps::Reply::{Done, Ended, Is, Number};
 use super::steps::{state_of, steps};
 use crate::assertions::equal;
 use aug_live::{Live, Plan};
+use aug_live_testing::opening::{HandleOf, LiveOf, insert, no_keys, opened, put};
 use aug_monoid::{Extent, Sum};
 use aug_trie::{BeginError, Members, Outcome};
 use std::alloc::Global;
@@ -70,7 +70,7 @@ fn refused_memory_loses_nothing_of_a_live_trie(rt: HostRuntime) -> Result<(), Be
 // The set of 3, which weighs 30, and 9, which weighs itself.
 fn two_keys<R: Wait + Abort>(rt: &R, alloc: Global) -> Result<Members, BeginError> {
     let (live, mut hands) = opened(alloc, 4, 1, 0, 2)?;
-    let mut hand = last(rt, &mut hands);
+    let mut hand = hands.pop().expect(rt, "a handle");
     equal(rt, put(rt, &mut hand, 3, 30), Ok(Outcome::Accepted));
     equal(rt, insert(rt, &mut hand, 9), Ok(true));
     let (set, _) = live.close(rt);

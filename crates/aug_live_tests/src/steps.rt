@@ -1,13 +1,13 @@
 //! Tries as rows of tables: what is done with a trie, its handles and a look, one step after the other, and what each step comes to. What a call
 //! of the library promises is met here once, in functions that promise nothing, so that the proof of a test is that of its data.
 
-use super::opening::{
-    HandleOf, LiveOf, LookOf, add, insert, opened, put, remove, renewed, rolled, sub, try_closed,
-    try_look, try_renewed, try_rolled, try_update,
-};
 use super::own::Band;
 use crate::assertions::equal;
 use aug_live::{Busy, LiveCounts, LiveError, TryError};
+use aug_live_testing::opening::{
+    HandleOf, LiveOf, LookOf, add, fill, insert, opened, put, remove, renewed, rolled, sub,
+    try_closed, try_fill, try_look, try_renewed, try_rolled, try_update,
+};
 use aug_query::descent::{Has, Pairs, SelectByWeight, Size, Weight};
 use aug_trie::{BeginError, Members, Outcome, Request};
 use ruled_lock::WasOut;
@@ -150,25 +150,6 @@ fn missed(cause: TryError<Busy>) -> Reply {
 fn ended(end: (Members, LiveCounts)) -> Reply {
     let (set, counts) = end;
     Reply::Ended(set.size(), counts.rounds, counts.inserts, counts.removals)
-}
-
-/// Puts `count` keys in, from the key `from` on. How many of them went in.
-pub(super) fn fill<R: Wait>(rt: &R, hand: &mut HandleOf, from: u32, count: u32) -> u32 {
-    let mut made = 0u32;
-    for k in from..from.saturating_add(count) {
-        made = made.saturating_add(u32::from(insert(rt, hand, k) == Ok(true)));
-    }
-    made
-}
-
-/// The same, by calls that wait for nobody.
-pub(super) fn try_fill(hand: &mut HandleOf, from: u32, count: u32) -> u32 {
-    let mut made = 0u32;
-    for k in from..from.saturating_add(count) {
-        let done = try_update(hand, k, Request::Insert) == Ok(Outcome::Accepted);
-        made = made.saturating_add(u32::from(done));
-    }
-    made
 }
 
 /// Makes an update that waits for nobody.

@@ -1,9 +1,9 @@
 //! Calls that wait for nobody, made again until they are done. They come to what the calls that wait do.
 
-use super::opening::{
+use aug_live::{LiveError, TryError};
+use aug_live_testing::opening::{
     HandleOf, LiveOf, LookOf, try_closed, try_look, try_renewed, try_rolled, try_update,
 };
-use aug_live::{LiveError, TryError};
 use aug_trie::{Outcome, Request};
 use std::sync::Wait;
 use std::thread::yield_now;

@@ -1,9 +1,9 @@
 //! A thread that waits for a look. tests/faults runs this test, and measures how long a processor works meanwhile.
 
 use super::holding::{rolls, signal};
-use super::opening::{HandleOf, closed, last, looked, opened, over};
-use super::steps::fill;
+use super::taking::{last, looked};
 use crate::assertions::{equal, holds};
+use aug_live_testing::opening::{HandleOf, closed, fill, opened, over};
 use aug_trie::BeginError;
 use crossbeam_channel::Sender;
 use std::process::Abort;

@@ -1,11 +1,11 @@
 //! Tries that are opened while there is enough memory: none is refused for want of it, whatever its numbers and its set are.
 ghost use Rattle.std.specs.Prelude.{◌≤◌};
 
-use super::opening::{HandleOf, LiveOf, last, no_keys};
 use super::planning::words_of;
-use super::steps::fill;
+use super::taking::last;
 use crate::assertions::equal;
 use aug_live::{Live, Plan};
+use aug_live_testing::opening::{HandleOf, LiveOf, fill, no_keys};
 use aug_monoid::{Extent, Sum};
 use aug_trie::{BeginError, Ended, Members, Round};
 use std::alloc::Global;

@@ -1,11 +1,12 @@
 //! Calls with nobody in their way: none of them is refused or has to be made again, whatever the numbers of a trie are.
 
 use super::granting::EACH;
-use super::opening::{
-    HandleOf, LiveOf, looked, opened, over, put, remove, renewed, rolled, size, try_closed,
-    try_look, try_renewed, try_rolled, try_update,
-};
+use super::taking::looked;
 use crate::assertions::{equal, holds};
+use aug_live_testing::opening::{
+    HandleOf, LiveOf, opened, over, put, remove, renewed, rolled, size, try_closed, try_look,
+    try_renewed, try_rolled, try_update,
+};
 use aug_trie::{BeginError, Outcome, Request};
 use std::alloc::Global;
 use std::process::Abort;

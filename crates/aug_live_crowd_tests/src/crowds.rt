@@ -1,9 +1,11 @@
 //! More handles than a few: each of them goes on over roll-overs, and behind calls that are refused.
 
-use super::opening::{HandleOf, LiveOf, insert, last, looked, opened, over, renewed, rolled, size};
-use super::steps::fill;
+use super::taking::{last, looked};
 use crate::assertions::{equal, holds};
 use aug_live::LiveError;
+use aug_live_testing::opening::{
+    HandleOf, LiveOf, fill, insert, opened, over, renewed, rolled, size,
+};
 use aug_trie::BeginError;
 use std::alloc::Global;
 use std::process::Abort;

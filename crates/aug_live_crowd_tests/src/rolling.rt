@@ -1,11 +1,11 @@
 //! Threads that update and look while rounds roll over, and while handles are made anew.
 
 use super::again;
-use super::opening::{
-    HandleOf, LiveOf, LookOf, closed, has, insert, may_look, opened, over, remove, renewed,
-};
 use crate::assertions::{equal, holds};
 use aug_live::LiveError;
+use aug_live_testing::opening::{
+    HandleOf, LiveOf, LookOf, closed, has, insert, may_look, opened, over, remove, renewed,
+};
 use aug_model::KeySet;
 use aug_trie::{BeginError, Members, Request};
 use std::alloc::Global;

@@ -2,9 +2,10 @@
 ghost use Rattle.std.specs.Prelude.{◌≡◌, IfOk};
 ghost use Rattle.aug_live.specs.LiveTries.{ids_of};
 
-use super::opening::{HandleOf, LiveOf, has, looked, no_keys, over, renewed, rolled};
+use super::taking::looked;
 use crate::assertions::{equal, holds};
 use aug_live::{Live, LiveError, Plan};
+use aug_live_testing::opening::{HandleOf, LiveOf, has, no_keys, over, renewed, rolled};
 use aug_trie::BeginError;
 use std::alloc::Global;
 use std::process::Abort;

@@ -1,10 +1,10 @@
 //! A look that is held while another thread's roll-over waits for it.
 
-use super::opening::{
-    HandleOf, closed, insert, last, looked, opened, over, size, take_newer_snapshot,
-};
-use super::steps::fill;
+use super::taking::{last, looked};
 use crate::assertions::{equal, holds};
+use aug_live_testing::opening::{
+    HandleOf, closed, fill, insert, opened, over, size, take_newer_snapshot,
+};
 use aug_trie::BeginError;
 use crossbeam_channel::{Receiver, Sender, unbounded};
 use std::alloc::Global;

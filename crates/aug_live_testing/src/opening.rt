@@ -6,17 +6,16 @@ use aug_query::descent::{Has, Size};
 use aug_trie::{BeginError, Ended, Members, Outcome, Request};
 use ruled_lock::WasOut;
 use std::alloc::Global;
-use std::process::Abort;
 use std::sync::Wait;
 
-pub(super) type LiveOf = Live<Sum, Extent>;
+pub type LiveOf = Live<Sum, Extent>;
 
-pub(super) type HandleOf = Handle<Sum, Extent>;
+pub type HandleOf = Handle<Sum, Extent>;
 
-pub(super) type LookOf = Look<Sum, Extent>;
+pub type LookOf = Look<Sum, Extent>;
 
 /// The empty set of keys of `bits` bits.
-pub(super) fn no_keys(alloc: Global, bits: u32) -> Result<Members, BeginError> {
+pub fn no_keys(alloc: Global, bits: u32) -> Result<Members, BeginError> {
     let ended: Ended<Sum, Extent> = Ended::empty(alloc, bits)?;
     match ended.into_members(alloc) {
         Ok(set) => Ok(set),
@@ -25,7 +24,7 @@ pub(super) fn no_keys(alloc: Global, bits: u32) -> Result<Members, BeginError> {
 }
 
 /// A trie over the empty set of keys of `bits` bits, with `spare` spare lanes.
-pub(super) fn opened(
+pub fn opened(
     alloc: Global,
     bits: u32,
     handles: u32,
@@ -43,7 +42,7 @@ pub(super) fn opened(
 }
 
 /// Puts a key in. A key of more bits is never put in.
-pub(super) fn insert<R: Wait>(rt: &R, hand: &mut HandleOf, k: u32) -> Result<bool, LiveError> {
+pub fn insert<R: Wait>(rt: &R, hand: &mut HandleOf, k: u32) -> Result<bool, LiveError> {
     if k < hand.universe() {
         hand.insert(rt, k)
     } else {
@@ -52,7 +51,7 @@ pub(super) fn insert<R: Wait>(rt: &R, hand: &mut HandleOf, k: u32) -> Result<boo
 }
 
 /// Takes a key out.
-pub(super) fn remove<R: Wait>(rt: &R, hand: &mut HandleOf, k: u32) -> Result<bool, LiveError> {
+pub fn remove<R: Wait>(rt: &R, hand: &mut HandleOf, k: u32) -> Result<bool, LiveError> {
     if k < hand.universe() {
         hand.remove(rt, k)
     } else {
@@ -61,7 +60,7 @@ pub(super) fn remove<R: Wait>(rt: &R, hand: &mut HandleOf, k: u32) -> Result<boo
 }
 
 /// Gives a key a weight.
-pub(super) fn put<R: Wait>(
+pub fn put<R: Wait>(
     rt: &R,
     hand: &mut HandleOf,
     k: u32,
@@ -75,7 +74,7 @@ pub(super) fn put<R: Wait>(
 }
 
 /// Adds to a key's weight.
-pub(super) fn add<R: Wait>(
+pub fn add<R: Wait>(
     rt: &R,
     hand: &mut HandleOf,
     k: u32,
@@ -89,7 +88,7 @@ pub(super) fn add<R: Wait>(
 }
 
 /// Takes from a key's weight.
-pub(super) fn sub<R: Wait>(
+pub fn sub<R: Wait>(
     rt: &R,
     hand: &mut HandleOf,
     k: u32,
@@ -103,7 +102,7 @@ pub(super) fn sub<R: Wait>(
 }
 
 /// Makes an update, unless it would have to wait. A key of more bits is refused.
-pub(super) fn try_update(
+pub fn try_update(
     hand: &mut HandleOf,
     k: u32,
     request: Request,
@@ -115,82 +114,82 @@ pub(super) fn try_update(
     }
 }
 
-/// The last of some handles.
-pub(super) fn last(rt: &impl Abort, hands: &mut Vec<HandleOf>) -> HandleOf {
-    hands.pop().expect(rt, "a handle")
-}
-
 /// A new handle for a lane.
-pub(super) fn renewed<R: Wait>(
-    rt: &R,
-    live: &mut LiveOf,
-    lane: u32,
-) -> Result<HandleOf, LiveError> {
+pub fn renewed<R: Wait>(rt: &R, live: &mut LiveOf, lane: u32) -> Result<HandleOf, LiveError> {
     live.handle(rt, lane)
 }
 
 /// The same, unless it would have to wait.
-pub(super) fn try_renewed(live: &mut LiveOf, lane: u32) -> Result<HandleOf, TryError<WasOut>> {
+pub fn try_renewed(live: &mut LiveOf, lane: u32) -> Result<HandleOf, TryError<WasOut>> {
     live.try_handle(lane)
 }
 
 /// Rolls the round over.
-pub(super) fn rolled<R: Wait>(rt: &R, live: &mut LiveOf) -> Result<(), LiveError> {
+pub fn rolled<R: Wait>(rt: &R, live: &mut LiveOf) -> Result<(), LiveError> {
     live.roll(rt)
 }
 
 /// The same, unless it would have to wait.
-pub(super) fn try_rolled(live: &mut LiveOf) -> Result<(), TryError<WasOut>> {
+pub fn try_rolled(live: &mut LiveOf) -> Result<(), TryError<WasOut>> {
     live.try_roll()
 }
 
 /// How many members a trie has at its end, its rounds, and how many keys were put in.
-pub(super) fn closed<R: Wait>(rt: &R, live: LiveOf) -> (u32, u64, u64) {
+pub fn closed<R: Wait>(rt: &R, live: LiveOf) -> (u32, u64, u64) {
     let (set, counts) = live.close(rt);
     (set.size(), counts.rounds, counts.inserts)
 }
 
 /// The end of a trie, or the same trie if that would have to wait.
-pub(super) fn try_closed(
-    live: LiveOf,
-) -> Result<(Members, LiveCounts), (LiveOf, TryError<WasOut>)> {
+pub fn try_closed(live: LiveOf) -> Result<(Members, LiveCounts), (LiveOf, TryError<WasOut>)> {
     live.try_close()
 }
 
 /// A look, or the handle with why there is none.
-pub(super) fn may_look<R: Wait>(rt: &R, hand: HandleOf) -> Result<LookOf, (HandleOf, LiveError)> {
+pub fn may_look<R: Wait>(rt: &R, hand: HandleOf) -> Result<LookOf, (HandleOf, LiveError)> {
     hand.look(rt)
 }
 
 /// The same, unless it would have to wait.
-pub(super) fn try_look(hand: HandleOf) -> Result<LookOf, (HandleOf, TryError<Busy>)> {
+pub fn try_look(hand: HandleOf) -> Result<LookOf, (HandleOf, TryError<Busy>)> {
     hand.try_look()
 }
 
-/// A look.
-pub(super) fn looked<R: Wait + Abort>(rt: &R, hand: HandleOf) -> LookOf {
-    let Ok(look) = may_look(rt, hand) else {
-        panic!(rt; "no look");
-    };
-    look
-}
-
 /// Ends a look.
-pub(super) fn over(look: LookOf) -> HandleOf {
+pub fn over(look: LookOf) -> HandleOf {
     look.done()
 }
 
 /// Takes a newer snapshot.
-pub(super) fn take_newer_snapshot(look: &mut LookOf) {
+pub fn take_newer_snapshot(look: &mut LookOf) {
     look.again();
 }
 
 /// Whether a key is a member.
-pub(super) fn has(look: &mut LookOf, k: u32) -> bool {
+pub fn has(look: &mut LookOf, k: u32) -> bool {
     look.ask(Has(k))
 }
 
 /// How many members a look shows.
-pub(super) fn size(look: &mut LookOf) -> u32 {
+pub fn size(look: &mut LookOf) -> u32 {
     look.ask(Size)
+}
+
+/// Puts `count` keys in, from the key `from` on. How many of them went in.
+pub fn fill<R: Wait>(rt: &R, hand: &mut HandleOf, from: u32, count: u32) -> u32 {
+    let mut made = 0u32;
+    for k in from..from.saturating_add(count) {
+        made = made.saturating_add(u32::from(insert(rt, hand, k) == Ok(true)));
+    }
+    made
+}
+
+/// The same, by calls that wait for nobody.
+pub fn try_fill(hand: &mut HandleOf, from: u32, count: u32) -> u32 {
+    let mut made = 0u32;
+    for k in from..from.saturating_add(count) {
+        let done = try_update(hand, k, Request::Insert) == Ok(Outcome::Accepted);
+        made = made.saturating_add(u32::from(done));
+    }
+    made
 }

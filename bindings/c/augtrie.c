@@ -188,16 +188,26 @@ int64_t aug_insert(aug_user *user, uint32_t key) { OF_USER(aug_try_insert(user, 
 int64_t aug_remove(aug_user *user, uint32_t key) { OF_USER(aug_try_remove(user, key)); }
 int64_t aug_put(aug_user *user, uint32_t key, uint32_t weight) { OF_USER(aug_try_put(user, key, weight)); }
 
-/* A change of a weight by an amount, which is made again too if another user changed the key in between. Nobody is waited for then. */
-#define OF_AMOUNT(call) do { \
+/* A change of what is there, which is made again too if another user changed the key in between. Nobody is waited for then. */
+#define OF_CHANGE(call) do { \
     int64_t code_; \
     if (!user) return AUG_CLOSED; \
     do CALLS_AGAIN(code_, call); while (!code_); \
     return code_; \
 } while (0)
 
-int64_t aug_add(aug_user *user, uint32_t key, uint32_t amount) { OF_AMOUNT(aug_try_add(user, key, amount)); }
-int64_t aug_sub(aug_user *user, uint32_t key, uint32_t amount) { OF_AMOUNT(aug_try_sub(user, key, amount)); }
+int64_t aug_add(aug_user *user, uint32_t key, uint32_t amount) { OF_CHANGE(aug_try_add(user, key, amount)); }
+int64_t aug_sub(aug_user *user, uint32_t key, uint32_t amount) { OF_CHANGE(aug_try_sub(user, key, amount)); }
+
+int64_t aug_pop_first(aug_user *user, aug_member *member) {
+    aug_member unwanted;
+    OF_CHANGE(aug_try_pop_first(user, member ? member : &unwanted));
+}
+
+int64_t aug_pop_last(aug_user *user, aug_member *member) {
+    aug_member unwanted;
+    OF_CHANGE(aug_try_pop_last(user, member ? member : &unwanted));
+}
 
 int64_t aug_look(aug_user *user) { OF_USER(aug_try_look(user)); }
 int64_t aug_look_again(aug_user *user) { return user ? aug_try_look_again(user) : AUG_CLOSED; }

@@ -86,6 +86,12 @@ typedef struct aug_user {
 #define AUG_ZEROED {0}
 #endif
 
+/* A member: a key, and what it weighs. */
+typedef struct aug_member {
+    uint32_t key;
+    uint32_t weight;
+} aug_member;
+
 /* What the members of an interval come to. Of no members, the least and the greatest are 0. */
 typedef struct aug_span {
     uint64_t sum;      /* the sum of their weights, modulo 2^64 */
@@ -170,6 +176,11 @@ AUG_NODISCARD int64_t aug_add(aug_user *user, uint32_t key, uint32_t amount);
    still there, 3 if the amount is 0, AUG_TOO_LITTLE, or as aug_insert. */
 AUG_NODISCARD int64_t aug_sub(aug_user *user, uint32_t key, uint32_t amount);
 
+/* Takes out the member with the least key, or the greatest, and writes it to `member`, which may be null. Answers 1, or AUG_NONE if there is
+   none, AUG_CLOSED, AUG_LOOKING. Each member comes to one caller. The call is made again as aug_add is. */
+AUG_NODISCARD int64_t aug_pop_first(aug_user *user, aug_member *member);
+AUG_NODISCARD int64_t aug_pop_last(aug_user *user, aug_member *member);
+
 /* Puts n keys in, each by an update of its own, in their order. Answers how many were not there, or as aug_insert; or AUG_BAD_LENGTH if n
    is more than 2^bits. Except after AUG_CLOSED, no update was made then. */
 AUG_NODISCARD int64_t aug_insert_all(aug_user *user, const uint32_t *keys, size_t n);
@@ -246,6 +257,8 @@ AUG_NODISCARD int64_t aug_try_look(aug_user *user);
 /* These are not made again either if another user changed the key meanwhile, and answer 0 then. */
 AUG_NODISCARD int64_t aug_try_add(aug_user *user, uint32_t key, uint32_t amount);
 AUG_NODISCARD int64_t aug_try_sub(aug_user *user, uint32_t key, uint32_t amount);
+AUG_NODISCARD int64_t aug_try_pop_first(aug_user *user, aug_member *member);
+AUG_NODISCARD int64_t aug_try_pop_last(aug_user *user, aug_member *member);
 
 /* These go on from where the one before came to, and answer 0 once an update was made for each key. */
 AUG_NODISCARD int64_t aug_try_insert_all(aug_user *user, const uint32_t *keys, size_t n, aug_progress *progress);

@@ -132,7 +132,7 @@ def a_trie_answers_as_a_sorted_list():
             check(trie, model, [0, 1])
             for _ in range(8 * min(size, 64)):
                 key, number = rng.randrange(size), rng.randrange(1, 4)
-                what = rng.choice(("add", "add", "put", "increment", "increment", "decrement", "discard", "remove"))
+                what = rng.choice(("add", "add", "put", "increment", "increment", "decrement", "discard", "remove", "popitem"))
                 if what == "add":
                     assert trie.add(key) is (key not in model)
                     model.setdefault(key, key)
@@ -148,6 +148,14 @@ def a_trie_answers_as_a_sorted_list():
                     model[key] -= number
                     assert trie.decrement(key, amount=number) is (model[key] == 0)
                     model = {it: weight for it, weight in model.items() if weight or it != key}
+                elif what == "popitem":
+                    index = rng.choice((0, -1))
+                    if model:
+                        found = sorted(model.items())[index]
+                        assert (trie.popitem(index) if index == 0 else trie.popitem()) == found
+                        del model[found[0]]
+                    else:
+                        assert raises(KeyError, trie.popitem, index)
                 elif what == "discard":
                     assert trie.discard(key) is (key in model)
                     model.pop(key, None)
@@ -413,6 +421,27 @@ def four_threads_raise_the_same_keys():
 
         found = all_at_once(*(lambda seed=seed: work(seed) for seed in range(4)))
         assert trie.weights(range(10)) == [sum(it) for it in zip(*found)]
+
+
+@test
+def each_member_is_popped_by_one_thread():
+    with Trie(12) as trie:
+        trie.put_all(range(4096), [3 * key for key in range(4096)])
+
+        def work(index):
+            found = []
+            while True:
+                try:
+                    found.append(trie.popitem(index))
+                except KeyError:
+                    return found
+
+        found = all_at_once(*(lambda index=index: work(index) for index in (0, -1, 0, -1)))
+        assert sorted(sum(found, [])) == [(key, 3 * key) for key in range(4096)]
+        assert all(run == sorted(run, reverse=index < 0) for run, index in zip(found, (0, -1, 0, -1)))
+        assert raises(IndexError, trie.popitem, 1) and raises(TypeError, trie.popitem, b"")
+        with trie.snapshot():
+            assert raises(augtrie.Looking, trie.popitem)
 
 
 @test

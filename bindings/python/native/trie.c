@@ -178,6 +178,29 @@ static PyObject *trie_decrement(PyObject *self, PyObject *args, PyObject *named)
     return change_by(self, args, named, "O|O:decrement", key_and_amount, decrement);
 }
 
+/* Takes out the first member or the last, by calls that are made again if another user changed that member meanwhile. */
+static PyObject *trie_popitem(PyObject *self, PyObject *args) {
+    PyObject *index = NULL;
+    if (!PyArg_UnpackTuple(args, "popitem", 0, 1, &index)) return NULL;
+    Py_ssize_t at = index ? PyNumber_AsSsize_t(index, PyExc_IndexError) : -1;
+    if (at == -1 && PyErr_Occurred()) return NULL;
+    if (at != 0 && at != -1) {
+        PyErr_SetString(PyExc_IndexError, "only the first member, 0, and the last, -1, are taken out by their index");
+        return NULL;
+    }
+    for (unsigned turn = 0;; turn++) {
+        aug_member member;
+        int64_t answer;
+        Seat *seat = seat_of((Trie *)self);
+        if (!seat) return NULL;
+        while ((answer = at ? aug_try_pop_last(&seat->handle, &member) : aug_try_pop_first(&seat->handle, &member)) == 0) {}
+        if (answer == 1) return Py_BuildValue("kk", (unsigned long)member.key, (unsigned long)member.weight);
+        if (answer == AUG_NONE) PyErr_SetString(PyExc_KeyError, "the set is empty");
+        else if (answer != AUG_AGAIN) raise_code(answer);
+        if (answer != AUG_AGAIN || nap(turn)) return NULL;
+    }
+}
+
 /* Makes the same update of many keys. Frees the numbers. */
 static PyObject *change_all(PyObject *self, Update update, uint32_t *keys, uint32_t *numbers, size_t count) {
     Py_ssize_t changed = 0;
@@ -233,6 +256,9 @@ static PyMethodDef methods[] = {
     {"decrement", WITH_WORDS(trie_decrement),
      "decrement($self, /, key, amount=1)\n--\n\nTakes an amount from a key's weight. A key of whose weight nothing is left goes out: True then. "
      "TooLittle if the key is not there, or weighs less."},
+    {"popitem", trie_popitem, METH_VARARGS,
+     "popitem($self, index=-1, /)\n--\n\nTakes out the last member, or with 0 the first: its key and its weight. KeyError if there is none. Each member "
+     "comes to one caller."},
     {"update", trie_update, METH_O,
      "update($self, keys, /)\n--\n\nPuts keys in, each by an update of its own: how many were not there. If one is no key of the trie, none "
      "goes in."},

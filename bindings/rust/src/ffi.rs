@@ -49,6 +49,14 @@ pub struct Span {
     pub greatest: u32,
 }
 
+/// A member that was taken out.
+#[repr(C)]
+#[derive(Default)]
+pub struct Member {
+    pub key: u32,
+    pub weight: u32,
+}
+
 /// What the life of a trie came to. A weight that was replaced counts as an insertion and a removal.
 #[repr(C)]
 #[derive(Debug, Default, Clone, Copy, PartialEq, Eq)]
@@ -76,6 +84,8 @@ unsafe extern "C" {
     pub safe fn aug_put(user: &mut User, key: u32, weight: u32) -> i64;
     pub safe fn aug_add(user: &mut User, key: u32, amount: u32) -> i64;
     pub safe fn aug_sub(user: &mut User, key: u32, amount: u32) -> i64;
+    pub safe fn aug_pop_first(user: &mut User, member: &mut Member) -> i64;
+    pub safe fn aug_pop_last(user: &mut User, member: &mut Member) -> i64;
     pub fn aug_insert_all(user: &mut User, keys: *const u32, n: usize) -> i64;
     pub fn aug_remove_all(user: &mut User, keys: *const u32, n: usize) -> i64;
     pub fn aug_put_all(user: &mut User, keys: *const u32, n: usize, weights: *const u32, weight_count: usize) -> i64;

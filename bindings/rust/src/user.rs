@@ -1,8 +1,11 @@
-use crate::ffi;
+use crate::ffi::{self, Member};
 use crate::look::Look;
 use crate::trie::Shared;
 use crate::{Error, number};
 use std::sync::Arc;
+
+// The code for no such member.
+const NONE: i64 = -1;
 
 /// What came of putting a key in with a weight.
 #[derive(Debug, Clone, Copy, PartialEq, Eq)]
@@ -54,6 +57,7 @@ impl Sum {
 /// assert_eq!(user.sub(7, 31), Err(Error::TooLittle));
 /// assert_eq!(user.look()?.get(7), Some(30));
 /// assert_eq!(user.insert_all(&[7, 8, 9]), Ok(2));
+/// assert_eq!(user.pop_first(), Ok(Some((7, 30))));
 /// # Ok::<(), Error>(())
 /// ```
 #[derive(Debug)]
@@ -93,6 +97,25 @@ impl User {
     /// or weighs less.
     pub fn sub(&mut self, key: u32, amount: u32) -> Result<Sum, Error> {
         number(ffi::aug_sub(&mut self.handle, key, amount)).map(Sum::of_answer)
+    }
+
+    /// Takes out the member with the least key, and tells that key and its weight. Each member comes to one user.
+    pub fn pop_first(&mut self) -> Result<Option<(u32, u32)>, Error> {
+        self.pop(ffi::aug_pop_first)
+    }
+
+    /// Takes out the member with the greatest key, as `pop_first`.
+    pub fn pop_last(&mut self) -> Result<Option<(u32, u32)>, Error> {
+        self.pop(ffi::aug_pop_last)
+    }
+
+    fn pop(&mut self, call: unsafe extern "C" fn(&mut ffi::User, &mut Member) -> i64) -> Result<Option<(u32, u32)>, Error> {
+        let mut member = Member::default();
+        // SAFETY: both calls that it may be are safe ones.
+        match unsafe { call(&mut self.handle, &mut member) } {
+            NONE => Ok(None),
+            answer => number(answer).map(|_| Some((member.key, member.weight))),
+        }
     }
 
     /// Puts keys in, each by an update of its own, in their order. How many were not there. Refused with `BadLength` too, if there are more

@@ -3,6 +3,7 @@ use augtrie::{Error, Look, Put, Sum, Trie, User};
 use std::collections::BTreeMap;
 use std::mem::forget;
 use std::ops::Bound;
+use std::sync::Mutex;
 use std::sync::atomic::{AtomicU32, Ordering::SeqCst};
 use std::thread;
 
@@ -34,7 +35,7 @@ fn update(user: &mut User, map: &mut BTreeMap<u32, u32>, drawn: &mut Drawn, bits
     let old = map.get(&key).copied();
     // Any weight, a small one, or all that the key has.
     let weight = [drawn.below(u32::MAX), drawn.below(9), old.unwrap_or(1)][drawn.below(3) as usize];
-    match drawn.below(5) {
+    match drawn.below(6) {
         0 => assert_eq!(user.insert(key), Ok(map.insert(key, old.unwrap_or(key)).is_none())),
         1 => assert_eq!(user.remove(key), Ok(map.remove(&key).is_some())),
         2 => assert_eq!(user.put(key, weight), Ok(if map.insert(key, weight).is_some() { Put::Replaced } else { Put::Accepted })),
@@ -46,6 +47,8 @@ fn update(user: &mut User, map: &mut BTreeMap<u32, u32>, drawn: &mut Drawn, bits
             };
             assert_eq!(user.add(key, weight), want);
         }
+        4 if weight % 2 == 0 => assert_eq!(user.pop_first(), Ok(map.pop_first())),
+        4 => assert_eq!(user.pop_last(), Ok(map.pop_last())),
         _ => {
             let want = match old.and_then(|old| old.checked_sub(weight)) {
                 _ if weight == 0 => Ok(Sum::Unchanged),
@@ -196,6 +199,24 @@ fn each_unit_of_four_threads_is_there() -> Result<(), Error> {
         let report = trie.close()?;
         assert_eq!((report.size, report.inserts - report.removals), (10, 10));
     }
+    Ok(())
+}
+
+#[test]
+fn each_member_is_popped_by_one_of_four_threads() -> Result<(), Error> {
+    let trie = Trie::new(12, 5, PLENTY)?;
+    let (keys, weights): (Vec<u32>, Vec<u32>) = (0..4096).map(|key| (key, 3 * key)).unzip();
+    assert_eq!(trie.user()?.put_all(&keys, &weights), Ok(4096));
+    let popped = Mutex::new(Vec::new());
+    each(&trie, 4, |i, mut user| {
+        let pop = if i % 2 == 0 { User::pop_first } else { User::pop_last };
+        while let Some(member) = pop(&mut user).expect("the trie is open") {
+            popped.lock().expect("no thread failed").push(member);
+        }
+    });
+    let mut popped = popped.into_inner().expect("no thread failed");
+    popped.sort_unstable();
+    assert!(popped.into_iter().eq((0..4096).map(|key| (key, 3 * key))));
     Ok(())
 }
 

@@ -4,6 +4,7 @@
 mod codes;
 mod lending;
 mod loose;
+mod pops;
 mod queries;
 mod refusal;
 mod report;

@@ -8,6 +8,9 @@ ghost use Rattle.aug_trie.specs.Snapshot.{snapshot_cut};
 ghost use Rattle.aug_trie.specs.Chains.{IsPart};
 ghost use Rattle.aug_trie.specs.Note.{chain_of_note};
 ghost use Rattle.aug_trie.specs.Pass.{chain_of};
+ghost use Rattle.aug_trie.specs.Pops.{popped, pop_updates, Pops};
+ghost use Rattle.aug_model.specs.Folds.{summary_of};
+ghost use Rattle.aug_monoid.specs.Extent.{extent_parts};
 ghost use Rattle.aug_live.specs.LiveErrors.{IfRefused};
 ghost use Rattle.aug_live.specs.LiveHandles.{Follows, Makes, handle_of, note_at};
 
@@ -16,8 +19,8 @@ use crate::end::End;
 use crate::error::{Busy, LiveError, TryError};
 use crate::lane::Obstacle;
 use crate::look::Look;
-use aug_monoid::Monoid;
-use aug_trie::{Note, Outcome, Request};
+use aug_monoid::{Extent, Monoid};
+use aug_trie::{Note, Outcome, Pop, Request, Side};
 use ruled_lock::{Patience, Tries, Waits, WasOut};
 use std::marker::Model;
 use std::sync::Wait;
@@ -403,6 +406,122 @@ impl<A: Monoid, B: Monoid> Handle<A, B> {
             Obstacle::Round(era) => self.desk.past(how, era, self.lane),
             Obstacle::Replaced => Err(TryError::Refused(LiveError::Replaced)),
         }
+    }
+}
+
+impl<A: Monoid> Handle<A, Extent> {
+    /// Takes out the member with the least key, and tells that key and its weight; `None` if a snapshot that it took shows no member. Where another call
+    /// takes that member or changes it first, it tries again, with a new snapshot. That is lock-free, and no more: it goes around only after another call
+    /// changed a key, and each time makes one more update.
+    pub fn pop_first<R: Wait>(&mut self, rt: &R) -> Result<Option<(u32, u32)>, LiveError>
+        ensures popped { IfOk result (λ taken. Makes (pop_updates (popped taken)) (Pops (summary_of A.parts extent_parts) Side.First (popped taken)) self.old self.new) }
+        ensures not_made { IfErr result (λ _. Follows self.old self.new) }
+        ensures refused { IfErr result (λ cause. cause ≢ LiveError.NoLane) }
+    {
+        self.pop(rt, Side::First)
+    }
+
+    /// Takes out the member with the greatest key, as `pop_first`.
+    pub fn pop_last<R: Wait>(&mut self, rt: &R) -> Result<Option<(u32, u32)>, LiveError>
+        ensures popped { IfOk result (λ taken. Makes (pop_updates (popped taken)) (Pops (summary_of A.parts extent_parts) Side.Last (popped taken)) self.old self.new) }
+        ensures not_made { IfErr result (λ _. Follows self.old self.new) }
+        ensures refused { IfErr result (λ cause. cause ≢ LiveError.NoLane) }
+    {
+        self.pop(rt, Side::Last)
+    }
+
+    /// One try of `pop_first`, which waits for nobody, as `try_update`. It is `Refused` if another call took that member or changed it first.
+    pub fn try_pop_first(&mut self) -> Result<Pop, TryError<Busy>>
+        ensures popped { IfOk result (λ done. Makes (pop_updates done) (Pops (summary_of A.parts extent_parts) Side.First done) self.old self.new) }
+        ensures not_made { IfErr result (λ _. Follows self.old self.new) }
+        ensures refused { IfErr result (IfRefused (λ cause. cause ≢ LiveError.NoLane)) }
+    {
+        self.try_pop(Side::First)
+    }
+
+    /// The same of `pop_last`.
+    pub fn try_pop_last(&mut self) -> Result<Pop, TryError<Busy>>
+        ensures popped { IfOk result (λ done. Makes (pop_updates done) (Pops (summary_of A.parts extent_parts) Side.Last done) self.old self.new) }
+        ensures not_made { IfErr result (λ _. Follows self.old self.new) }
+        ensures refused { IfErr result (IfRefused (λ cause. cause ≢ LiveError.NoLane)) }
+    {
+        self.try_pop(Side::Last)
+    }
+
+    // Takes out the member at one end, and tries again while another call changes that first.
+    fn pop<R: Wait>(&mut self, rt: &R, side: Side) -> Result<Option<(u32, u32)>, LiveError>
+        ensures popped { IfOk result (λ taken. Makes (pop_updates (popped taken)) (Pops (summary_of A.parts extent_parts) side (popped taken)) self.old self.new) }
+        ensures not_made { IfErr result (λ _. Follows self.old self.new) }
+        ensures refused { IfErr result (λ cause. cause ≢ LiveError.NoLane) }
+    {
+        for _ in rt.forever() {
+            let done = self.pop_once(rt, side)?;
+            match done {
+                Pop::Member(key, weight) => return Ok(Some((key, weight))),
+                Pop::Empty => return Ok(None),
+                Pop::Refused => {}
+            }
+        }
+        unreachable!()
+    }
+
+    // Tries it once.
+    fn pop_once<R: Wait>(&mut self, rt: &R, side: Side) -> Result<Pop, LiveError>
+        ensures popped { IfOk result (λ done. Makes (pop_updates done) (Pops (summary_of A.parts extent_parts) side done) self.old self.new) }
+        ensures not_made { IfErr result (λ _. Follows self.old self.new) }
+        ensures refused { IfErr result (λ cause. cause ≢ LiveError.NoLane) }
+    {
+        for _ in rt.forever() {
+            let obstacle = match self.attempt_pop(side) {
+                Ok(done) => return Ok(done),
+                Err(obstacle) => obstacle,
+            };
+            match self.past(&Waits(rt), obstacle) {
+                Ok(()) => {}
+                Err(TryError::Refused(cause)) => return Err(cause),
+                Err(TryError::Again(never)) => match never {},
+            }
+        }
+        unreachable!()
+    }
+
+    // The same, and waits for nobody.
+    fn try_pop(&mut self, side: Side) -> Result<Pop, TryError<Busy>>
+        ensures popped { IfOk result (λ done. Makes (pop_updates done) (Pops (summary_of A.parts extent_parts) side done) self.old self.new) }
+        ensures not_made { IfErr result (λ _. Follows self.old self.new) }
+        ensures refused { IfErr result (IfRefused (λ cause. cause ≢ LiveError.NoLane)) }
+    {
+        let obstacle = match self.attempt_pop(side) {
+            Ok(done) => return Ok(done),
+            Err(obstacle) => obstacle,
+        };
+        if let Err(cause) = self.past(&Tries, obstacle) {
+            return Err(busy(cause));
+        }
+        match self.attempt_pop(side) {
+            Ok(done) => Ok(done),
+            Err(obstacle) => Err(still_in_the_way(obstacle)),
+        }
+    }
+
+    // Pops, unless the lane is held, the round has to roll over first, or a newer handle has the lane.
+    fn attempt_pop(&mut self, side: Side) -> Result<Pop, Obstacle>
+        ensures popped { IfOk result (λ done. Makes (pop_updates done) (Pops (summary_of A.parts extent_parts) side done) self.old self.new) }
+        ensures not_made { IfErr result (λ _. Follows self.old self.new) }
+    {
+        let Some(end) = self.end.take() else {
+            unreachable!()
+        };
+        let (out, lane) = match end.take_to_work(self.number) {
+            Ok(taken) => taken,
+            Err((same, obstacle)) => {
+                self.end = Some(same);
+                return Err(obstacle);
+            }
+        };
+        let (lane, done) = lane.pop(side);
+        self.end = Some(out.put(lane));
+        done
     }
 }
 

@@ -4,12 +4,15 @@ ghost use Rattle.aug_trie.specs.Updates.{ComesTo};
 ghost use Rattle.aug_trie.specs.Chains.{IsPart};
 ghost use Rattle.aug_trie.specs.Note.{chain_of_note};
 ghost use Rattle.aug_trie.specs.Pass.{chain_of};
+ghost use Rattle.aug_trie.specs.Pops.{pop_updates, Pops};
+ghost use Rattle.aug_model.specs.Folds.{summary_of};
+ghost use Rattle.aug_monoid.specs.Extent.{extent_parts};
 ghost use Rattle.aug_live.specs.LiveHandles.{Follows, note_at};
 ghost use Rattle.aug_live.specs.inside.LaneKnowledge.{Worked, WorksHere, stands};
 
 use crate::ghost_value::GhostValue;
-use aug_monoid::Monoid;
-use aug_trie::{Note, Outcome, OwnedPass, Request};
+use aug_monoid::{Extent, Monoid};
+use aug_trie::{Note, Outcome, OwnedPass, Pop, Request, Side};
 use ruled_lock::WasOut;
 use std::marker::Model;
 
@@ -175,5 +178,27 @@ impl<A: Monoid, B: Monoid> Lane<A, B> {
         }
         let (work, rest) = self.into_work();
         (rest.with(work.learn(note)), Ok(()))
+    }
+}
+
+impl<A: Monoid> Lane<A, Extent> {
+    /// Takes out the member at one end, unless the updates are spent or no pass lies in the lane.
+    #[inline(always)]
+    pub(crate) fn pop(self, side: Side) -> (Lane<A, Extent>, Result<Pop, Obstacle>)
+        ensures made { IfOk result.1 (λ done. WorksHere (pop_updates done) (Pops (summary_of A.parts extent_parts) side done) self.at result.0.at) }
+        ensures same { IfErr result.1 (λ _. result.0.at ≡ self.at) }
+        ensures worked { Worked self result.0 }
+    {
+        if self.work.is_none() {
+            let obstacle = Obstacle::Round(self.era);
+            return (self, Err(obstacle));
+        }
+        let (work, rest) = self.into_work();
+        let (work, made) = work.pop(side);
+        let Ok(done) = made else {
+            let era = rest.era;
+            return (rest.with(work), Err(Obstacle::Round(era)));
+        };
+        (rest.with(work), Ok(done))
     }
 }

@@ -3,7 +3,7 @@
 use aug_live::{Busy, Handle, Live, LiveCounts, LiveError, Look, Plan, TryError};
 use aug_monoid::{Extent, Sum};
 use aug_query::descent::{Has, Size};
-use aug_trie::{BeginError, Ended, Members, Outcome, Request};
+use aug_trie::{BeginError, Ended, Members, Outcome, Pop, Request, Side};
 use ruled_lock::WasOut;
 use std::alloc::Global;
 use std::sync::Wait;
@@ -98,6 +98,26 @@ pub fn sub<R: Wait>(
         hand.sub(rt, k, amount)
     } else {
         Ok(Outcome::Refused)
+    }
+}
+
+/// Takes out the member at one end.
+pub fn pop<R: Wait>(
+    rt: &R,
+    hand: &mut HandleOf,
+    side: Side,
+) -> Result<Option<(u32, u32)>, LiveError> {
+    match side {
+        Side::First => hand.pop_first(rt),
+        Side::Last => hand.pop_last(rt),
+    }
+}
+
+/// The same, unless it would have to wait.
+pub fn try_pop(hand: &mut HandleOf, side: Side) -> Result<Pop, TryError<Busy>> {
+    match side {
+        Side::First => hand.try_pop_first(),
+        Side::Last => hand.try_pop_last(),
     }
 }
 

@@ -8,6 +8,8 @@ mod assertions;
 #[cfg(test)]
 mod own;
 #[cfg(test)]
+mod popping;
+#[cfg(test)]
 mod refused;
 #[cfg(test)]
 mod rows;

@@ -5,11 +5,11 @@ use super::own::Band;
 use crate::assertions::equal;
 use aug_live::{Busy, LiveCounts, LiveError, TryError};
 use aug_live_testing::opening::{
-    HandleOf, LiveOf, LookOf, add, fill, insert, opened, put, remove, renewed, rolled, sub,
-    try_closed, try_fill, try_look, try_renewed, try_rolled, try_update,
+    HandleOf, LiveOf, LookOf, add, fill, insert, opened, pop, put, remove, renewed, rolled, sub,
+    try_closed, try_fill, try_look, try_pop, try_renewed, try_rolled, try_update,
 };
 use aug_query::descent::{Has, Pairs, SelectByWeight, Size, Weight};
-use aug_trie::{BeginError, Members, Outcome, Request};
+use aug_trie::{BeginError, Members, Outcome, Pop, Request, Side};
 use ruled_lock::WasOut;
 use std::alloc::Global;
 use std::mem;
@@ -25,6 +25,8 @@ pub(super) enum Act {
     Put(u32, u32),
     Add(u32, u32),
     Sub(u32, u32),
+    /// Takes out the member at one end.
+    Pop(Side),
     /// Puts keys in, from the first number on as many as the second. How many of them went in.
     Fill(u32, u32),
     /// The handle makes a note, which is dropped.
@@ -54,6 +56,8 @@ pub(super) enum Act {
     TryInsert(u32),
     TryRemove(u32),
     TryPut(u32, u32),
+    TryTake(u32, u32),
+    TryPop(Side),
     TryFill(u32, u32),
     TryLook,
     TryRenew(u32),
@@ -72,6 +76,8 @@ pub(super) enum Reply {
     Later,
     Is(bool),
     Came(Outcome),
+    Popped(Option<(u32, u32)>),
+    Tried(Pop),
     Number(u32),
     Finds(Option<u32>),
     /// How many members there are, the first of them and the last.
@@ -128,6 +134,14 @@ fn came(res: Result<Outcome, LiveError>) -> Reply {
     }
 }
 
+/// What a pop comes to.
+fn popped(res: Result<Option<(u32, u32)>, LiveError>) -> Reply {
+    match res {
+        Ok(member) => Reply::Popped(member),
+        Err(cause) => Reply::Fails(cause),
+    }
+}
+
 /// What a call comes to that waits for nobody.
 fn tried(res: Result<(), TryError<WasOut>>) -> Reply {
     match res {
@@ -160,6 +174,14 @@ fn try_to(hand: &mut HandleOf, k: u32, request: Request) -> Reply {
     }
 }
 
+/// Takes out the member at one end, if it need not wait.
+fn try_to_pop(hand: &mut HandleOf, side: Side) -> Reply {
+    match try_pop(hand, side) {
+        Ok(done) => Reply::Tried(done),
+        Err(cause) => missed(cause),
+    }
+}
+
 /// What a note comes to, which is dropped.
 fn noted<R: Wait>(rt: &R, hand: &mut HandleOf) -> Reply {
     done(hand.note(rt).map(drop))
@@ -173,11 +195,14 @@ fn by_hand<R: Wait>(rt: &R, hand: &mut HandleOf, act: Act) -> Reply {
         Act::Put(k, weight) => came(put(rt, hand, k, weight)),
         Act::Add(k, amount) => came(add(rt, hand, k, amount)),
         Act::Sub(k, amount) => came(sub(rt, hand, k, amount)),
+        Act::Pop(side) => popped(pop(rt, hand, side)),
+        Act::TryPop(side) => try_to_pop(hand, side),
         Act::Fill(from, count) => Reply::Number(fill(rt, hand, from, count)),
         Act::Note => noted(rt, hand),
         Act::TryInsert(k) => try_to(hand, k, Request::Insert),
         Act::TryRemove(k) => try_to(hand, k, Request::Remove),
         Act::TryPut(k, weight) => try_to(hand, k, Request::Put(weight)),
+        Act::TryTake(k, weight) => try_to(hand, k, Request::Take(weight)),
         Act::TryFill(from, count) => Reply::Number(try_fill(hand, from, count)),
         _ => Reply::Not,
     }

@@ -32,6 +32,10 @@ int64_t aug_try_after(aug_user *user, uint32_t key);
 int64_t aug_try_first(aug_user *user);
 int64_t aug_try_last(aug_user *user);
 int64_t aug_try_range(aug_user *user, uint32_t from, uint32_t to, aug_span *span);
+int64_t aug_try_rank_all(aug_user *user, const uint32_t *keys, size_t n, uint32_t *out, size_t room);
+int64_t aug_try_has_all(aug_user *user, const uint32_t *keys, size_t n, uint8_t *out, size_t room);
+int64_t aug_try_weight_all(aug_user *user, const uint32_t *keys, size_t n, int64_t *out, size_t room);
+int64_t aug_try_keys(aug_user *user, uint32_t from, uint32_t *out, size_t room);
 
 /* ---- Version and texts ---- */
 
@@ -240,96 +244,57 @@ static size_t universe(aug_user *user) {
 static int64_t refuses(aug_user *user, const void *keys, size_t n, const void *out, size_t room) {
     size_t key_count = universe(user);
     if (!key_count) return AUG_CLOSED;
-    return n > key_count || (n && !keys) || room > SIZE_MAX / 8 || (room && !out) || room < n ? AUG_BAD_LENGTH : AUG_OK;
+    return n > key_count || (n && !keys) || room > SIZE_MAX / 16 || (room && !out) || room < n ? AUG_BAD_LENGTH : AUG_OK;
 }
 
-enum update { INSERT, REMOVE, PUT };
-
-/* Makes an update for each key from where the progress is, unless one of the keys is none of the trie. */
-static int64_t update_all(enum update asked, aug_user *user, const uint32_t *keys, size_t n, const uint32_t *weights, aug_progress *so_far) {
-    int64_t code = refuses(user, keys, n, keys, n);
-    if (code != AUG_OK) return code;
-    if (so_far->made > n) return AUG_BAD_LENGTH;
-    size_t key_count = universe(user);
-    for (size_t i = 0; i < n; i++) if (keys[i] >= key_count) return AUG_BAD_KEY;
-    for (; so_far->made < n; so_far->made++) {
-        uint32_t key = keys[so_far->made];
-        switch (asked) {
-            case INSERT: code = aug_try_insert(user, key); break;
-            case REMOVE: code = aug_try_remove(user, key); break;
-            default: code = aug_try_put(user, key, weights[so_far->made]);
-        }
-        if (code < 0) return code;
-        so_far->changed += code > 0;
-    }
-    return AUG_OK;
-}
-
-int64_t aug_try_insert_all(aug_user *user, const uint32_t *keys, size_t n, aug_progress *progress) {
-    return update_all(INSERT, user, keys, n, NULL, progress);
-}
-
-int64_t aug_try_remove_all(aug_user *user, const uint32_t *keys, size_t n, aug_progress *progress) {
-    return update_all(REMOVE, user, keys, n, NULL, progress);
-}
-
-int64_t aug_try_put_all(aug_user *user, const uint32_t *keys, size_t n, const uint32_t *weights, size_t weight_count, aug_progress *progress) {
-    int64_t code = refuses(user, weights, weight_count, weights, weight_count);
-    if (code == AUG_OK && weight_count != n) code = AUG_BAD_LENGTH;
-    return code == AUG_OK ? update_all(PUT, user, keys, n, weights, progress) : code;
-}
+/* An array for a proved call, which takes none that is null: one of no places may be anywhere. */
+static uint64_t nowhere;
+#define ARRAY(places) ((places) ? (places) : (void *)&nowhere)
 
 /* A call for an array that is made again, and goes on from where it came to, until all is done. */
 #define OF_KEYS(call) do { \
     aug_progress so_far = {0, 0}; \
-    int64_t code_; \
-    CALLS_AGAIN(code_, call); \
+    int64_t code_ = refuses(user, keys, n, keys, n); \
+    if (code_ == AUG_OK) CALLS_AGAIN(code_, call); \
     return code_ == AUG_OK ? (int64_t)so_far.changed : code_; \
 } while (0)
 
-int64_t aug_insert_all(aug_user *user, const uint32_t *keys, size_t n) { OF_KEYS(aug_try_insert_all(user, keys, n, &so_far)); }
-int64_t aug_remove_all(aug_user *user, const uint32_t *keys, size_t n) { OF_KEYS(aug_try_remove_all(user, keys, n, &so_far)); }
+int64_t aug_insert_all(aug_user *user, const uint32_t *keys, size_t n) { OF_KEYS(aug_try_insert_all(user, ARRAY(keys), n, &so_far)); }
+int64_t aug_remove_all(aug_user *user, const uint32_t *keys, size_t n) { OF_KEYS(aug_try_remove_all(user, ARRAY(keys), n, &so_far)); }
 int64_t aug_put_all(aug_user *user, const uint32_t *keys, size_t n, const uint32_t *weights, size_t weight_count) {
-    OF_KEYS(aug_try_put_all(user, keys, n, weights, weight_count, &so_far));
+    int64_t refused = refuses(user, weights, weight_count, weights, weight_count);
+    if (refused != AUG_OK) return refused;
+    OF_KEYS(aug_try_put_all(user, ARRAY(keys), n, ARRAY(weights), weight_count, &so_far));
 }
 
-/* The size of the snapshot, or why the look may not be asked for arrays. */
-static int64_t may_ask(aug_user *user, const void *keys, size_t n, const void *out, size_t room) {
-    int64_t code = refuses(user, keys, n, out, room);
-    return code == AUG_OK ? aug_try_size(user) : code;
-}
+/* A query for an array, unless its lengths are refused. */
+#define OF_PLACES(keys, n, call) do { int64_t code_ = refuses(user, keys, n, out, room); return code_ == AUG_OK ? (call) : code_; } while (0)
 
 int64_t aug_rank_all(aug_user *user, const uint32_t *keys, size_t n, uint32_t *out, size_t room) {
-    int64_t size = may_ask(user, keys, n, out, room);
-    if (size < 0) return size;
-    for (size_t i = 0; i < n; i++) out[i] = (uint32_t)aug_try_rank(user, keys[i]);
-    return AUG_OK;
+    OF_PLACES(keys, n, aug_try_rank_all(user, ARRAY(keys), n, ARRAY(out), room));
 }
 
 int64_t aug_has_all(aug_user *user, const uint32_t *keys, size_t n, uint8_t *out, size_t room) {
-    int64_t size = may_ask(user, keys, n, out, room);
-    if (size < 0) return size;
-    for (size_t i = 0; i < n; i++) out[i] = (uint8_t)aug_try_has(user, keys[i]);
-    return AUG_OK;
+    OF_PLACES(keys, n, aug_try_has_all(user, ARRAY(keys), n, ARRAY(out), room));
 }
 
-/* Writes members, and their weights if they are wanted. */
-static int64_t list(aug_user *user, uint32_t from, uint32_t *keys, uint32_t *weights, size_t room) {
-    int64_t size = may_ask(user, NULL, 0, keys, room);
-    if (size < 0) return size;
-    int64_t below = aug_try_rank(user, from), count = 0;
-    for (; (size_t)count < room && below + count < size; count++) {
-        keys[count] = (uint32_t)aug_try_select(user, (uint32_t)(below + count));
-        if (weights) weights[count] = (uint32_t)aug_try_weight(user, keys[count]);
-    }
-    return count;
+int64_t aug_weight_all(aug_user *user, const uint32_t *keys, size_t n, int64_t *out, size_t room) {
+    OF_PLACES(keys, n, aug_try_weight_all(user, ARRAY(keys), n, ARRAY(out), room));
 }
 
 int64_t aug_keys(aug_user *user, uint32_t from, uint32_t *out, size_t room) {
-    return list(user, from, out, NULL, room);
+    OF_PLACES(NULL, 0, aug_try_keys(user, from, ARRAY(out), room));
 }
 
 int64_t aug_list(aug_user *user, uint32_t from, uint32_t *keys, uint32_t *weights, size_t room) {
+    int64_t some[64];
     int64_t code = refuses(user, NULL, 0, weights, room);
-    return code == AUG_OK ? list(user, from, keys, weights, room) : code;
+    int64_t count = code == AUG_OK ? aug_keys(user, from, keys, room) : code;
+    for (int64_t done = 0; done < count;) {
+        size_t n = count - done < 64 ? (size_t)(count - done) : 64;
+        code = aug_try_weight_all(user, keys + done, n, some, n);
+        if (code != AUG_OK) return code;
+        for (size_t i = 0; i < n; i++) weights[done++] = (uint32_t)some[i];
+    }
+    return count;
 }

@@ -30,8 +30,8 @@
  *
  * Answers. Each call answers a number that is 0 or more, or one of the codes below. A call that answers a code has changed nothing of the
  * set, except one for an array that answers AUG_CLOSED or AUG_AGAIN. A handle that is null, zeroed, closed, or of the other kind is
- * answered AUG_CLOSED. Only aug_open and aug_user_open take memory. The calls aug_try_.. of one key are proved, with all that they answer;
- * what is built of them is in augtrie.c.
+ * answered AUG_CLOSED. Only aug_open and aug_user_open take memory. The calls aug_try_.. are proved, with all that they answer; what calls
+ * them again is in augtrie.c.
  */
 #ifndef AUGTRIE_H
 #define AUGTRIE_H
@@ -240,6 +240,9 @@ AUG_NODISCARD int64_t aug_rank_all(aug_user *user, const uint32_t *keys, size_t 
 /* The same of whether the snapshot has each key, 1 or 0. */
 AUG_NODISCARD int64_t aug_has_all(aug_user *user, const uint32_t *keys, size_t n, uint8_t *out, size_t room);
 
+/* The same of the weight of each key, or AUG_NONE. */
+AUG_NODISCARD int64_t aug_weight_all(aug_user *user, const uint32_t *keys, size_t n, int64_t *out, size_t room);
+
 /* Writes the least members from `from` on, rising, as many as there are, and at most `room`. Answers how many. To list all members, begin
    with 0, and go on from the last one plus 1 as long as the answer is `room`. */
 AUG_NODISCARD int64_t aug_keys(aug_user *user, uint32_t from, uint32_t *out, size_t room);
@@ -260,7 +263,8 @@ AUG_NODISCARD int64_t aug_try_sub(aug_user *user, uint32_t key, uint32_t amount)
 AUG_NODISCARD int64_t aug_try_pop_first(aug_user *user, aug_member *member);
 AUG_NODISCARD int64_t aug_try_pop_last(aug_user *user, aug_member *member);
 
-/* These go on from where the one before came to, and answer 0 once an update was made for each key. */
+/* These go on from where the one before came to, and answer 0 once an update was made for each key. A progress that is none of a call for
+   so many keys is AUG_BAD_LENGTH. Each call looks at all keys, and answers AUG_BAD_KEY before it makes an update. */
 AUG_NODISCARD int64_t aug_try_insert_all(aug_user *user, const uint32_t *keys, size_t n, aug_progress *progress);
 AUG_NODISCARD int64_t aug_try_remove_all(aug_user *user, const uint32_t *keys, size_t n, aug_progress *progress);
 AUG_NODISCARD int64_t aug_try_put_all(aug_user *user, const uint32_t *keys, size_t n, const uint32_t *weights, size_t weight_count, aug_progress *progress);

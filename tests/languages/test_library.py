@@ -169,8 +169,7 @@ def test_names_in_python():
 def test_names_and_codes_agree():
     want = {int(code) for code in re.findall(r"^pub const \w+: i64 = (-\d+);", read("crates", "aug_c", "src", "codes.rt"), re.M)}
     header = {name: int(code) for name, code in re.findall(r"\b(AUG_\w+) = (-\d+)", read("bindings", "c", "augtrie.h"))}
-    # Calls for arrays are in C, and two codes are for calls to come.
-    assert set(header.values()) == want | {header[f"AUG_{name}"] for name in ("BAD_LENGTH", "TOO_GREAT", "TOO_LITTLE")}
+    assert set(header.values()) == want
     # What is no member is None in Rust and in Python.
     refusals = {name: code for name, code in header.items() if name != "AUG_NONE"}
     assert set(re.findall(r"^    {(AUG_\w+), \"augtrie\.", extension(), re.M)) == set(refusals)

@@ -68,7 +68,7 @@ static int64_t model(enum update what, uint32_t key, uint32_t n, int64_t *weight
 
 /* All answers of a look agree with one another, and show all that the thread did, through this user or another one. */
 static void check(struct worker *w, aug_user *user) {
-    uint32_t *keys = malloc(PLACES * sizeof *keys), weights[KEYS], from = draw(w, KEYS), to = from + draw(w, KEYS), within = 0;
+    uint32_t *weights = malloc(PLACES * sizeof *weights), keys[KEYS], from = draw(w, KEYS), to = from + draw(w, KEYS), within = 0;
     uint64_t sum = 0, sum_within = 0;
     aug_span all, some;
     int64_t size = aug_size(user);
@@ -96,7 +96,7 @@ static void check(struct worker *w, aug_user *user) {
     MUST(aug_range(user, from, to, &some) == within && some.sum == sum_within, 1);
     for (uint32_t key = w->number; key < KEYS; key += OWNERS) MUST(aug_weight(user, key), w->weights[key]);
     w->looks++;
-    free(keys);
+    free(weights);
 }
 
 /* An update or a look. Answers whether the trie was closed. */

@@ -13,6 +13,32 @@ static void list_all(aug_user *user) {
     free(places);
 }
 
+/* A call goes on from where its progress is, and leaves a progress as it is that is none of its array. 7 goes in and out again. */
+static void go_on(aug_user *user) {
+    const uint32_t in[] = {5, 5, 7, 1}, out[] = {7, 9}, bad[] = {16, 3}, weights[] = {30, 40, 50, 60}, long_one[17] = {0};
+    aug_progress beyond = {5, 0}, changed = {1, 2}, half = {2, 1}, none = {0, 0}, all = {4, 4}, behind = {1, 1};
+    WANT(aug_try_insert_all(user, in, 4, &beyond), AUG_BAD_LENGTH);
+    WANT(beyond.made == 5 && beyond.changed == 0, 1);
+    WANT(aug_try_insert_all(user, in, 4, &changed), AUG_BAD_LENGTH);
+    WANT(changed.made == 1 && changed.changed == 2, 1);
+    WANT(aug_try_insert_all(user, long_one, 17, &none), AUG_BAD_LENGTH);
+    WANT(aug_try_put_all(user, in, 4, weights, 3, &none), AUG_BAD_LENGTH);
+    WANT(aug_try_remove_all(user, bad, 2, &none), AUG_BAD_KEY);
+    WANT(none.made == 0 && none.changed == 0, 1);
+    WANT(aug_try_insert_all(user, bad, 2, &behind), AUG_BAD_KEY);
+    WANT(behind.made == 1 && behind.changed == 1, 1);
+    WANT(aug_try_insert_all(user, in, 4, &all), 0);
+    WANT(all.made == 4 && all.changed == 4, 1);
+    WANT(aug_try_insert_all(user, in, 4, &half), 0);
+    WANT(half.made == 4 && half.changed == 2, 1);
+    WANT(aug_try_remove_all(user, out, 2, &none), 0);
+    WANT(none.made == 2 && none.changed == 1, 1);
+    half = (aug_progress){3, 0};
+    WANT(aug_try_put_all(user, in, 4, weights, 4, &half), 0);
+    WANT(half.made == 4 && half.changed == 1, 1);
+    WANT(aug_put(user, 1, 30), 2);
+}
+
 /* Each code has a text of its own, and no other number has one of them. */
 static void read_texts(void) {
     for (int64_t code = AUG_TOO_LITTLE; code <= AUG_NONE; code++)
@@ -33,18 +59,21 @@ int main(void) {
     const uint32_t long_one[17] = {0};
     uint32_t ranks[4] = {9, 9, 9, 9}, more[4] = {8, 8, 8, 8};
     uint8_t bits[4] = {9, 9, 9, 9};
+    int64_t weighs[4] = {9, 9, 9, 9};
 
     read_texts();
     WANT(aug_insert_all(&user, in, 4), AUG_CLOSED);
     WANT(aug_rank_all(&user, asked, 3, ranks, 4), AUG_CLOSED);
     WANT(aug_has_all(NULL, asked, 3, bits, 4), AUG_CLOSED);
     WANT(aug_list(NULL, 0, ranks, more, 4), AUG_CLOSED);
+    WANT(aug_weight_all(NULL, asked, 3, weighs, 4), AUG_CLOSED);
     WANT(ranks[0], 9);
     WANT(aug_open(&trie, 4, 1, 1 << 20), 0);
     WANT(aug_user_open(&trie, &user), 0);
     WANT(aug_rank_all(&user, asked, 3, ranks, 4), AUG_NOT_LOOKING);
     WANT(aug_keys(&user, 0, ranks, 4), AUG_NOT_LOOKING);
-    WANT(ranks[0], 9);
+    WANT(aug_weight_all(&user, asked, 3, weighs, 4), AUG_NOT_LOOKING);
+    WANT(ranks[0] == 9 && weighs[0] == 9, 1);
 
     WANT(aug_insert_all(&user, in, 4), 3);
     WANT(aug_remove_all(&user, out, 2), 1);
@@ -63,6 +92,7 @@ int main(void) {
     WANT(aug_insert_all(&user, NULL, 0), 0);
     WANT(aug_remove_all(&user, NULL, 0), 0);
     WANT(aug_put_all(&user, NULL, 0, NULL, 0), 0);
+    go_on(&user);
 
     WANT(aug_look(&user), 0);
     WANT(aug_insert_all(&user, in, 4), AUG_LOOKING);
@@ -75,6 +105,14 @@ int main(void) {
     WANT(aug_has_all(&user, in, 3, bits, 3), 0);
     WANT(bits[0] == 1 && bits[1] == 1 && bits[2] == 0 && bits[3] == 9, 1);
     WANT(aug_weight(&user, 1), 30);
+    WANT(aug_weight_all(&user, asked, 3, weighs, 2), AUG_BAD_LENGTH);
+    WANT(aug_weight_all(&user, asked, 3, NULL, 3), AUG_BAD_LENGTH);
+    WANT(aug_weight_all(&user, NULL, 3, weighs, 4), AUG_BAD_LENGTH);
+    WANT(aug_weight_all(&user, long_one, 17, weighs, 17), AUG_BAD_LENGTH);
+    WANT(aug_weight_all(&user, NULL, 0, NULL, 0), 0);
+    WANT(weighs[0], 9);
+    WANT(aug_weight_all(&user, asked, 3, weighs, 4), 0);
+    WANT(weighs[0] == AUG_NONE && weighs[1] == AUG_NONE && weighs[2] == 40 && weighs[3] == 9, 1);
     WANT(aug_keys(&user, 2, ranks, 1), 1);
     WANT(ranks[0] == 2 && ranks[1] == 0, 1);
     WANT(aug_keys(&user, 2, ranks, 4), 2);
@@ -102,7 +140,7 @@ int main(void) {
     WANT(aug_look_done(&user), 0);
 
     WANT(aug_close(&trie, &report), 0);
-    WANT(report.size == 3 && report.inserts == 5 && report.removals == 2, 1);
+    WANT(report.size == 3 && report.inserts == 8 && report.removals == 5, 1);
     WANT(aug_insert_all(&user, in, 3), AUG_CLOSED);
     WANT(aug_user_close(&user), 0);
     WANT(aug_has_all(&user, in, 3, bits, 3), AUG_CLOSED);

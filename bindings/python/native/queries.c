@@ -141,8 +141,7 @@ static int64_t rank_all(aug_user *user, const uint32_t *keys, size_t n, int64_t 
 }
 
 static int64_t weight_all(aug_user *user, const uint32_t *keys, size_t n, int64_t *answers) {
-    for (size_t i = 0; i < n; i++) answers[i] = aug_weight(user, keys[i]);
-    return AUG_OK;
+    return aug_weight_all(user, keys, n, answers, n);
 }
 
 /* The members at indices that rise or fall by a step. */

@@ -104,6 +104,7 @@ unsafe extern "C" {
     pub safe fn aug_range(user: &mut User, from: u32, to: u32, span: &mut Span) -> i64;
     pub fn aug_rank_all(user: &mut User, keys: *const u32, n: usize, out: *mut u32, room: usize) -> i64;
     pub fn aug_has_all(user: &mut User, keys: *const u32, n: usize, out: *mut u8, room: usize) -> i64;
+    pub fn aug_weight_all(user: &mut User, keys: *const u32, n: usize, out: *mut i64, room: usize) -> i64;
     // Members are listed from both ends here, by `aug_select` and `aug_weight`, which these two ask as well.
     #[expect(dead_code)]
     pub fn aug_keys(user: &mut User, from: u32, out: *mut u32, room: usize) -> i64;

@@ -134,6 +134,17 @@ impl<'user> Look<'user> {
         bits.into_iter().map(|bit: u8| bit == 1).collect()
     }
 
+    /// The weight of each key that is a member. The keys stand in any order.
+    #[must_use]
+    pub fn weights(&self, keys: &[u32]) -> Vec<Option<u32>> {
+        let mut weights = vec![0; keys.len()];
+        for (keys, out) in keys.chunks(self.most()).zip(weights.chunks_mut(self.most())) {
+            // SAFETY: the pointers are those of slices of these lengths, and nobody else has the second.
+            self.ask(|user| unsafe { ffi::aug_weight_all(user, keys.as_ptr(), keys.len(), out.as_mut_ptr(), out.len()) });
+        }
+        weights.into_iter().map(|weight: i64| u32::try_from(weight).ok()).collect()
+    }
+
     // How many keys a call takes at most.
     fn most(&self) -> usize {
         1 << self.user.borrow().trie.bits

@@ -77,6 +77,7 @@ fn ask(look: &Look, map: &BTreeMap<u32, u32>, drawn: &mut Drawn, bits: u32) {
     }
     assert_eq!(look.ranks(&some), some.iter().map(|key| look.rank(*key)).collect::<Vec<_>>());
     assert_eq!(look.contains_all(&some), some.iter().map(|key| map.contains_key(key)).collect::<Vec<_>>());
+    assert_eq!(look.weights(&some), some.iter().map(|key| map.get(key).copied()).collect::<Vec<_>>());
     for keys in some.chunks(2) {
         let (least, most) = (keys[0].min(keys[1]), keys[0].max(keys[1]));
         let from = [Bound::Included(least), Bound::Excluded(least), Bound::Unbounded][drawn.below(3) as usize];

@@ -42,6 +42,10 @@ no_user = negsuc 8
 abbrev pub is_open : ℤ
 is_open = negsuc 9
 
+-- an array is too short, or longer than there are keys, or a progress is none of a call for such an array
+abbrev pub bad_length : ℤ
+bad_length = negsuc 10
+
 -- the user holds a look
 abbrev pub looking : ℤ
 looking = negsuc 11

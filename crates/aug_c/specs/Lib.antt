@@ -5,4 +5,5 @@ pub mod Handles
 pub mod UserCalls
 pub mod PopCalls
 pub mod TrieCalls
+pub mod ArrayCalls
 pub mod inside

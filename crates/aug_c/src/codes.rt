@@ -30,6 +30,9 @@ pub const NO_USER: i64 = -9;
 /// The handle is open already.
 pub const OPEN: i64 = -10;
 
+/// An array is missing or too short, or longer than there are keys, or a progress is none of a call for such an array.
+pub const BAD_LENGTH: i64 = -11;
+
 /// The user holds a look.
 pub const LOOKING: i64 = -12;
 

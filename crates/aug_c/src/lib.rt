@@ -1,10 +1,14 @@
 //! The shared trie for programs in C and in other languages: a static library of exports over handles. No call waits for anybody.
 #![tactic(auto)]
 
+mod array_listing;
+mod array_queries;
+mod array_updates;
 mod codes;
 mod lending;
 mod loose;
 mod pops;
+mod progress;
 mod queries;
 mod refusal;
 mod report;

@@ -1,7 +1,6 @@
 -- What a pop is for a handle: what it accepted, and that one that was refused changes nothing.
-use Rattle.std.proofs.Common.{◌≡◌, ℕ, List, [], ◌++◌, Option, Some, None, sym, ap, ◌∙◌, subst}
+use Rattle.std.proofs.Common.{◌≡◌, ℕ, List, [], Option, Some, None, sym, ap, ◌∙◌, subst}
 use Rattle.std.proofs.lemmas.List.{append-nil}
-use Rattle.aug_core.specs.Cuts.{Cut}
 use Rattle.aug_core.specs.Prefixes.{IsPrefix}
 use Rattle.aug_core.specs.declared.view.Change.{Change}
 use Rattle.aug_core.proofs.PrefixLemmas.{prefix_trans}

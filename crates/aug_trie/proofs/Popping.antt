@@ -1,16 +1,15 @@
 -- What a call comes to that takes out a member of its snapshot, from what its parts come to.
-use Rattle.std.proofs.Common.{◌≡◌, ℕ, zero, suc, ◌+◌, ◌^◌, ◌<◌, ◌==◌, Bool, true, false, if◌then◌else◌, List, [], ◌∷◌, ◌++◌, All, length, length-append, Option, Some, None, sym, refl, ap, ◌∙◌, subst, inl, inr, arith}
+use Rattle.std.proofs.Common.{◌≡◌, ℕ, zero, suc, ◌+◌, ◌==◌, Bool, if◌then◌else◌, List, [], ◌∷◌, ◌++◌, All, length, length-append, Option, Some, None, sym, ap, ◌∙◌, subst, inl, inr, arith}
 use Rattle.std.specs.Prelude.{slice_get, unwrap_or}
-use Rattle.std.proofs.lemmas.Bool.{cases_Bool, eq-eqb}
-use Rattle.std.proofs.lemmas.List.{append-nil}
+use Rattle.std.proofs.lemmas.Bool.{cases_Bool}
 use Rattle.aug_core.specs.Kinds.{load_node}
 use Rattle.aug_core.specs.declared.step.StepTaken.{StepTaken}
-use Rattle.aug_core.proofs.PrefixLemmas.{prefix_refl, prefix_trans}
+use Rattle.aug_core.proofs.PrefixLemmas.{prefix_trans}
 use Rattle.aug_model.specs.Keys.{SetFacts, keys_of, list_of}
 use Rattle.aug_model.specs.Queries.{weight_of}
 use Rattle.aug_model.specs.declared.summary.Summary.{Summary}
 use Rattle.aug_trie.specs.Knowledge.{IsKnowledge}
-use Rattle.aug_trie.specs.Node.{Keeps, Stays, Reads}
+use Rattle.aug_trie.specs.Node.{Keeps, Reads}
 use Rattle.aug_trie.specs.Pass.{PassFacts, GoesOn}
 use Rattle.aug_trie.specs.Pops.{member_at, pop_updates, PopsTo, Pops}
 use Rattle.aug_trie.specs.Round.{root_of}

@@ -24,7 +24,7 @@ impl Seat for User {
             Query::Rank(key) => Answer::Rank(look.rank(*key)),
             Query::Select(index) => Answer::Select(look.select(*index)),
             Query::Range(from, to) => Answer::Range(look.range(*from..*to)),
-            Query::Ranks(keys) => Answer::Ranks(look.ranks(keys).try_into().expect("a rank for each key")),
+            Query::Ranks(keys) => Answer::Ranks(look.ranks(keys).expect("memory").try_into().expect("a rank for each key")),
         }
     }
 }

@@ -50,6 +50,7 @@ def main():
             ranked = sorted(table.items(), key=lambda it: (-it[1], it[0]))
             print("top ten:", ", ".join(f"{player} has {score}" for player, score in ranked[:10]))
             print(f"player 500 is at rank {1 + ranked.index((500, table.weight(500)))} of {len(table)}, the next player is {table.after(500)}")
+            print(f"half of the players have {ranked[len(ranked) // 2][1]} or more, one in a hundred has {ranked[len(ranked) // 100][1]}")
             clubs = club_totals(table)
             best = max(range(CLUBS), key=clubs.__getitem__)
             print(f"{table.total(0, CLUBS * PLAYERS)} points; club {best} leads with {clubs[best]}")

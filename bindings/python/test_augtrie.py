@@ -424,6 +424,42 @@ def four_threads_raise_the_same_keys():
 
 
 @test
+def a_hundred_thousand_calls_answer_as_a_sorted_dict_does():
+    rng = random.Random(5)
+    keys, weights = [], {}
+    with Trie(9, users=1, bytes=1 << 17) as trie:
+        for _ in range(100_000):
+            key, what = rng.randrange(512), rng.randrange(8)
+            at = bisect.bisect_left(keys, key)
+            is_new = key not in weights
+            if what < 3:
+                assert trie.increment(key, what + 1) is is_new
+                weights[key] = weights.get(key, 0) + what + 1
+            elif what == 3:
+                assert trie.add(key) is is_new
+                weights.setdefault(key, key)
+            elif what == 4:
+                assert trie.discard(key) is not is_new
+                if not is_new:
+                    del weights[key], keys[at]
+                continue
+            elif what == 5:
+                assert trie.bisect_left(key) == at and (key in trie) is not is_new
+                continue
+            elif what == 6:
+                assert trie.weight(key) == weights.get(key) and len(trie) == len(keys)
+                continue
+            else:
+                if keys:
+                    assert trie.popitem(0) == (keys[0], weights[keys[0]])
+                    del weights[keys.pop(0)]
+                continue
+            if is_new:
+                keys.insert(at, key)
+        assert list(trie.items()) == [(key, weights[key]) for key in keys]
+
+
+@test
 def each_member_is_popped_by_one_thread():
     with Trie(12) as trie:
         trie.put_all(range(4096), [3 * key for key in range(4096)])
@@ -845,6 +881,8 @@ def a_call_takes_microseconds():
 
 
 def main():
+    # What starts in the background inherits that interrupts are ignored.
+    signal.signal(signal.SIGINT, signal.default_int_handler)
     failed = 0
     for function in TESTS:
         try:

@@ -39,16 +39,14 @@ int main(void) {
     if (pthread_create(&a, NULL, set_timers, &even) || pthread_create(&b, NULL, set_timers, &odd)) return 1;
     pthread_join(a, NULL);
     pthread_join(b, NULL);
-    /* Fires all timers before moment 100: those of a look at once. */
+    /* Fires the timers that are due before moment 100. Each comes to one caller, also if others fire too. */
     done(aug_user_open(&timers, &clock));
     done(aug_look(&clock));
-    uint32_t due[100], at[100];
-    int64_t fired = 0, count = done(aug_rank(&clock, 100)), next = done(aug_select(&clock, (uint32_t)count));
-    done(aug_list(&clock, 0, at, due, (size_t)count));
+    int64_t fired = 0, due = done(aug_rank(&clock, 100)), next = done(aug_select(&clock, (uint32_t)due));
     printf("due before 200: %lld\n", (long long)done(aug_range(&clock, 0, 200, NULL)));
     aug_look_done(&clock);
-    for (int64_t i = 0; i < count; i++)
-        if (due[i] == 1000 + at[i]) fired += done(aug_remove(&clock, at[i]));
+    aug_member timer;
+    while (fired < due && done(aug_pop_first(&clock, &timer)) == 1) fired += timer.weight == 1000 + timer.key;
     printf("fired %lld, next at %lld\n", (long long)fired, (long long)next);
     aug_report report;
     aug_user_close(&clock);

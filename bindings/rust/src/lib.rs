@@ -51,6 +51,7 @@
 mod error;
 mod ffi;
 mod look;
+mod shared;
 mod trie;
 mod user;
 

@@ -1,3 +1,4 @@
+use crate::Error;
 use crate::ffi::{self, Span};
 use crate::user::User;
 use std::cell::RefCell;
@@ -112,37 +113,39 @@ impl<'user> Look<'user> {
         span
     }
 
-    /// How many members are below each key. The keys stand in any order.
-    #[must_use]
-    pub fn ranks(&self, keys: &[u32]) -> Vec<u32> {
-        let mut ranks = vec![0; keys.len()];
+    /// How many members are below each key. The keys stand in any order. Refused with `NoMemory`, as `contains_all` and `weights`.
+    pub fn ranks(&self, keys: &[u32]) -> Result<Vec<u32>, Error> {
+        let mut ranks = places(keys.len(), 0)?;
         for (keys, out) in keys.chunks(self.most()).zip(ranks.chunks_mut(self.most())) {
             // SAFETY: the pointers are those of slices of these lengths, and nobody else has the second.
             self.ask(|user| unsafe { ffi::aug_rank_all(user, keys.as_ptr(), keys.len(), out.as_mut_ptr(), out.len()) });
         }
-        ranks
+        Ok(ranks)
     }
 
     /// Whether each key is a member. The keys stand in any order.
-    #[must_use]
-    pub fn contains_all(&self, keys: &[u32]) -> Vec<bool> {
-        let mut bits = vec![0; keys.len()];
+    pub fn contains_all(&self, keys: &[u32]) -> Result<Vec<bool>, Error> {
+        let mut bits = places(keys.len(), false)?;
         for (keys, out) in keys.chunks(self.most()).zip(bits.chunks_mut(self.most())) {
-            // SAFETY: the pointers are those of slices of these lengths, and nobody else has the second.
-            self.ask(|user| unsafe { ffi::aug_has_all(user, keys.as_ptr(), keys.len(), out.as_mut_ptr(), out.len()) });
+            // SAFETY: the pointers are those of slices of these lengths, and nobody else has the second, where the library writes 1 or 0.
+            self.ask(|user| unsafe { ffi::aug_has_all(user, keys.as_ptr(), keys.len(), out.as_mut_ptr().cast(), out.len()) });
         }
-        bits.into_iter().map(|bit: u8| bit == 1).collect()
+        Ok(bits)
     }
 
     /// The weight of each key that is a member. The keys stand in any order.
-    #[must_use]
-    pub fn weights(&self, keys: &[u32]) -> Vec<Option<u32>> {
-        let mut weights = vec![0; keys.len()];
-        for (keys, out) in keys.chunks(self.most()).zip(weights.chunks_mut(self.most())) {
-            // SAFETY: the pointers are those of slices of these lengths, and nobody else has the second.
-            self.ask(|user| unsafe { ffi::aug_weight_all(user, keys.as_ptr(), keys.len(), out.as_mut_ptr(), out.len()) });
+    pub fn weights(&self, keys: &[u32]) -> Result<Vec<Option<u32>>, Error> {
+        let mut weights = places(keys.len(), None)?;
+        let mut some = [0; 64];
+        let most = self.most().min(some.len());
+        for (keys, out) in keys.chunks(most).zip(weights.chunks_mut(most)) {
+            // SAFETY: the pointers are those of a slice of this length and of an array that has as many places.
+            self.ask(|user| unsafe { ffi::aug_weight_all(user, keys.as_ptr(), keys.len(), some.as_mut_ptr(), keys.len()) });
+            for (out, weight) in out.iter_mut().zip(some) {
+                *out = u32::try_from(weight).ok();
+            }
         }
-        weights.into_iter().map(|weight: i64| u32::try_from(weight).ok()).collect()
+        Ok(weights)
     }
 
     // How many keys a call takes at most.
@@ -160,6 +163,14 @@ impl<'user> Look<'user> {
         let (from, to) = ends(keys);
         Iter { look: self, indices: self.rank(from)..self.rank(to) }
     }
+}
+
+// Some values, or `NoMemory`.
+fn places<T: Clone>(count: usize, value: T) -> Result<Vec<T>, Error> {
+    let mut places = Vec::new();
+    places.try_reserve_exact(count).map_err(|_| Error::NoMemory)?;
+    places.resize(count, value);
+    Ok(places)
 }
 
 // The first key of an interval, and the first one above it. The greatest numbers of 32 bits are no keys.

@@ -1,7 +1,8 @@
 use crate::ffi::{self, Report};
+use crate::shared::Shared;
 use crate::user::User;
 use crate::{Error, number};
-use std::sync::{Arc, PoisonError, RwLock};
+use std::sync::PoisonError;
 
 /// A trie: a set of keys below `2^bits` with a weight of 32 bits each. Its clones are the same trie, and any thread may have one.
 ///
@@ -20,24 +21,16 @@ use std::sync::{Arc, PoisonError, RwLock};
 /// ```
 #[derive(Debug, Clone)]
 #[must_use = "a trie closes when nobody has it any longer"]
-pub struct Trie(Arc<Shared>);
-
-/// The trie that its clones and users share.
-#[derive(Debug)]
-pub(crate) struct Shared {
-    // It is locked for reading while a user is opened, and for writing while the trie is closed, for that is its last call.
-    handle: RwLock<ffi::Trie>,
-    pub(crate) bits: u32,
-}
+pub struct Trie(Shared);
 
 impl Trie {
     /// Opens the empty trie for keys of 1 to 16 bits and 1 to 64 users at a time, whose table takes at most so many bytes: twice as many
     /// while it is opened. With more bytes it is full less often. `1 << 20` are plenty for 12 bits, and each bit more takes twice as many.
     /// Refused with `BadBits`, `BadUsers`, `TooLarge` if the bytes are too few, and `NoMemory`.
     pub fn new(bits: u32, users: u32, bytes: u64) -> Result<Trie, Error> {
-        let mut handle = ffi::Trie::CLOSED;
-        number(ffi::aug_open(&mut handle, bits, users, bytes))?;
-        Ok(Trie(Arc::new(Shared { handle: RwLock::new(handle), bits })))
+        let shared = Shared::new(bits).ok_or(Error::NoMemory)?;
+        number(ffi::aug_open(&mut shared.handle.write().unwrap_or_else(PoisonError::into_inner), bits, users, bytes))?;
+        Ok(Trie(shared))
     }
 
     /// Opens a user. Refused with `NoUser` if all are open, `NoMemory`, and `Closed`: by a `close` of another thread from its beginning on.
@@ -47,7 +40,7 @@ impl Trie {
         let handle = self.0.handle.try_read().map_err(|_| Error::Closed)?;
         let mut user = ffi::User::CLOSED;
         number(ffi::aug_user_open(&handle, &mut user))?;
-        Ok(User { handle: user, trie: Arc::clone(&self.0) })
+        Ok(User { handle: user, trie: self.0.clone() })
     }
 
     /// Closes the trie, and tells what its life came to. Its users answer `Closed` from then on, and so does a second `close`.
@@ -64,12 +57,5 @@ impl Trie {
     #[must_use]
     pub fn bits(&self) -> u32 {
         self.0.bits
-    }
-}
-
-impl Drop for Shared {
-    fn drop(&mut self) {
-        // No user is left, so there is no look to wait for.
-        ffi::aug_close(self.handle.get_mut().unwrap_or_else(PoisonError::into_inner), None);
     }
 }

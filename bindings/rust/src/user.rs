@@ -1,8 +1,7 @@
 use crate::ffi::{self, Member};
 use crate::look::Look;
-use crate::trie::Shared;
+use crate::shared::Shared;
 use crate::{Error, number};
-use std::sync::Arc;
 
 // The code for no such member.
 const NONE: i64 = -1;
@@ -64,7 +63,7 @@ impl Sum {
 pub struct User {
     pub(crate) handle: ffi::User,
     // The trie is closed after its users.
-    pub(crate) trie: Arc<Shared>,
+    pub(crate) trie: Shared,
 }
 
 impl User {

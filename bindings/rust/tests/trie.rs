@@ -6,6 +6,7 @@ use std::ops::Bound;
 use std::sync::Mutex;
 use std::sync::atomic::{AtomicU32, Ordering::SeqCst};
 use std::thread;
+use std::time::Duration;
 
 // So many that no test here fills the table, whatever the bits.
 const PLENTY: u64 = 1 << 24;
@@ -75,9 +76,9 @@ fn ask(look: &Look, map: &BTreeMap<u32, u32>, drawn: &mut Drawn, bits: u32) {
         assert_eq!(look.after(key), map.range((Bound::Excluded(key), Bound::Unbounded)).next().map(|pair| *pair.0));
         assert_eq!(look.select(key), pairs.get(key as usize).map(|pair| pair.0));
     }
-    assert_eq!(look.ranks(&some), some.iter().map(|key| look.rank(*key)).collect::<Vec<_>>());
-    assert_eq!(look.contains_all(&some), some.iter().map(|key| map.contains_key(key)).collect::<Vec<_>>());
-    assert_eq!(look.weights(&some), some.iter().map(|key| map.get(key).copied()).collect::<Vec<_>>());
+    assert_eq!(look.ranks(&some), Ok(some.iter().map(|key| look.rank(*key)).collect::<Vec<_>>()));
+    assert_eq!(look.contains_all(&some), Ok(some.iter().map(|key| map.contains_key(key)).collect::<Vec<_>>()));
+    assert_eq!(look.weights(&some), Ok(some.iter().map(|key| map.get(key).copied()).collect::<Vec<_>>()));
     for keys in some.chunks(2) {
         let (least, most) = (keys[0].min(keys[1]), keys[0].max(keys[1]));
         let from = [Bound::Included(least), Bound::Excluded(least), Bound::Unbounded][drawn.below(3) as usize];
@@ -117,7 +118,7 @@ fn all_calls_answer_as_a_map_does() -> Result<(), Error> {
             assert_eq!(trie.clone().bits(), bits);
             let (mut one, mut other, mut map) = (trie.user()?, trie.user()?, BTreeMap::new());
             for _ in 0..6 {
-                for _ in 0..50 {
+                for _ in 0..270 {
                     update(&mut one, &mut map, &mut drawn, bits);
                     update(&mut other, &mut map, &mut drawn, bits);
                 }
@@ -171,9 +172,10 @@ fn many_keys_go_in_one_call() -> Result<(), Error> {
     assert!(look.iter().eq([(1, 30), (2, 40), (5, 5)]));
     // More keys than the trie has.
     let long: Vec<u32> = (0..100).map(|i| i % 20).collect();
-    assert!(look.ranks(&long).into_iter().eq(long.iter().map(|key| look.rank(*key))));
-    assert!(look.contains_all(&long).into_iter().eq(long.iter().map(|key| [1, 2, 5].contains(key))));
-    assert!(look.ranks(&[]).is_empty() && look.contains_all(&[]).is_empty());
+    assert!(look.ranks(&long)?.into_iter().eq(long.iter().map(|key| look.rank(*key))));
+    assert!(look.contains_all(&long)?.into_iter().eq(long.iter().map(|key| [1, 2, 5].contains(key))));
+    assert!(look.weights(&long)?.into_iter().eq(long.iter().map(|key| look.get(*key))));
+    assert!(look.ranks(&[])?.is_empty() && look.contains_all(&[])?.is_empty() && look.weights(&[])?.is_empty());
     Ok(())
 }
 
@@ -425,6 +427,9 @@ fn looks_agree_and_never_go_back_while_others_fill_the_table() -> Result<(), Err
                 }
                 look.again();
             }
+            drop(look);
+            // Whoever waits for the look comes to it only if it is tried while there is none.
+            thread::sleep(Duration::from_micros(200));
             looks += 1;
         }
         Ok::<u32, Error>(looks)

@@ -6,7 +6,8 @@
 #include <stdlib.h>
 #include <string.h>
 
-enum { KEYS = 65536, UPDATES = 65536 };
+// With so many bytes the table is not full before all is done.
+enum { KEYS = 65536, BYTES = 1 << 25 };
 
 static uint32_t half(uint32_t i) { return i * 20011u % (KEYS / 2); }
 static uint32_t key(uint32_t i) { return i * 40503u % KEYS; }
@@ -22,25 +23,26 @@ int main(int count, char **words) {
     const char *operation = words[1];
     uint32_t times = (uint32_t)atoi(words[2]);
     int is_known = !strcmp(operation, "none");
-    aug_trie trie = {0};
-    aug_lane lane = {0};
+    aug_trie trie = AUG_ZEROED;
+    aug_user user = AUG_ZEROED;
     aug_span span;
-    if (aug_open(&trie, 16, 1) || aug_begin(&trie, 16, 1, UPDATES) || aug_open_lane(&trie, &lane)) return 1;
+    if (aug_open(&trie, 16, 1, BYTES) || aug_user_open(&trie, &user)) return 1;
     for (uint32_t i = 0; i < KEYS / 2; i++)
-        if (aug_insert(&lane, 2 * i) != 1) return 1;
-    aug_look(&lane);
+        if (aug_insert(&user, 2 * i) != 1) return 1;
     uint64_t sum = 0;
-    EACH("insert_new", aug_insert(&lane, 2 * half(i) + 1))
-    EACH("insert_present", aug_insert(&lane, 2 * half(i)))
-    EACH("put", aug_put(&lane, 2 * half(i), i))
-    EACH("has", aug_has(&lane, key(i)))
-    EACH("rank", aug_rank(&lane, key(i)))
-    EACH("select", aug_select(&lane, half(i)))
-    EACH("before", aug_before(&lane, key(i)))
-    EACH("after", aug_after(&lane, key(i)))
-    EACH("range", aug_range(&lane, half(i), KEYS / 2 + key(i) % (KEYS / 2), &span))
-    EACH("size", aug_size(&lane))
-    EACH("look", aug_look(&lane))
+    EACH("insert_new", aug_insert(&user, 2 * half(i) + 1))
+    EACH("insert_present", aug_insert(&user, 2 * half(i)))
+    EACH("put", aug_put(&user, 2 * half(i), i))
+    EACH("look", aug_look(&user) || aug_look_done(&user))
+    if (aug_look(&user)) return 1;
+    EACH("again", aug_look_again(&user))
+    EACH("has", aug_has(&user, key(i)))
+    EACH("rank", aug_rank(&user, key(i)))
+    EACH("select", aug_select(&user, half(i)))
+    EACH("before", aug_before(&user, key(i)))
+    EACH("after", aug_after(&user, key(i)))
+    EACH("range", aug_range(&user, half(i), KEYS / 2 + key(i) % (KEYS / 2), &span))
+    EACH("size", aug_size(&user))
     if (!is_known) return 2;
     printf("%" PRIu64 "\n", sum);
     return 0;

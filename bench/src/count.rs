@@ -1,15 +1,15 @@
 use crate::operation::{BITS, KEYS};
 use crate::plain::{Pass, Words, room};
 
-const UPDATES: u32 = 65_536;
+/// The table is not full before all is done.
+const BYTES: u64 = 1 << 25;
 
 /// Makes an operation of the plain algorithm so many times, for a counter of instructions: the sum of the answers. `ops.c` does the same of the
 /// library.
 pub fn count<const CHECKED: bool>(operation: &str, times: u32) -> Option<u64> {
-    let room = room(BITS as usize, UPDATES as usize);
-    let words = Words::<CHECKED> { words: &room, bits: BITS as usize };
-    let first = words.open(|_| 0);
-    let mut pass = Pass { words, next: first, end: first + u64::from(UPDATES * BITS) };
+    let table = room(BYTES);
+    let words = Words::<CHECKED> { words: &table, bits: BITS as usize };
+    let mut pass = Pass { words, left: &mut (words.open()..words.records()) };
     for i in 0..KEYS / 2 {
         pass.insert(u64::from(2 * i));
     }
@@ -29,6 +29,7 @@ pub fn count<const CHECKED: bool>(operation: &str, times: u32) -> Option<u64> {
         "insert_new" => each!(i, u64::from(pass.insert(2 * half(i) + 1))),
         "insert_present" => each!(i, u64::from(pass.insert(2 * half(i)))),
         "put" => each!(i, pass.put(2 * half(i), u64::from(i))),
+        "look" | "again" => each!(i, u64::from(i > times + (words.snapshot() >> 60) as u32)),
         "has" => each!(i, u64::from(words.has(now, key(i)))),
         "rank" => each!(i, words.rank(now, key(i))),
         "select" => each!(i, words.select(now, half(i)).unwrap_or(u64::MAX)),
@@ -39,7 +40,6 @@ pub fn count<const CHECKED: bool>(operation: &str, times: u32) -> Option<u64> {
             let _ = i;
             words.size(now)
         }),
-        "look" => each!(i, u64::from(i > times + (words.snapshot() >> 60) as u32)),
         _ => return None,
     }
     Some(sum)

@@ -1,13 +1,10 @@
 use crate::operation::{Answer, Change, Query, Update};
 
 /// A set that threads share, empty at first.
-pub trait Engine: Default {
+pub trait Engine {
     const NAME: &'static str;
 
-    /// Whether it goes on by rounds, in which each thread has a number of updates.
-    const ROUNDS: bool = false;
-
-    /// Whether its threads take locks: the trie is held to the best of these.
+    /// Whether its threads wait for one lock: the trie is held to the best of these.
     const LOCKS: bool = false;
 
     /// What a thread works with.
@@ -15,8 +12,11 @@ pub trait Engine: Default {
     where
         Self: 'engine;
 
-    /// Lends a seat to each thread, for so many updates if it has rounds.
-    fn lend<T>(&mut self, threads: usize, updates: u32, run: impl FnOnce(Vec<Self::Seat<'_>>) -> T) -> T;
+    /// One for so many threads. If it works in a table, that takes at most so many bytes.
+    fn new(threads: usize, bytes: u64) -> Self;
+
+    /// A seat for each of so many threads, of those that it is for.
+    fn seats(&mut self, threads: usize) -> Vec<Self::Seat<'_>>;
 }
 
 /// What a thread works with: each query is asked of a fresh snapshot, or under the lock.

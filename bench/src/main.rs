@@ -16,14 +16,13 @@ mod picture;
 mod plain;
 mod processors;
 mod random;
-mod rounds;
 mod runner;
 mod shared;
-mod slice;
 mod spread;
 mod sums;
 mod table;
 mod tree;
+mod users;
 mod workload;
 
 use options::{Options, USAGE};
@@ -38,7 +37,7 @@ fn measure(options: &Options) -> Result<(), String> {
             eprintln!("bench: {case} are left out, since there are {places} processors");
         } else {
             eprintln!("bench: {case}");
-            measured.push((case, case.measure(options.passes, options.slice, options.renamed)?));
+            measured.push((case, case.measure(options)?));
         }
     }
     if measured.is_empty() {

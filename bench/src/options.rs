@@ -3,6 +3,9 @@ use crate::workload::Workload;
 use std::path::PathBuf;
 use std::time::Duration;
 
+/// In so many bytes each table has room for some updates, for as many threads as may be.
+pub const LEAST_BYTES: u64 = 1 << 22;
+
 /// What the command line asks for.
 pub struct Options {
     pub check: bool,
@@ -11,7 +14,8 @@ pub struct Options {
     pub renamed: Option<(usize, usize)>,
     pub passes: usize,
     pub slice: Duration,
-    pub updates: u32,
+    /// The table of the trie, and that of the plain one, takes at most so many.
+    pub bytes: u64,
     pub workloads: Vec<Workload>,
     pub threads: Vec<usize>,
     pub into: PathBuf,
@@ -21,8 +25,8 @@ pub const USAGE: &str = "\
 usage: bench/run [OPTION..]
   --into FOLDER       where throughput.md and throughput.svg go (bench/out if not given)
   --passes N          how often each engine gets its turn (9)
-  --slice MS          how long a turn is at least, in milliseconds (100)
-  --updates N         updates of a thread in a round of the trie, 1 to 65536 (4096)
+  --slice MS          how long a turn is, in milliseconds (100)
+  --bytes N           what the table of the trie may take, 4194304 to 536870912 (16777216)
   --workload NAME     updates, tenth, queries or batches alone
   --threads N         so many threads alone, and not 1, 2 and 4
   --check             compares the answers of all engines, and measures nothing
@@ -32,14 +36,14 @@ tries what has to be found out:
 
 impl Options {
     pub fn cases(&self) -> impl Iterator<Item = Case> {
-        self.workloads.iter().flat_map(move |&workload| self.threads.iter().map(move |&threads| Case { workload, threads, updates: self.updates }))
+        self.workloads.iter().flat_map(move |&workload| self.threads.iter().map(move |&threads| Case { workload, threads }))
     }
 
     /// None if the words are wrong.
     pub fn of(mut words: impl Iterator<Item = String>) -> Option<Options> {
         let (check, without, renamed, into) = (false, None, None, PathBuf::from("."));
-        let (passes, slice, updates) = (9, Duration::from_millis(100), 4096);
-        let mut options = Options { check, without, renamed, passes, slice, updates, workloads: Workload::ALL.into(), threads: vec![1, 2, 4], into };
+        let (passes, slice, bytes) = (9, Duration::from_millis(100), 1 << 24);
+        let mut options = Options { check, without, renamed, passes, slice, bytes, workloads: Workload::ALL.into(), threads: vec![1, 2, 4], into };
         while let Some(word) = words.next() {
             if word == "--check" {
                 options.check = true;
@@ -52,7 +56,7 @@ impl Options {
                 "--rename" => options.renamed = Some((number()? as usize, words.next()?.parse().ok()?)),
                 "--passes" => options.passes = number().filter(|&it| it > 0)? as usize,
                 "--slice" => options.slice = Duration::from_millis(number().filter(|&it| it > 0)?.into()),
-                "--updates" => options.updates = number().filter(|it| (1..=65_536).contains(it))?,
+                "--bytes" => options.bytes = number().map(u64::from).filter(|it| (LEAST_BYTES..=1 << 29).contains(it))?,
                 "--workload" => options.workloads = vec![Workload::ALL.into_iter().find(|it| it.name() == value)?],
                 "--threads" => options.threads = vec![number().filter(|it| (1..=64).contains(it))? as usize],
                 "--into" => options.into = value.into(),

@@ -7,60 +7,117 @@ pub use pass::Pass;
 pub use words::{Words, room};
 
 use crate::engine::{Engine, Seat};
-use crate::operation::{Answer, BITS, Change, KEYS, Query, Update};
+use crate::operation::{Answer, BITS, Change, Query, Update};
 use augtrie::Span;
+use std::ops::Range;
+use std::sync::atomic::{AtomicU64, Ordering::SeqCst};
+use std::sync::{Mutex, MutexGuard};
 
-/// It between rounds, without bounds checks: the words of the leaves.
+/// A thread takes so many records at a time, for 256 updates.
+const SHARE: u64 = 256 * BITS as u64;
+
+/// The records that a thread has left, which it holds while it works. They have a line of the cache for themselves.
+#[derive(Default)]
+#[repr(align(128))]
+struct Lane(Mutex<Range<u64>>);
+
+fn held(lane: &Lane) -> MutexGuard<'_, Range<u64>> {
+    lane.0.lock().expect("no thread panics")
+}
+
+/// The table, without bounds checks, and what its threads have of it.
 pub struct Plain {
-    leaves: Vec<u64>,
+    table: Vec<AtomicU64>,
+    /// The number of the first record that no thread took.
+    next: AtomicU64,
+    lanes: Vec<Lane>,
 }
 
-impl Default for Plain {
-    fn default() -> Plain {
-        Plain { leaves: vec![0; KEYS as usize] }
-    }
-}
-
-impl Seat for Pass<'_, false> {
-    fn update(&mut self, update: Update) -> Change {
-        match update {
-            Update::Insert(key) if self.insert(u64::from(key)) => Change::Came,
-            Update::Remove(key) if self.remove(u64::from(key)) => Change::Left,
-            Update::Insert(_) | Update::Remove(_) => Change::Nothing,
-            Update::Put(key, weight) => [Change::Nothing, Change::Came, Change::Weighed][self.put(u64::from(key), u64::from(weight)) as usize],
-        }
+impl Plain {
+    fn words(&self) -> Words<'_, false> {
+        Words { words: &self.table, bits: BITS as usize }
     }
 
-    fn ask(&mut self, query: &Query) -> Answer {
-        let now = self.words.snapshot();
-        let rank = |key: u32| self.words.rank(now, u64::from(key)) as u32;
-        match query {
-            Query::Rank(key) => Answer::Rank(rank(*key)),
-            Query::Select(index) => Answer::Select(self.words.select(now, u64::from(*index)).map(|key| key as u32)),
-            Query::Range(from, to) => {
-                let all = self.words.range(now, u64::from(*from), u64::from(*to));
-                let ends = if all.count > 0 { all.extent } else { 0 };
-                Answer::Range(Span { sum: all.sum, count: all.count as u32, least: (ends >> 32) as u32, greatest: ends as u32 })
-            }
-            Query::Ranks(keys) => Answer::Ranks(keys.map(rank)),
+    /// Takes records, if there are enough.
+    fn share(&self) -> Option<Range<u64>> {
+        let first = self.next.fetch_add(SHARE, SeqCst);
+        (first + SHARE <= self.words().records()).then_some(first..first + SHARE)
+    }
+
+    /// Lays the table out again while no thread works, unless another thread has just done so.
+    fn roll(&self) {
+        let mut lanes: Vec<_> = self.lanes.iter().map(held).collect();
+        if self.next.load(SeqCst) + SHARE > self.words().records() {
+            self.next.store(self.words().open(), SeqCst);
+            lanes.iter_mut().for_each(|left| **left = 0..0);
         }
     }
 }
 
 impl Engine for Plain {
     const NAME: &'static str = "plain";
-    const ROUNDS: bool = true;
-    type Seat<'engine> = Pass<'engine, false>;
+    type Seat<'engine> = Worker<'engine>;
 
-    fn lend<T>(&mut self, threads: usize, updates: u32, run: impl FnOnce(Vec<Pass<'_, false>>) -> T) -> T {
-        let room = room(BITS as usize, threads * updates as usize);
-        let words = Words { words: &room, bits: BITS as usize };
-        let (first, records) = (words.open(|key| self.leaves[key as usize]), u64::from(updates * BITS));
-        let pass = |thread| Pass { words, next: first + thread * records, end: first + (thread + 1) * records };
-        let done = run((0..threads as u64).map(pass).collect());
-        for (key, leaf) in self.leaves.iter_mut().enumerate() {
-            *leaf = words.load(key);
+    fn new(threads: usize, bytes: u64) -> Plain {
+        let lanes = (0..threads).map(|_| Lane::default()).collect();
+        let mut plain = Plain { table: room(bytes), next: AtomicU64::new(0), lanes };
+        plain.next = plain.words().open().into();
+        plain
+    }
+
+    fn seats(&mut self, threads: usize) -> Vec<Worker<'_>> {
+        self.lanes[..threads].iter().map(|lane| Worker { plain: self, lane }).collect()
+    }
+}
+
+/// A thread of it.
+pub struct Worker<'t> {
+    plain: &'t Plain,
+    lane: &'t Lane,
+}
+
+impl<'t> Worker<'t> {
+    /// Its records, once some are left.
+    fn left(&self) -> MutexGuard<'t, Range<u64>> {
+        loop {
+            let mut left = held(self.lane);
+            if left.is_empty() {
+                *left = self.plain.share().unwrap_or_default();
+            }
+            if !left.is_empty() {
+                return left;
+            }
+            drop(left);
+            self.plain.roll();
         }
-        done
+    }
+}
+
+impl Seat for Worker<'_> {
+    fn update(&mut self, update: Update) -> Change {
+        let mut pass = Pass { words: self.plain.words(), left: &mut self.left() };
+        match update {
+            Update::Insert(key) if pass.insert(u64::from(key)) => Change::Came,
+            Update::Remove(key) if pass.remove(u64::from(key)) => Change::Left,
+            Update::Insert(_) | Update::Remove(_) => Change::Nothing,
+            Update::Put(key, weight) => [Change::Nothing, Change::Came, Change::Weighed][pass.put(u64::from(key), u64::from(weight)) as usize],
+        }
+    }
+
+    fn ask(&mut self, query: &Query) -> Answer {
+        let _held = held(self.lane);
+        let words = self.plain.words();
+        let now = words.snapshot();
+        let rank = |key: u32| words.rank(now, u64::from(key)) as u32;
+        match query {
+            Query::Rank(key) => Answer::Rank(rank(*key)),
+            Query::Select(index) => Answer::Select(words.select(now, u64::from(*index)).map(|key| key as u32)),
+            Query::Range(from, to) => {
+                let all = words.range(now, u64::from(*from), u64::from(*to));
+                let ends = if all.count > 0 { all.extent } else { 0 };
+                Answer::Range(Span { sum: all.sum, count: all.count as u32, least: (ends >> 32) as u32, greatest: ends as u32 })
+            }
+            Query::Ranks(keys) => Answer::Ranks(keys.map(rank)),
+        }
     }
 }

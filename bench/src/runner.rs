@@ -4,7 +4,6 @@ use crate::engine::{Engine, Seat};
 use crate::operation::{Answer, Change, KEYS, Operation, Query, Update};
 use crate::processors;
 use crate::random::Random;
-use crate::slice::Slice;
 use crate::workload::Workload;
 use std::any::type_name;
 use std::hint::black_box;
@@ -19,13 +18,14 @@ pub trait Runner {
     /// Makes so many operations on one thread: all answers, and at last what all members come to.
     fn answers(&mut self, workload: Workload, count: u64) -> Vec<Answer>;
 
-    /// Has threads work for so long, or for one whole round or operation if that is longer.
-    fn slice(&mut self, case: Case, length: Duration, pass: u64) -> Run;
+    /// Has threads work for so long, or longer if that is too short for one operation, or for threads that begin together.
+    fn slice(&mut self, case: Case, length: Duration, pass: u64) -> Slice;
 }
 
-/// A slice, and who made it.
-pub struct Run {
-    pub slice: Slice,
+/// What an engine's turn came to.
+pub struct Slice {
+    pub operations: u64,
+    pub time: Duration,
     /// The name that the engine's type has.
     pub engine: &'static str,
     /// The type that the threads worked with.
@@ -38,6 +38,8 @@ struct Lap {
     operations: u64,
     /// By how much the set grew.
     growth: i64,
+    came: Instant,
+    began: Instant,
 }
 
 /// Makes an operation: by how much the set grew.
@@ -56,48 +58,56 @@ fn made(seat: &mut impl Seat, operation: Operation) -> i64 {
     }
 }
 
-/// What a thread does: an operation that is not done when the first thread ends does not count.
-fn lap<S: Seat>(mut seat: S, case: Case, most: u64, mut random: Random, course: &Course) -> Lap {
-    let (mut operations, mut growth) = (0, 0);
-    if case.workload == Workload::Queries {
-        growth = (0..u64::from(case.updates)).map(|number| made(&mut seat, Workload::Updates.draw(number, &mut random))).sum();
-    }
+/// What a thread does: an operation that is not done at the end does not count.
+fn lap<S: Seat>(mut seat: S, workload: Workload, mut random: Random, course: &Course) -> Lap {
+    let before = (0..workload.updates_before()).map(|number| made(&mut seat, Workload::Updates.draw(number, &mut random)));
+    let (mut operations, mut growth) = (0, before.sum());
+    let came = Instant::now();
     course.begin();
-    while operations < most {
-        growth += made(&mut seat, case.workload.draw(operations, &mut random));
+    let began = Instant::now();
+    loop {
+        growth += made(&mut seat, workload.draw(operations, &mut random));
         if course.is_over() {
-            break;
+            return Lap { seat: type_name::<S>(), operations, growth, came, began };
         }
         operations += 1;
     }
-    course.end();
-    Lap { seat: type_name::<S>(), operations, growth }
 }
 
-/// Runs a thread for each seat: their laps, and the time. A length ends them if they do not end by themselves.
-fn laps<S: Seat + Send>(seats: Vec<S>, case: Case, length: Option<Duration>, seed: u64) -> (Vec<Lap>, Option<Duration>) {
+/// Runs a thread for each seat: their laps, and the time.
+fn laps<S: Seat + Send>(seats: Vec<S>, workload: Workload, length: Duration, seed: u64) -> (Vec<Lap>, Option<Duration>) {
     let (course, places) = (&Course::new(seats.len()), processors::allowed());
-    let most = if length.is_none() { case.workload.operations(case.updates.into()) } else { u64::MAX };
-    let laps = thread::scope(|scope| {
+    thread::scope(|scope| {
         let start = |(thread, seat)| {
             let place = places[thread];
             scope.spawn(move || {
                 processors::place(place);
-                lap(seat, case, most, Random::of(seed, thread as u64), course)
+                lap(seat, workload, Random::of(seed, thread as u64), course)
             })
         };
         let threads: Vec<_> = seats.into_iter().enumerate().map(start).collect();
-        length.inspect(|&length| course.end_after(length));
-        threads.into_iter().map(|thread| thread.join().expect("no thread panics")).collect()
-    });
-    (laps, course.time())
+        let end = course.end_after(length);
+        let laps: Vec<Lap> = threads.into_iter().map(|thread| thread.join().expect("no thread panics")).collect();
+        let time = time(&laps, end);
+        (laps, time)
+    })
+}
+
+/// The time from when the last thread began, if all began within a tenth of it.
+fn time(laps: &[Lap], end: Instant) -> Option<Duration> {
+    let came = laps.iter().map(|lap| lap.came).max()?;
+    let first = laps.iter().map(|lap| lap.began).min()?;
+    let last = laps.iter().map(|lap| lap.began).max()?;
+    assert!(first >= came, "a thread began before all had come");
+    let time = end.saturating_duration_since(last);
+    (last - first < time / 10).then_some(time)
 }
 
 /// Asks for all members.
 const EVERYTHING: Query = Query::Range(0, KEYS);
 
 fn size<E: Engine>(engine: &mut E) -> i64 {
-    match engine.lend(1, 1, |mut seats| seats[0].ask(&EVERYTHING)) {
+    match engine.seats(1)[0].ask(&EVERYTHING) {
         Answer::Range(span) => span.count.into(),
         other => panic!("{} answered a range with {other:?}", E::NAME),
     }
@@ -105,50 +115,34 @@ fn size<E: Engine>(engine: &mut E) -> i64 {
 
 impl<E: Engine> Runner for E {
     fn fill(&mut self, without: Option<u32>) {
-        self.lend(1, KEYS / 2, |mut seats| {
-            for key in (0..KEYS).step_by(2).filter(|&key| Some(key) != without) {
-                seats[0].update(Update::Insert(key));
-            }
-        });
+        let seat = &mut self.seats(1)[0];
+        for key in (0..KEYS).step_by(2).filter(|&key| Some(key) != without) {
+            seat.update(Update::Insert(key));
+        }
     }
 
     fn answers(&mut self, workload: Workload, count: u64) -> Vec<Answer> {
         let mut random = Random::of(0, 0);
         let drawn = (0..count).map(|number| workload.draw(number, &mut random)).chain([Operation::Query(EVERYTHING)]);
-        self.lend(1, count as u32, |mut seats| {
-            let answer = |operation| match operation {
-                Operation::Update(update) => Answer::Update(seats[0].update(update)),
-                Operation::Query(query) => seats[0].ask(&query),
-            };
-            drawn.map(answer).collect()
-        })
+        let seat = &mut self.seats(1)[0];
+        let answer = |operation| match operation {
+            Operation::Update(update) => Answer::Update(seat.update(update)),
+            Operation::Query(query) => seat.ask(&query),
+        };
+        drawn.map(answer).collect()
     }
 
-    fn slice(&mut self, case: Case, length: Duration, pass: u64) -> Run {
-        let mut run = Run { slice: Slice::default(), engine: E::NAME, seat: "" };
-        let (mut want, mut round) = (size(self), 0);
-        while run.slice.working < length || run.slice.operations == 0 {
-            // Twice as long if it was too short for one operation.
-            let rest = if run.slice.working < length { length - run.slice.working } else { run.slice.working };
-            let rest = (!E::ROUNDS || case.workload == Workload::Queries).then_some(rest);
-            let start = Instant::now();
-            let (laps, time, inside) = self.lend(case.threads, case.updates, |seats| {
-                let start = Instant::now();
-                let (laps, time) = laps(seats, case, rest, pass << 32 | round);
-                (laps, time, start.elapsed())
-            });
-            let whole = start.elapsed();
-            // Threads that did not overlap tell nothing.
-            if let Some(time) = time {
-                run.slice.working += time;
-                run.slice.opening += whole - inside;
-                run.slice.operations += laps.iter().map(|lap| lap.operations).sum::<u64>();
-            }
-            run.seat = laps[0].seat;
+    fn slice(&mut self, case: Case, length: Duration, pass: u64) -> Slice {
+        let (mut want, mut turn) = (size(self), 0);
+        loop {
+            let (laps, time) = laps(self.seats(case.threads), case.workload, length * (1 << turn), pass << 32 | turn);
             want += laps.iter().map(|lap| lap.growth).sum::<i64>();
-            round += 1;
+            assert_eq!(size(self), want, "the set of {} does not have the size that its answers tell", E::NAME);
+            let operations = laps.iter().map(|lap| lap.operations).sum();
+            if let Some(time) = time.filter(|_| operations > 0) {
+                return Slice { operations, time, engine: E::NAME, seat: laps[0].seat };
+            }
+            turn += 1;
         }
-        assert_eq!(size(self), want, "the set of {} does not have the size that its answers tell", E::NAME);
-        run
     }
 }

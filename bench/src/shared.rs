@@ -5,7 +5,6 @@ pub trait Shareable: Default + Sync {
     const NAME: &'static str;
 }
 
-#[derive(Default)]
 pub struct Shared<T>(T);
 
 impl<T: Shareable> Engine for Shared<T>
@@ -19,7 +18,11 @@ where
     where
         Self: 'engine;
 
-    fn lend<R>(&mut self, threads: usize, _: u32, run: impl FnOnce(Vec<&T>) -> R) -> R {
-        run(vec![&self.0; threads])
+    fn new(_: usize, _: u64) -> Shared<T> {
+        Shared(T::default())
+    }
+
+    fn seats(&mut self, threads: usize) -> Vec<&T> {
+        vec![&self.0; threads]
     }
 }

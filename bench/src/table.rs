@@ -1,15 +1,14 @@
 use crate::case::Case;
 use crate::column::Column;
 use crate::options::Options;
-use crate::workload::Workload;
 use std::fmt::Display;
 
 /// The tables, below what `bench/run` says of the machine.
 pub fn table(options: &Options, measured: &[(Case, Vec<Column>)]) -> String {
     let head = std::env::var("BENCH_HEAD").unwrap_or_default();
-    let (passes, length, updates) = (options.passes, options.slice.as_millis(), options.updates);
+    let (passes, length, bytes) = (options.passes, options.slice.as_millis(), options.bytes);
     format!(
-        "# Throughput\n\n{head}- Passes: {passes}, in each {length} ms an engine; {updates} updates a thread in a round\n\n\
+        "# Throughput\n\n{head}- Passes: {passes}, in each {length} ms an engine; tables of at most {bytes} bytes\n\n\
          Each number is a median, with the quartiles behind it. A ratio is taken within a pass.\n\n{}\n{}\n{}",
         rates(measured),
         ratios(measured),
@@ -27,31 +26,22 @@ fn title(row: String) -> String {
     format!("{row}{line}|\n")
 }
 
-/// A cell. Where there are only queries no round has to end, so openings do not count.
-fn cell<T: Display>(case: &Case, with_openings: bool, value: impl Fn() -> T) -> String {
-    if with_openings && case.workload == Workload::Queries { "".into() } else { value().to_string() }
-}
-
 fn rates(measured: &[(Case, Vec<Column>)]) -> String {
-    let forms = |column: &Column| if column.rounds { vec![false, true] } else { vec![false] };
-    let names = measured[0].1.iter().flat_map(|column| forms(column).into_iter().map(|it| if it { "openings counted in" } else { column.name }));
-    let rows = measured
-        .iter()
-        .map(|(case, columns)| row(case, columns.iter().flat_map(|column| forms(column).into_iter().map(|it| cell(case, it, || column.rate(it))))));
+    let names = measured[0].1.iter().map(|column| column.name);
+    let rows = measured.iter().map(|(case, columns)| row(case, columns.iter().map(Column::rate)));
     title(row("Million operations a second", names)) + &rows.collect::<String>()
 }
 
 fn ratios(measured: &[(Case, Vec<Column>)]) -> String {
     let names = measured[0].1[1..].iter().map(|column| column.name);
-    let names = ["the best lock's", "this with openings counted in"].into_iter().chain(names);
     let rows = measured.iter().map(|(case, columns)| {
         let (trie, others) = columns.split_first().expect("the trie is the first");
         let locks = others.iter().filter(|it| it.locks);
-        let best = locks.max_by(|one, other| one.rate(false).middle.total_cmp(&other.rate(false).middle)).expect("there are locks");
-        let firsts = [format!("{} of {}", trie.part_of(best, false), best.name), cell(case, true, || trie.part_of(best, true))];
-        row(case, firsts.into_iter().chain(others.iter().map(|column| trie.part_of(column, false).to_string())))
+        let best = locks.max_by(|one, other| one.rate().middle.total_cmp(&other.rate().middle)).expect("there are locks");
+        let first = format!("{} of {}", trie.part_of(best), best.name);
+        row(case, [first].into_iter().chain(others.iter().map(|column| trie.part_of(column).to_string())))
     });
-    title(row("The trie's throughput as a part of", names)) + &rows.collect::<String>()
+    title(row("The trie's throughput as a part of", ["the best lock's"].into_iter().chain(names))) + &rows.collect::<String>()
 }
 
 fn seats(columns: &[Column]) -> String {

@@ -8,7 +8,7 @@ pub enum Workload {
     Updates,
     /// Nine queries, a rank, a selection and a range in turn, and then an update.
     Tenth,
-    /// Such queries alone, after a thread's updates of a round, which are not timed: the trie is then not laid out as neatly as at its opening.
+    /// Such queries alone, after updates that are not timed: a table is then not laid out as neatly as at its opening.
     Queries,
     /// Nine batches of ranks, each of one snapshot, and then an update.
     Batches,
@@ -26,13 +26,9 @@ impl Workload {
         }
     }
 
-    /// How many operations have so many updates.
-    pub fn operations(self, updates: u64) -> u64 {
-        match self {
-            Workload::Updates => updates,
-            Workload::Tenth | Workload::Batches => 10 * updates,
-            Workload::Queries => u64::MAX,
-        }
+    /// How many updates a thread makes before.
+    pub fn updates_before(self) -> u64 {
+        if self == Workload::Queries { 4096 } else { 0 }
     }
 
     /// The operation with this number, of drawn keys.

@@ -1,5 +1,43 @@
-/* What the library has beside the proved object: its version, and what its codes say. */
+/* What the library has beside the proved object: its version, what its codes say, tests for null and of lengths, the calls that call again
+   until they are done, and the part of a trie that its users share. */
+#define _POSIX_C_SOURCE 200809L
 #include "augtrie.h"
+
+#include <pthread.h>
+#include <sched.h>
+#include <stdlib.h>
+#include <string.h>
+#include <time.h>
+
+/* ---- The proved calls that the header does not show ---- */
+
+struct handle {
+    uint64_t tag;
+    void *at;
+};
+
+int64_t aug_try_open(struct handle *trie, uint32_t bits, uint32_t users, uint64_t bytes);
+int64_t aug_try_user_open(struct handle *trie, aug_user *user);
+int64_t aug_try_close(struct handle *trie, aug_report *report);
+int64_t aug_user_free(aug_user *user);
+int64_t aug_try_look_again(aug_user *user);
+int64_t aug_try_look_done(aug_user *user);
+int64_t aug_try_has(aug_user *user, uint32_t key);
+int64_t aug_try_weight(aug_user *user, uint32_t key);
+int64_t aug_try_size(aug_user *user);
+int64_t aug_try_rank(aug_user *user, uint32_t key);
+int64_t aug_try_select(aug_user *user, uint32_t index);
+int64_t aug_try_before(aug_user *user, uint32_t key);
+int64_t aug_try_after(aug_user *user, uint32_t key);
+int64_t aug_try_first(aug_user *user);
+int64_t aug_try_last(aug_user *user);
+int64_t aug_try_range(aug_user *user, uint32_t from, uint32_t to, aug_span *span);
+int64_t aug_try_rank_all(aug_user *user, const uint32_t *keys, size_t n, uint32_t *out, size_t room);
+int64_t aug_try_has_all(aug_user *user, const uint32_t *keys, size_t n, uint8_t *out, size_t room);
+int64_t aug_try_weight_all(aug_user *user, const uint32_t *keys, size_t n, int64_t *out, size_t room);
+int64_t aug_try_keys(aug_user *user, uint32_t from, uint32_t *out, size_t room);
+
+/* ---- Version and texts ---- */
 
 const char *aug_version(void) {
     return AUG_VERSION;
@@ -8,24 +46,255 @@ const char *aug_version(void) {
 const char *aug_error_text(int64_t code) {
     switch (code) {
         case AUG_NONE: return "there is no such member";
-        case AUG_CLOSED: return "the handle is not open";
+        case AUG_CLOSED: return "the trie or the user is not open";
         case AUG_BAD_KEY: return "the key is not below 2^bits";
-        case AUG_SPENT: return "the lane made all of its updates";
+        case AUG_AGAIN: return "the call would have waited for another thread";
         case AUG_NO_MEMORY: return "a request for memory was refused";
         case AUG_BAD_BITS: return "the bits are outside 1 to 16";
-        case AUG_BAD_WORKERS: return "the lanes are outside 1 to 64";
-        case AUG_BAD_UPDATES: return "the updates of a lane are outside 1 to 65,536";
-        case AUG_TOO_LARGE: return "the round would need more than 2^26 words";
-        case AUG_IN_ROUND: return "the trie is in a round";
-        case AUG_AT_REST: return "the trie is in no round";
-        case AUG_NO_LANE: return "all lanes of the round were opened";
-        case AUG_LANES_OUT: return "a lane of the round is open";
-        case AUG_OTHER_ROUND: return "the lane is of another round";
+        case AUG_BAD_USERS: return "the users are outside 1 to 64";
+        case AUG_TOO_LARGE: return "the bytes are too few for these bits and users";
+        case AUG_NO_USER: return "all users of the trie are open";
         case AUG_OPEN: return "the handle is open already";
-        case AUG_NO_ROOM: return "the memory handed in is missing or too short, or the keys are more than 65,536";
-        case AUG_NARROWER: return "the bits are fewer than the trie's";
-        case AUG_TOO_GREAT: return "the weight and the amount together do not fit 32 bits";
+        case AUG_BAD_LENGTH: return "an array is missing or too short, or longer than there are keys or than memory";
+        case AUG_LOOKING: return "the user holds a look";
+        case AUG_NOT_LOOKING: return "the user holds no look";
+        case AUG_TOO_GREAT: return "the weight and the amount together are no weight of 32 bits";
         case AUG_TOO_LITTLE: return "the key is no member, or weighs less than the amount";
         default: return code < 0 ? "no code of this library" : "no refusal";
     }
+}
+
+/* ---- A trie, which its users share ---- */
+
+struct shared {
+    pthread_mutex_t lock;          /* held by whoever reads or writes what follows */
+    struct handle trie;            /* as the proved calls have it: closed once aug_close is done */
+    struct handle idle[AUG_MOST_USERS]; /* the handles of users that were closed, for those that are opened next */
+    unsigned idle_count;
+    unsigned owners;               /* the trie's handle and each open user */
+    uint32_t bits;                 /* of its keys; never changed */
+};
+
+/* What an open handle of a trie begins with. */
+static const uint64_t TRIE = 0x656972742d677561;
+
+static struct shared *shared_of(const aug_trie *trie) {
+    return trie && trie->tag == TRIE ? trie->at : NULL;
+}
+
+/* Lets the lock go, and the memory with the last owner. */
+static void leave(struct shared *s) {
+    unsigned left = --s->owners;
+    pthread_mutex_unlock(&s->lock);
+    if (left) return;
+    pthread_mutex_destroy(&s->lock);
+    free(s);
+}
+
+/* Yields, and in a long wait sleeps. */
+static void wait_a_little(unsigned turn) {
+    const struct timespec pause = {0, 50000};
+    if (turn < 32) sched_yield();
+    else nanosleep(&pause, NULL);
+}
+
+/* Calls again as long as another thread is waited for. */
+#define CALLS_AGAIN(code, call) do { for (unsigned turn_ = 0; (code = (call)) == AUG_AGAIN; turn_++) wait_a_little(turn_); } while (0)
+
+int64_t aug_open(aug_trie *trie, uint32_t bits, uint32_t users, uint64_t bytes) {
+    if (!trie) return AUG_CLOSED;
+    if (trie->tag == TRIE) return AUG_OPEN;
+    struct shared *s = malloc(sizeof *s);
+    if (!s) return AUG_NO_MEMORY;
+    memset(s, 0, sizeof *s);
+    if (pthread_mutex_init(&s->lock, NULL)) {
+        free(s);
+        return AUG_NO_MEMORY;
+    }
+    int64_t code = aug_try_open(&s->trie, bits, users, bytes);
+    pthread_mutex_lock(&s->lock);
+    s->owners = 1;
+    s->bits = bits;
+    if (code == AUG_OK) {
+        *trie = (aug_trie){TRIE, s};
+        pthread_mutex_unlock(&s->lock);
+    } else {
+        leave(s);
+    }
+    return code;
+}
+
+int64_t aug_user_open(aug_trie *trie, aug_user *user) {
+    struct shared *s = shared_of(trie);
+    if (!s || !user) return AUG_CLOSED;
+    if (user->of) return AUG_OPEN;
+    int64_t code = AUG_OK;
+    pthread_mutex_lock(&s->lock);
+    if (s->idle_count) {
+        struct handle idle = s->idle[--s->idle_count];
+        *user = (aug_user){idle.tag, idle.at, s};
+    } else {
+        code = aug_try_user_open(&s->trie, user);
+    }
+    if (code == AUG_OK) {
+        user->of = s;
+        s->owners++;
+    }
+    pthread_mutex_unlock(&s->lock);
+    return code;
+}
+
+int64_t aug_user_close(aug_user *user) {
+    int64_t ended = aug_look_done(user);
+    if (ended != AUG_OK && ended != AUG_NOT_LOOKING) return ended;
+    struct shared *s = user->of;
+    pthread_mutex_lock(&s->lock);
+    if (s->trie.tag) s->idle[s->idle_count++] = (struct handle){user->tag, user->at};
+    else aug_user_free(user);
+    *user = (aug_user){0, NULL, NULL};
+    leave(s);
+    return AUG_OK;
+}
+
+/* Closes the trie with the lock held, unless a user is in a call or holds a look. */
+static int64_t try_close(struct shared *s, aug_report *report) {
+    pthread_mutex_lock(&s->lock);
+    int64_t code = aug_try_close(&s->trie, report);
+    if (code != AUG_OK) {
+        pthread_mutex_unlock(&s->lock);
+        return code;
+    }
+    while (s->idle_count) {
+        struct handle idle = s->idle[--s->idle_count];
+        aug_user user = {idle.tag, idle.at, NULL};
+        aug_user_free(&user);
+    }
+    leave(s);
+    return code;
+}
+
+int64_t aug_close(aug_trie *trie, aug_report *report) {
+    struct shared *s = shared_of(trie);
+    aug_report unwanted;
+    int64_t code;
+    if (!s) return AUG_CLOSED;
+    CALLS_AGAIN(code, try_close(s, report ? report : &unwanted));
+    *trie = (aug_trie){0, NULL};
+    return code;
+}
+
+/* ---- Calls of a user ---- */
+
+/* A call of a user that is not null, which is made again until it is done. */
+#define OF_USER(call) do { int64_t code_; if (!user) return AUG_CLOSED; CALLS_AGAIN(code_, call); return code_; } while (0)
+
+int64_t aug_insert(aug_user *user, uint32_t key) { OF_USER(aug_try_insert(user, key)); }
+int64_t aug_remove(aug_user *user, uint32_t key) { OF_USER(aug_try_remove(user, key)); }
+int64_t aug_put(aug_user *user, uint32_t key, uint32_t weight) { OF_USER(aug_try_put(user, key, weight)); }
+
+/* A change of what is there, which is made again too if another user changed the key in between. Nobody is waited for then. */
+#define OF_CHANGE(call) do { \
+    int64_t code_; \
+    if (!user) return AUG_CLOSED; \
+    do CALLS_AGAIN(code_, call); while (!code_); \
+    return code_; \
+} while (0)
+
+int64_t aug_add(aug_user *user, uint32_t key, uint32_t amount) { OF_CHANGE(aug_try_add(user, key, amount)); }
+int64_t aug_sub(aug_user *user, uint32_t key, uint32_t amount) { OF_CHANGE(aug_try_sub(user, key, amount)); }
+
+int64_t aug_pop_first(aug_user *user, aug_member *member) {
+    aug_member unwanted;
+    OF_CHANGE(aug_try_pop_first(user, member ? member : &unwanted));
+}
+
+int64_t aug_pop_last(aug_user *user, aug_member *member) {
+    aug_member unwanted;
+    OF_CHANGE(aug_try_pop_last(user, member ? member : &unwanted));
+}
+
+int64_t aug_look(aug_user *user) { OF_USER(aug_try_look(user)); }
+int64_t aug_look_again(aug_user *user) { return user ? aug_try_look_again(user) : AUG_CLOSED; }
+int64_t aug_look_done(aug_user *user) { return user ? aug_try_look_done(user) : AUG_CLOSED; }
+int64_t aug_has(aug_user *user, uint32_t key) { return user ? aug_try_has(user, key) : AUG_CLOSED; }
+int64_t aug_weight(aug_user *user, uint32_t key) { return user ? aug_try_weight(user, key) : AUG_CLOSED; }
+int64_t aug_size(aug_user *user) { return user ? aug_try_size(user) : AUG_CLOSED; }
+int64_t aug_rank(aug_user *user, uint32_t key) { return user ? aug_try_rank(user, key) : AUG_CLOSED; }
+int64_t aug_select(aug_user *user, uint32_t index) { return user ? aug_try_select(user, index) : AUG_CLOSED; }
+int64_t aug_before(aug_user *user, uint32_t key) { return user ? aug_try_before(user, key) : AUG_CLOSED; }
+int64_t aug_after(aug_user *user, uint32_t key) { return user ? aug_try_after(user, key) : AUG_CLOSED; }
+int64_t aug_first(aug_user *user) { return user ? aug_try_first(user) : AUG_CLOSED; }
+int64_t aug_last(aug_user *user) { return user ? aug_try_last(user) : AUG_CLOSED; }
+
+int64_t aug_range(aug_user *user, uint32_t from, uint32_t to, aug_span *span) {
+    aug_span unwanted;
+    return user ? aug_try_range(user, from, to, span ? span : &unwanted) : AUG_CLOSED;
+}
+
+/* ---- Calls of a user for arrays ---- */
+
+/* How many keys there are, or 0 if the user is not open. The handle of a trie is shorter, and has nothing behind what the proved calls read. */
+static size_t universe(aug_user *user) {
+    if (aug_size(user) == AUG_CLOSED) return 0;
+    const struct shared *s = user->of;
+    return (size_t)1 << s->bits;
+}
+
+/* Why n keys that may not be read, or so many places that may not be written, are refused, or 0. */
+static int64_t refuses(aug_user *user, const void *keys, size_t n, const void *out, size_t room) {
+    size_t key_count = universe(user);
+    if (!key_count) return AUG_CLOSED;
+    return n > key_count || (n && !keys) || room > SIZE_MAX / 16 || (room && !out) || room < n ? AUG_BAD_LENGTH : AUG_OK;
+}
+
+/* An array for a proved call, which takes none that is null: one of no places may be anywhere. */
+static uint64_t nowhere;
+#define ARRAY(places) ((places) ? (places) : (void *)&nowhere)
+
+/* A call for an array that is made again, and goes on from where it came to, until all is done. */
+#define OF_KEYS(call) do { \
+    aug_progress so_far = {0, 0}; \
+    int64_t code_ = refuses(user, keys, n, keys, n); \
+    if (code_ == AUG_OK) CALLS_AGAIN(code_, call); \
+    return code_ == AUG_OK ? (int64_t)so_far.changed : code_; \
+} while (0)
+
+int64_t aug_insert_all(aug_user *user, const uint32_t *keys, size_t n) { OF_KEYS(aug_try_insert_all(user, ARRAY(keys), n, &so_far)); }
+int64_t aug_remove_all(aug_user *user, const uint32_t *keys, size_t n) { OF_KEYS(aug_try_remove_all(user, ARRAY(keys), n, &so_far)); }
+int64_t aug_put_all(aug_user *user, const uint32_t *keys, size_t n, const uint32_t *weights, size_t weight_count) {
+    int64_t refused = refuses(user, weights, weight_count, weights, weight_count);
+    if (refused != AUG_OK) return refused;
+    OF_KEYS(aug_try_put_all(user, ARRAY(keys), n, ARRAY(weights), weight_count, &so_far));
+}
+
+/* A query for an array, unless its lengths are refused. */
+#define OF_PLACES(keys, n, call) do { int64_t code_ = refuses(user, keys, n, out, room); return code_ == AUG_OK ? (call) : code_; } while (0)
+
+int64_t aug_rank_all(aug_user *user, const uint32_t *keys, size_t n, uint32_t *out, size_t room) {
+    OF_PLACES(keys, n, aug_try_rank_all(user, ARRAY(keys), n, ARRAY(out), room));
+}
+
+int64_t aug_has_all(aug_user *user, const uint32_t *keys, size_t n, uint8_t *out, size_t room) {
+    OF_PLACES(keys, n, aug_try_has_all(user, ARRAY(keys), n, ARRAY(out), room));
+}
+
+int64_t aug_weight_all(aug_user *user, const uint32_t *keys, size_t n, int64_t *out, size_t room) {
+    OF_PLACES(keys, n, aug_try_weight_all(user, ARRAY(keys), n, ARRAY(out), room));
+}
+
+int64_t aug_keys(aug_user *user, uint32_t from, uint32_t *out, size_t room) {
+    OF_PLACES(NULL, 0, aug_try_keys(user, from, ARRAY(out), room));
+}
+
+int64_t aug_list(aug_user *user, uint32_t from, uint32_t *keys, uint32_t *weights, size_t room) {
+    int64_t some[64];
+    int64_t code = refuses(user, NULL, 0, weights, room);
+    int64_t count = code == AUG_OK ? aug_keys(user, from, keys, room) : code;
+    for (int64_t done = 0; done < count;) {
+        size_t n = count - done < 64 ? (size_t)(count - done) : 64;
+        code = aug_try_weight_all(user, keys + done, n, some, n);
+        if (code != AUG_OK) return code;
+        for (size_t i = 0; i < n; i++) weights[done++] = (uint32_t)some[i];
+    }
+    return count;
 }

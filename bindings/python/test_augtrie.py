@@ -1,20 +1,30 @@
-"""The tests of the module: each of its calls, threads, and misuses by name. The last line is 'N passed, M failed'."""
+"""The tests of the module: each of its calls against a sorted list, threads, what waits, and misuses by name. The last line is
+'N passed, M failed'."""
 
+import _thread
 import ast
+import bisect
 import copy
 import gc
+import itertools
 import os
 import pickle
 import random
+import signal
 import subprocess
 import sys
 import threading
+import time
+import timeit
 import traceback
 
 import augtrie
 from augtrie import Trie
 
 TESTS = []
+
+# With so few bytes a table is full after some updates, and no more are made until each look has ended.
+SMALL = {"bits": 4, "users": 3, "bytes": 4096}
 
 
 def test(function):
@@ -30,178 +40,196 @@ def raises(kind, call, *arguments, **named):
     return False
 
 
+def elsewhere(call):
+    """What a call gives, or raises, on a thread of its own."""
+    found = []
+
+    def work():
+        try:
+            found.append(call())
+        except BaseException as fault:
+            found.append(fault)
+
+    thread = threading.Thread(target=work)
+    thread.start()
+    thread.join()
+    return found[0]
+
+
+def at_once(*calls):
+    """Starts a thread for each call. What ends them all, and gives what they gave or raised."""
+    found = [None] * len(calls)
+
+    def work(at):
+        try:
+            found[at] = calls[at]()
+        except BaseException as fault:
+            found[at] = fault
+
+    threads = [threading.Thread(target=work, args=(at,), daemon=True) for at in range(len(calls))]
+    for thread in threads:
+        thread.start()
+
+    def ended():
+        for thread in threads:
+            thread.join(60)
+            assert not thread.is_alive()
+        return found
+
+    return ended
+
+
+def all_at_once(*calls):
+    found = at_once(*calls)()
+    assert not any(isinstance(it, BaseException) for it in found), found
+    return found
+
+
+def until(condition):
+    """Waits for what another thread does."""
+    for _ in range(20_000):
+        if condition():
+            return
+        time.sleep(0.001)
+    raise AssertionError("it did not come")
+
+
+# ---- One thread ----
+
+
+def check(now, model, keys):
+    """Holds what a trie or snapshot answers to the weights of the members."""
+    want = sorted(model)
+    assert list(now) == want and list(reversed(now)) == want[::-1] and len(now) == len(want)
+    assert list(now.items()) == sorted(model.items())
+    for key in keys:
+        at = bisect.bisect_left(want, key)
+        assert now.bisect_left(key) == at and now.bisect_right(key) == bisect.bisect_right(want, key)
+        assert (key in now) == (key in model) and now.weight(key) == model.get(key)
+        assert now.before(key) == (want[at - 1] if at else None)
+        assert now.after(key) == next(iter(want[bisect.bisect_right(want, key) :]), None)
+        assert now.index(key) == at if key in model else raises(ValueError, now.index, key)
+    assert now.rank_all(keys) == [bisect.bisect_left(want, key) for key in keys]
+    assert now.has_all(keys) == [key in model for key in keys] and now.weights(keys) == [model.get(key) for key in keys]
+    for index in range(-len(want) - 2, len(want) + 2):
+        if -len(want) <= index < len(want):
+            assert now[index] == want[index] and now.peekitem(index) == (want[index], model[want[index]])
+        else:
+            assert raises(IndexError, lambda: now[index]) and raises(IndexError, now.peekitem, index)
+    for start, stop in itertools.product(keys[:9], keys[:9]):
+        inside = [it for it in want if start <= it < stop]
+        total = sum(model[it] for it in inside)
+        assert now.total(start, stop) == total
+        assert now.span(start, stop) == ((total, len(inside), inside[0], inside[-1]) if inside else (0, 0, 0, 0))
+
+
+@test
+def a_trie_answers_as_a_sorted_list():
+    rng = random.Random(1)
+    for bits in (1, 3, 6, 9):
+        size, model = 1 << bits, {}
+        with Trie(bits) as trie:
+            check(trie, model, [0, 1])
+            for _ in range(8 * min(size, 64)):
+                key, number = rng.randrange(size), rng.randrange(1, 4)
+                what = rng.choice(("add", "add", "put", "increment", "increment", "decrement", "discard", "remove", "popitem"))
+                if what == "add":
+                    assert trie.add(key) is (key not in model)
+                    model.setdefault(key, key)
+                elif what == "put":
+                    assert trie.put(key, number) is (key not in model)
+                    model[key] = number
+                elif what == "increment":
+                    assert trie.increment(key, number) is (key not in model)
+                    model[key] = model.get(key, 0) + number
+                elif what == "decrement" and model.get(key, 0) < number:
+                    assert raises(augtrie.TooLittle, trie.decrement, key, number)
+                elif what == "decrement":
+                    model[key] -= number
+                    assert trie.decrement(key, amount=number) is (model[key] == 0)
+                    model = {it: weight for it, weight in model.items() if weight or it != key}
+                elif what == "popitem":
+                    index = rng.choice((0, -1))
+                    if model:
+                        found = sorted(model.items())[index]
+                        assert (trie.popitem(index) if index == 0 else trie.popitem()) == found
+                        del model[found[0]]
+                    else:
+                        assert raises(KeyError, trie.popitem, index)
+                elif what == "discard":
+                    assert trie.discard(key) is (key in model)
+                    model.pop(key, None)
+                elif key in model:
+                    assert trie.remove(key) is None
+                    del model[key]
+                else:
+                    assert raises(KeyError, trie.remove, key)
+            keys = [rng.randrange(-2, size + 2) for _ in range(40)] + [-1, -(1 << 70), size, 1 << 16, 1 << 32, 1 << 70]
+            check(trie, model, keys)
+            with trie.snapshot() as now:
+                check(now, model, keys)
+        assert trie.close().size == len(model)
+
+
+@test
+def a_part_is_listed_both_ways():
+    rng = random.Random(2)
+    for count in (0, 1, 3, 4, 5, 255, 256, 257, 700):
+        with Trie(10) as trie:
+            members = sorted(rng.sample(range(1024), count))
+            assert trie.put_all(members, [3 * it for it in members]) == count
+            assert trie[:] == members and trie[5:300:7] == members[5:300:7] and trie[::-1] == members[::-1] and trie[-9:-2] == members[-9:-2]
+            for _ in range(60):
+                low, high = (rng.choice((None, -3, 2000, rng.randrange(1024), *members[:3], *members[-3:])) for _ in range(2))
+                closed = rng.random() < 0.5, rng.random() < 0.5
+                above = lambda it: low is None or (low <= it if closed[0] else low < it)
+                below = lambda it: high is None or (it <= high if closed[1] else it < high)
+                want = [it for it in members if above(it) and below(it)]
+                assert list(trie.irange(low, high, closed)) == want
+                assert list(trie.irange(low, high, inclusive=closed, reverse=True)) == want[::-1]
+                assert list(trie.items(low, high, closed, True)) == [(it, 3 * it) for it in want[::-1]]
+
+
+@test
+def a_loop_over_a_trie_may_change_it():
+    with Trie(10) as trie:
+        trie.update(range(0, 1024, 2))
+        seen = []
+        for key in trie:
+            seen.append(key)
+            assert trie.discard(key)
+        assert seen == list(range(0, 1024, 2)) and len(trie) == 0
+
+
+@test
+def amounts_stay_within_a_weight():
+    most = (1 << 32) - 1
+    with Trie(4) as trie:
+        assert trie.increment(3, most - 1) and not trie.increment(3)
+        assert raises(augtrie.TooGreat, trie.increment, 3) and raises(OverflowError, trie.increment, 3)
+        assert not trie.decrement(3, most - 2) and trie.weight(3) == 2
+        assert raises(augtrie.TooLittle, trie.decrement, 3, 3) and raises(ValueError, trie.decrement, 4)
+        assert trie.decrement(3, 2) and 3 not in trie
+        assert trie.increment(3, 0) is False and trie.decrement(3, 0) is False and len(trie) == 0
+        for number in (-1, 1 << 32, 1 << 70):
+            for call in (trie.put, trie.increment, trie.decrement):
+                assert raises(ValueError, call, 3, number)
+        assert trie.put(3, 0) and trie.weight(3) == 0
+
+
 @test
 def many_keys_go_in_one_call():
-    with Trie(bits=4) as trie:
-        with trie.round(lanes=1, updates=9) as lanes:
-            lane = lanes[0]
-            assert lane.add_all([5, 5, 7, 1]) == 3
-            assert lane.discard_all(range(7, 10, 2)) == 1
-            assert lane.put_all([1, 2], [30, 40]) == 2
-            assert raises(augtrie.BadKey, lane.add_all, [3, 16]) and raises(augtrie.BadKey, lane.add_all, [-1])
-            assert raises(augtrie.Spent, lane.discard_all, [1, 2])
-            assert raises(augtrie.NoRoom, lane.put_all, [1], [])
-            assert lane.add_all([]) == 0 and lane.budget == 1
-            now = lane.look()
-            assert now.rank_all([16, 0, 2]) == [3, 0, 1] and now.rank_all([]) == []
-            assert now.has_all([5, 7, 99]) == [True, False, False]
-            assert list(now) == [1, 2, 5] and now.weight(1) == 30
-            lane.look()
-            assert raises(augtrie.Closed, now.rank_all, [1])
-        assert trie.report.size == 3
-
-
-@test
-def members_are_listed_over_many_calls():
-    for count in (0, 1, 255, 256, 257, 512, 700):
-        with Trie(bits=10) as trie, trie.round(lanes=1, updates=1024) as lanes:
-            want = [1023 - key for key in range(count)][::-1]
-            lanes[0].add_all(want)
-            now = lanes[0].look()
-            assert list(now) == want and list(zip(now, range(3))) == list(zip(want, range(3)))
-            rest = iter(now)
-            if count > 256:
-                assert next(rest) == want[0]
-                lanes[0].look()
-                assert raises(augtrie.Closed, list, rest)
-
-
-@test
-def a_set_answers_as_a_sorted_list():
-    rng = random.Random(1)
-    with Trie(bits=10) as trie:
-        with trie.round(lanes=1, updates=500) as lanes:
-            members = set()
-            for _ in range(400):
-                key = rng.randrange(1024)
-                if rng.random() < 0.7:
-                    assert lanes[0].add(key) == (key not in members)
-                    members.add(key)
-                else:
-                    assert lanes[0].discard(key) == (key in members)
-                    members.discard(key)
-            now, want = lanes[0].look(), sorted(members)
-            assert list(now) == want and len(now) == len(want)
-            assert now[:] == want and now[3:9] == want[3:9] and now[-1] == want[-1] and now[::-2] == want[::-2]
-            for key in range(0, 1024, 7):
-                assert (key in now) == (key in members)
-                assert now.rank(key) == sum(m < key for m in want)
-                assert now.before(key) == max((m for m in want if m < key), default=None)
-                assert now.after(key) == min((m for m in want if m > key), default=None)
-                assert now.weight(key) == (key if key in members else None)
-            assert -1 not in now and 1 << 40 not in now
-            inside = [m for m in want if 100 <= m < 500]
-            span = now.range(100, 500)
-            assert (span.count, span.sum, span.least, span.greatest) == (len(inside), sum(inside), inside[0], inside[-1])
-            assert raises(IndexError, lambda: now[len(want)])
-            assert lanes[0].budget == 100
-        assert trie.report.size == len(want) and trie.report.missing == 0
-        assert trie.pairs() == [(m, m) for m in want]
-
-
-@test
-def weights_are_replaced():
-    with Trie(bits=4) as trie, trie.round(lanes=1, updates=3) as lanes:
-        assert lanes[0].put(3, 4_000_000_000) == "accepted"
-        assert lanes[0].look().weight(3) == 4_000_000_000
-        assert lanes[0].put(3, 7) == "replaced"
-        assert lanes[0].look().range(0, 16).sum == 7
-
-
-@test
-def an_amount_changes_the_weight_by_itself():
-    with Trie(bits=4) as trie, trie.round(lanes=1, updates=7) as lanes:
-        lane = lanes[0]
-        assert lane.increase(3, 5) == "accepted" and lane.increase(3, (1 << 32) - 6) == "replaced"
-        assert raises(augtrie.TooGreat, lane.increase, 3, 1)
-        assert lane.decrease(3, (1 << 32) - 3) == "replaced" and lane.look().weight(3) == 2
-        assert raises(augtrie.TooLittle, lane.decrease, 3, 3)
-        assert lane.decrease(3, 2) == "accepted" and 3 not in lane.look()
-        assert lane.increase(3, 0) == "unchanged" and lane.budget == 0
-
-
-@test
-def four_threads_work_at_once():
-    with Trie(bits=12) as trie:
-        with trie.round(lanes=4, updates=4096) as lanes:
-            failed, counts = [], [0] * 4
-
-            def work(i):
-                try:
-                    for key in range(0, 4096, i + 2):
-                        counts[i] += lanes[i].add(key)
-                        now = lanes[i].look()
-                        assert key in now and now.rank(key + 1) == now.rank(key) + 1
-                except BaseException as fault:
-                    failed.append(fault)
-
-            threads = [threading.Thread(target=work, args=(i,)) for i in range(4)]
-            for thread in threads:
-                thread.start()
-            for thread in threads:
-                thread.join()
-            assert not failed, failed
-        want = sum(any(key % step == 0 for step in (2, 3, 4, 5)) for key in range(4096))
-        assert (trie.report.size, trie.report.inserts, sum(counts)) == (want, want, want)
-
-
-@test
-def refusals_have_names():
-    assert all(raises(augtrie.BadBits, Trie, bits) for bits in (17, 0, -1, 1 << 40))
-    with Trie(bits=4) as trie:
-        assert raises(augtrie.BadLanes, trie.round(65, 1).__enter__)
-        assert raises(augtrie.BadUpdates, trie.round(1, 0).__enter__)
-        assert raises(augtrie.TooLarge, trie.round(64, 65_536, bits=16).__enter__)
-        assert raises(augtrie.Narrower, trie.round(1, 1, bits=3).__enter__)
-        with trie.round(lanes=1, updates=1) as lanes:
-            assert raises(augtrie.InRound, trie.round(1, 1).__enter__)
-            assert raises(augtrie.BadKey, lanes[0].add, 16) and raises(augtrie.BadKey, lanes[0].add, -1)
-            assert raises(augtrie.BadKey, lanes[0].add, 1 << 32)
-            old = lanes[0].look()
-            assert lanes[0].add(1) and raises(augtrie.Spent, lanes[0].add, 2)
-            assert 1 in lanes[0].look() and raises(augtrie.Closed, len, old)
-        assert raises(augtrie.Closed, lanes[0].add, 3)
-        assert raises(augtrie.BadLanes, trie.round(-1, 1).__enter__) and raises(augtrie.BadUpdates, trie.round(1, 1 << 40).__enter__)
-
-
-@test
-def want_of_memory_has_a_name_and_harms_nobody():
-    code = """
-import resource
-import augtrie
-trie = augtrie.Trie(bits=16)
-# The round below takes 320 MB.
-with open("/proc/self/statm", encoding="ascii") as file:
-    most = int(file.read().split()[0]) * resource.getpagesize() + (200 << 20)
-resource.setrlimit(resource.RLIMIT_AS, (most, most))
-for _ in range(3):
-    try:
-        with trie.round(lanes=8, updates=65_536):
-            print("there was room")
-    except MemoryError as error:
-        print(type(error).__name__, error)
-    with trie.round(lanes=1, updates=9) as lanes:
-        lanes[0].add(7)
-print(trie.pairs())
-"""
-    said = subprocess.run([sys.executable, "-c", code], stdout=subprocess.PIPE, text=True, check=True).stdout
-    assert said == 3 * "NoMemory a request for memory was refused\n" + "[(7, 7)]\n", said
-
-
-@test
-def a_round_that_fails_ends_and_widens():
-    with Trie(bits=4) as trie:
-        try:
-            with trie.round(lanes=2, updates=1) as lanes:
-                lanes[0].add(5)
-                raise KeyError("mine")
-        except KeyError:
-            pass
-        assert trie.report.size == 1 and trie.report.missing == 0
-        with trie.round(lanes=1, updates=1, bits=5) as lanes:
-            assert lanes[0].add(31) and 5 in lanes[0].look()
-        assert trie.pairs() == [(5, 5), (31, 31)]
-    assert raises(augtrie.Closed, trie.pairs)
+    for bits in (4, 13):
+        with Trie(bits) as trie:
+            size = 1 << bits
+            assert trie.update([5, 5, 7, 1]) == 3 and trie.update([]) == 0
+            assert trie.difference_update([7, 9, -1, 1 << 20]) == 1
+            assert trie.put_all((1, 2), iter([30, 40])) == 1 and trie.weights([1, 2, 5]) == [30, 40, 5]
+            assert raises(augtrie.BadKey, trie.update, [3, size]) and raises(augtrie.BadKey, trie.put_all, [3, -1], [1, 1])
+            assert raises(augtrie.BadLength, trie.put_all, [3], []) and raises(augtrie.BadLength, trie.put_all, [3], [1, 2])
+            assert list(trie) == [1, 2, 5]
+            assert trie.update(it % size for it in range(20_000)) == min(size, 20_000) - 3 and trie.has_all([3, size] * 9000) == [True, False] * 9000
+            assert trie.difference_update(range(10_000)) == min(size, 10_000) and len(trie) == 0
 
 
 class Seven:
@@ -211,161 +239,506 @@ class Seven:
 
 @test
 def what_has_an_index_is_a_number():
-    with Trie(Seven()) as trie, trie.round(Seven(), updates=100) as lanes:
-        assert trie.bits == len(lanes) == 7
-        lane = lanes[0]
-        assert lane.add(Seven()) and not lane.add(7) and lane.put(True, Seven()) == "accepted"
-        assert lane.add_all(iter([Seven(), 9])) == 1 and lane.put_all((2,), [Seven()]) == 1
-        now = lane.look()
-        assert Seven() in now and now[0] == 1 and now.rank(Seven()) == 2 and now.weight(2) == 7
-        assert now.has_all([Seven()]) == [True] and now.range(True, Seven()).count == 2
+    with Trie(Seven(), users=Seven(), bytes=1 << 20) as trie:
+        assert trie.bits == 7 and trie.add(Seven()) and not trie.add(7) and trie.put(True, Seven())
+        assert trie.update(iter([Seven(), 9])) == 1 and Seven() in trie and trie.total(True, Seven()) == 7 and trie[True] == 7
+        now = trie.snapshot()
         for no_number in (7.0, "7", b"7", None, [7]):
-            for call in (lane.add, lane.discard, now.rank, now.weight, now.before, now.after, now.__contains__, now.__getitem__, Trie, trie.round):
-                assert raises(TypeError, call, no_number) and raises(TypeError, call, no_number, 1), (call, no_number)
-            assert raises(TypeError, lane.put, 1, no_number) and raises(TypeError, now.range, 1, no_number)
-            assert raises(TypeError, lane.add_all, [1, no_number]) and raises(TypeError, now.rank_all, [no_number])
+            for call in (now.weight, now.bisect_left, now.bisect_right, now.before, now.after, now.index, now.__contains__, now.__getitem__,
+                         trie.add, trie.discard, trie.remove, trie.increment, Trie, lambda it: now.total(1, it), lambda it: now.span(it, 1),
+                         lambda it: trie.put(1, it), lambda it: trie.decrement(it, 1), lambda it: trie.update([1, it]),
+                         lambda it: Trie(4, it), lambda it: now.weights([it]), now.peekitem, lambda it: now.items(it or ())):
+                assert raises(TypeError, call, no_number), (call, no_number)
         for no_numbers in (b"12", bytearray(b"12"), memoryview(b"12"), "12", 12):
-            for call in (lane.add_all, lane.discard_all, now.rank_all, now.has_all):
+            for call in (trie.update, trie.difference_update, now.rank_all, now.has_all, now.weights, lambda it: trie.put_all([1, 2], it)):
                 assert raises(TypeError, call, no_numbers)
-            assert raises(TypeError, lane.put_all, no_numbers, [1, 2]) and raises(TypeError, lane.put_all, [1, 2], no_numbers)
-        assert raises(ValueError, lane.put, 1, 1 << 32) and raises(ValueError, lane.put_all, [1], [-1])
-        assert raises(augtrie.NoRoom, lane.add_all, [1] * 65_537) and raises(augtrie.NoRoom, now.rank_all, range(65_537))
-        assert lane.budget == 100 - 6
+        now.close()
+        assert list(trie) == [1, 7, 9]
 
 
 @test
-def nothing_is_copied_or_pickled_or_made_by_hand():
-    with Trie(bits=4) as trie:
-        begun = trie.round(lanes=1, updates=1)
-        with begun as lanes:
-            now = lanes[0].look()
-            for shared in (trie, begun, lanes[0], now, iter(now)):
-                assert raises(TypeError, copy.copy, shared) and raises(TypeError, copy.deepcopy, shared), shared
-                assert all(raises(TypeError, pickle.dumps, shared, protocol) for protocol in range(pickle.HIGHEST_PROTOCOL + 1)), shared
-                assert raises(TypeError, type, "Below", (type(shared),), {}), shared
-                assert shared is trie or raises(TypeError, type(shared)), shared
-            span = now.range(0, 16)
-        assert copy.copy(span) == span == pickle.loads(pickle.dumps(span)) == (0, 0, 0, 0)
-        assert repr(trie.report) == "augtrie.Report(size=0, inserts=0, removals=0, missing=0)"
+def refusals_have_names():
+    assert all(raises(augtrie.BadBits, Trie, bits) for bits in (17, 0, -1, 1 << 40))
+    assert all(raises(augtrie.BadUsers, Trie, 4, users) for users in (65, 0, -1, 1 << 40))
+    assert all(raises(augtrie.TooLarge, Trie, 16, bytes=bytes) for bytes in (0, -1, 999))
+    with Trie(16) as trie:
+        assert trie.update(range(1 << 16)) == 1 << 16 and trie.rank_all([1 << 15]) == [1 << 15]
+    with Trie(4) as trie:
+        for key in (16, -1, 1 << 32, 1 << 70):
+            for call in (trie.add, trie.increment, trie.decrement, lambda it: trie.put(it, 1)):
+                assert raises(augtrie.BadKey, call, key) and raises(ValueError, call, key)
+            assert trie.discard(key) is False and raises(KeyError, trie.remove, key)
+        now = trie.snapshot()
+    for call in (lambda: trie.add(3), lambda: trie.discard(-1), lambda: len(trie), lambda: list(trie), trie.snapshot, trie.__enter__,
+                 lambda: trie.update([]), lambda: len(now), now.renew, now.__enter__):
+        assert raises(augtrie.Closed, call)
+    assert now.close() is None
 
 
 @test
-def messages_stay_without_docstrings():
-    code = "import augtrie\ntry: augtrie.Trie(17)\nexcept augtrie.BadBits as error: print(error)"
-    for option in ("-O", "-OO"):
-        said = subprocess.run([sys.executable, option, "-c", code], stdout=subprocess.PIPE, text=True, check=True).stdout
-        assert said == "the bits are outside 1 to 16\n", said
+def what_it_came_to_is_told_again():
+    with Trie(4) as trie:
+        trie.update([1, 2, 3])
+        trie.remove(2)
+    assert trie.close() == (3, 1, 2) and repr(trie.close()) == "augtrie.Report(inserts=3, removals=1, size=2)"
+    assert elsewhere(trie.close) == (3, 1, 2)
+
+
+# ---- Snapshots ----
 
 
 @test
-def lanes_that_the_caller_loses_go_back():
-    with Trie(bits=4) as trie:
-        with trie.round(lanes=3, updates=2) as lanes:
-            mine = lanes.pop()
-            assert mine.add(3)
-            lanes.clear()
-        assert (trie.report.size, trie.report.missing) == (1, 0) and raises(augtrie.Closed, mine.add, 4)
+def a_snapshot_stays_as_it_is():
+    with Trie(8) as trie:
+        trie.update(range(0, 256, 2))
+        with trie.snapshot() as now:
+            walk = iter(now)
+            assert next(walk) == 0
+            assert elsewhere(lambda: trie.update(range(256))) == 128 and elsewhere(lambda: len(trie)) == 256
+            assert len(now) == 128 and list(walk) == list(range(2, 256, 2))
+            now.renew()
+            assert len(now) == 256 and now[1] == 1
+        assert len(trie) == 256
 
 
 @test
-def a_round_is_on_once_at_a_time():
-    with Trie(bits=4) as trie:
-        again = trie.round(lanes=1, updates=2)
-        for key in (1, 2):
-            with again as lanes:
-                assert raises(augtrie.InRound, again.__enter__) and raises(augtrie.InRound, trie.pairs)
-                assert lanes[0].add(key)
-        again.__exit__(None, None, None)
-        assert trie.pairs() == [(1, 1), (2, 2)]
+def who_holds_a_snapshot_asks_it_alone():
+    with Trie(4) as trie:
+        trie.add(1)
+        with trie.snapshot() as now:
+            for call in (lambda: trie.add(3), lambda: trie.discard(-1), lambda: trie.update([]), lambda: trie.increment(1), trie.snapshot,
+                         lambda: len(trie), lambda: 1 in trie, lambda: list(trie), lambda: trie[0], lambda: trie.weights([1])):
+                assert raises(augtrie.Looking, call)
+            assert elsewhere(lambda: (trie.add(2), len(trie), len(now))) == (True, 2, 1)
+        assert trie.add(3) and raises(augtrie.NotLooking, len, now) and raises(augtrie.NotLooking, now.renew)
+        assert raises(augtrie.NotLooking, now.__enter__) and now.close() is None
 
 
 @test
-def a_round_that_nobody_ends_ends_when_it_is_dropped():
-    with Trie(bits=4) as trie:
-        begun = trie.round(lanes=2, updates=2)
-        lanes = begun.__enter__()
-        assert lanes[0].add(5)
-        del begun
-        assert raises(augtrie.Closed, lanes[0].add, 6) and trie.pairs() == [(5, 5)]
-        begun = [trie.round(lanes=2, updates=2)]
-        begun[0].__enter__()[1].add(6)
-        elsewhere(begun.clear)
-        assert trie.pairs() == [(5, 5), (6, 6)]
+def a_snapshot_ends_in_each_way():
+    with Trie(4) as trie:
+        def raising():
+            with trie.snapshot():
+                raise KeyError("mine")
+
+        def cycle():
+            ring = [trie.snapshot()]
+            ring.append(ring)
+
+        ends = [raising, cycle, lambda: trie.snapshot().close(), lambda: elsewhere(trie.snapshot).close(), trie.snapshot]
+        for at, end in enumerate(ends):
+            assert raises(KeyError, end) == (end is raising)
+            gc.collect()
+            assert trie.add(at)
+        held = [trie.snapshot()]
+        elsewhere(held.clear)
+        assert trie.add(9)
+        # With the thread that took it.
+        assert isinstance(elsewhere(lambda: held.append(trie.snapshot())), type(None)) and raises(augtrie.NotLooking, len, held[0])
 
 
-def elsewhere(call):
-    """What a call gives, or raises, on a thread of its own."""
-    found = []
+@test
+def any_thread_may_ask_a_snapshot():
+    with Trie(16) as trie:
+        members = list(range(0, 1 << 16, 3))
+        trie.update(members)
+        keys = random.Random(3).sample(range(1 << 16), 20_000)
+        with trie.snapshot() as now:
+            want = [-(-key // 3) for key in keys]
+            for _ in range(3):
+                calls = [lambda: now.rank_all(keys) == want, lambda: len(now) == len(members), lambda: now[::2] == members[::2]]
+                assert all_at_once(*calls, *calls) == [True] * 6
+            # It ends while another thread may be in a call of it.
+            ended = at_once(lambda: now.rank_all(keys) == want)
+            now.close()
+            assert ended()[0] is True or isinstance(ended()[0], augtrie.NotLooking)
+            assert trie.add(1)
+
+
+@test
+def a_thread_ends_while_another_asks_its_snapshot():
+    with Trie(16, users=2) as trie:
+        trie.update(range(0, 1 << 16, 2))
+        keys = list(range(1 << 16))
+        for _ in range(5):
+            told = []
+
+            def take():
+                told.append(trie.snapshot())
+
+            def ask():
+                until(lambda: told)
+                return told[0].rank_all(keys)
+
+            ended = at_once(take, ask)
+            answer = ended()[1]
+            assert isinstance(answer, augtrie.NotLooking) or answer == [(key + 1) // 2 for key in keys]
+            assert raises(augtrie.NotLooking, len, told[0]) and elsewhere(lambda: trie.add(2)) is False
+
+
+# ---- Threads ----
+
+
+@test
+def threads_come_and_go():
+    with Trie(10, users=4) as trie:
+        for group in range(60):
+            together = threading.Barrier(3)
+
+            def work(key):
+                together.wait()
+                trie.add(key)
+                together.wait()
+                return trie.weight(key)
+
+            assert all_at_once(*(lambda key=3 * group + it: work(key) for it in range(3))) == [3 * group + it for it in range(3)]
+        assert len(trie) == 180
+        # One more than there are users: this thread has one.
+        let = threading.Event()
+        ended = at_once(*(lambda: (trie.add(500), let.wait()) for _ in range(3)))
+        until(lambda: isinstance(elsewhere(lambda: len(trie)), augtrie.NoUser))
+        let.set()
+        ended()
+        assert elsewhere(lambda: len(trie)) == 181
+
+
+@test
+def four_threads_raise_the_same_keys():
+    with Trie(4) as trie:
+        turns = 3000
+
+        def work(seed):
+            rng = random.Random(seed)
+            given = [0] * 10
+            for _ in range(turns):
+                key, amount = rng.randrange(10), rng.randrange(1, 6)
+                trie.increment(key, amount)
+                given[key] += amount
+                if rng.random() < 0.3:
+                    trie.decrement(key)
+                    given[key] -= 1
+            return given
+
+        found = all_at_once(*(lambda seed=seed: work(seed) for seed in range(4)))
+        assert trie.weights(range(10)) == [sum(it) for it in zip(*found)]
+
+
+@test
+def a_hundred_thousand_calls_answer_as_a_sorted_dict_does():
+    rng = random.Random(5)
+    keys, weights = [], {}
+    with Trie(9, users=1, bytes=1 << 17) as trie:
+        for _ in range(100_000):
+            key, what = rng.randrange(512), rng.randrange(8)
+            at = bisect.bisect_left(keys, key)
+            is_new = key not in weights
+            if what < 3:
+                assert trie.increment(key, what + 1) is is_new
+                weights[key] = weights.get(key, 0) + what + 1
+            elif what == 3:
+                assert trie.add(key) is is_new
+                weights.setdefault(key, key)
+            elif what == 4:
+                assert trie.discard(key) is not is_new
+                if not is_new:
+                    del weights[key], keys[at]
+                continue
+            elif what == 5:
+                assert trie.bisect_left(key) == at and (key in trie) is not is_new
+                continue
+            elif what == 6:
+                assert trie.weight(key) == weights.get(key) and len(trie) == len(keys)
+                continue
+            else:
+                if keys:
+                    assert trie.popitem(0) == (keys[0], weights[keys[0]])
+                    del weights[keys.pop(0)]
+                continue
+            if is_new:
+                keys.insert(at, key)
+        assert list(trie.items()) == [(key, weights[key]) for key in keys]
+
+
+@test
+def each_member_is_popped_by_one_thread():
+    with Trie(12) as trie:
+        trie.put_all(range(4096), [3 * key for key in range(4096)])
+
+        def work(index):
+            found = []
+            while True:
+                try:
+                    found.append(trie.popitem(index))
+                except KeyError:
+                    return found
+
+        found = all_at_once(*(lambda index=index: work(index) for index in (0, -1, 0, -1)))
+        assert sorted(sum(found, [])) == [(key, 3 * key) for key in range(4096)]
+        assert all(run == sorted(run, reverse=index < 0) for run, index in zip(found, (0, -1, 0, -1)))
+        assert raises(IndexError, trie.popitem, 1) and raises(TypeError, trie.popitem, b"")
+        with trie.snapshot():
+            assert raises(augtrie.Looking, trie.popitem)
+
+
+@test
+def many_keys_of_four_threads_at_once():
+    with Trie(16) as trie:
+        found = all_at_once(*(lambda step=step: trie.update(range(0, 1 << 16, step)) for step in (2, 3, 4, 5)))
+        want = sum(any(key % step == 0 for step in (2, 3, 4, 5)) for key in range(1 << 16))
+        assert (sum(found), len(trie)) == (want, want)
+
+
+# ---- What waits ----
+
+
+def fills(trie, updates=4000):
+    """Updates that fill the table again and again. How many were made is told meanwhile."""
+    made = []
 
     def work():
+        for at in range(updates):
+            trie.increment(at % 8)
+            made.append(at)
+
+    return made, work
+
+
+@test
+def updates_wait_for_a_snapshot_and_go_on():
+    with Trie(**SMALL) as trie:
+        for end in (lambda now: now.close(), lambda now: now.__exit__(None, None, None)):
+            before = sum(weight or 0 for weight in trie.weights(range(8)))
+            now = trie.snapshot()
+            (one, fill_one), (two, fill_two) = fills(trie), fills(trie)
+            ended = at_once(fill_one, fill_two)
+            until(lambda: one or two)
+            while True:
+                made = len(one) + len(two)
+                time.sleep(0.2)
+                if made == len(one) + len(two):
+                    break
+            # This thread goes on meanwhile, and its snapshot is as it was.
+            assert made < 8000 and now.total(0, 16) == before
+            end(now)
+            assert ended() == [None, None] and trie.total(0, 16) == before + 8000
+
+
+@test
+def who_waits_lets_others_run():
+    for wait in (lambda trie: fills(trie)[1](), lambda trie: trie.put_all([it % 8 for it in range(4000)], [7] * 4000),
+                 lambda trie: [trie.add(it % 8) or trie.discard(it % 8) or len(trie) for it in range(4000)]):
+        with Trie(**SMALL) as trie:
+            taken = threading.Event()
+
+            def hold():
+                with trie.snapshot() as now:
+                    taken.set()
+                    time.sleep(0.1)
+                    return len(now)
+
+            ended = at_once(hold)
+            taken.wait()
+            wait(trie)
+            assert ended() == [0]
+
+
+def interrupted(trie, call):
+    """Whether Ctrl-C ends a call that waits for the snapshot of another thread."""
+    taken, let = threading.Event(), threading.Event()
+
+    def hold():
+        with trie.snapshot():
+            taken.set()
+            let.wait()
+
+    def interrupt():
+        time.sleep(0.2)
+        _thread.interrupt_main()
+
+    held = at_once(hold)
+    taken.wait()
+    ended = at_once(interrupt)
+    try:
+        call()
+        return False
+    except KeyboardInterrupt:
+        return True
+    finally:
+        let.set()
+        ended()
+        held()
+
+
+@test
+def a_wait_can_be_interrupted():
+    for call in (lambda trie: fills(trie, 1 << 40)[1](), lambda trie: [trie.put_all([3] * 5000, range(5000)) for _ in itertools.count()]):
+        with Trie(**SMALL) as trie:
+            assert interrupted(trie, lambda: call(trie))
+            # The user is not in the call any longer.
+            assert trie.put(9, 9) and trie.weight(9) == 9 and len(list(trie)) >= 1
+
+
+@test
+def a_handler_of_a_signal_may_call_what_it_interrupts():
+    # What the handler does, and how the call ends that waited.
+    for act, fault in ((lambda trie, now: now.close(), None), (lambda trie, now: trie.close(), augtrie.Closed)):
+        trie = Trie(**SMALL)
+        told = []
+        let = threading.Event()
+        ended = at_once(lambda: (told.append(trie.snapshot()), let.wait()))
+        until(lambda: told)
+
+        def handle(*_):
+            let.set()
+            act(trie, told[0])
+
+        before = signal.signal(signal.SIGALRM, handle)
+        signal.setitimer(signal.ITIMER_REAL, 0.2)
         try:
-            found.append(call())
-        except Exception as fault:
-            found.append(fault)
-
-    thread = threading.Thread(target=work)
-    thread.start()
-    thread.join()
-    return found[0]
-
-
-@test
-def a_trie_stays_on_its_thread_and_its_lanes_need_not():
-    with Trie(bits=4) as trie:
-        begun = trie.round(lanes=1, updates=2)
-        with begun as lanes:
-            for call in (trie.close, trie.pairs, begun.__enter__, lambda: begun.__exit__(None, None, None)):
-                assert type(elsewhere(call)) is augtrie.AugtrieError
-            assert elsewhere(lambda: lanes[0].add(3)) is True and elsewhere(lambda: 3 in lanes[0].look()) is True
-        assert trie.report.size == 1
-    trie.close()
-
-
-@test
-def a_lane_may_be_called_from_two_threads():
-    with Trie(bits=16) as trie, trie.round(lanes=1, updates=65_536) as lanes:
-        lane, seen = lanes[0], []
-        thread = threading.Thread(target=lambda: lane.add_all(range(0, 65_536, 2)))
-        thread.start()
-        while thread.is_alive():
-            seen.append(lane.budget)
-        thread.join()
-        assert lane.add(1) and set(seen) <= {65_536, 32_768} and len(lane.look()) == 32_769
-
-
-def spoilt_rounds():
-    """Rounds that an exception, the caller or another thread cuts off, a large one each."""
-    def size(trie):
-        return trie.round(lanes=2, updates=4096)
-
-    def raising():
-        with Trie(bits=16) as trie, size(trie) as lanes:
-            lanes[0].add(1)
-            raise KeyError("mine")
-
-    def closed():
-        trie = Trie(bits=16)
-        begun = size(trie)
-        lanes = begun.__enter__()
+            end = time.monotonic() + 0.4
+            while time.monotonic() < end:
+                trie.increment(3)
+            assert fault is None
+        except augtrie.Closed:
+            assert fault is augtrie.Closed
+        finally:
+            signal.setitimer(signal.ITIMER_REAL, 0)
+            signal.signal(signal.SIGALRM, before)
+        ended()
         trie.close()
-        assert raises(augtrie.Closed, lanes[0].add, 1) and raises(augtrie.Closed, trie.pairs)
-        begun.__exit__(None, None, None)
 
-    def forgotten():
-        begun = size(Trie(bits=16))
-        begun.__enter__()[0].add(1)
 
-    def held():
-        begun = size(Trie(bits=16))
-        return begun.__enter__()
+@test
+def a_trie_is_closed_in_mid_use():
+    for turn in range(5):
+        trie = Trie(16, users=5)
+        trie.update(range(0, 1 << 16, 2))
+        told = []
 
-    def dropped_elsewhere():
-        held = [Trie(bits=16)]
-        held.append(size(held[0]))
-        held.append(held[1].__enter__())
-        elsewhere(held.clear)
+        # Sooner or later this waits for the snapshots.
+        def update():
+            while True:
+                trie.difference_update(range(1 << 16))
+                trie.update(range(1 << 16))
 
-    return [raising, closed, forgotten, held, dropped_elsewhere]
+        def one():
+            while True:
+                trie.increment(7)
+
+        def ask():
+            with trie.snapshot() as now:
+                told.append(now)
+                while True:
+                    assert now.rank_all(range(1 << 16)) and len(now) == len(now[:])
+
+        ended = at_once(update, one, ask, ask)
+        until(lambda: len(told) == 2)
+        time.sleep(0.05 * turn)
+        report = trie.close()
+        found = ended()
+        assert [type(it) for it in found] == [augtrie.Closed] * 4, found
+        assert report == trie.close() and report.inserts - report.removals == report.size
+
+
+# ---- What callers do in between ----
+
+
+class Acting:
+    """A number that does something when it is read."""
+
+    def __init__(self, act):
+        self.act = act
+
+    def __index__(self):
+        self.act()
+        return 5
+
+
+def fail():
+    raise KeyError("mine")
+
+
+@test
+def exceptions_of_the_caller_leave_nothing_behind():
+    with Trie(4) as trie:
+        def numbers():
+            yield 1
+            fail()
+
+        bad = Acting(fail)
+        for call in (lambda: trie.update(numbers()), lambda: trie.difference_update([0, bad]), lambda: trie.put_all([1], [bad]), lambda: trie.add(bad),
+                     lambda: trie.increment(1, bad), lambda: bad in trie, lambda: trie[bad], lambda: trie[bad:], lambda: trie.weights([1, bad]),
+                     lambda: trie.irange(bad), lambda: trie.total(0, bad), lambda: Trie(4, bad), lambda: trie.remove(bad)):
+            assert raises(KeyError, call) and len(trie) == 0 and trie.add(0) and trie.discard(0)
+
+
+@test
+def a_number_may_call_the_trie_that_reads_it():
+    with Trie(4) as trie:
+        again = Acting(lambda: (trie.add(6), trie.discard(6), len(trie)))
+        assert trie.add(again) and trie.update([again, 1]) == 1 and again in trie and trie.weights([again]) == [5] and trie[again:] == []
+        assert trie.increment(again, again) is False and trie.weight(5) == 10 and list(trie.irange(again)) == [5]
+        held = []
+        assert raises(augtrie.Looking, trie.add, Acting(lambda: held.append(trie.snapshot())))
+        held.clear()
+        assert raises(augtrie.Closed, trie.update, [1, Acting(trie.close)])
+
+
+class Last:
+    def __init__(self, act):
+        self.act = act
+        self.ring = self
+
+    def __del__(self):
+        self.act()
+
+
+@test
+def finalizers_may_call_the_trie():
+    with Trie(6) as trie:
+        calls = []
+
+        def act():
+            trie.increment(1)
+            calls.append(len(trie))
+
+        gc.set_threshold(5)
+        try:
+            for turn in range(400):
+                Last(act)
+                trie.update(range(turn % 64))
+                list(trie.items())
+                trie[:]
+                elsewhere(lambda: trie.add(turn % 64))
+        finally:
+            gc.set_threshold(700, 10, 10)
+        assert len(calls) > 100
+
+
+@test
+def a_forked_child_may_not_use_it():
+    with Trie(4) as trie, Trie(4) as other:
+        trie.add(1)
+        now = other.snapshot()
+        child = os.fork()
+        if child == 0:
+            status = 1
+            try:
+                with trie:
+                    pass
+            except augtrie.Closed:
+                with Trie(4) as own:
+                    refused = [raises(augtrie.Closed, call) for call in (lambda: trie.add(3), lambda: len(now), trie.close, trie.snapshot)]
+                    now.close()
+                    status = 0 if all(refused) and own.add(3) and trie.__exit__(None, None, None) is None else 2
+            finally:
+                del now, trie, other
+                os._exit(status)
+        assert os.waitpid(child, 0)[1] == 0
+        assert trie.add(3) and len(now) == 0
+
+
+# ---- What is left, and what it costs ----
 
 
 def resident():
@@ -378,16 +751,103 @@ def resident():
 def nothing_is_leaked():
     if not os.path.exists("/proc/self/statm"):
         return
-    for spoil in spoilt_rounds():
+
+    def closed():
+        with Trie(14) as trie:
+            trie.update(range(100))
+            trie.snapshot()
+
+    def forgotten():
+        trie = Trie(14)
+        held = trie.snapshot()
+        ring = [held]
+        ring.append(ring)
+        elsewhere(lambda: trie.add(1))
+
+    def failing():
+        with Trie(14) as trie, trie.snapshot() as now:
+            iter(now)
+            raise KeyError("mine")
+
+    shared = Trie(14, users=3)
+
+    def visited():
+        for _ in range(4):
+            elsewhere(lambda: (shared.update(range(900)), shared.difference_update(range(900)), shared.weights(range(9000)), shared.snapshot()))
+
+    def refused():
+        assert raises(augtrie.BadBits, Trie, 17) and raises(augtrie.BadKey, shared.update, [1 << 20] * 9000)
+
+    for spoil in (closed, forgotten, failing, visited, refused):
         sizes = []
-        for _ in range(60):
-            try:
-                spoil()
-            except KeyError:
-                pass
+        for _ in range(40):
+            raises(KeyError, spoil)
+            gc.collect()
             sizes.append(resident())
-        # A round of this size takes 8 MB.
         assert sizes[-1] - sizes[9] < 20 << 20, (spoil.__name__, sizes[9], sizes[-1])
+    shared.close()
+
+
+@test
+def a_thread_keeps_nothing_of_tries_that_are_gone():
+    if not os.path.exists("/proc/self/statm"):
+        return
+
+    def work(tries):
+        sizes = []
+        for _ in range(6):
+            for _ in range(tries):
+                Trie(4, users=2, bytes=1 << 13).add(3)
+            sizes.append(resident())
+        return sizes
+
+    sizes = elsewhere(lambda: work(1500))
+    assert sizes[-1] - sizes[1] < 3 << 20, sizes
+
+
+@test
+def want_of_memory_has_a_name_and_harms_nobody():
+    code = """
+import resource
+import augtrie
+trie = augtrie.Trie(4)
+# The table below takes 128 MB twice.
+with open("/proc/self/statm", encoding="ascii") as file:
+    most = int(file.read().split()[0]) * resource.getpagesize() + (100 << 20)
+resource.setrlimit(resource.RLIMIT_AS, (most, most))
+for _ in range(3):
+    try:
+        augtrie.Trie(16, bytes=128 << 20)
+        print("there was room")
+    except MemoryError as error:
+        print(type(error).__name__, error)
+    trie.add(7)
+print(list(trie))
+"""
+    said = subprocess.run([sys.executable, "-c", code], stdout=subprocess.PIPE, text=True, check=True).stdout
+    assert said == 3 * "NoMemory a request for memory was refused\n" + "[7]\n", said
+
+
+@test
+def nothing_is_copied_or_pickled_or_made_by_hand():
+    with Trie(4) as trie:
+        now = trie.snapshot()
+        for shared in (trie, now, iter(now)):
+            assert raises(TypeError, copy.copy, shared) and raises(TypeError, copy.deepcopy, shared), shared
+            assert all(raises(TypeError, pickle.dumps, shared, protocol) for protocol in range(pickle.HIGHEST_PROTOCOL + 1)), shared
+            assert raises(TypeError, type, "Below", (type(shared),), {}), shared
+            assert shared is trie or raises(TypeError, type(shared)), shared
+        assert raises(TypeError, augtrie.Members) and raises(TypeError, type("Below", (augtrie.Members,), {}))
+        span = now.span(0, 16)
+    assert copy.copy(span) == span == pickle.loads(pickle.dumps(span)) == (0, 0, 0, 0)
+
+
+@test
+def messages_stay_without_docstrings():
+    code = "import augtrie\ntry: augtrie.Trie(17)\nexcept augtrie.BadBits as error: print(error)"
+    for option in ("-O", "-OO"):
+        said = subprocess.run([sys.executable, option, "-c", code], stdout=subprocess.PIPE, text=True, check=True).stdout
+        assert said == "the bits are outside 1 to 16\n", said
 
 
 @test
@@ -405,16 +865,24 @@ def the_stubs_have_each_name():
 
 
 @test
-def many_tries_come_and_go():
-    for _ in range(200):
-        trie = Trie(bits=8)
-        with trie.round(lanes=2, updates=4) as lanes:
-            lanes[1].add(1)
-        del trie
-    gc.collect()
+def a_call_takes_microseconds():
+    with Trie(16) as trie:
+        trie.update(range(0, 1 << 16, 2))
+        now = trie.snapshot()
+        asks = {"in": lambda: 1000 in now, "[i]": lambda: now[1000], "bisect_left": lambda: now.bisect_left(1001), "total": lambda: now.total(5, 30_000)}
+        changes = {"add and discard": lambda: (trie.add(1001), trie.discard(1001)), "put": lambda: trie.put(1000, 3),
+                   "increment": lambda: trie.increment(1000), "in the trie": lambda: 1000 in trie}
+        for calls in (asks, changes):
+            for name, call in calls.items():
+                took = min(timeit.repeat(call, number=200, repeat=25)) / 200 * 1e6
+                print(f"{name}: {took:.2f} microseconds")
+                assert took < 500, name
+            now.close()
 
 
 def main():
+    # What starts in the background inherits that interrupts are ignored.
+    signal.signal(signal.SIGINT, signal.default_int_handler)
     failed = 0
     for function in TESTS:
         try:

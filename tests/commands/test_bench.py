@@ -69,7 +69,7 @@ class TestBench(CopiedScripts):
 
     def test_counts_each_operation_of_each_form(self):
         out, err, status = self.run_script("bench/counts", **self.given)
-        operations = "insert_new insert_present put has rank select before after range size look".split()
+        operations = "insert_new insert_present put look again has rank select before after range size".split()
         lines = [f"| Instructions of a call |{''.join(f' `{it}` |' for it in operations)}", "|---" * (len(operations) + 1) + "|"]
         numbers = "".join(f" {len(it)} |" for it in operations)
         forms = ["the library through C", "plain Rust, bounds checks", "plain Rust, no bounds checks"]

@@ -1,15 +1,17 @@
 """Installs the library for other languages below a folder of its own, as both compilers of the toolchain build it, and runs the tests and
-examples of bindings/ over it, and those in C under valgrind as well. Over the library as LLVM builds it, the benchmark in bench/ runs briefly, and
-what tools/package makes is used in a place that has neither the toolchain nor this repository. Tests with `names` in their names build nothing, and
-compare the names of the calls and the codes.
+examples of bindings/ over it, and those in C under valgrind as well. Over the library as LLVM builds it, some in C run under sanitizers, the benchmark
+in bench/ runs briefly, and what tools/package makes is used in a place that has neither the toolchain nor this repository. Tests with `names` in their
+names build nothing, and compare the names of the calls and the codes.
 
 What is not proved yet is proved first. AFTER_CI=1 in the environment is for a tree in which `rt ci` has just run: the library is proved once for both
-compilers, over the libraries below it as that run left them, which `rt lib` would prove again. It says what it leaves out if a compiler, Python's
-headers or another tool is missing. It needs the toolchain.
+compilers, over the libraries below it as that run left them, which `rt lib` would prove again. With CROWD_SECONDS=60, each test with a crowd of
+threads takes a minute, and not some seconds. It says what it leaves out if a compiler, Python's headers or another tool is missing. It needs the
+toolchain.
 """
 
 import functools
 import glob
+import itertools
 import os
 import re
 import shutil
@@ -29,13 +31,31 @@ CXX = os.environ.get("CXX", "c++")
 WARNINGS = ["-Wall", "-Wextra", "-Werror", "-pedantic"]
 PYTHON, PIP = "Python.h or pip", [sys.executable, "-m", "pip", "install", "-q", "--no-index", "--disable-pip-version-check"]
 
+# The calls in whose place the test of refusals has its own.
+REFUSED = "-Wl,--wrap=malloc,--wrap=calloc,--wrap=realloc,--wrap=pthread_mutex_init,--wrap=aug_try_add"
+
+# For how many seconds a crowd of threads works.
+CROWD_SECONDS = os.environ.get("CROWD_SECONDS", "2")
+
+# How programs are built for the sanitizers, and how these are told to report what they find.
+SANITIZERS = {
+    "thread": ["-fsanitize=thread"],
+    "address": ["-fsanitize=address,undefined", "-fno-sanitize-recover=all"],
+}
+SUPPRESSED = os.path.join(BINDINGS, "c", "tests", "proved.supp")
+REPORTS = {
+    "TSAN_OPTIONS": f"halt_on_error=1:exitcode=66:suppressions={SUPPRESSED}",
+    "ASAN_OPTIONS": "detect_leaks=1:exitcode=66",
+    "LSAN_OPTIONS": "exitcode=66",
+}
+
 # The fewest tests that each part must have run in one folder, and the fewest answers that the benchmark compares of an engine and a workload.
-LEAST_PYTHON, LEAST_RUST, LEAST_ANSWERS = 19, 12, 2001
+LEAST_PYTHON, LEAST_RUST, LEAST_ANSWERS = 34, 25, 2001
 
 # The engines of the benchmark, and the types that their threads work with. The last one needs a crate that may not be there.
 ENGINES = {
-    "trie": r"&mut augtrie::lane::Lane",
-    "plain": r"augtrie_bench::plain::pass::Pass<.*false>",
+    "trie": r"augtrie::user::User",
+    "plain": r"augtrie_bench::plain::Worker(?:<'_>)?",
     "mutex": r"&std::[\w:]*::Mutex<augtrie_bench::sums::Sums>",
     "rwlock": r"&std::[\w:]*::RwLock<augtrie_bench::sums::Sums>",
     "btree": r"&std::[\w:]*::RwLock<alloc::[\w:]*::BTreeMap<u32, u32>>",
@@ -46,13 +66,18 @@ if not glob.glob("/usr/share/cargo/registry/arc-swap-*"):
 
 WORKLOADS = ["updates", "tenth", "queries", "batches"]
 
+# What the crowd prints.
+CROWD = re.compile(r"ok: \d{4,} operations, \d{3,} looks\n")
+
 # What the examples print.
 PRINTED = {
-    "timers": ["fired 90, next at 102", "due before 200: 90", "left 3596, set 3686, missing 0"],
-    "order_book": ["160 orders are left, 240 came, 80 went", "each snapshot agreed with itself: true",
-                   "best bid 1999, best offer 2002, depth from 1950 on 550"],
-    "index": ["1440 seconds have events, the first are [0, 3, 5, 7, 10], the last is 3599",
-              "in the tenth minute: 101 events in 24 seconds", "before 1000: 400; after 1000 comes 1003", "missing: 0"],
+    "timers": ["due before 200: 180", "fired 90, next at 102", "left 3596, set 4096"],
+    "order_book": ["each of 500 snapshots agreed with itself", "160 prices, 6400 in all, 1600 from 1950 up to the middle",
+                   "best bid 1999, best offer 2001"],
+    "leaderboard": ["top ten: 0 has 387, 1 has 148, 2 has 126, 11 has 88, 3 has 80, 6 has 77, 7 has 74, 5 has 72, 4 has 71, 10 has 62",
+                    "player 500 is at rank 393 of 984, the next player is 501",
+                    "half of the players have 9 or more, one in a hundred has 62",
+                    "12007 points; club 0 leads with 2595"],
 }
 
 
@@ -69,9 +94,23 @@ def runs(tool, *words):
     return bool(shutil.which(tool)) and subprocess.run([tool, *words, "--version"], stdin=subprocess.DEVNULL, capture_output=True).returncode == 0
 
 
+@functools.lru_cache
+def compiler_for(sanitizer):
+    """A C compiler that has what a sanitizer needs, or None."""
+    with tempfile.TemporaryDirectory() as folder:
+        program = os.path.join(folder, "nothing")
+        for compiler in filter(runs, (CC, "gcc", "clang")):
+            words = [compiler, *SANITIZERS[sanitizer], "-x", "c", "-", "-o", program]
+            built = subprocess.run(words, input="int main(void) { return 0; }", text=True, capture_output=True)
+            if built.returncode == 0 and subprocess.run([program], capture_output=True).returncode == 0:
+                return compiler
+    return None
+
+
 MISSING = {tool for tool in ("ar", CC, CXX, "cargo", "cmake", "pkg-config", "valgrind") if not runs(tool)}
 if not os.path.exists(os.path.join(sysconfig.get_path("include"), "Python.h")) or not runs(*PIP[:3]):
     MISSING.add(PYTHON)
+MISSING |= {f"{name} sanitizer" for name in SANITIZERS if not compiler_for(name)}
 for tool in sorted(MISSING):
     print(f"no {tool}: its tests are left out")
 
@@ -84,17 +123,22 @@ def with_tool(tool):
 def exports():
     """The calls that are proved."""
     found = set()
-    for name in ("trie_calls", "updates", "queries"):
-        found |= set(re.findall(r'extern "C" fn (\w+)', read("crates", "aug_c", "src", f"{name}.rt")))
+    for name in os.listdir(os.path.join(TOP, "crates", "aug_c", "src")):
+        found |= set(re.findall(r'extern "C" fn (\w+)', read("crates", "aug_c", "src", name)))
     assert len(found) >= 20
     return found
 
 
 def calls():
-    """All calls of the library."""
-    beside = set(re.findall(r"^const char \*(\w+)\(", read("bindings", "c", "augtrie.c"), re.M))
-    assert len(beside) == 2
+    """All calls of the library: those that are proved, and those that the C beside them has."""
+    beside = set(re.findall(r"^(?:int64_t |const char \*)(\w+)\([^;\n]*\{", read("bindings", "c", "augtrie.c"), re.M))
+    assert len(beside) >= 28
     return exports() | beside
+
+
+def shown():
+    """The calls that the header shows."""
+    return set(re.findall(r"^(?:AUG_NODISCARD )?(?:int64_t |const char \*)(\w+)\(", read("bindings", "c", "augtrie.h"), re.M))
 
 
 def extension():
@@ -104,21 +148,23 @@ def extension():
 
 
 def test_names_of_the_header():
-    found = re.findall(r"^(?:AUG_NODISCARD )?(?:int64_t |const char \*)(\w+)\(", read("bindings", "c", "augtrie.h"), re.M)
-    assert set(found) == calls()
-
-
-def test_names_that_the_header_tests_for_null():
-    assert set(re.findall(r"^#define (\w+) \1_$", read("bindings", "c", "augtrie.h"), re.M)) == exports()
+    hidden = set(re.findall(r"^int64_t (\w+)\(.*;$", read("bindings", "c", "augtrie.c"), re.M))
+    assert shown() | hidden == calls()
+    assert not shown() & hidden and hidden < exports()
 
 
 def test_names_in_rust():
-    assert set(re.findall(r"pub (?:safe )?fn (aug_\w+)\(", read("bindings", "rust", "src", "ffi.rs"))) == calls()
+    # The crate has those that wait.
+    waits = {name for name in shown() if not name.startswith("aug_try_")}
+    assert set(re.findall(r"pub (?:safe )?fn (aug_\w+)\(", read("bindings", "rust", "src", "ffi.rs"))) == waits
 
 
 def test_names_in_python():
     types = set(re.findall(r"^} (aug_\w+);", read("bindings", "c", "augtrie.h"), re.M))
-    assert set(re.findall(r"\baug_\w+\b", extension())) - types == calls()
+    used = set(re.findall(r"\baug_\w+\b", extension())) - types
+    # What may wait is tried instead, since no thread may wait that has the interpreter's lock.
+    tries = {name for name in shown() if "_try_" in name}
+    assert shown() - tries - {name.replace("_try_", "_") for name in tries} <= used <= shown()
 
 
 def test_names_and_codes_agree():
@@ -130,6 +176,12 @@ def test_names_and_codes_agree():
     assert set(re.findall(r"^    {(AUG_\w+), \"augtrie\.", extension(), re.M)) == set(refusals)
     rust = {int(code) for code in re.findall(r"^    \w+ = (-\d+),$", read("bindings", "rust", "src", "error.rs"), re.M)}
     assert rust == set(refusals.values())
+
+
+def test_names_of_codes_that_tests_have():
+    folder = os.path.join(BINDINGS, "c", "tests")
+    tested = set(re.findall(r"\bAUG_\w+", "".join(read(folder, name) for name in os.listdir(folder))))
+    assert set(re.findall(r"\b(AUG_\w+) = -?\d+", read("bindings", "c", "augtrie.h"))) <= tested
 
 
 def test_names_and_versions_agree():
@@ -178,15 +230,26 @@ class Installed:
         return program
 
     def test_c_threads_and_misuses(self):
-        assert re.search(r"^ok: \d+ in, \d+ out, \d+ members, 1024 checks\n$", said_by(self.compiled("c", "tests", "threads.c")))
+        assert re.search(r"^ok: \d+ answers, 1024 checks\n$", said_by(self.compiled("c", "tests", "threads.c")))
+
+    def test_c_a_thousand_tries(self):
+        said = said_by(self.compiled("c", "tests", "tries.c"))
+        assert int(re.fullmatch(r"ok: (\d+) answers\n", said)[1]) >= 10000
 
     def test_c_each_request_for_memory_refused(self):
-        said = said_by(self.compiled("c", "tests", "refused.c", words=[CC, "-std=c11", "-Wl,--wrap=malloc"]))
-        assert int(re.search(r"^ok: (\d+) refused$", said, re.M)[1]) >= 10
+        said = said_by(self.compiled("c", "tests", "refused.c", words=[CC, "-std=c11", REFUSED]))
+        assert int(re.fullmatch(r"ok: (\d+) refused\n", said)[1]) >= 60
+
+    def test_c_crowd(self):
+        assert CROWD.fullmatch(said_by(self.compiled("c", "tests", "crowd.c"), CROWD_SECONDS))
 
     def test_c_many_keys(self):
         said = said_by(self.compiled("c", "tests", "many.c"))
         assert int(re.fullmatch(r"ok: (\d+) answers\n", said)[1]) >= 300
+
+    def test_c_pops(self):
+        said = said_by(self.compiled("c", "tests", "pops.c"))
+        assert int(re.fullmatch(r"ok: (\d+) answers\n", said)[1]) >= 8192
 
     def test_c_timers(self):
         assert said_by(self.compiled("c", "examples", "timers.c")).splitlines() == PRINTED["timers"]
@@ -196,7 +259,7 @@ class Installed:
         for answer, status in ("int64_t done = ", 0), ("", 1):
             source = os.path.join(self.folder, "ignored.c")
             with open(source, "w", encoding="utf-8") as file:
-                file.write(f'#include "augtrie.h"\nint64_t f(aug_lane *l) {{ {answer}aug_insert(l, 1); return {"done" if answer else 0}; }}\n')
+                file.write(f'#include "augtrie.h"\nint64_t f(aug_user *l) {{ {answer}aug_insert(l, 1); return {"done" if answer else 0}; }}\n')
             said = said_by(CC, "-std=c11", "-O2", *WARNINGS, include, "-c", source, "-o", f"{source}.o", status=status)
             assert ("warn_unused_result" in said) == (status == 1), said
 
@@ -224,8 +287,8 @@ class Module:
         passed = re.fullmatch(r"(\d+) passed, 0 failed", said.splitlines()[-1])
         assert int(passed[1]) >= LEAST_PYTHON
 
-    def test_python_index(self):
-        assert self.python(os.path.join(BINDINGS, "python", "index.py")).splitlines() == PRINTED["index"]
+    def test_python_leaderboard(self):
+        assert self.python(os.path.join(BINDINGS, "python", "leaderboard.py")).splitlines() == PRINTED["leaderboard"]
 
     @with_tool("pkg-config")
     def test_python_by_pkg_config(self):
@@ -248,7 +311,7 @@ class Plus:
     def test_c_other_compilers_have_no_warning(self):
         for compiler in filter(runs, ("gcc", "clang", "g++", "clang++")):
             words = ["-std=c++17", "-x", "c++"] if "+" in compiler else ["-std=c11"]
-            for source in ("augtrie.c", "examples/timers.c"):
+            for source in ("examples/timers.c",) if "+" in compiler else ("augtrie.c", "examples/timers.c"):
                 path = os.path.join(BINDINGS, "c", source)
                 include = f"-I{os.path.join(self.folder, 'include')}"
                 said_by(compiler, "-O2", *WARNINGS, include, *words, "-c", path, "-o", os.path.join(self.folder, "other.o"))
@@ -258,10 +321,54 @@ class Checked:
     """What valgrind says of the C programs."""
 
     def test_c_under_valgrind(self):
-        for name in ("threads", "refused", "many"):
-            words = ["-g", "-Wl,--wrap=malloc"] if name == "refused" else ["-g"]
+        for name in ("threads", "refused", "many", "tries", "pops"):
+            words = ["-g", REFUSED] if name == "refused" else ["-g"]
             program = self.compiled("c", "tests", f"{name}.c", words=[CC, "-std=c11", *words])
             said_by("valgrind", "-q", "--error-exitcode=9", "--leak-check=full", program)
+
+
+class Sanitized:
+    """What sanitizers say of the C that has no proof, while threads work. Of what the proved object does, they see calls of the C library alone."""
+
+    def sanitized(self, sanitizer, name, *words, faults=(), library_faults=(), status=0):
+        """What a program prints that is built for a sanitizer with augtrie.c, which hides the one in the shared object."""
+        program = os.path.join(self.folder, f"{name}_{sanitizer}")
+        build = [compiler_for(sanitizer), "-std=c11", "-g", *WARNINGS, *SANITIZERS[sanitizer], f"-I{os.path.join(self.folder, 'include')}"]
+        said_by(*build, *library_faults, "-c", os.path.join(BINDINGS, "c", "augtrie.c"), "-o", f"{program}.o")
+        library = os.path.join(self.folder, "lib")
+        libraries = [f"-L{library}", f"-Wl,-rpath,{library}", "-laugtrie", "-lpthread"]
+        said_by(*build, *faults, os.path.join(BINDINGS, "c", "tests", f"{name}.c"), f"{program}.o", *libraries, "-o", program)
+        return said_by(program, *words, status=status, env={**os.environ, **REPORTS})
+
+    def check_sanitized(self, sanitizer):
+        assert CROWD.fullmatch(self.sanitized(sanitizer, "crowd", CROWD_SECONDS))
+        assert re.fullmatch(r"ok: \d+ answers, \d+ checks\n", self.sanitized(sanitizer, "threads"))
+
+    @with_tool("thread sanitizer")
+    def test_c_has_no_race(self):
+        self.check_sanitized("thread")
+
+    @with_tool("address sanitizer")
+    def test_c_stays_in_its_memory_and_gives_it_back(self):
+        self.check_sanitized("address")
+
+    @with_tool("thread sanitizer")
+    def test_c_race_is_found(self):
+        # The lock is neither taken nor let go: for a lock of its kind, this call does nothing.
+        faults = [f"-Dpthread_mutex_{call}=pthread_mutex_consistent" for call in ("lock", "unlock")]
+        said = self.sanitized("thread", "crowd", "0", library_faults=faults, status=66)
+        assert re.search(r"WARNING: ThreadSanitizer: data race(?s:.)*?#0 \w+ \S*augtrie\.c:", said), said
+
+    @with_tool("address sanitizer")
+    def test_c_overrun_is_found(self):
+        said = self.sanitized("address", "crowd", "0", faults=["-DPLACES=1"], status=66)
+        assert re.search(r"AddressSanitizer: heap-buffer-overflow(?s:.)*?#0 \w+ in \w+ \S*augtrie\.c:", said), said
+
+    @with_tool("address sanitizer")
+    def test_c_leak_is_found(self):
+        # The users that are left when a trie is closed are not freed: this call leaves them as they are.
+        said = self.sanitized("address", "crowd", "0", library_faults=["-Daug_user_free=aug_try_look_done"], status=66)
+        assert "LeakSanitizer: detected memory leaks" in said
 
 
 class Crate:
@@ -341,20 +448,17 @@ class Packed:
     def test_packed_wheel(self):
         site, wheels = os.path.join(self.folder, "packed-site"), glob.glob(os.path.join(self.packs, "*.whl"))
         self.elsewhere(*PIP, "--target", site, *wheels)
-        said = self.elsewhere(sys.executable, os.path.join(self.c, "examples", "index.py"), PYTHONPATH=site)
-        assert said.splitlines() == PRINTED["index"]
+        said = self.elsewhere(sys.executable, os.path.join(self.c, "examples", "leaderboard.py"), PYTHONPATH=site)
+        assert said.splitlines() == PRINTED["leaderboard"]
 
 
 def table(lines, first):
-    """The rows of the table whose head begins with a cell, by their first cells: each has its cells by the names of the columns, the first of those
-    that have a name twice."""
-    rows = [[cell.strip() for cell in line.strip("|").split("|")] for line in lines if line.startswith("|")]
-    at = next(number for number, row in enumerate(rows) if row[0] == first)
-    found = {}
-    for row in rows[at + 2 :]:
-        if len(row) != len(rows[at]) or row[0] in found:
-            break
-        found[row[0]] = dict(reversed(list(zip(rows[at], row))))
+    """The rows of the table whose head begins with a cell, by their first cells: each has its cells by the names of the columns."""
+    at = next(number for number, line in enumerate(lines) if line.startswith(f"| {first} |"))
+    own = itertools.takewhile(lambda line: line.startswith("|"), lines[at:])
+    head, _, *rows = [[cell.strip() for cell in line.strip("|").split("|")] for line in own]
+    found = {row[0]: dict(zip(head, row)) for row in rows}
+    assert len(found) == len(rows) and {len(row) for row in rows} == {len(head)}
     return found
 
 
@@ -387,10 +491,11 @@ class Bench:
             assert f"bench: {names[0]} was run under the name of {names[1]}\n" in said
 
     def test_bench_measures_each_engine(self):
-        said = self.script("run", "--passes", "1", "--slice", "2", "--updates", "64", "--into", os.path.join(self.folder, "measured"))
+        said = self.script("run", "--passes", "1", "--slice", "2", "--bytes", str(1 << 22), "--into", os.path.join(self.folder, "measured"))
         with open(os.path.join(self.folder, "measured", "throughput.md"), encoding="utf-8") as file:
             lines = file.read().splitlines()
         assert "\n".join(lines) in said
+        assert any(line.endswith(f" tables of at most {1 << 22} bytes") for line in lines)
         seats = table(lines, "Engine")
         assert list(seats) == list(ENGINES)
         for name, seat in ENGINES.items():
@@ -400,10 +505,10 @@ class Bench:
         cases = [f"{workload}, {count} thread{'s' * (count > 1)}" for workload in WORKLOADS for count in (1, 2, 4) if count <= processors]
         assert (list(rates), list(ratios)) == (cases, cases)
         for case in cases:
-            self.check_case(rates[case], ratios[case], case.startswith("queries"))
+            self.check_case(rates[case], ratios[case])
         self.check_picture(os.path.join(self.folder, "measured", "throughput.svg"), len(cases) // len(WORKLOADS))
 
-    def check_case(self, rates, ratios, is_queries):
+    def check_case(self, rates, ratios):
         """Holds the numbers of a case to one another. Of one pass, each median is the number itself."""
         number = lambda text: float(text.partition(" ")[0])
         rate = {name: number(rates[name]) for name in ENGINES}
@@ -414,21 +519,15 @@ class Bench:
         best_ratio = re.fullmatch(r"(\S+) \(.*\) of (\w+)", ratios["the best lock's"])
         assert rate[best] / rate[best_ratio[2]] <= 1.01
         assert number(ratios[best_ratio[2]]) == float(best_ratio[1])
-        opened = rates["openings counted in"], ratios["this with openings counted in"]
-        if is_queries:
-            assert opened == ("", "")
-        else:
-            assert number(opened[0]) < rate["trie"]
-            assert number(opened[1]) <= float(best_ratio[1])
 
     def check_picture(self, path, points):
-        """There is a panel a workload, and in it a line an engine, and another one for its openings, through as many points as there are cases."""
+        """There is a panel a workload, and in it a line an engine, through as many points as there are cases."""
         name = "{http://www.w3.org/2000/svg}"
         panels = xml.etree.ElementTree.parse(path).getroot().findall(f"{name}g")
         assert len(panels) == len(WORKLOADS)
-        for workload, panel in zip(WORKLOADS, panels):
+        for panel in panels:
             lines = [it.get("d") for it in panel.findall(f"{name}path") if it.get("stroke-width") == "2"]
-            assert len(lines) == len(ENGINES) + (0 if workload == "queries" else 2)
+            assert len(lines) == len(ENGINES)
             assert {line.count("L") + 1 for line in lines} == {points}
 
 
@@ -440,14 +539,15 @@ class Counted:
         counts = table(lines, "Instructions of a call")
         assert list(counts) == ["the library through C", "plain Rust, bounds checks", "plain Rust, no bounds checks"]
         for row in counts.values():
-            # A rank goes down 16 levels.
-            assert 0 < 3 * int(row["`size`"]) < int(row["`rank`"]) < 2000, counts
+            # A rank goes down 16 levels, and a size none.
+            assert 0 < int(row["`size`"]) < int(row["`rank`"]) - 16 * 5 < 2000, counts
 
 
 # The parts, each with the tools that it needs beside those of the first, and the builds that it is for: what needs one build alone has LLVM's.
 PARTS = [
     (["ar", CC], Installed, BACKENDS),
     (["valgrind"], Checked, BACKENDS),
+    ([], Sanitized, ["llvm"]),
     ([CXX], Plus, BACKENDS),
     ([PYTHON], Module, BACKENDS),
     (["cargo"], Crate, BACKENDS),

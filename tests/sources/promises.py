@@ -28,7 +28,7 @@ READS = (
     Read("these four together", None, [*FIRST, "run"], False),
     Read("`Handle::insert` of a live trie", "aug_live", ["insert of Handle"], False),
     Read("`Live::close`", "aug_live", ["close of Live"], False),
-    Read("`aug_insert` for C", "aug_c", ["aug_insert"], False),
+    Read("`aug_insert` for C", "aug_c", ["aug_try_insert"], False),
     Read("all public calls", None, None, True),
 )
 

@@ -1,13 +1,12 @@
 use super::words::Words;
+use std::ops::Range;
 use std::sync::atomic::Ordering::SeqCst;
 
-/// A thread of the trie.
+/// What makes updates of the trie.
 pub struct Pass<'t, const CHECKED: bool> {
     pub words: Words<'t, CHECKED>,
-    /// The number of its next record that was not used.
-    pub next: u64,
-    /// The number behind its last record.
-    pub end: u64,
+    /// The numbers of its records that were not used.
+    pub left: &'t mut Range<u64>,
 }
 
 impl<const CHECKED: bool> Pass<'_, CHECKED> {
@@ -48,17 +47,17 @@ impl<const CHECKED: bool> Pass<'_, CHECKED> {
     /// Brings a key's leaf to the root: at each node of its path, two tries at most.
     #[inline(always)]
     fn climb(&mut self, key: u64) {
-        assert!(self.next < self.end, "no update is left");
+        assert!(!self.left.is_empty(), "no update is left");
         let words = self.words;
         let mut place = key as usize;
         for level in 0..words.bits {
             let left = place & !1;
             let node = (1 << words.bits) + place / 2;
             let first = (key >> (level + 1)) << (level + 1);
-            if !words.refresh(level, left, node, first, self.next) {
-                words.refresh(level, left, node, first, self.next);
+            if !words.refresh(level, left, node, first, self.left.start) {
+                words.refresh(level, left, node, first, self.left.start);
             }
-            self.next += 1;
+            self.left.start += 1;
             place = node;
         }
     }

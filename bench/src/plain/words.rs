@@ -17,20 +17,16 @@ pub struct Words<'t, const CHECKED: bool> {
     pub bits: usize,
 }
 
-/// Zeroed words, with room for so many updates.
-pub fn room(bits: usize, updates: usize) -> Vec<AtomicU64> {
-    let records = bits + (1 << bits) - 1 + updates * bits;
-    (0..(2 << bits) - 1 + records * RECORD).map(|_| AtomicU64::new(0)).collect()
+/// Zeroed words of so many bytes.
+pub fn room(bytes: u64) -> Vec<AtomicU64> {
+    (0..bytes / 8).map(|_| AtomicU64::new(0)).collect()
 }
 
 impl<'t, const CHECKED: bool> Words<'t, CHECKED> {
-    /// Lays out these leaf words: first a record a level for the nodes that cover no member, then one for each other node, level by level. It
-    /// gives the number of the first record that is left for updates.
-    pub fn open(self, leaf: impl Fn(u64) -> u64) -> u64 {
+    /// Lays out what is above the leaves: first a record a level for the nodes that cover no member, then one for each other node, level by
+    /// level. It gives the number of the first record that is left for updates.
+    pub fn open(self) -> u64 {
         let leaves = 1 << self.bits;
-        for key in 0..leaves {
-            self.word(key).store(leaf(key as u64), SeqCst);
-        }
         let (mut below, mut first, mut width, mut next) = (0, leaves, leaves / 2, self.bits as u64);
         for level in 0..self.bits {
             let shared = level as u64;
@@ -65,6 +61,11 @@ impl<'t, const CHECKED: bool> Words<'t, CHECKED> {
     #[inline(always)]
     fn record(self, number: u64) -> usize {
         (2 << self.bits) - 1 + number as usize * RECORD
+    }
+
+    /// How many records there are.
+    pub fn records(self) -> u64 {
+        (self.words.len() - self.record(0)) as u64 / RECORD as u64
     }
 
     #[inline(always)]

@@ -1,130 +1,179 @@
-/* Four threads insert, remove and ask at the same time; what they did adds up; each misuse is answered by its code. */
+/* Four threads insert, remove and ask at the same time; what they did adds up; each misuse is answered by its code; and the calls that never
+   wait say when they would. */
 #include "augtrie.h"
-#include <pthread.h>
-#include <stdio.h>
-#include <stdlib.h>
+#include "want.h"
 
-#define WANT(what, want) do { long got_ = (what), want_ = (want); if (got_ != want_) { \
-    printf("line %d: %s is %ld and not %ld\n", __LINE__, #what, got_, want_); exit(1); } } while (0)
+#include <pthread.h>
 
 enum { BITS = 12, KEYS = 1 << BITS, THREADS = 4 };
 
-struct worker { aug_lane lane; uint32_t step, in, out, checks; };
+static aug_trie trie = AUG_ZEROED;
+
+struct worker { uint32_t step, in, out, checks; };
+
+/* All answers of one look agree with one another, whatever the other threads do. */
+static const char *check(aug_user *user, uint32_t k) {
+    aug_span s;
+    if (aug_look(user) != 0) return "look";
+    int64_t n = aug_size(user), r = aug_rank(user, k), h = aug_has(user, k);
+    if (aug_range(user, 0, KEYS, &s) != n || (int64_t)s.count != n) return "range";
+    if (n && (aug_first(user) != (int64_t)s.least || aug_last(user) != (int64_t)s.greatest)) return "first and last";
+    if (aug_rank(user, k + 1) != r + h) return "rank";
+    int64_t m = aug_select(user, (uint32_t)r);
+    if (h && m != (int64_t)k) return "select";
+    if (!h && aug_after(user, k) != m) return "after";
+    if (r && aug_before(user, k) != aug_select(user, (uint32_t)r - 1)) return "before";
+    if (aug_look_again(user) != 0 || aug_size(user) < 0) return "look again";
+    return aug_look_done(user) == 0 ? NULL : "look done";
+}
 
 static void *work(void *arg) {
     struct worker *w = arg;
+    aug_user user = AUG_ZEROED;
+    if (aug_user_open(&trie, &user) != 0) return "open";
     for (uint32_t k = 0; k < KEYS; k++) {
-        if (k % w->step == 0) { int64_t r = aug_insert(&w->lane, k); if (r < 0) return "insert"; w->in += r; }
-        if (k % 7 == w->step % 7) { int64_t r = aug_remove(&w->lane, k); if (r < 0) return "remove"; w->out += r; }
+        if (k % w->step == 0) { int64_t r = aug_insert(&user, k); if (r < 0) return "insert"; w->in += (uint32_t)r; }
+        if (k % 7 == w->step % 7) { int64_t r = aug_remove(&user, k); if (r < 0) return "remove"; w->out += (uint32_t)r; }
         if (k % 16 == 0) {
-            /* All answers of one snapshot agree with one another, whatever the other threads do. */
-            if (aug_look(&w->lane) != 0) return "look";
-            int64_t n = aug_size(&w->lane), r = aug_rank(&w->lane, k), h = aug_has(&w->lane, k);
-            aug_span s;
-            if (aug_range(&w->lane, 0, KEYS, &s) != n || (int64_t)s.count != n) return "range";
-            if (aug_rank(&w->lane, k + 1) != r + h) return "rank";
-            int64_t m = aug_select(&w->lane, r);
-            if (h && m != (int64_t)k) return "select";
-            if (!h && aug_after(&w->lane, k) != m) return "after";
-            if (r && aug_before(&w->lane, k) != aug_select(&w->lane, r - 1)) return "before";
+            const char *wrong = check(&user, k);
+            if (wrong) return (void *)wrong;
             w->checks++;
         }
     }
-    return 0;
+    return aug_user_close(&user) == 0 ? NULL : "close";
 }
 
-int main(void) {
-    aug_trie trie = {0}, other = {0};
+/* The table is so small that the threads give it new rounds again and again. */
+static uint32_t threads_agree(void) {
     struct worker w[THREADS] = {{.step = 3}, {.step = 5}, {.step = 2}, {.step = 3}};
-    aug_lane more = {0}, wild = {0x1234, (void *)8};
-    aug_report report = {0};
-
-    /* Misuse before anything is open. */
-    WANT(aug_open(NULL, BITS, 1), AUG_CLOSED);
-    WANT(aug_insert(NULL, 1), AUG_CLOSED);
-    WANT(aug_end(&trie, NULL), AUG_CLOSED);
-    WANT(aug_begin(&trie, BITS, 4, 10), AUG_CLOSED);
-    WANT(aug_insert(&more, 1), AUG_CLOSED);
-    WANT(aug_insert(&wild, 1), AUG_CLOSED);
-    wild = (aug_lane){0};
-    WANT(aug_open(&trie, 17, 1), AUG_BAD_BITS);
-    WANT(aug_open(&trie, BITS, 1), 0);
-    WANT(aug_open(&trie, BITS, 1), AUG_OPEN);
-    WANT(aug_open(&other, BITS, 2), 0);
-    WANT(aug_open_lane(&trie, &more), AUG_AT_REST);
-    WANT(aug_end(&trie, &report), AUG_AT_REST);
-    WANT(aug_begin(&trie, 0, 4, 10), AUG_BAD_BITS);
-    WANT(aug_begin(&trie, BITS - 1, 4, 10), AUG_NARROWER);
-    WANT(aug_begin(&trie, BITS, 65, 10), AUG_BAD_WORKERS);
-    WANT(aug_begin(&trie, BITS, 4, 0), AUG_BAD_UPDATES);
-    WANT(aug_begin(&trie, BITS, 64, 65536), AUG_TOO_LARGE);
-
-    WANT(aug_begin(&trie, BITS, THREADS, 2 * KEYS), 0);
-    WANT(aug_begin(&trie, BITS, THREADS, 2 * KEYS), AUG_IN_ROUND);
-    WANT(aug_begin(&other, BITS, 1, 1), 0);
-    for (int i = 0; i < THREADS; i++) WANT(aug_open_lane(&trie, &w[i].lane), 0);
-    WANT(aug_open_lane(&trie, &more), AUG_NO_LANE);
-    WANT(aug_insert((aug_lane *)&trie, 1), AUG_CLOSED);
-    WANT(aug_end((aug_trie *)&w[0].lane, &report), AUG_CLOSED);
-    WANT(aug_open_lane(&trie, &w[0].lane), AUG_OPEN);
-    WANT(aug_insert(&w[0].lane, KEYS), AUG_BAD_KEY);
-    WANT(aug_end(&trie, &report), AUG_LANES_OUT);
-
     pthread_t threads[THREADS];
+    aug_report report;
+    uint32_t in = 0, out = 0, checks = 0;
+    WANT(aug_open(&trie, BITS, THREADS, 600000), 0);
     for (int i = 0; i < THREADS; i++) WANT(pthread_create(&threads[i], 0, work, &w[i]), 0);
     for (int i = 0; i < THREADS; i++) {
         void *what;
         WANT(pthread_join(threads[i], &what), 0);
-        if (what) { printf("thread %d: %s\n", i, (char *)what); return 1; }
+        if (what) { printf("thread %d: %s\n", i, (char *)what); exit(1); }
+        in += w[i].in, out += w[i].out, checks += w[i].checks;
     }
-
-    WANT(aug_give_back(&other, &w[0].lane), AUG_OTHER_ROUND);
-    uint32_t in = 0, out = 0;
-    for (int i = 0; i < THREADS; i++) {
-        WANT(aug_give_back(&trie, &w[i].lane), 0);
-        WANT(aug_insert(&w[i].lane, 1), AUG_CLOSED);
-        in += w[i].in, out += w[i].out;
-    }
-    WANT(aug_end(&trie, &report), 0);
+    WANT(aug_close(&trie, &report), 0);
     WANT(report.inserts, in);
     WANT(report.removals, out);
     WANT(report.size, in - out);
-    WANT(report.missing, 0);
+    return checks;
+}
 
-    /* The budget; a lane that is dropped; a round that goes on with the set. */
-    WANT(aug_open_lane(&other, &more), 0);
-    WANT(aug_budget(&more), 1);
-    WANT(aug_put(&more, 9, 4000000000u), 1);
-    WANT(aug_budget(&more), 0);
-    WANT(aug_insert(&more, 9), AUG_SPENT);
-    WANT(aug_look(&more), 0);
-    WANT(aug_has(&more, 9), 1);
-    WANT(aug_weight(&more, 9), 4000000000LL);
-    WANT(aug_weight(&more, 8), AUG_NONE);
-    WANT(aug_has(&more, 4000000000u), 0);
-    WANT(aug_select(&more, 1), AUG_NONE);
-    WANT(aug_close(&other), 0);
-    WANT(aug_rank(&more, 4000000000u), 1);
-    WANT(aug_add(&more, 9, 1), AUG_SPENT);
-    WANT(aug_drop_lane(&more), 0);
-    WANT(aug_drop_lane(&more), AUG_CLOSED);
-    uint32_t size = report.size;
-    WANT(aug_begin(&trie, BITS, 2, 5), 0);
-    WANT(aug_open_lane(&trie, &more), 0);
-    WANT(aug_size(&more), size);
-    WANT(aug_drop_lane(&more), 0);
-    WANT(aug_end(&trie, &report), 0);
-    WANT(report.missing, 1);
-    WANT(report.size, size);
-    WANT(aug_begin(&trie, BITS + 1, 1, 5), 0);
-    WANT(aug_open_lane(&trie, &more), 0);
-    WANT(aug_insert(&more, KEYS), 1);
-    WANT(aug_insert(&more, 2 * KEYS), AUG_BAD_KEY);
-    WANT(aug_give_back(&trie, &more), 0);
-    WANT(aug_end(&trie, &report), 0);
-    WANT(report.size, size + 1);
-    WANT(aug_close(&trie), 0);
-    WANT(aug_close(&trie), AUG_CLOSED);
-    printf("ok: %u in, %u out, %u members, %u checks\n", in, out, size, w[0].checks + w[1].checks + w[2].checks + w[3].checks);
+/* Each misuse has its code. */
+static void misuses(void) {
+    aug_trie other = AUG_ZEROED;
+    aug_user one = AUG_ZEROED, two = AUG_ZEROED, more = AUG_ZEROED, wild = {0x1234, (void *)8, (void *)8};
+    uint32_t key = 9;
+    WANT(aug_open(NULL, BITS, 1, 1 << 20), AUG_CLOSED);
+    WANT(aug_insert(NULL, 1), AUG_CLOSED);
+    WANT(aug_close(&other, NULL), AUG_CLOSED);
+    WANT(aug_user_open(&other, &one), AUG_CLOSED);
+    WANT(aug_user_close(&one), AUG_CLOSED);
+    WANT(aug_insert(&one, 1), AUG_CLOSED);
+    WANT(aug_insert(&wild, 1), AUG_CLOSED);
+    WANT(aug_insert_all(&wild, &key, 1), AUG_CLOSED);
+    WANT(aug_user_close(&wild), AUG_CLOSED);
+    WANT(aug_user_close(NULL), AUG_CLOSED);
+    WANT(aug_insert((aug_user *)&other, 1), AUG_CLOSED);
+    WANT(aug_open(&other, 0, 1, 1 << 20), AUG_BAD_BITS);
+    WANT(aug_open(&other, 17, 1, 1 << 20), AUG_BAD_BITS);
+    WANT(aug_open(&other, BITS, 0, 1 << 20), AUG_BAD_USERS);
+    WANT(aug_open(&other, BITS, 65, 1 << 20), AUG_BAD_USERS);
+    WANT(aug_open(&other, BITS, 1, 1000), AUG_TOO_LARGE);
+    WANT(aug_open(&other, BITS, 2, 1 << 20), 0);
+    WANT(aug_open(&other, BITS, 2, 1 << 20), AUG_OPEN);
+    /* The handle of a trie is no user, and nothing behind it is read. */
+    WANT(aug_insert((aug_user *)&other, 1), AUG_CLOSED);
+    WANT(aug_remove_all((aug_user *)&other, &key, 1), AUG_CLOSED);
+    WANT(aug_keys((aug_user *)&other, 0, &key, 1), AUG_CLOSED);
+    WANT(aug_user_close((aug_user *)&other), AUG_CLOSED);
+    WANT(aug_user_open(&other, &one), 0);
+    WANT(aug_user_open(&other, &one), AUG_OPEN);
+    WANT(aug_user_open(&other, &two), 0);
+    WANT(aug_user_open(&other, &more), AUG_NO_USER);
+    WANT(aug_insert(&one, KEYS), AUG_BAD_KEY);
+    WANT(aug_put(&one, 9, 4000000000u), 1);
+    WANT(aug_put(&one, 9, 4000000001u), 2);
+    WANT(aug_size(&one), AUG_NOT_LOOKING);
+    WANT(aug_look_again(&one), AUG_NOT_LOOKING);
+    WANT(aug_look_done(&one), AUG_NOT_LOOKING);
+    WANT(aug_look(&one), 0);
+    WANT(aug_look(&one), AUG_LOOKING);
+    WANT(aug_remove(&one, 9), AUG_LOOKING);
+    WANT(aug_has(&one, 9), 1);
+    WANT(aug_has(&one, 4000000000u), 0);
+    WANT(aug_weight(&one, 9), 4000000001LL);
+    WANT(aug_weight(&one, 8), AUG_NONE);
+    WANT(aug_select(&one, 1), AUG_NONE);
+    WANT(aug_before(&one, 9), AUG_NONE);
+    WANT(aug_rank(&one, 4000000000u), 1);
+    /* A user that is closed ends its look, and the next one has its place. */
+    WANT(aug_user_close(&one), 0);
+    WANT(aug_user_close(&one), AUG_CLOSED);
+    WANT(aug_user_open(&other, &more), 0);
+    WANT(aug_remove(&more, 9), 1);
+    WANT(aug_close(&other, NULL), 0);
+    WANT(aug_close(&other, NULL), AUG_CLOSED);
+    WANT(aug_user_open(&other, &one), AUG_CLOSED);
+    WANT(aug_insert(&more, 9), AUG_CLOSED);
+    WANT(aug_look(&two), AUG_CLOSED);
+    WANT(aug_user_close(&more), 0);
+    WANT(aug_user_close(&two), 0);
+}
+
+/* A look holds up whoever has to give the table a new round. Who calls again when it is done goes on, also within an array. */
+static void waits(void) {
+    enum { SOME = 64 };
+    aug_trie small = AUG_ZEROED;
+    aug_user looks = AUG_ZEROED, works = AUG_ZEROED;
+    aug_progress so_far = {0, 0};
+    uint32_t keys[SOME], made = 0;
+    for (uint32_t k = 0; k < SOME; k++) keys[k] = k;
+    WANT(aug_open(&small, 6, 2, 8000), 0);
+    WANT(aug_user_open(&small, &works), 0);
+    WANT(aug_user_open(&small, &looks), 0);
+    WANT(aug_look(&looks), 0);
+    int64_t code;
+    while ((code = aug_try_insert(&works, made)) == 1) made++;
+    WANT(code, AUG_AGAIN);
+    WANT(aug_try_remove(&works, 0), AUG_AGAIN);
+    WANT(aug_try_put(&works, 0, 7), AUG_AGAIN);
+    WANT(aug_try_look(&works), AUG_AGAIN);
+    WANT(aug_size(&looks), 0);
+    WANT(aug_try_insert_all(&works, keys, SOME, &so_far), AUG_AGAIN);
+    WANT(so_far.made, 0);
+    WANT(aug_look_done(&looks), 0);
+    for (so_far.made = 0; so_far.made < SOME;) {
+        WANT(aug_try_insert_all(&works, keys, SOME, &so_far), 0);
+        WANT(so_far.made, SOME);
+    }
+    WANT(so_far.changed, SOME - made);
+    /* Stopped amid an array: the calls go on from there. The update in front of it is one of a new round. */
+    so_far = (aug_progress){0, 0};
+    WANT(aug_insert(&works, 0), 0);
+    WANT(aug_look(&looks), 0);
+    WANT(aug_size(&looks), SOME);
+    WANT(aug_try_remove_all(&works, keys, SOME, &so_far), AUG_AGAIN);
+    WANT(so_far.made > 0 && so_far.made < SOME && so_far.made == so_far.changed, 1);
+    WANT(aug_look_done(&looks), 0);
+    WANT(aug_try_remove_all(&works, keys, SOME, &so_far), 0);
+    WANT(so_far.changed, SOME);
+    so_far.made = SOME + 1;
+    WANT(aug_try_remove_all(&works, keys, SOME, &so_far), AUG_BAD_LENGTH);
+    WANT(aug_close(&small, NULL), 0);
+    WANT(aug_user_close(&looks), 0);
+    WANT(aug_user_close(&works), 0);
+}
+
+int main(void) {
+    misuses();
+    waits();
+    uint32_t checks = threads_agree();
+    printf("ok: %u answers, %u checks\n", wanted, checks);
     return 0;
 }

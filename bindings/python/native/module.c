@@ -3,11 +3,11 @@
 
 #include <string.h>
 
-PyTypeObject *lane_type, *snapshot_type, *iterator_type, *trie_type, *round_type, *report_type, *span_type;
+PyTypeObject *members_type, *trie_type, *snapshot_type, *iterator_type, *stay_type, *report_type, *span_type;
 PyObject *any_error;
 
 /* The exceptions by the codes that they stand for, with the sign turned. */
-enum { CODES = 20 };
+enum { CODES = 16 };
 static PyObject *errors[CODES];
 
 static const struct {
@@ -17,25 +17,21 @@ static const struct {
 } kinds[] = {
     {AUG_CLOSED, "augtrie.Closed", NULL},
     {AUG_BAD_KEY, "augtrie.BadKey", &PyExc_ValueError},
-    {AUG_SPENT, "augtrie.Spent", NULL},
+    {AUG_AGAIN, "augtrie.Again", NULL},
     {AUG_NO_MEMORY, "augtrie.NoMemory", &PyExc_MemoryError},
     {AUG_BAD_BITS, "augtrie.BadBits", &PyExc_ValueError},
-    {AUG_BAD_WORKERS, "augtrie.BadLanes", &PyExc_ValueError},
-    {AUG_BAD_UPDATES, "augtrie.BadUpdates", &PyExc_ValueError},
+    {AUG_BAD_USERS, "augtrie.BadUsers", &PyExc_ValueError},
     {AUG_TOO_LARGE, "augtrie.TooLarge", &PyExc_ValueError},
-    {AUG_IN_ROUND, "augtrie.InRound", NULL},
-    {AUG_AT_REST, "augtrie.AtRest", NULL},
-    {AUG_NO_LANE, "augtrie.NoLane", NULL},
-    {AUG_LANES_OUT, "augtrie.LanesOut", NULL},
-    {AUG_OTHER_ROUND, "augtrie.OtherRound", NULL},
+    {AUG_NO_USER, "augtrie.NoUser", NULL},
     {AUG_OPEN, "augtrie.Open", NULL},
-    {AUG_NO_ROOM, "augtrie.NoRoom", NULL},
-    {AUG_NARROWER, "augtrie.Narrower", &PyExc_ValueError},
-    {AUG_TOO_GREAT, "augtrie.TooGreat", &PyExc_ValueError},
+    {AUG_BAD_LENGTH, "augtrie.BadLength", &PyExc_ValueError},
+    {AUG_LOOKING, "augtrie.Looking", NULL},
+    {AUG_NOT_LOOKING, "augtrie.NotLooking", NULL},
+    {AUG_TOO_GREAT, "augtrie.TooGreat", &PyExc_OverflowError},
     {AUG_TOO_LITTLE, "augtrie.TooLittle", &PyExc_ValueError},
 };
 
-PyObject *raise_code(int64_t code) {
+void *raise_code(int64_t code) {
     PyObject *kind = code < 0 && -code < CODES && errors[-code] ? errors[-code] : any_error;
     PyErr_SetString(kind, aug_error_text(code));
     return NULL;
@@ -53,19 +49,18 @@ void free_object(PyObject *self) {
 
 PyObject *refuse_new(PyTypeObject *type, PyObject *args, PyObject *named) {
     (void)type, (void)args, (void)named;
-    PyErr_SetString(PyExc_TypeError, "only a trie is made by its type: rounds, lanes and snapshots come from it");
+    PyErr_SetString(PyExc_TypeError, "only a trie is made by its type");
     return NULL;
 }
 
 static PyStructSequence_Field report_fields[] = {
-    {"size", "how many members the set has"},
-    {"inserts", "how many keys were put in, by the lanes that came back"},
-    {"removals", "how many keys these took out"},
-    {"missing", "how many lanes did not come back"},
+    {"inserts", "how many keys were put in; a weight that was replaced counts here and below"},
+    {"removals", "how many keys were taken out"},
+    {"size", "how many members there were at the end"},
     {NULL, NULL},
 };
 
-static PyStructSequence_Desc report_description = {"augtrie.Report", "What a round came to.", report_fields, 4};
+static PyStructSequence_Desc report_description = {"augtrie.Report", "What the life of a trie came to.", report_fields, 3};
 
 static PyStructSequence_Field span_fields[] = {
     {"sum", "the sum of their weights, modulo 2^64"},
@@ -77,11 +72,10 @@ static PyStructSequence_Field span_fields[] = {
 
 static PyStructSequence_Desc span_description = {"augtrie.Span", "What the members of an interval come to.", span_fields, 4};
 
-PyObject *four_numbers(PyTypeObject *type, uint64_t first, uint32_t second, uint32_t third, uint32_t fourth) {
-    const uint64_t numbers[] = {first, second, third, fourth};
+PyObject *record_of(PyTypeObject *type, Py_ssize_t count, const uint64_t *fields) {
     PyObject *result = PyStructSequence_New(type);
-    for (Py_ssize_t i = 0; result && i < 4; i++) {
-        PyObject *number = PyLong_FromUnsignedLongLong(numbers[i]);
+    for (Py_ssize_t i = 0; result && i < count; i++) {
+        PyObject *number = PyLong_FromUnsignedLongLong(fields[i]);
         PyStructSequence_SetItem(result, i, number);
         if (!number) Py_CLEAR(result);
     }
@@ -114,10 +108,16 @@ static int add_types(PyObject *module) {
     const struct {
         PyTypeObject **type;
         PyType_Spec *spec;
-    } made[] = {{&lane_type, &lane_spec},   {&snapshot_type, &snapshot_spec}, {&iterator_type, &iterator_spec},
-                {&trie_type, &trie_spec}, {&round_type, &round_spec}};
+        PyTypeObject **base;
+    } made[] = {{&members_type, &members_spec, NULL},
+                {&trie_type, &trie_spec, &members_type},
+                {&snapshot_type, &snapshot_spec, &members_type},
+                {&iterator_type, &iterator_spec, NULL},
+                {&stay_type, &stay_spec, NULL}};
     for (size_t i = 0; i < sizeof made / sizeof *made; i++) {
-        *made[i].type = (PyTypeObject *)PyType_FromSpec(made[i].spec);
+        PyObject *bases = made[i].base ? PyTuple_Pack(1, *made[i].base) : NULL;
+        if (!PyErr_Occurred()) *made[i].type = (PyTypeObject *)PyType_FromSpecWithBases(made[i].spec, bases);
+        Py_XDECREF(bases);
         if (add(module, made[i].spec->name, (PyObject *)*made[i].type)) return -1;
     }
     report_type = PyStructSequence_NewType(&report_description);
@@ -131,6 +131,8 @@ static struct PyModuleDef definition = {PyModuleDef_HEAD_INIT, "_augtrie", NULL,
 PyMODINIT_FUNC PyInit__augtrie(void) {
     PyObject *module = PyModule_Create(&definition);
     if (!module) return NULL;
-    if (add_errors(module) || add_types(module) || PyModule_AddStringConstant(module, "__version__", aug_version())) Py_CLEAR(module);
+    if (watch_forks()) PyErr_NoMemory();
+    if (PyErr_Occurred() || add_errors(module) || add_types(module) || PyModule_AddStringConstant(module, "__version__", aug_version()))
+        Py_CLEAR(module);
     return module;
 }

@@ -1,4 +1,4 @@
-/* What the files of the extension share. */
+/* What the files of the extension share. The interpreter's lock guards all that is declared here, and whoever has it may read and change it. */
 #ifndef AUGTRIE_MODULE_H
 #define AUGTRIE_MODULE_H
 
@@ -9,27 +9,50 @@
 
 #include "augtrie.h"
 
-/* A lane of a round. A call that lets other threads of Python run is marked, and holds the lock meanwhile. */
+typedef struct Snapshot Snapshot;
+
+/* A user of a trie, for one thread after the other. */
 typedef struct {
+    aug_user handle;
+    uint64_t thread; /* the number of its thread; 0 if it has none; ENDED if that has ended while another thread was in a call of it */
+    Snapshot *held;  /* the snapshot whose look it holds; borrowed */
+    char is_open;
+    char is_busy;    /* a call of it is on that lets other threads run: nobody else may use the handle */
+} Seat;
+
+typedef struct Trie {
     PyObject_HEAD
-    aug_lane handle;
-    PyThread_type_lock lock;
-    int is_busy;
-    uint64_t turn; /* how often it took a snapshot or went back: older snapshots no longer answer */
-} Lane;
+    aug_trie handle;
+    struct Trie *next, **link; /* in the list of open tries; the link is NULL once the trie is closed */
+    uint32_t bits, users;
+    unsigned forks;            /* how often the process had been forked when it was opened */
+    int is_closing;
+    aug_report report;         /* once it is closed */
+    Seat seats[AUG_MOST_USERS];
+} Trie;
+
+/* A look. It holds its trie, so what is collected has none. */
+struct Snapshot {
+    PyObject_HEAD
+    Trie *trie;
+    Seat *seat; /* NULL once it has ended */
+};
 
 /* The types, which the module makes when it is loaded. */
-extern PyTypeObject *lane_type, *snapshot_type, *iterator_type, *trie_type, *round_type, *report_type, *span_type;
-extern PyType_Spec lane_spec, snapshot_spec, iterator_spec, trie_spec, round_spec;
+extern PyTypeObject *members_type, *trie_type, *snapshot_type, *iterator_type, *stay_type, *report_type, *span_type;
+extern PyType_Spec members_spec, trie_spec, snapshot_spec, iterator_spec, stay_spec;
 
 /* The exception that all others are of. */
 extern PyObject *any_error;
 
 /* Raises the exception of a code, with the text that the library has of it. NULL. */
-PyObject *raise_code(int64_t code);
+void *raise_code(int64_t code);
 
 /* The number that a call answered, or NULL with the exception of its code. */
 PyObject *told_number(int64_t answer);
+
+/* A span or a report of its fields, or NULL with an exception. */
+PyObject *record_of(PyTypeObject *type, Py_ssize_t count, const uint64_t *fields);
 
 /* Frees an object of a type that the module made. */
 void free_object(PyObject *self);
@@ -37,30 +60,44 @@ void free_object(PyObject *self);
 /* Refuses to make an object by its type. NULL. */
 PyObject *refuse_new(PyTypeObject *type, PyObject *args, PyObject *named);
 
-/* Reads a number from what has __index__: 1, or 0 if it is not one of 32 bits, or -1 with an exception if it is no number. */
-int read_number(PyObject *from, uint32_t *number);
-
-/* The same, where a number that is out of range is an exception too: 0, or -1 with an exception. */
+/* Read a number from what has __index__: 0, or -1 with an exception. No handle is in use meanwhile, since this may run any code of Python.
+   A place is -1 for all numbers below 0, and AUG_MOST_KEYS, which is no key of any trie, for all that are above. */
+int read_place(PyObject *from, int64_t *place);
+/* A key, or AUG_MOST_KEYS for what is none; the least key that is not below a number, or AUG_MOST_KEYS; a weight or an amount. */
 int read_key(PyObject *from, uint32_t *key);
+int read_bound(PyObject *from, uint32_t *bound);
 int read_weight(PyObject *from, uint32_t *weight);
+/* A number of a trie that is opened: one that is out of range is still out of range. */
+int read_wide(PyObject *from, uint64_t *number);
 
 /* Reads the numbers of an iterable into memory for PyMem_Free, or answers NULL with an exception. Bytes are no numbers. */
 uint32_t *read_all(PyObject *from, size_t *count, int (*read)(PyObject *, uint32_t *));
 
-/* A lane that is not open yet, or NULL with an exception. */
-Lane *new_lane(void);
+/* Notices forks from now on. 0, or another number for want of memory. */
+int watch_forks(void);
 
-/* Waits until no other thread is in a call of the lane. Other threads may run meanwhile, and none until the caller lets them. */
-void await_turn(Lane *lane);
+/* Whether this process opened the trie, and is no child of that; and whether calls of it may begin. */
+int is_ours(const Trie *trie);
+int is_open(const Trie *trie);
 
-/* Begin and end what lets other threads run, or nothing if it is short. */
-PyThreadState *let_others_run(Lane *lane, size_t keys);
-void run_alone(Lane *lane, PyThreadState *others);
+/* Enters a trie into the list of those that are open, and takes it out and closes it, whose seats are not busy. */
+void enlist(Trie *trie);
+void shut(Trie *trie);
 
-/* The lane's last snapshot, or NULL with an exception. */
-PyObject *new_snapshot(Lane *lane);
+/* This thread's seat in a trie, whose user may update; or NULL with an exception. */
+Seat *seat_of(Trie *trie);
 
-/* A span or a report of its fields, or NULL with an exception. */
-PyObject *four_numbers(PyTypeObject *type, uint64_t first, uint32_t second, uint32_t third, uint32_t fourth);
+/* The same, with a look that was taken for it. Other threads run while it waits. */
+Seat *look(Trie *trie);
+
+/* Ends the snapshot of a seat that is not busy, if it has one. */
+void end_look(Seat *seat);
+
+/* Lets other threads run for a moment, and handles signals. 0, or -1 with the exception of a handler. */
+int nap(unsigned turn);
+
+/* Begin and end what lets other threads run, or nothing if it is short. No code of Python runs on this thread in between. */
+PyThreadState *let_others_run(Seat *seat, size_t keys);
+void run_alone(Seat *seat, PyThreadState *others);
 
 #endif

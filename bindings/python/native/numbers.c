@@ -1,27 +1,52 @@
 /* Numbers of Python, read for the library. */
 #include "module.h"
 
-int read_number(PyObject *from, uint32_t *number) {
+/* A number of 64 bits: 0, or 1 if it is above these, -1 if it is below, or -2 with an exception. */
+static int read_number(PyObject *from, long long *number) {
     int is_over = 0;
     PyObject *index = PyNumber_Index(from);
-    if (!index) return -1;
-    long long value = PyLong_AsLongLongAndOverflow(index, &is_over);
+    if (!index) return -2;
+    *number = PyLong_AsLongLongAndOverflow(index, &is_over);
     Py_DECREF(index);
-    if (is_over || value < 0 || value > UINT32_MAX) return 0;
-    *number = (uint32_t)value;
-    return 1;
+    return is_over;
+}
+
+int read_place(PyObject *from, int64_t *place) {
+    long long number;
+    int over = read_number(from, &number);
+    *place = over > 0 || (!over && number > AUG_MOST_KEYS) ? AUG_MOST_KEYS : over || number < 0 ? -1 : number;
+    return over == -2 ? -1 : 0;
 }
 
 int read_key(PyObject *from, uint32_t *key) {
-    int read = read_number(from, key);
-    if (read == 0) raise_code(AUG_BAD_KEY);
-    return read == 1 ? 0 : -1;
+    int64_t place;
+    int read = read_place(from, &place);
+    *key = place < 0 ? AUG_MOST_KEYS : (uint32_t)place;
+    return read;
+}
+
+int read_bound(PyObject *from, uint32_t *bound) {
+    int64_t place;
+    int read = read_place(from, &place);
+    *bound = place < 0 ? 0 : (uint32_t)place;
+    return read;
 }
 
 int read_weight(PyObject *from, uint32_t *weight) {
-    int read = read_number(from, weight);
-    if (read == 0) PyErr_SetString(PyExc_ValueError, "a weight is a number of 32 bits");
-    return read == 1 ? 0 : -1;
+    long long number;
+    int over = read_number(from, &number);
+    if (over == -2) return -1;
+    *weight = (uint32_t)number;
+    if (!over && number >= 0 && number <= UINT32_MAX) return 0;
+    PyErr_SetString(PyExc_ValueError, "a weight or an amount is a number of 32 bits");
+    return -1;
+}
+
+int read_wide(PyObject *from, uint64_t *number) {
+    long long read;
+    int over = read_number(from, &read);
+    *number = over > 0 ? UINT64_MAX : over || read < 0 ? 0 : (uint64_t)read;
+    return over == -2 ? -1 : 0;
 }
 
 uint32_t *read_all(PyObject *from, size_t *count, int (*read)(PyObject *, uint32_t *)) {

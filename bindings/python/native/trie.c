@@ -1,229 +1,240 @@
-/* A trie and its rounds. Whatever an exception cuts off, the lanes of a round go back and the round ends. */
+/* A trie, and its updates. */
 #include "module.h"
 
-#include <stdlib.h>
+#include <string.h>
 
-typedef struct Round Round;
+/* How many threads may call at a time if nobody says. With more of them each has fewer updates until the table is full. */
+enum { USERS = 16 };
 
-/* A trie's handle, and the thread that it stays on. */
-typedef struct Home {
-    aug_trie handle;
-    uint64_t thread;
-    struct Home *next;
-} Home;
-
-typedef struct {
-    PyObject_HEAD
-    Home *home;
-    uint32_t bits;
-    PyObject *lanes;  /* a tuple of the lanes of the round that is on, or NULL */
-    Round *round;     /* the round that is on, unless another thread has dropped it; borrowed */
-    PyObject *report; /* of the last round that ended */
-} Trie;
-
-struct Round {
-    PyObject_HEAD
-    Trie *trie;
-    uint32_t bits, lanes, updates;
-};
-
-/* Numbers that tell threads apart, and tries. The lock of the interpreter guards them, as it does the list below. */
-static uint64_t threads;
-static _Thread_local uint64_t this_thread;
-static uint32_t tries;
-
-/* What tries have left that were collected on another thread than their own, to be closed there. */
-static Home *left;
-
-static uint64_t current_thread(void) {
-    if (!this_thread) this_thread = ++threads;
-    return this_thread;
-}
-
-static void close_home(Home *home) {
-    aug_close(&home->handle);
-    free(home);
-}
-
-/* Closes what tries of this thread have left. */
-static void close_left(void) {
-    Home **at = &left;
-    while (*at) {
-        Home *home = *at;
-        if (home->thread == current_thread()) {
-            *at = home->next;
-            close_home(home);
-        } else {
-            at = &home->next;
-        }
-    }
-}
-
-/* Gives the lanes back and ends the round, if one is on. What it came to is written to the report. */
-static int64_t end_round(Trie *trie, aug_report *report) {
-    PyObject *lanes = trie->lanes;
-    if (!lanes) return AUG_AT_REST;
-    trie->lanes = NULL;
-    trie->round = NULL;
-    int64_t refused = AUG_OK;
-    for (Py_ssize_t i = 0; i < PyTuple_Size(lanes); i++) {
-        Lane *lane = (Lane *)PyTuple_GetItem(lanes, i);
-        await_turn(lane);
-        int64_t answer = aug_give_back(&trie->home->handle, &lane->handle);
-        lane->turn++;
-        /* A lane that was never opened has nothing to give back. */
-        if (answer < 0 && answer != AUG_CLOSED) refused = answer;
-    }
-    int64_t answer = aug_end(&trie->home->handle, report);
-    Py_DECREF(lanes);
-    return refused < 0 ? refused : answer;
-}
-
-/* Whether the trie is on its thread; if not, raises an exception. Ends a round that was dropped elsewhere. */
-static int is_at_home(Trie *trie) {
-    aug_report report;
-    if (!trie->home) {
-        raise_code(AUG_CLOSED);
-        return 0;
-    }
-    if (trie->home->thread != current_thread()) {
-        PyErr_SetString(any_error, "a trie stays on its thread");
-        return 0;
-    }
-    if (!trie->round) end_round(trie, &report);
-    return 1;
-}
+/* For no more keys than this other threads run, or signals and the end of the trie wait, at a time. */
+enum { PART = 4096 };
 
 static PyObject *trie_new(PyTypeObject *type, PyObject *args, PyObject *named) {
-    static char *words[] = {"bits", NULL};
-    PyObject *bits;
-    uint32_t read_bits;
+    static char *words[] = {"bits", "users", "bytes", NULL};
+    PyObject *given[3] = {NULL, NULL, NULL};
+    uint64_t numbers[3] = {0, USERS, 0};
     (void)type;
-    if (!PyArg_ParseTupleAndKeywords(args, named, "O:Trie", words, &bits)) return NULL;
-    int read = read_number(bits, &read_bits);
-    if (read < 0) return NULL;
-    close_left();
+    if (!PyArg_ParseTupleAndKeywords(args, named, "O|OO:Trie", words, &given[0], &given[1], &given[2])) return NULL;
+    if (given[2] == Py_None) given[2] = NULL;
+    for (int i = 0; i < 3; i++) if (given[i] && read_wide(given[i], &numbers[i])) return NULL;
+    for (int i = 0; i < 2; i++) if (numbers[i] > UINT32_MAX) numbers[i] = UINT32_MAX;
+    if (!given[2]) numbers[2] = (2 << 20) + ((uint64_t)256 << (numbers[0] & 31));
     Trie *trie = PyObject_New(Trie, trie_type);
     if (!trie) return NULL;
-    trie->lanes = NULL;
-    trie->round = NULL;
-    trie->home = NULL;
-    trie->bits = read ? read_bits : UINT32_MAX;
-    trie->report = four_numbers(report_type, 0, 0, 0, 0);
-    Home *home = trie->report ? calloc(1, sizeof *home) : NULL;
-    int64_t answer = AUG_NO_MEMORY;
-    if (home) {
-        home->thread = current_thread();
-        answer = aug_open(&home->handle, trie->bits, tries++);
+    memset((char *)trie + sizeof(PyObject), 0, sizeof *trie - sizeof(PyObject));
+    trie->bits = (uint32_t)numbers[0];
+    trie->users = (uint32_t)numbers[1];
+    int64_t code;
+    Py_BEGIN_ALLOW_THREADS
+    code = aug_open(&trie->handle, trie->bits, trie->users, numbers[2]);
+    Py_END_ALLOW_THREADS
+    if (code != AUG_OK) {
+        Py_DECREF(trie);
+        return raise_code(code);
     }
-    if (answer == AUG_OK) {
-        trie->home = home;
-        return (PyObject *)trie;
-    }
-    free(home);
-    if (!PyErr_Occurred()) raise_code(answer);
-    Py_DECREF(trie);
-    return NULL;
+    enlist(trie);
+    return (PyObject *)trie;
 }
 
+/* A trie that nobody has is in no call, and has no snapshot, since that would have it. */
 static void trie_free(PyObject *self) {
-    Trie *trie = (Trie *)self;
-    /* A round that is on keeps its trie, so at most one is left that was dropped on another thread. */
-    if (trie->home && trie->home->thread == current_thread()) {
-        aug_report report;
-        end_round(trie, &report);
-        close_home(trie->home);
-    } else if (trie->home) {
-        trie->home->next = left;
-        left = trie->home;
-    }
-    Py_XDECREF(trie->lanes);
-    Py_XDECREF(trie->report);
+    if (((Trie *)self)->link) shut((Trie *)self);
     free_object(self);
 }
 
-static PyObject *trie_round(PyObject *self, PyObject *args, PyObject *named) {
-    static char *words[] = {"lanes", "updates", "bits", NULL};
-    PyObject *lanes, *updates, *bits = Py_None;
-    Trie *trie = (Trie *)self;
-    uint32_t numbers[3] = {UINT32_MAX, UINT32_MAX, trie->bits};
-    if (!PyArg_ParseTupleAndKeywords(args, named, "OO|O:round", words, &lanes, &updates, &bits)) return NULL;
-    /* A number that is out of range stays one that the library refuses. */
-    if (bits != Py_None) numbers[2] = UINT32_MAX;
-    if (read_number(lanes, &numbers[0]) < 0 || read_number(updates, &numbers[1]) < 0) return NULL;
-    if (bits != Py_None && read_number(bits, &numbers[2]) < 0) return NULL;
-    Round *round = PyObject_New(Round, round_type);
-    if (!round) return NULL;
-    Py_INCREF(self);
-    round->trie = trie;
-    round->lanes = numbers[0];
-    round->updates = numbers[1];
-    round->bits = numbers[2];
-    return (PyObject *)round;
+static int is_busy(const Trie *trie) {
+    for (uint32_t i = 0; i < trie->users; i++) if (trie->seats[i].is_busy) return 1;
+    return 0;
 }
 
 static PyObject *trie_close(PyObject *self, PyObject *unused) {
     Trie *trie = (Trie *)self;
-    aug_report report;
     (void)unused;
-    if (!trie->home) Py_RETURN_NONE;
-    if (!is_at_home(trie)) return NULL;
-    end_round(trie, &report);
-    Home *home = trie->home;
-    trie->home = NULL;
-    close_home(home);
-    Py_RETURN_NONE;
+    if (!is_ours(trie)) return raise_code(AUG_CLOSED);
+    for (unsigned turn = 0; trie->link && is_busy(trie); turn++) {
+        trie->is_closing = 1;
+        if (nap(turn) == 0) continue;
+        trie->is_closing = 0;
+        return NULL;
+    }
+    if (trie->link) shut(trie);
+    const uint64_t fields[] = {trie->report.inserts, trie->report.removals, trie->report.size};
+    return record_of(report_type, 3, fields);
 }
 
 static PyObject *trie_enter(PyObject *self, PyObject *unused) {
     (void)unused;
+    if (!is_open((Trie *)self)) return raise_code(AUG_CLOSED);
     Py_INCREF(self);
     return self;
 }
 
-/* Lists the members, and then their weights, into memory for free. Answers how many members, or a code. No use of Python's. */
-static int64_t list_members(Home *home, uint32_t bits, uint32_t **listed) {
-    aug_lane lane = AUG_ZEROED;
-    uint32_t *numbers = NULL;
-    int64_t answer = aug_begin(&home->handle, bits, 1, 1), count = 0;
-    if (answer < 0) return answer;
-    answer = aug_open_lane(&home->handle, &lane);
-    if (answer >= 0) {
-        size_t size = (size_t)aug_size(&lane);
-        numbers = malloc((2 * size + 1) * sizeof *numbers);
-        answer = numbers ? aug_keys(&lane, 0, numbers, size) : AUG_NO_MEMORY;
-    }
-    if (answer >= 0) {
-        count = answer;
-        for (int64_t i = 0; i < count; i++) numbers[count + i] = (uint32_t)aug_weight(&lane, numbers[i]);
-    }
-    *listed = numbers;
-    int64_t back = aug_give_back(&home->handle, &lane), end = aug_end(&home->handle, NULL);
-    if (answer < 0) return answer;
-    return back < 0 ? back : end < 0 ? end : count;
-}
-
-static PyObject *trie_pairs(PyObject *self, PyObject *unused) {
-    Trie *trie = (Trie *)self;
-    uint32_t *numbers = NULL;
-    (void)unused;
-    if (!is_at_home(trie)) return NULL;
-    int64_t count;
-    Py_BEGIN_ALLOW_THREADS
-    count = list_members(trie->home, trie->bits, &numbers);
-    Py_END_ALLOW_THREADS
-    PyObject *list = count < 0 ? raise_code(count) : PyList_New((Py_ssize_t)count);
-    for (int64_t i = 0; list && i < count; i++) {
-        PyObject *pair = Py_BuildValue("(II)", numbers[i], numbers[count + i]);
-        if (!pair || PyList_SetItem(list, (Py_ssize_t)i, pair)) Py_CLEAR(list);
-    }
-    free(numbers);
-    return list;
-}
-
 static PyObject *trie_exit(PyObject *self, PyObject *args) {
     (void)args;
-    return trie_close(self, NULL);
+    PyObject *report = is_ours((Trie *)self) ? trie_close(self, NULL) : PyBool_FromLong(0);
+    if (!report) return NULL;
+    Py_DECREF(report);
+    Py_RETURN_NONE;
+}
+
+static PyObject *trie_snapshot(PyObject *self, PyObject *unused) {
+    Snapshot *snapshot = PyObject_New(Snapshot, snapshot_type);
+    (void)unused;
+    if (!snapshot) return NULL;
+    Py_INCREF(self);
+    snapshot->trie = (Trie *)self;
+    snapshot->seat = look(snapshot->trie);
+    if (snapshot->seat) snapshot->seat->held = snapshot;
+    else Py_CLEAR(snapshot);
+    return (PyObject *)snapshot;
+}
+
+/* An update that does not wait, of a key with a number. */
+typedef int64_t (*Update)(aug_user *user, uint32_t key, uint32_t number);
+
+static int64_t insert(aug_user *user, uint32_t key, uint32_t unused) {
+    (void)unused;
+    return aug_try_insert(user, key);
+}
+
+/* What is no key of the trie is not in. */
+static int64_t take_out(aug_user *user, uint32_t key, uint32_t unused) {
+    (void)unused;
+    int64_t answer = aug_try_remove(user, key);
+    return answer == AUG_BAD_KEY ? 0 : answer;
+}
+
+/* These are made again if another user changed the key meanwhile. */
+#define MADE(call) do { int64_t answer_; while ((answer_ = (call)) == 0) {} return answer_; } while (0)
+
+static int64_t put(aug_user *user, uint32_t key, uint32_t weight) { MADE(aug_try_put(user, key, weight)); }
+static int64_t increment(aug_user *user, uint32_t key, uint32_t amount) { MADE(aug_try_add(user, key, amount)); }
+static int64_t decrement(aug_user *user, uint32_t key, uint32_t amount) { MADE(aug_try_sub(user, key, amount)); }
+
+/* Makes an update of each key with its number: how many answered 1, or -1 with an exception. Other threads run while it waits. */
+static Py_ssize_t change(PyObject *self, Update update, const uint32_t *keys, const uint32_t *numbers, size_t count) {
+    Py_ssize_t changed = 0;
+    unsigned turn = 0;
+    for (size_t i = 0;;) {
+        size_t stop = count - i > PART ? i + PART : count;
+        int64_t answer = AUG_OK;
+        /* A handler of a signal may have closed the trie meanwhile, or taken a snapshot. */
+        Seat *seat = seat_of((Trie *)self);
+        if (!seat) return -1;
+        PyThreadState *others = let_others_run(seat, stop - i);
+        for (; i < stop && (answer = update(&seat->handle, keys[i], numbers[i])) >= 0; i++) changed += answer == 1;
+        run_alone(seat, others);
+        if (answer < 0 && answer != AUG_AGAIN) return raise_code(answer), -1;
+        if (i == count) return changed;
+        turn = answer < 0 ? turn + 1 : 0;
+        if (nap(turn)) return -1;
+    }
+}
+
+/* An update of one key: whether it answered 1, or -1 with an exception. */
+static Py_ssize_t change_key(PyObject *self, PyObject *key, Update update) {
+    uint32_t at;
+    return read_key(key, &at) ? -1 : change(self, update, &at, &at, 1);
+}
+
+static PyObject *trie_add(PyObject *self, PyObject *key) {
+    Py_ssize_t changed = change_key(self, key, insert);
+    return changed < 0 ? NULL : PyBool_FromLong(changed);
+}
+
+static PyObject *trie_discard(PyObject *self, PyObject *key) {
+    Py_ssize_t changed = change_key(self, key, take_out);
+    return changed < 0 ? NULL : PyBool_FromLong(changed);
+}
+
+static PyObject *trie_remove(PyObject *self, PyObject *key) {
+    Py_ssize_t changed = change_key(self, key, take_out);
+    if (changed == 0) PyErr_SetObject(PyExc_KeyError, key);
+    if (changed <= 0) return NULL;
+    Py_RETURN_NONE;
+}
+
+/* An update of a key with a number, which is 1 if it may be left out and is. */
+static PyObject *change_by(PyObject *self, PyObject *args, PyObject *named, const char *format, char **words, Update update) {
+    PyObject *key, *number = NULL;
+    uint32_t at, by = 1;
+    if (!PyArg_ParseTupleAndKeywords(args, named, format, words, &key, &number)) return NULL;
+    if (read_key(key, &at) || (number && read_weight(number, &by))) return NULL;
+    Py_ssize_t changed = change(self, update, &at, &by, 1);
+    return changed < 0 ? NULL : PyBool_FromLong(changed);
+}
+
+static char *key_and_weight[] = {"key", "weight", NULL}, *key_and_amount[] = {"key", "amount", NULL};
+
+static PyObject *trie_put(PyObject *self, PyObject *args, PyObject *named) {
+    return change_by(self, args, named, "OO:put", key_and_weight, put);
+}
+
+static PyObject *trie_increment(PyObject *self, PyObject *args, PyObject *named) {
+    return change_by(self, args, named, "O|O:increment", key_and_amount, increment);
+}
+
+static PyObject *trie_decrement(PyObject *self, PyObject *args, PyObject *named) {
+    return change_by(self, args, named, "O|O:decrement", key_and_amount, decrement);
+}
+
+/* Takes out the first member or the last, by calls that are made again if another user changed that member meanwhile. */
+static PyObject *trie_popitem(PyObject *self, PyObject *args) {
+    PyObject *index = NULL;
+    if (!PyArg_UnpackTuple(args, "popitem", 0, 1, &index)) return NULL;
+    Py_ssize_t at = index ? PyNumber_AsSsize_t(index, PyExc_IndexError) : -1;
+    if (at == -1 && PyErr_Occurred()) return NULL;
+    if (at != 0 && at != -1) {
+        PyErr_SetString(PyExc_IndexError, "only the first member, 0, and the last, -1, are taken out by their index");
+        return NULL;
+    }
+    for (unsigned turn = 0;; turn++) {
+        aug_member member;
+        int64_t answer;
+        Seat *seat = seat_of((Trie *)self);
+        if (!seat) return NULL;
+        while ((answer = at ? aug_try_pop_last(&seat->handle, &member) : aug_try_pop_first(&seat->handle, &member)) == 0) {}
+        if (answer == 1) return Py_BuildValue("kk", (unsigned long)member.key, (unsigned long)member.weight);
+        if (answer == AUG_NONE) PyErr_SetString(PyExc_KeyError, "the set is empty");
+        else if (answer != AUG_AGAIN) raise_code(answer);
+        if (answer != AUG_AGAIN || nap(turn)) return NULL;
+    }
+}
+
+/* Makes the same update of many keys. Frees the numbers. */
+static PyObject *change_all(PyObject *self, Update update, uint32_t *keys, uint32_t *numbers, size_t count) {
+    Py_ssize_t changed = 0;
+    for (size_t i = 0; changed == 0 && update != take_out && i < count; i++) if (keys[i] >> ((Trie *)self)->bits) changed = -1;
+    if (changed < 0) raise_code(AUG_BAD_KEY);
+    else changed = change(self, update, keys, numbers, count);
+    if (numbers != keys) PyMem_Free(numbers);
+    PyMem_Free(keys);
+    return changed < 0 ? NULL : PyLong_FromSsize_t(changed);
+}
+
+static PyObject *trie_update(PyObject *self, PyObject *keys) {
+    size_t count;
+    uint32_t *read = read_all(keys, &count, read_key);
+    return read ? change_all(self, insert, read, read, count) : NULL;
+}
+
+static PyObject *trie_difference_update(PyObject *self, PyObject *keys) {
+    size_t count;
+    uint32_t *read = read_all(keys, &count, read_key);
+    return read ? change_all(self, take_out, read, read, count) : NULL;
+}
+
+static PyObject *trie_put_all(PyObject *self, PyObject *args) {
+    PyObject *keys, *weights;
+    size_t count, weight_count;
+    if (!PyArg_UnpackTuple(args, "put_all", 2, 2, &keys, &weights)) return NULL;
+    uint32_t *read = read_all(keys, &count, read_key);
+    uint32_t *heavy = read ? read_all(weights, &weight_count, read_weight) : NULL;
+    if (heavy && count == weight_count) return change_all(self, put, read, heavy, count);
+    if (heavy) raise_code(AUG_BAD_LENGTH);
+    PyMem_Free(heavy);
+    PyMem_Free(read);
+    return NULL;
 }
 
 static PyObject *trie_bits(PyObject *self, void *unused) {
@@ -231,126 +242,54 @@ static PyObject *trie_bits(PyObject *self, void *unused) {
     return PyLong_FromUnsignedLong(((Trie *)self)->bits);
 }
 
-static PyObject *trie_report(PyObject *self, void *unused) {
-    (void)unused;
-    Py_INCREF(((Trie *)self)->report);
-    return ((Trie *)self)->report;
-}
+#define WITH_WORDS(call) (PyCFunction)(void (*)(void))call, METH_VARARGS | METH_KEYWORDS
 
-static PyMethodDef trie_methods[] = {
-    {"round", (PyCFunction)(void (*)(void))trie_round, METH_VARARGS | METH_KEYWORDS,
-     "round($self, /, lanes, updates, bits=None)\n--\n\nA round with so many lanes of so many updates each, over the trie's own bits or more, for `with`."},
-    {"pairs", trie_pairs, METH_NOARGS, "pairs($self, /)\n--\n\nThe members with their weights, rising, by a round of one lane."},
-    {"close", trie_close, METH_NOARGS, "close($self, /)\n--\n\nEnds a round that is on, and gives the memory back."},
+static PyMethodDef methods[] = {
+    {"add", trie_add, METH_O, "add($self, key, /)\n--\n\nPuts a key in, with the key itself as its weight: True if it was not there."},
+    {"discard", trie_discard, METH_O, "discard($self, key, /)\n--\n\nTakes a key out: True if it was there."},
+    {"remove", trie_remove, METH_O, "remove($self, key, /)\n--\n\nTakes a key out. KeyError if it was not there."},
+    {"put", WITH_WORDS(trie_put),
+     "put($self, /, key, weight)\n--\n\nPuts a key in with a weight, or gives a member this weight: True if it was not there."},
+    {"increment", WITH_WORDS(trie_increment),
+     "increment($self, /, key, amount=1)\n--\n\nAdds an amount to a key's weight. A key that is not there goes in with it: True then. TooGreat if "
+     "the sum does not fit 32 bits."},
+    {"decrement", WITH_WORDS(trie_decrement),
+     "decrement($self, /, key, amount=1)\n--\n\nTakes an amount from a key's weight. A key of whose weight nothing is left goes out: True then. "
+     "TooLittle if the key is not there, or weighs less."},
+    {"popitem", trie_popitem, METH_VARARGS,
+     "popitem($self, index=-1, /)\n--\n\nTakes out the last member, or with 0 the first: its key and its weight. KeyError if there is none. Each member "
+     "comes to one caller."},
+    {"update", trie_update, METH_O,
+     "update($self, keys, /)\n--\n\nPuts keys in, each by an update of its own: how many were not there. If one is no key of the trie, none "
+     "goes in."},
+    {"difference_update", trie_difference_update, METH_O,
+     "difference_update($self, keys, /)\n--\n\nTakes keys out, each by an update of its own: how many were there."},
+    {"put_all", trie_put_all, METH_VARARGS,
+     "put_all($self, keys, weights, /)\n--\n\nPuts keys in, each with the weight that has its index, or gives members these weights: how many were "
+     "not there. Refused as update is, and with BadLength if there are not as many weights as keys."},
+    {"snapshot", trie_snapshot, METH_NOARGS,
+     "snapshot($self, /)\n--\n\nA snapshot, which shows every update of this thread. Until it ends, this thread updates nothing and asks it alone."},
+    {"close", trie_close, METH_NOARGS,
+     "close($self, /)\n--\n\nEnds all snapshots, and closes the trie: what its life came to. The same again if it is closed already."},
     {"__enter__", trie_enter, METH_NOARGS, "The trie."},
     {"__exit__", trie_exit, METH_VARARGS, "Closes the trie."},
     {NULL, NULL, 0, NULL},
 };
 
-static PyGetSetDef trie_fields[] = {
+static PyGetSetDef fields[] = {
     {"bits", trie_bits, NULL, "Keys are below 2^bits.", NULL},
-    {"report", trie_report, NULL, "What the last round came to.", NULL},
     {NULL, NULL, NULL, NULL, NULL},
 };
 
-static PyType_Slot trie_slots[] = {
-    {Py_tp_doc, "Trie(bits)\n--\n\nA trie for keys below 2^bits. Only the thread that made it may use it; hand lanes to other threads."},
+static PyType_Slot slots[] = {
+    {Py_tp_doc,
+     "Trie(bits, users=16, bytes=None)\n--\n\nThe empty set of keys below 2^bits, with 1 to 16 bits, for so many threads at a time, at most 64. Its "
+     "table takes at most so many bytes, by default 2 MiB and 256 for each key below 2^bits."},
     {Py_tp_new, trie_new},
     {Py_tp_dealloc, trie_free},
-    {Py_tp_methods, trie_methods},
-    {Py_tp_getset, trie_fields},
+    {Py_tp_methods, methods},
+    {Py_tp_getset, fields},
     {0, NULL},
 };
 
-PyType_Spec trie_spec = {"augtrie.Trie", sizeof(Trie), 0, Py_TPFLAGS_DEFAULT, trie_slots};
-
-/* A tuple of lanes that are not open yet, or NULL with an exception. */
-static PyObject *closed_lanes(uint32_t count) {
-    /* The library refuses a count that is larger. */
-    PyObject *lanes = PyTuple_New(count <= 64 ? (Py_ssize_t)count : 0);
-    for (Py_ssize_t i = 0; lanes && i < PyTuple_Size(lanes); i++) {
-        PyObject *lane = (PyObject *)new_lane();
-        if (!lane || PyTuple_SetItem(lanes, i, lane)) Py_CLEAR(lanes);
-    }
-    return lanes;
-}
-
-/* Begins a round and opens its lanes, or ends it again. Answers 0 or a code. No code of Python runs meanwhile on this thread. */
-static int64_t open_round(Round *round, PyObject *lanes) {
-    Trie *trie = round->trie;
-    aug_report report;
-    int64_t answer;
-    Py_BEGIN_ALLOW_THREADS
-    answer = aug_begin(&trie->home->handle, round->bits, round->lanes, round->updates);
-    Py_END_ALLOW_THREADS
-    if (answer < 0) return answer;
-    trie->bits = round->bits;
-    trie->round = round;
-    trie->lanes = lanes;
-    Py_INCREF(lanes);
-    for (Py_ssize_t i = 0; answer >= 0 && i < PyTuple_Size(lanes); i++)
-        answer = aug_open_lane(&trie->home->handle, &((Lane *)PyTuple_GetItem(lanes, i))->handle);
-    if (answer < 0) end_round(trie, &report);
-    return answer;
-}
-
-static PyObject *round_enter(PyObject *self, PyObject *unused) {
-    Round *round = (Round *)self;
-    (void)unused;
-    PyObject *lanes = closed_lanes(round->lanes);
-    PyObject *list = lanes ? PySequence_List(lanes) : NULL;
-    /* All memory of Python is taken by now, so no finalizer comes between. */
-    if (list && !is_at_home(round->trie)) Py_CLEAR(list);
-    int64_t answer = list ? open_round(round, lanes) : AUG_OK;
-    if (answer < 0) {
-        raise_code(answer);
-        Py_CLEAR(list);
-    }
-    Py_XDECREF(lanes);
-    return list;
-}
-
-static PyObject *round_exit(PyObject *self, PyObject *args) {
-    Round *round = (Round *)self;
-    Trie *trie = round->trie;
-    aug_report report;
-    (void)args;
-    /* A trie that was closed has ended the round. */
-    if (trie->round != round) Py_RETURN_NONE;
-    if (!is_at_home(trie)) return NULL;
-    int64_t answer = end_round(trie, &report);
-    if (answer < 0) return raise_code(answer);
-    PyObject *told = four_numbers(report_type, report.size, report.inserts, report.removals, report.missing), *before = trie->report;
-    if (!told) return NULL;
-    trie->report = told;
-    Py_DECREF(before);
-    Py_RETURN_NONE;
-}
-
-static void round_free(PyObject *self) {
-    Round *round = (Round *)self;
-    Trie *trie = round->trie;
-    aug_report report;
-    if (trie->round == round) {
-        trie->round = NULL;
-        if (trie->home->thread == current_thread()) end_round(trie, &report);
-    }
-    Py_DECREF(trie);
-    free_object(self);
-}
-
-static PyMethodDef round_methods[] = {
-    {"__enter__", round_enter, METH_NOARGS, "Begins the round: a list of its lanes."},
-    {"__exit__", round_exit, METH_VARARGS, "Takes all lanes back, and ends the round."},
-    {NULL, NULL, 0, NULL},
-};
-
-static PyType_Slot round_slots[] = {
-    {Py_tp_doc, "A round as a context: its value is the list of lanes, and they go back at its end."},
-    {Py_tp_new, refuse_new},
-    {Py_tp_dealloc, round_free},
-    {Py_tp_methods, round_methods},
-    {0, NULL},
-};
-
-PyType_Spec round_spec = {"augtrie.Round", sizeof(Round), 0, Py_TPFLAGS_DEFAULT, round_slots};
+PyType_Spec trie_spec = {"augtrie.Trie", sizeof(Trie), 0, Py_TPFLAGS_DEFAULT, slots};

@@ -1,50 +1,53 @@
-//! An order book: an order is a key, its price, and its volume is the weight. Two threads trade, and a third reads the depth
-//! at a price meanwhile. All answers of one snapshot agree.
-use augtrie::{Error, Lane, Put, Trie};
+//! An order book: the weight of a price is its volume, of bids below the middle and of offers above it. Four threads add volume and take it
+//! away, two at the same prices each, and another one looks meanwhile.
+use augtrie::{Error, Look, Trie, User};
 use std::thread;
 
 const MIDDLE: u32 = 2_000;
+const LOOKS: u32 = 500;
 
-// Nobody else trades at these prices, so nothing is refused.
-fn trade(lane: &mut Lane, lowest: u32) -> Result<(), Error> {
+// Adds 30 at each price, and takes away 10 of it, or all of it at each fifth price. Whoever trades beside leaves the own volume alone.
+fn trade(user: &mut User, lowest: u32) -> Result<(), Error> {
     for price in lowest..lowest + 100 {
-        assert_eq!(lane.put(price, 10)?, Put::Accepted);
-        match (price - lowest) % 5 {
-            0 => assert!(lane.remove(price)?),
-            1 => assert_eq!(lane.put(price, 25)?, Put::Replaced),
-            _ => {}
-        }
+        user.add(price, 30)?;
+        user.sub(price, if price % 5 == 0 { 30 } else { 10 })?;
     }
     Ok(())
 }
 
-// Whether the volume from the best bid up to the middle is that of the best bid, 500 times.
-fn watch(lane: &mut Lane) -> bool {
-    (0..500).all(|_| {
-        let now = lane.look();
-        match now.before(MIDDLE) {
-            Some(best) => now.range(best..MIDDLE).sum == u64::from(now.weight(best).unwrap_or(0)),
-            None => now.range(0..MIDDLE).count == 0,
-        }
-    })
+// Whether a snapshot agrees with itself, and shows each price with what one or two threads have there.
+fn agrees(book: &Look) -> bool {
+    let (bids, offers) = (book.range(..MIDDLE), book.range(MIDDLE..));
+    let volume: u64 = book.iter().map(|(_, volume)| u64::from(volume)).sum();
+    let best = book.before(MIDDLE);
+    bids.count + offers.count == book.len()
+        && bids.sum + offers.sum == volume
+        && best.is_none_or(|bid| bid == bids.greatest && book.range(bid..MIDDLE).sum == u64::from(book.get(bid).unwrap_or(0)))
+        && book.iter().all(|(_, volume)| [20, 30, 40, 50, 60].contains(&volume))
+}
+
+fn watch(user: &mut User) -> Result<(), Error> {
+    for _ in 0..LOOKS {
+        assert!(agrees(&user.look()?));
+    }
+    Ok(())
 }
 
 fn main() -> Result<(), Error> {
-    let mut book = Trie::new(12)?;
-    let (agreed, report) = book.round(3, 200, |lanes| {
-        let [bids, offers, watcher] = lanes else { return false };
-        thread::scope(|scope| {
-            scope.spawn(|| trade(bids, 1_900).expect("200 updates"));
-            scope.spawn(|| trade(offers, MIDDLE + 1).expect("200 updates"));
-            watch(watcher)
-        })
+    let book = Trie::new(12, 5, 1 << 20)?;
+    thread::scope(|scope| {
+        for lowest in [MIDDLE - 100, MIDDLE - 100, MIDDLE + 1, MIDDLE + 1] {
+            let mut user = book.user()?;
+            scope.spawn(move || trade(&mut user, lowest).expect("the book is open"));
+        }
+        watch(&mut book.user()?)
     })?;
-    println!("{} orders are left, {} came, {} went", report.size, report.inserts, report.removals);
-    println!("each snapshot agreed with itself: {agreed}");
-    let ((bid, offer, depth), _) = book.round(1, 1, |lanes| {
-        let now = lanes[0].look();
-        (now.before(MIDDLE), now.after(MIDDLE), now.range(1_950..MIDDLE).sum)
-    })?;
-    println!("best bid {}, best offer {}, depth from 1950 on {depth}", bid.unwrap_or(0), offer.unwrap_or(0));
+    println!("each of {LOOKS} snapshots agreed with itself");
+    let mut user = book.user()?;
+    let now = user.look()?;
+    let (all, depth) = (now.range(..), now.range(1_950..MIDDLE));
+    assert_eq!((all.count, all.sum), (160, 160 * 40));
+    println!("{} prices, {} in all, {} from 1950 up to the middle", all.count, all.sum, depth.sum);
+    println!("best bid {}, best offer {}", now.before(MIDDLE).unwrap_or(0), now.after(MIDDLE).unwrap_or(0));
     Ok(())
 }

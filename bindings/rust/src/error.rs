@@ -7,65 +7,50 @@ use std::fmt;
 #[non_exhaustive]
 #[repr(i64)]
 pub enum Error {
-    /// The handle is not open.
+    /// The trie was closed.
     Closed = -2,
     /// The key is not below `2^bits`.
     BadKey = -3,
-    /// The lane made all of its updates.
-    Spent = -4,
+    /// The call would have waited for another thread. The calls of this crate wait, and never answer it.
+    Again = -4,
     /// A request for memory was refused.
     NoMemory = -5,
     /// The bits are outside 1 to 16.
     BadBits = -6,
-    /// The lanes are outside 1 to 64.
-    BadLanes = -7,
-    /// The updates of a lane are outside 1 to 65,536.
-    BadUpdates = -8,
-    /// The round would need more than 2^26 words.
-    TooLarge = -9,
-    /// The trie is in a round.
-    InRound = -10,
-    /// The trie is in no round.
-    AtRest = -11,
-    /// All lanes of the round were opened.
-    NoLane = -12,
-    /// A lane of the round is open.
-    LanesOut = -13,
-    /// The lane is of another round.
-    OtherRound = -14,
-    /// The handle is open already.
-    Open = -15,
-    /// There are not as many weights as keys.
-    NoRoom = -16,
-    /// The bits are fewer than the trie's.
-    Narrower = -17,
-    /// The weight and the amount together do not fit 32 bits.
-    TooGreat = -18,
+    /// The users are outside 1 to 64.
+    BadUsers = -7,
+    /// The bytes are too few for these bits and users.
+    TooLarge = -8,
+    /// All users of the trie are open.
+    NoUser = -9,
+    /// The handle is open already. No handle of this crate is opened twice.
+    Open = -10,
+    /// There are more keys than `2^bits`, or not as many weights as keys.
+    BadLength = -11,
+    /// The user holds a look, which was forgotten by [`std::mem::forget`].
+    Looking = -12,
+    /// The user holds no look. A [`Look`](crate::Look) always has its own.
+    NotLooking = -13,
+    /// The weight and the amount together are no weight of 32 bits.
+    TooGreat = -14,
     /// The key is no member, or weighs less than the amount.
-    TooLittle = -19,
-    /// The program made 2^32 tries, or the trie 2^32 rounds, and no number is left that tells another one apart.
-    NoNumber = -1_000,
+    TooLittle = -15,
 }
 
-// Those that are codes of the library.
-const CODES: [Error; 18] = [
-    Error::Closed, Error::BadKey, Error::Spent, Error::NoMemory, Error::BadBits, Error::BadLanes,
-    Error::BadUpdates, Error::TooLarge, Error::InRound, Error::AtRest, Error::NoLane, Error::LanesOut,
-    Error::OtherRound, Error::Open, Error::NoRoom, Error::Narrower, Error::TooGreat, Error::TooLittle,
+const ERRORS: [Error; 14] = [
+    Error::Closed, Error::BadKey, Error::Again, Error::NoMemory, Error::BadBits, Error::BadUsers, Error::TooLarge,
+    Error::NoUser, Error::Open, Error::BadLength, Error::Looking, Error::NotLooking, Error::TooGreat, Error::TooLittle,
 ];
 
 impl Error {
     /// The error that a code of `augtrie.h` stands for.
     pub(crate) fn of_code(code: i64) -> Error {
-        CODES.into_iter().find(|error| *error as i64 == code).unwrap_or(Error::Closed)
+        ERRORS.into_iter().find(|error| *error as i64 == code).unwrap_or(Error::Closed)
     }
 }
 
 impl fmt::Display for Error {
     fn fmt(&self, f: &mut fmt::Formatter<'_>) -> fmt::Result {
-        if *self == Error::NoNumber {
-            return f.write_str("no number is left for another trie or round");
-        }
         // SAFETY: of any number the library tells a text that ends with a zero and stays as long as the program.
         let text = unsafe { CStr::from_ptr(ffi::aug_error_text(*self as i64)) };
         f.write_str(&text.to_string_lossy())
@@ -73,3 +58,21 @@ impl fmt::Display for Error {
 }
 
 impl std::error::Error for Error {}
+
+#[cfg(test)]
+mod tests {
+    use super::*;
+
+    #[test]
+    fn each_code_has_its_error_and_a_text_of_its_own() {
+        let mut texts = Vec::new();
+        for code in (-15..=-2).rev() {
+            let error = Error::of_code(code);
+            assert_eq!(error as i64, code);
+            assert!(!texts.contains(&error.to_string()), "{error:?}");
+            texts.push(error.to_string());
+        }
+        assert_eq!(texts[3], "a request for memory was refused");
+        assert_eq!(texts.len(), ERRORS.len());
+    }
+}

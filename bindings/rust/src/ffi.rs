@@ -1,17 +1,39 @@
-//! The library as it is: see `augtrie.h`, which says what its callers owe.
+//! The library as it is: see `augtrie.h`, which says what its callers owe. The calls that never wait are left out.
 use core::ffi::{c_char, c_void};
+use core::ptr::null_mut;
 
-/// A handle. All zeros before it is opened. Only the library changes its fields, and nothing copies it.
+/// The handle of a trie. All zeros before it is opened. Only the library changes its fields, and nothing copies it.
 #[derive(Debug)]
 #[repr(C)]
-pub struct Handle {
+pub struct Trie {
     tag: u64,
     at: *mut c_void,
 }
 
-impl Handle {
-    pub const CLOSED: Handle = Handle { tag: 0, at: core::ptr::null_mut() };
+impl Trie {
+    pub const CLOSED: Trie = Trie { tag: 0, at: null_mut() };
 }
+
+// SAFETY: any thread may open users of a trie and close it. That closing is the last call is kept by the lock around it.
+unsafe impl Send for Trie {}
+// SAFETY: what a shared handle is asked for is to open users, which the library does one after the other.
+unsafe impl Sync for Trie {}
+
+/// The handle of a user, as that of a trie.
+#[derive(Debug)]
+#[repr(C)]
+pub struct User {
+    tag: u64,
+    at: *mut c_void,
+    of: *mut c_void,
+}
+
+impl User {
+    pub const CLOSED: User = User { tag: 0, at: null_mut(), of: null_mut() };
+}
+
+// SAFETY: a user may go from thread to thread, with its look, if its calls are ordered: whatever hands a value on in safe Rust orders them.
+unsafe impl Send for User {}
 
 /// What the members of an interval come to. Of no members, the least and the greatest are 0.
 #[repr(C)]
@@ -27,51 +49,65 @@ pub struct Span {
     pub greatest: u32,
 }
 
-/// What a round came to. A weight that was replaced counts as an insertion and a removal.
+/// A member that was taken out.
+#[repr(C)]
+#[derive(Default)]
+pub struct Member {
+    pub key: u32,
+    pub weight: u32,
+}
+
+/// What the life of a trie came to. A weight that was replaced counts as an insertion and a removal.
 #[repr(C)]
 #[derive(Debug, Default, Clone, Copy, PartialEq, Eq)]
 pub struct Report {
-    /// How many members the set has.
+    /// How many keys were put in.
+    pub inserts: u64,
+    /// How many keys were taken out.
+    pub removals: u64,
+    /// How many members there were at the end.
     pub size: u32,
-    /// How many keys were put in, by the lanes that came back.
-    pub inserts: u32,
-    /// How many keys these took out.
-    pub removals: u32,
-    /// How many lanes were dropped.
-    pub missing: u32,
 }
 
 // SAFETY: these are the declarations of the header. A call owes that a handle was zeroed before it was opened and is in no other call: that is
-// kept by `Handle` and `&mut`. What it owes of arrays beside that is said at each call, so those alone are unsafe.
+// kept by `Trie`, `User` and `&mut`. To open a user only reads the trie's handle. What a call owes of arrays beside that is said where it is
+// made, so those alone are unsafe.
 unsafe extern "C" {
     pub safe fn aug_version() -> *const c_char;
     pub safe fn aug_error_text(code: i64) -> *const c_char;
-    pub safe fn aug_open(trie: &mut Handle, bits: u32, number: u32) -> i64;
-    pub safe fn aug_begin(trie: &mut Handle, bits: u32, lanes: u32, updates: u32) -> i64;
-    pub safe fn aug_open_lane(trie: &mut Handle, lane: &mut Handle) -> i64;
-    pub safe fn aug_give_back(trie: &mut Handle, lane: &mut Handle) -> i64;
-    pub safe fn aug_end(trie: &mut Handle, report: &mut Report) -> i64;
-    pub safe fn aug_close(trie: &mut Handle) -> i64;
-    pub safe fn aug_insert(lane: &mut Handle, key: u32) -> i64;
-    pub safe fn aug_remove(lane: &mut Handle, key: u32) -> i64;
-    pub safe fn aug_put(lane: &mut Handle, key: u32, weight: u32) -> i64;
-    pub safe fn aug_add(lane: &mut Handle, key: u32, amount: u32) -> i64;
-    pub safe fn aug_sub(lane: &mut Handle, key: u32, amount: u32) -> i64;
-    pub fn aug_insert_all(lane: &mut Handle, keys: *const u32, n: usize) -> i64;
-    pub fn aug_remove_all(lane: &mut Handle, keys: *const u32, n: usize) -> i64;
-    pub fn aug_put_all(lane: &mut Handle, keys: *const u32, n: usize, weights: *const u32, weight_count: usize) -> i64;
-    pub safe fn aug_budget(lane: &mut Handle) -> i64;
-    pub safe fn aug_look(lane: &mut Handle) -> i64;
-    pub safe fn aug_has(lane: &mut Handle, key: u32) -> i64;
-    pub safe fn aug_weight(lane: &mut Handle, key: u32) -> i64;
-    pub safe fn aug_size(lane: &mut Handle) -> i64;
-    pub safe fn aug_rank(lane: &mut Handle, key: u32) -> i64;
-    pub safe fn aug_select(lane: &mut Handle, index: u32) -> i64;
-    pub safe fn aug_before(lane: &mut Handle, key: u32) -> i64;
-    pub safe fn aug_after(lane: &mut Handle, key: u32) -> i64;
-    pub fn aug_rank_all(lane: &mut Handle, keys: *const u32, n: usize, out: *mut u32, room: usize) -> i64;
-    pub fn aug_has_all(lane: &mut Handle, keys: *const u32, n: usize, out: *mut u8, room: usize) -> i64;
-    pub fn aug_keys(lane: &mut Handle, from: u32, out: *mut u32, room: usize) -> i64;
-    pub safe fn aug_range(lane: &mut Handle, from: u32, to: u32, span: &mut Span) -> i64;
-    pub safe fn aug_drop_lane(lane: &mut Handle) -> i64;
+    pub safe fn aug_open(trie: &mut Trie, bits: u32, users: u32, bytes: u64) -> i64;
+    pub safe fn aug_user_open(trie: &Trie, user: &mut User) -> i64;
+    pub safe fn aug_user_close(user: &mut User) -> i64;
+    pub safe fn aug_close(trie: &mut Trie, report: Option<&mut Report>) -> i64;
+    pub safe fn aug_insert(user: &mut User, key: u32) -> i64;
+    pub safe fn aug_remove(user: &mut User, key: u32) -> i64;
+    pub safe fn aug_put(user: &mut User, key: u32, weight: u32) -> i64;
+    pub safe fn aug_add(user: &mut User, key: u32, amount: u32) -> i64;
+    pub safe fn aug_sub(user: &mut User, key: u32, amount: u32) -> i64;
+    pub safe fn aug_pop_first(user: &mut User, member: &mut Member) -> i64;
+    pub safe fn aug_pop_last(user: &mut User, member: &mut Member) -> i64;
+    pub fn aug_insert_all(user: &mut User, keys: *const u32, n: usize) -> i64;
+    pub fn aug_remove_all(user: &mut User, keys: *const u32, n: usize) -> i64;
+    pub fn aug_put_all(user: &mut User, keys: *const u32, n: usize, weights: *const u32, weight_count: usize) -> i64;
+    pub safe fn aug_look(user: &mut User) -> i64;
+    pub safe fn aug_look_again(user: &mut User) -> i64;
+    pub safe fn aug_look_done(user: &mut User) -> i64;
+    pub safe fn aug_has(user: &mut User, key: u32) -> i64;
+    pub safe fn aug_weight(user: &mut User, key: u32) -> i64;
+    pub safe fn aug_size(user: &mut User) -> i64;
+    pub safe fn aug_rank(user: &mut User, key: u32) -> i64;
+    pub safe fn aug_select(user: &mut User, index: u32) -> i64;
+    pub safe fn aug_before(user: &mut User, key: u32) -> i64;
+    pub safe fn aug_after(user: &mut User, key: u32) -> i64;
+    pub safe fn aug_first(user: &mut User) -> i64;
+    pub safe fn aug_last(user: &mut User) -> i64;
+    pub safe fn aug_range(user: &mut User, from: u32, to: u32, span: &mut Span) -> i64;
+    pub fn aug_rank_all(user: &mut User, keys: *const u32, n: usize, out: *mut u32, room: usize) -> i64;
+    pub fn aug_has_all(user: &mut User, keys: *const u32, n: usize, out: *mut u8, room: usize) -> i64;
+    pub fn aug_weight_all(user: &mut User, keys: *const u32, n: usize, out: *mut i64, room: usize) -> i64;
+    // Members are listed from both ends here, by `aug_select` and `aug_weight`, which these two ask as well.
+    #[expect(dead_code)]
+    pub fn aug_keys(user: &mut User, from: u32, out: *mut u32, room: usize) -> i64;
+    #[expect(dead_code)]
+    pub fn aug_list(user: &mut User, from: u32, keys: *mut u32, weights: *mut u32, room: usize) -> i64;
 }

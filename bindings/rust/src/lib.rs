@@ -1,57 +1,67 @@
-//! A set of whole numbers with weights that threads share without locks. What the library behind it answers is proved;
-//! this crate keeps by its types what the library asks of its callers.
+//! A set of whole numbers with weights that threads share. The updates and queries of one key are proved in the library behind it; this crate
+//! keeps by its types what the library asks of its callers.
+//!
+//! A [`Trie`] is opened for a number of users. Each thread opens a [`User`], which updates the set, or takes a [`Look`] at it: a snapshot that
+//! queries are asked of.
 //!
 //! ```
 //! use augtrie::Trie;
 //!
-//! let mut trie = Trie::new(12)?;
-//! let report = trie.round(2, 100, |lanes| {
-//!     std::thread::scope(|scope| {
-//!         for (i, lane) in lanes.iter_mut().enumerate() {
-//!             scope.spawn(move || {
-//!                 for key in 0..50 {
-//!                     lane.insert(2 * key + i as u32).expect("100 updates");
-//!                 }
-//!                 let now = lane.look();
-//!                 assert!(now.rank(4096) >= 50);
-//!             });
-//!         }
-//!     });
-//! })?.1;
-//! assert_eq!((report.size, report.inserts, report.missing), (100, 100, 0));
+//! let trie = Trie::new(12, 2, 1 << 20)?;
+//! std::thread::scope(|scope| {
+//!     for i in 0..2 {
+//!         let mut user = trie.user()?;
+//!         scope.spawn(move || {
+//!             for key in 0..50 {
+//!                 user.insert(2 * key + i).expect("the trie is open");
+//!             }
+//!             let look = user.look().expect("the trie is open");
+//!             assert!(look.rank(4096) >= 50);
+//!         });
+//!     }
+//!     Ok::<(), augtrie::Error>(())
+//! })?;
+//! let report = trie.close()?;
+//! assert_eq!((report.size, report.inserts, report.removals), (100, 100, 0));
 //! # Ok::<(), augtrie::Error>(())
 //! ```
 //!
-//! A snapshot ends before its lane goes on, and a trie stays on its thread:
+//! A look ends before its user goes on, and one thread at a time has a user or its look:
 //!
 //! ```compile_fail,E0499
-//! # let mut trie = augtrie::Trie::new(4).unwrap();
-//! trie.round(1, 9, |lanes| {
-//!     let now = lanes[0].look();
-//!     lanes[0].insert(7);
-//!     now.len()
-//! });
+//! # let mut user = augtrie::Trie::new(4, 1, 1 << 20).unwrap().user().unwrap();
+//! let look = user.look().unwrap();
+//! user.insert(7).unwrap();
+//! look.len();
 //! ```
 //!
 //! ```compile_fail,E0277
-//! # let trie = augtrie::Trie::new(4).unwrap();
-//! std::thread::spawn(move || drop(trie));
+//! # let user = augtrie::Trie::new(4, 1, 1 << 20).unwrap().user().unwrap();
+//! fn shared<T: Sync>(_: T) {}
+//! shared(user);
+//! ```
+//!
+//! ```compile_fail,E0277
+//! # let mut user = augtrie::Trie::new(4, 1, 1 << 20).unwrap().user().unwrap();
+//! let look = user.look().unwrap();
+//! std::thread::scope(|scope| { scope.spawn(|| look.len()); });
 //! ```
 #![warn(missing_docs, clippy::undocumented_unsafe_blocks)]
 
 mod error;
 mod ffi;
-mod lane;
-mod snapshot;
+mod look;
+mod shared;
 mod trie;
+mod user;
 
 use std::ffi::CStr;
 
 pub use error::Error;
 pub use ffi::{Report, Span};
-pub use lane::{Lane, Put, Sum};
-pub use snapshot::{Keys, Snapshot};
+pub use look::{Iter, Look};
 pub use trie::Trie;
+pub use user::{Put, Sum, User};
 
 /// The number that a call answered, or why it did nothing.
 fn number(answer: i64) -> Result<u32, Error> {

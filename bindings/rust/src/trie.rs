@@ -1,115 +1,61 @@
-use crate::ffi::{self, Handle, Report};
-use crate::lane::Lane;
+use crate::ffi::{self, Report};
+use crate::shared::Shared;
+use crate::user::User;
 use crate::{Error, number};
-use std::sync::atomic::{AtomicU32, Ordering};
+use std::sync::PoisonError;
 
-// Tells the tries of the process apart, so that a lane that was swapped into another round is refused there.
-static TRIES: AtomicU32 = AtomicU32::new(0);
-
-/// A trie at rest. It stays on its thread: nothing is proved of sending the words of a trie at rest.
-#[derive(Debug)]
-pub struct Trie {
-    handle: Handle,
-    bits: u32,
-    // The library counts rounds behind the trie's number, and the count must not run into the next one.
-    rounds: u32,
-}
+/// A trie: a set of keys below `2^bits` with a weight of 32 bits each. Its clones are the same trie, and any thread may have one.
+///
+/// A thread works with a [`User`] of its own. The trie is open until [`close`](Trie::close), or until the last clone and the last user are
+/// dropped, in any order.
+///
+/// ```
+/// use augtrie::{Error, Trie};
+///
+/// let trie = Trie::new(12, 2, 1 << 20)?;
+/// let mut user = trie.user()?;
+/// assert_eq!(user.insert(7), Ok(true));
+/// assert_eq!(trie.close()?.size, 1);
+/// assert_eq!(user.insert(8), Err(Error::Closed));
+/// # Ok::<(), Error>(())
+/// ```
+#[derive(Debug, Clone)]
+#[must_use = "a trie closes when nobody has it any longer"]
+pub struct Trie(Shared);
 
 impl Trie {
-    /// The empty trie for keys below `2^bits`, of 1 to 16 bits.
-    pub fn new(bits: u32) -> Result<Trie, Error> {
-        let number_of = TRIES.fetch_update(Ordering::Relaxed, Ordering::Relaxed, |tries| tries.checked_add(1)).map_err(|_| Error::NoNumber)?;
-        let mut handle = Handle::CLOSED;
-        number(ffi::aug_open(&mut handle, bits, number_of))?;
-        Ok(Trie { handle, bits, rounds: 0 })
+    /// Opens the empty trie for keys of 1 to 16 bits and 1 to 64 users at a time, whose table takes at most so many bytes: twice as many
+    /// while it is opened. With more bytes it is full less often. `1 << 20` are plenty for 12 bits, and each bit more takes twice as many.
+    /// Refused with `BadBits`, `BadUsers`, `TooLarge` if the bytes are too few, and `NoMemory`.
+    pub fn new(bits: u32, users: u32, bytes: u64) -> Result<Trie, Error> {
+        let shared = Shared::new(bits).ok_or(Error::NoMemory)?;
+        number(ffi::aug_open(&mut shared.handle.write().unwrap_or_else(PoisonError::into_inner), bits, users, bytes))?;
+        Ok(Trie(shared))
     }
 
-    /// How many keys there may be: `2^bits`.
-    #[must_use]
-    pub fn universe(&self) -> u32 {
-        1 << self.bits
+    /// Opens a user. Refused with `NoUser` if all are open, `NoMemory`, and `Closed`: by a `close` of another thread from its beginning on.
+    /// It waits for no look.
+    pub fn user(&self) -> Result<User, Error> {
+        // Whoever keeps readers off is closing the trie, and may wait for a look that this thread holds.
+        let handle = self.0.handle.try_read().map_err(|_| Error::Closed)?;
+        let mut user = ffi::User::CLOSED;
+        number(ffi::aug_user_open(&handle, &mut user))?;
+        Ok(User { handle: user, trie: self.0.clone() })
     }
 
-    /// Runs a round over the trie's own bits: see [`Trie::wider_round`].
-    pub fn round<T>(&mut self, lanes: u32, updates: u32, run: impl FnOnce(&mut [Lane]) -> T) -> Result<(T, Report), Error> {
-        self.wider_round(self.bits, lanes, updates, run)
-    }
-
-    /// Runs a round over keys of so many bits, with 1 to 64 lanes of 1 to 65,536 updates each. The lanes are lent to the
-    /// closure, which may hand them to scoped threads, and go back when it returns, also by a panic.
-    pub fn wider_round<T>(&mut self, bits: u32, lanes: u32, updates: u32, run: impl FnOnce(&mut [Lane]) -> T) -> Result<(T, Report), Error> {
-        self.rounds = self.rounds.checked_add(1).ok_or(Error::NoNumber)?;
-        number(ffi::aug_begin(&mut self.handle, bits, lanes, updates))?;
-        self.bits = bits;
-        let mut round = Open { trie: self, lanes: Vec::new() };
-        let mut refused = None;
-        for _ in 0..lanes {
-            let mut handle = Handle::CLOSED;
-            match number(ffi::aug_open_lane(&mut round.trie.handle, &mut handle)) {
-                Ok(_) => round.lanes.push(Lane(handle)),
-                Err(cause) => refused = Some(cause),
-            }
-        }
-        let value = match refused {
-            None => Ok(run(&mut round.lanes)),
-            Some(cause) => Err(cause),
-        };
-        let report = round.end();
-        Ok((value?, report?))
-    }
-
-    /// Lists the members with their weights, rising, by a round of one lane.
-    pub fn pairs(&mut self) -> Result<Vec<(u32, u32)>, Error> {
-        let (list, _) = self.round(1, 1, |lanes| {
-            let now = lanes[0].look();
-            now.keys().map(|key| (key, now.weight(key).unwrap_or(0))).collect()
-        })?;
-        Ok(list)
-    }
-}
-
-impl Drop for Trie {
-    fn drop(&mut self) {
-        ffi::aug_close(&mut self.handle);
-    }
-}
-
-// A round that is on. Whatever happens, its lanes go back and it ends.
-struct Open<'trie> {
-    trie: &'trie mut Trie,
-    lanes: Vec<Lane>,
-}
-
-impl Open<'_> {
-    fn end(&mut self) -> Result<Report, Error> {
-        for mut lane in self.lanes.drain(..) {
-            // One that is of another round is dropped, and missing there.
-            ffi::aug_give_back(&mut self.trie.handle, &mut lane.0);
-        }
+    /// Closes the trie, and tells what its life came to. Its users answer `Closed` from then on, and so does a second `close`.
+    ///
+    /// It waits for the updates that users are in, and for each look. So a thread that holds a look itself waits for ever.
+    pub fn close(&self) -> Result<Report, Error> {
+        let mut handle = self.0.handle.write().unwrap_or_else(PoisonError::into_inner);
         let mut report = Report::default();
-        number(ffi::aug_end(&mut self.trie.handle, &mut report))?;
+        number(ffi::aug_close(&mut handle, Some(&mut report)))?;
         Ok(report)
     }
-}
 
-impl Drop for Open<'_> {
-    fn drop(&mut self) {
-        let _ = self.end();
-    }
-}
-
-#[cfg(test)]
-mod tests {
-    use super::*;
-
-    #[test]
-    fn numbers_come_to_an_end() {
-        let mut trie = Trie::new(4).expect("a number is left");
-        trie.rounds = u32::MAX - 1;
-        assert!(trie.round(1, 1, |_| ()).is_ok());
-        assert_eq!(trie.round(1, 1, |_| ()), Err(Error::NoNumber));
-        TRIES.store(u32::MAX - 1, Ordering::Relaxed);
-        assert!(Trie::new(4).is_ok());
-        assert_eq!(Trie::new(4).map(drop), Err(Error::NoNumber));
+    /// How many bits keys have: they are below `2^bits`.
+    #[must_use]
+    pub fn bits(&self) -> u32 {
+        self.0.bits
     }
 }

@@ -1,205 +1,517 @@
-//! The crate's calls, threads, and misuses that its types let through.
-use augtrie::{Error, Put, Sum, Trie};
+//! The crate's calls beside a map, threads, and misuses that its types let through.
+use augtrie::{Error, Look, Put, Sum, Trie, User};
 use std::collections::BTreeMap;
+use std::mem::forget;
+use std::ops::Bound;
+use std::sync::Mutex;
+use std::sync::atomic::{AtomicU32, Ordering::SeqCst};
 use std::thread;
+use std::time::Duration;
+
+// So many that no test here fills the table, whatever the bits.
+const PLENTY: u64 = 1 << 24;
+
+const fn crosses<T: Send>() {}
+const fn is_shared<T: Send + Sync + Clone>() {}
+const _: () = (is_shared::<Trie>(), crosses::<User>(), crosses::<Look>(), is_shared::<Error>()).0;
+
+/// Numbers that look drawn.
+struct Drawn(u64);
+
+impl Drawn {
+    fn below(&mut self, end: u32) -> u32 {
+        self.0 = self.0.wrapping_mul(6_364_136_223_846_793_005).wrapping_add(1);
+        (((self.0 >> 32) * u64::from(end)) >> 32) as u32
+    }
+}
+
+/// A trie of the fewest bytes, to the next power of 2. It is full again and again.
+fn small(bits: u32, users: u32) -> Trie {
+    (0..25).find_map(|power| Trie::new(bits, users, 1 << power).ok()).expect("so many bytes are plenty")
+}
+
+/// Draws an update, and makes it of the trie and of the map, which have to answer the same.
+fn update(user: &mut User, map: &mut BTreeMap<u32, u32>, drawn: &mut Drawn, bits: u32) {
+    let key = drawn.below(1 << bits);
+    let old = map.get(&key).copied();
+    // Any weight, a small one, or all that the key has.
+    let weight = [drawn.below(u32::MAX), drawn.below(9), old.unwrap_or(1)][drawn.below(3) as usize];
+    match drawn.below(6) {
+        0 => assert_eq!(user.insert(key), Ok(map.insert(key, old.unwrap_or(key)).is_none())),
+        1 => assert_eq!(user.remove(key), Ok(map.remove(&key).is_some())),
+        2 => assert_eq!(user.put(key, weight), Ok(if map.insert(key, weight).is_some() { Put::Replaced } else { Put::Accepted })),
+        3 => {
+            let want = match old.unwrap_or(0).checked_add(weight) {
+                _ if weight == 0 => Ok(Sum::Unchanged),
+                Some(sum) => Ok(if map.insert(key, sum).is_some() { Sum::Replaced } else { Sum::Accepted }),
+                None => Err(Error::TooGreat),
+            };
+            assert_eq!(user.add(key, weight), want);
+        }
+        4 if weight % 2 == 0 => assert_eq!(user.pop_first(), Ok(map.pop_first())),
+        4 => assert_eq!(user.pop_last(), Ok(map.pop_last())),
+        _ => {
+            let want = match old.and_then(|old| old.checked_sub(weight)) {
+                _ if weight == 0 => Ok(Sum::Unchanged),
+                Some(0) => Ok(map.remove(&key).map_or(Sum::Unchanged, |_| Sum::Accepted)),
+                Some(left) => Ok(map.insert(key, left).map_or(Sum::Unchanged, |_| Sum::Replaced)),
+                None => Err(Error::TooLittle),
+            };
+            assert_eq!(user.sub(key, weight), want);
+        }
+    }
+}
+
+/// Asks a look for everything, about keys that the trie has and others.
+fn ask(look: &Look, map: &BTreeMap<u32, u32>, drawn: &mut Drawn, bits: u32) {
+    let pairs: Vec<(u32, u32)> = map.iter().map(|(key, weight)| (*key, *weight)).collect();
+    assert_eq!((look.len() as usize, look.is_empty()), (map.len(), map.is_empty()));
+    assert_eq!((look.first(), look.last()), (pairs.first().map(|pair| pair.0), pairs.last().map(|pair| pair.0)));
+    let some: Vec<u32> = (0..12).map(|_| drawn.below(1 << (bits + 1))).chain([0, u32::MAX]).collect();
+    for &key in &some {
+        assert_eq!(look.contains(key), map.contains_key(&key));
+        assert_eq!(look.get(key), map.get(&key).copied());
+        assert_eq!(look.rank(key) as usize, map.range(..key).count());
+        assert_eq!(look.before(key), map.range(..key).next_back().map(|pair| *pair.0));
+        assert_eq!(look.after(key), map.range((Bound::Excluded(key), Bound::Unbounded)).next().map(|pair| *pair.0));
+        assert_eq!(look.select(key), pairs.get(key as usize).map(|pair| pair.0));
+    }
+    assert_eq!(look.ranks(&some), Ok(some.iter().map(|key| look.rank(*key)).collect::<Vec<_>>()));
+    assert_eq!(look.contains_all(&some), Ok(some.iter().map(|key| map.contains_key(key)).collect::<Vec<_>>()));
+    assert_eq!(look.weights(&some), Ok(some.iter().map(|key| map.get(key).copied()).collect::<Vec<_>>()));
+    for keys in some.chunks(2) {
+        let (least, most) = (keys[0].min(keys[1]), keys[0].max(keys[1]));
+        let from = [Bound::Included(least), Bound::Excluded(least), Bound::Unbounded][drawn.below(3) as usize];
+        let to = [Bound::Included(most), Bound::Excluded(most), Bound::Unbounded][drawn.below(3) as usize];
+        // The map takes no interval with one key that is left out at both ends.
+        let has_any = least < most || !matches!((from, to), (Bound::Excluded(_), Bound::Excluded(_)));
+        let members = if has_any { map.range((from, to)).map(|(key, weight)| (*key, *weight)).collect() } else { Vec::new() };
+        let span = look.range((from, to));
+        assert_eq!((span.count as usize, span.sum), (members.len(), members.iter().map(|pair| u64::from(pair.1)).sum()));
+        assert_eq!((span.least, span.greatest), members.first().zip(members.last()).map_or((0, 0), |(a, b)| (a.0, b.0)));
+        assert!(from_both_ends(look.keys((from, to)), drawn) == members);
+        if least < most {
+            assert_eq!((look.range(most..least).count, look.keys(most..least).next()), (0, None));
+        }
+    }
+    assert_eq!((look.range(..=u32::MAX).count, look.keys((Bound::Excluded(u32::MAX), Bound::Unbounded)).len()), (look.len(), 0));
+    assert!(from_both_ends(look.into_iter(), drawn) == pairs);
+}
+
+/// What an iterator lists, taken from either end at will. It counts down what is left, and stays at its end.
+fn from_both_ends(mut iter: augtrie::Iter, drawn: &mut Drawn) -> Vec<(u32, u32)> {
+    let (mut front, mut back) = (Vec::new(), Vec::new());
+    for left in (0..=iter.len()).rev() {
+        assert_eq!(iter.len(), left);
+        if drawn.below(2) == 0 { front.extend(iter.next()) } else { back.extend(iter.next_back()) }
+    }
+    assert_eq!((iter.next(), iter.next_back(), iter.len()), (None, None, 0));
+    front.extend(back.into_iter().rev());
+    front
+}
 
 #[test]
-fn a_snapshot_answers_as_a_map() -> Result<(), Error> {
-    let mut trie = Trie::new(10)?;
-    let mut map = BTreeMap::new();
-    let ((), report) = trie.round(1, 2_000, |lanes| {
-        let lane = &mut lanes[0];
-        let mut state = 7u64;
-        for _ in 0..1_500 {
-            state = state.wrapping_mul(6_364_136_223_846_793_005).wrapping_add(1);
-            let key = (state >> 33) as u32 % 1_024;
-            let weight = (state >> 20) as u32;
-            match state >> 62 {
-                0 => assert_eq!(lane.insert(key), Ok(map.insert(key, *map.get(&key).unwrap_or(&key)).is_none())),
-                1 => assert_eq!(lane.remove(key), Ok(map.remove(&key).is_some())),
-                _ => {
-                    let want = if map.insert(key, weight).is_some() { Put::Replaced } else { Put::Accepted };
-                    assert_eq!(lane.put(key, weight), Ok(want));
+fn all_calls_answer_as_a_map_does() -> Result<(), Error> {
+    let mut drawn = Drawn(7);
+    for bits in 1..=16 {
+        for trie in [small(bits, 2), Trie::new(bits, 2, PLENTY)?] {
+            assert_eq!(trie.clone().bits(), bits);
+            let (mut one, mut other, mut map) = (trie.user()?, trie.user()?, BTreeMap::new());
+            for _ in 0..6 {
+                for _ in 0..270 {
+                    update(&mut one, &mut map, &mut drawn, bits);
+                    update(&mut other, &mut map, &mut drawn, bits);
                 }
+                ask(&one.look()?, &map, &mut drawn, bits);
+                ask(&other.look()?, &map, &mut drawn, bits);
             }
+            assert_eq!(trie.close()?.size as usize, map.len());
         }
-        assert_eq!(lane.budget(), 500);
-        let now = lane.look();
-        assert_eq!(now.len() as usize, map.len());
-        assert_eq!(now.keys().collect::<Vec<_>>(), map.keys().copied().collect::<Vec<_>>());
-        for key in (0..1_100).step_by(11) {
-            assert_eq!(now.has(key), map.contains_key(&key));
-            assert_eq!(now.weight(key), map.get(&key).copied());
-            assert_eq!(now.rank(key) as usize, map.range(..key).count());
-            assert_eq!(now.before(key), map.range(..key).next_back().map(|(k, _)| *k));
-            assert_eq!(now.after(key), map.range(key + 1..).next().map(|(k, _)| *k));
-            assert_eq!(now.select(key), map.keys().nth(key as usize).copied());
-            let span = now.range(key..key + 100);
-            assert_eq!(span.sum, map.range(key..key + 100).map(|(_, w)| u64::from(*w)).sum::<u64>());
-            assert_eq!(span.count as usize, map.range(key..key + 100).count());
-        }
-    })?;
-    assert_eq!((report.size as usize, report.missing), (map.len(), 0));
-    assert_eq!(trie.pairs()?, map.into_iter().collect::<Vec<_>>());
-    Ok(())
-}
-
-#[test]
-fn four_threads_work_at_once() -> Result<(), Error> {
-    let mut trie = Trie::new(12)?;
-    let ((), report) = trie.round(4, 4_096, |lanes| {
-        thread::scope(|scope| {
-            for (i, lane) in lanes.iter_mut().enumerate() {
-                scope.spawn(move || {
-                    for key in (0..4_096).step_by(i + 2) {
-                        lane.insert(key).expect("updates are left");
-                        let now = lane.look();
-                        assert_eq!(now.rank(key + 1) - now.rank(key), 1);
-                    }
-                });
-            }
-        });
-    })?;
-    let want = (0..4_096).filter(|key| (2..6).any(|step| key % step == 0)).count();
-    assert_eq!((report.size as usize, report.inserts as usize, report.missing), (want, want, 0));
-    Ok(())
-}
-
-#[test]
-fn an_amount_changes_the_weight_by_itself() -> Result<(), Error> {
-    let mut trie = Trie::new(4)?;
-    let ((), report) = trie.round(1, 9, |lanes| {
-        let lane = &mut lanes[0];
-        assert_eq!(lane.add(7, 5), Ok(Sum::Accepted));
-        assert_eq!(lane.add(7, u32::MAX - 5), Ok(Sum::Replaced));
-        assert_eq!(lane.add(7, 1), Err(Error::TooGreat));
-        assert_eq!(lane.look().weight(7), Some(u32::MAX));
-        assert_eq!(lane.sub(7, u32::MAX - 2), Ok(Sum::Replaced));
-        assert_eq!(lane.sub(7, 3), Err(Error::TooLittle));
-        assert_eq!(lane.sub(7, 2), Ok(Sum::Accepted));
-        assert_eq!(lane.sub(7, 1), Err(Error::TooLittle));
-        assert_eq!(lane.add(7, 0), Ok(Sum::Unchanged));
-        assert_eq!(lane.sub(16, 1), Err(Error::BadKey));
-        assert_eq!(lane.budget(), 1);
-    })?;
-    assert_eq!((report.size, report.inserts, report.removals), (0, 3, 3));
-    Ok(())
-}
-
-#[test]
-fn each_unit_of_four_threads_is_there() -> Result<(), Error> {
-    let mut trie = Trie::new(4)?;
-    let ((), report) = trie.round(4, 4_000, |lanes| {
-        thread::scope(|scope| {
-            for lane in lanes {
-                scope.spawn(move || {
-                    for unit in 0..1_000 {
-                        while lane.add(unit % 10, 1) == Ok(Sum::Refused) {}
-                    }
-                });
-            }
-        });
-    })?;
-    assert_eq!(report.size, 10);
-    let ((), _) = trie.round(1, 1, |lanes| {
-        let now = lanes[0].look();
-        for key in 0..10 {
-            assert_eq!(now.weight(key), Some(400));
-        }
-    })?;
-    Ok(())
-}
-
-#[test]
-fn many_keys_go_in_one_call() -> Result<(), Error> {
-    let mut trie = Trie::new(4)?;
-    let ((), report) = trie.round(1, 9, |lanes| {
-        let lane = &mut lanes[0];
-        assert_eq!(lane.insert_all(&[5, 5, 7, 1]), Ok(3));
-        assert_eq!(lane.remove_all(&[7, 9]), Ok(1));
-        assert_eq!(lane.put_all(&[1, 2], &[30, 40]), Ok(2));
-        assert_eq!(lane.insert_all(&[3, 16]), Err(Error::BadKey));
-        assert_eq!(lane.remove_all(&[1, 2]), Err(Error::Spent));
-        assert_eq!(lane.put_all(&[1], &[]), Err(Error::NoRoom));
-        assert_eq!(lane.insert_all(&[]), Ok(0));
-        assert_eq!(lane.budget(), 1);
-        let now = lane.look();
-        assert_eq!(now.rank_all(&[16, 0, 2, u32::MAX]), [3, 0, 1, 3]);
-        assert_eq!(now.has_all(&[5, 7, 99]), [true, false, false]);
-        assert!(now.rank_all(&[]).is_empty());
-        assert_eq!(now.weight(1), Some(30));
-    })?;
-    assert_eq!((report.size, report.missing), (3, 0));
-    Ok(())
-}
-
-#[test]
-fn members_are_listed_over_many_calls() -> Result<(), Error> {
-    for count in [0, 1, 63, 64, 65, 128, 200] {
-        let mut trie = Trie::new(8)?;
-        trie.round(1, 256, |lanes| {
-            let want: Vec<u32> = (256 - count..256).collect();
-            assert_eq!(lanes[0].insert_all(&want), Ok(count));
-            let now = lanes[0].look();
-            assert_eq!(now.keys().collect::<Vec<_>>(), want);
-            let mut some = [999; 2];
-            assert_eq!(now.keys_from(255, &mut some) as u32, count.min(1));
-            assert_eq!(some, if count == 0 { [999, 999] } else { [255, 999] });
-            assert_eq!(now.keys_from(256, &mut some), 0);
-            assert_eq!(now.keys_from(0, &mut []), 0);
-        })?;
     }
     Ok(())
 }
 
 #[test]
-fn refusals_have_names() -> Result<(), Error> {
-    assert_eq!(Trie::new(17).map(drop), Err(Error::BadBits));
-    assert_eq!(Error::BadBits.to_string(), "the bits are outside 1 to 16");
-    assert_eq!(Error::NoNumber.to_string(), "no number is left for another trie or round");
-    let mut trie = Trie::new(4)?;
-    assert_eq!(trie.round(65, 1, |_| ()), Err(Error::BadLanes));
-    assert_eq!(trie.round(1, 0, |_| ()), Err(Error::BadUpdates));
-    assert_eq!(trie.wider_round(3, 1, 1, |_| ()), Err(Error::Narrower));
-    assert_eq!(trie.wider_round(16, 64, 65_536, |_| ()), Err(Error::TooLarge));
-    trie.round(1, 1, |lanes| {
-        assert_eq!(lanes[0].insert(16), Err(Error::BadKey));
-        assert_eq!(lanes[0].insert(1), Ok(true));
-        assert_eq!(lanes[0].insert(2), Err(Error::Spent));
-        assert_eq!(Error::Spent.to_string(), "the lane made all of its updates");
-    })?;
-    assert_eq!(trie.pairs()?, vec![(1, 1)]);
+fn a_look_stays_until_it_is_taken_again() -> Result<(), Error> {
+    let mut drawn = Drawn(9);
+    for bits in 1..=16 {
+        let trie = Trie::new(bits, 2, PLENTY)?;
+        let (mut one, mut other, mut map) = (trie.user()?, trie.user()?, BTreeMap::new());
+        let mut look = other.look()?;
+        for _ in 0..6 {
+            let before = map.clone();
+            for _ in 0..10 {
+                update(&mut one, &mut map, &mut drawn, bits);
+            }
+            ask(&look, &before, &mut drawn, bits);
+            look.again();
+            ask(&look, &map, &mut drawn, bits);
+        }
+    }
     Ok(())
+}
+
+#[test]
+fn many_keys_go_in_one_call() -> Result<(), Error> {
+    let trie = Trie::new(4, 1, PLENTY)?;
+    let mut user = trie.user()?;
+    assert_eq!(user.insert_all(&[5, 5, 7, 1]), Ok(3));
+    assert_eq!(user.remove_all(&[7, 9]), Ok(1));
+    assert_eq!(user.put_all(&[1, 2], &[30, 40]), Ok(2));
+    assert_eq!(user.insert_all(&[]), Ok(0));
+    // None of these makes an update.
+    let many = [3; 17];
+    for refused in [user.insert_all(&[3, 16]), user.remove_all(&[1, 16]), user.put_all(&[3, 16], &[3, 3])] {
+        assert_eq!(refused, Err(Error::BadKey));
+    }
+    let unequal = [user.put_all(&[3], &[]), user.put_all(&[3], &[1, 2])];
+    for refused in [user.insert_all(&many), user.remove_all(&many), user.put_all(&many, &many)].into_iter().chain(unequal) {
+        assert_eq!(refused, Err(Error::BadLength));
+    }
+    let look = user.look()?;
+    assert!(look.iter().eq([(1, 30), (2, 40), (5, 5)]));
+    // More keys than the trie has.
+    let long: Vec<u32> = (0..100).map(|i| i % 20).collect();
+    assert!(look.ranks(&long)?.into_iter().eq(long.iter().map(|key| look.rank(*key))));
+    assert!(look.contains_all(&long)?.into_iter().eq(long.iter().map(|key| [1, 2, 5].contains(key))));
+    assert!(look.weights(&long)?.into_iter().eq(long.iter().map(|key| look.get(*key))));
+    assert!(look.ranks(&[])?.is_empty() && look.contains_all(&[])?.is_empty() && look.weights(&[])?.is_empty());
+    Ok(())
+}
+
+/// Runs threads with a user each.
+fn each(trie: &Trie, threads: u32, run: impl Fn(u32, User) + Sync) {
+    thread::scope(|scope| {
+        for i in 0..threads {
+            let (user, run) = (trie.user().expect("a place is free"), &run);
+            scope.spawn(move || run(i, user));
+        }
+    });
+}
+
+#[test]
+fn each_unit_of_four_threads_is_there() -> Result<(), Error> {
+    for trie in [small(4, 5), Trie::new(4, 5, PLENTY)?] {
+        each(&trie, 4, |_, mut user| {
+            for unit in 0..3_000 {
+                assert!(user.add(unit % 10, 3).is_ok());
+                assert!(user.sub(unit % 10, 2).is_ok());
+            }
+        });
+        assert!(trie.user()?.look()?.iter().eq((0..10).map(|key| (key, 4 * 300))));
+        let report = trie.close()?;
+        assert_eq!((report.size, report.inserts - report.removals), (10, 10));
+    }
+    Ok(())
+}
+
+#[test]
+fn each_member_is_popped_by_one_of_four_threads() -> Result<(), Error> {
+    let trie = Trie::new(12, 5, PLENTY)?;
+    let (keys, weights): (Vec<u32>, Vec<u32>) = (0..4096).map(|key| (key, 3 * key)).unzip();
+    assert_eq!(trie.user()?.put_all(&keys, &weights), Ok(4096));
+    let popped = Mutex::new(Vec::new());
+    each(&trie, 4, |i, mut user| {
+        let pop = if i % 2 == 0 { User::pop_first } else { User::pop_last };
+        while let Some(member) = pop(&mut user).expect("the trie is open") {
+            popped.lock().expect("no thread failed").push(member);
+        }
+    });
+    let mut popped = popped.into_inner().expect("no thread failed");
+    popped.sort_unstable();
+    assert!(popped.into_iter().eq((0..4096).map(|key| (key, 3 * key))));
+    Ok(())
+}
+
+#[test]
+fn users_come_and_go_in_four_threads() -> Result<(), Error> {
+    let (trie, open) = (small(6, 2), AtomicU32::new(0));
+    thread::scope(|scope| {
+        for _ in 0..4 {
+            let (trie, open) = (trie.clone(), &open);
+            scope.spawn(move || {
+                let mut done = 0;
+                while done < 300 {
+                    match trie.user() {
+                        Ok(mut user) => {
+                            assert!(open.fetch_add(1, SeqCst) < 2);
+                            assert!(user.add(done % 64, 1).is_ok());
+                            assert!(user.look().is_ok_and(|look| look.contains(done % 64)));
+                            done += 1;
+                            open.fetch_sub(1, SeqCst);
+                        }
+                        Err(cause) => assert_eq!(cause, Error::NoUser),
+                    }
+                }
+            });
+        }
+    });
+    assert_eq!(trie.user()?.look()?.range(..).sum, 1_200);
+    Ok(())
+}
+
+#[test]
+fn a_thousand_tries_have_nothing_to_do_with_one_another() -> Result<(), Error> {
+    let (mut tries, mut users, mut left) = (Vec::new(), Vec::new(), Vec::new());
+    for i in 0..1_000 {
+        let trie = small(4, 2);
+        users.push(trie.user()?);
+        assert_eq!(users[i].put(i as u32 % 16, i as u32), Ok(Put::Accepted));
+        tries.push(trie);
+    }
+    // Of each three, one is closed, one is left to its users, and one stays.
+    for (i, trie) in tries.into_iter().enumerate() {
+        match i % 3 {
+            0 => assert_eq!(trie.close()?.size, 1),
+            1 => drop(trie),
+            _ => left.push(trie),
+        }
+    }
+    for (i, user) in users.iter_mut().enumerate() {
+        match user.look() {
+            Ok(look) => assert!(i % 3 != 0 && look.iter().eq([(i as u32 % 16, i as u32)])),
+            Err(cause) => assert_eq!((i % 3, cause), (0, Error::Closed)),
+        }
+    }
+    drop(users);
+    for (i, trie) in left.iter().enumerate() {
+        assert_eq!(trie.user()?.look()?.range(..).sum, 3 * i as u64 + 2);
+    }
+    Ok(())
+}
+
+#[test]
+fn a_trie_is_closed_while_its_users_work() -> Result<(), Error> {
+    for trie in [small(8, 4), Trie::new(8, 4, PLENTY)?] {
+        let (inserts, removals, at_work) = (AtomicU32::new(0), AtomicU32::new(0), AtomicU32::new(0));
+        let report = thread::scope(|scope| {
+            for i in 0..4 {
+                let (mut user, trie) = (trie.user()?, trie.clone());
+                let (inserts, removals, at_work) = (&inserts, &removals, &at_work);
+                scope.spawn(move || {
+                    let mut drawn = Drawn(i);
+                    let cause = loop {
+                        let key = drawn.below(256);
+                        let (done, count) = if drawn.below(2) == 0 { (user.insert(key), inserts) } else { (user.remove(key), removals) };
+                        match done {
+                            Ok(changed) => count.fetch_add(u32::from(changed), SeqCst),
+                            Err(cause) => break cause,
+                        };
+                        at_work.fetch_or(1 << i, SeqCst);
+                    };
+                    assert_eq!((cause, user.look().err(), trie.user().err()), (Error::Closed, Some(Error::Closed), Some(Error::Closed)));
+                });
+            }
+            while at_work.load(SeqCst) != 15 {
+                thread::yield_now();
+            }
+            trie.close()
+        })?;
+        let (inserts, removals) = (inserts.into_inner(), removals.into_inner());
+        assert_eq!((report.inserts, report.removals, report.size), (inserts.into(), removals.into(), inserts - removals));
+    }
+    Ok(())
+}
+
+#[test]
+fn what_a_closed_trie_answers() -> Result<(), Error> {
+    let trie = Trie::new(4, 2, PLENTY)?;
+    let (mut user, other) = (trie.user()?, trie.clone());
+    assert_eq!(user.insert(3), Ok(true));
+    let report = other.close()?;
+    assert_eq!((report.inserts, report.removals, report.size), (1, 0, 1));
+    assert_eq!((trie.close(), other.close()), (Err(Error::Closed), Err(Error::Closed)));
+    assert_eq!(trie.user().err(), Some(Error::Closed));
+    let flags = [user.insert(1), user.remove(3)];
+    let counts = [user.insert_all(&[1]), user.remove_all(&[3]), user.put_all(&[1], &[1])];
+    assert_eq!((flags, counts), ([Err(Error::Closed); 2], [Err(Error::Closed); 3]));
+    assert_eq!((user.put(1, 1), user.add(1, 1), user.sub(3, 1)), (Err(Error::Closed), Err(Error::Closed), Err(Error::Closed)));
+    assert_eq!((user.look().err(), trie.bits()), (Some(Error::Closed), 4));
+    Ok(())
+}
+
+#[test]
+fn a_look_outlives_the_last_trie() -> Result<(), Error> {
+    let trie = Trie::new(4, 1, PLENTY)?;
+    let mut user = trie.user()?;
+    assert_eq!(user.insert(3), Ok(true));
+    let look = user.look()?;
+    drop(trie);
+    assert_eq!(look.get(3), Some(3));
+    drop(look);
+    assert_eq!(user.insert(4), Ok(true));
+    Ok(())
+}
+
+#[test]
+fn a_close_waits_for_a_look_whose_thread_it_keeps_from_nothing() -> Result<(), Error> {
+    let trie = Trie::new(4, 2, PLENTY)?;
+    let mut user = trie.user()?;
+    assert_eq!(user.insert(3), Ok(true));
+    let mut look = user.look()?;
+    let closes = {
+        let trie = trie.clone();
+        thread::spawn(move || trie.close())
+    };
+    // While the other thread waits for the look, this one is refused a user, and goes on looking.
+    while trie.user().is_ok() {
+        thread::yield_now();
+    }
+    assert_eq!(trie.user().err(), Some(Error::Closed));
+    look.again();
+    assert!(!closes.is_finished() && look.contains(3));
+    drop(look);
+    assert_eq!(closes.join().expect("it ends").map(|report| report.size), Ok(1));
+    Ok(())
+}
+
+#[test]
+fn a_look_that_was_forgotten_ends_with_the_next_one() -> Result<(), Error> {
+    let trie = small(6, 2);
+    let (mut user, mut other) = (trie.user()?, trie.user()?);
+    assert_eq!(user.insert(3), Ok(true));
+    forget(user.look()?);
+    assert_eq!((user.insert(4), user.remove(3)), (Err(Error::Looking), Err(Error::Looking)));
+    assert_eq!((user.put(4, 1), user.add(4, 1), user.sub(3, 1)), (Err(Error::Looking), Err(Error::Looking), Err(Error::Looking)));
+    assert_eq!((user.insert_all(&[4]), user.remove_all(&[3])), (Err(Error::Looking), Err(Error::Looking)));
+    assert_eq!(user.look()?.len(), 1);
+    assert_eq!(user.insert(4), Ok(true));
+    // Nor does one that was forgotten hold others up once its user looks again, or is gone.
+    forget(user.look()?);
+    forget(user.look()?);
+    drop(user.look()?);
+    for unit in 0..10_000 {
+        assert!(other.add(unit % 64, 1).is_ok());
+    }
+    forget(user.look()?);
+    drop(user);
+    for unit in 0..10_000 {
+        assert!(other.add(unit % 64, 1).is_ok());
+    }
+    assert_eq!(other.look()?.range(..).sum, 20_007);
+    forget(other.look()?);
+    drop(other);
+    assert_eq!(trie.close()?.size, 64);
+    Ok(())
+}
+
+#[test]
+fn looks_agree_and_never_go_back_while_others_fill_the_table() -> Result<(), Error> {
+    let trie = small(6, 4);
+    let mut looker = trie.user()?;
+    let looks = thread::scope(|scope| {
+        // Each thread counts up at a key of its own, and puts a key in and out.
+        let work = |i: u32, mut user: User| {
+            for unit in 0..5_000 {
+                assert!(user.add(i, 1).is_ok());
+                assert_eq!(user.put(8 + 16 * i + unit % 16, unit), Ok(Put::Accepted));
+                assert_eq!(user.remove(8 + 16 * i + unit % 16), Ok(true));
+            }
+        };
+        let mut threads = Vec::new();
+        for i in 0..3 {
+            let user = trie.user()?;
+            threads.push(scope.spawn(move || work(i, user)));
+        }
+        let (mut seen, mut looks, mut drawn) = ([0; 3], 0, Drawn(3));
+        while threads.iter().any(|thread| !thread.is_finished()) {
+            let mut look = looker.look()?;
+            for _ in 0..3 {
+                ask(&look, &look.iter().collect(), &mut drawn, 6);
+                for (i, seen) in (0..).zip(&mut seen) {
+                    let now = look.get(i).unwrap_or(0);
+                    // A thread counts before each key that it puts in, and has one in at a time.
+                    let own = look.range(8 + 16 * i..24 + 16 * i);
+                    assert!(now >= *seen && own.count <= 1 && (own.count == 0 || own.sum == u64::from(now) - 1));
+                    *seen = now;
+                }
+                look.again();
+            }
+            drop(look);
+            // Whoever waits for the look comes to it only if it is tried while there is none.
+            thread::sleep(Duration::from_micros(200));
+            looks += 1;
+        }
+        Ok::<u32, Error>(looks)
+    })?;
+    assert!(looks > 0);
+    assert!(looker.look()?.iter().eq((0..3).map(|key| (key, 5_000))));
+    let report = trie.close()?;
+    // A count is an insertion, and except for the first one a removal.
+    assert_eq!((report.inserts, report.removals), (30_000, 29_997));
+    Ok(())
+}
+
+#[test]
+fn a_panic_ends_the_look_and_frees_the_place() -> Result<(), Error> {
+    let trie = small(4, 1);
+    let mut user = trie.user()?;
+    assert_eq!((user.insert(3), trie.user().err()), (Ok(true), Some(Error::NoUser)));
+    let fell = thread::spawn(move || {
+        let look = user.look().expect("the trie is open");
+        assert!(look.is_empty(), "it is not");
+    });
+    assert!(fell.join().is_err());
+    let mut user = trie.user()?;
+    for unit in 0..1_000 {
+        assert_eq!(user.put(3, unit), Ok(Put::Replaced));
+    }
+    assert_eq!(trie.close()?.size, 1);
+    Ok(())
+}
+
+#[test]
+fn refusals_have_names() -> Result<(), Error> {
+    for (bits, users, bytes, want) in [(0, 1, PLENTY, Error::BadBits), (17, 1, PLENTY, Error::BadBits), (4, 0, PLENTY, Error::BadUsers),
+        (4, 65, PLENTY, Error::BadUsers), (4, 1, 0, Error::TooLarge), (4, 1, 99, Error::TooLarge)]
+    {
+        assert_eq!(Trie::new(bits, users, bytes).err(), Some(want));
+    }
+    let trie = Trie::new(4, 1, PLENTY)?;
+    let mut user = trie.user()?;
+    assert_eq!((user.insert(16), user.remove(u32::MAX)), (Err(Error::BadKey), Err(Error::BadKey)));
+    assert_eq!((user.put(16, 1), user.add(16, 1), user.sub(16, 1)), (Err(Error::BadKey), Err(Error::BadKey), Err(Error::BadKey)));
+    assert_eq!((user.sub(7, 1), user.put(7, u32::MAX), user.add(7, 1)), (Err(Error::TooLittle), Ok(Put::Accepted), Err(Error::TooGreat)));
+    assert_eq!(user.look()?.get(7), Some(u32::MAX));
+    assert_eq!(Error::BadBits.to_string(), "the bits are outside 1 to 16");
+    Ok(())
+}
+
+/// Runs in a process of its own, which has less memory than tries ask for.
+#[test]
+#[ignore = "the test below runs it"]
+fn with_little_memory() -> Result<(), Error> {
+    let mut tries = Vec::new();
+    let cause = loop {
+        match Trie::new(16, 64, u64::MAX) {
+            Ok(trie) => tries.push(trie),
+            Err(cause) => break cause,
+        }
+    };
+    assert_eq!(cause, Error::NoMemory);
+    drop(tries);
+    // These would need more than there is, if one of them stayed.
+    for i in 0..1_000 {
+        let trie = Trie::new(12, 2, 1 << 20)?;
+        let mut user = trie.user()?;
+        forget(user.look()?);
+        if i % 2 == 0 { drop(trie) } else { drop(user) }
+    }
+    Ok(())
+}
+
+#[test]
+#[cfg(target_os = "linux")]
+fn a_refused_request_for_memory_has_a_name_and_nothing_stays_behind() {
+    let program = std::env::current_exe().expect("it has a path");
+    let mut command = std::process::Command::new("sh");
+    command.args(["-c", "ulimit -v 300000 && exec \"$0\" --ignored --exact --test-threads=1 with_little_memory"]).arg(program);
+    let said = command.output().expect("there is a shell");
+    let text = String::from_utf8_lossy(&said.stdout);
+    assert!(said.status.success() && text.contains("test result: ok. 1 passed"), "{text}");
 }
 
 #[test]
 fn the_library_has_the_version_of_the_crate() {
     assert_eq!(augtrie::version(), env!("CARGO_PKG_VERSION"));
-}
-
-#[test]
-fn a_lane_that_was_swapped_is_refused_by_the_other_round() -> Result<(), Error> {
-    let (mut one, mut two) = (Trie::new(4)?, Trie::new(4)?);
-    let (inner, outer) = one.round(2, 9, |mine| {
-        mine[0].insert(7).expect("updates are left");
-        two.round(1, 9, |its| std::mem::swap(&mut mine[0], &mut its[0])).map(|(_, report)| report)
-    })?;
-    // The inner round got the lane of the outer, which is missing there now, and its own went on living in the outer one.
-    assert_eq!(inner, Err(Error::LanesOut));
-    assert_eq!((outer.missing, outer.size), (1, 1));
-    Ok(())
-}
-
-#[test]
-fn a_panic_ends_the_round() -> Result<(), Error> {
-    let mut trie = Trie::new(4)?;
-    let fell = std::panic::catch_unwind(std::panic::AssertUnwindSafe(|| {
-        let _ = trie.round(1, 1, |lanes| {
-            lanes[0].insert(3).expect("an update is left");
-            panic!("in the round");
-        });
-    }));
-    assert!(fell.is_err());
-    assert_eq!(trie.pairs()?, vec![(3, 3)]);
-    Ok(())
 }

@@ -1,28 +1,34 @@
 -- From what a call did to what a handle denotes to what it says of the handle.
-use Rattle.std.proofs.Common.{◌≡◌, ◌∙◌, Option, Some, None, sym, subst}
+use Rattle.std.proofs.Common.{◌≡◌, ◌∙◌, ℕ, Option, Some, None, refl, ap, sym, subst}
 use Rattle.std.specs.Prelude.{ℤ}
 use Rattle.aug_model.specs.Keys.{SetFacts}
-use Rattle.aug_monoid.specs.declared.sum.Sum.{Sum}
-use Rattle.aug_monoid.specs.declared.extent.Extent.{Extent}
-use Rattle.aug_trie.specs.declared.rounds.owned.OwnedPass.{OwnedPass}
-use Rattle.aug_c.specs.Codes.{closed}
+use Rattle.aug_live.specs.LiveHandles.{LookFacts, IsAsked, set_of_look}
 use Rattle.aug_c.specs.Handles.{On}
-use Rattle.aug_c.specs.LaneCalls.{Asks, shown}
+use Rattle.aug_c.specs.UserCalls.{Asks, span_of}
+use Rattle.aug_c.specs.declared.seat.Seat.{Seat}
+use Rattle.aug_c.specs.declared.seat.Seat.TheVariants.{Free, Looking}
 use Rattle.aug_c.specs.inside.Answered.{AnsweredBy}
 
 module _ {X : Type 0} (does : X → X → ℤ → Type 0) (old new : Option X) (code : ℤ) where
-  pub on_none : old ≡ None → new ≡ None → code ≡ closed → On does old new code
-  on_none was is says = subst (λ (o : Option X). On does o new code) (sym was) (is, says)
+  pub on_some : (before after : X) (said : ℤ) → old ≡ Some before → new ≡ Some after → code ≡ said → does before after said → On does old new code
+  on_some before after said was is says done = subst (λ (o : Option X). On does o new code) (sym was) (after, is, subst (does before after) (sym says) done)
 
-  pub on_some : (before after : X) → old ≡ Some before → new ≡ Some after → does before after code → On does old new code
-  on_some before after was is done = subst (λ (o : Option X). On does o new code) (sym was) (after, is, done)
+-- a look is taken out of a seat, asked, and put into one
+module _ (seat : Seat) (held look new put : LookFacts) (most : ℕ) (code : ℤ) (is : seat ≡ Looking held) (same : look ≡ held) (back : put ≡ new) (asked : IsAsked span_of most look new) where
+  pub asked_by : (told : SetFacts → ℤ) → code ≡ told (set_of_look look) → Asks told seat (Looking put) code
+  asked_by told says = subst (λ (s : Seat). Asks told s (Looking put) code) (sym (is ∙ ap Looking (sym same)))
+      (put, refl, record { says = says; most = most; asked = subst (IsAsked span_of most look) (sym back) asked })
 
--- what a call says of its handle says another thing too, where that follows
-pub on_as : {X : Type 0} (does says : X → X → ℤ → Type 0) → ((a b : X) (z : ℤ) → does a b z → says a b z) → (old new : Option X) (code : ℤ) → On does old new code → On says old new code
-on_as does says follows None new code on = on
-on_as does says follows (Some old) new code on = (on.0, on.1, follows old on.0 code on.2)
+  pub answered_by : {X : Type 0} (is_answer : SetFacts → X → Type 0) (number_of : X → ℤ) (answer : X) → is_answer (set_of_look look) answer → code ≡ number_of answer → AnsweredBy is_answer number_of seat (Looking put) code
+  answered_by is_answer number_of answer right says = subst (λ (s : Seat). AnsweredBy is_answer number_of s (Looking put) code) (sym (is ∙ ap Looking (sym same)))
+      (put, refl, record { answer = answer; is = right; says = says; most = most; asked = subst (IsAsked span_of most look) (sym back) asked })
 
--- a query that has an answer as a number asks for that number
-pub told_by : {X : Type 0} (is_answer : SetFacts → X → Type 0) (number_of : X → ℤ) (told : SetFacts → ℤ) → ((set : SetFacts) (x : X) → is_answer set x → number_of x ≡ told set) → (old new : Option (OwnedPass Sum Extent)) (code : ℤ)
-    → On (AnsweredBy is_answer number_of) old new code → On (Asks told) old new code
-told_by is_answer number_of told tells old new code on = on_as (AnsweredBy is_answer number_of) (Asks told) (λ a b z t. record { says = t.says ∙ tells (shown a) t.answer t.is; stays = t.stays; held = t.held; round = t.round }) old new code on
+module _ {X : Type 0} (is_answer : SetFacts → X → Type 0) (number_of : X → ℤ) (told : SetFacts → ℤ) (tells : (set : SetFacts) (x : X) → is_answer set x → number_of x ≡ told set) where
+  -- a query that has an answer as a number asks for that number
+  asks : (old new : Seat) (code : ℤ) → AnsweredBy is_answer number_of old new code → Asks told old new code
+  asks (Free access) new code t = t
+  asks (Looking old) new code t = (t.0, t.1, record { says = t.2.says ∙ tells (set_of_look old) t.2.answer t.2.is; most = t.2.most; asked = t.2.asked })
+
+  pub told_by : (old new : Option Seat) (code said : ℤ) → code ≡ said → On (AnsweredBy is_answer number_of) old new said → On (Asks told) old new code
+  told_by None new code said says on = (on.0, says ∙ on.1)
+  told_by (Some old) new code said says on = (on.0, on.1, asks old on.0 code (subst (AnsweredBy is_answer number_of old on.0) (sym says) on.2))

@@ -1,7 +1,9 @@
-pub mod LaneHelds
+pub mod UserHelds
 pub mod TrieHelds
 pub mod Values
+pub mod Apart
 pub mod Calls
-pub mod BeginCodes
-pub mod Beginning
-pub mod Lanes
+pub mod Opening
+pub mod Reading
+pub mod Turns
+pub mod Listing

@@ -1,7 +1,9 @@
-pub mod LaneHolding
+pub mod UserHolding
 pub mod TrieHolding
 pub mod Codes
 pub mod Handles
-pub mod LaneCalls
+pub mod UserCalls
+pub mod PopCalls
 pub mod TrieCalls
+pub mod ArrayCalls
 pub mod inside

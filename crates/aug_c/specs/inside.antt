@@ -1,5 +1,6 @@
 -- What no promise rests on: what private fields keep, what private calls leave, how views come of fields, and lemmas.
 pub mod Answered
-pub mod BeginCode
-pub mod LaneContent
+pub mod Refusals
+pub mod KeyRequests
+pub mod UserContent
 pub mod TrieContent

@@ -1,14 +1,20 @@
-//! The shared trie for programs in C and in other languages: a static library of exports over handles.
+//! The shared trie for programs in C and in other languages: a static library of exports over handles. No call waits for anybody.
 #![tactic(auto)]
 
+mod array_listing;
+mod array_queries;
+mod array_updates;
 mod codes;
-mod lane_handle;
 mod lending;
 mod loose;
+mod pops;
+mod progress;
 mod queries;
+mod refusal;
 mod report;
+mod seat;
 mod span;
-mod stage;
 mod trie_calls;
 mod trie_handle;
 mod updates;
+mod user_handle;

@@ -1,23 +1,23 @@
-//! The queries of a lane, answered from its last snapshot.
+//! The queries of a user, answered from the snapshot of its look.
 ghost use Rattle.std.specs.Prelude.{◌≡◌, ℤ, ◌<◌, ◌≤◌, ◌++◌, pos, length, map, take, drop, min, Some, None, IsSome, IsNone};
 ghost use Rattle.aug_model.specs.Keys.{is_member, list_of};
-ghost use Rattle.aug_model.specs.Queries.{rank_of, select_of, before_of, after_of, weight_of, weighted_range_of};
+ghost use Rattle.aug_model.specs.Queries.{rank_of, select_of, before_of, after_of, first_of, last_of, weight_of, weighted_range_of};
 ghost use Rattle.aug_monoid.specs.declared.sum.Sum.{Sum};
 ghost use Rattle.aug_monoid.specs.declared.extent.Extent.{Extent};
-ghost use Rattle.aug_trie.specs.declared.rounds.owned.OwnedPass.{OwnedPass};
-ghost use Rattle.aug_lane.specs.ManyKeys.{bit_of, from_of};
-ghost use Rattle.aug_c.specs.Codes.{closed, no_room};
-ghost use Rattle.aug_c.specs.Handles.{lane_of, On};
-ghost use Rattle.aug_c.specs.LaneCalls.{found, truth, span_of, shown, Asks, IsSpan};
+ghost use Rattle.aug_live.specs.LiveHandles.{HandleFacts, LookFacts, set_of_look};
+ghost use Rattle.aug_c.specs.declared.seat.Seat.TheVariants as variant;
+ghost use Rattle.aug_c.specs.Handles.{user_of, On};
+ghost use Rattle.aug_c.specs.UserCalls.{found, truth, span_of, Asks, IsSpan};
 ghost use Rattle.aug_c.specs.inside.Answered.{AnsweredBy};
 
-use crate::codes::{CLOSED, NO_ROOM, NONE};
-use crate::lane_handle::LaneHandle;
+use crate::codes::{CLOSED, NONE, NOT_LOOKING};
+use crate::seat::{HeldLook, Seat};
 use crate::span::Span;
+use crate::user_handle::UserHandle;
 use aug_model::Summary;
 use aug_monoid::{Extent, Sum};
 use aug_query::Query;
-use aug_query::descent::{After, Before, Has, Range, Rank, Select, Size, Weight};
+use aug_query::descent::{After, Before, First, Has, Last, Range, Rank, Select, Size, Weight};
 use std::alloc::Global;
 
 // An answer that C has as one number.
@@ -58,22 +58,37 @@ impl Number for bool {
     }
 }
 
-// Asks the snapshot of a handle's lane.
+// Asks the snapshot of a user's look.
+#[inline(always)]
+fn ask_in<X: Number, Q: Query<Sum, Extent, Answer = X> + Drop>(seat: Seat, query: Q) -> (Seat, i64)
+    ensures { AnsweredBy (λ set answer. Q.Answers query set answer) X.number_of seat result.0 result.1 }
+{
+    match seat {
+        Seat::Free(access) => (Seat::Free(access), NOT_LOOKING),
+        Seat::Looking(held) => {
+            let mut look = held.into_look();
+            let answer = look.ask(query);
+            (Seat::Looking(HeldLook::of(look)), answer.number())
+        }
+    }
+}
+
+// Asks the snapshot of the look of a handle's user.
 #[inline(always)]
 fn ask<X: Number, Q: Query<Sum, Extent, Answer = X> + Drop>(
     alloc: Global,
-    lane: &mut LaneHandle,
+    user: &mut UserHandle,
     query: Q,
 ) -> i64
-    ensures asks { On (AnsweredBy (λ set answer. Q.Answers query set answer) X.number_of) (lane_of lane.old) (lane_of lane.new) result }
-    ensures foreign { IsNone lane.old.held.value → lane.new ≡ lane.old }
+    ensures asks { On (AnsweredBy (λ set answer. Q.Answers query set answer) X.number_of) (user_of user.old) (user_of user.new) result }
+    ensures foreign { IsNone user.old.held.value → user.new ≡ user.old }
 {
-    let Some((slot, old)) = lane.lend(alloc) else {
+    let Some((slot, old)) = user.lend(alloc) else {
         return CLOSED;
     };
-    let (new, answer) = old.ask(query);
-    lane.give(slot, new);
-    answer.number()
+    let (new, code) = ask_in(old, query);
+    user.give(slot, new);
+    code
 }
 
 fn span(told: Summary<Sum, Extent>) -> Span
@@ -93,172 +108,121 @@ fn span(told: Summary<Sum, Extent>) -> Span
 
 /// Whether the snapshot has the key, 1 or 0.
 #[unsafe(no_mangle)]
-pub extern "C" fn aug_has(alloc: Global, lane: &mut LaneHandle, key: u32) -> i64
-    ensures asks { On (Asks (λ set. truth (is_member (list_of set) key))) (lane_of lane.old) (lane_of lane.new) result }
-    ensures foreign { IsNone lane.old.held.value → lane.new ≡ lane.old }
+pub extern "C" fn aug_try_has(alloc: Global, user: &mut UserHandle, key: u32) -> i64
+    ensures asks { On (Asks (λ set. truth (is_member (list_of set) key))) (user_of user.old) (user_of user.new) result }
+    ensures foreign { IsNone user.old.held.value → user.new ≡ user.old }
 {
-    ask(alloc, lane, Has(key))
+    ask(alloc, user, Has(key))
 }
 
 /// The weight of a member of the snapshot.
 #[unsafe(no_mangle)]
-pub extern "C" fn aug_weight(alloc: Global, lane: &mut LaneHandle, key: u32) -> i64
-    ensures asks { On (Asks (λ set. found (weight_of set.pairs key))) (lane_of lane.old) (lane_of lane.new) result }
-    ensures foreign { IsNone lane.old.held.value → lane.new ≡ lane.old }
+pub extern "C" fn aug_try_weight(alloc: Global, user: &mut UserHandle, key: u32) -> i64
+    ensures asks { On (Asks (λ set. found (weight_of set.pairs key))) (user_of user.old) (user_of user.new) result }
+    ensures foreign { IsNone user.old.held.value → user.new ≡ user.old }
 {
-    ask(alloc, lane, Weight(key))
+    ask(alloc, user, Weight(key))
 }
 
 /// How many members the snapshot has.
 #[unsafe(no_mangle)]
-pub extern "C" fn aug_size(alloc: Global, lane: &mut LaneHandle) -> i64
-    ensures asks { On (Asks (λ set. pos (length (list_of set)))) (lane_of lane.old) (lane_of lane.new) result }
-    ensures foreign { IsNone lane.old.held.value → lane.new ≡ lane.old }
+pub extern "C" fn aug_try_size(alloc: Global, user: &mut UserHandle) -> i64
+    ensures asks { On (Asks (λ set. pos (length (list_of set)))) (user_of user.old) (user_of user.new) result }
+    ensures foreign { IsNone user.old.held.value → user.new ≡ user.old }
 {
-    ask(alloc, lane, Size)
+    ask(alloc, user, Size)
 }
 
 /// How many members of the snapshot are below the key.
 #[unsafe(no_mangle)]
-pub extern "C" fn aug_rank(alloc: Global, lane: &mut LaneHandle, key: u32) -> i64
-    ensures asks { On (Asks (λ set. pos (rank_of (list_of set) key))) (lane_of lane.old) (lane_of lane.new) result }
-    ensures foreign { IsNone lane.old.held.value → lane.new ≡ lane.old }
+pub extern "C" fn aug_try_rank(alloc: Global, user: &mut UserHandle, key: u32) -> i64
+    ensures asks { On (Asks (λ set. pos (rank_of (list_of set) key))) (user_of user.old) (user_of user.new) result }
+    ensures foreign { IsNone user.old.held.value → user.new ≡ user.old }
 {
-    ask(alloc, lane, Rank(key))
+    ask(alloc, user, Rank(key))
 }
 
 /// The member of the snapshot with exactly `index` members below it.
 #[unsafe(no_mangle)]
-pub extern "C" fn aug_select(alloc: Global, lane: &mut LaneHandle, index: u32) -> i64
-    ensures asks { On (Asks (λ set. found (select_of (list_of set) index))) (lane_of lane.old) (lane_of lane.new) result }
-    ensures foreign { IsNone lane.old.held.value → lane.new ≡ lane.old }
+pub extern "C" fn aug_try_select(alloc: Global, user: &mut UserHandle, index: u32) -> i64
+    ensures asks { On (Asks (λ set. found (select_of (list_of set) index))) (user_of user.old) (user_of user.new) result }
+    ensures foreign { IsNone user.old.held.value → user.new ≡ user.old }
 {
-    ask(alloc, lane, Select(index))
+    ask(alloc, user, Select(index))
 }
 
 /// The greatest member of the snapshot below the key.
 #[unsafe(no_mangle)]
-pub extern "C" fn aug_before(alloc: Global, lane: &mut LaneHandle, key: u32) -> i64
-    ensures asks { On (Asks (λ set. found (before_of (list_of set) key))) (lane_of lane.old) (lane_of lane.new) result }
-    ensures foreign { IsNone lane.old.held.value → lane.new ≡ lane.old }
+pub extern "C" fn aug_try_before(alloc: Global, user: &mut UserHandle, key: u32) -> i64
+    ensures asks { On (Asks (λ set. found (before_of (list_of set) key))) (user_of user.old) (user_of user.new) result }
+    ensures foreign { IsNone user.old.held.value → user.new ≡ user.old }
 {
-    ask(alloc, lane, Before(key))
+    ask(alloc, user, Before(key))
 }
 
 /// The least member of the snapshot above the key.
 #[unsafe(no_mangle)]
-pub extern "C" fn aug_after(alloc: Global, lane: &mut LaneHandle, key: u32) -> i64
-    ensures asks { On (Asks (λ set. found (after_of (list_of set) key))) (lane_of lane.old) (lane_of lane.new) result }
-    ensures foreign { IsNone lane.old.held.value → lane.new ≡ lane.old }
+pub extern "C" fn aug_try_after(alloc: Global, user: &mut UserHandle, key: u32) -> i64
+    ensures asks { On (Asks (λ set. found (after_of (list_of set) key))) (user_of user.old) (user_of user.new) result }
+    ensures foreign { IsNone user.old.held.value → user.new ≡ user.old }
 {
-    ask(alloc, lane, After(key))
+    ask(alloc, user, After(key))
+}
+
+/// The least member of the snapshot.
+#[unsafe(no_mangle)]
+pub extern "C" fn aug_try_first(alloc: Global, user: &mut UserHandle) -> i64
+    ensures asks { On (Asks (λ set. found (first_of (list_of set)))) (user_of user.old) (user_of user.new) result }
+    ensures foreign { IsNone user.old.held.value → user.new ≡ user.old }
+{
+    ask(alloc, user, First)
+}
+
+/// The greatest member of the snapshot.
+#[unsafe(no_mangle)]
+pub extern "C" fn aug_try_last(alloc: Global, user: &mut UserHandle) -> i64
+    ensures asks { On (Asks (λ set. found (last_of (list_of set)))) (user_of user.old) (user_of user.new) result }
+    ensures foreign { IsNone user.old.held.value → user.new ≡ user.old }
+{
+    ask(alloc, user, Last)
+}
+
+fn range_in(seat: Seat, from: u32, to: u32, out: &mut Span) -> (Seat, i64)
+    ensures asks { Asks (λ set. pos (length (weighted_range_of set.pairs from to))) seat result.0 result.1 }
+    ensures span { (look : LookFacts) → seat ≡ variant.Looking look → IsSpan (span_of (weighted_range_of (set_of_look look).pairs from to)) out.new }
+    ensures free { (access : HandleFacts) → seat ≡ variant.Free access → out.new ≡ out.old }
+{
+    match seat {
+        Seat::Free(access) => (Seat::Free(access), NOT_LOOKING),
+        Seat::Looking(held) => {
+            let mut look = held.into_look();
+            let told = look.ask(Range(from, to));
+            let count = told.count;
+            *out = span(told);
+            (Seat::Looking(HeldLook::of(look)), i64::from(count))
+        }
+    }
 }
 
 /// The summary of the members of the snapshot from `from` on that are below `to`. Answers how many they are.
 #[unsafe(no_mangle)]
-pub extern "C" fn aug_range(
+pub extern "C" fn aug_try_range(
     alloc: Global,
-    lane: &mut LaneHandle,
+    user: &mut UserHandle,
     from: u32,
     to: u32,
     out: &mut Span,
 ) -> i64
-    ensures asks { On (Asks (λ set. pos (length (weighted_range_of set.pairs from to)))) (lane_of lane.old) (lane_of lane.new) result }
-    ensures closed { IsNone (lane_of lane.old) → out.new ≡ out.old }
-    ensures foreign { IsNone lane.old.held.value → lane.new ≡ lane.old }
-    ensures span { (old : OwnedPass Sum Extent) → lane_of lane.old ≡ Some old → IsSpan (span_of (weighted_range_of (shown old).pairs from to)) out.new }
+    ensures asks { On (Asks (λ set. pos (length (weighted_range_of set.pairs from to)))) (user_of user.old) (user_of user.new) result }
+    ensures closed { IsNone (user_of user.old) → out.new ≡ out.old }
+    ensures free { (access : HandleFacts) → user_of user.old ≡ Some (variant.Free access) → out.new ≡ out.old }
+    ensures span { (look : LookFacts) → user_of user.old ≡ Some (variant.Looking look) → IsSpan (span_of (weighted_range_of (set_of_look look).pairs from to)) out.new }
+    ensures foreign { IsNone user.old.held.value → user.new ≡ user.old }
 {
-    let Some((slot, old)) = lane.lend(alloc) else {
+    let Some((slot, old)) = user.lend(alloc) else {
         return CLOSED;
     };
-    let (new, answer) = old.ask(Range(from, to));
-    lane.give(slot, new);
-    let count = answer.count;
-    *out = span(answer);
-    i64::from(count)
-}
-
-/// Drops a lane. What it changed is in the set that the round ends with if the round opened a lane or took one back after that.
-#[unsafe(no_mangle)]
-pub extern "C" fn aug_drop_lane(alloc: Global, lane: &mut LaneHandle) -> i64
-    ensures open { IsSome lane.old.held.value → result ≡ pos 0 }
-    ensures closed { IsNone lane.old.held.value → result ≡ closed }
-    ensures gone { lane.new.held.value ≡ None }
-    ensures foreign { IsNone lane.old.held.value → lane.new ≡ lane.old }
-{
-    match lane.take(alloc) {
-        Some(_) => 0,
-        None => CLOSED,
-    }
-}
-
-/// Writes how many members of the snapshot are below each key to the place with its index. The keys stand in any order, and
-/// each is a walk of its own.
-#[unsafe(no_mangle)]
-pub extern "C" fn aug_rank_all(
-    alloc: Global,
-    lane: &mut LaneHandle,
-    keys: &[u32],
-    out: &mut [u32],
-) -> i64
-    ensures room { length out.old < length keys.now → (result ≡ no_room) × (lane.new ≡ lane.old) × (out.new ≡ out.old) }
-    ensures asks { length keys.now ≤ length out.old → On (Asks (λ _. pos 0)) (lane_of lane.old) (lane_of lane.new) result }
-    ensures closed { IsNone (lane_of lane.old) → out.new ≡ out.old }
-    ensures foreign { IsNone lane.old.held.value → lane.new ≡ lane.old }
-    ensures told { (old : OwnedPass Sum Extent) → lane_of lane.old ≡ Some old → length keys.now ≤ length out.old
-        → out.new ≡ map (λ k. rank_of (list_of (shown old)) k) keys.now ++ drop (length keys.now) out.old }
-{
-    if out.len() < keys.len() {
-        return NO_ROOM;
-    }
-    let Some((slot, old)) = lane.lend(alloc) else {
-        return CLOSED;
-    };
-    let new = aug_lane::rank_all(old, keys, out);
-    lane.give(slot, new);
-    0
-}
-
-/// Writes whether the snapshot has each key, 1 or 0, to the place with its index. The keys stand in any order, and each is a
-/// walk of its own.
-#[unsafe(no_mangle)]
-pub extern "C" fn aug_has_all(
-    alloc: Global,
-    lane: &mut LaneHandle,
-    keys: &[u32],
-    out: &mut [u8],
-) -> i64
-    ensures room { length out.old < length keys.now → (result ≡ no_room) × (lane.new ≡ lane.old) × (out.new ≡ out.old) }
-    ensures asks { length keys.now ≤ length out.old → On (Asks (λ _. pos 0)) (lane_of lane.old) (lane_of lane.new) result }
-    ensures closed { IsNone (lane_of lane.old) → out.new ≡ out.old }
-    ensures foreign { IsNone lane.old.held.value → lane.new ≡ lane.old }
-    ensures told { (old : OwnedPass Sum Extent) → lane_of lane.old ≡ Some old → length keys.now ≤ length out.old
-        → out.new ≡ map (λ k. bit_of (is_member (list_of (shown old)) k)) keys.now ++ drop (length keys.now) out.old }
-{
-    if out.len() < keys.len() {
-        return NO_ROOM;
-    }
-    let Some((slot, old)) = lane.lend(alloc) else {
-        return CLOSED;
-    };
-    let new = aug_lane::has_all(old, keys, out);
-    lane.give(slot, new);
-    0
-}
-
-/// Writes the least members of the snapshot from `from` on, rising, as many as `out` has places for. Answers how many.
-#[unsafe(no_mangle)]
-pub extern "C" fn aug_keys(alloc: Global, lane: &mut LaneHandle, from: u32, out: &mut [u32]) -> i64
-    ensures asks { On (Asks (λ set. pos (min (length out.old) (length (from_of (list_of set) from))))) (lane_of lane.old) (lane_of lane.new) result }
-    ensures closed { IsNone (lane_of lane.old) → out.new ≡ out.old }
-    ensures foreign { IsNone lane.old.held.value → lane.new ≡ lane.old }
-    ensures told { (old : OwnedPass Sum Extent) → lane_of lane.old ≡ Some old
-        → out.new ≡ take (length out.old) (from_of (list_of (shown old)) from) ++ drop (length (from_of (list_of (shown old)) from)) out.old }
-{
-    let Some((slot, old)) = lane.lend(alloc) else {
-        return CLOSED;
-    };
-    let (new, count) = aug_lane::keys_from(old, from, out);
-    lane.give(slot, new);
-    i64::from(count)
+    let (new, code) = range_in(old, from, to, out);
+    user.give(slot, new);
+    code
 }

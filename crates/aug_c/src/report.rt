@@ -1,15 +1,13 @@
-//! What a round came to.
+//! What the life of a trie came to.
 
-/// The result of a round. A weight that was replaced counts as an insertion and a removal.
+/// What the life of a trie came to. A weight that was replaced counts as an insertion and a removal.
 #[repr(C)]
 #[derive(Drop)]
 pub struct Report {
-    /// How many members the set has.
+    /// How many keys were put in.
+    pub inserts: u64,
+    /// How many keys were taken out.
+    pub removals: u64,
+    /// How many members there were at the end.
     pub size: u32,
-    /// How many keys were put in by the lanes that came back.
-    pub inserts: u32,
-    /// How many keys these took out.
-    pub removals: u32,
-    /// How many lanes were dropped.
-    pub missing: u32,
 }

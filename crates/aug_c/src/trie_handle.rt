@@ -4,18 +4,17 @@ ghost use Rattle.aug_c.specs.TrieHolding.{Content};
 ghost use Rattle.aug_c.specs.inside.TrieContent.{content_coded};
 
 use crate::loose::Loose;
-use crate::stage::Stage;
+use crate::seat::Opened;
 use std::alloc::Global;
 use std::marker::Model;
 
 // What an open handle begins with, so that another piece of memory is hardly taken for one.
 const OPEN: u64 = 0x6569_7274_5f67_7561;
 
-/// What a trie's handle owns: the trie, and the stamp of its newest round.
+/// What a trie's handle owns.
 #[derive(Drop)]
 pub struct TrieSlot {
-    pub(crate) stage: Option<Stage>,
-    pub(crate) stamp: u64,
+    pub(crate) trie: Option<Opened>,
 }
 
 /// A box as C holds it.

@@ -1,18 +1,21 @@
-//! The updates of a lane.
-ghost use Rattle.std.specs.Prelude.{◌≡◌, ◌≢◌, length, IsNone};
+//! The updates of a user, and its looks.
+ghost use Rattle.std.specs.Prelude.{◌≡◌, ◌↔◌, ◌^◌, ◌≤◌, IfOk, IfErr, IsErrOf, IsNone};
+ghost use Rattle.aug_trie.specs.Updates.{ComesTo};
 ghost use Rattle.aug_trie.specs.declared.updates.request.Request.TheVariants as request;
-ghost use Rattle.aug_lane.specs.EachInTurn.{UpdatesEach, Puts};
-ghost use Rattle.aug_c.specs.Codes.{no_room};
-ghost use Rattle.aug_c.specs.Handles.{lane_of, On};
-ghost use Rattle.aug_c.specs.LaneCalls.{span_of, update_code, all_code, UpdatesKey, UpdatesAll, TakesLook, TellsLeft};
+ghost use Rattle.aug_live.specs.LiveHandles.{Follows, Makes};
+ghost use Rattle.aug_c.specs.declared.refusal.Refusal.TheVariants as refusal;
+ghost use Rattle.aug_c.specs.Handles.{user_of, On};
+ghost use Rattle.aug_c.specs.UserCalls.{update_code, EndsLook, LooksAnew, TakesLook, UpdatesKey};
 
-use crate::codes::{BAD_KEY, CLOSED, NO_ROOM, SPENT, TOO_GREAT, TOO_LITTLE};
-use crate::lane_handle::LaneHandle;
-use aug_trie::{Outcome, Request, UpdateError};
+use crate::codes::{CLOSED, LOOKING, NOT_LOOKING, TOO_GREAT, TOO_LITTLE};
+use crate::refusal::Refusal;
+use crate::seat::{AccessOf, HeldLook, Seat};
+use crate::user_handle::UserHandle;
+use aug_trie::{Outcome, Request};
 use std::alloc::Global;
 
 #[inline(always)]
-fn code_of(answer: Result<Outcome, UpdateError>) -> i64
+fn code_of(answer: Result<Outcome, Refusal>) -> i64
     ensures { result ≡ update_code answer }
 {
     match answer {
@@ -22,164 +25,175 @@ fn code_of(answer: Result<Outcome, UpdateError>) -> i64
         Ok(Outcome::Unchanged) => 3,
         Ok(Outcome::TooGreat) => TOO_GREAT,
         Ok(Outcome::TooLittle) => TOO_LITTLE,
-        Err(UpdateError::BadKey) => BAD_KEY,
-        Err(UpdateError::Spent) => SPENT,
+        Err(cause) => cause.code(),
+    }
+}
+
+// Makes an update of a key.
+#[inline(always)]
+fn update_by(access: &mut AccessOf, key: u32, request: Request) -> Result<Outcome, Refusal>
+    ensures bad_key { IsErrOf result refusal.BadKey ↔ (2 ^ access.old.half.round.bits ≤ key) }
+    ensures same { IsErrOf result refusal.BadKey → access.new ≡ access.old }
+    ensures made { IfOk result (λ done. Makes 1 (λ a b. ComesTo request key done a.knows b.knows) access.old access.new) }
+    ensures not_made { IfErr result (λ _. Follows access.old access.new) }
+{
+    if key >= access.universe() {
+        return Err(Refusal::BadKey);
+    }
+    match access.try_update(key, request) {
+        Ok(done) => Ok(done),
+        Err(cause) => Err(Refusal::of(cause)),
     }
 }
 
 #[inline(always)]
-fn code_of_all(answer: Result<u32, UpdateError>) -> i64
-    ensures { result ≡ all_code answer }
+fn update_in(seat: Seat, key: u32, request: Request) -> (Seat, i64)
+    ensures { UpdatesKey request key seat result.0 result.1 }
 {
-    match answer {
-        Ok(changed) => i64::from(changed),
-        Err(UpdateError::BadKey) => BAD_KEY,
-        Err(UpdateError::Spent) => SPENT,
+    match seat {
+        Seat::Looking(look) => (Seat::Looking(look), LOOKING),
+        Seat::Free(access) => {
+            let mut access = access;
+            let answer = update_by(&mut access, key, request);
+            (Seat::Free(access), code_of(answer))
+        }
     }
 }
 
-// Makes an update of a key in a handle's lane.
+// Makes an update of a key by a handle's user.
 #[inline(always)]
-fn update(alloc: Global, lane: &mut LaneHandle, key: u32, request: Request) -> i64
-    ensures updates { On (UpdatesKey request key) (lane_of lane.old) (lane_of lane.new) result }
-    ensures foreign { IsNone lane.old.held.value → lane.new ≡ lane.old }
+fn update(alloc: Global, user: &mut UserHandle, key: u32, request: Request) -> i64
+    ensures updates { On (UpdatesKey request key) (user_of user.old) (user_of user.new) result }
+    ensures foreign { IsNone user.old.held.value → user.new ≡ user.old }
 {
-    let Some((slot, old)) = lane.lend(alloc) else {
+    let Some((slot, old)) = user.lend(alloc) else {
         return CLOSED;
     };
-    let (new, answer) = old.update(key, request);
-    lane.give(slot, new);
-    code_of(answer)
+    let (new, code) = update_in(old, key, request);
+    user.give(slot, new);
+    code
 }
 
 /// Puts a key in, with the key itself as its weight: 1 if it was not there, 0 if it was.
 #[unsafe(no_mangle)]
-pub extern "C" fn aug_insert(alloc: Global, lane: &mut LaneHandle, key: u32) -> i64
-    ensures updates { On (UpdatesKey request.Insert key) (lane_of lane.old) (lane_of lane.new) result }
-    ensures foreign { IsNone lane.old.held.value → lane.new ≡ lane.old }
+pub extern "C" fn aug_try_insert(alloc: Global, user: &mut UserHandle, key: u32) -> i64
+    ensures updates { On (UpdatesKey request.Insert key) (user_of user.old) (user_of user.new) result }
+    ensures foreign { IsNone user.old.held.value → user.new ≡ user.old }
 {
-    update(alloc, lane, key, Request::Insert)
+    update(alloc, user, key, Request::Insert)
 }
 
 /// Takes a key out: 1 if it was there, 0 if it was not.
 #[unsafe(no_mangle)]
-pub extern "C" fn aug_remove(alloc: Global, lane: &mut LaneHandle, key: u32) -> i64
-    ensures updates { On (UpdatesKey request.Remove key) (lane_of lane.old) (lane_of lane.new) result }
-    ensures foreign { IsNone lane.old.held.value → lane.new ≡ lane.old }
+pub extern "C" fn aug_try_remove(alloc: Global, user: &mut UserHandle, key: u32) -> i64
+    ensures updates { On (UpdatesKey request.Remove key) (user_of user.old) (user_of user.new) result }
+    ensures foreign { IsNone user.old.held.value → user.new ≡ user.old }
 {
-    update(alloc, lane, key, Request::Remove)
+    update(alloc, user, key, Request::Remove)
 }
 
 /// Puts a key in with a weight, or gives a member this weight: 1 if it was not there, 2 if it was, 0 if another change of the
 /// key came in between and nothing was stored.
 #[unsafe(no_mangle)]
-pub extern "C" fn aug_put(alloc: Global, lane: &mut LaneHandle, key: u32, weight: u32) -> i64
-    ensures updates { On (UpdatesKey (request.Put weight) key) (lane_of lane.old) (lane_of lane.new) result }
-    ensures foreign { IsNone lane.old.held.value → lane.new ≡ lane.old }
+pub extern "C" fn aug_try_put(alloc: Global, user: &mut UserHandle, key: u32, weight: u32) -> i64
+    ensures updates { On (UpdatesKey (request.Put weight) key) (user_of user.old) (user_of user.new) result }
+    ensures foreign { IsNone user.old.held.value → user.new ≡ user.old }
 {
-    update(alloc, lane, key, Request::Put(weight))
+    update(alloc, user, key, Request::Put(weight))
 }
 
-/// Adds an amount to the weight of a key, which goes in with it if it is not there: 1 if it was not there, 2 if it was, 3 if the amount is 0,
-/// and 0 if another change of the key came in between. Nothing is stored if the answer is not 1 or 2.
+/// Adds an amount to the weight of a key, which goes in with it if it was not there: 1 if it was not there, 2 if it was, 3 if the amount
+/// is 0; 0 if another change of the key came in between, and `TOO_GREAT` if the sum is no weight. Then nothing was stored.
 #[unsafe(no_mangle)]
-pub extern "C" fn aug_add(alloc: Global, lane: &mut LaneHandle, key: u32, amount: u32) -> i64
-    ensures updates { On (UpdatesKey (request.Add amount) key) (lane_of lane.old) (lane_of lane.new) result }
-    ensures foreign { IsNone lane.old.held.value → lane.new ≡ lane.old }
+pub extern "C" fn aug_try_add(alloc: Global, user: &mut UserHandle, key: u32, amount: u32) -> i64
+    ensures updates { On (UpdatesKey (request.Add amount) key) (user_of user.old) (user_of user.new) result }
+    ensures foreign { IsNone user.old.held.value → user.new ≡ user.old }
 {
-    update(alloc, lane, key, Request::Add(amount))
+    update(alloc, user, key, Request::Add(amount))
 }
 
-/// Takes an amount from the weight of a key, which goes out with the last of it: 1 if it went out, 2 if it is still there, 3 if the amount is
-/// 0, and 0 if another change of the key came in between. Nothing is stored if the answer is not 1 or 2.
+/// Takes an amount from the weight of a key, which goes out if nothing is left: 1 if it went out, 2 if it is still there, 3 if the amount
+/// is 0; 0 if another change of the key came in between, and `TOO_LITTLE` if there is less. Then nothing was stored.
 #[unsafe(no_mangle)]
-pub extern "C" fn aug_sub(alloc: Global, lane: &mut LaneHandle, key: u32, amount: u32) -> i64
-    ensures updates { On (UpdatesKey (request.Sub amount) key) (lane_of lane.old) (lane_of lane.new) result }
-    ensures foreign { IsNone lane.old.held.value → lane.new ≡ lane.old }
+pub extern "C" fn aug_try_sub(alloc: Global, user: &mut UserHandle, key: u32, amount: u32) -> i64
+    ensures updates { On (UpdatesKey (request.Sub amount) key) (user_of user.old) (user_of user.new) result }
+    ensures foreign { IsNone user.old.held.value → user.new ≡ user.old }
 {
-    update(alloc, lane, key, Request::Sub(amount))
+    update(alloc, user, key, Request::Sub(amount))
 }
 
-/// Takes a new snapshot, which the queries are answered from.
-#[unsafe(no_mangle)]
-pub extern "C" fn aug_look(alloc: Global, lane: &mut LaneHandle) -> i64
-    ensures looks { On TakesLook (lane_of lane.old) (lane_of lane.new) result }
-    ensures foreign { IsNone lane.old.held.value → lane.new ≡ lane.old }
+fn look_by(seat: Seat) -> (Seat, i64)
+    ensures { TakesLook seat result.0 result.1 }
 {
-    let Some((slot, old)) = lane.lend(alloc) else {
-        return CLOSED;
-    };
-    let new = old.look();
-    lane.give(slot, new);
-    0
-}
-
-/// How many updates the lane has left.
-#[unsafe(no_mangle)]
-pub extern "C" fn aug_budget(alloc: Global, lane: &mut LaneHandle) -> i64
-    ensures left { On TellsLeft (lane_of lane.old) (lane_of lane.new) result }
-    ensures foreign { IsNone lane.old.held.value → lane.new ≡ lane.old }
-{
-    let Some((slot, old)) = lane.lend(alloc) else {
-        return CLOSED;
-    };
-    let left = old.budget();
-    lane.give(slot, old);
-    i64::from(left)
-}
-
-// Makes the same update of each key in a handle's lane.
-#[inline(always)]
-fn update_all(alloc: Global, lane: &mut LaneHandle, keys: &[u32], request: Request) -> i64
-    ensures updates { On (UpdatesAll keys.now (UpdatesEach span_of request keys.now)) (lane_of lane.old) (lane_of lane.new) result }
-    ensures foreign { IsNone lane.old.held.value → lane.new ≡ lane.old }
-{
-    let Some((slot, old)) = lane.lend(alloc) else {
-        return CLOSED;
-    };
-    let (new, answer) = aug_lane::update_all(old, keys, request);
-    lane.give(slot, new);
-    code_of_all(answer)
-}
-
-/// Puts each key in, in their order, with itself as its weight: one update for each. Answers how many changed the set.
-#[unsafe(no_mangle)]
-pub extern "C" fn aug_insert_all(alloc: Global, lane: &mut LaneHandle, keys: &[u32]) -> i64
-    ensures updates { On (UpdatesAll keys.now (UpdatesEach span_of request.Insert keys.now)) (lane_of lane.old) (lane_of lane.new) result }
-    ensures foreign { IsNone lane.old.held.value → lane.new ≡ lane.old }
-{
-    update_all(alloc, lane, keys, Request::Insert)
-}
-
-/// Takes each key out, in their order: one update for each. Answers how many changed the set.
-#[unsafe(no_mangle)]
-pub extern "C" fn aug_remove_all(alloc: Global, lane: &mut LaneHandle, keys: &[u32]) -> i64
-    ensures updates { On (UpdatesAll keys.now (UpdatesEach span_of request.Remove keys.now)) (lane_of lane.old) (lane_of lane.new) result }
-    ensures foreign { IsNone lane.old.held.value → lane.new ≡ lane.old }
-{
-    update_all(alloc, lane, keys, Request::Remove)
-}
-
-/// Puts each key in with the weight that has its index, or gives a member this weight, in their order: one update for each.
-/// Answers how many changed the set.
-#[unsafe(no_mangle)]
-pub extern "C" fn aug_put_all(
-    alloc: Global,
-    lane: &mut LaneHandle,
-    keys: &[u32],
-    weights: &[u32],
-) -> i64
-    ensures room { length weights.now ≢ length keys.now → (result ≡ no_room) × (lane.new ≡ lane.old) }
-    ensures updates { length weights.now ≡ length keys.now → On (UpdatesAll keys.now (Puts span_of keys.now weights.now)) (lane_of lane.old) (lane_of lane.new) result }
-    ensures foreign { IsNone lane.old.held.value → lane.new ≡ lane.old }
-{
-    if weights.len() != keys.len() {
-        return NO_ROOM;
+    match seat {
+        Seat::Looking(look) => (Seat::Looking(look), LOOKING),
+        Seat::Free(access) => match access.try_look() {
+            Ok(look) => (Seat::Looking(HeldLook::of(look)), 0),
+            Err((access, cause)) => (Seat::Free(access), Refusal::of(cause).code()),
+        },
     }
-    let Some((slot, old)) = lane.lend(alloc) else {
+}
+
+/// Takes a snapshot, which the queries are answered from until the look is done.
+#[unsafe(no_mangle)]
+pub extern "C" fn aug_try_look(alloc: Global, user: &mut UserHandle) -> i64
+    ensures looks { On TakesLook (user_of user.old) (user_of user.new) result }
+    ensures foreign { IsNone user.old.held.value → user.new ≡ user.old }
+{
+    let Some((slot, old)) = user.lend(alloc) else {
         return CLOSED;
     };
-    let (new, answer) = aug_lane::put_all(old, keys, weights);
-    lane.give(slot, new);
-    code_of_all(answer)
+    let (new, code) = look_by(old);
+    user.give(slot, new);
+    code
+}
+
+fn look_anew(seat: Seat) -> (Seat, i64)
+    ensures { LooksAnew seat result.0 result.1 }
+{
+    match seat {
+        Seat::Free(access) => (Seat::Free(access), NOT_LOOKING),
+        Seat::Looking(held) => {
+            let mut look = held.into_look();
+            look.again();
+            (Seat::Looking(HeldLook::of(look)), 0)
+        }
+    }
+}
+
+/// Takes a newer snapshot in the same look.
+#[unsafe(no_mangle)]
+pub extern "C" fn aug_try_look_again(alloc: Global, user: &mut UserHandle) -> i64
+    ensures looks { On LooksAnew (user_of user.old) (user_of user.new) result }
+    ensures foreign { IsNone user.old.held.value → user.new ≡ user.old }
+{
+    let Some((slot, old)) = user.lend(alloc) else {
+        return CLOSED;
+    };
+    let (new, code) = look_anew(old);
+    user.give(slot, new);
+    code
+}
+
+fn end_look(seat: Seat) -> (Seat, i64)
+    ensures { EndsLook seat result.0 result.1 }
+{
+    match seat {
+        Seat::Free(access) => (Seat::Free(access), NOT_LOOKING),
+        Seat::Looking(held) => (Seat::Free(held.into_look().done()), 0),
+    }
+}
+
+/// Ends the look.
+#[unsafe(no_mangle)]
+pub extern "C" fn aug_try_look_done(alloc: Global, user: &mut UserHandle) -> i64
+    ensures ends { On EndsLook (user_of user.old) (user_of user.new) result }
+    ensures foreign { IsNone user.old.held.value → user.new ≡ user.old }
+{
+    let Some((slot, old)) = user.lend(alloc) else {
+        return CLOSED;
+    };
+    let (new, code) = end_look(old);
+    user.give(slot, new);
+    code
 }

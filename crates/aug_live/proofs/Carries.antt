@@ -39,12 +39,14 @@ leads_on bits [] now next l is ends = (is, ends, tt)
 leads_on bits (x ∷ xs) now next l is ends = (l.0, first_on xs now next ∙ l.1, leads_on bits xs now next l.2 is ends)
 
 -- an update that was refused changes nothing of what was accepted
-refused_same : (request : Request) (key : ℕ) (a b : Knowledge) → ComesTo request key outcome.Refused a b → IsPrefix a.history b.history × (b.accepted ≡ a.accepted)
+pub refused_same : (request : Request) (key : ℕ) (a b : Knowledge) → ComesTo request key outcome.Refused a b → IsPrefix a.history b.history × (b.accepted ≡ a.accepted)
 refused_same asked.Insert key a b c = (c.goes_on, c.same_changes)
 refused_same asked.Remove key a b c = (c.goes_on, c.same_changes)
 refused_same (asked.Put weight) key a b c = (c.goes_on, c.same_changes)
 refused_same (asked.Add amount) key a b c = (c.goes_on, c.same_changes)
 refused_same (asked.Sub amount) key a b c = (c.goes_on, c.same_changes)
+refused_same (asked.Take weight) key a b (inl c) = (c.goes_on, c.same_changes)
+refused_same (asked.Take weight) key a b (inr c) = (c.goes_on, c.same_changes)
 
 -- a later pass of a round is in the same one, after the same ones
 same_rounds : (a b : PassFacts) → (b ≡ a) ⊎ IsSuccessor a b → rounds_at b ≡ rounds_at a
@@ -114,9 +116,9 @@ follows_by lanes made made' a b same f = record { not_later = f.not_later; same 
 pub makes_on : (updates : ℕ) (does : PassFacts → PassFacts → Type 0) (a b c : HandleFacts) → Follows a b → Makes updates does b c → Makes updates does a c
 makes_on updates does a b c x m = record { start = m.start; follows = follows_on a b m.start x m.follows; same_era = m.same_era; done = m.done; steps = m.steps; goes_on = m.goes_on; lanes = m.lanes; made = m.made }
 
--- after an update that was refused it is where it may make another one
-pub refused_follows : (request : Request) (key : ℕ) (a b : HandleFacts) → Makes 1 (λ x y. ComesTo request key outcome.Refused x.knows y.knows) a b → Follows a b
-refused_follows request key a b m = let s : HandleFacts = m.start in let none = refused_same request key s.half.knows b.half.knows m.done in let on = m.goes_on.same in
+-- after updates that changed nothing it is where it may make another one
+pub none_follows : (updates : ℕ) (does : PassFacts → PassFacts → Type 0) (a b : HandleFacts) (m : Makes updates does a b) → IsPrefix m.start.half.knows.history b.half.knows.history × (b.half.knows.accepted ≡ m.start.half.knows.accepted) → Follows a b
+none_follows updates does a b m none = let s : HandleFacts = m.start in let on = m.goes_on.same in
     let succ : IsSuccessor s.half b.half = record { round = ap (λ (z : PassFacts). z.round) on; past = ap (λ (z : PassFacts). z.past) on; goes_on = none.0 } in
     follows_on a s b m.follows record {
       not_later = let e = m.same_era in omega arith;
@@ -128,6 +130,10 @@ refused_follows request key a b m = let s : HandleFacts = m.start in let none = 
       lanes = m.lanes;
       made = m.made ∙ same_made s.made b.era s.half b.half none.1;
     }
+
+-- as after one that was refused
+pub refused_follows : (request : Request) (key : ℕ) (a b : HandleFacts) → Makes 1 (λ x y. ComesTo request key outcome.Refused x.knows y.knows) a b → Follows a b
+refused_follows request key a b m = none_follows 1 _ a b m (refused_same request key m.start.half.knows b.half.knows m.done)
 
 -- a call of a handle leaves it at its trie
 pub makes_table : (updates : ℕ) (does : PassFacts → PassFacts → Type 0) (a b : HandleFacts) → Makes updates does a b → b.half.round.table ≡ a.half.round.table
@@ -185,8 +191,8 @@ module _ (lanes : List TableId) (now : HandleFacts) (inside : Option EndFacts) (
     both P p = let put : record { lock = out.lock; known = worked end.known lane new } ≡ result = λ i. sym (is ∙ (λ j. record { lock = out.lock; known = worked (known j) (taken j) new })) i in
         subst (λ (z : HandleFacts × EndFacts). P z.0 (handle_by lanes (Some z.1))) (λ i. (own i, put i)) p
 
-    pub made_end : {T E : Type 0} (r : Result T E) (updates : ℕ) (does : T → PassFacts → PassFacts → Type 0) → IfOk r (λ done. WorksHere updates (does done) lane.at new.at) → IfOk r (λ done. Makes updates (does done) now (handle_by lanes (Some result)))
-    made_end (Ok done) updates does w = both (Makes updates (does done)) (works_make lanes end.lock out.lock end.known lane new follows updates (does done) w)
+    pub made_end : {T E : Type 0} (r : Result T E) (updates : T → ℕ) (does : T → PassFacts → PassFacts → Type 0) → IfOk r (λ done. WorksHere (updates done) (does done) lane.at new.at) → IfOk r (λ done. Makes (updates done) (does done) now (handle_by lanes (Some result)))
+    made_end (Ok done) updates does w = both (Makes (updates done) (does done)) (works_make lanes end.lock out.lock end.known lane new follows (updates done) (does done) w)
     made_end (Err e) updates does w = w
 
     pub follow_end : new.at.half.knows.accepted ≡ lane.at.half.knows.accepted → Follows lane.at new.at → Follows now (handle_by lanes (Some result))
@@ -293,3 +299,10 @@ accepts_on (asked.Sub amount) key outcome.Refused a b c = ([], c.same_changes �
 accepts_on (asked.Sub amount) key outcome.Unchanged a b c = ([], c.same_changes ∙ sym (append-nil a.accepted))
 accepts_on (asked.Sub amount) key outcome.TooGreat a b c = absurd c
 accepts_on (asked.Sub amount) key outcome.TooLittle a b c = ([], c.same_changes ∙ sym (append-nil a.accepted))
+accepts_on (asked.Take weight) key outcome.Accepted a b c = (_, c.removed.adds)
+accepts_on (asked.Take weight) key outcome.Refused a b (inl c) = ([], c.same_changes ∙ sym (append-nil a.accepted))
+accepts_on (asked.Take weight) key outcome.Refused a b (inr c) = ([], c.same_changes ∙ sym (append-nil a.accepted))
+accepts_on (asked.Take weight) key outcome.Replaced a b c = absurd c
+accepts_on (asked.Take weight) key outcome.Unchanged a b c = absurd c
+accepts_on (asked.Take weight) key outcome.TooGreat a b c = absurd c
+accepts_on (asked.Take weight) key outcome.TooLittle a b c = absurd c

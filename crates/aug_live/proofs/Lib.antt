@@ -1,6 +1,7 @@
 pub mod Adding
 pub mod Lanes
 pub mod Carries
+pub mod Popped
 pub mod Tied
 pub mod Dealing
 pub mod Moving

@@ -65,7 +65,7 @@ impl<A: Monoid, B: Monoid> Working<A, B> {
     pub(crate) fn stop<W: Patience>(
         self,
         how: &W,
-    ) -> Result<(Members, LiveCounts), (Working<A, B>, W::Missed)>
+    ) -> Result<(Members, LiveCounts), (Working<A, B>, W::GaveUp)>
         ensures closes { IfOk result (λ t. Closes self t.0 t.1) }
         ensures sizes { IfOk result (λ t. length t.0.pairs + t.1.removals ≡ t.1.opened + t.1.inserts) }
         ensures more { IfErr result (λ e. KnowsMore self e.0) }
@@ -100,7 +100,7 @@ impl<A: Monoid, B: Monoid> Working<A, B> {
     pub(crate) fn roll<W: Patience>(
         self,
         how: &W,
-    ) -> (Working<A, B>, Result<(), TryError<W::Missed>>)
+    ) -> (Working<A, B>, Result<(), TryError<W::GaveUp>>)
         ensures more { KnowsMore self result.0 }
         ensures rolls { IfOk result.1 (λ _. length self.rounds.past < length result.0.rounds.past) }
         ensures settled { IfOk result.1 (λ _. result.0.held ≡ 0) }
@@ -157,7 +157,7 @@ impl<A: Monoid, B: Monoid> Working<A, B> {
     pub(crate) fn settle<W: Patience>(
         self,
         how: &W,
-    ) -> (Working<A, B>, Result<(), TryError<W::Missed>>)
+    ) -> (Working<A, B>, Result<(), TryError<W::GaveUp>>)
         ensures more { KnowsMore self result.0 }
         ensures settled { IfOk result.1 (λ _. result.0.held ≡ 0) }
         ensures refused { IfErr result.1 (IfRefused (RefusesRoll result.0)) }
@@ -176,7 +176,7 @@ impl<A: Monoid, B: Monoid> Working<A, B> {
         how: &W,
         era: u64,
         lane: usize,
-    ) -> (Working<A, B>, Result<(), TryError<W::Missed>>)
+    ) -> (Working<A, B>, Result<(), TryError<W::GaveUp>>)
         ensures more { KnowsMore self result.0 }
         ensures refused { IfErr result.1 (IfRefused (RefusesRoll result.0)) }
     {
@@ -192,7 +192,7 @@ impl<A: Monoid, B: Monoid> Working<A, B> {
     }
 
     /// Whether the round of this era is over, or goes on with a spare lane in the place of the one with this number.
-    fn goes_on<W: Patience>(&mut self, how: &W, era: u64, lane: usize) -> Result<bool, W::Missed>
+    fn goes_on<W: Patience>(&mut self, how: &W, era: u64, lane: usize) -> Result<bool, W::GaveUp>
         requires settled { self.old.held ≡ 0 }
         ensures { KnowsMore self.old self.new }
     {
@@ -233,7 +233,7 @@ impl<A: Monoid, B: Monoid> Working<A, B> {
         lane: usize,
         number: u64,
         end: End<A, B>,
-    ) -> Result<(), (End<A, B>, TryError<W::Missed>)>
+    ) -> Result<(), (End<A, B>, TryError<W::GaveUp>)>
         requires settled { self.old.held ≡ 0 }
         requires handle { end.known.whose ≡ Handle }
         requires some { 0 < end.known.at.era }
@@ -266,7 +266,7 @@ impl<A: Monoid, B: Monoid> Working<A, B> {
         &mut self,
         how: &W,
         lane: usize,
-    ) -> Result<(End<A, B>, u32, u64), TryError<W::Missed>>
+    ) -> Result<(End<A, B>, u32, u64), TryError<W::GaveUp>>
         requires settled { self.old.held ≡ 0 }
         ensures more { KnowsMore self.old self.new }
         ensures handle { IfOk result (λ h. GivesLane lane self.new h.0 h.1 h.2) }

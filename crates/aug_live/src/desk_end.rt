@@ -32,13 +32,13 @@ pub(crate) struct Desk<A: Monoid, B: Monoid> {
 }
 
 /// What an end of the desk knows of its trie. No value of it is made.
-pub(crate) struct Told<A: Monoid, B: Monoid> {
+pub(crate) struct DeskView<A: Monoid, B: Monoid> {
     half: PassHalf<A, B>,
     lanes: Vec<End<A, B>>,
     held: u64,
 }
 
-impl<A: Monoid, B: Monoid> Model for Told<A, B> {
+impl<A: Monoid, B: Monoid> Model for DeskView<A, B> {
     ghost use Rattle.std.specs.Prelude.{map};
     ghost use Rattle.aug_trie.specs.Pass.{chain_of};
     ghost use Rattle.aug_live.specs.LiveTries.{TrieFacts};
@@ -50,9 +50,9 @@ impl<A: Monoid, B: Monoid> Model for Told<A, B> {
 }
 
 /// The rule of the desk's lock: each end knows a part of the rounds of the trie that lies there.
-pub(crate) struct Telling;
+pub(crate) struct DeskRule;
 
-impl<A: Monoid, B: Monoid> LockRule<Desk<A, B>, Told<A, B>> for Telling {
+impl<A: Monoid, B: Monoid> LockRule<Desk<A, B>, DeskView<A, B>> for DeskRule {
     ghost use Rattle.aug_live.specs.inside.DeskKnowledge.{OnDesk, no_trie};
 
     ghost holds = { OnDesk };
@@ -63,7 +63,7 @@ impl<A: Monoid, B: Monoid> LockRule<Desk<A, B>, Told<A, B>> for Telling {
 /// What an end learns that takes what lies there.
 pub(crate) struct Read;
 
-impl<A: Monoid, B: Monoid> Lesson<Desk<A, B>, Told<A, B>> for Read {
+impl<A: Monoid, B: Monoid> Lesson<Desk<A, B>, DeskView<A, B>> for Read {
     ghost use Rattle.aug_live.specs.inside.DeskKnowledge.{KnowsDesk};
 
     ghost fact = { KnowsDesk };
@@ -72,7 +72,7 @@ impl<A: Monoid, B: Monoid> Lesson<Desk<A, B>, Told<A, B>> for Read {
 /// What an end knows that puts something there.
 pub(crate) struct Lay;
 
-impl<A: Monoid, B: Monoid> Outcome<Desk<A, B>, Told<A, B>> for Lay {
+impl<A: Monoid, B: Monoid> Outcome<Desk<A, B>, DeskView<A, B>> for Lay {
     ghost use Rattle.aug_live.specs.inside.DeskKnowledge.{is_told};
 
     ghost then = { is_told };
@@ -81,20 +81,20 @@ impl<A: Monoid, B: Monoid> Outcome<Desk<A, B>, Told<A, B>> for Lay {
 /// One more end, which knows the same.
 pub(crate) struct Same;
 
-impl<A: Monoid, B: Monoid> Split<Told<A, B>> for Same {
+impl<A: Monoid, B: Monoid> Split<DeskView<A, B>> for Same {
     ghost left = { λ v. v };
 
     ghost right = { λ v. v };
 }
 
 /// The lock of the desk.
-pub(crate) type DeskLock<A, B> = RuledLock<Desk<A, B>, Told<A, B>, Telling>;
+pub(crate) type DeskLock<A, B> = RuledLock<Desk<A, B>, DeskView<A, B>, DeskRule>;
 
 /// An end of the desk's lock: the owner's, or a handle's.
 #[derive(Drop)]
 pub(crate) struct DeskEnd<A: Monoid, B: Monoid> {
     lock: Arc<DeskLock<A, B>, Global>,
-    pass: Pass<Desk<A, B>, Told<A, B>>,
+    pass: Pass<Desk<A, B>, DeskView<A, B>>,
 }
 
 impl<A: Monoid, B: Monoid> Model for DeskEnd<A, B> {
@@ -129,7 +129,7 @@ impl<A: Monoid, B: Monoid> Model for DeskShare<A, B> {
 #[derive(Drop)]
 pub(crate) struct NewDesk<A: Monoid, B: Monoid> {
     lock: Arc<DeskLock<A, B>, Global>,
-    pass: Pass<Desk<A, B>, Told<A, B>>,
+    pass: Pass<Desk<A, B>, DeskView<A, B>>,
     theirs: Vec<DeskShare<A, B>>,
     pub(crate) ends: Vec<DeskEnd<A, B>>,
     ghost of: { pass.table_id ≡ (arc_value lock).table.shared.table_id },
@@ -211,7 +211,7 @@ impl<A: Monoid, B: Monoid> DeskEnd<A, B> {
     }
 
     /// Rolls the round over if that was begun.
-    pub(crate) fn settle<W: Patience>(&mut self, how: &W) -> Result<(), TryError<W::Missed>>
+    pub(crate) fn settle<W: Patience>(&mut self, how: &W) -> Result<(), TryError<W::GaveUp>>
         ensures more { KnowsMore self.old self.new }
         ensures refused { IfErr result (IfRefused (λ cause. (cause ≡ LiveError.Closed) ⊎ RefusesRoll self.new cause)) }
     {
@@ -233,7 +233,7 @@ impl<A: Monoid, B: Monoid> DeskEnd<A, B> {
         how: &W,
         era: u64,
         lane: usize,
-    ) -> Result<(), TryError<W::Missed>>
+    ) -> Result<(), TryError<W::GaveUp>>
         ensures more { KnowsMore self.old self.new }
         ensures refused { IfErr result (IfRefused (λ cause. (cause ≡ LiveError.Closed) ⊎ RefusesRoll self.new cause)) }
     {
@@ -250,7 +250,7 @@ impl<A: Monoid, B: Monoid> DeskEnd<A, B> {
     }
 
     /// Rolls the round over.
-    pub(crate) fn roll<W: Patience>(&mut self, how: &W) -> Result<(), TryError<W::Missed>>
+    pub(crate) fn roll<W: Patience>(&mut self, how: &W) -> Result<(), TryError<W::GaveUp>>
         ensures more { KnowsMore self.old self.new }
         ensures rolls { IfOk result (λ _. length self.old.rounds.past < length self.new.rounds.past) }
         ensures refused { IfErr result (IfRefused (λ cause. (cause ≡ LiveError.Closed) ⊎ RefusesRoll self.new cause)) }
@@ -275,7 +275,7 @@ impl<A: Monoid, B: Monoid> DeskEnd<A, B> {
         lane: usize,
         number: u64,
         end: End<A, B>,
-    ) -> Result<(), (End<A, B>, TryError<W::Missed>)>
+    ) -> Result<(), (End<A, B>, TryError<W::GaveUp>)>
         requires trie { note.round.table ≡ self.old.table }
         requires handle { end.known.whose ≡ Handle }
         requires some { 0 < end.known.at.era }
@@ -315,7 +315,7 @@ impl<A: Monoid, B: Monoid> DeskEnd<A, B> {
         &mut self,
         how: &W,
         lane: usize,
-    ) -> Result<(End<A, B>, u32, u64), TryError<W::Missed>>
+    ) -> Result<(End<A, B>, u32, u64), TryError<W::GaveUp>>
         ensures more { KnowsMore self.old self.new }
         ensures handle { IfOk result (λ h. GivesLane lane self.new h.0 h.1 h.2) }
         ensures refused { IfErr result (IfRefused (λ cause. (cause ≡ LiveError.Closed) ⊎ (RefusesRoll self.new cause ⊎ RefusesLane lane self.new cause))) }
@@ -348,7 +348,7 @@ impl<A: Monoid, B: Monoid> DeskEnd<A, B> {
     pub(crate) fn stop<W: Patience>(
         self,
         how: &W,
-    ) -> Result<(Members, LiveCounts), (DeskEnd<A, B>, TryError<W::Missed>)>
+    ) -> Result<(Members, LiveCounts), (DeskEnd<A, B>, TryError<W::GaveUp>)>
         ensures closes { IfOk result (λ t. Closes self t.0 t.1) }
         ensures sizes { IfOk result (λ t. length t.0.pairs + t.1.removals ≡ t.1.opened + t.1.inserts) }
         ensures more { IfErr result (λ e. KnowsMore self e.0) }
@@ -380,8 +380,8 @@ impl<A: Monoid, B: Monoid> DeskEnd<A, B> {
 fn take_round<W: Patience, A: Monoid, B: Monoid>(
     how: &W,
     lock: &DeskLock<A, B>,
-    pass: &mut Pass<Desk<A, B>, Told<A, B>>,
-) -> Result<(Working<A, B>, bool), TryError<W::Missed>>
+    pass: &mut Pass<Desk<A, B>, DeskView<A, B>>,
+) -> Result<(Working<A, B>, bool), TryError<W::GaveUp>>
     requires lock { pass.old.table_id ≡ lock.now.table.shared.table_id }
     requires free { HoldsNothing pass.old }
     ensures same { IsSamePass pass.old pass.new }

@@ -6,7 +6,7 @@ ghost use Rattle.aug_live.specs.inside.LaneKnowledge.{IsWhole, Learnt, Rolls, Wo
 ghost use Rattle.aug_live.specs.declared.known.Whose.TheVariants.{Alone, Free, Roller, Handle};
 
 use crate::known::Known;
-use crate::lane::{Lane, Missed};
+use crate::lane::{Lane, Obstacle};
 use crate::tie::{Deal, Keep, Learn, Leave, Meet, Parts, Renumber, Settle, Tie, Work};
 use aug_monoid::Monoid;
 use ruled_lock::{Pass, Patience, RuledLock, Tries};
@@ -116,7 +116,7 @@ impl<A: Monoid, B: Monoid> End<A, B> {
     pub(crate) fn take_to_roll<W: Patience>(
         self,
         how: &W,
-    ) -> Result<(Out<A, B>, Lane<A, B>), (End<A, B>, W::Missed)>
+    ) -> Result<(Out<A, B>, Lane<A, B>), (End<A, B>, W::GaveUp)>
         requires roller { rolls self.known.whose ≡ true }
         requires some { 0 < self.known.at.era }
         ensures lock { IfOk result (λ t. t.0.lock ≡ self.lock) }
@@ -133,7 +133,7 @@ impl<A: Monoid, B: Monoid> End<A, B> {
     pub(crate) fn take_to_work(
         self,
         number: u64,
-    ) -> Result<(Out<A, B>, Lane<A, B>), (End<A, B>, Missed)>
+    ) -> Result<(Out<A, B>, Lane<A, B>), (End<A, B>, Obstacle)>
         requires handle { self.known.whose ≡ Handle }
         requires some { 0 < self.known.at.era }
         requires number { self.known.number ≡ number }
@@ -149,10 +149,10 @@ impl<A: Monoid, B: Monoid> End<A, B> {
                 if lane.number == number {
                     Ok((out, lane))
                 } else {
-                    Err((out.keep(lane), Missed::Replaced))
+                    Err((out.keep(lane), Obstacle::Replaced))
                 }
             }
-            Err((end, shown)) => Err((end, Missed::Held(shown))),
+            Err((end, shown)) => Err((end, Obstacle::Held(shown))),
         }
     }
 
@@ -161,7 +161,7 @@ impl<A: Monoid, B: Monoid> End<A, B> {
     pub(crate) fn take<W: Patience>(
         self,
         how: &W,
-    ) -> Result<(Out<A, B>, Lane<A, B>), (End<A, B>, W::Missed)>
+    ) -> Result<(Out<A, B>, Lane<A, B>), (End<A, B>, W::GaveUp)>
         ensures lock { IfOk result (λ t. t.0.lock ≡ self.lock) }
         ensures known { IfOk result (λ t. t.0.known ≡ self.known) }
         ensures taken { IfOk result (λ t. t.0.taken ≡ t.1) }

@@ -8,16 +8,19 @@ ghost use Rattle.aug_trie.specs.Snapshot.{snapshot_cut};
 ghost use Rattle.aug_trie.specs.Chains.{IsPart};
 ghost use Rattle.aug_trie.specs.Note.{chain_of_note};
 ghost use Rattle.aug_trie.specs.Pass.{chain_of};
+ghost use Rattle.aug_trie.specs.Pops.{popped, pop_updates, Pops};
+ghost use Rattle.aug_model.specs.Folds.{summary_of};
+ghost use Rattle.aug_monoid.specs.Extent.{extent_parts};
 ghost use Rattle.aug_live.specs.LiveErrors.{IfRefused};
 ghost use Rattle.aug_live.specs.LiveHandles.{Follows, Makes, handle_of, note_at};
 
 use crate::desk_end::DeskEnd;
 use crate::end::End;
 use crate::error::{Busy, LiveError, TryError};
-use crate::lane::Missed;
+use crate::lane::Obstacle;
 use crate::look::Look;
-use aug_monoid::Monoid;
-use aug_trie::{Note, Outcome, Request};
+use aug_monoid::{Extent, Monoid};
+use aug_trie::{Note, Outcome, Pop, Request, Side};
 use ruled_lock::{Patience, Tries, Waits, WasOut};
 use std::marker::Model;
 use std::sync::Wait;
@@ -153,11 +156,11 @@ impl<A: Monoid, B: Monoid> Handle<A, B> {
         ensures refused { IfErr result (λ cause. cause ≢ LiveError.NoLane) }
     {
         for _ in rt.forever() {
-            let missed = match self.attempt(k, request) {
+            let obstacle = match self.attempt(k, request) {
                 Ok(done) => return Ok(done),
-                Err(missed) => missed,
+                Err(obstacle) => obstacle,
             };
-            match self.past(&Waits(rt), missed) {
+            match self.past(&Waits(rt), obstacle) {
                 Ok(()) => {}
                 Err(TryError::Refused(cause)) => return Err(cause),
                 Err(TryError::Again(never)) => match never {},
@@ -175,16 +178,16 @@ impl<A: Monoid, B: Monoid> Handle<A, B> {
         ensures not_made { IfErr result (λ _. Follows self.old self.new) }
         ensures refused { IfErr result (IfRefused (λ cause. cause ≢ LiveError.NoLane)) }
     {
-        let missed = match self.attempt(k, request) {
+        let obstacle = match self.attempt(k, request) {
             Ok(done) => return Ok(done),
-            Err(missed) => missed,
+            Err(obstacle) => obstacle,
         };
-        if let Err(cause) = self.past(&Tries, missed) {
+        if let Err(cause) = self.past(&Tries, obstacle) {
             return Err(busy(cause));
         }
         match self.attempt(k, request) {
             Ok(done) => Ok(done),
-            Err(missed) => Err(missed_again(missed)),
+            Err(obstacle) => Err(still_in_the_way(obstacle)),
         }
     }
 
@@ -197,14 +200,14 @@ impl<A: Monoid, B: Monoid> Handle<A, B> {
     {
         let mut handle = self;
         for _ in rt.forever() {
-            let missed = match handle.attempt_look() {
+            let obstacle = match handle.attempt_look() {
                 Ok(look) => return Ok(look),
-                Err((same, missed)) => {
+                Err((same, obstacle)) => {
                     handle = same;
-                    missed
+                    obstacle
                 }
             };
-            match handle.past(&Waits(rt), missed) {
+            match handle.past(&Waits(rt), obstacle) {
                 Ok(()) => {}
                 Err(TryError::Refused(cause)) => return Err((handle, cause)),
                 Err(TryError::Again(never)) => match never {},
@@ -219,16 +222,16 @@ impl<A: Monoid, B: Monoid> Handle<A, B> {
         ensures not_made { IfErr result (λ e. Follows self e.0) }
         ensures refused { IfErr result (λ e. IfRefused (λ cause. cause ≢ LiveError.NoLane) e.1) }
     {
-        let (mut handle, missed) = match self.attempt_look() {
+        let (mut handle, obstacle) = match self.attempt_look() {
             Ok(look) => return Ok(look),
-            Err(missed) => missed,
+            Err(obstacle) => obstacle,
         };
-        if let Err(cause) = handle.past(&Tries, missed) {
+        if let Err(cause) = handle.past(&Tries, obstacle) {
             return Err((handle, busy(cause)));
         }
         match handle.attempt_look() {
             Ok(look) => Ok(look),
-            Err((handle, missed)) => Err((handle, missed_again(missed))),
+            Err((handle, obstacle)) => Err((handle, still_in_the_way(obstacle))),
         }
     }
 
@@ -240,11 +243,11 @@ impl<A: Monoid, B: Monoid> Handle<A, B> {
         ensures refused { IfErr result (λ cause. cause ≢ LiveError.NoLane) }
     {
         for _ in rt.forever() {
-            let missed = match self.attempt_note() {
+            let obstacle = match self.attempt_note() {
                 Ok(note) => return Ok(note),
-                Err(missed) => missed,
+                Err(obstacle) => obstacle,
             };
-            match self.past(&Waits(rt), missed) {
+            match self.past(&Waits(rt), obstacle) {
                 Ok(()) => {}
                 Err(TryError::Refused(cause)) => return Err(cause),
                 Err(TryError::Again(never)) => match never {},
@@ -268,14 +271,14 @@ impl<A: Monoid, B: Monoid> Handle<A, B> {
     {
         let mut note = note;
         for _ in rt.forever() {
-            let missed = match self.attempt_learn(note) {
+            let obstacle = match self.attempt_learn(note) {
                 Ok(()) => return Ok(()),
-                Err((same, missed)) => {
+                Err((same, obstacle)) => {
                     note = same;
-                    missed
+                    obstacle
                 }
             };
-            match self.past(&Waits(rt), missed) {
+            match self.past(&Waits(rt), obstacle) {
                 Ok(()) => {}
                 Err(TryError::Refused(cause)) => return Err((note, cause)),
                 Err(TryError::Again(never)) => match never {},
@@ -293,7 +296,7 @@ impl<A: Monoid, B: Monoid> Handle<A, B> {
 
     // Makes an update, unless the lane is held, the round has to roll over first, or a newer handle has the lane.
     #[inline(always)]
-    fn attempt(&mut self, k: u32, request: Request) -> Result<Outcome, Missed>
+    fn attempt(&mut self, k: u32, request: Request) -> Result<Outcome, Obstacle>
         requires key { k < 2 ^ self.old.half.round.bits }
         ensures made { IfOk result (λ done. Makes 1 (λ a b. ComesTo request k done a.knows b.knows) self.old self.new) }
         ensures not_made { IfErr result (λ _. Follows self.old self.new) }
@@ -303,9 +306,9 @@ impl<A: Monoid, B: Monoid> Handle<A, B> {
         };
         let (out, lane) = match end.take_to_work(self.number) {
             Ok(taken) => taken,
-            Err((same, missed)) => {
+            Err((same, obstacle)) => {
                 self.end = Some(same);
-                return Err(missed);
+                return Err(obstacle);
             }
         };
         let (lane, done) = lane.update(k, request);
@@ -314,7 +317,7 @@ impl<A: Monoid, B: Monoid> Handle<A, B> {
     }
 
     // Takes a snapshot, unless the lane is held, the next round has to begin first, or a newer handle has the lane.
-    fn attempt_look(self) -> Result<Look<A, B>, (Handle<A, B>, Missed)>
+    fn attempt_look(self) -> Result<Look<A, B>, (Handle<A, B>, Obstacle)>
         ensures looks { IfOk result (λ look. Makes 0 (λ a b. TakesSnapshot a.knows b.knows (snapshot_cut b look.snapshot.number)) self (handle_of look)) }
         ensures at_rest { IfErr result (λ e. Follows self e.0) }
     {
@@ -324,15 +327,15 @@ impl<A: Monoid, B: Monoid> Handle<A, B> {
         };
         let (out, lane) = match end.take_to_work(handle.number) {
             Ok(taken) => taken,
-            Err((same, missed)) => {
+            Err((same, obstacle)) => {
                 handle.end = Some(same);
-                return Err((handle, missed));
+                return Err((handle, obstacle));
             }
         };
         if lane.work.is_none() {
-            let missed = Missed::Round(lane.era);
+            let obstacle = Obstacle::Round(lane.era);
             handle.end = Some(out.put(lane));
-            return Err((handle, missed));
+            return Err((handle, obstacle));
         }
         let Handle {
             bits,
@@ -352,7 +355,7 @@ impl<A: Monoid, B: Monoid> Handle<A, B> {
     }
 
     // Makes a note, unless the lane is held, the next round has to begin first, or a newer handle has the lane.
-    fn attempt_note(&mut self) -> Result<Note<A, B>, Missed>
+    fn attempt_note(&mut self) -> Result<Note<A, B>, Obstacle>
         ensures note { IfOk result (λ note. note ≡ note_at self.new.half) }
         ensures follows { Follows self.old self.new }
     {
@@ -361,9 +364,9 @@ impl<A: Monoid, B: Monoid> Handle<A, B> {
         };
         let (out, lane) = match end.take_to_work(self.number) {
             Ok(taken) => taken,
-            Err((same, missed)) => {
+            Err((same, obstacle)) => {
                 self.end = Some(same);
-                return Err(missed);
+                return Err(obstacle);
             }
         };
         let (lane, noted) = lane.note();
@@ -372,7 +375,7 @@ impl<A: Monoid, B: Monoid> Handle<A, B> {
     }
 
     // Learns a note, unless the lane is held, the next round has to begin first, or a newer handle has the lane.
-    fn attempt_learn(&mut self, note: Note<A, B>) -> Result<(), (Note<A, B>, Missed)>
+    fn attempt_learn(&mut self, note: Note<A, B>) -> Result<(), (Note<A, B>, Obstacle)>
         requires trie { note.round.table ≡ self.old.half.round.table }
         ensures learns { IfOk result (λ _. IsPart (chain_of_note note) (chain_of self.new.half)) }
         ensures follows { Follows self.old self.new }
@@ -383,9 +386,9 @@ impl<A: Monoid, B: Monoid> Handle<A, B> {
         };
         let (out, lane) = match end.take_to_work(self.number) {
             Ok(taken) => taken,
-            Err((same, missed)) => {
+            Err((same, obstacle)) => {
                 self.end = Some(same);
-                return Err((note, missed));
+                return Err((note, obstacle));
             }
         };
         let (lane, learnt) = lane.learn(note);
@@ -393,20 +396,136 @@ impl<A: Monoid, B: Monoid> Handle<A, B> {
         learnt
     }
 
-    // Goes past what was missed: to the next round, or to a spare lane of this one.
-    fn past<W: Patience>(&mut self, how: &W, missed: Missed) -> Result<(), TryError<W::Missed>>
+    // Goes past what is in the way: to the next round, or to a spare lane of this one.
+    fn past<W: Patience>(&mut self, how: &W, obstacle: Obstacle) -> Result<(), TryError<W::GaveUp>>
         ensures same { self.new ≡ self.old }
         ensures refused { IfErr result (IfRefused (λ cause. cause ≢ LiveError.NoLane)) }
     {
-        match missed {
-            Missed::Held(_) => self.desk.settle(how),
-            Missed::Round(era) => self.desk.past(how, era, self.lane),
-            Missed::Replaced => Err(TryError::Refused(LiveError::Replaced)),
+        match obstacle {
+            Obstacle::Held(_) => self.desk.settle(how),
+            Obstacle::Round(era) => self.desk.past(how, era, self.lane),
+            Obstacle::Replaced => Err(TryError::Refused(LiveError::Replaced)),
         }
     }
 }
 
-// What a call that waits for nobody answers, which could not go past what it missed.
+impl<A: Monoid> Handle<A, Extent> {
+    /// Takes out the member with the least key, and tells that key and its weight; `None` if a snapshot that it took shows no member. Where another call
+    /// takes that member or changes it first, it tries again, with a new snapshot. That is lock-free, and no more: it goes around only after another call
+    /// changed a key, and each time makes one more update.
+    pub fn pop_first<R: Wait>(&mut self, rt: &R) -> Result<Option<(u32, u32)>, LiveError>
+        ensures popped { IfOk result (λ taken. Makes (pop_updates (popped taken)) (Pops (summary_of A.parts extent_parts) Side.First (popped taken)) self.old self.new) }
+        ensures not_made { IfErr result (λ _. Follows self.old self.new) }
+        ensures refused { IfErr result (λ cause. cause ≢ LiveError.NoLane) }
+    {
+        self.pop(rt, Side::First)
+    }
+
+    /// Takes out the member with the greatest key, as `pop_first`.
+    pub fn pop_last<R: Wait>(&mut self, rt: &R) -> Result<Option<(u32, u32)>, LiveError>
+        ensures popped { IfOk result (λ taken. Makes (pop_updates (popped taken)) (Pops (summary_of A.parts extent_parts) Side.Last (popped taken)) self.old self.new) }
+        ensures not_made { IfErr result (λ _. Follows self.old self.new) }
+        ensures refused { IfErr result (λ cause. cause ≢ LiveError.NoLane) }
+    {
+        self.pop(rt, Side::Last)
+    }
+
+    /// One try of `pop_first`, which waits for nobody, as `try_update`. It is `Refused` if another call took that member or changed it first.
+    pub fn try_pop_first(&mut self) -> Result<Pop, TryError<Busy>>
+        ensures popped { IfOk result (λ done. Makes (pop_updates done) (Pops (summary_of A.parts extent_parts) Side.First done) self.old self.new) }
+        ensures not_made { IfErr result (λ _. Follows self.old self.new) }
+        ensures refused { IfErr result (IfRefused (λ cause. cause ≢ LiveError.NoLane)) }
+    {
+        self.try_pop(Side::First)
+    }
+
+    /// The same of `pop_last`.
+    pub fn try_pop_last(&mut self) -> Result<Pop, TryError<Busy>>
+        ensures popped { IfOk result (λ done. Makes (pop_updates done) (Pops (summary_of A.parts extent_parts) Side.Last done) self.old self.new) }
+        ensures not_made { IfErr result (λ _. Follows self.old self.new) }
+        ensures refused { IfErr result (IfRefused (λ cause. cause ≢ LiveError.NoLane)) }
+    {
+        self.try_pop(Side::Last)
+    }
+
+    // Takes out the member at one end, and tries again while another call changes that first.
+    fn pop<R: Wait>(&mut self, rt: &R, side: Side) -> Result<Option<(u32, u32)>, LiveError>
+        ensures popped { IfOk result (λ taken. Makes (pop_updates (popped taken)) (Pops (summary_of A.parts extent_parts) side (popped taken)) self.old self.new) }
+        ensures not_made { IfErr result (λ _. Follows self.old self.new) }
+        ensures refused { IfErr result (λ cause. cause ≢ LiveError.NoLane) }
+    {
+        for _ in rt.forever() {
+            let done = self.pop_once(rt, side)?;
+            match done {
+                Pop::Member(key, weight) => return Ok(Some((key, weight))),
+                Pop::Empty => return Ok(None),
+                Pop::Refused => {}
+            }
+        }
+        unreachable!()
+    }
+
+    // Tries it once.
+    fn pop_once<R: Wait>(&mut self, rt: &R, side: Side) -> Result<Pop, LiveError>
+        ensures popped { IfOk result (λ done. Makes (pop_updates done) (Pops (summary_of A.parts extent_parts) side done) self.old self.new) }
+        ensures not_made { IfErr result (λ _. Follows self.old self.new) }
+        ensures refused { IfErr result (λ cause. cause ≢ LiveError.NoLane) }
+    {
+        for _ in rt.forever() {
+            let obstacle = match self.attempt_pop(side) {
+                Ok(done) => return Ok(done),
+                Err(obstacle) => obstacle,
+            };
+            match self.past(&Waits(rt), obstacle) {
+                Ok(()) => {}
+                Err(TryError::Refused(cause)) => return Err(cause),
+                Err(TryError::Again(never)) => match never {},
+            }
+        }
+        unreachable!()
+    }
+
+    // The same, and waits for nobody.
+    fn try_pop(&mut self, side: Side) -> Result<Pop, TryError<Busy>>
+        ensures popped { IfOk result (λ done. Makes (pop_updates done) (Pops (summary_of A.parts extent_parts) side done) self.old self.new) }
+        ensures not_made { IfErr result (λ _. Follows self.old self.new) }
+        ensures refused { IfErr result (IfRefused (λ cause. cause ≢ LiveError.NoLane)) }
+    {
+        let obstacle = match self.attempt_pop(side) {
+            Ok(done) => return Ok(done),
+            Err(obstacle) => obstacle,
+        };
+        if let Err(cause) = self.past(&Tries, obstacle) {
+            return Err(busy(cause));
+        }
+        match self.attempt_pop(side) {
+            Ok(done) => Ok(done),
+            Err(obstacle) => Err(still_in_the_way(obstacle)),
+        }
+    }
+
+    // Pops, unless the lane is held, the round has to roll over first, or a newer handle has the lane.
+    fn attempt_pop(&mut self, side: Side) -> Result<Pop, Obstacle>
+        ensures popped { IfOk result (λ done. Makes (pop_updates done) (Pops (summary_of A.parts extent_parts) side done) self.old self.new) }
+        ensures not_made { IfErr result (λ _. Follows self.old self.new) }
+    {
+        let Some(end) = self.end.take() else {
+            unreachable!()
+        };
+        let (out, lane) = match end.take_to_work(self.number) {
+            Ok(taken) => taken,
+            Err((same, obstacle)) => {
+                self.end = Some(same);
+                return Err(obstacle);
+            }
+        };
+        let (lane, done) = lane.pop(side);
+        self.end = Some(out.put(lane));
+        done
+    }
+}
+
+// What a call that waits for nobody answers, if it cannot go past what is in its way.
 fn busy(cause: TryError<WasOut>) -> TryError<Busy>
     requires { IfRefused (λ cause. cause ≢ LiveError.NoLane) cause }
     ensures { IfRefused (λ cause. cause ≢ LiveError.NoLane) result }
@@ -417,13 +536,13 @@ fn busy(cause: TryError<WasOut>) -> TryError<Busy>
     }
 }
 
-// And if it missed again.
-fn missed_again(missed: Missed) -> TryError<Busy>
+// And if something was in its way again.
+fn still_in_the_way(obstacle: Obstacle) -> TryError<Busy>
     ensures { IfRefused (λ cause. cause ≢ LiveError.NoLane) result }
 {
-    match missed {
-        Missed::Held(lock) => TryError::Again(Busy::Lock(lock)),
-        Missed::Round(_) => TryError::Again(Busy::Round),
-        Missed::Replaced => TryError::Refused(LiveError::Replaced),
+    match obstacle {
+        Obstacle::Held(lock) => TryError::Again(Busy::Lock(lock)),
+        Obstacle::Round(_) => TryError::Again(Busy::Round),
+        Obstacle::Replaced => TryError::Refused(LiveError::Replaced),
     }
 }

@@ -4,12 +4,15 @@ ghost use Rattle.aug_trie.specs.Updates.{ComesTo};
 ghost use Rattle.aug_trie.specs.Chains.{IsPart};
 ghost use Rattle.aug_trie.specs.Note.{chain_of_note};
 ghost use Rattle.aug_trie.specs.Pass.{chain_of};
+ghost use Rattle.aug_trie.specs.Pops.{pop_updates, Pops};
+ghost use Rattle.aug_model.specs.Folds.{summary_of};
+ghost use Rattle.aug_monoid.specs.Extent.{extent_parts};
 ghost use Rattle.aug_live.specs.LiveHandles.{Follows, note_at};
 ghost use Rattle.aug_live.specs.inside.LaneKnowledge.{Worked, WorksHere, stands};
 
-use crate::seen::Seen;
-use aug_monoid::Monoid;
-use aug_trie::{Note, Outcome, OwnedPass, Request};
+use crate::ghost_value::GhostValue;
+use aug_monoid::{Extent, Monoid};
+use aug_trie::{Note, Outcome, OwnedPass, Pop, Request, Side};
 use ruled_lock::WasOut;
 use std::marker::Model;
 
@@ -20,13 +23,13 @@ pub(crate) struct Lane<A: Monoid, B: Monoid> {
     pub(crate) era: u64,
     pub(crate) number: u64,
     pub(crate) is_out: bool,
-    pub(crate) last: Seen<Option<OwnedPass<A, B>>>,
+    pub(crate) last: GhostValue<Option<OwnedPass<A, B>>>,
     pub(crate) work: Option<OwnedPass<A, B>>,
 }
 
 /// Why a handle makes no update and no look: the lane is taken, the round of this number has to roll over, or a newer handle has the lane.
 #[derive(Drop)]
-pub(crate) enum Missed {
+pub(crate) enum Obstacle {
     Held(WasOut),
     Round(u64),
     Replaced,
@@ -54,7 +57,7 @@ impl<A: Monoid, B: Monoid> Lane<A, B> {
             era: 0,
             number: 0,
             is_out: false,
-            last: Seen::of(&none),
+            last: GhostValue::of(&none),
             work: none,
         }
     }
@@ -69,7 +72,7 @@ impl<A: Monoid, B: Monoid> Lane<A, B> {
             era,
             number,
             is_out,
-            last: Seen::of(&work),
+            last: GhostValue::of(&work),
             work,
         }
     }
@@ -127,33 +130,33 @@ impl<A: Monoid, B: Monoid> Lane<A, B> {
 
     /// Makes an update of a key, unless the updates are spent or no pass lies in the lane.
     #[inline(always)]
-    pub(crate) fn update(self, k: u32, request: Request) -> (Lane<A, B>, Result<Outcome, Missed>)
+    pub(crate) fn update(self, k: u32, request: Request) -> (Lane<A, B>, Result<Outcome, Obstacle>)
         requires { k < 2 ^ self.at.half.round.bits }
         ensures made { IfOk result.1 (λ done. WorksHere 1 (λ a b. ComesTo request k done a.knows b.knows) self.at result.0.at) }
         ensures same { IfErr result.1 (λ _. result.0.at ≡ self.at) }
         ensures worked { Worked self result.0 }
     {
         if self.work.is_none() {
-            let missed = Missed::Round(self.era);
-            return (self, Err(missed));
+            let obstacle = Obstacle::Round(self.era);
+            return (self, Err(obstacle));
         }
         let (work, rest) = self.into_work();
         let (work, made) = work.update(k, request);
         let Ok(done) = made else {
             let era = rest.era;
-            return (rest.with(work), Err(Missed::Round(era)));
+            return (rest.with(work), Err(Obstacle::Round(era)));
         };
         (rest.with(work), Ok(done))
     }
 
     /// Makes a note of what the pass knows, unless no pass lies in the lane.
-    pub(crate) fn note(self) -> (Lane<A, B>, Result<Note<A, B>, Missed>)
+    pub(crate) fn note(self) -> (Lane<A, B>, Result<Note<A, B>, Obstacle>)
         ensures note { IfOk result.1 (λ note. note ≡ note_at self.at.half) }
         ensures same { result.0 ≡ self }
     {
         if self.work.is_none() {
-            let missed = Missed::Round(self.era);
-            return (self, Err(missed));
+            let obstacle = Obstacle::Round(self.era);
+            return (self, Err(obstacle));
         }
         let (work, rest) = self.into_work();
         let (work, note) = work.note();
@@ -161,7 +164,7 @@ impl<A: Monoid, B: Monoid> Lane<A, B> {
     }
 
     /// Learns a note of the lane's table, unless no pass lies in the lane; then the note comes back.
-    pub(crate) fn learn(self, note: Note<A, B>) -> (Lane<A, B>, Result<(), (Note<A, B>, Missed)>)
+    pub(crate) fn learn(self, note: Note<A, B>) -> (Lane<A, B>, Result<(), (Note<A, B>, Obstacle)>)
         requires table { note.round.table ≡ self.at.half.round.table }
         ensures learns { IfOk result.1 (λ _. IsPart (chain_of_note note) (chain_of result.0.at.half)) }
         ensures follows { Follows self.at result.0.at }
@@ -170,10 +173,32 @@ impl<A: Monoid, B: Monoid> Lane<A, B> {
         ensures worked { Worked self result.0 }
     {
         if self.work.is_none() {
-            let missed = Missed::Round(self.era);
-            return (self, Err((note, missed)));
+            let obstacle = Obstacle::Round(self.era);
+            return (self, Err((note, obstacle)));
         }
         let (work, rest) = self.into_work();
         (rest.with(work.learn(note)), Ok(()))
+    }
+}
+
+impl<A: Monoid> Lane<A, Extent> {
+    /// Takes out the member at one end, unless the updates are spent or no pass lies in the lane.
+    #[inline(always)]
+    pub(crate) fn pop(self, side: Side) -> (Lane<A, Extent>, Result<Pop, Obstacle>)
+        ensures made { IfOk result.1 (λ done. WorksHere (pop_updates done) (Pops (summary_of A.parts extent_parts) side done) self.at result.0.at) }
+        ensures same { IfErr result.1 (λ _. result.0.at ≡ self.at) }
+        ensures worked { Worked self result.0 }
+    {
+        if self.work.is_none() {
+            let obstacle = Obstacle::Round(self.era);
+            return (self, Err(obstacle));
+        }
+        let (work, rest) = self.into_work();
+        let (work, made) = work.pop(side);
+        let Ok(done) = made else {
+            let era = rest.era;
+            return (rest.with(work), Err(Obstacle::Round(era)));
+        };
+        (rest.with(work), Ok(done))
     }
 }

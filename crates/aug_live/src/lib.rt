@@ -6,6 +6,7 @@ mod desk;
 mod desk_end;
 mod end;
 mod error;
+mod ghost_value;
 mod handle;
 mod held;
 mod known;
@@ -14,7 +15,6 @@ mod live;
 mod look;
 mod plan;
 mod rolling;
-mod seen;
 mod tie;
 mod work;
 

@@ -235,7 +235,7 @@ impl<A: Monoid, B: Monoid> Live<A, B> {
     }
 
     // Gives a lane to a new handle.
-    fn give<W: Patience>(&mut self, how: &W, lane: u32) -> Result<Handle<A, B>, TryError<W::Missed>>
+    fn give<W: Patience>(&mut self, how: &W, lane: u32) -> Result<Handle<A, B>, TryError<W::GaveUp>>
         ensures more { KnowsMore self.old self.new }
         ensures bits { IfOk result (λ h. h.half.round.bits ≤ 16) }
         ensures of_trie { IfOk result (IsHandleOf self.new) }

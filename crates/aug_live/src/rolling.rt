@@ -104,7 +104,7 @@ impl<A: Monoid, B: Monoid> End<A, B> {
         self,
         how: &W,
         crew: &mut Crew<A, B>,
-    ) -> Result<End<A, B>, (End<A, B>, W::Missed)>
+    ) -> Result<End<A, B>, (End<A, B>, W::GaveUp)>
         requires of_round { IsOf (rounds_in crew.old) self.known.at.era self }
         requires some { 0 < self.known.at.era }
         requires lane_left { crew.old.handed < crew.old.round.workers }
@@ -133,7 +133,7 @@ impl<A: Monoid, B: Monoid> End<A, B> {
         how: &W,
         number: u64,
         other: End<A, B>,
-    ) -> Result<End<A, B>, (End<A, B>, End<A, B>, TryError<W::Missed>)>
+    ) -> Result<End<A, B>, (End<A, B>, End<A, B>, TryError<W::GaveUp>)>
         requires roller { rolls self.known.whose ≡ true }
         requires port { IsPort self.known.whose }
         requires handle { other.known.whose ≡ Handle }
@@ -170,7 +170,7 @@ impl<A: Monoid, B: Monoid> End<A, B> {
         theirs: Arc<LaneLock<A, B>, Global>,
         round: &SharedRound<A, B>,
         crew: &mut Crew<A, B>,
-    ) -> Result<(End<A, B>, End<A, B>), (End<A, B>, W::Missed)>
+    ) -> Result<(End<A, B>, End<A, B>), (End<A, B>, W::GaveUp)>
         requires of_round { IsOf (rounds_in crew.old) self.known.at.era self }
         requires some { 0 < self.known.at.era }
         requires newer { self.known.number < number }
@@ -229,7 +229,7 @@ pub(crate) fn take_all<W: Patience, A: Monoid, B: Monoid>(
     how: &W,
     ports: &mut Vec<End<A, B>>,
     held: &mut Vec<Held<A, B>>,
-) -> Result<(), W::Missed>
+) -> Result<(), W::GaveUp>
     requires rolls { All (λ e. (rolls e.known.whose ≡ true) × (0 < e.known.at.era)) ports.old.items }
     requires room { vec_len ports.old + vec_len held.old ≤ vec_capacity held.old }
     ensures same { ports.new.items ++ reverse held.new.items ≡ ports.old.items ++ reverse held.old.items }

@@ -1,10 +1,10 @@
 //! Additions and subtractions through handles: over rounds, and by four threads at the same ten keys.
 
-use super::opening::{Hand, add, opened, sub};
 use super::steps::Act::{Add, Close, Insert, Look, Over, Renew, Roll, Size, Sub, Weight};
 use super::steps::Reply::{Came, Done, Ended, Finds, Is, Number};
 use super::steps::{Row, rows};
 use crate::assertions::equal;
+use aug_live_testing::opening::{HandleOf, add, opened, sub};
 use aug_trie::BeginError;
 use aug_trie::Outcome::{Accepted, Replaced, TooGreat, TooLittle, Unchanged};
 use std::alloc::Global;
@@ -53,7 +53,7 @@ fn amounts_go_on_over_rounds(rt: HostRuntime) -> Result<(), BeginError> {
 const TIMES: u32 = 300;
 
 // Adds so much to each of ten keys, again and again, and takes so much of it back. How many of these calls were made.
-fn works<R: Wait>(rt: &R, hand: Hand, amounts: (u32, u32)) -> u32 {
+fn works<R: Wait>(rt: &R, hand: HandleOf, amounts: (u32, u32)) -> u32 {
     let (more, less) = amounts;
     let mut hand = hand;
     let mut made = 0u32;

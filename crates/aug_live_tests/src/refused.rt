@@ -1,11 +1,11 @@
 //! Memory refused: nothing is lost, and a later call succeeds.
 
-use super::opening::{Hand, Trie, insert, last, no_keys, opened, put};
 use super::steps::Act::{Close, Fill, Insert, Look, Over, Remove, Renew, Roll, Size};
 use super::steps::Reply::{Done, Ended, Is, Number};
 use super::steps::{state_of, steps};
 use crate::assertions::equal;
 use aug_live::{Live, Plan};
+use aug_live_testing::opening::{HandleOf, LiveOf, insert, no_keys, opened, put};
 use aug_monoid::{Extent, Sum};
 use aug_trie::{BeginError, Members, Outcome};
 use std::alloc::Global;
@@ -13,7 +13,10 @@ use std::process::Abort;
 use std::sync::Wait;
 
 // Opens a trie over a set with one handle, for rounds of two updates.
-fn opened_over(alloc: Global, set: Members) -> Result<(Trie, Vec<Hand>), (Members, BeginError)> {
+fn opened_over(
+    alloc: Global,
+    set: Members,
+) -> Result<(LiveOf, Vec<HandleOf>), (Members, BeginError)> {
     let plan = Plan {
         lanes: 1,
         updates: 2,
@@ -22,7 +25,7 @@ fn opened_over(alloc: Global, set: Members) -> Result<(Trie, Vec<Hand>), (Member
 }
 
 // Opens a trie with one handle, again if memory was refused.
-fn opened_again(rt: &impl Abort, alloc: Global) -> Result<(Trie, Vec<Hand>), BeginError> {
+fn opened_again(rt: &impl Abort, alloc: Global) -> Result<(LiveOf, Vec<HandleOf>), BeginError> {
     let set = match no_keys(alloc, 4) {
         Ok(set) => set,
         Err(_) => no_keys(alloc, 4)?,
@@ -67,7 +70,7 @@ fn refused_memory_loses_nothing_of_a_live_trie(rt: HostRuntime) -> Result<(), Be
 // The set of 3, which weighs 30, and 9, which weighs itself.
 fn two_keys<R: Wait + Abort>(rt: &R, alloc: Global) -> Result<Members, BeginError> {
     let (live, mut hands) = opened(alloc, 4, 1, 0, 2)?;
-    let mut hand = last(rt, &mut hands);
+    let mut hand = hands.pop().expect(rt, "a handle");
     equal(rt, put(rt, &mut hand, 3, 30), Ok(Outcome::Accepted));
     equal(rt, insert(rt, &mut hand, 9), Ok(true));
     let (set, _) = live.close(rt);

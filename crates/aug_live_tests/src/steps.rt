@@ -1,15 +1,15 @@
 //! Tries as rows of tables: what is done with a trie, its handles and a look, one step after the other, and what each step comes to. What a call
 //! of the library promises is met here once, in functions that promise nothing, so that the proof of a test is that of its data.
 
-use super::opening::{
-    Hand, Trie, View, add, insert, opened, put, remove, renewed, rolled, sub, try_closed, try_look,
-    try_renewed, try_rolled, try_update,
-};
 use super::own::Band;
 use crate::assertions::equal;
 use aug_live::{Busy, LiveCounts, LiveError, TryError};
+use aug_live_testing::opening::{
+    HandleOf, LiveOf, LookOf, add, fill, insert, opened, pop, put, remove, renewed, rolled, sub,
+    try_closed, try_fill, try_look, try_pop, try_renewed, try_rolled, try_update,
+};
 use aug_query::descent::{Has, Pairs, SelectByWeight, Size, Weight};
-use aug_trie::{BeginError, Members, Outcome, Request};
+use aug_trie::{BeginError, Members, Outcome, Pop, Request, Side};
 use ruled_lock::WasOut;
 use std::alloc::Global;
 use std::mem;
@@ -25,6 +25,8 @@ pub(super) enum Act {
     Put(u32, u32),
     Add(u32, u32),
     Sub(u32, u32),
+    /// Takes out the member at one end.
+    Pop(Side),
     /// Puts keys in, from the first number on as many as the second. How many of them went in.
     Fill(u32, u32),
     /// The handle makes a note, which is dropped.
@@ -54,6 +56,8 @@ pub(super) enum Act {
     TryInsert(u32),
     TryRemove(u32),
     TryPut(u32, u32),
+    TryTake(u32, u32),
+    TryPop(Side),
     TryFill(u32, u32),
     TryLook,
     TryRenew(u32),
@@ -72,6 +76,8 @@ pub(super) enum Reply {
     Later,
     Is(bool),
     Came(Outcome),
+    Popped(Option<(u32, u32)>),
+    Tried(Pop),
     Number(u32),
     Finds(Option<u32>),
     /// How many members there are, the first of them and the last.
@@ -85,14 +91,14 @@ pub(super) type Step = (Act, Reply);
 
 /// A trie that is not closed, two handles and a look, if they are there.
 pub(super) struct State {
-    live: Option<Trie>,
-    hand: Option<Hand>,
-    other: Option<Hand>,
-    look: Option<View>,
+    live: Option<LiveOf>,
+    hand: Option<HandleOf>,
+    other: Option<HandleOf>,
+    look: Option<LookOf>,
 }
 
 /// The state of a trie that was opened. Of its handles two stay.
-pub(super) fn state_of(live: Trie, hands: Vec<Hand>) -> State {
+pub(super) fn state_of(live: LiveOf, hands: Vec<HandleOf>) -> State {
     let mut hands = hands;
     let hand = hands.pop();
     let other = hands.pop();
@@ -128,6 +134,14 @@ fn came(res: Result<Outcome, LiveError>) -> Reply {
     }
 }
 
+/// What a pop comes to.
+fn popped(res: Result<Option<(u32, u32)>, LiveError>) -> Reply {
+    match res {
+        Ok(member) => Reply::Popped(member),
+        Err(cause) => Reply::Fails(cause),
+    }
+}
+
 /// What a call comes to that waits for nobody.
 fn tried(res: Result<(), TryError<WasOut>>) -> Reply {
     match res {
@@ -152,58 +166,50 @@ fn ended(end: (Members, LiveCounts)) -> Reply {
     Reply::Ended(set.size(), counts.rounds, counts.inserts, counts.removals)
 }
 
-/// Puts `count` keys in, from the key `from` on. How many of them went in.
-pub(super) fn fill<R: Wait>(rt: &R, hand: &mut Hand, from: u32, count: u32) -> u32 {
-    let mut made = 0u32;
-    for k in from..from.saturating_add(count) {
-        made = made.saturating_add(u32::from(insert(rt, hand, k) == Ok(true)));
-    }
-    made
-}
-
-/// The same, by calls that wait for nobody.
-pub(super) fn try_fill(hand: &mut Hand, from: u32, count: u32) -> u32 {
-    let mut made = 0u32;
-    for k in from..from.saturating_add(count) {
-        let done = try_update(hand, k, Request::Insert) == Ok(Outcome::Accepted);
-        made = made.saturating_add(u32::from(done));
-    }
-    made
-}
-
 /// Makes an update that waits for nobody.
-fn try_to(hand: &mut Hand, k: u32, request: Request) -> Reply {
+fn try_to(hand: &mut HandleOf, k: u32, request: Request) -> Reply {
     match try_update(hand, k, request) {
         Ok(outcome) => Reply::Came(outcome),
         Err(cause) => missed(cause),
     }
 }
 
+/// Takes out the member at one end, if it need not wait.
+fn try_to_pop(hand: &mut HandleOf, side: Side) -> Reply {
+    match try_pop(hand, side) {
+        Ok(done) => Reply::Tried(done),
+        Err(cause) => missed(cause),
+    }
+}
+
 /// What a note comes to, which is dropped.
-fn noted<R: Wait>(rt: &R, hand: &mut Hand) -> Reply {
+fn noted<R: Wait>(rt: &R, hand: &mut HandleOf) -> Reply {
     done(hand.note(rt).map(drop))
 }
 
 /// What the handle does.
-fn by_hand<R: Wait>(rt: &R, hand: &mut Hand, act: Act) -> Reply {
+fn by_hand<R: Wait>(rt: &R, hand: &mut HandleOf, act: Act) -> Reply {
     match act {
         Act::Insert(k) => is(insert(rt, hand, k)),
         Act::Remove(k) => is(remove(rt, hand, k)),
         Act::Put(k, weight) => came(put(rt, hand, k, weight)),
         Act::Add(k, amount) => came(add(rt, hand, k, amount)),
         Act::Sub(k, amount) => came(sub(rt, hand, k, amount)),
+        Act::Pop(side) => popped(pop(rt, hand, side)),
+        Act::TryPop(side) => try_to_pop(hand, side),
         Act::Fill(from, count) => Reply::Number(fill(rt, hand, from, count)),
         Act::Note => noted(rt, hand),
         Act::TryInsert(k) => try_to(hand, k, Request::Insert),
         Act::TryRemove(k) => try_to(hand, k, Request::Remove),
         Act::TryPut(k, weight) => try_to(hand, k, Request::Put(weight)),
+        Act::TryTake(k, weight) => try_to(hand, k, Request::Take(weight)),
         Act::TryFill(from, count) => Reply::Number(try_fill(hand, from, count)),
         _ => Reply::Not,
     }
 }
 
 /// How many members there are, the first of them and the last.
-fn listed(alloc: Global, look: &mut View) -> Reply {
+fn listed(alloc: Global, look: &mut LookOf) -> Reply {
     match look.ask(Pairs(alloc)) {
         Ok(list) => {
             let list = list.as_slice();
@@ -214,7 +220,7 @@ fn listed(alloc: Global, look: &mut View) -> Reply {
 }
 
 /// What the look shows.
-fn by_look(alloc: Global, look: &mut View, act: Act) -> Reply {
+fn by_look(alloc: Global, look: &mut LookOf, act: Act) -> Reply {
     match act {
         Act::Again => {
             look.again();
@@ -231,7 +237,7 @@ fn by_look(alloc: Global, look: &mut View, act: Act) -> Reply {
 }
 
 /// Ends a look, if there is one.
-fn end(look: Option<View>) {
+fn end(look: Option<LookOf>) {
     if let Some(look) = look {
         drop(look.done());
     }

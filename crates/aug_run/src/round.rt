@@ -16,7 +16,7 @@ use crate::lanes::jobs::jobs;
 use crate::lanes::returning::{in_order, take_back};
 use crate::lanes::threads::in_threads;
 use crate::scripts::run_error::RunError;
-use crate::trie::{Hands, Table, Trie};
+use crate::trie::{CrewOf, SharedRound, Trie};
 use aug_script::{Limits, Listed, Reply, Report, Row, ScriptRound};
 use aug_trie::{BeginError, Round};
 use std::alloc::{AllocError, Global};
@@ -29,8 +29,8 @@ use std::thread::Threads;
 fn run_lanes<'r, R: Threads + Wait, G: Gate>(
     rt: &R,
     alloc: Global,
-    round: &'r Table,
-    crew: &mut Hands,
+    round: &'r SharedRound,
+    crew: &mut CrewOf,
     workers: u32,
     rows: &'r [Row],
     gate: &'r G,
@@ -75,7 +75,7 @@ pub fn run_round<R: Threads + Wait, G: Gate>(
     let (table, mut crew) = begin(alloc, ended, limits, round.bits)?;
     let rows = round.rows.as_slice();
     let lines = run_lanes(rt, alloc, &table, &mut crew, limits.workers(), rows, gate)?;
-    let Table { shared, .. } = table;
+    let SharedRound { shared, .. } = table;
     let ended = shared.end(crew);
     let report = Report {
         number,
@@ -93,7 +93,7 @@ fn begin(
     ended: Trie,
     limits: &Limits,
     bits: u32,
-) -> Result<(Table, Hands), AllocError>
+) -> Result<(SharedRound, CrewOf), AllocError>
     requires wider { ended.bits ≤ bits }
     requires bounds { IsBounds (bounds_at limits.now bits) }
     ensures begun { IfOk result (λ t. BeginsIn (length ended.members) ended.members bits limits.now.workers limits.now.updates (table_of t.0) t.1) }
@@ -103,7 +103,7 @@ fn begin(
     match Round::begin_wider(alloc, ended, bits, limits.workers(), limits.updates()) {
         Ok((shared, crew)) => {
             let begun = Snapshot::of(&crew);
-            Ok((Table { shared, begun }, crew))
+            Ok((SharedRound { shared, begun }, crew))
         }
         Err((_, cause)) => match cause {
             BeginError::OutOfMemory => Err(AllocError),

@@ -8,22 +8,22 @@ use std::snapshot::Snapshot;
 pub type Trie = Ended<Sum, Extent>;
 
 /// The crew of a round.
-pub type Hands = Crew<Sum, Extent>;
+pub type CrewOf = Crew<Sum, Extent>;
 
 /// A pass of a round.
-pub type Hand<'r> = Pass<'r, Sum, Extent>;
+pub type PassOf<'r> = Pass<'r, Sum, Extent>;
 
 /// A pass on its way into a thread.
-pub type Half = PassHalf<Sum, Extent>;
+pub type HalfOf = PassHalf<Sum, Extent>;
 
 /// The table that the passes of a round share, and, for contracts alone, the crew with which the round began.
 #[derive(Drop)]
-pub(crate) struct Table {
+pub(crate) struct SharedRound {
     pub(crate) shared: Round<Sum, Extent>,
-    pub(crate) begun: Snapshot<Hands>,
+    pub(crate) begun: Snapshot<CrewOf>,
 }
 
-impl Model for Table {
+impl Model for SharedRound {
     ghost use Rattle.std.specs.Prelude.{◌≡◌};
     ghost use Rattle.aug_trie.specs.Round.{RoundFacts, table_of};
 

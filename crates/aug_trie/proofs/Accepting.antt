@@ -1,5 +1,5 @@
 -- What the steps and updates of a pass do to what it knows.
-use Rattle.std.proofs.Common.{◌≡◌, ◌≢◌, ℕ, ◌+◌, ◌-◌, ◌%◌, ◌^◌, ◌<◌, ◌≤◌, ◌==◌, ◌&&◌, ltb, leb, Bool, true, false, List, [], ◌∷◌, ◌++◌, All, sym, refl, ap, ◌∙◌, subst, inl, inr, ⊎_elim, arith}
+use Rattle.std.proofs.Common.{◌≡◌, ◌≢◌, ◌⊎◌, ℕ, ◌+◌, ◌-◌, ◌%◌, ◌^◌, ◌<◌, ◌≤◌, ◌==◌, ◌&&◌, ltb, leb, Bool, true, false, List, [], ◌∷◌, ◌++◌, All, sym, refl, ap, ◌∙◌, subst, inl, inr, ⊎_elim, arith}
 use Rattle.std.proofs.lemmas.Bool.{cases_Bool, cases_lt, eqb-true, eqb-false, ltb-true, ltb-false, leb-false, false≢true}
 use Rattle.std.proofs.lemmas.List.{append-nil}
 use Rattle.std.proofs.lemmas.List.Elements.{All-nil, All-cons, All-append, All-weaker}
@@ -28,9 +28,9 @@ use Rattle.aug_trie.specs.Requests.{goes_from, in_the_way, stores_nothing, outco
 use Rattle.aug_trie.specs.Updates.{AcceptedUpdate, RefusedUpdate, ReplacedUpdate, RefusedPut, WeighsWith, Reckoned, UsedUp, Prevented, ComesTo, TakesSnapshot}
 use Rattle.aug_trie.specs.inside.Knows.{root_history, knows, KnowsRound}
 use Rattle.aug_trie.specs.declared.updates.request.Request.{Request}
-use Rattle.aug_trie.specs.declared.updates.request.Request.TheVariants.{Insert, Remove, Put, Add, Sub}
+use Rattle.aug_trie.specs.declared.updates.request.Request.TheVariants.{Insert, Remove, Put, Add, Sub, Take}
 use Rattle.aug_trie.proofs.Histories.{history_on, last_is, last_shown, shown_last, last_rises, root_some, some_bits, is_history}
-use Rattle.aug_trie.proofs.Requesting.{kind_of, and_both, and_one, of_nothing, of_something, may_take, made_one, made_two, one_more, two_more, way_found, way_next, insert_stands, remove_stands}
+use Rattle.aug_trie.proofs.Requesting.{kind_of, and_both, and_one, of_nothing, of_something, may_take, takes_all, takes_none, made_one, made_two, one_more, two_more, way_found, way_next, insert_stands, remove_stands}
 use Rattle.aug_trie.proofs.Standing.{at_least, stands_later, stands_last, never_shows, shows_weight}
 
 module _ (face : ℕ → ℕ → List (ℕ × ℕ) → List ℕ) where
@@ -225,6 +225,17 @@ module _ (face : ℕ → ℕ → List (ℕ × ℕ) → List ℕ) where
       (⊎_elim (λ (none : ltb 0 amount ≡ false). let zero = ltb-false 0 amount none in absurd ((of_something amount TooGreat TooGreat u.came_to.says (λ e. omega (arith, e))).0 (omega (arith, zero))))
       (λ less. ltb-false (weight_in_word u.loaded + amount) (2 ^ 32) less) (and_one (ltb 0 amount) (ltb (weight_in_word u.loaded + amount) (2 ^ 32)) u.came_to.stops))
   comes_to used v key (Add amount) w kn low TooLittle u = let is = (of_something amount TooLittle TooGreat u.came_to.says (λ e. omega (arith, e))).1 in omega (arith, ap kind_of is)
+  comes_to used v key (Take weight) w kn low Accepted u = let a = advance_from (Take weight) key u.loaded in let all = takes_all weight u.loaded u.came_to.2 in
+      used_up_is used v key (Take weight) w kn low a u.came_to.0 weight all.0 all.1 refl refl
+  comes_to used v key (Take weight) w kn low Replaced u = false≢true u.came_to.1
+  comes_to used v key (Take weight) w kn low Unchanged u = omega (arith, ap kind_of u.came_to.says)
+  comes_to used v key (Take weight) w kn low TooGreat u = omega (arith, ap kind_of u.came_to.says)
+  comes_to used v key (Take weight) w kn low TooLittle u = omega (arith, ap kind_of u.came_to.says)
+  comes_to used v key (Take weight) w kn low Refused u = elim (cases_Bool (goes_from (Take weight) u.loaded)) [
+    | inl lets ↦ inl (refused_put used v key (Take weight) w kn low u.loaded u.came_to (way_next (Take weight) u.loaded lets))
+    | inr stops ↦ inr (prevented_is used v key (Take weight) w kn low u.loaded Refused (λ serial had. (serial % 2 ≡ removal) ⊎ (had ≢ weight))
+        (record { stayed = u.came_to; stops = stops; says = (u.refusing stops).0 }) (takes_none weight u.loaded stops))
+  ]
   comes_to used v key (Sub amount) w kn low Accepted u = let a = advance_from (Sub amount) key u.loaded in let weight = weight_in_word u.loaded in
       let may = may_take amount u.loaded u.came_to.2 in let enough = may.1 in let all = ltb-false amount weight u.came_to.1 in
       used_up_is used v key (Sub amount) w kn low a u.came_to.0 amount (eqb-true (serial_in_word u.loaded % 2) 1 may.0) (omega (arith, enough, all)) (omega (arith, all)) u.came_to.1

@@ -13,8 +13,8 @@ use Rattle.aug_trie.specs.declared.updates.outcome.Outcome.TheVariants.{Accepted
 use Rattle.aug_trie.specs.inside.Climbing.{WentUp, Stayed, Updated, advance_from}
 use Rattle.aug_trie.specs.LeafWords.{serial_in_word}
 use Rattle.aug_trie.specs.declared.updates.request.Request.{Request}
-use Rattle.aug_trie.specs.declared.updates.request.Request.TheVariants.{Insert, Remove, Put, Add, Sub}
-use Rattle.aug_trie.proofs.Requesting.{may_take, made_one, made_two}
+use Rattle.aug_trie.specs.declared.updates.request.Request.TheVariants.{Insert, Remove, Put, Add, Sub, Take}
+use Rattle.aug_trie.proofs.Requesting.{may_take, takes_all, made_one, made_two}
 use Rattle.aug_trie.specs.inside.PassState.{IsPass}
 use Rattle.aug_trie.specs.inside.Goes.{Goes}
 use Rattle.aug_trie.specs.Knowledge.{insertion, removal, inserts_of, removals_of}
@@ -53,6 +53,7 @@ none_unchanged Remove = (refl, refl)
 none_unchanged (Put weight) = (refl, refl)
 none_unchanged (Add amount) = (refl, refl)
 none_unchanged (Sub amount) = (refl, refl)
+none_unchanged (Take weight) = (refl, refl)
 
 none_too_great : (request : Request) → (insertions_by request TooGreat ≡ 0) × (removals_by request TooGreat ≡ 0)
 none_too_great Insert = (refl, refl)
@@ -60,6 +61,7 @@ none_too_great Remove = (refl, refl)
 none_too_great (Put weight) = (refl, refl)
 none_too_great (Add amount) = (refl, refl)
 none_too_great (Sub amount) = (refl, refl)
+none_too_great (Take weight) = (refl, refl)
 
 none_too_little : (request : Request) → (insertions_by request TooLittle ≡ 0) × (removals_by request TooLittle ≡ 0)
 none_too_little Insert = (refl, refl)
@@ -67,6 +69,7 @@ none_too_little Remove = (refl, refl)
 none_too_little (Put weight) = (refl, refl)
 none_too_little (Add amount) = (refl, refl)
 none_too_little (Sub amount) = (refl, refl)
+none_too_little (Take weight) = (refl, refl)
 
 -- no counter is past the number of changes
 pub few_inserts : (changes : List Change) → inserts_of changes ≤ length changes
@@ -130,6 +133,10 @@ module _ (face : ℕ → ℕ → List (ℕ × ℕ) → List ℕ) where
       let odd = eqb-true (serial_in_word u.loaded % 2) 1 (may_take amount u.loaded u.came_to.2).0 in
       counted_two used v w key inserts removals (Sub amount) a u.came_to.1 odd u.came_to.0 c
   counted_by used v w key inserts removals (Sub amount) Refused u c = counted_same used v w key inserts removals u.loaded (Sub amount) u.came_to c
+  counted_by used v w key inserts removals (Take weight) Accepted u c = let a = advance_from (Take weight) key u.loaded in let odd = (takes_all weight u.loaded u.came_to.2).0 in
+      counted_one used v w key inserts removals 0 1 (Take weight) a refl (one_removal key (a.serial + 1) a.new_weight (omega (arith, odd))) u.came_to.0 c
+  counted_by used v w key inserts removals (Take weight) Replaced u c = absurd (false≢true u.came_to.1)
+  counted_by used v w key inserts removals (Take weight) Refused u c = counted_same used v w key inserts removals u.loaded (Take weight) u.came_to c
   counted_by used v w key inserts removals request Unchanged u c = let n = none_unchanged request in counted_kept used v w key inserts removals u.loaded (insertions_by request Unchanged) (removals_by request Unchanged) request n.0 n.1 u.came_to.stayed c
   counted_by used v w key inserts removals request TooGreat u c = let n = none_too_great request in counted_kept used v w key inserts removals u.loaded (insertions_by request TooGreat) (removals_by request TooGreat) request n.0 n.1 u.came_to.stayed c
   counted_by used v w key inserts removals request TooLittle u c = let n = none_too_little request in counted_kept used v w key inserts removals u.loaded (insertions_by request TooLittle) (removals_by request TooLittle) request n.0 n.1 u.came_to.stayed c

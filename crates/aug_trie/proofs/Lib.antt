@@ -24,6 +24,7 @@ pub mod Snapshots
 pub mod Asking
 pub mod Cursors
 pub mod PassCalls
+pub mod Popping
 pub mod Noting
 pub mod SnapshotWalks
 pub mod RoundLemmas

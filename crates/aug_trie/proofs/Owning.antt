@@ -13,7 +13,7 @@ pub record Keeping (half : PassFacts) (table : TableFacts) (held : Snapshot) : T
   pub shows : HasSnapshot half held.number
 
 module _ {A B : Type 0} (summary_of : List (ℕ × ℕ) → Summary A B) (half pass new out : PassFacts) (table : TableFacts) (held : Snapshot) (k : Keeping half table held) (is : pass ≡ half) (leaves : out ≡ new) where
-  keeping : new.round ≡ pass.round → Keeps summary_of pass new → Keeping out table held
+  pub keeping : new.round ≡ pass.round → Keeps summary_of pass new → Keeping out table held
   keeping same keeps = subst (λ (z : PassFacts). Keeping z table held) (sym leaves) (record {
     of_round = ap table_of same ∙ ap (λ (z : PassFacts). table_of z.round) is ∙ k.of_round;
     shows = keeps.snapshots held (subst (λ (z : PassFacts). HasSnapshot z held.number) (sym is) k.shows);

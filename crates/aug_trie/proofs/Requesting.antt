@@ -1,5 +1,5 @@
 -- What a request makes of a leaf's word.
-use Rattle.std.proofs.Common.{◌≡◌, ◌≢◌, ◌⊎◌, ℕ, ◌+◌, ◌%◌, ◌^◌, ◌<◌, ◌≤◌, ◌==◌, ◌&&◌, ltb, leb, Bool, true, false, if◌then◌else◌, [], ◌∷◌, length, refl, sym, ap, ◌∙◌, inl, inr, arith}
+use Rattle.std.proofs.Common.{◌≡◌, ◌≢◌, ◌⊎◌, ℕ, ◌+◌, ◌%◌, ◌^◌, ◌<◌, ◌≤◌, ◌==◌, ◌&&◌, ltb, leb, Bool, true, false, if◌then◌else◌, [], ◌∷◌, length, refl, sym, ap, ◌∙◌, inl, inr, ⊎_elim, arith}
 use Rattle.std.proofs.lemmas.Bool.{eq-eqb, eqb-true, eqb-false, ltb-true, ltb-false, leb-true, cases_Bool, false≢true}
 use Rattle.aug_core.specs.Book.{word_of_leaf}
 use Rattle.aug_core.specs.Counts.{change}
@@ -12,7 +12,7 @@ use Rattle.aug_trie.specs.LeafWords.{serial_in_word, weight_in_word}
 use Rattle.aug_trie.specs.inside.Climbing.{FitsRequest, advance_from}
 use Rattle.aug_trie.specs.Requests.{goes_from, in_the_way, outcome_by, word_after}
 use Rattle.aug_trie.specs.declared.updates.request.Request.{Request}
-use Rattle.aug_trie.specs.declared.updates.request.Request.TheVariants.{Insert, Remove, Put, Add, Sub}
+use Rattle.aug_trie.specs.declared.updates.request.Request.TheVariants.{Insert, Remove, Put, Add, Sub, Take}
 
 -- the outcomes are different
 abbrev pub kind_of : Outcome → ℕ
@@ -56,6 +56,16 @@ pub may_take : (amount word : ℕ) → goes_from (Sub amount) word ≡ true → 
 may_take amount word lets = let odd = serial_in_word word % 2 == 1 in let enough = leb amount (weight_in_word word) in
     let both = and_both odd enough (and_both (ltb 0 amount) (odd && enough) lets).1 in (both.0, leb-true amount (weight_in_word word) both.1)
 
+-- a take that goes on finds a member of this weight
+pub takes_all : (weight word : ℕ) → goes_from (Take weight) word ≡ true → (serial_in_word word % 2 ≡ 1) × (weight_in_word word ≡ weight)
+takes_all weight word lets = let both = and_both (serial_in_word word % 2 == 1) (weight_in_word word == weight) lets in (eqb-true (serial_in_word word % 2) 1 both.0, eqb-true (weight_in_word word) weight both.1)
+
+-- and one that does not finds none
+pub takes_none : (weight word : ℕ) → goes_from (Take weight) word ≡ false → (serial_in_word word % 2 ≡ 0) ⊎ (weight_in_word word ≢ weight)
+takes_none weight word stops = ⊎_elim
+    (λ (no : (serial_in_word word % 2 == 1) ≡ false). inl (let even = eqb-false (serial_in_word word % 2) 1 no in omega (arith, even)))
+    (λ (no : (weight_in_word word == weight) ≡ false). inr (eqb-false (weight_in_word word) weight no)) (and_one (serial_in_word word % 2 == 1) (weight_in_word word == weight) stops)
+
 -- the exchange is one of those that there are
 pub is_advance : (request : Request) (key word : ℕ) → FitsRequest request → key < 2 ^ 32 → goes_from request word ≡ true → IsAdvance (advance_from request key word)
 is_advance Insert key word fits low lets = record {
@@ -88,6 +98,12 @@ is_advance (Sub amount) key word fits low lets = record {
   from_there = λ e. eqb-true (serial_in_word word % 2) 1 (may_take amount word lets).0;
   weighs_nothing = λ e odd. let all = ltb-false amount (weight_in_word word) e in omega (arith, all);
 }
+is_advance (Take weight) key word fits low lets = record {
+  fits = omega arith;
+  new_fits = omega arith;
+  from_there = λ e. absurd (false≢true e);
+  weighs_nothing = λ _ _. refl;
+}
 
 -- what it comes to says whether it replaces
 pub outcome_is : (request : Request) (key word : ℕ) → outcome_by request word ≡ (if (advance_from request key word).replaces then Replaced else Accepted)
@@ -96,6 +112,7 @@ outcome_is Remove key word = refl
 outcome_is (Put weight) key word = refl
 outcome_is (Add amount) key word = refl
 outcome_is (Sub amount) key word = refl
+outcome_is (Take weight) key word = refl
 
 pub serial_is : (request : Request) (key word : ℕ) → (advance_from request key word).serial ≡ serial_in_word word
 serial_is Insert key word = refl
@@ -103,6 +120,7 @@ serial_is Remove key word = refl
 serial_is (Put weight) key word = refl
 serial_is (Add amount) key word = refl
 serial_is (Sub amount) key word = refl
+serial_is (Take weight) key word = refl
 
 pub weight_is : (request : Request) (key word : ℕ) → (advance_from request key word).weight ≡ weight_in_word word
 weight_is Insert key word = refl
@@ -110,6 +128,7 @@ weight_is Remove key word = refl
 weight_is (Put weight) key word = refl
 weight_is (Add amount) key word = refl
 weight_is (Sub amount) key word = refl
+weight_is (Take weight) key word = refl
 
 few_by : (b : Bool) (x y z : Change) → length (if b then x ∷ y ∷ [] else z ∷ []) ≤ 2
 few_by true x y z = omega arith
@@ -165,3 +184,4 @@ to_word Remove key word = refl
 to_word (Put weight) key word = refl
 to_word (Add amount) key word = refl
 to_word (Sub amount) key word = refl
+to_word (Take weight) key word = refl

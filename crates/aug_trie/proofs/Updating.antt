@@ -26,7 +26,7 @@ use Rattle.aug_trie.specs.LeafWords.{serial_in_word, weight_in_word}
 use Rattle.aug_trie.specs.Requests.{goes_from, word_after, outcome_by, outcome_at_once}
 use Rattle.aug_trie.specs.inside.Stages.{MayRise, HasRisen}
 use Rattle.aug_trie.specs.declared.updates.request.Request.{Request}
-use Rattle.aug_trie.specs.declared.updates.request.Request.TheVariants.{Insert, Remove, Put, Add, Sub}
+use Rattle.aug_trie.specs.declared.updates.request.Request.TheVariants.{Insert, Remove, Put, Add, Sub, Take}
 use Rattle.aug_trie.proofs.Going.{room_on, goes_on, goes_after, goes_beginning, goes_seeing, goes_changing}
 use Rattle.aug_trie.proofs.LeafWords.{serial_of_leaf, weight_of_leaf}
 use Rattle.aug_trie.proofs.Requesting.{is_advance, from_word, to_word, outcome_is, serial_is, weight_is, way_found, way_next}
@@ -41,6 +41,7 @@ module _ (f : ℕ → ℕ → List (ℕ × ℕ) → List ℕ) where
   came_at_once used v key w word Insert stops stayed = stayed
   came_at_once used v key w word Remove stops stayed = stayed
   came_at_once used v key w word (Put weight) stops stayed = stayed
+  came_at_once used v key w word (Take weight) stops stayed = stayed
   came_at_once used v key w word (Add amount) stops stayed = by_nothing (amount == 0) refl
     where
       by_nothing : (b : Bool) → (amount == 0) ≡ b → CameTo f used v key (Add amount) w word (if b then Unchanged else TooGreat)

@@ -17,6 +17,7 @@ pub mod View
 pub mod Ended
 pub mod Crew
 pub mod Owned
+pub mod Pops
 pub mod Climb
 pub mod Errors
 pub mod inside

@@ -1,5 +1,5 @@
--- The requests of updates, and what an update makes of a leaf. A put of 1 with the weight 5 makes `3 * 2^32 + 5` of `2^32 + 1`. What additions and
--- subtractions make of a leaf with the serial 1, whose key weighs 7, and of one with the serial 2, whose key is no member; `-` stands for a leaf that
+-- The requests of updates, and what an update makes of a leaf. A put of 1 with the weight 5 makes `3 * 2^32 + 5` of `2^32 + 1`. What additions,
+-- subtractions and takes make of a leaf with the serial 1, whose key weighs 7, and of one with the serial 2, whose key is no member; `-` stands for a leaf that
 -- stays:
 --
 --     request      | serial 1, weight 7  | serial 2, weight 0
@@ -11,6 +11,8 @@
 --     Sub 7        | 2, 0       Accepted | -          TooLittle
 --     Sub 8        | -         TooLittle | -          TooLittle
 --     Add 0, Sub 0 | -         Unchanged | -          Unchanged
+--     Take 7       | 2, 0       Accepted | -          Refused
+--     Take 5       | -         Refused   | -          Refused
 use Rattle.std.specs.Prelude.{ℕ, ◌+◌, ◌-◌, ◌%◌, ◌^◌, ◌==◌, ◌&&◌, nat_lt, nat_le, Bool, true, false, if◌then◌else◌, List, [], ◌∷◌}
 use Rattle.aug_core.specs.Book.{word_of_leaf}
 use Rattle.aug_core.specs.Counts.{change}
@@ -19,16 +21,18 @@ use Rattle.aug_trie.specs.declared.updates.outcome.Outcome.{Outcome}
 use Rattle.aug_trie.specs.declared.updates.outcome.Outcome.TheVariants.{Accepted, Replaced, Refused, Unchanged, TooGreat, TooLittle}
 use Rattle.aug_trie.specs.LeafWords.{serial_in_word, weight_in_word}
 use Rattle.aug_trie.specs.declared.updates.request.Request.{Request}
-use Rattle.aug_trie.specs.declared.updates.request.Request.TheVariants.{Insert, Remove, Put, Add, Sub}
+use Rattle.aug_trie.specs.declared.updates.request.Request.TheVariants.{Insert, Remove, Put, Add, Sub, Take}
 
 -- whether an update continues from a leaf with this word: an insertion if the key is not there, a removal if it is, and a put always; an addition if the
--- sum is a weight, where a key that is not there weighs 0, and a subtraction if the key is there and weighs as much as that. Neither does with nothing
+-- sum is a weight, where a key that is not there weighs 0, and a subtraction if the key is there and weighs as much as that. Neither does with nothing. A
+-- take continues if the key is there and weighs just this
 abbrev pub goes_from : Request → ℕ → Bool
 goes_from Insert word = serial_in_word word % 2 == 0
 goes_from Remove word = serial_in_word word % 2 == 1
 goes_from (Put weight) word = true
 goes_from (Add amount) word = nat_lt 0 amount && nat_lt (weight_in_word word + amount) (2 ^ 32)
 goes_from (Sub amount) word = nat_lt 0 amount && (serial_in_word word % 2 == 1 && nat_le amount (weight_in_word word))
+goes_from (Take weight) word = serial_in_word word % 2 == 1 && weight_in_word word == weight
 
 -- the outcomes with which nothing was stored
 abbrev pub stores_nothing : Outcome → Bool
@@ -54,6 +58,7 @@ word_after Remove key word = word_of_leaf (serial_in_word word + 1) 0
 word_after (Put weight) key word = word_of_leaf (if serial_in_word word % 2 == 1 then serial_in_word word + 2 else serial_in_word word + 1) weight
 word_after (Add amount) key word = word_of_leaf (if serial_in_word word % 2 == 1 then serial_in_word word + 2 else serial_in_word word + 1) (weight_in_word word + amount)
 word_after (Sub amount) key word = word_of_leaf (if nat_lt amount (weight_in_word word) then serial_in_word word + 2 else serial_in_word word + 1) (weight_in_word word - amount)
+word_after (Take weight) key word = word_of_leaf (serial_in_word word + 1) 0
 
 -- the changes that it makes if it comes to this: one to the next serial, or two if the weight of a key that is there is replaced
 abbrev pub changes_by : Request → ℕ → ℕ → Outcome → List Change

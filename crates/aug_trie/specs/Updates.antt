@@ -71,7 +71,7 @@ pub record Prevented (key : ℕ) (by : ℕ → ℕ → Type 0) (old new : Knowle
   pub prevents : by serial weight
   pub same_changes : new.accepted ≡ old.accepted
 
--- a put that was refused, or an addition or a subtraction: another change of the key came between then and now
+-- a put that was refused, or an addition, a subtraction or a take: another change of the key came between then and now
 pub record RefusedPut (key : ℕ) (old new : Knowledge) : Type 0 where
   pub goes_on : IsPrefix old.history new.history
   pub rises : serial_of (last_cut old.history) key < serial_of (last_cut new.history) key
@@ -96,6 +96,8 @@ ComesTo (request.Sub amount) key outcome.Replaced old new = (after : ℕ) × (1 
 ComesTo (request.Sub amount) key outcome.Refused old new = RefusedPut key old new
 ComesTo (request.Sub amount) key outcome.Unchanged old new = Prevented key (λ serial weight. amount ≡ 0) old new
 ComesTo (request.Sub amount) key outcome.TooLittle old new = Prevented key (λ serial weight. weight < amount) old new
+ComesTo (request.Take weight) key outcome.Accepted old new = UsedUp key weight old new
+ComesTo (request.Take weight) key outcome.Refused old new = RefusedPut key old new ⊎ Prevented key (λ serial had. (serial % 2 ≡ removal) ⊎ (had ≢ weight)) old new
 ComesTo asked key done old new = ⊥
 
 -- a snapshot is the last cut of the history as it is known then

@@ -15,6 +15,7 @@ pub mod NodeWords
 pub mod NoteState
 pub mod PassState
 pub mod Points
+pub mod Popping
 pub mod RestWalkLaws
 pub mod RestWalks
 pub mod RoundState

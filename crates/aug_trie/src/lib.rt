@@ -20,6 +20,7 @@ pub use rounds::members::Members;
 pub use rounds::note::Note;
 pub use rounds::owned::{OwnedPass, SharedRound};
 pub use rounds::pass::Pass;
+pub use rounds::pop::{Pop, Side};
 pub use rounds::round::Round;
 pub use turns::climb::{Climb, Turn};
 pub use updates::outcome::Outcome;

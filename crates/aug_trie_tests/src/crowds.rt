@@ -9,7 +9,7 @@ use super::playing::Reply;
 use super::playing::Reply::{Counted, Done, Finds, Folded, Is, Number};
 use super::playing::Who::{A, B};
 use super::resting::Ask;
-use super::rounds::{Half, Hands, Table, Trie, Way, opened};
+use super::rounds::{CrewOf, Half, RoundOf, Trie, Way, opened};
 use super::rows::{Play, plays};
 use super::working::{Deed, Task, Worked, back, done, next_half, work};
 use crate::assertions::{equal, holds};
@@ -21,7 +21,7 @@ use std::thread;
 use std::thread::Threads;
 
 // Halves of the passes of the next four lanes.
-fn four_halves(crew: &mut Hands, round: &Table) -> Result<(Half, Half, Half, Half), CrewError>
+fn four_halves(crew: &mut CrewOf, round: &RoundOf) -> Result<(Half, Half, Half, Half), CrewError>
     requires together { table_of crew.old.round ≡ round.now }
     ensures together { crew.new.round ≡ crew.old.round }
     ensures rounds { IfOk result (λ t. (t.0.round ≡ crew.old.round) × (t.1.round ≡ crew.old.round) × (t.2.round ≡ crew.old.round) × (t.3.round ≡ crew.old.round)) }
@@ -36,7 +36,7 @@ fn four_halves(crew: &mut Hands, round: &Table) -> Result<(Half, Half, Half, Hal
 // Four halves at work, and a fifth that does something else, each in a thread of its own.
 fn five<R: Threads + Wait + Sync>(
     rt: &R,
-    round: &Table,
+    round: &RoundOf,
     halves: (Half, Half, Half, Half),
     fifth: Half,
     tasks: (Task, Task, Task),
@@ -67,8 +67,8 @@ type Seen = ([Option<u32>; 4], Option<u32>, u32);
 // Five halves at work in a round.
 fn crowded<R: Threads + Wait + Sync + Abort>(
     rt: &R,
-    round: &Table,
-    crew: &mut Hands,
+    round: &RoundOf,
+    crew: &mut CrewOf,
     tasks: (Task, Task, Task),
 ) -> Seen
     requires together { table_of crew.old.round ≡ round.now }

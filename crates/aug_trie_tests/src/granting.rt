@@ -4,7 +4,7 @@ ghost use Rattle.aug_trie.specs.Round.{table_of};
 
 use super::playing::Change::Put;
 use super::playing::changed;
-use super::rounds::{Hands, Numbers, Table, Trie, Way, begun, next_pass, opened};
+use super::rounds::{CrewOf, Numbers, RoundOf, Trie, Way, begun, next_pass, opened};
 use crate::assertions::{equal, holds};
 use aug_core::Layout;
 use aug_trie::{BeginError, Ended};
@@ -150,7 +150,7 @@ fn no_round_is_refused_for_its_updates(rt: HostRuntime) -> Result<(), BeginError
 }
 
 // Puts the keys from the first up to the second in, as long as updates are left.
-fn fill(round: &Table, crew: &mut Hands, universe: u32, keys: (u32, u32), less: u32)
+fn fill(round: &RoundOf, crew: &mut CrewOf, universe: u32, keys: (u32, u32), less: u32)
     requires together { table_of crew.old.round ≡ round.now }
     requires universe { universe ≡ 2 ^ crew.old.round.bits }
     ensures { crew.new.round ≡ crew.old.round }

@@ -29,6 +29,8 @@ mod looking;
 #[cfg(test)]
 mod playing;
 #[cfg(test)]
+mod popping;
+#[cfg(test)]
 mod putting;
 #[cfg(test)]
 mod refused;

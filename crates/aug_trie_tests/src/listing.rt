@@ -6,7 +6,7 @@ use super::playing::Reply::{Counted, Finds, Number};
 use super::playing::{Reply, steps};
 use super::requests::{ANSWERS, played_by_two};
 use super::resting::{Ask, rests};
-use super::rounds::{Hands, Table, Trie, tried_over};
+use super::rounds::{CrewOf, RoundOf, Trie, tried_over};
 use crate::assertions::equal;
 use aug_query::size;
 use aug_trie::{BeginError, Members};
@@ -43,7 +43,7 @@ fn begun_at_last(
     rt: &impl Abort,
     alloc: Global,
     members: Members,
-) -> Result<(Table, Hands), BeginError>
+) -> Result<(RoundOf, CrewOf), BeginError>
     ensures bits { IfOk result (λ t. t.1.round.bits ≡ 4) }
     ensures together { IfOk result (λ t. table_of t.1.round ≡ t.0) }
 {

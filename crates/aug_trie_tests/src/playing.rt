@@ -4,12 +4,12 @@ ghost use Rattle.std.specs.Prelude.{◌≡◌, ◌^◌, IfSome};
 ghost use Rattle.aug_trie.specs.Round.{table_of};
 
 use super::asking::{look, look_closer, seen_size, seen_weight, sees};
-use super::rounds::{Climber, Hands, Table, Walker, next_pass};
+use super::rounds::{Climber, CrewOf, RoundOf, Walker, next_pass};
 use super::turning::{last, to_the_end, turns};
 use crate::assertions::equal;
 use aug_monoid::{Extent, Sum};
 use aug_query::rank;
-use aug_trie::{Outcome, Pass};
+use aug_trie::{Outcome, Pass, Pop};
 use std::alloc::Global;
 use std::process::Abort;
 
@@ -69,6 +69,11 @@ pub(super) enum Change {
     Put(u32, u32),
     Add(u32, u32),
     Sub(u32, u32),
+    // Takes a key out that has this weight.
+    Take(u32, u32),
+    // Takes out the member at one end.
+    PopFirst,
+    PopLast,
 }
 
 // What a lane does.
@@ -128,6 +133,7 @@ pub(super) enum Reply {
     Not,
     Is(bool),
     Came(Outcome),
+    Popped(Pop),
     // What an update by turns came to, and how many turns that took.
     Ended(Outcome, u32),
     Number(u32),
@@ -161,6 +167,9 @@ pub(super) fn changed(pass: &mut Pass<Sum, Extent>, universe: u32, change: Chang
         Change::Put(k, weight) if k < universe => Reply::Came(pass.put(k, weight)),
         Change::Add(k, amount) if k < universe => Reply::Came(pass.add(k, amount)),
         Change::Sub(k, amount) if k < universe => Reply::Came(pass.sub(k, amount)),
+        Change::Take(k, weight) if k < universe => Reply::Is(pass.take(k, weight)),
+        Change::PopFirst => Reply::Popped(pass.pop_first()),
+        Change::PopLast => Reply::Popped(pass.pop_last()),
         _ => Reply::Not,
     }
 }
@@ -185,6 +194,9 @@ fn start<'r>(pass: Walker<'r>, universe: u32, change: Change) -> (Lane<'r>, Repl
         }
         Change::Sub(k, amount) if k < universe => {
             (climbing(pass.start_sub(k, amount)), Reply::Done)
+        }
+        Change::Take(k, weight) if k < universe => {
+            (climbing(pass.start_take(k, weight)), Reply::Done)
         }
         _ => (walking(pass), Reply::Not),
     }
@@ -211,8 +223,8 @@ fn walk(pass: &mut Pass<Sum, Extent>, alloc: Global, universe: u32, act: Act) ->
 
 // What a lane does whose pass makes whole updates.
 fn walked<'r>(
-    round: &'r Table,
-    crew: &mut Hands,
+    round: &'r RoundOf,
+    crew: &mut CrewOf,
     pass: Walker<'r>,
     alloc: Global,
     universe: u32,
@@ -283,8 +295,8 @@ fn climbed<'r>(climb: Climber<'r>, act: Act) -> (Lane<'r>, Reply)
 
 // What a lane does.
 fn done<'r>(
-    round: &'r Table,
-    crew: &mut Hands,
+    round: &'r RoundOf,
+    crew: &mut CrewOf,
     lane: Lane<'r>,
     alloc: Global,
     universe: u32,
@@ -325,8 +337,8 @@ struct Lanes<'r> {
 
 // What one of three lanes does.
 fn acted<'r>(
-    round: &'r Table,
-    crew: &mut Hands,
+    round: &'r RoundOf,
+    crew: &mut CrewOf,
     lanes: Lanes<'r>,
     alloc: Global,
     universe: u32,
@@ -370,8 +382,8 @@ fn acted<'r>(
 pub(super) fn steps(
     rt: &impl Abort,
     alloc: Global,
-    round: &Table,
-    crew: &mut Hands,
+    round: &RoundOf,
+    crew: &mut CrewOf,
     universe: u32,
     shows: &str,
     script: &[Step],

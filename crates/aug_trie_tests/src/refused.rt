@@ -6,7 +6,7 @@ ghost use Rattle.aug_trie.specs.Round.{table_of};
 use super::asking::seen_weight;
 use super::carrying::{HEAVY_ANSWERS, heavy};
 use super::resting::rests;
-use super::rounds::{Hands, Numbers, Table, Trie, Walker, Way, begun, next_pass, tried};
+use super::rounds::{CrewOf, Numbers, RoundOf, Trie, Walker, Way, begun, next_pass, tried};
 use crate::assertions::{equal, holds};
 use aug_query::descent::{Keys, Pairs, Rank, Select};
 use aug_trie::BeginError;
@@ -38,7 +38,7 @@ pub(super) fn begun_at_last(
     bits: u32,
     way: Way,
     numbers: Numbers,
-) -> Result<(Table, Hands), BeginError>
+) -> Result<(RoundOf, CrewOf), BeginError>
     ensures bits { IfOk result (λ t. t.1.round.bits ≡ numbers.0) }
     ensures together { IfOk result (λ t. table_of t.1.round ≡ t.0) }
 {

@@ -6,7 +6,7 @@ use super::asking::sees;
 use super::playing::Change::Insert;
 use super::playing::Reply::Is;
 use super::playing::changed;
-use super::rounds::{Hands, Table, Trie};
+use super::rounds::{CrewOf, RoundOf, Trie};
 use crate::assertions::{equal, holds};
 use crate::eras::gone_on;
 use aug_trie::{BeginError, Ended, Members, Round};
@@ -24,7 +24,7 @@ fn nothing(alloc: Global) -> Result<Members, BeginError>
 }
 
 // A round of two lanes with two updates each, with room for all keys.
-fn begun(alloc: Global, set: Members) -> Result<(Table, Hands), Members>
+fn begun(alloc: Global, set: Members) -> Result<(RoundOf, CrewOf), Members>
     requires { set.bits ≡ 4 }
     ensures bits { IfOk result (λ t. t.1.round.bits ≡ 4) }
     ensures room { IfOk result (λ t. 16 ≤ t.1.round.room) }

@@ -8,9 +8,9 @@ use std::alloc::Global;
 
 pub(super) type Trie = Ended<Sum, Extent>;
 
-pub(super) type Table = Round<Sum, Extent>;
+pub(super) type RoundOf = Round<Sum, Extent>;
 
-pub(super) type Hands = Crew<Sum, Extent>;
+pub(super) type CrewOf = Crew<Sum, Extent>;
 
 pub(super) type Half = PassHalf<Sum, Extent>;
 
@@ -35,7 +35,7 @@ pub(super) fn tried(
     ended: Trie,
     way: Way,
     numbers: Numbers,
-) -> Result<(Table, Hands), (Trie, BeginError)>
+) -> Result<(RoundOf, CrewOf), (Trie, BeginError)>
     ensures bits { IfOk result (λ t. t.1.round.bits ≡ numbers.0) }
     ensures together { IfOk result (λ t. table_of t.1.round ≡ t.0) }
 {
@@ -51,7 +51,7 @@ pub(super) fn tried_over(
     alloc: Global,
     members: Members,
     numbers: Numbers,
-) -> Result<(Table, Hands), (Members, BeginError)>
+) -> Result<(RoundOf, CrewOf), (Members, BeginError)>
     ensures bits { IfOk result (λ t. t.1.round.bits ≡ numbers.0) }
     ensures together { IfOk result (λ t. table_of t.1.round ≡ t.0) }
 {
@@ -60,7 +60,7 @@ pub(super) fn tried_over(
 }
 
 // A round over the list of a trie's set.
-fn begun_over(alloc: Global, ended: Trie, numbers: Numbers) -> Result<(Table, Hands), BeginError>
+fn begun_over(alloc: Global, ended: Trie, numbers: Numbers) -> Result<(RoundOf, CrewOf), BeginError>
     ensures bits { IfOk result (λ t. t.1.round.bits ≡ numbers.0) }
     ensures together { IfOk result (λ t. table_of t.1.round ≡ t.0) }
 {
@@ -79,7 +79,7 @@ pub(super) fn begun(
     ended: Trie,
     way: Way,
     numbers: Numbers,
-) -> Result<(Table, Hands), BeginError>
+) -> Result<(RoundOf, CrewOf), BeginError>
     ensures bits { IfOk result (λ t. t.1.round.bits ≡ numbers.0) }
     ensures together { IfOk result (λ t. table_of t.1.round ≡ t.0) }
 {
@@ -93,7 +93,7 @@ pub(super) fn begun(
 }
 
 // A round over the empty set, and its crew.
-pub(super) fn opened(alloc: Global, numbers: Numbers) -> Result<(Table, Hands), BeginError>
+pub(super) fn opened(alloc: Global, numbers: Numbers) -> Result<(RoundOf, CrewOf), BeginError>
     ensures bits { IfOk result (λ t. t.1.round.bits ≡ numbers.0) }
     ensures together { IfOk result (λ t. table_of t.1.round ≡ t.0) }
 {
@@ -102,7 +102,7 @@ pub(super) fn opened(alloc: Global, numbers: Numbers) -> Result<(Table, Hands), 
 }
 
 // The pass of the next lane.
-pub(super) fn next_pass<'r>(crew: &mut Hands, round: &'r Table) -> Result<Walker<'r>, CrewError>
+pub(super) fn next_pass<'r>(crew: &mut CrewOf, round: &'r RoundOf) -> Result<Walker<'r>, CrewError>
     requires together { table_of crew.old.round ≡ round.now }
     ensures together { crew.new.round ≡ crew.old.round }
     ensures round { IfOk result (λ pass. pass.round ≡ crew.old.round) }

@@ -9,7 +9,7 @@ use super::playing::Change::Insert;
 use super::playing::Reply::{Counted, Is};
 use super::playing::changed;
 use super::resting::{Ask, rests};
-use super::rounds::{Half, Hands, Table, Trie, Walker, next_pass, opened};
+use super::rounds::{CrewOf, Half, RoundOf, Trie, Walker, next_pass, opened};
 use super::working::{back, next_half};
 use crate::assertions::{equal, holds};
 use aug_monoid::{Extent, Sum};
@@ -39,7 +39,7 @@ fn told(from: &mut Walker<'_>, to: &mut Walker<'_>, key: u32) -> (bool, Snapshot
 }
 
 // A pass of a round of 4 bits tells another what it did, and the crew tells it again once the pass is back.
-fn assert_notes(rt: &impl Abort, round: &Table, crew: &mut Hands)
+fn assert_notes(rt: &impl Abort, round: &RoundOf, crew: &mut CrewOf)
     requires together { table_of crew.old.round ≡ round.now }
     requires bits { crew.old.round.bits ≡ 4 }
 {
@@ -116,7 +116,7 @@ impl<K: OfRound> News<K> {
 }
 
 // Puts the keys of 4 bits in, and tells of each.
-fn tells<K: OfRound, R: Wait>(rt: &R, round: &Table, half: Half, to: Sender<News<K>>) -> Half
+fn tells<K: OfRound, R: Wait>(rt: &R, round: &RoundOf, half: Half, to: Sender<News<K>>) -> Half
     requires table { table_of K.round ≡ round.now }
     requires half { half.round ≡ K.round }
     requires bits { K.round.bits ≡ 4 }
@@ -133,7 +133,7 @@ fn tells<K: OfRound, R: Wait>(rt: &R, round: &Table, half: Half, to: Sender<News
 // Learns all of the news, and whether the snapshot then showed each of their keys.
 fn hears<K: OfRound, R: Wait>(
     rt: &R,
-    round: &Table,
+    round: &RoundOf,
     half: Half,
     from: Receiver<News<K>>,
 ) -> (Half, bool)
@@ -158,7 +158,7 @@ fn hears<K: OfRound, R: Wait>(
 fn spoken<K: OfRound + Send, R: Threads + Wait + Sync + Abort>(
     rt: &R,
     alloc: Global,
-    round: &Table,
+    round: &RoundOf,
     one: Half,
     two: Half,
 ) -> (Half, (Half, bool))

@@ -6,14 +6,14 @@ use super::asking::{adds_up, seen_size};
 use super::playing::Change::{Add, Insert, Put, Remove, Sub};
 use super::playing::Reply::Came;
 use super::playing::{Change, changed};
-use super::rounds::{Half, Hands, Table, Walker, next_pass};
+use super::rounds::{CrewOf, Half, RoundOf, Walker, next_pass};
 use aug_trie::{CrewError, Outcome};
 use std::sync::Wait;
 use std::thread;
 use std::thread::Threads;
 
 // A half of the pass of the next lane.
-pub(super) fn next_half(crew: &mut Hands, round: &Table) -> Result<Half, CrewError>
+pub(super) fn next_half(crew: &mut CrewOf, round: &RoundOf) -> Result<Half, CrewError>
     requires together { table_of crew.old.round ≡ round.now }
     ensures together { crew.new.round ≡ crew.old.round }
     ensures round { IfOk result (λ half. half.round ≡ crew.old.round) }
@@ -25,7 +25,7 @@ pub(super) fn next_half(crew: &mut Hands, round: &Table) -> Result<Half, CrewErr
 }
 
 // Takes the pass of a half back.
-pub(super) fn back(crew: &mut Hands, round: &Table, half: Half)
+pub(super) fn back(crew: &mut CrewOf, round: &RoundOf, half: Half)
     requires together { table_of crew.old.round ≡ round.now }
     requires round { half.round ≡ crew.old.round }
     ensures { crew.new.round ≡ crew.old.round }
@@ -130,7 +130,7 @@ fn turn(pass: &mut Walker<'_>, universe: u32, task: Task, members: u32) -> Optio
 pub(super) type Worked = (Half, Option<u32>);
 
 // A task, done by the pass of a half.
-pub(super) fn done(round: &Table, half: Half, task: Task) -> Worked
+pub(super) fn done(round: &RoundOf, half: Half, task: Task) -> Worked
     requires { table_of half.round ≡ round.now }
     ensures { result.0.round ≡ half.round }
 {
@@ -150,7 +150,7 @@ pub(super) fn done(round: &Table, half: Half, task: Task) -> Worked
 // Two halves at work, each in a thread of its own.
 fn pair<R: Threads + Wait + Sync>(
     rt: &R,
-    round: &Table,
+    round: &RoundOf,
     one: Half,
     two: Half,
     task: Task,
@@ -174,7 +174,7 @@ fn pair<R: Threads + Wait + Sync>(
 // The first and the second two of four halves at work, each in a thread of its own.
 pub(super) fn work<R: Threads + Wait + Sync>(
     rt: &R,
-    round: &Table,
+    round: &RoundOf,
     halves: (Half, Half, Half, Half),
     first: Task,
     second: Task,

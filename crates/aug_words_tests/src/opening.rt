@@ -7,7 +7,7 @@ ghost use Rattle.aug_monoid.specs.Weighted.{FitsPair};
 
 use super::tables::{assert_leaves, assert_nodes, assert_records, table_of};
 use crate::assertions::holds;
-use aug_words::{Rest, WordsError};
+use aug_words::Rest;
 use std::alloc::{AllocError, Global};
 use std::process::Abort;
 
@@ -38,7 +38,7 @@ fn opened(
     members: u32,
     workers: u32,
     updates: u32,
-) -> Result<Rest, WordsError>
+) -> Result<Rest, AllocError>
     requires bits { bits ≤ 16 }
     requires first { first ≤ 2 ^ bits }
     requires members { 2 ^ bits - first ≤ members }
@@ -64,7 +64,7 @@ fn assert_holds(
     first: u32,
     members: u32,
     held: &Held<'_>,
-) -> Result<(), WordsError> {
+) -> Result<(), AllocError> {
     holds(rt, bits <= 16);
     holds(rt, first <= 1 << bits);
     holds(rt, (1 << bits) - first <= members);
@@ -170,7 +170,7 @@ const OPENED: &[(u32, u32, u32, Held<'static>)] = &[
 ];
 
 #[test]
-fn tables_of_one_and_of_sixteen_bits_open(rt: HostRuntime) -> Result<(), WordsError> {
+fn tables_of_one_and_of_sixteen_bits_open(rt: HostRuntime) -> Result<(), AllocError> {
     for (bits, first, members, held) in OPENED {
         assert_holds(&rt, rt.alloc(), *bits, *first, *members, held)?;
     }
@@ -188,11 +188,9 @@ const TWO_BITS_UPPER_KEYS: Held<'static> = Held {
 
 // A request that is refused is made again. `tests/faults` refuses each in turn.
 #[test]
-fn refused_memory_spoils_no_later_opening(rt: HostRuntime) -> Result<(), WordsError> {
+fn refused_memory_spoils_no_later_opening(rt: HostRuntime) -> Result<(), AllocError> {
     match assert_holds(&rt, rt.alloc(), 2, 2, 2, &TWO_BITS_UPPER_KEYS) {
         Ok(()) => Ok(()),
-        Err(WordsError::OutOfMemory) => {
-            assert_holds(&rt, rt.alloc(), 2, 2, 2, &TWO_BITS_UPPER_KEYS)
-        }
+        Err(AllocError) => { assert_holds(&rt, rt.alloc(), 2, 2, 2, &TWO_BITS_UPPER_KEYS) }
     }
 }

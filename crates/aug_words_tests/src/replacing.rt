@@ -6,8 +6,8 @@ ghost use Rattle.aug_core.specs.Told.{MayChange};
 use super::tables::{assert_leaves, assert_nodes, assert_records, join, next_pass, table_of};
 use crate::assertions::holds;
 use aug_monoid::Monoid;
-use aug_words::{Rest, WordPass, WordsError};
-use std::alloc::Global;
+use aug_words::{Rest, WordPass};
+use std::alloc::{AllocError, Global};
 use std::process::Abort;
 
 // What one serial adds to a leaf's word.
@@ -27,7 +27,7 @@ fn replace<A: Monoid, B: Monoid>(pass: &mut WordPass<'_, A, B>, leaf: usize, wei
 }
 
 // A table of 1 bit that opened with the key 0, of weight 0, after a pass gave it another weight.
-fn replaced(alloc: Global, weight: u32) -> Result<(bool, Rest), WordsError>
+fn replaced(alloc: Global, weight: u32) -> Result<(bool, Rest), AllocError>
     ensures { IfOk result (λ r. r.1.shape ≡ shape_of 1 1 1 1) }
 {
     let (words, mut lead) = table_of(alloc, 1, 1, 1, 1, &[(0, 0)])?;
@@ -47,7 +47,7 @@ fn assert_replaces(
     alloc: Global,
     weight: u32,
     word: u64,
-) -> Result<(), WordsError> {
+) -> Result<(), AllocError> {
     let (done, rest) = replaced(alloc, weight)?;
     holds(rt, done);
     assert_leaves(rt, &rest, 1, &[(0, word), (1, 0)]);
@@ -65,7 +65,7 @@ const WEIGHTS: &[(u32, u64)] = &[
 ];
 
 #[test]
-fn a_weight_is_replaced_by_one_exchange(rt: HostRuntime) -> Result<(), WordsError> {
+fn a_weight_is_replaced_by_one_exchange(rt: HostRuntime) -> Result<(), AllocError> {
     for (weight, word) in WEIGHTS {
         assert_replaces(&rt, rt.alloc(), *weight, *word)?;
     }

@@ -3,10 +3,10 @@
 use super::tables::{root_of, small};
 use super::working::{Filled, next_half, take_back, work};
 use crate::assertions::equal;
-use aug_words::WordsError;
+use std::alloc::AllocError;
 
 #[test]
-fn a_table_that_passes_work_on_asks_4_times_for_memory(rt: HostRuntime) -> Result<(), WordsError> {
+fn a_table_that_passes_work_on_asks_4_times_for_memory(rt: HostRuntime) -> Result<(), AllocError> {
     let (words, mut lead) = small(rt.alloc())?;
     equal(&rt, root_of(&lead), 4);
     let first = next_half(&mut lead, &words, 0, 5);

@@ -8,8 +8,8 @@ use super::tables::{assert_leaves, assert_nodes, assert_records, join, next_pass
 use crate::assertions::equal;
 use aug_core::RecordField;
 use aug_monoid::{Monoid, fold_slice};
-use aug_words::{Rest, WordPass, WordsError};
-use std::alloc::Global;
+use aug_words::{Rest, WordPass};
+use std::alloc::{AllocError, Global};
 
 // The word of the one node.
 const NODE: usize = 2;
@@ -134,7 +134,7 @@ struct Outcome {
 }
 
 // Two passes play on a table of one bit, two workers and one update.
-fn race(alloc: Global) -> Result<Outcome, WordsError>
+fn race(alloc: Global) -> Result<Outcome, AllocError>
     ensures { IfOk result (λ done. done.rest.shape ≡ shape_of 1 2 1 0) }
 {
     let (words, mut lead) = table_of(alloc, 1, 2, 1, 0, &[])?;
@@ -163,7 +163,7 @@ const RECORDS: &[(u64, [u64; 5])] = &[
 ];
 
 #[test]
-fn a_record_is_filled_again_after_a_lost_exchange(rt: HostRuntime) -> Result<(), WordsError> {
+fn a_record_is_filled_again_after_a_lost_exchange(rt: HostRuntime) -> Result<(), AllocError> {
     let done = race(rt.alloc())?;
     equal(&rt, (done.lanes, done.handed), ([0, 1], 2));
     let played = done.played.expect(&rt, "a lost exchange");

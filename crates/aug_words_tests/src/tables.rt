@@ -10,11 +10,11 @@ ghost use Rattle.aug_words.specs.Seats.{AreTogether};
 use crate::assertions::{equal, holds};
 use aug_core::{Layout, RecordField};
 use aug_monoid::{Extent, Monoid, Sum};
-use aug_words::{Lead, Rest, WordPass, Words, WordsError};
+use aug_words::{Lead, Rest, WordPass, Words};
 use std::alloc::{AllocError, Global};
 use std::process::Abort;
 
-pub(super) type Table = Words<Sum, Extent>;
+pub(super) type WordsOf = Words<Sum, Extent>;
 
 // A table of `bits` bits, `workers` workers and `updates` updates, which opens with these members in a layout for `room` of them.
 pub(super) fn table_of(
@@ -24,7 +24,7 @@ pub(super) fn table_of(
     updates: u32,
     room: u32,
     members: &[(u32, u32)],
-) -> Result<(Table, Lead<Sum, Extent>), WordsError>
+) -> Result<(WordsOf, Lead<Sum, Extent>), AllocError>
     requires keys { IsKeySet bits (keys_of members.now) }
     requires fit { All FitsPair members.now }
     requires few { length members.now ≤ room }
@@ -33,13 +33,13 @@ pub(super) fn table_of(
     ensures spare { IfOk result (λ t. t.1.view.spare ≡ Some 0) }
 {
     let Ok(layout) = Layout::new(bits, workers, updates, room) else {
-        return Err(WordsError::OutOfMemory)
+        return Err(AllocError)
     };
     Words::open(alloc, &layout, members)
 }
 
 // A table of 2 bits, 3 workers and 2 updates, which opens with the keys 0 and 1.
-pub(super) fn small(alloc: Global) -> Result<(Table, Lead<Sum, Extent>), WordsError>
+pub(super) fn small(alloc: Global) -> Result<(WordsOf, Lead<Sum, Extent>), AllocError>
     ensures together { IfOk result (λ t. AreTogether t.0 t.1) }
     ensures shape { IfOk result (λ t. t.0.shape ≡ shape_of 2 3 2 2) }
     ensures spare { IfOk result (λ t. t.1.view.spare ≡ Some 0) }
@@ -133,14 +133,4 @@ pub(super) fn assert_records(rt: &impl Abort, rest: &Rest, count: u64, records: 
 // The number of the root's record that a lead knows.
 pub(super) fn root_of(lead: &Lead<Sum, Extent>) -> u64 {
     lead.root()
-}
-
-#[test]
-fn a_refusal_is_printed_by_its_name(rt: HostRuntime) -> Result<(), AllocError> {
-    let cause = WordsError::OutOfMemory;
-    let clone = cause.clone()?;
-    equal(&rt, clone, cause);
-    let printed = format!(in rt.alloc(); "{clone} {clone:?}")?;
-    equal(&rt, printed.as_str(), "OutOfMemory OutOfMemory");
-    Ok(())
 }

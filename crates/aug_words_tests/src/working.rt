@@ -5,12 +5,12 @@ ghost use Rattle.aug_core.specs.Places.{shape_of};
 ghost use Rattle.aug_core.specs.Told.{MayStore};
 ghost use Rattle.aug_words.specs.Seats.{AreTogether};
 
-use super::tables::{Table, assert_records, join, next_pass, small};
+use super::tables::{WordsOf, assert_records, join, next_pass, small};
 use crate::assertions::equal;
 use aug_core::RecordField;
 use aug_monoid::{Extent, Sum};
-use aug_words::{Lead, Rest, WordHalf, WordPass, WordsError};
-use std::alloc::Global;
+use aug_words::{Lead, Rest, WordHalf, WordPass};
+use std::alloc::{AllocError, Global};
 use std::sync::Wait;
 use std::thread;
 use std::thread::Threads;
@@ -25,7 +25,7 @@ pub(super) struct Filled {
 // The pass of the next lane, which has this record.
 pub(super) fn next_half(
     lead: &mut Lead<Sum, Extent>,
-    words: &Table,
+    words: &WordsOf,
     lane: u32,
     number: u64,
 ) -> WordHalf<Sum, Extent>
@@ -42,7 +42,7 @@ pub(super) fn next_half(
 }
 
 // Takes a half of the table back.
-pub(super) fn take_back(lead: &mut Lead<Sum, Extent>, words: &Table, half: WordHalf<Sum, Extent>)
+pub(super) fn take_back(lead: &mut Lead<Sum, Extent>, words: &WordsOf, half: WordHalf<Sum, Extent>)
     requires together { AreTogether words.now lead.old }
     requires half { AreTogether words.now half }
     ensures { AreTogether words.now lead.new }
@@ -67,7 +67,7 @@ fn get(pass: &mut WordPass<Sum, Extent>, number: u64, field: RecordField) -> u64
 }
 
 // Fills a record of the half's pass and reads it.
-pub(super) fn work(words: &Table, half: WordHalf<Sum, Extent>, number: u64, first: u64) -> Filled
+pub(super) fn work(words: &WordsOf, half: WordHalf<Sum, Extent>, number: u64, first: u64) -> Filled
     requires together { AreTogether words.now half }
     requires number { MayStore half.view number × (first < 100) }
     ensures { AreTogether words.now result.half }
@@ -94,7 +94,7 @@ pub(super) fn work(words: &Table, half: WordHalf<Sum, Extent>, number: u64, firs
 // The work of two halves, each in a thread of its own.
 fn work_of_two<R: Threads + Wait + Sync>(
     rt: &R,
-    words: &Table,
+    words: &WordsOf,
     one: WordHalf<Sum, Extent>,
     other: WordHalf<Sum, Extent>,
 ) -> (Filled, Filled)
@@ -119,7 +119,7 @@ fn work_of_two<R: Threads + Wait + Sync>(
 // The work of three halves in three threads.
 fn work_of_three<R: Threads + Wait + Sync>(
     rt: &R,
-    words: &Table,
+    words: &WordsOf,
     first: WordHalf<Sum, Extent>,
     second: WordHalf<Sum, Extent>,
     third: WordHalf<Sum, Extent>,
@@ -154,7 +154,7 @@ struct Outcome {
 }
 
 // Hands three lanes out, and takes them back once their records were filled.
-fn three<R: Threads + Wait + Sync>(rt: &R, alloc: Global) -> Result<Outcome, WordsError>
+fn three<R: Threads + Wait + Sync>(rt: &R, alloc: Global) -> Result<Outcome, AllocError>
     ensures { IfOk result (λ done. done.rest.shape ≡ shape_of 2 3 2 2) }
 {
     let (words, mut lead) = small(alloc)?;
@@ -182,7 +182,7 @@ const RECORDS: &[(u64, [u64; 5])] = &[
 ];
 
 #[test]
-fn three_passes_fill_their_records(rt: HostRuntime) -> Result<(), WordsError> {
+fn three_passes_fill_their_records(rt: HostRuntime) -> Result<(), AllocError> {
     let done = three(&rt, rt.alloc())?;
     let filled = [
         [10, 11, 12, 13, 14],

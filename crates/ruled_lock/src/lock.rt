@@ -93,7 +93,7 @@ impl<T, V, P: LockRule<T, V>> RuledLock<T, V, P> {
         &self,
         how: &W,
         pass: &mut Pass<T, V>,
-    ) -> Result<T, W::Missed>
+    ) -> Result<T, W::GaveUp>
         requires lock { pass.old.table_id ≡ self.now.table.shared.table_id }
         requires free { HoldsNothing pass.old }
         requires rule { Learns P.holds pass.old.id (client_of pass.old) M.fact }

@@ -9,14 +9,14 @@ use std::sync::Wait;
 /// How long a call waits for a value that another pass has.
 pub trait Patience {
     /// What shows that the call gave up.
-    type Missed;
+    type GaveUp;
 
     /// Takes the slot of a lock. If it gives up, nothing has changed.
     fn acquire<T, V, P: LockRule<T, V>, M: Lesson<T, V>>(
         &self,
         lock: &RuledLock<T, V, P>,
         pass: &mut Pass<T, V>,
-    ) -> Result<(), Self::Missed>
+    ) -> Result<(), Self::GaveUp>
         requires lock { pass.old.table_id ≡ lock.now.table.shared.table_id }
         requires free { HoldsNothing pass.old }
         requires rule { Learns P.holds pass.old.id (client_of pass.old) M.fact }
@@ -35,7 +35,7 @@ pub struct Waits<'r, R: Wait>(pub &'r R);
 pub enum Never {}
 
 impl<R: Wait> Patience for Waits<'_, R> {
-    type Missed = Never;
+    type GaveUp = Never;
 
     #[inline(always)]
     fn acquire<T, V, P: LockRule<T, V>, M: Lesson<T, V>>(
@@ -59,7 +59,7 @@ pub struct WasOut {
 }
 
 impl Patience for Tries {
-    type Missed = WasOut;
+    type GaveUp = WasOut;
 
     #[inline(always)]
     fn acquire<T, V, P: LockRule<T, V>, M: Lesson<T, V>>(

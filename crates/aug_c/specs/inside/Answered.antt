@@ -1,17 +1,21 @@
--- How any query of a lane is answered with a number.
-use Rattle.std.specs.Prelude.{◌≡◌, ℤ}
-use Rattle.aug_monoid.specs.declared.sum.Sum.{Sum}
-use Rattle.aug_monoid.specs.declared.extent.Extent.{Extent}
+-- How any query of a look is answered with a number.
+use Rattle.std.specs.Prelude.{◌≡◌, ℕ, ℤ}
 use Rattle.aug_model.specs.Keys.{SetFacts}
-use Rattle.aug_trie.specs.Node.{Stays}
-use Rattle.aug_trie.specs.declared.rounds.owned.OwnedPass.{OwnedPass}
-use Rattle.aug_c.specs.LaneCalls.{span_of, shown}
+use Rattle.aug_live.specs.LiveHandles.{LookFacts, IsAsked, set_of_look}
+use Rattle.aug_c.specs.UserCalls.{span_of}
+use Rattle.aug_c.specs.declared.seat.Seat.{Seat}
+use Rattle.aug_c.specs.declared.seat.Seat.TheVariants.{Free, Looking}
+use Rattle.aug_c.specs.Codes as codes
 
 -- a query is answered right for the snapshot's set, by a number, and changes nothing that a later one could see
-pub record AnsweredBy {X : Type 0} (is_answer : SetFacts → X → Type 0) (number_of : X → ℤ) (old new : OwnedPass Sum Extent) (code : ℤ) : Type 0 where
+pub record AnswersLook {X : Type 0} (is_answer : SetFacts → X → Type 0) (number_of : X → ℤ) (old new : LookFacts) (code : ℤ) : Type 0 where
   pub answer : X
-  pub is : is_answer (shown old) answer
+  pub is : is_answer (set_of_look old) answer
   pub says : code ≡ number_of answer
-  pub stays : Stays span_of old.half new.half
-  pub held : new.held ≡ old.held
-  pub round : new.round ≡ old.round
+  pub most : ℕ
+  pub asked : IsAsked span_of most old new
+
+-- the same of a user
+abbrev pub AnsweredBy : {X : Type 0} → (SetFacts → X → Type 0) → (X → ℤ) → Seat → Seat → ℤ → Type 0
+AnsweredBy is_answer number_of (Free access) new code = (new ≡ Free access) × (code ≡ codes.not_looking)
+AnsweredBy is_answer number_of (Looking old) new code = (look : LookFacts) × (new ≡ Looking look) × AnswersLook is_answer number_of old look code

@@ -5,13 +5,13 @@ ghost use Rattle.aug_report.specs.AllowedReport.{Answers, reply_to_put};
 ghost use Rattle.aug_script.specs.Script.{is_in_bounds, is_update};
 ghost use Rattle.aug_run.specs.inside.Workers.{lane_at};
 
-use crate::trie::Hand;
+use crate::trie::PassOf;
 use aug_query::descent::{After, Before, Has, Range, Rank, Select, Size, Weight};
 use aug_script::{Reply, Verb};
 use aug_trie::{Outcome, Snapshot};
 
 /// Runs a verb and answers it: updates on the pass, `look` by a new snapshot, and queries from the snapshot that is held.
-pub(crate) fn answer(pass: &mut Hand, held: &mut Snapshot, verb: Verb) -> Reply
+pub(crate) fn answer(pass: &mut PassOf, held: &mut Snapshot, verb: Verb) -> Reply
     requires held { HasSnapshot pass.old held.old.number }
     requires in_bounds { IsTrue (is_in_bounds pass.old.round.bits verb) }
     requires budget { IsTrue (is_update verb) → pass.old.spent < pass.old.round.updates }

@@ -4,7 +4,7 @@ ghost use Rattle.aug_core.specs.Prefixes.{IsPrefix};
 ghost use Rattle.aug_run.specs.inside.Workers.{opening_cut_of, AllReady, AreRowCounts};
 
 use crate::lanes::work::Job;
-use crate::trie::{Hands, Table};
+use crate::trie::{CrewOf, SharedRound};
 use aug_script::Row;
 use std::alloc::{AllocError, Global};
 
@@ -32,8 +32,8 @@ fn row_counts(alloc: Global, workers: u32, rows: &[Row]) -> Result<Vec<usize>, A
 /// Hands a pass out for each lane, and makes room for the replies of its rows.
 pub(crate) fn jobs(
     alloc: Global,
-    crew: &mut Hands,
-    round: &Table,
+    crew: &mut CrewOf,
+    round: &SharedRound,
     workers: u32,
     rows: &[Row],
 ) -> Result<Vec<Job>, AllocError>

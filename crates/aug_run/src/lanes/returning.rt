@@ -5,14 +5,14 @@ ghost use Rattle.aug_run.specs.inside.Returns.{AreAnswered, AreInOrder, WentBack
 ghost use Rattle.aug_run.specs.inside.Workers.{AllDone};
 
 use crate::lanes::work::Done;
-use crate::trie::{Hands, Table};
+use crate::trie::{CrewOf, SharedRound};
 use aug_script::{Reply, Row};
 use std::vec::IntoIter;
 
 /// Takes each pass back, in the order of the lanes. What is left are the replies of each lane.
 pub(crate) fn take_back<'r>(
-    crew: &mut Hands,
-    round: &Table,
+    crew: &mut CrewOf,
+    round: &SharedRound,
     rows: &[Row],
     done: Vec<Done<'r>>,
     mut lanes: Vec<IntoIter<Reply>>,

@@ -5,7 +5,7 @@ ghost use Rattle.aug_run.specs.inside.Workers.{limits_of, IsDone, MayBegin};
 
 use crate::gate::Gate;
 use crate::lanes::work::{Done, Job, work};
-use crate::trie::Table;
+use crate::trie::SharedRound;
 use aug_script::Row;
 use std::alloc::AllocError;
 use std::thread::{Promise, PromisedHandle, Scope};
@@ -15,7 +15,7 @@ use std::thread::{Promise, PromisedHandle, Scope};
 pub(crate) struct LaneOf<'a, 'b> {
     pub(crate) lane: u32,
     pub(crate) rows: &'b [Row],
-    pub(crate) round: &'a Table,
+    pub(crate) round: &'a SharedRound,
 }
 
 impl<'a, 'b> Promise<Done<'a>> for LaneOf<'a, 'b> {
@@ -25,7 +25,7 @@ impl<'a, 'b> Promise<Done<'a>> for LaneOf<'a, 'b> {
 /// Starts the thread of one job. If none can be made, the job is dropped.
 pub(crate) fn start<'s, 'a: 's, 'b: 's, 'c: 's, E, G: Gate>(
     scope: &Scope<'s, E>,
-    round: &'a Table,
+    round: &'a SharedRound,
     rows: &'b [Row],
     gate: &'c G,
     job: Job,

@@ -7,7 +7,7 @@ ghost use Rattle.aug_run.specs.inside.Workers.{limits_of, AllReady, AllDone};
 use crate::gate::Gate;
 use crate::lanes::start::{LaneOf, start};
 use crate::lanes::work::{Done, Job};
-use crate::trie::Table;
+use crate::trie::SharedRound;
 use aug_script::Row;
 use std::alloc::{AllocError, Global};
 use std::sync::Wait;
@@ -17,7 +17,7 @@ use std::thread::{PromisedHandle, Scope, Threads};
 // Starts a thread for each job. At `Err` a thread could not be started, and these were.
 fn start_all<'s, 'a: 's, 'b: 's, 'c: 's, E, G: Gate>(
     scope: &Scope<'s, E>,
-    round: &'a Table,
+    round: &'a SharedRound,
     rows: &'b [Row],
     gate: &'c G,
     jobs: Vec<Job>,
@@ -45,7 +45,7 @@ fn start_all<'s, 'a: 's, 'b: 's, 'c: 's, E, G: Gate>(
 // Joins each thread.
 fn join_all<'a, 'b, R: Threads>(
     rt: &R,
-    round: &Table,
+    round: &SharedRound,
     rows: &[Row],
     started: Vec<PromisedHandle<Done<'a>, LaneOf<'a, 'b>>>,
     mut done: Vec<Done<'a>>,
@@ -67,7 +67,7 @@ fn in_scope<'s, 'a: 's, 'b: 's, 'c: 's, E, R: Threads, G: Gate>(
     rt: &R,
     scope: &Scope<'s, E>,
     alloc: Global,
-    round: &'a Table,
+    round: &'a SharedRound,
     rows: &'b [Row],
     gate: &'c G,
     jobs: Vec<Job>,
@@ -94,7 +94,7 @@ fn in_scope<'s, 'a: 's, 'b: 's, 'c: 's, E, R: Threads, G: Gate>(
 pub(crate) fn in_threads<'r, R: Threads + Wait, G: Gate>(
     rt: &R,
     alloc: Global,
-    round: &'r Table,
+    round: &'r SharedRound,
     rows: &'r [Row],
     gate: &'r G,
     jobs: Vec<Job>,

@@ -4,14 +4,14 @@ ghost use Rattle.aug_run.specs.inside.Workers.{limits_of, IsDone, MayBegin};
 
 use crate::gate::Gate;
 use crate::lanes::answer::answer;
-use crate::trie::{Half, Hand, Table};
+use crate::trie::{HalfOf, PassOf, SharedRound};
 use aug_script::{Reply, Row};
 
 /// What a worker begins with. The room for its replies is there. It names no lifetime, so a closure may own it.
 #[derive(Drop)]
 pub(crate) struct Job {
     pub(crate) lane: u32,
-    pub(crate) half: Half,
+    pub(crate) half: HalfOf,
     pub(crate) replies: Vec<Reply>,
 }
 
@@ -19,11 +19,16 @@ pub(crate) struct Job {
 #[derive(Drop)]
 pub(crate) struct Done<'r> {
     pub(crate) replies: Vec<Reply>,
-    pub(crate) pass: Hand<'r>,
+    pub(crate) pass: PassOf<'r>,
 }
 
 /// Takes an opening snapshot, and then runs the rows of the lane in order.
-pub(crate) fn work<'r, G: Gate>(job: Job, rows: &[Row], round: &'r Table, gate: &G) -> Done<'r>
+pub(crate) fn work<'r, G: Gate>(
+    job: Job,
+    rows: &[Row],
+    round: &'r SharedRound,
+    gate: &G,
+) -> Done<'r>
     requires kept { KeepsLimits (limits_of round.now) rows.now }
     requires ready { MayBegin round.now rows.now job.lane job }
     ensures { IsDone round.now rows.now job.lane result }

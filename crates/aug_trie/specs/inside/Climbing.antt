@@ -15,7 +15,7 @@ use Rattle.aug_trie.specs.Pass.{TryNoLeaf, Tried, least_update_steps, most_updat
 use Rattle.aug_trie.specs.LeafWords.{serial_in_word, weight_in_word}
 use Rattle.aug_trie.specs.Requests.{goes_from, in_the_way, outcome_at_once}
 use Rattle.aug_trie.specs.declared.updates.request.Request.{Request}
-use Rattle.aug_trie.specs.declared.updates.request.Request.TheVariants.{Insert, Remove, Put, Add, Sub}
+use Rattle.aug_trie.specs.declared.updates.request.Request.TheVariants.{Insert, Remove, Put, Add, Sub, Take}
 
 -- the weight that a put brings, or the amount, fits a leaf's word
 abbrev pub FitsRequest : Request → Type 0
@@ -24,6 +24,7 @@ FitsRequest Remove = ⊤
 FitsRequest (Put weight) = weight < 2 ^ 32
 FitsRequest (Add amount) = amount < 2 ^ 32
 FitsRequest (Sub amount) = amount < 2 ^ 32
+FitsRequest (Take weight) = ⊤
 
 -- what a request makes of a leaf with this word: a key that is there is replaced by a put, an addition, and a subtraction that leaves some of its weight
 abbrev pub advance_from : Request → ℕ → ℕ → Advance
@@ -32,6 +33,7 @@ advance_from Remove key word = record { serial = serial_in_word word; weight = w
 advance_from (Put weight) key word = record { serial = serial_in_word word; weight = weight_in_word word; replaces = serial_in_word word % 2 == 1; new_weight = weight }
 advance_from (Add amount) key word = record { serial = serial_in_word word; weight = weight_in_word word; replaces = serial_in_word word % 2 == 1; new_weight = weight_in_word word + amount }
 advance_from (Sub amount) key word = record { serial = serial_in_word word; weight = weight_in_word word; replaces = nat_lt amount (weight_in_word word); new_weight = weight_in_word word - amount }
+advance_from (Take weight) key word = record { serial = serial_in_word word; weight = weight_in_word word; replaces = false; new_weight = 0 }
 
 module _ (face : ℕ → ℕ → List (ℕ × ℕ) → List ℕ) (used : ℕ) (v : SeatView) (key : ℕ) (request : Request) (w : SeatView) where
   -- the key's serial went up as the request says, which are changes of the view, and the root shows it with its weight; what it went past it never shows

@@ -5,7 +5,7 @@ use Rattle.aug_trie.specs.declared.updates.outcome.Outcome.{Outcome}
 use Rattle.aug_trie.specs.declared.updates.outcome.Outcome.TheVariants.{Accepted, Replaced}
 use Rattle.aug_trie.specs.Knowledge.{inserts_of, removals_of}
 use Rattle.aug_trie.specs.declared.updates.request.Request.{Request}
-use Rattle.aug_trie.specs.declared.updates.request.Request.TheVariants.{Insert, Remove, Put, Add, Sub}
+use Rattle.aug_trie.specs.declared.updates.request.Request.TheVariants.{Insert, Remove, Put, Add, Sub, Take}
 
 -- `inserts` of the changes are insertions, and `removals` are removals
 pub record HasCounts (changes : List Change) (inserts removals : ℕ) : Type 0 where
@@ -19,6 +19,7 @@ insertions_by Remove Accepted = 0
 insertions_by (Put weight) Accepted = 1
 insertions_by (Add amount) Accepted = 1
 insertions_by (Sub amount) Accepted = 0
+insertions_by (Take weight) Accepted = 0
 insertions_by request Replaced = 1
 insertions_by request done = 0
 
@@ -28,5 +29,6 @@ removals_by Remove Accepted = 1
 removals_by (Put weight) Accepted = 0
 removals_by (Add amount) Accepted = 0
 removals_by (Sub amount) Accepted = 1
+removals_by (Take weight) Accepted = 1
 removals_by request Replaced = 1
 removals_by request done = 0

@@ -30,14 +30,14 @@ level_within bits level place fits = ⊎_elim
     (λ (le : level ≤ bits). le) (cases_lt bits level)
 
 module _ {A B : Type 0} (summary_of : List (ℕ × ℕ) → Summary A B) where
-  stays_so : (p : PassFacts) → Stays summary_of p p
+  pub stays_so : (p : PassFacts) → Stays summary_of p p
   stays_so p = record {
     same = refl;
     steps_stay = ([], sym (append-nil p.steps));
     keeps = record { snapshots = λ s has. has; same_cuts = λ s has. refl; same_sets = λ s has. refl; nodes = λ node has. has; weights = λ key serial weight has. has };
   }
 
-  stays_on : (p q r : PassFacts) → Stays summary_of p q → Stays summary_of q r → Stays summary_of p r
+  pub stays_on : (p q r : PassFacts) → Stays summary_of p q → Stays summary_of q r → Stays summary_of p r
   stays_on p q r a b = record {
     same = b.same ∙ ap (λ (z : PassFacts). record z { steps = r.steps; words = r.words }) a.same;
     steps_stay = (a.steps_stay.0 ++ b.steps_stay.0, b.steps_stay.1 ∙ ap (λ (z : List StepTaken). z ++ b.steps_stay.0) a.steps_stay.1 ∙ append_assoc p.steps a.steps_stay.0 b.steps_stay.0);

@@ -1,4 +1,5 @@
-//! Loads of single words of a snapshot's tree, over a pass that knows only its words.
+//! Loads of single words of a snapshot's tree, over a pass that knows only its words. A snapshot, a level and a place are for the contracts alone:
+//! they say of which node the word is.
 ghost use Rattle.std.specs.Prelude.{◌≡◌, ℕ, ◌+◌, ◌*◌, ◌^◌, ◌<◌, ◌≤◌, length};
 ghost use Rattle.aug_core.specs.Cuts.{set_of_cut};
 ghost use Rattle.aug_core.specs.Faces.{face};

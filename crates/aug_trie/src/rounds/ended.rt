@@ -15,8 +15,8 @@ use crate::rounds::members::Members;
 use aug_core::{Layout, RecordField};
 use aug_monoid::Monoid;
 use aug_query::{Calls, pairs, pairs_into};
-use aug_words::{Lead, Rest, Words, WordsError};
-use std::alloc::Global;
+use aug_words::{Lead, Rest, Words};
+use std::alloc::{AllocError, Global};
 use std::marker::{Model, PhantomData};
 
 /// A trie at rest: a set of keys with weights that no round works on. It is a `Tree`, so all queries of `aug_query` answer over it.
@@ -60,7 +60,7 @@ impl<A: Monoid, B: Monoid> Ended<A, B> {
         };
         match Words::open(alloc, &layout, &[]) {
             Ok((words, lead)) => Ok(Ended::at_rest(words, lead, bits)),
-            Err(WordsError::OutOfMemory) => Err(BeginError::OutOfMemory),
+            Err(AllocError) => Err(BeginError::OutOfMemory),
         }
     }
 

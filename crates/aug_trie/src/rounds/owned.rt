@@ -12,6 +12,8 @@ ghost use Rattle.aug_trie.specs.Node.{Keeps, Reads, steps_for};
 ghost use Rattle.aug_trie.specs.Snapshot.{HasSnapshot, set_at, snapshot_cut};
 ghost use Rattle.aug_trie.specs.Crew.{TakesBack};
 ghost use Rattle.aug_trie.specs.Owned.{OneUpdate, OpensPass};
+ghost use Rattle.aug_trie.specs.Pops.{Pops};
+ghost use Rattle.aug_monoid.specs.Extent.{extent_parts};
 
 use crate::error::UpdateError;
 use crate::queries::snapshot::Snapshot;
@@ -19,10 +21,11 @@ use crate::rounds::crew::Crew;
 use crate::rounds::half::PassHalf;
 use crate::rounds::note::Note;
 use crate::rounds::pass::Pass;
+use crate::rounds::pop::{Pop, Side};
 use crate::rounds::round::Round;
 use crate::updates::outcome::Outcome;
 use crate::updates::request::Request;
-use aug_monoid::Monoid;
+use aug_monoid::{Extent, Monoid};
 use aug_query::Query;
 use std::alloc::Global;
 use std::sync::Arc;
@@ -55,6 +58,7 @@ fn make<A: Monoid, B: Monoid>(pass: &mut Pass<'_, A, B>, key: u32, request: Requ
         Request::Put(weight) => pass.put(key, weight),
         Request::Add(amount) => pass.add(key, amount),
         Request::Sub(amount) => pass.sub(key, amount),
+        Request::Take(weight) => accepted_if(pass.take(key, weight)),
     }
 }
 
@@ -252,5 +256,27 @@ impl<A: Monoid, B: Monoid> OwnedPass<A, B> {
         let held = pass.learn(note);
         let half = pass.into_half();
         OwnedPass { round, half, held }
+    }
+}
+
+impl<A: Monoid> OwnedPass<A, Extent> {
+    /// Takes out the member at one end, as `Pass::pop_first` and `pop_last` do. Refused with `Spent`; then the same pass comes back. Its snapshot stays
+    /// what it was.
+    pub fn pop(self, side: Side) -> (OwnedPass<A, Extent>, Result<Pop, UpdateError>)
+        ensures spent { IsErrOf result.1 UpdateError.Spent ↔ (self.half.spent ≡ self.half.round.updates) }
+        ensures same { IfErr result.1 (λ cause. (cause ≡ UpdateError.Spent) × (result.0 ≡ self)) }
+        ensures made { IfOk result.1 (λ done. Pops (summary_of A.parts extent_parts) side done self.half result.0.half) }
+        ensures held { result.0.held ≡ self.held }
+        ensures round { result.0.round ≡ self.round }
+    {
+        if self.half.budget() == 0 {
+            return (self, Err(UpdateError::Spent));
+        }
+        let OwnedPass { round, half, held } = self;
+        let mut pass = round.pass(half);
+        let done = pass.pop(side);
+        let half = pass.into_half();
+        let owned = OwnedPass { round, half, held };
+        (owned, Ok(done))
     }
 }

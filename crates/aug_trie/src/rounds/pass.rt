@@ -2,7 +2,7 @@
 ghost use Rattle.std.specs.Prelude.{if◌then◌else◌, ◌≡◌, ℕ, ◌+◌, ◌*◌, ◌^◌, ◌<◌, ◌≤◌, [], ◌∷◌, ◌++◌};
 ghost use Rattle.std.specs.Bool.{OnTrue, OnFalse};
 ghost use Rattle.aug_trie.specs.Knowledge.{IsKnowledge, insertion, removal, inserts_of, removals_of};
-ghost use Rattle.aug_trie.specs.Updates.{AcceptedUpdate, RefusedUpdate, ComesTo, TakesSnapshot};
+ghost use Rattle.aug_trie.specs.Updates.{AcceptedUpdate, RefusedUpdate, UsedUp, ComesTo, TakesSnapshot};
 ghost use Rattle.aug_model.specs.Folds.{summary_of};
 ghost use Rattle.aug_trie.specs.Node.{Keeps};
 ghost use Rattle.aug_trie.specs.inside.Climbing.{FitsRequest};
@@ -122,6 +122,21 @@ impl<'r, A: Monoid, B: Monoid> Pass<'r, A, B> {
         ensures steps { StepsOf (Request.Sub amount) k result self.old self.new }
     {
         self.update(k, Request::Sub(amount))
+    }
+
+    /// Takes a key out if it weighs exactly this much. True if this call took it out. False if it was no member, weighed something else, or another
+    /// change of the key came in meanwhile; then nothing is stored.
+    #[inline(never)]
+    pub fn take(&mut self, k: u32, weight: u32) -> bool
+        requires key { k < 2 ^ self.old.round.bits }
+        requires budget { self.old.spent < self.old.round.updates }
+        ensures accepted { OnTrue result (UsedUp k weight self.old.knows self.new.knows) }
+        ensures refused { OnFalse result (ComesTo (Request.Take weight) k Outcome.Refused self.old.knows self.new.knows) }
+        ensures goes_on { (steps : ℕ) × GoesOn 1 steps self.old self.new }
+        ensures keeps { Keeps (summary_of A.parts B.parts) self.old self.new }
+        ensures steps { StepsOf (Request.Take weight) k (if result then Outcome.Accepted else Outcome.Refused) self.old self.new }
+    {
+        matches!(self.update(k, Request::Take(weight)), Outcome::Accepted)
     }
 
     // Makes an update of a key.

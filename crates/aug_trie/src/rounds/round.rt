@@ -21,8 +21,8 @@ use crate::rounds::rest_walk::RestWalk;
 use aug_core::{Layout, LayoutError};
 use aug_monoid::Monoid;
 use aug_query::{Loaded, descent, pairs};
-use aug_words::{IdleLead, Lead, Words, WordsError};
-use std::alloc::Global;
+use aug_words::{IdleLead, Lead, Words};
+use std::alloc::{AllocError, Global};
 use std::marker::Model;
 
 /// What the crew of a round and its passes share: the table that they work on. It is the same value from one round to the next, so a shared
@@ -112,7 +112,7 @@ impl<A: Monoid, B: Monoid> Round<A, B> {
         };
         match Round::over(alloc, layout, members.as_slice()) {
             Ok(begun) => Ok(begun),
-            Err(WordsError::OutOfMemory) => Err((ended, BeginError::OutOfMemory)),
+            Err(AllocError) => Err((ended, BeginError::OutOfMemory)),
         }
     }
 
@@ -147,7 +147,7 @@ impl<A: Monoid, B: Monoid> Round<A, B> {
         };
         match Round::over(alloc, layout, members.as_slice()) {
             Ok(begun) => Ok(begun),
-            Err(WordsError::OutOfMemory) => Err((members, BeginError::OutOfMemory)),
+            Err(AllocError) => Err((members, BeginError::OutOfMemory)),
         }
     }
 
@@ -169,7 +169,7 @@ impl<A: Monoid, B: Monoid> Round<A, B> {
         };
         match Round::over(alloc, layout, members.as_slice()) {
             Ok(begun) => Ok(begun),
-            Err(WordsError::OutOfMemory) => Err(members),
+            Err(AllocError) => Err(members),
         }
     }
 
@@ -178,7 +178,7 @@ impl<A: Monoid, B: Monoid> Round<A, B> {
         alloc: Global,
         layout: Layout,
         members: &[(u32, u32)],
-    ) -> Result<(Round<A, B>, Crew<A, B>), WordsError>
+    ) -> Result<(Round<A, B>, Crew<A, B>), AllocError>
         requires keys { IsKeySet layout.bits (keys_of members.now) }
         requires fit { All FitsPair members.now }
         requires few { length members.now ≤ layout.members }

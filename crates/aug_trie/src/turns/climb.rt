@@ -102,6 +102,15 @@ impl<'r, A: Monoid, B: Monoid> Pass<'r, A, B> {
     {
         start(self, k, Request::Sub(amount))
     }
+
+    /// Begins to take a key of this weight out, as `take`, turn by turn. No step is made yet.
+    pub fn start_take(self, k: u32, weight: u32) -> Climb<'r, A, B>
+        requires key { k < 2 ^ self.round.bits }
+        requires budget { self.spent < self.round.updates }
+        ensures { BeginsClimb (Request.Take weight) k self.entry result }
+    {
+        start(self, k, Request::Take(weight))
+    }
 }
 
 // Begins an update.

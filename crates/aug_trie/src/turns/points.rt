@@ -93,7 +93,8 @@ fn over_leaves<A: Monoid, B: Monoid>(child: usize, from: u64, left: u64, right: 
     }
 }
 
-// The own record over two nodes, of whose records all words were loaded.
+// The own record over two nodes, of whose records all words were loaded: the count, the first and the second value of the left one, and then those
+// of the right one.
 fn over_nodes<A: Monoid, B: Monoid>(reading: Reading) -> Filling
     requires { slice_index reading.words 0 + slice_index reading.words 3 < 2 ^ 64 }
     ensures from { result.from ≡ reading.from }

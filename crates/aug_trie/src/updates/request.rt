@@ -17,6 +17,8 @@ pub enum Request {
     Add(u32),
     /// It takes this amount from the weight of the key, and takes the key out if nothing of it is left. An amount of 0 changes nothing.
     Sub(u32),
+    /// It takes the key out, if it is there and weighs exactly this much.
+    Take(u32),
 }
 
 // How many insertions it is that came to this.
@@ -40,7 +42,7 @@ pub(crate) fn removals_by(request: Request, outcome: Outcome) -> u32
 {
     match (request, outcome) {
         (_, Outcome::Replaced) => 1,
-        (Request::Remove | Request::Sub(_), Outcome::Accepted) => 1,
+        (Request::Remove | Request::Sub(_) | Request::Take(_), Outcome::Accepted) => 1,
         _ => 0,
     }
 }

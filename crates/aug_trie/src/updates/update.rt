@@ -9,9 +9,9 @@ ghost use Rattle.aug_trie.specs.inside.Goes.{HasLeaves, HasRoom};
 ghost use Rattle.aug_trie.specs.LeafWords.{serial_in_word};
 ghost use Rattle.aug_trie.specs.Requests.{goes_from, outcome_by, outcome_at_once, word_after as word_of_request};
 
-use crate::updates::climbing::propagate;
 use crate::updates::leaf_words::{leaf_serial, leaf_weight, leaf_word};
 use crate::updates::outcome::Outcome;
+use crate::updates::propagate::propagate;
 use crate::updates::request::Request;
 use aug_monoid::Monoid;
 use aug_words::WordPass;
@@ -28,6 +28,7 @@ pub(crate) fn goes_on(request: Request, word: u64) -> bool
         Request::Put(_) => true,
         Request::Add(amount) => amount > 0 && amount <= u32::MAX - leaf_weight(word),
         Request::Sub(amount) => amount > 0 && odd && amount <= leaf_weight(word),
+        Request::Take(weight) => odd && leaf_weight(word) == weight,
     }
 }
 
@@ -61,7 +62,7 @@ pub(crate) fn word_after(request: Request, key: u32, word: u64) -> u64
         Request::Sub(amount) if amount < leaf_weight(word) => {
             leaf_word(serial + 2, leaf_weight(word) - amount)
         }
-        Request::Sub(_) => leaf_word(serial + 1, 0),
+        Request::Sub(_) | Request::Take(_) => leaf_word(serial + 1, 0),
     }
 }
 

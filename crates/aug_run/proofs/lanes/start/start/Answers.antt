@@ -9,8 +9,8 @@ use denote.Param.SendFields.{as_row_send, declared_send, declared_sync}
 use Rattle.std.proofs.Crossing.{crosses}
 use Rattle.aug_script.proofs.row.Row.TheSendSync as row
 use Rattle.aug_trie.proofs.rounds.round.Round.TheSendSync as round
-use Rattle.aug_run.specs.contracts.trie.Table as table
-use Rattle.aug_run.specs.contracts.trie.Table.TheInside as inside
+use Rattle.aug_run.specs.contracts.trie.SharedRound as table
+use Rattle.aug_run.specs.contracts.trie.SharedRound.TheInside as inside
 use Rattle.aug_run.proofs.lanes.work.Job.TheSendSync as job
 use Rattle.aug_run.proofs.lanes.start.start.Goals as goal
 

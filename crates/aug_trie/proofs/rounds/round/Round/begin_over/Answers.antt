@@ -25,8 +25,8 @@ returns-in-Err g c = let m = c.args.members in let are = c.in-Err.ensures in
     let says = says_cause (Err c.in-Err.cause) m m.bits c.args.bits c.args.workers c.args.updates c.size.result (length m.pairs) c.size.ensures (not_fewer c.bits.ensures c.if-contains.ensures.cases) are.bad_bits are.bad_workers are.bad_updates are.too_large c.in-Err.cause c.from.result refl c.from.ensures in
     record { begun = tt; same = refl; bad_bits = says.bad_bits; narrower = says.narrower; bad_workers = says.bad_workers; bad_updates = says.bad_updates; too_large = says.too_large }
 
-pub returns-in-Err-OutOfMemory : goal.returns-in-Err-OutOfMemory
-returns-in-Err-OutOfMemory g c = let m = c.args.members in let are = c.in-Ok.ensures in
+pub returns-in-Err-over : goal.returns-in-Err-over
+returns-in-Err-over g c = let m = c.args.members in let are = c.in-Ok.ensures in
     let says = says_no_memory (Ok c.in-Ok.layout) m m.bits c.args.bits c.args.workers c.args.updates c.size.result (length m.pairs) c.size.ensures (not_fewer c.bits.ensures c.if-contains.ensures.cases) are.bad_bits are.bad_workers are.bad_updates are.too_large c.in-Ok.layout m refl in
     record { begun = tt; same = refl; bad_bits = says.bad_bits; narrower = says.narrower; bad_workers = says.bad_workers; bad_updates = says.bad_updates; too_large = says.too_large }
 

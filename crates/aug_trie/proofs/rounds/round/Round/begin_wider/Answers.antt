@@ -69,8 +69,8 @@ returns-in_default g c = let e = c.args.ended in let are = c.in-Ok.ensures in
       fit = subst (λ (z : EndedFacts). All FitsPair z.members) c.ended.view_is c.ended.invariant.fit;
     }
 
-pub returns-in-Err-OutOfMemory : goal.returns-in-Err-OutOfMemory
-returns-in-Err-OutOfMemory g c = let e = c.args.ended in let are = c.in-Ok.ensures in
+pub returns-in-Err-over : goal.returns-in-Err-over
+returns-in-Err-over g c = let e = c.args.ended in let are = c.in-Ok.ensures in
     let says = says_no_memory (Ok c.in-Ok.layout) e e.bits c.args.bits c.args.workers c.args.updates c.size.result (length e.members) c.size.ensures (not_fewer (ap (λ (z : EndedFacts). z.bits) c.ended.view_is) c.if-contains.ensures.cases) are.bad_bits are.bad_workers are.bad_updates are.too_large c.in-Ok.layout c.pairs.new.tree refl in
     record {
       begun = tt;

@@ -1,0 +1,445 @@
+/* The queries, of a snapshot and of a trie, which takes a look for each; snapshots; and the iteration over members. Numbers of Python are read
+   before a look is asked, and made after it, so that no code of Python runs on this thread while a handle is in use. */
+#include "module.h"
+
+/* For how many keys one call of the library asks at most. */
+enum { PART = 256 };
+
+/* Begins to ask a trie or snapshot: the seat to ask, or NULL with an exception. */
+static Seat *begin(PyObject *self) {
+    if (Py_TYPE(self) == trie_type) return look((Trie *)self);
+    Snapshot *snapshot = (Snapshot *)self;
+    for (unsigned turn = 0;; turn++) {
+        if (!is_open(snapshot->trie)) return raise_code(AUG_CLOSED);
+        if (!snapshot->seat) return raise_code(AUG_NOT_LOOKING);
+        if (!snapshot->seat->is_busy) return snapshot->seat;
+        if (nap(turn)) return NULL;
+    }
+}
+
+static void end(PyObject *self, Seat *seat) {
+    if (Py_TYPE(self) == trie_type) aug_look_done(&seat->handle);
+}
+
+/* ---- One number ---- */
+
+typedef int64_t (*Query)(aug_user *user, int64_t place);
+
+static int64_t has(aug_user *user, int64_t place) { return place < 0 ? 0 : aug_has(user, (uint32_t)place); }
+static int64_t weight(aug_user *user, int64_t place) { return place < 0 ? AUG_NONE : aug_weight(user, (uint32_t)place); }
+static int64_t left(aug_user *user, int64_t place) { return place < 0 ? 0 : aug_rank(user, (uint32_t)place); }
+static int64_t right(aug_user *user, int64_t place) { return left(user, place + 1); }
+
+static int64_t place_of(aug_user *user, int64_t place) {
+    int64_t is_in = has(user, place);
+    return is_in == 1 ? left(user, place) : is_in < 0 ? is_in : AUG_NONE;
+}
+
+static int64_t before(aug_user *user, int64_t place) { return place < 0 ? AUG_NONE : aug_before(user, (uint32_t)place); }
+static int64_t after(aug_user *user, int64_t place) { return place < 0 ? aug_first(user) : aug_after(user, (uint32_t)place); }
+
+static int64_t size(aug_user *user, int64_t unused) {
+    (void)unused;
+    return aug_size(user);
+}
+
+/* The member at an index, which may be counted from the end. */
+static int64_t item(aug_user *user, int64_t index) {
+    if (index == 0) return aug_first(user);
+    if (index == -1) return aug_last(user);
+    int64_t place = index < 0 ? index + aug_size(user) : index;
+    return place < 0 || place > UINT32_MAX ? AUG_NONE : aug_select(user, (uint32_t)place);
+}
+
+/* What a query answers: 0 and more, AUG_NONE, or another number below 0 with an exception. */
+static int64_t answer_of(PyObject *self, Query query, int64_t place) {
+    Seat *seat = begin(self);
+    if (!seat) return AUG_CLOSED;
+    int64_t answer = query(&seat->handle, place);
+    end(self, seat);
+    if (answer < 0 && answer != AUG_NONE) raise_code(answer);
+    return answer;
+}
+
+/* A query of a key: a number, or None. */
+static PyObject *ask(PyObject *self, PyObject *key, Query query) {
+    int64_t place;
+    if (read_place(key, &place)) return NULL;
+    int64_t answer = answer_of(self, query, place);
+    if (answer == AUG_NONE) Py_RETURN_NONE;
+    return answer < 0 ? NULL : PyLong_FromLongLong(answer);
+}
+
+static PyObject *get_weight(PyObject *self, PyObject *key) { return ask(self, key, weight); }
+static PyObject *bisect_left(PyObject *self, PyObject *key) { return ask(self, key, left); }
+static PyObject *bisect_right(PyObject *self, PyObject *key) { return ask(self, key, right); }
+static PyObject *get_before(PyObject *self, PyObject *key) { return ask(self, key, before); }
+static PyObject *get_after(PyObject *self, PyObject *key) { return ask(self, key, after); }
+
+static PyObject *get_index(PyObject *self, PyObject *key) {
+    PyObject *index = ask(self, key, place_of);
+    if (index != Py_None) return index;
+    Py_DECREF(index);
+    return PyErr_Format(PyExc_ValueError, "%R is no member", key);
+}
+
+static int contains(PyObject *self, PyObject *key) {
+    int64_t place;
+    if (read_place(key, &place)) return -1;
+    int64_t answer = answer_of(self, has, place);
+    return answer < 0 ? -1 : (int)answer;
+}
+
+static Py_ssize_t length(PyObject *self) {
+    int64_t answer = answer_of(self, size, 0);
+    return answer < 0 ? -1 : (Py_ssize_t)answer;
+}
+
+/* ---- Spans ---- */
+
+static int span_of(PyObject *self, PyObject *args, const char *name, aug_span *span) {
+    PyObject *start, *stop;
+    uint32_t from, to;
+    if (!PyArg_UnpackTuple(args, name, 2, 2, &start, &stop) || read_bound(start, &from) || read_bound(stop, &to)) return -1;
+    Seat *seat = begin(self);
+    if (!seat) return -1;
+    int64_t answer = aug_range(&seat->handle, from, to, span);
+    end(self, seat);
+    if (answer < 0) raise_code(answer);
+    return answer < 0 ? -1 : 0;
+}
+
+static PyObject *get_span(PyObject *self, PyObject *args) {
+    aug_span span;
+    if (span_of(self, args, "span", &span)) return NULL;
+    const uint64_t fields[] = {span.sum, span.count, span.least, span.greatest};
+    return record_of(span_type, 4, fields);
+}
+
+static PyObject *get_total(PyObject *self, PyObject *args) {
+    aug_span span;
+    return span_of(self, args, "total", &span) ? NULL : PyLong_FromUnsignedLongLong(span.sum);
+}
+
+/* ---- Many keys ---- */
+
+/* Asks for at most PART keys, and not more than the trie has. */
+typedef int64_t (*Queries)(aug_user *user, const uint32_t *keys, size_t n, int64_t *answers);
+
+static int64_t has_all(aug_user *user, const uint32_t *keys, size_t n, int64_t *answers) {
+    uint8_t out[PART];
+    int64_t code = aug_has_all(user, keys, n, out, PART);
+    for (size_t i = 0; code == AUG_OK && i < n; i++) answers[i] = out[i];
+    return code;
+}
+
+static int64_t rank_all(aug_user *user, const uint32_t *keys, size_t n, int64_t *answers) {
+    uint32_t out[PART];
+    int64_t code = aug_rank_all(user, keys, n, out, PART);
+    for (size_t i = 0; code == AUG_OK && i < n; i++) answers[i] = out[i];
+    return code;
+}
+
+static int64_t weight_all(aug_user *user, const uint32_t *keys, size_t n, int64_t *answers) {
+    return aug_weight_all(user, keys, n, answers, n);
+}
+
+/* The members at indices that rise or fall by a step. */
+static int64_t items_of(aug_user *user, Py_ssize_t start, Py_ssize_t step, size_t n, int64_t *answers) {
+    for (size_t i = 0; i < n; i++) answers[i] = aug_select(user, (uint32_t)(start + (Py_ssize_t)i * step));
+    return AUG_OK;
+}
+
+static PyObject *number_or_none(int64_t answer) {
+    if (answer == AUG_NONE) Py_RETURN_NONE;
+    return told_number(answer);
+}
+
+static PyObject *truth(int64_t answer) {
+    return PyBool_FromLong(answer == 1);
+}
+
+/* A list of answers, which it frees, or NULL with the exception of a code. */
+static PyObject *list_of(int64_t code, int64_t *answers, size_t count, PyObject *(*told)(int64_t)) {
+    PyObject *list = code < 0 ? raise_code(code) : PyList_New((Py_ssize_t)count);
+    for (size_t i = 0; list && i < count; i++) {
+        PyObject *answer = told(answers[i]);
+        if (!answer || PyList_SetItem(list, (Py_ssize_t)i, answer)) Py_CLEAR(list);
+    }
+    PyMem_Free(answers);
+    return list;
+}
+
+static PyObject *ask_all(PyObject *self, PyObject *keys, int (*read)(PyObject *, uint32_t *), Queries queries, PyObject *(*told)(int64_t)) {
+    size_t count;
+    uint32_t bits = Py_TYPE(self) == trie_type ? ((Trie *)self)->bits : ((Snapshot *)self)->trie->bits;
+    uint32_t *from = read_all(keys, &count, read);
+    int64_t *answers = from ? PyMem_Malloc(count * sizeof *answers) : NULL;
+    if (from && !answers) PyErr_NoMemory();
+    Seat *seat = answers ? begin(self) : NULL;
+    int64_t code = AUG_OK;
+    if (seat) {
+        const size_t most = bits < 8 ? (size_t)1 << bits : PART;
+        PyThreadState *others = let_others_run(seat, count);
+        for (size_t i = 0; code == AUG_OK && i < count; i += most)
+            code = queries(&seat->handle, from + i, count - i < most ? count - i : most, answers + i);
+        run_alone(seat, others);
+        end(self, seat);
+    }
+    PyMem_Free(from);
+    if (seat) return list_of(code, answers, count, told);
+    PyMem_Free(answers);
+    return NULL;
+}
+
+static PyObject *get_has_all(PyObject *self, PyObject *keys) { return ask_all(self, keys, read_key, has_all, truth); }
+static PyObject *get_rank_all(PyObject *self, PyObject *keys) { return ask_all(self, keys, read_bound, rank_all, told_number); }
+static PyObject *get_weights(PyObject *self, PyObject *keys) { return ask_all(self, keys, read_key, weight_all, number_or_none); }
+
+/* ---- Places ---- */
+
+static PyObject *get_slice(PyObject *self, PyObject *slice) {
+    Py_ssize_t start, stop, step;
+    if (PySlice_Unpack(slice, &start, &stop, &step)) return NULL;
+    Seat *seat = begin(self);
+    if (!seat) return NULL;
+    int64_t members = aug_size(&seat->handle);
+    size_t count = (size_t)PySlice_AdjustIndices(members < 0 ? 0 : (Py_ssize_t)members, &start, &stop, step);
+    int64_t *answers = PyMem_Malloc(count * sizeof *answers);
+    if (answers) {
+        PyThreadState *others = let_others_run(seat, count);
+        items_of(&seat->handle, start, step, count, answers);
+        run_alone(seat, others);
+    }
+    end(self, seat);
+    return answers ? list_of(members, answers, count, told_number) : PyErr_NoMemory();
+}
+
+static PyObject *no_item(void) {
+    PyErr_SetString(PyExc_IndexError, "there are not so many members");
+    return NULL;
+}
+
+static PyObject *subscript(PyObject *self, PyObject *index) {
+    if (PySlice_Check(index)) return get_slice(self, index);
+    Py_ssize_t place = PyNumber_AsSsize_t(index, PyExc_IndexError);
+    if (place == -1 && PyErr_Occurred()) return NULL;
+    int64_t answer = answer_of(self, item, place);
+    return answer == AUG_NONE ? no_item() : answer < 0 ? NULL : PyLong_FromLongLong(answer);
+}
+
+static PyObject *peekitem(PyObject *self, PyObject *args) {
+    PyObject *index = NULL;
+    if (!PyArg_UnpackTuple(args, "peekitem", 0, 1, &index)) return NULL;
+    Py_ssize_t place = index ? PyNumber_AsSsize_t(index, PyExc_IndexError) : -1;
+    if (place == -1 && PyErr_Occurred()) return NULL;
+    Seat *seat = begin(self);
+    if (!seat) return NULL;
+    int64_t key = item(&seat->handle, place), heavy = weight(&seat->handle, key);
+    end(self, seat);
+    if (key >= 0) return Py_BuildValue("(LL)", (long long)key, (long long)heavy);
+    return key == AUG_NONE ? no_item() : raise_code(key);
+}
+
+/* ---- Iteration ---- */
+
+typedef struct {
+    PyObject_HEAD
+    PyObject *source; /* a trie or a snapshot */
+    uint32_t from, to; /* between these are the members that are not listed yet */
+    int is_reverse, has_weights;
+    size_t room;       /* how many to list next */
+    size_t next, count;
+    uint32_t keys[PART], weights[PART];
+} Iterator;
+
+static PyObject *iterator_of(PyObject *source, uint32_t from, uint32_t to, int is_reverse, int has_weights) {
+    Iterator *iterator = PyObject_New(Iterator, iterator_type);
+    if (!iterator) return NULL;
+    Py_INCREF(source);
+    iterator->source = source;
+    iterator->from = from;
+    iterator->to = to;
+    iterator->is_reverse = is_reverse;
+    iterator->has_weights = has_weights;
+    iterator->room = 4;
+    iterator->next = iterator->count = 0;
+    return (PyObject *)iterator;
+}
+
+static void iterator_free(PyObject *self) {
+    Py_DECREF(((Iterator *)self)->source);
+    free_object(self);
+}
+
+/* Lists the next members. Answers how many, or a code. */
+static int64_t list_next(Iterator *iterator, aug_user *user) {
+    int64_t low = aug_rank(user, iterator->from), high = aug_rank(user, iterator->to);
+    int64_t from = iterator->from, count = high - low < (int64_t)iterator->room ? high - low : (int64_t)iterator->room;
+    if (iterator->is_reverse && count > 0) from = aug_select(user, (uint32_t)(high - count));
+    if (low < 0 || high < 0 || from < 0) return AUG_CLOSED;
+    if (count > 0 && iterator->has_weights) count = aug_list(user, (uint32_t)from, iterator->keys, iterator->weights, (size_t)count);
+    else if (count > 0) count = aug_keys(user, (uint32_t)from, iterator->keys, (size_t)count);
+    if (count <= 0) iterator->from = iterator->to;
+    else if (iterator->is_reverse) iterator->to = iterator->keys[0];
+    else iterator->from = iterator->keys[count - 1] + 1;
+    iterator->next = 0;
+    iterator->count = count > 0 ? (size_t)count : 0;
+    if (iterator->room < PART) iterator->room *= 2;
+    return count;
+}
+
+static PyObject *iterator_next(PyObject *self) {
+    Iterator *iterator = (Iterator *)self;
+    if (iterator->next == iterator->count && iterator->from < iterator->to) {
+        int64_t answer = 0;
+        Seat *seat = begin(iterator->source);
+        if (!seat) return NULL;
+        /* Another thread may have come first, if this one had to wait. */
+        if (iterator->next == iterator->count && iterator->from < iterator->to) answer = list_next(iterator, &seat->handle);
+        end(iterator->source, seat);
+        if (answer < 0) return raise_code(answer);
+    }
+    if (iterator->next == iterator->count) return NULL;
+    size_t at = iterator->is_reverse ? iterator->count - 1 - iterator->next : iterator->next;
+    iterator->next++;
+    if (!iterator->has_weights) return PyLong_FromUnsignedLong(iterator->keys[at]);
+    return Py_BuildValue("(kk)", (unsigned long)iterator->keys[at], (unsigned long)iterator->weights[at]);
+}
+
+static PyObject *iterate(PyObject *self) { return iterator_of(self, 0, AUG_MOST_KEYS, 0, 0); }
+
+static PyObject *iterate_reversed(PyObject *self, PyObject *unused) {
+    (void)unused;
+    return iterator_of(self, 0, AUG_MOST_KEYS, 1, 0);
+}
+
+static PyObject *iterate_between(PyObject *self, PyObject *args, PyObject *named, const char *format, int has_weights) {
+    static char *words[] = {"minimum", "maximum", "inclusive", "reverse", NULL};
+    PyObject *minimum = Py_None, *maximum = Py_None;
+    int has_minimum = 1, has_maximum = 1, is_reverse = 0;
+    int64_t from = 0, to = AUG_MOST_KEYS - 1;
+    if (!PyArg_ParseTupleAndKeywords(args, named, format, words, &minimum, &maximum, &has_minimum, &has_maximum, &is_reverse)) return NULL;
+    if (minimum != Py_None && read_place(minimum, &from)) return NULL;
+    if (maximum != Py_None && read_place(maximum, &to)) return NULL;
+    from += minimum != Py_None && !has_minimum;
+    to += maximum == Py_None || has_maximum;
+    return iterator_of(self, from < 0 ? 0 : (uint32_t)from, to < 0 ? 0 : (uint32_t)to, is_reverse, has_weights);
+}
+
+static PyObject *irange(PyObject *self, PyObject *args, PyObject *named) { return iterate_between(self, args, named, "|OO(pp)p:irange", 0); }
+static PyObject *items(PyObject *self, PyObject *args, PyObject *named) { return iterate_between(self, args, named, "|OO(pp)p:items", 1); }
+
+static PyObject *refuse_copy(PyObject *self, PyObject *unused) {
+    (void)self, (void)unused;
+    PyErr_SetString(PyExc_TypeError, "tries and snapshots are neither copied nor pickled");
+    return NULL;
+}
+
+#define WITH_WORDS(call) (PyCFunction)(void (*)(void))call, METH_VARARGS | METH_KEYWORDS
+
+static PyMethodDef members_methods[] = {
+    {"weight", get_weight, METH_O, "weight($self, key, /)\n--\n\nThe weight of a key, or None if it is no member."},
+    {"weights", get_weights, METH_O, "weights($self, keys, /)\n--\n\nThe weight of each of some keys, or None, as a list."},
+    {"bisect_left", bisect_left, METH_O, "bisect_left($self, key, /)\n--\n\nHow many members are below a key."},
+    {"bisect_right", bisect_right, METH_O, "bisect_right($self, key, /)\n--\n\nHow many members are not above a key."},
+    {"rank_all", get_rank_all, METH_O, "rank_all($self, keys, /)\n--\n\nHow many members are below each of some keys, as a list."},
+    {"has_all", get_has_all, METH_O, "has_all($self, keys, /)\n--\n\nWhether each of some keys is a member, as a list."},
+    {"index", get_index, METH_O, "index($self, key, /)\n--\n\nThe index of a member. ValueError if it is none."},
+    {"before", get_before, METH_O, "before($self, key, /)\n--\n\nThe greatest member below a key, or None."},
+    {"after", get_after, METH_O, "after($self, key, /)\n--\n\nThe least member above a key, or None."},
+    {"total", get_total, METH_VARARGS,
+     "total($self, start, stop, /)\n--\n\nThe sum of the weights of the members from `start` on that are below `stop`."},
+    {"span", get_span, METH_VARARGS,
+     "span($self, start, stop, /)\n--\n\nWhat the members from `start` on that are below `stop` come to: sum, count, least and greatest."},
+    {"peekitem", peekitem, METH_VARARGS, "peekitem($self, index=-1, /)\n--\n\nThe member at an index, and its weight. IndexError if there is none."},
+    {"irange", WITH_WORDS(irange),
+     "irange($self, /, minimum=None, maximum=None, inclusive=(True, True), reverse=False)\n--\n\nAn iterator over the members between two keys."},
+    {"items", WITH_WORDS(items),
+     "items($self, /, minimum=None, maximum=None, inclusive=(True, True), reverse=False)\n--\n\nThe same, with the weight of each."},
+    {"__reversed__", iterate_reversed, METH_NOARGS, "An iterator over the members, falling."},
+    {"__reduce__", refuse_copy, METH_NOARGS, "Refused."},
+    {NULL, NULL, 0, NULL},
+};
+
+static PyType_Slot members_slots[] = {
+    {Py_tp_doc, "What tries and snapshots have in common: they answer as a sorted list of their members."},
+    {Py_tp_new, refuse_new},
+    {Py_tp_dealloc, free_object},
+    {Py_tp_methods, members_methods},
+    {Py_tp_iter, iterate},
+    {Py_sq_contains, contains},
+    {Py_sq_length, length},
+    {Py_mp_length, length},
+    {Py_mp_subscript, subscript},
+    {0, NULL},
+};
+
+PyType_Spec members_spec = {"augtrie.Members", sizeof(PyObject), 0, Py_TPFLAGS_DEFAULT | Py_TPFLAGS_BASETYPE, members_slots};
+
+static PyMethodDef iterator_methods[] = {
+    {"__reduce__", refuse_copy, METH_NOARGS, "Refused."},
+    {NULL, NULL, 0, NULL},
+};
+
+static PyType_Slot iterator_slots[] = {
+    {Py_tp_new, refuse_new},
+    {Py_tp_dealloc, iterator_free},
+    {Py_tp_methods, iterator_methods},
+    {Py_tp_iter, PyObject_SelfIter},
+    {Py_tp_iternext, iterator_next},
+    {0, NULL},
+};
+
+PyType_Spec iterator_spec = {"augtrie.MemberIterator", sizeof(Iterator), 0, Py_TPFLAGS_DEFAULT, iterator_slots};
+
+/* ---- Snapshots ---- */
+
+static void snapshot_free(PyObject *self) {
+    Snapshot *snapshot = (Snapshot *)self;
+    if (snapshot->seat) end_look(snapshot->seat);
+    Py_DECREF(snapshot->trie);
+    free_object(self);
+}
+
+static PyObject *snapshot_renew(PyObject *self, PyObject *unused) {
+    Seat *seat = begin(self);
+    (void)unused;
+    if (!seat) return NULL;
+    int64_t code = aug_look_again(&seat->handle);
+    if (code < 0) return raise_code(code);
+    Py_RETURN_NONE;
+}
+
+static PyObject *snapshot_close(PyObject *self, PyObject *unused) {
+    Snapshot *snapshot = (Snapshot *)self;
+    (void)unused;
+    for (unsigned turn = 0; is_ours(snapshot->trie) && snapshot->seat && snapshot->seat->is_busy; turn++) if (nap(turn)) return NULL;
+    if (snapshot->seat) end_look(snapshot->seat);
+    Py_RETURN_NONE;
+}
+
+static PyObject *snapshot_enter(PyObject *self, PyObject *unused) {
+    (void)unused;
+    if (!begin(self)) return NULL;
+    Py_INCREF(self);
+    return self;
+}
+
+static PyMethodDef snapshot_methods[] = {
+    {"renew", snapshot_renew, METH_NOARGS, "renew($self, /)\n--\n\nShows the trie as it is now."},
+    {"close", snapshot_close, METH_NOARGS, "close($self, /)\n--\n\nEnds it, so that its thread may update again. Nothing if it has ended."},
+    {"__enter__", snapshot_enter, METH_NOARGS, "The snapshot."},
+    {"__exit__", snapshot_close, METH_VARARGS, "Ends it."},
+    {NULL, NULL, 0, NULL},
+};
+
+static PyType_Slot snapshot_slots[] = {
+    {Py_tp_doc, "The set as it was at one moment, until `close`, or the end of its trie or thread. Any thread may ask it."},
+    {Py_tp_new, refuse_new},
+    {Py_tp_dealloc, snapshot_free},
+    {Py_tp_methods, snapshot_methods},
+    {0, NULL},
+};
+
+PyType_Spec snapshot_spec = {"augtrie.Snapshot", sizeof(Snapshot), 0, Py_TPFLAGS_DEFAULT, snapshot_slots};

@@ -1,0 +1,243 @@
+use crate::Error;
+use crate::ffi::{self, Span};
+use crate::user::User;
+use std::cell::RefCell;
+use std::iter::FusedIterator;
+use std::ops::{Bound, Range, RangeBounds};
+
+/// A look at the set: a snapshot, which stays as it is until [`again`](Look::again). All its answers agree with one another. Any key may be
+/// asked for.
+///
+/// It borrows its user, so no update of that user runs meanwhile, and ends when it is dropped. Others may wait for that, so end it soon.
+///
+/// ```
+/// use augtrie::{Error, Trie};
+///
+/// let trie = Trie::new(12, 1, 1 << 20)?;
+/// let mut user = trie.user()?;
+/// user.put_all(&[30, 10, 20], &[3, 1, 2])?;
+/// let look = user.look()?;
+/// assert_eq!((look.len(), look.rank(20), look.select(1), look.before(10)), (3, 1, Some(20), None));
+/// assert_eq!(look.range(10..=20).sum, 3);
+/// assert_eq!(look.iter().rev().next(), Some((30, 3)));
+/// # Ok::<(), Error>(())
+/// ```
+#[derive(Debug)]
+#[must_use = "queries are asked of the look"]
+pub struct Look<'user> {
+    // The library's calls want the user to themselves, and queries take `&self`.
+    user: RefCell<&'user mut User>,
+}
+
+impl<'user> Look<'user> {
+    pub(crate) fn of(user: &'user mut User) -> Look<'user> {
+        Look { user: RefCell::new(user) }
+    }
+
+    // No query is refused while the look is held.
+    fn ask(&self, query: impl FnOnce(&mut ffi::User) -> i64) -> Option<u32> {
+        u32::try_from(query(&mut self.user.borrow_mut().handle)).ok()
+    }
+
+    /// Takes a newer snapshot in the same look, and waits for nobody.
+    pub fn again(&mut self) {
+        ffi::aug_look_again(&mut self.user.get_mut().handle);
+    }
+
+    /// Whether the key is a member.
+    #[must_use]
+    pub fn contains(&self, key: u32) -> bool {
+        self.ask(|user| ffi::aug_has(user, key)) == Some(1)
+    }
+
+    /// The weight of the key, if it is a member.
+    #[must_use]
+    pub fn get(&self, key: u32) -> Option<u32> {
+        self.ask(|user| ffi::aug_weight(user, key))
+    }
+
+    /// How many members there are.
+    #[must_use]
+    pub fn len(&self) -> u32 {
+        self.ask(|user| ffi::aug_size(user)).unwrap_or(0)
+    }
+
+    /// Whether there is no member.
+    #[must_use]
+    pub fn is_empty(&self) -> bool {
+        self.len() == 0
+    }
+
+    /// How many members are below the key.
+    #[must_use]
+    pub fn rank(&self, key: u32) -> u32 {
+        self.ask(|user| ffi::aug_rank(user, key)).unwrap_or(0)
+    }
+
+    /// The member with exactly `index` members below it.
+    #[must_use]
+    pub fn select(&self, index: u32) -> Option<u32> {
+        self.ask(|user| ffi::aug_select(user, index))
+    }
+
+    /// The least member.
+    #[must_use]
+    pub fn first(&self) -> Option<u32> {
+        self.ask(|user| ffi::aug_first(user))
+    }
+
+    /// The greatest member.
+    #[must_use]
+    pub fn last(&self) -> Option<u32> {
+        self.ask(|user| ffi::aug_last(user))
+    }
+
+    /// The greatest member below the key.
+    #[must_use]
+    pub fn before(&self, key: u32) -> Option<u32> {
+        self.ask(|user| ffi::aug_before(user, key))
+    }
+
+    /// The least member above the key.
+    #[must_use]
+    pub fn after(&self, key: u32) -> Option<u32> {
+        self.ask(|user| ffi::aug_after(user, key))
+    }
+
+    /// What the members in an interval come to.
+    #[must_use]
+    pub fn range(&self, keys: impl RangeBounds<u32>) -> Span {
+        let (from, to) = ends(keys);
+        let mut span = Span::default();
+        self.ask(|user| ffi::aug_range(user, from, to, &mut span));
+        span
+    }
+
+    /// How many members are below each key. The keys stand in any order. Refused with `NoMemory`, as `contains_all` and `weights`.
+    pub fn ranks(&self, keys: &[u32]) -> Result<Vec<u32>, Error> {
+        let mut ranks = places(keys.len(), 0)?;
+        for (keys, out) in keys.chunks(self.most()).zip(ranks.chunks_mut(self.most())) {
+            // SAFETY: the pointers are those of slices of these lengths, and nobody else has the second.
+            self.ask(|user| unsafe { ffi::aug_rank_all(user, keys.as_ptr(), keys.len(), out.as_mut_ptr(), out.len()) });
+        }
+        Ok(ranks)
+    }
+
+    /// Whether each key is a member. The keys stand in any order.
+    pub fn contains_all(&self, keys: &[u32]) -> Result<Vec<bool>, Error> {
+        let mut bits = places(keys.len(), false)?;
+        for (keys, out) in keys.chunks(self.most()).zip(bits.chunks_mut(self.most())) {
+            // SAFETY: the pointers are those of slices of these lengths, and nobody else has the second, where the library writes 1 or 0.
+            self.ask(|user| unsafe { ffi::aug_has_all(user, keys.as_ptr(), keys.len(), out.as_mut_ptr().cast(), out.len()) });
+        }
+        Ok(bits)
+    }
+
+    /// The weight of each key that is a member. The keys stand in any order.
+    pub fn weights(&self, keys: &[u32]) -> Result<Vec<Option<u32>>, Error> {
+        let mut weights = places(keys.len(), None)?;
+        let mut some = [0; 64];
+        let most = self.most().min(some.len());
+        for (keys, out) in keys.chunks(most).zip(weights.chunks_mut(most)) {
+            // SAFETY: the pointers are those of a slice of this length and of an array that has as many places.
+            self.ask(|user| unsafe { ffi::aug_weight_all(user, keys.as_ptr(), keys.len(), some.as_mut_ptr(), keys.len()) });
+            for (out, weight) in out.iter_mut().zip(some) {
+                *out = u32::try_from(weight).ok();
+            }
+        }
+        Ok(weights)
+    }
+
+    // How many keys a call takes at most.
+    fn most(&self) -> usize {
+        1 << self.user.borrow().trie.bits
+    }
+
+    /// The members with their weights, rising.
+    pub fn iter(&self) -> Iter<'_, 'user> {
+        self.keys(..)
+    }
+
+    /// The members in an interval with their weights, rising.
+    pub fn keys(&self, keys: impl RangeBounds<u32>) -> Iter<'_, 'user> {
+        let (from, to) = ends(keys);
+        Iter { look: self, indices: self.rank(from)..self.rank(to) }
+    }
+}
+
+// Some values, or `NoMemory`.
+fn places<T: Clone>(count: usize, value: T) -> Result<Vec<T>, Error> {
+    let mut places = Vec::new();
+    places.try_reserve_exact(count).map_err(|_| Error::NoMemory)?;
+    places.resize(count, value);
+    Ok(places)
+}
+
+// The first key of an interval, and the first one above it. The greatest numbers of 32 bits are no keys.
+fn ends(keys: impl RangeBounds<u32>) -> (u32, u32) {
+    let from = match keys.start_bound() {
+        Bound::Included(&key) => key,
+        Bound::Excluded(&key) => key.saturating_add(1),
+        Bound::Unbounded => 0,
+    };
+    let to = match keys.end_bound() {
+        Bound::Included(&key) => key.saturating_add(1),
+        Bound::Excluded(&key) => key,
+        Bound::Unbounded => u32::MAX,
+    };
+    (from, to)
+}
+
+impl Drop for Look<'_> {
+    fn drop(&mut self) {
+        ffi::aug_look_done(&mut self.user.get_mut().handle);
+    }
+}
+
+impl<'a, 'user> IntoIterator for &'a Look<'user> {
+    type Item = (u32, u32);
+    type IntoIter = Iter<'a, 'user>;
+
+    fn into_iter(self) -> Iter<'a, 'user> {
+        self.iter()
+    }
+}
+
+/// Members of a look with their weights, from both ends. It asks for each when it comes to it, and keeps none.
+#[derive(Debug, Clone)]
+#[must_use = "an iterator lists nothing by itself"]
+pub struct Iter<'a, 'user> {
+    look: &'a Look<'user>,
+    indices: Range<u32>,
+}
+
+impl Iter<'_, '_> {
+    fn member(&self, index: u32) -> Option<(u32, u32)> {
+        let key = self.look.select(index)?;
+        Some((key, self.look.get(key)?))
+    }
+}
+
+impl Iterator for Iter<'_, '_> {
+    type Item = (u32, u32);
+
+    fn next(&mut self) -> Option<(u32, u32)> {
+        let index = self.indices.next()?;
+        self.member(index)
+    }
+
+    fn size_hint(&self) -> (usize, Option<usize>) {
+        self.indices.size_hint()
+    }
+}
+
+impl DoubleEndedIterator for Iter<'_, '_> {
+    fn next_back(&mut self) -> Option<(u32, u32)> {
+        let index = self.indices.next_back()?;
+        self.member(index)
+    }
+}
+
+impl ExactSizeIterator for Iter<'_, '_> {}
+
+impl FusedIterator for Iter<'_, '_> {}

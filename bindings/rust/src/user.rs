@@ -1,0 +1,156 @@
+use crate::ffi::{self, Member};
+use crate::look::Look;
+use crate::shared::Shared;
+use crate::{Error, number};
+
+// The code for no such member.
+const NONE: i64 = -1;
+
+/// What came of putting a key in with a weight.
+#[derive(Debug, Clone, Copy, PartialEq, Eq)]
+#[must_use = "an update may be refused, and then nothing was stored"]
+pub enum Put {
+    /// The key was no member, and is one now.
+    Accepted,
+    /// The key was a member, and has the new weight now.
+    Replaced,
+    /// Another user changed the key meanwhile, and nothing was stored.
+    Refused,
+}
+
+/// What came of adding an amount to a weight, or of taking it away. No amount is lost if others change the key meanwhile.
+#[derive(Debug, Clone, Copy, PartialEq, Eq)]
+pub enum Sum {
+    /// The key went in with the amount, or out with the last of its weight.
+    Accepted,
+    /// The key was a member and still is, with the new weight.
+    Replaced,
+    /// The amount is 0, and nothing was to be changed.
+    Unchanged,
+}
+
+impl Sum {
+    fn of_answer(done: u32) -> Sum {
+        match done {
+            1 => Sum::Accepted,
+            2 => Sum::Replaced,
+            _ => Sum::Unchanged,
+        }
+    }
+}
+
+/// A user of a trie, for one thread at a time: it updates the set, or looks at it. Dropping it frees its place for another.
+///
+/// Updates are refused with `Closed` if the trie was closed, `BadKey` if the key is not below `2^bits`, and `Looking` after a look that was
+/// forgotten by [`std::mem::forget`], until the next [`look`](User::look). Most wait for nobody. If the table is full, an update or look
+/// begins a new round of it, and waits for the update that each other user is in and for each look. So a thread that holds a look of one
+/// user and works with another may wait for itself.
+///
+/// ```
+/// use augtrie::{Error, Put, Sum, Trie};
+///
+/// let trie = Trie::new(12, 1, 1 << 20)?;
+/// let mut user = trie.user()?;
+/// assert_eq!(user.put(7, 25), Ok(Put::Accepted));
+/// assert_eq!(user.add(7, 5), Ok(Sum::Replaced));
+/// assert_eq!(user.sub(7, 31), Err(Error::TooLittle));
+/// assert_eq!(user.look()?.get(7), Some(30));
+/// assert_eq!(user.insert_all(&[7, 8, 9]), Ok(2));
+/// assert_eq!(user.pop_first(), Ok(Some((7, 30))));
+/// # Ok::<(), Error>(())
+/// ```
+#[derive(Debug)]
+pub struct User {
+    pub(crate) handle: ffi::User,
+    // The trie is closed after its users.
+    pub(crate) trie: Shared,
+}
+
+impl User {
+    /// Puts a key in, with the key itself as its weight. True if it was not there.
+    pub fn insert(&mut self, key: u32) -> Result<bool, Error> {
+        number(ffi::aug_insert(&mut self.handle, key)).map(|done| done == 1)
+    }
+
+    /// Takes a key out. True if it was there.
+    pub fn remove(&mut self, key: u32) -> Result<bool, Error> {
+        number(ffi::aug_remove(&mut self.handle, key)).map(|done| done == 1)
+    }
+
+    /// Puts a key in with a weight, or gives a member this weight.
+    pub fn put(&mut self, key: u32, weight: u32) -> Result<Put, Error> {
+        number(ffi::aug_put(&mut self.handle, key, weight)).map(|done| match done {
+            1 => Put::Accepted,
+            2 => Put::Replaced,
+            _ => Put::Refused,
+        })
+    }
+
+    /// Adds an amount to a key's weight. A key that is not there goes in with it. Refused with `TooGreat` too, if the sum does not fit 32
+    /// bits.
+    pub fn add(&mut self, key: u32, amount: u32) -> Result<Sum, Error> {
+        number(ffi::aug_add(&mut self.handle, key, amount)).map(Sum::of_answer)
+    }
+
+    /// Takes an amount from a key's weight. A key of whose weight nothing is left goes out. Refused with `TooLittle` too, if it is not there
+    /// or weighs less.
+    pub fn sub(&mut self, key: u32, amount: u32) -> Result<Sum, Error> {
+        number(ffi::aug_sub(&mut self.handle, key, amount)).map(Sum::of_answer)
+    }
+
+    /// Takes out the member with the least key, and tells that key and its weight. Each member comes to one user.
+    pub fn pop_first(&mut self) -> Result<Option<(u32, u32)>, Error> {
+        self.pop(ffi::aug_pop_first)
+    }
+
+    /// Takes out the member with the greatest key, as `pop_first`.
+    pub fn pop_last(&mut self) -> Result<Option<(u32, u32)>, Error> {
+        self.pop(ffi::aug_pop_last)
+    }
+
+    fn pop(&mut self, call: unsafe extern "C" fn(&mut ffi::User, &mut Member) -> i64) -> Result<Option<(u32, u32)>, Error> {
+        let mut member = Member::default();
+        // SAFETY: both calls that it may be are safe ones.
+        match unsafe { call(&mut self.handle, &mut member) } {
+            NONE => Ok(None),
+            answer => number(answer).map(|_| Some((member.key, member.weight))),
+        }
+    }
+
+    /// Puts keys in, each by an update of its own, in their order. How many were not there. Refused with `BadLength` too, if there are more
+    /// than `2^bits`. Except after `Closed`, no update was made then.
+    pub fn insert_all(&mut self, keys: &[u32]) -> Result<u32, Error> {
+        // SAFETY: the pointer is that of a slice of this length.
+        number(unsafe { ffi::aug_insert_all(&mut self.handle, keys.as_ptr(), keys.len()) })
+    }
+
+    /// Takes keys out. How many were there. Refused as `insert_all`.
+    pub fn remove_all(&mut self, keys: &[u32]) -> Result<u32, Error> {
+        // SAFETY: the pointer is that of a slice of this length.
+        number(unsafe { ffi::aug_remove_all(&mut self.handle, keys.as_ptr(), keys.len()) })
+    }
+
+    /// Puts keys in, each with the weight that has its index, or gives members these weights. How many updates changed the set. Refused as
+    /// `insert_all`, and with `BadLength` if there are not as many weights as keys.
+    pub fn put_all(&mut self, keys: &[u32], weights: &[u32]) -> Result<u32, Error> {
+        // SAFETY: the pointers are those of slices of these lengths.
+        number(unsafe { ffi::aug_put_all(&mut self.handle, keys.as_ptr(), keys.len(), weights.as_ptr(), weights.len()) })
+    }
+
+    /// Takes a snapshot, which queries are asked of: the set after all updates of this user, and after all that it has seen before. Refused
+    /// with `Closed`. A look that was forgotten is ended first.
+    pub fn look(&mut self) -> Result<Look<'_>, Error> {
+        let mut answer = number(ffi::aug_look(&mut self.handle));
+        if answer == Err(Error::Looking) {
+            ffi::aug_look_done(&mut self.handle);
+            answer = number(ffi::aug_look(&mut self.handle));
+        }
+        answer.map(|_| Look::of(self))
+    }
+}
+
+impl Drop for User {
+    fn drop(&mut self) {
+        ffi::aug_user_close(&mut self.handle);
+    }
+}

@@ -1,0 +1,107 @@
+-- What a look answers for one key after another.
+use Rattle.std.proofs.Common.{◌≡◌, ◌+◌, ◌-◌, ◌<◌, ◌≤◌, ◌++◌, ◌∙◌, ℕ, List, [], ◌∷◌, length, map, take, drop, get_or, set, pos, refl, sym, ap, subst, arith}
+use Rattle.std.specs.Prelude.{ℤ}
+use Rattle.std.proofs.lemmas.List.{map-append, take_more, take_all, drop_more, append_assoc, set-append_right, length-map, length-take-le}
+use Rattle.aug_model.specs.declared.summary.Summary.{Summary}
+use Rattle.aug_model.specs.Keys.{SetFacts}
+use Rattle.aug_core.proofs.PrefixLemmas.{prefix_refl, prefix_trans}
+use Rattle.aug_trie.specs.Pass.{PassFacts}
+use Rattle.aug_trie.specs.Node.{Keeps, Reads}
+use Rattle.aug_live.specs.LiveHandles.{LookFacts, IsAsked, set_of_look}
+use Rattle.aug_c.specs.ArrayCalls.{AnswersArray, AsksAll}
+use Rattle.aug_c.specs.UserCalls.{span_of}
+use Rattle.aug_c.specs.declared.seat.Seat.{Seat}
+use Rattle.aug_c.specs.declared.seat.Seat.TheVariants.{Looking}
+
+module _ {A B : Type 0} (summary_of : List (ℕ × ℕ) → Summary A B) where
+  keeps_self : (p : PassFacts) → Keeps summary_of p p
+  keeps_self p = record { snapshots = λ s h. h; same_cuts = λ s h. refl; same_sets = λ s h. refl; nodes = λ n h. h; weights = λ k i w h. h }
+
+  keeps_on : (p q r : PassFacts) → Keeps summary_of p q → Keeps summary_of q r → Keeps summary_of p r
+  keeps_on p q r a b = record {
+    snapshots = λ s h. b.snapshots s (a.snapshots s h);
+    same_cuts = λ s h. b.same_cuts s (a.snapshots s h) ∙ a.same_cuts s h;
+    same_sets = λ s h. b.same_sets s (a.snapshots s h) ∙ a.same_sets s h;
+    nodes = λ n h. b.nodes n (a.nodes n h);
+    weights = λ k i w h. b.weights k i w (a.weights k i w h);
+  }
+
+  reads_none : (p : PassFacts) → Reads summary_of 0 p p
+  reads_none p = record {
+    stays = record { same = refl; steps_stay = prefix_refl p.steps; keeps = keeps_self p };
+    few_steps = omega arith;
+  }
+
+  reads_on : (few most : ℕ) (p q r : PassFacts) → Reads summary_of few p q → Reads summary_of most q r → Reads summary_of (few + most) p r
+  reads_on few most p q r a b = let s = a.stays in let t = b.stays in let e = a.few_steps in let f = b.few_steps in record {
+    stays = record {
+      same = t.same ∙ ap (λ (z : PassFacts). record z { steps = r.steps; words = r.words }) s.same;
+      steps_stay = prefix_trans p.steps q.steps r.steps s.steps_stay t.steps_stay;
+      keeps = keeps_on p q r s.keeps t.keeps;
+    };
+    few_steps = omega (arith, e, f);
+  }
+
+  -- a look that was not asked, and one that was asked twice
+  pub asked_none : (a : LookFacts) → IsAsked summary_of 0 a a
+  asked_none a = record { same = refl; same_set = refl; reads = reads_none a.half }
+
+  pub asked_on : (few most : ℕ) (a b c : LookFacts) → IsAsked summary_of few a b → IsAsked summary_of most b c → IsAsked summary_of (few + most) a c
+  asked_on few most a b c x y = record {
+    same = y.same ∙ ap (λ (z : LookFacts). record z { half = c.half }) x.same;
+    same_set = y.same_set ∙ x.same_set;
+    reads = reads_on few most a.half b.half c.half x.reads y.reads;
+  }
+
+-- one more place of a list is written, where the first ones were
+pub written_more : {X : Type 0} (first before : List X) (i : ℕ) (answer : X) → length first ≡ i → i < length before
+    → set (first ++ drop i before) i answer ≡ (first ++ answer ∷ []) ++ drop (i + 1) before
+written_more {X} first before i answer long room =
+    let place : i - i ≡ 0 = omega arith in
+    set-append_right first (drop i before) i i answer long (omega arith)
+    ∙ ap (λ (ys : List X). first ++ ys) (ap (λ (n : ℕ). set (drop i before) n answer) place ∙ ap (λ (ys : List X). set ys 0 answer) (drop_more before i answer room))
+    ∙ sym (append_assoc first (answer ∷ []) (drop (i + 1) before))
+
+module _ {X : Type 0} (told : SetFacts → ℕ → X) (keys : List ℕ) (before : List X) (first : LookFacts) where
+  -- so many of the keys were asked for: the first places tell of them, and the others are as they were
+  pub record Asked (i : ℕ) (now : LookFacts) (out : List X) : Type 0 where
+    pub written : out ≡ map (told (set_of_look first)) (take i keys) ++ drop i before
+    pub most : ℕ
+    pub asked : IsAsked span_of most first now
+
+  pub none_asked : Asked 0 first before
+  none_asked = record { written = refl; most = 0; asked = asked_none span_of first }
+
+  pub one_asked : (i most : ℕ) (now next : LookFacts) (out : List X) (answer : X) → i < length keys → length keys ≤ length before → Asked i now out → answer ≡ told (set_of_look now) (get_or keys i 0)
+      → IsAsked span_of most now next → Asked (i + 1) next (set out i answer)
+  one_asked i most now next out answer within room a is asked =
+      let tells = told (set_of_look first) in
+      let fresh : answer ≡ tells (get_or keys i 0) = is ∙ ap (λ (s : SetFacts). told s (get_or keys i 0)) a.asked.same_set in
+      let long : length (map tells (take i keys)) ≡ i = length-map (take i keys) tells ∙ length-take-le i keys (omega (arith, within)) in
+      let one : map tells (take (i + 1) keys) ≡ map tells (take i keys) ++ tells (get_or keys i 0) ∷ [] = ap (map tells) (take_more keys i 0 within) ∙ map-append tells (take i keys) (get_or keys i 0 ∷ []) in record {
+        written = ap (λ (xs : List X). set xs i answer) a.written ∙ written_more (map tells (take i keys)) before i answer long (omega (arith, within, room))
+            ∙ ap (λ (x : X). (map tells (take i keys) ++ x ∷ []) ++ drop (i + 1) before) fresh ∙ ap (λ (xs : List X). xs ++ drop (i + 1) before) (sym one);
+        most = a.most + most;
+        asked = asked_on span_of a.most most first now next a.asked asked;
+      }
+
+  -- all were asked for, or there was no room
+  pub all_asked : (i : ℕ) (now : LookFacts) (out : List X) → length keys ≤ i → i ≤ length keys → length keys ≤ length before → Asked i now out → AnswersArray told keys before out first now (pos 0)
+  all_asked i now out a b room done = let same : i ≡ length keys = omega (arith, a, b) in let all = subst (λ (n : ℕ). Asked n now out) same done in record {
+    bad_length = λ less. absurd (omega (arith, less, room));
+    answers = λ _. (
+      refl,
+      record {
+        written = all.written ∙ ap (λ (xs : List ℕ). map (told (set_of_look first)) xs ++ drop (length keys) before) (take_all (length keys) keys (omega arith));
+        most = all.most;
+        asked = all.asked;
+      },
+    );
+  }
+
+-- a look is taken out of a seat, asked, and put into one
+pub asks_all : {X : Type 0} (told : SetFacts → ℕ → X) (keys : List ℕ) (before after : List X) (seat : Seat) (held look new put : LookFacts) (code said : ℤ) → seat ≡ Looking held → look ≡ held → put ≡ new → said ≡ code
+    → AnswersArray told keys before after look new code → AsksAll told keys before after seat (Looking put) said
+asks_all told keys before after seat held look new put code said is same back says answers =
+    subst (λ (s : Seat). AsksAll told keys before after s (Looking put) said) (sym (is ∙ ap Looking (sym same)))
+    (put, refl, subst (λ (z : LookFacts). AnswersArray told keys before after look z said) (sym back) (subst (λ (z : ℤ). AnswersArray told keys before after look new z) (sym says) answers))

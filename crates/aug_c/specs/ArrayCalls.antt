@@ -1,0 +1,110 @@
+-- What the calls for arrays of keys do to a user, and what they answer. An update is made for each key in turn, as far as the call comes without waiting,
+-- and the progress counts them, so that the next call goes on from there (`UpdatesAll`). A query writes each answer to the place with its key's index
+-- (`AsksAll`), and a list of members is written from the first place on (`ListsKeys`). In the example insertions of 0, 5 and 1 answer -3, and nothing
+-- changes; those of 0, 0 and 2 make 3 updates, of which 2 changed the set. In a look the ranks of 4 and 0 are written as 2 and 0, and `from_of` gives
+-- only 3 from 2 on.
+use Rattle.std.specs.Prelude.{◌≡◌, ◌⊎◌, ℕ, ◌+◌, ◌^◌, ◌<◌, ◌≤◌, ℤ, pos, Bool, true, false, List, [], ◌∷◌, ◌++◌, All, length, map, filter, take, drop, min, nat_le}
+use Rattle.aug_model.specs.Keys.{SetFacts, list_of}
+use Rattle.aug_trie.specs.Updates.{ComesTo}
+use Rattle.aug_trie.specs.declared.updates.outcome.Outcome.{Outcome}
+use Rattle.aug_trie.specs.declared.updates.outcome.Outcome.TheVariants.{Accepted, Replaced}
+use Rattle.aug_trie.specs.declared.updates.request.Request.{Request}
+use Rattle.aug_live.specs.LiveHandles.{HandleFacts, LookFacts, Follows, Makes, IsAsked, set_of_look}
+use Rattle.aug_c.specs.declared.progress.Progress.{Progress}
+use Rattle.aug_c.specs.declared.seat.Seat.{Seat}
+use Rattle.aug_c.specs.declared.seat.Seat.TheVariants.{Free, Looking}
+use Rattle.aug_c.specs.UserCalls.{span_of}
+use Rattle.aug_c.specs.Codes as codes
+
+-- 1 if the set was changed
+abbrev pub change_by : Outcome → ℕ
+change_by Accepted = 1
+change_by Replaced = 1
+change_by done = 0
+
+-- how many of the outcomes are of a change
+abbrev pub changes : List Outcome → ℕ
+changes [] = 0
+changes (done ∷ more) = change_by done + changes more
+
+-- one step for each of the keys in turn, as far as there are outcomes; the first key has the index `place`
+abbrev pub InTurn : {S : Type 0} → (ℕ → ℕ → Outcome → S → S → Type 0) → ℕ → List ℕ → List Outcome → S → S → Type 0
+InTurn does place keys [] old new = new ≡ old
+InTurn does place [] (done ∷ more) old new = ⊥
+InTurn {S} does place (key ∷ keys) (done ∷ more) old new = (next : S) × does place key done old next × InTurn does (place + 1) keys more next new
+
+-- a user makes one update, the one that is asked at the index of the key
+abbrev pub MakesOne : (ℕ → Request) → ℕ → ℕ → Outcome → HandleFacts → HandleFacts → Type 0
+MakesOne asked place key done old new = Makes 1 (λ a b. ComesTo (asked place) key done a.knows b.knows) old new
+
+-- why updates that were begun have ended: all are made, or the next one was not, and then the user follows on what it knew
+abbrev pub EndsAt : ℕ → ℕ → HandleFacts → HandleFacts → ℤ → Type 0
+EndsAt all made last new code = ((code ≡ pos 0) × (made ≡ all) × (new ≡ last)) ⊎ (((code ≡ codes.again) ⊎ (code ≡ codes.closed)) × (made < all) × Follows last new)
+
+-- updates for the keys from the index on that the progress had come to: how far they came, what they came to, and why they ended
+pub record MakesEach (asked : ℕ → Request) (keys : List ℕ) (before after : Progress) (old new : HandleFacts) (code : ℤ) : Type 0 where
+  pub done : List Outcome
+  pub last : HandleFacts
+  pub in_turn : InTurn (MakesOne asked) before.made (drop before.made keys) done old last
+  pub made : after.made ≡ before.made + length done
+  pub changed : after.changed ≡ before.changed + changes done
+  pub ends : EndsAt (length keys) after.made last new code
+
+-- there are as many weights as keys, no more of them than there are keys of so many bits, and the progress is one over them
+abbrev pub HasLengths : ℕ → ℕ → ℕ → Progress → Type 0
+HasLengths bits keys weights progress = (weights ≡ keys) × (keys ≤ 2 ^ bits) × (progress.made ≤ keys) × (progress.changed ≤ progress.made)
+
+-- updates for an array by a user that holds no look: which lengths and keys are refused, so that nothing changes, and what is made otherwise
+pub record UpdatesAllFree (asked : ℕ → Request) (keys : List ℕ) (weights : ℕ) (before after : Progress) (old new : HandleFacts) (code : ℤ) : Type 0 where
+  pub bad_length : (¬ HasLengths old.half.round.bits (length keys) weights before) → (code ≡ codes.bad_length) × (new ≡ old) × (after ≡ before)
+  pub bad_key : HasLengths old.half.round.bits (length keys) weights before → (¬ All (λ k. k < 2 ^ old.half.round.bits) keys) → (code ≡ codes.bad_key) × (new ≡ old) × (after ≡ before)
+  pub makes : HasLengths old.half.round.bits (length keys) weights before → All (λ k. k < 2 ^ old.half.round.bits) keys → MakesEach asked keys before after old new code
+
+-- updates for an array by a user, which are refused while it holds a look
+abbrev pub UpdatesAll : (ℕ → Request) → List ℕ → ℕ → Progress → Progress → Seat → Seat → ℤ → Type 0
+UpdatesAll asked keys weights before after (Free old) new code = (access : HandleFacts) × (new ≡ Free access) × UpdatesAllFree asked keys weights before after old access code
+UpdatesAll asked keys weights before after (Looking look) new code = (new ≡ Looking look) × (code ≡ codes.looking) × (after ≡ before)
+
+-- 1 or 0
+abbrev pub bit_of : Bool → ℕ
+bit_of true = 1
+bit_of false = 0
+
+-- each key's answer by the look's snapshot stands at the place with its index, and the places behind are as they were. Nothing that a later query could
+-- see was changed
+pub record AnswersEach {X : Type 0} (told : SetFacts → ℕ → X) (keys : List ℕ) (before after : List X) (old new : LookFacts) : Type 0 where
+  pub written : after ≡ map (told (set_of_look old)) keys ++ drop (length keys) before
+  pub most : ℕ
+  pub asked : IsAsked span_of most old new
+
+-- the queries of a look for an array, which are refused if there is too little room for the answers
+pub record AnswersArray {X : Type 0} (told : SetFacts → ℕ → X) (keys : List ℕ) (before after : List X) (old new : LookFacts) (code : ℤ) : Type 0 where
+  pub bad_length : length before < length keys → (code ≡ codes.bad_length) × (new ≡ old) × (after ≡ before)
+  pub answers : length keys ≤ length before → (code ≡ pos 0) × AnswersEach told keys before after old new
+
+-- the same of a user, which holds a look
+abbrev pub AsksAll : {X : Type 0} → (SetFacts → ℕ → X) → List ℕ → List X → List X → Seat → Seat → ℤ → Type 0
+AsksAll told keys before after (Free access) new code = (new ≡ Free access) × (code ≡ codes.not_looking) × (after ≡ before)
+AsksAll told keys before after (Looking old) new code = (look : LookFacts) × (new ≡ Looking look) × AnswersArray told keys before after old look code
+
+-- the members from a key on
+abbrev pub from_of : List ℕ → ℕ → List ℕ
+from_of keys k = filter (λ x. nat_le k x) keys
+
+-- the first of some members are written, as many as there is room for, and the places behind are as they were
+pub record ListsMembers (members before after : List ℕ) (count : ℕ) : Type 0 where
+  pub counts : count ≡ min (length before) (length members)
+  pub written : after ≡ take count members ++ drop count before
+
+-- the least members of a look's snapshot from a key on are written, and the answer is how many
+pub record ListsKeys (from : ℕ) (before after : List ℕ) (old new : LookFacts) (code : ℤ) : Type 0 where
+  pub count : ℕ
+  pub says : code ≡ pos count
+  pub lists : ListsMembers (from_of (list_of (set_of_look old)) from) before after count
+  pub most : ℕ
+  pub asked : IsAsked span_of most old new
+
+-- the same of a user, which holds a look
+abbrev pub ListsAll : ℕ → List ℕ → List ℕ → Seat → Seat → ℤ → Type 0
+ListsAll from before after (Free access) new code = (new ≡ Free access) × (code ≡ codes.not_looking) × (after ≡ before)
+ListsAll from before after (Looking old) new code = (look : LookFacts) × (new ≡ Looking look) × ListsKeys from before after old look code

@@ -1,0 +1,116 @@
+-- What the calls on a user do to it, and what they answer. `UpdatesKey` has the exact condition of `bad_key`; an update that was not made left the set
+-- as it was. A query answers by the snapshot that the look shows (`Asks`) and changes nothing that a later one could see. In the example an insertion
+-- of 0 answers 1, one of 1 answers 0, and one of 4 answers -3; in a look a rank of 3 answers 1, `aug_select` of 5 answers -1, and `aug_range` from 1 to
+-- 4 answers 2 and writes the sum 4 and the bounds 1 and 3; an insertion answers -12 until the look is done, and a rank -13 after that.
+use Rattle.std.specs.Prelude.{◌≡◌, ◌≢◌, ◌⊎◌, ℕ, ◌^◌, ◌≤◌, ◌↔◌, ℤ, pos, Bool, true, false, Option, Some, None, Result, Ok, Err, IfOk, IfErr, IsErrOf, List}
+use Rattle.aug_monoid.specs.Sum.{sum_parts}
+use Rattle.aug_monoid.specs.Extent.{extent_parts}
+use Rattle.aug_monoid.specs.declared.sum.Sum.{Sum}
+use Rattle.aug_monoid.specs.declared.extent.Extent.{Extent}
+use Rattle.aug_model.specs.Folds.{summary_of}
+use Rattle.aug_model.specs.Keys.{SetFacts}
+use Rattle.aug_model.specs.declared.summary.Summary.{Summary}
+use Rattle.aug_trie.specs.Snapshot.{snapshot_cut}
+use Rattle.aug_trie.specs.Updates.{ComesTo, TakesSnapshot}
+use Rattle.aug_trie.specs.declared.updates.outcome.Outcome.{Outcome}
+use Rattle.aug_trie.specs.declared.updates.outcome.Outcome.TheVariants.{Accepted, Replaced, Refused, Unchanged, TooGreat, TooLittle}
+use Rattle.aug_trie.specs.declared.updates.request.Request.{Request}
+use Rattle.aug_live.specs.LiveHandles.{HandleFacts, LookFacts, Follows, Makes, IsAsked, LooksAgain, handle_of, set_of_look}
+use Rattle.aug_c.specs.declared.refusal.Refusal.{Refusal}
+use Rattle.aug_c.specs.declared.refusal.Refusal.TheVariants.{BadKey, Again, Closed}
+use Rattle.aug_c.specs.declared.seat.Seat.{Seat}
+use Rattle.aug_c.specs.declared.seat.Seat.TheVariants.{Free, Looking}
+use Rattle.aug_c.specs.declared.span.Span.{Span}
+use Rattle.aug_c.specs.Codes as codes
+
+-- the number of the keys, the sum of their weights, and the least and the greatest of them
+abbrev pub span_of : List (ℕ × ℕ) → Summary Sum Extent
+span_of pairs = summary_of sum_parts extent_parts pairs
+
+-- the code of a refusal
+abbrev pub refusal_code : Refusal → ℤ
+refusal_code BadKey = codes.bad_key
+refusal_code Again = codes.again
+refusal_code Closed = codes.closed
+
+-- what an update answers: 1 if the key went in or out, 2 if a member has a new weight, 3 if an amount is 0, and 0 if it was refused
+abbrev pub update_code : Result Outcome Refusal → ℤ
+update_code (Ok Accepted) = pos 1
+update_code (Ok Replaced) = pos 2
+update_code (Ok Refused) = pos 0
+update_code (Ok Unchanged) = pos 3
+update_code (Ok TooGreat) = codes.too_great
+update_code (Ok TooLittle) = codes.too_little
+update_code (Err cause) = refusal_code cause
+
+-- a number if there is one
+abbrev pub found : Option ℕ → ℤ
+found (Some n) = pos n
+found None = codes.none
+
+-- 1 or 0
+abbrev pub truth : Bool → ℤ
+truth true = pos 1
+truth false = pos 0
+
+-- an update of a key by a user that holds no look: if the key is none of the trie, nothing changes; and else it is made, or the user follows on what it
+-- knew
+pub record UpdatesFree (asked : Request) (key : ℕ) (old new : HandleFacts) (code : ℤ) : Type 0 where
+  pub answer : Result Outcome Refusal
+  pub says : code ≡ update_code answer
+  pub bad_key : IsErrOf answer BadKey ↔ (2 ^ old.half.round.bits ≤ key)
+  pub same : IsErrOf answer BadKey → new ≡ old
+  pub made : IfOk answer (λ done. Makes 1 (λ a b. ComesTo asked key done a.knows b.knows) old new)
+  pub not_made : IfErr answer (λ _. Follows old new)
+
+-- an update of a key by a user, which is refused while it holds a look
+abbrev pub UpdatesKey : Request → ℕ → Seat → Seat → ℤ → Type 0
+UpdatesKey asked key (Free old) new code = (access : HandleFacts) × (new ≡ Free access) × UpdatesFree asked key old access code
+UpdatesKey asked key (Looking look) new code = (new ≡ Looking look) × (code ≡ codes.looking)
+
+-- a user that holds no look takes one, or follows on what it knew
+pub record TakesFree (old : HandleFacts) (new : Seat) (code : ℤ) : Type 0 where
+  pub looks : code ≡ pos 0 → (look : LookFacts) × (new ≡ Looking look) × Makes 0 (λ a b. TakesSnapshot a.knows b.knows (snapshot_cut b look.snapshot.number)) old (handle_of look)
+  pub refused : code ≢ pos 0 → (access : HandleFacts) × (new ≡ Free access) × Follows old access
+  pub others : (code ≡ pos 0) ⊎ (code ≡ codes.again) ⊎ (code ≡ codes.closed)
+
+abbrev pub TakesLook : Seat → Seat → ℤ → Type 0
+TakesLook (Free old) new code = TakesFree old new code
+TakesLook (Looking look) new code = (new ≡ Looking look) × (code ≡ codes.looking)
+
+-- a newer snapshot in the same look
+abbrev pub LooksAnew : Seat → Seat → ℤ → Type 0
+LooksAnew (Free access) new code = (new ≡ Free access) × (code ≡ codes.not_looking)
+LooksAnew (Looking old) new code = (look : LookFacts) × (new ≡ Looking look) × LooksAgain old look × (code ≡ pos 0)
+
+-- the look is over
+abbrev pub EndsLook : Seat → Seat → ℤ → Type 0
+EndsLook (Free access) new code = (new ≡ Free access) × (code ≡ codes.not_looking)
+EndsLook (Looking look) new code = (new ≡ Free (handle_of look)) × (code ≡ pos 0)
+
+-- a query of a look answers only by its snapshot, and changes nothing that a later one could see
+pub record AsksLook (told : SetFacts → ℤ) (old new : LookFacts) (code : ℤ) : Type 0 where
+  pub says : code ≡ told (set_of_look old)
+  pub most : ℕ
+  pub asked : IsAsked span_of most old new
+
+-- a query of a user, which holds a look
+abbrev pub Asks : (SetFacts → ℤ) → Seat → Seat → ℤ → Type 0
+Asks told (Free access) new code = (new ≡ Free access) × (code ≡ codes.not_looking)
+Asks told (Looking old) new code = (look : LookFacts) × (new ≡ Looking look) × AsksLook told old look code
+
+-- the bounds of some keys: 0 if there are none
+abbrev pub least_of : Option (ℕ × ℕ) → ℕ
+least_of (Some bounds) = bounds.0
+least_of None = 0
+
+abbrev pub greatest_of : Option (ℕ × ℕ) → ℕ
+greatest_of (Some bounds) = bounds.1
+greatest_of None = 0
+
+-- the span has the fields of the summary of a range
+pub record IsSpan (told : Summary Sum Extent) (span : Span) : Type 0 where
+  pub count : span.count ≡ told.count
+  pub sum : span.sum ≡ told.a
+  pub least : span.least ≡ least_of told.b
+  pub greatest : span.greatest ≡ greatest_of told.b

@@ -1,0 +1,222 @@
+//! The updates of a user for arrays of keys.
+ghost use Rattle.std.specs.Prelude.{◌≡◌, ◌↔◌, ◌^◌, ◌<◌, ◌≤◌, length, get_or, All, true, IsNone};
+ghost use Rattle.aug_trie.specs.declared.updates.request.Request.TheVariants as request;
+ghost use Rattle.aug_c.specs.Handles.{user_of, On};
+ghost use Rattle.aug_c.specs.ArrayCalls.{change_by, MakesEach, UpdatesAll, UpdatesAllFree};
+ghost use Rattle.aug_c.specs.inside.KeyRequests.{request_by, requests_of};
+
+use crate::codes::{BAD_KEY, BAD_LENGTH, CLOSED, LOOKING};
+use crate::progress::Progress;
+use crate::refusal::Refusal;
+use crate::seat::{AccessOf, Seat};
+use crate::user_handle::UserHandle;
+use aug_trie::{Outcome, Request};
+use std::alloc::Global;
+
+/// What is done with each key.
+#[derive(Clone, Copy)]
+pub enum Each {
+    /// It is put in, with itself as its weight.
+    Inserted,
+
+    /// It is taken out.
+    Removed,
+
+    /// It is put in with the weight that has its index.
+    Put,
+}
+
+impl Each {
+    #[inline(always)]
+    fn request(self, weight: u32) -> Request
+        ensures { result ≡ request_by self weight }
+    {
+        match self {
+            Each::Inserted => Request::Insert,
+            Each::Removed => Request::Remove,
+            Each::Put => Request::Put(weight),
+        }
+    }
+}
+
+// Whether all keys are below a bound.
+fn are_below(keys: &[u32], bound: u32) -> bool
+    ensures { (result ≡ true) ↔ All (λ k. k < bound) keys.now }
+{
+    for place in 0..keys.len() {
+        if keys[place] >= bound {
+            return false;
+        }
+    }
+    true
+}
+
+// 1 if the set was changed.
+#[inline(always)]
+fn changed_by(done: Outcome) -> u32
+    ensures value { result ≡ change_by done }
+    ensures few { result ≤ 1 }
+{
+    match done {
+        Outcome::Accepted | Outcome::Replaced => 1,
+        _ => 0,
+    }
+}
+
+// Makes an update for each key from the index on that the progress has come to, until one is not made.
+fn update_each(
+    access: &mut AccessOf,
+    each: Each,
+    keys: &[u32],
+    weights: &[u32],
+    before: Progress,
+) -> (Progress, i64)
+    requires below { All (λ k. k < 2 ^ access.old.half.round.bits) keys.now }
+    requires weights { length weights.now ≡ length keys.now }
+    requires few { length keys.now ≤ 4294967295 }
+    requires made { before.made ≤ length keys.now }
+    requires changed { before.changed ≤ before.made }
+    ensures { MakesEach (requests_of each weights.now) keys.now before result.0 access.old access.new result.1 }
+{
+    let mut changed = before.changed;
+    for place in before.made..keys.len() as u32 {
+        let index = place as usize;
+        let request = each.request(weights[index]);
+        match access.try_update(keys[index], request) {
+            Ok(done) => changed += changed_by(done),
+            Err(cause) => {
+                let so_far = Progress {
+                    made: place,
+                    changed,
+                };
+                return (so_far, Refusal::of(cause).code());
+            }
+        }
+    }
+    (
+        Progress {
+            made: keys.len() as u32,
+            changed,
+        },
+        0,
+    )
+}
+
+// Whether the lengths and the progress are those of a call for so many keys.
+fn has_lengths(universe: u32, keys: usize, weights: usize, progress: Progress) -> bool
+    ensures { (result ≡ true) ↔ ((weights ≡ keys) × (keys ≤ universe) × (progress.made ≤ keys) × (progress.changed ≤ progress.made)) }
+{
+    weights == keys
+        && keys <= universe as usize
+        && progress.made as usize <= keys
+        && progress.changed <= progress.made
+}
+
+// Makes updates by a user that holds no look.
+fn update_all_by(
+    access: &mut AccessOf,
+    each: Each,
+    keys: &[u32],
+    weights: &[u32],
+    progress: &mut Progress,
+) -> i64
+    ensures { UpdatesAllFree (requests_of each weights.now) keys.now (length weights.now) progress.old progress.new access.old access.new result }
+{
+    let universe = access.universe();
+    if !has_lengths(universe, keys.len(), weights.len(), *progress) {
+        return BAD_LENGTH;
+    }
+    if !are_below(keys, universe) {
+        return BAD_KEY;
+    }
+    let (after, code) = update_each(access, each, keys, weights, *progress);
+    *progress = after;
+    code
+}
+
+fn update_all_in(
+    seat: Seat,
+    each: Each,
+    keys: &[u32],
+    weights: &[u32],
+    progress: &mut Progress,
+) -> (Seat, i64)
+    ensures { UpdatesAll (requests_of each weights.now) keys.now (length weights.now) progress.old progress.new seat result.0 result.1 }
+{
+    match seat {
+        Seat::Looking(look) => (Seat::Looking(look), LOOKING),
+        Seat::Free(access) => {
+            let mut access = access;
+            let code = update_all_by(&mut access, each, keys, weights, progress);
+            (Seat::Free(access), code)
+        }
+    }
+}
+
+// Makes updates by a handle's user.
+fn update_all(
+    alloc: Global,
+    user: &mut UserHandle,
+    each: Each,
+    keys: &[u32],
+    weights: &[u32],
+    progress: &mut Progress,
+) -> i64
+    ensures updates { On (UpdatesAll (requests_of each weights.now) keys.now (length weights.now) progress.old progress.new) (user_of user.old) (user_of user.new) result }
+    ensures closed { IsNone (user_of user.old) → progress.new ≡ progress.old }
+    ensures foreign { IsNone user.old.held.value → user.new ≡ user.old }
+{
+    let Some((slot, old)) = user.lend(alloc) else {
+        return CLOSED;
+    };
+    let (new, code) = update_all_in(old, each, keys, weights, progress);
+    user.give(slot, new);
+    code
+}
+
+/// Puts each key in, with itself as its weight, from the index on that the progress has come to. Answers 0 once an update was made for
+/// each, and `BAD_LENGTH` or `BAD_KEY` if none is made. After `AGAIN` the same call goes on.
+#[unsafe(no_mangle)]
+pub extern "C" fn aug_try_insert_all(
+    alloc: Global,
+    user: &mut UserHandle,
+    keys: &[u32],
+    progress: &mut Progress,
+) -> i64
+    ensures updates { On (UpdatesAll (λ _. request.Insert) keys.now (length keys.now) progress.old progress.new) (user_of user.old) (user_of user.new) result }
+    ensures closed { IsNone (user_of user.old) → progress.new ≡ progress.old }
+    ensures foreign { IsNone user.old.held.value → user.new ≡ user.old }
+{
+    update_all(alloc, user, Each::Inserted, keys, keys, progress)
+}
+
+/// Takes each key out, as `aug_try_insert_all` puts it in.
+#[unsafe(no_mangle)]
+pub extern "C" fn aug_try_remove_all(
+    alloc: Global,
+    user: &mut UserHandle,
+    keys: &[u32],
+    progress: &mut Progress,
+) -> i64
+    ensures updates { On (UpdatesAll (λ _. request.Remove) keys.now (length keys.now) progress.old progress.new) (user_of user.old) (user_of user.new) result }
+    ensures closed { IsNone (user_of user.old) → progress.new ≡ progress.old }
+    ensures foreign { IsNone user.old.held.value → user.new ≡ user.old }
+{
+    update_all(alloc, user, Each::Removed, keys, keys, progress)
+}
+
+/// Puts each key in with the weight that has its index, or gives a member this weight, as `aug_try_insert_all`.
+#[unsafe(no_mangle)]
+pub extern "C" fn aug_try_put_all(
+    alloc: Global,
+    user: &mut UserHandle,
+    keys: &[u32],
+    weights: &[u32],
+    progress: &mut Progress,
+) -> i64
+    ensures updates { On (UpdatesAll (λ place. request.Put (get_or weights.now place 0)) keys.now (length weights.now) progress.old progress.new) (user_of user.old) (user_of user.new) result }
+    ensures closed { IsNone (user_of user.old) → progress.new ≡ progress.old }
+    ensures foreign { IsNone user.old.held.value → user.new ≡ user.old }
+{
+    update_all(alloc, user, Each::Put, keys, weights, progress)
+}

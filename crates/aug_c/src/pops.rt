@@ -1,0 +1,112 @@
+//! How a user takes out the first or the last member.
+ghost use Rattle.std.specs.Prelude.{◌≡◌, IfOk, IfErr, IsNone};
+ghost use Rattle.aug_trie.specs.Pops.{pop_updates, Pops};
+ghost use Rattle.aug_trie.specs.declared.rounds.pop.Side.TheVariants as side;
+ghost use Rattle.aug_live.specs.LiveHandles.{Follows, Makes};
+ghost use Rattle.aug_c.specs.Handles.{user_of, On};
+ghost use Rattle.aug_c.specs.PopCalls.{pop_code, written_by, PopsMember};
+ghost use Rattle.aug_c.specs.UserCalls.{span_of};
+
+use crate::codes::{CLOSED, LOOKING, NONE};
+use crate::refusal::Refusal;
+use crate::seat::{AccessOf, Seat};
+use crate::user_handle::UserHandle;
+use aug_trie::{Pop, Side};
+use std::alloc::Global;
+
+/// A member: a key, and what it weighs.
+#[repr(C)]
+#[derive(Drop)]
+pub struct Member {
+    /// The key.
+    pub key: u32,
+    /// Its weight.
+    pub weight: u32,
+}
+
+#[inline(always)]
+fn code_of(answer: Result<Pop, Refusal>) -> i64
+    ensures { result ≡ pop_code answer }
+{
+    match answer {
+        Ok(Pop::Member(_, _)) => 1,
+        Ok(Pop::Empty) => NONE,
+        Ok(Pop::Refused) => 0,
+        Err(cause) => cause.code(),
+    }
+}
+
+// Writes the member that was taken out, if there is one.
+#[inline(always)]
+fn tell(answer: Result<Pop, Refusal>, out: &mut Member)
+    ensures { written_by answer out.old out.new }
+{
+    if let Ok(Pop::Member(key, weight)) = answer {
+        *out = Member { key, weight };
+    }
+}
+
+#[inline(always)]
+fn pop_by(access: &mut AccessOf, side: Side) -> Result<Pop, Refusal>
+    ensures popped { IfOk result (λ done. Makes (pop_updates done) (Pops span_of side done) access.old access.new) }
+    ensures not_made { IfErr result (λ _. Follows access.old access.new) }
+{
+    let answer = match side {
+        Side::First => access.try_pop_first(),
+        Side::Last => access.try_pop_last(),
+    };
+    match answer {
+        Ok(done) => Ok(done),
+        Err(cause) => Err(Refusal::of(cause)),
+    }
+}
+
+fn pop_in(seat: Seat, side: Side, out: &mut Member) -> (Seat, i64)
+    ensures { PopsMember side out.old out.new seat result.0 result.1 }
+{
+    match seat {
+        Seat::Looking(look) => (Seat::Looking(look), LOOKING),
+        Seat::Free(access) => {
+            let mut access = access;
+            let answer = pop_by(&mut access, side);
+            tell(answer, out);
+            (Seat::Free(access), code_of(answer))
+        }
+    }
+}
+
+// Takes out the member at one end by a handle's user.
+#[inline(always)]
+fn pop(alloc: Global, user: &mut UserHandle, side: Side, out: &mut Member) -> i64
+    ensures pops { On (PopsMember side out.old out.new) (user_of user.old) (user_of user.new) result }
+    ensures closed { IsNone (user_of user.old) → out.new ≡ out.old }
+    ensures foreign { IsNone user.old.held.value → user.new ≡ user.old }
+{
+    let Some((slot, old)) = user.lend(alloc) else {
+        return CLOSED;
+    };
+    let (new, code) = pop_in(old, side, out);
+    user.give(slot, new);
+    code
+}
+
+/// Takes out the member with the least key, and writes it: 1 if it did, `NONE` if there is no member, and 0 if another change of that member came in
+/// between and nothing was stored.
+#[unsafe(no_mangle)]
+pub extern "C" fn aug_try_pop_first(alloc: Global, user: &mut UserHandle, out: &mut Member) -> i64
+    ensures pops { On (PopsMember side.First out.old out.new) (user_of user.old) (user_of user.new) result }
+    ensures closed { IsNone (user_of user.old) → out.new ≡ out.old }
+    ensures foreign { IsNone user.old.held.value → user.new ≡ user.old }
+{
+    pop(alloc, user, Side::First, out)
+}
+
+/// Takes out the member with the greatest key, as `aug_try_pop_first`.
+#[unsafe(no_mangle)]
+pub extern "C" fn aug_try_pop_last(alloc: Global, user: &mut UserHandle, out: &mut Member) -> i64
+    ensures pops { On (PopsMember side.Last out.old out.new) (user_of user.old) (user_of user.new) result }
+    ensures closed { IsNone (user_of user.old) → out.new ≡ out.old }
+    ensures foreign { IsNone user.old.held.value → user.new ≡ user.old }
+{
+    pop(alloc, user, Side::Last, out)
+}

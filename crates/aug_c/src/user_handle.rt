@@ -1,0 +1,109 @@
+//! The handle of a user as C holds it.
+ghost use Rattle.std.specs.Prelude.{◌≡◌, ◌≢◌, ◌↔◌, Some, None, IsSome, IfSome, IfNone, true};
+ghost use Rattle.aug_c.specs.UserHolding.{Content};
+ghost use Rattle.aug_c.specs.inside.UserContent.{content_coded};
+
+use crate::loose::Loose;
+use crate::seat::Seat;
+use std::alloc::Global;
+use std::marker::Model;
+
+// What an open handle begins with, so that another piece of memory is hardly taken for one.
+const OPEN: u64 = 0x7265_7375_5f67_7561;
+
+/// What a user's handle owns.
+#[derive(Drop)]
+pub struct UserSlot {
+    pub(crate) seat: Option<Seat>,
+}
+
+/// A box as C holds it.
+#[repr(C)]
+#[derive(Drop)]
+pub struct UserHeld {
+    at: *mut u8,
+    pub(crate) ghost value: { Content } by { content_coded },
+}
+
+impl Model for UserHeld {
+    ghost use Rattle.aug_c.specs.UserHolding.{held_owns};
+
+    ghost also_owns = { λ h. held_owns h.value h.at };
+}
+
+/// A handle. C has it zeroed before it is opened, and gives it to one call at a time.
+#[repr(C)]
+#[derive(Drop)]
+pub struct UserHandle {
+    pub(crate) tag: u64,
+    pub(crate) held: UserHeld,
+    pub(crate) ghost agrees: { (tag ≡ 8243121640920544609) ↔ IsSome held.value },
+}
+
+impl UserHeld {
+    fn empty() -> UserHeld
+        ensures { result.value ≡ None }
+    {
+        UserHeld {
+            at: std::ptr::null_mut(),
+        }
+    }
+
+    fn of(b: Loose<UserSlot, Global>) -> UserHeld
+        ensures { result.value ≡ Some b.value }
+    {
+        let Loose { at, alloc: _ } = b;
+        UserHeld { at: at as *mut u8 }
+    }
+
+    fn into_loose(self, alloc: Global) -> Loose<UserSlot, Global>
+        requires { IsSome self.value }
+        ensures { self.value ≡ Some result.value }
+    {
+        let UserHeld { at } = self;
+        let at = at as *mut UserSlot;
+        Loose { at, alloc }
+    }
+}
+
+impl UserHandle {
+    /// Whether it is open.
+    #[inline(always)]
+    pub(crate) fn is_open(&self) -> bool
+        ensures { (result ≡ true) ↔ IsSome self.now.held.value }
+    {
+        self.tag == OPEN
+    }
+
+    /// Takes out what it owns, and leaves it closed. Memory that is no open handle stays as it is.
+    #[inline(always)]
+    pub(crate) fn take(&mut self, alloc: Global) -> Option<Box<UserSlot, Global>>
+        ensures some { IfSome result (λ slot. self.old.held.value ≡ Some slot.value) }
+        ensures none { IfNone result (self.old.held.value ≡ None) }
+        ensures closed { self.new.held.value ≡ None }
+        ensures foreign { IfNone result (self.new ≡ self.old) }
+    {
+        if self.tag != OPEN {
+            return None;
+        }
+        let UserHandle { tag: _, held } = std::mem::replace(
+            self,
+            UserHandle {
+                tag: 0,
+                held: UserHeld::empty(),
+            },
+        );
+        Some(held.into_loose(alloc).into_box())
+    }
+
+    /// Puts a box in, which it owns from then on.
+    #[inline(always)]
+    pub(crate) fn put(&mut self, slot: Box<UserSlot, Global>)
+        ensures { self.new.held.value ≡ Some slot.value }
+    {
+        *self = UserHandle {
+            tag: OPEN,
+            held: UserHeld::of(Loose::of(slot)),
+        };
+    }
+}

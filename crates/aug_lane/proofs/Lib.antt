@@ -1,4 +1,0 @@
-pub mod Opened
-pub mod Reading
-pub mod Turns
-pub mod From

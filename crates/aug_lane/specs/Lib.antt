@@ -1,3 +1,0 @@
-pub mod LaneErrors
-pub mod ManyKeys
-pub mod EachInTurn

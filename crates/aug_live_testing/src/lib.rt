@@ -1,0 +1,4 @@
+//! What the tests of live tries share.
+#![tactic(auto)]
+
+pub mod opening;

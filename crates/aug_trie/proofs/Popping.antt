@@ -1,0 +1,143 @@
+-- What a call comes to that takes out a member of its snapshot, from what its parts come to.
+use Rattle.std.proofs.Common.{◌≡◌, ℕ, zero, suc, ◌+◌, ◌==◌, Bool, if◌then◌else◌, List, [], ◌∷◌, ◌++◌, All, length, length-append, Option, Some, None, sym, ap, ◌∙◌, subst, inl, inr, arith}
+use Rattle.std.specs.Prelude.{slice_get, unwrap_or}
+use Rattle.std.proofs.lemmas.Bool.{cases_Bool}
+use Rattle.aug_core.specs.Kinds.{load_node}
+use Rattle.aug_core.specs.declared.step.StepTaken.{StepTaken}
+use Rattle.aug_core.proofs.PrefixLemmas.{prefix_trans}
+use Rattle.aug_model.specs.Keys.{SetFacts, keys_of, list_of}
+use Rattle.aug_model.specs.Queries.{weight_of}
+use Rattle.aug_model.specs.declared.summary.Summary.{Summary}
+use Rattle.aug_trie.specs.Knowledge.{IsKnowledge}
+use Rattle.aug_trie.specs.Node.{Keeps, Reads}
+use Rattle.aug_trie.specs.Pass.{PassFacts, GoesOn}
+use Rattle.aug_trie.specs.Pops.{member_at, pop_updates, PopsTo, Pops}
+use Rattle.aug_trie.specs.Round.{root_of}
+use Rattle.aug_trie.specs.Snapshot.{HasSnapshot, set_at, snapshot_cut}
+use Rattle.aug_trie.specs.Updates.{TakesSnapshot}
+use Rattle.aug_trie.specs.inside.Popping.{TakesShown}
+use Rattle.aug_trie.specs.inside.ViewLaws.{stays_so, stays_on}
+use Rattle.aug_trie.specs.declared.queries.snapshot.Snapshot.{Snapshot}
+use Rattle.aug_trie.specs.declared.rounds.pop.Pop.{Pop}
+use Rattle.aug_trie.specs.declared.rounds.pop.Pop.TheVariants.{Member, Empty, Refused}
+use Rattle.aug_trie.specs.declared.rounds.pop.Side.{Side}
+use Rattle.aug_trie.specs.declared.rounds.pop.Side.TheVariants.{First, Last}
+
+-- a key that stands in the list is as they all are
+pub one_of_all : (P : ℕ → Type 0) (xs : List ℕ) (i k : ℕ) → All P xs → slice_get xs i ≡ Some k → P k
+one_of_all P [] i k all is = grind (arith, is)
+one_of_all P (x ∷ xs) zero k all is = subst P (ap (λ (z : Option ℕ). unwrap_or z x) is) (all 0 0 (omega arith))
+one_of_all P (x ∷ xs) (suc i) k all is = one_of_all P xs i k (λ j d lt. all (suc j) d (omega arith)) is
+
+-- a key that stands among those of pairs has a weight
+pub weighs_some : (ps : List (ℕ × ℕ)) (i k : ℕ) → slice_get (keys_of ps) i ≡ Some k → weight_of ps k ≡ None → ⊥
+weighs_some [] i k is none = grind (arith, is)
+weighs_some (p ∷ ps) zero k is none = grind (arith, is, none)
+weighs_some (p ∷ ps) (suc i) k is none = elim (cases_Bool (p.0 == k)) [
+  | inl here ↦ grind (arith, here, none)
+  | inr other ↦ weighs_some ps i k is (sym (ap (λ (b : Bool). if b then Some p.1 else weight_of ps k) other) ∙ none)
+]
+
+-- both ends of a list are places of it
+pub end_stands : (side : Side) (xs : List ℕ) (k : ℕ) → member_at side xs ≡ Some k → (i : ℕ) × (slice_get xs i ≡ Some k)
+end_stands First xs k is = (_, is)
+end_stands Last xs k is = (_, is)
+
+-- a pass goes on twice
+pub goes_on_both : (a b s t : ℕ) (p q r : PassFacts) → GoesOn a s p q → GoesOn b t q r → GoesOn (a + b) (s + t) p r
+goes_on_both a b s t p q r x y = record {
+  same = let spent_q = ap (λ (z : PassFacts). z.spent) x.same in let spent_r = ap (λ (z : PassFacts). z.spent) y.same in let spent : r.spent ≡ p.spent + (a + b) = omega (arith, spent_q, spent_r) in
+      let round = ap (λ (z : PassFacts). z.round) y.same ∙ ap (λ (z : PassFacts). z.round) x.same in
+      let past = ap (λ (z : PassFacts). z.past) y.same ∙ ap (λ (z : PassFacts). z.past) x.same in
+      let lane = ap (λ (z : PassFacts). z.lane) y.same ∙ ap (λ (z : PassFacts). z.lane) x.same in
+      let facts : PassFacts = r in λ i. record facts { round = round i; past = past i; lane = lane i; spent = spent i };
+  step_count = let x_long = x.step_count in let y_long = y.step_count in omega (arith, x_long, y_long);
+  steps_stay = prefix_trans p.steps q.steps r.steps x.steps_stay y.steps_stay;
+  knowledge = y.knowledge;
+  named = y.named;
+}
+
+module _ {A B : Type 0} (summary_of : List (ℕ × ℕ) → Summary A B) where
+  -- a pass that read nothing
+  pub reads_none : (most : ℕ) (p : PassFacts) → Reads summary_of most p p
+  reads_none most p = record { stays = stays_so summary_of p; few_steps = omega arith }
+
+  -- and one that read twice
+  pub reads_both : (m n most : ℕ) (p q r : PassFacts) → most ≡ m + n → Reads summary_of m p q → Reads summary_of n q r → Reads summary_of most p r
+  reads_both m n most p q r is x y = record {
+    stays = stays_on summary_of p q r x.stays y.stays;
+    few_steps = let a = x.few_steps in let b = y.few_steps in omega (arith, is, a, b);
+  }
+
+  -- a pass that went on and then read
+  pub goes_reading : (updates steps most : ℕ) (p q r : PassFacts) → GoesOn updates steps p q → Reads summary_of most q r → (more : ℕ) × GoesOn updates (steps + more) p r
+  goes_reading updates steps most p q r g reads = let same = reads.stays.same in let more = reads.stays.steps_stay in (
+    length more.0,
+    record {
+      same = let round = ap (λ (z : PassFacts). z.round) same ∙ ap (λ (z : PassFacts). z.round) g.same in let past = ap (λ (z : PassFacts). z.past) same ∙ ap (λ (z : PassFacts). z.past) g.same in
+          let lane = ap (λ (z : PassFacts). z.lane) same ∙ ap (λ (z : PassFacts). z.lane) g.same in let spent = ap (λ (z : PassFacts). z.spent) same ∙ ap (λ (z : PassFacts). z.spent) g.same in
+          let facts : PassFacts = r in λ i. record facts { round = round i; past = past i; lane = lane i; spent = spent i };
+      step_count = let long = ap (λ (z : List StepTaken). length z) more.1 ∙ length-append q.steps more.0 in let had = g.step_count in omega (arith, long, had);
+      steps_stay = prefix_trans p.steps q.steps r.steps g.steps_stay more;
+      knowledge = subst (λ (z : PassFacts). IsKnowledge z.round.bits z.round.members z.knows) (sym same) g.knowledge;
+      named = subst (λ (z : PassFacts). length z.numbers ≡ length z.knows.history) (sym same) g.named;
+    },
+  )
+
+  -- what is kept twice is kept
+  pub keeps_both : (p q r : PassFacts) → Keeps summary_of p q → Keeps summary_of q r → Keeps summary_of p r
+  keeps_both p q r a b = record {
+    snapshots = λ s has. b.snapshots s (a.snapshots s has);
+    same_cuts = λ s has. b.same_cuts s (a.snapshots s has) ∙ a.same_cuts s has;
+    same_sets = λ s has. b.same_sets s (a.snapshots s has) ∙ a.same_sets s has;
+    nodes = λ node has. b.nodes node (a.nodes node has);
+    weights = λ key serial weight has. b.weights key serial weight (a.weights key serial weight has);
+  }
+
+  -- a pop, from what its parts come to
+  pub pops_made : (side : Side) (done : Pop) (s : Snapshot) (found : Option ℕ) (old looked mid new : PassFacts) → TakesSnapshot old.knows looked.knows (snapshot_cut looked s.number) → HasSnapshot looked s.number → GoesOn 0 1 old looked
+      → looked.steps ≡ old.steps ++ load_node (root_of old.round) s.number ∷ [] → Keeps summary_of old looked → found ≡ member_at side (list_of (set_at looked s)) → Reads summary_of 4 looked mid → TakesShown summary_of (set_at mid s) found done mid new
+      → Pops summary_of side done old new
+  pops_made side done s found old looked mid new takes known goes step keeps is reads t = record {
+    snapshot = s;
+    looked = looked;
+    takes = takes;
+    known = known;
+    goes_on = goes;
+    step = step;
+    keeps = keeps;
+    asked = t.asked;
+    reads = let bits : mid.round.bits ≡ looked.round.bits = ap (λ (z : PassFacts). z.round.bits) reads.stays.same in
+        reads_both 4 (mid.round.bits + 2) (looked.round.bits + 6) looked mid t.asked (omega (arith, bits)) reads t.reads;
+    pops_to = subst (λ (z : SetFacts × Option ℕ). PopsTo summary_of z.0 z.1 done t.asked new) (λ i. (reads.stays.keeps.same_sets s known i, is i)) t.pops_to;
+  }
+
+  -- a pop goes on by the updates that it makes
+  pub pops_go_on : (side : Side) (done : Pop) (old new : PassFacts) → Pops summary_of side done old new → (steps : ℕ) × GoesOn (pop_updates done) steps old new
+  pops_go_on side done old new p = by_found (member_at side (list_of (set_at p.looked p.snapshot))) done p.pops_to
+    where
+      asked : (more : ℕ) × GoesOn 0 (1 + more) old p.asked
+      asked = goes_reading 0 1 (p.looked.round.bits + 6) old p.looked p.asked p.goes_on p.reads
+
+      by_found : (found : Option ℕ) (done : Pop) → PopsTo summary_of (set_at p.looked p.snapshot) found done p.asked new → (steps : ℕ) × GoesOn (pop_updates done) steps old new
+      by_found None Empty is = (1 + asked.0, subst (λ (z : PassFacts). GoesOn 0 (1 + asked.0) old z) (sym is) asked.1)
+      by_found None (Member key weight) is = absurd is
+      by_found None Refused is = absurd is
+      by_found (Some k) Empty is = absurd is
+      by_found (Some k) (Member key weight) is = let went = is.2.goes_on in (1 + asked.0 + went.0, goes_on_both 0 1 (1 + asked.0) went.0 old p.asked new asked.1 went.1)
+      by_found (Some k) Refused is = let went = is.2.goes_on in (1 + asked.0 + went.0, goes_on_both 0 1 (1 + asked.0) went.0 old p.asked new asked.1 went.1)
+
+  -- and keeps what there was
+  pub pops_keep : (side : Side) (done : Pop) (old new : PassFacts) → Pops summary_of side done old new → Keeps summary_of old new
+  pops_keep side done old new p = by_found (member_at side (list_of (set_at p.looked p.snapshot))) done p.pops_to
+    where
+      asked : Keeps summary_of old p.asked
+      asked = keeps_both old p.looked p.asked p.keeps p.reads.stays.keeps
+
+      by_found : (found : Option ℕ) (done : Pop) → PopsTo summary_of (set_at p.looked p.snapshot) found done p.asked new → Keeps summary_of old new
+      by_found None Empty is = subst (λ (z : PassFacts). Keeps summary_of old z) (sym is) asked
+      by_found None (Member key weight) is = absurd is
+      by_found None Refused is = absurd is
+      by_found (Some k) Empty is = absurd is
+      by_found (Some k) (Member key weight) is = keeps_both old p.asked new asked is.2.keeps
+      by_found (Some k) Refused is = keeps_both old p.asked new asked is.2.keeps

@@ -5,6 +5,7 @@
 
 #include <pthread.h>
 #include <sched.h>
+#include <stdatomic.h>
 #include <stdlib.h>
 #include <string.h>
 #include <time.h>
@@ -73,6 +74,7 @@ struct shared {
     unsigned idle_count;
     unsigned owners;               /* the trie's handle and each open user */
     uint32_t bits;                 /* of its keys; never changed */
+    atomic_uint waiting;           /* how many calls are made again until others have ended theirs, or their looks */
 };
 
 /* What an open handle of a trie begins with. */
@@ -91,15 +93,26 @@ static void leave(struct shared *s) {
     free(s);
 }
 
+static void sleep_a_little(void) {
+    const struct timespec pause = {0, 50000};
+    nanosleep(&pause, NULL);
+}
+
 /* Yields, and in a long wait sleeps. */
 static void wait_a_little(unsigned turn) {
-    const struct timespec pause = {0, 50000};
     if (turn < 32) sched_yield();
-    else nanosleep(&pause, NULL);
+    else sleep_a_little();
 }
 
 /* Calls again as long as another thread is waited for. */
-#define CALLS_AGAIN(code, call) do { for (unsigned turn_ = 0; (code = (call)) == AUG_AGAIN; turn_++) wait_a_little(turn_); } while (0)
+#define CALLS_AGAIN(code, of, call) do { \
+    if ((code = (call)) == AUG_AGAIN) { \
+        struct shared *of_ = (of); \
+        atomic_fetch_add(&of_->waiting, 1); \
+        for (unsigned turn_ = 0; code == AUG_AGAIN; turn_++) { wait_a_little(turn_); code = (call); } \
+        atomic_fetch_sub(&of_->waiting, 1); \
+    } \
+} while (0)
 
 int64_t aug_open(aug_trie *trie, uint32_t bits, uint32_t users, uint64_t bytes) {
     if (!trie) return AUG_CLOSED;
@@ -178,15 +191,28 @@ int64_t aug_close(aug_trie *trie, aug_report *report) {
     aug_report unwanted;
     int64_t code;
     if (!s) return AUG_CLOSED;
-    CALLS_AGAIN(code, try_close(s, report ? report : &unwanted));
+    /* This call is an owner too, until it waits no more. */
+    pthread_mutex_lock(&s->lock);
+    s->owners++;
+    pthread_mutex_unlock(&s->lock);
+    CALLS_AGAIN(code, s, try_close(s, report ? report : &unwanted));
+    pthread_mutex_lock(&s->lock);
+    leave(s);
     *trie = (aug_trie){0, NULL};
     return code;
 }
 
 /* ---- Calls of a user ---- */
 
+int64_t aug_look_done(aug_user *user) {
+    int64_t code = user ? aug_try_look_done(user) : AUG_CLOSED;
+    /* Whoever waits has to come while there is no look, and who looks again and again would leave them no time. */
+    if (code == AUG_OK && atomic_load(&((struct shared *)user->of)->waiting)) sleep_a_little();
+    return code;
+}
+
 /* A call of a user that is not null, which is made again until it is done. */
-#define OF_USER(call) do { int64_t code_; if (!user) return AUG_CLOSED; CALLS_AGAIN(code_, call); return code_; } while (0)
+#define OF_USER(call) do { int64_t code_; if (!user) return AUG_CLOSED; CALLS_AGAIN(code_, user->of, call); return code_; } while (0)
 
 int64_t aug_insert(aug_user *user, uint32_t key) { OF_USER(aug_try_insert(user, key)); }
 int64_t aug_remove(aug_user *user, uint32_t key) { OF_USER(aug_try_remove(user, key)); }
@@ -196,7 +222,7 @@ int64_t aug_put(aug_user *user, uint32_t key, uint32_t weight) { OF_USER(aug_try
 #define OF_CHANGE(call) do { \
     int64_t code_; \
     if (!user) return AUG_CLOSED; \
-    do CALLS_AGAIN(code_, call); while (!code_); \
+    do CALLS_AGAIN(code_, user->of, call); while (!code_); \
     return code_; \
 } while (0)
 
@@ -215,7 +241,6 @@ int64_t aug_pop_last(aug_user *user, aug_member *member) {
 
 int64_t aug_look(aug_user *user) { OF_USER(aug_try_look(user)); }
 int64_t aug_look_again(aug_user *user) { return user ? aug_try_look_again(user) : AUG_CLOSED; }
-int64_t aug_look_done(aug_user *user) { return user ? aug_try_look_done(user) : AUG_CLOSED; }
 int64_t aug_has(aug_user *user, uint32_t key) { return user ? aug_try_has(user, key) : AUG_CLOSED; }
 int64_t aug_weight(aug_user *user, uint32_t key) { return user ? aug_try_weight(user, key) : AUG_CLOSED; }
 int64_t aug_size(aug_user *user) { return user ? aug_try_size(user) : AUG_CLOSED; }
@@ -255,7 +280,7 @@ static uint64_t nowhere;
 #define OF_KEYS(call) do { \
     aug_progress so_far = {0, 0}; \
     int64_t code_ = refuses(user, keys, n, keys, n); \
-    if (code_ == AUG_OK) CALLS_AGAIN(code_, call); \
+    if (code_ == AUG_OK) CALLS_AGAIN(code_, user->of, call); \
     return code_ == AUG_OK ? (int64_t)so_far.changed : code_; \
 } while (0)
 

@@ -200,7 +200,7 @@ AUG_NODISCARD int64_t aug_look(aug_user *user);
 /* Takes a newer snapshot in the same look, and waits for nobody. Answers 0, or AUG_CLOSED, AUG_NOT_LOOKING. */
 int64_t aug_look_again(aug_user *user);
 
-/* Ends the look. Answers 0, or AUG_CLOSED, AUG_NOT_LOOKING. */
+/* Ends the look, and sleeps for some 50 microseconds if a call of another user waits. Answers 0, or AUG_CLOSED, AUG_NOT_LOOKING. */
 int64_t aug_look_done(aug_user *user);
 
 /* ---- Queries. Each may answer AUG_CLOSED too, and AUG_NOT_LOOKING. Any key may be asked for. ---- */

@@ -6,7 +6,6 @@ use std::ops::Bound;
 use std::sync::Mutex;
 use std::sync::atomic::{AtomicU32, Ordering::SeqCst};
 use std::thread;
-use std::time::Duration;
 
 // So many that no test here fills the table, whatever the bits.
 const PLENTY: u64 = 1 << 24;
@@ -427,9 +426,6 @@ fn looks_agree_and_never_go_back_while_others_fill_the_table() -> Result<(), Err
                 }
                 look.again();
             }
-            drop(look);
-            // Whoever waits for the look comes to it only if it is tried while there is none.
-            thread::sleep(Duration::from_micros(200));
             looks += 1;
         }
         Ok::<u32, Error>(looks)

@@ -14,6 +14,14 @@ LLVM, RATTLE = "crates/augtrie/out/augtrie", "crates/augtrie/out/augtrie.by-ratt
 # Stands in for tests/run: it notes its words and the programs to be tested.
 RUN = '#!/bin/sh\necho "$*" >>ran\necho "${PROGRAMS-}" >>programs\necho 10 passed, 0 failed\n'
 
+# Stands in for an rt that proves the library, and then waits until tests of it run, or two seconds.
+SLOW = """#!/bin/sh
+echo 'rt: aug_c proved'
+for _ in 1 2 3 4 5 6 7 8; do if grep -q languages ran; then break; fi; sleep 0.25; done
+echo "rt $*" >>ran
+echo 7 passed, 0 failed
+"""
+
 
 class TestOfGate(InFolder):
     def setup_method(self):
@@ -21,17 +29,17 @@ class TestOfGate(InFolder):
         self.write(".ci/run", read(".ci", "run"), 0o755)
         self.write("tests/run", RUN, 0o755)
 
-    def run_gate(self, said="7 passed, 0 failed", status=0):
+    def run_gate(self, said="7 passed, 0 failed", status=0, rt=None):
         """Runs it with an rt that says so and ends so: its last line and its status."""
         for name, text in ("said", said + "\n"), ("ran", ""), ("programs", ""):
             self.write(name, text)
-        self.write("bin/rt", f'#!/bin/sh\necho "rt $*" >>ran\ncat said\nexit {status}\n', 0o755)
+        self.write("bin/rt", rt or f'#!/bin/sh\necho "rt $*" >>ran\ncat said\nexit {status}\n', 0o755)
         env = {**os.environ, "PATH": f"{self.path('bin')}:{os.environ['PATH']}"}
         ran = subprocess.run([self.path(".ci/run")], stdout=subprocess.PIPE, timeout=SECONDS, env=env)
         return ran.stdout.decode().splitlines()[-1], ran.returncode
 
     def test_runs_each_file_of_tests_once(self):
-        assert self.run_gate() == ("17 passed, 0 failed", 0)
+        assert self.run_gate() == ("27 passed, 0 failed", 0)
         first, *rows = self.read("ran").splitlines()
         assert first == "rt ci"
         names = [os.path.join(TESTS, name) for row in rows for name in row.split()]
@@ -41,15 +49,24 @@ class TestOfGate(InFolder):
 
     def test_failures_are_added_up(self):
         self.write("tests/run", "#!/bin/sh\necho 3 passed, 2 failed\nexit 1\n", 0o755)
-        assert self.run_gate("7 passed, 4 failed", 1) == ("10 passed, 6 failed", 1)
+        assert self.run_gate("7 passed, 4 failed", 1) == ("13 passed, 8 failed", 1)
+
+    def test_library_is_tested_beside_the_rest(self):
+        assert self.run_gate(rt=SLOW) == ("27 passed, 0 failed", 0)
+        assert ["languages" in row for row in self.read("ran").splitlines()] == [True, False, False]
+
+    def test_libraries_of_an_earlier_run_are_left_alone(self):
+        self.write("crates/low/out/rlib/stamp", "")
+        assert self.run_gate(rt=SLOW) == ("27 passed, 0 failed", 0)
+        assert self.read("ran").splitlines()[0] == "rt ci"
 
     def test_command_that_does_not_count_fails(self):
-        assert self.run_gate("7 passed") == ("10 passed, 1 failed", 1)
-        assert self.run_gate("7 passed, 0 failed", 3) == ("17 passed, 1 failed", 1)
+        assert self.run_gate("7 passed") == ("20 passed, 1 failed", 1)
+        assert self.run_gate("7 passed, 0 failed", 3) == ("27 passed, 1 failed", 1)
 
     def test_bad_edits_fail(self):
         said = "rt: must-fail low/one.edit: BAD EDIT: there is no such text\nrt: note: bad must-fail edits, as told above: 1. They fail nothing here"
-        assert self.run_gate(f"{said}\n7 passed, 0 failed") == ("17 passed, 1 failed", 1)
+        assert self.run_gate(f"{said}\n7 passed, 0 failed") == ("27 passed, 1 failed", 1)
 
     def programs(self, said="7 passed, 0 failed"):
         """The programs that are tested from outside. What is not there is asked for, and fails then."""

@@ -198,7 +198,7 @@ def archives():
     """The archive of each compiler, by the compiler's name, built over the libraries that `rt ci` left, from one proof."""
     rt, folder = toolchain(), HELD.name
     crate = crates_below(rt, TOP)["aug_c"]
-    words = crate.words(["--jobs", str(min(os.cpu_count() or 1, 4))], keeps=False)
+    words = crate.words(["--jobs", str(min(os.cpu_count() or 1, 2))], keeps=False)
     checked = os.path.join(folder, "checked")
     said = said_by(rt.rtlib.RATTLE, "check", *words, "-o", checked, cwd=crate.folder, timeout=3000)
     assert said.splitlines()[-1].startswith("logic=proved "), said

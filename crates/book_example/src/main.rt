@@ -1,166 +1,97 @@
-//! An order book by price: one thread bids, one offers, and a third reads best prices and volumes meanwhile.
+//! An order book: a price is a key, and the volume of its orders its weight. Bids lie below the middle, and offers from it on. Four threads add volume
+//! and take it away, all at the same prices, and a fifth one looks meanwhile.
 #![tactic(auto)]
 
-ghost use Rattle.std.specs.Prelude.{◌≡◌, ◌+◌, ◌≤◌, IfOk};
-ghost use Rattle.aug_trie.specs.Round.{table_of};
-ghost use Rattle.aug_trie.specs.Snapshot.{HasSnapshot, set_at};
-ghost use Rattle.book_example.specs.Bids.{bids_agree};
+ghost use Rattle.std.specs.Prelude.{◌≡◌};
+ghost use Rattle.aug_model.specs.Keys.{list_of};
+ghost use Rattle.aug_model.specs.Queries.{first_of, last_of, range_of};
+ghost use Rattle.aug_live.specs.LiveHandles.{set_of_look};
 
+use aug_live::{Handle, Live, LiveError, Look};
 use aug_monoid::{Extent, Sum};
-use aug_query::ask;
-use aug_query::descent::{After, Before, Range, Weight};
-use aug_trie::{Crew, CrewError, Ended, Pass, PassHalf, Round, Snapshot};
-use std::alloc::Global;
+use aug_query::descent::{Greatest, Least, Range, SelectByWeight};
+use aug_trie::{BeginError, Ended};
+use std::sync::Wait;
 use std::thread;
-use std::thread::Threads;
 
-// An order is a key, its price, with its volume as the weight. The book keeps the sum of the volumes, and the least and the
-// greatest of the prices.
-type Book = Round<Sum, Extent>;
+type User = Handle<Sum, Extent>;
 
-// A pass borrows its round, so what goes into a thread and comes out of it is its half.
-type Half = PassHalf<Sum, Extent>;
+type Book = Look<Sum, Extent>;
 
-// Bids lie below this price, and offers above it.
 const MIDDLE: u32 = 2_000;
 
-// Puts an order of 10 in at each of 100 prices from the lowest on, takes every fifth of them out again, and replaces the one
-// behind each of these by an order of 25. No snapshot shows such a price without an order in between.
-fn trade(book: &Book, half: Half, lowest: u32) -> Half
-    requires book { table_of half.round ≡ book.now }
-    requires bits { half.round.bits ≡ 12 }
-    requires budget { half.spent + 200 ≤ half.round.updates }
-    requires prices { lowest + 100 ≤ 4096 }
-    ensures { result.round ≡ half.round }
-{
-    let mut pass = book.pass(half);
-    for i in 0..100 {
-        pass.put(lowest + i, 10);
-        if i % 5 == 0 {
-            pass.remove(lowest + i);
-        } else if i % 5 == 1 {
-            pass.put(lowest + i, 25);
+// Adds 30 at each of 200 prices, and takes 10 of it away, or all of it at each fifth price. An update requires that its key is below the universe.
+fn trade<R: Wait>(rt: &R, mut user: User) -> Result<(), LiveError> {
+    for price in MIDDLE - 100..MIDDLE + 100 {
+        if price < user.universe() {
+            user.add(rt, price, 30)?;
+            user.sub(rt, price, if price % 5 == 0 { 30 } else { 10 })?;
         }
     }
-    pass.into_half()
+    Ok(())
 }
 
-// Whether a snapshot agrees with itself: the best bid is the greatest of the bids, and from there to the middle there is its
-// volume and no more. A snapshot stays what it is, so this holds whatever the other threads do meanwhile.
-fn agrees(pass: &mut Pass<Sum, Extent>, now: Snapshot) -> bool
-    requires snapshot { HasSnapshot pass.old now.number }
-    ensures round { pass.new.round ≡ pass.old.round }
-    ensures agrees { result ≡ bids_agree (set_at pass.old now) }
+// The greatest price of the bids.
+fn best_bid(book: &mut Book) -> Option<u32>
+    ensures { result ≡ last_of (range_of (list_of (set_of_look book.old)) 0 2000) }
 {
-    let bids = pass.ask(now, Range(0, MIDDLE));
-    match (pass.ask(now, Before(MIDDLE)), bids.b.bounds()) {
-        (Some(best), Some((_, greatest))) => {
-            let depth = pass.ask(now, Range(best, MIDDLE)).a.value();
-            let volume = pass.ask(now, Weight(best)).unwrap_or(0);
-            best == greatest && u64::from(volume) == depth
-        }
-        (None, None) => bids.count == 0,
-        _ => false,
-    }
+    book.ask(Greatest(0, MIDDLE))
 }
 
-// Reads the book 500 times, each time from a new snapshot: whether each of them agreed with itself.
-fn watch(book: &Book, half: Half) -> (Half, bool)
-    requires { table_of half.round ≡ book.now }
-    ensures { result.0.round ≡ half.round }
+// The least price of the offers.
+fn best_offer(book: &mut Book) -> Option<u32>
+    ensures { result ≡ first_of (range_of (list_of (set_of_look book.old)) 2000 4096) }
 {
-    let mut pass = book.pass(half);
-    let mut all = true;
+    book.ask(Least(MIDDLE, 4_096))
+}
+
+// All volume at the prices of an interval.
+fn depth(book: &mut Book, from: u32, to: u32) -> u64 {
+    book.ask(Range(from, to)).a.value()
+}
+
+// Whether each of 500 looks agrees with itself. Units of volume are numbered from the lowest price on: the last one of the bids is at the best
+// bid, and the one after it at the best offer.
+fn watch<R: Wait>(rt: &R, mut user: User) -> Result<bool, LiveError> {
+    let mut agree = true;
     for _ in 0..500 {
-        let now = pass.snapshot();
-        all &= agrees(&mut pass, now);
+        let mut book = user.look(rt).map_err(|(_, cause)| cause)?;
+        let bids = depth(&mut book, 0, MIDDLE);
+        if bids > 0 {
+            agree &= book.ask(SelectByWeight(bids - 1)) == best_bid(&mut book);
+        }
+        agree &= book.ask(SelectByWeight(bids)) == best_offer(&mut book);
+        user = book.done();
     }
-    (pass.into_half(), all)
-}
-
-// Two threads trade, and a third watches. A closure that joins two of them has to say itself what it asks and gives.
-fn at_work<R: Threads + Sync>(
-    rt: &R,
-    book: &Book,
-    halves: (Half, Half, Half),
-) -> (Half, (Half, (Half, bool)))
-    requires book { (table_of halves.0.round ≡ book.now) × (table_of halves.1.round ≡ book.now) × (table_of halves.2.round ≡ book.now) }
-    requires bits { (halves.0.round.bits ≡ 12) × (halves.1.round.bits ≡ 12) }
-    requires budget { (halves.0.spent + 200 ≤ halves.0.round.updates) × (halves.1.spent + 200 ≤ halves.1.round.updates) }
-    ensures one { result.0.round ≡ halves.0.round }
-    ensures two { result.1.0.round ≡ halves.1.round }
-    ensures three { result.1.1.0.round ≡ halves.2.round }
-{
-    let (one, two, three) = halves;
-    thread::join(
-        rt,
-        || trade(book, one, 1_900),
-        move ||
-            requires { (table_of two.round ≡ book.now) × (table_of three.round ≡ book.now) × (two.round.bits ≡ 12)
-                × (two.spent + 200 ≤ two.round.updates) }
-            ensures { (result.0.round ≡ two.round) × (result.1.0.round ≡ three.round) }
-        { thread::join(rt, || trade(book, two, MIDDLE + 1), || watch(book, three)) },
-    )
-}
-
-// A round over an empty book: what it ends with, and whether each snapshot agreed with itself.
-fn day<R: Threads + Sync>(rt: &R, alloc: Global) -> anyhow::Result<(Ended<Sum, Extent>, bool)>
-    ensures all_back { IfOk result (λ r. r.0.missing ≡ 0) }
-{
-    let empty = Ended::empty(alloc, 12)?;
-    // For three passes with 200 updates each. All memory is taken here. If it is refused, the book comes back.
-    let (book, mut crew) = match Round::begin(alloc, empty, 3, 200) {
-        Ok(begun) => begun,
-        Err((_, cause)) => return Err(cause.into()),
-    };
-    let agreed = traded(rt, &book, &mut crew)?;
-    Ok((book.end(crew), agreed))
-}
-
-// Hands three passes out and takes them back once they are done: whether each snapshot agreed with itself.
-fn traded<R: Threads + Sync>(
-    rt: &R,
-    book: &Book,
-    crew: &mut Crew<Sum, Extent>,
-) -> Result<bool, CrewError>
-    requires book { table_of crew.old.round ≡ book.now }
-    requires bits { crew.old.round.bits ≡ 12 }
-    requires updates { crew.old.round.updates ≡ 200 }
-    requires all_back { crew.old.back ≡ crew.old.handed }
-    ensures { IfOk result (λ _. (crew.new.round ≡ crew.old.round) × (crew.new.back ≡ crew.new.handed)) }
-{
-    let one = crew.pass(book)?.into_half();
-    let two = crew.pass(book)?.into_half();
-    let three = crew.pass(book)?.into_half();
-    let (one, (two, (three, agreed))) = at_work(rt, book, (one, two, three));
-    // Once a pass is back the crew knows what it did, and the round ends with all of that.
-    crew.back(book.pass(one));
-    crew.back(book.pass(two));
-    crew.back(book.pass(three));
-    Ok(agreed)
+    Ok(agree)
 }
 
 fn main(rt: HostRuntime) -> anyhow::Result<()> {
-    let (mut ended, agreed) = day(&rt, rt.alloc())?;
-    // If an order was replaced, one went and another one came.
-    let (came, went, left) = (ended.inserts(), ended.removals(), ended.size());
-    println!(rt; "{came} orders came, {went} went, {left} are left")?;
-    let answer = if agreed { "yes" } else { "no" };
-    println!(rt; "each snapshot agreed with itself: {answer}")?;
-    let missing = ended.missing();
-    println!(rt; "{missing} passes missing")?;
-    let near = ask(&mut ended, Range(1_950, 2_050));
-    let (count, sum) = (near.count, near.a.value());
-    println!(rt; "{count} from 1950 to 2049, volume {sum}")?;
-    let (bid, offer) = (
-        ask(&mut ended, Before(MIDDLE)),
-        ask(&mut ended, After(MIDDLE)),
+    let (r, alloc) = (&rt, rt.alloc());
+    let empty: Ended<Sum, Extent> = Ended::empty(alloc, 12)?;
+    let set = empty.into_members(alloc).or(Err(BeginError::OutOfMemory))?;
+    let (mut live, mut users) = Live::open(alloc, set, 5, 1 << 20).map_err(|(_, cause)| cause)?;
+    let one = users.pop().ok_or(BeginError::BadWorkers)?;
+    let (traded, agree) = thread::join(
+        r,
+        || thread::map_vec(r, users, &|user| trade(r, user)),
+        || watch(r, one),
     );
-    for (side, best) in [("bid", bid), ("offer", offer)] {
-        if let Some(price) = best {
-            let volume = ask(&mut ended, Weight(price)).unwrap_or(0);
-            println!(rt; "best {side} {price}, volume {volume}")?;
-        }
+    for result in traded? {
+        result?;
     }
+    println!(rt; "each look agreed with itself: {}", agree?)?;
+    // A new handle, in the lane of a thread that has ended.
+    let mut book = live.handle(r, 0)?.look(r).map_err(|(_, cause)| cause)?;
+    let (bid, offer) = (best_bid(&mut book), best_offer(&mut book));
+    let (bids, near) = (depth(&mut book, 0, MIDDLE), depth(&mut book, 1_950, MIDDLE));
+    // Whoever buys 1,000 gets the units behind the bids.
+    let filled = book.ask(SelectByWeight(bids.saturating_add(999)));
+    let all = depth(&mut book, 0, 4_096);
+    book.done();
+    let prices = live.close(r).0.size();
+    println!(rt; "volume {all} at {prices} prices, {near} of it from 1950 to 1999")?;
+    let (bid, offer, filled) = (bid.unwrap_or(0), offer.unwrap_or(0), filled.unwrap_or(0));
+    println!(rt; "best bid {bid}, best offer {offer}, 1000 are bought for {filled} at most")?;
     Ok(())
 }

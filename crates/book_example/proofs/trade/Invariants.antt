@@ -1,5 +1,0 @@
-use Rattle.std.proofs.Common.{◌≡◌, ◌+◌, ◌*◌, ◌≤◌}
-use Rattle.book_example.proofs.trade.Given as goal
-
-abbrev pub invariant-loop-i : goal.invariant-loop-i
-invariant-loop-i l = (l.pass.round ≡ l.initial.pass.round) × (l.pass.spent ≤ l.initial.pass.spent + 2 * l.i)

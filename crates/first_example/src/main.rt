@@ -35,8 +35,8 @@ fn main(rt: HostRuntime) -> anyhow::Result<()> {
     let empty: Ended<Sum, Nothing> = Ended::empty(alloc, 12)?;
     let set = empty.into_members(alloc).or(Err(OpenError::OutOfMemory))?;
     let (book, mut users) = Live::open(alloc, set, 2, 1 << 20).map_err(|(_, cause)| cause)?;
-    let one = users.pop().unwrap();
-    let two = users.pop().unwrap();
+    let two = users.remove(1);
+    let one = users.remove(0);
     let (offered, agree) = thread::join(r, || offer(r, one), || watch(r, two));
     let (size, agree) = (book.close(r).0.size(), offered.and(agree)?);
     println!(rt; "{size} offers; each snapshot agreed: {agree}")?;

@@ -1,6 +1,5 @@
 #!/usr/bin/env python3
-"""Writes docs/surface.md from the crates: their public calls, each with the names of its conditions and clauses, the type of its refusals, and the
-must-fail edits of its body.
+"""Writes docs/surface.md from the crates: their public calls, each with the names of its conditions and clauses, and the must-fail edits of its body.
 
 usage: tests/sources/surface.py --write
 
@@ -13,7 +12,7 @@ import re
 import sys
 import textwrap
 
-from sources import TOP, calls, exported, files, ghosts, read
+from sources import TOP, calls, files, ghosts, read
 
 # The calls without a clause, each with its reason.
 UNTOLD = {"before of Gate": "no clause sees when a row runs; tests do", "after of Gate": "as before"}
@@ -21,14 +20,12 @@ UNTOLD = {"before of Gate": "no clause sees when a row runs; tests do", "after o
 HEAD = """# Public calls
 
 Written by `tests/sources/surface.py --write`; the gate compares it with the sources. Each line has the calls of a type, a trait or a crate: in brackets the
-names of a call's conditions (`_` has no name), then those of its clauses, or nothing for a single one without a name, or *untold* if it has none;
-what they say stands at the call in `src/`. Behind *or* is what a refusal gives, behind *not* the must-fail edits of its body: mistakes that the
-prover refuses. Behind *ghost* are the members of a trait that only contracts see, its laws among them.
+names of a call's conditions (`_` has no name), then those of its clauses, or nothing for a single one without a name, or *untold* if it has none. Behind
+*not* are the must-fail edits of its body, behind *ghost* the members of a trait that only contracts see, its laws among them. Calls of which it says the
+same stand together.
 """
 FUNCTION = re.compile(r"^ *(?:pub(?:\([^)]*\))? )?(?:extern \"C\" )?fn (\w+)", re.M)
 OWNER = re.compile(r"^(?:impl\b(?:<(?:[^<>]|<[^<>]*>)*>)? (\w+)[^{]*\{|pub trait (\w+)|\})", re.M)
-PARAMETERS = re.compile(r"(?<!Result)<[^<>]*>")
-REFUSAL = re.compile(r"-> Result<.*, (\(.*\)|\w+)>")
 
 
 def edited(crate, path):
@@ -49,23 +46,21 @@ def edits_of(top, crate):
 
 
 def said_of(call, edits):
-    """What the page says of a call."""
+    """What the page says of a call behind its name."""
     asked, told = (", ".join(it.name or "_" for it in call.function.clauses if it.kind == kind) for kind in ("requires", "ensures"))
-    refusal = REFUSAL.search(PARAMETERS.sub("", PARAMETERS.sub("", call.function.signature)))
-    parts = ["" if told == "_" else told or "*untold*", refusal and f"*or* {refusal[1]}", edits[call.name] and f"*not* {', '.join(sorted(edits[call.name]))}"]
-    return f"`{call.function.name}`{asked and f'({asked})'} {', '.join(filter(None, parts))}".rstrip()
+    parts = ["" if told == "_" else told or "*untold*", edits[call.name] and f"*not* {', '.join(sorted(edits[call.name]))}"]
+    return f"{asked and f'({asked})'} {', '.join(filter(None, parts))}".rstrip()
 
 
 def section(top, crate, found):
     """What the page says of a crate with some calls."""
-    edits, owners = edits_of(top, crate), collections.defaultdict(list)
+    edits, owners = edits_of(top, crate), collections.defaultdict(dict)
     for call in found:
         owner, laws = call.part.owner, ", ".join(ghosts(call.part.body)) * (call.part.owner not in call.part.head)
-        owners[owner] = owners[owner] or [f"*ghost* {laws}"] * bool(laws)
-        owners[owner].append(said_of(call, edits))
-    lines = [f"- {f'**`{owner}`**: ' * bool(owner)}{'; '.join(said)}." for owner, said in sorted(owners.items())]
-    others = sorted(name for name in exported(crate) or () if name[0].isupper() and name not in owners)
-    lines += [f"- Without calls of their own: {', '.join(others)}."] * bool(others)
+        if laws:
+            owners[owner].setdefault(f" {laws}", ["*ghost*"])
+        owners[owner].setdefault(said_of(call, edits), []).append(f"`{call.function.name}`")
+    lines = [f"- {f'**`{owner}`**: ' * bool(owner)}{'; '.join(', '.join(names) + said for said, names in of.items())}." for owner, of in sorted(owners.items())]
     return f"\n## `{os.path.basename(crate)}`\n\n" + "".join(map(filled, lines))
 
 

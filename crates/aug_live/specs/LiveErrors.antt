@@ -1,15 +1,24 @@
--- Why a call of a live trie is refused. Each is printed by its name. No clause says when a handle is told that the trie was closed, that its lane was
+-- Why a trie is not opened, and why a call of it is refused. Each is printed by its name. No clause says when a handle is told that the trie was closed, that its lane was
 -- given on, or that the rounds are exhausted: what lies behind the lock shows in no contract of a handle.
 use Rattle.std.specs.Prelude.{◌⊎◌, ℕ, ◌+◌, ◌^◌, ◌≤◌, List, length, codes}
 use Rattle.std.specs.List.{sum_by}
 use Rattle.aug_live.specs.Ledgers.{Made}
 use Rattle.aug_live.specs.LiveTries.{AreCountsOf, LaneKnown, TrieFacts}
 use Rattle.aug_live.specs.declared.error.LiveError.{LiveError}
+use Rattle.aug_live.specs.declared.error.OpenError.{OpenError}
+use Rattle.aug_live.specs.declared.error.OpenError.TheVariants as opening
 use Rattle.aug_live.specs.declared.error.TryError.{TryError}
 use Rattle.aug_live.specs.declared.error.TryError.TheVariants.{Again, Refused}
 use Rattle.aug_live.specs.declared.error.LiveError.TheVariants.{Closed, Exhausted, Replaced, NoLane, TooMany}
 
 -- how a refusal is printed: by its name
+abbrev pub open_text : OpenError → List ℕ
+open_text opening.BadHandles = codes "BadHandles"
+open_text opening.BadLanes = codes "BadLanes"
+open_text opening.BadUpdates = codes "BadUpdates"
+open_text opening.TooLarge = codes "TooLarge"
+open_text opening.OutOfMemory = codes "OutOfMemory"
+
 abbrev pub live_text : LiveError → List ℕ
 live_text Closed = codes "Closed"
 live_text Exhausted = codes "Exhausted"

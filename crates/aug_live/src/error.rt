@@ -1,9 +1,28 @@
-//! Why an update or a look was not made.
+//! Why a trie is not opened, and why an update or a look was not made.
 ghost use Rattle.std.specs.Prelude.{◌≡◌};
 
 use ruled_lock::WasOut;
 use std::error::Error;
 use std::fmt;
+
+/// Why a trie is not opened.
+#[derive(Clone, Copy, Debug, PartialEq, Eq)]
+pub enum OpenError {
+    /// Refusal 1: the handles are outside 1 to 64.
+    BadHandles,
+
+    /// Refusal 2: the lanes of the plan are outside 1 to 64.
+    BadLanes,
+
+    /// Refusal 3: the updates of a lane are outside 1 to 65,536.
+    BadUpdates,
+
+    /// Refusal 4: the table would have more than 2^26 words, or more bytes than it may take.
+    TooLarge,
+
+    /// Refusal 5: a request for memory was refused.
+    OutOfMemory,
+}
 
 /// Why an update or a look was not made. The set is then unchanged.
 #[derive(Clone, Copy, Debug, PartialEq, Eq)]
@@ -43,6 +62,25 @@ pub enum TryError<M> {
     /// It is refused, as the call that waits is.
     Refused(LiveError),
 }
+
+impl fmt::Display for OpenError {
+    ghost use Rattle.std.specs.Prelude.{Some};
+    ghost use Rattle.aug_live.specs.LiveErrors.{open_text};
+
+    ghost output = { λ cause. Some (open_text cause) };
+
+    fn fmt<W: fmt::Write>(&self, f: &mut fmt::Formatter<W>) -> fmt::Result {
+        f.write_str(match self {
+            OpenError::BadHandles => "BadHandles",
+            OpenError::BadLanes => "BadLanes",
+            OpenError::BadUpdates => "BadUpdates",
+            OpenError::TooLarge => "TooLarge",
+            OpenError::OutOfMemory => "OutOfMemory",
+        })
+    }
+}
+
+impl Error for OpenError {}
 
 impl fmt::Display for LiveError {
     ghost use Rattle.std.specs.Prelude.{Some};

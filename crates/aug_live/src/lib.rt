@@ -19,7 +19,7 @@ mod tie;
 mod work;
 
 pub use counts::LiveCounts;
-pub use error::{Busy, LiveError, TryError};
+pub use error::{Busy, LiveError, OpenError, TryError};
 pub use handle::Handle;
 pub use live::Live;
 pub use look::Look;

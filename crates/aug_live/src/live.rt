@@ -1,5 +1,5 @@
 //! A shared trie whose rounds roll over.
-ghost use Rattle.std.specs.Prelude.{◌≡◌, ◌↔◌, ◌⊎◌, ◌+◌, ◌<◌, ◌≤◌, ◌^◌, [], map, All, IsErr, IsErrOf, IfOk, IfErr, length, vec_len, vec_capacity};
+ghost use Rattle.std.specs.Prelude.{◌≡◌, ◌≢◌, ◌↔◌, ◌⊎◌, ◌+◌, ◌<◌, ◌≤◌, ◌^◌, [], map, All, IsErr, IsErrOf, IfOk, IfErr, length, vec_len, vec_capacity};
 ghost use Rattle.std.specs.Arc.{arc_value};
 ghost use Rattle.aug_core.specs.Layout.{IsRefused, IsLayout, IsWithin, IsOutside};
 ghost use Rattle.aug_trie.specs.Chains.{IsPart};
@@ -17,14 +17,14 @@ use crate::counts::LiveCounts;
 use crate::desk::Working;
 use crate::desk_end::{DeskEnd, NewDesk};
 use crate::end::{Berth, End};
-use crate::error::{LiveError, TryError};
+use crate::error::{LiveError, OpenError, TryError};
 use crate::handle::Handle;
 use crate::held::{Emptied, Held};
 use crate::plan::Plan;
 use crate::rolling::{Begun, next_round};
-use aug_core::{Layout, LayoutError};
+use aug_core::LayoutError;
 use aug_monoid::Monoid;
-use aug_trie::{BeginError, Crew, Members, SharedRound};
+use aug_trie::{Crew, Members, SharedRound};
 use ruled_lock::{Patience, Tries, Waits, WasOut};
 use std::alloc::{AllocError, Global};
 use std::marker::Model;
@@ -64,31 +64,32 @@ struct Room<A: Monoid, B: Monoid> {
 impl<A: Monoid, B: Monoid> Live<A, B> {
     /// Opens a trie over a set, for `handles` handles, with a plan of its rounds that has a lane for each.
     ///
-    /// Refused with `BadWorkers`, `BadUpdates` and `TooLarge` as `Layout::new` refuses the plan for the full set of its
+    /// Refused with `BadLanes`, `BadUpdates` and `TooLarge` as `Layout::new` refuses the plan for the full set of its
     /// bits, so that no later round is refused for it, and then with `OutOfMemory`. After a refusal the same set comes back.
     pub fn open_with(
         alloc: Global,
         set: Members,
         handles: u32,
         plan: Plan,
-    ) -> Result<(Live<A, B>, Vec<Handle<A, B>>), (Members, BeginError)>
+    ) -> Result<(Live<A, B>, Vec<Handle<A, B>>), (Members, OpenError)>
         requires lanes { handles ≤ plan.lanes }
         ensures handles { IfOk result (λ t. vec_len t.1 ≡ handles) }
         ensures opened { IfOk result (λ t. IsOpenedTrie set handles t.0) }
         ensures new { IfOk result (λ t. All (IsNew t.0.table (ids_of t.0) set plan.updates) t.1.items) }
         ensures same { IfErr result (λ e. e.0 ≡ set) }
-        ensures bad_workers { IsErrOf result (set, BeginError.BadWorkers) ↔ IsRefused LayoutError.BadWorkers set.bits plan.lanes plan.updates (2 ^ set.bits) }
-        ensures bad_updates { IsErrOf result (set, BeginError.BadUpdates) ↔ IsRefused LayoutError.BadUpdates set.bits plan.lanes plan.updates (2 ^ set.bits) }
-        ensures too_large { IsErrOf result (set, BeginError.TooLarge) ↔ IsRefused LayoutError.TooLarge set.bits plan.lanes plan.updates (2 ^ set.bits) }
+        ensures bad_lanes { IsErrOf result (set, OpenError.BadLanes) ↔ IsRefused LayoutError.BadWorkers set.bits plan.lanes plan.updates (2 ^ set.bits) }
+        ensures bad_updates { IsErrOf result (set, OpenError.BadUpdates) ↔ IsRefused LayoutError.BadUpdates set.bits plan.lanes plan.updates (2 ^ set.bits) }
+        ensures too_large { IsErrOf result (set, OpenError.TooLarge) ↔ IsRefused LayoutError.TooLarge set.bits plan.lanes plan.updates (2 ^ set.bits) }
+        ensures others { IfErr result (λ e. e.1 ≢ OpenError.BadHandles) }
     {
         let bits = set.bits();
         let universe = set.universe();
-        if let Err(cause) = Layout::new(bits, plan.lanes, plan.updates, universe) {
-            return Err((set, BeginError::from(cause)));
+        if let Err(cause) = plan.check(bits) {
+            return Err((set, cause));
         }
         let (opened, lanes, count) = (set.size(), handles, u64::from(handles));
         let Ok(room) = Room::new(alloc, handles, universe) else {
-            return Err((set, BeginError::OutOfMemory));
+            return Err((set, OpenError::OutOfMemory));
         };
         let Room {
             berths,
@@ -103,7 +104,7 @@ impl<A: Monoid, B: Monoid> Live<A, B> {
         } = room;
         let begun = match next_round(alloc, set, plan, list, shares, lanes) {
             Ok(begun) => begun,
-            Err(set) => return Err((set, BeginError::OutOfMemory)),
+            Err(set) => return Err((set, OpenError::OutOfMemory)),
         };
         let Begun {
             round,
@@ -139,26 +140,27 @@ impl<A: Monoid, B: Monoid> Live<A, B> {
     /// Opens a trie over a set, for `handles` handles, whose rounds have a table of at most `memory` bytes: `Plan::new` computes their
     /// lanes and updates. While the trie is opened, a list of the table's words takes as much again; all later rounds are in this table.
     ///
-    /// Refused with `BadWorkers` for no handle and for more than 64, with `TooLarge` if a table with one update of each handle takes more
+    /// Refused with `BadHandles` for no handle and for more than 64, with `TooLarge` if a table with one update of each handle takes more
     /// bytes, and with `OutOfMemory`. After a refusal the same set comes back.
     pub fn open(
         alloc: Global,
         set: Members,
         handles: u32,
         memory: u64,
-    ) -> Result<(Live<A, B>, Vec<Handle<A, B>>), (Members, BeginError)>
+    ) -> Result<(Live<A, B>, Vec<Handle<A, B>>), (Members, OpenError)>
         ensures handles { IfOk result (λ t. vec_len t.1 ≡ handles) }
         ensures opened { IfOk result (λ t. IsOpenedTrie set handles t.0) }
         ensures new { IfOk result (λ t. (plan : Plan) × Fits set.bits memory plan × All (IsNew t.0.table (ids_of t.0) set plan.updates) t.1.items) }
         ensures same { IfErr result (λ e. e.0 ≡ set) }
-        ensures bad_workers { IsErrOf result (set, BeginError.BadWorkers) ↔ IsOutside 1 64 handles }
-        ensures too_large { IsErrOf result (set, BeginError.TooLarge) ↔ (IsWithin 1 64 handles × (Fits set.bits memory (least_plan handles) → ⊥)) }
+        ensures bad_handles { IsErrOf result (set, OpenError.BadHandles) ↔ IsOutside 1 64 handles }
+        ensures too_large { IsErrOf result (set, OpenError.TooLarge) ↔ (IsWithin 1 64 handles × (Fits set.bits memory (least_plan handles) → ⊥)) }
+        ensures others { IfErr result (λ e. (e.1 ≢ OpenError.BadLanes) × (e.1 ≢ OpenError.BadUpdates)) }
     {
         if !(1..=64).contains(&handles) {
-            return Err((set, BeginError::BadWorkers));
+            return Err((set, OpenError::BadHandles));
         }
         let Some(plan) = Plan::new(set.bits(), handles, memory) else {
-            return Err((set, BeginError::TooLarge));
+            return Err((set, OpenError::TooLarge));
         };
         Self::open_with(alloc, set, handles, plan)
     }

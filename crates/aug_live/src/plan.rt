@@ -1,8 +1,11 @@
 //! How the rounds of a trie are laid out.
-ghost use Rattle.std.specs.Prelude.{◌*◌, ◌^◌, ◌≤◌, IfSome, IfNone};
+ghost use Rattle.std.specs.Prelude.{◌≡◌, ◌≢◌, ◌↔◌, ◌*◌, ◌^◌, ◌≤◌, IfSome, IfNone, IfErr, IfOk, IsErrOf};
+ghost use Rattle.aug_core.specs.Layout.{IsLayout, IsRefused, IsWithin};
+ghost use Rattle.aug_core.specs.Places.{shape_of};
 ghost use Rattle.aug_live.specs.Plans.{Fits, least_plan};
 
-use aug_core::{Layout, RECORD_WORDS};
+use crate::error::OpenError;
+use aug_core::{Layout, LayoutError, RECORD_WORDS};
 
 // If there are more lanes than handles, each lane has at least this many updates.
 const LEAST_UPDATES: u64 = 256;
@@ -46,6 +49,24 @@ impl Plan {
         match plan.words_within(bits, memory) {
             Some(_) => Some(plan),
             None => Some(least),
+        }
+    }
+
+    // Whether there is a table of this plan for the full set of `bits` bits.
+    pub(crate) fn check(&self, bits: u32) -> Result<(), OpenError>
+        requires { IsWithin 1 16 bits }
+        ensures ok { IfOk result (λ _. IsLayout (shape_of bits self.now.lanes self.now.updates (2 ^ bits))) }
+        ensures bad_lanes { IsErrOf result OpenError.BadLanes ↔ IsRefused LayoutError.BadWorkers bits self.now.lanes self.now.updates (2 ^ bits) }
+        ensures bad_updates { IsErrOf result OpenError.BadUpdates ↔ IsRefused LayoutError.BadUpdates bits self.now.lanes self.now.updates (2 ^ bits) }
+        ensures too_large { IsErrOf result OpenError.TooLarge ↔ IsRefused LayoutError.TooLarge bits self.now.lanes self.now.updates (2 ^ bits) }
+        ensures others { IfErr result (λ e. (e ≢ OpenError.BadHandles) × (e ≢ OpenError.OutOfMemory)) }
+    {
+        match Layout::new(bits, self.lanes, self.updates, 1 << bits) {
+            Ok(_) => Ok(()),
+            Err(LayoutError::BadBits) => unreachable!(),
+            Err(LayoutError::BadWorkers) => Err(OpenError::BadLanes),
+            Err(LayoutError::BadUpdates) => Err(OpenError::BadUpdates),
+            Err(LayoutError::TooLarge) => Err(OpenError::TooLarge),
         }
     }
 

@@ -2,11 +2,10 @@
 
 use super::taking::{last, looked};
 use crate::assertions::{equal, holds};
-use aug_live::LiveError;
+use aug_live::{LiveError, OpenError};
 use aug_live_testing::opening::{
     HandleOf, LiveOf, fill, insert, opened, over, renewed, rolled, size,
 };
-use aug_trie::BeginError;
 use std::alloc::Global;
 use std::process::Abort;
 use std::sync::Wait;
@@ -108,7 +107,7 @@ fn are_all_below(set: &[(u32, u32)], count: u32) -> bool {
 }
 
 // What the trie of a row comes to.
-fn assert_goes_on<R: Wait + Abort>(rt: &R, alloc: Global, it: &Crowd) -> Result<(), BeginError> {
+fn assert_goes_on<R: Wait + Abort>(rt: &R, alloc: Global, it: &Crowd) -> Result<(), OpenError> {
     let (mut live, mut hands) = opened(alloc, 9, it.handles, it.spare, it.updates)?;
     equal(rt, hands.len(), it.handles as usize);
     let mut members = 0u32;
@@ -136,7 +135,7 @@ fn assert_goes_on<R: Wait + Abort>(rt: &R, alloc: Global, it: &Crowd) -> Result<
 #[test]
 fn each_of_64_handles_goes_on_over_roll_overs_and_refusals(
     rt: HostRuntime,
-) -> Result<(), BeginError> {
+) -> Result<(), OpenError> {
     for it in CROWDS {
         assert_goes_on(&rt, rt.alloc(), it)?;
     }

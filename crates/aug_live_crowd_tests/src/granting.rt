@@ -4,10 +4,10 @@ ghost use Rattle.std.specs.Prelude.{◌≤◌};
 use super::planning::words_of;
 use super::taking::last;
 use crate::assertions::equal;
-use aug_live::{Live, Plan};
+use aug_live::{Live, OpenError, Plan};
 use aug_live_testing::opening::{HandleOf, LiveOf, fill, no_keys};
 use aug_monoid::{Extent, Sum};
-use aug_trie::{BeginError, Ended, Members, Round};
+use aug_trie::{Ended, Members, Round};
 use std::alloc::Global;
 use std::process::Abort;
 use std::sync::Wait;
@@ -29,7 +29,7 @@ fn planned<R: Wait + Abort>(
     handles: u32,
     lanes: u32,
     updates: u32,
-) -> Result<Members, BeginError>
+) -> Result<Members, OpenError>
     requires { handles ≤ lanes }
 {
     match Live::open_with(alloc, set, handles, Plan { lanes, updates }) {
@@ -45,7 +45,7 @@ fn within<R: Wait + Abort>(
     set: Members,
     handles: u32,
     memory: u64,
-) -> Result<Members, BeginError> {
+) -> Result<Members, OpenError> {
     match Live::open(alloc, set, handles, memory) {
         Ok(opened) => Ok(closed(rt, opened, handles)),
         Err((_, cause)) => Err(cause),
@@ -65,7 +65,7 @@ fn opens<R: Wait + Abort>(
     lanes: u32,
     updates: u32,
     before: u32,
-) -> Result<Members, BeginError>
+) -> Result<Members, OpenError>
     requires { 1 ≤ lanes }
 {
     match set.bits().saturating_add(before) % 3 {
@@ -86,7 +86,7 @@ fn swept<R: Wait + Abort>(
     it: &Sweep,
     updates: u32,
     before: u32,
-) -> Result<(Members, u32), BeginError> {
+) -> Result<(Members, u32), OpenError> {
     let (bits, numbers, _, most, _) = *it;
     let mut set = set;
     let mut tries = before;
@@ -101,7 +101,7 @@ fn swept<R: Wait + Abort>(
 }
 
 // How many tries of a row open.
-fn tries<R: Wait + Abort>(rt: &R, alloc: Global, it: &Sweep) -> Result<u32, BeginError> {
+fn tries<R: Wait + Abort>(rt: &R, alloc: Global, it: &Sweep) -> Result<u32, OpenError> {
     let mut set = grown(rt, alloc, no_keys(alloc, it.0)?, 2)?;
     let mut tries = 0u32;
     for updates in it.2 {
@@ -127,7 +127,7 @@ const UPDATES: &[u32] = &[
 ];
 
 // Compares how many tries of each row open.
-fn assert_open<R: Wait + Abort>(rt: &R, alloc: Global, rows: &[Sweep]) -> Result<(), BeginError> {
+fn assert_open<R: Wait + Abort>(rt: &R, alloc: Global, rows: &[Sweep]) -> Result<(), OpenError> {
     for it in rows {
         equal(rt, (it.0, tries(rt, alloc, it)?), (it.0, it.4));
     }
@@ -154,7 +154,7 @@ const SMALL: &[Sweep] = &[
 ];
 
 #[test]
-fn no_trie_is_refused_for_its_handles(rt: HostRuntime) -> Result<(), BeginError> {
+fn no_trie_is_refused_for_its_handles(rt: HostRuntime) -> Result<(), OpenError> {
     assert_open(&rt, rt.alloc(), SMALL)
 }
 
@@ -202,7 +202,7 @@ const GREAT: &[Sweep] = &[
 ];
 
 #[test]
-fn no_trie_is_refused_for_its_updates(rt: HostRuntime) -> Result<(), BeginError> {
+fn no_trie_is_refused_for_its_updates(rt: HostRuntime) -> Result<(), OpenError> {
     assert_open(&rt, rt.alloc(), GREAT)
 }
 
@@ -226,7 +226,7 @@ fn grown<R: Wait + Abort>(
     alloc: Global,
     set: Members,
     members: u32,
-) -> Result<Members, BeginError> {
+) -> Result<Members, OpenError> {
     let from = set.size();
     let count = members.saturating_sub(from);
     let plan = Plan {
@@ -245,14 +245,14 @@ fn grown<R: Wait + Abort>(
 }
 
 // The same set for keys of `bits` bits.
-fn wider(alloc: Global, set: Members, bits: u32) -> Result<Members, BeginError> {
+fn wider(alloc: Global, set: Members, bits: u32) -> Result<Members, OpenError> {
     let ended: Ended<Sum, Extent> = match Round::begin_over(alloc, set, bits, 1, 1) {
         Ok((round, crew)) => round.end(crew),
-        Err((_, cause)) => return Err(cause),
+        Err(_) => return Err(OpenError::OutOfMemory),
     };
     match ended.into_members(alloc) {
         Ok(set) => Ok(set),
-        Err(_) => Err(BeginError::OutOfMemory),
+        Err(_) => Err(OpenError::OutOfMemory),
     }
 }
 
@@ -270,7 +270,7 @@ fn up_to_all<R: Wait + Abort>(
     alloc: Global,
     set: Members,
     bits: u32,
-) -> Result<Members, BeginError>
+) -> Result<Members, OpenError>
     requires { bits ≤ 16 }
 {
     let mut set = set;
@@ -284,7 +284,7 @@ fn up_to_all<R: Wait + Abort>(
 }
 
 #[test]
-fn no_trie_is_refused_for_its_members(rt: HostRuntime) -> Result<(), BeginError> {
+fn no_trie_is_refused_for_its_members(rt: HostRuntime) -> Result<(), OpenError> {
     let alloc = rt.alloc();
     let mut set = no_keys(alloc, 1)?;
     for bits in 1..=16 {

@@ -2,10 +2,10 @@
 
 use super::taking::{last, looked};
 use crate::assertions::{equal, holds};
+use aug_live::OpenError;
 use aug_live_testing::opening::{
     HandleOf, closed, fill, insert, opened, over, size, take_newer_snapshot,
 };
-use aug_trie::BeginError;
 use crossbeam_channel::{Receiver, Sender, unbounded};
 use std::alloc::Global;
 use std::process::Abort;
@@ -46,7 +46,7 @@ fn stays<R: Wait + Abort>(
 }
 
 #[test]
-fn a_roll_over_waits_for_a_look_that_is_held(rt: HostRuntime) -> Result<(), BeginError> {
+fn a_roll_over_waits_for_a_look_that_is_held(rt: HostRuntime) -> Result<(), OpenError> {
     let r = &rt;
     let (live, mut hands) = opened(r.alloc(), 6, 2, 0, 4)?;
     let mut hand = last(r, &mut hands);

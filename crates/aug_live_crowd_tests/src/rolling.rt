@@ -2,12 +2,12 @@
 
 use super::again;
 use crate::assertions::{equal, holds};
-use aug_live::LiveError;
+use aug_live::{LiveError, OpenError};
 use aug_live_testing::opening::{
     HandleOf, LiveOf, LookOf, closed, has, insert, may_look, opened, over, remove, renewed,
 };
 use aug_model::KeySet;
-use aug_trie::{BeginError, Members, Request};
+use aug_trie::{Members, Request};
 use std::alloc::Global;
 use std::process::Abort;
 use std::sync::Wait;
@@ -248,7 +248,7 @@ fn use_it<R: Threads + Wait + Abort + Sync>(
     rt: &R,
     alloc: Global,
     with: Use,
-) -> Result<(), BeginError> {
+) -> Result<(), OpenError> {
     let (live, mut hands) = opened(alloc, 6, 4, with.spare, with.updates)?;
     let idle = if with.idle {
         drop(hands.pop());
@@ -265,7 +265,7 @@ fn use_it<R: Threads + Wait + Abort + Sync>(
 }
 
 #[test]
-fn threads_see_their_own_updates_in_every_round(rt: HostRuntime) -> Result<(), BeginError> {
+fn threads_see_their_own_updates_in_every_round(rt: HostRuntime) -> Result<(), OpenError> {
     for with in WAITING {
         use_it(&rt, rt.alloc(), with)?;
     }
@@ -305,7 +305,7 @@ const TRYING: [Use; 3] = [
 ];
 
 #[test]
-fn threads_that_wait_for_nobody_see_their_own_updates(rt: HostRuntime) -> Result<(), BeginError> {
+fn threads_that_wait_for_nobody_see_their_own_updates(rt: HostRuntime) -> Result<(), OpenError> {
     for with in TRYING {
         use_it(&rt, rt.alloc(), with)?;
     }
@@ -317,7 +317,7 @@ fn comes_to<R: Threads + Wait + Abort + Sync>(
     rt: &R,
     alloc: Global,
     trying: u32,
-) -> Result<Members, BeginError> {
+) -> Result<Members, OpenError> {
     let (live, hands) = opened(alloc, 6, 4, 2, 50)?;
     worked(rt, alloc, hands, 3_001, trying);
     let (set, _) = live.close(rt);
@@ -327,7 +327,7 @@ fn comes_to<R: Threads + Wait + Abort + Sync>(
 #[test]
 fn calls_that_are_made_again_reach_the_set_of_calls_that_wait(
     rt: HostRuntime,
-) -> Result<(), BeginError> {
+) -> Result<(), OpenError> {
     let waited = comes_to(&rt, rt.alloc(), 0)?;
     for trying in [2, 4] {
         let tried = comes_to(&rt, rt.alloc(), trying)?;
@@ -351,7 +351,7 @@ fn assert_closed<R: Threads + Wait + Abort + Sync>(
     rt: &R,
     alloc: Global,
     trying: u32,
-) -> Result<(), BeginError> {
+) -> Result<(), OpenError> {
     let (live, hands) = opened(alloc, 6, 4, 0, 500)?;
     let jobs = jobs(rt, alloc, hands, 5_000_000, trying);
     let (done, end) = thread::join(
@@ -368,7 +368,7 @@ fn assert_closed<R: Threads + Wait + Abort + Sync>(
 }
 
 #[test]
-fn a_trie_is_closed_while_others_work(rt: HostRuntime) -> Result<(), BeginError> {
+fn a_trie_is_closed_while_others_work(rt: HostRuntime) -> Result<(), OpenError> {
     for trying in [0, 2, 4] {
         assert_closed(&rt, rt.alloc(), trying)?;
     }
@@ -385,7 +385,7 @@ fn roll_often<R: Wait>(rt: &R, live: &mut LiveOf, times: u32) -> bool {
 }
 
 #[test]
-fn a_round_rolls_over_by_calls_that_are_made_again(rt: HostRuntime) -> Result<(), BeginError> {
+fn a_round_rolls_over_by_calls_that_are_made_again(rt: HostRuntime) -> Result<(), OpenError> {
     let (mut live, hands) = opened(rt.alloc(), 6, 4, 0, 1000)?;
     let (r, alloc, trie) = (&rt, rt.alloc(), &mut live);
     let jobs = jobs(r, alloc, hands, 5_000, 2);
@@ -430,7 +430,7 @@ fn assert_renewed<R: Threads + Wait + Abort + Sync>(
     trying: u32,
     steps: u32,
     times: u32,
-) -> Result<u64, BeginError> {
+) -> Result<u64, OpenError> {
     let (mut live, mut hands) = opened(alloc, 6, 4, 0, 1000)?;
     drop(hands.pop());
     let trie = &mut live;
@@ -448,7 +448,7 @@ fn assert_renewed<R: Threads + Wait + Abort + Sync>(
 }
 
 #[test]
-fn handles_are_dropped_and_made_anew_while_others_work(rt: HostRuntime) -> Result<(), BeginError> {
+fn handles_are_dropped_and_made_anew_while_others_work(rt: HostRuntime) -> Result<(), OpenError> {
     // 151,001 updates, of which each lane has 1,000 in a round, and 15,001.
     let rounds = assert_renewed(&rt, rt.alloc(), 0, 50_000, 1001)?;
     holds(&rt, rounds >= 50 && rounds <= 152);

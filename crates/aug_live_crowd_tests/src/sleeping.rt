@@ -3,8 +3,8 @@
 use super::holding::{rolls, signal};
 use super::taking::{last, looked};
 use crate::assertions::{equal, holds};
+use aug_live::OpenError;
 use aug_live_testing::opening::{HandleOf, closed, fill, opened, over};
-use aug_trie::BeginError;
 use crossbeam_channel::Sender;
 use std::process::Abort;
 use std::sync::Wait;
@@ -21,7 +21,7 @@ fn looks_for_1_second<R: Wait + Abort + Clock>(rt: &R, hand: HandleOf, held: Sen
 }
 
 #[test]
-fn a_thread_that_waits_for_a_look_sleeps_for_1_second(rt: HostRuntime) -> Result<(), BeginError> {
+fn a_thread_that_waits_for_a_look_sleeps_for_1_second(rt: HostRuntime) -> Result<(), OpenError> {
     let r = &rt;
     let (live, mut hands) = opened(r.alloc(), 6, 2, 0, 4)?;
     let mut hand = last(r, &mut hands);

@@ -4,15 +4,14 @@ ghost use Rattle.aug_live.specs.LiveTries.{ids_of};
 
 use super::taking::looked;
 use crate::assertions::{equal, holds};
-use aug_live::{Live, LiveError, Plan};
+use aug_live::{Live, LiveError, OpenError, Plan};
 use aug_live_testing::opening::{HandleOf, LiveOf, has, no_keys, over, renewed, rolled};
-use aug_trie::BeginError;
 use std::alloc::Global;
 use std::process::Abort;
 use std::sync::Wait;
 
 // A trie over no keys of 6 bits, and two handles of it.
-fn two<R: Wait + Abort>(rt: &R, alloc: Global) -> Result<(LiveOf, HandleOf, HandleOf), BeginError>
+fn two<R: Wait + Abort>(rt: &R, alloc: Global) -> Result<(LiveOf, HandleOf, HandleOf), OpenError>
     ensures tables { IfOk result (λ t. (t.1.half.round.table ≡ t.0.table) × (t.2.half.round.table ≡ t.0.table)) }
     ensures lanes { IfOk result (λ t. (t.1.lanes ≡ ids_of t.0) × (t.2.lanes ≡ ids_of t.0)) }
 {
@@ -68,14 +67,14 @@ fn assert_told<R: Wait + Abort>(rt: &R, live: &mut LiveOf, from: HandleOf, to: H
 }
 
 #[test]
-fn a_note_tells_what_its_maker_did_over_roll_overs(rt: HostRuntime) -> Result<(), BeginError> {
+fn a_note_tells_what_its_maker_did_over_roll_overs(rt: HostRuntime) -> Result<(), OpenError> {
     let (mut live, a, b) = two(&rt, rt.alloc())?;
     assert_told(&rt, &mut live, a, b);
     Ok(())
 }
 
 #[test]
-fn a_handle_that_was_replaced_learns_nothing(rt: HostRuntime) -> Result<(), BeginError> {
+fn a_handle_that_was_replaced_learns_nothing(rt: HostRuntime) -> Result<(), OpenError> {
     let (mut live, mut a, mut b) = two(&rt, rt.alloc())?;
     let Ok(note) = b.note(&rt) else {
         panic!(&rt; "no note");
@@ -118,7 +117,7 @@ fn assert_back<R: Wait + Abort>(rt: &R, live: LiveOf, hand: HandleOf)
 
 // Not back are the one that was replaced, and the last one of its lane.
 #[test]
-fn a_trie_knows_what_a_handle_did_that_came_back(rt: HostRuntime) -> Result<(), BeginError> {
+fn a_trie_knows_what_a_handle_did_that_came_back(rt: HostRuntime) -> Result<(), OpenError> {
     let (mut live, a, b) = two(&rt, rt.alloc())?;
     assert_not_back(&rt, &mut live, b);
     assert_back(&rt, live, a);
@@ -143,7 +142,7 @@ fn assert_back_later<R: Wait + Abort>(rt: &R, live: LiveOf, hand: HandleOf, othe
 }
 
 #[test]
-fn a_handle_comes_back_whose_lane_a_roll_over_took(rt: HostRuntime) -> Result<(), BeginError> {
+fn a_handle_comes_back_whose_lane_a_roll_over_took(rt: HostRuntime) -> Result<(), OpenError> {
     let (live, a, b) = two(&rt, rt.alloc())?;
     assert_back_later(&rt, live, b, a);
     Ok(())

@@ -3,11 +3,12 @@
 use super::granting::EACH;
 use super::taking::looked;
 use crate::assertions::{equal, holds};
+use aug_live::OpenError;
 use aug_live_testing::opening::{
     HandleOf, LiveOf, opened, over, put, remove, renewed, rolled, size, try_closed, try_look,
     try_renewed, try_rolled, try_update,
 };
-use aug_trie::{BeginError, Outcome, Request};
+use aug_trie::{Outcome, Request};
 use std::alloc::Global;
 use std::process::Abort;
 use std::sync::Wait;
@@ -98,7 +99,7 @@ fn assert_made<R: Wait + Abort>(
     bits: u32,
     handles: u32,
     updates: u32,
-) -> Result<(), BeginError> {
+) -> Result<(), OpenError> {
     let keys = 1u32 << (bits % 32);
     let spare = (bits % 3).min(64u32.saturating_sub(handles));
     let (mut live, hands) = opened(alloc, bits, handles, spare, updates)?;
@@ -136,7 +137,7 @@ fn assert_each<R: Wait + Abort>(
     alloc: Global,
     bits: u32,
     it: &Sweep,
-) -> Result<(), BeginError> {
+) -> Result<(), OpenError> {
     for handles in it.1 {
         assert_made(rt, alloc, bits, *handles, it.2)?;
     }
@@ -144,7 +145,7 @@ fn assert_each<R: Wait + Abort>(
 }
 
 // Goes through all numbers of a sweep.
-fn assert_sweep<R: Wait + Abort>(rt: &R, alloc: Global, it: &Sweep) -> Result<(), BeginError> {
+fn assert_sweep<R: Wait + Abort>(rt: &R, alloc: Global, it: &Sweep) -> Result<(), OpenError> {
     for bits in 1..=it.0 {
         assert_each(rt, alloc, bits, it)?;
     }
@@ -154,7 +155,7 @@ fn assert_sweep<R: Wait + Abort>(rt: &R, alloc: Global, it: &Sweep) -> Result<()
 #[test]
 fn no_call_is_refused_or_made_again_with_nobody_in_its_way(
     rt: HostRuntime,
-) -> Result<(), BeginError> {
+) -> Result<(), OpenError> {
     for it in SWEEPS {
         assert_sweep(&rt, rt.alloc(), it)?;
     }

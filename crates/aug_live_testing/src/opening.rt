@@ -1,9 +1,9 @@
 //! How tries are opened, and the calls of a trie and its handles that tests make, in functions that promise nothing.
 
-use aug_live::{Busy, Handle, Live, LiveCounts, LiveError, Look, Plan, TryError};
+use aug_live::{Busy, Handle, Live, LiveCounts, LiveError, Look, OpenError, Plan, TryError};
 use aug_monoid::{Extent, Sum};
 use aug_query::descent::{Has, Size};
-use aug_trie::{BeginError, Ended, Members, Outcome, Pop, Request, Side};
+use aug_trie::{Ended, Members, Outcome, Pop, Request, Side};
 use ruled_lock::WasOut;
 use std::alloc::Global;
 use std::sync::Wait;
@@ -15,11 +15,13 @@ pub type HandleOf = Handle<Sum, Extent>;
 pub type LookOf = Look<Sum, Extent>;
 
 /// The empty set of keys of `bits` bits.
-pub fn no_keys(alloc: Global, bits: u32) -> Result<Members, BeginError> {
-    let ended: Ended<Sum, Extent> = Ended::empty(alloc, bits)?;
+pub fn no_keys(alloc: Global, bits: u32) -> Result<Members, OpenError> {
+    let Ok(ended) = Ended::<Sum, Extent>::empty(alloc, bits) else {
+        return Err(OpenError::OutOfMemory);
+    };
     match ended.into_members(alloc) {
         Ok(set) => Ok(set),
-        Err(_) => Err(BeginError::OutOfMemory),
+        Err(_) => Err(OpenError::OutOfMemory),
     }
 }
 
@@ -30,7 +32,7 @@ pub fn opened(
     handles: u32,
     spare: u32,
     updates: u32,
-) -> Result<(LiveOf, Vec<HandleOf>), BeginError> {
+) -> Result<(LiveOf, Vec<HandleOf>), OpenError> {
     let plan = Plan {
         lanes: handles.saturating_add(spare),
         updates,

@@ -4,8 +4,8 @@ use super::steps::Act::{Add, Close, Insert, Look, Over, Renew, Roll, Size, Sub, 
 use super::steps::Reply::{Came, Done, Ended, Finds, Is, Number};
 use super::steps::{Row, rows};
 use crate::assertions::equal;
+use aug_live::OpenError;
 use aug_live_testing::opening::{HandleOf, add, opened, sub};
-use aug_trie::BeginError;
 use aug_trie::Outcome::{Accepted, Replaced, TooGreat, TooLittle, Unchanged};
 use std::alloc::Global;
 use std::process::Abort;
@@ -45,7 +45,7 @@ const AMOUNTS: &[Row] = &[
 ];
 
 #[test]
-fn amounts_go_on_over_rounds(rt: HostRuntime) -> Result<(), BeginError> {
+fn amounts_go_on_over_rounds(rt: HostRuntime) -> Result<(), OpenError> {
     rows(&rt, rt.alloc(), AMOUNTS)
 }
 
@@ -74,7 +74,7 @@ fn assert_units<R: Threads + Wait + Abort + Sync>(
     rt: &R,
     alloc: Global,
     amounts: (u32, u32),
-) -> Result<(), BeginError> {
+) -> Result<(), OpenError> {
     let (live, hands) = opened(alloc, 4, 4, 2, 500)?;
     let made = thread::map_vec(rt, hands, &|hand| works(rt, hand, amounts)).expect(rt, "memory");
     equal(rt, made.as_slice(), &[20 * TIMES; 4]);
@@ -90,7 +90,7 @@ fn assert_units<R: Threads + Wait + Abort + Sync>(
 }
 
 #[test]
-fn each_unit_that_four_threads_add_at_ten_keys_is_there(rt: HostRuntime) -> Result<(), BeginError> {
+fn each_unit_that_four_threads_add_at_ten_keys_is_there(rt: HostRuntime) -> Result<(), OpenError> {
     for amounts in [(1, 0), (3, 1), (7, 7)] {
         assert_units(&rt, rt.alloc(), amounts)?;
     }

@@ -6,10 +6,11 @@ use super::steps::Act::{
 use super::steps::Reply::{Came, Done, Ended, Is, Number, Popped, Tried};
 use super::steps::{Row, rows};
 use crate::assertions::equal;
+use aug_live::OpenError;
 use aug_live_testing::opening::{HandleOf, opened, pop, put};
 use aug_trie::Outcome::{Accepted, Refused};
+use aug_trie::Pop;
 use aug_trie::Side::{First, Last};
-use aug_trie::{BeginError, Pop};
 use std::alloc::Global;
 use std::process::Abort;
 use std::sync::Wait;
@@ -55,7 +56,7 @@ const POPS: &[Row] = &[
 ];
 
 #[test]
-fn pops_go_on_over_rounds(rt: HostRuntime) -> Result<(), BeginError> {
+fn pops_go_on_over_rounds(rt: HostRuntime) -> Result<(), OpenError> {
     rows(&rt, rt.alloc(), POPS)
 }
 
@@ -104,7 +105,7 @@ fn pops<R: Wait>(rt: &R, hand: HandleOf) -> Run {
 fn popped_by_four<R: Threads + Wait + Abort + Sync>(
     rt: &R,
     alloc: Global,
-) -> Result<(), BeginError> {
+) -> Result<(), OpenError> {
     let (live, hands) = opened(alloc, BITS, 4, 2, TIMERS)?;
     let mut hands = hands;
     for hand in hands.as_mut_slice() {
@@ -127,6 +128,6 @@ fn popped_by_four<R: Threads + Wait + Abort + Sync>(
 }
 
 #[test]
-fn four_threads_pop_each_timer_once(rt: HostRuntime) -> Result<(), BeginError> {
+fn four_threads_pop_each_timer_once(rt: HostRuntime) -> Result<(), OpenError> {
     popped_by_four(&rt, rt.alloc())
 }

@@ -4,10 +4,10 @@ use super::steps::Act::{Close, Fill, Insert, Look, Over, Remove, Renew, Roll, Si
 use super::steps::Reply::{Done, Ended, Is, Number};
 use super::steps::{state_of, steps};
 use crate::assertions::equal;
-use aug_live::{Live, Plan};
+use aug_live::{Live, OpenError, Plan};
 use aug_live_testing::opening::{HandleOf, LiveOf, insert, no_keys, opened, put};
 use aug_monoid::{Extent, Sum};
-use aug_trie::{BeginError, Members, Outcome};
+use aug_trie::{Members, Outcome};
 use std::alloc::Global;
 use std::process::Abort;
 use std::sync::Wait;
@@ -16,7 +16,7 @@ use std::sync::Wait;
 fn opened_over(
     alloc: Global,
     set: Members,
-) -> Result<(LiveOf, Vec<HandleOf>), (Members, BeginError)> {
+) -> Result<(LiveOf, Vec<HandleOf>), (Members, OpenError)> {
     let plan = Plan {
         lanes: 1,
         updates: 2,
@@ -25,7 +25,7 @@ fn opened_over(
 }
 
 // Opens a trie with one handle, again if memory was refused.
-fn opened_again(rt: &impl Abort, alloc: Global) -> Result<(LiveOf, Vec<HandleOf>), BeginError> {
+fn opened_again(rt: &impl Abort, alloc: Global) -> Result<(LiveOf, Vec<HandleOf>), OpenError> {
     let set = match no_keys(alloc, 4) {
         Ok(set) => set,
         Err(_) => no_keys(alloc, 4)?,
@@ -36,7 +36,7 @@ fn opened_again(rt: &impl Abort, alloc: Global) -> Result<(LiveOf, Vec<HandleOf>
             equal(
                 rt,
                 (set.bits(), set.size(), cause),
-                (4, 0, BeginError::OutOfMemory),
+                (4, 0, OpenError::OutOfMemory),
             );
             set
         }
@@ -49,7 +49,7 @@ fn opened_again(rt: &impl Abort, alloc: Global) -> Result<(LiveOf, Vec<HandleOf>
 
 // Passes whichever request for memory is refused. Updates, looks, roll-overs and new handles ask for none, so that none of them is refused.
 #[test]
-fn refused_memory_loses_nothing_of_a_live_trie(rt: HostRuntime) -> Result<(), BeginError> {
+fn refused_memory_loses_nothing_of_a_live_trie(rt: HostRuntime) -> Result<(), OpenError> {
     let script = [
         (Fill(0, 5), Number(5)),
         (Remove(2), Is(true)),
@@ -68,7 +68,7 @@ fn refused_memory_loses_nothing_of_a_live_trie(rt: HostRuntime) -> Result<(), Be
 }
 
 // The set of 3, which weighs 30, and 9, which weighs itself.
-fn two_keys<R: Wait + Abort>(rt: &R, alloc: Global) -> Result<Members, BeginError> {
+fn two_keys<R: Wait + Abort>(rt: &R, alloc: Global) -> Result<Members, OpenError> {
     let (live, mut hands) = opened(alloc, 4, 1, 0, 2)?;
     let mut hand = hands.pop().expect(rt, "a handle");
     equal(rt, put(rt, &mut hand, 3, 30), Ok(Outcome::Accepted));
@@ -88,7 +88,7 @@ fn opened_within<R: Wait>(
     rt: &R,
     alloc: Global,
     set: Members,
-) -> Result<Members, (Members, BeginError)> {
+) -> Result<Members, (Members, OpenError)> {
     let (live, _) = Live::<Sum, Extent>::open(alloc, set, 2, 1 << 16)?;
     let (set, _) = live.close(rt);
     Ok(set)
@@ -96,7 +96,7 @@ fn opened_within<R: Wait>(
 
 // Passes whichever request for memory is refused.
 #[test]
-fn refused_memory_gives_the_set_back(rt: HostRuntime) -> Result<(), BeginError> {
+fn refused_memory_gives_the_set_back(rt: HostRuntime) -> Result<(), OpenError> {
     let set = match two_keys(&rt, rt.alloc()) {
         Ok(set) => set,
         Err(_) => two_keys(&rt, rt.alloc())?,
@@ -104,7 +104,7 @@ fn refused_memory_gives_the_set_back(rt: HostRuntime) -> Result<(), BeginError> 
     let set = match opened_within(&rt, rt.alloc(), set) {
         Ok(set) => set,
         Err((set, cause)) => {
-            equal(&rt, cause, BeginError::OutOfMemory);
+            equal(&rt, cause, OpenError::OutOfMemory);
             assert_has_two(&rt, &set);
             match opened_within(&rt, rt.alloc(), set) {
                 Ok(set) => set,

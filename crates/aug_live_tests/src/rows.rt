@@ -7,7 +7,7 @@ use super::steps::Act::{
 use super::steps::Reply::{Came, Done, Ended, Fails, Finds, Is, Listed, Number};
 use super::steps::{Row, rows};
 use aug_live::LiveError::{Closed, NoLane, Replaced};
-use aug_trie::BeginError;
+use aug_live::OpenError;
 use aug_trie::Outcome::{Accepted, Replaced as Changed};
 
 const ROUNDS: &[Row] = &[
@@ -136,7 +136,7 @@ const ROUNDS: &[Row] = &[
 ];
 
 #[test]
-fn handles_and_looks_go_on_over_rounds(rt: HostRuntime) -> Result<(), BeginError> {
+fn handles_and_looks_go_on_over_rounds(rt: HostRuntime) -> Result<(), OpenError> {
     rows(&rt, rt.alloc(), ROUNDS)
 }
 
@@ -189,7 +189,7 @@ const LANES: &[Row] = &[
 ];
 
 #[test]
-fn each_lane_is_given_to_new_handles(rt: HostRuntime) -> Result<(), BeginError> {
+fn each_lane_is_given_to_new_handles(rt: HostRuntime) -> Result<(), OpenError> {
     rows(&rt, rt.alloc(), LANES)
 }
 
@@ -233,6 +233,6 @@ const REFUSALS: &[Row] = &[
 ];
 
 #[test]
-fn a_closed_trie_and_the_old_handle_of_a_lane_answer_so(rt: HostRuntime) -> Result<(), BeginError> {
+fn a_closed_trie_and_the_old_handle_of_a_lane_answer_so(rt: HostRuntime) -> Result<(), OpenError> {
     rows(&rt, rt.alloc(), REFUSALS)
 }

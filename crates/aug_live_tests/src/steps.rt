@@ -3,13 +3,13 @@
 
 use super::own::Band;
 use crate::assertions::equal;
-use aug_live::{Busy, LiveCounts, LiveError, TryError};
+use aug_live::{Busy, LiveCounts, LiveError, OpenError, TryError};
 use aug_live_testing::opening::{
     HandleOf, LiveOf, LookOf, add, fill, insert, opened, pop, put, remove, renewed, rolled, sub,
     try_closed, try_fill, try_look, try_pop, try_renewed, try_rolled, try_update,
 };
 use aug_query::descent::{Has, Pairs, SelectByWeight, Size, Weight};
-use aug_trie::{BeginError, Members, Outcome, Pop, Request, Side};
+use aug_trie::{Members, Outcome, Pop, Request, Side};
 use ruled_lock::WasOut;
 use std::alloc::Global;
 use std::mem;
@@ -424,7 +424,7 @@ pub(super) struct Row {
 }
 
 // A row.
-fn play<R: Wait + Abort>(rt: &R, alloc: Global, row: &Row) -> Result<(), BeginError> {
+fn play<R: Wait + Abort>(rt: &R, alloc: Global, row: &Row) -> Result<(), OpenError> {
     let (bits, handles, spare, updates) = row.numbers;
     let (live, hands) = opened(alloc, bits, handles, spare, updates)?;
     steps(rt, alloc, state_of(live, hands), row.shows, row.steps);
@@ -432,11 +432,7 @@ fn play<R: Wait + Abort>(rt: &R, alloc: Global, row: &Row) -> Result<(), BeginEr
 }
 
 /// A table.
-pub(super) fn rows<R: Wait + Abort>(
-    rt: &R,
-    alloc: Global,
-    table: &[Row],
-) -> Result<(), BeginError> {
+pub(super) fn rows<R: Wait + Abort>(rt: &R, alloc: Global, table: &[Row]) -> Result<(), OpenError> {
     for row in table {
         play(rt, alloc, row)?;
     }

@@ -8,7 +8,7 @@ use super::steps::Act::{
 use super::steps::Reply::{Came, Done, Ended, Fails, Finds, Is, Later, Listed, Number};
 use super::steps::{Row, rows};
 use aug_live::LiveError::{Closed, NoLane, Replaced};
-use aug_trie::BeginError;
+use aug_live::OpenError;
 use aug_trie::Outcome::{Accepted, Refused, Replaced as Changed};
 
 const ALONE: &[Row] = &[
@@ -89,7 +89,7 @@ const ALONE: &[Row] = &[
 ];
 
 #[test]
-fn a_try_is_made_where_nobody_is_in_the_way(rt: HostRuntime) -> Result<(), BeginError> {
+fn a_try_is_made_where_nobody_is_in_the_way(rt: HostRuntime) -> Result<(), OpenError> {
     rows(&rt, rt.alloc(), ALONE)
 }
 
@@ -198,7 +198,7 @@ const UPDATES: &[Row] = &[
 ];
 
 #[test]
-fn an_update_that_has_to_wait_is_made_later(rt: HostRuntime) -> Result<(), BeginError> {
+fn an_update_that_has_to_wait_is_made_later(rt: HostRuntime) -> Result<(), OpenError> {
     rows(&rt, rt.alloc(), UPDATES)
 }
 
@@ -339,7 +339,7 @@ const ROLLS: &[Row] = &[
 ];
 
 #[test]
-fn a_roll_over_that_has_to_wait_is_gone_on_with(rt: HostRuntime) -> Result<(), BeginError> {
+fn a_roll_over_that_has_to_wait_is_gone_on_with(rt: HostRuntime) -> Result<(), OpenError> {
     rows(&rt, rt.alloc(), ROLLS)
 }
 
@@ -469,8 +469,6 @@ const ENDS: &[Row] = &[
 ];
 
 #[test]
-fn a_lane_or_the_end_of_a_trie_comes_once_a_look_is_over(
-    rt: HostRuntime,
-) -> Result<(), BeginError> {
+fn a_lane_or_the_end_of_a_trie_comes_once_a_look_is_over(rt: HostRuntime) -> Result<(), OpenError> {
     rows(&rt, rt.alloc(), ENDS)
 }

@@ -7,10 +7,10 @@ ghost use Rattle.aug_model.specs.Keys.{list_of};
 ghost use Rattle.aug_model.specs.Queries.{first_of, last_of, range_of};
 ghost use Rattle.aug_live.specs.LiveHandles.{set_of_look};
 
-use aug_live::{Handle, Live, LiveError, Look};
+use aug_live::{Handle, Live, LiveError, Look, OpenError};
 use aug_monoid::{Extent, Sum};
 use aug_query::descent::{Greatest, Least, Range, SelectByWeight};
-use aug_trie::{BeginError, Ended};
+use aug_trie::Ended;
 use std::sync::Wait;
 use std::thread;
 
@@ -69,9 +69,9 @@ fn watch<R: Wait>(rt: &R, mut user: User) -> Result<bool, LiveError> {
 fn main(rt: HostRuntime) -> anyhow::Result<()> {
     let (r, alloc) = (&rt, rt.alloc());
     let empty: Ended<Sum, Extent> = Ended::empty(alloc, 12)?;
-    let set = empty.into_members(alloc).or(Err(BeginError::OutOfMemory))?;
+    let set = empty.into_members(alloc).or(Err(OpenError::OutOfMemory))?;
     let (mut live, mut users) = Live::open(alloc, set, 5, 1 << 20).map_err(|(_, cause)| cause)?;
-    let one = users.pop().ok_or(BeginError::BadWorkers)?;
+    let one = users.remove(0);
     let (traded, agree) = thread::join(
         r,
         || thread::map_vec(r, users, &|user| trade(r, user)),

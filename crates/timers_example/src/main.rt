@@ -3,10 +3,10 @@
 #![tactic(auto)]
 
 use anyhow::bail;
-use aug_live::{Handle, Live, LiveError};
+use aug_live::{Handle, Live, LiveError, OpenError};
 use aug_monoid::{Extent, Nothing};
 use aug_trie::Outcome::{Accepted, Replaced};
-use aug_trie::{BeginError, Ended, Outcome};
+use aug_trie::{Ended, Outcome};
 use std::sync::Wait;
 use std::time::{Clock, Duration, Instant};
 use std::{env, thread};
@@ -61,9 +61,9 @@ fn main(rt: HostRuntime) -> anyhow::Result<()> {
         bail!("too many seconds");
     };
     let empty: Ended<Nothing, Extent> = Ended::empty(alloc, 10)?;
-    let set = empty.into_members(alloc).or(Err(BeginError::OutOfMemory))?;
+    let set = empty.into_members(alloc).or(Err(OpenError::OutOfMemory))?;
     let (live, mut users) = Live::open(alloc, set, 4, 1 << 20).map_err(|(_, cause)| cause)?;
-    let one = users.pop().ok_or(BeginError::BadWorkers)?;
+    let one = users.remove(0);
     let (counts, fired) = thread::join(
         r,
         || thread::map_vec(r, users, &|user| arm(r, user, end)),

@@ -2,7 +2,7 @@
 //! and take it away, all at the same prices, and a fifth one looks meanwhile.
 #![tactic(auto)]
 
-ghost use Rattle.std.specs.Prelude.{◌≡◌};
+ghost use Rattle.std.specs.Prelude.{◌≡◌, IfOk, vec_len};
 ghost use Rattle.aug_model.specs.Keys.{list_of};
 ghost use Rattle.aug_model.specs.Queries.{first_of, last_of, range_of};
 ghost use Rattle.aug_live.specs.LiveHandles.{set_of_look};
@@ -11,8 +11,10 @@ use aug_live::{Handle, Live, LiveError, Look, OpenError};
 use aug_monoid::{Extent, Sum};
 use aug_query::descent::{Greatest, Least, Range, SelectByWeight};
 use aug_trie::Ended;
+use std::alloc::Global;
 use std::sync::Wait;
 use std::thread;
+use std::thread::Threads;
 
 type User = Handle<Sum, Extent>;
 
@@ -66,32 +68,76 @@ fn watch<R: Wait>(rt: &R, mut user: User) -> Result<bool, LiveError> {
     Ok(agree)
 }
 
-fn main(rt: HostRuntime) -> anyhow::Result<()> {
-    let (r, alloc) = (&rt, rt.alloc());
+// An empty book, and its users.
+fn opened(alloc: Global) -> anyhow::Result<(Live<Sum, Extent>, Vec<User>)>
+    ensures { IfOk result (λ t. vec_len t.1 ≡ 5) }
+{
     let empty: Ended<Sum, Extent> = Ended::empty(alloc, 12)?;
     let set = empty.into_members(alloc).or(Err(OpenError::OutOfMemory))?;
-    let (mut live, mut users) = Live::open(alloc, set, 5, 1 << 20).map_err(|(_, cause)| cause)?;
+    Ok(Live::open(alloc, set, 5, 1 << 20).map_err(|(_, cause)| cause)?)
+}
+
+// Four users trade, and a fifth one watches: whether each of its looks agreed with itself.
+fn at_work<R: Threads + Wait + Sync>(rt: &R, users: Vec<User>) -> anyhow::Result<bool>
+    requires { vec_len users ≡ 5 }
+{
+    let mut users = users;
     let one = users.remove(0);
     let (traded, agree) = thread::join(
-        r,
-        || thread::map_vec(r, users, &|user| trade(r, user)),
-        || watch(r, one),
+        rt,
+        || thread::map_vec(rt, users, &|user| trade(rt, user)),
+        || watch(rt, one),
     );
     for result in traded? {
         result?;
     }
-    println!(rt; "each look agreed with itself: {}", agree?)?;
-    // A new handle, in the lane of a thread that has ended.
-    let mut book = live.handle(r, 0)?.look(r).map_err(|(_, cause)| cause)?;
-    let (bid, offer) = (best_bid(&mut book), best_offer(&mut book));
-    let (bids, near) = (depth(&mut book, 0, MIDDLE), depth(&mut book, 1_950, MIDDLE));
-    // Whoever buys 1,000 gets the units behind the bids.
-    let filled = book.ask(SelectByWeight(bids.saturating_add(999)));
-    let all = depth(&mut book, 0, 4_096);
+    Ok(agree?)
+}
+
+// What a book shows: the best prices, all volume and that of the bids from 1950 on, and at which price 1,000 are sold that are bought at once.
+#[derive(Clone, Copy)]
+struct Figures {
+    bid: Option<u32>,
+    offer: Option<u32>,
+    all: u64,
+    near: u64,
+    filled: Option<u32>,
+}
+
+fn figures_of(book: &mut Book) -> Figures {
+    let bids = depth(book, 0, MIDDLE);
+    Figures {
+        bid: best_bid(book),
+        offer: best_offer(book),
+        all: depth(book, 0, 4_096),
+        near: depth(book, 1_950, MIDDLE),
+        filled: book.ask(SelectByWeight(bids.saturating_add(999))),
+    }
+}
+
+// What the book shows to a new handle, in the lane of a thread that has ended, and the number of its prices.
+fn closed<R: Wait>(rt: &R, live: Live<Sum, Extent>) -> Result<(Figures, u32), LiveError> {
+    let mut live = live;
+    let mut book = live.handle(rt, 0)?.look(rt).map_err(|(_, cause)| cause)?;
+    let last = figures_of(&mut book);
     book.done();
-    let prices = live.close(r).0.size();
-    println!(rt; "volume {all} at {prices} prices, {near} of it from 1950 to 1999")?;
-    let (bid, offer, filled) = (bid.unwrap_or(0), offer.unwrap_or(0), filled.unwrap_or(0));
+    Ok((last, live.close(rt).0.size()))
+}
+
+fn main(rt: HostRuntime) -> anyhow::Result<()> {
+    let (live, users) = opened(rt.alloc())?;
+    let agree = at_work(&rt, users)?;
+    let (last, prices) = closed(&rt, live)?;
+    println!(rt; "each look agreed with itself: {agree}")?;
+    println!(rt;
+        "volume {} at {prices} prices, {} of it from 1950 to 1999",
+        last.all, last.near
+    )?;
+    let (bid, offer, filled) = (
+        last.bid.unwrap_or(0),
+        last.offer.unwrap_or(0),
+        last.filled.unwrap_or(0),
+    );
     println!(rt; "best bid {bid}, best offer {offer}, 1000 are bought for {filled} at most")?;
     Ok(())
 }

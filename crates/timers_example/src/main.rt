@@ -2,12 +2,16 @@
 //! many seconds as the first argument says. At the end each timer was fired, or was cancelled, or is left.
 #![tactic(auto)]
 
+ghost use Rattle.std.specs.Prelude.{◌≡◌, IfOk, vec_len};
+
 use anyhow::bail;
 use aug_live::{Handle, Live, LiveError, OpenError};
 use aug_monoid::{Extent, Nothing};
 use aug_trie::Outcome::{Accepted, Replaced};
-use aug_trie::{Ended, Outcome};
+use aug_trie::{Ended, Members, Outcome};
+use std::alloc::Global;
 use std::sync::Wait;
+use std::thread::Threads;
 use std::time::{Clock, Duration, Instant};
 use std::{env, thread};
 
@@ -53,21 +57,29 @@ fn fire<R: Wait + Clock>(rt: &R, mut user: User, end: Instant) -> Result<u64, Li
     Ok(fired)
 }
 
-fn main(rt: HostRuntime) -> anyhow::Result<()> {
-    let (r, alloc) = (&rt, rt.alloc());
-    let words: Vec<String> = env::args(r)?.skip(1).collect(alloc)?;
-    let seconds: u64 = words.first().map_or(1, |word| word.parse().unwrap_or(1));
-    let Some(end) = Instant::now(r)?.checked_add(Duration::from_secs(seconds)) else {
-        bail!("too many seconds");
-    };
+// An empty wheel, and its users.
+fn opened(alloc: Global) -> anyhow::Result<(Live<Nothing, Extent>, Vec<User>)>
+    ensures { IfOk result (λ t. vec_len t.1 ≡ 4) }
+{
     let empty: Ended<Nothing, Extent> = Ended::empty(alloc, 10)?;
     let set = empty.into_members(alloc).or(Err(OpenError::OutOfMemory))?;
-    let (live, mut users) = Live::open(alloc, set, 4, 1 << 20).map_err(|(_, cause)| cause)?;
+    Ok(Live::open(alloc, set, 4, 1 << 20).map_err(|(_, cause)| cause)?)
+}
+
+// Three users arm timers, and a fourth one fires them: how many were armed, and how many were fired or cancelled.
+fn at_work<R: Threads + Wait + Clock + Sync>(
+    rt: &R,
+    users: Vec<User>,
+    end: Instant,
+) -> anyhow::Result<(u64, u64)>
+    requires { vec_len users ≡ 4 }
+{
+    let mut users = users;
     let one = users.remove(0);
     let (counts, fired) = thread::join(
-        r,
-        || thread::map_vec(r, users, &|user| arm(r, user, end)),
-        || fire(r, one, end),
+        rt,
+        || thread::map_vec(rt, users, &|user| arm(rt, user, end)),
+        || fire(rt, one, end),
     );
     let (mut armed, mut gone) = (0u64, fired?);
     for count in counts? {
@@ -75,12 +87,28 @@ fn main(rt: HostRuntime) -> anyhow::Result<()> {
         armed = armed.saturating_add(more);
         gone = gone.saturating_add(cancelled);
     }
-    let (wheel, counts) = live.close(r);
-    let mut left = 0u64;
+    Ok((armed, gone))
+}
+
+// How many timers there are.
+fn timers(wheel: &Members) -> u64 {
+    let mut all = 0u64;
     for &(_, timers) in wheel.as_slice() {
-        left = left.saturating_add(u64::from(timers));
+        all = all.saturating_add(u64::from(timers));
     }
-    let same = armed == gone.saturating_add(left);
+    all
+}
+
+fn main(rt: HostRuntime) -> anyhow::Result<()> {
+    let words: Vec<String> = env::args(&rt)?.skip(1).collect(rt.alloc())?;
+    let seconds: u64 = words.first().map_or(1, |word| word.parse().unwrap_or(1));
+    let Some(end) = Instant::now(&rt)?.checked_add(Duration::from_secs(seconds)) else {
+        bail!("too many seconds");
+    };
+    let (live, users) = opened(rt.alloc())?;
+    let (armed, gone) = at_work(&rt, users, end)?;
+    let (wheel, counts) = live.close(&rt);
+    let same = armed == gone.saturating_add(timers(&wheel));
     println!(rt; "as many were armed as were fired, cancelled or are left: {same}")?;
     println!(rt; "the trie rolled over: {}", counts.rounds > 1)?;
     Ok(())

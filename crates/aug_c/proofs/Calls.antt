@@ -13,15 +13,17 @@ module _ {X : Type 0} (does : X → X → ℤ → Type 0) (old new : Option X) (
   pub on_some : (before after : X) (said : ℤ) → old ≡ Some before → new ≡ Some after → code ≡ said → does before after said → On does old new code
   on_some before after said was is says done = subst (λ (o : Option X). On does o new code) (sym was) (after, is, subst (does before after) (sym says) done)
 
--- a look is taken out of a seat, asked, and put into one
-module _ (seat : Seat) (held look new put : LookFacts) (most : ℕ) (code : ℤ) (is : seat ≡ Looking held) (same : look ≡ held) (back : put ≡ new) (asked : IsAsked span_of most look new) where
-  pub asked_by : (told : SetFacts → ℤ) → code ≡ told (set_of_look look) → Asks told seat (Looking put) code
-  asked_by told says = subst (λ (s : Seat). Asks told s (Looking put) code) (sym (is ∙ ap Looking (sym same)))
-      (put, refl, record { says = says; most = most; asked = subst (IsAsked span_of most look) (sym back) asked })
+-- the look that a user holds is asked
+module _ (user : Option Seat) (held look new : LookFacts) (most : ℕ) (code : ℤ) (is : user ≡ Some (Looking held)) (same : look ≡ held) (asked : IsAsked span_of most look new) where
+  holds : user ≡ Some (Looking look)
+  holds = is ∙ ap (λ (l : LookFacts). Some (Looking l)) (sym same)
 
-  pub answered_by : {X : Type 0} (is_answer : SetFacts → X → Type 0) (number_of : X → ℤ) (answer : X) → is_answer (set_of_look look) answer → code ≡ number_of answer → AnsweredBy is_answer number_of seat (Looking put) code
-  answered_by is_answer number_of answer right says = subst (λ (s : Seat). AnsweredBy is_answer number_of s (Looking put) code) (sym (is ∙ ap Looking (sym same)))
-      (put, refl, record { answer = answer; is = right; says = says; most = most; asked = subst (IsAsked span_of most look) (sym back) asked })
+  pub asked_by : (told : SetFacts → ℤ) → code ≡ told (set_of_look look) → On (Asks told) user (Some (Looking new)) code
+  asked_by told says = subst (λ (u : Option Seat). On (Asks told) u (Some (Looking new)) code) (sym holds) (Looking new, refl, (new, refl, record { says = says; most = most; asked = asked }))
+
+  pub answered_by : {X : Type 0} (is_answer : SetFacts → X → Type 0) (number_of : X → ℤ) (answer : X) → is_answer (set_of_look look) answer → code ≡ number_of answer → On (AnsweredBy is_answer number_of) user (Some (Looking new)) code
+  answered_by is_answer number_of answer right says = subst (λ (u : Option Seat). On (AnsweredBy is_answer number_of) u (Some (Looking new)) code) (sym holds)
+      (Looking new, refl, (new, refl, record { answer = answer; is = right; says = says; most = most; asked = asked }))
 
 module _ {X : Type 0} (is_answer : SetFacts → X → Type 0) (number_of : X → ℤ) (told : SetFacts → ℤ) (tells : (set : SetFacts) (x : X) → is_answer set x → number_of x ≡ told set) where
   -- a query that has an answer as a number asks for that number

@@ -14,10 +14,8 @@ use Rattle.aug_model.proofs.Ranges.{Rises, AllAbove, rises_from}
 use Rattle.aug_trie.specs.Snapshot.{snapshot_cut}
 use Rattle.aug_trie.proofs.Rising.{members_rise}
 use Rattle.aug_live.specs.LiveHandles.{LookFacts, IsAsked, set_of_look}
-use Rattle.aug_c.specs.ArrayCalls.{ListsAll, ListsKeys, from_of}
+use Rattle.aug_c.specs.ArrayCalls.{ListsKeys, from_of}
 use Rattle.aug_c.specs.UserCalls.{span_of}
-use Rattle.aug_c.specs.declared.seat.Seat.{Seat}
-use Rattle.aug_c.specs.declared.seat.Seat.TheVariants.{Looking}
 use Rattle.aug_c.proofs.Reading.{asked_none, asked_on, written_more}
 
 -- past a key all members are from it on, and none is below it
@@ -122,10 +120,3 @@ module _ (first sized ranked : LookFacts) (m n size below k : ℕ) (one : IsAske
         most = m + n + o;
         asked = asked_on span_of (m + n) o first ranked last (asked_on span_of m n first sized ranked one two) three;
       }
-
--- a look is taken out of a seat, listed, and put into one
-pub lists_all : (from : ℕ) (before after : List ℕ) (seat : Seat) (held look new put : LookFacts) (code said : ℤ) → seat ≡ Looking held → look ≡ held → put ≡ new → said ≡ code
-    → ListsKeys from before after look new code → ListsAll from before after seat (Looking put) said
-lists_all from before after seat held look new put code said is same back says lists =
-    subst (λ (s : Seat). ListsAll from before after s (Looking put) said) (sym (is ∙ ap Looking (sym same)))
-    (put, refl, subst (λ (z : LookFacts). ListsKeys from before after look z said) (sym back) (subst (λ (z : ℤ). ListsKeys from before after look new z) (sym says) lists))

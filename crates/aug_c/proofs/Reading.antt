@@ -8,10 +8,8 @@ use Rattle.aug_core.proofs.PrefixLemmas.{prefix_refl, prefix_trans}
 use Rattle.aug_trie.specs.Pass.{PassFacts}
 use Rattle.aug_trie.specs.Node.{Keeps, Reads}
 use Rattle.aug_live.specs.LiveHandles.{LookFacts, IsAsked, set_of_look}
-use Rattle.aug_c.specs.ArrayCalls.{AnswersArray, AsksAll}
+use Rattle.aug_c.specs.ArrayCalls.{AnswersArray}
 use Rattle.aug_c.specs.UserCalls.{span_of}
-use Rattle.aug_c.specs.declared.seat.Seat.{Seat}
-use Rattle.aug_c.specs.declared.seat.Seat.TheVariants.{Looking}
 
 module _ {A B : Type 0} (summary_of : List (ℕ × ℕ) → Summary A B) where
   keeps_self : (p : PassFacts) → Keeps summary_of p p
@@ -98,10 +96,3 @@ module _ {X : Type 0} (told : SetFacts → ℕ → X) (keys : List ℕ) (before 
       },
     );
   }
-
--- a look is taken out of a seat, asked, and put into one
-pub asks_all : {X : Type 0} (told : SetFacts → ℕ → X) (keys : List ℕ) (before after : List X) (seat : Seat) (held look new put : LookFacts) (code said : ℤ) → seat ≡ Looking held → look ≡ held → put ≡ new → said ≡ code
-    → AnswersArray told keys before after look new code → AsksAll told keys before after seat (Looking put) said
-asks_all told keys before after seat held look new put code said is same back says answers =
-    subst (λ (s : Seat). AsksAll told keys before after s (Looking put) said) (sym (is ∙ ap Looking (sym same)))
-    (put, refl, subst (λ (z : LookFacts). AnswersArray told keys before after look z said) (sym back) (subst (λ (z : ℤ). AnswersArray told keys before after look new z) (sym says) answers))

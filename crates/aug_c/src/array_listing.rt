@@ -7,7 +7,7 @@ ghost use Rattle.aug_c.specs.UserCalls.{span_of};
 ghost use Rattle.aug_c.specs.ArrayCalls.{ListsAll, ListsKeys};
 
 use crate::codes::{CLOSED, NOT_LOOKING};
-use crate::seat::{HeldLook, LookOf, Seat};
+use crate::seat::{LookOf, Seat};
 use crate::user_handle::UserHandle;
 use aug_query::descent::{Rank, Select, Size};
 use std::alloc::Global;
@@ -49,16 +49,14 @@ fn keys_from(look: &mut LookOf, from: u32, out: &mut [u32]) -> i64
     i64::from(count)
 }
 
-fn keys_in(seat: Seat, from: u32, out: &mut [u32]) -> (Seat, i64)
-    ensures { ListsAll from out.old out.new seat result.0 result.1 }
+fn keys_in(user: &mut Option<Seat>, from: u32, out: &mut [u32]) -> i64
+    ensures lists { On (ListsAll from out.old out.new) user.old user.new result }
+    ensures closed { IsNone user.old → out.new ≡ out.old }
 {
-    match seat {
-        Seat::Free(access) => (Seat::Free(access), NOT_LOOKING),
-        Seat::Looking(held) => {
-            let mut look = held.into_look();
-            let code = keys_from(&mut look, from, out);
-            (Seat::Looking(HeldLook::of(look)), code)
-        }
+    match user {
+        None => CLOSED,
+        Some(Seat::Free(_)) => NOT_LOOKING,
+        Some(Seat::Looking(held)) => keys_from(&mut held.look, from, out),
     }
 }
 
@@ -74,10 +72,10 @@ pub extern "C" fn aug_try_keys(
     ensures closed { IsNone (user_of user.old) → out.new ≡ out.old }
     ensures foreign { IsNone user.old.held.value → user.new ≡ user.old }
 {
-    let Some((slot, old)) = user.lend(alloc) else {
+    let Some(mut slot) = user.take(alloc) else {
         return CLOSED;
     };
-    let (new, code) = keys_in(old, from, out);
-    user.give(slot, new);
+    let code = keys_in(&mut slot.seat, from, out);
+    user.put(slot);
     code
 }

@@ -1,112 +1,98 @@
 //! The queries of a user for arrays of keys, answered from the snapshot of its look.
-ghost use Rattle.std.specs.Prelude.{◌≡◌, length, IsNone};
-ghost use Rattle.aug_model.specs.Keys.{is_member, list_of};
+ghost use Rattle.std.specs.Prelude.{◌≡◌, ℕ, IsNone};
+ghost use Rattle.aug_model.specs.Keys.{SetFacts, is_member, list_of};
 ghost use Rattle.aug_model.specs.Queries.{rank_of, weight_of};
 ghost use Rattle.aug_c.specs.Handles.{user_of, On};
-ghost use Rattle.aug_c.specs.UserCalls.{found};
+ghost use Rattle.aug_live.specs.LiveHandles.{IsAsked, set_of_look};
+ghost use Rattle.aug_c.specs.UserCalls.{found, span_of};
 ghost use Rattle.aug_c.specs.ArrayCalls.{bit_of, AnswersArray, AsksAll};
 
 use crate::codes::{BAD_LENGTH, CLOSED, NONE, NOT_LOOKING};
-use crate::seat::{HeldLook, LookOf, Seat};
+use crate::seat::{LookOf, Seat};
 use crate::user_handle::UserHandle;
 use aug_query::descent::{Has, Rank, Weight};
 use std::alloc::Global;
 
-// 1 or 0.
-#[inline(always)]
-fn bit(answer: bool) -> u8
-    ensures { result ≡ bit_of answer }
-{
-    if answer { 1 } else { 0 }
+// What is asked for each key of an array, and what is written of the answer.
+trait Told<T> {
+    ghost told: { SetFacts → ℕ → T };
+
+    fn tell(look: &mut LookOf, key: u32) -> T
+        ensures answer { result ≡ told (set_of_look look.old) key }
+        ensures asked { (most : ℕ) × IsAsked span_of most look.old look.new };
 }
 
-// The weight of a member, or `NONE`.
-#[inline(always)]
-fn weight(answer: Option<u32>) -> i64
-    ensures { result ≡ found answer }
-{
-    match answer {
-        Some(weight) => i64::from(weight),
-        None => NONE,
+struct Ranked;
+
+impl Told<u32> for Ranked {
+    ghost told = { λ set k. rank_of (list_of set) k };
+
+    #[inline(always)]
+    fn tell(look: &mut LookOf, key: u32) -> u32 {
+        look.ask(Rank(key))
     }
 }
 
-fn rank_each(look: &mut LookOf, keys: &[u32], out: &mut [u32]) -> i64
-    ensures { AnswersArray (λ set k. rank_of (list_of set) k) keys.now out.old out.new look.old look.new result }
+struct Found;
+
+impl Told<u8> for Found {
+    ghost told = { λ set k. bit_of (is_member (list_of set) k) };
+
+    #[inline(always)]
+    fn tell(look: &mut LookOf, key: u32) -> u8 {
+        if look.ask(Has(key)) { 1 } else { 0 }
+    }
+}
+
+struct Weighed;
+
+impl Told<i64> for Weighed {
+    ghost told = { λ set k. found (weight_of set.pairs k) };
+
+    #[inline(always)]
+    fn tell(look: &mut LookOf, key: u32) -> i64 {
+        match look.ask(Weight(key)) {
+            Some(weight) => i64::from(weight),
+            None => NONE,
+        }
+    }
+}
+
+// Asks a look for each key.
+fn tell_each<T: Copy, E: Told<T>>(look: &mut LookOf, keys: &[u32], out: &mut [T]) -> i64
+    ensures { AnswersArray E.told keys.now out.old out.new look.old look.new result }
 {
     if out.len() < keys.len() {
         return BAD_LENGTH;
     }
     for place in 0..keys.len() {
-        let answer = look.ask(Rank(keys[place]));
+        let answer = E::tell(look, keys[place]);
         out[place] = answer;
     }
     0
 }
 
-fn has_each(look: &mut LookOf, keys: &[u32], out: &mut [u8]) -> i64
-    ensures { AnswersArray (λ set k. bit_of (is_member (list_of set) k)) keys.now out.old out.new look.old look.new result }
+// Asks the look of a handle's user for each key.
+fn tell_all<T: Copy, E: Told<T>>(
+    alloc: Global,
+    user: &mut UserHandle,
+    keys: &[u32],
+    out: &mut [T],
+) -> i64
+    ensures asks { On (AsksAll E.told keys.now out.old out.new) (user_of user.old) (user_of user.new) result }
+    ensures closed { IsNone (user_of user.old) → out.new ≡ out.old }
+    ensures foreign { IsNone user.old.held.value → user.new ≡ user.old }
 {
-    if out.len() < keys.len() {
-        return BAD_LENGTH;
-    }
-    for place in 0..keys.len() {
-        let answer = look.ask(Has(keys[place]));
-        out[place] = bit(answer);
-    }
-    0
-}
-
-fn weigh_each(look: &mut LookOf, keys: &[u32], out: &mut [i64]) -> i64
-    ensures { AnswersArray (λ set k. found (weight_of set.pairs k)) keys.now out.old out.new look.old look.new result }
-{
-    if out.len() < keys.len() {
-        return BAD_LENGTH;
-    }
-    for place in 0..keys.len() {
-        let answer = look.ask(Weight(keys[place]));
-        out[place] = weight(answer);
-    }
-    0
-}
-
-fn rank_all_in(seat: Seat, keys: &[u32], out: &mut [u32]) -> (Seat, i64)
-    ensures { AsksAll (λ set k. rank_of (list_of set) k) keys.now out.old out.new seat result.0 result.1 }
-{
-    match seat {
-        Seat::Free(access) => (Seat::Free(access), NOT_LOOKING),
-        Seat::Looking(held) => {
-            let mut look = held.into_look();
-            let code = rank_each(&mut look, keys, out);
-            (Seat::Looking(HeldLook::of(look)), code)
-        }
-    }
-}
-
-fn has_all_in(seat: Seat, keys: &[u32], out: &mut [u8]) -> (Seat, i64)
-    ensures { AsksAll (λ set k. bit_of (is_member (list_of set) k)) keys.now out.old out.new seat result.0 result.1 }
-{
-    match seat {
-        Seat::Free(access) => (Seat::Free(access), NOT_LOOKING),
-        Seat::Looking(held) => {
-            let mut look = held.into_look();
-            let code = has_each(&mut look, keys, out);
-            (Seat::Looking(HeldLook::of(look)), code)
-        }
-    }
-}
-
-fn weigh_all_in(seat: Seat, keys: &[u32], out: &mut [i64]) -> (Seat, i64)
-    ensures { AsksAll (λ set k. found (weight_of set.pairs k)) keys.now out.old out.new seat result.0 result.1 }
-{
-    match seat {
-        Seat::Free(access) => (Seat::Free(access), NOT_LOOKING),
-        Seat::Looking(held) => {
-            let mut look = held.into_look();
-            let code = weigh_each(&mut look, keys, out);
-            (Seat::Looking(HeldLook::of(look)), code)
-        }
-    }
+    let Some(mut slot) = user.take(alloc) else {
+        return CLOSED;
+    };
+    let code = match &mut slot.seat {
+        None => CLOSED,
+        Some(Seat::Free(_)) => NOT_LOOKING,
+        Some(Seat::Looking(held)) => tell_each::<T, E>(&mut held.look, keys, out),
+    };
+    user.put(slot);
+    code
 }
 
 /// Writes how many members of the snapshot are below each key to the place with its index. The keys stand in any order. Answers 0, or
@@ -122,12 +108,7 @@ pub extern "C" fn aug_try_rank_all(
     ensures closed { IsNone (user_of user.old) → out.new ≡ out.old }
     ensures foreign { IsNone user.old.held.value → user.new ≡ user.old }
 {
-    let Some((slot, old)) = user.lend(alloc) else {
-        return CLOSED;
-    };
-    let (new, code) = rank_all_in(old, keys, out);
-    user.give(slot, new);
-    code
+    tell_all::<u32, Ranked>(alloc, user, keys, out)
 }
 
 /// Writes whether the snapshot has each key, 1 or 0, as `aug_try_rank_all`.
@@ -142,12 +123,7 @@ pub extern "C" fn aug_try_has_all(
     ensures closed { IsNone (user_of user.old) → out.new ≡ out.old }
     ensures foreign { IsNone user.old.held.value → user.new ≡ user.old }
 {
-    let Some((slot, old)) = user.lend(alloc) else {
-        return CLOSED;
-    };
-    let (new, code) = has_all_in(old, keys, out);
-    user.give(slot, new);
-    code
+    tell_all::<u8, Found>(alloc, user, keys, out)
 }
 
 /// Writes the weight of each key that is a member of the snapshot, and `NONE` for each other, as `aug_try_rank_all`.
@@ -162,10 +138,5 @@ pub extern "C" fn aug_try_weight_all(
     ensures closed { IsNone (user_of user.old) → out.new ≡ out.old }
     ensures foreign { IsNone user.old.held.value → user.new ≡ user.old }
 {
-    let Some((slot, old)) = user.lend(alloc) else {
-        return CLOSED;
-    };
-    let (new, code) = weigh_all_in(old, keys, out);
-    user.give(slot, new);
-    code
+    tell_all::<i64, Weighed>(alloc, user, keys, out)
 }

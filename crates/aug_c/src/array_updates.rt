@@ -135,21 +135,19 @@ fn update_all_by(
 }
 
 fn update_all_in(
-    seat: Seat,
+    user: &mut Option<Seat>,
     each: Each,
     keys: &[u32],
     weights: &[u32],
     progress: &mut Progress,
-) -> (Seat, i64)
-    ensures { UpdatesAll (requests_of each weights.now) keys.now (length weights.now) progress.old progress.new seat result.0 result.1 }
+) -> i64
+    ensures updates { On (UpdatesAll (requests_of each weights.now) keys.now (length weights.now) progress.old progress.new) user.old user.new result }
+    ensures closed { IsNone user.old → progress.new ≡ progress.old }
 {
-    match seat {
-        Seat::Looking(look) => (Seat::Looking(look), LOOKING),
-        Seat::Free(access) => {
-            let mut access = access;
-            let code = update_all_by(&mut access, each, keys, weights, progress);
-            (Seat::Free(access), code)
-        }
+    match user {
+        None => CLOSED,
+        Some(Seat::Looking(_)) => LOOKING,
+        Some(Seat::Free(access)) => update_all_by(access, each, keys, weights, progress),
     }
 }
 
@@ -166,11 +164,11 @@ fn update_all(
     ensures closed { IsNone (user_of user.old) → progress.new ≡ progress.old }
     ensures foreign { IsNone user.old.held.value → user.new ≡ user.old }
 {
-    let Some((slot, old)) = user.lend(alloc) else {
+    let Some(mut slot) = user.take(alloc) else {
         return CLOSED;
     };
-    let (new, code) = update_all_in(old, each, keys, weights, progress);
-    user.give(slot, new);
+    let code = update_all_in(&mut slot.seat, each, keys, weights, progress);
+    user.put(slot);
     code
 }
 

@@ -1,36 +1,10 @@
-//! What a handle denotes, taken out for a call and put back after it.
+//! What a trie's handle denotes, taken out for a call and put back after it.
 ghost use Rattle.std.specs.Prelude.{◌≡◌, Some, None, IfSome, IfNone, IsNone};
-ghost use Rattle.aug_c.specs.Handles.{trie_of, user_of};
+ghost use Rattle.aug_c.specs.Handles.{trie_of};
 
-use crate::seat::{Opened, Seat};
+use crate::seat::Opened;
 use crate::trie_handle::{TrieHandle, TrieSlot};
-use crate::user_handle::{UserHandle, UserSlot};
 use std::alloc::Global;
-
-impl UserHandle {
-    /// Takes the user out, and the box that it lay in. The handle is closed meanwhile.
-    #[inline(always)]
-    pub(crate) fn lend(&mut self, alloc: Global) -> Option<(Box<UserSlot, Global>, Seat)>
-        ensures some { IfSome result (λ t. user_of self.old ≡ Some t.1) }
-        ensures none { IfNone result (user_of self.old ≡ None) }
-        ensures closed { user_of self.new ≡ None }
-        ensures foreign { IsNone self.old.held.value → (result ≡ None) × (self.new ≡ self.old) }
-    {
-        let mut slot = self.take(alloc)?;
-        let seat = slot.seat.take()?;
-        Some((slot, seat))
-    }
-
-    /// Puts a user back.
-    #[inline(always)]
-    pub(crate) fn give(&mut self, slot: Box<UserSlot, Global>, seat: Seat)
-        ensures { user_of self.new ≡ Some seat }
-    {
-        let mut slot = slot;
-        slot.seat = Some(seat);
-        self.put(slot);
-    }
-}
 
 impl TrieHandle {
     /// Takes the trie out, and the box that it lay in. The handle is closed meanwhile.

@@ -61,16 +61,17 @@ fn pop_by(access: &mut AccessOf, side: Side) -> Result<Pop, Refusal>
     }
 }
 
-fn pop_in(seat: Seat, side: Side, out: &mut Member) -> (Seat, i64)
-    ensures { PopsMember side out.old out.new seat result.0 result.1 }
+fn pop_in(user: &mut Option<Seat>, side: Side, out: &mut Member) -> i64
+    ensures pops { On (PopsMember side out.old out.new) user.old user.new result }
+    ensures closed { IsNone user.old → out.new ≡ out.old }
 {
-    match seat {
-        Seat::Looking(look) => (Seat::Looking(look), LOOKING),
-        Seat::Free(access) => {
-            let mut access = access;
-            let answer = pop_by(&mut access, side);
+    match user {
+        None => CLOSED,
+        Some(Seat::Looking(_)) => LOOKING,
+        Some(Seat::Free(access)) => {
+            let answer = pop_by(access, side);
             tell(answer, out);
-            (Seat::Free(access), code_of(answer))
+            code_of(answer)
         }
     }
 }
@@ -82,11 +83,11 @@ fn pop(alloc: Global, user: &mut UserHandle, side: Side, out: &mut Member) -> i6
     ensures closed { IsNone (user_of user.old) → out.new ≡ out.old }
     ensures foreign { IsNone user.old.held.value → user.new ≡ user.old }
 {
-    let Some((slot, old)) = user.lend(alloc) else {
+    let Some(mut slot) = user.take(alloc) else {
         return CLOSED;
     };
-    let (new, code) = pop_in(old, side, out);
-    user.give(slot, new);
+    let code = pop_in(&mut slot.seat, side, out);
+    user.put(slot);
     code
 }
 

@@ -11,7 +11,7 @@ ghost use Rattle.aug_c.specs.UserCalls.{found, truth, span_of, Asks, IsSpan};
 ghost use Rattle.aug_c.specs.inside.Answered.{AnsweredBy};
 
 use crate::codes::{CLOSED, NONE, NOT_LOOKING};
-use crate::seat::{HeldLook, Seat};
+use crate::seat::Seat;
 use crate::span::Span;
 use crate::user_handle::UserHandle;
 use aug_model::Summary;
@@ -60,16 +60,16 @@ impl Number for bool {
 
 // Asks the snapshot of a user's look.
 #[inline(always)]
-fn ask_in<X: Number, Q: Query<Sum, Extent, Answer = X> + Drop>(seat: Seat, query: Q) -> (Seat, i64)
-    ensures { AnsweredBy (λ set answer. Q.Answers query set answer) X.number_of seat result.0 result.1 }
+fn ask_in<X: Number, Q: Query<Sum, Extent, Answer = X> + Drop>(
+    user: &mut Option<Seat>,
+    query: Q,
+) -> i64
+    ensures { On (AnsweredBy (λ set answer. Q.Answers query set answer) X.number_of) user.old user.new result }
 {
-    match seat {
-        Seat::Free(access) => (Seat::Free(access), NOT_LOOKING),
-        Seat::Looking(held) => {
-            let mut look = held.into_look();
-            let answer = look.ask(query);
-            (Seat::Looking(HeldLook::of(look)), answer.number())
-        }
+    match user {
+        None => CLOSED,
+        Some(Seat::Free(_)) => NOT_LOOKING,
+        Some(Seat::Looking(held)) => held.look.ask(query).number(),
     }
 }
 
@@ -83,11 +83,11 @@ fn ask<X: Number, Q: Query<Sum, Extent, Answer = X> + Drop>(
     ensures asks { On (AnsweredBy (λ set answer. Q.Answers query set answer) X.number_of) (user_of user.old) (user_of user.new) result }
     ensures foreign { IsNone user.old.held.value → user.new ≡ user.old }
 {
-    let Some((slot, old)) = user.lend(alloc) else {
+    let Some(mut slot) = user.take(alloc) else {
         return CLOSED;
     };
-    let (new, code) = ask_in(old, query);
-    user.give(slot, new);
+    let code = ask_in(&mut slot.seat, query);
+    user.put(slot);
     code
 }
 
@@ -187,19 +187,20 @@ pub extern "C" fn aug_try_last(alloc: Global, user: &mut UserHandle) -> i64
     ask(alloc, user, Last)
 }
 
-fn range_in(seat: Seat, from: u32, to: u32, out: &mut Span) -> (Seat, i64)
-    ensures asks { Asks (λ set. pos (length (weighted_range_of set.pairs from to))) seat result.0 result.1 }
-    ensures span { (look : LookFacts) → seat ≡ variant.Looking look → IsSpan (span_of (weighted_range_of (set_of_look look).pairs from to)) out.new }
-    ensures free { (access : HandleFacts) → seat ≡ variant.Free access → out.new ≡ out.old }
+fn range_in(user: &mut Option<Seat>, from: u32, to: u32, out: &mut Span) -> i64
+    ensures asks { On (Asks (λ set. pos (length (weighted_range_of set.pairs from to)))) user.old user.new result }
+    ensures closed { IsNone user.old → out.new ≡ out.old }
+    ensures free { (access : HandleFacts) → user.old ≡ Some (variant.Free access) → out.new ≡ out.old }
+    ensures span { (look : LookFacts) → user.old ≡ Some (variant.Looking look) → IsSpan (span_of (weighted_range_of (set_of_look look).pairs from to)) out.new }
 {
-    match seat {
-        Seat::Free(access) => (Seat::Free(access), NOT_LOOKING),
-        Seat::Looking(held) => {
-            let mut look = held.into_look();
-            let told = look.ask(Range(from, to));
+    match user {
+        None => CLOSED,
+        Some(Seat::Free(_)) => NOT_LOOKING,
+        Some(Seat::Looking(held)) => {
+            let told = held.look.ask(Range(from, to));
             let count = told.count;
             *out = span(told);
-            (Seat::Looking(HeldLook::of(look)), i64::from(count))
+            i64::from(count)
         }
     }
 }
@@ -219,10 +220,10 @@ pub extern "C" fn aug_try_range(
     ensures span { (look : LookFacts) → user_of user.old ≡ Some (variant.Looking look) → IsSpan (span_of (weighted_range_of (set_of_look look).pairs from to)) out.new }
     ensures foreign { IsNone user.old.held.value → user.new ≡ user.old }
 {
-    let Some((slot, old)) = user.lend(alloc) else {
+    let Some(mut slot) = user.take(alloc) else {
         return CLOSED;
     };
-    let (new, code) = range_in(old, from, to, out);
-    user.give(slot, new);
+    let code = range_in(&mut slot.seat, from, to, out);
+    user.put(slot);
     code
 }

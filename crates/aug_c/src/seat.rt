@@ -23,7 +23,7 @@ pub struct Opened {
 
 /// A look that ends when it is dropped, so that nobody waits for a user that was closed.
 pub struct HeldLook {
-    look: LookOf,
+    pub(crate) look: LookOf,
 }
 
 impl Model for HeldLook {

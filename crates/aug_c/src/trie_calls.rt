@@ -72,14 +72,15 @@ fn open_user(alloc: Global, old: Opened, user: &mut UserHandle) -> (Opened, i64)
     if old.spare.is_empty() {
         return (old, NO_USER);
     }
-    let Ok(slot) = Box::new(alloc, UserSlot { seat: None }) else {
+    let Ok(mut slot) = Box::new(alloc, UserSlot { seat: None }) else {
         return (old, NO_MEMORY);
     };
     let Opened { live, mut spare } = old;
     let Some(access) = spare.pop() else {
         unreachable!()
     };
-    user.give(slot, Seat::Free(access));
+    slot.seat = Some(Seat::Free(access));
+    user.put(slot);
     (Opened { live, spare }, 0)
 }
 

@@ -47,16 +47,13 @@ fn update_by(access: &mut AccessOf, key: u32, request: Request) -> Result<Outcom
 }
 
 #[inline(always)]
-fn update_in(seat: Seat, key: u32, request: Request) -> (Seat, i64)
-    ensures { UpdatesKey request key seat result.0 result.1 }
+fn update_in(user: &mut Option<Seat>, key: u32, request: Request) -> i64
+    ensures { On (UpdatesKey request key) user.old user.new result }
 {
-    match seat {
-        Seat::Looking(look) => (Seat::Looking(look), LOOKING),
-        Seat::Free(access) => {
-            let mut access = access;
-            let answer = update_by(&mut access, key, request);
-            (Seat::Free(access), code_of(answer))
-        }
+    match user {
+        None => CLOSED,
+        Some(Seat::Looking(_)) => LOOKING,
+        Some(Seat::Free(access)) => code_of(update_by(access, key, request)),
     }
 }
 
@@ -66,11 +63,11 @@ fn update(alloc: Global, user: &mut UserHandle, key: u32, request: Request) -> i
     ensures updates { On (UpdatesKey request key) (user_of user.old) (user_of user.new) result }
     ensures foreign { IsNone user.old.held.value → user.new ≡ user.old }
 {
-    let Some((slot, old)) = user.lend(alloc) else {
+    let Some(mut slot) = user.take(alloc) else {
         return CLOSED;
     };
-    let (new, code) = update_in(old, key, request);
-    user.give(slot, new);
+    let code = update_in(&mut slot.seat, key, request);
+    user.put(slot);
     code
 }
 
@@ -122,14 +119,25 @@ pub extern "C" fn aug_try_sub(alloc: Global, user: &mut UserHandle, key: u32, am
     update(alloc, user, key, Request::Sub(amount))
 }
 
-fn look_by(seat: Seat) -> (Seat, i64)
-    ensures { TakesLook seat result.0 result.1 }
+#[inline(always)]
+fn look_by(user: &mut Option<Seat>) -> i64
+    ensures { On TakesLook user.old user.new result }
 {
-    match seat {
-        Seat::Looking(look) => (Seat::Looking(look), LOOKING),
-        Seat::Free(access) => match access.try_look() {
-            Ok(look) => (Seat::Looking(HeldLook::of(look)), 0),
-            Err((access, cause)) => (Seat::Free(access), Refusal::of(cause).code()),
+    match user.take() {
+        None => CLOSED,
+        Some(Seat::Looking(look)) => {
+            *user = Some(Seat::Looking(look));
+            LOOKING
+        }
+        Some(Seat::Free(access)) => match access.try_look() {
+            Ok(look) => {
+                *user = Some(Seat::Looking(HeldLook::of(look)));
+                0
+            }
+            Err((access, cause)) => {
+                *user = Some(Seat::Free(access));
+                Refusal::of(cause).code()
+            }
         },
     }
 }
@@ -140,23 +148,24 @@ pub extern "C" fn aug_try_look(alloc: Global, user: &mut UserHandle) -> i64
     ensures looks { On TakesLook (user_of user.old) (user_of user.new) result }
     ensures foreign { IsNone user.old.held.value → user.new ≡ user.old }
 {
-    let Some((slot, old)) = user.lend(alloc) else {
+    let Some(mut slot) = user.take(alloc) else {
         return CLOSED;
     };
-    let (new, code) = look_by(old);
-    user.give(slot, new);
+    let code = look_by(&mut slot.seat);
+    user.put(slot);
     code
 }
 
-fn look_anew(seat: Seat) -> (Seat, i64)
-    ensures { LooksAnew seat result.0 result.1 }
+#[inline(always)]
+fn look_anew(user: &mut Option<Seat>) -> i64
+    ensures { On LooksAnew user.old user.new result }
 {
-    match seat {
-        Seat::Free(access) => (Seat::Free(access), NOT_LOOKING),
-        Seat::Looking(held) => {
-            let mut look = held.into_look();
-            look.again();
-            (Seat::Looking(HeldLook::of(look)), 0)
+    match user {
+        None => CLOSED,
+        Some(Seat::Free(_)) => NOT_LOOKING,
+        Some(Seat::Looking(held)) => {
+            held.look.again();
+            0
         }
     }
 }
@@ -167,20 +176,28 @@ pub extern "C" fn aug_try_look_again(alloc: Global, user: &mut UserHandle) -> i6
     ensures looks { On LooksAnew (user_of user.old) (user_of user.new) result }
     ensures foreign { IsNone user.old.held.value → user.new ≡ user.old }
 {
-    let Some((slot, old)) = user.lend(alloc) else {
+    let Some(mut slot) = user.take(alloc) else {
         return CLOSED;
     };
-    let (new, code) = look_anew(old);
-    user.give(slot, new);
+    let code = look_anew(&mut slot.seat);
+    user.put(slot);
     code
 }
 
-fn end_look(seat: Seat) -> (Seat, i64)
-    ensures { EndsLook seat result.0 result.1 }
+#[inline(always)]
+fn end_look(user: &mut Option<Seat>) -> i64
+    ensures { On EndsLook user.old user.new result }
 {
-    match seat {
-        Seat::Free(access) => (Seat::Free(access), NOT_LOOKING),
-        Seat::Looking(held) => (Seat::Free(held.into_look().done()), 0),
+    match user.take() {
+        None => CLOSED,
+        Some(Seat::Free(access)) => {
+            *user = Some(Seat::Free(access));
+            NOT_LOOKING
+        }
+        Some(Seat::Looking(held)) => {
+            *user = Some(Seat::Free(held.into_look().done()));
+            0
+        }
     }
 }
 
@@ -190,10 +207,10 @@ pub extern "C" fn aug_try_look_done(alloc: Global, user: &mut UserHandle) -> i64
     ensures ends { On EndsLook (user_of user.old) (user_of user.new) result }
     ensures foreign { IsNone user.old.held.value → user.new ≡ user.old }
 {
-    let Some((slot, old)) = user.lend(alloc) else {
+    let Some(mut slot) = user.take(alloc) else {
         return CLOSED;
     };
-    let (new, code) = end_look(old);
-    user.give(slot, new);
+    let code = end_look(&mut slot.seat);
+    user.put(slot);
     code
 }

@@ -18,6 +18,7 @@ impl<T> Model for GhostValue<T> {
 
 impl<T> GhostValue<T> {
     /// What the reference shows.
+    #[inline(always)]
     pub(crate) fn of(x: &T) -> GhostValue<T>
         ensures { result.value ≡ x.now }
     {

@@ -217,6 +217,7 @@ impl<A: Monoid, B: Monoid> Handle<A, B> {
     }
 
     /// The same, and waits for nobody, as `try_update`.
+    #[inline(always)]
     pub fn try_look(self) -> Result<Look<A, B>, (Handle<A, B>, TryError<Busy>)>
         ensures looks { IfOk result (λ look. Makes 0 (λ a b. TakesSnapshot a.knows b.knows (snapshot_cut b look.snapshot.number)) self (handle_of look)) }
         ensures not_made { IfErr result (λ e. Follows self e.0) }
@@ -288,6 +289,7 @@ impl<A: Monoid, B: Monoid> Handle<A, B> {
     }
 
     /// How many keys there are: `2^bits`. The keys are the numbers below it.
+    #[inline(always)]
     pub fn universe(&self) -> u32
         ensures { result ≡ 2 ^ self.now.half.round.bits }
     {
@@ -317,6 +319,7 @@ impl<A: Monoid, B: Monoid> Handle<A, B> {
     }
 
     // Takes a snapshot, unless the lane is held, the next round has to begin first, or a newer handle has the lane.
+    #[inline(always)]
     fn attempt_look(self) -> Result<Look<A, B>, (Handle<A, B>, Obstacle)>
         ensures looks { IfOk result (λ look. Makes 0 (λ a b. TakesSnapshot a.knows b.knows (snapshot_cut b look.snapshot.number)) self (handle_of look)) }
         ensures at_rest { IfErr result (λ e. Follows self e.0) }

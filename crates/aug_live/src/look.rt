@@ -42,6 +42,7 @@ impl<A: Monoid, B: Monoid> Model for Look<A, B> {
 
 impl<A: Monoid, B: Monoid> Look<A, B> {
     /// Asks the snapshot, in so many steps as a pass takes for that.
+    #[inline(always)]
     pub fn ask<Q: Query<A, B>>(&mut self, query: Q) -> Q::Answer
         ensures answer { Q.Answers query (set_of_look self.old) result }
         ensures asked { IsAsked (summary_of A.parts B.parts) (steps_for (Q.most query (set_of_look self.old))) self.old self.new }
@@ -55,6 +56,7 @@ impl<A: Monoid, B: Monoid> Look<A, B> {
     }
 
     /// Takes a newer snapshot, in the same round, without letting the lane go.
+    #[inline(always)]
     pub fn again(&mut self)
         ensures { LooksAgain self.old self.new }
     {
@@ -65,6 +67,7 @@ impl<A: Monoid, B: Monoid> Look<A, B> {
     }
 
     /// Ends the look, and gives its handle back.
+    #[inline(always)]
     pub fn done(self) -> Handle<A, B>
         ensures { result ≡ handle_of self }
     {

@@ -16,6 +16,7 @@ impl<'r, A: Monoid, B: Monoid> Pass<'r, A, B> {
     /// for a node that it passes. So of keys of `bits` bits `Size` takes at most 2 steps, `Has` and `Weight` `bits + 2`, `Rank` and
     /// `Select` `3 * bits + 2`, `Before` and `After` `6 * bits + 1`, `Range` `10 * bits - 1`, and `Keys` and `Pairs`
     /// `3 * bits * n + 2` for `n` members. Only these two take memory.
+    #[inline(always)]
     pub fn ask<Q: Query<A, B>>(&mut self, s: Snapshot, query: Q) -> Q::Answer
         requires { HasSnapshot self.old s.number }
         ensures answer { Q.Answers query (set_at self.old s) result }

@@ -32,6 +32,7 @@ impl<A: Monoid, B: Monoid> Model for PassHalf<A, B> {
 
 impl<A: Monoid, B: Monoid> PassHalf<A, B> {
     /// How many keys there are: `2^bits`. The keys are the numbers below it.
+    #[inline(always)]
     pub fn universe(&self) -> u32
         ensures { result ≡ 2 ^ self.now.round.bits }
     {
@@ -39,6 +40,7 @@ impl<A: Monoid, B: Monoid> PassHalf<A, B> {
     }
 
     /// How many updates are left.
+    #[inline(always)]
     pub fn budget(&self) -> u32
         ensures { result + self.now.spent ≡ self.now.round.updates }
     {
@@ -62,6 +64,7 @@ impl<A: Monoid, B: Monoid> PassHalf<A, B> {
 
 impl<'r, A: Monoid, B: Monoid> Pass<'r, A, B> {
     /// Makes a half of the pass. The half keeps all that the pass knows.
+    #[inline(always)]
     pub fn into_half(self) -> PassHalf<A, B>
         ensures { result ≡ self.entry }
     {

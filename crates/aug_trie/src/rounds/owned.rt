@@ -133,6 +133,7 @@ impl<A: Monoid, B: Monoid> OwnedPass<A, B> {
     }
 
     /// Asks its snapshot, in so many steps as a pass takes for that.
+    #[inline(always)]
     pub fn ask<Q: Query<A, B>>(self, query: Q) -> (OwnedPass<A, B>, Q::Answer)
         ensures answer { Q.Answers query (set_at self.half self.held) result.1 }
         ensures reads { Reads (summary_of A.parts B.parts) (steps_for (Q.most query (set_at self.half self.held))) self.half result.0.half }
@@ -148,6 +149,7 @@ impl<A: Monoid, B: Monoid> OwnedPass<A, B> {
     }
 
     /// Takes a new snapshot, which answers the queries from then on. It shows every change that the pass knows.
+    #[inline(always)]
     pub fn look(self) -> OwnedPass<A, B>
         ensures takes { TakesSnapshot self.half.knows result.half.knows (snapshot_cut result.half result.held.number) }
         ensures goes_on { GoesOn 0 1 self.half result.half }

@@ -168,6 +168,7 @@ impl<'r, A: Monoid, B: Monoid> Pass<'r, A, B> {
     }
 
     /// Takes a snapshot, by one load of the root's word. It shows every change that the pass knows.
+    #[inline(always)]
     pub fn snapshot(&mut self) -> Snapshot
         ensures takes { TakesSnapshot self.old.knows self.new.knows (snapshot_cut self.new result.number) }
         ensures known { HasSnapshot self.new result.number }

@@ -267,6 +267,7 @@ impl<A: Monoid, B: Monoid> Round<A, B> {
     }
 
     /// The pass of a half that was taken from a pass of this round.
+    #[inline(always)]
     pub fn pass<'r>(&'r self, half: PassHalf<A, B>) -> Pass<'r, A, B>
         requires { table_of half.round ≡ self.now }
         ensures { result ≡ half }

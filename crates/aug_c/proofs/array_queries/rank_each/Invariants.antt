@@ -1,8 +1,0 @@
-use Rattle.std.proofs.Common.{ℕ}
-use Rattle.aug_model.specs.Keys.{SetFacts, list_of}
-use Rattle.aug_model.specs.Queries.{rank_of}
-use Rattle.aug_c.proofs.Reading.{Asked}
-use Rattle.aug_c.proofs.array_queries.rank_each.Given as goal
-
-abbrev pub invariant-loop-place : goal.invariant-loop-place
-invariant-loop-place l = Asked (λ (s : SetFacts) (k : ℕ). rank_of (list_of s) k) l.keys l.initial.out l.initial.look l.place l.look l.out

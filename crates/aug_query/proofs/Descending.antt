@@ -1,7 +1,8 @@
 -- Loads of a tree one after another.
-use Rattle.std.proofs.Common.{◌≡◌, ◌≢◌, ℕ, ◌+◌, ◌-◌, ◌*◌, ◌/◌, ◌%◌, ◌^◌, ◌<◌, ◌≤◌, min, List, length, add-one, refl, ap, sym, ◌∙◌, arith}
-use Rattle.std.proofs.Math.Nat.{pow-suc, div-div-eq-div-mul, div-mul-le_self, mod-lt, mul-le-mul_right, le-min}
+use Rattle.std.proofs.Common.{◌≡◌, ◌≢◌, ℕ, ◌+◌, ◌-◌, ◌*◌, ◌/◌, ◌%◌, ◌^◌, ◌<◌, ◌≤◌, ◌==◌, Bool, true, false, if◌then◌else◌, List, length, add-one, refl, ap, sym, ◌∙◌, arith}
+use Rattle.std.proofs.Math.Nat.{pow-suc, div-div-eq-div-mul, div-mul-le_self, mod-lt, mul-le-mul_right}
 use Rattle.std.proofs.Math.Pow.{split}
+use Rattle.std.proofs.lemmas.Bool.{eqb-true, eqb-false}
 use Rattle.std.proofs.lemmas.Nat.{pow_pos}
 use Rattle.aug_model.specs.Keys.{SetFacts}
 use Rattle.aug_model.specs.Queries.{rank_of}
@@ -11,10 +12,6 @@ use Rattle.aug_query.specs.Descend.{Descends}
 use Rattle.aug_query.proofs.Nodes.{node_width, left_low, right_high}
 use Rattle.aug_query.proofs.Orders.{rank_cut}
 use Rattle.aug_query.specs.declared.loaded.Loaded.{Loaded}
-
--- what is within two bounds is within the lesser of them
-lesser : (x y a b c : ℕ) → x ≤ y + a → x ≤ y + b → min a b ≤ c → x ≤ y + c
-lesser x y a b c one two few = let more : x - y ≤ min a b = le-min (omega (arith, one)) (omega (arith, two)) in omega (arith, more, few)
 
 module _ {Tree Name : Type 0} {set_of : Tree → SetFacts} {loads_of : Tree → Loaded} {Names : Tree → ℕ → ℕ → Name → Type 0} {KeepsRest : Tree → Tree → Type 0} where
   -- nothing was loaded
@@ -64,19 +61,6 @@ module _ {Tree Name : Type 0} {set_of : Tree → SetFacts} {loads_of : Tree → 
     keeps_rest = walk.keeps_rest;
   }
 
-  -- within each of two bounds
-  pub within_both : {n c s p j k l o m d t q : ℕ} {old new : Tree} → Descends set_of loads_of Names KeepsRest n c s p old new → Descends set_of loads_of Names KeepsRest j k l o old new
-      → min n j ≤ m → min c k ≤ d → min s l ≤ t → min p o ≤ q → Descends set_of loads_of Names KeepsRest m d t q old new
-  within_both walk again a b e f = record {
-    same_set = walk.same_set;
-    few_nodes = lesser _ _ _ _ _ walk.few_nodes again.few_nodes a;
-    few_counts = lesser _ _ _ _ _ walk.few_counts again.few_counts b;
-    few_summaries = lesser _ _ _ _ _ walk.few_summaries again.few_summaries e;
-    few_passed = lesser _ _ _ _ _ walk.few_passed again.few_passed f;
-    keeps_names = walk.keeps_names;
-    keeps_rest = walk.keeps_rest;
-  }
-
 -- the node above one that covers a key covers it too, at half its place
 pub half_place : (k level : ℕ) → k / 2 ^ (level + 1) ≡ k / 2 ^ level / 2
 half_place k level = ap (λ (n : ℕ). k / 2 ^ n) (add-one level) ∙ ap (λ (n : ℕ). k / n) (pow-suc 2 level) ∙ sym (div-div-eq-div-mul k (2 ^ level) 2)
@@ -95,6 +79,11 @@ low_half k level low = let half = half_place k level in omega arith
 pub high_half : (k level : ℕ) → k / 2 ^ level % 2 ≢ 0 → 2 * (k / 2 ^ (level + 1)) + 1 ≡ k / 2 ^ level
 high_half k level high = let half = half_place k level in omega arith
 
+-- where the child on a key's side is
+pub side_place : (k level : ℕ) (right : Bool) → right ≡ (k / 2 ^ level % 2 == 1) → (if right then 2 * (k / 2 ^ (level + 1)) + 1 else 2 * (k / 2 ^ (level + 1))) ≡ k / 2 ^ level
+side_place k level true is = let odd = eqb-true (k / 2 ^ level % 2) 1 (sym is) in high_half k level (λ even. omega (arith, odd, even))
+side_place k level false is = let even = eqb-false (k / 2 ^ level % 2) 1 (sym is) in low_half k level (omega (arith, even))
+
 -- how many members come before a right child: those before the node, and those of the left one
 pub rank_before_right : (keys : List ℕ) (level place n : ℕ) → Rises keys → n ≡ length (keys_below keys level (2 * place)) → rank_of keys (first_key level (2 * place + 1)) ≡ rank_of keys (first_key (level + 1) place) + n
 rank_before_right keys level place n rises is =
@@ -108,3 +97,15 @@ rank_after_left keys level place n rises is =
     let cut = rank_cut keys (first_key level (2 * place + 1)) (end_key level (2 * place + 1)) rises (mul-le-mul_right (2 ^ level) (omega arith)) in
     let to = ap (rank_of keys) (right_high (level + 1) place level (2 * place + 1) refl refl) in
     omega (arith, cut, to, is)
+
+-- and before the child on a key's side, by what was passed
+pub side_rank : (keys : List ℕ) (k level below n : ℕ) (right : Bool) → Rises keys → right ≡ (k / 2 ^ level % 2 == 1) → below ≡ rank_of keys (first_key (level + 1) (k / 2 ^ (level + 1)))
+    → n ≡ (if right then length (keys_below keys level (2 * (k / 2 ^ (level + 1)))) else 0) → below + n ≡ rank_of keys (first_key level (k / 2 ^ level))
+side_rank keys k level below n true rises is before count =
+    let place = k / 2 ^ (level + 1) in
+    let all = rank_before_right keys level place n rises count in
+    omega (arith, before, all, ap (λ p. rank_of keys (first_key level p)) (side_place k level true is))
+side_rank keys k level below n false rises is before count =
+    let place = k / 2 ^ (level + 1) in
+    let from = ap (rank_of keys) (left_low (level + 1) place level (2 * place) refl refl) in
+    omega (arith, before, count, from, ap (λ p. rank_of keys (first_key level p)) (side_place k level false is))

@@ -9,6 +9,7 @@ pub mod Ends
 pub mod Passing
 pub mod Beside
 pub mod Inside
+pub mod Together
 pub mod Batches
 pub mod Paths
 pub mod Placed

@@ -1,5 +1,5 @@
 -- Both ends of a descent to a key: it begins at the top, and ends at the key's leaf, or above it with the members before it counted.
-use Rattle.std.proofs.Common.{◌≡◌, ◌≢◌, ℕ, ◌+◌, ◌-◌, ◌/◌, ◌%◌, ◌^◌, ◌<◌, ◌≤◌, ltb, List, None, Some, inl, length, refl, ap, sym, ◌∙◌, arith}
+use Rattle.std.proofs.Common.{◌≡◌, ◌≢◌, ℕ, ◌+◌, ◌-◌, ◌*◌, ◌/◌, ◌%◌, ◌^◌, ◌<◌, ◌≤◌, ltb, List, None, Some, inl, length, refl, ap, sym, ◌∙◌, arith}
 use Rattle.std.proofs.Math.Nat.{div-eq_of_lt}
 use Rattle.std.proofs.Math.Pow.{pow_mono}
 use Rattle.aug_model.specs.Keys.{SetFacts, is_member, list_of}
@@ -70,6 +70,12 @@ odd_rank {set = set} k level below n tree same e odd is count =
     let one = count ∙ ap (λ s. length (keys_below (list_of s) 0 (k - 1))) same ∙ ap length (leaf_is keys 0 (k - 1) refl) ∙ ap (λ b. length (range_of keys (k - 1) b)) next in
     let cut = rank_cut keys (k - 1) k (rises_from keys tree.is_key_set.rising) (omega arith) in
     omega (arith, one, cut, is, ap (rank_of keys) first)
+
+-- the same by the place of that leaf among the two
+pub pair_rank : {set other : SetFacts} (k below n : ℕ) → IsTreeSet set → other ≡ set → k % 2 ≡ 1 → below ≡ rank_of (list_of set) (first_key 1 (k / 2 ^ 1)) → n ≡ length (keys_below (list_of other) 0 (2 * (k / 2))) → below + n ≡ rank_of (list_of set) k
+pair_rank {other = other} k below n tree same odd is count =
+    let first : 2 * (k / 2) ≡ k - 1 = omega (arith, odd) in
+    odd_rank k 1 below n tree same refl odd is (count ∙ ap (λ p. length (keys_below (list_of other) 0 p)) first)
 
 -- the top counts every member
 pub top_size : {set other : SetFacts} (level n : ℕ) → IsTreeSet set → other ≡ set → level ≡ set.bits → n ≡ length (keys_below (list_of other) level 0) → n ≡ length (list_of set)

@@ -1,5 +1,5 @@
 -- What no promise rests on: what private fields keep, what private calls leave, how views come of fields, and lemmas.
-pub mod Batches
+pub mod Together
 pub mod FakeNodes
 pub mod FirstOver
 pub mod NodePlaces

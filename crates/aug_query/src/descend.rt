@@ -1,5 +1,5 @@
 //! The trait below `Tree`: what a descent loads, one piece at a time.
-ghost use Rattle.std.specs.Prelude.{◌≡◌, ℕ, ◌+◌, ◌*◌, length};
+ghost use Rattle.std.specs.Prelude.{◌≡◌, ℕ, ◌+◌, ◌*◌, if◌then◌else◌, length};
 ghost use Rattle.aug_model.specs.Keys.{SetFacts, list_of};
 ghost use Rattle.aug_model.specs.Folds.{summary_of};
 ghost use Rattle.aug_model.specs.Queries.{weight_in};
@@ -73,6 +73,21 @@ pub trait Descend<A: Monoid, B: Monoid> {
         ensures notes { loads_of self.new ≡ one_more_past (loads_of self.old) }
         ensures name { Names self.new level (2 * place) result.0 }
         ensures count { result.1 ≡ length (keys_below (list_of (set_of self.old)) level (2 * place + 1)) };
+
+    /// The child on a side, the right one or the left one, and how many of the node's members come before it. So keys go down that do so
+    /// together: a trie loads the same words on either side, and no processor has to guess which it is.
+    fn child_past(
+        &mut self,
+        level: u32,
+        place: u32,
+        node: &Self::Name,
+        right: bool,
+    ) -> (Self::Name, u32)
+        requires { Names self.old (level + 1) place node.now }
+        ensures descends { Descends set_of loads_of Names KeepsRest 1 0 0 1 self.old self.new }
+        ensures notes { loads_of self.new ≡ one_more_past (loads_of self.old) }
+        ensures name { Names self.new level (if right then 2 * place + 1 else 2 * place) result.0 }
+        ensures count { result.1 ≡ (if right then length (keys_below (list_of (set_of self.old)) level (2 * place)) else 0) };
 
     /// How many members the node covers.
     fn count(&mut self, level: u32, place: u32, node: &Self::Name) -> u32

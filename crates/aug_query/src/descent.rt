@@ -4,8 +4,8 @@
 //! count; `Rank` `bits + 1` nodes, `bits` of them beside one whose members are counted, and one count; `Select` `2 * bits + 1` nodes and
 //! `bits + 1` counts; `SelectByWeight` as many nodes, and `bits + 1` summaries; `First` and `Last` the top and its summary; `Before` and
 //! `After` `3 * bits` nodes, `bits` of them beside a counted one, and `bits + 1` counts; `Range`, `Least` and `Greatest` `4 * bits - 1`
-//! nodes and `2 * bits` summaries; `Keys` and `Pairs`, for `n` members, `2 * bits * n + 1` nodes and `bits * n + 1` counts. `Ranks`,
-//! `Memberships` and `Weights` take `n` rising keys and go to `n * (bits + 1)` nodes, and to no node twice.
+//! nodes and `2 * bits` summaries; `Keys` and `Pairs`, for `n` members, `2 * bits * n + 1` nodes and `bits * n + 1` counts. `Four` queries
+//! of a kind load what each of them does, and so do `Ranks`, `Memberships` and `Weights` of `n` keys.
 
 mod batches;
 mod by_weight;
@@ -17,6 +17,7 @@ mod listing;
 mod members;
 mod neighbours;
 mod positions;
+mod together;
 
 pub use batches::{Memberships, Ranks, Weights};
 pub use by_weight::SelectByWeight;
@@ -28,3 +29,4 @@ pub use listing::{Keys, Pairs, put_pairs};
 pub use members::{Has, Weight};
 pub use neighbours::{After, Before};
 pub use positions::Select;
+pub use together::{ByKey, Four};

@@ -82,6 +82,20 @@ impl<A: Monoid, B: Monoid, T: Tree<A, B>> Descend<A, B> for NodeWalk<'_, A, B, T
         (left, passed)
     }
 
+    fn child_past(
+        &mut self,
+        level: u32,
+        place: u32,
+        node: &T::Node,
+        right: bool,
+    ) -> (T::Node, u32) {
+        if right {
+            return self.past_left(level, place, node);
+        }
+        self.loaded.one_past();
+        (self.tree.left(node), 0)
+    }
+
     fn count(&mut self, _level: u32, _place: u32, node: &T::Node) -> u32 {
         self.loaded.one_count();
         T::summary(node).count

@@ -1,6 +1,4 @@
 //! Queries and their answers as data, so that each call is proved once.
-ghost use Rattle.std.specs.List.Sorted.{IsNonDecreasing};
-
 use crate::assertions::{equal, holds};
 use aug_monoid::{Extent, Monoid};
 use aug_query::descent::{self, First, Greatest, Least, Memberships, Ranks, Weights};
@@ -82,14 +80,7 @@ fn spanned(tree: &mut Small, a: u32, b: u32) -> Spanned {
     (found.count, found.a.value(), found.b.bounds())
 }
 
-// Ends the test unless no key is below the one before it.
-fn assert_rising(rt: &impl Abort, keys: &[u32])
-    ensures { IsNonDecreasing keys.now }
-{
-    holds(rt, keys.is_sorted());
-}
-
-// The ranks of rising keys, behind the numbers that stand first.
+// The ranks of keys, behind the numbers that stand first.
 fn ranks_of(
     rt: &impl Abort,
     alloc: Global,
@@ -97,33 +88,24 @@ fn ranks_of(
     first: &[u32],
     keys: &[u32],
 ) -> Result<Vec<u32>, AllocError> {
-    assert_rising(rt, keys);
     let mut out = Vec::with_capacity(alloc, first.len() + keys.len())?;
     out.extend_from_slice(first)?;
     holds(rt, out.len() + keys.len() <= out.capacity());
     Ok(ask_tree(tree, Ranks { keys, out }))
 }
 
-// Whether each of some rising keys is a member.
-fn memberships_of(
-    rt: &impl Abort,
-    alloc: Global,
-    tree: &mut Small,
-    keys: &[u32],
-) -> Result<Vec<bool>, AllocError> {
-    assert_rising(rt, keys);
+// Whether each of some keys is a member.
+fn memberships_of(alloc: Global, tree: &mut Small, keys: &[u32]) -> Result<Vec<bool>, AllocError> {
     let out = Vec::with_capacity(alloc, keys.len())?;
     Ok(ask_tree(tree, Memberships { keys, out }))
 }
 
-// The weight of each of some rising keys.
+// The weight of each of some keys.
 fn weights_of(
-    rt: &impl Abort,
     alloc: Global,
     tree: &mut Small,
     keys: &[u32],
 ) -> Result<Vec<Option<u32>>, AllocError> {
-    assert_rising(rt, keys);
     let out = Vec::with_capacity(alloc, keys.len())?;
     Ok(ask_tree(tree, Weights { keys, out }))
 }
@@ -164,11 +146,11 @@ pub(super) fn take(
             equal(rt, found.as_slice(), *expected);
         }
         Step::Memberships(keys, expected) => {
-            let found = memberships_of(rt, alloc, tree, keys)?;
+            let found = memberships_of(alloc, tree, keys)?;
             equal(rt, found.as_slice(), *expected);
         }
         Step::Weights(keys, expected) => {
-            let found = weights_of(rt, alloc, tree, keys)?;
+            let found = weights_of(alloc, tree, keys)?;
             equal(rt, found.as_slice(), *expected);
         }
     }

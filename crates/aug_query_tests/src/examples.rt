@@ -7,7 +7,7 @@ use aug_query::{FakeTree, ask};
 use std::alloc::{AllocError, Global};
 use std::process::Abort;
 
-const KEYS: &[u32] = &[4, 5, 5, 9, 10, 16];
+const KEYS: &[u32] = &[9, 4, 5, 5, 16, 10];
 
 const EACH: &[Step<'static>] = &[
     // A range joins in rising order, and leaves its end out.
@@ -37,10 +37,10 @@ const EACH: &[Step<'static>] = &[
     Step::Pairs(&[(5, 70), (9, 30)]),
 
     // Batches. Ranks stand behind what was there.
-    Step::Ranks(&[], KEYS, &[0, 0, 0, 1, 2, 2]),
-    Step::Ranks(&[7], &[5, 6, 16], &[7, 0, 1, 2]),
-    Step::Memberships(KEYS, &[false, true, true, true, false, false]),
-    Step::Weights(KEYS, &[None, Some(70), Some(70), Some(30), None, None]),
+    Step::Ranks(&[], KEYS, &[1, 0, 0, 0, 2, 2]),
+    Step::Ranks(&[7], &[5, 16, 6, 10], &[7, 0, 2, 1, 2]),
+    Step::Memberships(KEYS, &[true, false, true, true, false, false]),
+    Step::Weights(KEYS, &[Some(30), None, Some(70), Some(70), None, None]),
 ];
 
 #[test]

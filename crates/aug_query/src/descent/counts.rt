@@ -65,7 +65,7 @@ impl<A: Monoid, B: Monoid> Query<A, B> for Rank {
 // The child, at this level, that covers `k`, of the node above it that covers `k`, and how many members come before that child.
 // `below` members come before the node.
 #[inline(always)]
-pub(super) fn toward_counting<A: Monoid, B: Monoid, D: Descend<A, B>>(
+fn toward_counting<A: Monoid, B: Monoid, D: Descend<A, B>>(
     tree: &mut D,
     level: u32,
     k: u32,

@@ -14,7 +14,7 @@ use aug_words::WordPass;
 use std::marker::Model;
 
 /// A snapshot of a pass, while its words are taken out: what names a node is the word that its parent's record has of it. So the
-/// words stay in registers, and each call loads one word, `summary` three, and `past_left` and `past_right` three.
+/// words stay in registers, and each call loads one word, and `summary`, `past_left`, `past_right` and `child_past` three.
 #[derive(Drop)]
 pub(crate) struct SnapshotWalk<'r, A: Monoid, B: Monoid> {
     words: WordPass<'r, A, B>,
@@ -126,6 +126,16 @@ impl<A: Monoid, B: Monoid> Descend<A, B> for SnapshotWalk<'_, A, B> {
         let passed = count_at(&mut self.words, self.snapshot, level, 2 * place + 1, right);
         let left = left_word(&mut self.words, self.snapshot, level, place, *node);
         (left, passed)
+    }
+
+    // All three words are loaded on either side, and the side only chooses between them.
+    #[inline(always)]
+    fn child_past(&mut self, level: u32, place: u32, node: &u64, right: bool) -> (u64, u32) {
+        self.loaded.one_past();
+        let low = left_word(&mut self.words, self.snapshot, level, place, *node);
+        let passed = count_at(&mut self.words, self.snapshot, level, 2 * place, low);
+        let high = right_word(&mut self.words, self.snapshot, level, place, *node);
+        if right { (high, passed) } else { (low, 0) }
     }
 
     #[inline(always)]

@@ -179,6 +179,15 @@ impl<A: Monoid, B: Monoid> Descend<A, B> for RestWalk<'_, A, B> {
     }
 
     #[inline(always)]
+    fn child_past(&mut self, level: u32, place: u32, node: &u64, right: bool) -> (u64, u32) {
+        let low = self.left_word(level, place, *node);
+        let passed = self.count_of_word(level, 2 * place, low);
+        let high = self.right_word(level, place, *node);
+        self.loaded.one_past();
+        if right { (high, passed) } else { (low, 0) }
+    }
+
+    #[inline(always)]
     fn count(&mut self, level: u32, place: u32, node: &u64) -> u32 {
         let count = self.count_of_word(level, place, *node);
         self.loaded.one_count();

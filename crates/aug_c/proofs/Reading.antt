@@ -83,6 +83,19 @@ module _ {X : Type 0} (told : SetFacts → ℕ → X) (keys : List ℕ) (before 
         asked = asked_on span_of a.most most first now next a.asked asked;
       }
 
+  -- four more, by one query
+  pub four_asked : (i most : ℕ) (now next : LookFacts) (out : List X) (p q r s : X) → i + 4 ≤ length keys → length keys ≤ length before → Asked i now out
+      → p ≡ told (set_of_look now) (get_or keys i 0) → q ≡ told (set_of_look now) (get_or keys (i + 1) 0) → r ≡ told (set_of_look now) (get_or keys (i + 2) 0) → s ≡ told (set_of_look now) (get_or keys (i + 3) 0)
+      → IsAsked span_of most now next → Asked (i + 4) next (set (set (set (set out i p) (i + 1) q) (i + 2) r) (i + 3) s)
+  four_asked i most now next out p q r s within room a ep eq er es asked =
+      let first = one_asked i most now next out p (omega (arith, within)) room a ep asked in
+      let stays = λ (k : ℕ). ap (λ (z : SetFacts). told z (get_or keys k 0)) (sym asked.same_set) in
+      let second = one_asked (i + 1) 0 next next (set out i p) q (omega (arith, within)) room first (eq ∙ stays (i + 1)) (asked_none span_of next) in
+      let two : i + 1 + 1 ≡ i + 2 = omega arith in let three : i + 2 + 1 ≡ i + 3 = omega arith in let four : i + 3 + 1 ≡ i + 4 = omega arith in
+      let third = one_asked (i + 2) 0 next next (set (set out i p) (i + 1) q) r (omega (arith, within)) room (subst (λ (n : ℕ). Asked n next (set (set out i p) (i + 1) q)) two second) (er ∙ stays (i + 2)) (asked_none span_of next) in
+      let fourth = one_asked (i + 3) 0 next next (set (set (set out i p) (i + 1) q) (i + 2) r) s (omega (arith, within)) room (subst (λ (n : ℕ). Asked n next (set (set (set out i p) (i + 1) q) (i + 2) r)) three third) (es ∙ stays (i + 3)) (asked_none span_of next) in
+      subst (λ (n : ℕ). Asked n next (set (set (set (set out i p) (i + 1) q) (i + 2) r) (i + 3) s)) four fourth
+
   -- all were asked for, or there was no room
   pub all_asked : (i : ℕ) (now : LookFacts) (out : List X) → length keys ≤ i → i ≤ length keys → length keys ≤ length before → Asked i now out → AnswersArray told keys before out first now (pos 0)
   all_asked i now out a b room done = let same : i ≡ length keys = omega (arith, a, b) in let all = subst (λ (n : ℕ). Asked n now out) same done in record {

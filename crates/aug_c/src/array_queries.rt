@@ -10,7 +10,7 @@ ghost use Rattle.aug_c.specs.ArrayCalls.{bit_of, AnswersArray, AsksAll};
 use crate::codes::{BAD_LENGTH, CLOSED, NONE, NOT_LOOKING};
 use crate::seat::{LookOf, Seat};
 use crate::user_handle::UserHandle;
-use aug_query::descent::{Has, Rank, Weight};
+use aug_query::descent::{Four, Has, Rank, Weight};
 use std::alloc::Global;
 
 // What is asked for each key of an array, and what is written of the answer.
@@ -20,6 +20,33 @@ trait Told<T> {
     fn tell(look: &mut LookOf, key: u32) -> T
         ensures answer { result ≡ told (set_of_look look.old) key }
         ensures asked { (most : ℕ) × IsAsked span_of most look.old look.new };
+
+    // The same for four keys, which go down together.
+    fn tell_four(look: &mut LookOf, p: u32, q: u32, r: u32, s: u32) -> (T, T, T, T)
+        ensures p { result.0 ≡ told (set_of_look look.old) p }
+        ensures q { result.1 ≡ told (set_of_look look.old) q }
+        ensures r { result.2 ≡ told (set_of_look look.old) r }
+        ensures s { result.3 ≡ told (set_of_look look.old) s }
+        ensures asked { (most : ℕ) × IsAsked span_of most look.old look.new };
+}
+
+// 1 or 0.
+#[inline(always)]
+fn bit(answer: bool) -> u8
+    ensures { result ≡ bit_of answer }
+{
+    if answer { 1 } else { 0 }
+}
+
+// The weight of a member, or `NONE`.
+#[inline(always)]
+fn weight(answer: Option<u32>) -> i64
+    ensures { result ≡ found answer }
+{
+    match answer {
+        Some(weight) => i64::from(weight),
+        None => NONE,
+    }
 }
 
 struct Ranked;
@@ -31,6 +58,11 @@ impl Told<u32> for Ranked {
     fn tell(look: &mut LookOf, key: u32) -> u32 {
         look.ask(Rank(key))
     }
+
+    #[inline(always)]
+    fn tell_four(look: &mut LookOf, p: u32, q: u32, r: u32, s: u32) -> (u32, u32, u32, u32) {
+        look.ask(Four(Rank(p), Rank(q), Rank(r), Rank(s)))
+    }
 }
 
 struct Found;
@@ -40,7 +72,13 @@ impl Told<u8> for Found {
 
     #[inline(always)]
     fn tell(look: &mut LookOf, key: u32) -> u8 {
-        if look.ask(Has(key)) { 1 } else { 0 }
+        bit(look.ask(Has(key)))
+    }
+
+    #[inline(always)]
+    fn tell_four(look: &mut LookOf, p: u32, q: u32, r: u32, s: u32) -> (u8, u8, u8, u8) {
+        let (p, q, r, s) = look.ask(Four(Has(p), Has(q), Has(r), Has(s)));
+        (bit(p), bit(q), bit(r), bit(s))
     }
 }
 
@@ -51,23 +89,41 @@ impl Told<i64> for Weighed {
 
     #[inline(always)]
     fn tell(look: &mut LookOf, key: u32) -> i64 {
-        match look.ask(Weight(key)) {
-            Some(weight) => i64::from(weight),
-            None => NONE,
-        }
+        weight(look.ask(Weight(key)))
+    }
+
+    #[inline(always)]
+    fn tell_four(look: &mut LookOf, p: u32, q: u32, r: u32, s: u32) -> (i64, i64, i64, i64) {
+        let (p, q, r, s) = look.ask(Four(Weight(p), Weight(q), Weight(r), Weight(s)));
+        (weight(p), weight(q), weight(r), weight(s))
     }
 }
 
-// Asks a look for each key.
+// Asks a look for each key, for four at a time while there are as many.
 fn tell_each<T: Copy, E: Told<T>>(look: &mut LookOf, keys: &[u32], out: &mut [T]) -> i64
     ensures { AnswersArray E.told keys.now out.old out.new look.old look.new result }
 {
     if out.len() < keys.len() {
         return BAD_LENGTH;
     }
-    for place in 0..keys.len() {
-        let answer = E::tell(look, keys[place]);
-        out[place] = answer;
+    let mut place = 0;
+    while keys.len() - place >= 4 {
+        let (p, q, r, s) = E::tell_four(
+            look,
+            keys[place],
+            keys[place + 1],
+            keys[place + 2],
+            keys[place + 3],
+        );
+        out[place] = p;
+        out[place + 1] = q;
+        out[place + 2] = r;
+        out[place + 3] = s;
+        place += 4;
+    }
+    for at in place..keys.len() {
+        let answer = E::tell(look, keys[at]);
+        out[at] = answer;
     }
     0
 }

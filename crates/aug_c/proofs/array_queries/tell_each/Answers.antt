@@ -1,16 +1,24 @@
-use Rattle.std.proofs.Common.{rules, ◌<◌, ◌≤◌, length}
-use Rattle.aug_c.proofs.Reading.{none_asked, one_asked, all_asked}
+use Rattle.std.proofs.Common.{rules, ◌<◌, ◌≤◌, length, arith}
+use Rattle.aug_c.proofs.Reading.{none_asked, one_asked, four_asked, all_asked}
 use Rattle.aug_c.proofs.array_queries.tell_each.Goals as goal
 
 pub loop-place-init : goal.loop-place-init
-loop-place-init g c = none_asked g.E.Told.told c.args.keys.now c.args.out.now c.args.look.now
+loop-place-init g c = record { within = omega arith; room = search rules; asked = none_asked g.E.Told.told c.args.keys.now c.args.out.now c.args.look.now }
 
 pub loop-place-preserved : goal.loop-place-preserved
 loop-place-preserved g c =
-    let keys = c.args.keys.now in let before = c.args.out.now in let room : length keys ≤ length before = search rules in let within : c.loop-place.place < length keys = search rules in
-    one_asked g.E.Told.told keys before c.args.look.now c.loop-place.place c.tell-answer.ensures.asked.0 c.loop-place.look c.tell-answer.new.look c.loop-place.out c.tell-answer.result within room c.loop-place.invariant c.tell-answer.ensures.answer c.tell-answer.ensures.asked.1
+    let inv = c.loop-place.invariant in let four = c.tell_four-p in let answers = four.ensures in
+    record {
+      within = omega (arith, inv.within, c.loop-place-test.true);
+      room = inv.room;
+      asked = four_asked g.E.Told.told c.args.keys.now c.args.out.now c.args.look.now c.loop-place.place answers.asked.0 c.loop-place.look four.new.look c.loop-place.out four.result.0 four.result.1 four.result.2 four.result.3
+          (omega (arith, inv.within, c.loop-place-test.true)) inv.room inv.asked answers.p answers.q answers.r answers.s answers.asked.1;
+    }
+
+pub loop-at-preserved : goal.loop-at-preserved
+loop-at-preserved g c =
+    let keys = c.args.keys.now in let within : c.loop-at.at < length keys = search rules in
+    one_asked g.E.Told.told keys c.args.out.now c.args.look.now c.loop-at.at c.tell-answer.ensures.asked.0 c.loop-at.look c.tell-answer.new.look c.loop-at.out c.tell-answer.result within c.loop-place.invariant.room c.loop-at.invariant c.tell-answer.ensures.answer c.tell-answer.ensures.asked.1
 
 pub returns : goal.returns
-returns g c =
-    let keys = c.args.keys.now in let before = c.args.out.now in let room : length keys ≤ length before = search rules in
-    all_asked g.E.Told.told keys before c.args.look.now c.loop-place.place c.loop-place.look c.loop-place.out c.loop-place-test.false c.loop-place.auto.place-end room c.loop-place.invariant
+returns g c = all_asked g.E.Told.told c.args.keys.now c.args.out.now c.args.look.now c.loop-at.at c.loop-at.look c.loop-at.out c.loop-at-test.false (c.loop-at.auto.at-end c.loop-place.invariant.within) c.loop-place.invariant.room c.loop-at.invariant

@@ -182,7 +182,7 @@ AUG_NODISCARD int64_t aug_pop_first(aug_user *user, aug_member *member);
 AUG_NODISCARD int64_t aug_pop_last(aug_user *user, aug_member *member);
 
 /* Puts n keys in, each by an update of its own, in their order. Answers how many were not there, or as aug_insert; or AUG_BAD_LENGTH if n
-   is more than 2^bits. Except after AUG_CLOSED, no update was made then. */
+   is more than 2^bits. Except after AUG_CLOSED, no update was made then. Keys that rise take least. */
 AUG_NODISCARD int64_t aug_insert_all(aug_user *user, const uint32_t *keys, size_t n);
 
 /* Takes n keys out. Answers how many were there, or as aug_insert_all. */

@@ -1,18 +1,20 @@
 -- One update after another.
-use Rattle.std.proofs.Common.{◌≡◌, ◌⊎◌, inl, inr, ◌+◌, ◌<◌, ◌≤◌, ◌++◌, ◌∙◌, ℕ, List, [], ◌∷◌, All, length, drop, get_or, pos, refl, sym, ap, subst, arith}
+use Rattle.std.proofs.Common.{◌≡◌, ◌⊎◌, inl, inr, ◌+◌, ◌-◌, ◌<◌, ◌≤◌, min, ◌++◌, ◌∙◌, ℕ, List, [], ◌∷◌, All, length, take, drop, get_or, flat_map, pos, refl, sym, ap, subst, arith}
 use Rattle.std.specs.Prelude.{ℤ, ◌^◌}
-use Rattle.std.proofs.lemmas.List.{length-append, get_or-drop, length-drop}
-use Rattle.std.proofs.lemmas.List.Elements.{All-get_or}
+use Rattle.std.proofs.lemmas.List.{append-nil, drop-drop, get_or-take, length-append, length-drop, length-take, take-take}
+use Rattle.std.proofs.lemmas.Grind.{flat_map-append}
 use Rattle.aug_trie.specs.Pass.{PassFacts}
-use Rattle.aug_trie.specs.Updates.{ComesTo}
+use Rattle.aug_trie.specs.UpdateBatches.{DoesBatch, DoesPart, no_part}
 use Rattle.aug_trie.specs.declared.updates.outcome.Outcome.{Outcome}
+use Rattle.aug_trie.specs.declared.updates.outcome.Outcome.TheVariants.{Refused}
 use Rattle.aug_trie.specs.declared.updates.request.Request.{Request}
-use Rattle.aug_live.specs.LiveHandles.{HandleFacts, Follows, Makes}
+use Rattle.aug_trie.specs.declared.updates.request.Request.TheVariants.{Insert}
+use Rattle.aug_live.specs.LiveHandles.{HandleFacts, Follows, IsSomeOf, Makes}
 use Rattle.aug_live.specs.declared.error.Busy.{Busy}
 use Rattle.aug_live.specs.declared.error.TryError.{TryError}
 use Rattle.aug_live.specs.declared.error.TryError.TheVariants as tried
 use Rattle.aug_c.specs.Codes as codes
-use Rattle.aug_c.specs.ArrayCalls.{HasLengths, InTurn, MakesEach, MakesOne, UpdatesAllFree, change_by, changes}
+use Rattle.aug_c.specs.ArrayCalls.{AsksFrom, HasLengths, InTurn, MakesEach, MakesSome, UpdatesAllFree, change_by, changes}
 use Rattle.aug_c.specs.UserCalls.{refusal_code}
 use Rattle.aug_c.specs.declared.progress.Progress.{Progress}
 use Rattle.aug_c.specs.inside.Refusals.{refusal_of}
@@ -21,77 +23,131 @@ pub changes-more : (all : List Outcome) (done : Outcome) → changes (all ++ don
 changes-more [] done = omega arith
 changes-more (first ∷ more) done = let e = changes-more more done in omega (arith, e)
 
--- one more step, of the next key
-pub in_turn-more : {S : Type 0} (does : ℕ → ℕ → Outcome → S → S → Type 0) (place : ℕ) (keys : List ℕ) (all : List Outcome) (done : Outcome) (p q r : S) → length all < length keys → InTurn does place keys all p q
-    → does (place + length all) (get_or keys (length all) 0) done q r → InTurn does place keys (all ++ done ∷ []) p r
-in_turn-more does place [] [] done p q r short went step = absurd (omega (arith, short))
-in_turn-more does place [] (d ∷ ds) done p q r short went step = absurd went
-in_turn-more does place (k ∷ ks) [] done p q r short same step =
-    let here : place + 0 ≡ place = omega arith in (r, subst (λ z. does place k done z r) same (subst (λ (n : ℕ). does n k done q r) here step), refl)
-in_turn-more does place (k ∷ ks) (d ∷ ds) done p q r short went step =
-    let next : place + length (d ∷ ds) ≡ place + 1 + length ds = omega arith in
-    (went.0, went.1, in_turn-more does (place + 1) ks ds done went.0 q r (omega (arith, short)) went.2 (subst (λ (n : ℕ). does n (get_or ks (length ds) 0) done q r) next step))
+pub changes-append : (all more : List Outcome) → changes (all ++ more) ≡ changes all + changes more
+changes-append [] more = omega arith
+changes-append (first ∷ all) more = let e = changes-append all more in omega (arith, e)
+
+abbrev pub outcomes_in : List (List Outcome) → List Outcome
+outcomes_in batches = flat_map (λ done. done) batches
+
+outcomes-more : (batches : List (List Outcome)) (done : List Outcome) → outcomes_in (batches ++ done ∷ []) ≡ outcomes_in batches ++ done
+outcomes-more batches done = flat_map-append (λ (d : List Outcome). d) batches (done ∷ []) ∙ ap (λ (z : List Outcome). outcomes_in batches ++ z) (append-nil done)
+
+-- one more step, of the next keys
+pub in_turn-more : {S : Type 0} (does : ℕ → List ℕ → List Outcome → S → S → Type 0) (place : ℕ) (keys : List ℕ) (batches : List (List Outcome)) (done : List Outcome) (p q r : S) → length (outcomes_in batches) + length done ≤ length keys → InTurn does place keys batches p q
+    → does (place + length (outcomes_in batches)) (take (length done) (drop (length (outcomes_in batches)) keys)) done q r → InTurn does place keys (batches ++ done ∷ []) p r
+in_turn-more does place keys [] done p q r room same step =
+    let here : place + 0 ≡ place = omega arith in (r, omega (arith, room), subst (λ z. does place (take (length done) keys) done z r) same (subst (λ (n : ℕ). does n (take (length done) keys) done q r) here step), refl)
+in_turn-more does place keys (d ∷ ds) done p q r room went step =
+    let long = length-append d (outcomes_in ds) in let rest = length-drop (length d) keys in let fits = went.1 in
+    let next : place + length (outcomes_in (d ∷ ds)) ≡ place + length d + length (outcomes_in ds) = omega (arith, long) in
+    let there : drop (length (outcomes_in (d ∷ ds))) keys ≡ drop (length (outcomes_in ds)) (drop (length d) keys) = ap (λ (n : ℕ). drop n keys) long ∙ sym (drop-drop (length (outcomes_in ds)) (length d) keys) in (
+      went.0,
+      went.1,
+      went.2,
+      in_turn-more does (place + length d) (drop (length d) keys) ds done went.0 q r (omega (arith, room, long, rest, fits)) went.3
+          (subst (λ (z : ℕ × List ℕ). does z.0 (take (length done) z.1) done q r) (λ i. (next i, there i)) step),
+    )
 
 -- why an update that a live trie did not make was not made
 pub again_or_closed : (cause : TryError Busy) → (refusal_code (refusal_of cause) ≡ codes.again) ⊎ (refusal_code (refusal_of cause) ≡ codes.closed)
 again_or_closed (tried.Again missed) = inl refl
 again_or_closed (tried.Refused cause) = inr refl
 
+-- what a batch came to stands in the first places
+first_outcomes : {requests : List Request} {keys : List ℕ} {outcomes : List Outcome} {now new : HandleFacts} (count : ℕ) → length keys ≡ count → Makes count (DoesBatch requests keys outcomes) now new → Makes count (DoesBatch requests keys (take count outcomes)) now new
+first_outcomes {requests} {keys} {outcomes} {now} {new} count long m = record {
+  start = m.start;
+  follows = m.follows;
+  same_era = m.same_era;
+  done = let d = m.done in record {
+    parts = d.parts;
+    one_each = d.one_each;
+    each = λ i within. subst (λ (z : Outcome). DoesPart (get_or requests i Insert) (get_or keys i 0) z (get_or d.parts i no_part) m.start.half new.half) (sym (get_or-take count outcomes i Refused (omega (arith, within, long)))) (d.each i within);
+    accepted = d.accepted;
+    rest = d.rest;
+    steps = d.steps;
+    no_other = d.no_other;
+    few_steps = d.few_steps;
+  };
+  steps = m.steps;
+  goes_on = m.goes_on;
+  lanes = m.lanes;
+  made = m.made;
+}
+
 module _ (asked : ℕ → Request) (keys : List ℕ) (before : Progress) (old : HandleFacts) where
-  -- updates were made in turn up to an index
-  pub record Came (place changed : ℕ) (now : HandleFacts) : Type 0 where
-    pub done : List Outcome
-    pub in_turn : InTurn (MakesOne asked) before.made (drop before.made keys) done old now
-    pub made : place ≡ before.made + length done
-    pub changed_is : changed ≡ before.changed + changes done
-    pub few : changed ≤ place
+  -- updates were made in turn, as many as the progress says
+  pub record Came (so_far : Progress) (now : HandleFacts) : Type 0 where
+    pub batches : List (List Outcome)
+    pub in_turn : InTurn (MakesSome asked) before.made (drop before.made keys) batches old now
+    pub made : so_far.made ≡ before.made + length (outcomes_in batches)
+    pub changed : so_far.changed ≡ before.changed + changes (outcomes_in batches)
+    pub few : so_far.changed ≤ so_far.made
+    pub within : so_far.made ≤ length keys
     pub bits : now.half.round.bits ≡ old.half.round.bits
 
-  pub came_none : before.changed ≤ before.made → Came before.made before.changed old
-  came_none few = record { done = []; in_turn = refl; made = omega arith; changed_is = omega arith; few = few; bits = refl }
+  pub came_none : before.changed ≤ before.made → before.made ≤ length keys → Came before old
+  came_none few within = record { batches = []; in_turn = refl; made = omega arith; changed = omega arith; few = few; within = within; bits = refl }
 
-  pub came_more : (place changed change : ℕ) (request : Request) (done : Outcome) (now next : HandleFacts) → place < length keys → Came place changed now → change ≡ change_by done → change ≤ 1
-      → request ≡ asked place → Makes 1 (λ a b. ComesTo request (get_or keys place 0) done a.knows b.knows) now next → Came (place + 1) (changed + change) next
-  came_more place changed change request done now next within came is one wanted makes =
-      let step : MakesOne asked place (get_or keys place 0) done now next = subst (λ (r : Request). Makes 1 (λ a b. ComesTo r (get_or keys place 0) done a.knows b.knows) now next) wanted makes in
-      let all = came.done in let made = came.made in let counts = came.changed_is in let few = came.few in
-      let long = length-append all (done ∷ []) in let more = changes-more all done in let rest = length-drop before.made keys in
-      let there : get_or (drop before.made keys) (length all) 0 ≡ get_or keys place 0 = get_or-drop before.made keys (length all) 0 ∙ ap (λ (n : ℕ). get_or keys n 0) (sym made) in
-      let here : MakesOne asked (before.made + length all) (get_or (drop before.made keys) (length all) 0) done now next =
-      subst (λ (z : ℕ × ℕ). MakesOne asked z.0 z.1 done now next) (λ i. (made i, sym there i)) step in record {
-        done = all ++ done ∷ [];
-        in_turn = in_turn-more (MakesOne asked) before.made (drop before.made keys) all done old now next (omega (arith, within, made, rest)) came.in_turn here;
-        made = omega (arith, made, long);
-        changed_is = omega (arith, counts, more, is);
-        few = omega (arith, few, one);
-        bits = ap (λ (z : PassFacts). z.round.bits) step.goes_on.same ∙ step.follows.bits ∙ came.bits;
+  pub came_more : {requests : List Request} {outcomes : List Outcome} {now new : HandleFacts} (so_far : Progress) (count change : ℕ) → Came so_far now → so_far.made + count ≤ length keys → count ≤ length outcomes → AsksFrom asked so_far.made count requests
+      → change ≡ changes (take count outcomes) → change ≤ count → Makes count (DoesBatch requests (take count (drop so_far.made keys)) outcomes) now new → Came (record { made = so_far.made + count; changed = so_far.changed + change }) new
+  came_more {requests} {outcomes} {now} {new} so_far count change came room enough asks is few makes =
+      let all = came.batches in let done : List Outcome = take count outcomes in let made = came.made in let counts = came.changed in let low = came.few in
+      let long : length done ≡ count = (let e = length-take count outcomes in omega (arith, e, enough)) in
+      let more = ap (λ (z : List Outcome). length z) (outcomes-more all done) ∙ length-append (outcomes_in all) done in
+      let changed = ap changes (outcomes-more all done) ∙ changes-append (outcomes_in all) done in
+      let rest = length-drop before.made keys in
+      let there : drop so_far.made keys ≡ drop (length (outcomes_in all)) (drop before.made keys) = ap (λ (n : ℕ). drop n keys) made ∙ sym (drop-drop (length (outcomes_in all)) before.made keys) in
+      let covered : length (take count (drop so_far.made keys)) ≡ count = (let e = length-take count (drop so_far.made keys) in let f = length-drop so_far.made keys in omega (arith, e, f, room)) in
+      let step : MakesSome asked so_far.made (take count (drop so_far.made keys)) done now new = record {
+        requests = requests;
+        asks = subst (λ (z : ℕ). AsksFrom asked so_far.made z requests) (sym covered) asks;
+        makes = subst (λ (z : ℕ). Makes z (DoesBatch requests (take count (drop so_far.made keys)) done) now new) (sym covered) (first_outcomes count covered makes);
+      } in record {
+        batches = all ++ done ∷ [];
+        in_turn = in_turn-more (MakesSome asked) before.made (drop before.made keys) all done old now new (omega (arith, made, long, rest, room)) came.in_turn
+            (subst (λ (z : ℕ × List ℕ × ℕ). MakesSome asked z.0 (take z.2 z.1) done now new) (λ i. (made i, there i, sym long i)) step);
+        made = omega (arith, made, more, long);
+        changed = omega (arith, counts, changed, is);
+        few = omega (arith, low, few);
+        within = room;
+        bits = ap (λ (z : PassFacts). z.round.bits) makes.goes_on.same ∙ makes.follows.bits ∙ came.bits;
       }
 
+  -- a batch of the next keys was made
+  pub came_next : {requests : List Request} {outcomes : List Outcome} {now new : HandleFacts} (so_far : Progress) (place end few count change : ℕ) → Came so_far now → place ≤ so_far.made → so_far.made ≤ place → place < length keys → end ≡ min (length keys) (place + 32)
+      → few ≡ min 32 (length keys - place) → AsksFrom asked place few requests → length outcomes ≡ 32 → IsSomeOf (length (take (end - place) (drop place keys))) count → change ≡ changes (take count outcomes) → change ≤ length (take count outcomes)
+      → Makes count (DoesBatch requests (take count (take (end - place) (drop place keys))) outcomes) now new → Came (record { made = so_far.made + count; changed = so_far.changed + change }) new × (place + 1 ≤ so_far.made + count)
+  came_next {requests} {outcomes} {now} {new} so_far place end few count change came le ge inside ends fews asks long some is low makes =
+      let here : place ≡ so_far.made = omega (arith, le, ge) in let t = length-take (end - place) (drop place keys) in let d = length-drop place keys in let all = some.0 in let first = length-take count outcomes in
+      let enough : count ≤ end - place = omega (arith, t, d, all) in
+      let one : 0 < count = some.1 (omega (arith, t, d, ends, inside)) in (
+        came_more so_far count change came (omega (arith, here, t, d, all)) (omega (arith, long, enough, ends)) (λ i below. asks i (omega (arith, below, fews, enough, ends, inside)) ∙ ap (λ (z : ℕ). asked (z + i)) here) is (omega (arith, low, first))
+            (subst (λ (z : List ℕ). Makes count (DoesBatch requests z outcomes) now new) (take-take count (end - place) (drop place keys) enough ∙ ap (λ (z : ℕ). take count (drop z keys)) here) makes),
+        omega (arith, here, one),
+      )
+
   -- all were made
-  pub came_all : (place changed : ℕ) (now : HandleFacts) (after : Progress) → place ≡ length keys → after.made ≡ length keys → after.changed ≡ changed → Came place changed now → MakesEach asked keys before after old now (pos 0)
-  came_all place changed now after all made counts came = record {
-    done = came.done;
+  pub came_all : (so_far : Progress) (now : HandleFacts) → length keys ≤ so_far.made → Came so_far now → MakesEach asked keys before so_far old now (pos 0)
+  came_all so_far now all came = record {
+    batches = came.batches;
     last = now;
     in_turn = came.in_turn;
-    made = made ∙ sym all ∙ came.made;
-    changed = counts ∙ came.changed_is;
-    ends = inl (refl, made, refl);
+    made = came.made;
+    changed = came.changed;
+    ends = inl (refl, (let within = came.within in omega (arith, within, all)), refl);
   }
 
-  -- the key of the next one is below the bound still
-  pub next_below : (place changed : ℕ) (now : HandleFacts) → place < length keys → All (λ k. k < 2 ^ old.half.round.bits) keys → Came place changed now → get_or keys place 0 < 2 ^ now.half.round.bits
-  next_below place changed now within below came = subst (λ (n : ℕ). get_or keys place 0 < 2 ^ n) (sym came.bits) (All-get_or (λ (k : ℕ). k < 2 ^ old.half.round.bits) keys place 0 within below)
-
-  -- the next one was not made
-  pub came_so_far : (place changed : ℕ) (now new : HandleFacts) (after : Progress) (code : ℤ) (cause : TryError Busy) → place < length keys → after.made ≡ place → after.changed ≡ changed → code ≡ refusal_code (refusal_of cause)
-      → Follows now new → Came place changed now → MakesEach asked keys before after old new code
-  came_so_far place changed now new after code cause within made counts says follows came = record {
-    done = came.done;
+  -- the next ones were not made
+  pub came_so_far : (so_far : Progress) (now new : HandleFacts) (code : ℤ) (cause : TryError Busy) → so_far.made < length keys → code ≡ refusal_code (refusal_of cause) → Follows now new → Came so_far now → MakesEach asked keys before so_far old new code
+  came_so_far so_far now new code cause within says follows came = record {
+    batches = came.batches;
     last = now;
     in_turn = came.in_turn;
-    made = made ∙ came.made;
-    changed = counts ∙ came.changed_is;
-    ends = inr (subst (λ (z : ℤ). (z ≡ codes.again) ⊎ (z ≡ codes.closed)) (sym says) (again_or_closed cause), omega (arith, within, made), follows);
+    made = came.made;
+    changed = came.changed;
+    ends = inr (subst (λ (z : ℤ). (z ≡ codes.again) ⊎ (z ≡ codes.closed)) (sym says) (again_or_closed cause), within, follows);
   }
 
 module _ (asked : ℕ → Request) (keys : List ℕ) (weights : ℕ) (before : Progress) (old : HandleFacts) where

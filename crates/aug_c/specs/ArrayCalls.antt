@@ -3,12 +3,13 @@
 -- (`AsksAll`), and a list of members is written from the first place on (`ListsKeys`). In the example insertions of 0, 5 and 1 answer -3, and nothing
 -- changes; those of 0, 0 and 2 make 3 updates, of which 2 changed the set. In a look the ranks of 4 and 0 are written as 2 and 0, and `from_of` gives
 -- only 3 from 2 on.
-use Rattle.std.specs.Prelude.{◌≡◌, ◌⊎◌, ℕ, ◌+◌, ◌^◌, ◌<◌, ◌≤◌, ℤ, pos, Bool, true, false, List, [], ◌∷◌, ◌++◌, All, length, map, filter, take, drop, min, nat_le}
+use Rattle.std.specs.Prelude.{◌≡◌, ◌⊎◌, ℕ, ◌+◌, ◌^◌, ◌<◌, ◌≤◌, ℤ, pos, Bool, true, false, List, [], ◌∷◌, ◌++◌, All, length, map, filter, take, drop, min, nat_le, get_or, flat_map}
 use Rattle.aug_model.specs.Keys.{SetFacts, list_of}
-use Rattle.aug_trie.specs.Updates.{ComesTo}
+use Rattle.aug_trie.specs.UpdateBatches.{DoesBatch}
 use Rattle.aug_trie.specs.declared.updates.outcome.Outcome.{Outcome}
 use Rattle.aug_trie.specs.declared.updates.outcome.Outcome.TheVariants.{Accepted, Replaced}
 use Rattle.aug_trie.specs.declared.updates.request.Request.{Request}
+use Rattle.aug_trie.specs.declared.updates.request.Request.TheVariants.{Insert}
 use Rattle.aug_live.specs.LiveHandles.{HandleFacts, LookFacts, Follows, Makes, IsAsked, set_of_look}
 use Rattle.aug_c.specs.declared.progress.Progress.{Progress}
 use Rattle.aug_c.specs.declared.seat.Seat.{Seat}
@@ -27,27 +28,32 @@ abbrev pub changes : List Outcome → ℕ
 changes [] = 0
 changes (done ∷ more) = change_by done + changes more
 
--- one step for each of the keys in turn, as far as there are outcomes; the first key has the index `place`
-abbrev pub InTurn : {S : Type 0} → (ℕ → ℕ → Outcome → S → S → Type 0) → ℕ → List ℕ → List Outcome → S → S → Type 0
-InTurn does place keys [] old new = new ≡ old
-InTurn does place [] (done ∷ more) old new = ⊥
-InTurn {S} does place (key ∷ keys) (done ∷ more) old new = (next : S) × does place key done old next × InTurn does (place + 1) keys more next new
+-- so many requests are asked at the indices from this one on
+abbrev pub AsksFrom : (ℕ → Request) → ℕ → ℕ → List Request → Type 0
+AsksFrom asked place count requests = (i : ℕ) → i < count → get_or requests i Insert ≡ asked (place + i)
 
--- a user makes one update, the one that is asked at the index of the key
-abbrev pub MakesOne : (ℕ → Request) → ℕ → ℕ → Outcome → HandleFacts → HandleFacts → Type 0
-MakesOne asked place key done old new = Makes 1 (λ a b. ComesTo (asked place) key done a.knows b.knows) old new
+-- one step for some of the next keys in turn, as far as there are outcomes; the first key has the index `place`
+abbrev pub InTurn : {S : Type 0} → (ℕ → List ℕ → List Outcome → S → S → Type 0) → ℕ → List ℕ → List (List Outcome) → S → S → Type 0
+InTurn does place keys [] old new = new ≡ old
+InTurn {S} does place keys (done ∷ more) old new = (next : S) × (length done ≤ length keys) × does place (take (length done) keys) done old next × InTurn does (place + length done) (drop (length done) keys) more next new
+
+-- a user makes updates of some keys in one batch, those that are asked at the indices of the keys
+pub record MakesSome (asked : ℕ → Request) (place : ℕ) (keys : List ℕ) (done : List Outcome) (old new : HandleFacts) : Type 0 where
+  pub requests : List Request
+  pub asks : AsksFrom asked place (length keys) requests
+  pub makes : Makes (length keys) (DoesBatch requests keys done) old new
 
 -- why updates that were begun have ended: all are made, or the next one was not, and then the user follows on what it knew
 abbrev pub EndsAt : ℕ → ℕ → HandleFacts → HandleFacts → ℤ → Type 0
 EndsAt all made last new code = ((code ≡ pos 0) × (made ≡ all) × (new ≡ last)) ⊎ (((code ≡ codes.again) ⊎ (code ≡ codes.closed)) × (made < all) × Follows last new)
 
--- updates for the keys from the index on that the progress had come to: how far they came, what they came to, and why they ended
+-- updates for the keys from the index on that the progress had come to, in batches: how far they came, what they came to, and why they ended
 pub record MakesEach (asked : ℕ → Request) (keys : List ℕ) (before after : Progress) (old new : HandleFacts) (code : ℤ) : Type 0 where
-  pub done : List Outcome
+  pub batches : List (List Outcome)
   pub last : HandleFacts
-  pub in_turn : InTurn (MakesOne asked) before.made (drop before.made keys) done old last
-  pub made : after.made ≡ before.made + length done
-  pub changed : after.changed ≡ before.changed + changes done
+  pub in_turn : InTurn (MakesSome asked) before.made (drop before.made keys) batches old last
+  pub made : after.made ≡ before.made + length (flat_map (λ done. done) batches)
+  pub changed : after.changed ≡ before.changed + changes (flat_map (λ done. done) batches)
   pub ends : EndsAt (length keys) after.made last new code
 
 -- there are as many weights as keys, no more of them than there are keys of so many bits, and the progress is one over them

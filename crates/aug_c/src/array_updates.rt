@@ -1,8 +1,8 @@
 //! The updates of a user for arrays of keys.
-ghost use Rattle.std.specs.Prelude.{◌≡◌, ◌↔◌, ◌^◌, ◌<◌, ◌≤◌, length, get_or, All, true, IsNone};
+ghost use Rattle.std.specs.Prelude.{◌≡◌, ◌↔◌, ◌^◌, ◌<◌, ◌≤◌, ◌-◌, length, min, get_or, All, true, IsNone};
 ghost use Rattle.aug_trie.specs.declared.updates.request.Request.TheVariants as request;
 ghost use Rattle.aug_c.specs.Handles.{user_of, On};
-ghost use Rattle.aug_c.specs.ArrayCalls.{change_by, MakesEach, UpdatesAll, UpdatesAllFree};
+ghost use Rattle.aug_c.specs.ArrayCalls.{change_by, changes, AsksFrom, MakesEach, UpdatesAll, UpdatesAllFree};
 ghost use Rattle.aug_c.specs.inside.KeyRequests.{request_by, requests_of};
 
 use crate::codes::{BAD_KEY, BAD_LENGTH, CLOSED, LOOKING};
@@ -63,7 +63,35 @@ fn changed_by(done: Outcome) -> u32
     }
 }
 
-// Makes an update for each key from the index on that the progress has come to, until one is not made.
+// How many keys one batch has at most.
+const BATCH: usize = 32;
+
+// How many of the outcomes of a batch are of a change.
+fn changed_in(outcomes: &[Outcome]) -> u32
+    requires { length outcomes.now ≤ 32 }
+    ensures value { result ≡ changes outcomes.now }
+    ensures few { result ≤ length outcomes.now }
+{
+    let mut changed = 0;
+    for place in 0..outcomes.len() {
+        changed += changed_by(outcomes[place]);
+    }
+    changed
+}
+
+// What is asked of the keys of a batch, whose first weight has this index.
+fn requests_from(each: Each, weights: &[u32], first: usize) -> [Request; BATCH]
+    requires { first < length weights.now }
+    ensures { AsksFrom (requests_of each weights.now) first (min 32 (length weights.now - first)) result }
+{
+    let mut requests = [each.request(0); BATCH];
+    for place in 0..BATCH.min(weights.len() - first) {
+        requests[place] = each.request(weights[first + place]);
+    }
+    requests
+}
+
+// Makes an update for each key from the index on that the progress has come to, in batches, until one is not made.
 fn update_each(
     access: &mut AccessOf,
     each: Each,
@@ -78,28 +106,24 @@ fn update_each(
     requires changed { before.changed ≤ before.made }
     ensures { MakesEach (requests_of each weights.now) keys.now before result.0 access.old access.new result.1 }
 {
-    let mut changed = before.changed;
+    let mut so_far = before;
     for place in before.made..keys.len() as u32 {
-        let index = place as usize;
-        let request = each.request(weights[index]);
-        match access.try_update(keys[index], request) {
-            Ok(done) => changed += changed_by(done),
-            Err(cause) => {
-                let so_far = Progress {
-                    made: place,
-                    changed,
-                };
-                return (so_far, Refusal::of(cause).code());
+        if place < so_far.made {
+            continue;
+        }
+        let first = place as usize;
+        let next = &keys[first..keys.len().min(first + BATCH)];
+        let requests = requests_from(each, weights, first);
+        let mut outcomes = [Outcome::Refused; BATCH];
+        match access.try_update_all(next, &requests, &mut outcomes) {
+            Ok(count) => {
+                so_far.made += count as u32;
+                so_far.changed += changed_in(&outcomes[..count]);
             }
+            Err(cause) => return (so_far, Refusal::of(cause).code()),
         }
     }
-    (
-        Progress {
-            made: keys.len() as u32,
-            changed,
-        },
-        0,
-    )
+    (so_far, 0)
 }
 
 // Whether the lengths and the progress are those of a call for so many keys.

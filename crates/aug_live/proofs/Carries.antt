@@ -1,7 +1,7 @@
 -- What follows on what: places of a lane, one after another.
-use Rattle.std.proofs.Common.{◌≡◌, ◌⊎◌, inl, inr, ℕ, ◌+◌, List, [], ◌∷◌, ◌++◌, true, false, sym, refl, ap, ◌∙◌, subst, arith}
+use Rattle.std.proofs.Common.{◌≡◌, ◌⊎◌, inl, inr, ℕ, ◌+◌, List, [], ◌∷◌, ◌++◌, length, min, take, true, false, sym, refl, ap, ◌∙◌, subst, arith}
 use Rattle.std.specs.Prelude.{Option, Some, Result, Ok, Err, IfOk, IfErr}
-use Rattle.std.proofs.lemmas.List.{append-nil}
+use Rattle.std.proofs.lemmas.List.{append-nil, length-take}
 use mathlib.Core.Logic.{dite}
 use native.Mathlib.Decide.{ℕ_discrete}
 use Rattle.aug_core.specs.Cuts.{Cut, pairs_of_cut}
@@ -11,6 +11,8 @@ use Rattle.aug_trie.specs.Chains.{Chapter, BeginsWith, IsPart}
 use Rattle.aug_trie.specs.History.{IsHistory, last_cut}
 use Rattle.aug_trie.specs.Knowledge.{Knowledge}
 use Rattle.aug_trie.specs.Updates.{ComesTo}
+use Rattle.aug_trie.specs.Owned.{SomeUpdates}
+use Rattle.aug_model.specs.declared.summary.Summary.{Summary}
 use Rattle.aug_trie.specs.declared.updates.request.Request.{Request}
 use Rattle.aug_trie.specs.declared.updates.request.Request.TheVariants as asked
 use Rattle.aug_trie.specs.declared.updates.outcome.Outcome.{Outcome}
@@ -239,6 +241,12 @@ worked_here lane b works rounds accepts = record {
   at_rest = λ rests. let clash : true ≡ false = sym works ∙ rests in cc;
   accepts = accepts;
 }
+
+-- so many updates of a batch were made
+pub some_made : {A B : Type 0} {summary_of : List (ℕ × ℕ) → Summary A B} {requests : List Request} {before after : List Outcome} {old new : PassFacts} (keys : List ℕ) (count left : ℕ) → count ≡ min (length keys) left
+    → SomeUpdates summary_of requests (take count keys) before after old new → (steps : ℕ) × GoesOn count steps old new
+some_made {old = old} {new = new} keys count left is made = let few = length-take count keys in let all : length (take count keys) ≡ count = omega (arith, is, few) in
+    (made.goes_on.0, subst (λ (z : ℕ). GoesOn z made.goes_on.0 old new) all made.goes_on.1)
 
 -- one whose pass learned something
 pub learnt_follows : (steps : ℕ) (a : HandleFacts) (b : PassFacts) → IsPrefix a.half.knows.history b.knows.history → GoesOn 0 steps a.half b → Follows a (record a { half = b })

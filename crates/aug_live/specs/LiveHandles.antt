@@ -61,6 +61,10 @@ pub record Makes (updates : ℕ) (does : PassFacts → PassFacts → Type 0) (ol
   pub lanes : new.lanes ≡ start.lanes
   pub made : new.made ≡ start.made ++ dated new.era (added start.half new.half)
 
+-- so many of some, and not none if there are some
+abbrev pub IsSomeOf : ℕ → ℕ → Type 0
+IsSomeOf all count = (count ≤ all) × (0 < all → 0 < count)
+
 -- a handle of a trie, by its table and its lanes, in the first round over this set; it knows no update
 pub record IsNew (table : TableId) (lanes : List TableId) (set : SetFacts) (updates : ℕ) (handle : HandleFacts) : Type 0 where
   pub of_trie : handle.half.round.table ≡ table

@@ -1,5 +1,5 @@
 //! The end of a lane that a thread works with.
-ghost use Rattle.std.specs.Prelude.{◌≡◌, ◌≢◌, ℕ, ◌^◌, ◌<◌, IfOk, IfErr};
+ghost use Rattle.std.specs.Prelude.{◌≡◌, ◌≢◌, ℕ, ◌^◌, ◌<◌, ◌≤◌, All, length, take, IfOk, IfErr};
 ghost use Rattle.std.specs.Bool.{OnTrue, OnFalse};
 ghost use Rattle.aug_trie.specs.Knowledge.{insertion, removal};
 ghost use Rattle.aug_trie.specs.declared.updates.request.Request.TheVariants as asked;
@@ -7,12 +7,13 @@ ghost use Rattle.aug_trie.specs.Updates.{AcceptedUpdate, RefusedUpdate, ComesTo,
 ghost use Rattle.aug_trie.specs.Snapshot.{snapshot_cut};
 ghost use Rattle.aug_trie.specs.Chains.{IsPart};
 ghost use Rattle.aug_trie.specs.Note.{chain_of_note};
+ghost use Rattle.aug_trie.specs.UpdateBatches.{DoesBatch};
 ghost use Rattle.aug_trie.specs.Pass.{chain_of};
 ghost use Rattle.aug_trie.specs.Pops.{popped, pop_updates, Pops};
 ghost use Rattle.aug_model.specs.Folds.{summary_of};
 ghost use Rattle.aug_monoid.specs.Extent.{extent_parts};
 ghost use Rattle.aug_live.specs.LiveErrors.{IfRefused};
-ghost use Rattle.aug_live.specs.LiveHandles.{Follows, Makes, handle_of, note_at};
+ghost use Rattle.aug_live.specs.LiveHandles.{Follows, IsSomeOf, Makes, handle_of, note_at};
 
 use crate::desk_end::DeskEnd;
 use crate::end::End;
@@ -191,6 +192,66 @@ impl<A: Monoid, B: Monoid> Handle<A, B> {
         }
     }
 
+    /// Makes an update of each of the first keys by the request that has its index, puts what it came to into the place with its index, and tells how many
+    /// keys these are: at least one if there is one, and as many as the lane has updates left. Each is accepted or refused by itself, and all of them show
+    /// in each later look. Of rising keys each node above some of them is brought up to its children once, and not for each key.
+    pub fn update_all<R: Wait>(
+        &mut self,
+        rt: &R,
+        keys: &[u32],
+        requests: &[Request],
+        outcomes: &mut [Outcome],
+    ) -> Result<usize, LiveError>
+        requires keys { All (λ k. k < 2 ^ self.old.half.round.bits) keys.now }
+        requires requests { length keys.now ≤ length requests.now }
+        requires outcomes { length keys.now ≤ length outcomes.old }
+        ensures made { IfOk result (λ count. Makes count (DoesBatch requests.now (take count keys.now) outcomes.new) self.old self.new) }
+        ensures some { IfOk result (λ count. IsSomeOf (length keys.now) count) }
+        ensures not_made { IfErr result (λ _. Follows self.old self.new) }
+        ensures refused { IfErr result (λ cause. cause ≢ LiveError.NoLane) }
+    {
+        for _ in rt.forever() {
+            let obstacle = match self.attempt_all(keys, requests, outcomes) {
+                Ok(count) => return Ok(count),
+                Err(obstacle) => obstacle,
+            };
+            match self.past(&Waits(rt), obstacle) {
+                Ok(()) => {}
+                Err(TryError::Refused(cause)) => return Err(cause),
+                Err(TryError::Again(never)) => match never {},
+            }
+        }
+        unreachable!()
+    }
+
+    /// The same, and waits for nobody, as `try_update`.
+    pub fn try_update_all(
+        &mut self,
+        keys: &[u32],
+        requests: &[Request],
+        outcomes: &mut [Outcome],
+    ) -> Result<usize, TryError<Busy>>
+        requires keys { All (λ k. k < 2 ^ self.old.half.round.bits) keys.now }
+        requires requests { length keys.now ≤ length requests.now }
+        requires outcomes { length keys.now ≤ length outcomes.old }
+        ensures made { IfOk result (λ count. Makes count (DoesBatch requests.now (take count keys.now) outcomes.new) self.old self.new) }
+        ensures some { IfOk result (λ count. IsSomeOf (length keys.now) count) }
+        ensures not_made { IfErr result (λ _. Follows self.old self.new) }
+        ensures refused { IfErr result (IfRefused (λ cause. cause ≢ LiveError.NoLane)) }
+    {
+        let obstacle = match self.attempt_all(keys, requests, outcomes) {
+            Ok(count) => return Ok(count),
+            Err(obstacle) => obstacle,
+        };
+        if let Err(cause) = self.past(&Tries, obstacle) {
+            return Err(busy(cause));
+        }
+        match self.attempt_all(keys, requests, outcomes) {
+            Ok(count) => Ok(count),
+            Err(obstacle) => Err(still_in_the_way(obstacle)),
+        }
+    }
+
     /// Takes a snapshot to query. The look owns the handle, and `Look::done` gives it back; after a refusal it comes back at once. As
     /// long as the look exists it holds its lane: updates and looks of others continue, and a roll-over waits for it.
     pub fn look<R: Wait>(self, rt: &R) -> Result<Look<A, B>, (Handle<A, B>, LiveError)>
@@ -314,6 +375,35 @@ impl<A: Monoid, B: Monoid> Handle<A, B> {
             }
         };
         let (lane, done) = lane.update(k, request);
+        self.end = Some(out.put(lane));
+        done
+    }
+
+    // Makes updates of the first keys, with the same exceptions.
+    fn attempt_all(
+        &mut self,
+        keys: &[u32],
+        requests: &[Request],
+        outcomes: &mut [Outcome],
+    ) -> Result<usize, Obstacle>
+        requires keys { All (λ k. k < 2 ^ self.old.half.round.bits) keys.now }
+        requires requests { length keys.now ≤ length requests.now }
+        requires outcomes { length keys.now ≤ length outcomes.old }
+        ensures made { IfOk result (λ count. Makes count (DoesBatch requests.now (take count keys.now) outcomes.new) self.old self.new) }
+        ensures some { IfOk result (λ count. IsSomeOf (length keys.now) count) }
+        ensures not_made { IfErr result (λ _. Follows self.old self.new) }
+    {
+        let Some(end) = self.end.take() else {
+            unreachable!()
+        };
+        let (out, lane) = match end.take_to_work(self.number) {
+            Ok(taken) => taken,
+            Err((same, obstacle)) => {
+                self.end = Some(same);
+                return Err(obstacle);
+            }
+        };
+        let (lane, done) = lane.update_all(keys, requests, outcomes);
         self.end = Some(out.put(lane));
         done
     }

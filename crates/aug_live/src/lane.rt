@@ -1,13 +1,14 @@
 //! What lies in a lane.
-ghost use Rattle.std.specs.Prelude.{◌≡◌, ℕ, ◌+◌, ◌^◌, ◌<◌, IfOk, IfErr, true, false};
+ghost use Rattle.std.specs.Prelude.{◌≡◌, ℕ, ◌+◌, ◌^◌, ◌<◌, ◌≤◌, All, length, take, IfOk, IfErr, true, false};
 ghost use Rattle.aug_trie.specs.Updates.{ComesTo};
+ghost use Rattle.aug_trie.specs.UpdateBatches.{DoesBatch};
 ghost use Rattle.aug_trie.specs.Chains.{IsPart};
 ghost use Rattle.aug_trie.specs.Note.{chain_of_note};
 ghost use Rattle.aug_trie.specs.Pass.{chain_of};
 ghost use Rattle.aug_trie.specs.Pops.{pop_updates, Pops};
 ghost use Rattle.aug_model.specs.Folds.{summary_of};
 ghost use Rattle.aug_monoid.specs.Extent.{extent_parts};
-ghost use Rattle.aug_live.specs.LiveHandles.{Follows, note_at};
+ghost use Rattle.aug_live.specs.LiveHandles.{Follows, IsSomeOf, note_at};
 ghost use Rattle.aug_live.specs.inside.LaneKnowledge.{Worked, WorksHere, stands};
 
 use crate::ghost_value::GhostValue;
@@ -147,6 +148,35 @@ impl<A: Monoid, B: Monoid> Lane<A, B> {
             return (rest.with(work), Err(Obstacle::Round(era)));
         };
         (rest.with(work), Ok(done))
+    }
+
+    /// Makes an update of each of the first keys, of as many as are left, unless none is left or no pass lies in the lane.
+    #[inline(always)]
+    pub(crate) fn update_all(
+        self,
+        keys: &[u32],
+        requests: &[Request],
+        outcomes: &mut [Outcome],
+    ) -> (Lane<A, B>, Result<usize, Obstacle>)
+        requires keys { All (λ k. k < 2 ^ self.at.half.round.bits) keys.now }
+        requires requests { length keys.now ≤ length requests.now }
+        requires outcomes { length keys.now ≤ length outcomes.old }
+        ensures made { IfOk result.1 (λ count. WorksHere count (DoesBatch requests.now (take count keys.now) outcomes.new) self.at result.0.at) }
+        ensures some { IfOk result.1 (λ count. IsSomeOf (length keys.now) count) }
+        ensures same { IfErr result.1 (λ _. result.0.at ≡ self.at) }
+        ensures worked { Worked self result.0 }
+    {
+        if self.work.is_none() {
+            let obstacle = Obstacle::Round(self.era);
+            return (self, Err(obstacle));
+        }
+        let (work, rest) = self.into_work();
+        if work.budget() == 0 {
+            let era = rest.era;
+            return (rest.with(work), Err(Obstacle::Round(era)));
+        }
+        let (work, count) = work.update_all(keys, requests, outcomes);
+        (rest.with(work), Ok(count))
     }
 
     /// Makes a note of what the pass knows, unless no pass lies in the lane.

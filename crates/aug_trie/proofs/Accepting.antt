@@ -19,7 +19,7 @@ use Rattle.aug_core.proofs.EntryCuts.{root_part}
 use Rattle.aug_trie.specs.declared.updates.outcome.Outcome.{Outcome}
 use Rattle.aug_trie.specs.declared.updates.outcome.Outcome.TheVariants.{Accepted, Replaced, Refused, Unchanged, TooGreat, TooLittle}
 use Rattle.aug_trie.specs.inside.Goes.{Goes}
-use Rattle.aug_trie.specs.inside.Climbing.{WentUp, Stayed, StayedAtOnce, CameTo, Updated, advance_from}
+use Rattle.aug_trie.specs.inside.Climbing.{WentUp, Stayed, StayedAtOnce, CameTo, Settled, Updated, advance_from}
 use Rattle.aug_core.specs.Prefixes.{IsPrefix}
 use Rattle.aug_trie.specs.History.{last_cut}
 use Rattle.aug_trie.specs.Knowledge.{StandsIn, insertion, removal}
@@ -58,6 +58,10 @@ module _ (face : ℕ → ℕ → List (ℕ × ℕ) → List ℕ) where
     stands = subst (All (StandsIn (last_cut (knows w).history))) (sym g.changes)
         (All-append (StandsIn (last_cut (knows w).history)) (changes_of v.held) gained (stands_on v w (changes_of v.held) kn g.knows_table g.shaped g.later k.stands) shown);
   }
+
+  -- an update is one by the word that it found
+  pub settled : {used : ℕ} {v : SeatView} {key : ℕ} {request : Request} {w : SeatView} {done : Outcome} → Updated face used v key request w done → Settled face used v key request w done
+  settled u = record { loaded = u.loaded; more = u.more; refusing = u.refusing; came_to = u.came_to }
 
   module _ (used : ℕ) (v : SeatView) (key : ℕ) (request : Request) (w : SeatView) (kn : KnowsTable face v) (low : key < 2 ^ v.shape.bits) where
     -- what went up stands in the last cut with its weight
@@ -172,7 +176,7 @@ module _ (face : ℕ → ℕ → List (ℕ × ℕ) → List ℕ) where
     }
 
     -- and what is known after an update is knowledge
-    pub updated_knowledge : (done : Outcome) → Updated face used v key request w done → KnowsRound v → KnowsRound w
+    pub updated_knowledge : (done : Outcome) → Settled face used v key request w done → KnowsRound v → KnowsRound w
     updated_knowledge Accepted u k = let up = u.came_to.0 in let a = advance_from request key u.loaded in knowledge_on used (made_by key a) v w kn up.goes (changes_stand a up a.replaces refl) k
     updated_knowledge Replaced u k = let up = u.came_to.0 in let a = advance_from request key u.loaded in knowledge_on used (made_by key a) v w kn up.goes (changes_stand a up a.replaces refl) k
     updated_knowledge Refused u k = knowledge_on used [] v w kn u.came_to.goes (All-nil (StandsIn (last_cut (knows w).history))) k
@@ -181,14 +185,14 @@ module _ (face : ℕ → ℕ → List (ℕ × ℕ) → List ℕ) where
     updated_knowledge TooLittle u k = knowledge_on used [] v w kn u.came_to.stayed.goes (All-nil (StandsIn (last_cut (knows w).history))) k
 
     -- an update that is refused with a name of its own if its word prevents it was refused because the leaf was lost
-    lost_leaf : (u : Updated face used v key request w Refused) → Refused ≢ outcome_at_once request → RefusedPut key (knows v) (knows w)
+    lost_leaf : (u : Settled face used v key request w Refused) → Refused ≢ outcome_at_once request → RefusedPut key (knows v) (knows w)
     lost_leaf u other = elim (cases_Bool (goes_from request u.loaded)) [
       | inl lets ↦ refused_put u.loaded u.came_to (way_next request u.loaded lets)
       | inr stops ↦ absurd (other (u.refusing stops).0)
     ]
 
   -- what an update comes to
-  pub comes_to : (used : ℕ) (v : SeatView) (key : ℕ) (request : Request) (w : SeatView) → KnowsTable face v → key < 2 ^ v.shape.bits → (done : Outcome) → Updated face used v key request w done → ComesTo request key done (knows v) (knows w)
+  pub comes_to : (used : ℕ) (v : SeatView) (key : ℕ) (request : Request) (w : SeatView) → KnowsTable face v → key < 2 ^ v.shape.bits → (done : Outcome) → Settled face used v key request w done → ComesTo request key done (knows v) (knows w)
   comes_to used v key Insert w kn low Accepted u = let a = advance_from Insert key u.loaded in let even = eqb-true (serial_in_word u.loaded % 2) 0 u.came_to.2 in
       accepted_is used v key Insert w kn low a u.came_to.0 insertion key (omega (arith, even)) refl refl
   comes_to used v key Insert w kn low Replaced u = false≢true u.came_to.1

@@ -1,5 +1,5 @@
 -- Cursors over snapshots: how they walk, and that they stay cursors of their pass.
-use Rattle.std.proofs.Common.{◌≡◌, ℕ, ◌+◌, ◌*◌, ◌^◌, ◌≤◌, Option, Some, List, sym, refl, ap, ◌∙◌, subst, arith}
+use Rattle.std.proofs.Common.{◌≡◌, ℕ, ◌+◌, ◌*◌, Option, Some, List, sym, refl, ◌∙◌, subst, arith}
 use Rattle.aug_monoid.specs.Parts.{Parts}
 use Rattle.aug_core.specs.Faces.{face}
 use Rattle.aug_model.specs.NodeKeys.{pairs_below}
@@ -12,7 +12,6 @@ use Rattle.aug_trie.specs.inside.Cursors.{IsCursorOf}
 use Rattle.aug_trie.specs.Node.{HasNode, Keeps}
 use Rattle.aug_trie.specs.Pass.{PassFacts}
 use Rattle.aug_trie.specs.Snapshot.{HasSnapshot, snapshot_cut, set_at}
-use Rattle.aug_trie.specs.inside.NodeWords.{IsNodeAt}
 use Rattle.aug_trie.specs.inside.PassState.{pass_facts, known_in, HoldsPass}
 use Rattle.aug_trie.specs.inside.SnapshotWalk.{set_seen, IsNamed, Walking}
 use Rattle.aug_trie.specs.declared.queries.cursor.SnapshotCursor.{SnapshotCursor}

@@ -38,7 +38,7 @@ tries_leaf StoreRecordWord = false
 tries_leaf TakeLane = false
 tries_leaf FinishLane = false
 
-abbrev quiet : StepTaken → Type 0
+abbrev pub quiet : StepTaken → Type 0
 quiet taken = taken.kind ≢ TryLeaf
 
 pub took_none : (v w : SeatView) → w.steps ≡ v.steps → Took v w 0

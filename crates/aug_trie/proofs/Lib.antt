@@ -12,6 +12,7 @@ pub mod Publishing
 pub mod Whole
 pub mod Levels
 pub mod Updating
+pub mod Leaving
 pub mod Handing
 pub mod Keeping
 pub mod Walking
@@ -24,6 +25,8 @@ pub mod Snapshots
 pub mod Asking
 pub mod Cursors
 pub mod PassCalls
+pub mod LeavingAll
+pub mod BatchCalls
 pub mod Popping
 pub mod Noting
 pub mod SnapshotWalks
@@ -39,6 +42,7 @@ pub mod EndedWalks
 pub mod Ranking
 pub mod Advancing
 pub mod Ascending
+pub mod Raising
 pub mod Staging
 pub mod Turning
 pub mod Chaining

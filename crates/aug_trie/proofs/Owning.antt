@@ -19,8 +19,8 @@ module _ {A B : Type 0} (summary_of : List (ℕ × ℕ) → Summary A B) (half p
     shows = keeps.snapshots held (subst (λ (z : PassFacts). HasSnapshot z held.number) (sym is) k.shows);
   })
 
-  -- and so it is after an update
-  pub kept : (steps : ℕ) × GoesOn 1 steps pass new → Keeps summary_of pass new → Keeping out table held
+  -- and so it is after updates
+  pub kept : {updates : ℕ} → (steps : ℕ) × GoesOn updates steps pass new → Keeps summary_of pass new → Keeping out table held
   kept went keeps = keeping (ap (λ (z : PassFacts). z.round) went.1.same) keeps
 
   -- and after steps from which the pass learned nothing new

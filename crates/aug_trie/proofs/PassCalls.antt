@@ -28,7 +28,7 @@ use Rattle.aug_trie.specs.declared.queries.node.Node.{Node}
 use Rattle.aug_trie.specs.declared.queries.snapshot.Snapshot.{Snapshot}
 use Rattle.aug_trie.specs.declared.rounds.account.Account.{Account}
 use Rattle.aug_trie.specs.declared.updates.request.Request.{Request}
-use Rattle.aug_trie.proofs.Accepting.{comes_to}
+use Rattle.aug_trie.proofs.Accepting.{comes_to, settled}
 use Rattle.aug_trie.proofs.Counters.{may_count, counted_by, counted_still}
 use Rattle.aug_trie.proofs.Going.{goes_seeing}
 use Rattle.aug_trie.proofs.Passing.{pass_told, pass_after, gained_by, goes_on_by, steps_of}
@@ -100,7 +100,7 @@ module _ {A B : Type 0} (parts_a : Parts A) (parts_b : Parts B) where
             record { known = record { table = k.table; view = w.view }; there = refl; is_pass = pass_after f k.view w.view a.leaves a.bits a.next a.left key request p some low' done u },
             counted_by f (a.next + a.bits) k.view w.view key a.inserts a.removals request done u counts,
           );
-          came_to = comes_to f (a.next + a.bits) k.view key request w.view p.knows_table low' done u;
+          came_to = comes_to f (a.next + a.bits) k.view key request w.view p.knows_table low' done (settled f u);
           goes_on = (length u.more + 1, goes_on_by f k.view w.view a.leaves a.bits a.next a.left key request p some low' k.table done u);
           keeps = keeps_on parts_a parts_b k (record { table = k.table; view = w.view }) a.left (a.left - 1) p.knows_table goes.knows_table goes.shaped goes.later;
           steps = steps_of f k.view w.view a.leaves a.bits a.next a.left key request p some low' k.table done u;

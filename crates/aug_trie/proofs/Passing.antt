@@ -1,9 +1,10 @@
 -- A pass stays one.
-use Rattle.std.proofs.Common.{◌≡◌, Option, Some, ℕ, suc, ◌+◌, ◌-◌, ◌*◌, ◌^◌, ◌<◌, ◌≤◌, List, [], ◌∷◌, ◌++◌, length, length-append, suc-mul, sym, ap, ◌∙◌, subst, arith}
+use Rattle.std.proofs.Common.{◌≡◌, Option, Some, ℕ, suc, ◌+◌, ◌-◌, ◌*◌, ◌^◌, ◌<◌, ◌≤◌, List, [], ◌∷◌, ◌++◌, length, length-append, sym, ap, ◌∙◌, subst, arith}
+use Rattle.std.proofs.Math.Nat.{add-mul}
 use Rattle.aug_core.specs.Places.{Shape}
 use Rattle.aug_core.specs.Lanes.{first_record, lane_records}
 use Rattle.aug_core.specs.Counts.{change, changes_of}
-use Rattle.aug_core.specs.Told.{made_by, new_serial}
+use Rattle.aug_core.specs.Told.{KnowsTable, made_by, new_serial}
 use Rattle.aug_core.specs.Kinds.{load_leaf}
 use Rattle.aug_core.specs.declared.step.StepTaken.{StepTaken}
 use Rattle.aug_core.specs.declared.view.Change.{Change}
@@ -23,22 +24,22 @@ use Rattle.aug_trie.specs.inside.Knows.{KnowsRound}
 use Rattle.aug_trie.specs.Pass.{PassFacts, GoesOn, StepsOf}
 use Rattle.aug_trie.specs.inside.PassState.{pass_facts, known_in, IsPass, HoldsPass}
 use Rattle.aug_trie.specs.inside.RoundState.{round_of, past_rounds}
-use Rattle.aug_trie.proofs.Accepting.{updated_knowledge, shown_number, stayed_by, stored_fits}
+use Rattle.aug_trie.proofs.Accepting.{settled, updated_knowledge, shown_number, stayed_by, stored_fits}
 use Rattle.aug_trie.proofs.Going.{free_from}
 use Rattle.aug_trie.proofs.Requesting.{made_few, made_one, made_two, serial_is, weight_is, to_word}
 use Rattle.aug_trie.proofs.Histories.{numbers_long}
 
 module _ (face : ℕ → ℕ → List (ℕ × ℕ) → List ℕ) where
-  pass_on : (v w : SeatView) (leaves bits next left : ℕ) (gained : List Change) → IsPass face v leaves bits next left → 1 ≤ left → length gained ≤ 2 → Goes face (next + bits) gained v w → KnowsRound w → IsPass face w leaves bits (next + bits) (left - 1)
-  pass_on v w leaves bits next left gained p some few goes known =
-      let e : left ≡ suc (left - 1) = omega arith in let m : left * bits ≡ (left - 1) * bits + bits = ap (λ (z : ℕ). z * bits) e ∙ suc-mul (left - 1) bits in
-      let free = free_from v next (next + bits) (omega arith) p.room.is_free in let shape = goes.shaped in record {
+  pub pass_on : (v w : SeatView) (leaves bits next left n : ℕ) (gained : List Change) → IsPass face v leaves bits next left → n ≤ left → length gained ≤ 2 * n → Goes face (next + n * bits) gained v w → KnowsRound w → IsPass face w leaves bits (next + n * bits) (left - n)
+  pass_on v w leaves bits next left n gained p some few goes known =
+      let e : left ≡ n + (left - n) = omega arith in let m : left * bits ≡ n * bits + (left - n) * bits = ap (λ (z : ℕ). z * bits) e ∙ add-mul n (left - n) bits in
+      let free = free_from v next (next + n * bits) (omega arith) p.room.is_free in let shape = goes.shaped in record {
         leaves_are = subst (λ (z : Shape). HasLeaves z leaves) (sym shape) p.leaves_are;
         bits_are = p.bits_are ∙ ap (λ (z : Shape). z.bits) (sym shape);
         knows_table = goes.knows_table;
         room = record {
-          is_free = goes.still_free (next + bits) (omega arith) free;
-          room = subst (λ (z : Shape × ℕ). next + bits + (left - 1) * bits ≤ first_record z.0 z.1 + lane_records z.0) (λ i. (sym shape i, sym goes.lane i)) (let r = p.room.room in omega arith);
+          is_free = goes.still_free (next + n * bits) (omega arith) free;
+          room = subst (λ (z : Shape × ℕ). next + n * bits + (left - n) * bits ≤ first_record z.0 z.1 + lane_records z.0) (λ i. (sym shape i, sym goes.lane i)) (let r = p.room.room in omega arith);
         };
         budget = let l : length (changes_of w.held) ≡ length (changes_of v.held) + length gained = ap (λ (z : List Change). length z) goes.changes ∙ length-append (changes_of v.held) gained in
             let u : w.shape.updates ≡ v.shape.updates = ap (λ (z : Shape). z.updates) shape in let b = p.budget in omega arith;
@@ -46,9 +47,49 @@ module _ (face : ℕ → ℕ → List (ℕ × ℕ) → List ℕ) where
         knowledge = known;
       }
 
+  -- what contracts see of updates
+  pub updates_on : (v w : SeatView) (leaves bits next left n used : ℕ) (gained : List Change) (more : List StepTaken) (table : TableId) → IsPass face v leaves bits next left → n ≤ left → Goes face used gained v w → w.steps ≡ v.steps ++ more → KnowsRound w
+      → GoesOn n (length more) (pass_facts (record { table = table; view = v }) left) (pass_facts (record { table = table; view = w }) (left - n))
+  updates_on v w leaves bits next left n used gained more table p some g steps known = let updates : w.shape.updates ≡ v.shape.updates = ap (λ (z : Shape). z.updates) g.shaped in let b = p.budget in record {
+    same = let spent : w.shape.updates - (left - n) ≡ v.shape.updates - left + n = omega arith in
+        let facts : PassFacts = pass_facts (record { table = table; view = w }) (left - n) in
+        λ i. record facts { round = round_of table (record w { era = (g.same_eras i).0; shape = g.shaped i; members = g.same_members i }); past = past_rounds (g.shaped i) (g.same_eras i).1; lane = g.lane i; spent = spent i };
+    step_count = ap (λ (z : List StepTaken). length z) steps ∙ length-append v.steps more;
+    steps_stay = (more, steps);
+    knowledge = known;
+    named = numbers_long w.shape w.seen;
+  }
+
+  -- an update by the word that it found
+  module _ (used : ℕ) (v w : SeatView) (key : ℕ) (request : Request) (kn : KnowsTable face v) (low : key < 2 ^ v.shape.bits) where
+    -- the weight in the word that it found
+    pub weighed_by : (done : Outcome) (loaded : ℕ) → CameTo face used v key request w loaded done → WeighsAt w.seen key (serial_in_word loaded) (weight_in_word loaded)
+    weighed_by Accepted loaded c = subst (λ (z : ℕ × ℕ). WeighsAt w.seen key z.0 z.1) (λ i. (serial_is request key loaded i, weight_is request key loaded i)) c.0.weighed
+    weighed_by Replaced loaded c = subst (λ (z : ℕ × ℕ). WeighsAt w.seen key z.0 z.1) (λ i. (serial_is request key loaded i, weight_is request key loaded i)) c.0.weighed
+    weighed_by Refused loaded c = c.weighed
+    weighed_by Unchanged loaded c = c.stayed.weighed
+    weighed_by TooGreat loaded c = c.stayed.weighed
+    weighed_by TooLittle loaded c = c.stayed.weighed
+
+    -- the weight in the word that it stored
+    weight_stored : (loaded : ℕ) → WentUp face used v key request w (advance_from request key loaded) → (advance_from request key loaded).new_weight ≡ weight_in_word (word_after request key loaded)
+    weight_stored loaded up = let a = advance_from request key loaded in
+        sym (ap weight_in_word (to_word request key loaded) ∙ weight_of_leaf (new_serial a) a.new_weight (stored_fits face used v key request w kn low a up))
+
+    -- and so its changes
+    pub stored_by : (done : Outcome) (loaded : ℕ) → CameTo face used v key request w loaded done → changes_of w.held ≡ changes_of v.held ++ changes_by request key loaded done
+    stored_by Accepted loaded c = let a = advance_from request key loaded in let stored = weight_stored loaded c.0 in
+        c.0.goes.changes ∙ ap (λ (z : List Change). changes_of v.held ++ z) (made_one key a c.1 ∙ (λ i. change key (serial_is request key loaded i + 1) (stored i) ∷ []))
+    stored_by Replaced loaded c = let a = advance_from request key loaded in let stored = weight_stored loaded c.0 in
+        c.0.goes.changes ∙ ap (λ (z : List Change). changes_of v.held ++ z) (made_two key a c.1 ∙ (λ i. change key (serial_is request key loaded i + 1) 0 ∷ change key (serial_is request key loaded i + 2) (stored i) ∷ []))
+    stored_by Refused loaded c = c.goes.changes
+    stored_by Unchanged loaded c = c.stayed.goes.changes
+    stored_by TooGreat loaded c = c.stayed.goes.changes
+    stored_by TooLittle loaded c = c.stayed.goes.changes
+
   module _ (v w : SeatView) (leaves bits next left key : ℕ) (request : Request) (p : IsPass face v leaves bits next left) (some : 1 ≤ left) (low : key < 2 ^ v.shape.bits) where
     known_after : (done : Outcome) → Updated face (next + bits) v key request w done → KnowsRound w
-    known_after done u = updated_knowledge face (next + bits) v key request w p.knows_table low done u p.knowledge
+    known_after done u = updated_knowledge face (next + bits) v key request w p.knows_table low done (settled face u) p.knowledge
 
     -- what it did to the view
     pub gained_by : (done : Outcome) → Updated face (next + bits) v key request w done → (gained : List Change) × (length gained ≤ 2) × Goes face (next + bits) gained v w
@@ -60,45 +101,14 @@ module _ (face : ℕ → ℕ → List (ℕ × ℕ) → List ℕ) where
     gained_by TooLittle u = ([], omega arith, u.came_to.stayed.goes)
 
     pub pass_after : (done : Outcome) → Updated face (next + bits) v key request w done → IsPass face w leaves bits (next + bits) (left - 1)
-    pass_after done u = let g = gained_by done u in pass_on v w leaves bits next left g.0 p some g.1 g.2 (known_after done u)
-
-    -- the weight in the word that it found
-    weighed_by : (done : Outcome) (loaded : ℕ) → CameTo face (next + bits) v key request w loaded done → WeighsAt w.seen key (serial_in_word loaded) (weight_in_word loaded)
-    weighed_by Accepted loaded c = subst (λ (z : ℕ × ℕ). WeighsAt w.seen key z.0 z.1) (λ i. (serial_is request key loaded i, weight_is request key loaded i)) c.0.weighed
-    weighed_by Replaced loaded c = subst (λ (z : ℕ × ℕ). WeighsAt w.seen key z.0 z.1) (λ i. (serial_is request key loaded i, weight_is request key loaded i)) c.0.weighed
-    weighed_by Refused loaded c = c.weighed
-    weighed_by Unchanged loaded c = c.stayed.weighed
-    weighed_by TooGreat loaded c = c.stayed.weighed
-    weighed_by TooLittle loaded c = c.stayed.weighed
-
-    -- the weight in the word that it stored
-    weight_stored : (loaded : ℕ) → WentUp face (next + bits) v key request w (advance_from request key loaded) → (advance_from request key loaded).new_weight ≡ weight_in_word (word_after request key loaded)
-    weight_stored loaded up = let a = advance_from request key loaded in
-        sym (ap weight_in_word (to_word request key loaded) ∙ weight_of_leaf (new_serial a) a.new_weight (stored_fits face (next + bits) v key request w p.knows_table low a up))
-
-    -- and so its changes
-    stored_by : (done : Outcome) (loaded : ℕ) → CameTo face (next + bits) v key request w loaded done → changes_of w.held ≡ changes_of v.held ++ changes_by request key loaded done
-    stored_by Accepted loaded c = let a = advance_from request key loaded in let stored = weight_stored loaded c.0 in
-        c.0.goes.changes ∙ ap (λ (z : List Change). changes_of v.held ++ z) (made_one key a c.1 ∙ (λ i. change key (serial_is request key loaded i + 1) (stored i) ∷ []))
-    stored_by Replaced loaded c = let a = advance_from request key loaded in let stored = weight_stored loaded c.0 in
-        c.0.goes.changes ∙ ap (λ (z : List Change). changes_of v.held ++ z) (made_two key a c.1 ∙ (λ i. change key (serial_is request key loaded i + 1) 0 ∷ change key (serial_is request key loaded i + 2) (stored i) ∷ []))
-    stored_by Refused loaded c = c.goes.changes
-    stored_by Unchanged loaded c = c.stayed.goes.changes
-    stored_by TooGreat loaded c = c.stayed.goes.changes
-    stored_by TooLittle loaded c = c.stayed.goes.changes
+    pass_after done u = let g = gained_by done u in let one : 1 * bits ≡ bits = omega arith in subst (λ (z : ℕ). IsPass face w leaves bits (next + z) (left - 1)) one (pass_on v w leaves bits next left 1 g.0 p some g.1 (subst (λ (z : ℕ). Goes face (next + z) g.0 v w) (sym one) g.2) (known_after done u))
 
     -- what contracts see of it
     pub goes_on_by : (table : TableId) (done : Outcome) (u : Updated face (next + bits) v key request w done)
         → GoesOn 1 (length u.more + 1) (pass_facts (record { table = table; view = v }) left) (pass_facts (record { table = table; view = w }) (left - 1))
-    goes_on_by table done u = let g = (gained_by done u).2 in let updates : w.shape.updates ≡ v.shape.updates = ap (λ (z : Shape). z.updates) g.shaped in let b = p.budget in record {
-      same = let spent : w.shape.updates - (left - 1) ≡ v.shape.updates - left + 1 = omega arith in
-          let facts : PassFacts = pass_facts (record { table = table; view = w }) (left - 1) in
-          λ i. record facts { round = round_of table (record w { era = (g.same_eras i).0; shape = g.shaped i; members = g.same_members i }); past = past_rounds (g.shaped i) (g.same_eras i).1; lane = g.lane i; spent = spent i };
-      step_count = ap (λ (z : List StepTaken). length z) u.steps ∙ length-append v.steps (load_leaf key u.loaded ∷ u.more) ∙ (let e : length v.steps + suc (length u.more) ≡ length v.steps + (length u.more + 1) = omega arith in e);
-      steps_stay = (load_leaf key u.loaded ∷ u.more, u.steps);
-      knowledge = known_after done u;
-      named = numbers_long w.shape w.seen;
-    }
+    goes_on_by table done u = let g = (gained_by done u).2 in let one : suc (length u.more) ≡ length u.more + 1 = omega arith in
+        subst (λ (z : ℕ). GoesOn 1 z (pass_facts (record { table = table; view = v }) left) (pass_facts (record { table = table; view = w }) (left - 1))) one
+        (updates_on v w leaves bits next left 1 (next + bits) (gained_by done u).0 (load_leaf key u.loaded ∷ u.more) table p some g u.steps (known_after done u))
 
     pub steps_of : (table : TableId) (done : Outcome) → Updated face (next + bits) v key request w done
         → StepsOf request key done (pass_facts (record { table = table; view = v }) left) (pass_facts (record { table = table; view = w }) (left - 1))
@@ -110,8 +120,8 @@ module _ (face : ℕ → ℕ → List (ℕ × ℕ) → List ℕ) where
       refuses = u.refusing;
       tries = u.tried;
       shows = λ nothing. shown_number face (next + bits) v key request w p.knows_table low u.loaded (stayed_by face (next + bits) v key request w p.knows_table low u.loaded done nothing u.came_to);
-      weighed = weighed_by done u.loaded u.came_to;
-      stored = stored_by done u.loaded u.came_to;
+      weighed = weighed_by (next + bits) v w key request p.knows_table low done u.loaded u.came_to;
+      stored = stored_by (next + bits) v w key request p.knows_table low done u.loaded u.came_to;
     }
 
 -- a pass whose seat was taken out for an update

@@ -84,7 +84,7 @@ module _ (f : ℕ → ℕ → List (ℕ × ℕ) → List ℕ) where
               leaf = w;
               has_begun = begun_here;
               has_left = record { found = word; more = []; steps = ap (λ (z : SeatView). z.steps) from_start.stepped; tried = λ lets. absurd (false≢true (sym other ∙ lets)) };
-              finish = λ z risen. subst (Updated f (number + bits) u key request z) (sym says) (refused_at_once f u w key word request bits number t.low p.bits_are r.2 p.knows_table from_start z other risen);
+              finish = λ z risen. subst (Updated f (number + bits) u key request z) (sym says) (refused_at_once f u w key word request t.low p.knows_table from_start bits number p.bits_are r.2 z other risen);
               on_way = way_begins f bits number key w m a r.2 el (en ∙ ap (λ (z : ℕ). z + key / 2) (p.leaves_are.are ∙ ap (λ (z : Shape). 2 ^ z.bits) (sym g.shaped))) es ep;
             };
           }
@@ -129,7 +129,7 @@ module _ (f : ℕ → ℕ → List (ℕ × ℕ) → List ℕ) where
         a = advance_from request key word
 
         told_old : TriesLeaf f old key a tried.found w
-        told_old = told f u old key word request bits number t.low t.is_pass.bits_are (room_one u leaves bits number left t.is_pass t.some).2 t.is_pass.knows_table loaded t.fits t.is_stage.lets w ok room_old.is_free.lane room_old.is_free.only tried
+        told_old = told f u old key word request t.low t.is_pass.knows_table loaded t.fits t.is_stage.lets w ok room_old.is_free.lane room_old.is_free.only tried
 
         g_new : (gained : List changed.Change) × Goes f 0 gained old w
         g_new = goes_leaf f old w key tried.found a room_old.is_free.lane room_old.is_free.only g_old.knows_table told_old
@@ -161,7 +161,7 @@ module _ (f : ℕ → ℕ → List (ℕ × ℕ) → List ℕ) where
                   tried = λ lets. omega arith;
                 };
                 has_begun = record { began = same_beginning ∙ ap (λ (z : SeatView). z.began) loaded.stepped; shaped = g.shaped; same_members = g.same_members; same_eras = g.same_eras; lane = g.lane };
-                finish = λ z risen. updated f u old key word request bits number t.low p.bits_are r.2 p.knows_table loaded t.fits t.is_stage.lets w ok room_old.is_free.lane room_old.is_free.only tried z risen done comes;
+                finish = λ z risen. updated f u old key word request t.low p.knows_table loaded bits number p.bits_are r.2 t.fits t.is_stage.lets w ok room_old.is_free.lane room_old.is_free.only tried z risen done comes;
                 on_way = way_begins f bits number key w m up r.2 el (en ∙ ap (λ (z : ℕ). z + key / 2) (p.leaves_are.are ∙ ap (λ (z : Shape). 2 ^ z.bits) (sym g.shaped))) es ep;
               };
             }

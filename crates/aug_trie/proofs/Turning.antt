@@ -34,7 +34,7 @@ use Rattle.aug_trie.specs.declared.turns.stages.Stage.{Stage}
 use Rattle.aug_trie.specs.declared.turns.stages.Stage.TheVariants.{Leaf, Change, Up}
 use Rattle.aug_trie.specs.declared.turns.stages.Next.{Next}
 use Rattle.aug_trie.specs.declared.turns.stages.Next.TheVariants.{More, Done}
-use Rattle.aug_trie.proofs.Accepting.{knows_on, comes_to}
+use Rattle.aug_trie.proofs.Accepting.{knows_on, comes_to, settled}
 use Rattle.aug_trie.proofs.Advancing.{goes_at}
 use Rattle.aug_trie.proofs.Ascending.{part_is}
 use Rattle.aug_trie.proofs.Counters.{may_count, counted_by}
@@ -178,7 +178,7 @@ module _ (f : ℕ → ℕ → List (ℕ × ℕ) → List ℕ) where
       finishes done step some up = let e = sym (start_is stage v t) in let p = t.is_pass in let after = pass_facts (record { table = table; view = w }) (left - 1) in record {
         once = once v w (left - 1) (knows_stage stage v t) step;
         some = some;
-        comes_to = subst (λ (z : PassFacts). ComesTo request key done z.knows (knows w)) e (comes_to f (number + bits) u key request w p.knows_table t.low done up);
+        comes_to = subst (λ (z : PassFacts). ComesTo request key done z.knows (knows w)) e (comes_to f (number + bits) u key request w p.knows_table t.low done (settled f up));
         goes_on = (length up.more + 1, subst (λ (z : PassFacts). GoesOn 1 (length up.more + 1) z after) e (goes_on_by f u w leaves bits number left key request p t.some t.low table done up));
         steps = subst (λ (z : PassFacts). StepsOf request key done z after) e (steps_of f u w leaves bits number left key request p t.some t.low table done up);
       }

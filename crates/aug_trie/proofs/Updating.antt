@@ -5,7 +5,7 @@ use Rattle.std.proofs.lemmas.Nat.{mul-le}
 use Rattle.aug_core.specs.Places.{Shape}
 use Rattle.aug_core.specs.Book.{Book, ArePrefixes, At, IsNewest}
 use Rattle.aug_core.specs.Kinds.{load_leaf, try_leaf}
-use Rattle.aug_core.specs.inside.Shows.{NewestShows, ShowsAtMost}
+use Rattle.aug_core.specs.inside.Shows.{NewestShows, ShowsAtMost, Lifts}
 use Rattle.aug_core.specs.Told.{HoldsOnly, KnowsTable, BeginsAtLeaf, TriesLeaf, old_word, new_serial, made_by}
 use Rattle.aug_core.specs.declared.step.StepTaken.{StepTaken}
 use Rattle.aug_core.specs.declared.view.Advance.{Advance}
@@ -15,7 +15,7 @@ use Rattle.aug_core.specs.declared.view.Held.{Held}
 use Rattle.aug_core.specs.declared.view.SeatView.{SeatView}
 use Rattle.aug_core.proofs.Books.{newest_is_last}
 use Rattle.aug_core.proofs.PlaceLemmas.{keys-within}
-use Rattle.aug_core.proofs.Showing.{shows_leaf}
+use Rattle.aug_core.proofs.Showing.{shows_leaf, shows_later}
 use Rattle.aug_trie.specs.declared.updates.outcome.Outcome.{Outcome}
 use Rattle.aug_trie.specs.declared.updates.outcome.Outcome.TheVariants.{Accepted, Replaced, Refused, Unchanged, TooGreat, TooLittle}
 use Rattle.aug_words.specs.Seats.{MayAdvance, TriedLeaf}
@@ -30,7 +30,14 @@ use Rattle.aug_trie.specs.declared.updates.request.Request.TheVariants.{Insert, 
 use Rattle.aug_trie.proofs.Going.{room_on, goes_on, goes_after, goes_beginning, goes_seeing, goes_changing}
 use Rattle.aug_trie.proofs.LeafWords.{serial_of_leaf, weight_of_leaf}
 use Rattle.aug_trie.proofs.Requesting.{is_advance, from_word, to_word, outcome_is, serial_is, weight_is, way_found, way_next}
-use Rattle.aug_core.proofs.PrefixLemmas.{entry_stays}
+use Rattle.aug_core.proofs.PrefixLemmas.{entry_stays, book_refl}
+
+-- a number of bits is that of a view's shape
+pub bits_in : {bits : ℕ} {s t : Shape} (P : ℕ → Type 0) → bits ≡ t.bits → s ≡ t → P bits → P s.bits
+bits_in P is same h = subst P (is ∙ ap (λ (z : Shape). z.bits) (sym same)) h
+
+pub bits_out : {bits : ℕ} {s t : Shape} (P : ℕ → Type 0) → bits ≡ t.bits → s ≡ t → P s.bits → P bits
+bits_out P is same h = subst P (sym (is ∙ ap (λ (z : Shape). z.bits) (sym same))) h
 
 newest_shows : (s : Shape) (book : Book) (key index n : ℕ) (e : Entry) → IsNewest book key index e → n ≤ index → NewestShows s book key 0 n
 newest_shows s book key index n e newest le = record { index = index; entry = e; newest = newest; shows = ((e, newest.at), le) }
@@ -102,20 +109,17 @@ module _ (f : ℕ → ℕ → List (ℕ × ℕ) → List ℕ) where
     room = room_on f gained v w number bits g room;
   }
 
-  module _ (v w0 : SeatView) (key word : ℕ) (request : Request) (bits number : ℕ) (low : key < 2 ^ v.shape.bits) (is : bits ≡ v.shape.bits) (some : 1 ≤ bits) (kn : KnowsTable f v) (loaded : BeginsAtLeaf f v key word w0) where
-    abbrev used : ℕ
-    used = number + bits
-
+  module _ (v w0 : SeatView) (key word : ℕ) (request : Request) (low : key < 2 ^ v.shape.bits) (kn : KnowsTable f v) (loaded : BeginsAtLeaf f v key word w0) where
     abbrev a : Advance
     a = advance_from request key word
 
     shaped0 : w0.shape ≡ v.shape
     shaped0 = ap (λ (z : SeatView). z.shape) loaded.stepped
 
-    steps0 : w0.steps ≡ v.steps ++ load_leaf key word ∷ []
+    pub steps0 : w0.steps ≡ v.steps ++ load_leaf key word ∷ []
     steps0 = ap (λ (z : SeatView). z.steps) loaded.stepped
 
-    first : Goes f 0 [] v w0
+    pub first : Goes f 0 [] v w0
     first = goes_begun v w0 key word kn loaded
 
     at_leaf : serial_in_word word ≡ loaded.index
@@ -129,24 +133,20 @@ module _ (f : ℕ → ℕ → List (ℕ × ℕ) → List ℕ) where
       weighs = sym (loaded_serial v w0 key word low loaded).1;
     }
 
-    -- the word that was loaded refuses the update
-    pub refused_at_once : (w : SeatView) → goes_from request word ≡ false → HasRisen f bits number key w0 bits w → Updated f (number + bits) v key request w (outcome_at_once request)
-    refused_at_once w other h = let goes = h.goes in let between = h.took in let lifts = h.lifts in let least = between.least_steps in let most = between.most_steps in let count = between.took.count in record {
-      loaded = word;
-      more = between.took.more;
-      steps = between.took.steps ∙ ap (λ (z : List StepTaken). z ++ between.took.more) steps0 ∙ append_assoc v.steps (load_leaf key word ∷ []) between.took.more;
-      least_steps = omega arith;
-      most_steps = omega arith;
-      tried = λ lets. absurd (false≢true (sym other ∙ lets));
-      refusing = λ _. (refl, between.took.no_try);
-      came_to = came_at_once (number + bits) v key w word request other (record {
-        goes = goes_on f 0 used used [] v w0 w (omega arith) (omega arith) first goes;
-        before = at_most v w0 key word low loaded;
-        shown = subst (λ (z : Shape × ℕ × ℕ). NewestShows z.0 w.seen key z.1 z.2) (λ i. (shaped0 i, is i, sym (way_found request word other) i))
-            (lifts.lifted (serial_in_word word) (newest_shows w0.shape w0.seen key loaded.index (serial_in_word word) loaded.entry loaded.newest (omega (arith, at_leaf))));
-        weighed = weighed_on w.seen goes.later;
-      });
-    }
+    -- no earlier view was shown a serial past the one that was loaded
+    at_most_from : (u : SeatView) → u.shape ≡ v.shape → ArePrefixes u.seen v.seen → ShowsAtMost u.shape u.seen key (serial_in_word word)
+    at_most_from u same before = subst (λ (z : Shape). ShowsAtMost z u.seen key (serial_in_word word)) (sym same)
+        (record { at_most = λ i n h. (at_most v w0 key word low loaded).at_most i n (shows_later v.shape v.seen u.seen key v.shape.bits i n before h) })
+
+    -- the word that was loaded refuses the update. What it comes to from an earlier view to a later one, which shows what the leaf had reached
+    pub came_back : (used : ℕ) (u z : SeatView) → u.shape ≡ v.shape → ArePrefixes u.seen v.seen → ArePrefixes w0.seen z.seen → goes_from request word ≡ false → Lifts v.shape w0.seen z.seen key v.shape.bits → Goes f used [] u z → CameTo f used u key request z word (outcome_at_once request)
+    came_back used u z same before later other lifts goes = came_at_once used u key z word request other (record {
+      goes = goes;
+      before = at_most_from u same before;
+      shown = subst (λ (s : Shape × ℕ). NewestShows s.0 z.seen key s.0.bits s.1) (λ i. (sym same i, sym (way_found request word other) i))
+          (lifts.lifted (serial_in_word word) (newest_shows v.shape w0.seen key loaded.index (serial_in_word word) loaded.entry loaded.newest (omega (arith, at_leaf))));
+      weighed = weighed_on z.seen later;
+    })
 
     -- the leaf was tried
     module _ (fits : FitsRequest request) (lets : goes_from request word ≡ true) (w1 : SeatView) (ok : Bool) (h : Held) (only : HoldsOnly w0 h) (tried : TriedLeaf f w0 key word (word_after request key word) ok w1) where
@@ -163,70 +163,112 @@ module _ (f : ℕ → ℕ → List (ℕ × ℕ) → List ℕ) where
       pub tried_goes : (gained : List Change) × Goes f 0 gained w0 w1
       tried_goes = goes_leaf w0 w1 key tried.found a h only first.knows_table told
 
+      pub goes_hit : tried.found ≡ word → Goes f 0 (made_by key a) v w1
+      goes_hit same = let gained : List Change = made_by key a in goes_after f 0 0 0 [] gained gained v w0 w1 (omega arith) (omega arith) refl first (goes_changing f w0 w1 gained _ h only (told.hit (same ∙ from)).0 first.knows_table told.sees)
+
+      pub goes_miss : tried.found ≢ word → Goes f 0 [] v w1
+      goes_miss other = goes_on f 0 0 0 [] v w0 w1 (omega arith) (omega arith) first (goes_seeing f w0 w1 _ (told.miss (missed other)).0 first.knows_table told.sees)
+
       shaped1 : w1.shape ≡ v.shape
       shaped1 = told.shaped ∙ shaped0
 
-      abbrev taken : StepTaken
+      abbrev pub taken : StepTaken
       taken = try_leaf key word (word_after request key word) tried.found
 
-      steps1 : w1.steps ≡ v.steps ++ load_leaf key word ∷ taken ∷ []
+      pub steps1 : w1.steps ≡ v.steps ++ load_leaf key word ∷ taken ∷ []
       steps1 = subst (λ (z : ℕ × ℕ). w1.steps ≡ w0.steps ++ try_leaf key z.0 z.1 tried.found ∷ []) (λ i. (sym from i, sym (to_word request key word) i)) told.stepped
           ∙ ap (λ (z : List StepTaken). z ++ taken ∷ []) steps0 ∙ append_assoc v.steps (load_leaf key word ∷ []) (taken ∷ [])
 
-      module _ (w : SeatView) (r : HasRisen f bits number key w1 bits w) where
-        -- what the leaf had reached the root shows
-        shown_up : (n : ℕ) → n ≤ told.index → NewestShows v.shape w.seen key v.shape.bits n
-        shown_up n le = subst (λ (z : Shape × ℕ). NewestShows z.0 w.seen key z.1 n) (λ i. (shaped1 i, is i)) (r.lifts.lifted n (newest_shows w1.shape w1.seen key told.index n told.entry told.newest le))
+      -- what the exchange came to says the outcome
+      module _ (done : Outcome) (comes : done ≡ (if ok then outcome_by request word else Refused)) where
+        pub done_hit : tried.found ≡ word → done ≡ outcome_by request word
+        done_hit same = comes ∙ ap (λ (z : Bool). if z then outcome_by request word else Refused) (tried.decided.1 same)
+
+        pub done_miss : tried.found ≢ word → done ≡ Refused
+        done_miss other = elim (cases_Bool ok) [
+          | inl t ↦ absurd (other (tried.decided.0 t))
+          | inr n ↦ comes ∙ ap (λ (z : Bool). if z then outcome_by request word else Refused) n
+        ]
+
+        pub done_by : done ≡ (if tried.found == word then outcome_by request word else Refused)
+        done_by = elim (cases_Bool (tried.found == word)) [
+          | inl t ↦ done_hit (eqb-true tried.found word t) ∙ ap (λ (z : Bool). if z then outcome_by request word else Refused) (sym t)
+          | inr n ↦ done_miss (eqb-false tried.found word n) ∙ ap (λ (z : Bool). if z then outcome_by request word else Refused) (sym n)
+        ]
+
+      -- what it comes to from an earlier view to a later one, which shows what the leaf had reached
+      module _ (used : ℕ) (u z : SeatView) (same_shape : u.shape ≡ v.shape) (before : ArePrefixes u.seen v.seen) (later : ArePrefixes w1.seen z.seen) (lifts : Lifts v.shape w1.seen z.seen key v.shape.bits) where
+        shown_up : (n : ℕ) → n ≤ told.index → NewestShows u.shape z.seen key u.shape.bits n
+        shown_up n le = subst (λ (s : Shape). NewestShows s z.seen key s.bits n) (sym same_shape) (lifts.lifted n (newest_shows v.shape w1.seen key told.index n told.entry told.newest le))
 
         -- and the weight that was loaded it still had
-        weighed_up : WeighsAt w.seen key (serial_in_word word) (weight_in_word word)
-        weighed_up = let was = weighed_on w1.seen told.sees.later in record { entry = was.entry; at = entry_stays r.goes.later key (serial_in_word word) was.entry was.at; weighs = was.weighs }
+        weighed_up : WeighsAt z.seen key (serial_in_word word) (weight_in_word word)
+        weighed_up = let was = weighed_on w1.seen told.sees.later in record { entry = was.entry; at = entry_stays later key (serial_in_word word) was.entry was.at; weighs = was.weighs }
 
-        went_up : tried.found ≡ word → WentUp f (number + bits) v key request w a
-        went_up same = let hit = told.hit (same ∙ from) in let reached : told.index ≡ new_serial a = hit.1 in let gained : List Change = made_by key a in record {
-          weighed = subst (λ (z : ℕ × ℕ). WeighsAt w.seen key z.0 z.1) (λ i. (sym (serial_is request key word) i, sym (weight_is request key word) i)) weighed_up;
-          goes = goes_on f 0 used used gained v w1 w (omega arith) (omega arith)
-              (goes_after f 0 0 0 [] gained gained v w0 w1 (omega arith) (omega arith) refl first (goes_changing f w0 w1 gained _ h only hit.0 first.knows_table told.sees)) r.goes;
-          before = subst (ShowsAtMost v.shape v.seen key) (sym (serial_is request key word)) (at_most v w0 key word low loaded);
+        went_up : tried.found ≡ word → Goes f used (made_by key a) u z → WentUp f used u key request z a
+        went_up same goes = let hit = told.hit (same ∙ from) in let reached : told.index ≡ new_serial a = hit.1 in record {
+          weighed = subst (λ (s : ℕ × ℕ). WeighsAt z.seen key s.0 s.1) (λ i. (sym (serial_is request key word) i, sym (weight_is request key word) i)) weighed_up;
+          goes = goes;
+          before = subst (ShowsAtMost u.shape u.seen key) (sym (serial_is request key word)) (at_most_from u same_shape before);
           shown = shown_up (new_serial a) (omega (arith, reached));
-          weighs = record { entry = told.entry; at = entry_stays r.goes.later key (new_serial a) told.entry (subst (λ (z : ℕ). At w1.seen key z told.entry) reached told.newest.at); weighs = hit.2 };
-          passes = λ e. let p = told.passes (same ∙ from) e in record { entry = p.entry; at = entry_stays r.goes.later key (a.serial + 1) p.entry p.at; passed = p.passed };
+          weighs = record { entry = told.entry; at = entry_stays later key (new_serial a) told.entry (subst (λ (s : ℕ). At w1.seen key s told.entry) reached told.newest.at); weighs = hit.2 };
+          passes = λ e. let p = told.passes (same ∙ from) e in record { entry = p.entry; at = entry_stays later key (a.serial + 1) p.entry p.at; passed = p.passed };
         }
 
-        stayed : tried.found ≢ word → Stayed f (number + bits) v key request w word
-        stayed other = let miss = told.miss (missed other) in let past = miss.1 in let serial = serial_is request key word in record {
-          goes = goes_on f 0 used used [] v w1 w (omega arith) (omega arith) (goes_on f 0 0 0 [] v w0 w1 (omega arith) (omega arith) first (goes_seeing f w0 w1 _ miss.0 first.knows_table told.sees)) r.goes;
-          before = at_most v w0 key word low loaded;
-          shown = subst (NewestShows v.shape w.seen key v.shape.bits) (sym (way_next request word lets)) (shown_up (serial_in_word word + 1) (omega (arith, past, serial)));
-          weighed = weighed_up;
-        }
-
-        by_replaces : (b : Bool) → a.replaces ≡ b → WentUp f (number + bits) v key request w a → CameTo f (number + bits) v key request w word (if b then Replaced else Accepted)
+        by_replaces : (b : Bool) → a.replaces ≡ b → WentUp f used u key request z a → CameTo f used u key request z word (if b then Replaced else Accepted)
         by_replaces true e up = (up, e, lets)
         by_replaces false e up = (up, e, lets)
 
-        -- an update that tried its leaf
-        pub updated : (done : Outcome) → done ≡ (if ok then outcome_by request word else Refused) → Updated f (number + bits) v key request w done
-        updated done comes = let between = r.took in let least = between.least_steps in let most = between.most_steps in let count = between.took.count in
-            let done_hit : (tried.found ≡ word → done ≡ outcome_by request word) = λ same. comes ∙ ap (λ (z : Bool). if z then outcome_by request word else Refused) (tried.decided.1 same) in
-            let done_miss : (tried.found ≢ word → done ≡ Refused) = λ other. elim (cases_Bool ok) [
-              | inl t ↦ absurd (other (tried.decided.0 t))
-              | inr n ↦ comes ∙ ap (λ (z : Bool). if z then outcome_by request word else Refused) n
-            ] in
-            let done_by : done ≡ (if tried.found == word then outcome_by request word else Refused) = elim (cases_Bool (tried.found == word)) [
-              | inl t ↦ done_hit (eqb-true tried.found word t) ∙ ap (λ (z : Bool). if z then outcome_by request word else Refused) (sym t)
-              | inr n ↦ done_miss (eqb-false tried.found word n) ∙ ap (λ (z : Bool). if z then outcome_by request word else Refused) (sym n)
-            ] in record {
+        pub came_up : tried.found ≡ word → Goes f used (made_by key a) u z → CameTo f used u key request z word (outcome_by request word)
+        came_up same goes = subst (CameTo f used u key request z word) (sym (outcome_is request key word)) (by_replaces a.replaces refl (went_up same goes))
+
+        pub came_late : tried.found ≢ word → Goes f used [] u z → CameTo f used u key request z word Refused
+        came_late other goes = let past = (told.miss (missed other)).1 in let serial = serial_is request key word in record {
+          goes = goes;
+          before = at_most_from u same_shape before;
+          shown = subst (NewestShows u.shape z.seen key u.shape.bits) (sym (way_next request word lets)) (shown_up (serial_in_word word + 1) (omega (arith, past, serial)));
+          weighed = weighed_up;
+        }
+
+    -- ---- up to the root at once
+
+    module _ (bits number : ℕ) (is : bits ≡ v.shape.bits) (some : 1 ≤ bits) where
+      abbrev used : ℕ
+      used = number + bits
+
+      -- a way from a view of the same table lifts what was reached
+      lifts_whole : (leaf w : SeatView) → leaf.shape ≡ v.shape → HasRisen f bits number key leaf bits w → Lifts v.shape leaf.seen w.seen key v.shape.bits
+      lifts_whole leaf w shaped r = subst (λ (z : Shape × ℕ). Lifts z.0 leaf.seen w.seen key z.1) (λ i. (shaped i, is i)) r.lifts
+
+      pub refused_at_once : (w : SeatView) → goes_from request word ≡ false → HasRisen f bits number key w0 bits w → Updated f (number + bits) v key request w (outcome_at_once request)
+      refused_at_once w other h = let goes = h.goes in let between = h.took in let least = between.least_steps in let most = between.most_steps in let count = between.took.count in record {
+        loaded = word;
+        more = between.took.more;
+        steps = between.took.steps ∙ ap (λ (z : List StepTaken). z ++ between.took.more) steps0 ∙ append_assoc v.steps (load_leaf key word ∷ []) between.took.more;
+        least_steps = omega arith;
+        most_steps = omega arith;
+        tried = λ lets. absurd (false≢true (sym other ∙ lets));
+        refusing = λ _. (refl, between.took.no_try);
+        came_to = came_back used v w refl (book_refl v.seen) goes.later other (lifts_whole w0 w shaped0 h) (goes_on f 0 used used [] v w0 w (omega arith) (omega arith) first goes);
+      }
+
+      -- an update that tried its leaf
+      module _ (fits : FitsRequest request) (lets : goes_from request word ≡ true) (w1 : SeatView) (ok : Bool) (h : Held) (only : HoldsOnly w0 h) (tried : TriedLeaf f w0 key word (word_after request key word) ok w1) where
+        pub updated : (w : SeatView) → HasRisen f bits number key w1 bits w → (done : Outcome) → done ≡ (if ok then outcome_by request word else Refused) → Updated f (number + bits) v key request w done
+        updated w r done comes = let between = r.took in let least = between.least_steps in let most = between.most_steps in let count = between.took.count in
+            let one : StepTaken = taken fits lets w1 ok h only tried in let lifts = lifts_whole w1 w (shaped1 fits lets w1 ok h only tried) r in record {
               loaded = word;
-              more = taken ∷ between.took.more;
-              steps = between.took.steps ∙ ap (λ (z : List StepTaken). z ++ between.took.more) steps1 ∙ append_assoc v.steps (load_leaf key word ∷ taken ∷ []) between.took.more;
+              more = one ∷ between.took.more;
+              steps = between.took.steps ∙ ap (λ (z : List StepTaken). z ++ between.took.more) (steps1 fits lets w1 ok h only tried) ∙ append_assoc v.steps (load_leaf key word ∷ one ∷ []) between.took.more;
               least_steps = omega arith;
               most_steps = omega arith;
-              tried = λ _. record { found = tried.found; rest = between.took.more; second = refl; says = done_by; no_other = between.took.no_try };
+              tried = λ _. record { found = tried.found; rest = between.took.more; second = refl; says = done_by fits lets w1 ok h only tried done comes; no_other = between.took.no_try };
               refusing = λ other. absurd (false≢true (sym other ∙ lets));
               came_to = ⊎_elim
-                  (λ (same : tried.found ≡ word). subst (CameTo f (number + bits) v key request w word) (sym (done_hit same ∙ outcome_is request key word)) (by_replaces a.replaces refl (went_up same)))
-                  (λ other. subst (CameTo f (number + bits) v key request w word) (sym (done_miss other)) (stayed other)) (cases_eq tried.found word);
+                  (λ (same : tried.found ≡ word). subst (CameTo f (number + bits) v key request w word) (sym (done_hit fits lets w1 ok h only tried done comes same))
+                  (came_up fits lets w1 ok h only tried used v w refl (book_refl v.seen) r.goes.later lifts same (goes_on f 0 used used (made_by key a) v w1 w (omega arith) (omega arith) (goes_hit fits lets w1 ok h only tried same) r.goes)))
+                  (λ other. subst (CameTo f (number + bits) v key request w word) (sym (done_miss fits lets w1 ok h only tried done comes other))
+                  (came_late fits lets w1 ok h only tried used v w refl (book_refl v.seen) r.goes.later lifts other (goes_on f 0 used used [] v w1 w (omega arith) (omega arith) (goes_miss fits lets w1 ok h only tried other) r.goes))) (cases_eq tried.found word);
             }
 
   -- a pass with room for the records of the way exchanged its leaf, or failed to: it may go up the way, and that ends the update
@@ -239,8 +281,8 @@ module _ (f : ℕ → ℕ → List (ℕ × ℕ) → List ℕ) where
       → FitsRequest request → goes_from request word ≡ true → new ≡ word_after request key word → TriedLeaf f w0 key word new ok w1 → LeafTried v w1 key word bits number request ok
   leaf_tried {v} {w0} {w1} {key} {word} {bits} {number} {new} {ok} request low is kn room l fits lets is_new tries = let some = kn.laid_out.bits.0 in let few : 1 ≤ bits = omega arith in
       let g0 = goes_begun v w0 key word kn l in let free = (room_on f [] v w0 number bits g0 room).is_free in let t = subst (λ (z : ℕ). TriedLeaf f w0 key word z ok w1) is_new tries in
-      let g1 = tried_goes v w0 key word request bits number low is few kn l fits lets w1 ok free.lane free.only t in let g = goes_after f 0 0 0 [] g1.0 g1.0 v w0 w1 (omega arith) (omega arith) refl g0 g1.1 in record {
+      let g1 = tried_goes v w0 key word request low kn l fits lets w1 ok free.lane free.only t in let g = goes_after f 0 0 0 [] g1.0 g1.0 v w0 w1 (omega arith) (omega arith) refl g0 g1.1 in record {
         same_shape = g.shaped;
         rises = may_rise bits number key g1.0 v w1 low is room g;
-        updated = λ w done risen comes. updated v w0 key word request bits number low is few kn l fits lets w1 ok free.lane free.only t w risen done comes;
+        updated = λ w done risen comes. updated v w0 key word request low kn l bits number is few fits lets w1 ok free.lane free.only t w risen done comes;
       }

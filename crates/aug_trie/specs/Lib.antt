@@ -10,6 +10,7 @@ pub mod Chains
 pub mod Round
 pub mod Note
 pub mod Pass
+pub mod UpdateBatches
 pub mod Ledger
 pub mod Snapshot
 pub mod Node

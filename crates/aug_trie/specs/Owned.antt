@@ -1,9 +1,10 @@
 -- A pass that keeps its round.
-use Rattle.std.specs.Prelude.{ℕ, List}
+use Rattle.std.specs.Prelude.{◌≡◌, ℕ, List, length, drop}
 use Rattle.aug_trie.specs.declared.updates.outcome.Outcome.{Outcome}
 use Rattle.aug_model.specs.declared.summary.Summary.{Summary}
 use Rattle.aug_trie.specs.Updates.{ComesTo, TakesSnapshot}
 use Rattle.aug_trie.specs.Snapshot.{snapshot_cut}
+use Rattle.aug_trie.specs.UpdateBatches.{DoesBatch}
 use Rattle.aug_trie.specs.Pass.{PassFacts, GoesOn, StepsOf}
 use Rattle.aug_trie.specs.Node.{Keeps}
 use Rattle.aug_trie.specs.Crew.{CrewFacts, HandsOut}
@@ -22,3 +23,10 @@ pub record OneUpdate {A B : Type 0} (summary_of : List (ℕ × ℕ) → Summary 
   pub goes_on : (steps : ℕ) × GoesOn 1 steps old new
   pub keeps : Keeps summary_of old new
   pub steps : StepsOf asked key done old new
+
+-- an update of each of some keys, all that the contract of a batch says
+pub record SomeUpdates {A B : Type 0} (summary_of : List (ℕ × ℕ) → Summary A B) (requests : List Request) (keys : List ℕ) (before after : List Outcome) (old new : PassFacts) : Type 0 where
+  pub does : DoesBatch requests keys after old new
+  pub rest : drop (length keys) after ≡ drop (length keys) before
+  pub goes_on : (steps : ℕ) × GoesOn (length keys) steps old new
+  pub keeps : Keeps summary_of old new

@@ -1,4 +1,5 @@
 -- What no promise rests on: what private fields keep, what private calls leave, how views come of fields, and lemmas.
+pub mod Batching
 pub mod ClimbState
 pub mod Climbing
 pub mod Counted

@@ -1,6 +1,7 @@
 //! Rounds, their passes and crews, and the trie at rest.
 
 pub(crate) mod account;
+pub(crate) mod batch;
 pub(crate) mod crew;
 pub(crate) mod ended;
 pub(crate) mod ended_tree;

@@ -1,5 +1,6 @@
 //! An update by one call.
 
+pub(crate) mod batch;
 pub(crate) mod leaf_words;
 pub(crate) mod outcome;
 pub(crate) mod parts;

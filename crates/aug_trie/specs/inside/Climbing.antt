@@ -65,6 +65,13 @@ module _ (face : ℕ → ℕ → List (ℕ × ℕ) → List ℕ) (used : ℕ) (v
   CameTo loaded outcome.Refused = Stayed loaded
   CameTo loaded done = StayedAtOnce loaded done
 
+  -- an update by the word that it found, whatever its other steps were
+  pub record Settled (done : Outcome) : Type 0 where
+    pub loaded : ℕ
+    pub more : List StepTaken
+    pub refusing : goes_from request loaded ≡ false → (done ≡ outcome_at_once request) × TryNoLeaf more
+    pub came_to : CameTo loaded done
+
   -- an update: its first step is a load of the leaf, and the number of its steps has a lower and an upper bound
   pub record Updated (done : Outcome) : Type 0 where
     pub loaded : ℕ

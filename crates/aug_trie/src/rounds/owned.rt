@@ -1,5 +1,5 @@
 //! A pass together with its round, which no lifetime ties to a caller.
-ghost use Rattle.std.specs.Prelude.{if◌then◌else◌, ◌≡◌, ◌↔◌, ℕ, ◌+◌, ◌^◌, ◌<◌, ◌≤◌, ◌++◌, [], ◌∷◌, IfOk, IfErr, IsErrOf};
+ghost use Rattle.std.specs.Prelude.{if◌then◌else◌, ◌≡◌, ◌↔◌, ℕ, ◌+◌, ◌-◌, ◌^◌, ◌<◌, ◌≤◌, min, ◌++◌, [], ◌∷◌, All, length, take, IfOk, IfErr, IsErrOf};
 ghost use Rattle.std.specs.Arc.{arc_value};
 ghost use Rattle.aug_core.specs.Kinds.{load_node};
 ghost use Rattle.aug_model.specs.Folds.{summary_of};
@@ -11,7 +11,7 @@ ghost use Rattle.aug_trie.specs.Passes.{HasLearnt};
 ghost use Rattle.aug_trie.specs.Node.{Keeps, Reads, steps_for};
 ghost use Rattle.aug_trie.specs.Snapshot.{HasSnapshot, set_at, snapshot_cut};
 ghost use Rattle.aug_trie.specs.Crew.{TakesBack};
-ghost use Rattle.aug_trie.specs.Owned.{OneUpdate, OpensPass};
+ghost use Rattle.aug_trie.specs.Owned.{OneUpdate, OpensPass, SomeUpdates};
 ghost use Rattle.aug_trie.specs.Pops.{Pops};
 ghost use Rattle.aug_monoid.specs.Extent.{extent_parts};
 
@@ -130,6 +130,31 @@ impl<A: Monoid, B: Monoid> OwnedPass<A, B> {
         let half = pass.into_half();
         let owned = OwnedPass { round, half, held };
         (owned, Ok(done))
+    }
+
+    /// Makes an update of each of the first keys, as `Pass::update_all` does: of as many as it has updates left. It tells how many that are.
+    #[inline(always)]
+    pub fn update_all(
+        self,
+        keys: &[u32],
+        requests: &[Request],
+        outcomes: &mut [Outcome],
+    ) -> (OwnedPass<A, B>, usize)
+        requires keys { All (λ k. k < 2 ^ self.half.round.bits) keys.now }
+        requires requests { length keys.now ≤ length requests.now }
+        requires outcomes { length keys.now ≤ length outcomes.old }
+        ensures count { result.1 ≡ min (length keys.now) (self.half.round.updates - self.half.spent) }
+        ensures made { SomeUpdates (summary_of A.parts B.parts) requests.now (take result.1 keys.now) outcomes.old outcomes.new self.half result.0.half }
+        ensures held { result.0.held ≡ self.held }
+        ensures round { result.0.round ≡ self.round }
+    {
+        let count = keys.len().min(self.half.budget() as usize);
+        let OwnedPass { round, half, held } = self;
+        let mut pass = round.pass(half);
+        pass.update_all(&keys[..count], requests, outcomes);
+        let half = pass.into_half();
+        let owned = OwnedPass { round, half, held };
+        (owned, count)
     }
 
     /// Asks its snapshot, in so many steps as a pass takes for that.

@@ -1,9 +1,10 @@
 //! From a leaf to the root.
-ghost use Rattle.std.specs.Prelude.{◌≡◌, ◌+◌, ◌^◌, ◌<◌};
+ghost use Rattle.std.specs.Prelude.{◌≡◌, ◌+◌, ◌^◌, ◌<◌, ◌≤◌};
 ghost use Rattle.aug_core.specs.Faces.{face};
 ghost use Rattle.aug_core.specs.Addresses.{IsInner};
 ghost use Rattle.aug_core.specs.Told.{KnowsTable};
 ghost use Rattle.aug_trie.specs.inside.Goes.{HasLeaves, HasRoom};
+ghost use Rattle.aug_trie.specs.inside.Batching.{Raises};
 ghost use Rattle.aug_trie.specs.inside.Stages.{IsCovered, MayRise, HasRisen};
 
 use crate::updates::refreshing::refresh;
@@ -32,24 +33,26 @@ fn refresh_twice<A: Monoid, B: Monoid>(
     refresh(pass, leaves, node, number);
 }
 
-// Brings each ancestor of a leaf up to its children, from the leaf's parent to the root.
+// Brings the ancestors of a leaf up to their children, from the leaf's parent up to a level.
 #[inline(always)]
 pub(crate) fn propagate<'r, A: Monoid, B: Monoid>(
     pass: WordPass<'r, A, B>,
     leaves: usize,
-    bits: u32,
+    levels: u32,
     leaf: usize,
     number: u64,
 ) -> WordPass<'r, A, B>
     requires leaves { HasLeaves pass.view.shape leaves }
-    requires rises { MayRise (face A.parts B.parts) bits number leaf pass.view }
-    requires small { number + bits < 2 ^ 60 }
+    requires rises { MayRise (face A.parts B.parts) pass.view.shape.bits number leaf pass.view }
+    requires levels { levels ≤ pass.view.shape.bits }
+    requires small { number + levels < 2 ^ 60 }
     ensures table { result.table ≡ pass.entry.table }
-    ensures risen { HasRisen (face A.parts B.parts) bits number leaf pass.entry.view bits result.view }
+    ensures risen { HasRisen (face A.parts B.parts) pass.entry.view.shape.bits number leaf pass.entry.view levels result.view }
+    ensures raises { Raises leaf pass.entry.view levels result.view }
 {
     let mut pass = pass;
     let mut node = leaf;
-    for level in 0..bits {
+    for level in 0..levels {
         node = leaves + node / 2;
         refresh_twice(&mut pass, leaves, node, number + u64::from(level));
     }

@@ -1,4 +1,4 @@
-use Rattle.std.proofs.Common.{◌≡◌, ◌+◌, ◌<◌, ◌∙◌, List, [], ◌∷◌, ◌++◌, true, vec_len, ap, arith}
+use Rattle.std.proofs.Common.{◌≡◌, ◌+◌, ◌<◌, ◌∙◌, [], ◌∷◌, ◌++◌, true, vec_len, ap, arith}
 use Rattle.std.specs.Prelude.{Option, option_to_list}
 use Rattle.aug_live.specs.inside.LaneKnowledge.{EndFacts, rolls}
 use Rattle.aug_live.proofs.Dealing.{moved_one}

@@ -1,13 +1,12 @@
-use Rattle.std.proofs.Common.{◌≡◌, ◌-◌, ◌+◌, ◌++◌, ◌<◌, ◌∙◌, ℕ, List, All, inr, [], ◌∷◌, true, ap, length, map, refl, subst, sym, vec_len, arith}
+use Rattle.std.proofs.Common.{◌≡◌, ◌-◌, ◌<◌, ◌∙◌, List, All, inr, [], ◌∷◌, true, ap, length, map, refl, subst, sym, vec_len, arith}
 use Rattle.std.specs.Arc.{arc_value}
-use Rattle.std.specs.Prelude.{reverse}
 use mathlib.Core.Option.{some}
 use lib.ListN.{get_elem?}
 use Rattle.aug_trie.proofs.Chaining.{part_refl}
 use Rattle.aug_trie.specs.Crew.{crew_chain}
 use Rattle.aug_live.specs.LiveTries.{LaneGoesOn, TrieFacts, ids_of}
 use Rattle.aug_live.specs.inside.Desks.{out_of}
-use Rattle.aug_live.specs.inside.LaneKnowledge.{EndFacts, lane_by, rounds_at, taken_in}
+use Rattle.aug_live.specs.inside.LaneKnowledge.{EndFacts, lane_by, taken_in}
 use Rattle.aug_live.specs.inside.Rolls.{IsOf, kept_of, rounds_in}
 use Rattle.aug_live.specs.declared.known.Whose.TheVariants.{Roller, Idle}
 use Rattle.aug_live.proofs.Accounting.{accounts_kept}

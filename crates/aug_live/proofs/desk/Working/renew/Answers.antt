@@ -14,7 +14,7 @@ use Rattle.std.proofs.lemmas.List.{length-map}
 use Rattle.aug_live.specs.LiveHandles.{HandleFacts}
 use Rattle.aug_live.specs.LiveTries.{LaneKnown, TrieFacts}
 use Rattle.aug_live.specs.inside.LaneKnowledge.{EndFacts, lane_by, rounds_at}
-use Rattle.aug_live.specs.inside.Rolls.{IsHandleEnd, IsOf, IsPort, kept_of, rounds_in}
+use Rattle.aug_live.specs.inside.Rolls.{IsHandleEnd, IsOf, kept_of, rounds_in}
 use Rattle.aug_live.proofs.Accounting.{accounts_kept, few_handles, few_missing}
 use Rattle.aug_live.proofs.Counted.{desk_on, more_self}
 use Rattle.aug_live.proofs.Desks.{kept_on, lanes_settled, no_lanes, settled, unsettled}

@@ -1,15 +1,8 @@
-use Rattle.std.proofs.Common.{◌∙◌, List, ap, refl, subst, sym, arith}
-use Rattle.std.specs.Prelude.{Some, IfErr}
-use lib.ListN.{get_elem?}
-use Rattle.atomic_table.specs.Seated.{TableId}
+use Rattle.std.proofs.Common.{◌∙◌, refl, subst, sym, arith}
+use Rattle.std.specs.Prelude.{Some}
 use Rattle.ruled_lock.specs.Locks.{client_of}
-use Rattle.aug_trie.specs.Chains.{IsPart}
-use Rattle.aug_trie.specs.Note.{chain_of_note}
-use Rattle.aug_trie.proofs.Chaining.{part_trans}
-use Rattle.aug_live.specs.inside.Desks.{GivesLane, TakesEnd}
-use Rattle.aug_live.specs.LiveTries.{CameBack, KnowsMore, TrieFacts}
-use Rattle.aug_live.proofs.Carries.{ok_any, ok_map}
-use Rattle.aug_live.proofs.Counted.{came_from, ids_more, more_on, more_self}
+use Rattle.aug_live.specs.LiveTries.{KnowsMore, TrieFacts}
+use Rattle.aug_live.proofs.Counted.{more_on, more_self}
 use Rattle.aug_live.proofs.Lanes.{as_many}
 use Rattle.aug_live.proofs.Told.{put_told, turns}
 use Rattle.aug_live.proofs.desk_end.DeskEnd.renew.Goals as goal

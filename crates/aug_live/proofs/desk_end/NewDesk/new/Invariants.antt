@@ -1,4 +1,4 @@
-use Rattle.std.specs.Prelude.{◌≡◌, ◌+◌, ◌≤◌, All, vec_len, vec_capacity}
+use Rattle.std.specs.Prelude.{◌≡◌, ◌≤◌, All, vec_len, vec_capacity}
 use Rattle.aug_live.proofs.desk_end.NewDesk.new.Given as goal
 
 abbrev pub invariant-loop : goal.invariant-loop

@@ -1,9 +1,7 @@
-use Rattle.std.proofs.Common.{◌≡◌, ◌∙◌, ap, sym, subst}
-use Rattle.std.specs.Arc.{arc_value}
-use Rattle.aug_trie.specs.Chains.{BeginsWith}
+use Rattle.std.proofs.Common.{sym, subst}
 use Rattle.aug_trie.specs.Round.{table_of}
 use Rattle.aug_live.specs.LiveHandles.{Follows, HandleFacts}
-use Rattle.aug_live.specs.inside.LaneKnowledge.{EndFacts, LaneFacts}
+use Rattle.aug_live.specs.inside.LaneKnowledge.{LaneFacts}
 use Rattle.aug_live.specs.inside.Rolls.{HasEnded}
 use Rattle.aug_live.proofs.Carries.{begun_follows}
 use Rattle.aug_live.proofs.held.Emptied.begin.Goals as goal

@@ -1,4 +1,4 @@
-use Rattle.std.proofs.Common.{◌∙◌, ap, sym, subst}
+use Rattle.std.proofs.Common.{ap, sym, subst}
 use Rattle.aug_core.specs.Prefixes.{IsPrefix}
 use Rattle.aug_trie.specs.Pass.{PassFacts}
 use Rattle.aug_live.specs.inside.LaneKnowledge.{EndFacts}

@@ -2,7 +2,7 @@ use Rattle.std.proofs.Common.{◌≡◌, ◌∙◌, List, ap, refl, sym, subst}
 use Rattle.std.specs.Prelude.{Result, IfOk}
 use lib.ListN.{get_elem?}
 use Rattle.atomic_table.specs.Seated.{TableId}
-use Rattle.aug_live.specs.LiveTries.{IsHandleOf, KnowsMore, TrieFacts, ids_of}
+use Rattle.aug_live.specs.LiveTries.{IsHandleOf, KnowsMore, ids_of}
 use Rattle.aug_live.proofs.Counted.{ids_more, more_self}
 use Rattle.aug_live.proofs.live.Live.give.Goals as goal
 use Rattle.aug_live.proofs.live.Live.give.Goals.{in-Ok-renew, in-Err}

@@ -1,0 +1,19 @@
+use Rattle.std.proofs.Common.{sym, ◌∙◌}
+use Rattle.aug_trie.proofs.BatchCalls.{batch_made}
+use Rattle.aug_trie.proofs.rounds.pass.Pass.update_all.Goals as goal
+
+pub invariant_of-self : goal.invariant_of-self
+invariant_of-self g c = let left = c.at_leaves-after.ensures in let up = c.propagate_all-words.ensures in
+    (batch_made g.A.Monoid.parts g.B.Monoid.parts c.self.invariant c.self.view_is (sym c.take.ensures.value ∙ c.in-Some.is) c.requires.keys c.requires.budget left.left left.table left.account left.counts up.raised up.table).holds
+
+pub returns-clause-does : goal.returns-clause-does
+returns-clause-does g c = let left = c.at_leaves-after.ensures in let up = c.propagate_all-words.ensures in
+    (batch_made g.A.Monoid.parts g.B.Monoid.parts c.self.invariant c.self.view_is (sym c.take.ensures.value ∙ c.in-Some.is) c.requires.keys c.requires.budget left.left left.table left.account left.counts up.raised up.table).does
+
+pub returns-clause-goes_on : goal.returns-clause-goes_on
+returns-clause-goes_on g c = let left = c.at_leaves-after.ensures in let up = c.propagate_all-words.ensures in
+    (batch_made g.A.Monoid.parts g.B.Monoid.parts c.self.invariant c.self.view_is (sym c.take.ensures.value ∙ c.in-Some.is) c.requires.keys c.requires.budget left.left left.table left.account left.counts up.raised up.table).goes_on
+
+pub returns-clause-keeps : goal.returns-clause-keeps
+returns-clause-keeps g c = let left = c.at_leaves-after.ensures in let up = c.propagate_all-words.ensures in
+    (batch_made g.A.Monoid.parts g.B.Monoid.parts c.self.invariant c.self.view_is (sym c.take.ensures.value ∙ c.in-Some.is) c.requires.keys c.requires.budget left.left left.table left.account left.counts up.raised up.table).keeps

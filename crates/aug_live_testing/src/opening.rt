@@ -215,3 +215,34 @@ pub fn try_fill(hand: &mut HandleOf, from: u32, count: u32) -> u32 {
     }
     made
 }
+
+/// Makes three updates in one batch: how many were made, and what these came to. None is made of keys of more bits.
+pub fn update_all<R: Wait>(
+    rt: &R,
+    hand: &mut HandleOf,
+    keys: (u32, u32, u32),
+    requests: &[Request; 3],
+) -> Result<(usize, [Outcome; 3]), LiveError> {
+    let mut outcomes = [Outcome::TooGreat; 3];
+    let universe = hand.universe();
+    if keys.0 >= universe || keys.1 >= universe || keys.2 >= universe {
+        return Ok((0, outcomes));
+    }
+    let count = hand.update_all(rt, &[keys.0, keys.1, keys.2], requests, &mut outcomes)?;
+    Ok((count, outcomes))
+}
+
+/// The same, which waits for nobody.
+pub fn try_update_all(
+    hand: &mut HandleOf,
+    keys: (u32, u32, u32),
+    requests: &[Request; 3],
+) -> Result<(usize, [Outcome; 3]), TryError<Busy>> {
+    let mut outcomes = [Outcome::TooGreat; 3];
+    let universe = hand.universe();
+    if keys.0 >= universe || keys.1 >= universe || keys.2 >= universe {
+        return Ok((0, outcomes));
+    }
+    let count = hand.try_update_all(&[keys.0, keys.1, keys.2], requests, &mut outcomes)?;
+    Ok((count, outcomes))
+}

@@ -6,6 +6,8 @@ mod adding;
 #[cfg(test)]
 mod assertions;
 #[cfg(test)]
+mod batching;
+#[cfg(test)]
 mod own;
 #[cfg(test)]
 mod popping;

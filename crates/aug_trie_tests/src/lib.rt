@@ -8,6 +8,8 @@ mod asking;
 #[cfg(test)]
 mod assertions;
 #[cfg(test)]
+mod batching;
+#[cfg(test)]
 mod beginning;
 #[cfg(test)]
 mod carrying;

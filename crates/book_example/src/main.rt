@@ -94,7 +94,7 @@ fn at_work<R: Threads + Wait + Sync>(rt: &R, users: Vec<User>) -> anyhow::Result
     Ok(agree?)
 }
 
-// What a book shows: the best prices, all volume and that of the bids from 1950 on, and at which price 1,000 are sold that are bought at once.
+// What a book shows: the best prices, all volume, that of the bids from 1950 on, and the highest price that whoever buys 1,000 at once has to pay.
 #[derive(Clone, Copy)]
 struct Figures {
     bid: Option<u32>,

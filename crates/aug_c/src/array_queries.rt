@@ -14,19 +14,19 @@ use aug_query::descent::{Four, Has, Rank, Weight};
 use std::alloc::Global;
 
 // What is asked for each key of an array, and what is written of the answer.
-trait Told<T> {
-    ghost told: { SetFacts → ℕ → T };
+trait KeyQuery<T> {
+    ghost answer_of: { SetFacts → ℕ → T };
 
-    fn tell(look: &mut LookOf, key: u32) -> T
-        ensures answer { result ≡ told (set_of_look look.old) key }
+    fn ask(look: &mut LookOf, key: u32) -> T
+        ensures answer { result ≡ answer_of (set_of_look look.old) key }
         ensures asked { (most : ℕ) × IsAsked span_of most look.old look.new };
 
     // The same for four keys, which go down together.
-    fn tell_four(look: &mut LookOf, p: u32, q: u32, r: u32, s: u32) -> (T, T, T, T)
-        ensures p { result.0 ≡ told (set_of_look look.old) p }
-        ensures q { result.1 ≡ told (set_of_look look.old) q }
-        ensures r { result.2 ≡ told (set_of_look look.old) r }
-        ensures s { result.3 ≡ told (set_of_look look.old) s }
+    fn ask_four(look: &mut LookOf, p: u32, q: u32, r: u32, s: u32) -> (T, T, T, T)
+        ensures p { result.0 ≡ answer_of (set_of_look look.old) p }
+        ensures q { result.1 ≡ answer_of (set_of_look look.old) q }
+        ensures r { result.2 ≡ answer_of (set_of_look look.old) r }
+        ensures s { result.3 ≡ answer_of (set_of_look look.old) s }
         ensures asked { (most : ℕ) × IsAsked span_of most look.old look.new };
 }
 
@@ -51,32 +51,32 @@ fn weight(answer: Option<u32>) -> i64
 
 struct Ranked;
 
-impl Told<u32> for Ranked {
-    ghost told = { λ set k. rank_of (list_of set) k };
+impl KeyQuery<u32> for Ranked {
+    ghost answer_of = { λ set k. rank_of (list_of set) k };
 
     #[inline(always)]
-    fn tell(look: &mut LookOf, key: u32) -> u32 {
+    fn ask(look: &mut LookOf, key: u32) -> u32 {
         look.ask(Rank(key))
     }
 
     #[inline(always)]
-    fn tell_four(look: &mut LookOf, p: u32, q: u32, r: u32, s: u32) -> (u32, u32, u32, u32) {
+    fn ask_four(look: &mut LookOf, p: u32, q: u32, r: u32, s: u32) -> (u32, u32, u32, u32) {
         look.ask(Four(Rank(p), Rank(q), Rank(r), Rank(s)))
     }
 }
 
 struct Found;
 
-impl Told<u8> for Found {
-    ghost told = { λ set k. bit_of (is_member (list_of set) k) };
+impl KeyQuery<u8> for Found {
+    ghost answer_of = { λ set k. bit_of (is_member (list_of set) k) };
 
     #[inline(always)]
-    fn tell(look: &mut LookOf, key: u32) -> u8 {
+    fn ask(look: &mut LookOf, key: u32) -> u8 {
         bit(look.ask(Has(key)))
     }
 
     #[inline(always)]
-    fn tell_four(look: &mut LookOf, p: u32, q: u32, r: u32, s: u32) -> (u8, u8, u8, u8) {
+    fn ask_four(look: &mut LookOf, p: u32, q: u32, r: u32, s: u32) -> (u8, u8, u8, u8) {
         let (p, q, r, s) = look.ask(Four(Has(p), Has(q), Has(r), Has(s)));
         (bit(p), bit(q), bit(r), bit(s))
     }
@@ -84,31 +84,31 @@ impl Told<u8> for Found {
 
 struct Weighed;
 
-impl Told<i64> for Weighed {
-    ghost told = { λ set k. found (weight_of set.pairs k) };
+impl KeyQuery<i64> for Weighed {
+    ghost answer_of = { λ set k. found (weight_of set.pairs k) };
 
     #[inline(always)]
-    fn tell(look: &mut LookOf, key: u32) -> i64 {
+    fn ask(look: &mut LookOf, key: u32) -> i64 {
         weight(look.ask(Weight(key)))
     }
 
     #[inline(always)]
-    fn tell_four(look: &mut LookOf, p: u32, q: u32, r: u32, s: u32) -> (i64, i64, i64, i64) {
+    fn ask_four(look: &mut LookOf, p: u32, q: u32, r: u32, s: u32) -> (i64, i64, i64, i64) {
         let (p, q, r, s) = look.ask(Four(Weight(p), Weight(q), Weight(r), Weight(s)));
         (weight(p), weight(q), weight(r), weight(s))
     }
 }
 
 // Asks a look for each key, for four at a time while there are as many.
-fn tell_each<T: Copy, E: Told<T>>(look: &mut LookOf, keys: &[u32], out: &mut [T]) -> i64
-    ensures { AnswersArray E.told keys.now out.old out.new look.old look.new result }
+fn ask_each<T: Copy, E: KeyQuery<T>>(look: &mut LookOf, keys: &[u32], out: &mut [T]) -> i64
+    ensures { AnswersArray E.answer_of keys.now out.old out.new look.old look.new result }
 {
     if out.len() < keys.len() {
         return BAD_LENGTH;
     }
     let mut place = 0;
     while keys.len() - place >= 4 {
-        let (p, q, r, s) = E::tell_four(
+        let (p, q, r, s) = E::ask_four(
             look,
             keys[place],
             keys[place + 1],
@@ -122,20 +122,20 @@ fn tell_each<T: Copy, E: Told<T>>(look: &mut LookOf, keys: &[u32], out: &mut [T]
         place += 4;
     }
     for at in place..keys.len() {
-        let answer = E::tell(look, keys[at]);
+        let answer = E::ask(look, keys[at]);
         out[at] = answer;
     }
     0
 }
 
 // Asks the look of a handle's user for each key.
-fn tell_all<T: Copy, E: Told<T>>(
+fn ask_all<T: Copy, E: KeyQuery<T>>(
     alloc: Global,
     user: &mut UserHandle,
     keys: &[u32],
     out: &mut [T],
 ) -> i64
-    ensures asks { On (AsksAll E.told keys.now out.old out.new) (user_of user.old) (user_of user.new) result }
+    ensures asks { On (AsksAll E.answer_of keys.now out.old out.new) (user_of user.old) (user_of user.new) result }
     ensures closed { IsNone (user_of user.old) → out.new ≡ out.old }
     ensures foreign { IsNone user.old.held.value → user.new ≡ user.old }
 {
@@ -145,7 +145,7 @@ fn tell_all<T: Copy, E: Told<T>>(
     let code = match &mut slot.seat {
         None => CLOSED,
         Some(Seat::Free(_)) => NOT_LOOKING,
-        Some(Seat::Looking(held)) => tell_each::<T, E>(&mut held.look, keys, out),
+        Some(Seat::Looking(held)) => ask_each::<T, E>(&mut held.look, keys, out),
     };
     user.put(slot);
     code
@@ -164,7 +164,7 @@ pub extern "C" fn aug_try_rank_all(
     ensures closed { IsNone (user_of user.old) → out.new ≡ out.old }
     ensures foreign { IsNone user.old.held.value → user.new ≡ user.old }
 {
-    tell_all::<u32, Ranked>(alloc, user, keys, out)
+    ask_all::<u32, Ranked>(alloc, user, keys, out)
 }
 
 /// Writes whether the snapshot has each key, 1 or 0, as `aug_try_rank_all`.
@@ -179,7 +179,7 @@ pub extern "C" fn aug_try_has_all(
     ensures closed { IsNone (user_of user.old) → out.new ≡ out.old }
     ensures foreign { IsNone user.old.held.value → user.new ≡ user.old }
 {
-    tell_all::<u8, Found>(alloc, user, keys, out)
+    ask_all::<u8, Found>(alloc, user, keys, out)
 }
 
 /// Writes the weight of each key that is a member of the snapshot, and `NONE` for each other, as `aug_try_rank_all`.
@@ -194,5 +194,5 @@ pub extern "C" fn aug_try_weight_all(
     ensures closed { IsNone (user_of user.old) → out.new ≡ out.old }
     ensures foreign { IsNone user.old.held.value → user.new ≡ user.old }
 {
-    tell_all::<i64, Weighed>(alloc, user, keys, out)
+    ask_all::<i64, Weighed>(alloc, user, keys, out)
 }

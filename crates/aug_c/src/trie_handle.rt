@@ -3,7 +3,7 @@ ghost use Rattle.std.specs.Prelude.{◌≡◌, ◌≢◌, ◌↔◌, Some, None,
 ghost use Rattle.aug_c.specs.TrieHolding.{Content};
 ghost use Rattle.aug_c.specs.inside.TrieContent.{content_coded};
 
-use crate::loose::Loose;
+use crate::raw_box::RawBox;
 use crate::seat::Opened;
 use std::alloc::Global;
 use std::marker::Model;
@@ -49,20 +49,20 @@ impl TrieHeld {
         }
     }
 
-    fn of(b: Loose<TrieSlot, Global>) -> TrieHeld
+    fn of(b: RawBox<TrieSlot, Global>) -> TrieHeld
         ensures { result.value ≡ Some b.value }
     {
-        let Loose { at, alloc: _ } = b;
+        let RawBox { at, alloc: _ } = b;
         TrieHeld { at: at as *mut u8 }
     }
 
-    fn into_loose(self, alloc: Global) -> Loose<TrieSlot, Global>
+    fn into_raw_box(self, alloc: Global) -> RawBox<TrieSlot, Global>
         requires { IsSome self.value }
         ensures { self.value ≡ Some result.value }
     {
         let TrieHeld { at } = self;
         let at = at as *mut TrieSlot;
-        Loose { at, alloc }
+        RawBox { at, alloc }
     }
 }
 
@@ -92,7 +92,7 @@ impl TrieHandle {
                 held: TrieHeld::empty(),
             },
         );
-        Some(held.into_loose(alloc).into_box())
+        Some(held.into_raw_box(alloc).into_box())
     }
 
     /// Puts a box in, which it owns from then on.
@@ -101,7 +101,7 @@ impl TrieHandle {
     {
         *self = TrieHandle {
             tag: OPEN,
-            held: TrieHeld::of(Loose::of(slot)),
+            held: TrieHeld::of(RawBox::of(slot)),
         };
     }
 }

@@ -3,7 +3,7 @@ ghost use Rattle.std.specs.Prelude.{◌≡◌, ◌≢◌, ◌↔◌, Some, None,
 ghost use Rattle.aug_c.specs.UserHolding.{Content};
 ghost use Rattle.aug_c.specs.inside.UserContent.{content_coded};
 
-use crate::loose::Loose;
+use crate::raw_box::RawBox;
 use crate::seat::Seat;
 use std::alloc::Global;
 use std::marker::Model;
@@ -49,20 +49,20 @@ impl UserHeld {
         }
     }
 
-    fn of(b: Loose<UserSlot, Global>) -> UserHeld
+    fn of(b: RawBox<UserSlot, Global>) -> UserHeld
         ensures { result.value ≡ Some b.value }
     {
-        let Loose { at, alloc: _ } = b;
+        let RawBox { at, alloc: _ } = b;
         UserHeld { at: at as *mut u8 }
     }
 
-    fn into_loose(self, alloc: Global) -> Loose<UserSlot, Global>
+    fn into_raw_box(self, alloc: Global) -> RawBox<UserSlot, Global>
         requires { IsSome self.value }
         ensures { self.value ≡ Some result.value }
     {
         let UserHeld { at } = self;
         let at = at as *mut UserSlot;
-        Loose { at, alloc }
+        RawBox { at, alloc }
     }
 }
 
@@ -93,7 +93,7 @@ impl UserHandle {
                 held: UserHeld::empty(),
             },
         );
-        Some(held.into_loose(alloc).into_box())
+        Some(held.into_raw_box(alloc).into_box())
     }
 
     /// Puts a box in, which it owns from then on.
@@ -103,7 +103,7 @@ impl UserHandle {
     {
         *self = UserHandle {
             tag: OPEN,
-            held: UserHeld::of(Loose::of(slot)),
+            held: UserHeld::of(RawBox::of(slot)),
         };
     }
 }

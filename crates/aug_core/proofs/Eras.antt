@@ -10,7 +10,7 @@ use Rattle.atomic_table.proofs.Lists.{at_set, at_map, at_snoc}
 use Rattle.aug_core.specs.Places.{Shape}
 use Rattle.aug_core.specs.Opening.{Opening}
 use Rattle.aug_core.specs.Rule.{Kept}
-use Rattle.aug_core.specs.Told.{Sat, spent, handing_out, handed_out, taking_back}
+use Rattle.aug_core.specs.Effects.{Sat, spent, handing_out, handed_out, taking_back}
 use Rattle.aug_core.specs.Pasts.{IsLearnt}
 use Rattle.aug_core.specs.Eras.{IsAtWork, seen_in, table_in, opening_with, Remembers, Works, Renews, Ruled}
 use Rattle.aug_core.specs.inside.EraSteps.{Remains, WithEra}

@@ -3,7 +3,7 @@ use Rattle.std.proofs.Common.{◌≡◌, ℕ, zero, suc, ◌+◌, ◌-◌, ◌*�
 use Rattle.aug_core.specs.Places.{record_start, record_words}
 use Rattle.aug_core.specs.Lanes.{first_record, IsOfLane, block_start, block_size}
 use Rattle.aug_core.specs.inside.Refreshes.{SaysLoaded}
-use Rattle.aug_core.specs.Told.{HoldsOnly, held_word, on_first, with_word, storing, IsFilled}
+use Rattle.aug_core.specs.Effects.{HoldsOnly, held_word, on_first, with_word, storing, IsFilled}
 use Rattle.aug_core.specs.declared.view.Held.{Held}
 use Rattle.aug_core.specs.declared.view.SeatView.{SeatView}
 use Rattle.aug_core.proofs.Sizes.{in_block}

@@ -11,7 +11,7 @@ use Rattle.aug_core.specs.Counts.{AreTallied}
 use Rattle.aug_model.specs.Keys.{IsKeySet}
 use Rattle.aug_core.specs.Layout.{IsLayout}
 use Rattle.aug_core.specs.Opening.{opening_book}
-use Rattle.aug_core.specs.Told.{KnowsTable, Sees, taking, handed_out}
+use Rattle.aug_core.specs.Effects.{KnowsTable, Sees, taking, handed_out}
 use Rattle.aug_core.specs.declared.step.StepTaken.{StepTaken}
 use Rattle.aug_core.specs.declared.view.Beginning.{Beginning}
 use Rattle.aug_core.specs.declared.view.Held.{Held}

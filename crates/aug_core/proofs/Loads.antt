@@ -10,7 +10,7 @@ use Rattle.aug_core.specs.Book.{At, ArePrefixes, IsFresh, SerialsFit, IsBook}
 use Rattle.aug_core.specs.Opening.{Opening}
 use Rattle.aug_core.specs.Rule.{NamesNewest, Knows, Kept}
 use Rattle.aug_core.specs.Kinds.{load_leaf, load_node, load_record_word}
-use Rattle.aug_core.specs.Told.{Sat, stepping, held_word, read_record, seeing, beginning, Sees, LoadsNode, loaded_leaf, began_at_leaf, loaded_node}
+use Rattle.aug_core.specs.Effects.{Sat, stepping, held_word, read_record, seeing, beginning, Sees, LoadsNode, loaded_leaf, began_at_leaf, loaded_node}
 use Rattle.aug_core.specs.inside.EraSteps.{WithEra}
 use Rattle.aug_core.specs.declared.view.Entry.{Entry}
 use Rattle.aug_core.specs.declared.view.Held.{Held}

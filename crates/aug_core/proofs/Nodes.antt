@@ -12,7 +12,7 @@ use Rattle.aug_core.specs.Book.{Book, history_of, At, IsNewest, ArePrefixes, Flo
 use Rattle.aug_core.specs.Opening.{Opening}
 use Rattle.aug_core.specs.Rule.{Lists, NamesNewest, HoldsLane, Kept}
 use Rattle.aug_core.specs.Kinds.{try_node}
-use Rattle.aug_core.specs.Told.{Sat, HoldsOnly, MayStore, held_word, on_first, with_published, seeing, publishing, IsFilled, tried_node}
+use Rattle.aug_core.specs.Effects.{Sat, HoldsOnly, MayStore, held_word, on_first, with_published, seeing, publishing, IsFilled, tried_node}
 use Rattle.aug_core.specs.inside.EraSteps.{WithEra}
 use Rattle.aug_core.specs.inside.LaneStates.{HasTakenLane}
 use Rattle.aug_core.specs.declared.step.StepTaken.{StepTaken}

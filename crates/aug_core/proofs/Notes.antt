@@ -12,7 +12,7 @@ use Rattle.aug_core.specs.inside.EraSteps.{MayNote}
 use Rattle.aug_core.specs.Opening.{Opening}
 use Rattle.aug_core.specs.Counts.{StandsAt}
 use Rattle.aug_core.specs.Rule.{Knows, Kept}
-use Rattle.aug_core.specs.Told.{noted, spent}
+use Rattle.aug_core.specs.Effects.{noted, spent}
 use Rattle.aug_core.specs.Pasts.{IsEarlier, IsLearnt, learnt_of}
 use Rattle.aug_core.specs.Learning.{learning}
 use Rattle.aug_core.specs.declared.view.Change.{Change}

@@ -14,7 +14,7 @@ use Rattle.aug_model.proofs.Pairs.{length-keys_of, weight_fits, weight-none}
 use Rattle.aug_monoid.specs.Weighted.{FitsPair}
 use Rattle.aug_core.specs.Opening.{opening_serial, Opening, opening_pairs, opening_number, opening_index, serial_entry, opening_entry, opening_history, opening_book}
 use Rattle.aug_core.specs.Layout.{IsLayout}
-use Rattle.aug_core.specs.Told.{KnowsTable, spent}
+use Rattle.aug_core.specs.Effects.{KnowsTable, spent}
 use Rattle.aug_core.specs.Renewals.{IsOpened}
 use Rattle.aug_core.specs.Rule.{Knows, Kept, no_beginning, newcomer}
 use Rattle.aug_core.specs.declared.view.Entry.{Entry}

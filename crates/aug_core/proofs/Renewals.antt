@@ -15,7 +15,7 @@ use Rattle.aug_core.specs.Lanes.{block_start, block_size}
 use Rattle.aug_core.specs.Opening.{Opening}
 use Rattle.aug_core.specs.Rule.{Kept, newcomer}
 use Rattle.aug_core.specs.Kinds.{load_node}
-use Rattle.aug_core.specs.Told.{Sat, opening_of, seeing}
+use Rattle.aug_core.specs.Effects.{Sat, opening_of, seeing}
 use Rattle.aug_core.specs.Pasts.{IsEarlier}
 use Rattle.aug_core.specs.Eras.{IsAtWork, seen_in, table_in, opening_with, Remembers, Works, IsPast, Renews, Ruled}
 use Rattle.aug_core.specs.Renewals.{HoldsAll, renewing, rewriting, rewrote, reread, EndWith, began_renewal, IsOpened, reopening, reopened}

@@ -10,7 +10,7 @@ use Rattle.aug_core.specs.Places.{Shape, lane_place}
 use Rattle.aug_core.specs.Lanes.{block_start, block_size, word_of_state}
 use Rattle.aug_core.specs.Opening.{Opening}
 use Rattle.aug_core.specs.Rule.{HoldsLane, Knows, Kept, no_beginning}
-use Rattle.aug_core.specs.Told.{block_of, new_lane, handing_out, handed_out}
+use Rattle.aug_core.specs.Effects.{block_of, new_lane, handing_out, handed_out}
 use Rattle.aug_core.specs.declared.view.Held.{Held}
 use Rattle.aug_core.specs.declared.view.SeatView.{SeatView}
 use Rattle.aug_core.proofs.Moves.{St}

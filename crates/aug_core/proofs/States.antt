@@ -10,7 +10,7 @@ use Rattle.aug_core.specs.Lanes.{block_start, word_of_state}
 use Rattle.aug_core.specs.Opening.{Opening}
 use Rattle.aug_core.specs.Rule.{HoldsLane, Kept}
 use Rattle.aug_core.specs.Kinds.{take_lane, finish_lane}
-use Rattle.aug_core.specs.Told.{Sat, on_first, in_state, own_lane, own_lane_place, taking, took_lane, finishing, finished_lane}
+use Rattle.aug_core.specs.Effects.{Sat, on_first, in_state, own_lane, own_lane_place, taking, took_lane, finishing, finished_lane}
 use Rattle.aug_core.specs.inside.EraSteps.{WithEra}
 use Rattle.aug_core.specs.inside.LaneStates.{MayTake, HasTakenLane}
 use Rattle.aug_core.specs.declared.step.StepTaken.{StepTaken}

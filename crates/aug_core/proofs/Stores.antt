@@ -9,7 +9,7 @@ use Rattle.aug_core.specs.Lanes.{first_record, IsOfLane, block_start, word_of_st
 use Rattle.aug_core.specs.Opening.{Opening}
 use Rattle.aug_core.specs.Rule.{Lists, HoldsLane, Kept}
 use Rattle.aug_core.specs.Kinds.{store_record_word}
-use Rattle.aug_core.specs.Told.{Sat, on_first, with_word, HoldsOnly, MayStore, storing, stored_record}
+use Rattle.aug_core.specs.Effects.{Sat, on_first, with_word, HoldsOnly, MayStore, storing, stored_record}
 use Rattle.aug_core.specs.inside.EraSteps.{WithEra}
 use Rattle.aug_core.specs.inside.LaneStates.{HasTakenLane}
 use Rattle.aug_core.specs.declared.step.StepTaken.{StepTaken}

@@ -10,7 +10,7 @@ use Rattle.atomic_table.specs.Table.{State}
 use Rattle.aug_core.specs.Places.{Shape, word_count}
 use Rattle.aug_core.specs.Opening.{Opening}
 use Rattle.aug_core.specs.Rule.{Kept}
-use Rattle.aug_core.specs.Told.{spent}
+use Rattle.aug_core.specs.Effects.{spent}
 use Rattle.aug_core.specs.Pasts.{IsEarlier, IsLearnt}
 use Rattle.aug_core.specs.declared.view.Held.{Held}
 use Rattle.aug_core.specs.declared.view.PastEra.{PastEra}

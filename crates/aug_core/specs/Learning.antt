@@ -1,7 +1,7 @@
--- What it shows that a seat takes in a note. A note is a view that holds no lane (`noted` of `Told`).
+-- What it shows that a seat takes in a note. A note is a view that holds no lane (`noted` of `Effects`).
 use Rattle.std.specs.Prelude.{ℕ, List, Some, IfSome}
 use Rattle.atomic_table.specs.Table.{Step}
-use Rattle.aug_core.specs.Told.{Sat, loaded_node}
+use Rattle.aug_core.specs.Effects.{Sat, loaded_node}
 use Rattle.aug_core.specs.Pasts.{IsLearnt, learnt_of}
 use Rattle.aug_core.specs.Eras.{seen_in}
 use Rattle.aug_core.specs.declared.view.SeatView.{SeatView}

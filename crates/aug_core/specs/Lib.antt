@@ -11,7 +11,7 @@ pub mod Opening
 pub mod Kinds
 pub mod Counts
 pub mod Rule
-pub mod Told
+pub mod Effects
 pub mod Pasts
 pub mod Eras
 pub mod Learning

@@ -12,7 +12,7 @@ use Rattle.aug_core.specs.Addresses.{place_count, IsInner}
 use Rattle.aug_core.specs.Lanes.{word_of_state}
 use Rattle.aug_core.specs.Opening.{Opening, IsIdle, opening_number, opening_words, shared_words, opening_book}
 use Rattle.aug_core.specs.Rule.{Kept, no_beginning}
-use Rattle.aug_core.specs.Told.{Sat, opening_of, LoadsNode}
+use Rattle.aug_core.specs.Effects.{Sat, opening_of, LoadsNode}
 use Rattle.aug_core.specs.Eras.{opening_with}
 use Rattle.aug_core.specs.declared.view.LaneState.TheVariants.{Free}
 use Rattle.aug_core.specs.declared.view.SeatView.{SeatView}

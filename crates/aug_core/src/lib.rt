@@ -1,24 +1,24 @@
 //! How a table of words is laid out, the kinds of atomic step on it, and the rule that every step keeps.
 #![tactic(auto)]
 
+mod effects;
 mod field;
 mod lane;
 mod layout;
 mod opening;
-mod plays;
 mod rule;
 mod step;
 mod view;
 
-pub use field::{RECORD_WORDS, RecordField};
-pub use lane::{LANE_ENDED, LANE_FREE, LANE_TAKEN};
-pub use layout::{Layout, LayoutError};
-pub use opening::OpeningKey;
-pub use plays::{
+pub use effects::{
     BeginAtLeaf, BeginRenewal, FinishOwnLane, HandOut, LoadAfterNote, LoadAnyLeaf, LoadAnyNode,
     LoadAnyRecord, LoadAnyWord, MakeNote, OpenAgain, StoreAnyWord, StoreOwnRecord, TakeBack,
     TakeNote, TakeOwnLane, TryAnyLeaf, TryAnyNode,
 };
+pub use field::{RECORD_WORDS, RecordField};
+pub use lane::{LANE_ENDED, LANE_FREE, LANE_TAKEN};
+pub use layout::{Layout, LayoutError};
+pub use opening::OpeningKey;
 pub use rule::{SharedWords, WordsRule};
 pub use step::{StepKind, StepTaken};
 pub use view::{Advance, Beginning, Change, Entry, Held, LaneState, Learnt, PastEra, SeatView};

@@ -9,7 +9,7 @@ pub mod Counted
 pub mod Ledgers
 pub mod Accounting
 pub mod OneLane
-pub mod Told
+pub mod DeskSteps
 pub mod Looked
 pub mod Beginning
 pub mod Desks

@@ -73,9 +73,9 @@ impl<A: Monoid, B: Monoid> Lesson<Desk<A, B>, DeskView<A, B>> for Read {
 pub(crate) struct Lay;
 
 impl<A: Monoid, B: Monoid> Outcome<Desk<A, B>, DeskView<A, B>> for Lay {
-    ghost use Rattle.aug_live.specs.inside.DeskKnowledge.{is_told};
+    ghost use Rattle.aug_live.specs.inside.DeskKnowledge.{is_known};
 
-    ghost then = { is_told };
+    ghost then = { is_known };
 }
 
 /// One more end, which knows the same.

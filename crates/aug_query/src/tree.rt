@@ -2,7 +2,7 @@ ghost use Rattle.std.specs.Prelude.{◌≡◌, ℕ, ◌+◌, ◌*◌, ◌≤◌}
 ghost use Rattle.aug_model.specs.Keys.{SetFacts};
 ghost use Rattle.aug_model.specs.Folds.{summary_of};
 ghost use Rattle.aug_model.specs.Queries.{weight_in};
-ghost use Rattle.aug_model.specs.declared.summary.Summary.{Summary as Told};
+ghost use Rattle.aug_model.specs.declared.summary.Summary.{Summary as NodeSummary};
 ghost use Rattle.aug_query.specs.Tree.{IsTreeSet, IsNodeOf, Walks};
 
 use aug_model::Summary;
@@ -38,7 +38,7 @@ pub trait Tree<A: Monoid, B: Monoid> {
     ghost place_of: { Self.Node → ℕ };
 
     // The summary that a node carries.
-    ghost told_by: { Self.Node → Told A B };
+    ghost summary_in: { Self.Node → NodeSummary A B };
 
     // The weight of a leaf's key, 0 if it is no member.
     ghost weight_by: { Self.Node → ℕ };
@@ -83,7 +83,7 @@ pub trait Tree<A: Monoid, B: Monoid> {
 
     /// The summary of the members that `node` covers.
     fn summary(node: &Self::Node) -> Summary<A, B>
-        ensures { result ≡ told_by node.now };
+        ensures { result ≡ summary_in node.now };
 
     /// The weight of the key that the leaf `node` covers, or 0 if that key is no member.
     fn weight(node: &Self::Node) -> u32
@@ -97,7 +97,7 @@ pub trait Tree<A: Monoid, B: Monoid> {
     ghost keeps_on: { (first tree last : Self) → KeepsRest first tree → KeepsRest tree last → KeepsRest first last };
 
     // A node of the tree stands within it, and its summary is that of the members that it covers.
-    ghost node_tells: { (tree : Self) (node : Self.Node) → HasNode tree node → IsNodeOf (summary_of A.parts B.parts) (set_of tree) (level_of node) (place_of node) (told_by node) };
+    ghost node_tells: { (tree : Self) (node : Self.Node) → HasNode tree node → IsNodeOf (summary_of A.parts B.parts) (set_of tree) (level_of node) (place_of node) (summary_in node) };
 
     // A leaf of the tree knows its key's weight.
     ghost leaf_weighs: { (tree : Self) (node : Self.Node) → HasNode tree node → level_of node ≡ 0 → weight_by node ≡ weight_in (set_of tree).pairs (place_of node) };

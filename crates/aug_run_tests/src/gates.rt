@@ -96,17 +96,17 @@ fn the_lanes_run_at_the_same_time(rt: HostRuntime) -> Result<(), Fail> {
 
 // The calls for each lane, three digits for each call: twice the row's number before the row, and one more after it.
 #[derive(Drop)]
-struct Told {
+struct GateCalls {
     lanes: Vec<AtomicU64>,
 }
 
-impl Told {
-    fn of_no_row(alloc: Global, lanes: u32) -> Result<Told, AllocError> {
+impl GateCalls {
+    fn of_no_row(alloc: Global, lanes: u32) -> Result<GateCalls, AllocError> {
         let mut told = Vec::new(alloc);
         for _ in 0..lanes {
             told.push(AtomicU64::new(0))?;
         }
-        Ok(Told { lanes: told })
+        Ok(GateCalls { lanes: told })
     }
 
     fn note(&self, lane: u32, number: u64) {
@@ -122,7 +122,7 @@ impl Told {
     }
 }
 
-impl Gate for Told {
+impl Gate for GateCalls {
     fn before(&self, lane: u32, row: u64) {
         self.note(lane, row.wrapping_mul(2));
     }
@@ -169,7 +169,7 @@ fn verbs_in_two_rounds(alloc: Global) -> Result<String, AllocError> {
 
 #[test]
 fn the_gate_is_told_of_each_lane(rt: HostRuntime) -> Result<(), Fail> {
-    let gate = Told::of_no_row(rt.alloc(), 64)?;
+    let gate = GateCalls::of_no_row(rt.alloc(), 64)?;
     let text = verbs_in_two_rounds(rt.alloc())?;
     let run = report_of(&rt, rt.alloc(), 64, text.as_str(), &gate)?;
     holds(&rt, run.is_some());

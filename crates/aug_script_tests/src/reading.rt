@@ -16,7 +16,7 @@ const FEW: Bounds = (4, 1, 64);
 type Line = (u64, u32, Verb);
 
 // The bits of a round, and its rows.
-type Told = (u32, &'static [Line]);
+type Rounds = (u32, &'static [Line]);
 
 // What a script is read as.
 fn read(
@@ -39,7 +39,7 @@ fn assert_rows(rt: &impl Abort, found: &[Row], expected: &[Line]) {
 }
 
 // Compares the bits and the rows of each round of what was read.
-fn assert_script(rt: &impl Abort, script: &Script, rounds: &[Told]) {
+fn assert_script(rt: &impl Abort, script: &Script, rounds: &[Rounds]) {
     equal(rt, script.rounds().len(), rounds.len());
     for (round, (bits, lines)) in script.rounds().iter().zip(rounds) {
         equal(rt, round.bits, *bits);
@@ -48,7 +48,7 @@ fn assert_script(rt: &impl Abort, script: &Script, rounds: &[Told]) {
 }
 
 // Reads a script, and compares the bits and the rows of each round.
-fn assert_reads(rt: &impl Abort, alloc: Global, script: &str, bounds: Bounds, rounds: &[Told]) {
+fn assert_reads(rt: &impl Abort, alloc: Global, script: &str, bounds: Bounds, rounds: &[Rounds]) {
     let script = read(rt, alloc, script, bounds).expect(rt, "a script");
     assert_script(rt, &script, rounds);
 }
@@ -116,7 +116,7 @@ const EACH_VERB_READ: &[Line] = &[
 
 const QUOTED: &str = "\"0\",\"insert\",\"005\"\r\n\r\n0,look";
 
-const QUOTED_READ: &[Told] = &[(4, &[(1, 0, Verb::Insert(5)), (2, 0, Verb::Look)])];
+const QUOTED_READ: &[Rounds] = &[(4, &[(1, 0, Verb::Insert(5)), (2, 0, Verb::Look)])];
 
 const FAULTY: &[(&str, Option<ScriptError>)] = &[
     ("0,insert,16", Some(ScriptError::OutOfRange(1))),
@@ -192,12 +192,12 @@ const FAULTY: &[(&str, Option<ScriptError>)] = &[
 const AT_THEIR_BOUNDS: &str =
     "0,insert,15\n0,remove,15\n0,has,15\n0,rank,16\n0,select,16\n0,before,16\n0,after,16\n0,range,16,16\n0,put,15,1\n0,weight,15\n";
 
-const WEIGHTS_READ: &[Told] = &[(
+const WEIGHTS_READ: &[Rounds] = &[(
     4,
     &[(1, 0, Verb::Put(1, 999_999_999)), (2, 0, Verb::Put(1, 0))],
 )];
 
-const LAST_LANE_READ: &[Told] = &[(4, &[(1, 63, Verb::Look), (2, 0, Verb::Look)])];
+const LAST_LANE_READ: &[Rounds] = &[(4, &[(1, 63, Verb::Look), (2, 0, Verb::Look)])];
 
 const THREE_PUTS: &str = "0,put,1,5\n0,put,1,5\n0,put,2,5\n";
 
@@ -224,9 +224,9 @@ const OF_THREE_LANES: &[(&str, Option<ScriptError>)] = &[
     ),
 ];
 
-const TWO_UPDATES_READ: &[Told] = &[(4, &[(1, 0, Verb::Insert(1)), (2, 0, Verb::Remove(1))])];
+const TWO_UPDATES_READ: &[Rounds] = &[(4, &[(1, 0, Verb::Insert(1)), (2, 0, Verb::Remove(1))])];
 
-const ENDED_READ: &[Told] = &[
+const ENDED_READ: &[Rounds] = &[
     (4, &[(1, 0, Verb::Insert(1)), (2, 0, Verb::Remove(1))]),
     (4, &[(4, 0, Verb::Insert(1))]),
 ];
@@ -234,7 +234,7 @@ const ENDED_READ: &[Told] = &[
 const NUMBERED: &str =
     "0,insert,1\n0,insert,2\n0,insert,3\n*,end\n0,remove,2\n0,look\n0,select,1\n*,end\n";
 
-const NUMBERED_READ: &[Told] = &[
+const NUMBERED_READ: &[Rounds] = &[
     (
         4,
         &[
@@ -261,7 +261,7 @@ const LATE_FAULT: &[(&str, Option<ScriptError>)] = &[(
 const WIDER: &str =
     "0,insert,3\n*,end\n*,grow,5\n0,insert,31\n0,look\n0,rank,32\n0,before,31\n0,has,3\n";
 
-const WIDER_READ: &[Told] = &[
+const WIDER_READ: &[Rounds] = &[
     (2, &[(1, 0, Verb::Insert(3))]),
     (
         5,
@@ -329,7 +329,7 @@ const UNDER_13_018: &[(&str, Option<ScriptError>)] = &[(
     Some(ScriptError::TooWide(1)),
 )];
 
-const READ: &[(&str, Bounds, &[Told])] = &[
+const READ: &[(&str, Bounds, &[Rounds])] = &[
     (EACH_VERB, (4, 2, 64), &[(4, EACH_VERB_READ)]),
     (QUOTED, FEW, QUOTED_READ),
     ("0,put,1,999999999\n0,put,1,0\n", FEW, WEIGHTS_READ),
@@ -445,7 +445,7 @@ fn scripts_have_their_first_fault_or_none(rt: HostRuntime) {
 
 const OF_TWO_LANES: &str = "0,insert,5\n*,end\n1,look\n";
 
-const OF_TWO_LANES_READ: &[Told] = &[(4, &[(1, 0, Verb::Insert(5))]), (4, &[(3, 1, Verb::Look)])];
+const OF_TWO_LANES_READ: &[Rounds] = &[(4, &[(1, 0, Verb::Insert(5))]), (4, &[(3, 1, Verb::Look)])];
 
 // Passes whichever request for memory is refused: reading then answers `OutOfMemory`, and what is read after that is whole.
 #[test]

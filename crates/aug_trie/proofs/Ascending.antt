@@ -10,7 +10,7 @@ use Rattle.aug_core.proofs.Refreshing.{covers_second}
 use Rattle.aug_core.proofs.Showing.{above_inner}
 use Rattle.aug_trie.specs.inside.Goes.{Goes, Took, TookBetween, HasRoom, part_steps, try_steps, level_steps, least_rise_steps, most_rise_steps}
 use Rattle.aug_trie.specs.inside.Points.{TryAt, TryOver, point_turns}
-use Rattle.aug_trie.specs.inside.Stages.{Missed, IsTry, IsCovered, HasRisen, MayRise, IsAtNode, IsOnWay, IsPastTry, part_above, ascent_turns}
+use Rattle.aug_trie.specs.inside.Stages.{LostTry, IsTry, IsCovered, HasRisen, MayRise, IsAtNode, IsOnWay, IsPastTry, part_above, ascent_turns}
 use Rattle.aug_trie.specs.declared.turns.points.Point.{Point}
 use Rattle.aug_trie.specs.declared.turns.points.Point.TheVariants.{Node, Left, Right, Part, Record}
 use Rattle.aug_trie.specs.declared.turns.ascents.Ascent.{Ascent}
@@ -22,7 +22,7 @@ module _ (f : ℕ → ℕ → List (ℕ × ℕ) → List ℕ) where
   -- ---- one try at a node, and the second
 
   -- a try that failed
-  pub missed : (below w : SeatView) (q number : ℕ) → TryOver f below q number false w → Missed f below w q number
+  pub missed : (below w : SeatView) (q number : ℕ) → TryOver f below q number false w → LostTry f below w q number
   missed below w q number over = record { goes = over.goes; took = over.took; longer = over.tries.refreshed.longer refl }
 
   -- the first try published its record
@@ -31,7 +31,7 @@ module _ (f : ℕ → ℕ → List (ℕ × ℕ) → List ℕ) where
       record { goes = over.goes; took = record { steps = n; least_steps = omega arith; most_steps = omega arith; took = over.took }; covers = over.tries.refreshed.covers refl }
 
   -- it failed, and whatever the second came to, the node covers what had been seen
-  pub covered_twice : (below begun w : SeatView) (q number : ℕ) (done : Bool) → IsInner below.shape q → Missed f below begun q number → TryOver f begun q number done w → IsCovered f below w q number
+  pub covered_twice : (below begun w : SeatView) (q number : ℕ) (done : Bool) → IsInner below.shape q → LostTry f below begun q number → TryOver f begun q number done w → IsCovered f below w q number
   covered_twice below begun w q number done inner m over = let n : ℕ = try_steps (part_steps below.shape (left_of below.shape q)) in let shaped = m.goes.shaped in
       let second : Took begun w n = subst (λ (z : Shape). Took begun w (try_steps (part_steps z (left_of z q)))) shaped over.took in
       let whole = goes_on f (number + 1) (number + 1) (number + 1) [] below begun w (omega arith) (omega arith) m.goes over.goes in record {

@@ -11,7 +11,7 @@ use Rattle.aug_core.specs.Places.{Shape}
 use Rattle.aug_core.specs.Book.{IsBook}
 use Rattle.aug_core.specs.Counts.{changes_of}
 use Rattle.aug_core.specs.Faces.{face}
-use Rattle.aug_core.specs.Told.{KnowsTable}
+use Rattle.aug_core.specs.Effects.{KnowsTable}
 use Rattle.aug_core.specs.inside.Shows.{Lifts}
 use Rattle.aug_core.specs.declared.step.StepTaken.{StepTaken}
 use Rattle.aug_core.specs.declared.view.Change.{Change}

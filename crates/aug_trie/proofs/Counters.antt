@@ -3,7 +3,7 @@ use Rattle.std.proofs.Common.{◌≡◌, ℕ, ◌+◌, ◌%◌, ◌≤◌, ◌*�
 use Rattle.std.proofs.lemmas.Bool.{eqb-true, eqb-false, false≢true}
 use Rattle.std.proofs.lemmas.List.{append-nil}
 use Rattle.aug_core.specs.Counts.{change, changes_of}
-use Rattle.aug_core.specs.Told.{made_by}
+use Rattle.aug_core.specs.Effects.{made_by}
 use Rattle.aug_core.specs.declared.view.Advance.{Advance}
 use Rattle.aug_core.specs.declared.view.Change.{Change}
 use Rattle.aug_core.specs.declared.view.SeatView.{SeatView}

@@ -16,7 +16,7 @@ use Rattle.aug_core.specs.Book.{At, history_of}
 use Rattle.aug_core.specs.Counts.{changes_of}
 use Rattle.aug_core.specs.Cuts.{Cut, weight_at, set_of_cut, pairs_of_cut, opening_cut, IsAtMost}
 use Rattle.aug_core.specs.Rule.{Kept}
-use Rattle.aug_core.specs.Told.{opening_of}
+use Rattle.aug_core.specs.Effects.{opening_of}
 use Rattle.aug_core.specs.declared.view.Entry.{Entry}
 use Rattle.aug_core.specs.declared.view.Held.{Held}
 use Rattle.aug_core.specs.declared.view.SeatView.{SeatView}

@@ -11,7 +11,7 @@ use Rattle.aug_core.specs.Book.{ArePrefixes, IsFresh}
 use Rattle.aug_core.specs.Rule.{Lists}
 use Rattle.aug_core.specs.Counts.{changes_of}
 use Rattle.aug_core.specs.Kinds.{store_record_word}
-use Rattle.aug_core.specs.Told.{HoldsOnly, own_lane, on_first, with_word, with_published, with_changes, stepping, storing, seeing, beginning, publishing, changing, KnowsTable, MayStore, MayChange, Sees}
+use Rattle.aug_core.specs.Effects.{HoldsOnly, own_lane, on_first, with_word, with_published, with_changes, stepping, storing, seeing, beginning, publishing, changing, KnowsTable, MayStore, MayChange, Sees}
 use Rattle.aug_core.specs.declared.step.StepTaken.{StepTaken}
 use Rattle.aug_core.specs.declared.view.Change.{Change}
 use Rattle.aug_core.specs.declared.step.StepKind.{StepKind}

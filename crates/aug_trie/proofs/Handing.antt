@@ -6,7 +6,7 @@ use mathlib.Core.Option.{some-ne-none}
 use Rattle.aug_core.specs.Addresses.{root_place}
 use Rattle.aug_core.specs.Lanes.{first_record, lane_records}
 use Rattle.aug_core.specs.Counts.{changes_of}
-use Rattle.aug_core.specs.Told.{HoldsOnly, KnowsTable, LoadsNode, in_state, on_first, new_lane, handing_out, handed_out, taking, finishing, taking_back}
+use Rattle.aug_core.specs.Effects.{HoldsOnly, KnowsTable, LoadsNode, in_state, on_first, new_lane, handing_out, handed_out, taking, finishing, taking_back}
 use Rattle.aug_core.specs.declared.view.Change.{Change}
 use Rattle.aug_core.specs.declared.view.Held.{Held}
 use Rattle.aug_core.specs.declared.view.LaneState.TheVariants.{Taken, Ended}

@@ -9,7 +9,7 @@ use Rattle.aug_model.specs.declared.summary.Summary.{Summary}
 use Rattle.aug_core.specs.Faces.{face}
 use Rattle.aug_core.specs.Cuts.{Cut, set_of_cut, pairs_of_cut}
 use Rattle.aug_core.specs.Counts.{changes_of}
-use Rattle.aug_core.specs.Told.{HasSeen, KnowsTable, Says}
+use Rattle.aug_core.specs.Effects.{HasSeen, KnowsTable, Says}
 use Rattle.aug_core.specs.declared.view.SeatView.{SeatView}
 use Rattle.aug_core.proofs.Books.{fresh_now}
 use Rattle.aug_core.proofs.Fits.{knows_same}

@@ -12,7 +12,7 @@ use Rattle.aug_core.specs.declared.view.PastEra.{PastEra}
 use Rattle.aug_core.specs.Pasts.{learnt_of}
 use Rattle.aug_core.specs.Learning.{learning}
 use Rattle.aug_core.specs.Eras.{seen_in}
-use Rattle.aug_core.specs.Told.{KnowsTable, LoadsNode, noted}
+use Rattle.aug_core.specs.Effects.{KnowsTable, LoadsNode, noted}
 use Rattle.aug_core.specs.declared.view.SeatView.{SeatView}
 use Rattle.aug_core.proofs.Fits.{knows_shown, knows_told}
 use Rattle.aug_words.specs.Notes.{LearnsNote}

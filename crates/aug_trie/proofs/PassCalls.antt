@@ -9,7 +9,7 @@ use Rattle.aug_core.specs.Counts.{changes_of}
 use Rattle.aug_core.specs.Cuts.{Cut}
 use Rattle.aug_core.specs.Faces.{face}
 use Rattle.aug_core.specs.Kinds.{load_node}
-use Rattle.aug_core.specs.Told.{LoadsNode}
+use Rattle.aug_core.specs.Effects.{LoadsNode}
 use Rattle.aug_words.specs.Seats.{Known}
 use Rattle.aug_trie.specs.Node.{HasNode, Keeps, Reads}
 use Rattle.aug_trie.specs.Pass.{PassFacts, GoesOn, StepsOf}

@@ -6,7 +6,7 @@ use Rattle.aug_core.specs.Addresses.{IsInner}
 use Rattle.aug_core.specs.Faces.{face}
 use Rattle.aug_core.specs.Lanes.{first_record, IsOfLane, lane_records}
 use Rattle.aug_core.specs.inside.Refreshes.{SaysLoaded, Published}
-use Rattle.aug_core.specs.Told.{own_lane, storing, KnowsTable, MayStore, IsFilled, TriesNode}
+use Rattle.aug_core.specs.Effects.{own_lane, storing, KnowsTable, MayStore, IsFilled, TriesNode}
 use Rattle.aug_core.specs.declared.view.Held.{Held}
 use Rattle.aug_core.specs.declared.view.SeatView.{SeatView}
 use Rattle.aug_core.specs.Places.{record_words}

@@ -14,7 +14,7 @@ use Rattle.aug_query.proofs.Orders.{rank_cut, rank_few, rank_none, rank_past}
 use Rattle.aug_core.specs.Book.{At}
 use Rattle.aug_core.specs.Cuts.{Cut, weight_at, set_of_cut}
 use Rattle.aug_core.specs.Faces.{face}
-use Rattle.aug_core.specs.Told.{HasSeen, KnowsTable, Says, stepping}
+use Rattle.aug_core.specs.Effects.{HasSeen, KnowsTable, Says, stepping}
 use Rattle.aug_core.specs.Addresses.{IsInner}
 use Rattle.aug_core.specs.declared.step.StepTaken.{StepTaken}
 use Rattle.aug_core.specs.declared.view.SeatView.{SeatView}

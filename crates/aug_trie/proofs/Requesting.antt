@@ -3,7 +3,7 @@ use Rattle.std.proofs.Common.{◌≡◌, ◌≢◌, ◌⊎◌, ℕ, ◌+◌, ◌
 use Rattle.std.proofs.lemmas.Bool.{eq-eqb, eqb-true, eqb-false, ltb-true, ltb-false, leb-true, cases_Bool, false≢true}
 use Rattle.aug_core.specs.Book.{word_of_leaf}
 use Rattle.aug_core.specs.Counts.{change}
-use Rattle.aug_core.specs.Told.{IsAdvance, made_by, new_serial, new_word, old_word}
+use Rattle.aug_core.specs.Effects.{IsAdvance, made_by, new_serial, new_word, old_word}
 use Rattle.aug_core.specs.declared.view.Advance.{Advance}
 use Rattle.aug_core.specs.declared.view.Change.{Change}
 use Rattle.aug_trie.specs.declared.updates.outcome.Outcome.{Outcome}

@@ -9,7 +9,7 @@ use Rattle.aug_core.specs.Counts.{changes_of}
 use Rattle.aug_core.specs.Cuts.{opening_cut}
 use Rattle.aug_core.specs.Kinds.{load_node}
 use Rattle.aug_core.specs.Prefixes.{IsPrefix}
-use Rattle.aug_core.specs.Told.{LoadsNode}
+use Rattle.aug_core.specs.Effects.{LoadsNode}
 use Rattle.aug_core.specs.declared.view.PastEra.{PastEra}
 use Rattle.aug_core.specs.Eras.{opening_with}
 use Rattle.aug_core.specs.Layout.{IsLayout}

@@ -10,7 +10,7 @@ use Rattle.aug_core.specs.Book.{Book, history_of, At, IsBook}
 use Rattle.aug_core.specs.Counts.{changes_of}
 use Rattle.aug_core.specs.inside.RootCuts.{root_cut}
 use Rattle.aug_core.specs.inside.EntryCuts.{entry_of}
-use Rattle.aug_core.specs.Told.{LoadsNode, opening_of}
+use Rattle.aug_core.specs.Effects.{LoadsNode, opening_of}
 use Rattle.aug_core.specs.declared.view.Change.{Change}
 use Rattle.aug_core.specs.declared.view.Entry.{Entry}
 use Rattle.aug_core.specs.declared.view.SeatView.{SeatView}

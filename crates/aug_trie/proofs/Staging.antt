@@ -5,7 +5,7 @@ use Rattle.std.proofs.lemmas.List.{append-nil}
 use Rattle.aug_core.specs.Places.{Shape}
 use Rattle.aug_core.specs.Counts.{changes_of}
 use Rattle.aug_core.specs.Kinds.{load_leaf, try_leaf}
-use Rattle.aug_core.specs.Told.{own_lane, MayChange, BeginsAtLeaf, TriesLeaf, old_word}
+use Rattle.aug_core.specs.Effects.{own_lane, MayChange, BeginsAtLeaf, TriesLeaf, old_word}
 use Rattle.aug_core.specs.declared.view.Advance.{Advance}
 use Rattle.aug_core.specs.declared.view.Change as changed
 use Rattle.aug_core.specs.declared.view.SeatView.{SeatView}

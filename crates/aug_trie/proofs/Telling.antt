@@ -8,7 +8,7 @@ use Rattle.aug_core.specs.Addresses.{IsInner}
 use Rattle.aug_core.specs.Faces.{face}
 use Rattle.aug_core.specs.Book.{At}
 use Rattle.aug_core.specs.inside.Refreshes.{HasEntry}
-use Rattle.aug_core.specs.Told.{HasSeen, KnowsTable, Says, stepping}
+use Rattle.aug_core.specs.Effects.{HasSeen, KnowsTable, Says, stepping}
 use Rattle.aug_core.specs.declared.step.StepTaken.{StepTaken}
 use Rattle.aug_core.specs.declared.view.SeatView.{SeatView}
 use Rattle.aug_core.proofs.EntryKeys.{are_small}

@@ -20,7 +20,7 @@ use Rattle.aug_core.specs.Cuts.{Cut, weight_at, set_of_cut}
 use Rattle.aug_core.specs.inside.EntryCuts.{entry_of}
 use Rattle.aug_core.specs.inside.RootCuts.{root_cut}
 use Rattle.aug_core.specs.Opening.{serial_entry}
-use Rattle.aug_core.specs.Told.{KnowsTable, opening_of}
+use Rattle.aug_core.specs.Effects.{KnowsTable, opening_of}
 use Rattle.aug_core.specs.declared.view.Entry.{Entry}
 use Rattle.aug_core.specs.declared.view.SeatView.{SeatView}
 use Rattle.aug_core.proofs.Books.{no_shorter}

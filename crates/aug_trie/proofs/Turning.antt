@@ -9,7 +9,7 @@ use Rattle.aug_core.specs.Places.{Shape}
 use Rattle.aug_core.specs.Addresses.{left_of}
 use Rattle.aug_core.specs.Counts.{changes_of}
 use Rattle.aug_core.specs.Kinds.{load_leaf, try_leaf}
-use Rattle.aug_core.specs.Told.{own_lane, KnowsTable}
+use Rattle.aug_core.specs.Effects.{own_lane, KnowsTable}
 use Rattle.aug_core.specs.declared.view.SeatView.{SeatView}
 use Rattle.aug_trie.specs.declared.updates.outcome.Outcome.{Outcome}
 use Rattle.aug_trie.specs.inside.Climbing.{Updated}

@@ -6,7 +6,7 @@ use Rattle.aug_core.specs.Places.{Shape}
 use Rattle.aug_core.specs.Book.{Book, ArePrefixes, At, IsNewest}
 use Rattle.aug_core.specs.Kinds.{load_leaf, try_leaf}
 use Rattle.aug_core.specs.inside.Shows.{NewestShows, ShowsAtMost, Lifts}
-use Rattle.aug_core.specs.Told.{HoldsOnly, KnowsTable, BeginsAtLeaf, TriesLeaf, old_word, new_serial, made_by}
+use Rattle.aug_core.specs.Effects.{HoldsOnly, KnowsTable, BeginsAtLeaf, TriesLeaf, old_word, new_serial, made_by}
 use Rattle.aug_core.specs.declared.step.StepTaken.{StepTaken}
 use Rattle.aug_core.specs.declared.view.Advance.{Advance}
 use Rattle.aug_core.specs.declared.view.Change.{Change}

@@ -13,7 +13,7 @@ use Rattle.aug_core.specs.Faces.{face}
 use Rattle.aug_core.specs.Book.{At, IsSerial, IsBook}
 use Rattle.aug_core.specs.Cuts.{Cut, weight_at, set_of_cut, pairs_of_cut}
 use Rattle.aug_core.specs.inside.EntryCuts.{entry_of, IsPartOfCut}
-use Rattle.aug_core.specs.Told.{HasSeen, Says}
+use Rattle.aug_core.specs.Effects.{HasSeen, Says}
 use Rattle.aug_core.specs.declared.view.Entry.{Entry}
 use Rattle.aug_core.specs.declared.view.SeatView.{SeatView}
 use Rattle.aug_core.proofs.Books.{at_below}

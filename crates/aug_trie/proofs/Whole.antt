@@ -9,7 +9,7 @@ use Rattle.aug_core.specs.Addresses.{place_count, IsInner, left_of, right_of}
 use Rattle.aug_core.specs.Faces.{face}
 use Rattle.aug_core.specs.Book.{At, ArePrefixes, IsBook}
 use Rattle.aug_core.specs.inside.Refreshes.{HasEntry, HasNewest, SaysLoaded, Published}
-use Rattle.aug_core.specs.Told.{KnowsTable, LoadsLeaf, LoadsNode}
+use Rattle.aug_core.specs.Effects.{KnowsTable, LoadsLeaf, LoadsNode}
 use Rattle.aug_core.specs.declared.view.SeatView.{SeatView}
 use Rattle.aug_core.proofs.Sizes.{twice}
 use Rattle.aug_core.proofs.EntryKeys.{are_small}

@@ -62,7 +62,7 @@ TryNoLeaf steps = All (λ taken. taken.kind ≢ TryLeaf) steps
 
 -- an update's second step is an exchange of the word that was loaded for the one that the request makes of it, and the outcome says whether it succeeded;
 -- it exchanges no other leaf
-pub record Tried (request : Request) (key loaded : ℕ) (more : List StepTaken) (done : Outcome) : Type 0 where
+pub record ExchangesOnce (request : Request) (key loaded : ℕ) (more : List StepTaken) (done : Outcome) : Type 0 where
   pub found : ℕ
   pub rest : List StepTaken
   pub second : more ≡ try_leaf key loaded (word_after request key loaded) found ∷ rest
@@ -88,7 +88,7 @@ pub record StepsOf (request : Request) (key : ℕ) (done : Outcome) (old new : P
   pub steps : new.steps ≡ old.steps ++ load_leaf key found ∷ more
   pub step_count : IsWithin (least_update_steps old.round.bits) (most_update_steps old.round.bits) (length more + 1)
   pub refuses : goes_from request found ≡ false → (done ≡ outcome_at_once request) × TryNoLeaf more
-  pub tries : goes_from request found ≡ true → Tried request key found more done
+  pub tries : goes_from request found ≡ true → ExchangesOnce request key found more done
   pub shows : stores_nothing done ≡ true → in_the_way request found ≤ serial_of (last_cut new.knows.history) key
   pub weighed : Weighed new.words key (serial_in_word found) (weight_in_word found)
   pub stored : new.knows.accepted ≡ old.knows.accepted ++ changes_by request key found done

@@ -11,7 +11,7 @@ use Rattle.aug_trie.specs.declared.updates.request.Request.{Request}
 use Rattle.aug_trie.specs.declared.updates.request.Request.TheVariants.{Insert}
 use Rattle.aug_trie.specs.History.{last_cut}
 use Rattle.aug_trie.specs.LeafWords.{serial_in_word, weight_in_word}
-use Rattle.aug_trie.specs.Pass.{PassFacts, TryNoLeaf, Tried, Weighed, most_update_steps}
+use Rattle.aug_trie.specs.Pass.{PassFacts, TryNoLeaf, ExchangesOnce, Weighed, most_update_steps}
 use Rattle.aug_trie.specs.Requests.{goes_from, in_the_way, outcome_at_once, stores_nothing, changes_by}
 use Rattle.aug_trie.specs.Updates.{ComesTo}
 
@@ -30,7 +30,7 @@ pub record DoesPart (request : Request) (key : ℕ) (done : Outcome) (part : Bat
   pub more : List StepTaken
   pub steps : part.steps ≡ load_leaf key found ∷ more
   pub refuses : goes_from request found ≡ false → (done ≡ outcome_at_once request) × TryNoLeaf more
-  pub tries : goes_from request found ≡ true → Tried request key found more done
+  pub tries : goes_from request found ≡ true → ExchangesOnce request key found more done
   pub shows : stores_nothing done ≡ true → in_the_way request found ≤ serial_of (last_cut new.knows.history) key
   pub weighed : Weighed new.words key (serial_in_word found) (weight_in_word found)
   pub stored : part.made ≡ changes_by request key found done

@@ -62,7 +62,7 @@ fn five<R: Threads + Wait + Sync>(
 }
 
 // What the four saw, what the fifth saw, and what it sees once all are done.
-type Seen = ([Option<u32>; 4], Option<u32>, u32);
+type Sights = ([Option<u32>; 4], Option<u32>, u32);
 
 // Five halves at work in a round.
 fn crowded<R: Threads + Wait + Sync + Abort>(
@@ -70,7 +70,7 @@ fn crowded<R: Threads + Wait + Sync + Abort>(
     round: &RoundOf,
     crew: &mut CrewOf,
     tasks: (Task, Task, Task),
-) -> Seen
+) -> Sights
     requires together { table_of crew.old.round ≡ round.now }
     ensures { crew.new.round ≡ crew.old.round }
 {

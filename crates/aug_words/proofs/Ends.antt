@@ -6,7 +6,7 @@ use Rattle.atomic_table.specs.Table.{Final, Seen}
 use Rattle.aug_core.specs.Eras.{IsAtWork, Works, Renews, Ruled}
 use Rattle.aug_core.specs.Renewals.{EndWith, BeginsRenewal}
 use Rattle.aug_core.proofs.Fits.{knows_shown}
-use Rattle.aug_core.specs.Told.{KnowsTable, opening_of}
+use Rattle.aug_core.specs.Effects.{KnowsTable, opening_of}
 use Rattle.aug_core.proofs.Eras.{none_renews}
 use Rattle.aug_core.proofs.Renewals.{met_rule}
 use Rattle.aug_core.specs.Addresses.{IsInner, root_place}

@@ -7,7 +7,7 @@ use Rattle.aug_core.specs.Places.{word_count}
 use Rattle.aug_core.specs.Book.{Book, ArePrefixes, IsNewest, GoesOnFromBoth}
 use Rattle.aug_core.specs.Pasts.{IsLearnt, learnt_of}
 use Rattle.aug_core.specs.Learning.{learning}
-use Rattle.aug_core.specs.Told.{Sat, LoadsNode, handing_out, handed_out, taking, taking_back, in_state, new_lane, own_lane_place, MayStore, MayChange}
+use Rattle.aug_core.specs.Effects.{Sat, LoadsNode, handing_out, handed_out, taking, taking_back, in_state, new_lane, own_lane_place, MayStore, MayChange}
 use Rattle.aug_core.specs.declared.view.LaneState.TheVariants.{Taken}
 use Rattle.aug_core.specs.declared.view.PastEra.{PastEra}
 use Rattle.aug_core.specs.declared.view.SeatView.{SeatView}

@@ -2,7 +2,7 @@
 use Rattle.std.specs.Prelude.{◌≡◌, ℕ, List}
 use Rattle.aug_core.specs.Addresses.{root_place}
 use Rattle.aug_core.specs.Book.{GoesOnFromBoth}
-use Rattle.aug_core.specs.Told.{LoadsNode, handing_out, handed_out, taking, finishing, taking_back, own_lane_place}
+use Rattle.aug_core.specs.Effects.{LoadsNode, handing_out, handed_out, taking, finishing, taking_back, own_lane_place}
 use Rattle.aug_core.specs.declared.view.SeatView.{SeatView}
 
 module _ (face : ℕ → ℕ → List (ℕ × ℕ) → List ℕ) where

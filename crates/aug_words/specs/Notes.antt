@@ -3,7 +3,7 @@
 use Rattle.std.specs.Prelude.{◌≡◌, ℕ, List}
 use Rattle.aug_core.specs.Addresses.{root_place}
 use Rattle.aug_core.specs.Book.{GoesOnFromBoth}
-use Rattle.aug_core.specs.Told.{LoadsNode}
+use Rattle.aug_core.specs.Effects.{LoadsNode}
 use Rattle.aug_core.specs.Pasts.{IsLearnt, learnt_of}
 use Rattle.aug_core.specs.Learning.{learning}
 use Rattle.aug_core.specs.declared.view.SeatView.{SeatView}

@@ -8,7 +8,7 @@ use Rattle.aug_core.specs.Addresses.{IsInner, root_place}
 use Rattle.aug_core.specs.Lanes.{IsOfLane, word_of_state}
 use Rattle.aug_core.specs.Book.{At}
 use Rattle.aug_core.specs.Opening.{Opening, IsIdle, opening_number, opening_words, shared_words}
-use Rattle.aug_core.specs.Told.{KnowsTable, LoadsNode, held_word, opening_of}
+use Rattle.aug_core.specs.Effects.{KnowsTable, LoadsNode, held_word, opening_of}
 use Rattle.aug_core.specs.Renewals.{EndWith, renewing}
 use Rattle.aug_core.specs.declared.view.Entry.{Entry}
 use Rattle.aug_core.specs.declared.view.Held.{Held}

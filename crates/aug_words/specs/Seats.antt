@@ -1,12 +1,12 @@
 -- What contracts see of a table, of a lead and of a pass, and what a call of a pass asks. A pass is a table and a view, and each call's clause is a
--- definition of `Told` over that view: in the example `load_leaf` asks for a key below 4, and its clause is `LoadsLeaf`.
+-- definition of `Effects` over that view: in the example `load_leaf` asks for a key below 4, and its clause is `LoadsLeaf`.
 use Rattle.std.specs.Prelude.{◌≡◌, ℕ, ◌+◌, ◌<◌, ◌⊎◌, ◌↔◌, Bool, IsTrue, List, Some}
 use Rattle.atomic_table.specs.Seated.{TableId}
 use Rattle.aug_core.specs.Places.{Shape, record_start}
 use Rattle.aug_core.specs.Addresses.{root_place}
 use Rattle.aug_core.specs.Book.{At, IsNewest}
 use Rattle.aug_core.specs.Kinds.{load_record_word}
-use Rattle.aug_core.specs.Told.{stepping, HasSeen, Owns, Says, SaysOwn, IsAdvance, old_word, new_word, TriesLeaf, TriesNode}
+use Rattle.aug_core.specs.Effects.{stepping, HasSeen, Owns, Says, SaysOwn, IsAdvance, old_word, new_word, TriesLeaf, TriesNode}
 use Rattle.aug_core.specs.declared.view.Advance.{Advance}
 use Rattle.aug_core.specs.declared.view.Entry.{Entry}
 use Rattle.aug_core.specs.declared.view.SeatView.{SeatView}

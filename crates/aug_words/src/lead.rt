@@ -2,7 +2,7 @@
 ghost use Rattle.std.specs.Prelude.{◌≡◌, ◌<◌, ℕ, [], true};
 ghost use Rattle.aug_core.specs.Faces.{face};
 ghost use Rattle.aug_core.specs.Addresses.{root_place};
-ghost use Rattle.aug_core.specs.Told.{LoadsNode, KnowsTable, taking, finishing, own_lane_place};
+ghost use Rattle.aug_core.specs.Effects.{LoadsNode, KnowsTable, taking, finishing, own_lane_place};
 ghost use Rattle.aug_core.specs.inside.LaneStates.{MayTake, HasTakenLane};
 ghost use Rattle.aug_words.specs.Leads.{HandsLaneOut, TakesLaneBack};
 ghost use Rattle.aug_words.specs.Seats.{AreTogether, IsOfLead, IsNextLane, NamesRoot};

@@ -3,7 +3,7 @@ ghost use Rattle.std.specs.Prelude.{◌≡◌, ◌<◌, ℕ, IfSome};
 ghost use Rattle.aug_core.specs.Faces.{face};
 ghost use Rattle.aug_core.specs.Addresses.{root_place};
 ghost use Rattle.aug_core.specs.Pasts.{IsLearnt};
-ghost use Rattle.aug_core.specs.Told.{LoadsNode, noted};
+ghost use Rattle.aug_core.specs.Effects.{LoadsNode, noted};
 ghost use Rattle.aug_words.specs.Notes.{LearnsNote};
 ghost use Rattle.aug_words.specs.Seats.{AreTogether};
 

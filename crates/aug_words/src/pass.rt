@@ -5,7 +5,7 @@ ghost use Rattle.aug_core.specs.Places.{record_start, record_words};
 ghost use Rattle.aug_core.specs.Faces.{face};
 ghost use Rattle.aug_core.specs.Addresses.{IsInner};
 ghost use Rattle.aug_core.specs.Fields.{field_offset};
-ghost use Rattle.aug_core.specs.Told.{HoldsOnly, MayStore, MayChange, KnowsTable, LoadsLeaf, BeginsAtLeaf, LoadsNode, IsFilled, storing};
+ghost use Rattle.aug_core.specs.Effects.{HoldsOnly, MayStore, MayChange, KnowsTable, LoadsLeaf, BeginsAtLeaf, LoadsNode, IsFilled, storing};
 ghost use Rattle.aug_core.specs.declared.view.Held.{Held};
 ghost use Rattle.aug_core.specs.declared.view.LaneState.TheVariants.{Taken};
 ghost use Rattle.aug_words.specs.Seats.{Known, MayLoad, LoadsRecordWord, MayAdvance, TriedLeaf, TriedNode};

@@ -5,7 +5,7 @@ use Rattle.aug_core.specs.Addresses.{IsInner}
 use Rattle.aug_core.specs.Lanes.{IsOfLane, block_size}
 use Rattle.aug_core.specs.Book.{IsSerial, IsBook}
 use Rattle.aug_core.specs.inside.Refreshes.{HasNewest, SaysLoaded}
-use Rattle.aug_core.specs.Told.{MayStore, TriesLeaf, LoadsLeaf, BeginsAtLeaf, LoadsNode, IsFilled}
+use Rattle.aug_core.specs.Effects.{MayStore, TriesLeaf, LoadsLeaf, BeginsAtLeaf, LoadsNode, IsFilled}
 use Rattle.aug_core.specs.declared.view.Entry.{Entry}
 use Rattle.aug_core.specs.declared.view.SeatView.{SeatView}
 use Rattle.aug_core.proofs.Clients.{may_store_same, may_store_tried}

@@ -1,7 +1,7 @@
 //! A weight that is replaced by one exchange of its leaf's word.
 ghost use Rattle.std.specs.Prelude.{◌≡◌, ◌<◌, IfOk};
 ghost use Rattle.aug_core.specs.Places.{shape_of};
-ghost use Rattle.aug_core.specs.Told.{MayChange};
+ghost use Rattle.aug_core.specs.Effects.{MayChange};
 
 use super::tables::{assert_leaves, assert_nodes, assert_records, join, next_pass, table_of};
 use crate::assertions::holds;

@@ -2,7 +2,7 @@
 ghost use Rattle.std.specs.Prelude.{◌≡◌, ◌<◌, ◌/◌, ◌%◌, ◌^◌, ◌==◌, if◌then◌else◌, ◌++◌, ◌∷◌, [], ℕ, List, IfOk, false};
 ghost use Rattle.aug_core.specs.Faces.{face};
 ghost use Rattle.aug_core.specs.Places.{shape_of};
-ghost use Rattle.aug_core.specs.Told.{MayStore, MayChange, IsFilled};
+ghost use Rattle.aug_core.specs.Effects.{MayStore, MayChange, IsFilled};
 
 use super::tables::{assert_leaves, assert_nodes, assert_records, join, next_pass, table_of};
 use crate::assertions::equal;

@@ -2,7 +2,7 @@
 ghost use Rattle.std.specs.Prelude.{◌≡◌, ◌<◌, ◌+◌, Some, IfOk};
 ghost use Rattle.aug_core.specs.Lanes.{IsOfLane};
 ghost use Rattle.aug_core.specs.Places.{shape_of};
-ghost use Rattle.aug_core.specs.Told.{MayStore};
+ghost use Rattle.aug_core.specs.Effects.{MayStore};
 ghost use Rattle.aug_words.specs.Seats.{AreTogether};
 
 use super::tables::{WordsOf, assert_records, join, next_pass, small};

@@ -2,9 +2,9 @@
 ghost use Rattle.std.specs.Prelude.{◌≡◌, ◌≢◌, ◌<◌, [], ◌∷◌, IfErr, IfOk, IfSome, IsSome, None, Some};
 ghost use Rattle.ruled_lock.specs.Locks.{client_of, IsSamePass, HoldsNothing, Holds, Learns, TurnsAt, Forks, Meets};
 
+use crate::effects::{Both, Cut, Give, Try};
 use crate::holding::Holding;
 use crate::patience::Patience;
-use crate::plays::{Both, Cut, Give, Try};
 use crate::rule::{Lesson, LockRule, Outcome};
 use atomic_table::{Join, Seat, Split, Table, TableRule};
 use std::alloc::{AllocError, Global};

@@ -1,6 +1,6 @@
 -- What a step leaves of its seat's era, and which views may make a note.
 use Rattle.std.specs.Prelude.{◌≡◌, ◌⊎◌, ℕ, false}
-use Rattle.aug_core.specs.Told.{Sat}
+use Rattle.aug_core.specs.Effects.{Sat}
 use Rattle.aug_core.specs.Eras.{IsAtWork}
 use Rattle.aug_core.specs.declared.view.SeatView.{SeatView}
 

@@ -1,6 +1,6 @@
 -- What a seat with one lane is before that lane is taken, and after it.
 use Rattle.std.specs.Prelude.{◌≡◌}
-use Rattle.aug_core.specs.Told.{HoldsOnly}
+use Rattle.aug_core.specs.Effects.{HoldsOnly}
 use Rattle.aug_core.specs.declared.view.Held.{Held}
 use Rattle.aug_core.specs.declared.view.LaneState.TheVariants.{Free, Taken}
 use Rattle.aug_core.specs.declared.view.SeatView.{SeatView}

@@ -11,14 +11,14 @@ abbrev pub no_trie : TrieFacts
 no_trie = record { table = no_half.round.table; bits = 0; lanes = []; held = 0; rounds = record { past = []; now = record { members = []; history = [] } } }
 
 -- an end knows whether a trie was laid there yet, before which there is no other end, and what it knows of the trie is a part of what lies there
-pub record IsTold {A B : Type 0} (desk : Desk A B) (end : ℕ) (v : TrieFacts) : Type 0 where
+pub record EndKnows {A B : Type 0} (desk : Desk A B) (end : ℕ) (v : TrieFacts) : Type 0 where
   pub alone : desk.opened ≡ false → end ≡ 0
   pub none : desk.opened ≡ false → v.bits ≡ 0
   pub some : desk.opened ≡ true → 0 < v.bits
   pub knows : IfSome desk.working (KnowsMore v)
 
 abbrev pub OnDesk : {A B : Type 0} → Desk A B → List TrieFacts → Type 0
-OnDesk desk views = (j : ℕ) (v : TrieFacts) → get_elem? views j ≡ some v → IsTold desk j v
+OnDesk desk views = (j : ℕ) (v : TrieFacts) → get_elem? views j ≡ some v → EndKnows desk j v
 
 -- what an end learns that takes what lies there
 pub record KnowsDesk {A B : Type 0} (v : TrieFacts) (desk : Desk A B) : Type 0 where
@@ -27,9 +27,9 @@ pub record KnowsDesk {A B : Type 0} (v : TrieFacts) (desk : Desk A B) : Type 0 w
   pub knows : IfSome desk.working (KnowsMore v)
 
 -- who puts something there knows it
-abbrev pub told_by : Option TrieFacts → TrieFacts → TrieFacts
-told_by None v = v
-told_by (Some t) v = t
+abbrev pub known_after : Option TrieFacts → TrieFacts → TrieFacts
+known_after None v = v
+known_after (Some t) v = t
 
-abbrev pub is_told : {A B : Type 0} → TrieFacts → Desk A B → Desk A B → TrieFacts → Type 0
-is_told v old new w = w ≡ told_by new.working v
+abbrev pub is_known : {A B : Type 0} → TrieFacts → Desk A B → Desk A B → TrieFacts → Type 0
+is_known v old new w = w ≡ known_after new.working v

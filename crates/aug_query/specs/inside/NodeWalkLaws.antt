@@ -24,11 +24,11 @@ module _ {Tree Node : Type 0} {calls_of : Tree → ℕ} {HasNode : Tree → Node
   }
 
 -- a node stands in the tree, and has the summary of what it covers
-pub stands : {A B : Type 0} {sum : List (ℕ × ℕ) → Summary A B} {Tree Node : Type 0} {set_of : Tree → SetFacts} {HasNode : Tree → Node → Type 0} {level_of place_of : Node → ℕ} {told_by : Node → Summary A B}
-    → ((tree : Tree) (node : Node) → HasNode tree node → IsNodeOf sum (set_of tree) (level_of node) (place_of node) (told_by node))
+pub stands : {A B : Type 0} {sum : List (ℕ × ℕ) → Summary A B} {Tree Node : Type 0} {set_of : Tree → SetFacts} {HasNode : Tree → Node → Type 0} {level_of place_of : Node → ℕ} {summary_in : Node → Summary A B}
+    → ((tree : Tree) (node : Node) → HasNode tree node → IsNodeOf sum (set_of tree) (level_of node) (place_of node) (summary_in node))
     → (tree : Tree) (level place : ℕ) (node : Node) → NamesNode HasNode level_of place_of tree level place node → IsNodeOf sum (set_of tree) level place (sum_of sum (set_of tree).pairs (keys_below (list_of (set_of tree)) level place))
-stands {sum = sum} {set_of = set_of} {level_of = level_of} {place_of = place_of} {told_by = told_by} tells tree level place node is =
+stands {sum = sum} {set_of = set_of} {level_of = level_of} {place_of = place_of} {summary_in = summary_in} tells tree level place node is =
     let set = set_of tree in
-    let at = subst (λ (l : ℕ). IsNodeOf sum set l (place_of node) (told_by node)) is.at_level (tells tree node is.has) in
-    let here = subst (λ (p : ℕ). IsNodeOf sum set level p (told_by node)) is.at_place at in
+    let at = subst (λ (l : ℕ). IsNodeOf sum set l (place_of node) (summary_in node)) is.at_level (tells tree node is.has) in
+    let here = subst (λ (p : ℕ). IsNodeOf sum set level p (summary_in node)) is.at_place at in
     record { is_tree_set = here.is_tree_set; level_fits = here.level_fits; place_fits = here.place_fits; tells = refl }

@@ -97,10 +97,10 @@ impl<A: Monoid, B: Monoid> Query<A, B> for Weights<'_> {
 fn ask_all<A: Monoid, B: Monoid, D: Descend<A, B>, Q: ByKey<A, B>>(
     tree: &mut D,
     keys: &[u32],
-    out: &mut Vec<Q::Told>,
+    out: &mut Vec<Q::Value>,
 )
     requires room { vec_len out.old + length keys.now ≤ vec_capacity out.old }
-    ensures answer { out.new.items ≡ out.old.items ++ map (λ k. Q.told_of (D.set_of tree.old) k) keys.now }
+    ensures answer { out.new.items ≡ out.old.items ++ map (λ k. Q.value_of (D.set_of tree.old) k) keys.now }
     ensures room { vec_capacity out.new ≡ vec_capacity out.old }
     ensures descends { Descends D.set_of D.loads_of D.Names D.KeepsRest (length keys.now * ((D.set_of tree.old).bits + 1)) (length keys.now) 0 (length keys.now * (Q.passed * (D.set_of tree.old).bits)) tree.old tree.new }
 {
@@ -116,13 +116,13 @@ fn ask_some<A: Monoid, B: Monoid, D: Descend<A, B>, Q: ByKey<A, B>>(
     tree: &mut D,
     keys: &[u32],
     at: usize,
-    out: &mut Vec<Q::Told>,
+    out: &mut Vec<Q::Value>,
 ) -> usize
     requires at { at < length keys.now }
     requires room { vec_len out.old + (length keys.now - at) ≤ vec_capacity out.old }
     ensures some { 1 ≤ result }
     ensures within { at + result ≤ length keys.now }
-    ensures answer { out.new.items ≡ out.old.items ++ map (λ k. Q.told_of (D.set_of tree.old) k) (take result (drop at keys.now)) }
+    ensures answer { out.new.items ≡ out.old.items ++ map (λ k. Q.value_of (D.set_of tree.old) k) (take result (drop at keys.now)) }
     ensures length { vec_len out.new ≡ vec_len out.old + result }
     ensures room { vec_capacity out.new ≡ vec_capacity out.old }
     ensures descends { Descends D.set_of D.loads_of D.Names D.KeepsRest (result * ((D.set_of tree.old).bits + 1)) result 0 (result * (Q.passed * (D.set_of tree.old).bits)) tree.old tree.new }

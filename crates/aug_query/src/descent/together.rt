@@ -15,13 +15,13 @@ use aug_monoid::Monoid;
 /// A query of one key, which four keys can ask together: a step of a key's way, and what the end of the way says of the key.
 pub trait ByKey<A: Monoid, B: Monoid>: Copy {
     /// What answers it.
-    type Told: Copy;
+    type Value: Copy;
 
     // The key.
     ghost key_of: { Self → ℕ };
 
     // The answer for a key of a set.
-    ghost told_of: { SetFacts → ℕ → Self.Told };
+    ghost value_of: { SetFacts → ℕ → Self.Value };
 
     // What is known of the number that a way has counted, by how many members come before its node.
     ghost Counts: { ℕ → ℕ → Type 0 };
@@ -37,8 +37,8 @@ pub trait ByKey<A: Monoid, B: Monoid>: Copy {
         ensures { result ≡ key_of self.now };
 
     /// The answer for one key by itself.
-    fn one<D: Descend<A, B>>(tree: &mut D, k: u32) -> Self::Told
-        ensures answer { result ≡ told_of (D.set_of tree.old) k }
+    fn one<D: Descend<A, B>>(tree: &mut D, k: u32) -> Self::Value
+        ensures answer { result ≡ value_of (D.set_of tree.old) k }
         ensures descends { Descends D.set_of D.loads_of D.Names D.KeepsRest ((D.set_of tree.old).bits + 1) 1 0 (passed * (D.set_of tree.old).bits) tree.old tree.new };
 
     /// The child, at this level, that covers `k`, of the node above it that does, and what is counted then.
@@ -56,20 +56,20 @@ pub trait ByKey<A: Monoid, B: Monoid>: Copy {
         ensures counted { Counts result.1 (rank_of (list_of (D.set_of tree.old)) (first_key level (k / 2 ^ level))) };
 
     /// The answer, by the node above the leaf of `k`.
-    fn end<D: Descend<A, B>>(tree: &mut D, k: u32, node: &D::Name, counted: u32) -> Self::Told
+    fn end<D: Descend<A, B>>(tree: &mut D, k: u32, node: &D::Name, counted: u32) -> Self::Value
         requires name { D.Names tree.old 1 (k / 2 ^ 1) node.now }
         requires counted { Counts counted (rank_of (list_of (D.set_of tree.old)) (first_key 1 (k / 2 ^ 1))) }
-        ensures answer { result ≡ told_of (D.set_of tree.old) k }
+        ensures answer { result ≡ value_of (D.set_of tree.old) k }
         ensures descends { Descends D.set_of D.loads_of D.Names D.KeepsRest 1 1 0 0 tree.old tree.new };
 }
 
 // A way counts the members before its node.
 impl<A: Monoid, B: Monoid> ByKey<A, B> for Rank {
-    type Told = u32;
+    type Value = u32;
 
     ghost key_of = { λ q. q.0 };
 
-    ghost told_of = { λ set k. rank_of (list_of set) k };
+    ghost value_of = { λ set k. rank_of (list_of set) k };
 
     ghost Counts = { λ counted before. counted ≡ before };
 
@@ -110,11 +110,11 @@ impl<A: Monoid, B: Monoid> ByKey<A, B> for Rank {
 
 // A way counts nothing.
 impl<A: Monoid, B: Monoid> ByKey<A, B> for Weight {
-    type Told = Option<u32>;
+    type Value = Option<u32>;
 
     ghost key_of = { λ q. q.0 };
 
-    ghost told_of = { λ set k. weight_of set.pairs k };
+    ghost value_of = { λ set k. weight_of set.pairs k };
 
     ghost Counts = { λ counted before. ⊤ };
 
@@ -153,11 +153,11 @@ impl<A: Monoid, B: Monoid> ByKey<A, B> for Weight {
 
 // The way of a weight, with less at its end.
 impl<A: Monoid, B: Monoid> ByKey<A, B> for Has {
-    type Told = bool;
+    type Value = bool;
 
     ghost key_of = { λ q. q.0 };
 
-    ghost told_of = { λ set k. is_member (list_of set) k };
+    ghost value_of = { λ set k. is_member (list_of set) k };
 
     ghost Counts = { λ counted before. ⊤ };
 
@@ -199,14 +199,14 @@ impl<A: Monoid, B: Monoid> ByKey<A, B> for Has {
 pub struct Four<Q>(pub Q, pub Q, pub Q, pub Q);
 
 impl<A: Monoid, B: Monoid, Q: ByKey<A, B>> Query<A, B> for Four<Q> {
-    type Answer = (Q::Told, Q::Told, Q::Told, Q::Told);
+    type Answer = (Q::Value, Q::Value, Q::Value, Q::Value);
 
-    ghost Answers = { λ q set answer. (answer.0 ≡ Q.told_of set (Q.key_of q.0)) × (answer.1 ≡ Q.told_of set (Q.key_of q.1)) × (answer.2 ≡ Q.told_of set (Q.key_of q.2)) × (answer.3 ≡ Q.told_of set (Q.key_of q.3)) };
+    ghost Answers = { λ q set answer. (answer.0 ≡ Q.value_of set (Q.key_of q.0)) × (answer.1 ≡ Q.value_of set (Q.key_of q.1)) × (answer.2 ≡ Q.value_of set (Q.key_of q.2)) × (answer.3 ≡ Q.value_of set (Q.key_of q.3)) };
 
     ghost most = { λ q set. loads (4 * (set.bits + 1)) 4 0 (4 * (Q.passed * set.bits)) };
 
     #[inline(always)]
-    fn run<D: Descend<A, B>>(self, tree: &mut D) -> (Q::Told, Q::Told, Q::Told, Q::Told) {
+    fn run<D: Descend<A, B>>(self, tree: &mut D) -> (Q::Value, Q::Value, Q::Value, Q::Value) {
         let Four(p, q, r, s) = self;
         answer_four::<A, B, D, Q>(tree, p.key(), q.key(), r.key(), s.key())
     }
@@ -220,11 +220,11 @@ pub(super) fn answer_four<A: Monoid, B: Monoid, D: Descend<A, B>, Q: ByKey<A, B>
     q: u32,
     r: u32,
     s: u32,
-) -> (Q::Told, Q::Told, Q::Told, Q::Told)
-    ensures p { result.0 ≡ Q.told_of (D.set_of tree.old) p }
-    ensures q { result.1 ≡ Q.told_of (D.set_of tree.old) q }
-    ensures r { result.2 ≡ Q.told_of (D.set_of tree.old) r }
-    ensures s { result.3 ≡ Q.told_of (D.set_of tree.old) s }
+) -> (Q::Value, Q::Value, Q::Value, Q::Value)
+    ensures p { result.0 ≡ Q.value_of (D.set_of tree.old) p }
+    ensures q { result.1 ≡ Q.value_of (D.set_of tree.old) q }
+    ensures r { result.2 ≡ Q.value_of (D.set_of tree.old) r }
+    ensures s { result.3 ≡ Q.value_of (D.set_of tree.old) s }
     ensures descends { Descends D.set_of D.loads_of D.Names D.KeepsRest (4 * ((D.set_of tree.old).bits + 1)) 4 0 (4 * (Q.passed * (D.set_of tree.old).bits)) tree.old tree.new }
 {
     if universe(tree) <= p.max(q).max(r).max(s) {
@@ -247,11 +247,11 @@ fn one_by_one<A: Monoid, B: Monoid, D: Descend<A, B>, Q: ByKey<A, B>>(
     q: u32,
     r: u32,
     s: u32,
-) -> (Q::Told, Q::Told, Q::Told, Q::Told)
-    ensures p { result.0 ≡ Q.told_of (D.set_of tree.old) p }
-    ensures q { result.1 ≡ Q.told_of (D.set_of tree.old) q }
-    ensures r { result.2 ≡ Q.told_of (D.set_of tree.old) r }
-    ensures s { result.3 ≡ Q.told_of (D.set_of tree.old) s }
+) -> (Q::Value, Q::Value, Q::Value, Q::Value)
+    ensures p { result.0 ≡ Q.value_of (D.set_of tree.old) p }
+    ensures q { result.1 ≡ Q.value_of (D.set_of tree.old) q }
+    ensures r { result.2 ≡ Q.value_of (D.set_of tree.old) r }
+    ensures s { result.3 ≡ Q.value_of (D.set_of tree.old) s }
     ensures descends { Descends D.set_of D.loads_of D.Names D.KeepsRest (4 * ((D.set_of tree.old).bits + 1)) 4 0 (4 * (Q.passed * (D.set_of tree.old).bits)) tree.old tree.new }
 {
     let p = Q::one(tree, p);
@@ -361,12 +361,12 @@ fn end_all<A: Monoid, B: Monoid, D: Descend<A, B>, Q: ByKey<A, B>>(
     r: u32,
     s: u32,
     ways: &Ways<D::Name>,
-) -> (Q::Told, Q::Told, Q::Told, Q::Told)
+) -> (Q::Value, Q::Value, Q::Value, Q::Value)
     requires { AreWays D.set_of D.Names Q.Counts tree.old 1 p q r s ways.now }
-    ensures p { result.0 ≡ Q.told_of (D.set_of tree.old) p }
-    ensures q { result.1 ≡ Q.told_of (D.set_of tree.old) q }
-    ensures r { result.2 ≡ Q.told_of (D.set_of tree.old) r }
-    ensures s { result.3 ≡ Q.told_of (D.set_of tree.old) s }
+    ensures p { result.0 ≡ Q.value_of (D.set_of tree.old) p }
+    ensures q { result.1 ≡ Q.value_of (D.set_of tree.old) q }
+    ensures r { result.2 ≡ Q.value_of (D.set_of tree.old) r }
+    ensures s { result.3 ≡ Q.value_of (D.set_of tree.old) s }
     ensures descends { Descends D.set_of D.loads_of D.Names D.KeepsRest 4 4 0 0 tree.old tree.new }
 {
     let p = Q::end(tree, p, &ways.p.node, ways.p.counted);

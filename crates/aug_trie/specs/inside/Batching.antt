@@ -13,7 +13,7 @@ use Rattle.aug_trie.specs.declared.updates.outcome.Outcome.TheVariants.{Refused}
 use Rattle.aug_trie.specs.declared.updates.request.Request.{Request}
 use Rattle.aug_trie.specs.declared.updates.request.Request.TheVariants.{Insert}
 use Rattle.aug_trie.specs.UpdateBatches.{BatchPart, no_part}
-use Rattle.aug_trie.specs.Pass.{TryNoLeaf, Tried}
+use Rattle.aug_trie.specs.Pass.{TryNoLeaf, ExchangesOnce}
 use Rattle.aug_trie.specs.Requests.{goes_from, outcome_at_once}
 use Rattle.aug_trie.specs.inside.Climbing.{CameTo}
 use Rattle.aug_trie.specs.inside.Counted.{HasCounts, insertions_by, removals_by}
@@ -42,7 +42,7 @@ module _ (face : ℕ → ℕ → List (ℕ × ℕ) → List ℕ) where
     pub more : List StepTaken
     pub steps : w.steps ≡ v.steps ++ load_leaf key word ∷ more
     pub few_steps : length more ≤ 1
-    pub tried : goes_from request word ≡ true → Tried request key word more done
+    pub tried : goes_from request word ≡ true → ExchangesOnce request key word more done
     pub refusing : goes_from request word ≡ false → (done ≡ outcome_at_once request) × TryNoLeaf more
     pub gained : List Change
     pub few_gained : length gained ≤ 2

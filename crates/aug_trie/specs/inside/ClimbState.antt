@@ -1,7 +1,7 @@
 -- What the fields of an update by turns keep, and how what contracts see of it comes of them.
 use Rattle.std.specs.Prelude.{ℕ, ◌-◌, List}
 use Rattle.aug_core.specs.Counts.{changes_of}
-use Rattle.aug_core.specs.Told.{own_lane}
+use Rattle.aug_core.specs.Effects.{own_lane}
 use Rattle.aug_core.specs.declared.view.SeatView.{SeatView}
 use Rattle.aug_words.specs.Seats.{Known}
 use Rattle.aug_trie.specs.inside.Counted.{HasCounts}

@@ -3,7 +3,7 @@ use Rattle.std.specs.Prelude.{◌≡◌, ℕ, ◌+◌, ◌-◌, ◌%◌, ◌^◌
 use Rattle.aug_core.specs.Book.{IsPassed}
 use Rattle.aug_core.specs.Kinds.{load_leaf}
 use Rattle.aug_core.specs.inside.Shows.{NewestShows, ShowsAtMost}
-use Rattle.aug_core.specs.Told.{made_by, new_serial}
+use Rattle.aug_core.specs.Effects.{made_by, new_serial}
 use Rattle.aug_core.specs.declared.step.StepTaken.{StepTaken}
 use Rattle.aug_core.specs.declared.view.Advance.{Advance}
 use Rattle.aug_core.specs.declared.view.SeatView.{SeatView}
@@ -11,7 +11,7 @@ use Rattle.aug_trie.specs.declared.updates.outcome.Outcome.{Outcome}
 use Rattle.aug_trie.specs.declared.updates.outcome.Outcome.TheVariants as outcome
 use Rattle.aug_trie.specs.inside.Goes.{Goes}
 use Rattle.aug_trie.specs.inside.Weights.{WeighsAt}
-use Rattle.aug_trie.specs.Pass.{TryNoLeaf, Tried, least_update_steps, most_update_steps}
+use Rattle.aug_trie.specs.Pass.{TryNoLeaf, ExchangesOnce, least_update_steps, most_update_steps}
 use Rattle.aug_trie.specs.LeafWords.{serial_in_word, weight_in_word}
 use Rattle.aug_trie.specs.Requests.{goes_from, in_the_way, outcome_at_once}
 use Rattle.aug_trie.specs.declared.updates.request.Request.{Request}
@@ -79,6 +79,6 @@ module _ (face : ℕ → ℕ → List (ℕ × ℕ) → List ℕ) (used : ℕ) (v
     pub steps : w.steps ≡ v.steps ++ load_leaf key loaded ∷ more
     pub least_steps : least_update_steps v.shape.bits ≤ length more + 1
     pub most_steps : length more + 1 ≤ most_update_steps v.shape.bits
-    pub tried : goes_from request loaded ≡ true → Tried request key loaded more done
+    pub tried : goes_from request loaded ≡ true → ExchangesOnce request key loaded more done
     pub refusing : goes_from request loaded ≡ false → (done ≡ outcome_at_once request) × TryNoLeaf more
     pub came_to : CameTo loaded done

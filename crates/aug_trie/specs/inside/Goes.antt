@@ -7,7 +7,7 @@ use Rattle.aug_core.specs.Lanes.{first_record, lane_records, block_size}
 use Rattle.aug_core.specs.Book.{At, ArePrefixes, IsFresh}
 use Rattle.aug_core.specs.Rule.{Lists}
 use Rattle.aug_core.specs.Counts.{changes_of}
-use Rattle.aug_core.specs.Told.{HoldsOnly, own_lane, KnowsTable}
+use Rattle.aug_core.specs.Effects.{HoldsOnly, own_lane, KnowsTable}
 use Rattle.aug_core.specs.inside.Refreshes.{Refreshed}
 use Rattle.aug_core.specs.declared.step.StepTaken.{StepTaken}
 use Rattle.aug_core.specs.declared.view.Change.{Change}

@@ -5,7 +5,7 @@ use Rattle.aug_core.specs.Places.{record_start, record_words}
 use Rattle.aug_core.specs.Addresses.{IsInner, left_of, right_of}
 use Rattle.aug_core.specs.Book.{ArePrefixes}
 use Rattle.aug_core.specs.inside.Refreshes.{HasNewest, SaysLoaded}
-use Rattle.aug_core.specs.Told.{KnowsTable, Says, own_lane, storing}
+use Rattle.aug_core.specs.Effects.{KnowsTable, Says, own_lane, storing}
 use Rattle.aug_core.specs.declared.step.StepTaken.{StepTaken}
 use Rattle.aug_core.specs.declared.view.SeatView.{SeatView}
 use Rattle.aug_trie.specs.inside.RoundState.{eras_of}
@@ -16,7 +16,7 @@ use Rattle.aug_trie.specs.declared.turns.points.Filling.{Filling}
 use Rattle.aug_trie.specs.declared.turns.points.Point.{Point}
 use Rattle.aug_trie.specs.declared.turns.points.Point.TheVariants.{Node, Left, Right, Part, Record}
 use Rattle.aug_trie.specs.declared.turns.points.Advanced.{Advanced}
-use Rattle.aug_trie.specs.declared.turns.points.Advanced.TheVariants.{To, Tried}
+use Rattle.aug_trie.specs.declared.turns.points.Advanced.TheVariants.{To, Exchanged}
 
 -- the view made one more step; what it saw grows, and its lane and table are the same
 pub record OneStep (v w : SeatView) : Type 0 where
@@ -137,7 +137,7 @@ module _ (face : ℕ → ℕ → List (ℕ × ℕ) → List ℕ) (v : SeatView) 
   -- the result of a step of the try
   abbrev pub Advances : ℕ → Advanced → SeatView → Type 0
   Advances number (To point) w = TryAt number point w
-  Advances number (Tried done) w = TryOver number done w
+  Advances number (Exchanged done) w = TryOver number done w
 
 -- how many steps of a try are left at a point, if reading a child's part takes `part` loads
 abbrev pub point_turns : ℕ → Point → ℕ
@@ -150,4 +150,4 @@ point_turns part (Record r) = publish_steps - r.count
 -- a step leaves one less
 abbrev pub Falls : ℕ → Point → Advanced → Type 0
 Falls part point (To next) = point_turns part next + 1 ≡ point_turns part point
-Falls part point (Tried done) = 1 ≡ point_turns part point
+Falls part point (Exchanged done) = 1 ≡ point_turns part point

@@ -4,7 +4,7 @@ use Rattle.atomic_table.specs.Seated.{TableId}
 use Rattle.aug_core.specs.Addresses.{root_place}
 use Rattle.aug_core.specs.Cuts.{pairs_of_cut}
 use Rattle.aug_core.specs.Renewals.{EndWith}
-use Rattle.aug_core.specs.Told.{LoadsNode, opening_of}
+use Rattle.aug_core.specs.Effects.{LoadsNode, opening_of}
 use Rattle.aug_core.specs.declared.view.PastEra.{PastEra}
 use Rattle.aug_core.specs.declared.view.SeatView.{SeatView}
 use Rattle.aug_query.specs.declared.loaded.Loaded.{Loaded}

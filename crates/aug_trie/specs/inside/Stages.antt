@@ -5,7 +5,7 @@ use Rattle.aug_core.specs.Book.{history_of}
 use Rattle.aug_core.specs.Counts.{changes_of}
 use Rattle.aug_core.specs.inside.Shows.{above, Lifts}
 use Rattle.aug_core.specs.inside.Refreshes.{NewestCovers}
-use Rattle.aug_core.specs.Told.{own_lane, KnowsTable, BeginsAtLeaf}
+use Rattle.aug_core.specs.Effects.{own_lane, KnowsTable, BeginsAtLeaf}
 use Rattle.aug_core.specs.declared.view.SeatView.{SeatView}
 use Rattle.aug_trie.specs.inside.RoundState.{eras_of}
 use Rattle.aug_trie.specs.inside.Goes.{Goes, Took, TookBetween, HasRoom, part_words, part_steps, try_steps, level_steps, least_rise_steps, most_rise_steps}
@@ -26,7 +26,7 @@ use Rattle.aug_core.specs.declared.step.StepTaken.{StepTaken}
 
 module _ (face : ℕ → ℕ → List (ℕ × ℕ) → List ℕ) where
   -- a try at the node that failed
-  pub record Missed (below begun : SeatView) (q number : ℕ) : Type 0 where
+  pub record LostTry (below begun : SeatView) (q number : ℕ) : Type 0 where
     pub goes : Goes face (number + 1) [] below begun
     pub took : Took below begun (try_steps (part_steps below.shape (left_of below.shape q)))
     pub longer : length (history_of below.seen q) + 1 ≤ length (history_of begun.seen q)
@@ -34,7 +34,7 @@ module _ (face : ℕ → ℕ → List (ℕ × ℕ) → List ℕ) where
   -- the first try begins when the node is reached, and the second when the first has failed
   abbrev pub IsTry : SeatView → SeatView → ℕ → ℕ → Bool → Type 0
   IsTry below begun q number false = begun ≡ below
-  IsTry below begun q number true = Missed below begun q number
+  IsTry below begun q number true = LostTry below begun q number
 
   -- a node that was tried once or twice covers what had been seen of its children
   pub record IsCovered (below w : SeatView) (q number : ℕ) : Type 0 where

@@ -3,7 +3,7 @@
 ghost use Rattle.std.specs.Prelude.{◌≡◌, ℕ, ◌+◌, ◌*◌, ◌^◌, ◌<◌, ◌≤◌, length};
 ghost use Rattle.aug_core.specs.Cuts.{set_of_cut};
 ghost use Rattle.aug_core.specs.Faces.{face};
-ghost use Rattle.aug_core.specs.Told.{KnowsTable};
+ghost use Rattle.aug_core.specs.Effects.{KnowsTable};
 ghost use Rattle.aug_model.specs.NodeKeys.{keys_below};
 ghost use Rattle.aug_trie.specs.inside.NodeWords.{IsNodeAt};
 ghost use Rattle.aug_trie.specs.inside.Goes.{Looks};

@@ -2,7 +2,7 @@
 ghost use Rattle.std.specs.Prelude.{◌≡◌, ◌⊎◌, ◌↔◌, ◌^◌, ◌≤◌, [], length, vec_capacity, IsErrOf, IfOk, IfErr};
 ghost use Rattle.aug_core.specs.Faces.{face};
 ghost use Rattle.aug_core.specs.Layout.{IsOutside};
-ghost use Rattle.aug_core.specs.Told.{opening_of};
+ghost use Rattle.aug_core.specs.Effects.{opening_of};
 ghost use Rattle.aug_core.specs.Cuts.{pairs_of_cut};
 ghost use Rattle.aug_words.specs.Seats.{AreTogether};
 ghost use Rattle.aug_core.specs.Renewals.{EndWith};

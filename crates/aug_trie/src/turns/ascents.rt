@@ -59,7 +59,7 @@ pub(crate) fn ascend<A: Monoid, B: Monoid>(
     let at = number + u64::from(ascent.level);
     match advance(pass, leaves, ascent.node, at, ascent.point) {
         Advanced::To(point) => Some(Ascent { point, ..ascent }),
-        Advanced::Tried(done) => after_try(leaves, bits, ascent, done),
+        Advanced::Exchanged(done) => after_try(leaves, bits, ascent, done),
     }
 }
 

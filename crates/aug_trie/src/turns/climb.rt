@@ -1,7 +1,7 @@
 //! Updates by single turns.
 ghost use Rattle.std.specs.Prelude.{◌≡◌, ℕ, ◌+◌, ◌-◌, ◌*◌, ◌^◌, ◌<◌, ◌≤◌};
 ghost use Rattle.aug_model.specs.Folds.{summary_of};
-ghost use Rattle.aug_trie.specs.declared.updates.outcome.Outcome.{Outcome as Told};
+ghost use Rattle.aug_trie.specs.declared.updates.outcome.Outcome.{Outcome as OutcomeFacts};
 ghost use Rattle.aug_core.specs.Layout.{IsWithin};
 ghost use Rattle.aug_trie.specs.Pass.{PassFacts, most_update_steps};
 ghost use Rattle.aug_trie.specs.inside.Goes.{part_words, try_steps};
@@ -139,8 +139,8 @@ impl<'r, A: Monoid, B: Monoid> Climb<'r, A, B> {
     /// Makes one atomic step.
     pub fn turn(self) -> Turn<'r, A, B>
         ensures more { (climb : ClimbFacts) → result ≡ Turn.More climb → TurnsOn self.entry climb }
-        ensures done { (pass : PassFacts) (outcome : Told) → result ≡ Turn.Done pass outcome → Finishes outcome self.entry pass }
-        ensures keeps { (pass : PassFacts) (outcome : Told) → result ≡ Turn.Done pass outcome → Keeps (summary_of A.parts B.parts) self.entry.start pass }
+        ensures done { (pass : PassFacts) (outcome : OutcomeFacts) → result ≡ Turn.Done pass outcome → Finishes outcome self.entry pass }
+        ensures keeps { (pass : PassFacts) (outcome : OutcomeFacts) → result ≡ Turn.Done pass outcome → Keeps (summary_of A.parts B.parts) self.entry.start pass }
     {
         let Climb {
             mut words,

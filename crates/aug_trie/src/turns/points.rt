@@ -59,7 +59,7 @@ pub(crate) enum Advanced {
     // There is more to do.
     To(Point),
     // The node's word was exchanged, or that failed.
-    Tried(bool),
+    Exchanged(bool),
 }
 
 // The word of a record that lies `offset` words after its first.
@@ -195,7 +195,7 @@ fn store_or_try<A: Monoid, B: Monoid>(
 {
     let count = filling.count;
     if count == RECORD_WORDS {
-        return Advanced::Tried(pass.try_node(node, filling.from, number));
+        return Advanced::Exchanged(pass.try_node(node, filling.from, number));
     }
     pass.store_record_word(number, field_at(count), filling.five[count]);
     Advanced::To(Point::Record(Filling {

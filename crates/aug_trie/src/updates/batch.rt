@@ -3,7 +3,7 @@ ghost use Rattle.std.specs.Prelude.{◌≡◌, ◌+◌, ◌*◌, ◌^◌, ◌<�
 ghost use Rattle.aug_core.specs.Faces.{face};
 ghost use Rattle.aug_core.specs.Places.{Shape};
 ghost use Rattle.aug_core.specs.Counts.{changes_of};
-ghost use Rattle.aug_core.specs.Told.{MayChange, KnowsTable};
+ghost use Rattle.aug_core.specs.Effects.{MayChange, KnowsTable};
 ghost use Rattle.aug_trie.specs.inside.Climbing.{FitsRequest};
 ghost use Rattle.aug_trie.specs.inside.Goes.{HasLeaves, HasRoom};
 ghost use Rattle.aug_trie.specs.inside.Batching.{AreOneAbove, IsAccountAfter, LeftAll, LeftLeaf, RaisedAll};

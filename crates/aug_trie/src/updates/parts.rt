@@ -2,7 +2,7 @@
 ghost use Rattle.std.specs.Prelude.{◌≡◌, ℕ, ◌<◌, ◌^◌, []};
 ghost use Rattle.aug_core.specs.Faces.{face};
 ghost use Rattle.aug_core.specs.Addresses.{place_count, IsInner};
-ghost use Rattle.aug_core.specs.Told.{KnowsTable};
+ghost use Rattle.aug_core.specs.Effects.{KnowsTable};
 ghost use Rattle.aug_core.specs.inside.Refreshes.{HasEntry};
 ghost use Rattle.aug_trie.specs.inside.LeafPairs.{leaf_pairs};
 ghost use Rattle.aug_trie.specs.inside.Goes.{IsPart, IsPartOf, Goes, Took, HasLeaves, part_words, part_steps};

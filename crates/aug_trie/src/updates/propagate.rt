@@ -2,7 +2,7 @@
 ghost use Rattle.std.specs.Prelude.{◌≡◌, ◌+◌, ◌^◌, ◌<◌, ◌≤◌};
 ghost use Rattle.aug_core.specs.Faces.{face};
 ghost use Rattle.aug_core.specs.Addresses.{IsInner};
-ghost use Rattle.aug_core.specs.Told.{KnowsTable};
+ghost use Rattle.aug_core.specs.Effects.{KnowsTable};
 ghost use Rattle.aug_trie.specs.inside.Goes.{HasLeaves, HasRoom};
 ghost use Rattle.aug_trie.specs.inside.Batching.{Raises};
 ghost use Rattle.aug_trie.specs.inside.Stages.{IsCovered, MayRise, HasRisen};

@@ -2,7 +2,7 @@
 ghost use Rattle.std.specs.Prelude.{◌≡◌, ℕ, ◌+◌, ◌^◌, ◌<◌, [], ◌∷◌, slice_index, false};
 ghost use Rattle.aug_core.specs.Faces.{face};
 ghost use Rattle.aug_core.specs.Addresses.{place_count, IsInner};
-ghost use Rattle.aug_core.specs.Told.{KnowsTable};
+ghost use Rattle.aug_core.specs.Effects.{KnowsTable};
 ghost use Rattle.aug_core.specs.inside.Refreshes.{HasNewest, SaysLoaded, Published};
 ghost use Rattle.aug_trie.specs.inside.Goes.{Goes, Took, HasLeaves, HasRoom, IsFree, publish_steps};
 ghost use Rattle.aug_trie.specs.inside.Points.{QuietStep, TryOver};

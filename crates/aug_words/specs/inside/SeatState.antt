@@ -6,7 +6,7 @@ use Rattle.aug_core.specs.Layout.{IsLayout}
 use Rattle.aug_core.specs.Lanes.{block_size}
 use Rattle.aug_core.specs.Book.{At}
 use Rattle.aug_core.specs.Opening.{Opening}
-use Rattle.aug_core.specs.Told.{Sat, HoldsOnly, KnowsTable}
+use Rattle.aug_core.specs.Effects.{Sat, HoldsOnly, KnowsTable}
 use Rattle.aug_core.specs.declared.view.Entry.{Entry}
 use Rattle.aug_core.specs.declared.view.Held.{Held}
 use Rattle.aug_core.specs.declared.view.SeatView.{SeatView}

@@ -1,7 +1,7 @@
 use Rattle.std.proofs.Common.{refl}
 use Rattle.std.specs.Prelude.{None}
 use Rattle.ruled_lock.specs.Locks.{client_of}
-use Rattle.aug_live.proofs.Told.{learns, turns}
+use Rattle.aug_live.proofs.DeskSteps.{learns, turns}
 use Rattle.aug_live.proofs.desk_end.take_round.Goals as goal
 
 pub take-requires-clause-rule : goal.take-requires-clause-rule

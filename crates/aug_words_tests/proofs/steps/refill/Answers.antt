@@ -1,7 +1,7 @@
 use Rattle.std.proofs.Common.{◌≡◌, ℕ, List, get_or, subst, sym, ap, ◌∙◌}
 use Rattle.aug_monoid.specs.Parts.{Parts}
 use Rattle.aug_core.specs.Faces.{face}
-use Rattle.aug_core.specs.Told.{IsFilled}
+use Rattle.aug_core.specs.Effects.{IsFilled}
 use Rattle.aug_core.specs.declared.view.SeatView.{SeatView}
 use Rattle.aug_core.proofs.Clients.{may_store_on}
 use Rattle.aug_core.proofs.FaceLemmas.{left_in, right_in}

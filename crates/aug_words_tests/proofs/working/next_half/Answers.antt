@@ -1,5 +1,5 @@
 use Rattle.std.proofs.Common.{sym, subst}
-use Rattle.aug_core.specs.Told.{MayStore}
+use Rattle.aug_core.specs.Effects.{MayStore}
 use Rattle.aug_words.specs.Seats.{Known, AreTogether}
 use Rattle.aug_words_tests.proofs.working.next_half.Goals as goal
 

@@ -1,6 +1,6 @@
 use Rattle.std.proofs.Common.{◌<◌, ℕ, ap, sym, subst}
 use Rattle.aug_live.specs.LiveTries.{TrieFacts}
-use Rattle.aug_live.proofs.Told.{forks}
+use Rattle.aug_live.proofs.DeskSteps.{forks}
 use Rattle.aug_live.proofs.desk_end.DeskEnd.another.Goals as goal
 
 pub another-pass-requires-clause-rule : goal.another-pass-requires-clause-rule

@@ -4,7 +4,7 @@ use Rattle.ruled_lock.specs.Locks.{client_of}
 use Rattle.aug_live.specs.LiveTries.{KnowsMore, TrieFacts}
 use Rattle.aug_live.proofs.Counted.{more_on, more_self}
 use Rattle.aug_live.proofs.Lanes.{as_many}
-use Rattle.aug_live.proofs.Told.{put_told, turns}
+use Rattle.aug_live.proofs.DeskSteps.{put_known, turns}
 use Rattle.aug_live.proofs.desk_end.DeskEnd.renew.Goals as goal
 
 pub put-requires-clause-holds : goal.put-requires-clause-holds
@@ -23,12 +23,12 @@ put-requires-in-Err-settled-clause-holds g c = let was = c.in-Ok.working in let 
 
 pub returns-in-Ok-settled-clause-more : goal.returns-in-Ok-settled-clause-more
 returns-in-Ok-settled-clause-more g c = let was = c.in-Ok.working in let laid = c.in-Ok.opened in let mid = c.settle-working.result.0 in let now = c.renew-renewed.new.self in
-    subst (KnowsMore c.args.self.now) (sym (put_told c.take_round.new.pass.me.0.taken (record { working = Some was; opened = laid }) (record { working = Some now; opened = laid }) (client_of c.take_round.new.pass) (client_of c.put.new.pass) c.in-Ok.ensures.holds.0 c.put.ensures.then))
+    subst (KnowsMore c.args.self.now) (sym (put_known c.take_round.new.pass.me.0.taken (record { working = Some was; opened = laid }) (record { working = Some now; opened = laid }) (client_of c.take_round.new.pass) (client_of c.put.new.pass) c.in-Ok.ensures.holds.0 c.put.ensures.then))
     (more_on c.args.self.now was now (subst (λ (z : TrieFacts). KnowsMore z was) c.self.view_is c.in-Ok.ensures.knows) (more_on was mid now c.settle-working.ensures.more c.renew-renewed.ensures.more))
 
 pub returns-in-Err-settled-clause-more : goal.returns-in-Err-settled-clause-more
 returns-in-Err-settled-clause-more g c = let was = c.in-Ok.working in let laid = c.in-Ok.opened in let mid = c.settle-working.result.0 in let now = mid in
-    subst (KnowsMore c.args.self.now) (sym (put_told c.take_round.new.pass.me.0.taken (record { working = Some was; opened = laid }) (record { working = Some now; opened = laid }) (client_of c.take_round.new.pass) (client_of c.put-in-Err-settled.new.pass) c.in-Ok.ensures.holds.0 c.put-in-Err-settled.ensures.then))
+    subst (KnowsMore c.args.self.now) (sym (put_known c.take_round.new.pass.me.0.taken (record { working = Some was; opened = laid }) (record { working = Some now; opened = laid }) (client_of c.take_round.new.pass) (client_of c.put-in-Err-settled.new.pass) c.in-Ok.ensures.holds.0 c.put-in-Err-settled.ensures.then))
     (more_on c.args.self.now was now (subst (λ (z : TrieFacts). KnowsMore z was) c.self.view_is c.in-Ok.ensures.knows) c.settle-working.ensures.more)
 
 pub returns-in-Err-clause-more : goal.returns-in-Err-clause-more

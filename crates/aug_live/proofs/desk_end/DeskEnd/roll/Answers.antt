@@ -3,7 +3,7 @@ use Rattle.std.specs.Prelude.{Some}
 use Rattle.ruled_lock.specs.Locks.{client_of}
 use Rattle.aug_live.specs.LiveTries.{KnowsMore, TrieFacts}
 use Rattle.aug_live.proofs.Counted.{more_on, more_self, rolls_on}
-use Rattle.aug_live.proofs.Told.{put_told, turns}
+use Rattle.aug_live.proofs.DeskSteps.{put_known, turns}
 use Rattle.aug_live.proofs.desk_end.DeskEnd.roll.Goals as goal
 
 pub put-requires-clause-holds : goal.put-requires-clause-holds
@@ -15,7 +15,7 @@ put-requires-clause-holds g c = let was = c.in-Ok.working in let now = c.roll-wo
 
 pub returns-in-Ok-clause-more : goal.returns-in-Ok-clause-more
 returns-in-Ok-clause-more g c = let was = c.in-Ok.working in let now = c.roll-working.result.0 in let laid = c.in-Ok.opened in
-    subst (KnowsMore c.args.self.now) (sym (put_told c.take_round.new.pass.me.0.taken (record { working = Some was; opened = laid }) (record { working = Some now; opened = laid }) (client_of c.take_round.new.pass) (client_of c.put.new.pass) c.in-Ok.ensures.holds.0 c.put.ensures.then))
+    subst (KnowsMore c.args.self.now) (sym (put_known c.take_round.new.pass.me.0.taken (record { working = Some was; opened = laid }) (record { working = Some now; opened = laid }) (client_of c.take_round.new.pass) (client_of c.put.new.pass) c.in-Ok.ensures.holds.0 c.put.ensures.then))
     (more_on c.args.self.now was now (subst (λ (z : TrieFacts). KnowsMore z was) c.self.view_is c.in-Ok.ensures.knows) c.roll-working.ensures.more)
 
 pub returns-in-Err-clause-more : goal.returns-in-Err-clause-more
@@ -24,4 +24,4 @@ returns-in-Err-clause-more g c = subst (KnowsMore c.args.self.now) (sym (c.take_
 pub returns-in-Ok-clause-rolls : goal.returns-in-Ok-clause-rolls
 returns-in-Ok-clause-rolls g c = let was = c.in-Ok.working in let now = c.roll-working.result.0 in let laid = c.in-Ok.opened in
     rolls_on c.roll-working.result.1 c.args.self.now was now (client_of c.put.new.pass) (subst (λ (z : TrieFacts). KnowsMore z was) c.self.view_is c.in-Ok.ensures.knows)
-    (put_told c.take_round.new.pass.me.0.taken (record { working = Some was; opened = laid }) (record { working = Some now; opened = laid }) (client_of c.take_round.new.pass) (client_of c.put.new.pass) c.in-Ok.ensures.holds.0 c.put.ensures.then) c.roll-working.ensures.rolls
+    (put_known c.take_round.new.pass.me.0.taken (record { working = Some was; opened = laid }) (record { working = Some now; opened = laid }) (client_of c.take_round.new.pass) (client_of c.put.new.pass) c.in-Ok.ensures.holds.0 c.put.ensures.then) c.roll-working.ensures.rolls

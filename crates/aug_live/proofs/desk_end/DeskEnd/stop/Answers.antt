@@ -3,7 +3,7 @@ use Rattle.std.specs.Prelude.{None, Some}
 use Rattle.ruled_lock.specs.Locks.{client_of}
 use Rattle.aug_live.specs.LiveTries.{TrieFacts, KnowsMore}
 use Rattle.aug_live.proofs.Counted.{closes_from, more_on, more_self}
-use Rattle.aug_live.proofs.Told.{put_told, turns}
+use Rattle.aug_live.proofs.DeskSteps.{put_known, turns}
 use Rattle.aug_live.proofs.desk_end.DeskEnd.stop.Goals as goal
 
 pub put-requires-clause-holds : goal.put-requires-clause-holds
@@ -26,7 +26,7 @@ returns-in-Ok-stop-clause-closes g c = let was = c.in-Ok.working in
 
 pub returns-in-Err-stop-clause-more : goal.returns-in-Err-stop-clause-more
 returns-in-Err-stop-clause-more g c = let was = c.in-Ok.working in let now = c.in-Err-stop.working in let laid = c.in-Ok.opened in
-    subst (KnowsMore c.args.self) (sym (put_told c.take_round.new.pass.me.0.taken (record { working = Some was; opened = laid }) (record { working = Some now; opened = laid }) (client_of c.take_round.new.pass) (client_of c.put-in-Err-stop.new.pass) c.in-Ok.ensures.holds.0 c.put-in-Err-stop.ensures.then))
+    subst (KnowsMore c.args.self) (sym (put_known c.take_round.new.pass.me.0.taken (record { working = Some was; opened = laid }) (record { working = Some now; opened = laid }) (client_of c.take_round.new.pass) (client_of c.put-in-Err-stop.new.pass) c.in-Ok.ensures.holds.0 c.put-in-Err-stop.ensures.then))
     (more_on c.args.self was now (subst (λ (z : TrieFacts). KnowsMore z was) c.self.view_is c.in-Ok.ensures.knows) c.in-Err-stop.ensures.more)
 
 pub returns-in-Err-clause-more : goal.returns-in-Err-clause-more

@@ -7,7 +7,7 @@ use Rattle.ruled_lock.specs.Locks.{client_of}
 use Rattle.aug_live.specs.LiveTries.{TrieFacts}
 use Rattle.aug_live.proofs.Moving.{head_of, one_more, tail_of}
 use Rattle.aug_live.proofs.Tied.{what_is}
-use Rattle.aug_live.proofs.Told.{forks, places, put_told}
+use Rattle.aug_live.proofs.DeskSteps.{forks, places, put_known}
 use Rattle.aug_live.proofs.desk_end.NewDesk.place.Goals as goal
 
 pub put-requires-clause-holds : goal.put-requires-clause-holds
@@ -27,7 +27,7 @@ loop-share-init g c =
       λ k d low. subst (λ (z : List TableId). get_or z k d ≡ c.put.new.pass.table_id) (sym gives) (c.args.self.same_lock k d (omega (arith, low, long, ap length gives)) ∙ sym same),
       same ∙ c.args.self.of,
       c.put.ensures.free,
-      put_told pass.me.0.taken was (record { working = Some c.args.working; opened = true }) (client_of pass) (client_of c.put.new.pass) (what_is pass.me.0.taken (record { working = None; opened = false }) c.args.self.out.0) c.put.ensures.then,
+      put_known pass.me.0.taken was (record { working = Some c.args.working; opened = true }) (client_of pass) (client_of c.put.new.pass) (what_is pass.me.0.taken (record { working = None; opened = false }) c.args.self.out.0) c.put.ensures.then,
       subst (All (λ (e : TrieFacts). e ≡ c.args.working)) (sym c.args.self.none) (All-nil (λ (e : TrieFacts). e ≡ c.args.working)),
     )
 

@@ -6,7 +6,7 @@ use Rattle.aug_live.specs.LiveErrors.{RefusesRoll}
 use Rattle.aug_live.proofs.Counted.{ids_more}
 use Rattle.aug_live.specs.declared.error.LiveError.TheVariants.{Closed, NoLane}
 use Rattle.aug_live.proofs.Carries.{refused_map}
-use Rattle.aug_live.proofs.Told.{some_lane}
+use Rattle.aug_live.proofs.DeskSteps.{some_lane}
 use Rattle.aug_live.proofs.handle.Handle.past.Goals as goal
 
 pub invariant_of-self : goal.invariant_of-self

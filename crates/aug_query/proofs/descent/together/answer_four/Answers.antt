@@ -35,16 +35,16 @@ end_all-requires g c =
     subst (λ l. AreWays g.D.Descend.set_of g.D.Descend.Names g.Q.ByKey.Counts c.loop-level.tree l c.args.p c.args.q c.args.r c.args.s c.loop-level.ways) one c.loop-level.invariant.ways
 
 pub returns-clause-p : goal.returns-clause-p
-returns-clause-p g c = c.end_all.ensures.p ∙ ap (λ set. g.Q.ByKey.told_of set c.args.p) c.loop-level.invariant.walk.same_set
+returns-clause-p g c = c.end_all.ensures.p ∙ ap (λ set. g.Q.ByKey.value_of set c.args.p) c.loop-level.invariant.walk.same_set
 
 pub returns-clause-q : goal.returns-clause-q
-returns-clause-q g c = c.end_all.ensures.q ∙ ap (λ set. g.Q.ByKey.told_of set c.args.q) c.loop-level.invariant.walk.same_set
+returns-clause-q g c = c.end_all.ensures.q ∙ ap (λ set. g.Q.ByKey.value_of set c.args.q) c.loop-level.invariant.walk.same_set
 
 pub returns-clause-r : goal.returns-clause-r
-returns-clause-r g c = c.end_all.ensures.r ∙ ap (λ set. g.Q.ByKey.told_of set c.args.r) c.loop-level.invariant.walk.same_set
+returns-clause-r g c = c.end_all.ensures.r ∙ ap (λ set. g.Q.ByKey.value_of set c.args.r) c.loop-level.invariant.walk.same_set
 
 pub returns-clause-s : goal.returns-clause-s
-returns-clause-s g c = c.end_all.ensures.s ∙ ap (λ set. g.Q.ByKey.told_of set c.args.s) c.loop-level.invariant.walk.same_set
+returns-clause-s g c = c.end_all.ensures.s ∙ ap (λ set. g.Q.ByKey.value_of set c.args.s) c.loop-level.invariant.walk.same_set
 
 pub returns-clause-descends : goal.returns-clause-descends
 returns-clause-descends g c =

@@ -28,13 +28,13 @@ pub end-s-requires-clause-counted : goal.end-s-requires-clause-counted
 end-s-requires-clause-counted g c = (way_stays c.end-r.ensures.descends (way_stays c.end-q.ensures.descends (way_stays c.end-p.ensures.descends c.requires.way_s))).counted
 
 pub returns-clause-q : goal.returns-clause-q
-returns-clause-q g c = c.end-q.ensures.answer ∙ ap (λ set. g.Q.ByKey.told_of set c.args.q) c.end-p.ensures.descends.same_set
+returns-clause-q g c = c.end-q.ensures.answer ∙ ap (λ set. g.Q.ByKey.value_of set c.args.q) c.end-p.ensures.descends.same_set
 
 pub returns-clause-r : goal.returns-clause-r
-returns-clause-r g c = c.end-r.ensures.answer ∙ ap (λ set. g.Q.ByKey.told_of set c.args.r) (c.end-q.ensures.descends.same_set ∙ c.end-p.ensures.descends.same_set)
+returns-clause-r g c = c.end-r.ensures.answer ∙ ap (λ set. g.Q.ByKey.value_of set c.args.r) (c.end-q.ensures.descends.same_set ∙ c.end-p.ensures.descends.same_set)
 
 pub returns-clause-s : goal.returns-clause-s
-returns-clause-s g c = c.end-s.ensures.answer ∙ ap (λ set. g.Q.ByKey.told_of set c.args.s) (c.end-r.ensures.descends.same_set ∙ c.end-q.ensures.descends.same_set ∙ c.end-p.ensures.descends.same_set)
+returns-clause-s g c = c.end-s.ensures.answer ∙ ap (λ set. g.Q.ByKey.value_of set c.args.s) (c.end-r.ensures.descends.same_set ∙ c.end-q.ensures.descends.same_set ∙ c.end-p.ensures.descends.same_set)
 
 pub returns-clause-descends : goal.returns-clause-descends
 returns-clause-descends g c = within (four g.met.D.Descend.keeps_on c.end-p.ensures.descends c.end-q.ensures.descends c.end-r.ensures.descends c.end-s.ensures.descends) (omega arith) (omega arith) (omega arith) (omega arith)

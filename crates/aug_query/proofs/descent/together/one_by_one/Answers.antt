@@ -6,13 +6,13 @@ use Rattle.aug_query.proofs.Together.{four}
 use Rattle.aug_query.proofs.descent.together.one_by_one.Goals as goal
 
 pub returns-clause-q : goal.returns-clause-q
-returns-clause-q g c = c.one-q.ensures.answer ∙ ap (λ set. g.Q.ByKey.told_of set c.args.q) c.one-p.ensures.descends.same_set
+returns-clause-q g c = c.one-q.ensures.answer ∙ ap (λ set. g.Q.ByKey.value_of set c.args.q) c.one-p.ensures.descends.same_set
 
 pub returns-clause-r : goal.returns-clause-r
-returns-clause-r g c = c.one-r.ensures.answer ∙ ap (λ set. g.Q.ByKey.told_of set c.args.r) (c.one-q.ensures.descends.same_set ∙ c.one-p.ensures.descends.same_set)
+returns-clause-r g c = c.one-r.ensures.answer ∙ ap (λ set. g.Q.ByKey.value_of set c.args.r) (c.one-q.ensures.descends.same_set ∙ c.one-p.ensures.descends.same_set)
 
 pub returns-clause-s : goal.returns-clause-s
-returns-clause-s g c = c.one-s.ensures.answer ∙ ap (λ set. g.Q.ByKey.told_of set c.args.s) (c.one-r.ensures.descends.same_set ∙ c.one-q.ensures.descends.same_set ∙ c.one-p.ensures.descends.same_set)
+returns-clause-s g c = c.one-s.ensures.answer ∙ ap (λ set. g.Q.ByKey.value_of set c.args.s) (c.one-r.ensures.descends.same_set ∙ c.one-q.ensures.descends.same_set ∙ c.one-p.ensures.descends.same_set)
 
 pub returns-clause-descends : goal.returns-clause-descends
 returns-clause-descends g c =

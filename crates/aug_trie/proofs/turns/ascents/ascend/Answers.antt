@@ -21,8 +21,8 @@ returns-in-To-clause-falls g c = let key = c.requires.on_way.0 in let leaf : Sea
     ascent_falls c.args.bits part a c.in-To.point is (subst (Falls part a.point) c.in-To.is c.advance.ensures.falls)
     (point_some f o.begun a.node (c.args.number + a.level) (part_above a.level) c.in-To.point w (subst (λ (z : Advanced). Advances f o.begun a.node (c.args.number + a.level) z w) c.in-To.is (told o.begun o.try_at)))
 
-pub returns-in-Tried-clause-on : goal.returns-in-Tried-clause-on
-returns-in-Tried-clause-on g c = λ key leaf o. let f = face g.A.Monoid.parts g.B.Monoid.parts in let a = c.args.ascent in let old : SeatView = c.args.pass.now.view in let w : SeatView = c.advance.new.pass.view in let at : a.level ≡ c.from.result = sym c.from.ensures in
+pub returns-in-Exchanged-clause-on : goal.returns-in-Exchanged-clause-on
+returns-in-Exchanged-clause-on g c = λ key leaf o. let f = face g.A.Monoid.parts g.B.Monoid.parts in let a = c.args.ascent in let old : SeatView = c.args.pass.now.view in let w : SeatView = c.advance.new.pass.view in let at : a.level ≡ c.from.result = sym c.from.ensures in
     let told = λ (v : SeatView) (t : TryAt f v a.node (c.args.number + a.level) a.point old). subst (λ (z : ℕ). Advances f v a.node (c.args.number + z) c.advance.result w) (sym at) (c.advance.ensures.on v (subst (λ (z : ℕ). TryAt f v a.node (c.args.number + z) a.point old) at t)) in
     c.after_try.ensures.on f c.args.number key leaf w (leaves_are f c.args.bits c.args.number key leaf a old o c.args.leaves c.requires.leaves.are)
-    (past_try f c.args.bits c.args.number key leaf a old o w c.in-Tried.done (subst (λ (z : Advanced). Advances f o.begun a.node (c.args.number + a.level) z w) c.in-Tried.is (told o.begun o.try_at)))
+    (past_try f c.args.bits c.args.number key leaf a old o w c.in-Exchanged.done (subst (λ (z : Advanced). Advances f o.begun a.node (c.args.number + a.level) z w) c.in-Exchanged.is (told o.begun o.try_at)))

@@ -1,7 +1,7 @@
 use Rattle.std.proofs.Common.{arith, inl, refl, subst, sym, ◌≡◌, ◌+◌, set}
 use Rattle.aug_monoid.proofs.BoundLaws.{laws_of}
 use Rattle.aug_core.specs.Faces.{face}
-use Rattle.aug_core.specs.Told.{HasSeen}
+use Rattle.aug_core.specs.Effects.{HasSeen}
 use Rattle.aug_core.specs.declared.view.SeatView.{SeatView}
 use Rattle.aug_trie.specs.inside.Points.{reading_words}
 use Rattle.aug_trie.specs.declared.turns.points.Point.TheVariants.{Part}

@@ -4,7 +4,7 @@ use Rattle.aug_core.specs.Addresses.{root_place}
 use Rattle.std.specs.Prelude.{IfSome}
 use Rattle.aug_core.specs.Pasts.{IsLearnt}
 use Rattle.aug_core.specs.Learning.{learning}
-use Rattle.aug_core.specs.Told.{Sat, LoadsNode}
+use Rattle.aug_core.specs.Effects.{Sat, LoadsNode}
 use Rattle.aug_core.specs.declared.view.SeatView.{SeatView}
 use Rattle.aug_core.proofs.Eras.{hands_out}
 use Rattle.aug_core.proofs.Notes.{learns_in_its_era}

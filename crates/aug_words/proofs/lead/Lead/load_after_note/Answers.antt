@@ -3,7 +3,7 @@ use Rattle.aug_core.specs.Faces.{face}
 use Rattle.aug_core.specs.Addresses.{IsInner, root_place}
 use Rattle.std.specs.Prelude.{IfSome}
 use Rattle.aug_core.specs.Pasts.{IsLearnt}
-use Rattle.aug_core.specs.Told.{LoadsNode}
+use Rattle.aug_core.specs.Effects.{LoadsNode}
 use Rattle.aug_core.proofs.Eras.{hands_out}
 use Rattle.aug_core.proofs.EraSteps.{loads_after_note}
 use Rattle.aug_core.specs.declared.view.SeatView.{SeatView}

@@ -1,7 +1,7 @@
 use Rattle.std.proofs.Common.{ap, subst, sym, ◌∙◌, ◌≡◌, ℕ}
 use Rattle.aug_core.specs.Faces.{face}
 use Rattle.aug_core.specs.Addresses.{IsInner, root_place}
-use Rattle.aug_core.specs.Told.{LoadsNode}
+use Rattle.aug_core.specs.Effects.{LoadsNode}
 use Rattle.aug_core.proofs.Eras.{hands_out}
 use Rattle.aug_core.proofs.EraSteps.{loads_node}
 use Rattle.aug_core.specs.declared.view.SeatView.{SeatView}

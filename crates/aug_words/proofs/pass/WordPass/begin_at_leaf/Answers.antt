@@ -1,6 +1,6 @@
 use Rattle.std.proofs.Common.{arith, subst, sym, ◌^◌, ◌<◌}
 use Rattle.aug_core.specs.Faces.{face}
-use Rattle.aug_core.specs.Told.{BeginsAtLeaf}
+use Rattle.aug_core.specs.Effects.{BeginsAtLeaf}
 use Rattle.aug_core.proofs.Sizes.{twice}
 use Rattle.aug_core.proofs.EraSteps.{begins_at_leaf}
 use Rattle.aug_words.specs.Seats.{Known}

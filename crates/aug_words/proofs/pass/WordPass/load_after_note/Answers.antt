@@ -4,7 +4,7 @@ use Rattle.aug_core.specs.Faces.{face}
 use Rattle.aug_core.specs.Addresses.{IsInner, root_place}
 use Rattle.aug_core.specs.Pasts.{IsLearnt}
 use Rattle.aug_core.specs.Places.{Shape}
-use Rattle.aug_core.specs.Told.{LoadsNode}
+use Rattle.aug_core.specs.Effects.{LoadsNode}
 use Rattle.aug_core.specs.declared.view.SeatView.{SeatView}
 use Rattle.aug_core.proofs.EraSteps.{loads_after_note}
 use Rattle.aug_core.proofs.Sizes.{twice, some_leaf}

@@ -1,6 +1,6 @@
 use Rattle.std.proofs.Common.{arith, subst, sym, ◌^◌, ◌<◌}
 use Rattle.aug_core.specs.Faces.{face}
-use Rattle.aug_core.specs.Told.{LoadsLeaf}
+use Rattle.aug_core.specs.Effects.{LoadsLeaf}
 use Rattle.aug_core.proofs.Sizes.{twice}
 use Rattle.aug_core.proofs.EraSteps.{loads_leaf}
 use Rattle.aug_words.specs.Seats.{Known}

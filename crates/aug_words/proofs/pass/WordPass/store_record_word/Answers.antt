@@ -1,7 +1,7 @@
 use Rattle.std.proofs.Common.{arith, subst, sym, ◌≡◌, ◌+◌, ℕ}
 use Rattle.aug_core.specs.Fields.{field_offset}
 use Rattle.aug_core.specs.Places.{record_start}
-use Rattle.aug_core.specs.Told.{MayStore, storing}
+use Rattle.aug_core.specs.Effects.{MayStore, storing}
 use Rattle.aug_core.specs.declared.view.SeatView.{SeatView}
 use Rattle.aug_core.proofs.EraSteps.{stores_record_word}
 use Rattle.aug_words.specs.Seats.{Known}

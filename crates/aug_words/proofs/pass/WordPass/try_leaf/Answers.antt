@@ -1,6 +1,6 @@
 use Rattle.std.proofs.Common.{arith, subst, sym, ◌^◌, ◌<◌}
 use Rattle.aug_core.specs.Faces.{face}
-use Rattle.aug_core.specs.Told.{MayChange}
+use Rattle.aug_core.specs.Effects.{MayChange}
 use Rattle.aug_core.proofs.Sizes.{twice}
 use Rattle.aug_core.proofs.EraSteps.{allows_leaf}
 use Rattle.aug_words.specs.Seats.{Known, MayAdvance}

@@ -1,7 +1,7 @@
 use Rattle.std.proofs.Common.{arith, subst, sym}
 use Rattle.aug_core.specs.Faces.{face}
 use Rattle.aug_core.specs.Addresses.{IsInner}
-use Rattle.aug_core.specs.Told.{MayStore, IsFilled}
+use Rattle.aug_core.specs.Effects.{MayStore, IsFilled}
 use Rattle.aug_core.proofs.EraSteps.{tries_node}
 use Rattle.aug_words.specs.Seats.{Known}
 use Rattle.aug_words.proofs.Passes.{pass_tried_node, has_taken}

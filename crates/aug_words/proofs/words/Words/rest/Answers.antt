@@ -3,7 +3,7 @@ use Rattle.aug_core.specs.Addresses.{IsInner, root_place}
 use Rattle.aug_core.specs.Faces.{face}
 use Rattle.aug_core.specs.Places.{Shape}
 use Rattle.aug_core.specs.Renewals.{BeginsRenewal}
-use Rattle.aug_core.specs.Told.{KnowsTable}
+use Rattle.aug_core.specs.Effects.{KnowsTable}
 use Rattle.aug_core.specs.declared.view.SeatView.{SeatView}
 use Rattle.aug_words.specs.Seats.{Store, Known}
 use Rattle.aug_words.proofs.Ends.{comes_to_rest}

@@ -3,7 +3,7 @@ use Rattle.atomic_table.specs.Seated.{TableId}
 use Rattle.aug_core.specs.Faces.{face}
 use Rattle.aug_core.specs.Places.{shape_of}
 use Rattle.aug_core.specs.Counts.{changes_of}
-use Rattle.aug_core.specs.Told.{own_lane_place}
+use Rattle.aug_core.specs.Effects.{own_lane_place}
 use Rattle.aug_core.specs.declared.view.SeatView.{SeatView}
 use Rattle.aug_words.specs.Seats.{Known}
 use Rattle.aug_trie.specs.inside.Counted.{HasCounts}

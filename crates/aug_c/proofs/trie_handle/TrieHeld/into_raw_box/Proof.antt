@@ -25,19 +25,19 @@ use Rattle.std.specs.Box.Ownership.{box_owns}
 use Rattle.std.specs.contracts.alloc.Global as heap
 use Rattle.std.proofs.alloc.Global.TheLaws as heap_laws
 use Rattle.std.specs.contracts.impls.GlobalAllocator.TheImpl.{ghosts}
-use Rattle.aug_c.specs.UserHolding.{Content, held_owns}
+use Rattle.aug_c.specs.TrieHolding.{Content, held_owns}
 use Rattle.std.specs.Prelude.{Some, IsSome}
-use Rattle.aug_c.specs.contracts.user_handle.UserSlot as lane
-use Rattle.aug_c.specs.contracts.user_handle.UserHeld as held
-use Rattle.aug_c.proofs.Values.{both, al, loose_good, loose_in}
-use Rattle.aug_c.proofs.UserHelds.{some_of, word, Data, told}
-use Rattle.aug_c.specs.contracts.user_handle.UserHeld.into_loose.{ended, clauses}
-use Rattle.aug_c.specs.contracts.user_handle.UserHeld.into_loose.Key.{name as #self}
-use Rattle.aug_c.proofs.user_handle.UserHeld.into_loose.Statement.{statement}
-use Rattle.aug_c.proofs.user_handle.UserHeld.into_loose.Code as code
+use Rattle.aug_c.specs.contracts.trie_handle.TrieSlot as lane
+use Rattle.aug_c.specs.contracts.trie_handle.TrieHeld as held
+use Rattle.aug_c.proofs.Values.{both, al, raw_box_good, raw_box_in}
+use Rattle.aug_c.proofs.TrieHelds.{some_of, word, Data, told}
+use Rattle.aug_c.specs.contracts.trie_handle.TrieHeld.into_raw_box.{ended, clauses}
+use Rattle.aug_c.specs.contracts.trie_handle.TrieHeld.into_raw_box.Key.{name as #self}
+use Rattle.aug_c.proofs.trie_handle.TrieHeld.into_raw_box.Statement.{statement}
+use Rattle.aug_c.proofs.trie_handle.TrieHeld.into_raw_box.Code as code
 
-pub into_loose_spec : {M : Type 1} → statement M
-into_loose_spec 𝓤 𝓛 𝓜 𝓡 wired =
+pub into_raw_box_spec : {M : Type 1} → statement M
+into_raw_box_spec 𝓤 𝓛 𝓜 𝓡 wired =
     let H = 𝓛.H in let 𝓣 = tables 𝓤 H 𝓜 𝓡 𝓡.env in let c = clauses 𝓛 𝓜.mem 𝓡.returns in let fn = code.function in
     let R : RattleType = lane.the_row in let Z : RattleType = heap.the_row in let LZ = heap_laws.the_row_laws in
     let hs : Stays ended.signature.params ended.kept = (stay_dropped (plain (λ _. held.the_row)) ended.kept.0, (stay_dropped (plain (λ _. Z)) ended.kept.1.0, tt)) in
@@ -57,8 +57,8 @@ into_loose_spec 𝓤 𝓛 𝓜 𝓡 wired =
     enter ! 𝓣.C 𝓣.Λ fn (w ∷ h ∷ []) Post $ alloc_all ! (λ l. pass_all ! refl ((tt, (tt, tt)), (fits, tt)) $
     sets ! (of_opd ! (get_in ! (fld ! refl (stop !)) (sub ! 0 refl (whole !)))) refl (tt, tt) $
     sets ! (of_opd ! (get ! refl)) refl (tt, tt) $
-    sets ! (agg ! (and_then ! (get ! refl) (and_then ! (get ! refl) (no_more !)))) refl (loose_good R Z LZ ghosts b o h fits) $
-    move ! (1 ∷ 0 ∷ []) $ loose_in R Z LZ ghosts ! b o h a x $
+    sets ! (agg ! (and_then ! (get ! refl) (and_then ! (get ! refl) (no_more !)))) refl (raw_box_good R Z LZ ghosts b o h fits) $
+    move ! (1 ∷ 0 ∷ []) $ raw_box_in R Z LZ ghosts ! b o h a x $
     -- [the result; nothing; the tokens]
     use0 𝓛 (raw (fact 𝓤 (v.value ≡ Some x))) (fact_i 𝓤 (v.value ≡ Some x) (emp 𝓤) is_x) $ nothing ! $ nothing ! $ fjoin ! $ nothing ! $ fjoin ! $
     returns ! (look_at ! 0 refl) $ free_all ! refl $ keep ! (4 ∷ 0 ∷ 2 ∷ 1 ∷ []) $ by ! (leaves 𝓛 ended hs c z u (record { at = block_ptr b o; alloc = a; value = x }) (tt, (tt, tt)) (tt, (tt, tt))))))))))

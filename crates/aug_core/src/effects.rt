@@ -1,5 +1,5 @@
 //! What each step shows. These types are only for the proofs.
-ghost use Rattle.aug_core.specs.Told.{read_record, stored_record, took_lane, finished_lane, handing_out, handed_out, taking_back, noting, noted, spent, loaded_leaf, began_at_leaf, tried_leaf, loaded_node, tried_node};
+ghost use Rattle.aug_core.specs.Effects.{read_record, stored_record, took_lane, finished_lane, handing_out, handed_out, taking_back, noting, noted, spent, loaded_leaf, began_at_leaf, tried_leaf, loaded_node, tried_node};
 ghost use Rattle.aug_core.specs.Learning.{learning, loaded_after_note};
 ghost use Rattle.aug_core.specs.Renewals.{rewrote, reread, began_renewal, reopened};
 ghost use Rattle.aug_core.specs.Faces.{face};

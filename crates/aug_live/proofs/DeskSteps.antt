@@ -11,7 +11,7 @@ use Rattle.aug_live.specs.LiveErrors.{RefusesRoll}
 use Rattle.aug_live.specs.declared.error.LiveError.{LiveError}
 use Rattle.aug_live.specs.declared.error.LiveError.TheVariants.{Closed, NoLane}
 use Rattle.aug_live.specs.declared.desk_end.Desk.{Desk}
-use Rattle.aug_live.specs.inside.DeskKnowledge.{IsTold, KnowsDesk, OnDesk, is_told, no_trie, told_by}
+use Rattle.aug_live.specs.inside.DeskKnowledge.{EndKnows, KnowsDesk, OnDesk, is_known, no_trie, known_after}
 use Rattle.aug_live.proofs.Counted.{more_self, more_on}
 use Rattle.aug_live.proofs.Tied.{snoc_at}
 
@@ -41,26 +41,26 @@ module _ {A B : Type 0} where
   forks id v any desk views on at j w there =
       let mine = on id v at in
       let opened : desk.opened ≡ true = ⊎_elim (λ (t : desk.opened ≡ true). t) (λ (f : desk.opened ≡ false). absurd (let none = mine.none f in omega (arith, any, none))) (cases_Bool desk.opened) in
-      let like : (i : ℕ) → IsTold desk i v = λ i. record { alone = λ f. absurd (false≢true (sym f ∙ opened)); none = mine.none; some = mine.some; knows = mine.knows } in
+      let like : (i : ℕ) → EndKnows desk i v = λ i. record { alone = λ f. absurd (false≢true (sym f ∙ opened)); none = mine.none; some = mine.some; knows = mine.knows } in
       ⊎_elim
-      (λ h. ⊎_elim (λ k. subst (IsTold desk j) k.1 (like j)) (λ k. on j w k.1) (at_set views id j v w h))
-      (λ h. subst (IsTold desk j) h.1 (like j))
+      (λ h. ⊎_elim (λ k. subst (EndKnows desk j) k.1 (like j)) (λ k. on j w k.1) (at_set views id j v w h))
+      (λ h. subst (EndKnows desk j) h.1 (like j))
       (snoc_at (set views id v) v w j there)
 
   module _ (id : ℕ) (v : TrieFacts) (old new : Desk A B) (views : List TrieFacts) (on : OnDesk old views) (at : get_elem? views id ≡ some v) where
     abbrev Goal : Type 0
-    Goal = (w : TrieFacts) × OnDesk new (set views id w) × is_told v old new w
+    Goal = (w : TrieFacts) × OnDesk new (set views id w) × is_known v old new w
 
-    own : (o : Option TrieFacts) → IfSome o (KnowsMore v) → ((told_by o v).bits ≡ v.bits) × IfSome o (KnowsMore (told_by o v))
+    own : (o : Option TrieFacts) → IfSome o (KnowsMore v) → ((known_after o v).bits ≡ v.bits) × IfSome o (KnowsMore (known_after o v))
     own None k = (refl, tt)
     own (Some t) k = (k.bits, more_self t)
 
     -- what lies there goes on
     pub turns : new.opened ≡ old.opened → ((x : TrieFacts) → IfSome old.working (KnowsMore x) → IfSome new.working (KnowsMore x)) → Goal
-    turns same keeps = let w : TrieFacts = told_by new.working v in let mine = on id v at in let o = own new.working (keeps v mine.knows) in (
+    turns same keeps = let w : TrieFacts = known_after new.working v in let mine = on id v at in let o = own new.working (keeps v mine.knows) in (
       w,
       λ j x there. ⊎_elim
-          (λ h. subst (IsTold new j) h.1 record {
+          (λ h. subst (EndKnows new j) h.1 record {
             alone = λ f. h.0 ∙ mine.alone (sym same ∙ f);
             none = λ f. o.0 ∙ mine.none (sym same ∙ f);
             some = λ t. subst (λ (n : ℕ). 0 < n) (sym o.0) (mine.some (sym same ∙ t));
@@ -74,10 +74,10 @@ module _ {A B : Type 0} where
     -- the first round is laid there
     pub places : (t : TrieFacts) → v.bits ≡ 0 → 0 < t.bits → new.working ≡ Some t → new.opened ≡ true → Goal
     places t bare_bits any is opened = let mine = on id v at in
-        let bare : old.opened ≡ false = (learns id v old views on at).unopened bare_bits in let w : TrieFacts = told_by new.working v in let same : w ≡ t = ap (λ (z : Option TrieFacts). told_by z v) is in (
+        let bare : old.opened ≡ false = (learns id v old views on at).unopened bare_bits in let w : TrieFacts = known_after new.working v in let same : w ≡ t = ap (λ (z : Option TrieFacts). known_after z v) is in (
           w,
           λ j x there. ⊎_elim
-              (λ h. subst (IsTold new j) (sym same ∙ h.1) record {
+              (λ h. subst (EndKnows new j) (sym same ∙ h.1) record {
                 alone = λ f. absurd (false≢true (sym f ∙ opened));
                 none = λ f. absurd (false≢true (sym f ∙ opened));
                 some = λ _. any;
@@ -95,8 +95,8 @@ pub keeps_on : (o : Option TrieFacts) (t t' x : TrieFacts) → o ≡ Some t → 
 keeps_on o t t' x is more k = more_on x t t' (subst (λ (z : Option TrieFacts). IfSome z (KnowsMore x)) is k) more
 
 -- what an end knows that put something there
-pub put_told : {A B : Type 0} (taken : Option (Desk A B)) (old new : Desk A B) (v w : TrieFacts) → taken ≡ Some old → IfSome taken (λ t. is_told v t new w) → w ≡ told_by new.working v
-put_told taken old new v w is then = subst (λ (z : Option (Desk _ _)). IfSome z (λ t. is_told v t new w)) is then
+pub put_known : {A B : Type 0} (taken : Option (Desk A B)) (old new : Desk A B) (v w : TrieFacts) → taken ≡ Some old → IfSome taken (λ t. is_known v t new w) → w ≡ known_after new.working v
+put_known taken old new v w is then = subst (λ (z : Option (Desk _ _)). IfSome z (λ t. is_known v t new w)) is then
 
 -- it knows no less than before: where nothing lay there, and where a later state does
 pub none_more : (own mine v w : TrieFacts) → mine ≡ own → v ≡ mine → w ≡ v → KnowsMore own w

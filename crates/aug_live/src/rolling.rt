@@ -57,6 +57,7 @@ pub(crate) fn next_round<A: Monoid, B: Monoid>(
     ensures shares { IfOk result (λ t. All (λ s. arc_value s ≡ arc_value t.round) t.shares.items × (vec_len t.shares ≡ lanes) × (vec_capacity t.shares ≡ vec_capacity shares)) }
     ensures same { IfErr result (λ e. e ≡ set) }
 {
+    // For the proof alone: how many bits keys have at most.
     let _universe = set.universe();
     let old = Snapshot::of(&set);
     let (round, crew) = Round::begin_for_all(alloc, set, plan.lanes, plan.updates)?;

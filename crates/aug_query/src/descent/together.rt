@@ -276,7 +276,7 @@ struct Ways<N> {
     s: Way<N>,
 }
 
-// The way of a key, at the top.
+// The way of a key, at the top. The key is for the contract alone.
 #[inline(always)]
 fn begin<A: Monoid, B: Monoid, D: Descend<A, B>, Q: ByKey<A, B>>(
     tree: &mut D,

@@ -98,7 +98,7 @@ impl<A: Monoid, B: Monoid> Tree<A, B> for Ended<A, B> {
 
     ghost place_of = { λ n. n.place };
 
-    ghost told_by = { λ n. n.summary };
+    ghost summary_in = { λ n. n.summary };
 
     ghost weight_by = { λ n. weight_in_word n.word };
 

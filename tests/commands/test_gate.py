@@ -7,12 +7,33 @@ from scripts import CopiedScripts
 # Stands in for git: a clone is a copy of the folder `fresh`.
 GIT = '#!/bin/sh\ncp -r "$ROOM/fresh/." "$4"\n'
 
+# Stands in for the prover: it works for as many seconds as its last word says, and a bit.
+RATTLE = "#!/usr/bin/env python3\nimport sys, time\nwhile time.process_time() < int(sys.argv[-1]) + 0.4: pass\n"
+
 GATE = """#!/bin/sh
-printf '%s\\n' "said $*" 'rt: low proved' 'rt: low: its tests are proved' 'rt: high proved' '5 passed, 1 failed'
+echo "said $*"
+rattle build --crate-name low 3 &
+rattle build --crate-name low --test 2 &
+mkdir -p rt-edit-1 && (cd rt-edit-1 && rattle check --crate-name low 1)
+env -u TIMED_GATE rattle build --crate-name of_another_run 1
+wait
+echo '5 passed, 1 failed'
 exit 3
 """
 
-PAGE = "# Proofs\n\n<!-- tools/gate has written what follows -->\nOld.\n<!-- and this ends it -->\n\nThe rest.\n"
+PAGE = """# Proofs
+
+<!-- tools/gate has written what follows -->
+| Cores | Minutes | Minutes of a processor | Ended with | On |
+|---|---|---|---|---|
+| 0 | 12:34 | 25 | 6 passed, 0 failed | a day |
+| 999 | 1:00 | 99 | 6 passed, 0 failed | a day |
+
+Old.
+<!-- and this ends it -->
+
+The rest.
+"""
 
 
 class TestGate(CopiedScripts):
@@ -22,6 +43,7 @@ class TestGate(CopiedScripts):
         """What it says and ends with, with a toolchain whose help is this."""
         self.write("bin/rt", f"#!/bin/sh\necho 'rt: {helped}'\n", 0o755)
         self.write("bin/git", GIT, 0o755)
+        self.write("bin/rattle", RATTLE, 0o755)
         self.write("fresh/.ci/run", GATE, 0o755)
         self.write("docs/PROOFS.md", PAGE)
         said, _, status = self.run_script("tools/gate")
@@ -32,12 +54,11 @@ class TestGate(CopiedScripts):
 
     def test_what_is_written(self):
         assert self.said("ci") == ("said ", "5 passed, 1 failed", 3)
-        text = re.sub(r"\d+ \w+ \d{4}|\d+ cores", "..", self.read("docs/PROOFS.md"))
-        head, _, end = PAGE.partition("Old.\n")
-        assert text == f"""{head}On .. `.ci/run` took 0:00 minutes from nothing on .., 0 minutes of a processor: 5 passed, 1 failed.
+        text = re.sub(r"(?<=on )\d+(?= cores)", "..", self.read("docs/PROOFS.md"))
+        text = re.sub(r"\| \d+ \| 0:\d\d \| 0 (.*)\| \d+ \w+ \d{4} \|", r"| .. | 0:.. | 0 \1| .. |", text)
+        head, _, end = PAGE.partition("| 999")
+        assert re.sub(r"(?<=all else )\d+", "..", text) == f"""{head}| .. | 0:.. | 0 | 5 passed, 1 failed | .. |
+| 999 | 1:00 | 99 | 6 passed, 0 failed | a day |
 
-| Crate | Proved after | Its tests |
-|---|---|---|
-| `low` | 0:00 | 0:00 |
-| `high` | 0:00 |  |
-{end}"""
+Seconds of a processor on .. cores: proofs of crates 3; proofs of tests 2; edits, with the proofs that they begin with 1; programs, tests as they run, and all else ... The most: `low` 3, `low` (tests) 2, `low` (edits) 1.
+{end.partition("Old.")[2][1:]}"""

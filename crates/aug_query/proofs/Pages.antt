@@ -1,17 +1,19 @@
 -- What a node gives to a page: that of its two children, the one after the other.
-use Rattle.std.proofs.Common.{◌≡◌, ◌≢◌, ℕ, ◌+◌, ◌-◌, ◌*◌, ◌^◌, ◌<◌, ◌≤◌, min, max, inl, inr, List, [], ◌∷◌, ◌++◌, length, take, reverse, refl, ap, sym, ◌∙◌, arith, append_assoc, length-append}
+use Rattle.std.proofs.Common.{◌≡◌, ◌≢◌, ℕ, ◌+◌, ◌-◌, ◌*◌, ◌^◌, ◌<◌, ◌≤◌, min, max, inl, inr, leb, ltb, ◌&&◌, All, List, [], ◌∷◌, ◌++◌, length, take, reverse, refl, ap, sym, ◌∙◌, subst, arith, append_assoc, length-append}
 use Rattle.std.proofs.Math.Nat.{min-eq_left, min-eq_right, max-eq_left, max-eq_right, mul-le-mul_left, le_refl, le-max_left, le-max_right, min-le_left, min-le_right}
 use Rattle.std.proofs.Math.Seq.{take-append-add}
 use Rattle.std.proofs.lemmas.Bool.{cases_lt}
 use Rattle.std.proofs.lemmas.Nat.{pow_pos}
+use Rattle.std.proofs.Math.Pow.{pow_mono}
+use Rattle.std.proofs.lemmas.List.Elements.{All-filter, All-take}
 use Rattle.std.proofs.lemmas.List.{append-nil, reverse-append, take_all, take-append-le, length-take, length-reverse}
 use Rattle.aug_model.specs.Keys.{SetFacts, list_of, pairs_of}
 use Rattle.aug_model.specs.Queries.{range_of, weighted_range_of, weight_in}
 use Rattle.aug_model.specs.NodeKeys.{first_key, end_key, keys_below, pairs_below}
-use Rattle.aug_model.proofs.Pairs.{range-again, pairs_of-append, length-pairs_of}
+use Rattle.aug_model.proofs.Pairs.{range-again, pairs_of-append, length-pairs_of, length-keys_of, key_at}
 use Rattle.aug_model.proofs.Ranges.{range_cut, range_none, range_clipped, range_within, no_members}
 use Rattle.aug_query.specs.Tree.{IsTreeSet}
-use Rattle.aug_query.specs.Yields.{members_below}
+use Rattle.aug_query.specs.Yields.{members_from, members_below}
 use Rattle.aug_query.specs.declared.descent.pages.Side.{Side}
 use Rattle.aug_query.specs.declared.descent.pages.Side.TheVariants.{From, Below}
 use Rattle.aug_query.specs.inside.Pages.{Reaches, crosses, key_of, part_of, first_place, second_place}
@@ -171,7 +173,7 @@ takes_none n old xs none = sym (ap (λ (m : ℕ). old ++ take m xs) none ∙ app
 pub takes_nothing : {X : Type 0} (n : ℕ) (old xs : List X) → xs ≡ [] → old ≡ old ++ take n xs
 takes_nothing n old xs none = sym (ap (λ ys. old ++ ys) (take_all n xs (omega (arith, ap length none)) ∙ none) ∙ append-nil old)
 
-take_both : {X : Type 0} (r : ℕ) (xs ys : List X) → take r (xs ++ ys) ≡ take r xs ++ take (r - length xs) ys
+pub take_both : {X : Type 0} (r : ℕ) (xs ys : List X) → take r (xs ++ ys) ≡ take r xs ++ take (r - length xs) ys
 take_both r xs ys =
     elim (cases_lt (length xs) r) [
       | inl more ↦
@@ -280,3 +282,9 @@ module _ (level l place : ℕ) (e : l + 1 ≡ level) (side : Side) (p q : ℕ) (
         let first = further on (further on child count (le_refl _) (le_refl _) (le_refl _) (le_refl _)) walk (le_refl _) (le_refl _) (le_refl _) (le_refl _) in
         let next = further on first other (le_refl _) (le_refl _) (le_refl _) (le_refl _) in
         further on next rest (part_nodes level l _ _ _ e few some) (part_counts level l _ _ _ e few some) (le_refl _) (le_refl _)
+
+-- the keys of a page have few bits
+pub page_keys : (set : SetFacts) (k : ℕ) (items : List (ℕ × ℕ)) → IsTreeSet set → items ≡ take 32 (members_from set k) → All (λ p. p.0 < 2 ^ 16) items
+page_keys set k items is told = let P : ℕ × ℕ → Type 0 = λ p. p.0 < 2 ^ 16 in
+    let each : All P set.pairs = λ i d h. omega (arith, is.is_key_set.below i 0 (omega (arith, h, length-keys_of set.pairs)), key_at set.pairs i d h, pow_mono is.few_bits) in
+    subst (All P) (sym told) (All-take P 32 (members_from set k) (All-filter (λ p. leb k p.0 && ltb p.0 (2 ^ set.bits)) P set.pairs each))

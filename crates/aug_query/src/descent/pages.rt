@@ -1,5 +1,5 @@
 //! The next members on one side of a key, as many as a page has places for.
-ghost use Rattle.std.specs.Prelude.{◌≡◌, ◌+◌, ◌-◌, ◌*◌, ◌^◌, ◌≤◌, ◌++◌, ◌↔◌, length, take, reverse, IsTrue};
+ghost use Rattle.std.specs.Prelude.{◌≡◌, ◌+◌, ◌-◌, ◌*◌, ◌^◌, ◌<◌, ◌++◌, ◌↔◌, All, length, take, reverse, IsTrue};
 ghost use Rattle.aug_model.specs.Keys.{list_of};
 ghost use Rattle.aug_model.specs.NodeKeys.{first_key, end_key, keys_below};
 ghost use Rattle.aug_query.specs.Descend.{Descends, loads};
@@ -14,14 +14,14 @@ use aug_monoid::Monoid;
 /// Some members, each with its weight.
 pub type Page = ArrayVec<(u32, u32), 32>;
 
-/// The first 32 members from this key on, rising, or all of them if there are fewer. No member is looked up from the top.
+/// The first 32 members from this key on, rising, or all of them if there are fewer. The next page begins behind the last of them.
 #[derive(Clone, Copy)]
 pub struct MembersFrom(pub u32);
 
 impl<A: Monoid, B: Monoid> Query<A, B> for MembersFrom {
     type Answer = Page;
 
-    ghost Answers = { λ q set page. page.items ≡ take 32 (members_from set q.0) };
+    ghost Answers = { λ q set page. (page.items ≡ take 32 (members_from set q.0)) × All (λ p. p.0 < 2 ^ 16) page.items };
 
     ghost most = { λ q set. loads (66 * set.bits + 1) (33 * set.bits + 1) 0 0 };
 
@@ -30,7 +30,7 @@ impl<A: Monoid, B: Monoid> Query<A, B> for MembersFrom {
     }
 }
 
-/// The last 32 members below this key, falling, or all of them if there are fewer.
+/// The last 32 members below this key, falling, or all of them if there are fewer. The next page is below the last of them.
 #[derive(Clone, Copy)]
 pub struct MembersBelow(pub u32);
 

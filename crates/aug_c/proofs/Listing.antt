@@ -1,31 +1,30 @@
--- The members of a rising list from a key on, written one after another.
-use Rattle.std.proofs.Common.{◌≡◌, ℕ, ◌+◌, ◌-◌, ◌<◌, ◌≤◌, min, List, [], ◌∷◌, ◌++◌, length, take, drop, get_or, set, filter, slice_get, nat_lt, not, pos, refl, sym, ap, ◌∙◌, subst, inl, inr, arith}
-use Rattle.std.specs.Prelude.{ℤ, Some, None}
+-- The members of a look's snapshot, written a page after the other.
+use Rattle.std.proofs.Common.{◌≡◌, ◌⊎◌, ℕ, zero, suc, ◌+◌, ◌-◌, ◌*◌, ◌^◌, ◌<◌, ◌≤◌, min, List, [], ◌∷◌, ◌++◌, length, take, drop, reverse, map, get_or, set, filter, slice_index, nat_lt, pos, refl, sym, ap, ◌∙◌, subst, inl, inr, arith, append_assoc}
+use Rattle.std.specs.Prelude.{ℤ, ◌==◌, if◌then◌else◌, slice_index_or, Option, Some, None, IfSome, IfNone}
 use Rattle.std.specs.List.Sorted.{IsStrictlyIncreasing}
-use Rattle.std.proofs.lemmas.Bool.{cases_lt}
+use Rattle.std.proofs.Math.Nat.{min-eq_left, min-eq_right}
+use Rattle.std.proofs.Math.Seq.{take-add, take-append_seam}
+use Rattle.std.proofs.lemmas.Bool.{cases_lt, cases_eq, ne_eqb, eq-eqb}
 use Rattle.std.proofs.lemmas.Bool.Decides.{nat_tests}
-use Rattle.std.proofs.lemmas.List.{take_more, length-take-le, get_or-drop, length-drop}
-use Rattle.std.proofs.lemmas.List.Filters.{length-filter_both}
-use Rattle.std.proofs.lemmas.Option.{get_or_from_slice_get, slice_get-get_or}
-use Rattle.aug_model.specs.Keys.{SetFacts, list_of}
-use Rattle.aug_model.specs.Queries.{rank_of, select_of}
-use Rattle.aug_model.proofs.Boundaries.{select_of-rising}
+use Rattle.std.proofs.lemmas.List.{append-nil, take_all, take_min, take-append-le, take-append-drop, take-map, drop-map, drop_all, drop_at, drop-drop, drop-take, length-append, length-take, length-take-le, length-drop, length-map, length-reverse, reverse-append, map-append, take_more, get_or-take, get_or-drop, get_or-reverse}
+use Rattle.std.proofs.lemmas.Slice.{drop-append-drop}
+use Rattle.aug_model.specs.Keys.{SetFacts, keys_of, list_of}
+use Rattle.aug_model.specs.Queries.{rank_of}
+use Rattle.aug_model.specs.inside.Boundary.{IsBoundary}
+use Rattle.aug_model.proofs.Boundaries.{range-at_boundaries, member-IsBoundary}
+use Rattle.aug_model.proofs.Pairs.{key_at, length-keys_of}
 use Rattle.aug_model.proofs.Ranges.{Rises, AllAbove, rises_from}
+use Rattle.aug_model.proofs.Rising.{rises}
+use Rattle.aug_query.specs.Yields.{members_from, members_below}
+use Rattle.aug_query.proofs.Pages.{take_both}
 use Rattle.aug_trie.specs.Snapshot.{snapshot_cut}
 use Rattle.aug_trie.proofs.Rising.{members_rise}
 use Rattle.aug_live.specs.LiveHandles.{LookFacts, IsAsked, set_of_look}
-use Rattle.aug_c.specs.ArrayCalls.{ListsKeys, from_of}
+use Rattle.aug_c.specs.ArrayCalls.{ListsBoth, ListsKeys, ListsMembers, weights_of}
 use Rattle.aug_c.specs.UserCalls.{span_of}
 use Rattle.aug_c.proofs.Reading.{asked_none, asked_on, written_more}
 
--- past a key all members are from it on, and none is below it
-all_from : (k x : ℕ) (xs : List ℕ) → k ≤ x → AllAbove x xs → from_of xs k ≡ xs
-all_from k x [] le above = refl
-all_from k x (y ∷ ys) le above =
-    let high : x < y = above.0 in
-    let first : from_of (y ∷ ys) k ≡ y ∷ from_of ys k = grind (arith, nat_tests) in
-    first ∙ ap (λ zs. y ∷ zs) (all_from k x ys le above.1)
-
+-- past a key no member is below it
 none_below : (k x : ℕ) (xs : List ℕ) → k ≤ x → AllAbove x xs → rank_of xs k ≡ 0
 none_below k x [] le above = refl
 none_below k x (y ∷ ys) le above =
@@ -33,90 +32,315 @@ none_below k x (y ∷ ys) le above =
     let first : filter (λ z. nat_lt z k) (y ∷ ys) ≡ filter (λ z. nat_lt z k) ys = grind (arith, nat_tests) in
     ap length first ∙ none_below k x ys le above.1
 
-from_drops : (k : ℕ) (xs : List ℕ) → Rises xs → from_of xs k ≡ drop (rank_of xs k) xs
-from_drops k [] up = refl
-from_drops k (x ∷ xs) up =
+-- the place of a key among members that rise
+first_above : (x k place : ℕ) (xs : List ℕ) → x < k → IsBoundary xs k place → IsBoundary (x ∷ xs) k (suc place)
+first_above x k place xs low is = record { within = let w = is.within in omega (arith, w); front = front; back = back }
+  where
+    front : (i : ℕ) → i < suc place → slice_index (x ∷ xs) i < k
+    front zero h = low
+    front (suc i) h = is.front i (omega (arith, h))
+
+    back : (i : ℕ) → suc place ≤ i → i < length (x ∷ xs) → k ≤ slice_index (x ∷ xs) i
+    back zero h l = absurd (omega (arith, h))
+    back (suc i) h l = is.back i (omega (arith, h)) (omega (arith, l))
+
+above_each : (x : ℕ) (xs : List ℕ) → AllAbove x xs → (i : ℕ) → i < length xs → x < slice_index xs i
+above_each x [] above i h = absurd (omega (arith, h))
+above_each x (y ∷ ys) above zero h = above.0
+above_each x (y ∷ ys) above (suc i) h = above_each x ys above.1 i (omega (arith, h))
+
+all_high : (k x : ℕ) (xs : List ℕ) → k ≤ x → AllAbove x xs → (i : ℕ) → i < length (x ∷ xs) → k ≤ slice_index (x ∷ xs) i
+all_high k x xs le above zero h = le
+all_high k x xs le above (suc i) h = omega (arith, le, above_each x xs above i (omega (arith, h)))
+
+boundary_of : (k : ℕ) (xs : List ℕ) → Rises xs → IsBoundary xs k (rank_of xs k)
+boundary_of k [] up = record { within = omega arith; front = λ i h. absurd (omega (arith, h)); back = λ i h l. absurd (omega (arith, l)) }
+boundary_of k (x ∷ xs) up =
     elim (cases_lt x k) [
       | inl low ↦
-          let skip : from_of (x ∷ xs) k ≡ from_of xs k = grind (arith, nat_tests) in
           let counts : filter (λ z. nat_lt z k) (x ∷ xs) ≡ x ∷ filter (λ z. nat_lt z k) xs = grind (arith, nat_tests) in
-          skip ∙ from_drops k xs up.1 ∙ ap (λ (n : ℕ). drop n (x ∷ xs)) (sym (ap length counts))
+          subst (IsBoundary (x ∷ xs) k) (sym (ap length counts)) (first_above x k (rank_of xs k) xs low (boundary_of k xs up.1))
       | inr high ↦
-          let first : from_of (x ∷ xs) k ≡ x ∷ from_of xs k = grind (arith, nat_tests) in
           let counts : filter (λ z. nat_lt z k) (x ∷ xs) ≡ filter (λ z. nat_lt z k) xs = grind (arith, nat_tests) in
-          first ∙ ap (λ zs. x ∷ zs) (all_from k x xs high up.0) ∙ ap (λ (n : ℕ). drop n (x ∷ xs)) (sym (ap length counts ∙ none_below k x xs high up.0))
+          let none : rank_of (x ∷ xs) k ≡ 0 = ap length counts ∙ none_below k x xs high up.0 in
+          subst (IsBoundary (x ∷ xs) k) (sym none) (record { within = omega arith; front = λ i h. absurd (omega (arith, h)); back = λ i h l. all_high k x xs high up.0 i l })
     ]
 
--- the members from a key on are those behind the members below it
-from_of-drop : (k : ℕ) (xs : List ℕ) → IsStrictlyIncreasing xs → from_of xs k ≡ drop (rank_of xs k) xs
-from_of-drop k xs up = from_drops k xs (rises_from xs up)
+-- behind a member stands the next one
+behind_member : (xs : List ℕ) (k i : ℕ) → IsStrictlyIncreasing xs → i < length xs → slice_index xs i ≡ k → IsBoundary xs (k + 1) (i + 1)
+behind_member xs k i up within at = record {
+  within = omega (arith, within);
+  front = λ j h. elim (cases_lt j i) [ inl less ↦ omega (arith, rises xs up j i less within, at) | inr most ↦ let same : j ≡ i = omega (arith, most, h) in omega (arith, ap (slice_index xs) same, at) ];
+  back = λ j h l. omega (arith, rises xs up i j (omega (arith, h)) l, at);
+}
+
+-- the members behind one of those from a key on are the rest of these
+pub from_behind : (set : SetFacts) (at k n : ℕ) → IsStrictlyIncreasing (list_of set) → n < length (members_from set at) → (get_or (members_from set at) n (0, 0)).0 ≡ k → members_from set (k + 1) ≡ drop (n + 1) (members_from set at)
+from_behind set at k n up within is =
+    let keys = list_of set in
+    let a = rank_of keys at in
+    let end = rank_of keys (2 ^ set.bits) in
+    let first = boundary_of at keys (rises_from keys up) in
+    let last = boundary_of (2 ^ set.bits) keys (rises_from keys up) in
+    let whole : members_from set at ≡ take (end - a) (drop a set.pairs) = range-at_boundaries set.pairs at (2 ^ set.bits) a end first last in
+    let long = ap length whole ∙ length-take (end - a) (drop a set.pairs) in
+    let few = length-drop a set.pairs in
+    let stands : (get_or set.pairs (a + n) (0, 0)).0 ≡ k =
+    ap (λ (p : ℕ × ℕ). p.0) (sym (get_or-drop a set.pairs n (0, 0)) ∙ sym (get_or-take (end - a) (drop a set.pairs) n (0, 0) (omega (arith, within, long))) ∙ ap (λ (ps : List (ℕ × ℕ)). get_or ps n (0, 0)) (sym whole)) ∙ is in
+    let inside : a + n < length set.pairs = omega (arith, within, long, few) in
+    let here : slice_index keys (a + n) ≡ k = key_at set.pairs (a + n) (0, 0) inside ∙ stands in
+    let next = behind_member keys k (a + n) up (omega (arith, inside, length-keys_of set.pairs)) here in
+    let rest : members_from set (k + 1) ≡ take (end - (a + n + 1)) (drop (a + n + 1) set.pairs) = range-at_boundaries set.pairs (k + 1) (2 ^ set.bits) (a + n + 1) end next last in
+    let split : end - a ≡ n + 1 + (end - (a + n + 1)) = omega (arith, within, long) in
+    let place : a + (n + 1) ≡ a + n + 1 = omega arith in
+    rest ∙ ap (λ (m : ℕ). take (end - (a + n + 1)) (drop m set.pairs)) (sym place) ∙ ap (take (end - (a + n + 1))) (sym (drop-drop (n + 1) a set.pairs))
+    ∙ sym (drop-take (n + 1) (end - (a + n + 1)) (drop a set.pairs)) ∙ ap (λ (m : ℕ). drop (n + 1) (take m (drop a set.pairs))) (sym split) ∙ ap (drop (n + 1)) (sym whole)
+
+minus_none : (n : ℕ) → n - 0 ≡ n
+minus_none n = omega arith
+
+-- the first of the first ones
+take-take : {X : Type 0} (m n : ℕ) (xs : List X) → m ≤ n → take m (take n xs) ≡ take m xs
+take-take m n xs h = let both : n ≡ m + (n - m) = omega (arith, h) in
+    elim (cases_lt m (length xs)) [
+      | inl less ↦ ap (λ (k : ℕ). take m (take k xs)) both ∙ ap (take m) (take-add m (n - m) xs) ∙ take-append-le m (take m xs) (take (n - m) (drop m xs)) (omega (arith, length-take m xs, less)) ∙ take_all m (take m xs) (omega (arith, length-take m xs))
+      | inr all ↦ ap (take m) (take_all n xs (omega (arith, all, h)))
+    ]
+
+-- what is left of a list the other way round
+drop-reverse : {X : Type 0} (n m : ℕ) (xs : List X) → n + m ≡ length xs → drop n (reverse xs) ≡ reverse (take m xs)
+drop-reverse n m xs all =
+    let long : length (reverse (drop m xs)) ≡ n = length-reverse (drop m xs) ∙ length-drop m xs ∙ omega (arith, all) in
+    ap (λ ys. drop n (reverse ys)) (sym (take-append-drop m xs)) ∙ ap (drop n) (reverse-append (take m xs) (drop m xs)) ∙ drop_at (reverse (drop m xs)) (reverse (take m xs)) n long
+
+-- the members below one of those below a key are the rest of these, the other way round
+pub below_behind : (set : SetFacts) (at k n : ℕ) → IsStrictlyIncreasing (list_of set) → n < length (members_below set at) → (get_or (reverse (members_below set at)) n (0, 0)).0 ≡ k → reverse (members_below set k) ≡ drop (n + 1) (reverse (members_below set at))
+below_behind set at k n up within is =
+    let keys = list_of set in
+    let end = rank_of keys at in
+    let last = boundary_of at keys (rises_from keys up) in
+    let start : IsBoundary keys 0 0 = record { within = omega arith; front = λ i h. absurd (omega (arith, h)); back = λ i h l. omega arith } in
+    let whole : members_below set at ≡ take end set.pairs = range-at_boundaries set.pairs 0 at 0 end start last ∙ ap (λ (m : ℕ). take m set.pairs) (minus_none end) in
+    let long = ap length whole ∙ length-take end set.pairs in
+    let m = length (members_below set at) - 1 - n in
+    let stands : (get_or set.pairs m (0, 0)).0 ≡ k =
+    ap (λ (p : ℕ × ℕ). p.0) (sym (get_or-take end set.pairs m (0, 0) (omega (arith, within, long))) ∙ ap (λ (ps : List (ℕ × ℕ)). get_or ps m (0, 0)) (sym whole) ∙ sym (get_or-reverse (members_below set at) n (0, 0) within)) ∙ is in
+    let inside : m < length set.pairs = omega (arith, within, long) in
+    let here : slice_index keys m ≡ k = key_at set.pairs m (0, 0) inside ∙ stands in
+    let next = subst (λ (z : ℕ). IsBoundary keys z m) here (member-IsBoundary keys up m (omega (arith, inside, length-keys_of set.pairs))) in
+    let rest : members_below set k ≡ take m set.pairs = range-at_boundaries set.pairs 0 k 0 m start next ∙ ap (λ (n : ℕ). take n set.pairs) (minus_none m) in
+    let both : take m (members_below set at) ≡ take m set.pairs = ap (take m) whole ∙ take-take m end set.pairs (omega (arith, within, long)) in
+    ap reverse (rest ∙ sym both) ∙ sym (drop-reverse (n + 1) m (members_below set at) (omega (arith, within)))
 
 -- the members of a look's snapshot rise
-rises_in : (look : LookFacts) → IsStrictlyIncreasing (list_of (set_of_look look))
+pub rises_in : (look : LookFacts) → IsStrictlyIncreasing (list_of (set_of_look look))
 rises_in look = members_rise (snapshot_cut look.half look.snapshot.number)
 
-module _ (first : LookFacts) (below : ℕ) (before : List ℕ) where
-  -- so many members are written, those behind some first ones
-  pub record Copied (i : ℕ) (now : LookFacts) (out : List ℕ) : Type 0 where
-    pub written : out ≡ take i (drop below (list_of (set_of_look first))) ++ drop i before
+-- what was written of some numbers, after so many of them were told: no more than there is room for
+pub record Wrote (xs before now : List ℕ) (told : ℕ) : Type 0 where
+  pub are : now ≡ take (length before) (take told xs) ++ drop told before
+
+pub wrote_none : (xs before : List ℕ) → Wrote xs before before 0
+wrote_none xs before = record { are = sym (ap (λ (ys : List ℕ). ys ++ before) (take_all (length before) [] (omega arith))) }
+
+wrote_long : (xs before now : List ℕ) (told : ℕ) → told ≤ length xs → Wrote xs before now told → length now ≡ length before
+wrote_long xs before now told few w =
+    let head = length-take (length before) (take told xs) in
+    let tail = length-drop told before in
+    omega (arith, ap length w.are, length-append (take (length before) (take told xs)) (drop told before), head, tail, length-take told xs, few)
+
+-- some more of them are written
+pub wrote_more : (xs before now next ps : List ℕ) (told n : ℕ) → told ≤ length xs → ps ≡ take n (drop told xs) → length ps ≡ n → Wrote xs before now told → next ≡ take told now ++ (take (length now - told) ps ++ drop (told + n) now) → Wrote xs before next (told + n)
+wrote_more xs before now next ps told n few some long w is =
+    let len = length before in
+    let same = wrote_long xs before now told few w in
+    let room : length now - told ≡ len - told = ap (λ (m : ℕ). m - told) same in
+    let front = take told xs in
+    let front_long : length front ≡ told = length-take-le told xs few in
+    let more : take (told + n) xs ≡ front ++ ps = take-add told n xs ∙ ap (λ (zs : List ℕ). front ++ zs) (sym some) in
+    elim (cases_lt len told) [
+      | inr within ↦
+          let whole : now ≡ front ++ drop told before = w.are ∙ ap (λ (zs : List ℕ). zs ++ drop told before) (take_all len front (omega (arith, within, front_long))) in
+          let head : take told now ≡ front = ap (take told) whole ∙ ap (λ (m : ℕ). take m (front ++ drop told before)) (sym front_long) ∙ take-append_seam front (drop told before) in
+          let tail : drop (told + n) now ≡ drop (told + n) before = ap (drop (told + n)) whole ∙ drop-append-drop told before front (told + n) (omega arith) front_long in
+          let both : take len (front ++ ps) ≡ front ++ take (len - told) ps = take_both len front ps ∙ ap (λ (zs : List ℕ). zs ++ take (len - length front) ps) (take_all len front (omega (arith, within, front_long))) ∙ ap (λ (m : ℕ). front ++ take (len - m) ps) front_long in
+          record {
+            are = is ∙ ap (λ (zs : List ℕ). zs ++ (take (length now - told) ps ++ drop (told + n) now)) head ∙ ap (λ (m : ℕ). front ++ (take m ps ++ drop (told + n) now)) room ∙ ap (λ (zs : List ℕ). front ++ (take (len - told) ps ++ zs)) tail
+                ∙ sym (append_assoc front (take (len - told) ps) (drop (told + n) before)) ∙ ap (λ (zs : List ℕ). zs ++ drop (told + n) before) (sym both ∙ ap (take len) (sym more));
+          }
+      | inl past ↦
+          let full : length now - told ≡ 0 = omega (arith, same, past) in
+          let none : take (length now - told) ps ≡ [] = ap (λ (m : ℕ). take m ps) full in
+          let gone : drop (told + n) now ≡ drop (told + n) before = drop_all (told + n) now (omega (arith, same, past)) ∙ sym (drop_all (told + n) before (omega (arith, past))) in
+          let old : take told now ≡ take len front = take_all told now (omega (arith, same, past)) ∙ w.are ∙ ap (λ (zs : List ℕ). take len front ++ zs) (drop_all told before (omega (arith, past))) ∙ append-nil (take len front) in
+          let kept : take len (front ++ ps) ≡ take len front = take-append-le len front ps (omega (arith, past, front_long)) in
+          record {
+            are = is ∙ ap (λ (zs : List ℕ). zs ++ (take (length now - told) ps ++ drop (told + n) now)) old ∙ ap (λ (zs : List ℕ). take len front ++ (zs ++ drop (told + n) now)) none ∙ ap (λ (zs : List ℕ). take len front ++ zs) gone
+                ∙ ap (λ (zs : List ℕ). zs ++ drop (told + n) before) (sym kept ∙ ap (take len) (sym more));
+          }
+    ]
+
+-- all are written, or as many as there is room for
+pub wrote_all : (xs before now : List ℕ) (told : ℕ) → told ≤ length xs → Wrote xs before now told → (length before ≤ told) ⊎ (told ≡ length xs) → ListsMembers xs before now (min (length before) (length xs))
+wrote_all xs before now told few w end =
+    let len = length before in
+    elim (cases_lt told len) [
+      | inl less ↦
+          let whole : told ≡ length xs = elim end [ inl full ↦ absurd (omega (arith, full, less)) | inr all ↦ all ] in
+          let count : min len (length xs) ≡ told = min-eq_right {n = length xs} {m = len} (omega (arith, whole, less)) ∙ sym whole in
+          record { counts = refl; written = w.are ∙ ap (λ (zs : List ℕ). zs ++ drop told before) (take_all len (take told xs) (omega (arith, length-take told xs, less))) ∙ ap (λ (m : ℕ). take m xs ++ drop m before) (sym count) }
+      | inr full ↦
+          let count : min len (length xs) ≡ len = min-eq_left {n = len} {m = length xs} (omega (arith, full, few)) in
+          let gone : drop told before ≡ drop len before = drop_all told before full ∙ sym (drop_all len before (omega arith)) in
+          record { counts = refl; written = w.are ∙ ap (λ (zs : List ℕ). zs ++ drop told before) (take-take len told xs full) ∙ ap (λ (zs : List ℕ). take len xs ++ zs) gone ∙ ap (λ (m : ℕ). take m xs ++ drop m before) (sym count) }
+    ]
+
+-- so many members were written, with their weights
+module _ (members : SetFacts → ℕ → List (ℕ × ℕ)) (first : LookFacts) (key : ℕ) (keys weights : List ℕ) where
+  abbrev all : List (ℕ × ℕ)
+  all = members (set_of_look first) key
+
+  pub record Written (told : ℕ) (now : LookFacts) (ks ws : List ℕ) : Type 0 where
+    pub few : told ≤ length (members (set_of_look first) key)
+    pub wrote_keys : Wrote (keys_of (members (set_of_look first) key)) keys ks told
+    pub wrote_weights : Wrote (weights_of (members (set_of_look first) key)) weights ws told
     pub most : ℕ
     pub asked : IsAsked span_of most first now
 
-  pub none_copied : Copied 0 first before
-  none_copied = record { written = refl; most = 0; asked = asked_none span_of first }
+  pub none_written : Written 0 first keys weights
+  none_written = record { few = omega arith; wrote_keys = wrote_none _ keys; wrote_weights = wrote_none _ weights; most = 0; asked = asked_none span_of first }
 
-  -- a member is found at each place
-  found_at : (i : ℕ) (now : LookFacts) (out : List ℕ) → Copied i now out → select_of (list_of (set_of_look now)) (below + i) ≡ slice_get (list_of (set_of_look first)) (below + i)
-  found_at i now out a = ap (λ (s : SetFacts). select_of (list_of s) (below + i)) a.asked.same_set ∙ select_of-rising (list_of (set_of_look first)) (rises_in first) (below + i)
+  -- a page of those from a key on, which are the ones that are left
+  page_is : (told from : ℕ) (now : LookFacts) (ks ws : List ℕ) (items : List (ℕ × ℕ)) → Written told now ks ws → members (set_of_look first) from ≡ drop told (members (set_of_look first) key) → items ≡ take 32 (members (set_of_look now) from) → items ≡ take 32 (drop told (members (set_of_look first) key))
+  page_is told from now ks ws items w rest is = is ∙ ap (λ (s : SetFacts). take 32 (members s from)) w.asked.same_set ∙ ap (take 32) rest
 
-  pub not_none : (i : ℕ) (now : LookFacts) (out : List ℕ) → Copied i now out → below + i < length (list_of (set_of_look first)) → None ≡ select_of (list_of (set_of_look now)) (below + i) → ⊥
-  not_none i now out a within is =
-      let some = slice_get-get_or (list_of (set_of_look first)) (below + i) 0 within in
-      let no : None ≡ Some (get_or (list_of (set_of_look first)) (below + i) 0) = is ∙ found_at i now out a ∙ some in
-      cc
+  -- so many of them as it has
+  as_many : {X : Type 0} (xs items : List X) → items ≡ take 32 xs → items ≡ take (length items) xs
+  as_many xs items is = is ∙ sym (take_min 32 xs) ∙ ap (λ (m : ℕ). take m xs) (sym (ap length is ∙ length-take 32 xs))
 
-  pub one_copied : (i most : ℕ) (now next : LookFacts) (out : List ℕ) (member : ℕ) → Copied i now out → below + i < length (list_of (set_of_look first)) → i < length before → Some member ≡ select_of (list_of (set_of_look now)) (below + i)
-      → IsAsked span_of most now next → Copied (i + 1) next (set out i member)
-  one_copied i most now next out member a within room is asked =
-      let list = list_of (set_of_look first) in
-      let stands : slice_get list (below + i) ≡ Some member = sym (is ∙ found_at i now out a) in
-      let there : get_or list (below + i) 0 ≡ member = get_or_from_slice_get list (below + i) member 0 stands in
-      let fresh : member ≡ get_or (drop below list) i 0 = sym (get_or-drop below list i 0 ∙ there) in
-      let inside : i < length (drop below list) = omega (arith, within, length-drop below list) in
-      let long : length (take i (drop below list)) ≡ i = length-take-le i (drop below list) (omega (arith, inside)) in record {
-        written = ap (λ (xs : List ℕ). set xs i member) a.written ∙ written_more (take i (drop below list)) before i member long room
-            ∙ ap (λ (x : ℕ). (take i (drop below list) ++ x ∷ []) ++ drop (i + 1) before) fresh ∙ ap (λ (xs : List ℕ). xs ++ drop (i + 1) before) (sym (take_more (drop below list) i 0 inside));
-        most = a.most + most;
-        asked = asked_on span_of a.most most first now next a.asked asked;
+  -- the part that is written of each
+  parts_are : (part : ℕ × ℕ → ℕ) (told : ℕ) (xs items : List (ℕ × ℕ)) → items ≡ take (length items) (drop told xs) → map part items ≡ take (length items) (drop told (map part xs))
+  parts_are part told xs items is = ap (map part) is ∙ sym (take-map part (length items) (drop told xs)) ∙ ap (take (length items)) (sym (drop-map part told xs))
+
+  pub page_written : (told from most : ℕ) (now next : LookFacts) (ks ws keys_after weights_after : List ℕ) (items : List (ℕ × ℕ)) → Written told now ks ws → members (set_of_look first) from ≡ drop told (members (set_of_look first) key)
+      → items ≡ take 32 (members (set_of_look now) from) → IsAsked span_of most now next
+      → keys_after ≡ take told ks ++ (take (length ks - told) (map (λ (p : ℕ × ℕ). p.0) items) ++ drop (told + length items) ks) → weights_after ≡ take told ws ++ (take (length ws - told) (map (λ (p : ℕ × ℕ). p.1) items) ++ drop (told + length items) ws)
+      → Written (told + length items) next keys_after weights_after
+  page_written told from most now next ks ws keys_after weights_after items w rest is asked k e =
+      let mine = page_is told from now ks ws items w rest is in
+      let some = as_many (drop told all) items mine in
+      let long : length items ≤ length all - told = omega (arith, ap length mine, length-take 32 (drop told all), length-drop told all) in
+      let many = w.few in
+      record {
+        few = omega (arith, long, many);
+        wrote_keys = wrote_more (keys_of all) keys ks keys_after (map (λ (p : ℕ × ℕ). p.0) items) told (length items) (omega (arith, many, length-map all (λ (p : ℕ × ℕ). p.0))) (parts_are (λ (p : ℕ × ℕ). p.0) told all items some) (length-map items (λ (p : ℕ × ℕ). p.0)) w.wrote_keys k;
+        wrote_weights = wrote_more (weights_of all) weights ws weights_after (map (λ (p : ℕ × ℕ). p.1) items) told (length items) (omega (arith, many, length-map all (λ (p : ℕ × ℕ). p.1))) (parts_are (λ (p : ℕ × ℕ). p.1) told all items some) (length-map items (λ (p : ℕ × ℕ). p.1)) w.wrote_weights e;
+        most = w.most + most;
+        asked = asked_on span_of w.most most first now next w.asked asked;
       }
 
--- a look that was asked for its size and for the rank of a key, and then copied from
-module _ (first sized ranked : LookFacts) (m n size below k : ℕ) (one : IsAsked span_of m first sized) (two : IsAsked span_of n sized ranked) (size_is : size ≡ length (list_of (set_of_look first))) (below_is : below ≡ rank_of (list_of (set_of_look sized)) k) where
-  same : set_of_look ranked ≡ set_of_look first
-  same = two.same_set ∙ one.same_set
+  -- the next page has those behind it
+  pub more_left : (told from next n : ℕ) (now : LookFacts) (ks ws : List ℕ) → Written told now ks ws → members (set_of_look first) from ≡ drop told (members (set_of_look first) key) → n ≡ 32 → members (set_of_look now) next ≡ drop 32 (members (set_of_look now) from) → members (set_of_look first) next ≡ drop (told + n) (members (set_of_look first) key)
+  more_left told from next n now ks ws w rest full is =
+      ap (λ (s : SetFacts). members s next) (sym w.asked.same_set) ∙ is ∙ ap (λ (s : SetFacts). drop 32 (members s from)) w.asked.same_set ∙ ap (drop 32) rest ∙ drop-drop 32 told all ∙ ap (λ (m : ℕ). drop (told + m) all) (sym full)
 
-  below_first : below ≡ rank_of (list_of (set_of_look first)) k
-  below_first = below_is ∙ ap (λ (s : SetFacts). rank_of (list_of s) k) one.same_set
+  -- and after a page that is not full all were told
+  pub all_told : (told from : ℕ) (now : LookFacts) (ks ws : List ℕ) (items : List (ℕ × ℕ)) → Written told now ks ws → members (set_of_look first) from ≡ drop told (members (set_of_look first) key) → items ≡ take 32 (members (set_of_look now) from) → length items < 32 → told + length items ≡ length (members (set_of_look first) key)
+  all_told told from now ks ws items w rest is few =
+      let many = w.few in
+      omega (arith, ap length (page_is told from now ks ws items w rest is), length-take 32 (drop told all), length-drop told all, few, many)
 
-  pub below_fits : below ≤ size
-  below_fits = omega (arith, below_first, size_is, length-filter_both (λ z. nat_lt z k) (λ z. not (nat_lt z k)) (λ z. refl) (list_of (set_of_look first)))
-
-  pub there_still : (room count : ℕ) → count ≡ min room (size - below) → below + count ≤ length (list_of (set_of_look ranked))
-  there_still room count is = omega (arith, is, below_fits, size_is, ap (λ (s : SetFacts). length (list_of s)) same)
-
-  rest_is : drop below (list_of (set_of_look ranked)) ≡ from_of (list_of (set_of_look first)) k
-  rest_is = ap (λ (s : SetFacts). drop below (list_of s)) same ∙ ap (λ (n : ℕ). drop n (list_of (set_of_look first))) below_first ∙ sym (from_of-drop k (list_of (set_of_look first)) (rises_in first))
-
-  pub lists_keys : (count o : ℕ) (last : LookFacts) (before after : List ℕ) (code : ℤ) → count ≡ min (length before) (size - below) → code ≡ pos count → after ≡ take count (drop below (list_of (set_of_look ranked))) ++ drop count before
-      → IsAsked span_of o ranked last → ListsKeys k before after first last code
-  lists_keys count o last before after code is says written three =
-      let long : length (from_of (list_of (set_of_look first)) k) ≡ size - below = ap length (sym rest_is) ∙ length-drop below (list_of (set_of_look ranked)) ∙ ap (λ (s : SetFacts). length (list_of s) - below) same ∙ ap (λ (z : ℕ). z - below) (sym size_is) in record {
-        count = count;
-        says = says;
-        lists = record {
-          counts = is ∙ ap (min (length before)) (sym long);
-          written = written ∙ ap (λ (xs : List ℕ). take count xs ++ drop count before) rest_is;
-        };
-        most = m + n + o;
-        asked = asked_on span_of (m + n) o first ranked last (asked_on span_of m n first sized ranked one two) three;
+  -- what the call has done then
+  pub listed_keys : (told : ℕ) (now : LookFacts) (ks ws : List ℕ) (code : ℤ) → Written told now ks ws → (length keys ≤ told) ⊎ (told ≡ length (members (set_of_look first) key)) → code ≡ pos (min told (length keys)) → ListsKeys (λ set. members set key) keys ks first now code
+  listed_keys told now ks ws code w end is =
+      let long = length-map all (λ (p : ℕ × ℕ). p.0) in
+      let many = w.few in
+      let count : min told (length keys) ≡ min (length keys) (length (keys_of all)) = elim end [ inl full ↦ omega (arith, full, many, long) | inr whole ↦ omega (arith, whole, long) ] in
+      record {
+        count = min (length keys) (length (keys_of all));
+        says = is ∙ ap pos count;
+        lists = wrote_all (keys_of all) keys ks told (omega (arith, many, long)) w.wrote_keys (elim end [ inl full ↦ inl full | inr whole ↦ inr (whole ∙ sym long) ]);
+        most = w.most;
+        asked = w.asked;
       }
+
+  pub listed_weights : (told : ℕ) (now : LookFacts) (ks ws : List ℕ) → Written told now ks ws → length weights ≤ length keys → (length keys ≤ told) ⊎ (told ≡ length (members (set_of_look first) key)) → ListsMembers (weights_of (members (set_of_look first) key)) weights ws (min (length weights) (length (members (set_of_look first) key)))
+  listed_weights told now ks ws w few end =
+      let long = length-map all (λ (p : ℕ × ℕ). p.1) in
+      let many = w.few in
+      subst (λ (n : ℕ). ListsMembers (weights_of all) weights ws (min (length weights) n)) long (wrote_all (weights_of all) weights ws told (omega (arith, many, long)) w.wrote_weights (elim end [ inl full ↦ inl (omega (arith, full, few)) | inr whole ↦ inr (whole ∙ sym long) ]))
+
+-- the last member of a page that is full
+last_is : (items : List (ℕ × ℕ)) (last : ℕ) → Some last ≡ (if length items == 32 then Some (slice_index_or items 31 (0, 0)).0 else None) → (length items ≡ 32) × ((get_or items 31 (0, 0)).0 ≡ last)
+last_is items last is =
+    elim (cases_eq (length items) 32) [
+      | inl full ↦ (full, (let there : Some last ≡ Some (get_or items 31 (0, 0)).0 = is ∙ ap (λ b. if b then Some (get_or items 31 (0, 0)).0 else None) (eq-eqb (length items) 32 full) in cc))
+      | inr few ↦ absurd (let none : Some last ≡ None = is ∙ ap (λ b. if b then Some (get_or items 31 (0, 0)).0 else None) (ne_eqb (length items) 32 few) in cc)
+    ]
+
+-- is a member of the list
+last_of_page : (ys items : List (ℕ × ℕ)) (last : ℕ) → items ≡ take 32 ys → (length items ≡ 32) × ((get_or items 31 (0, 0)).0 ≡ last) → (31 < length ys) × ((get_or ys 31 (0, 0)).0 ≡ last)
+last_of_page ys items last is full =
+    (omega (arith, ap length is, length-take 32 ys, full.0), ap (λ (p : ℕ × ℕ). p.0) (sym (get_or-take 32 ys 31 (0, 0) (omega arith)) ∙ ap (λ (ps : List (ℕ × ℕ)). get_or ps 31 (0, 0)) (sym is)) ∙ full.1)
+
+-- what is behind it, rising and falling
+pub rising_more : (look : LookFacts) (at last : ℕ) (items : List (ℕ × ℕ)) → items ≡ take 32 (members_from (set_of_look look) at) → Some last ≡ (if length items == 32 then Some (slice_index_or items 31 (0, 0)).0 else None) → members_from (set_of_look look) (last + 1) ≡ drop 32 (members_from (set_of_look look) at)
+rising_more look at last items is full =
+    let there = last_of_page (members_from (set_of_look look) at) items last is (last_is items last full) in
+    from_behind (set_of_look look) at last 31 (rises_in look) there.0 there.1
+
+pub falling_more : (look : LookFacts) (at : ℕ) (items : List (ℕ × ℕ)) (next : Option ℕ) → items ≡ take 32 (reverse (members_below (set_of_look look) at)) → next ≡ (if length items == 32 then Some (slice_index_or items 31 (0, 0)).0 else None)
+    → IfSome next (λ k. reverse (members_below (set_of_look look) k) ≡ drop 32 (reverse (members_below (set_of_look look) at)))
+falling_more look at items None is full = tt
+falling_more look at items (Some last) is full =
+    let there = last_of_page (reverse (members_below (set_of_look look) at)) items last is (last_is items last full) in
+    below_behind (set_of_look look) at last 31 (rises_in look) (omega (arith, there.0, length-reverse (members_below (set_of_look look) at))) there.1
+
+-- what holds of a page behind which there is none
+pub at_none : (next : Option ℕ) (P : Type 0) → next ≡ None → IfNone next P → P
+at_none None P is h = h
+at_none (Some k) P is h = absurd cc
+
+pub at_some : (next : Option ℕ) (k : ℕ) (P : ℕ → Type 0) → next ≡ Some k → IfSome next P → P k
+at_some None k P is h = absurd cc
+at_some (Some n) k P is h = let same : n ≡ k = cc in subst P same h
+
+-- lists of keys and of weights
+pub both_listed : (members : SetFacts → List (ℕ × ℕ)) (keys keys_after weights weights_after : List ℕ) (old new : LookFacts) (code said : ℤ) → length weights ≡ length keys → said ≡ code → ListsKeys members keys keys_after old new code
+    → ListsMembers (weights_of (members (set_of_look old))) weights weights_after (min (length weights) (length (members (set_of_look old)))) → ListsBoth members keys keys_after weights weights_after old new said
+both_listed members keys keys_after weights weights_after old new code said same says told rest =
+    let list = members (set_of_look old) in
+    let counts = told.lists.counts in
+    let count : min (length weights) (length list) ≡ told.count = ap (λ (n : ℕ). min n (length list)) same ∙ ap (min (length keys)) (sym (length-map list (λ (p : ℕ × ℕ). p.0))) ∙ sym counts in
+    record {
+      bad_length = λ other. absurd (other same);
+      lists = λ _. (record { count = told.count; says = says ∙ told.says; lists = told.lists; most = told.most; asked = told.asked }, subst (ListsMembers (weights_of list) weights weights_after) count rest);
+    }
+
+min_comm : (a b : ℕ) → min a b ≡ min b a
+min_comm a b = omega arith
+
+-- a page is written to the places from one on
+pub put_none : {X : Type 0} (before : List X) (at : ℕ) (f : ℕ × ℕ → X) (page : List (ℕ × ℕ)) → (take at before ++ map f (take 0 page)) ++ drop (at + 0) before ≡ before
+put_none before at f page = let place : at + 0 ≡ at = omega arith in ap (λ xs. xs ++ drop (at + 0) before) (append-nil (take at before)) ∙ ap (λ (n : ℕ). take at before ++ drop n before) place ∙ take-append-drop at before
+
+pub put_more : (f : ℕ × ℕ → ℕ) (page : List (ℕ × ℕ)) (before now : List ℕ) (at i answer : ℕ) → i < length page → at + i < length before → now ≡ (take at before ++ map f (take i page)) ++ drop (at + i) before → answer ≡ f (get_or page i (0, 0))
+    → set now (at + i) answer ≡ (take at before ++ map f (take (i + 1) page)) ++ drop (at + (i + 1)) before
+put_more f page before now at i answer inside room is value =
+    let front = take at before ++ map f (take i page) in
+    let long : length front ≡ at + i = length-append (take at before) (map f (take i page)) ∙ omega (arith, length-take-le at before (omega (arith, room)), length-map (take i page) f, length-take-le i page (omega (arith, inside))) in
+    let next : at + i + 1 ≡ at + (i + 1) = omega arith in
+    let one : map f (take (i + 1) page) ≡ map f (take i page) ++ f (get_or page i (0, 0)) ∷ [] = ap (map f) (take_more page i (0, 0) inside) ∙ map-append f (take i page) (get_or page i (0, 0) ∷ []) in
+    ap (λ (xs : List ℕ). set xs (at + i) answer) is ∙ written_more front before (at + i) answer long room ∙ ap (λ (n : ℕ). (front ++ answer ∷ []) ++ drop n before) next
+    ∙ ap (λ (xs : List ℕ). xs ++ drop (at + (i + 1)) before) (ap (λ (x : ℕ). front ++ x ∷ []) value ∙ append_assoc (take at before) (map f (take i page)) (f (get_or page i (0, 0)) ∷ []) ∙ ap (λ (xs : List ℕ). take at before ++ xs) (sym one))
+
+pub put_all : (f : ℕ × ℕ → ℕ) (page : List (ℕ × ℕ)) (before now : List ℕ) (at i : ℕ) → at < length before → i ≡ min (length page) (length before - at) → now ≡ (take at before ++ map f (take i page)) ++ drop (at + i) before
+    → now ≡ take at before ++ (take (length before - at) (map f page) ++ drop (at + length page) before)
+put_all f page before now at i room is written =
+    let left = length before - at in
+    let some : map f (take i page) ≡ take left (map f page) = ap (λ (n : ℕ). map f (take n page)) (is ∙ min_comm (length page) left) ∙ sym (take-map f (min left (length page)) page) ∙ ap (λ (n : ℕ). take (min left n) (map f page)) (sym (length-map page f)) ∙ take_min left (map f page) in
+    let rest : drop (at + i) before ≡ drop (at + length page) before = elim (cases_lt (length page) left) [
+      | inl less ↦ let same : i ≡ length page = omega (arith, is, less) in ap (λ (n : ℕ). drop (at + n) before) same
+      | inr full ↦ drop_all (at + i) before (omega (arith, is, full, room)) ∙ sym (drop_all (at + length page) before (omega (arith, full, room)))
+    ] in
+    written ∙ append_assoc (take at before) (map f (take i page)) (drop (at + i) before) ∙ ap (λ (xs : List ℕ). take at before ++ (xs ++ drop (at + i) before)) some ∙ ap (λ (xs : List ℕ). take at before ++ (take left (map f page) ++ xs)) rest

@@ -1,10 +1,10 @@
 -- What the calls for arrays of keys do to a user, and what they answer. An update is made for each key in turn, as far as the call comes without waiting,
 -- and the progress counts them, so that the next call goes on from there (`UpdatesAll`). A query writes each answer to the place with its key's index
 -- (`AsksAll`), and a list of members is written from the first place on (`ListsKeys`). In the example insertions of 0, 5 and 1 answer -3, and nothing
--- changes; those of 0, 0 and 2 make 3 updates, of which 2 changed the set. In a look the ranks of 4 and 0 are written as 2 and 0, and `from_of` gives
--- only 3 from 2 on.
-use Rattle.std.specs.Prelude.{◌≡◌, ◌⊎◌, ℕ, ◌+◌, ◌^◌, ◌<◌, ◌≤◌, ℤ, pos, Bool, true, false, List, [], ◌∷◌, ◌++◌, All, length, map, filter, take, drop, min, nat_le, get_or, flat_map}
-use Rattle.aug_model.specs.Keys.{SetFacts, list_of}
+-- changes; those of 0, 0 and 2 make 3 updates, of which 2 changed the set. In a look the ranks of 4 and 0 are written as 2 and 0, and a list of the keys
+-- from 2 on writes 3.
+use Rattle.std.specs.Prelude.{◌≡◌, ◌≢◌, ◌⊎◌, ℕ, ◌+◌, ◌^◌, ◌<◌, ◌≤◌, ℤ, pos, Bool, true, false, List, [], ◌∷◌, ◌++◌, All, length, map, take, drop, min, get_or, flat_map}
+use Rattle.aug_model.specs.Keys.{SetFacts, keys_of}
 use Rattle.aug_trie.specs.UpdateBatches.{DoesBatch}
 use Rattle.aug_trie.specs.declared.updates.outcome.Outcome.{Outcome}
 use Rattle.aug_trie.specs.declared.updates.outcome.Outcome.TheVariants.{Accepted, Replaced}
@@ -93,24 +93,34 @@ abbrev pub AsksAll : {X : Type 0} → (SetFacts → ℕ → X) → List ℕ → 
 AsksAll told keys before after (Free access) new code = (new ≡ Free access) × (code ≡ codes.not_looking) × (after ≡ before)
 AsksAll told keys before after (Looking old) new code = (look : LookFacts) × (new ≡ Looking look) × AnswersArray told keys before after old look code
 
--- the members from a key on
-abbrev pub from_of : List ℕ → ℕ → List ℕ
-from_of keys k = filter (λ x. nat_le k x) keys
+-- the weights of pairs
+abbrev pub weights_of : List (ℕ × ℕ) → List ℕ
+weights_of pairs = map (λ p. p.1) pairs
 
--- the first of some members are written, as many as there is room for, and the places behind are as they were
+-- the first of some numbers are written, as many as there is room for, and the places behind are as they were
 pub record ListsMembers (members before after : List ℕ) (count : ℕ) : Type 0 where
   pub counts : count ≡ min (length before) (length members)
   pub written : after ≡ take count members ++ drop count before
 
--- the least members of a look's snapshot from a key on are written, and the answer is how many
-pub record ListsKeys (from : ℕ) (before after : List ℕ) (old new : LookFacts) (code : ℤ) : Type 0 where
+-- the first of some members of a look's snapshot are written, and the answer is how many
+pub record ListsKeys (members : SetFacts → List (ℕ × ℕ)) (before after : List ℕ) (old new : LookFacts) (code : ℤ) : Type 0 where
   pub count : ℕ
   pub says : code ≡ pos count
-  pub lists : ListsMembers (from_of (list_of (set_of_look old)) from) before after count
+  pub lists : ListsMembers (keys_of (members (set_of_look old))) before after count
   pub most : ℕ
   pub asked : IsAsked span_of most old new
 
 -- the same of a user, which holds a look
-abbrev pub ListsAll : ℕ → List ℕ → List ℕ → Seat → Seat → ℤ → Type 0
-ListsAll from before after (Free access) new code = (new ≡ Free access) × (code ≡ codes.not_looking) × (after ≡ before)
-ListsAll from before after (Looking old) new code = (look : LookFacts) × (new ≡ Looking look) × ListsKeys from before after old look code
+abbrev pub ListsAll : (SetFacts → List (ℕ × ℕ)) → List ℕ → List ℕ → Seat → Seat → ℤ → Type 0
+ListsAll members before after (Free access) new code = (new ≡ Free access) × (code ≡ codes.not_looking) × (after ≡ before)
+ListsAll members before after (Looking old) new code = (look : LookFacts) × (new ≡ Looking look) × ListsKeys members before after old look code
+
+-- and their weights as well, which is refused if there is not as much room for them
+pub record ListsBoth (members : SetFacts → List (ℕ × ℕ)) (keys keys_after weights weights_after : List ℕ) (old new : LookFacts) (code : ℤ) : Type 0 where
+  pub bad_length : length weights ≢ length keys → (code ≡ codes.bad_length) × (new ≡ old) × (keys_after ≡ keys) × (weights_after ≡ weights)
+  pub lists : length weights ≡ length keys → (told : ListsKeys members keys keys_after old new code) × ListsMembers (weights_of (members (set_of_look old))) weights weights_after told.count
+
+-- the same of a user, which holds a look
+abbrev pub ListsAllBoth : (SetFacts → List (ℕ × ℕ)) → List ℕ → List ℕ → List ℕ → List ℕ → Seat → Seat → ℤ → Type 0
+ListsAllBoth members keys keys_after weights weights_after (Free access) new code = (new ≡ Free access) × (code ≡ codes.not_looking) × (keys_after ≡ keys) × (weights_after ≡ weights)
+ListsAllBoth members keys keys_after weights weights_after (Looking old) new code = (look : LookFacts) × (new ≡ Looking look) × ListsBoth members keys keys_after weights weights_after old look code

@@ -1,62 +1,139 @@
-//! The members of a look's snapshot, many of them in one call.
-ghost use Rattle.std.specs.Prelude.{◌≡◌, ℕ, ◌+◌, ◌^◌, ◌<◌, ◌≤◌, ◌++◌, length, take, drop, min, IsNone};
-ghost use Rattle.aug_model.specs.Keys.{list_of};
+//! The members of a look's snapshot, many of them in one call, a page after the other.
+ghost use Rattle.std.specs.Prelude.{◌≡◌, ℕ, ◌+◌, ◌-◌, ◌^◌, ◌<◌, ◌≤◌, ◌++◌, ◌==◌, if◌then◌else◌, List, Some, None, IfSome, IfNone, IsNone, length, map, take, drop, reverse, min, pos, slice_index_or};
+ghost use Rattle.aug_model.specs.Keys.{SetFacts};
+ghost use Rattle.aug_query.specs.Yields.{members_from, members_below};
 ghost use Rattle.aug_live.specs.LiveHandles.{IsAsked, set_of_look};
 ghost use Rattle.aug_c.specs.Handles.{user_of, On};
 ghost use Rattle.aug_c.specs.UserCalls.{span_of};
-ghost use Rattle.aug_c.specs.ArrayCalls.{ListsAll, ListsKeys};
+ghost use Rattle.aug_c.specs.ArrayCalls.{ListsAll, ListsAllBoth, ListsBoth, ListsKeys, ListsMembers, weights_of};
 
-use crate::codes::{CLOSED, NOT_LOOKING};
+use crate::codes::{BAD_LENGTH, CLOSED, NOT_LOOKING};
 use crate::seat::{LookOf, Seat};
 use crate::user_handle::UserHandle;
-use aug_query::descent::{Rank, Select, Size};
+use aug_query::descent::{MembersBelow, MembersFrom, Page};
 use std::alloc::Global;
 
-// The lesser of two numbers.
-fn lesser(room: usize, left: u32) -> u32
-    ensures { result ≡ min room left }
+// In which order members are listed.
+trait Order {
+    // The members on the side of a key that is listed.
+    ghost members: { SetFacts → ℕ → List (ℕ × ℕ) };
+
+    // The first page of them, and the key of the next page if this one is full.
+    fn page(look: &mut LookOf, key: u32) -> (Page, Option<u32>)
+        ensures page { result.0.items ≡ take 32 (members (set_of_look look.old) key) }
+        ensures full { IfSome result.1 (λ next. length result.0.items ≡ 32) }
+        ensures more { IfSome result.1 (λ next. members (set_of_look look.old) next ≡ drop 32 (members (set_of_look look.old) key)) }
+        ensures last { IfNone result.1 (length result.0.items < 32) }
+        ensures asked { (most : ℕ) × IsAsked span_of most look.old look.new };
+}
+
+// The key of the last member of a page, if it is full.
+fn last_key(page: &Page) -> Option<u32>
+    ensures { result ≡ (if length page.now.items == 32 then Some (slice_index_or page.now.items 31 (0, 0)).0 else None) }
 {
-    if room < left as usize {
-        room as u32
-    } else {
-        left
+    if !page.is_full() {
+        return None;
+    }
+    Some(page.as_slice()[31].0)
+}
+
+struct Rising;
+
+impl Order for Rising {
+    ghost members = { λ set key. members_from set key };
+
+    fn page(look: &mut LookOf, key: u32) -> (Page, Option<u32>) {
+        let page = look.ask(MembersFrom(key));
+        match last_key(&page) {
+            Some(last) => (page, Some(last + 1)),
+            None => (page, None),
+        }
     }
 }
 
-// Writes `count` members, those from the index `below` on.
-fn copied(look: &mut LookOf, below: u32, count: u32, out: &mut [u32])
-    requires there { below + count ≤ length (list_of (set_of_look look.old)) }
-    requires fits { below + count < 2 ^ 32 }
-    requires room { count ≤ length out.old }
-    ensures answer { out.new ≡ take count (drop below (list_of (set_of_look look.old))) ++ drop count out.old }
-    ensures asked { (most : ℕ) × IsAsked span_of most look.old look.new }
-{
-    for place in 0..count {
-        let answer = look.ask(Select(below + place));
-        let Some(member) = answer else { unreachable!() };
-        out[place as usize] = member;
+struct Falling;
+
+impl Order for Falling {
+    ghost members = { λ set key. reverse (members_below set key) };
+
+    fn page(look: &mut LookOf, key: u32) -> (Page, Option<u32>) {
+        let page = look.ask(MembersBelow(key));
+        let next = last_key(&page);
+        (page, next)
     }
 }
 
-fn keys_from(look: &mut LookOf, from: u32, out: &mut [u32]) -> i64
-    ensures { ListsKeys from out.old out.new look.old look.new result }
+// What is written of a member.
+trait Part {
+    ghost part_of: { ℕ × ℕ → ℕ };
+
+    fn of(member: (u32, u32)) -> u32
+        ensures { result ≡ part_of member };
+}
+
+struct Key;
+
+impl Part for Key {
+    ghost part_of = { λ p. p.0 };
+
+    fn of(member: (u32, u32)) -> u32 {
+        member.0
+    }
+}
+
+struct Weight;
+
+impl Part for Weight {
+    ghost part_of = { λ p. p.1 };
+
+    fn of(member: (u32, u32)) -> u32 {
+        member.1
+    }
+}
+
+// Writes a part of each member of a page to the places from `at` on, as many as there are.
+fn put<P: Part>(page: &[(u32, u32)], at: usize, out: &mut [u32])
+    ensures { out.new ≡ take at out.old ++ (take (length out.old - at) (map P.part_of page.now) ++ drop (at + length page.now) out.old) }
 {
-    let size = look.ask(Size);
-    let below = look.ask(Rank(from));
-    let left = size - below;
-    let count = lesser(out.len(), left);
-    copied(look, below, count, out);
-    i64::from(count)
+    if out.len() <= at {
+        return;
+    }
+    let count = page.len().min(out.len() - at);
+    for i in 0..count {
+        out[at + i] = P::of(page[i]);
+    }
+}
+
+// Writes the first members on the side of a key that is listed, as many as there are places for keys, and answers how many. There may be fewer
+// places for weights.
+fn list<O: Order>(look: &mut LookOf, key: u32, keys: &mut [u32], weights: &mut [u32]) -> i64
+    requires { length weights.old ≤ length keys.old }
+    ensures keys { ListsKeys (λ set. O.members set key) keys.old keys.new look.old look.new result }
+    ensures weights { ListsMembers (weights_of (O.members (set_of_look look.old) key)) weights.old weights.new (min (length weights.old) (length (O.members (set_of_look look.old) key))) }
+{
+    let mut from = key;
+    let mut told = 0;
+    while told < keys.len() {
+        let (page, next) = O::page(look, from);
+        put::<Key>(page.as_slice(), told, keys);
+        put::<Weight>(page.as_slice(), told, weights);
+        told += page.len();
+        let Some(next) = next else {
+            return told.min(keys.len()) as i64;
+        };
+        from = next;
+    }
+    keys.len() as i64
 }
 
 fn keys_in(user: &mut Option<Seat>, from: u32, out: &mut [u32]) -> i64
-    ensures lists { On (ListsAll from out.old out.new) user.old user.new result }
+    ensures lists { On (ListsAll (λ set. members_from set from) out.old out.new) user.old user.new result }
     ensures closed { IsNone user.old → out.new ≡ out.old }
 {
     match user {
         None => CLOSED,
         Some(Seat::Free(_)) => NOT_LOOKING,
-        Some(Seat::Looking(held)) => keys_from(&mut held.look, from, out),
+        Some(Seat::Looking(held)) => list::<Rising>(&mut held.look, from, out, &mut []),
     }
 }
 
@@ -68,7 +145,7 @@ pub extern "C" fn aug_try_keys(
     from: u32,
     out: &mut [u32],
 ) -> i64
-    ensures lists { On (ListsAll from out.old out.new) (user_of user.old) (user_of user.new) result }
+    ensures lists { On (ListsAll (λ set. members_from set from) out.old out.new) (user_of user.old) (user_of user.new) result }
     ensures closed { IsNone (user_of user.old) → out.new ≡ out.old }
     ensures foreign { IsNone user.old.held.value → user.new ≡ user.old }
 {
@@ -78,4 +155,83 @@ pub extern "C" fn aug_try_keys(
     let code = keys_in(&mut slot.seat, from, out);
     user.put(slot);
     code
+}
+
+// Lists members with their weights, in two arrays of the same length.
+fn list_both<O: Order>(look: &mut LookOf, key: u32, keys: &mut [u32], weights: &mut [u32]) -> i64
+    ensures { ListsBoth (λ set. O.members set key) keys.old keys.new weights.old weights.new look.old look.new result }
+{
+    if weights.len() != keys.len() {
+        return BAD_LENGTH;
+    }
+    list::<O>(look, key, keys, weights)
+}
+
+fn both_in<O: Order>(
+    user: &mut Option<Seat>,
+    key: u32,
+    keys: &mut [u32],
+    weights: &mut [u32],
+) -> i64
+    ensures lists { On (ListsAllBoth (λ set. O.members set key) keys.old keys.new weights.old weights.new) user.old user.new result }
+    ensures closed { IsNone user.old → (keys.new ≡ keys.old) × (weights.new ≡ weights.old) }
+{
+    match user {
+        None => CLOSED,
+        Some(Seat::Free(_)) => NOT_LOOKING,
+        Some(Seat::Looking(held)) => list_both::<O>(&mut held.look, key, keys, weights),
+    }
+}
+
+// The same of a handle's user.
+fn both_of<O: Order>(
+    alloc: Global,
+    user: &mut UserHandle,
+    key: u32,
+    keys: &mut [u32],
+    weights: &mut [u32],
+) -> i64
+    ensures lists { On (ListsAllBoth (λ set. O.members set key) keys.old keys.new weights.old weights.new) (user_of user.old) (user_of user.new) result }
+    ensures closed { IsNone (user_of user.old) → (keys.new ≡ keys.old) × (weights.new ≡ weights.old) }
+    ensures foreign { IsNone user.old.held.value → user.new ≡ user.old }
+{
+    let Some(mut slot) = user.take(alloc) else {
+        return CLOSED;
+    };
+    let code = both_in::<O>(&mut slot.seat, key, keys, weights);
+    user.put(slot);
+    code
+}
+
+/// Writes the least members of the snapshot from `from` on, rising, as many as `keys` has places for, and the weight of each. Answers how
+/// many, or `BAD_LENGTH` if there are not as many places for weights.
+#[unsafe(no_mangle)]
+pub extern "C" fn aug_try_list(
+    alloc: Global,
+    user: &mut UserHandle,
+    from: u32,
+    keys: &mut [u32],
+    weights: &mut [u32],
+) -> i64
+    ensures lists { On (ListsAllBoth (λ set. members_from set from) keys.old keys.new weights.old weights.new) (user_of user.old) (user_of user.new) result }
+    ensures closed { IsNone (user_of user.old) → (keys.new ≡ keys.old) × (weights.new ≡ weights.old) }
+    ensures foreign { IsNone user.old.held.value → user.new ≡ user.old }
+{
+    both_of::<Rising>(alloc, user, from, keys, weights)
+}
+
+/// Writes the greatest members of the snapshot below `below`, falling, as `aug_try_list`.
+#[unsafe(no_mangle)]
+pub extern "C" fn aug_try_list_back(
+    alloc: Global,
+    user: &mut UserHandle,
+    below: u32,
+    keys: &mut [u32],
+    weights: &mut [u32],
+) -> i64
+    ensures lists { On (ListsAllBoth (λ set. reverse (members_below set below)) keys.old keys.new weights.old weights.new) (user_of user.old) (user_of user.new) result }
+    ensures closed { IsNone (user_of user.old) → (keys.new ≡ keys.old) × (weights.new ≡ weights.old) }
+    ensures foreign { IsNone user.old.held.value → user.new ≡ user.old }
+{
+    both_of::<Falling>(alloc, user, below, keys, weights)
 }

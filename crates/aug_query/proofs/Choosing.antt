@@ -54,7 +54,7 @@ pub set_rises : {set : SetFacts} → IsTreeSet set → Rises (list_of set)
 set_rises {set = set} is = rises_from (list_of set) is.is_key_set.rising
 
 -- and are below the end of its keys
-set_below : {set : SetFacts} → IsTreeSet set → AllBelow (2 ^ set.bits) (list_of set)
+pub set_below : {set : SetFacts} → IsTreeSet set → AllBelow (2 ^ set.bits) (list_of set)
 set_below {set = set} is = all_below_from (2 ^ set.bits) (list_of set) is.is_key_set.below
 
 -- the node at the level of all bits covers every member

@@ -17,3 +17,4 @@ pub mod Cover
 pub mod Listed
 pub mod Weighing
 pub mod Extents
+pub mod Pages

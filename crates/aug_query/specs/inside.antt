@@ -6,3 +6,4 @@ pub mod NodePlaces
 pub mod NodeWalkLaws
 pub mod Paths
 pub mod Rows
+pub mod Pages

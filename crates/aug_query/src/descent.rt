@@ -4,8 +4,9 @@
 //! count; `Rank` `bits + 1` nodes, `bits` of them beside one whose members are counted, and one count; `Select` `2 * bits + 1` nodes and
 //! `bits + 1` counts; `SelectByWeight` as many nodes, and `bits + 1` summaries; `First` and `Last` the top and its summary; `Before` and
 //! `After` `3 * bits` nodes, `bits` of them beside a counted one, and `bits + 1` counts; `Range`, `Least` and `Greatest` `4 * bits - 1`
-//! nodes and `2 * bits` summaries; `Keys` and `Pairs`, for `n` members, `2 * bits * n + 1` nodes and `bits * n + 1` counts. `Four` queries
-//! of a kind load what each of them does, and so do `Ranks`, `Memberships` and `Weights` of `n` keys.
+//! nodes and `2 * bits` summaries; `MembersFrom` and `MembersBelow` `66 * bits + 1` nodes and `33 * bits + 1` counts; `Keys` and `Pairs`,
+//! for `n` members, `2 * bits * n + 1` nodes and `bits * n + 1` counts. `Four` queries of a kind load what each of them does, and so do
+//! `Ranks`, `Memberships` and `Weights` of `n` keys.
 
 mod batches;
 mod by_weight;
@@ -16,6 +17,7 @@ mod intervals;
 mod listing;
 mod members;
 mod neighbours;
+mod pages;
 mod positions;
 mod together;
 
@@ -28,5 +30,6 @@ pub use intervals::Range;
 pub use listing::{Keys, Pairs, put_pairs};
 pub use members::{Has, Weight};
 pub use neighbours::{After, Before};
+pub use pages::{MembersBelow, MembersFrom, Page};
 pub use positions::Select;
 pub use together::{ByKey, Four};

@@ -1,0 +1,76 @@
+use Rattle.std.proofs.Common.{true≢false, eqb-true, refl, rules, ◌≡◌, ◌≢◌, ◌+◌, ◌-◌, ◌*◌, ◌<◌, ◌≤◌, List, ◌∷◌, ◌++◌, length, take, min, ap, sym, ◌∙◌, arith, length-append}
+use Rattle.std.proofs.lemmas.Bool.{eqb-false}
+use Rattle.aug_model.specs.Keys.{list_of}
+use Rattle.aug_model.specs.NodeKeys.{first_key, end_key}
+use Rattle.aug_query.specs.inside.Pages.{Reaches, crosses, first_place, second_place, part_of}
+use Rattle.aug_query.proofs.Descending.{further, counted}
+use Rattle.aug_query.proofs.Pages.{part_none, part_leaf, second_count, take_one, takes_none, takes_nothing, some_given, both_given, both_descend, part_empty}
+use Rattle.aug_query.proofs.descent.pages.+put_part.Goals as goal
+use Rattle.aug_query.proofs.descent.pages.+put_part.Goals.{then-count-eq0-via-then-count-eq0, then-count-eq0-via-else-count-eq0+then-is_full}
+
+pub returns-then-count-eq0-clause-answer : goal.returns-then-count-eq0-clause-answer
+returns-then-count-eq0-clause-answer g t c =
+    let node = g.met.D.Descend.name_stands c.args.tree.now _ _ c.args.node.now c.requires.name in
+    let old = c.args.page.now.items in
+    elim c.then-count-eq0.branch [
+      | then-count-eq0-via-then-count-eq0 w ↦ takes_nothing (32 - length old) old _ (part_empty (g.D.Descend.set_of c.args.tree.now) c.args.side c.args.level c.args.place c.args.count node.is_tree_set c.requires.count w.if-count-eq0.true)
+      | then-count-eq0-via-else-count-eq0+then-is_full w ↦ takes_none (32 - length old) old _ (omega (arith, eqb-true _ _ (sym w.if-is_full.ensures.value)))
+    ]
+
+pub returns-then-not-reaches-clause-answer : goal.returns-then-not-reaches-clause-answer
+returns-then-not-reaches-clause-answer g t c =
+    let node = g.met.D.Descend.name_stands c.args.tree.now _ _ c.args.node.now c.requires.name in
+    let old = c.args.page.now.items in
+    takes_nothing (32 - length old) old _ (part_none (g.D.Descend.set_of c.args.tree.now) c.args.side _ _ node.is_tree_set (λ h. true≢false (sym (c.if-not-reaches.ensures.1 h))))
+
+pub returns-then-level-eq0-clause-answer : goal.returns-then-level-eq0-clause-answer
+returns-then-level-eq0-clause-answer g t c =
+    let node = g.met.D.Descend.name_stands c.args.tree.now _ _ c.args.node.now c.requires.name in
+    let old = c.args.page.now.items in
+    let room : 0 < 32 - length old = omega (arith, eqb-false _ _ (sym c.if-is_full.ensures.value), c.is_full.ensures.fits) in
+    let reaches : Reaches c.args.side (first_key c.args.level c.args.place) (end_key c.args.level c.args.place) = c.if-not-reaches.ensures.0 refl in
+    let leaf = part_leaf (g.D.Descend.set_of c.args.tree.now) c.args.side c.args.level c.args.place c.args.count c.weight.result node.is_tree_set c.if-level-eq0.true reaches c.requires.count c.if-count-eq0.false c.weight.ensures in
+    c.push.ensures.items ∙ ap (λ xs. old ++ xs) (sym (ap (take (32 - length old)) leaf ∙ take_one (32 - length old) (c.args.place, c.weight.result) room))
+
+pub overflow_sub-count : goal.overflow_sub-count
+overflow_sub-count g t c =
+    let set = g.D.Descend.set_of c.args.tree.now in
+    let node = g.met.D.Descend.name_stands c.args.tree.now _ _ c.args.node.now c.requires.name in
+    let low = c.first_child-child.ensures.descends.same_set in
+    let high = c.second_child-child.ensures.descends.same_set ∙ c.put_part.ensures.descends.same_set ∙ c.count-some.ensures.descends.same_set ∙ low in
+    let both = second_count c.args.level (c.args.level - 1) c.args.place (omega (arith, c.if-level-eq0.false)) set (g.D.Descend.set_of c.first_child-child.new.tree) (g.D.Descend.set_of c.second_child-child.new.tree) c.args.side c.first_child-child.result.1 c.second_child-child.result.1 c.args.count c.count-some.result node.is_tree_set low high c.first_child-child.ensures.place c.second_child-child.ensures.place c.requires.count c.count-some.ensures.value in
+    both.0
+
+pub put_part-requires-2 : goal.put_part-requires-2
+put_part-requires-2 g t c κs lives =
+    let set = g.D.Descend.set_of c.args.tree.now in
+    let node = g.met.D.Descend.name_stands c.args.tree.now _ _ c.args.node.now c.requires.name in
+    let low = c.first_child-child.ensures.descends.same_set in
+    let high = c.second_child-child.ensures.descends.same_set ∙ c.put_part.ensures.descends.same_set ∙ c.count-some.ensures.descends.same_set ∙ low in
+    let both = second_count c.args.level (c.args.level - 1) c.args.place (omega (arith, c.if-level-eq0.false)) set (g.D.Descend.set_of c.first_child-child.new.tree) (g.D.Descend.set_of c.second_child-child.new.tree) c.args.side c.first_child-child.result.1 c.second_child-child.result.1 c.args.count c.count-some.result node.is_tree_set low high c.first_child-child.ensures.place c.second_child-child.ensures.place c.requires.count c.count-some.ensures.value in
+    (omega (arith, c.decreases, c.if-level-eq0.false), (lives.0, (lives.1.0, (lives.1.1.0, (lives.1.1.1, (c.second_child-child.ensures.name, both.1))))))
+
+pub returns-clause-answer : goal.returns-clause-answer
+returns-clause-answer g t c =
+    let set = g.D.Descend.set_of c.args.tree.now in
+    let node = g.met.D.Descend.name_stands c.args.tree.now _ _ c.args.node.now c.requires.name in
+    let low = c.count-some.ensures.descends.same_set ∙ c.first_child-child.ensures.descends.same_set in
+    let high = c.second_child-child.ensures.descends.same_set ∙ c.put_part.ensures.descends.same_set ∙ low in
+    both_given c.args.level (c.args.level - 1) c.args.place (omega (arith, c.if-level-eq0.false)) c.args.side c.first_child-child.result.1 c.second_child-child.result.1 c.first_child-child.ensures.place c.second_child-child.ensures.place
+    set (g.D.Descend.set_of c.count-some.new.self) (g.D.Descend.set_of c.second_child-child.new.tree) c.args.page.now.items c.put_part.new.page.items c.put_part-2.new.page.items node.is_tree_set low high c.put_part.ensures.answer c.put_part-2.ensures.answer
+
+pub returns-clause-descends : goal.returns-clause-descends
+returns-clause-descends g t c =
+    let set = g.D.Descend.set_of c.args.tree.now in
+    let node = g.met.D.Descend.name_stands c.args.tree.now _ _ c.args.node.now c.requires.name in
+    let low = c.count-some.ensures.descends.same_set ∙ c.first_child-child.ensures.descends.same_set in
+    let high = c.second_child-child.ensures.descends.same_set ∙ c.put_part.ensures.descends.same_set ∙ low in
+    let l = c.args.level - 1 in
+    let e : l + 1 ≡ c.args.level = omega (arith, c.if-level-eq0.false) in
+    let given = both_given c.args.level l c.args.place e c.args.side c.first_child-child.result.1 c.second_child-child.result.1 c.first_child-child.ensures.place c.second_child-child.ensures.place
+    set (g.D.Descend.set_of c.count-some.new.self) (g.D.Descend.set_of c.second_child-child.new.tree) c.args.page.now.items c.put_part.new.page.items c.put_part-2.new.page.items node.is_tree_set low high c.put_part.ensures.answer c.put_part-2.ensures.answer in
+    let room : length c.args.page.now.items < 32 = omega (arith, eqb-false _ _ (sym c.if-is_full.ensures.value), c.is_full.ensures.fits) in
+    let some = some_given set c.args.side c.args.level c.args.place c.args.count c.args.page.now.items c.put_part-2.new.page.items node.is_tree_set c.requires.count c.if-count-eq0.false room (c.if-not-reaches.ensures.0 refl) given in
+    both_descend c.args.level l c.args.place e c.args.side c.first_child-child.result.1 c.second_child-child.result.1 c.first_child-child.ensures.place c.second_child-child.ensures.place g.met.D.Descend.keeps_on
+    c.args.page.now.items c.put_part.new.page.items c.put_part-2.new.page.items _ _ c.put_part.ensures.answer c.put_part-2.ensures.answer some
+    c.first_child-child.ensures.descends c.count-some.ensures.descends c.put_part.ensures.descends c.second_child-child.ensures.descends c.put_part-2.ensures.descends

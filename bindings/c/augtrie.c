@@ -37,6 +37,8 @@ int64_t aug_try_rank_all(aug_user *user, const uint32_t *keys, size_t n, uint32_
 int64_t aug_try_has_all(aug_user *user, const uint32_t *keys, size_t n, uint8_t *out, size_t room);
 int64_t aug_try_weight_all(aug_user *user, const uint32_t *keys, size_t n, int64_t *out, size_t room);
 int64_t aug_try_keys(aug_user *user, uint32_t from, uint32_t *out, size_t room);
+int64_t aug_try_list(aug_user *user, uint32_t from, uint32_t *keys, size_t room, uint32_t *weights, size_t weight_room);
+int64_t aug_try_list_back(aug_user *user, uint32_t below, uint32_t *keys, size_t room, uint32_t *weights, size_t weight_room);
 
 /* ---- Version and texts ---- */
 
@@ -311,15 +313,17 @@ int64_t aug_keys(aug_user *user, uint32_t from, uint32_t *out, size_t room) {
     OF_PLACES(NULL, 0, aug_try_keys(user, from, ARRAY(out), room));
 }
 
+/* The same for two arrays. */
+#define OF_BOTH(call) do { \
+    int64_t code_ = refuses(user, NULL, 0, keys, room); \
+    if (code_ == AUG_OK) code_ = refuses(user, NULL, 0, weights, room); \
+    return code_ == AUG_OK ? (call) : code_; \
+} while (0)
+
 int64_t aug_list(aug_user *user, uint32_t from, uint32_t *keys, uint32_t *weights, size_t room) {
-    int64_t some[64];
-    int64_t code = refuses(user, NULL, 0, weights, room);
-    int64_t count = code == AUG_OK ? aug_keys(user, from, keys, room) : code;
-    for (int64_t done = 0; done < count;) {
-        size_t n = count - done < 64 ? (size_t)(count - done) : 64;
-        code = aug_try_weight_all(user, keys + done, n, some, n);
-        if (code != AUG_OK) return code;
-        for (size_t i = 0; i < n; i++) weights[done++] = (uint32_t)some[i];
-    }
-    return count;
+    OF_BOTH(aug_try_list(user, from, ARRAY(keys), room, ARRAY(weights), room));
+}
+
+int64_t aug_list_back(aug_user *user, uint32_t below, uint32_t *keys, uint32_t *weights, size_t room) {
+    OF_BOTH(aug_try_list_back(user, below, ARRAY(keys), room, ARRAY(weights), room));
 }

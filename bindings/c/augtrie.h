@@ -250,6 +250,9 @@ AUG_NODISCARD int64_t aug_keys(aug_user *user, uint32_t from, uint32_t *out, siz
 /* The same, with the weight of each member at the place of `weights` with its index. Both arrays have `room` places. */
 AUG_NODISCARD int64_t aug_list(aug_user *user, uint32_t from, uint32_t *keys, uint32_t *weights, size_t room);
 
+/* The same of the greatest members below `below`, falling. To list all, begin with AUG_MOST_KEYS, and go on from the last one. */
+AUG_NODISCARD int64_t aug_list_back(aug_user *user, uint32_t below, uint32_t *keys, uint32_t *weights, size_t room);
+
 /* ---- The calls that never wait: what they may answer beside that is AUG_AGAIN. No handle, array or result may be null. ---- */
 
 AUG_NODISCARD int64_t aug_try_insert(aug_user *user, uint32_t key);

@@ -187,6 +187,7 @@ def a_part_is_listed_both_ways():
                 want = [it for it in members if above(it) and below(it)]
                 assert list(trie.irange(low, high, closed)) == want
                 assert list(trie.irange(low, high, inclusive=closed, reverse=True)) == want[::-1]
+                assert list(trie.items(low, high, closed)) == [(it, 3 * it) for it in want]
                 assert list(trie.items(low, high, closed, True)) == [(it, 3 * it) for it in want[::-1]]
 
 

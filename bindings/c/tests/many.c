@@ -13,6 +13,53 @@ static void list_all(aug_user *user) {
     free(places);
 }
 
+/* Lists of `count` members at both ends, `step` apart from `first` on, for each room: what is written, and the places behind. */
+static void list_members(aug_user *user, uint32_t first, uint32_t step, uint32_t count) {
+    static const uint32_t rooms[] = {0, 1, 31, 32, 33, 63, 64, 65, 96, 200};
+    for (size_t r = 0; r < sizeof rooms / sizeof *rooms; r++) {
+        uint32_t keys[200] = {0}, weights[200] = {0}, alone[200] = {0}, room = rooms[r];
+        uint32_t told = room < count ? room : count;
+        for (uint32_t i = 0; i < 200; i++) keys[i] = weights[i] = alone[i] = 123456;
+        WANT(aug_keys(user, first, alone, room), told);
+        WANT(aug_list(user, first, keys, weights, room), told);
+        for (uint32_t i = 0; i < 200; i++) {
+            uint32_t key = i < told ? first + i * step : 123456;
+            WANT(keys[i] == key && alone[i] == key && weights[i] == (i < told ? key + 7 : 123456), 1);
+        }
+        for (uint32_t i = 0; i < 200; i++) keys[i] = weights[i] = 123456;
+        WANT(aug_list_back(user, first + (count - 1) * step + 1, keys, weights, room), told);
+        for (uint32_t i = 0; i < 200; i++) {
+            uint32_t key = i < told ? first + (count - 1 - i) * step : 123456;
+            WANT(keys[i] == key && weights[i] == (i < told ? key + 7 : 123456), 1);
+        }
+    }
+}
+
+/* Sparse members up to the last key, dense ones, and none. */
+static void list_pages(void) {
+    static const uint32_t sets[][3] = {{0, 1, 100}, {65436, 1, 100}, {15, 1024, 64}, {7, 655, 101}, {65535, 1, 1}};
+    for (size_t s = 0; s < sizeof sets / sizeof *sets; s++) {
+        aug_trie trie = AUG_ZEROED;
+        aug_user user = AUG_ZEROED;
+        uint32_t first = sets[s][0], step = sets[s][1], count = sets[s][2], keys[2], weights[2];
+        WANT(aug_open(&trie, 16, 1, 1 << 26), 0);
+        WANT(aug_user_open(&trie, &user), 0);
+        WANT(aug_look(&user), 0);
+        WANT(aug_list(&user, 0, keys, weights, 2), 0);
+        WANT(aug_list_back(&user, AUG_MOST_KEYS, keys, weights, 2), 0);
+        WANT(aug_look_done(&user), 0);
+        for (uint32_t i = 0; i < count; i++) WANT(aug_put(&user, first + i * step, first + i * step + 7), 1);
+        WANT(aug_look(&user), 0);
+        list_members(&user, first, step, count);
+        WANT(aug_list_back(&user, first, keys, weights, 2), 0);
+        WANT(aug_list(&user, first + (count - 1) * step + 1, keys, weights, 2), 0);
+        WANT(aug_list_back(&user, UINT32_MAX, keys, weights, 1) == 1 && keys[0] == first + (count - 1) * step, 1);
+        WANT(aug_look_done(&user), 0);
+        WANT(aug_user_close(&user), 0);
+        WANT(aug_close(&trie, NULL), 0);
+    }
+}
+
 /* A call goes on from where its progress is, and leaves a progress as it is that is none of its array. 7 goes in and out again. */
 static void go_on(aug_user *user) {
     const uint32_t in[] = {5, 5, 7, 1}, out[] = {7, 9}, bad[] = {16, 3}, weights[] = {30, 40, 50, 60}, long_one[17] = {0};
@@ -62,16 +109,20 @@ int main(void) {
     int64_t weighs[4] = {9, 9, 9, 9};
 
     read_texts();
+    list_pages();
     WANT(aug_insert_all(&user, in, 4), AUG_CLOSED);
     WANT(aug_rank_all(&user, asked, 3, ranks, 4), AUG_CLOSED);
     WANT(aug_has_all(NULL, asked, 3, bits, 4), AUG_CLOSED);
     WANT(aug_list(NULL, 0, ranks, more, 4), AUG_CLOSED);
+    WANT(aug_list_back(NULL, 9, ranks, more, 4), AUG_CLOSED);
     WANT(aug_weight_all(NULL, asked, 3, weighs, 4), AUG_CLOSED);
     WANT(ranks[0], 9);
     WANT(aug_open(&trie, 4, 1, 1 << 20), 0);
     WANT(aug_user_open(&trie, &user), 0);
     WANT(aug_rank_all(&user, asked, 3, ranks, 4), AUG_NOT_LOOKING);
     WANT(aug_keys(&user, 0, ranks, 4), AUG_NOT_LOOKING);
+    WANT(aug_list(&user, 0, ranks, more, 4), AUG_NOT_LOOKING);
+    WANT(aug_list_back(&user, 9, ranks, more, 4), AUG_NOT_LOOKING);
     WANT(aug_weight_all(&user, asked, 3, weighs, 4), AUG_NOT_LOOKING);
     WANT(ranks[0] == 9 && weighs[0] == 9, 1);
 
@@ -123,6 +174,9 @@ int main(void) {
     WANT(ranks[0] == 5 && more[0] == 5 && more[1] == 40, 1);
     WANT(aug_list(&user, 0, ranks, NULL, 4), AUG_BAD_LENGTH);
     WANT(aug_list(&user, 0, NULL, NULL, 0), 0);
+    WANT(aug_list_back(&user, 9, NULL, more, 4), AUG_BAD_LENGTH);
+    WANT(aug_list_back(&user, 9, ranks, more, (size_t)-1), AUG_BAD_LENGTH);
+    WANT(aug_list_back(&user, 9, NULL, NULL, 0), 0);
     WANT(aug_keys(&user, 6, ranks, 4), 0);
     WANT(aug_keys(&user, 4000000000u, ranks, 4), 0);
     WANT(aug_keys(&user, 0, NULL, 4), AUG_BAD_LENGTH);

@@ -274,15 +274,15 @@ static void iterator_free(PyObject *self) {
 
 /* Lists the next members. Answers how many, or a code. */
 static int64_t list_next(Iterator *iterator, aug_user *user) {
-    int64_t low = aug_rank(user, iterator->from), high = aug_rank(user, iterator->to);
-    int64_t from = iterator->from, count = high - low < (int64_t)iterator->room ? high - low : (int64_t)iterator->room;
-    if (iterator->is_reverse && count > 0) from = aug_select(user, (uint32_t)(high - count));
-    if (low < 0 || high < 0 || from < 0) return AUG_CLOSED;
-    if (count > 0 && iterator->has_weights) count = aug_list(user, (uint32_t)from, iterator->keys, iterator->weights, (size_t)count);
-    else if (count > 0) count = aug_keys(user, (uint32_t)from, iterator->keys, (size_t)count);
-    if (count <= 0) iterator->from = iterator->to;
-    else if (iterator->is_reverse) iterator->to = iterator->keys[0];
-    else iterator->from = iterator->keys[count - 1] + 1;
+    uint32_t *keys = iterator->keys, *weights = iterator->weights, from = iterator->from, to = iterator->to;
+    size_t room = iterator->room;
+    int64_t count = iterator->is_reverse ? aug_list_back(user, to, keys, weights, room)
+        : iterator->has_weights ? aug_list(user, from, keys, weights, room) : aug_keys(user, from, keys, room);
+    int more = count == (int64_t)room;
+    for (; count > 0 && (keys[count - 1] < from || keys[count - 1] >= to); count--) more = 0;
+    if (!more) iterator->from = to;
+    else if (iterator->is_reverse) iterator->to = keys[count - 1];
+    else iterator->from = keys[count - 1] + 1;
     iterator->next = 0;
     iterator->count = count > 0 ? (size_t)count : 0;
     if (iterator->room < PART) iterator->room *= 2;
@@ -301,8 +301,7 @@ static PyObject *iterator_next(PyObject *self) {
         if (answer < 0) return raise_code(answer);
     }
     if (iterator->next == iterator->count) return NULL;
-    size_t at = iterator->is_reverse ? iterator->count - 1 - iterator->next : iterator->next;
-    iterator->next++;
+    size_t at = iterator->next++;
     if (!iterator->has_weights) return PyLong_FromUnsignedLong(iterator->keys[at]);
     return Py_BuildValue("(kk)", (unsigned long)iterator->keys[at], (unsigned long)iterator->weights[at]);
 }

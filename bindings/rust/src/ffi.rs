@@ -105,9 +105,9 @@ unsafe extern "C" {
     pub fn aug_rank_all(user: &mut User, keys: *const u32, n: usize, out: *mut u32, room: usize) -> i64;
     pub fn aug_has_all(user: &mut User, keys: *const u32, n: usize, out: *mut u8, room: usize) -> i64;
     pub fn aug_weight_all(user: &mut User, keys: *const u32, n: usize, out: *mut i64, room: usize) -> i64;
-    // Members are listed from both ends here, by `aug_select` and `aug_weight`, which these two ask as well.
+    // Members are listed with their weights here.
     #[expect(dead_code)]
     pub fn aug_keys(user: &mut User, from: u32, out: *mut u32, room: usize) -> i64;
-    #[expect(dead_code)]
     pub fn aug_list(user: &mut User, from: u32, keys: *mut u32, weights: *mut u32, room: usize) -> i64;
+    pub fn aug_list_back(user: &mut User, below: u32, keys: *mut u32, weights: *mut u32, room: usize) -> i64;
 }

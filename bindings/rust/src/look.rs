@@ -3,7 +3,7 @@ use crate::ffi::{self, Span};
 use crate::user::User;
 use std::cell::RefCell;
 use std::iter::FusedIterator;
-use std::ops::{Bound, Range, RangeBounds};
+use std::ops::{Bound, RangeBounds};
 
 /// A look at the set: a snapshot, which stays as it is until [`again`](Look::again). All its answers agree with one another. Any key may be
 /// asked for.
@@ -161,7 +161,8 @@ impl<'user> Look<'user> {
     /// The members in an interval with their weights, rising.
     pub fn keys(&self, keys: impl RangeBounds<u32>) -> Iter<'_, 'user> {
         let (from, to) = ends(keys);
-        Iter { look: self, indices: self.rank(from)..self.rank(to) }
+        let left = self.rank(to).saturating_sub(self.rank(from));
+        Iter { look: self, left, front: End::at(from), back: End::at(to) }
     }
 }
 
@@ -203,18 +204,49 @@ impl<'a, 'user> IntoIterator for &'a Look<'user> {
     }
 }
 
-/// Members of a look with their weights, from both ends. It asks for each when it comes to it, and keeps none.
+/// Members of a look with their weights, from both ends. It lists up to 32 at a time at each end, and keeps those.
 #[derive(Debug, Clone)]
 #[must_use = "an iterator lists nothing by itself"]
 pub struct Iter<'a, 'user> {
     look: &'a Look<'user>,
-    indices: Range<u32>,
+    // How many are still to come, from either end.
+    left: u32,
+    front: End,
+    back: End,
 }
 
-impl Iter<'_, '_> {
-    fn member(&self, index: u32) -> Option<(u32, u32)> {
-        let key = self.look.select(index)?;
-        Some((key, self.look.get(key)?))
+// The call that lists members at an end.
+type List = unsafe extern "C" fn(&mut ffi::User, u32, *mut u32, *mut u32, usize) -> i64;
+
+// The members that were listed at an end, and the key from which more are.
+#[derive(Debug, Clone)]
+struct End {
+    keys: [u32; 32],
+    weights: [u32; 32],
+    next: usize,
+    count: usize,
+    key: u32,
+    // How many to list then: few at first, since one may be all that is asked for.
+    room: usize,
+}
+
+impl End {
+    fn at(key: u32) -> End {
+        End { keys: [0; 32], weights: [0; 32], next: 0, count: 0, key, room: 4 }
+    }
+
+    // The next member. More are listed from the last one's key plus `past`.
+    fn member(&mut self, look: &Look<'_>, list: List, past: u32) -> Option<(u32, u32)> {
+        if self.next == self.count {
+            // SAFETY: both arrays have at least `room` places, and nobody else has them.
+            let count = look.ask(|user| unsafe { list(user, self.key, self.keys.as_mut_ptr(), self.weights.as_mut_ptr(), self.room) })?;
+            (self.next, self.count) = (0, count as usize);
+            self.key = self.keys[self.count.checked_sub(1)?] + past;
+            self.room = self.keys.len().min(2 * self.room);
+        }
+        let member = (self.keys[self.next], self.weights[self.next]);
+        self.next += 1;
+        Some(member)
     }
 }
 
@@ -222,19 +254,19 @@ impl Iterator for Iter<'_, '_> {
     type Item = (u32, u32);
 
     fn next(&mut self) -> Option<(u32, u32)> {
-        let index = self.indices.next()?;
-        self.member(index)
+        self.left = self.left.checked_sub(1)?;
+        self.front.member(self.look, ffi::aug_list, 1)
     }
 
     fn size_hint(&self) -> (usize, Option<usize>) {
-        self.indices.size_hint()
+        (self.left as usize, Some(self.left as usize))
     }
 }
 
 impl DoubleEndedIterator for Iter<'_, '_> {
     fn next_back(&mut self) -> Option<(u32, u32)> {
-        let index = self.indices.next_back()?;
-        self.member(index)
+        self.left = self.left.checked_sub(1)?;
+        self.back.member(self.look, ffi::aug_list_back, 0)
     }
 }
 

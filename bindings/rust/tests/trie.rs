@@ -110,6 +110,28 @@ fn from_both_ends(mut iter: augtrie::Iter, drawn: &mut Drawn) -> Vec<(u32, u32)>
 }
 
 #[test]
+fn both_ends_of_a_list_meet() -> Result<(), Error> {
+    for (first, step, count) in [(0, 1, 0), (0, 1, 1), (65_535, 1, 1), (0, 1, 100), (65_436, 1, 100), (15, 1024, 64), (7, 655, 101)] {
+        let trie = Trie::new(16, 1, 1 << 24)?;
+        let mut user = trie.user()?;
+        let members: Vec<(u32, u32)> = (0..count).map(|i| (first + i * step, i)).collect();
+        for (key, weight) in &members {
+            assert_eq!(user.put(*key, *weight), Ok(Put::Accepted));
+        }
+        let look = user.look()?;
+        assert!(look.iter().eq(members.iter().copied()) && look.iter().rev().eq(members.iter().rev().copied()));
+        for at_front in 0..members.len() {
+            let mut iter = look.keys(first..);
+            assert!(iter.by_ref().take(at_front).eq(members[..at_front].iter().copied()));
+            assert!(iter.clone().eq(members[at_front..].iter().copied()));
+            assert!(iter.by_ref().rev().eq(members[at_front..].iter().rev().copied()));
+            assert_eq!((iter.next(), iter.next_back(), iter.len()), (None, None, 0));
+        }
+    }
+    Ok(())
+}
+
+#[test]
 fn all_calls_answer_as_a_map_does() -> Result<(), Error> {
     let mut drawn = Drawn(7);
     for bits in 1..=16 {

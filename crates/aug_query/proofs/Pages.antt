@@ -16,7 +16,7 @@ use Rattle.aug_query.specs.Tree.{IsTreeSet}
 use Rattle.aug_query.specs.Yields.{members_from, members_below}
 use Rattle.aug_query.specs.declared.descent.pages.Side.{Side}
 use Rattle.aug_query.specs.declared.descent.pages.Side.TheVariants.{From, Below}
-use Rattle.aug_query.specs.inside.Pages.{Reaches, crosses, key_of, part_of, first_place, second_place}
+use Rattle.aug_query.specs.inside.Pages.{Reaches, crosses, part_of, place_of_first, place_of_second}
 use Rattle.aug_query.specs.Descend.{Descends}
 use Rattle.aug_query.specs.declared.loaded.Loaded.{Loaded}
 use Rattle.aug_query.proofs.Descending.{further}
@@ -131,7 +131,7 @@ module _ (level l place : ℕ) (e : l + 1 ≡ level) where
 
   -- a node gives what its two children give
   pub part_children : (set : SetFacts) (side : Side) → IsTreeSet set → part_of side set.pairs (first_key level place) (end_key level place)
-      ≡ part_of side set.pairs (first_key l (first_place side place)) (end_key l (first_place side place)) ++ part_of side set.pairs (first_key l (second_place side place)) (end_key l (second_place side place))
+      ≡ part_of side set.pairs (first_key l (place_of_first side place)) (end_key l (place_of_first side place)) ++ part_of side set.pairs (first_key l (place_of_second side place)) (end_key l (place_of_second side place))
   part_children set (From k) is =
       from_cut set k (first_key level place) (end_key l (2 * place)) (end_key level place) is low_half high_half
       ∙ ap (λ (n : ℕ). weighted_range_of set.pairs (max n k) (end_key l (2 * place)) ++ weighted_range_of set.pairs (max (end_key l (2 * place)) k) (end_key level place)) (sym begins)
@@ -144,12 +144,12 @@ module _ (level l place : ℕ) (e : l + 1 ≡ level) where
       ∙ ap (λ (n : ℕ). left ++ weighted_range_of set.pairs (end_key l (2 * place)) (min n k)) (sym ends)) ∙ reverse-append left right
 
   -- and only one of them has some keys on the side and others not, if it has
-  pub one_crosses : (side : Side) → crosses side (first_key l (first_place side place)) (end_key l (first_place side place)) + crosses side (first_key l (second_place side place)) (end_key l (second_place side place)) ≤ crosses side (first_key level place) (end_key level place)
+  pub one_crosses : (side : Side) → crosses side (first_key l (place_of_first side place)) (end_key l (place_of_first side place)) + crosses side (first_key l (place_of_second side place)) (end_key l (place_of_second side place)) ≤ crosses side (first_key level place) (end_key level place)
   one_crosses (From k) = omega (arith, begins, ends, low_half, high_half)
   one_crosses (Below k) = omega (arith, begins, ends, low_half, high_half)
 
   -- how many members the second child covers
-  pub second_count : (set low high : SetFacts) (side : Side) (p q n some : ℕ) → IsTreeSet set → low ≡ set → high ≡ set → p ≡ first_place side place → q ≡ second_place side place → n ≡ length (keys_below (list_of set) level place) → some ≡ length (keys_below (list_of low) l p)
+  pub second_count : (set low high : SetFacts) (side : Side) (p q n some : ℕ) → IsTreeSet set → low ≡ set → high ≡ set → p ≡ place_of_first side place → q ≡ place_of_second side place → n ≡ length (keys_below (list_of set) level place) → some ≡ length (keys_below (list_of low) l p)
       → (some ≤ n) × (n - some ≡ length (keys_below (list_of high) l q))
   second_count set low high (From k) p q n some is same alike at next all counts =
       let both = children_length (list_of set) level l place (set_rises is) e in
@@ -249,7 +249,7 @@ pub part_empty : (set : SetFacts) (side : Side) (level place n : ℕ) → IsTree
 part_empty set (From k) level place n is counts none = inner_none set (first_key level place) (max (first_key level place) k) (end_key level place) (end_key level place) is (sym counts ∙ none) (le-max_left (first_key level place) k) (le_refl (end_key level place))
 part_empty set (Below k) level place n is counts none = ap reverse (inner_none set (first_key level place) (first_key level place) (min (end_key level place) k) (end_key level place) is (sym counts ∙ none) (le_refl (first_key level place)) (min-le_left (end_key level place) k))
 
-module _ (level l place : ℕ) (e : l + 1 ≡ level) (side : Side) (p q : ℕ) (at : p ≡ first_place side place) (next : q ≡ second_place side place) where
+module _ (level l place : ℕ) (e : l + 1 ≡ level) (side : Side) (p q : ℕ) (at : p ≡ place_of_first side place) (next : q ≡ place_of_second side place) where
   -- a page after the parts of both children, where their sets and places are written in another way
   pub both_given : (set low high : SetFacts) (old mid new : List (ℕ × ℕ)) → IsTreeSet set → low ≡ set → high ≡ set → mid ≡ old ++ take (32 - length old) (part_of side low.pairs (first_key l p) (end_key l p))
       → new ≡ mid ++ take (32 - length mid) (part_of side high.pairs (first_key l q) (end_key l q)) → new ≡ old ++ take (32 - length old) (part_of side set.pairs (first_key level place) (end_key level place))
@@ -257,7 +257,7 @@ module _ (level l place : ℕ) (e : l + 1 ≡ level) (side : Side) (p q : ℕ) (
       let part = λ (z : ℕ). part_of side set.pairs (first_key l z) (end_key l z) in
       let mine = ap (λ (s : SetFacts). part_of side s.pairs (first_key l p) (end_key l p)) same ∙ ap part at in
       let other = ap (λ (s : SetFacts). part_of side s.pairs (first_key l q) (end_key l q)) alike ∙ ap part next in
-      page_joined 32 old mid new (part (first_place side place)) (part (second_place side place)) (first ∙ ap (λ (xs : List (ℕ × ℕ)). old ++ take (32 - length old) xs) mine) (then ∙ ap (λ (xs : List (ℕ × ℕ)). mid ++ take (32 - length mid) xs) other)
+      page_joined 32 old mid new (part (place_of_first side place)) (part (place_of_second side place)) (first ∙ ap (λ (xs : List (ℕ × ℕ)). old ++ take (32 - length old) xs) mine) (then ∙ ap (λ (xs : List (ℕ × ℕ)). mid ++ take (32 - length mid) xs) other)
       ∙ ap (λ (xs : List (ℕ × ℕ)). old ++ take (32 - length old) xs) (sym (part_children level l place e set side is))
 
   -- what both give, and where both have keys on either side
@@ -282,6 +282,16 @@ module _ (level l place : ℕ) (e : l + 1 ≡ level) (side : Side) (p q : ℕ) (
         let first = further on (further on child count (le_refl _) (le_refl _) (le_refl _) (le_refl _)) walk (le_refl _) (le_refl _) (le_refl _) (le_refl _) in
         let next = further on first other (le_refl _) (le_refl _) (le_refl _) (le_refl _) in
         further on next rest (part_nodes level l _ _ _ e few some) (part_counts level l _ _ _ e few some) (le_refl _) (le_refl _)
+
+    -- those of the descent into the first child alone, if the other one gives nothing
+    pub first_descends : {X : Type 0} {a b c d : Tree} (old mid xs ys : List X) → mid ≡ old ++ xs → mid ≡ mid ++ ys → 1 ≤ length mid - length old + crosses side (first_key level place) (end_key level place)
+        → Descends set_of loads_of Names KeepsRest 1 0 0 0 a b → Descends set_of loads_of Names KeepsRest 0 1 0 0 b c
+        → Descends set_of loads_of Names KeepsRest (2 * l * (length mid - length old + crosses side (first_key l p) (end_key l p))) (l * (length mid - length old + crosses side (first_key l p) (end_key l p))) 0 0 c d
+        → Descends set_of loads_of Names KeepsRest (2 * level * (length mid - length old + crosses side (first_key level place) (end_key level place))) (level * (length mid - length old + crosses side (first_key level place) (end_key level place))) 0 0 a d
+    first_descends old mid xs ys front back some child count walk =
+        let few = both_few old mid mid xs ys front back in
+        let low : length mid - length old + crosses side (first_key l p) (end_key l p) + 0 ≤ length mid - length old + crosses side (first_key level place) (end_key level place) = omega (arith, few) in
+        further on (further on child count (le_refl _) (le_refl _) (le_refl _) (le_refl _)) walk (omega (arith, part_nodes level l _ 0 _ e low some)) (omega (arith, part_counts level l _ 0 _ e low some)) (le_refl _) (le_refl _)
 
 -- the keys of a page have few bits
 pub page_keys : (set : SetFacts) (k : ℕ) (items : List (ℕ × ℕ)) → IsTreeSet set → items ≡ take 32 (members_from set k) → All (λ p. p.0 < 2 ^ 16) items

@@ -24,10 +24,10 @@ abbrev pub crosses : Side → ℕ → ℕ → ℕ
 crosses side a b = min 1 (min (key_of side - a) (b - key_of side))
 
 -- the place of the child whose members come first, and that of the other one
-abbrev pub first_place : Side → ℕ → ℕ
-first_place (From k) place = 2 * place
-first_place (Below k) place = 2 * place + 1
+abbrev pub place_of_first : Side → ℕ → ℕ
+place_of_first (From k) place = 2 * place
+place_of_first (Below k) place = 2 * place + 1
 
-abbrev pub second_place : Side → ℕ → ℕ
-second_place (From k) place = 2 * place + 1
-second_place (Below k) place = 2 * place
+abbrev pub place_of_second : Side → ℕ → ℕ
+place_of_second (From k) place = 2 * place + 1
+place_of_second (Below k) place = 2 * place

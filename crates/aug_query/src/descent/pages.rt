@@ -5,7 +5,7 @@ ghost use Rattle.aug_model.specs.NodeKeys.{first_key, end_key, keys_below};
 ghost use Rattle.aug_query.specs.Descend.{Descends, loads};
 ghost use Rattle.aug_query.specs.Tree.{IsTreeSet};
 ghost use Rattle.aug_query.specs.Yields.{members_from, members_below};
-ghost use Rattle.aug_query.specs.inside.Pages.{Reaches, crosses, first_place, second_place, part_of};
+ghost use Rattle.aug_query.specs.inside.Pages.{Reaches, crosses, place_of_first, place_of_second, part_of};
 
 use crate::{Descend, Query};
 use arrayvec::ArrayVec;
@@ -95,12 +95,16 @@ fn put_part<A: Monoid, B: Monoid, D: Descend<A, B>>(
     let (child, at) = side.first_child(tree, level - 1, place, node);
     let some = tree.count(level - 1, at, &child);
     put_part(tree, side, level - 1, at, &child, some, page);
+    if some == count || page.is_full() {
+        return;
+    }
     let (child, at) = side.second_child(tree, level - 1, place, node);
     put_part(tree, side, level - 1, at, &child, count - some, page);
 }
 
 impl Side {
     // Whether a node covers keys on this side.
+    #[inline(always)]
     fn reaches<A: Monoid, B: Monoid, D: Descend<A, B>>(
         self,
         tree: &D,
@@ -118,6 +122,7 @@ impl Side {
     }
 
     // The child whose members come first, and its place.
+    #[inline(always)]
     fn first_child<A: Monoid, B: Monoid, D: Descend<A, B>>(
         self,
         tree: &mut D,
@@ -127,7 +132,7 @@ impl Side {
     ) -> (D::Name, u32)
         requires { D.Names tree.old (level + 1) place node.now }
         ensures name { D.Names tree.new level result.1 result.0 }
-        ensures place { result.1 ≡ first_place self place }
+        ensures place { result.1 ≡ place_of_first self place }
         ensures descends { Descends D.set_of D.loads_of D.Names D.KeepsRest 1 0 0 0 tree.old tree.new }
     {
         match self {
@@ -137,6 +142,7 @@ impl Side {
     }
 
     // The other child, and its place.
+    #[inline(always)]
     fn second_child<A: Monoid, B: Monoid, D: Descend<A, B>>(
         self,
         tree: &mut D,
@@ -146,7 +152,7 @@ impl Side {
     ) -> (D::Name, u32)
         requires { D.Names tree.old (level + 1) place node.now }
         ensures name { D.Names tree.new level result.1 result.0 }
-        ensures place { result.1 ≡ second_place self place }
+        ensures place { result.1 ≡ place_of_second self place }
         ensures descends { Descends D.set_of D.loads_of D.Names D.KeepsRest 1 0 0 0 tree.old tree.new }
     {
         match self {

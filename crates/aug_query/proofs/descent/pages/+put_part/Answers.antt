@@ -1,12 +1,13 @@
-use Rattle.std.proofs.Common.{true≢false, eqb-true, refl, rules, ◌≡◌, ◌≢◌, ◌+◌, ◌-◌, ◌*◌, ◌<◌, ◌≤◌, List, ◌∷◌, ◌++◌, length, take, min, ap, sym, ◌∙◌, arith, length-append}
+use Rattle.std.proofs.Common.{◌⊎◌, inl, inr, ℕ, true≢false, eqb-true, refl, ◌≡◌, ◌+◌, ◌-◌, ◌<◌, List, ◌++◌, length, take, ap, sym, ◌∙◌, arith}
 use Rattle.std.proofs.lemmas.Bool.{eqb-false}
-use Rattle.aug_model.specs.Keys.{list_of}
-use Rattle.aug_model.specs.NodeKeys.{first_key, end_key}
-use Rattle.aug_query.specs.inside.Pages.{Reaches, crosses, first_place, second_place, part_of}
-use Rattle.aug_query.proofs.Descending.{further, counted}
-use Rattle.aug_query.proofs.Pages.{part_none, part_leaf, second_count, take_one, takes_none, takes_nothing, some_given, both_given, both_descend, part_empty}
+use Rattle.aug_model.specs.Keys.{SetFacts, list_of}
+use Rattle.aug_model.specs.NodeKeys.{first_key, end_key, keys_below}
+use Rattle.aug_query.specs.Tree.{IsTreeSet}
+use Rattle.aug_query.specs.declared.descent.pages.Side.{Side}
+use Rattle.aug_query.specs.inside.Pages.{Reaches, place_of_first, place_of_second, part_of}
+use Rattle.aug_query.proofs.Pages.{part_none, part_leaf, second_count, take_one, takes_none, takes_nothing, some_given, both_given, both_descend, first_descends, part_empty}
 use Rattle.aug_query.proofs.descent.pages.+put_part.Goals as goal
-use Rattle.aug_query.proofs.descent.pages.+put_part.Goals.{then-count-eq0-via-then-count-eq0, then-count-eq0-via-else-count-eq0+then-is_full}
+use Rattle.aug_query.proofs.descent.pages.+put_part.Goals.{then-count-eq0-via-then-count-eq0, then-count-eq0-via-else-count-eq0+then-is_full, then-some-count-via-then-some-count, then-some-count-via-else-some-count+then-is_full-2}
 
 pub returns-then-count-eq0-clause-answer : goal.returns-then-count-eq0-clause-answer
 returns-then-count-eq0-clause-answer g t c =
@@ -74,3 +75,50 @@ returns-clause-descends g t c =
     both_descend c.args.level l c.args.place e c.args.side c.first_child-child.result.1 c.second_child-child.result.1 c.first_child-child.ensures.place c.second_child-child.ensures.place g.met.D.Descend.keeps_on
     c.args.page.now.items c.put_part.new.page.items c.put_part-2.new.page.items _ _ c.put_part.ensures.answer c.put_part-2.ensures.answer some
     c.first_child-child.ensures.descends c.count-some.ensures.descends c.put_part.ensures.descends c.second_child-child.ensures.descends c.put_part-2.ensures.descends
+
+-- the other child gives nothing, if it covers no member or the page is full
+none_more : (set : SetFacts) (side : Side) (level l place n some p : ℕ) (low : SetFacts) (mid : List (ℕ × ℕ)) → IsTreeSet set → l + 1 ≡ level → low ≡ set → p ≡ place_of_first side place → n ≡ length (keys_below (list_of set) level place) → some ≡ length (keys_below (list_of low) l p)
+    → (some ≡ n) ⊎ (32 - length mid ≡ 0) → mid ≡ mid ++ take (32 - length mid) (part_of side set.pairs (first_key l (place_of_second side place)) (end_key l (place_of_second side place)))
+none_more set side level l place n some p low mid is e same at all counts (inl whole) =
+    let rest = second_count level l place e set low set side p (place_of_second side place) n some is same refl at refl all counts in
+    takes_nothing (32 - length mid) mid _ (part_empty set side l (place_of_second side place) (n - some) is rest.1 (omega (arith, whole)))
+none_more set side level l place n some p low mid is e same at all counts (inr full) = takes_none (32 - length mid) mid _ full
+
+pub returns-then-some-count-clause-answer : goal.returns-then-some-count-clause-answer
+returns-then-some-count-clause-answer g t c =
+    let set = g.D.Descend.set_of c.args.tree.now in
+    let node = g.met.D.Descend.name_stands c.args.tree.now _ _ c.args.node.now c.requires.name in
+    let first = c.first_child-child.ensures.descends.same_set in
+    let low = c.count-some.ensures.descends.same_set ∙ first in
+    let l = c.args.level - 1 in
+    let e : l + 1 ≡ c.args.level = omega (arith, c.if-level-eq0.false) in
+    let old = c.args.page.now.items in let mid = c.put_part.new.page.items in
+    let end : (c.count-some.result ≡ c.args.count) ⊎ (32 - length mid ≡ 0) = elim c.then-some-count.branch [
+      | then-some-count-via-then-some-count w ↦ inl w.if-some-count.true
+      | then-some-count-via-else-some-count+then-is_full-2 w ↦ inr (omega (arith, eqb-true _ _ (sym w.if-is_full-2.ensures.value)))
+    ] in
+    let none = none_more set c.args.side c.args.level l c.args.place c.args.count c.count-some.result c.first_child-child.result.1 (g.D.Descend.set_of c.first_child-child.new.tree) mid node.is_tree_set e first c.first_child-child.ensures.place c.requires.count c.count-some.ensures.value end in
+    let given = both_given c.args.level l c.args.place e c.args.side c.first_child-child.result.1 (place_of_second c.args.side c.args.place) c.first_child-child.ensures.place refl
+    set (g.D.Descend.set_of c.count-some.new.self) set old mid mid node.is_tree_set low refl c.put_part.ensures.answer none in
+    given
+
+pub returns-then-some-count-clause-descends : goal.returns-then-some-count-clause-descends
+returns-then-some-count-clause-descends g t c =
+    let set = g.D.Descend.set_of c.args.tree.now in
+    let node = g.met.D.Descend.name_stands c.args.tree.now _ _ c.args.node.now c.requires.name in
+    let first = c.first_child-child.ensures.descends.same_set in
+    let low = c.count-some.ensures.descends.same_set ∙ first in
+    let l = c.args.level - 1 in
+    let e : l + 1 ≡ c.args.level = omega (arith, c.if-level-eq0.false) in
+    let old = c.args.page.now.items in let mid = c.put_part.new.page.items in
+    let end : (c.count-some.result ≡ c.args.count) ⊎ (32 - length mid ≡ 0) = elim c.then-some-count.branch [
+      | then-some-count-via-then-some-count w ↦ inl w.if-some-count.true
+      | then-some-count-via-else-some-count+then-is_full-2 w ↦ inr (omega (arith, eqb-true _ _ (sym w.if-is_full-2.ensures.value)))
+    ] in
+    let none = none_more set c.args.side c.args.level l c.args.place c.args.count c.count-some.result c.first_child-child.result.1 (g.D.Descend.set_of c.first_child-child.new.tree) mid node.is_tree_set e first c.first_child-child.ensures.place c.requires.count c.count-some.ensures.value end in
+    let given = both_given c.args.level l c.args.place e c.args.side c.first_child-child.result.1 (place_of_second c.args.side c.args.place) c.first_child-child.ensures.place refl
+    set (g.D.Descend.set_of c.count-some.new.self) set old mid mid node.is_tree_set low refl c.put_part.ensures.answer none in
+    let room : length old < 32 = omega (arith, eqb-false _ _ (sym c.if-is_full.ensures.value), c.is_full.ensures.fits) in
+    let some = some_given set c.args.side c.args.level c.args.place c.args.count old mid node.is_tree_set c.requires.count c.if-count-eq0.false room (c.if-not-reaches.ensures.0 refl) given in
+    first_descends c.args.level l c.args.place e c.args.side c.first_child-child.result.1 (place_of_second c.args.side c.args.place) c.first_child-child.ensures.place refl g.met.D.Descend.keeps_on
+    old mid _ _ c.put_part.ensures.answer none some c.first_child-child.ensures.descends c.count-some.ensures.descends c.put_part.ensures.descends

@@ -1,7 +1,5 @@
-use Rattle.std.proofs.Common.{◌≡◌, ◌+◌, ◌-◌, ◌≤◌, min, length, take, ap, ◌∙◌, arith, length-append}
-use Rattle.std.proofs.lemmas.List.{length-take}
+use Rattle.std.proofs.Common.{arith}
 use Rattle.aug_model.specs.NodeKeys.{first_key, end_key}
-use Rattle.aug_query.specs.inside.Pages.{crosses, part_of}
 use Rattle.aug_query.proofs.Descending.{further, counted}
 use Rattle.aug_query.proofs.Pages.{page_nodes, page_counts, page_few}
 use Rattle.aug_query.proofs.descent.pages.page_of.Goals as goal

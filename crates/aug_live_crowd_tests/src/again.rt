@@ -1,10 +1,10 @@
 //! Calls that wait for nobody, made again until they are done. They come to what the calls that wait do.
 
-use aug_live::{LiveError, TryError};
+use aug_live::{LiveCounts, LiveError, TryError};
 use aug_live_testing::opening::{
     HandleOf, LiveOf, LookOf, try_closed, try_look, try_renewed, try_rolled, try_update,
 };
-use aug_trie::{Outcome, Request};
+use aug_trie::{Members, Outcome, Request};
 use std::sync::Wait;
 use std::thread::yield_now;
 
@@ -65,13 +65,13 @@ pub(super) fn roll<R: Wait>(rt: &R, live: &mut LiveOf) -> Result<(), LiveError> 
     unreachable!()
 }
 
-/// How many members a trie has at its end, its rounds, and how many keys were put in, as `closed` says it.
-pub(super) fn close<R: Wait>(rt: &R, live: LiveOf) -> Result<(u32, u64, u64), LiveError> {
+/// The end of a trie, or the same trie if it is refused.
+pub(super) fn close<R: Wait>(rt: &R, live: LiveOf) -> Result<(Members, LiveCounts), LiveOf> {
     let mut live = live;
     for _ in rt.forever() {
         match try_closed(live) {
-            Ok((set, counts)) => return Ok((set.size(), counts.rounds, counts.inserts)),
-            Err((_, TryError::Refused(cause))) => return Err(cause),
+            Ok(end) => return Ok(end),
+            Err((same, TryError::Refused(_))) => return Err(same),
             Err((same, TryError::Again(_))) => live = same,
         }
         yield_now();

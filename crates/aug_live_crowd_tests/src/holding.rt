@@ -11,14 +11,16 @@ use std::alloc::Global;
 use std::process::Abort;
 use std::sync::Wait;
 use std::thread;
+use std::thread::Threads;
+use std::time::{Clock, Duration};
 
 // A channel on which a thread says that it got somewhere.
-pub(super) fn signal(rt: &impl Abort, alloc: Global) -> (Sender<()>, Receiver<()>) {
+fn signal(rt: &impl Abort, alloc: Global) -> (Sender<()>, Receiver<()>) {
     unbounded(alloc).expect(rt, "memory")
 }
 
 // Makes an update for which the round has to roll over, once the other thread has its look, and says that it was made.
-pub(super) fn rolls<R: Wait>(rt: &R, hand: HandleOf, held: Receiver<()>, made: Sender<()>) -> bool {
+fn rolls<R: Wait>(rt: &R, hand: HandleOf, held: Receiver<()>, made: Sender<()>) -> bool {
     let mut hand = hand;
     let began = held.recv(rt).is_ok();
     let done = insert(rt, &mut hand, 63);
@@ -26,40 +28,63 @@ pub(super) fn rolls<R: Wait>(rt: &R, hand: HandleOf, held: Receiver<()>, made: S
     began && done.is_ok()
 }
 
-// Takes a look, says so, and asks it again and again. Whether it showed so many members each time, as did a newer snapshot, and the other
-// thread's update was not made meanwhile.
-fn stays<R: Wait + Abort>(
+// Takes a look, says so, and holds it for a second, or for so many questions. Whether it showed four members each time, as did a newer snapshot, and
+// the other thread's update was not made meanwhile.
+fn stays<R: Wait + Abort + Clock>(
     rt: &R,
     hand: HandleOf,
-    members: u32,
+    asks: u32,
     held: Sender<()>,
     made: Receiver<()>,
 ) -> (HandleOf, bool) {
     let mut look = looked(rt, hand);
     let mut right = held.send(rt, ()).is_ok();
-    for _ in 0..5_000 {
-        right &= size(&mut look) == members && made.try_recv(rt).is_err();
+    if asks == 0 {
+        thread::sleep(rt, Duration::from_secs(1));
+    }
+    for _ in 0..asks {
+        right &= size(&mut look) == 4 && made.try_recv(rt).is_err();
     }
     take_newer_snapshot(&mut look);
-    right &= size(&mut look) == members;
+    right &= size(&mut look) == 4;
     (over(look), right)
+}
+
+// One thread holds a look of two handles' trie, and another one's update waits for it. The handle of the look, and whether all was right.
+fn held<R: Threads + Wait + Abort + Sync + Clock>(
+    rt: &R,
+    alloc: Global,
+    hands: (HandleOf, HandleOf),
+    asks: u32,
+) -> (HandleOf, bool) {
+    let (hand, other) = hands;
+    let ((hold, held), (make, made)) = (signal(rt, alloc), signal(rt, alloc));
+    let (done, (other, right)) = thread::join(
+        rt,
+        move || rolls(rt, hand, held, make),
+        move || stays(rt, other, asks, hold, made),
+    );
+    (other, done && right)
+}
+
+/// A roll-over waits for a look that is held for a second, or for so many questions.
+pub(super) fn assert_waits<R: Threads + Wait + Abort + Sync + Clock>(
+    rt: &R,
+    alloc: Global,
+    asks: u32,
+) -> Result<(), OpenError> {
+    let (live, mut hands) = opened(alloc, 6, 2, 0, 4)?;
+    let mut hand = last(rt, &mut hands);
+    equal(rt, fill(rt, &mut hand, 0, 4), 4);
+    let other = last(rt, &mut hands);
+    let (mut other, right) = held(rt, alloc, (hand, other), asks);
+    holds(rt, right);
+    equal(rt, insert(rt, &mut other, 63), Ok(false));
+    equal(rt, closed(rt, live), (5, 2, 5));
+    Ok(())
 }
 
 #[test]
 fn a_roll_over_waits_for_a_look_that_is_held(rt: HostRuntime) -> Result<(), OpenError> {
-    let r = &rt;
-    let (live, mut hands) = opened(r.alloc(), 6, 2, 0, 4)?;
-    let mut hand = last(r, &mut hands);
-    equal(r, fill(r, &mut hand, 0, 4), 4);
-    let other = last(r, &mut hands);
-    let ((hold, held), (make, made)) = (signal(r, r.alloc()), signal(r, r.alloc()));
-    let (done, (mut other, right)) = thread::join(
-        r,
-        move || rolls(r, hand, held, make),
-        move || stays(r, other, 4, hold, made),
-    );
-    holds(r, done && right);
-    equal(r, insert(r, &mut other, 63), Ok(false));
-    equal(r, closed(r, live), (5, 2, 5));
-    Ok(())
+    assert_waits(&rt, rt.alloc(), 5_000)
 }

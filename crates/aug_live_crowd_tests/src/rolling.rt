@@ -2,9 +2,9 @@
 
 use super::again;
 use crate::assertions::{equal, holds};
-use aug_live::{LiveError, OpenError};
+use aug_live::{LiveCounts, LiveError, OpenError};
 use aug_live_testing::opening::{
-    HandleOf, LiveOf, LookOf, closed, has, insert, may_look, opened, over, remove, renewed,
+    HandleOf, LiveOf, LookOf, ended, has, insert, may_look, opened, over, remove, renewed,
 };
 use aug_model::KeySet;
 use aug_trie::{Members, Request};
@@ -102,25 +102,31 @@ fn step<R: Wait>(rt: &R, job: &mut Job, did: &mut Did, seed: u64) -> bool {
     if k >= 1 << job.model.bits() {
         return false;
     }
-    if (seed >> 40) % 2 == 0 {
-        return match made(rt, &mut job.hand, job.waits, k, Request::Insert) {
-            Ok(done) => {
-                did.inserts = did.inserts.saturating_add(u64::from(done));
-                done == job.model.insert(k)
-            }
-            Err(cause) => did.is_over(cause),
-        };
-    }
-    match made(rt, &mut job.hand, job.waits, k, Request::Remove) {
+    let inserts = (seed >> 40) % 2 == 0;
+    let (request, expected) = if inserts {
+        (Request::Insert, job.model.insert(k))
+    } else {
+        (Request::Remove, job.model.remove(k))
+    };
+    match made(rt, &mut job.hand, job.waits, k, request) {
         Ok(done) => {
-            did.removals = did.removals.saturating_add(u64::from(done));
-            done == job.model.remove(k)
+            did.counts(inserts, done);
+            done == expected
         }
         Err(cause) => did.is_over(cause),
     }
 }
 
 impl Did {
+    // Counts a key that was put in or taken out, if it was.
+    fn counts(&mut self, inserts: bool, done: bool) {
+        if inserts {
+            self.inserts = self.inserts.saturating_add(u64::from(done));
+        } else {
+            self.removals = self.removals.saturating_add(u64::from(done));
+        }
+    }
+
     // Notes that the trie was closed, which is the one refusal that may come.
     fn is_over(&mut self, cause: LiveError) -> bool {
         self.closed = true;
@@ -172,7 +178,7 @@ fn jobs(rt: &impl Abort, alloc: Global, hands: Vec<HandleOf>, steps: u32, trying
     jobs
 }
 
-// How many keys threads put in, and how many more than they took out. All that they saw was right, and the trie was closed or not.
+// How many more keys threads put in than they took out, and how many they put in. All that they saw was right, and the trie was closed or not.
 fn summed(rt: &impl Abort, done: Vec<Did>, closed: bool) -> (u64, u64) {
     let mut inserts = 0u64;
     let mut left = 0u64;
@@ -183,122 +189,235 @@ fn summed(rt: &impl Abort, done: Vec<Did>, closed: bool) -> (u64, u64) {
             .saturating_add(did.inserts)
             .saturating_sub(did.removals);
     }
-    (inserts, left)
+    (left, inserts)
 }
 
-// What threads do with handles, and what they come to, as `summed` says it.
+// What is done with a trie while threads work with its handles.
+#[derive(Clone, Copy)]
+enum Beside {
+    Nothing,
+    // The round rolls over so often, by calls that wait for nobody.
+    Roll(u32),
+    // A new handle for the lane 3 comes so often, by calls that wait or by those that wait for nobody. They put key 3 in and take it out in turn.
+    Renew(u32, bool),
+    // It is closed, by a call that waits or by those that wait for nobody.
+    Close(bool),
+}
+
+// Rolls the round over, `times` times, by calls that wait for nobody. Whether each was done in the end.
+fn roll_often<R: Wait>(rt: &R, live: &mut LiveOf, times: u32) -> bool {
+    let mut right = true;
+    for _ in 0..times {
+        right &= again::roll(rt, live) == Ok(());
+    }
+    right
+}
+
+// A new handle for the lane 3.
+fn given<R: Wait>(rt: &R, live: &mut LiveOf, waits: bool) -> Result<HandleOf, LiveError> {
+    if waits {
+        renewed(rt, live, 3)
+    } else {
+        again::renew(rt, live, 3)
+    }
+}
+
+// Puts key 3 in and takes it out in turn, `times` times, each time with a new handle for the lane 3. Whether all was right.
+fn renew_often<R: Wait>(rt: &R, live: &mut LiveOf, times: u32, waits: bool) -> bool {
+    let mut right = true;
+    for number in 0..times {
+        let Ok(mut hand) = given(rt, live, waits) else {
+            return false;
+        };
+        let request = if number % 2 == 0 {
+            Request::Insert
+        } else {
+            Request::Remove
+        };
+        right &= made(rt, &mut hand, true, 3, request) == Ok(true);
+    }
+    right
+}
+
+// The end of a trie, or the trie, if it is not closed.
+type End = Result<(Members, LiveCounts), LiveOf>;
+
+// Does this with a trie. Whether all was right.
+fn is_done<R: Wait>(rt: &R, live: LiveOf, beside: Beside) -> (End, bool) {
+    let mut live = live;
+    let right = match beside {
+        Beside::Nothing => true,
+        Beside::Roll(times) => roll_often(rt, &mut live, times),
+        Beside::Renew(times, waits) => renew_often(rt, &mut live, times, waits),
+        Beside::Close(true) => return (Ok(ended(rt, live)), true),
+        Beside::Close(false) => return (again::close(rt, live), true),
+    };
+    (Err(live), right)
+}
+
+// What threads do with handles, and what is done with their trie beside them.
 fn worked<R: Threads + Wait + Abort + Sync>(
     rt: &R,
-    alloc: Global,
-    hands: Vec<HandleOf>,
-    steps: u32,
-    trying: u32,
-) -> (u64, u64) {
-    let jobs = jobs(rt, alloc, hands, steps, trying);
-    let done = thread::map_vec(rt, jobs, &|job| work(rt, job)).expect(rt, "memory");
-    summed(rt, done, false)
+    jobs: Vec<Job>,
+    live: LiveOf,
+    beside: Beside,
+) -> (Vec<Did>, End) {
+    let (done, (end, right)) = thread::join(
+        rt,
+        || thread::map_vec(rt, jobs, &|job| work(rt, job)),
+        move || is_done(rt, live, beside),
+    );
+    holds(rt, right);
+    (done.expect(rt, "memory"), end)
 }
 
-// How a trie with four handles is used: by threads that make so many calls each, in rounds with spare lanes and with updates for each lane, and how many
-// rounds come of it. If one handle is idle, another one is dropped, and two are used. The calls of the first `trying` threads wait for nobody.
+// How a trie with four handles is used: by threads that make so many calls each, in rounds with spare lanes and with updates for each lane. If one of
+// its handles is not used, it is dropped, and if another one is not, it is idle. The calls of the first `trying` threads wait for nobody.
 #[derive(Clone, Copy)]
 struct Use {
-    idle: bool,
+    used: u32,
     trying: u32,
     steps: u32,
     spare: u32,
     updates: u32,
+    beside: Beside,
+    // How many members and insertions come of what is done beside the threads.
+    more: (u64, u64),
+    // How many rounds come of it.
     least: u64,
     most: u64,
 }
 
-const WAITING: [Use; 3] = [
+// Drops the last handle if it is not used. The one before it, if it is not.
+fn idle_of(hands: &mut Vec<HandleOf>, used: u32) -> Option<HandleOf> {
+    if used < 4 {
+        drop(hands.pop());
+    }
+    if used < 3 { hands.pop() } else { None }
+}
+
+// The set of a trie at its end, which counted what was done with it.
+fn set_of<R: Wait + Abort>(rt: &R, end: End, did: (u64, u64), with: &Use) -> Members {
+    let (set, counts) = match end {
+        Ok(end) => end,
+        Err(live) => ended(rt, live),
+    };
+    let (left, inserts) = did;
+    let (members, made) = with.more;
+    equal(
+        rt,
+        (u64::from(set.size()), counts.inserts),
+        (left.saturating_add(members), inserts.saturating_add(made)),
+    );
+    holds(
+        rt,
+        counts.rounds >= with.least && counts.rounds <= with.most,
+    );
+    set
+}
+
+// Uses a trie, and compares what the threads did with what it counted. The set that it comes to.
+fn use_it<R: Threads + Wait + Abort + Sync>(
+    rt: &R,
+    alloc: Global,
+    with: &Use,
+) -> Result<Members, OpenError> {
+    let (live, mut hands) = opened(alloc, 6, 4, with.spare, with.updates)?;
+    let idle = idle_of(&mut hands, with.used);
+    let jobs = jobs(rt, alloc, hands, with.steps, with.trying);
+    let (done, end) = worked(rt, jobs, live, with.beside);
+    drop(idle);
+    let did = summed(rt, done, matches!(with.beside, Beside::Close(_)));
+    Ok(set_of(rt, end, did, with))
+}
+
+// Uses a trie in each of these ways.
+fn use_each<R: Threads + Wait + Abort + Sync>(
+    rt: &R,
+    alloc: Global,
+    table: &[Use],
+) -> Result<(), OpenError> {
+    for with in table {
+        use_it(rt, alloc, with)?;
+    }
+    Ok(())
+}
+
+const WAITING: &[Use] = &[
     Use {
-        idle: false,
+        used: 4,
         trying: 0,
         steps: 200_000,
         spare: 0,
         updates: 1000,
+        beside: Beside::Nothing,
+        more: (0, 0),
         least: 200,
         most: 801,
     },
     Use {
-        idle: true,
+        used: 2,
         trying: 0,
         steps: 200,
         spare: 0,
         updates: 1,
+        beside: Beside::Nothing,
+        more: (0, 0),
         least: 200,
         most: 401,
     },
     // 80,000 calls. A round has room for 4,000, and uses all of them except those of lanes that were not spent at its end.
     Use {
-        idle: false,
+        used: 4,
         trying: 0,
         steps: 20_000,
         spare: 12,
         updates: 250,
+        beside: Beside::Nothing,
+        more: (0, 0),
         least: 20,
         most: 26,
     },
 ];
 
-// Uses a trie, and compares what the threads did with what it counted.
-fn use_it<R: Threads + Wait + Abort + Sync>(
-    rt: &R,
-    alloc: Global,
-    with: Use,
-) -> Result<(), OpenError> {
-    let (live, mut hands) = opened(alloc, 6, 4, with.spare, with.updates)?;
-    let idle = if with.idle {
-        drop(hands.pop());
-        hands.pop()
-    } else {
-        None
-    };
-    let (inserts, left) = worked(rt, alloc, hands, with.steps, with.trying);
-    drop(idle);
-    let (size, rounds, made) = closed(rt, live);
-    equal(rt, (u64::from(size), made), (left, inserts));
-    holds(rt, rounds >= with.least && rounds <= with.most);
-    Ok(())
-}
-
 #[test]
 fn threads_see_their_own_updates_in_every_round(rt: HostRuntime) -> Result<(), OpenError> {
-    for with in WAITING {
-        use_it(&rt, rt.alloc(), with)?;
-    }
-    Ok(())
+    use_each(&rt, rt.alloc(), WAITING)
 }
 
-const TRYING: [Use; 3] = [
+const TRYING: &[Use] = &[
     Use {
-        idle: true,
+        used: 2,
         trying: 2,
         steps: 200,
         spare: 0,
         updates: 1,
+        beside: Beside::Nothing,
+        more: (0, 0),
         least: 200,
         most: 401,
     },
     // 16,000 calls. A round has room for 800.
     Use {
-        idle: false,
+        used: 4,
         trying: 4,
         steps: 4_000,
         spare: 12,
         updates: 50,
+        beside: Beside::Nothing,
+        more: (0, 0),
         least: 20,
         most: 26,
     },
     // Two threads wait, and two wait for nobody.
     Use {
-        idle: false,
+        used: 4,
         trying: 2,
         steps: 10_000,
         spare: 0,
         updates: 100,
+        beside: Beside::Nothing,
+        more: (0, 0),
         least: 100,
         most: 401,
     },
@@ -306,10 +425,7 @@ const TRYING: [Use; 3] = [
 
 #[test]
 fn threads_that_wait_for_nobody_see_their_own_updates(rt: HostRuntime) -> Result<(), OpenError> {
-    for with in TRYING {
-        use_it(&rt, rt.alloc(), with)?;
-    }
-    Ok(())
+    use_each(&rt, rt.alloc(), TRYING)
 }
 
 // The set that four threads come to, of which the calls of the first `trying` ones wait for nobody.
@@ -318,10 +434,18 @@ fn comes_to<R: Threads + Wait + Abort + Sync>(
     alloc: Global,
     trying: u32,
 ) -> Result<Members, OpenError> {
-    let (live, hands) = opened(alloc, 6, 4, 2, 50)?;
-    worked(rt, alloc, hands, 3_001, trying);
-    let (set, _) = live.close(rt);
-    Ok(set)
+    let with = Use {
+        used: 4,
+        trying,
+        steps: 3_001,
+        spare: 2,
+        updates: 50,
+        beside: Beside::Nothing,
+        more: (0, 0),
+        least: 1,
+        most: u64::MAX,
+    };
+    use_it(rt, alloc, &with)
 }
 
 #[test]
@@ -337,122 +461,92 @@ fn calls_that_are_made_again_reach_the_set_of_calls_that_wait(
     Ok(())
 }
 
-// What a trie comes to at its end.
-fn ended<R: Wait>(rt: &R, live: LiveOf, waits: bool) -> Result<(u32, u64, u64), LiveError> {
-    if waits {
-        Ok(closed(rt, live))
-    } else {
-        again::close(rt, live)
-    }
-}
-
-// A trie ends while threads work, by a call that waits if those of all threads do.
-fn assert_closed<R: Threads + Wait + Abort + Sync>(
-    rt: &R,
-    alloc: Global,
-    trying: u32,
-) -> Result<(), OpenError> {
-    let (live, hands) = opened(alloc, 6, 4, 0, 500)?;
-    let jobs = jobs(rt, alloc, hands, 5_000_000, trying);
-    let (done, end) = thread::join(
-        rt,
-        || thread::map_vec(rt, jobs, &|job| work(rt, job)),
-        move || ended(rt, live, trying == 0),
-    );
-    let (_, left) = summed(rt, done.expect(rt, "memory"), true);
-    let Ok(end) = end else {
-        panic!(rt; "not closed");
-    };
-    equal(rt, u64::from(end.0), left);
-    Ok(())
-}
+const CLOSED: &[Use] = &[
+    // It is closed by a call that waits if those of all threads do.
+    Use {
+        used: 4,
+        trying: 0,
+        steps: 5_000_000,
+        spare: 0,
+        updates: 500,
+        beside: Beside::Close(true),
+        more: (0, 0),
+        least: 1,
+        most: u64::MAX,
+    },
+    Use {
+        used: 4,
+        trying: 2,
+        steps: 5_000_000,
+        spare: 0,
+        updates: 500,
+        beside: Beside::Close(false),
+        more: (0, 0),
+        least: 1,
+        most: u64::MAX,
+    },
+    Use {
+        used: 4,
+        trying: 4,
+        steps: 5_000_000,
+        spare: 0,
+        updates: 500,
+        beside: Beside::Close(false),
+        more: (0, 0),
+        least: 1,
+        most: u64::MAX,
+    },
+];
 
 #[test]
 fn a_trie_is_closed_while_others_work(rt: HostRuntime) -> Result<(), OpenError> {
-    for trying in [0, 2, 4] {
-        assert_closed(&rt, rt.alloc(), trying)?;
-    }
-    Ok(())
+    use_each(&rt, rt.alloc(), CLOSED)
 }
 
-// Rolls the round over, `times` times, by calls that wait for nobody. Whether each was done in the end.
-fn roll_often<R: Wait>(rt: &R, live: &mut LiveOf, times: u32) -> bool {
-    let mut right = true;
-    for _ in 0..times {
-        right &= again::roll(rt, live) == Ok(());
-    }
-    right
-}
+const ROLLED: &[Use] = &[Use {
+    used: 4,
+    trying: 2,
+    steps: 5_000,
+    spare: 0,
+    updates: 1000,
+    beside: Beside::Roll(200),
+    more: (0, 0),
+    least: 201,
+    most: u64::MAX,
+}];
 
 #[test]
 fn a_round_rolls_over_by_calls_that_are_made_again(rt: HostRuntime) -> Result<(), OpenError> {
-    let (mut live, hands) = opened(rt.alloc(), 6, 4, 0, 1000)?;
-    let (r, alloc, trie) = (&rt, rt.alloc(), &mut live);
-    let jobs = jobs(r, alloc, hands, 5_000, 2);
-    let (done, right) = thread::join(
-        r,
-        || thread::map_vec(r, jobs, &|job| work(r, job)),
-        || roll_often(r, trie, 200),
-    );
-    holds(&rt, right);
-    let (_, left) = summed(r, done.expect(r, "memory"), false);
-    let (size, rounds, _) = closed(r, live);
-    equal(&rt, u64::from(size), left);
-    holds(&rt, rounds > 200);
-    Ok(())
+    use_each(&rt, rt.alloc(), ROLLED)
 }
 
-// Puts key 3 in and takes it out in turn, `times` times, each time with a new handle for the lane 3. Whether all was right.
-fn renew_often<R: Wait>(rt: &R, live: &mut LiveOf, times: u32, waits: bool) -> bool {
-    let mut right = true;
-    for number in 0..times {
-        let new = if waits {
-            renewed(rt, live, 3)
-        } else {
-            again::renew(rt, live, 3)
-        };
-        let Ok(mut hand) = new else {
-            return false;
-        };
-        right &= if number % 2 == 0 {
-            insert(rt, &mut hand, 3) == Ok(true)
-        } else {
-            remove(rt, &mut hand, 3) == Ok(true)
-        };
-    }
-    right
-}
-
-// Handles of a lane are made anew, `times` times, while threads work with the others, by calls that wait if those of all threads do.
-fn assert_renewed<R: Threads + Wait + Abort + Sync>(
-    rt: &R,
-    alloc: Global,
-    trying: u32,
-    steps: u32,
-    times: u32,
-) -> Result<u64, OpenError> {
-    let (mut live, mut hands) = opened(alloc, 6, 4, 0, 1000)?;
-    drop(hands.pop());
-    let trie = &mut live;
-    let jobs = jobs(rt, alloc, hands, steps, trying);
-    let (done, right) = thread::join(
-        rt,
-        || thread::map_vec(rt, jobs, &|job| work(rt, job)),
-        || renew_often(rt, trie, times, trying == 0),
-    );
-    holds(rt, right);
-    let (_, left) = summed(rt, done.expect(rt, "memory"), false);
-    let (size, rounds, _) = closed(rt, live);
-    equal(rt, u64::from(size), left.saturating_add(1));
-    Ok(rounds)
-}
+const RENEWED: &[Use] = &[
+    // 151,001 updates, of which each lane has 1,000 in a round, and 15,101.
+    Use {
+        used: 3,
+        trying: 0,
+        steps: 50_000,
+        spare: 0,
+        updates: 1000,
+        beside: Beside::Renew(1001, true),
+        more: (1, 501),
+        least: 50,
+        most: 152,
+    },
+    Use {
+        used: 3,
+        trying: 2,
+        steps: 5_000,
+        spare: 0,
+        updates: 1000,
+        beside: Beside::Renew(101, false),
+        more: (1, 51),
+        least: 5,
+        most: 16,
+    },
+];
 
 #[test]
 fn handles_are_dropped_and_made_anew_while_others_work(rt: HostRuntime) -> Result<(), OpenError> {
-    // 151,001 updates, of which each lane has 1,000 in a round, and 15,001.
-    let rounds = assert_renewed(&rt, rt.alloc(), 0, 50_000, 1001)?;
-    holds(&rt, rounds >= 50 && rounds <= 152);
-    let rounds = assert_renewed(&rt, rt.alloc(), 2, 5_000, 101)?;
-    holds(&rt, rounds >= 5 && rounds <= 16);
-    Ok(())
+    use_each(&rt, rt.alloc(), RENEWED)
 }

@@ -66,25 +66,19 @@ fn assert_told<R: Wait + Abort>(rt: &R, live: &mut LiveOf, from: HandleOf, to: H
     holds(rt, sees(rt, to, 3));
 }
 
-#[test]
-fn a_note_tells_what_its_maker_did_over_roll_overs(rt: HostRuntime) -> Result<(), OpenError> {
-    let (mut live, a, b) = two(&rt, rt.alloc())?;
-    assert_told(&rt, &mut live, a, b);
-    Ok(())
-}
-
-#[test]
-fn a_handle_that_was_replaced_learns_nothing(rt: HostRuntime) -> Result<(), OpenError> {
-    let (mut live, mut a, mut b) = two(&rt, rt.alloc())?;
-    let Ok(note) = b.note(&rt) else {
-        panic!(&rt; "no note");
+// A handle that was replaced learns nothing.
+fn assert_not_learnt<R: Wait + Abort>(rt: &R, live: &mut LiveOf, from: HandleOf, to: HandleOf)
+    requires { to.half.round.table ≡ from.half.round.table }
+{
+    let (mut from, mut to) = (from, to);
+    let Ok(note) = from.note(rt) else {
+        panic!(rt; "no note");
     };
-    drop(renewed(&rt, &mut live, 0));
-    let Err((_, cause)) = a.learn(&rt, note) else {
-        panic!(&rt; "learnt");
+    drop(renewed(rt, live, 0));
+    let Err((_, cause)) = to.learn(rt, note) else {
+        panic!(rt; "learnt");
     };
-    equal(&rt, cause, LiveError::Replaced);
-    Ok(())
+    equal(rt, cause, LiveError::Replaced);
 }
 
 // A handle that was replaced does not come back.
@@ -115,15 +109,6 @@ fn assert_back<R: Wait + Abort>(rt: &R, live: LiveOf, hand: HandleOf)
     equal(rt, (set.size(), counts.handles, counts.missing), (1, 3, 2));
 }
 
-// Not back are the one that was replaced, and the last one of its lane.
-#[test]
-fn a_trie_knows_what_a_handle_did_that_came_back(rt: HostRuntime) -> Result<(), OpenError> {
-    let (mut live, a, b) = two(&rt, rt.alloc())?;
-    assert_not_back(&rt, &mut live, b);
-    assert_back(&rt, live, a);
-    Ok(())
-}
-
 // A handle comes back whose lane a roll-over took, which waited for a look of another.
 fn assert_back_later<R: Wait + Abort>(rt: &R, live: LiveOf, hand: HandleOf, other: HandleOf)
     requires table { hand.half.round.table ≡ live.table }
@@ -141,9 +126,47 @@ fn assert_back_later<R: Wait + Abort>(rt: &R, live: LiveOf, hand: HandleOf, othe
     equal(rt, (set.size(), counts.rounds, counts.missing), (0, 2, 1));
 }
 
+// What two handles of a trie and the trie tell one another.
+#[derive(Clone, Copy)]
+enum Telling {
+    Told,
+    NotLearnt,
+    // Not back are the one that was replaced, and the last one of its lane.
+    Back,
+    BackLater,
+}
+
+// What it comes to over a new trie.
+fn assert_telling<R: Wait + Abort>(rt: &R, alloc: Global, it: Telling) -> Result<(), OpenError> {
+    let (mut live, a, b) = two(rt, alloc)?;
+    match it {
+        Telling::Told => assert_told(rt, &mut live, a, b),
+        Telling::NotLearnt => assert_not_learnt(rt, &mut live, b, a),
+        Telling::Back => {
+            assert_not_back(rt, &mut live, b);
+            assert_back(rt, live, a);
+        }
+        Telling::BackLater => assert_back_later(rt, live, b, a),
+    }
+    Ok(())
+}
+
+#[test]
+fn a_note_tells_what_its_maker_did_over_roll_overs(rt: HostRuntime) -> Result<(), OpenError> {
+    assert_telling(&rt, rt.alloc(), Telling::Told)
+}
+
+#[test]
+fn a_handle_that_was_replaced_learns_nothing(rt: HostRuntime) -> Result<(), OpenError> {
+    assert_telling(&rt, rt.alloc(), Telling::NotLearnt)
+}
+
+#[test]
+fn a_trie_knows_what_a_handle_did_that_came_back(rt: HostRuntime) -> Result<(), OpenError> {
+    assert_telling(&rt, rt.alloc(), Telling::Back)
+}
+
 #[test]
 fn a_handle_comes_back_whose_lane_a_roll_over_took(rt: HostRuntime) -> Result<(), OpenError> {
-    let (live, a, b) = two(&rt, rt.alloc())?;
-    assert_back_later(&rt, live, b, a);
-    Ok(())
+    assert_telling(&rt, rt.alloc(), Telling::BackLater)
 }

@@ -162,6 +162,11 @@ pub fn closed<R: Wait>(rt: &R, live: LiveOf) -> (u32, u64, u64) {
     (set.size(), counts.rounds, counts.inserts)
 }
 
+/// The end of a trie.
+pub fn ended<R: Wait>(rt: &R, live: LiveOf) -> (Members, LiveCounts) {
+    live.close(rt)
+}
+
 /// The end of a trie, or the same trie if that would have to wait.
 pub fn try_closed(live: LiveOf) -> Result<(Members, LiveCounts), (LiveOf, TryError<WasOut>)> {
     live.try_close()

@@ -5,7 +5,7 @@ use super::steps::Reply::{Came, Done, Ended, Finds, Is, Number};
 use super::steps::{Row, rows};
 use crate::assertions::equal;
 use aug_live::OpenError;
-use aug_live_testing::opening::{HandleOf, add, opened, sub};
+use aug_live_testing::opening::{HandleOf, add, ended, opened, sub};
 use aug_trie::Outcome::{Accepted, Replaced, TooGreat, TooLittle, Unchanged};
 use std::alloc::Global;
 use std::process::Abort;
@@ -78,7 +78,7 @@ fn assert_units<R: Threads + Wait + Abort + Sync>(
     let (live, hands) = opened(alloc, 4, 4, 2, 500)?;
     let made = thread::map_vec(rt, hands, &|hand| works(rt, hand, amounts)).expect(rt, "memory");
     equal(rt, made.as_slice(), &[20 * TIMES; 4]);
-    let (set, _) = live.close(rt);
+    let (set, _) = ended(rt, live);
     let left = (amounts.0.saturating_sub(amounts.1)).saturating_mul(4 * TIMES);
     if left == 0 {
         equal(rt, set.size(), 0);

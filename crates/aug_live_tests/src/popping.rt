@@ -7,7 +7,7 @@ use super::steps::Reply::{Came, Done, Ended, Is, Number, Popped, Tried};
 use super::steps::{Row, rows};
 use crate::assertions::equal;
 use aug_live::OpenError;
-use aug_live_testing::opening::{HandleOf, opened, pop, put};
+use aug_live_testing::opening::{HandleOf, ended, opened, pop, put};
 use aug_trie::Outcome::{Accepted, Refused};
 use aug_trie::Pop;
 use aug_trie::Side::{First, Last};
@@ -122,7 +122,7 @@ fn popped_by_four<R: Threads + Wait + Abort + Sync>(
     }
     let all = u64::from(TIMERS) * u64::from(TIMERS - 1) / 2;
     equal(rt, (count, sum, in_order), (TIMERS, all, true));
-    let (set, _) = live.close(rt);
+    let (set, _) = ended(rt, live);
     equal(rt, set.size(), 0);
     Ok(())
 }

@@ -5,7 +5,7 @@ use super::steps::Reply::{Done, Ended, Is, Number};
 use super::steps::{state_of, steps};
 use crate::assertions::equal;
 use aug_live::{Live, OpenError, Plan};
-use aug_live_testing::opening::{HandleOf, LiveOf, insert, no_keys, opened, put};
+use aug_live_testing::opening::{HandleOf, LiveOf, ended, insert, no_keys, opened, put};
 use aug_monoid::{Extent, Sum};
 use aug_trie::{Members, Outcome};
 use std::alloc::Global;
@@ -73,7 +73,7 @@ fn two_keys<R: Wait + Abort>(rt: &R, alloc: Global) -> Result<Members, OpenError
     let mut hand = hands.pop().expect(rt, "a handle");
     equal(rt, put(rt, &mut hand, 3, 30), Ok(Outcome::Accepted));
     equal(rt, insert(rt, &mut hand, 9), Ok(true));
-    let (set, _) = live.close(rt);
+    let (set, _) = ended(rt, live);
     Ok(set)
 }
 
@@ -90,7 +90,7 @@ fn opened_within<R: Wait>(
     set: Members,
 ) -> Result<Members, (Members, OpenError)> {
     let (live, _) = Live::<Sum, Extent>::open(alloc, set, 2, 1 << 16)?;
-    let (set, _) = live.close(rt);
+    let (set, _) = ended(rt, live);
     Ok(set)
 }
 

@@ -5,10 +5,11 @@ use super::own::Band;
 use crate::assertions::equal;
 use aug_live::{Busy, LiveCounts, LiveError, OpenError, TryError};
 use aug_live_testing::opening::{
-    HandleOf, LiveOf, LookOf, add, fill, insert, opened, pop, put, remove, renewed, rolled, sub,
-    try_closed, try_fill, try_look, try_pop, try_renewed, try_rolled, try_update,
+    HandleOf, LiveOf, LookOf, add, ended, fill, has, insert, may_look, opened, over, pop, put,
+    remove, renewed, rolled, size, sub, take_newer_snapshot, try_closed, try_fill, try_look,
+    try_pop, try_renewed, try_rolled, try_update,
 };
-use aug_query::descent::{Has, Pairs, SelectByWeight, Size, Weight};
+use aug_query::descent::{Pairs, SelectByWeight, Weight};
 use aug_trie::{Members, Outcome, Pop, Request, Side};
 use ruled_lock::WasOut;
 use std::alloc::Global;
@@ -142,12 +143,11 @@ fn popped(res: Result<Option<(u32, u32)>, LiveError>) -> Reply {
     }
 }
 
-/// What a call comes to that waits for nobody.
-fn tried(res: Result<(), TryError<WasOut>>) -> Reply {
-    match res {
-        Ok(()) => Reply::Done,
-        Err(TryError::Again(_)) => Reply::Later,
-        Err(TryError::Refused(cause)) => Reply::Fails(cause),
+/// Why a call of the trie was not made that waits for nobody.
+fn held_up(cause: TryError<WasOut>) -> Reply {
+    match cause {
+        TryError::Again(_) => Reply::Later,
+        TryError::Refused(cause) => Reply::Fails(cause),
     }
 }
 
@@ -161,7 +161,7 @@ fn missed(cause: TryError<Busy>) -> Reply {
 }
 
 /// The end of a trie.
-fn ended(end: (Members, LiveCounts)) -> Reply {
+fn came_to(end: (Members, LiveCounts)) -> Reply {
     let (set, counts) = end;
     Reply::Ended(set.size(), counts.rounds, counts.inserts, counts.removals)
 }
@@ -223,12 +223,12 @@ fn listed(alloc: Global, look: &mut LookOf) -> Reply {
 fn by_look(alloc: Global, look: &mut LookOf, act: Act) -> Reply {
     match act {
         Act::Again => {
-            look.again();
+            take_newer_snapshot(look);
             Reply::Done
         }
-        Act::Has(k) => Reply::Is(look.ask(Has(k))),
+        Act::Has(k) => Reply::Is(has(look, k)),
         Act::Weight(k) => Reply::Finds(look.ask(Weight(k))),
-        Act::Size => Reply::Number(look.ask(Size)),
+        Act::Size => Reply::Number(size(look)),
         Act::Pairs => listed(alloc, look),
         Act::Band(level, band) => Reply::Number(look.ask(Band { level, band })),
         Act::SelectByWeight(number) => Reply::Finds(look.ask(SelectByWeight(number))),
@@ -239,115 +239,107 @@ fn by_look(alloc: Global, look: &mut LookOf, act: Act) -> Reply {
 /// Ends a look, if there is one.
 fn end(look: Option<LookOf>) {
     if let Some(look) = look {
-        drop(look.done());
+        drop(over(look));
+    }
+}
+
+/// A look of the handle, by a call that waits or by one that does not. If there is none, the handle, and what the call comes to.
+fn looked<R: Wait>(rt: &R, hand: HandleOf, waits: bool) -> Result<LookOf, (HandleOf, Reply)> {
+    if waits {
+        return match may_look(rt, hand) {
+            Ok(look) => Ok(look),
+            Err((hand, cause)) => Err((hand, Reply::Fails(cause))),
+        };
+    }
+    match try_look(hand) {
+        Ok(look) => Ok(look),
+        Err((hand, cause)) => Err((hand, missed(cause))),
     }
 }
 
 /// The handle takes a look, which ends the one that there is.
-fn look<R: Wait>(rt: &R, state: &mut State) -> Reply {
+fn look<R: Wait>(rt: &R, state: &mut State, waits: bool) -> Reply {
     let Some(hand) = state.hand.take() else {
         return Reply::Not;
     };
-    match hand.look(rt) {
+    match looked(rt, hand, waits) {
         Ok(look) => {
             end(mem::replace(&mut state.look, Some(look)));
             Reply::Done
         }
-        Err((hand, cause)) => {
+        Err((hand, reply)) => {
             state.hand = Some(hand);
-            Reply::Fails(cause)
-        }
-    }
-}
-
-/// The same, if it need not wait.
-fn look_now(state: &mut State) -> Reply {
-    let Some(hand) = state.hand.take() else {
-        return Reply::Not;
-    };
-    match try_look(hand) {
-        Ok(look) => {
-            end(mem::replace(&mut state.look, Some(look)));
-            Reply::Done
-        }
-        Err((hand, cause)) => {
-            state.hand = Some(hand);
-            missed(cause)
+            reply
         }
     }
 }
 
 /// The look is over.
-fn over(state: &mut State) -> Reply {
+fn done_looking(state: &mut State) -> Reply {
     let Some(look) = state.look.take() else {
         return Reply::Not;
     };
-    state.hand = Some(look.done());
+    state.hand = Some(over(look));
     Reply::Done
 }
 
+/// A new handle for a lane, by a call that waits or by one that does not, or what the call comes to.
+fn given<R: Wait>(rt: &R, live: &mut LiveOf, lane: u32, waits: bool) -> Result<HandleOf, Reply> {
+    if waits {
+        return renewed(rt, live, lane).map_err(Reply::Fails);
+    }
+    try_renewed(live, lane).map_err(held_up)
+}
+
 /// A new handle comes in the place of the handle, or it is refused.
-fn renew<R: Wait>(rt: &R, state: &mut State, lane: u32) -> Reply {
+fn renew<R: Wait>(rt: &R, state: &mut State, lane: u32, waits: bool) -> Reply {
     let Some(live) = &mut state.live else {
         return Reply::Not;
     };
-    match renewed(rt, live, lane) {
+    match given(rt, live, lane, waits) {
         Ok(hand) => {
             state.hand = Some(hand);
             Reply::Done
         }
-        Err(cause) => Reply::Fails(cause),
+        Err(reply) => reply,
     }
 }
 
-/// The same, if it need not wait.
-fn renew_now(state: &mut State, lane: u32) -> Reply {
+/// The round rolls over, by a call that waits or by one that does not.
+fn roll<R: Wait>(rt: &R, state: &mut State, waits: bool) -> Reply {
     let Some(live) = &mut state.live else {
         return Reply::Not;
     };
-    match try_renewed(live, lane) {
-        Ok(hand) => {
-            state.hand = Some(hand);
-            Reply::Done
-        }
-        Err(cause) => tried(Err(cause)),
+    if waits {
+        return done(rolled(rt, live));
+    }
+    match try_rolled(live) {
+        Ok(()) => Reply::Done,
+        Err(cause) => held_up(cause),
     }
 }
 
-/// The round rolls over.
-fn roll<R: Wait>(rt: &R, state: &mut State) -> Reply {
-    match &mut state.live {
-        Some(live) => done(rolled(rt, live)),
-        None => Reply::Not,
+/// The end of a trie, by a call that waits or by one that does not. If it has to wait, the trie, and what the call comes to.
+fn closed<R: Wait>(rt: &R, live: LiveOf, waits: bool) -> Result<Reply, (LiveOf, Reply)> {
+    if waits {
+        return Ok(came_to(ended(rt, live)));
     }
-}
-
-/// The same, if it need not wait.
-fn roll_now(state: &mut State) -> Reply {
-    match &mut state.live {
-        Some(live) => tried(try_rolled(live)),
-        None => Reply::Not,
+    match try_closed(live) {
+        Ok(end) => Ok(came_to(end)),
+        Err((live, cause)) => Err((live, held_up(cause))),
     }
 }
 
 /// The trie is closed.
-fn close<R: Wait>(rt: &R, state: &mut State) -> Reply {
-    match state.live.take() {
-        Some(live) => ended(live.close(rt)),
-        None => Reply::Not,
-    }
-}
-
-/// The same, if it need not wait.
-fn close_now(state: &mut State) -> Reply {
+fn close<R: Wait>(rt: &R, state: &mut State, waits: bool) -> Reply {
     let Some(live) = state.live.take() else {
         return Reply::Not;
     };
-    match try_closed(live) {
-        Ok(end) => ended(end),
-        Err((live, cause)) => {
+    match closed(rt, live, waits) {
+        Ok(reply) => reply,
+        Err((live, reply)) => {
             state.live = Some(live);
-            tried(Err(cause))
+            reply
         }
     }
 }
@@ -369,15 +361,15 @@ fn by_one<R: Wait>(rt: &R, alloc: Global, state: &mut State, act: Act) -> Reply 
 /// What is done.
 fn acted<R: Wait>(rt: &R, alloc: Global, state: &mut State, act: Act) -> Reply {
     match act {
-        Act::Look => look(rt, state),
-        Act::Over => over(state),
-        Act::Renew(lane) => renew(rt, state, lane),
-        Act::Roll => roll(rt, state),
-        Act::Close => close(rt, state),
-        Act::TryLook => look_now(state),
-        Act::TryRenew(lane) => renew_now(state, lane),
-        Act::TryRoll => roll_now(state),
-        Act::TryClose => close_now(state),
+        Act::Look => look(rt, state, true),
+        Act::Over => done_looking(state),
+        Act::Renew(lane) => renew(rt, state, lane, true),
+        Act::Roll => roll(rt, state, true),
+        Act::Close => close(rt, state, true),
+        Act::TryLook => look(rt, state, false),
+        Act::TryRenew(lane) => renew(rt, state, lane, false),
+        Act::TryRoll => roll(rt, state, false),
+        Act::TryClose => close(rt, state, false),
         Act::Drop => {
             state.hand = None;
             Reply::Done

@@ -136,63 +136,63 @@ below_behind set at k n up within is =
 pub rises_in : (look : LookFacts) → IsStrictlyIncreasing (list_of (set_of_look look))
 rises_in look = members_rise (snapshot_cut look.half look.snapshot.number)
 
--- what was written of some numbers, after so many of them were told: no more than there is room for
-pub record Wrote (xs before now : List ℕ) (told : ℕ) : Type 0 where
-  pub are : now ≡ take (length before) (take told xs) ++ drop told before
+-- what was written of some numbers, after so many of them were listed: no more than there is room for
+pub record Wrote (xs before now : List ℕ) (listed : ℕ) : Type 0 where
+  pub are : now ≡ take (length before) (take listed xs) ++ drop listed before
 
 pub wrote_none : (xs before : List ℕ) → Wrote xs before before 0
 wrote_none xs before = record { are = sym (ap (λ (ys : List ℕ). ys ++ before) (take_all (length before) [] (omega arith))) }
 
-wrote_long : (xs before now : List ℕ) (told : ℕ) → told ≤ length xs → Wrote xs before now told → length now ≡ length before
-wrote_long xs before now told few w =
-    let head = length-take (length before) (take told xs) in
-    let tail = length-drop told before in
-    omega (arith, ap length w.are, length-append (take (length before) (take told xs)) (drop told before), head, tail, length-take told xs, few)
+wrote_long : (xs before now : List ℕ) (listed : ℕ) → listed ≤ length xs → Wrote xs before now listed → length now ≡ length before
+wrote_long xs before now listed few w =
+    let head = length-take (length before) (take listed xs) in
+    let tail = length-drop listed before in
+    omega (arith, ap length w.are, length-append (take (length before) (take listed xs)) (drop listed before), head, tail, length-take listed xs, few)
 
 -- some more of them are written
-pub wrote_more : (xs before now next ps : List ℕ) (told n : ℕ) → told ≤ length xs → ps ≡ take n (drop told xs) → length ps ≡ n → Wrote xs before now told → next ≡ take told now ++ (take (length now - told) ps ++ drop (told + n) now) → Wrote xs before next (told + n)
-wrote_more xs before now next ps told n few some long w is =
+pub wrote_more : (xs before now next ps : List ℕ) (listed n : ℕ) → listed ≤ length xs → ps ≡ take n (drop listed xs) → length ps ≡ n → Wrote xs before now listed → next ≡ take listed now ++ (take (length now - listed) ps ++ drop (listed + n) now) → Wrote xs before next (listed + n)
+wrote_more xs before now next ps listed n few some long w is =
     let len = length before in
-    let same = wrote_long xs before now told few w in
-    let room : length now - told ≡ len - told = ap (λ (m : ℕ). m - told) same in
-    let front = take told xs in
-    let front_long : length front ≡ told = length-take-le told xs few in
-    let more : take (told + n) xs ≡ front ++ ps = take-add told n xs ∙ ap (λ (zs : List ℕ). front ++ zs) (sym some) in
-    elim (cases_lt len told) [
+    let same = wrote_long xs before now listed few w in
+    let room : length now - listed ≡ len - listed = ap (λ (m : ℕ). m - listed) same in
+    let front = take listed xs in
+    let front_long : length front ≡ listed = length-take-le listed xs few in
+    let more : take (listed + n) xs ≡ front ++ ps = take-add listed n xs ∙ ap (λ (zs : List ℕ). front ++ zs) (sym some) in
+    elim (cases_lt len listed) [
       | inr within ↦
-          let whole : now ≡ front ++ drop told before = w.are ∙ ap (λ (zs : List ℕ). zs ++ drop told before) (take_all len front (omega (arith, within, front_long))) in
-          let head : take told now ≡ front = ap (take told) whole ∙ ap (λ (m : ℕ). take m (front ++ drop told before)) (sym front_long) ∙ take-append_seam front (drop told before) in
-          let tail : drop (told + n) now ≡ drop (told + n) before = ap (drop (told + n)) whole ∙ drop-append-drop told before front (told + n) (omega arith) front_long in
-          let both : take len (front ++ ps) ≡ front ++ take (len - told) ps = take_both len front ps ∙ ap (λ (zs : List ℕ). zs ++ take (len - length front) ps) (take_all len front (omega (arith, within, front_long))) ∙ ap (λ (m : ℕ). front ++ take (len - m) ps) front_long in
+          let whole : now ≡ front ++ drop listed before = w.are ∙ ap (λ (zs : List ℕ). zs ++ drop listed before) (take_all len front (omega (arith, within, front_long))) in
+          let head : take listed now ≡ front = ap (take listed) whole ∙ ap (λ (m : ℕ). take m (front ++ drop listed before)) (sym front_long) ∙ take-append_seam front (drop listed before) in
+          let tail : drop (listed + n) now ≡ drop (listed + n) before = ap (drop (listed + n)) whole ∙ drop-append-drop listed before front (listed + n) (omega arith) front_long in
+          let both : take len (front ++ ps) ≡ front ++ take (len - listed) ps = take_both len front ps ∙ ap (λ (zs : List ℕ). zs ++ take (len - length front) ps) (take_all len front (omega (arith, within, front_long))) ∙ ap (λ (m : ℕ). front ++ take (len - m) ps) front_long in
           record {
-            are = is ∙ ap (λ (zs : List ℕ). zs ++ (take (length now - told) ps ++ drop (told + n) now)) head ∙ ap (λ (m : ℕ). front ++ (take m ps ++ drop (told + n) now)) room ∙ ap (λ (zs : List ℕ). front ++ (take (len - told) ps ++ zs)) tail
-                ∙ sym (append_assoc front (take (len - told) ps) (drop (told + n) before)) ∙ ap (λ (zs : List ℕ). zs ++ drop (told + n) before) (sym both ∙ ap (take len) (sym more));
+            are = is ∙ ap (λ (zs : List ℕ). zs ++ (take (length now - listed) ps ++ drop (listed + n) now)) head ∙ ap (λ (m : ℕ). front ++ (take m ps ++ drop (listed + n) now)) room ∙ ap (λ (zs : List ℕ). front ++ (take (len - listed) ps ++ zs)) tail
+                ∙ sym (append_assoc front (take (len - listed) ps) (drop (listed + n) before)) ∙ ap (λ (zs : List ℕ). zs ++ drop (listed + n) before) (sym both ∙ ap (take len) (sym more));
           }
       | inl past ↦
-          let full : length now - told ≡ 0 = omega (arith, same, past) in
-          let none : take (length now - told) ps ≡ [] = ap (λ (m : ℕ). take m ps) full in
-          let gone : drop (told + n) now ≡ drop (told + n) before = drop_all (told + n) now (omega (arith, same, past)) ∙ sym (drop_all (told + n) before (omega (arith, past))) in
-          let old : take told now ≡ take len front = take_all told now (omega (arith, same, past)) ∙ w.are ∙ ap (λ (zs : List ℕ). take len front ++ zs) (drop_all told before (omega (arith, past))) ∙ append-nil (take len front) in
+          let full : length now - listed ≡ 0 = omega (arith, same, past) in
+          let none : take (length now - listed) ps ≡ [] = ap (λ (m : ℕ). take m ps) full in
+          let gone : drop (listed + n) now ≡ drop (listed + n) before = drop_all (listed + n) now (omega (arith, same, past)) ∙ sym (drop_all (listed + n) before (omega (arith, past))) in
+          let old : take listed now ≡ take len front = take_all listed now (omega (arith, same, past)) ∙ w.are ∙ ap (λ (zs : List ℕ). take len front ++ zs) (drop_all listed before (omega (arith, past))) ∙ append-nil (take len front) in
           let kept : take len (front ++ ps) ≡ take len front = take-append-le len front ps (omega (arith, past, front_long)) in
           record {
-            are = is ∙ ap (λ (zs : List ℕ). zs ++ (take (length now - told) ps ++ drop (told + n) now)) old ∙ ap (λ (zs : List ℕ). take len front ++ (zs ++ drop (told + n) now)) none ∙ ap (λ (zs : List ℕ). take len front ++ zs) gone
-                ∙ ap (λ (zs : List ℕ). zs ++ drop (told + n) before) (sym kept ∙ ap (take len) (sym more));
+            are = is ∙ ap (λ (zs : List ℕ). zs ++ (take (length now - listed) ps ++ drop (listed + n) now)) old ∙ ap (λ (zs : List ℕ). take len front ++ (zs ++ drop (listed + n) now)) none ∙ ap (λ (zs : List ℕ). take len front ++ zs) gone
+                ∙ ap (λ (zs : List ℕ). zs ++ drop (listed + n) before) (sym kept ∙ ap (take len) (sym more));
           }
     ]
 
 -- all are written, or as many as there is room for
-pub wrote_all : (xs before now : List ℕ) (told : ℕ) → told ≤ length xs → Wrote xs before now told → (length before ≤ told) ⊎ (told ≡ length xs) → ListsMembers xs before now (min (length before) (length xs))
-wrote_all xs before now told few w end =
+pub wrote_all : (xs before now : List ℕ) (listed : ℕ) → listed ≤ length xs → Wrote xs before now listed → (length before ≤ listed) ⊎ (listed ≡ length xs) → ListsMembers xs before now (min (length before) (length xs))
+wrote_all xs before now listed few w end =
     let len = length before in
-    elim (cases_lt told len) [
+    elim (cases_lt listed len) [
       | inl less ↦
-          let whole : told ≡ length xs = elim end [ inl full ↦ absurd (omega (arith, full, less)) | inr all ↦ all ] in
-          let count : min len (length xs) ≡ told = min-eq_right {n = length xs} {m = len} (omega (arith, whole, less)) ∙ sym whole in
-          record { counts = refl; written = w.are ∙ ap (λ (zs : List ℕ). zs ++ drop told before) (take_all len (take told xs) (omega (arith, length-take told xs, less))) ∙ ap (λ (m : ℕ). take m xs ++ drop m before) (sym count) }
+          let whole : listed ≡ length xs = elim end [ inl full ↦ absurd (omega (arith, full, less)) | inr all ↦ all ] in
+          let count : min len (length xs) ≡ listed = min-eq_right {n = length xs} {m = len} (omega (arith, whole, less)) ∙ sym whole in
+          record { counts = refl; written = w.are ∙ ap (λ (zs : List ℕ). zs ++ drop listed before) (take_all len (take listed xs) (omega (arith, length-take listed xs, less))) ∙ ap (λ (m : ℕ). take m xs ++ drop m before) (sym count) }
       | inr full ↦
           let count : min len (length xs) ≡ len = min-eq_left {n = len} {m = length xs} (omega (arith, full, few)) in
-          let gone : drop told before ≡ drop len before = drop_all told before full ∙ sym (drop_all len before (omega arith)) in
-          record { counts = refl; written = w.are ∙ ap (λ (zs : List ℕ). zs ++ drop told before) (take-take len told xs full) ∙ ap (λ (zs : List ℕ). take len xs ++ zs) gone ∙ ap (λ (m : ℕ). take m xs ++ drop m before) (sym count) }
+          let gone : drop listed before ≡ drop len before = drop_all listed before full ∙ sym (drop_all len before (omega arith)) in
+          record { counts = refl; written = w.are ∙ ap (λ (zs : List ℕ). zs ++ drop listed before) (take-take len listed xs full) ∙ ap (λ (zs : List ℕ). take len xs ++ zs) gone ∙ ap (λ (m : ℕ). take m xs ++ drop m before) (sym count) }
     ]
 
 -- so many members were written, with their weights
@@ -200,10 +200,10 @@ module _ (members : SetFacts → ℕ → List (ℕ × ℕ)) (first : LookFacts) 
   abbrev all : List (ℕ × ℕ)
   all = members (set_of_look first) key
 
-  pub record Written (told : ℕ) (now : LookFacts) (ks ws : List ℕ) : Type 0 where
-    pub few : told ≤ length (members (set_of_look first) key)
-    pub wrote_keys : Wrote (keys_of (members (set_of_look first) key)) keys ks told
-    pub wrote_weights : Wrote (weights_of (members (set_of_look first) key)) weights ws told
+  pub record Written (listed : ℕ) (now : LookFacts) (ks ws : List ℕ) : Type 0 where
+    pub few : listed ≤ length (members (set_of_look first) key)
+    pub wrote_keys : Wrote (keys_of (members (set_of_look first) key)) keys ks listed
+    pub wrote_weights : Wrote (weights_of (members (set_of_look first) key)) weights ws listed
     pub most : ℕ
     pub asked : IsAsked span_of most first now
 
@@ -211,64 +211,64 @@ module _ (members : SetFacts → ℕ → List (ℕ × ℕ)) (first : LookFacts) 
   none_written = record { few = omega arith; wrote_keys = wrote_none _ keys; wrote_weights = wrote_none _ weights; most = 0; asked = asked_none span_of first }
 
   -- a page of those from a key on, which are the ones that are left
-  page_is : (told from : ℕ) (now : LookFacts) (ks ws : List ℕ) (items : List (ℕ × ℕ)) → Written told now ks ws → members (set_of_look first) from ≡ drop told (members (set_of_look first) key) → items ≡ take 32 (members (set_of_look now) from) → items ≡ take 32 (drop told (members (set_of_look first) key))
-  page_is told from now ks ws items w rest is = is ∙ ap (λ (s : SetFacts). take 32 (members s from)) w.asked.same_set ∙ ap (take 32) rest
+  page_is : (listed from : ℕ) (now : LookFacts) (ks ws : List ℕ) (items : List (ℕ × ℕ)) → Written listed now ks ws → members (set_of_look first) from ≡ drop listed (members (set_of_look first) key) → items ≡ take 32 (members (set_of_look now) from) → items ≡ take 32 (drop listed (members (set_of_look first) key))
+  page_is listed from now ks ws items w rest is = is ∙ ap (λ (s : SetFacts). take 32 (members s from)) w.asked.same_set ∙ ap (take 32) rest
 
   -- so many of them as it has
   as_many : {X : Type 0} (xs items : List X) → items ≡ take 32 xs → items ≡ take (length items) xs
   as_many xs items is = is ∙ sym (take_min 32 xs) ∙ ap (λ (m : ℕ). take m xs) (sym (ap length is ∙ length-take 32 xs))
 
   -- the part that is written of each
-  parts_are : (part : ℕ × ℕ → ℕ) (told : ℕ) (xs items : List (ℕ × ℕ)) → items ≡ take (length items) (drop told xs) → map part items ≡ take (length items) (drop told (map part xs))
-  parts_are part told xs items is = ap (map part) is ∙ sym (take-map part (length items) (drop told xs)) ∙ ap (take (length items)) (sym (drop-map part told xs))
+  parts_are : (part : ℕ × ℕ → ℕ) (listed : ℕ) (xs items : List (ℕ × ℕ)) → items ≡ take (length items) (drop listed xs) → map part items ≡ take (length items) (drop listed (map part xs))
+  parts_are part listed xs items is = ap (map part) is ∙ sym (take-map part (length items) (drop listed xs)) ∙ ap (take (length items)) (sym (drop-map part listed xs))
 
-  pub page_written : (told from most : ℕ) (now next : LookFacts) (ks ws keys_after weights_after : List ℕ) (items : List (ℕ × ℕ)) → Written told now ks ws → members (set_of_look first) from ≡ drop told (members (set_of_look first) key)
+  pub page_written : (listed from most : ℕ) (now next : LookFacts) (ks ws keys_after weights_after : List ℕ) (items : List (ℕ × ℕ)) → Written listed now ks ws → members (set_of_look first) from ≡ drop listed (members (set_of_look first) key)
       → items ≡ take 32 (members (set_of_look now) from) → IsAsked span_of most now next
-      → keys_after ≡ take told ks ++ (take (length ks - told) (map (λ (p : ℕ × ℕ). p.0) items) ++ drop (told + length items) ks) → weights_after ≡ take told ws ++ (take (length ws - told) (map (λ (p : ℕ × ℕ). p.1) items) ++ drop (told + length items) ws)
-      → Written (told + length items) next keys_after weights_after
-  page_written told from most now next ks ws keys_after weights_after items w rest is asked k e =
-      let mine = page_is told from now ks ws items w rest is in
-      let some = as_many (drop told all) items mine in
-      let long : length items ≤ length all - told = omega (arith, ap length mine, length-take 32 (drop told all), length-drop told all) in
+      → keys_after ≡ take listed ks ++ (take (length ks - listed) (map (λ (p : ℕ × ℕ). p.0) items) ++ drop (listed + length items) ks) → weights_after ≡ take listed ws ++ (take (length ws - listed) (map (λ (p : ℕ × ℕ). p.1) items) ++ drop (listed + length items) ws)
+      → Written (listed + length items) next keys_after weights_after
+  page_written listed from most now next ks ws keys_after weights_after items w rest is asked k e =
+      let mine = page_is listed from now ks ws items w rest is in
+      let some = as_many (drop listed all) items mine in
+      let long : length items ≤ length all - listed = omega (arith, ap length mine, length-take 32 (drop listed all), length-drop listed all) in
       let many = w.few in
       record {
         few = omega (arith, long, many);
-        wrote_keys = wrote_more (keys_of all) keys ks keys_after (map (λ (p : ℕ × ℕ). p.0) items) told (length items) (omega (arith, many, length-map all (λ (p : ℕ × ℕ). p.0))) (parts_are (λ (p : ℕ × ℕ). p.0) told all items some) (length-map items (λ (p : ℕ × ℕ). p.0)) w.wrote_keys k;
-        wrote_weights = wrote_more (weights_of all) weights ws weights_after (map (λ (p : ℕ × ℕ). p.1) items) told (length items) (omega (arith, many, length-map all (λ (p : ℕ × ℕ). p.1))) (parts_are (λ (p : ℕ × ℕ). p.1) told all items some) (length-map items (λ (p : ℕ × ℕ). p.1)) w.wrote_weights e;
+        wrote_keys = wrote_more (keys_of all) keys ks keys_after (map (λ (p : ℕ × ℕ). p.0) items) listed (length items) (omega (arith, many, length-map all (λ (p : ℕ × ℕ). p.0))) (parts_are (λ (p : ℕ × ℕ). p.0) listed all items some) (length-map items (λ (p : ℕ × ℕ). p.0)) w.wrote_keys k;
+        wrote_weights = wrote_more (weights_of all) weights ws weights_after (map (λ (p : ℕ × ℕ). p.1) items) listed (length items) (omega (arith, many, length-map all (λ (p : ℕ × ℕ). p.1))) (parts_are (λ (p : ℕ × ℕ). p.1) listed all items some) (length-map items (λ (p : ℕ × ℕ). p.1)) w.wrote_weights e;
         most = w.most + most;
         asked = asked_on span_of w.most most first now next w.asked asked;
       }
 
   -- the next page has those behind it
-  pub more_left : (told from next n : ℕ) (now : LookFacts) (ks ws : List ℕ) → Written told now ks ws → members (set_of_look first) from ≡ drop told (members (set_of_look first) key) → n ≡ 32 → members (set_of_look now) next ≡ drop 32 (members (set_of_look now) from) → members (set_of_look first) next ≡ drop (told + n) (members (set_of_look first) key)
-  more_left told from next n now ks ws w rest full is =
-      ap (λ (s : SetFacts). members s next) (sym w.asked.same_set) ∙ is ∙ ap (λ (s : SetFacts). drop 32 (members s from)) w.asked.same_set ∙ ap (drop 32) rest ∙ drop-drop 32 told all ∙ ap (λ (m : ℕ). drop (told + m) all) (sym full)
+  pub more_left : (listed from next n : ℕ) (now : LookFacts) (ks ws : List ℕ) → Written listed now ks ws → members (set_of_look first) from ≡ drop listed (members (set_of_look first) key) → n ≡ 32 → members (set_of_look now) next ≡ drop 32 (members (set_of_look now) from) → members (set_of_look first) next ≡ drop (listed + n) (members (set_of_look first) key)
+  more_left listed from next n now ks ws w rest full is =
+      ap (λ (s : SetFacts). members s next) (sym w.asked.same_set) ∙ is ∙ ap (λ (s : SetFacts). drop 32 (members s from)) w.asked.same_set ∙ ap (drop 32) rest ∙ drop-drop 32 listed all ∙ ap (λ (m : ℕ). drop (listed + m) all) (sym full)
 
-  -- and after a page that is not full all were told
-  pub all_told : (told from : ℕ) (now : LookFacts) (ks ws : List ℕ) (items : List (ℕ × ℕ)) → Written told now ks ws → members (set_of_look first) from ≡ drop told (members (set_of_look first) key) → items ≡ take 32 (members (set_of_look now) from) → length items < 32 → told + length items ≡ length (members (set_of_look first) key)
-  all_told told from now ks ws items w rest is few =
+  -- and after a page that is not full all were listed
+  pub all_listed : (listed from : ℕ) (now : LookFacts) (ks ws : List ℕ) (items : List (ℕ × ℕ)) → Written listed now ks ws → members (set_of_look first) from ≡ drop listed (members (set_of_look first) key) → items ≡ take 32 (members (set_of_look now) from) → length items < 32 → listed + length items ≡ length (members (set_of_look first) key)
+  all_listed listed from now ks ws items w rest is few =
       let many = w.few in
-      omega (arith, ap length (page_is told from now ks ws items w rest is), length-take 32 (drop told all), length-drop told all, few, many)
+      omega (arith, ap length (page_is listed from now ks ws items w rest is), length-take 32 (drop listed all), length-drop listed all, few, many)
 
   -- what the call has done then
-  pub listed_keys : (told : ℕ) (now : LookFacts) (ks ws : List ℕ) (code : ℤ) → Written told now ks ws → (length keys ≤ told) ⊎ (told ≡ length (members (set_of_look first) key)) → code ≡ pos (min told (length keys)) → ListsKeys (λ set. members set key) keys ks first now code
-  listed_keys told now ks ws code w end is =
+  pub listed_keys : (listed : ℕ) (now : LookFacts) (ks ws : List ℕ) (code : ℤ) → Written listed now ks ws → (length keys ≤ listed) ⊎ (listed ≡ length (members (set_of_look first) key)) → code ≡ pos (min listed (length keys)) → ListsKeys (λ set. members set key) keys ks first now code
+  listed_keys listed now ks ws code w end is =
       let long = length-map all (λ (p : ℕ × ℕ). p.0) in
       let many = w.few in
-      let count : min told (length keys) ≡ min (length keys) (length (keys_of all)) = elim end [ inl full ↦ omega (arith, full, many, long) | inr whole ↦ omega (arith, whole, long) ] in
+      let count : min listed (length keys) ≡ min (length keys) (length (keys_of all)) = elim end [ inl full ↦ omega (arith, full, many, long) | inr whole ↦ omega (arith, whole, long) ] in
       record {
         count = min (length keys) (length (keys_of all));
         says = is ∙ ap pos count;
-        lists = wrote_all (keys_of all) keys ks told (omega (arith, many, long)) w.wrote_keys (elim end [ inl full ↦ inl full | inr whole ↦ inr (whole ∙ sym long) ]);
+        lists = wrote_all (keys_of all) keys ks listed (omega (arith, many, long)) w.wrote_keys (elim end [ inl full ↦ inl full | inr whole ↦ inr (whole ∙ sym long) ]);
         most = w.most;
         asked = w.asked;
       }
 
-  pub listed_weights : (told : ℕ) (now : LookFacts) (ks ws : List ℕ) → Written told now ks ws → length weights ≤ length keys → (length keys ≤ told) ⊎ (told ≡ length (members (set_of_look first) key)) → ListsMembers (weights_of (members (set_of_look first) key)) weights ws (min (length weights) (length (members (set_of_look first) key)))
-  listed_weights told now ks ws w few end =
+  pub listed_weights : (listed : ℕ) (now : LookFacts) (ks ws : List ℕ) → Written listed now ks ws → length weights ≤ length keys → (length keys ≤ listed) ⊎ (listed ≡ length (members (set_of_look first) key)) → ListsMembers (weights_of (members (set_of_look first) key)) weights ws (min (length weights) (length (members (set_of_look first) key)))
+  listed_weights listed now ks ws w few end =
       let long = length-map all (λ (p : ℕ × ℕ). p.1) in
       let many = w.few in
-      subst (λ (n : ℕ). ListsMembers (weights_of all) weights ws (min (length weights) n)) long (wrote_all (weights_of all) weights ws told (omega (arith, many, long)) w.wrote_weights (elim end [ inl full ↦ inl (omega (arith, full, few)) | inr whole ↦ inr (whole ∙ sym long) ]))
+      subst (λ (n : ℕ). ListsMembers (weights_of all) weights ws (min (length weights) n)) long (wrote_all (weights_of all) weights ws listed (omega (arith, many, long)) w.wrote_weights (elim end [ inl full ↦ inl (omega (arith, full, few)) | inr whole ↦ inr (whole ∙ sym long) ]))
 
 -- the last member of a page that is full
 last_is : (items : List (ℕ × ℕ)) (last : ℕ) → Some last ≡ (if length items == 32 then Some (slice_index_or items 31 (0, 0)).0 else None) → (length items ≡ 32) × ((get_or items 31 (0, 0)).0 ≡ last)
@@ -308,13 +308,13 @@ at_some (Some n) k P is h = let same : n ≡ k = cc in subst P same h
 -- lists of keys and of weights
 pub both_listed : (members : SetFacts → List (ℕ × ℕ)) (keys keys_after weights weights_after : List ℕ) (old new : LookFacts) (code said : ℤ) → length weights ≡ length keys → said ≡ code → ListsKeys members keys keys_after old new code
     → ListsMembers (weights_of (members (set_of_look old))) weights weights_after (min (length weights) (length (members (set_of_look old)))) → ListsBoth members keys keys_after weights weights_after old new said
-both_listed members keys keys_after weights weights_after old new code said same says told rest =
+both_listed members keys keys_after weights weights_after old new code said same says listed rest =
     let list = members (set_of_look old) in
-    let counts = told.lists.counts in
-    let count : min (length weights) (length list) ≡ told.count = ap (λ (n : ℕ). min n (length list)) same ∙ ap (min (length keys)) (sym (length-map list (λ (p : ℕ × ℕ). p.0))) ∙ sym counts in
+    let counts = listed.lists.counts in
+    let count : min (length weights) (length list) ≡ listed.count = ap (λ (n : ℕ). min n (length list)) same ∙ ap (min (length keys)) (sym (length-map list (λ (p : ℕ × ℕ). p.0))) ∙ sym counts in
     record {
       bad_length = λ other. absurd (other same);
-      lists = λ _. (record { count = told.count; says = says ∙ told.says; lists = told.lists; most = told.most; asked = told.asked }, subst (ListsMembers (weights_of list) weights weights_after) count rest);
+      lists = λ _. (record { count = listed.count; says = says ∙ listed.says; lists = listed.lists; most = listed.most; asked = listed.asked }, subst (ListsMembers (weights_of list) weights weights_after) count rest);
     }
 
 min_comm : (a b : ℕ) → min a b ≡ min b a

@@ -118,7 +118,7 @@ ListsAll members before after (Looking old) new code = (look : LookFacts) × (ne
 -- and their weights as well, which is refused if there is not as much room for them
 pub record ListsBoth (members : SetFacts → List (ℕ × ℕ)) (keys keys_after weights weights_after : List ℕ) (old new : LookFacts) (code : ℤ) : Type 0 where
   pub bad_length : length weights ≢ length keys → (code ≡ codes.bad_length) × (new ≡ old) × (keys_after ≡ keys) × (weights_after ≡ weights)
-  pub lists : length weights ≡ length keys → (told : ListsKeys members keys keys_after old new code) × ListsMembers (weights_of (members (set_of_look old))) weights weights_after told.count
+  pub lists : length weights ≡ length keys → (listed : ListsKeys members keys keys_after old new code) × ListsMembers (weights_of (members (set_of_look old))) weights weights_after listed.count
 
 -- the same of a user, which holds a look
 abbrev pub ListsAllBoth : (SetFacts → List (ℕ × ℕ)) → List ℕ → List ℕ → List ℕ → List ℕ → Seat → Seat → ℤ → Type 0

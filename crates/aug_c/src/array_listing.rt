@@ -112,14 +112,14 @@ fn list<O: Order>(look: &mut LookOf, key: u32, keys: &mut [u32], weights: &mut [
     ensures weights { ListsMembers (weights_of (O.members (set_of_look look.old) key)) weights.old weights.new (min (length weights.old) (length (O.members (set_of_look look.old) key))) }
 {
     let mut from = key;
-    let mut told = 0;
-    while told < keys.len() {
+    let mut listed = 0;
+    while listed < keys.len() {
         let (page, next) = O::page(look, from);
-        put::<Key>(page.as_slice(), told, keys);
-        put::<Weight>(page.as_slice(), told, weights);
-        told += page.len();
+        put::<Key>(page.as_slice(), listed, keys);
+        put::<Weight>(page.as_slice(), listed, weights);
+        listed += page.len();
         let Some(next) = next else {
-            return told.min(keys.len()) as i64;
+            return listed.min(keys.len()) as i64;
         };
         from = next;
     }

@@ -3,11 +3,11 @@ use Rattle.aug_live.specs.LiveHandles.{set_of_look}
 use Rattle.aug_c.proofs.Listing.{Written}
 use Rattle.aug_c.proofs.array_listing.list.Given as goal
 
-abbrev pub invariant-loop-told : goal.invariant-loop-told
-invariant-loop-told g l = record {
-  written : Written (λ s k. g.O.Order.members s k) l.fn.look l.key l.fn.keys l.fn.weights l.told l.look l.keys l.weights;
-  rest : g.O.Order.members (set_of_look l.fn.look) l.from ≡ drop l.told (g.O.Order.members (set_of_look l.fn.look) l.key);
+abbrev pub invariant-loop-listed : goal.invariant-loop-listed
+invariant-loop-listed g l = record {
+  written : Written (λ s k. g.O.Order.members s k) l.fn.look l.key l.fn.keys l.fn.weights l.listed l.look l.keys l.weights;
+  rest : g.O.Order.members (set_of_look l.fn.look) l.from ≡ drop l.listed (g.O.Order.members (set_of_look l.fn.look) l.key);
 }
 
-abbrev pub decreases-loop-told : goal.decreases-loop-told
-decreases-loop-told g l = length l.keys - l.told
+abbrev pub decreases-loop-listed : goal.decreases-loop-listed
+decreases-loop-listed g l = length l.keys - l.listed

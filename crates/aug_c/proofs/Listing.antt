@@ -1,5 +1,5 @@
 -- The members of a look's snapshot, written a page after the other.
-use Rattle.std.proofs.Common.{◌≡◌, ◌⊎◌, ℕ, zero, suc, ◌+◌, ◌-◌, ◌*◌, ◌^◌, ◌<◌, ◌≤◌, min, List, [], ◌∷◌, ◌++◌, length, take, drop, reverse, map, get_or, set, filter, slice_index, nat_lt, pos, refl, sym, ap, ◌∙◌, subst, inl, inr, arith, append_assoc}
+use Rattle.std.proofs.Common.{◌≡◌, ◌⊎◌, ℕ, zero, suc, ◌+◌, ◌-◌, ◌^◌, ◌<◌, ◌≤◌, min, List, [], ◌∷◌, ◌++◌, length, take, drop, reverse, map, get_or, set, filter, slice_index, nat_lt, pos, refl, sym, ap, ◌∙◌, subst, inl, inr, arith, append_assoc}
 use Rattle.std.specs.Prelude.{ℤ, ◌==◌, if◌then◌else◌, slice_index_or, Option, Some, None, IfSome, IfNone}
 use Rattle.std.specs.List.Sorted.{IsStrictlyIncreasing}
 use Rattle.std.proofs.Math.Nat.{min-eq_left, min-eq_right}

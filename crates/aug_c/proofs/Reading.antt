@@ -1,6 +1,5 @@
 -- What a look answers for one key after another.
 use Rattle.std.proofs.Common.{◌≡◌, ◌+◌, ◌-◌, ◌<◌, ◌≤◌, ◌++◌, ◌∙◌, ℕ, List, [], ◌∷◌, length, map, take, drop, get_or, set, pos, refl, sym, ap, subst, arith}
-use Rattle.std.specs.Prelude.{ℤ}
 use Rattle.std.proofs.lemmas.List.{map-append, take_more, take_all, drop_more, append_assoc, set-append_right, length-map, length-take-le}
 use Rattle.aug_model.specs.declared.summary.Summary.{Summary}
 use Rattle.aug_model.specs.Keys.{SetFacts}

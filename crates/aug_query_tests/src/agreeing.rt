@@ -10,7 +10,7 @@ use std::process::Abort;
 use std::test::Fail;
 
 // The set of the `members` least keys of `width` bits. No key weighs itself.
-fn set_of(alloc: Global, width: u32, members: u32) -> Result<KeySet, ModelError> {
+pub(super) fn set_of(alloc: Global, width: u32, members: u32) -> Result<KeySet, ModelError> {
     let mut set = KeySet::try_new(alloc, width)?;
     let bits = set.bits();
     for k in 0..1u32 << bits {

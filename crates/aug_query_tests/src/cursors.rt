@@ -16,7 +16,7 @@ use std::process::Abort;
 use std::test::Fail;
 
 // The set of the keys whose bits `mask` has. No key weighs itself.
-fn set_of_mask(alloc: Global, width: u32, mask: u32) -> Result<KeySet, ModelError> {
+pub(super) fn set_of_mask(alloc: Global, width: u32, mask: u32) -> Result<KeySet, ModelError> {
     let mut set = KeySet::try_new(alloc, width)?;
     let bits = set.bits();
     for k in 0..1u32 << bits {

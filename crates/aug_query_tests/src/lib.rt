@@ -11,3 +11,5 @@ mod assertions;
 mod cursors;
 #[cfg(test)]
 mod examples;
+#[cfg(test)]
+mod pages;

@@ -1,5 +1,4 @@
-use Rattle.std.proofs.Common.{rules, ◌≡◌, ◌⊎◌, ℕ, ◌+◌, ◌-◌, ◌<◌, ◌≤◌, inr, List, ◌++◌, length, min, take, drop, map, w64, to_z, pos, ap, sym, ◌∙◌, subst, arith}
-use Rattle.std.specs.Prelude.{ℤ}
+use Rattle.std.proofs.Common.{rules, ◌≡◌, ℕ, ◌+◌, ◌-◌, ◌<◌, inr, List, ◌++◌, length, min, take, drop, map, w64, to_z, pos, ap, sym, ◌∙◌, subst, arith}
 use Rattle.aug_model.specs.Keys.{SetFacts}
 use Rattle.aug_live.specs.LiveHandles.{set_of_look}
 use Rattle.aug_c.proofs.Listing.{Written, page_written, more_left, all_listed, listed_keys, listed_weights, at_none, at_some}

@@ -1,4 +1,4 @@
-use Rattle.std.proofs.Common.{rules, ◌<◌, ◌≤◌, length, arith}
+use Rattle.std.proofs.Common.{rules, ◌<◌, length, arith}
 use Rattle.aug_c.proofs.Reading.{none_asked, one_asked, four_asked, all_asked}
 use Rattle.aug_c.proofs.array_queries.ask_each.Goals as goal
 

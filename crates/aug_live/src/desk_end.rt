@@ -140,6 +140,23 @@ pub(crate) struct NewDesk<A: Monoid, B: Monoid> {
     ghost room: { vec_len theirs ≤ vec_capacity ends },
 }
 
+// So many more owners of a lock.
+fn new_shares<A: Monoid, B: Monoid>(
+    alloc: Global,
+    lock: &Arc<DeskLock<A, B>, Global>,
+    handles: u32,
+) -> Result<Vec<DeskShare<A, B>>, AllocError>
+    ensures same_lock { IfOk result (λ t. All (λ s. s ≡ (arc_value lock.now).table.shared.table_id) t.items) }
+    ensures len { IfOk result (λ t. vec_len t ≡ handles) }
+{
+    let mut shares = Vec::with_capacity(alloc, handles as usize)?;
+    for _ in 0..handles {
+        let lock = Arc::try_clone(lock)?;
+        shares.push_reserved(DeskShare { lock });
+    }
+    Ok(shares)
+}
+
 impl<A: Monoid, B: Monoid> NewDesk<A, B> {
     /// A desk for so many handles.
     pub(crate) fn new(alloc: Global, handles: u32) -> Result<NewDesk<A, B>, AllocError>
@@ -153,11 +170,7 @@ impl<A: Monoid, B: Monoid> NewDesk<A, B> {
         let Ok(lock) = Arc::new(alloc, lock) else {
             return Err(AllocError);
         };
-        let mut theirs = Vec::with_capacity(alloc, handles as usize)?;
-        for _ in 0..handles {
-            let lock = Arc::try_clone(&lock)?;
-            theirs.push_reserved(DeskShare { lock });
-        }
+        let theirs = new_shares(alloc, &lock, handles)?;
         let ends = Vec::with_capacity(alloc, handles as usize)?;
         match lock.take::<Read, Tries>(&Tries, &mut pass) {
             Ok(_) => Ok(NewDesk {

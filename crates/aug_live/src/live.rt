@@ -369,10 +369,24 @@ fn new_berths<A: Monoid, B: Monoid>(
     ensures { IfOk result (λ berths. All IsNewBerth berths.items × (vec_len berths ≡ handles)) }
 {
     let mut berths = Vec::with_capacity(alloc, handles as usize)?;
+    fill(alloc, &mut berths, handles)?;
+    Ok(berths)
+}
+
+// Puts so many new lanes into a vector, which has room for them.
+fn fill<A: Monoid, B: Monoid>(
+    alloc: Global,
+    berths: &mut Vec<Berth<A, B>>,
+    handles: u32,
+) -> Result<(), AllocError>
+    requires none { berths.old.items ≡ [] }
+    requires room { handles ≤ vec_capacity berths.old }
+    ensures { IfOk result (λ _. All IsNewBerth berths.new.items × (vec_len berths.new ≡ handles)) }
+{
     for _ in 0..handles {
         berths.push_reserved(Berth::new(alloc)?);
     }
-    Ok(berths)
+    Ok(())
 }
 
 // Puts a pass into each lane, and makes its two ends.

@@ -4,7 +4,7 @@ use super::taking::{last, looked};
 use crate::assertions::{equal, holds};
 use aug_live::{LiveError, OpenError};
 use aug_live_testing::opening::{
-    HandleOf, LiveOf, fill, insert, opened, over, renewed, rolled, size,
+    HandleOf, LiveOf, ended, fill, insert, opened, over, renewed, rolled, size,
 };
 use std::alloc::Global;
 use std::process::Abort;
@@ -120,7 +120,7 @@ fn assert_goes_on<R: Wait + Abort>(rt: &R, alloc: Global, it: &Crowd) -> Result<
         are_refused(rt, &mut live, &mut hands, it.handles);
     }
     each_sees(rt, hands, members);
-    let (set, counts) = live.close(rt);
+    let (set, counts) = ended(rt, live);
     holds(rt, are_all_below(set.as_slice(), members));
     equal(
         rt,

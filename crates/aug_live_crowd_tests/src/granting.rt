@@ -5,7 +5,7 @@ use super::planning::words_of;
 use super::taking::last;
 use crate::assertions::equal;
 use aug_live::{Live, OpenError, Plan};
-use aug_live_testing::opening::{HandleOf, LiveOf, fill, no_keys};
+use aug_live_testing::opening::{HandleOf, LiveOf, ended, fill, no_keys};
 use aug_monoid::{Extent, Sum};
 use aug_trie::{Ended, Members, Round};
 use std::alloc::Global;
@@ -17,7 +17,7 @@ fn closed<R: Wait + Abort>(rt: &R, opened: (LiveOf, Vec<HandleOf>), handles: u32
     let (live, hands) = opened;
     equal(rt, hands.len(), handles as usize);
     drop(hands);
-    let (set, _) = live.close(rt);
+    let (set, _) = ended(rt, live);
     set
 }
 

@@ -5,7 +5,7 @@ ghost use Rattle.aug_live.specs.LiveTries.{ids_of};
 use super::taking::looked;
 use crate::assertions::{equal, holds};
 use aug_live::{Live, LiveError, OpenError, Plan};
-use aug_live_testing::opening::{HandleOf, LiveOf, has, no_keys, over, renewed, rolled};
+use aug_live_testing::opening::{HandleOf, LiveOf, ended, has, no_keys, over, renewed, rolled};
 use std::alloc::Global;
 use std::process::Abort;
 use std::sync::Wait;
@@ -49,6 +49,30 @@ fn sees<R: Wait + Abort>(rt: &R, hand: HandleOf, key: u32) -> bool {
     seen
 }
 
+// One handle learns a note of another, which is made before the round rolls over, or before a new handle comes for the lane 0.
+fn learnt<R: Wait + Abort>(
+    rt: &R,
+    live: &mut LiveOf,
+    from: &mut HandleOf,
+    to: &mut HandleOf,
+    rolls: bool,
+) -> Result<(), LiveError>
+    requires { to.old.half.round.table ≡ from.old.half.round.table }
+{
+    let Ok(note) = from.note(rt) else {
+        panic!(rt; "no note");
+    };
+    if rolls {
+        equal(rt, rolled(rt, live), Ok(()));
+    } else {
+        drop(renewed(rt, live, 0));
+    }
+    match to.learn(rt, note) {
+        Ok(()) => Ok(()),
+        Err((_, cause)) => Err(cause),
+    }
+}
+
 // One handle puts a key in, and another sees it that learnt of it. The round rolls over before the note is made and before it is learnt.
 fn assert_told<R: Wait + Abort>(rt: &R, live: &mut LiveOf, from: HandleOf, to: HandleOf)
     requires { to.half.round.table ≡ from.half.round.table }
@@ -56,13 +80,7 @@ fn assert_told<R: Wait + Abort>(rt: &R, live: &mut LiveOf, from: HandleOf, to: H
     let (mut from, mut to) = (from, to);
     insert(rt, &mut from, 3);
     equal(rt, rolled(rt, live), Ok(()));
-    let Ok(note) = from.note(rt) else {
-        panic!(rt; "no note");
-    };
-    equal(rt, rolled(rt, live), Ok(()));
-    let Ok(()) = to.learn(rt, note) else {
-        panic!(rt; "not learnt");
-    };
+    equal(rt, learnt(rt, live, &mut from, &mut to, true), Ok(()));
     holds(rt, sees(rt, to, 3));
 }
 
@@ -71,14 +89,37 @@ fn assert_not_learnt<R: Wait + Abort>(rt: &R, live: &mut LiveOf, from: HandleOf,
     requires { to.half.round.table ≡ from.half.round.table }
 {
     let (mut from, mut to) = (from, to);
-    let Ok(note) = from.note(rt) else {
-        panic!(rt; "no note");
-    };
-    drop(renewed(rt, live, 0));
-    let Err((_, cause)) = to.learn(rt, note) else {
-        panic!(rt; "learnt");
-    };
-    equal(rt, cause, LiveError::Replaced);
+    let learnt = learnt(rt, live, &mut from, &mut to, false);
+    equal(rt, learnt, Err(LiveError::Replaced));
+}
+
+// Takes a handle back.
+fn back<R: Wait>(rt: &R, live: &mut LiveOf, hand: HandleOf) -> Result<(), LiveError>
+    requires table { hand.half.round.table ≡ live.old.table }
+    requires lanes { hand.lanes ≡ ids_of live.old }
+    ensures table { live.new.table ≡ live.old.table }
+    ensures ids { ids_of live.new ≡ ids_of live.old }
+{
+    match live.back(rt, hand) {
+        Ok(()) => Ok(()),
+        Err((_, cause)) => Err(cause),
+    }
+}
+
+// A new handle for a lane comes and is dropped.
+fn renews<R: Wait>(rt: &R, live: &mut LiveOf, lane: u32)
+    ensures table { live.new.table ≡ live.old.table }
+    ensures ids { ids_of live.new ≡ ids_of live.old }
+{
+    drop(live.handle(rt, lane));
+}
+
+// Tries to roll the round over. Whether it has to wait.
+fn waits(live: &mut LiveOf) -> bool
+    ensures table { live.new.table ≡ live.old.table }
+    ensures ids { ids_of live.new ≡ ids_of live.old }
+{
+    live.try_roll().is_err()
 }
 
 // A handle that was replaced does not come back.
@@ -88,11 +129,14 @@ fn assert_not_back<R: Wait + Abort>(rt: &R, live: &mut LiveOf, hand: HandleOf)
     ensures table { live.new.table ≡ live.old.table }
     ensures ids { ids_of live.new ≡ ids_of live.old }
 {
-    drop(live.handle(rt, 1));
-    let Err((_, cause)) = live.back(rt, hand) else {
-        panic!(rt; "taken back");
-    };
-    equal(rt, cause, LiveError::Replaced);
+    renews(rt, live, 1);
+    equal(rt, back(rt, live, hand), Err(LiveError::Replaced));
+}
+
+// The members of a trie at its end, its rounds, its handles, and how many of these did not come back.
+fn end<R: Wait>(rt: &R, live: LiveOf) -> (u32, u64, u64, u64) {
+    let (set, counts) = ended(rt, live);
+    (set.size(), counts.rounds, counts.handles, counts.missing)
 }
 
 // A handle puts a key in and comes back, as one of three, and the trie ends.
@@ -102,11 +146,8 @@ fn assert_back<R: Wait + Abort>(rt: &R, live: LiveOf, hand: HandleOf)
 {
     let (mut live, mut hand) = (live, hand);
     insert(rt, &mut hand, 3);
-    let Ok(()) = live.back(rt, hand) else {
-        panic!(rt; "not taken back");
-    };
-    let (set, counts) = live.close(rt);
-    equal(rt, (set.size(), counts.handles, counts.missing), (1, 3, 2));
+    equal(rt, back(rt, &mut live, hand), Ok(()));
+    equal(rt, end(rt, live), (1, 1, 3, 2));
 }
 
 // A handle comes back whose lane a roll-over took, which waited for a look of another.
@@ -116,14 +157,10 @@ fn assert_back_later<R: Wait + Abort>(rt: &R, live: LiveOf, hand: HandleOf, othe
 {
     let mut live = live;
     let look = looked(rt, other);
-    let tried = live.try_roll();
+    holds(rt, waits(&mut live));
     drop(over(look));
-    holds(rt, tried.is_err());
-    let Ok(()) = live.back(rt, hand) else {
-        panic!(rt; "not taken back");
-    };
-    let (set, counts) = live.close(rt);
-    equal(rt, (set.size(), counts.rounds, counts.missing), (0, 2, 1));
+    equal(rt, back(rt, &mut live, hand), Ok(()));
+    equal(rt, end(rt, live), (0, 2, 2, 1));
 }
 
 // What two handles of a trie and the trie tell one another.

@@ -9,33 +9,22 @@ use aug_trie::Request::{Add, Insert, Put};
 use std::process::Abort;
 use std::sync::Wait;
 
-// The keys of three updates, whether their call waits, and what the first two come to.
-type Batch = ((u32, u32, u32), bool, [Outcome; 2]);
-
-const BATCHES: &[Batch] = &[
-    ((3, 1, 3), true, [Accepted, Accepted]),
-    ((3, 1, 3), true, [Refused, Replaced]),
-    ((2, 1, 3), false, [Accepted, Replaced]),
-];
-
-// How many updates of a batch were made, and what they came to. None is made if the batch is refused.
-fn made<R: Wait>(rt: &R, hand: &mut HandleOf, batch: &Batch) -> (usize, [Outcome; 3]) {
-    let (keys, waits, _) = *batch;
+// Makes three updates by one call, which waits or does not. Two of them are made, and come to this.
+fn assert_batch<R: Wait + Abort>(
+    rt: &R,
+    hand: &mut HandleOf,
+    keys: (u32, u32, u32),
+    waits: bool,
+    outcomes: (Outcome, Outcome),
+) {
     let requests = [Insert, Put(7), Add(1)];
     let none = (0, [TooGreat; 3]);
-    if waits {
+    let made = if waits {
         update_all(rt, hand, keys, &requests).unwrap_or(none)
     } else {
         try_update_all(hand, keys, &requests).unwrap_or(none)
-    }
-}
-
-// A batch ends behind two updates.
-fn assert_made<R: Wait + Abort>(rt: &R, hand: &mut HandleOf) {
-    for batch in BATCHES {
-        let [first, second] = batch.2;
-        equal(rt, made(rt, hand, batch), (2, [first, second, TooGreat]));
-    }
+    };
+    equal(rt, made, (2, [outcomes.0, outcomes.1, TooGreat]));
 }
 
 #[test]
@@ -43,7 +32,9 @@ fn a_batch_ends_where_the_updates_of_its_lane_do(rt: HostRuntime) -> Result<(), 
     // A lane has two updates in a round.
     let (live, mut hands) = opened(rt.alloc(), 4, 1, 0, 2)?;
     for hand in hands.as_mut_slice() {
-        assert_made(&rt, hand);
+        assert_batch(&rt, hand, (3, 1, 3), true, (Accepted, Accepted));
+        assert_batch(&rt, hand, (3, 1, 3), true, (Refused, Replaced));
+        assert_batch(&rt, hand, (2, 1, 3), false, (Accepted, Replaced));
     }
     let (set, _) = ended(&rt, live);
     equal(&rt, set.as_slice(), &[(1, 7), (2, 2), (3, 3)]);

@@ -361,8 +361,9 @@ class Sanitized:
 
     @with_tool("address sanitizer")
     def test_c_overrun_is_found(self):
+        # The library, which has no checks, writes more weights than there are places, and the test reads the second of them.
         said = self.sanitized("address", "crowd", "0", faults=["-DPLACES=1"], status=66)
-        assert re.search(r"AddressSanitizer: heap-buffer-overflow(?s:.)*?#0 \w+ in \w+ \S*augtrie\.c:", said), said
+        assert re.search(r"AddressSanitizer: heap-buffer-overflow(?s:.)*?#0 \w+ in check \S*crowd\.c:", said), said
 
     @with_tool("address sanitizer")
     def test_c_leak_is_found(self):

@@ -60,5 +60,5 @@ class TestGate(CopiedScripts):
         assert re.sub(r"(?<=all else )\d+", "..", text) == f"""{head}| .. | 0:.. | 0 | 5 passed, 1 failed | .. |
 | 999 | 1:00 | 99 | 6 passed, 0 failed | a day |
 
-Seconds of a processor on .. cores: proofs of crates 3; proofs of tests 2; edits, with the proofs that they begin with 1; programs, tests as they run, and all else ... The most: `low` 3, `low` (tests) 2, `low` (edits) 1.
+Seconds of a processor on .. cores: proofs of crates 3; proofs of tests 2; edits and second proofs 1; all else ... The most: `low` 3, `low` (tests) 2, `low` (edits) 1.
 {end.partition("Old.")[2][1:]}"""

@@ -166,10 +166,13 @@ fn assert_back_later<R: Wait + Abort>(rt: &R, live: LiveOf, hand: HandleOf, othe
 // What two handles of a trie and the trie tell one another.
 #[derive(Clone, Copy)]
 enum Telling {
+    // One learns a note of the other.
     Told,
+    // One that was replaced learns none.
     NotLearnt,
-    // Not back are the one that was replaced, and the last one of its lane.
+    // One was replaced and does not come back, and the other one does.
     Back,
+    // One comes back whose lane a roll-over took.
     BackLater,
 }
 

@@ -15,7 +15,7 @@ pub trait Engine {
     /// One for so many threads. If it works in a table, that takes at most so many bytes.
     fn new(threads: usize, bytes: u64) -> Self;
 
-    /// A seat for each of so many threads, of those that it is for.
+    /// A seat for each of so many threads, of those that it is for. They stay in this array, next to one another, while the threads work.
     fn seats(&mut self, threads: usize) -> Vec<Self::Seat<'_>>;
 }
 

@@ -1,4 +1,5 @@
 //! Measures the trie beside sets behind locks, two copies of a set, and the same algorithm in plain Rust: see `README.md`.
+mod apart;
 mod case;
 mod check;
 mod column;

@@ -6,6 +6,7 @@ mod words;
 pub use pass::Pass;
 pub use words::{Words, room};
 
+use crate::apart::Apart;
 use crate::engine::{Engine, Seat};
 use crate::operation::{Answer, BITS, Change, Query, Update};
 use augtrie::Span;
@@ -16,10 +17,8 @@ use std::sync::{Mutex, MutexGuard};
 /// A thread takes so many records at a time, for 256 updates.
 const SHARE: u64 = 256 * BITS as u64;
 
-/// The records that a thread has left, which it holds while it works. They have a line of the cache for themselves.
-#[derive(Default)]
-#[repr(align(128))]
-struct Lane(Mutex<Range<u64>>);
+/// The records that a thread has left, which it holds while it works.
+type Lane = Apart<Mutex<Range<u64>>>;
 
 fn held(lane: &Lane) -> MutexGuard<'_, Range<u64>> {
     lane.0.lock().expect("no thread panics")

@@ -59,14 +59,14 @@ fn made(seat: &mut impl Seat, operation: Operation) -> i64 {
 }
 
 /// What a thread does: an operation that is not done at the end does not count.
-fn lap<S: Seat>(mut seat: S, workload: Workload, mut random: Random, course: &Course) -> Lap {
-    let before = (0..workload.updates_before()).map(|number| made(&mut seat, Workload::Updates.draw(number, &mut random)));
+fn lap<S: Seat>(seat: &mut S, workload: Workload, mut random: Random, course: &Course) -> Lap {
+    let before = (0..workload.updates_before()).map(|number| made(seat, Workload::Updates.draw(number, &mut random)));
     let (mut operations, mut growth) = (0, before.sum());
     let came = Instant::now();
     course.begin();
     let began = Instant::now();
     loop {
-        growth += made(&mut seat, workload.draw(operations, &mut random));
+        growth += made(seat, workload.draw(operations, &mut random));
         if course.is_over() {
             return Lap { seat: type_name::<S>(), operations, growth, came, began };
         }
@@ -74,8 +74,9 @@ fn lap<S: Seat>(mut seat: S, workload: Workload, mut random: Random, course: &Co
     }
 }
 
-/// Runs a thread for each seat: their laps, and the time.
-fn laps<S: Seat + Send>(seats: Vec<S>, workload: Workload, length: Duration, seed: u64) -> (Vec<Lap>, Option<Duration>) {
+/// Runs a thread for each seat: their laps, and the time. What else a thread writes at each call, its counters and its random numbers, lies on
+/// its own stack.
+fn laps<S: Seat + Send>(seats: &mut [S], workload: Workload, length: Duration, seed: u64) -> (Vec<Lap>, Option<Duration>) {
     let (course, places) = (&Course::new(seats.len()), processors::allowed());
     thread::scope(|scope| {
         let start = |(thread, seat)| {
@@ -85,7 +86,7 @@ fn laps<S: Seat + Send>(seats: Vec<S>, workload: Workload, length: Duration, see
                 lap(seat, workload, Random::of(seed, thread as u64), course)
             })
         };
-        let threads: Vec<_> = seats.into_iter().enumerate().map(start).collect();
+        let threads: Vec<_> = seats.iter_mut().enumerate().map(start).collect();
         let end = course.end_after(length);
         let laps: Vec<Lap> = threads.into_iter().map(|thread| thread.join().expect("no thread panics")).collect();
         let time = time(&laps, end);
@@ -135,7 +136,7 @@ impl<E: Engine> Runner for E {
     fn slice(&mut self, case: Case, length: Duration, pass: u64) -> Slice {
         let (mut want, mut turn) = (size(self), 0);
         loop {
-            let (laps, time) = laps(self.seats(case.threads), case.workload, length * (1 << turn), pass << 32 | turn);
+            let (laps, time) = laps(&mut self.seats(case.threads), case.workload, length * (1 << turn), pass << 32 | turn);
             want += laps.iter().map(|lap| lap.growth).sum::<i64>();
             assert_eq!(size(self), want, "the set of {} does not have the size that its answers tell", E::NAME);
             let operations = laps.iter().map(|lap| lap.operations).sum();

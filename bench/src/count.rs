@@ -1,14 +1,14 @@
 use crate::operation::{BITS, KEYS};
-use crate::plain::{Pass, Words, room};
+use crate::plain::{Pass, SeqCst, Words, room};
 
 /// The table is not full before all is done.
 const BYTES: u64 = 1 << 25;
 
-/// Makes an operation of the plain algorithm so many times, for a counter of instructions: the sum of the answers. `ops.c` does the same of the
+/// Makes an operation of the plain algorithm, with the orders of the library, so many times, for a counter of instructions: the sum of the answers. `ops.c` does the same of the
 /// library.
 pub fn count<const CHECKED: bool>(operation: &str, times: u32) -> Option<u64> {
     let table = room(BYTES);
-    let words = Words::<CHECKED> { words: &table, bits: BITS as usize };
+    let words = Words::<SeqCst, CHECKED>::of(&table, BITS as usize);
     let mut pass = Pass { words, left: &mut (words.open()..words.records()) };
     for i in 0..KEYS / 2 {
         pass.insert(u64::from(2 * i));

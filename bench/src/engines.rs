@@ -1,5 +1,5 @@
 use crate::engine::Engine;
-use crate::plain::Plain;
+use crate::plain::{Least, Plain, SeqCst};
 use crate::runner::Runner;
 use crate::shared::Shared;
 use crate::sums::Sums;
@@ -22,7 +22,8 @@ fn entry<E: Engine + 'static>(threads: usize, bytes: u64) -> Entry {
 pub fn all(threads: usize, bytes: u64, without: Option<u32>) -> Vec<Entry> {
     let makers = [
         entry::<Users>,
-        entry::<Plain>,
+        entry::<Plain<Least>>,
+        entry::<Plain<SeqCst>>,
         entry::<Shared<Mutex<Sums>>>,
         entry::<Shared<RwLock<Sums>>>,
         entry::<Shared<RwLock<BTreeMap<u32, u32>>>>,

@@ -1,8 +1,10 @@
 //! The trie's algorithm in plain Rust, to compare with: the same words, double refresh, records of five words and descents, without proofs.
+mod orders;
 mod pass;
 mod summary;
 mod words;
 
+pub use orders::{Least, Orders, SeqCst};
 pub use pass::Pass;
 pub use words::{Words, room};
 
@@ -11,7 +13,8 @@ use crate::engine::{Engine, Seat};
 use crate::operation::{Answer, BITS, Change, Query, Update};
 use augtrie::Span;
 use std::ops::Range;
-use std::sync::atomic::{AtomicU64, Ordering::SeqCst};
+use std::marker::PhantomData;
+use std::sync::atomic::{AtomicU64, Ordering::Relaxed};
 use std::sync::{Mutex, MutexGuard};
 
 /// A thread takes so many records at a time, for 256 updates.
@@ -25,57 +28,58 @@ fn held(lane: &Lane) -> MutexGuard<'_, Range<u64>> {
 }
 
 /// The table, without bounds checks, and what its threads have of it.
-pub struct Plain {
+pub struct Plain<O> {
     table: Vec<AtomicU64>,
-    /// The number of the first record that no thread took.
+    /// The number of the first record that no thread took. It is only counted with; it is set back under all locks.
     next: AtomicU64,
     lanes: Vec<Lane>,
+    orders: PhantomData<O>,
 }
 
-impl Plain {
-    fn words(&self) -> Words<'_, false> {
-        Words { words: &self.table, bits: BITS as usize }
+impl<O: Orders> Plain<O> {
+    fn words(&self) -> Words<'_, O, false> {
+        Words::of(&self.table, BITS as usize)
     }
 
     /// Takes records, if there are enough.
     fn share(&self) -> Option<Range<u64>> {
-        let first = self.next.fetch_add(SHARE, SeqCst);
+        let first = self.next.fetch_add(SHARE, Relaxed);
         (first + SHARE <= self.words().records()).then_some(first..first + SHARE)
     }
 
     /// Lays the table out again while no thread works, unless another thread has just done so.
     fn roll(&self) {
         let mut lanes: Vec<_> = self.lanes.iter().map(held).collect();
-        if self.next.load(SeqCst) + SHARE > self.words().records() {
-            self.next.store(self.words().open(), SeqCst);
+        if self.next.load(Relaxed) + SHARE > self.words().records() {
+            self.next.store(self.words().open(), Relaxed);
             lanes.iter_mut().for_each(|left| **left = 0..0);
         }
     }
 }
 
-impl Engine for Plain {
-    const NAME: &'static str = "plain";
-    type Seat<'engine> = Worker<'engine>;
+impl<O: Orders> Engine for Plain<O> {
+    const NAME: &'static str = O::NAME;
+    type Seat<'engine> = Worker<'engine, O>;
 
-    fn new(threads: usize, bytes: u64) -> Plain {
+    fn new(threads: usize, bytes: u64) -> Plain<O> {
         let lanes = (0..threads).map(|_| Lane::default()).collect();
-        let mut plain = Plain { table: room(bytes), next: AtomicU64::new(0), lanes };
+        let mut plain = Plain { table: room(bytes), next: AtomicU64::new(0), lanes, orders: PhantomData };
         plain.next = plain.words().open().into();
         plain
     }
 
-    fn seats(&mut self, threads: usize) -> Vec<Worker<'_>> {
+    fn seats(&mut self, threads: usize) -> Vec<Worker<'_, O>> {
         self.lanes[..threads].iter().map(|lane| Worker { plain: self, lane }).collect()
     }
 }
 
 /// A thread of it.
-pub struct Worker<'t> {
-    plain: &'t Plain,
+pub struct Worker<'t, O> {
+    plain: &'t Plain<O>,
     lane: &'t Lane,
 }
 
-impl<'t> Worker<'t> {
+impl<'t, O: Orders> Worker<'t, O> {
     /// Its records, once some are left.
     fn left(&self) -> MutexGuard<'t, Range<u64>> {
         loop {
@@ -92,7 +96,7 @@ impl<'t> Worker<'t> {
     }
 }
 
-impl Seat for Worker<'_> {
+impl<O: Orders> Seat for Worker<'_, O> {
     fn update(&mut self, update: Update) -> Change {
         let mut pass = Pass { words: self.plain.words(), left: &mut self.left() };
         match update {

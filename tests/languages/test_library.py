@@ -55,7 +55,8 @@ LEAST_PYTHON, LEAST_RUST, LEAST_ANSWERS = 34, 25, 2001
 # The engines of the benchmark, and the types that their threads work with. The last one needs a crate that may not be there.
 ENGINES = {
     "trie": r"augtrie::user::User",
-    "plain": r"augtrie_bench::plain::Worker(?:<'_>)?",
+    "plain": r"augtrie_bench::plain::Worker<(?:'_, )?augtrie_bench::plain::orders::Least>",
+    "plain, SeqCst": r"augtrie_bench::plain::Worker<(?:'_, )?augtrie_bench::plain::orders::SeqCst>",
     "mutex": r"&std::[\w:]*::Mutex<augtrie_bench::sums::Sums>",
     "rwlock": r"&std::[\w:]*::RwLock<augtrie_bench::sums::Sums>",
     "btree": r"&std::[\w:]*::RwLock<alloc::[\w:]*::BTreeMap<u32, u32>>",
@@ -473,7 +474,7 @@ class Bench:
     def verdicts(self, *words, **how):
         """The engines that were compared with the trie, and the answers in which they agreed, or None."""
         said = self.script("run", "--check", *words, **how)
-        found = re.findall(r"^(\w+): trie and (\w+) (?:agree in (\d+)|DIFFER after \d+) answers$", said, re.M)
+        found = re.findall(r"^(\w+): trie and (.+) (?:agree in (\d+)|DIFFER after \d+) answers$", said, re.M)
         assert [it[:2] for it in found] == [(workload, engine) for workload in WORKLOADS for engine in list(ENGINES)[1:]], said
         return [int(it[2]) if it[2] else None for it in found]
 
@@ -516,7 +517,7 @@ class Bench:
         assert all(0 < it < 1000 for it in rate.values()), rates
         for name in list(ENGINES)[1:]:
             assert abs(number(ratios[name]) / (rate["trie"] / rate[name]) - 1) <= 0.02, name
-        best = max(list(ENGINES)[2:], key=lambda name: rate[name])
+        best = max(list(ENGINES)[3:], key=lambda name: rate[name])
         best_ratio = re.fullmatch(r"(\S+) \(.*\) of (\w+)", ratios["the best lock's"])
         assert rate[best] / rate[best_ratio[2]] <= 1.01
         assert number(ratios[best_ratio[2]]) == float(best_ratio[1])

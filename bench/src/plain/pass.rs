@@ -1,15 +1,15 @@
+use super::orders::Orders;
 use super::words::Words;
 use std::ops::Range;
-use std::sync::atomic::Ordering::SeqCst;
 
 /// What makes updates of the trie.
-pub struct Pass<'t, const CHECKED: bool> {
-    pub words: Words<'t, CHECKED>,
+pub struct Pass<'t, O, const CHECKED: bool> {
+    pub words: Words<'t, O, CHECKED>,
     /// The numbers of its records that were not used.
     pub left: &'t mut Range<u64>,
 }
 
-impl<const CHECKED: bool> Pass<'_, CHECKED> {
+impl<O: Orders, const CHECKED: bool> Pass<'_, O, CHECKED> {
     /// Puts a key in, if it is absent.
     #[inline(never)]
     pub fn insert(&mut self, key: u64) -> bool {
@@ -28,7 +28,7 @@ impl<const CHECKED: bool> Pass<'_, CHECKED> {
         let word = self.words.load(key as usize);
         let fits = word >> 32 & 1 == parity;
         let new = ((word >> 32) + 1) << 32 | key;
-        let accepted = fits && self.words.word(key as usize).compare_exchange(word, new, SeqCst, SeqCst).is_ok();
+        let accepted = fits && self.words.exchange(key as usize, word, new);
         self.climb(key);
         accepted
     }
@@ -39,7 +39,7 @@ impl<const CHECKED: bool> Pass<'_, CHECKED> {
         let word = self.words.load(key as usize);
         let serial = word >> 32;
         let new = (serial + 1 + (serial & 1)) << 32 | weight;
-        let accepted = self.words.word(key as usize).compare_exchange(word, new, SeqCst, SeqCst).is_ok();
+        let accepted = self.words.exchange(key as usize, word, new);
         self.climb(key);
         if accepted { 1 + (serial & 1) } else { 0 }
     }

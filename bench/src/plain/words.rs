@@ -1,4 +1,6 @@
+use super::orders::Orders;
 use super::summary::Summary;
+use std::marker::PhantomData;
 use std::sync::atomic::{AtomicU64, Ordering::SeqCst};
 
 // The words of a record: the numbers of the two children, how many members are below, the sum of their weights, and their extent.
@@ -12,9 +14,10 @@ const RECORD: usize = 5;
 /// The trie's words: a leaf for each key, a word for each inner node, level by level, and then the records. Without bounds checks they trust
 /// their callers to ask for keys below `2^bits` and for snapshots of these words, and to make no more updates than there is room for.
 #[derive(Clone, Copy)]
-pub struct Words<'t, const CHECKED: bool> {
-    pub words: &'t [AtomicU64],
+pub struct Words<'t, O, const CHECKED: bool> {
+    words: &'t [AtomicU64],
     pub bits: usize,
+    orders: PhantomData<O>,
 }
 
 /// Zeroed words of so many bytes.
@@ -22,7 +25,11 @@ pub fn room(bytes: u64) -> Vec<AtomicU64> {
     (0..bytes / 8).map(|_| AtomicU64::new(0)).collect()
 }
 
-impl<'t, const CHECKED: bool> Words<'t, CHECKED> {
+impl<'t, O: Orders, const CHECKED: bool> Words<'t, O, CHECKED> {
+    pub fn of(words: &'t [AtomicU64], bits: usize) -> Self {
+        Words { words, bits, orders: PhantomData }
+    }
+
     /// Lays out what is above the leaves: first a record a level for the nodes that cover no member, then one for each other node, level by
     /// level. It gives the number of the first record that is left for updates.
     pub fn open(self) -> u64 {
@@ -48,14 +55,27 @@ impl<'t, const CHECKED: bool> Words<'t, CHECKED> {
     }
 
     #[inline(always)]
-    pub fn word(self, place: usize) -> &'t AtomicU64 {
+    fn word(self, place: usize) -> &'t AtomicU64 {
         // SAFETY: the callers keep to what the type says, and each number in the words is that of a record.
         if CHECKED { &self.words[place] } else { unsafe { self.words.get_unchecked(place) } }
     }
 
+    /// A leaf or a node.
     #[inline(always)]
     pub fn load(self, place: usize) -> u64 {
         self.word(place).load(SeqCst)
+    }
+
+    /// Puts a word in the place of another at a leaf or node, if that is still there.
+    #[inline(always)]
+    pub fn exchange(self, place: usize, old: u64, new: u64) -> bool {
+        self.word(place).compare_exchange(old, new, SeqCst, SeqCst).is_ok()
+    }
+
+    /// A word of a record.
+    #[inline(always)]
+    fn of_record(self, place: usize) -> u64 {
+        self.word(place).load(O::LOAD_RECORD)
     }
 
     #[inline(always)]
@@ -70,7 +90,7 @@ impl<'t, const CHECKED: bool> Words<'t, CHECKED> {
 
     #[inline(always)]
     fn child(self, number: u64, side: usize) -> u64 {
-        self.load(self.record(number) + side)
+        self.of_record(self.record(number) + side)
     }
 
     /// What there is below a word at a level. A leaf is that of the key.
@@ -80,7 +100,7 @@ impl<'t, const CHECKED: bool> Words<'t, CHECKED> {
             return Summary::of_leaf(key, word);
         }
         let record = self.record(word);
-        Summary { count: self.load(record + COUNT), sum: self.load(record + SUM), extent: self.load(record + EXTENT) }
+        Summary { count: self.of_record(record + COUNT), sum: self.of_record(record + SUM), extent: self.of_record(record + EXTENT) }
     }
 
     /// What two words at a level come to, the first of which covers the key.
@@ -92,17 +112,17 @@ impl<'t, const CHECKED: bool> Words<'t, CHECKED> {
     /// How many members there are below a word at a level.
     #[inline(always)]
     fn count(self, level: usize, word: u64) -> u64 {
-        if level == 0 { word >> 32 & 1 } else { self.load(self.record(word) + COUNT) }
+        if level == 0 { word >> 32 & 1 } else { self.of_record(self.record(word) + COUNT) }
     }
 
     #[inline(always)]
     fn fill(self, number: u64, left: u64, right: u64, summary: Summary) {
         let record = self.record(number);
-        self.word(record + LEFT).store(left, SeqCst);
-        self.word(record + RIGHT).store(right, SeqCst);
-        self.word(record + COUNT).store(summary.count, SeqCst);
-        self.word(record + SUM).store(summary.sum, SeqCst);
-        self.word(record + EXTENT).store(summary.extent, SeqCst);
+        self.word(record + LEFT).store(left, O::STORE_RECORD);
+        self.word(record + RIGHT).store(right, O::STORE_RECORD);
+        self.word(record + COUNT).store(summary.count, O::STORE_RECORD);
+        self.word(record + SUM).store(summary.sum, O::STORE_RECORD);
+        self.word(record + EXTENT).store(summary.extent, O::STORE_RECORD);
     }
 
     /// Tries once to put a record of the two children, from `left` on, into a node's word.
@@ -111,7 +131,7 @@ impl<'t, const CHECKED: bool> Words<'t, CHECKED> {
         let old = self.load(node);
         let (one, other) = (self.load(left), self.load(left + 1));
         self.fill(number, one, other, self.joined(level, one, other, first));
-        self.word(node).compare_exchange(old, number, SeqCst, SeqCst).is_ok()
+        self.exchange(node, old, number)
     }
 
     /// The root's record: a snapshot.

@@ -23,7 +23,7 @@ impl Column {
             return Err(format!("{} was run under the name of {}", slice.engine, self.name));
         }
         self.seat = slice.seat;
-        self.rates.push(slice.operations as f64 / slice.time.as_secs_f64() / 1e6);
+        self.rates.push(slice.rate());
         Ok(())
     }
 

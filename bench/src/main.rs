@@ -18,6 +18,7 @@ mod plain;
 mod processors;
 mod random;
 mod runner;
+mod scaling;
 mod shared;
 mod spread;
 mod sums;
@@ -60,6 +61,10 @@ fn run(options: &Options) -> Result<(), String> {
     match (agree, options.check) {
         (false, _) => Err("the engines differ".into()),
         (true, true) => Ok(()),
+        (true, false) if options.scaling => {
+            scaling::print(options);
+            Ok(())
+        }
         (true, false) => measure(options),
     }
 }

@@ -9,6 +9,7 @@ pub const LEAST_BYTES: u64 = 1 << 22;
 /// What the command line asks for.
 pub struct Options {
     pub check: bool,
+    pub scaling: bool,
     pub without: Option<u32>,
     /// The engine of the first number gets the name of that of the second.
     pub renamed: Option<(usize, usize)>,
@@ -30,6 +31,7 @@ usage: bench/run [OPTION..]
   --workload NAME     updates, tenth, queries or batches alone
   --threads N         so many threads alone, and not 1, 2 and 4
   --check             compares the answers of all engines, and measures nothing
+  --scaling           measures queries of the trie alone, with one thread and with four: a line for each pass (see bench/scaling)
 tries what has to be found out:
   --without KEY       all engines but the trie begin without this key
   --rename N M        the engine of number N gets the name of that of number M";
@@ -41,12 +43,17 @@ impl Options {
 
     /// None if the words are wrong.
     pub fn of(mut words: impl Iterator<Item = String>) -> Option<Options> {
-        let (check, without, renamed, into) = (false, None, None, PathBuf::from("."));
+        let (check, scaling, without, renamed, into) = (false, false, None, None, PathBuf::from("."));
         let (passes, slice, bytes) = (9, Duration::from_millis(100), 1 << 24);
-        let mut options = Options { check, without, renamed, passes, slice, bytes, workloads: Workload::ALL.into(), threads: vec![1, 2, 4], into };
+        let mut options = Options { check, scaling, without, renamed, passes, slice, bytes, workloads: Workload::ALL.into(), threads: vec![1, 2, 4], into };
         while let Some(word) = words.next() {
-            if word == "--check" {
-                options.check = true;
+            let flag = match word.as_str() {
+                "--check" => Some(&mut options.check),
+                "--scaling" => Some(&mut options.scaling),
+                _ => None,
+            };
+            if let Some(flag) = flag {
+                *flag = true;
                 continue;
             }
             let value = words.next()?;

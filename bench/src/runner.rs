@@ -32,6 +32,13 @@ pub struct Slice {
     pub seat: &'static str,
 }
 
+impl Slice {
+    /// Million operations a second.
+    pub fn rate(&self) -> f64 {
+        self.operations as f64 / self.time.as_secs_f64() / 1e6
+    }
+}
+
 /// What a thread did.
 struct Lap {
     seat: &'static str,

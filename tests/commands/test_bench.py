@@ -5,12 +5,19 @@ import shutil
 
 from scripts import CopiedScripts
 
-# Stands in for cargo: it notes its words, and builds a program that shows its words.
+# Stands in for cargo: it notes its words, and builds a program that shows its words; or with --scaling says what the file `measured` does, and ends
+# as the file `ends` does.
 CARGO = r"""#!/bin/bash
 echo "$AUGTRIE_LIB: $*" >>"$ROOM/called"
 while (($#)); do if [[ $1 == --target-dir ]]; then target=$2; fi; shift; done
 mkdir -p "$target/release"
-printf '#!/bin/bash\necho "$*"\n' >"$target/release/augtrie_bench"
+cat >"$target/release/augtrie_bench" <<'PROGRAM'
+#!/bin/bash
+if [[ $* != *--scaling ]]; then exec echo "$*"; fi
+echo "$*" >"$ROOM/asked"
+cat "$ROOM/measured"
+exit "$(cat "$ROOM/ends")"
+PROGRAM
 chmod +x "$target/release/augtrie_bench"
 """
 
@@ -30,7 +37,7 @@ if [[ " $* " == *" $(cat "$ROOM/odd") "* ]]; then echo 6; else echo 5; fi
 
 
 class TestBench(CopiedScripts):
-    copied = ["bench/build", "bench/run", "bench/counts"]
+    copied = ["bench/build", "bench/run", "bench/counts", "bench/scaling"]
 
     def setup_method(self):
         super().setup_method()
@@ -66,6 +73,41 @@ class TestBench(CopiedScripts):
         assert (err.count("\n"), status) == (1, 0), err
         assert "the engine 'copies' is left out" in err
         assert "--features" not in self.read("called")
+
+    def scaling(self, ratios, *words, processors=4, ends=0):
+        """What the check of scaling says of passes with these ratios, and how it ends."""
+        self.write("bin/nproc", f"#!/bin/bash\necho {processors}\n", 0o755)
+        self.write("measured", "".join(f"{1 + number / 4} {(1 + number / 4) * it:.4f}\n" for number, it in enumerate(ratios)))
+        self.write("ends", str(ends))
+        out, err, status = self.run_script("bench/scaling", *words, **self.given)
+        return out + err, status
+
+    def test_scaling_fails_if_most_passes_are_below(self):
+        # Two of nine may be better; the worst ones come first, and last.
+        for ratios in [2.49] * 9, [2.4] * 7 + [3.9] * 2, [3.9] * 2 + [1] * 7:
+            said, status = self.scaling(ratios)
+            assert status == 1, said
+            assert said.endswith("scaling: that is less than 2.5 times\n")
+
+    def test_scaling_passes_if_a_quarter_of_the_passes_is_not_below(self):
+        for ratios, told in (([2.5] * 9, "2.50 (2.50 to 2.50)"), ([1, 3, 1.5, 3.1, 1, 2.6, 1.2, 1.1, 1], "1.20 (1.00 to 2.60)")):
+            said, status = self.scaling(ratios)
+            assert (said, status) == (f"four threads ask {told} times as much as one, over 9 passes\n", 0)
+
+    def test_scaling_needs_nine_passes(self):
+        for ratios in [], [3] * 8:
+            assert self.scaling(ratios) == (f"scaling: there are {len(ratios)} passes, and 9 are needed\n", 1)
+
+    def test_scaling_hands_words_on(self):
+        assert self.scaling([3] * 9, "--bytes", "5000000")[1] == 0
+        assert self.read("asked") == "--bytes 5000000 --scaling\n"
+
+    def test_scaling_fails_with_the_benchmark(self):
+        assert self.scaling([3] * 9, ends=7)[1] == 7
+
+    def test_scaling_is_left_out_with_three_processors(self):
+        assert self.scaling([1] * 9, processors=3) == ("scaling: left out, since there are fewer than 4 processors\n", 0)
+        assert not os.path.exists(self.path("called"))
 
     def test_counts_each_operation_of_each_form(self):
         out, err, status = self.run_script("bench/counts", **self.given)

@@ -10,11 +10,14 @@ pub struct Column {
     pub seat: &'static str,
     /// Million operations a second.
     rates: Vec<f64>,
+    /// The quantiles of its calls, and the longest, in microseconds.
+    times: Vec<Vec<f64>>,
+    pub left_out: u64,
 }
 
 impl Column {
     pub fn of(entry: &Entry) -> Column {
-        Column { name: entry.name, locks: entry.locks, seat: "", rates: Vec::new() }
+        Column { name: entry.name, locks: entry.locks, seat: "", rates: Vec::new(), times: Vec::new(), left_out: 0 }
     }
 
     /// Takes a slice down, if the engine of this name made it.
@@ -24,11 +27,18 @@ impl Column {
         }
         self.seat = slice.seat;
         self.rates.push(slice.rate());
+        self.times.push(slice.calls.0.times());
+        self.left_out += slice.calls.0.left_out;
         Ok(())
     }
 
     pub fn rate(&self) -> Spread {
         Spread::of(self.rates.iter().copied())
+    }
+
+    /// The quantiles of its calls, and the longest, in microseconds.
+    pub fn times(&self) -> impl Iterator<Item = Spread> {
+        (0..self.times[0].len()).map(|at| Spread::of(self.times.iter().map(|times| times[at])))
     }
 
     /// This as a part of another, each pass by itself.

@@ -2,6 +2,7 @@ use crate::engine::{Seat, Set};
 use crate::operation::{Answer, Change, Query, Update};
 use crate::shared::Shareable;
 use crate::sums::Sums;
+use crate::waits;
 use arc_swap::ArcSwap;
 use std::hint::spin_loop;
 use std::sync::{Arc, Mutex};
@@ -17,6 +18,7 @@ pub struct Copies {
 /// The copy to itself, once its last reader is done.
 fn alone(copy: &mut Arc<Sums>) -> &mut Sums {
     while Arc::get_mut(copy).is_none() {
+        waits::note();
         spin_loop();
     }
     Arc::get_mut(copy).expect("nobody can load it")

@@ -1,6 +1,5 @@
-use std::hint::spin_loop;
 use std::sync::atomic::{AtomicBool, AtomicUsize, Ordering::SeqCst};
-use std::thread::sleep;
+use std::thread::{sleep, yield_now};
 use std::time::{Duration, Instant};
 
 /// Where threads begin and end together.
@@ -19,7 +18,7 @@ impl Course {
     pub fn begin(&self) {
         self.come.fetch_add(1, SeqCst);
         while self.come.load(SeqCst) < self.threads {
-            spin_loop();
+            yield_now();
         }
     }
 
@@ -28,12 +27,15 @@ impl Course {
         self.over.load(SeqCst)
     }
 
-    /// Ends it so long after all have come, and says when.
-    pub fn end_after(&self, length: Duration) -> Instant {
+    /// Waits for all threads, and does not begin.
+    pub fn wait(&self) {
         while self.come.load(SeqCst) < self.threads {
             sleep(Duration::from_micros(200));
         }
-        sleep(length);
+    }
+
+    /// Ends it, and says when.
+    pub fn end(&self) -> Instant {
         let end = Instant::now();
         self.over.store(true, SeqCst);
         end

@@ -7,15 +7,20 @@ use crate::users::Users;
 use std::collections::BTreeMap;
 use std::sync::{Mutex, RwLock};
 
+/// The engines that are measured with threads that are put aside.
+const PUT_ASIDE: [&str; 4] = ["trie", "mutex", "rwlock", "copies"];
+
 /// An engine, with the name that it has in the table, and what its type says of it.
 pub struct Entry {
     pub name: &'static str,
     pub locks: bool,
+    /// Whether it is measured with threads that are put aside.
+    pub is_put_aside: bool,
     pub runner: Box<dyn Runner>,
 }
 
 fn entry<E: Engine + 'static>(threads: usize, bytes: u64) -> Entry {
-    Entry { name: E::NAME, locks: E::LOCKS, runner: Box::new(E::new(threads, bytes)) }
+    Entry { name: E::NAME, locks: E::LOCKS, is_put_aside: PUT_ASIDE.contains(&E::NAME), runner: Box::new(E::new(threads, bytes)) }
 }
 
 /// All engines for so many threads, the trie first, each with every second key; all but the trie without one key, if that is asked for.

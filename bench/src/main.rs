@@ -1,5 +1,7 @@
 //! Measures the trie beside sets behind locks, two copies of a set, and the same algorithm in plain Rust: see `README.md`.
 mod apart;
+mod aside;
+mod calls;
 mod case;
 mod check;
 mod column;
@@ -20,11 +22,15 @@ mod random;
 mod runner;
 mod scaling;
 mod shared;
+mod signals;
 mod spread;
 mod sums;
+mod switches;
 mod table;
 mod tree;
 mod users;
+mod waits;
+mod watch;
 mod workload;
 
 use options::{Options, USAGE};
@@ -35,7 +41,7 @@ use std::process::ExitCode;
 fn measure(options: &Options) -> Result<(), String> {
     let (places, mut measured) = (processors::allowed().len(), Vec::new());
     for case in options.cases() {
-        if case.threads > places {
+        if case.processors() > places {
             eprintln!("bench: {case} are left out, since there are {places} processors");
         } else {
             eprintln!("bench: {case}");

@@ -1,3 +1,4 @@
+use crate::aside::Aside;
 use crate::case::Case;
 use crate::workload::Workload;
 use std::path::PathBuf;
@@ -19,6 +20,7 @@ pub struct Options {
     pub bytes: u64,
     pub workloads: Vec<Workload>,
     pub threads: Vec<usize>,
+    pub asides: Vec<Aside>,
     pub into: PathBuf,
 }
 
@@ -26,10 +28,10 @@ pub const USAGE: &str = "\
 usage: bench/run [OPTION..]
   --into FOLDER       where throughput.md and throughput.svg go (bench/out if not given)
   --passes N          how often each engine gets its turn (9)
-  --slice MS          how long a turn is, in milliseconds (100)
+  --slice MS          how long a turn is, in milliseconds (100); where threads are put aside, it is ten times as long
   --bytes N           what the table of the trie may take, 4194304 to 536870912 (16777216)
-  --workload NAME     updates, tenth, queries or batches alone
-  --threads N         so many threads alone, and not 1, 2 and 4
+  --workload NAME     updates, tenth, queries, batches, suspended or crowded alone
+  --threads N         so many threads alone, and not 1, 2 and 4; where threads are put aside, there are 4 or 16 all the same
   --check             compares the answers of all engines, and measures nothing
   --scaling           measures queries of the trie alone, with one thread and with four: a line for each pass (see bench/scaling)
 tries what has to be found out:
@@ -38,14 +40,15 @@ tries what has to be found out:
 
 impl Options {
     pub fn cases(&self) -> impl Iterator<Item = Case> {
-        self.workloads.iter().flat_map(move |&workload| self.threads.iter().map(move |&threads| Case { workload, threads }))
+        let cases = self.workloads.iter().flat_map(|&workload| self.threads.iter().map(move |&threads| Case::new(workload, threads)));
+        cases.chain(self.asides.iter().map(|&aside| Case::put_aside(aside)))
     }
 
     /// None if the words are wrong.
     pub fn of(mut words: impl Iterator<Item = String>) -> Option<Options> {
         let (check, scaling, without, renamed, into) = (false, false, None, None, PathBuf::from("."));
         let (passes, slice, bytes) = (9, Duration::from_millis(100), 1 << 24);
-        let mut options = Options { check, scaling, without, renamed, passes, slice, bytes, workloads: Workload::ALL.into(), threads: vec![1, 2, 4], into };
+        let mut options = Options { check, scaling, without, renamed, passes, slice, bytes, workloads: Workload::ALL.into(), threads: vec![1, 2, 4], asides: Aside::ALL.into(), into };
         while let Some(word) = words.next() {
             let flag = match word.as_str() {
                 "--check" => Some(&mut options.check),
@@ -64,7 +67,13 @@ impl Options {
                 "--passes" => options.passes = number().filter(|&it| it > 0)? as usize,
                 "--slice" => options.slice = Duration::from_millis(number().filter(|&it| it > 0)?.into()),
                 "--bytes" => options.bytes = number().map(u64::from).filter(|it| (LEAST_BYTES..=1 << 29).contains(it))?,
-                "--workload" => options.workloads = vec![Workload::ALL.into_iter().find(|it| it.name() == value)?],
+                "--workload" => {
+                    options.workloads = Workload::ALL.into_iter().filter(|it| it.name() == value).collect();
+                    options.asides = Aside::ALL.into_iter().filter(|it| it.name() == value).collect();
+                    if options.workloads.is_empty() && options.asides.is_empty() {
+                        return None;
+                    }
+                }
                 "--threads" => options.threads = vec![number().filter(|it| (1..=64).contains(it))? as usize],
                 "--into" => options.into = value.into(),
                 _ => return None,

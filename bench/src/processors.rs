@@ -16,10 +16,10 @@ pub fn allowed() -> Vec<usize> {
     (0..64 * mask.len()).filter(|number| mask[number / 64] >> (number % 64) & 1 == 1).collect()
 }
 
-/// Keeps the calling thread on one processor.
-pub fn place(number: usize) {
+/// Keeps the calling thread on some processors.
+pub fn place(numbers: &[usize]) {
     let mut mask: Mask = [0; 16];
-    mask[number / 64] = 1 << (number % 64);
+    numbers.iter().for_each(|number| mask[number / 64] |= 1 << (number % 64));
     // SAFETY: the mask has as many bytes as are said.
     assert_eq!(unsafe { sched_setaffinity(0, size_of::<Mask>(), &mask) }, 0, "a thread could not be placed");
 }

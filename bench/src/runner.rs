@@ -1,12 +1,18 @@
+use crate::apart::Apart;
+use crate::aside::Aside;
+use crate::calls::Calls;
 use crate::case::Case;
 use crate::course::Course;
 use crate::engine::{Engine, Seat};
 use crate::operation::{Answer, Change, KEYS, Operation, Query, Update};
 use crate::processors;
 use crate::random::Random;
+use crate::signals;
+use crate::watch::{Blind, Stopwatch, Watch};
 use crate::workload::Workload;
 use std::any::type_name;
 use std::hint::black_box;
+use std::sync::atomic::{AtomicU64, Ordering::SeqCst};
 use std::thread;
 use std::time::{Duration, Instant};
 
@@ -30,6 +36,8 @@ pub struct Slice {
     pub engine: &'static str,
     /// The type that the threads worked with.
     pub seat: &'static str,
+    /// How long the calls took, if threads were put aside.
+    pub calls: Box<Apart<Calls>>,
 }
 
 impl Slice {
@@ -47,6 +55,7 @@ struct Lap {
     growth: i64,
     came: Instant,
     began: Instant,
+    calls: Box<Apart<Calls>>,
 }
 
 /// Makes an operation: by how much the set grew.
@@ -66,35 +75,43 @@ fn made(seat: &mut impl Seat, operation: Operation) -> i64 {
 }
 
 /// What a thread does: an operation that is not done at the end does not count.
-fn lap<S: Seat>(seat: &mut S, workload: Workload, mut random: Random, course: &Course) -> Lap {
+fn lap<S: Seat, W: Watch>(seat: &mut S, workload: Workload, mut random: Random, course: &Course) -> Lap {
     let before = (0..workload.updates_before()).map(|number| made(seat, Workload::Updates.draw(number, &mut random)));
     let (mut operations, mut growth) = (0, before.sum());
     let came = Instant::now();
     course.begin();
     let began = Instant::now();
+    let mut watch = W::begin();
     loop {
         growth += made(seat, workload.draw(operations, &mut random));
         if course.is_over() {
-            return Lap { seat: type_name::<S>(), operations, growth, came, began };
+            return Lap { seat: type_name::<S>(), operations, growth, came, began, calls: watch.calls() };
         }
+        watch.done();
         operations += 1;
     }
 }
 
 /// Runs a thread for each seat: their laps, and the time. What else a thread writes at each call, its counters and its random numbers, lies on
-/// its own stack.
-fn laps<S: Seat + Send>(seats: &mut [S], workload: Workload, length: Duration, seed: u64) -> (Vec<Lap>, Option<Duration>) {
-    let (course, places) = (&Course::new(seats.len()), processors::allowed());
+/// its own stack, or on lines of its own.
+fn laps<S: Seat + Send, W: Watch>(seats: &mut [S], case: Case, length: Duration, seed: u64) -> (Vec<Lap>, Option<Duration>) {
+    let (course, places) = (&Course::new(seats.len()), &processors::allowed());
+    let names: &Vec<AtomicU64> = &seats.iter().map(|_| AtomicU64::new(0)).collect();
     thread::scope(|scope| {
         let start = |(thread, seat)| {
-            let place = places[thread];
             scope.spawn(move || {
-                processors::place(place);
-                lap(seat, workload, Random::of(seed, thread as u64), course)
+                processors::place(if case.aside == Some(Aside::Crowded) { &places[..Aside::PROCESSORS] } else { &places[thread..=thread] });
+                names[thread].store(signals::own(), SeqCst);
+                lap::<S, W>(seat, case.workload, Random::of(seed, thread as u64), course)
             })
         };
         let threads: Vec<_> = seats.iter_mut().enumerate().map(start).collect();
-        let end = course.end_after(length);
+        course.wait();
+        match case.aside {
+            Some(Aside::Suspended) => signals::suspend_in_turn(&names.iter().map(|name| name.load(SeqCst)).collect::<Vec<_>>(), length),
+            Some(Aside::Crowded) | None => thread::sleep(length),
+        }
+        let end = course.end();
         let laps: Vec<Lap> = threads.into_iter().map(|thread| thread.join().expect("no thread panics")).collect();
         let time = time(&laps, end);
         (laps, time)
@@ -143,12 +160,15 @@ impl<E: Engine> Runner for E {
     fn slice(&mut self, case: Case, length: Duration, pass: u64) -> Slice {
         let (mut want, mut turn) = (size(self), 0);
         loop {
-            let (laps, time) = laps(&mut self.seats(case.threads), case.workload, length * (1 << turn), pass << 32 | turn);
+            let laps = if case.aside.is_some() { laps::<_, Stopwatch> } else { laps::<_, Blind> };
+            let (laps, time) = laps(&mut self.seats(case.threads), case, length * (1 << turn), pass << 32 | turn);
             want += laps.iter().map(|lap| lap.growth).sum::<i64>();
             assert_eq!(size(self), want, "the set of {} does not have the size that its answers tell", E::NAME);
             let operations = laps.iter().map(|lap| lap.operations).sum();
             if let Some(time) = time.filter(|_| operations > 0) {
-                return Slice { operations, time, engine: E::NAME, seat: laps[0].seat };
+                let mut calls = Box::<Apart<Calls>>::default();
+                laps.iter().for_each(|lap| calls.0.add_all(&lap.calls.0));
+                return Slice { operations, time, engine: E::NAME, seat: laps[0].seat, calls };
             }
             turn += 1;
         }

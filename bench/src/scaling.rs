@@ -15,8 +15,7 @@ pub fn print(options: &Options) {
     users.fill(None);
     for pass in 0..options.passes {
         let mut rate = |threads| {
-            let case = Case { workload: Workload::Queries, threads };
-            users.slice(case, options.slice, pass as u64).rate()
+            users.slice(Case::new(Workload::Queries, threads), options.slice, pass as u64).rate()
         };
         let (one, four) = if pass % 2 == 0 {
             let one = rate(1);

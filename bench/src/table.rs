@@ -7,12 +7,19 @@ use std::fmt::Display;
 pub fn table(options: &Options, measured: &[(Case, Vec<Column>)]) -> String {
     let head = std::env::var("BENCH_HEAD").unwrap_or_default();
     let (passes, length, bytes) = (options.passes, options.slice.as_millis(), options.bytes);
+    let (together, aside): (Vec<_>, Vec<_>) = measured.iter().partition(|(case, _)| case.aside.is_none());
+    let mut tables = Vec::new();
+    if !together.is_empty() {
+        tables.extend([rates(&together), ratios(&together)]);
+    }
+    if !aside.is_empty() {
+        tables.push(times(&aside));
+    }
+    tables.push(seats(&measured[0].1));
     format!(
-        "# Throughput\n\n{head}- Passes: {passes}, in each {length} ms an engine; tables of at most {bytes} bytes\n\n\
-         Each number is a median, with the quartiles behind it. A ratio is taken within a pass.\n\n{}\n{}\n{}",
-        rates(measured),
-        ratios(measured),
-        seats(&measured[0].1),
+        "# Throughput\n\n{head}- Passes: {passes}, in each {length} ms an engine, ten times that where threads are put aside; tables of at most {bytes} bytes\n\n\
+         Each number is a median, with the quartiles behind it. A ratio is taken within a pass.\n\n{}",
+        tables.join("\n"),
     )
 }
 
@@ -26,13 +33,13 @@ fn title(row: String) -> String {
     format!("{row}{line}|\n")
 }
 
-fn rates(measured: &[(Case, Vec<Column>)]) -> String {
+fn rates(measured: &[&(Case, Vec<Column>)]) -> String {
     let names = measured[0].1.iter().map(|column| column.name);
     let rows = measured.iter().map(|(case, columns)| row(case, columns.iter().map(Column::rate)));
     title(row("Million operations a second", names)) + &rows.collect::<String>()
 }
 
-fn ratios(measured: &[(Case, Vec<Column>)]) -> String {
+fn ratios(measured: &[&(Case, Vec<Column>)]) -> String {
     let names = measured[0].1[1..].iter().map(|column| column.name);
     let rows = measured.iter().map(|(case, columns)| {
         let (trie, others) = columns.split_first().expect("the trie is the first");
@@ -42,6 +49,18 @@ fn ratios(measured: &[(Case, Vec<Column>)]) -> String {
         row(case, [first].into_iter().chain(others.iter().map(|column| trie.part_of(column).to_string())))
     });
     title(row("The trie's throughput as a part of", ["the best lock's"].into_iter().chain(names))) + &rows.collect::<String>()
+}
+
+/// How long calls took where threads were put aside, in microseconds.
+fn times(measured: &[&(Case, Vec<Column>)]) -> String {
+    let parts = ["half", "99 of 100", "999 of 1,000", "9,999 of 10,000", "99,999 of 100,000", "the longest"];
+    let titles = ["million operations a second"].into_iter().chain(parts).chain(["calls left out"]);
+    let rows = measured.iter().flat_map(|(case, columns)| columns.iter().map(move |column| (case, column)));
+    let rows = rows.map(|(case, column)| {
+        let spreads = [column.rate()].into_iter().chain(column.times()).map(|spread| spread.to_string());
+        row(format!("{case}: {}", column.name), spreads.chain([column.left_out.to_string()]))
+    });
+    title(row("Microseconds of a call", titles)) + &rows.collect::<String>()
 }
 
 fn seats(columns: &[Column]) -> String {

@@ -2,7 +2,9 @@
 
 import os
 import shutil
+import subprocess
 
+from common import SECONDS, TOP
 from scripts import CopiedScripts
 
 # Stands in for cargo: it notes its words, and builds a program that shows its words; or with --scaling says what the file `measured` does, and ends
@@ -126,3 +128,12 @@ class TestBench(CopiedScripts):
         out, err, status = self.run_script("bench/counts", "rank", **self.given)
         assert (len(out.splitlines()), status) == (4, 1)
         assert err == "counts: plain Rust, no bounds checks does not answer rank as the library does\n"
+
+    def test_quantiles_of_calls(self):
+        # The file stands alone, so its own tests need neither cargo nor the library.
+        if not shutil.which("rustc"):
+            return
+        program = self.path("calls")
+        subprocess.run(["rustc", "--test", "--edition", "2024", "-A", "dead_code", os.path.join(TOP, "bench/src/calls.rs"), "-o", program], check=True, timeout=SECONDS)
+        ran = subprocess.run([program], capture_output=True, text=True, timeout=SECONDS)
+        assert (ran.returncode, "test result: ok. 3 passed" in ran.stdout) == (0, True), ran.stdout

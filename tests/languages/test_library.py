@@ -67,6 +67,10 @@ if not glob.glob("/usr/share/cargo/registry/arc-swap-*"):
 
 WORKLOADS = ["updates", "tenth", "queries", "batches"]
 
+# How the benchmark puts threads aside, and the engines that it measures then.
+ASIDE = {"suspended": "one of 4 threads suspended", "crowded": "16 threads on 4 processors"}
+ENGINES_ASIDE = [name for name in ENGINES if name in ("trie", "mutex", "rwlock", "copies")]
+
 # What the crowd prints.
 CROWD = re.compile(r"ok: \d{4,} operations, \d{3,} looks\n")
 
@@ -509,6 +513,26 @@ class Bench:
         for case in cases:
             self.check_case(rates[case], ratios[case])
         self.check_picture(os.path.join(self.folder, "measured", "throughput.svg"), len(cases) // len(WORKLOADS))
+        if processors >= 4:
+            self.check_times(table(lines, "Microseconds of a call"), ASIDE.values())
+
+    def check_times(self, rows, cases):
+        """Each engine has a row, whose quantiles rise. Of one pass, each median is the number itself."""
+        assert list(rows) == [f"{case}: {name}" for case in cases for name in ENGINES_ASIDE]
+        for row in rows.values():
+            rate, *times = [float(cell.partition(" ")[0]) for cell in list(row.values())[1:-1]]
+            assert rate > 0 and len(times) == 6 and 0 < times[0], row
+            assert times == sorted(times), row
+
+    def test_bench_suspends_threads(self):
+        if len(os.sched_getaffinity(0)) < 4:
+            return
+        # A turn of 200 ms has three suspensions, each of which falls into one call.
+        folder = os.path.join(self.folder, "suspended")
+        said = self.script("run", "--passes", "1", "--slice", "20", "--workload", "suspended", "--into", folder)
+        rows = table(said.splitlines(), "Microseconds of a call")
+        self.check_times(rows, [ASIDE["suspended"]])
+        assert min(int(row["calls left out"]) for row in rows.values()) >= 3, rows
 
     def check_case(self, rates, ratios):
         """Holds the numbers of a case to one another. Of one pass, each median is the number itself."""

@@ -15,7 +15,6 @@ mod fenwick;
 mod locked;
 mod operation;
 mod options;
-mod picture;
 mod plain;
 mod processors;
 mod random;
@@ -37,7 +36,7 @@ use options::{Options, USAGE};
 use std::fs;
 use std::process::ExitCode;
 
-/// Measures all cases, and writes the table and the picture.
+/// Measures all cases, and writes the tables.
 fn measure(options: &Options) -> Result<(), String> {
     let (places, mut measured) = (processors::allowed().len(), Vec::new());
     for case in options.cases() {
@@ -55,7 +54,6 @@ fn measure(options: &Options) -> Result<(), String> {
     print!("{table}");
     fs::create_dir_all(&options.into)
         .and_then(|()| fs::write(options.into.join("throughput.md"), table))
-        .and_then(|()| fs::write(options.into.join("throughput.svg"), picture::picture(&measured)))
         .map_err(|cause| format!("{}: {cause}", options.into.display()))
 }
 

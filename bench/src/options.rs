@@ -26,7 +26,7 @@ pub struct Options {
 
 pub const USAGE: &str = "\
 usage: bench/run [OPTION..]
-  --into FOLDER       where throughput.md and throughput.svg go (bench/out if not given)
+  --into FOLDER       where throughput.md goes, and throughput.svg by bench/picture (bench/out if not given)
   --passes N          how often each engine gets its turn (9)
   --slice MS          how long a turn is, in milliseconds (100); where threads are put aside, it is ten times as long
   --bytes N           what the table of the trie may take, 4194304 to 536870912 (16777216)

@@ -3,6 +3,7 @@
 import os
 import shutil
 import subprocess
+import xml.etree.ElementTree
 
 from common import SECONDS, TOP
 from scripts import CopiedScripts
@@ -37,9 +38,89 @@ echo "==1== Collected : $all" >&2
 if [[ " $* " == *" $(cat "$ROOM/odd") "* ]]; then echo 6; else echo 5; fi
 """
 
+ENGINES = ["trie", "plain", "plain, SeqCst", "mutex", "rwlock", "btree", "copies"]
+
+
+def table(workloads):
+    """What bench/run writes of the rates of each engine, by workloads and numbers of threads. The quartiles lie a tenth beside the medians."""
+    lines = ["# Throughput", "", "| Million operations a second | " + " | ".join(ENGINES) + " |", "|---" * 8 + "|"]
+    for workload, by_threads in workloads.items():
+        for threads, rates in by_threads.items():
+            cells = [f"{workload}, {threads} thread{'s' * (threads > 1)}", *(f"{it} ({it * 0.9} to {it * 1.1})" for it in rates)]
+            lines.append(f"| {' | '.join(cells)} |")
+    return "\n".join(lines + ["", "| The trie's throughput as a part of | plain |", "|---|---|", "| tenth, 1 thread | 7 (7 to 7) |", ""])
+
+
+class TestPicture(CopiedScripts):
+    copied = ["bench/picture"]
+
+    def panels(self, workloads):
+        """The panels of a picture: their elements by their classes, in their order."""
+        self.write("table.md", table(workloads))
+        out, err, status = self.run_script("bench/picture", "table.md")
+        assert (err, status) == ("", 0)
+        found = []
+        for panel in xml.etree.ElementTree.fromstring(out).findall("{*}g"):
+            found.append({})
+            for it in panel:
+                found[-1].setdefault(it.get("class").split()[0], []).append(it)
+        assert len(found) == len(workloads)
+        return found
+
+    def test_names_each_workload_and_what_is_better(self):
+        panels = self.panels({"updates": {1: [1] * 7}, "tenth": {1: [2] * 7}, "queries": {1: [3] * 7}})
+        assert [it["title"][0].text for it in panels] == ["updates", "tenth", "queries"]
+        for panel in panels:
+            said = [it.text for it in panel["quiet"]]
+            assert "million operations a second, more is better; logarithmic" in said and "threads" in said, said
+
+    def test_names_each_engine_beside_the_end_of_its_line(self):
+        rates = {1: [5, 5, 5, 5, 5, 5, 5], 2: [1, 8, 64, 2, 512, 30, 0.05]}
+        (panel,) = self.panels({"tenth": rates})
+        assert [it.text for it in panel["name"]] == ENGINES
+        lowest_first = sorted(ENGINES, key=lambda name: rates[2][ENGINES.index(name)])
+        assert sorted(ENGINES, key=lambda name: -float(panel["name"][ENGINES.index(name)].get("y"))) == lowest_first
+        lines = {it.get("class").split()[1]: it.get("d")[1:].split("L") for it in panel["line"]}
+        for name, lead in zip(panel["name"], panel["lead"]):
+            (x, y), (far, at) = (map(float, end.split()) for end in lead.get("d")[1:].split("L"))
+            line_x, line_y = map(float, lines[name.get("class").split()[1]][-1].split())
+            assert line_x < x < far < float(name.get("x")), name.text
+            assert (line_y, abs(float(name.get("y")) - at - 4) < 0.11) == (y, True), name.text
+
+    def test_names_do_not_overlap(self):
+        at_the_top, at_the_bottom = [9.9] * 6 + [0.1], [0.1] * 6 + [9.9]
+        for rates in [1] * 7, [1, 1.01, 1.02, 0.99, 0.98, 1, 1], [1, 1, 1, 1.3, 1.3, 1.3, 1.3], at_the_top, at_the_bottom:
+            (panel,) = self.panels({"tenth": {1: [3] * 7, 4: rates}})
+            heights = sorted(float(it.get("y")) for it in panel["name"])
+            assert min(high - low for low, high in zip(heights, heights[1:])) > 13.8, heights
+            axis = [float(it.get("d")[1:].partition("H")[0].split()[1]) for it in panel["grid"]]
+            assert min(axis) <= heights[0] and heights[-1] <= max(axis) + 4.1, (heights, axis)
+
+    def test_axis_is_logarithmic(self):
+        rates = [0.01, 0.1, 1, 10, 100, 20, 200]
+        (panel,) = self.panels({"tenth": {1: rates}})
+        # Lines are drawn from the last engine to the first.
+        height = {rate: float(it.get("cy")) for rate, it in zip(reversed(rates), panel["dot"])}
+        steps = [height[low] - height[10 * low] for low in (0.01, 0.1, 1, 10, 20)]
+        assert max(steps) - min(steps) < 0.3 and steps[0] > 20, steps
+        for tick, line in zip(panel["quiet"][1:], panel["grid"]):
+            if float(tick.text) in height:
+                assert abs(float(line.get("d").partition("H")[0].split()[1]) - height[float(tick.text)]) < 0.2, tick.text
+
+    def test_bars_go_from_quartile_to_quartile(self):
+        (panel,) = self.panels({"tenth": {1: [1, 10, 1, 1, 1, 1, 1], 2: [1] * 7}})
+        for dot, bar in zip(panel["dot"], panel["bar"]):
+            low, high = map(float, bar.get("d").partition(" ")[2].split("V"))
+            assert high < float(dot.get("cy")) < low
+
+    def test_file_without_rates(self):
+        self.write("table.md", "| Microseconds of a call | half |\n")
+        out, err, status = self.run_script("bench/picture", "table.md")
+        assert (out, err, status) == ("", "picture: there is no table of million operations a second\n", 1)
+
 
 class TestBench(CopiedScripts):
-    copied = ["bench/build", "bench/run", "bench/counts", "bench/scaling"]
+    copied = ["bench/build", "bench/run", "bench/counts", "bench/scaling", "bench/picture"]
 
     def setup_method(self):
         super().setup_method()
@@ -83,6 +164,18 @@ class TestBench(CopiedScripts):
         self.write("ends", str(ends))
         out, err, status = self.run_script("bench/scaling", *words, **self.given)
         return out + err, status
+
+    def test_draws_the_table_where_it_was_written(self):
+        for words, folder in ([], "bench/out"), (["--passes", "3", "--into", "here"], "here"):
+            self.write(f"{folder}/throughput.md", table({"tenth": {1: [1] * 7, 4: [2] * 7}}))
+            out, err, status = self.run_script("bench/run", *words, **self.given)
+            assert (out, err, status) == (f"{' '.join(['--into', self.path('bench/out'), *words])}\n", "", 0)
+            assert ">tenth<" in self.read(f"{folder}/throughput.svg")
+
+    def test_draws_nothing_without_a_table_of_rates(self):
+        self.write("bench/out/throughput.md", "| Microseconds of a call | half |\n")
+        assert self.run_script("bench/run", **self.given)[2] == 0
+        assert not os.path.exists(self.path("bench/out/throughput.svg"))
 
     def test_scaling_fails_if_most_passes_are_below(self):
         # Two of nine may be better; the worst ones come first, and last.

@@ -552,7 +552,7 @@ class Bench:
         panels = xml.etree.ElementTree.parse(path).getroot().findall(f"{name}g")
         assert len(panels) == len(WORKLOADS)
         for panel in panels:
-            lines = [it.get("d") for it in panel.findall(f"{name}path") if it.get("stroke-width") == "2"]
+            lines = [it.get("d") for it in panel.findall(f"{name}path") if it.get("class").startswith("line ")]
             assert len(lines) == len(ENGINES)
             assert {line.count("L") + 1 for line in lines} == {points}
 

@@ -4,8 +4,8 @@ use crate::plain::{Pass, SeqCst, Words, room};
 /// The table is not full before all is done.
 const BYTES: u64 = 1 << 25;
 
-/// Makes an operation of the plain algorithm, with the orders of the library, so many times, for a counter of instructions: the sum of the answers. `ops.c` does the same of the
-/// library.
+/// Makes an operation of the plain algorithm so many times, in the library's orders, for a counter of instructions: the sum of the answers. `ops.c`
+/// does the same of the library.
 pub fn count<const CHECKED: bool>(operation: &str, times: u32) -> Option<u64> {
     let table = room(BYTES);
     let words = Words::<SeqCst, CHECKED>::of(&table, BITS as usize);

@@ -44,11 +44,32 @@ impl Options {
         cases.chain(self.asides.iter().map(|&aside| Case::put_aside(aside)))
     }
 
+    fn new() -> Options {
+        Options {
+            check: false,
+            scaling: false,
+            without: None,
+            renamed: None,
+            passes: 9,
+            slice: Duration::from_millis(100),
+            bytes: 1 << 24,
+            workloads: Workload::ALL.into(),
+            threads: vec![1, 2, 4],
+            asides: Aside::ALL.into(),
+            into: ".".into(),
+        }
+    }
+
+    /// Leaves the workload of this name alone, if there is one.
+    fn choose(&mut self, name: &str) -> Option<()> {
+        self.workloads.retain(|it| it.name() == name);
+        self.asides.retain(|it| it.name() == name);
+        (self.workloads.len() + self.asides.len() > 0).then_some(())
+    }
+
     /// None if the words are wrong.
     pub fn of(mut words: impl Iterator<Item = String>) -> Option<Options> {
-        let (check, scaling, without, renamed, into) = (false, false, None, None, PathBuf::from("."));
-        let (passes, slice, bytes) = (9, Duration::from_millis(100), 1 << 24);
-        let mut options = Options { check, scaling, without, renamed, passes, slice, bytes, workloads: Workload::ALL.into(), threads: vec![1, 2, 4], asides: Aside::ALL.into(), into };
+        let mut options = Options::new();
         while let Some(word) = words.next() {
             let flag = match word.as_str() {
                 "--check" => Some(&mut options.check),
@@ -67,13 +88,7 @@ impl Options {
                 "--passes" => options.passes = number().filter(|&it| it > 0)? as usize,
                 "--slice" => options.slice = Duration::from_millis(number().filter(|&it| it > 0)?.into()),
                 "--bytes" => options.bytes = number().map(u64::from).filter(|it| (LEAST_BYTES..=1 << 29).contains(it))?,
-                "--workload" => {
-                    options.workloads = Workload::ALL.into_iter().filter(|it| it.name() == value).collect();
-                    options.asides = Aside::ALL.into_iter().filter(|it| it.name() == value).collect();
-                    if options.workloads.is_empty() && options.asides.is_empty() {
-                        return None;
-                    }
-                }
+                "--workload" => options.choose(&value)?,
                 "--threads" => options.threads = vec![number().filter(|it| (1..=64).contains(it))? as usize],
                 "--into" => options.into = value.into(),
                 _ => return None,

@@ -17,7 +17,8 @@ pub fn table(options: &Options, measured: &[(Case, Vec<Column>)]) -> String {
     }
     tables.push(seats(&measured[0].1));
     format!(
-        "# Throughput\n\n{head}- Passes: {passes}, in each {length} ms an engine, ten times that where threads are put aside; tables of at most {bytes} bytes\n\n\
+        "# Throughput\n\n{head}- Passes: {passes}, in each {length} ms an engine, or ten times that where threads are put aside; tables of at most \
+         {bytes} bytes\n\n\
          Each number is a median, with the quartiles behind it. A ratio is taken within a pass.\n\n{}",
         tables.join("\n"),
     )

@@ -227,6 +227,7 @@ class TestBench(CopiedScripts):
         if not shutil.which("rustc"):
             return
         program = self.path("calls")
-        subprocess.run(["rustc", "--test", "--edition", "2024", "-A", "dead_code", os.path.join(TOP, "bench/src/calls.rs"), "-o", program], check=True, timeout=SECONDS)
+        words = ["rustc", "--test", "--edition", "2024", "-A", "dead_code", os.path.join(TOP, "bench/src/calls.rs"), "-o", program]
+        subprocess.run(words, check=True, timeout=SECONDS)
         ran = subprocess.run([program], capture_output=True, text=True, timeout=SECONDS)
         assert (ran.returncode, "test result: ok. 3 passed" in ran.stdout) == (0, True), ran.stdout

@@ -206,19 +206,39 @@ int64_t aug_close(aug_trie *trie, aug_report *report) {
 
 /* ---- Calls of a user ---- */
 
+/* What is seldom done stands out of line, so that a call keeps few registers. */
+#if defined(__GNUC__)
+#define SELDOM __attribute__((noinline, cold))
+#else
+#define SELDOM
+#endif
+
+static SELDOM int64_t slept(void) {
+    sleep_a_little();
+    return AUG_OK;
+}
+
 int64_t aug_look_done(aug_user *user) {
-    int64_t code = user ? aug_try_look_done(user) : AUG_CLOSED;
+    if (!user) return AUG_CLOSED;
+    int64_t code = aug_try_look_done(user);
     /* Whoever waits has to come while there is no look, and who looks again and again would leave them no time. */
-    if (code == AUG_OK && atomic_load(&((struct shared *)user->of)->waiting)) sleep_a_little();
+    if (code == AUG_OK && atomic_load(&((struct shared *)user->of)->waiting)) return slept();
     return code;
 }
 
-/* A call of a user that is not null, which is made again until it is done. */
-#define OF_USER(call) do { int64_t code_; if (!user) return AUG_CLOSED; CALLS_AGAIN(code_, user->of, call); return code_; } while (0)
+/* A call of a user, which is made again, by at_last, until it is done. */
+#define OF_USER(call, at_last) do { if (!user) return AUG_CLOSED; int64_t code_ = (call); return code_ == AUG_AGAIN ? (at_last) : code_; } while (0)
+#define AT_LAST(call) do { int64_t code_; CALLS_AGAIN(code_, user->of, call); return code_; } while (0)
 
-int64_t aug_insert(aug_user *user, uint32_t key) { OF_USER(aug_try_insert(user, key)); }
-int64_t aug_remove(aug_user *user, uint32_t key) { OF_USER(aug_try_remove(user, key)); }
-int64_t aug_put(aug_user *user, uint32_t key, uint32_t weight) { OF_USER(aug_try_put(user, key, weight)); }
+static SELDOM int64_t insert_at_last(aug_user *user, uint32_t key) { AT_LAST(aug_try_insert(user, key)); }
+static SELDOM int64_t remove_at_last(aug_user *user, uint32_t key) { AT_LAST(aug_try_remove(user, key)); }
+static SELDOM int64_t put_at_last(aug_user *user, uint32_t key, uint32_t weight) { AT_LAST(aug_try_put(user, key, weight)); }
+static SELDOM int64_t look_at_last(aug_user *user) { AT_LAST(aug_try_look(user)); }
+
+int64_t aug_insert(aug_user *user, uint32_t key) { OF_USER(aug_try_insert(user, key), insert_at_last(user, key)); }
+int64_t aug_remove(aug_user *user, uint32_t key) { OF_USER(aug_try_remove(user, key), remove_at_last(user, key)); }
+int64_t aug_put(aug_user *user, uint32_t key, uint32_t weight) { OF_USER(aug_try_put(user, key, weight), put_at_last(user, key, weight)); }
+int64_t aug_look(aug_user *user) { OF_USER(aug_try_look(user), look_at_last(user)); }
 
 /* A change of what is there, which is made again too if another user changed the key in between. Nobody is waited for then. */
 #define OF_CHANGE(call) do { \
@@ -241,7 +261,6 @@ int64_t aug_pop_last(aug_user *user, aug_member *member) {
     OF_CHANGE(aug_try_pop_last(user, member ? member : &unwanted));
 }
 
-int64_t aug_look(aug_user *user) { OF_USER(aug_try_look(user)); }
 int64_t aug_look_again(aug_user *user) { return user ? aug_try_look_again(user) : AUG_CLOSED; }
 int64_t aug_has(aug_user *user, uint32_t key) { return user ? aug_try_has(user, key) : AUG_CLOSED; }
 int64_t aug_weight(aug_user *user, uint32_t key) { return user ? aug_try_weight(user, key) : AUG_CLOSED; }

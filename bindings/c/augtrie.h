@@ -77,6 +77,7 @@ typedef struct aug_user {
     uint64_t tag;
     void *at;
     void *of;
+    uint64_t apart[13]; /* so that users next to one another share no line of a cache */
 } aug_user;
 
 /* A handle before it is opened: all zeros. */

@@ -72,7 +72,7 @@ fn open_user(alloc: Global, old: Opened, user: &mut UserHandle) -> (Opened, i64)
     if old.spare.is_empty() {
         return (old, NO_USER);
     }
-    let Ok(mut slot) = Box::new(alloc, UserSlot { seat: None }) else {
+    let Ok(mut slot) = Box::new(alloc, UserSlot::empty()) else {
         return (old, NO_MEMORY);
     };
     let Opened { live, mut spare } = old;

@@ -1,5 +1,5 @@
 //! The updates of a user, and its looks.
-ghost use Rattle.std.specs.Prelude.{◌≡◌, ◌↔◌, ◌^◌, ◌≤◌, IfOk, IfErr, IsErrOf, IsNone};
+ghost use Rattle.std.specs.Prelude.{◌≡◌, ◌↔◌, ◌^◌, ◌≤◌, IfOk, IfErr, IsErrOf, IsNone, Some, None};
 ghost use Rattle.aug_trie.specs.Updates.{ComesTo};
 ghost use Rattle.aug_trie.specs.declared.updates.request.Request.TheVariants as request;
 ghost use Rattle.aug_live.specs.LiveHandles.{Follows, Makes};
@@ -119,6 +119,18 @@ pub extern "C" fn aug_try_sub(alloc: Global, user: &mut UserHandle, key: u32, am
     update(alloc, user, key, Request::Sub(amount))
 }
 
+// Puts a user where none is, so that nothing is dropped there.
+#[inline(always)]
+fn seat(user: &mut Option<Seat>, new: Seat)
+    requires { user.old ≡ None }
+    ensures { user.new ≡ Some new }
+{
+    match user.replace(new) {
+        Some(_) => unreachable!(),
+        None => {}
+    }
+}
+
 #[inline(always)]
 fn look_by(user: &mut Option<Seat>) -> i64
     ensures { On TakesLook user.old user.new result }
@@ -126,16 +138,16 @@ fn look_by(user: &mut Option<Seat>) -> i64
     match user.take() {
         None => CLOSED,
         Some(Seat::Looking(look)) => {
-            *user = Some(Seat::Looking(look));
+            seat(user, Seat::Looking(look));
             LOOKING
         }
         Some(Seat::Free(access)) => match access.try_look() {
             Ok(look) => {
-                *user = Some(Seat::Looking(HeldLook::of(look)));
+                seat(user, Seat::Looking(HeldLook::of(look)));
                 0
             }
             Err((access, cause)) => {
-                *user = Some(Seat::Free(access));
+                seat(user, Seat::Free(access));
                 Refusal::of(cause).code()
             }
         },
@@ -191,11 +203,11 @@ fn end_look(user: &mut Option<Seat>) -> i64
     match user.take() {
         None => CLOSED,
         Some(Seat::Free(access)) => {
-            *user = Some(Seat::Free(access));
+            seat(user, Seat::Free(access));
             NOT_LOOKING
         }
         Some(Seat::Looking(held)) => {
-            *user = Some(Seat::Free(held.into_look().done()));
+            seat(user, Seat::Free(held.into_look().done()));
             0
         }
     }

@@ -14,7 +14,23 @@ const OPEN: u64 = 0x7265_7375_5f67_7561;
 /// What a user's handle owns.
 #[derive(Drop)]
 pub struct UserSlot {
+    // Room on both sides, so that nothing which another thread uses lies on the same cache lines.
+    before: [u64; 16],
     pub(crate) seat: Option<Seat>,
+    after: [u64; 16],
+}
+
+impl UserSlot {
+    /// A slot without a user.
+    pub(crate) fn empty() -> UserSlot
+        ensures { result.seat ≡ None }
+    {
+        UserSlot {
+            before: [0; 16],
+            seat: None,
+            after: [0; 16],
+        }
+    }
 }
 
 /// A box as C holds it.

@@ -1,6 +1,7 @@
 -- What a look holds after a call of its pass.
 use Rattle.std.proofs.Common.{◌≡◌, ◌∙◌, ℕ, ◌<◌, List, [], ◌++◌, true, false, refl, sym, ap, subst, arith}
-use Rattle.std.specs.Prelude.{Option, Some, unwrap_or}
+use Rattle.std.specs.Prelude.{IfSome, Option, Some, unwrap_or}
+use Rattle.std.specs.Option.{is_some}
 use mathlib.Core.Option.{some, some-injective}
 use lib.ListN.{get_elem?}
 use Rattle.std.proofs.lemmas.List.{append-nil}
@@ -9,10 +10,11 @@ use Rattle.aug_trie.specs.declared.rounds.owned.OwnedPass.{OwnedPass}
 use Rattle.aug_trie.specs.Chains.{Chapter}
 use Rattle.aug_trie.specs.Round.{RoundFacts}
 use Rattle.aug_trie.specs.Pass.{PassFacts}
-use Rattle.aug_live.specs.inside.LaneKnowledge.{EndFacts, KnownFacts, LaneFacts, OutFacts, half_in, rounds_at, worked}
+use Rattle.aug_live.specs.inside.LaneKnowledge.{EndFacts, KnownFacts, LaneFacts, OutFacts, half_in, rounds_at, stands, worked}
 use Rattle.aug_live.specs.Ledgers.{Made, dated}
 use Rattle.aug_live.specs.LiveHandles.{Follows, added}
-use Rattle.aug_live.specs.inside.Looks.{HoldsHandle, HoldsLook}
+use Rattle.aug_live.specs.declared.lane.Parts.{Parts}
+use Rattle.aug_live.specs.inside.Looks.{HoldsHandle, HoldsLook, rest_of}
 use Rattle.aug_live.proofs.Adding.{none_added}
 
 -- a pass of the same round in place of the one that was taken out, which accepted no more
@@ -35,6 +37,17 @@ holds_on {A} {B} out rest bits lane lanes work pass next h there same accepted =
       bits_are = ap (λ (z : RoundFacts × List Chapter). z.0.bits) round ∙ h.bits_are;
       few_bits = h.few_bits;
     }
+
+-- the same of the parts of a lane
+pub holds_in : {A B : Type 0} (out : OutFacts) (bits lane : ℕ) (lanes : List TableId) (parts parts' : Parts A B) (pass next : OwnedPass A B) → HoldsLook out (rest_of parts) parts.work bits lane lanes → parts.work ≡ Some pass → parts' ≡ record parts { work = Some next }
+    → rounds_at next.half ≡ rounds_at pass.half → next.half.knows.accepted ≡ pass.half.knows.accepted → HoldsLook out (rest_of parts') parts'.work bits lane lanes
+holds_in {A} {B} out bits lane lanes parts parts' pass next h there is same accepted =
+    subst (λ (p : Parts A B). HoldsLook out (rest_of p) p.work bits lane lanes) (sym is) (holds_on out (rest_of parts) bits lane lanes parts.work pass next h there same accepted)
+
+-- the pass that lies in a lane is the one that its facts tell of
+pub half_there : {A B : Type 0} (parts : Parts A B) (lane : LaneFacts) (pass : OwnedPass A B) → IfSome parts.work (λ w. w.half ≡ half_in parts.last.value) → record { works = is_some parts.work; number = parts.number; is_out = parts.is_out; at = stands parts.era (half_in parts.last.value) } ≡ lane
+    → parts.work ≡ Some pass → pass.half ≡ lane.at.half
+half_there {A} {B} parts lane pass same is there = subst (λ (w : Option (OwnedPass A B)). IfSome w (λ w. w.half ≡ half_in parts.last.value)) there same ∙ ap (λ (z : LaneFacts). z.at.half) is
 
 -- the end that a handle holds, and its lane
 pub mine_of : (end : EndFacts) (inside : Option EndFacts) (bits number place : ℕ) (lanes : List TableId) (h : HoldsHandle inside bits place number lanes) → inside ≡ Some end → end ≡ h.mine

@@ -134,7 +134,7 @@ pub(crate) struct NewDesk<A: Monoid, B: Monoid> {
     pub(crate) ends: Vec<DeskEnd<A, B>>,
     ghost of: { pass.table_id ≡ (arc_value lock).table.shared.table_id },
     ghost same_lock: { All (λ s. s ≡ pass.table_id) theirs.items },
-    ghost out: { IsSome pass.me.0.taken × (pass.me.1 ≡ (0, None) ∷ []) },
+    ghost out: { IsSome pass.me.0.taken × (pass.me.1 ≡ (8, None) ∷ []) },
     ghost no_trie: { (client_of pass).bits ≡ 0 },
     ghost none: { ends.items ≡ [] },
     ghost room: { vec_len theirs ≤ vec_capacity ends },

@@ -57,13 +57,14 @@ impl<A: Monoid, B: Monoid> Model for Out<A, B> {
 
     ghost view = { λ o. record { lock = (arc_value o.lock).table.shared.table_id; known = client_of o.pass; taken = taken_by o.pass.me.0.taken } };
 
-    ghost invariant = { λ o. (o.pass.table_id ≡ (arc_value o.lock).table.shared.table_id) × IsSome o.pass.me.0.taken × (o.pass.me.1 ≡ (0, None) ∷ []) };
+    ghost invariant = { λ o. (o.pass.table_id ≡ (arc_value o.lock).table.shared.table_id) × IsSome o.pass.me.0.taken × (o.pass.me.1 ≡ (8, None) ∷ []) };
 }
 
 /// A new lane, of which what lies there is taken out, and one more owner of its lock.
 #[derive(Drop)]
 pub(crate) struct Berth<A: Monoid, B: Monoid> {
     pub(crate) out: Out<A, B>,
+    pub(crate) lane: Lane<A, B>,
     pub(crate) theirs: Arc<LaneLock<A, B>, Global>,
     ghost same_lock: { (arc_value theirs).table.shared.table_id ≡ out.lock },
 }
@@ -74,13 +75,13 @@ impl<A: Monoid, B: Monoid> Berth<A, B> {
         ensures known { IfOk result (λ b. b.out.known ≡ knows_nothing Alone) }
         ensures number { IfOk result (λ b. b.out.taken.number ≡ 0) }
     {
-        let (lock, pass) = RuledLock::new(alloc, Lane::new())?;
+        let (lock, pass) = RuledLock::new(alloc, Lane::new(alloc)?)?;
         let Ok(lock) = Arc::new(alloc, lock) else {
             return Err(AllocError);
         };
         let theirs = Arc::try_clone(&lock)?;
         match (End { lock, pass }).take(&Tries) {
-            Ok((out, _)) => Ok(Berth { out, theirs }),
+            Ok((out, lane)) => Ok(Berth { out, lane, theirs }),
             Err(_) => Err(AllocError),
         }
     }
@@ -146,7 +147,7 @@ impl<A: Monoid, B: Monoid> End<A, B> {
     {
         match self.take(&Tries) {
             Ok((out, lane)) => {
-                if lane.number == number {
+                if lane.parts.number == number {
                     Ok((out, lane))
                 } else {
                     Err((out.keep(lane), Obstacle::Replaced))

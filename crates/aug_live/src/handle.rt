@@ -18,7 +18,7 @@ ghost use Rattle.aug_live.specs.LiveHandles.{Follows, IsSomeOf, Makes, handle_of
 use crate::desk_end::DeskEnd;
 use crate::end::End;
 use crate::error::{Busy, LiveError, TryError};
-use crate::lane::Obstacle;
+use crate::lane::{Lane, Obstacle};
 use crate::look::Look;
 use aug_monoid::{Extent, Monoid};
 use aug_trie::{Note, Outcome, Pop, Request, Side};
@@ -425,8 +425,8 @@ impl<A: Monoid, B: Monoid> Handle<A, B> {
                 return Err((handle, obstacle));
             }
         };
-        if lane.work.is_none() {
-            let obstacle = Obstacle::Round(lane.era);
+        if lane.parts.work.is_none() {
+            let obstacle = Obstacle::Round(lane.parts.era);
             handle.end = Some(out.put(lane));
             return Err((handle, obstacle));
         }
@@ -436,11 +436,11 @@ impl<A: Monoid, B: Monoid> Handle<A, B> {
             desk,
             ..
         } = handle;
-        let (work, rest) = lane.into_work();
+        let Lane { mut parts } = lane;
+        parts.look();
         Ok(Look {
             out,
-            rest,
-            work: Some(work.look()),
+            parts,
             bits,
             lane: index,
             desk,

@@ -39,14 +39,14 @@ pub(crate) struct Emptied<A: Monoid, B: Monoid> {
 }
 
 impl<A: Monoid, B: Monoid> Model for Emptied<A, B> {
-    ghost use Rattle.std.specs.Prelude.{◌≡◌, ◌<◌, true};
+    ghost use Rattle.std.specs.Prelude.{◌≡◌, ◌<◌, true, false};
     ghost use Rattle.aug_live.specs.inside.LaneKnowledge.{EndFacts, left, rolls};
 
     ghost Value = { EndFacts };
 
     ghost view = { λ i. record { lock = i.out.lock; known = left i.out.known i.rest } };
 
-    ghost invariant = { λ i. (i.rest.at ≡ i.out.taken.at) × (i.rest.number ≡ i.out.taken.number) × (i.rest.is_out ≡ i.out.taken.is_out) × (rolls i.out.known.whose ≡ true) × (0 < i.out.known.at.era) };
+    ghost invariant = { λ i. (i.rest.at ≡ i.out.taken.at) × (i.rest.number ≡ i.out.taken.number) × (i.rest.is_out ≡ i.out.taken.is_out) × (rolls i.out.known.whose ≡ true) × (0 < i.out.known.at.era) × (i.rest.works ≡ false) };
 }
 
 impl<A: Monoid, B: Monoid> Held<A, B> {

@@ -1,5 +1,6 @@
 //! What lies in a lane.
-ghost use Rattle.std.specs.Prelude.{◌≡◌, ℕ, ◌+◌, ◌^◌, ◌<◌, ◌≤◌, All, length, take, IfOk, IfErr, true, false};
+ghost use Rattle.std.specs.Prelude.{◌≡◌, ℕ, ◌+◌, ◌^◌, ◌<◌, ◌≤◌, All, length, take, IfOk, IfErr, IsSome, Some, None, true, false};
+ghost use Rattle.std.specs.Option.{is_some};
 ghost use Rattle.aug_trie.specs.Updates.{ComesTo};
 ghost use Rattle.aug_trie.specs.UpdateBatches.{DoesBatch};
 ghost use Rattle.aug_trie.specs.Chains.{IsPart};
@@ -9,23 +10,39 @@ ghost use Rattle.aug_trie.specs.Pops.{pop_updates, Pops};
 ghost use Rattle.aug_model.specs.Folds.{summary_of};
 ghost use Rattle.aug_monoid.specs.Extent.{extent_parts};
 ghost use Rattle.aug_live.specs.LiveHandles.{Follows, IsSomeOf, note_at};
-ghost use Rattle.aug_live.specs.inside.LaneKnowledge.{Worked, WorksHere, stands};
+ghost use Rattle.aug_live.specs.inside.LaneKnowledge.{Worked, WorksHere, half_in, stands};
+ghost use Rattle.aug_live.specs.inside.Looks.{LooksIn};
 
 use crate::ghost_value::GhostValue;
 use aug_monoid::{Extent, Monoid};
 use aug_trie::{Note, Outcome, OwnedPass, Pop, Request, Side};
 use ruled_lock::WasOut;
+use std::alloc::{AllocError, Global};
 use std::marker::Model;
 
 /// What lies in a lane: the number of its round, counted from 1, the number of its handle, whether that is out, what its last pass knew,
 /// and that pass, unless the round is rolling over or the trie was closed.
 #[derive(Drop)]
-pub(crate) struct Lane<A: Monoid, B: Monoid> {
+pub(crate) struct Parts<A: Monoid, B: Monoid> {
+    pub(crate) before: Unused,
     pub(crate) era: u64,
     pub(crate) number: u64,
     pub(crate) is_out: bool,
     pub(crate) last: GhostValue<Option<OwnedPass<A, B>>>,
     pub(crate) work: Option<OwnedPass<A, B>>,
+    pub(crate) after: Unused,
+}
+
+/// Room beside what one thread writes at each call, so that nothing which another thread uses lies on the same cache lines.
+#[derive(Drop)]
+pub(crate) struct Unused {
+    words: [u64; 16],
+}
+
+/// A box with that, so that whoever takes it out of the lane moves a pointer.
+#[derive(Drop)]
+pub(crate) struct Lane<A: Monoid, B: Monoid> {
+    pub(crate) parts: Box<Parts<A, B>, Global>,
 }
 
 /// Why a handle makes no update and no look: the lane is taken, the round of this number has to roll over, or a newer handle has the lane.
@@ -43,39 +60,66 @@ impl<A: Monoid, B: Monoid> Model for Lane<A, B> {
 
     ghost Value = { LaneFacts };
 
-    ghost view = { λ l. record { works = is_some l.work; number = l.number; is_out = l.is_out; at = stands l.era (half_in l.last.value) } };
+    ghost view = { λ l. record { works = is_some l.parts.value.work; number = l.parts.value.number; is_out = l.parts.value.is_out; at = stands l.parts.value.era (half_in l.parts.value.last.value) } };
 
-    ghost invariant = { λ l. IfSome l.work (λ w. w.half ≡ half_in l.last.value) };
+    ghost invariant = { λ l. IfSome l.parts.value.work (λ w. w.half ≡ half_in l.parts.value.last.value) };
+}
+
+impl<A: Monoid, B: Monoid> Parts<A, B> {
+    /// Puts a pass in, where none is.
+    #[inline(always)]
+    pub(crate) fn put(&mut self, work: OwnedPass<A, B>)
+        requires { self.old.work ≡ None }
+        ensures { self.new ≡ record self.old { work = Some work } }
+    {
+        match self.work.replace(work) {
+            Some(_) => unreachable!(),
+            None => {}
+        }
+    }
+
+    /// The pass that is there takes a new snapshot, without being moved.
+    #[inline(always)]
+    pub(crate) fn look(&mut self)
+        requires { IsSome self.old.work }
+        ensures { LooksIn self.old self.new }
+    {
+        match &mut self.work {
+            Some(work) => work.look(),
+            None => unreachable!(),
+        }
+    }
 }
 
 impl<A: Monoid, B: Monoid> Lane<A, B> {
     /// A lane before the first round.
-    pub(crate) fn new() -> Lane<A, B>
-        ensures { result.number ≡ 0 }
+    pub(crate) fn new(alloc: Global) -> Result<Lane<A, B>, AllocError>
+        ensures { IfOk result (λ lane. lane.number ≡ 0) }
     {
         let none: Option<OwnedPass<A, B>> = None;
-        Lane {
+        let parts = Parts {
+            before: Unused { words: [0; 16] },
             era: 0,
             number: 0,
             is_out: false,
             last: GhostValue::of(&none),
             work: none,
+            after: Unused { words: [0; 16] },
+        };
+        match Box::new(alloc, parts) {
+            Ok(parts) => Ok(Lane { parts }),
+            Err(_) => Err(AllocError),
         }
     }
 
-    /// A lane with a pass of a round, and with the number of a handle.
+    /// The lane of these parts, with the pass in them.
     #[inline(always)]
-    pub(crate) fn working(era: u64, number: u64, is_out: bool, work: OwnedPass<A, B>) -> Lane<A, B>
-        ensures { result ≡ record { works = true; number = number; is_out = is_out; at = stands era work.half } }
+    pub(crate) fn of(parts: Box<Parts<A, B>, Global>) -> Lane<A, B>
+        ensures { result ≡ record { works = is_some parts.value.work; number = parts.value.number; is_out = parts.value.is_out; at = stands parts.value.era (half_in parts.value.work) } }
     {
-        let work = Some(work);
-        Lane {
-            era,
-            number,
-            is_out,
-            last: GhostValue::of(&work),
-            work,
-        }
+        let mut parts = parts;
+        parts.last = GhostValue::of(&parts.work);
+        Lane { parts }
     }
 
     /// Takes the pass out, and leaves what it knew.
@@ -85,48 +129,55 @@ impl<A: Monoid, B: Monoid> Lane<A, B> {
         ensures work { result.0.half ≡ self.at.half }
         ensures rest { result.1 ≡ record self { works = false } }
     {
-        let Lane {
-            era,
-            number,
-            is_out,
-            last,
-            work,
-        } = self;
-        let Some(work) = work else { unreachable!() };
-        let rest = Lane {
-            era,
-            number,
-            is_out,
-            last,
-            work: None,
+        let Lane { mut parts } = self;
+        let Some(work) = parts.work.take() else {
+            unreachable!()
         };
-        (work, rest)
+        (work, Lane { parts })
     }
 
     /// The same lane, whose handle came back.
     pub(crate) fn settled(self) -> Lane<A, B>
         ensures { result ≡ record self { is_out = false } }
     {
-        Lane {
-            is_out: false,
-            ..self
-        }
+        let Lane { mut parts } = self;
+        parts.is_out = false;
+        Lane { parts }
     }
 
-    /// The same lane with this pass.
+    /// The same lane with this pass, where none is.
     #[inline(always)]
     pub(crate) fn with(self, work: OwnedPass<A, B>) -> Lane<A, B>
+        requires { self.works ≡ false }
         ensures { result ≡ record self { works = true; at = record self.at { half = work.half } } }
     {
-        Lane::working(self.era, self.number, self.is_out, work)
+        let Lane { mut parts } = self;
+        parts.put(work);
+        Lane::of(parts)
     }
 
     /// The same lane in the next round, with this pass.
     pub(crate) fn next(self, work: OwnedPass<A, B>) -> Lane<A, B>
-        requires { self.at.era + 1 < 2 ^ 64 }
+        requires none { self.works ≡ false }
+        requires small { self.at.era + 1 < 2 ^ 64 }
         ensures { result ≡ record self { works = true; at = record self.at { era = self.at.era + 1; half = work.half } } }
     {
-        Lane::working(self.era + 1, self.number, self.is_out, work)
+        let Lane { mut parts } = self;
+        parts.era += 1;
+        parts.put(work);
+        Lane::of(parts)
+    }
+
+    /// The lane with this pass, for a handle of this number in a round of this era.
+    pub(crate) fn working(self, era: u64, number: u64, work: OwnedPass<A, B>) -> Lane<A, B>
+        ensures { result ≡ record { works = true; number = number; is_out = true; at = stands era work.half } }
+    {
+        let Lane { mut parts } = self;
+        parts.era = era;
+        parts.number = number;
+        parts.is_out = true;
+        parts.work = Some(work);
+        Lane::of(parts)
     }
 
     /// Makes an update of a key, unless the updates are spent or no pass lies in the lane.
@@ -137,14 +188,14 @@ impl<A: Monoid, B: Monoid> Lane<A, B> {
         ensures same { IfErr result.1 (λ _. result.0.at ≡ self.at) }
         ensures worked { Worked self result.0 }
     {
-        if self.work.is_none() {
-            let obstacle = Obstacle::Round(self.era);
+        if self.parts.work.is_none() {
+            let obstacle = Obstacle::Round(self.parts.era);
             return (self, Err(obstacle));
         }
         let (work, rest) = self.into_work();
         let (work, made) = work.update(k, request);
         let Ok(done) = made else {
-            let era = rest.era;
+            let era = rest.parts.era;
             return (rest.with(work), Err(Obstacle::Round(era)));
         };
         (rest.with(work), Ok(done))
@@ -166,13 +217,13 @@ impl<A: Monoid, B: Monoid> Lane<A, B> {
         ensures same { IfErr result.1 (λ _. result.0.at ≡ self.at) }
         ensures worked { Worked self result.0 }
     {
-        if self.work.is_none() {
-            let obstacle = Obstacle::Round(self.era);
+        if self.parts.work.is_none() {
+            let obstacle = Obstacle::Round(self.parts.era);
             return (self, Err(obstacle));
         }
         let (work, rest) = self.into_work();
         if work.budget() == 0 {
-            let era = rest.era;
+            let era = rest.parts.era;
             return (rest.with(work), Err(Obstacle::Round(era)));
         }
         let (work, count) = work.update_all(keys, requests, outcomes);
@@ -184,8 +235,8 @@ impl<A: Monoid, B: Monoid> Lane<A, B> {
         ensures note { IfOk result.1 (λ note. note ≡ note_at self.at.half) }
         ensures same { result.0 ≡ self }
     {
-        if self.work.is_none() {
-            let obstacle = Obstacle::Round(self.era);
+        if self.parts.work.is_none() {
+            let obstacle = Obstacle::Round(self.parts.era);
             return (self, Err(obstacle));
         }
         let (work, rest) = self.into_work();
@@ -202,8 +253,8 @@ impl<A: Monoid, B: Monoid> Lane<A, B> {
         ensures kept { IfErr result.1 (λ e. e.0 ≡ note) }
         ensures worked { Worked self result.0 }
     {
-        if self.work.is_none() {
-            let obstacle = Obstacle::Round(self.era);
+        if self.parts.work.is_none() {
+            let obstacle = Obstacle::Round(self.parts.era);
             return (self, Err((note, obstacle)));
         }
         let (work, rest) = self.into_work();
@@ -219,14 +270,14 @@ impl<A: Monoid> Lane<A, Extent> {
         ensures same { IfErr result.1 (λ _. result.0.at ≡ self.at) }
         ensures worked { Worked self result.0 }
     {
-        if self.work.is_none() {
-            let obstacle = Obstacle::Round(self.era);
+        if self.parts.work.is_none() {
+            let obstacle = Obstacle::Round(self.parts.era);
             return (self, Err(obstacle));
         }
         let (work, rest) = self.into_work();
         let (work, made) = work.pop(side);
         let Ok(done) = made else {
-            let era = rest.era;
+            let era = rest.parts.era;
             return (rest.with(work), Err(Obstacle::Round(era)));
         };
         (rest.with(work), Ok(done))

@@ -7,10 +7,10 @@ ghost use Rattle.aug_live.specs.LiveHandles.{handle_of, set_of_look, IsAsked, Lo
 use crate::desk_end::DeskEnd;
 use crate::end::Out;
 use crate::handle::Handle;
-use crate::lane::Lane;
+use crate::lane::{Lane, Parts};
 use aug_monoid::Monoid;
 use aug_query::Query;
-use aug_trie::OwnedPass;
+use std::alloc::Global;
 use std::marker::Model;
 
 /// A look of a handle: a snapshot, which is asked as a pass's is. Nothing that anybody does changes what it shows. As long as
@@ -18,10 +18,8 @@ use std::marker::Model;
 /// check refuses a program that does not end it by `done`, which gives the handle back.
 pub struct Look<A: Monoid, B: Monoid> {
     pub(crate) out: Out<A, B>,
-    // The lane without its pass.
-    pub(crate) rest: Lane<A, B>,
-    // A call takes it out and puts it back. Its snapshot is the look's.
-    pub(crate) work: Option<OwnedPass<A, B>>,
+    // What lies in the lane. A call takes the pass out and puts it back. Its snapshot is the look's.
+    pub(crate) parts: Box<Parts<A, B>, Global>,
     pub(crate) bits: u32,
     pub(crate) lane: usize,
     pub(crate) desk: DeskEnd<A, B>,
@@ -30,14 +28,14 @@ pub struct Look<A: Monoid, B: Monoid> {
 impl<A: Monoid, B: Monoid> Model for Look<A, B> {
     ghost use Rattle.aug_live.specs.LiveHandles.{LookFacts};
     ghost use Rattle.aug_live.specs.inside.LaneKnowledge.{half_in};
-    ghost use Rattle.aug_live.specs.inside.Looks.{HoldsLook, held_in};
+    ghost use Rattle.aug_live.specs.inside.Looks.{HoldsLook, held_in, rest_of};
     ghost use Rattle.aug_live.specs.LiveTries.{ids_of};
 
     ghost Value = { LookFacts };
 
-    ghost view = { λ l. record { lanes = ids_of l.desk; era = l.rest.at.era; half = half_in l.work; made = l.out.known.made; snapshot = held_in l.work } };
+    ghost view = { λ l. record { lanes = ids_of l.desk; era = l.parts.value.era; half = half_in l.parts.value.work; made = l.out.known.made; snapshot = held_in l.parts.value.work } };
 
-    ghost invariant = { λ l. HoldsLook l.out l.rest l.work l.bits l.lane (ids_of l.desk) };
+    ghost invariant = { λ l. HoldsLook l.out (rest_of l.parts.value) l.parts.value.work l.bits l.lane (ids_of l.desk) };
 }
 
 impl<A: Monoid, B: Monoid> Look<A, B> {
@@ -47,11 +45,11 @@ impl<A: Monoid, B: Monoid> Look<A, B> {
         ensures answer { Q.Answers query (set_of_look self.old) result }
         ensures asked { IsAsked (summary_of A.parts B.parts) (steps_for (Q.most query (set_of_look self.old))) self.old self.new }
     {
-        let Some(work) = self.work.take() else {
+        let Some(work) = self.parts.work.take() else {
             unreachable!()
         };
         let (work, answer) = work.ask(query);
-        self.work = Some(work);
+        self.parts.put(work);
         answer
     }
 
@@ -60,10 +58,7 @@ impl<A: Monoid, B: Monoid> Look<A, B> {
     pub fn again(&mut self)
         ensures { LooksAgain self.old self.new }
     {
-        let Some(work) = self.work.take() else {
-            unreachable!()
-        };
-        self.work = Some(work.look());
+        self.parts.look();
     }
 
     /// Ends the look, and gives its handle back.
@@ -73,15 +68,13 @@ impl<A: Monoid, B: Monoid> Look<A, B> {
     {
         let Look {
             out,
-            rest,
-            work,
+            parts,
             bits,
             lane,
             desk,
         } = self;
-        let Some(work) = work else { unreachable!() };
-        let number = rest.number;
-        let end = out.put(rest.with(work));
+        let number = parts.number;
+        let end = out.put(Lane::of(parts));
         Handle {
             end: Some(end),
             bits,

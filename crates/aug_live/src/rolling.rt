@@ -19,7 +19,6 @@ ghost use Rattle.aug_live.specs.declared.known.Whose.TheVariants.{Alone, Handle,
 use crate::end::{Berth, End, LaneLock};
 use crate::error::{LiveError, TryError};
 use crate::held::{Emptied, Held};
-use crate::lane::Lane;
 use crate::plan::Plan;
 use crate::work::start;
 use aug_monoid::Monoid;
@@ -152,7 +151,7 @@ impl<A: Monoid, B: Monoid> End<A, B> {
     {
         match self.take_to_roll(how) {
             Ok((out, lane)) => {
-                if lane.number == number && lane.is_out {
+                if lane.parts.number == number && lane.parts.is_out {
                     Ok(out.join(other).settle(lane.settled()))
                 } else {
                     let replaced = TryError::Refused(LiveError::Replaced);
@@ -187,12 +186,10 @@ impl<A: Monoid, B: Monoid> End<A, B> {
     {
         match self.take_to_roll(how) {
             Ok((out, lane)) => {
-                let (work, Lane { era, .. }) = lane.into_work();
+                let (work, rest) = lane.into_work();
                 let work = work.learn(crew.note(round));
-                Ok(
-                    out.renumber(Lane::working(era, number, true, work))
-                        .fork(theirs),
-                )
+                let era = rest.parts.era;
+                Ok(out.renumber(rest.working(era, number, work)).fork(theirs))
             }
             Err(missed) => Err(missed),
         }
@@ -219,9 +216,9 @@ impl<A: Monoid, B: Monoid> Berth<A, B> {
         ensures handed { crew.new.handed ≡ crew.old.handed + 1 }
         ensures back { crew.new.back ≡ crew.old.back }
     {
-        let Berth { out, theirs } = self;
+        let Berth { out, lane, theirs } = self;
         let work = start(round, crew);
-        out.renumber(Lane::working(1, 1, true, work)).fork(theirs)
+        out.renumber(lane.working(1, 1, work)).fork(theirs)
     }
 }
 

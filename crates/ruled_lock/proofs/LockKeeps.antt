@@ -42,7 +42,7 @@ module _ {T V : Type 0} (holds : T → List V → Type 0) where
   Rule = IsLocked holds
 
   abbrev word : St → ℕ
-  word s = get_or s.words 0 0
+  word s = get_or s.words 16 0
 
   same_clients : (x : T) (vs : List D) (me : ℕ) (v w : D) → get_elem? vs me ≡ some v → w.client ≡ v.client → holds x (map client vs) → holds x (map client (set vs me w))
   same_clients x vs me v w at e = subst (holds x) (sym (map-set client vs me w ∙ (ap (set (map client vs) me) e ∙ set_again (map client vs) me v.client (at_map client vs me v at))))
@@ -67,11 +67,11 @@ module _ {T V : Type 0} (holds : T → List V → Type 0) where
   still_out value holder j n n' p (Some t) k = (p, k.1, k.2)
 
   module _ (fact : V → T → Type 0) where
-    hits : (s : St) (r : Rule s) (n id : ℕ) (v : V) (d : D) → get_elem? s.views id ≡ some d → d.client ≡ v → word s ≡ 0 → 0 < n → Rule (stepped s 0 n id [] (doing (Some r.value) v) (takes 0 (Some r.value)))
-    hits s r n id v d at e z p = let wide = r.wide in let now : get_or (set s.words 0 n) 0 0 ≡ n = get_or-set_same s.words 0 n 0 (omega arith) in record {
+    hits : (s : St) (r : Rule s) (n id : ℕ) (v : V) (d : D) → get_elem? s.views id ≡ some d → d.client ≡ v → word s ≡ 0 → 0 < n → Rule (stepped s 16 n id [] (doing (Some r.value) v) (takes 8 (Some r.value)))
+    hits s r n id v d at e z p = let wide = r.wide in let now : get_or (set s.words 16 n) 16 0 ≡ n = get_or-set_same s.words 16 n 0 (omega arith) in record {
       value = r.value;
       holder = id;
-      wide = length-set s.words 0 n ∙ wide;
+      wide = length-set s.words 16 n ∙ wide;
       at_home = λ free. absurd (omega arith);
       held = λ _. (doing (Some r.value) v, replaced s.views id d (doing (Some r.value) v) at, refl);
       each_seat = subst (λ (k : ℕ). (j : ℕ) (d : D) → get_elem? (set s.views id (doing (Some r.value) v)) j ≡ some d → KnowsValue k r.value id j d.taken) (sym now)
@@ -79,11 +79,11 @@ module _ {T V : Type 0} (holds : T → List V → Type 0) where
       kept = same_clients r.value s.views id d (doing (Some r.value) v) at (sym e) r.kept;
     }
 
-    misses : (s : St) (r : Rule s) (n id : ℕ) (cs : List (ℕ × Option T)) (d : D) → get_elem? s.views id ≡ some d → word s ≢ 0 → 0 < n → Rule (stepped s 0 n id cs d keeps)
-    misses s r n id cs d at z p = let wide = r.wide in let now : get_or (set s.words 0 n) 0 0 ≡ n = get_or-set_same s.words 0 n 0 (omega arith) in record {
+    misses : (s : St) (r : Rule s) (n id : ℕ) (cs : List (ℕ × Option T)) (d : D) → get_elem? s.views id ≡ some d → word s ≢ 0 → 0 < n → Rule (stepped s 16 n id cs d keeps)
+    misses s r n id cs d at z p = let wide = r.wide in let now : get_or (set s.words 16 n) 16 0 ≡ n = get_or-set_same s.words 16 n 0 (omega arith) in record {
       value = r.value;
       holder = r.holder;
-      wide = length-set s.words 0 n ∙ wide;
+      wide = length-set s.words 16 n ∙ wide;
       at_home = λ free. absurd (omega arith);
       held = λ _. let h = r.held (omega arith) in (h.0, subst (λ (vs : List D). get_elem? vs r.holder ≡ some h.0) (sym (set_again s.views id d at)) h.1, h.2);
       each_seat = subst (λ (k : ℕ). (j : ℕ) (e : D) → get_elem? (set s.views id d) j ≡ some e → KnowsValue k r.value r.holder j e.taken) (sym now)
@@ -94,36 +94,36 @@ module _ {T V : Type 0} (holds : T → List V → Type 0) where
 
     -- a try: the word becomes some number but 0
     pub tries : (slots id : ℕ) (me : M) (f : ℕ → ℕ) (old new : ℕ) → ((n : ℕ) → 0 < f n) → me.0.taken ≡ None → me.1 ≡ [] → Learns holds id me.0.client fact
-        → Allows Rule slots id me 0 f (tried fact (step slots 0 old new none) me)
+        → Allows Rule slots id me 16 f (tried fact (step slots 16 old new none) me)
     tries slots id me f old new up free empty learns s r _ at _ = dite (ℕ_discrete (word s) 0)
         (λ hit. let w : D = doing (Some r.value) me.0.client in (
           w,
-          takes 0 (Some r.value),
+          takes 8 (Some r.value),
           r.at_home hit,
           hits s r (f (word s)) id me.0.client me.0 at refl hit (up (word s)),
-          ((λ _. (r.value, ap (λ (c : List (ℕ × Option T)). (w, (0, Some r.value) ∷ c)) empty, learns r.value (map client s.views) r.kept (at_map client s.views id me.0 at))), λ not. absurd (not hit)),
+          ((λ _. (r.value, ap (λ (c : List (ℕ × Option T)). (w, (8, Some r.value) ∷ c)) empty, learns r.value (map client s.views) r.kept (at_map client s.views id me.0 at))), λ not. absurd (not hit)),
         ))
         (λ miss. (me.0, keeps, tt, misses s r (f (word s)) id me.1 me.0 at miss (up (word s)), ((λ hit. absurd (miss hit)), λ _. refl)))
 
   module _ (then : V → T → T → V → Type 0) where
     -- the value is put back, and the word becomes 0
-    pub puts : (slots id : ℕ) (me : M) (t y : T) → 0 < slots → me.0.taken ≡ Some t → me.1 ≡ (0, Some y) ∷ [] → TurnsAt holds id me.0.client t y then
-        → Allows Rule slots id me 0 (λ _. 0) (gave then (step slots 0 0 0 none) me)
+    pub puts : (slots id : ℕ) (me : M) (t y : T) → 8 < slots → me.0.taken ≡ Some t → me.1 ≡ (8, Some y) ∷ [] → TurnsAt holds id me.0.client t y then
+        → Allows Rule slots id me 16 (λ _. 0) (gave then (step slots 16 0 0 none) me)
     unfolding in_slot
     puts slots id me t y room took has asked s r homes at _ = let known = subst (KnowsValue (word s) r.value r.holder id) took (r.each_seat id me.0 at) in
         let turn = asked (map client s.views) (subst (λ (x : T). holds x (map client s.views)) (sym known.2) r.kept) (at_map client s.views id me.0 at) in
-        let w : D = idle turn.0 in let wide = r.wide in let now : get_or (set s.words 0 0) 0 0 ≡ 0 = get_or-set_same s.words 0 0 0 (omega arith) in (
+        let w : D = idle turn.0 in let wide = r.wide in let now : get_or (set s.words 16 0) 16 0 ≡ 0 = get_or-set_same s.words 16 0 0 (omega arith) in (
           w,
           gives,
           tt,
           record {
             value = y;
             holder = id;
-            wide = length-set s.words 0 0 ∙ wide;
-            at_home = λ _. subst (λ (c : List (ℕ × Option T)). get_elem? (homes_after s.homes c gives) 0 ≡ some (some (Some y))) (sym has) (set_here s.homes 0 (some (Some y)) (omega arith));
+            wide = length-set s.words 16 0 ∙ wide;
+            at_home = λ _. subst (λ (c : List (ℕ × Option T)). get_elem? (homes_after s.homes c gives) 8 ≡ some (some (Some y))) (sym has) (set_here s.homes 8 (some (Some y)) (omega arith));
             held = λ out. absurd (omega arith);
-            each_seat = seats_stay (λ j o. KnowsValue (get_or (set s.words 0 0) 0 0) y id j o) s.views id w tt
-                (λ j d other there. others_none r.value r.holder j (word s) (λ same. other (same ∙ sym known.1)) d.taken (r.each_seat j d there) (get_or (set s.words 0 0) 0 0) y id);
+            each_seat = seats_stay (λ j o. KnowsValue (get_or (set s.words 16 0) 16 0) y id j o) s.views id w tt
+                (λ j d other there. others_none r.value r.holder j (word s) (λ same. other (same ∙ sym known.1)) d.taken (r.each_seat j d there) (get_or (set s.words 16 0) 16 0) y id);
             kept = subst (holds y) (sym (map-set client s.views id w)) turn.1;
           },
           (

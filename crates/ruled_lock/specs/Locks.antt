@@ -18,9 +18,9 @@ module _ {T V : Type 0} where
   abbrev pub HoldsNothing : Seat (Option T) (Holding T V) → Type 0
   HoldsNothing p = (p.me.0.taken ≡ None) × (p.me.1 ≡ [])
 
-  -- the pass took t, and this is in the slot
+  -- the pass took t, and this is in the slot that is used
   abbrev pub Holds : T → Option T → Seat (Option T) (Holding T V) → Type 0
-  Holds t slot p = (p.me.0.taken ≡ Some t) × (p.me.1 ≡ (0, slot) ∷ [])
+  Holds t slot p = (p.me.0.taken ≡ Some t) × (p.me.1 ≡ (8, slot) ∷ [])
 
 -- What a caller shows.
 module _ {T V : Type 0} (holds : T → List V → Type 0) where

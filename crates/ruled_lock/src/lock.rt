@@ -1,5 +1,5 @@
 //! The lock.
-ghost use Rattle.std.specs.Prelude.{◌≡◌, ◌≢◌, ◌<◌, [], ◌∷◌, IfErr, IfOk, IfSome, IsSome, None, Some};
+ghost use Rattle.std.specs.Prelude.{◌≡◌, ◌≢◌, ◌+◌, ◌<◌, ◌≤◌, ◌++◌, [], ◌∷◌, IfErr, IfOk, IfSome, IsSome, None, Some, vec_capacity, vec_len};
 ghost use Rattle.ruled_lock.specs.Locks.{client_of, IsSamePass, HoldsNothing, Holds, Learns, TurnsAt, Forks, Meets};
 
 use crate::effects::{Both, Cut, Give, Try};
@@ -14,6 +14,33 @@ use std::time::Duration;
 
 // How many microseconds a thread that waits sleeps before it tries again.
 const PAUSE: u64 = 50;
+
+// Whoever takes the lock writes the word and the slot, which slows down each thread that uses anything else on their cache lines. So 128 unused
+// bytes lie on each side of the word, and 8 unused slots, of 16 bytes or more, on each side of the slot.
+const WORDS: usize = 33;
+
+const WORD: usize = 16;
+
+const SLOTS: usize = 17;
+
+const SLOT: usize = 8;
+
+// Adds 8 slots that nobody uses.
+fn leave_room<T: Drop>(slots: &mut Vec<Option<T>, Global>)
+    requires { vec_len slots.old + 8 ≤ vec_capacity slots.old }
+    ensures items { slots.new.items ≡ slots.old.items ++ (None ∷ None ∷ None ∷ None ∷ None ∷ None ∷ None ∷ None ∷ []) }
+    ensures len { vec_len slots.new ≡ vec_len slots.old + 8 }
+    ensures capacity { vec_capacity slots.new ≡ vec_capacity slots.old }
+{
+    slots.push_reserved(None);
+    slots.push_reserved(None);
+    slots.push_reserved(None);
+    slots.push_reserved(None);
+    slots.push_reserved(None);
+    slots.push_reserved(None);
+    slots.push_reserved(None);
+    slots.push_reserved(None);
+}
 
 /// The rule of a lock's table: `P` is the caller's rule, which holds for the value whenever the lock is free.
 pub struct Locked<P> {
@@ -33,9 +60,9 @@ pub type Pass<T, V> = Seat<Option<T>, Holding<T, V>>;
 
 /// A value that one thread at a time holds, under a rule of the caller's.
 pub struct RuledLock<T, V, P: LockRule<T, V>> {
-    // The word is 0 if the value is in the lock, and 1 if a pass holds it.
+    // The word that is used is 0 if the value is in the lock, and 1 if a pass holds it.
     pub table: Table<Option<T>, Holding<T, V>, (), Locked<P>, Global>,
-    ghost counts: { (table.shared.table_id.words ≡ 1) × (table.shared.table_id.slots ≡ 1) },
+    ghost counts: { (table.shared.table_id.words ≡ 33) × (table.shared.table_id.slots ≡ 17) },
 }
 
 impl<T: Drop, V, P: LockRule<T, V>> Drop for RuledLock<T, V, P> {
@@ -53,9 +80,11 @@ impl<T, V, P: LockRule<T, V>> RuledLock<T, V, P> {
         requires rule { P.holds value (P.first ∷ []) }
         ensures { IfOk result (λ l. (l.1.table_id ≡ l.0.table.shared.table_id) × (l.1.id ≡ 0) × HoldsNothing l.1 × (client_of l.1 ≡ P.first)) }
     {
-        let mut slots = Vec::with_capacity(alloc, 1)?;
+        let mut slots = Vec::with_capacity(alloc, SLOTS)?;
+        leave_room(&mut slots);
         slots.push_reserved(Some(value));
-        match Table::new(alloc, &[0], slots, &()) {
+        leave_room(&mut slots);
+        match Table::new(alloc, &[0; WORDS], slots, &()) {
             Ok((table, pass)) => Ok((RuledLock { table }, pass)),
             Err(_) => Err(AllocError),
         }
@@ -104,7 +133,7 @@ impl<T, V, P: LockRule<T, V>> RuledLock<T, V, P> {
         ensures free { IfErr result (λ _. HoldsNothing pass.new) }
     {
         match how.acquire::<T, V, P, M>(self, pass) {
-            Ok(()) => match self.table.shared.exchange(pass, 0, None) {
+            Ok(()) => match self.table.shared.exchange(pass, SLOT, None) {
                 Some(value) => Ok(value),
                 None => unreachable!(),
             },
@@ -123,7 +152,9 @@ impl<T, V, P: LockRule<T, V>> RuledLock<T, V, P> {
         ensures holds { result ≡ 0 → (t : T) × Holds t (Some t) pass.new × M.fact (client_of pass.old) t }
         ensures free { result ≢ 0 → HoldsNothing pass.new }
     {
-        self.table.shared.compare_exchange::<Try<M>>(pass, 0, 0, 1)
+        self.table
+            .shared
+            .compare_exchange::<Try<M>>(pass, WORD, 0, 1)
     }
 
     // Takes the slot, and sleeps for a while again and again as long as another pass has it. Nobody wakes it: a static library, which
@@ -142,7 +173,7 @@ impl<T, V, P: LockRule<T, V>> RuledLock<T, V, P> {
                 return;
             }
             let pause = Duration::from_micros(PAUSE);
-            self.table.shared.park_timeout(rt, 0, 1, pause);
+            self.table.shared.park_timeout(rt, WORD, 1, pause);
         }
         unreachable!()
     }
@@ -156,10 +187,10 @@ impl<T, V, P: LockRule<T, V>> RuledLock<T, V, P> {
         ensures free { HoldsNothing pass.new }
         ensures then { IfSome pass.old.me.0.taken (λ t. M.then (client_of pass.old) t value (client_of pass.new)) }
     {
-        match self.table.shared.exchange(pass, 0, Some(value)) {
+        match self.table.shared.exchange(pass, SLOT, Some(value)) {
             Some(_) => unreachable!(),
             None => {}
         }
-        self.table.shared.swap::<Give<M>>(pass, 0, 0);
+        self.table.shared.swap::<Give<M>>(pass, WORD, 0);
     }
 }

@@ -3,15 +3,32 @@ use Rattle.std.specs.Prelude.{◌≡◌, ℕ, ◌<◌, ◌≤◌, List, Option, 
 use mathlib.Core.Option.{some}
 use lib.ListN.{get_elem?}
 use Rattle.atomic_table.specs.Seated.{TableId}
+use Rattle.aug_trie.specs.Pass.{GoesOn}
+use Rattle.aug_trie.specs.Snapshot.{snapshot_cut}
+use Rattle.aug_trie.specs.Updates.{TakesSnapshot}
 use Rattle.aug_trie.specs.declared.queries.snapshot.Snapshot.{Snapshot}
 use Rattle.aug_trie.specs.declared.rounds.owned.OwnedPass.{OwnedPass}
-use Rattle.aug_live.specs.inside.LaneKnowledge.{EndFacts, LaneFacts, OutFacts, rounds_at}
+use Rattle.aug_live.specs.inside.LaneKnowledge.{EndFacts, LaneFacts, OutFacts, half_in, rounds_at, stands}
+use Rattle.aug_live.specs.declared.lane.Parts.{Parts}
 use Rattle.aug_live.specs.declared.known.Whose.TheVariants.{Handle}
 
 -- the snapshot of a lane, if there is a lane
 abbrev pub held_in : {A B : Type 0} → Option (OwnedPass A B) → Snapshot
 held_in None = record { number = 0 }
 held_in (Some work) = work.held
+
+-- a lane without its pass, of which these are the parts
+abbrev pub rest_of : {A B : Type 0} → Parts A B → LaneFacts
+rest_of parts = record { works = false; number = parts.number; is_out = parts.is_out; at = stands parts.era (half_in parts.last.value) }
+
+-- the pass in a lane took a new snapshot, and nothing else changed there
+pub record LooksIn {A B : Type 0} (old new : Parts A B) : Type 0 where
+  pub pass : OwnedPass A B
+  pub next : OwnedPass A B
+  pub there : old.work ≡ Some pass
+  pub same : new ≡ record old { work = Some next }
+  pub takes : TakesSnapshot pass.half.knows next.half.knows (snapshot_cut next.half next.held.number)
+  pub goes_on : GoesOn 0 1 pass.half next.half
 
 -- the handle with the number of this lane took it and has its pass, which accepted nothing since
 pub record HoldsLook {A B : Type 0} (out : OutFacts) (rest : LaneFacts) (work : Option (OwnedPass A B)) (bits lane : ℕ) (lanes : List TableId) : Type 0 where

@@ -6,15 +6,15 @@ use crate::updates::outcome::Outcome;
 use crate::updates::request::{Request, insertions_by, removals_by};
 
 // How far a pass is in its lane, and the results of its updates. It goes unchanged from a pass to its half and back, and through the
-// turns of an update.
+// turns of an update. Its fields leave no padding, which would be copied too.
 #[derive(Clone, Copy)]
 pub(crate) struct Account {
     // How many leaves the table has.
     pub(crate) leaves: usize,
-    // How many bits the keys have.
-    pub(crate) bits: u32,
     // The first record of the lane that no update has used.
     pub(crate) next: u64,
+    // How many bits the keys have.
+    pub(crate) bits: u32,
     // How many updates are left.
     pub(crate) left: u32,
     // How many keys the pass put in, and how many it took out, a replaced one on either side.

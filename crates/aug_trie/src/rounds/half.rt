@@ -1,9 +1,18 @@
 //! A pass without its round, for the way into a thread.
-ghost use Rattle.std.specs.Prelude.{◌≡◌, ◌+◌, ◌^◌};
+ghost use Rattle.std.specs.Prelude.{◌≡◌, ◌+◌, ◌^◌, [], ◌∷◌, ◌++◌};
+ghost use Rattle.aug_core.specs.Kinds.{load_node};
+ghost use Rattle.aug_model.specs.Folds.{summary_of};
 ghost use Rattle.aug_trie.specs.Knowledge.{inserts_of, removals_of};
+ghost use Rattle.aug_trie.specs.Node.{Keeps};
+ghost use Rattle.aug_trie.specs.Pass.{GoesOn};
+ghost use Rattle.aug_trie.specs.Round.{root_of, table_of};
+ghost use Rattle.aug_trie.specs.Snapshot.{HasSnapshot, snapshot_cut};
+ghost use Rattle.aug_trie.specs.Updates.{TakesSnapshot};
 
+use crate::queries::snapshot::Snapshot;
 use crate::rounds::account::Account;
 use crate::rounds::pass::Pass;
+use crate::rounds::round::Round;
 use aug_monoid::Monoid;
 use aug_words::WordHalf;
 use std::marker::Model;
@@ -31,6 +40,21 @@ impl<A: Monoid, B: Monoid> Model for PassHalf<A, B> {
 }
 
 impl<A: Monoid, B: Monoid> PassHalf<A, B> {
+    /// Takes a snapshot of its round, as `Pass::snapshot` does, where the half lies.
+    #[inline(always)]
+    pub fn snapshot(&mut self, round: &Round<A, B>) -> Snapshot
+        requires { table_of self.old.round ≡ round.now }
+        ensures takes { TakesSnapshot self.old.knows self.new.knows (snapshot_cut self.new result.number) }
+        ensures known { HasSnapshot self.new result.number }
+        ensures goes_on { GoesOn 0 1 self.old self.new }
+        ensures step { self.new.steps ≡ self.old.steps ++ load_node (root_of self.old.round) result.number ∷ [] }
+        ensures keeps { Keeps (summary_of A.parts B.parts) self.old self.new }
+    {
+        let root = 2 * self.account.leaves - 2;
+        let number = self.words.load_node(&round.words, root);
+        Snapshot { number }
+    }
+
     /// How many keys there are: `2^bits`. The keys are the numbers below it.
     #[inline(always)]
     pub fn universe(&self) -> u32

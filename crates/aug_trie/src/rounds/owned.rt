@@ -23,6 +23,7 @@ use crate::rounds::note::Note;
 use crate::rounds::pass::Pass;
 use crate::rounds::pop::{Pop, Side};
 use crate::rounds::round::Round;
+use crate::updates::batch::amount_in;
 use crate::updates::outcome::Outcome;
 use crate::updates::request::Request;
 use aug_monoid::{Extent, Monoid};
@@ -33,18 +34,6 @@ use std::sync::Arc;
 /// A round that its passes share.
 pub type SharedRound<A, B> = Arc<Round<A, B>, Global>;
 
-// What an update comes to that was accepted, or was not.
-#[inline(always)]
-fn accepted_if(done: bool) -> Outcome
-    ensures { result ≡ (if done then Outcome.Accepted else Outcome.Refused) }
-{
-    if done {
-        Outcome::Accepted
-    } else {
-        Outcome::Refused
-    }
-}
-
 // Makes an update that a pass has left.
 #[inline(always)]
 fn make<A: Monoid, B: Monoid>(pass: &mut Pass<'_, A, B>, key: u32, request: Request) -> Outcome
@@ -52,18 +41,12 @@ fn make<A: Monoid, B: Monoid>(pass: &mut Pass<'_, A, B>, key: u32, request: Requ
     requires budget { pass.old.spent < pass.old.round.updates }
     ensures { OneUpdate (summary_of A.parts B.parts) request key result pass.old pass.new }
 {
-    match request {
-        Request::Insert => accepted_if(pass.insert(key)),
-        Request::Remove => accepted_if(pass.remove(key)),
-        Request::Put(weight) => pass.put(key, weight),
-        Request::Add(amount) => pass.add(key, amount),
-        Request::Sub(amount) => pass.sub(key, amount),
-        Request::Take(weight) => accepted_if(pass.take(key, weight)),
-    }
+    let _amount = amount_in(request);
+    pass.update(key, request)
 }
 
 /// A pass, its round, and the snapshot that answers its queries. It borrows nothing, so it may go to another thread and into a
-/// struct. Each call takes it and gives it back.
+/// struct. Each call but `look` takes it and gives it back.
 #[derive(Drop)]
 pub struct OwnedPass<A: Monoid, B: Monoid> {
     pub(crate) round: SharedRound<A, B>,
@@ -175,37 +158,14 @@ impl<A: Monoid, B: Monoid> OwnedPass<A, B> {
 
     /// Takes a new snapshot, which answers the queries from then on. It shows every change that the pass knows.
     #[inline(always)]
-    pub fn look(self) -> OwnedPass<A, B>
-        ensures takes { TakesSnapshot self.half.knows result.half.knows (snapshot_cut result.half result.held.number) }
-        ensures goes_on { GoesOn 0 1 self.half result.half }
-        ensures step { result.half.steps ≡ self.half.steps ++ load_node (root_of self.half.round) result.held.number ∷ [] }
-        ensures keeps { Keeps (summary_of A.parts B.parts) self.half result.half }
-        ensures round { result.round ≡ self.round }
+    pub fn look(&mut self)
+        ensures takes { TakesSnapshot self.old.half.knows self.new.half.knows (snapshot_cut self.new.half self.new.held.number) }
+        ensures goes_on { GoesOn 0 1 self.old.half self.new.half }
+        ensures step { self.new.half.steps ≡ self.old.half.steps ++ load_node (root_of self.old.half.round) self.new.held.number ∷ [] }
+        ensures keeps { Keeps (summary_of A.parts B.parts) self.old.half self.new.half }
+        ensures round { self.new.round ≡ self.old.round }
     {
-        let OwnedPass { round, half, .. } = self;
-        let mut pass = round.pass(half);
-        let held = pass.snapshot();
-        let half = pass.into_half();
-        OwnedPass { round, half, held }
-    }
-
-    /// The snapshot that answers the queries. It can still be queried after a later `look`, by `look_back`.
-    pub fn held(&self) -> Snapshot
-        ensures held { result ≡ self.now.held }
-        ensures known { HasSnapshot self.now.half result.number }
-    {
-        self.held
-    }
-
-    /// Answers queries from an older snapshot of this pass again.
-    pub fn look_back(self, held: Snapshot) -> OwnedPass<A, B>
-        requires { HasSnapshot self.half held.number }
-        ensures held { result.held ≡ held }
-        ensures same { result.half ≡ self.half }
-        ensures round { result.round ≡ self.round }
-    {
-        let OwnedPass { round, half, .. } = self;
-        OwnedPass { round, half, held }
+        self.held = self.half.snapshot(&self.round);
     }
 
     /// How many keys there are: `2^bits`. The keys are the numbers below it.

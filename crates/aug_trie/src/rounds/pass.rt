@@ -141,7 +141,7 @@ impl<'r, A: Monoid, B: Monoid> Pass<'r, A, B> {
 
     // Makes an update of a key.
     #[inline(always)]
-    fn update(&mut self, k: u32, request: Request) -> Outcome
+    pub(crate) fn update(&mut self, k: u32, request: Request) -> Outcome
         requires key { k < 2 ^ self.old.round.bits }
         requires budget { self.old.spent < self.old.round.updates }
         requires fits { FitsRequest request }

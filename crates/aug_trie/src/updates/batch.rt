@@ -20,7 +20,7 @@ use aug_words::WordPass;
 
 // The weight or the amount in a request. It tells that this has 32 bits.
 #[inline(always)]
-fn amount_in(request: Request) -> u32
+pub(crate) fn amount_in(request: Request) -> u32
     ensures { FitsRequest request }
 {
     match request {

@@ -1,5 +1,5 @@
--- The rule of the table of a lock, and what each step shows. Word 0 is 0 if the value is in the lock. While a seat holds the value, the caller's rule
--- holds for the value that the seat took.
+-- The rule of the table of a lock, and what each step shows. Word 16 is 0 if the value is in the lock, in slot 8. No other word or slot is used. While a
+-- seat holds the value, the caller's rule holds for the value that the seat took.
 use Rattle.std.specs.Prelude.{◌≡◌, ◌≢◌, ℕ, ◌<◌, List, [], ◌∷◌, map, length, slice_index, Option, Some, None, IfSome}
 use mathlib.Core.Option.{some}
 use lib.ListN.{get_elem?}
@@ -17,11 +17,11 @@ client d = d.client
 pub record IsLocked {T V : Type 0} (holds : T → List V → Type 0) (s : State (Option T) (Holding T V)) : Type 0 where
   pub value : T
   pub holder : ℕ
-  pub wide : length s.words ≡ 1
-  pub at_home : slice_index s.words 0 ≡ 0 → get_elem? s.homes 0 ≡ some (some (Some value))
+  pub wide : length s.words ≡ 33
+  pub at_home : slice_index s.words 16 ≡ 0 → get_elem? s.homes 8 ≡ some (some (Some value))
   -- while the value is out its holder has taken it, so that no lock stays shut that nobody has shut
-  pub held : 0 < slice_index s.words 0 → (d : Holding T V) × (get_elem? s.views holder ≡ some d) × (d.taken ≡ Some value)
-  pub each_seat : (j : ℕ) (d : Holding T V) → get_elem? s.views j ≡ some d → KnowsValue (slice_index s.words 0) value holder j d.taken
+  pub held : 0 < slice_index s.words 16 → (d : Holding T V) × (get_elem? s.views holder ≡ some d) × (d.taken ≡ Some value)
+  pub each_seat : (j : ℕ) (d : Holding T V) → get_elem? s.views j ≡ some d → KnowsValue (slice_index s.words 16) value holder j d.taken
   pub kept : holds value (map client s.views)
 
 abbrev pub LockSeat : Type 0 → Type 0 → Type 0
@@ -36,8 +36,8 @@ module _ {T V : Type 0} where
 
   -- the word was 0 and the slot was taken, or nothing changed
   abbrev pub tried : (V → T → Type 0) → Step (Option T) → LockSeat T V → ℕ → LockSeat T V → Type 0
-  tried fact st m r m' = (r ≡ 0 → (t : T) × (m' ≡ (doing (Some t) m.0.client, (0, Some t) ∷ [])) × fact m.0.client t) × (r ≢ 0 → m' ≡ m)
+  tried fact st m r m' = (r ≡ 0 → (t : T) × (m' ≡ (doing (Some t) m.0.client, (8, Some t) ∷ [])) × fact m.0.client t) × (r ≢ 0 → m' ≡ m)
 
   -- the slot was given back
   abbrev pub gave : (V → T → T → V → Type 0) → Step (Option T) → LockSeat T V → ℕ → LockSeat T V → Type 0
-  gave then st m r m' = (m'.0.taken ≡ None) × (m'.1 ≡ rest m.1) × ((t y : T) → m.0.taken ≡ Some t → m.1 ≡ (0, Some y) ∷ [] → then m.0.client t y m'.0.client)
+  gave then st m r m' = (m'.0.taken ≡ None) × (m'.1 ≡ rest m.1) × ((t y : T) → m.0.taken ≡ Some t → m.1 ≡ (8, Some y) ∷ [] → then m.0.client t y m'.0.client)

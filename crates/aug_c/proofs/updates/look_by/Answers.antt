@@ -16,4 +16,4 @@ looks user access look held is same makes =
     subst (λ (u : Option Seat). On TakesLook u (Some (Looking held)) (pos 0)) (sym is) (Looking held, refl, record { looks = λ _. (held, refl, made); refused = λ n. absurd (n refl); others = inl refl })
 
 pub returns-in-Ok : goal.returns-in-Ok
-returns-in-Ok c = looks c.args.user.now c.in-Some-Free.access c.in-Ok.look c.of.result (search rules) c.of.ensures c.in-Ok.ensures.looks
+returns-in-Ok c = subst (λ (u : Option Seat). On TakesLook c.args.user.now u (pos 0)) (sym c.seat-in-Ok.ensures) (looks c.args.user.now c.in-Some-Free.access c.in-Ok.look c.of.result (search rules) c.of.ensures c.in-Ok.ensures.looks)

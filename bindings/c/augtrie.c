@@ -76,11 +76,11 @@ struct shared {
     unsigned idle_count;
     unsigned owners;               /* the trie's handle and each open user */
     uint32_t bits;                 /* of its keys; never changed */
-    atomic_uint waiting;           /* how many calls are made again until others have ended theirs, or their looks */
+    atomic_uint waiting;           /* how many calls, and users by aug_wait_begin, wait until others have ended their calls and looks */
 };
 
-/* What an open handle of a trie begins with. */
-static const uint64_t TRIE = 0x656972742d677561;
+/* What an open handle of a trie begins with, and what that of a user does, by the proved calls. */
+static const uint64_t TRIE = 0x656972742d677561, USER = 0x726573755f677561;
 
 static struct shared *shared_of(const aug_trie *trie) {
     return trie && trie->tag == TRIE ? trie->at : NULL;
@@ -105,6 +105,19 @@ static void wait_a_little(unsigned turn) {
     if (turn < 32) sched_yield();
     else sleep_a_little();
 }
+
+/* Has an open user counted among those that wait, or no longer. */
+static int64_t count_as_waiting(aug_user *user, uint64_t waits) {
+    if (!user || user->tag != USER) return AUG_CLOSED;
+    atomic_uint *waiting = &((struct shared *)user->of)->waiting;
+    if (waits > user->waits) atomic_fetch_add(waiting, 1);
+    if (waits < user->waits) atomic_fetch_sub(waiting, 1);
+    user->waits = waits;
+    return AUG_OK;
+}
+
+int64_t aug_wait_begin(aug_user *user) { return count_as_waiting(user, 1); }
+int64_t aug_wait_end(aug_user *user) { return count_as_waiting(user, 0); }
 
 /* Calls again as long as another thread is waited for. */
 #define CALLS_AGAIN(code, of, call) do { \
@@ -147,12 +160,13 @@ int64_t aug_user_open(aug_trie *trie, aug_user *user) {
     pthread_mutex_lock(&s->lock);
     if (s->idle_count) {
         struct handle idle = s->idle[--s->idle_count];
-        *user = (aug_user){idle.tag, idle.at, s};
+        *user = (aug_user){.tag = idle.tag, .at = idle.at};
     } else {
         code = aug_try_user_open(&s->trie, user);
     }
     if (code == AUG_OK) {
         user->of = s;
+        user->waits = 0;
         s->owners++;
     }
     pthread_mutex_unlock(&s->lock);
@@ -160,13 +174,14 @@ int64_t aug_user_open(aug_trie *trie, aug_user *user) {
 }
 
 int64_t aug_user_close(aug_user *user) {
+    aug_wait_end(user);
     int64_t ended = aug_look_done(user);
     if (ended != AUG_OK && ended != AUG_NOT_LOOKING) return ended;
     struct shared *s = user->of;
     pthread_mutex_lock(&s->lock);
     if (s->trie.tag) s->idle[s->idle_count++] = (struct handle){user->tag, user->at};
     else aug_user_free(user);
-    *user = (aug_user){0, NULL, NULL};
+    *user = (aug_user){.tag = 0};
     leave(s);
     return AUG_OK;
 }
@@ -181,7 +196,7 @@ static int64_t try_close(struct shared *s, aug_report *report) {
     }
     while (s->idle_count) {
         struct handle idle = s->idle[--s->idle_count];
-        aug_user user = {idle.tag, idle.at, NULL};
+        aug_user user = {.tag = idle.tag, .at = idle.at};
         aug_user_free(&user);
     }
     leave(s);

@@ -18,9 +18,10 @@
  * proved on paper for the algorithm, and tested, but not proved of this code. A look stays as it is until it is done or taken again.
  * What waits for whom. Most calls wait for nobody. When the table is full, an update or look begins a new round of it, which waits for the
  * update that each other user is in and for each look; others wait for that. So end looks soon. The calls aug_try_.. never wait, and
- * answer AUG_AGAIN where the others would; these call again, and yield or sleep in between. aug_close waits for updates and looks too. A
- * user that holds no look and is in no call holds nobody up, nor does one whose thread ended so. aug_user_open, aug_user_close and aug_close
- * of a trie wait for one another.
+ * answer AUG_AGAIN where the others would; these call again, and yield or sleep in between. Whoever calls again himself says so by
+ * aug_wait_begin, or others who look again and again may leave him no time. aug_close waits for updates and looks too. A user that holds
+ * no look and is in no call holds nobody up, nor does one whose thread ended so. aug_user_open, aug_user_close and aug_close of a trie
+ * wait for one another.
  *
  * What you owe. Zero a handle before you open it, and never copy or change an open one. Give a user to one call at a time; it may go
  * from thread to thread, if that is ordered by a lock, by starting or joining a thread, or by a sequentially consistent atomic. aug_close
@@ -77,7 +78,7 @@ typedef struct aug_user {
     uint64_t tag;
     void *at;
     void *of;
-    uint64_t apart[13]; /* so that users next to one another share no line of a cache */
+    uint64_t waits;
 } aug_user;
 
 /* A handle before it is opened: all zeros. */
@@ -201,7 +202,7 @@ AUG_NODISCARD int64_t aug_look(aug_user *user);
 /* Takes a newer snapshot in the same look, and waits for nobody. Answers 0, or AUG_CLOSED, AUG_NOT_LOOKING. */
 int64_t aug_look_again(aug_user *user);
 
-/* Ends the look, and sleeps for some 50 microseconds if a call of another user waits. Answers 0, or AUG_CLOSED, AUG_NOT_LOOKING. */
+/* Ends the look, and sleeps for some 50 microseconds if a user waits. Answers 0, or AUG_CLOSED, AUG_NOT_LOOKING. */
 int64_t aug_look_done(aug_user *user);
 
 /* ---- Queries. Each may answer AUG_CLOSED too, and AUG_NOT_LOOKING. Any key may be asked for. ---- */
@@ -272,6 +273,12 @@ AUG_NODISCARD int64_t aug_try_pop_last(aug_user *user, aug_member *member);
 AUG_NODISCARD int64_t aug_try_insert_all(aug_user *user, const uint32_t *keys, size_t n, aug_progress *progress);
 AUG_NODISCARD int64_t aug_try_remove_all(aug_user *user, const uint32_t *keys, size_t n, aug_progress *progress);
 AUG_NODISCARD int64_t aug_try_put_all(aug_user *user, const uint32_t *keys, size_t n, const uint32_t *weights, size_t weight_count, aug_progress *progress);
+
+/* Say that a user waits, since its call answered AUG_AGAIN and is going to be made again, and that it waits no more. In between, the end of
+   a look makes room for it, as aug_look_done says. Said twice, each counts once, and aug_user_close says the second one too. Both answer 0,
+   or AUG_CLOSED, and wait for nobody. */
+int64_t aug_wait_begin(aug_user *user);
+int64_t aug_wait_end(aug_user *user);
 
 #ifdef __cplusplus
 }

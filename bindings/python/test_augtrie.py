@@ -570,6 +570,46 @@ def interrupted(trie, call):
         held()
 
 
+def longest_update(seconds, read, update):
+    """The longest time that an update took, while three threads read again and again."""
+    end, longest = time.monotonic() + seconds, 0
+
+    def read_on():
+        while time.monotonic() < end:
+            read()
+
+    ended = at_once(read_on, read_on, read_on)
+    while time.monotonic() < end:
+        begin = time.monotonic()
+        update()
+        longest = max(longest, time.monotonic() - begin)
+    assert ended() == [None] * 3
+    return longest
+
+
+@test
+def updates_do_not_wait_long_for_those_that_look_again_and_again():
+    with Trie(**{**SMALL, "users": 4}) as trie, Trie(12, users=4, bytes=1 << 20) as large:
+
+        def with_snapshot():
+            with trie.snapshot():
+                time.sleep(0.001)
+
+        def with_reference():
+            now = trie.snapshot()
+            time.sleep(0.001)
+            assert len(now) == 1
+
+        keys = list(range(4096))
+        trie.add(3)
+        cases = [(with_snapshot, trie, 2), (with_reference, trie, 0.5), (lambda: large.rank_all(keys), large, 0.5), (lambda: large[:], large, 0.5)]
+        large.update(keys)
+        for read, of, seconds in cases:
+            # On a busy machine the best of three measurements counts.
+            took = (longest_update(seconds, read, lambda: of.increment(3)) for _ in range(3))
+            assert any(it <= 0.1 for it in took)
+
+
 @test
 def a_wait_can_be_interrupted():
     for call in (lambda trie: fills(trie, 1 << 40)[1](), lambda trie: [trie.put_all([3] * 5000, range(5000)) for _ in itertools.count()]):

@@ -50,7 +50,7 @@ REPORTS = {
 }
 
 # The fewest tests that each part must have run in one folder, and the fewest answers that the benchmark compares of an engine and a workload.
-LEAST_PYTHON, LEAST_RUST, LEAST_ANSWERS = 34, 25, 2001
+LEAST_PYTHON, LEAST_RUST, LEAST_ANSWERS = 35, 26, 2001
 
 # The engines of the benchmark, and the types that their threads work with. The last one needs a crate that may not be there.
 ENGINES = {
@@ -159,17 +159,17 @@ def test_names_of_the_header():
 
 
 def test_names_in_rust():
-    # The crate has those that wait.
-    waits = {name for name in shown() if not name.startswith("aug_try_")}
+    # The crate has those that wait, and not those for who calls again.
+    waits = {name for name in shown() if not name.startswith(("aug_try_", "aug_wait_"))}
     assert set(re.findall(r"pub (?:safe )?fn (aug_\w+)\(", read("bindings", "rust", "src", "ffi.rs"))) == waits
 
 
 def test_names_in_python():
     types = set(re.findall(r"^} (aug_\w+);", read("bindings", "c", "augtrie.h"), re.M))
     used = set(re.findall(r"\baug_\w+\b", extension())) - types
-    # What may wait is tried instead, since no thread may wait that has the interpreter's lock.
-    tries = {name for name in shown() if "_try_" in name}
-    assert shown() - tries - {name.replace("_try_", "_") for name in tries} <= used <= shown()
+    # What may wait is tried instead, since no thread may wait that has the interpreter's lock, by which the threads that wait are counted too.
+    tries, says = ({name for name in shown() if word in name} for word in ("_try_", "_wait_"))
+    assert shown() - says - tries - {name.replace("_try_", "_") for name in tries} <= used <= shown() - says
 
 
 def test_names_and_codes_agree():
@@ -255,6 +255,10 @@ class Installed:
     def test_c_pops(self):
         said = said_by(self.compiled("c", "tests", "pops.c"))
         assert int(re.fullmatch(r"ok: (\d+) answers\n", said)[1]) >= 8192
+
+    def test_c_updates_beside_readers(self):
+        said = said_by(self.compiled("c", "tests", "readers.c"))
+        assert re.fullmatch(r"ok: \d+ answers, \d{3,} updates\n", said), said
 
     def test_c_timers(self):
         assert said_by(self.compiled("c", "examples", "timers.c")).splitlines() == PRINTED["timers"]

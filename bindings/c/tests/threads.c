@@ -67,7 +67,7 @@ static uint32_t threads_agree(void) {
 /* Each misuse has its code. */
 static void misuses(void) {
     aug_trie other = AUG_ZEROED;
-    aug_user one = AUG_ZEROED, two = AUG_ZEROED, more = AUG_ZEROED, wild = {0x1234, (void *)8, (void *)8};
+    aug_user one = AUG_ZEROED, two = AUG_ZEROED, more = AUG_ZEROED, wild = {.tag = 0x1234, .at = (void *)8, .of = (void *)8};
     uint32_t key = 9;
     WANT(aug_open(NULL, BITS, 1, 1 << 20), AUG_CLOSED);
     WANT(aug_insert(NULL, 1), AUG_CLOSED);

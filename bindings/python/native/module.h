@@ -27,6 +27,7 @@ typedef struct Trie {
     uint32_t bits, users;
     unsigned forks;            /* how often the process had been forked when it was opened */
     int is_closing;
+    unsigned waiting, tries;   /* how many threads wait for others to end their looks, and how often one of them has tried again */
     aug_report report;         /* once it is closed */
     Seat seats[AUG_MOST_USERS];
 } Trie;
@@ -95,6 +96,12 @@ void end_look(Seat *seat);
 
 /* Lets other threads run for a moment, and handles signals. 0, or -1 with the exception of a handler. */
 int nap(unsigned turn);
+
+/* The same until a call that answered AUG_AGAIN is made again, which has to follow at once. */
+int wait_for_looks(Trie *trie, unsigned turn);
+
+/* If threads wait for looks, gives them some 10 milliseconds at most until one has tried again. It follows a look that was held while others ran. */
+void give_way(const Trie *trie);
 
 /* Begin and end what lets other threads run, or nothing if it is short. No code of Python runs on this thread in between. */
 PyThreadState *let_others_run(Seat *seat, size_t keys);

@@ -21,6 +21,13 @@ static void end(PyObject *self, Seat *seat) {
     if (Py_TYPE(self) == trie_type) aug_look_done(&seat->handle);
 }
 
+/* The same after a call that let other threads run meanwhile, if it did. */
+static void end_among(PyObject *self, Seat *seat, PyThreadState *others) {
+    run_alone(seat, others);
+    end(self, seat);
+    if (others && Py_TYPE(self) == trie_type) give_way((Trie *)self);
+}
+
 /* ---- One number ---- */
 
 typedef int64_t (*Query)(aug_user *user, int64_t place);
@@ -183,8 +190,7 @@ static PyObject *ask_all(PyObject *self, PyObject *keys, int (*read)(PyObject *,
         PyThreadState *others = let_others_run(seat, count);
         for (size_t i = 0; code == AUG_OK && i < count; i += most)
             code = queries(&seat->handle, from + i, count - i < most ? count - i : most, answers + i);
-        run_alone(seat, others);
-        end(self, seat);
+        end_among(self, seat, others);
     }
     PyMem_Free(from);
     if (seat) return list_of(code, answers, count, told);
@@ -206,12 +212,9 @@ static PyObject *get_slice(PyObject *self, PyObject *slice) {
     int64_t members = aug_size(&seat->handle);
     size_t count = (size_t)PySlice_AdjustIndices(members < 0 ? 0 : (Py_ssize_t)members, &start, &stop, step);
     int64_t *answers = PyMem_Malloc(count * sizeof *answers);
-    if (answers) {
-        PyThreadState *others = let_others_run(seat, count);
-        items_of(&seat->handle, start, step, count, answers);
-        run_alone(seat, others);
-    }
-    end(self, seat);
+    PyThreadState *others = answers ? let_others_run(seat, count) : NULL;
+    if (answers) items_of(&seat->handle, start, step, count, answers);
+    end_among(self, seat, others);
     return answers ? list_of(members, answers, count, told_number) : PyErr_NoMemory();
 }
 
@@ -394,9 +397,16 @@ PyType_Spec iterator_spec = {"augtrie.MemberIterator", sizeof(Iterator), 0, Py_T
 
 /* ---- Snapshots ---- */
 
+/* Ends a snapshot whose seat is not busy, unless it has ended. */
+static void end_snapshot(Snapshot *snapshot) {
+    if (!snapshot->seat) return;
+    end_look(snapshot->seat);
+    give_way(snapshot->trie);
+}
+
 static void snapshot_free(PyObject *self) {
     Snapshot *snapshot = (Snapshot *)self;
-    if (snapshot->seat) end_look(snapshot->seat);
+    end_snapshot(snapshot);
     Py_DECREF(snapshot->trie);
     free_object(self);
 }
@@ -414,7 +424,7 @@ static PyObject *snapshot_close(PyObject *self, PyObject *unused) {
     Snapshot *snapshot = (Snapshot *)self;
     (void)unused;
     for (unsigned turn = 0; is_ours(snapshot->trie) && snapshot->seat && snapshot->seat->is_busy; turn++) if (nap(turn)) return NULL;
-    if (snapshot->seat) end_look(snapshot->seat);
+    end_snapshot(snapshot);
     Py_RETURN_NONE;
 }
 

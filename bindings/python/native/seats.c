@@ -11,6 +11,9 @@
 /* A call for no more keys than this is done before another thread of Python would have begun to run. */
 enum { FEW_KEYS = 64 };
 
+/* How often whoever waits yields before it sleeps. */
+enum { YIELDS = 32 };
+
 /* The number of a thread that has ended. */
 static const uint64_t ENDED = UINT64_MAX;
 
@@ -138,17 +141,36 @@ Seat *look(Trie *trie) {
         int64_t code = aug_try_look(&seat->handle);
         if (code == AUG_OK) return seat;
         if (code != AUG_AGAIN) return raise_code(code);
-        if (nap(turn)) return NULL;
+        if (wait_for_looks(trie, turn)) return NULL;
     }
 }
 
-int nap(unsigned turn) {
+/* Lets other threads run, and in a long wait sleeps. */
+static void let_go(unsigned turn) {
     const struct timespec pause = {0, 50000};
     Py_BEGIN_ALLOW_THREADS
-    if (turn < 32) sched_yield();
+    if (turn < YIELDS) sched_yield();
     else nanosleep(&pause, NULL);
     Py_END_ALLOW_THREADS
+}
+
+int nap(unsigned turn) {
+    let_go(turn);
     return PyErr_CheckSignals();
+}
+
+int wait_for_looks(Trie *trie, unsigned turn) {
+    /* Nobody sees the count but with the interpreter's lock, which this thread has until it tries again. */
+    trie->waiting++;
+    let_go(turn);
+    trie->waiting--;
+    trie->tries++;
+    return PyErr_CheckSignals();
+}
+
+void give_way(const Trie *trie) {
+    unsigned tries = trie->tries;
+    for (unsigned turn = YIELDS; is_ours(trie) && trie->waiting && trie->tries == tries && turn < 100 + YIELDS; turn++) let_go(turn);
 }
 
 PyThreadState *let_others_run(Seat *seat, size_t keys) {

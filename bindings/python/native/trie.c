@@ -127,7 +127,7 @@ static Py_ssize_t change(PyObject *self, Update update, const uint32_t *keys, co
         if (answer < 0 && answer != AUG_AGAIN) return raise_code(answer), -1;
         if (i == count) return changed;
         turn = answer < 0 ? turn + 1 : 0;
-        if (nap(turn)) return -1;
+        if (answer < 0 ? wait_for_looks((Trie *)self, turn) : nap(turn)) return -1;
     }
 }
 
@@ -197,7 +197,7 @@ static PyObject *trie_popitem(PyObject *self, PyObject *args) {
         if (answer == 1) return Py_BuildValue("kk", (unsigned long)member.key, (unsigned long)member.weight);
         if (answer == AUG_NONE) PyErr_SetString(PyExc_KeyError, "the set is empty");
         else if (answer != AUG_AGAIN) raise_code(answer);
-        if (answer != AUG_AGAIN || nap(turn)) return NULL;
+        if (answer != AUG_AGAIN || wait_for_looks((Trie *)self, turn)) return NULL;
     }
 }
 

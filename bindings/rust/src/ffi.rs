@@ -26,10 +26,11 @@ pub struct User {
     tag: u64,
     at: *mut c_void,
     of: *mut c_void,
+    waits: u64,
 }
 
 impl User {
-    pub const CLOSED: User = User { tag: 0, at: null_mut(), of: null_mut() };
+    pub const CLOSED: User = User { tag: 0, at: null_mut(), of: null_mut(), waits: 0 };
 }
 
 // SAFETY: a user may go from thread to thread, with its look, if its calls are ordered: whatever hands a value on in safe Rust orders them.

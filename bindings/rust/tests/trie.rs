@@ -6,6 +6,7 @@ use std::ops::Bound;
 use std::sync::Mutex;
 use std::sync::atomic::{AtomicU32, Ordering::SeqCst};
 use std::thread;
+use std::time::{Duration, Instant};
 
 // So many that no test here fills the table, whatever the bits.
 const PLENTY: u64 = 1 << 24;
@@ -458,6 +459,44 @@ fn looks_agree_and_never_go_back_while_others_fill_the_table() -> Result<(), Err
     // A count is an insertion, and except for the first one a removal.
     assert_eq!((report.inserts, report.removals), (30_000, 29_997));
     Ok(())
+}
+
+/// The longest time that an update took within a second, while three threads looked for a millisecond each, with no pause in between.
+fn longest_update() -> Result<Duration, Error> {
+    let trie = small(4, 4);
+    let end = Instant::now() + Duration::from_secs(1);
+    let mut longest = Duration::ZERO;
+    let mut user = trie.user()?;
+    thread::scope(|scope| {
+        for _ in 0..3 {
+            let mut reader = trie.user()?;
+            scope.spawn(move || {
+                while Instant::now() < end {
+                    let _look = reader.look().expect("the trie is open");
+                    thread::sleep(Duration::from_millis(1));
+                }
+            });
+        }
+        while Instant::now() < end {
+            let begin = Instant::now();
+            user.add(3, 1)?;
+            longest = longest.max(begin.elapsed());
+        }
+        Ok(longest)
+    })
+}
+
+#[test]
+fn an_update_does_not_wait_long_for_those_that_look_again_and_again() -> Result<(), Error> {
+    // On a busy machine the best of three measurements counts.
+    let mut longest = Vec::new();
+    for _ in 0..3 {
+        longest.push(longest_update()?);
+        if longest.last() <= Some(&Duration::from_millis(100)) {
+            return Ok(());
+        }
+    }
+    panic!("updates took {longest:?}");
 }
 
 #[test]

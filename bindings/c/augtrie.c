@@ -312,11 +312,18 @@ static int64_t refuses(aug_user *user, const void *keys, size_t n, const void *o
 static uint64_t nowhere;
 #define ARRAY(places) ((places) ? (places) : (void *)&nowhere)
 
+/* What an update of no keys answers: that is no call on the trie, so a look says if the trie is closed. */
+static int64_t of_no_keys(aug_user *user) {
+    int64_t code = aug_look(user);
+    return code == AUG_OK ? aug_try_look_done(user) : code;
+}
+
 /* A call for an array that is made again, and goes on from where it came to, until all is done. */
 #define OF_KEYS(call) do { \
     aug_progress so_far = {0, 0}; \
     int64_t code_ = refuses(user, keys, n, keys, n); \
     if (code_ == AUG_OK) CALLS_AGAIN(code_, user->of, call); \
+    if (code_ == AUG_OK && !n) code_ = of_no_keys(user); \
     return code_ == AUG_OK ? (int64_t)so_far.changed : code_; \
 } while (0)
 

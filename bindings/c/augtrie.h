@@ -268,8 +268,9 @@ AUG_NODISCARD int64_t aug_try_sub(aug_user *user, uint32_t key, uint32_t amount)
 AUG_NODISCARD int64_t aug_try_pop_first(aug_user *user, aug_member *member);
 AUG_NODISCARD int64_t aug_try_pop_last(aug_user *user, aug_member *member);
 
-/* These go on from where the one before came to, and answer 0 once an update was made for each key. A progress that is none of a call for
-   so many keys is AUG_BAD_LENGTH. Each call looks at all keys, and answers AUG_BAD_KEY before it makes an update. */
+/* These go on from where the one before came to, and answer 0 once an update was made for each key: of no keys, also if the trie is closed.
+   A progress that is none of a call for so many keys is AUG_BAD_LENGTH. Each call looks at all keys, and answers AUG_BAD_KEY before it makes
+   an update. */
 AUG_NODISCARD int64_t aug_try_insert_all(aug_user *user, const uint32_t *keys, size_t n, aug_progress *progress);
 AUG_NODISCARD int64_t aug_try_remove_all(aug_user *user, const uint32_t *keys, size_t n, aug_progress *progress);
 AUG_NODISCARD int64_t aug_try_put_all(aug_user *user, const uint32_t *keys, size_t n, const uint32_t *weights, size_t weight_count, aug_progress *progress);

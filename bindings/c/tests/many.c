@@ -60,6 +60,13 @@ static void list_pages(void) {
     }
 }
 
+/* An update of no keys is one of a user as well. */
+static void update_none(aug_user *user, int64_t want) {
+    WANT(aug_insert_all(user, NULL, 0), want);
+    WANT(aug_remove_all(user, NULL, 0), want);
+    WANT(aug_put_all(user, NULL, 0, NULL, 0), want);
+}
+
 /* A call goes on from where its progress is, and leaves a progress as it is that is none of its array. 7 goes in and out again. */
 static void go_on(aug_user *user) {
     const uint32_t in[] = {5, 5, 7, 1}, out[] = {7, 9}, bad[] = {16, 3}, weights[] = {30, 40, 50, 60}, long_one[17] = {0};
@@ -140,13 +147,12 @@ int main(void) {
     WANT(aug_remove_all(&user, in, AUG_MOST_KEYS + 1), AUG_BAD_LENGTH);
     WANT(aug_put_all(&user, put, (size_t)-2, weights, (size_t)-2), AUG_BAD_LENGTH);
     WANT(aug_put_all(&user, put, 2, weights, (size_t)-2), AUG_BAD_LENGTH);
-    WANT(aug_insert_all(&user, NULL, 0), 0);
-    WANT(aug_remove_all(&user, NULL, 0), 0);
-    WANT(aug_put_all(&user, NULL, 0, NULL, 0), 0);
+    update_none(&user, 0);
     go_on(&user);
 
     WANT(aug_look(&user), 0);
     WANT(aug_insert_all(&user, in, 4), AUG_LOOKING);
+    update_none(&user, AUG_LOOKING);
     WANT(aug_rank_all(&user, asked, 3, ranks, 2), AUG_BAD_LENGTH);
     WANT(aug_rank_all(&user, asked, 3, NULL, 3), AUG_BAD_LENGTH);
     WANT(aug_rank_all(&user, long_one, 17, ranks, 17), AUG_BAD_LENGTH);
@@ -196,7 +202,9 @@ int main(void) {
     WANT(aug_close(&trie, &report), 0);
     WANT(report.size == 3 && report.inserts == 8 && report.removals == 5, 1);
     WANT(aug_insert_all(&user, in, 3), AUG_CLOSED);
+    update_none(&user, AUG_CLOSED);
     WANT(aug_user_close(&user), 0);
+    update_none(&user, AUG_CLOSED);
     WANT(aug_has_all(&user, in, 3, bits, 3), AUG_CLOSED);
     printf("ok: %u answers\n", wanted);
     return 0;

@@ -347,6 +347,7 @@ fn what_a_closed_trie_answers() -> Result<(), Error> {
     let flags = [user.insert(1), user.remove(3)];
     let counts = [user.insert_all(&[1]), user.remove_all(&[3]), user.put_all(&[1], &[1])];
     assert_eq!((flags, counts), ([Err(Error::Closed); 2], [Err(Error::Closed); 3]));
+    assert_eq!([user.insert_all(&[]), user.remove_all(&[]), user.put_all(&[], &[])], [Err(Error::Closed); 3]);
     assert_eq!((user.put(1, 1), user.add(1, 1), user.sub(3, 1)), (Err(Error::Closed), Err(Error::Closed), Err(Error::Closed)));
     assert_eq!((user.look().err(), trie.bits()), (Some(Error::Closed), 4));
     Ok(())
@@ -395,7 +396,8 @@ fn a_look_that_was_forgotten_ends_with_the_next_one() -> Result<(), Error> {
     forget(user.look()?);
     assert_eq!((user.insert(4), user.remove(3)), (Err(Error::Looking), Err(Error::Looking)));
     assert_eq!((user.put(4, 1), user.add(4, 1), user.sub(3, 1)), (Err(Error::Looking), Err(Error::Looking), Err(Error::Looking)));
-    assert_eq!((user.insert_all(&[4]), user.remove_all(&[3])), (Err(Error::Looking), Err(Error::Looking)));
+    let counts = [user.insert_all(&[4]), user.remove_all(&[3]), user.insert_all(&[]), user.put_all(&[], &[])];
+    assert_eq!(counts, [Err(Error::Looking); 4]);
     assert_eq!(user.look()?.len(), 1);
     assert_eq!(user.insert(4), Ok(true));
     // Nor does one that was forgotten hold others up once its user looks again, or is gone.

@@ -132,6 +132,7 @@ int64_t aug_wait_end(aug_user *user) { return count_as_waiting(user, 0); }
 int64_t aug_open(aug_trie *trie, uint32_t bits, uint32_t users, uint64_t bytes) {
     if (!trie) return AUG_CLOSED;
     if (trie->tag == TRIE) return AUG_OPEN;
+    if (trie->tag == USER) return AUG_CLOSED;
     struct shared *s = malloc(sizeof *s);
     if (!s) return AUG_NO_MEMORY;
     memset(s, 0, sizeof *s);
@@ -154,8 +155,8 @@ int64_t aug_open(aug_trie *trie, uint32_t bits, uint32_t users, uint64_t bytes) 
 
 int64_t aug_user_open(aug_trie *trie, aug_user *user) {
     struct shared *s = shared_of(trie);
-    if (!s || !user) return AUG_CLOSED;
-    if (user->of) return AUG_OPEN;
+    if (!s || !user || user->tag == TRIE) return AUG_CLOSED;
+    if (user->tag == USER) return AUG_OPEN;
     int64_t code = AUG_OK;
     pthread_mutex_lock(&s->lock);
     if (s->idle_count) {

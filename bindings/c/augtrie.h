@@ -144,7 +144,7 @@ const char *aug_error_text(int64_t code);
 
 /* Opens the empty trie for keys of so many bits, 1 to 16, and so many users, 1 to 64, whose table takes at most so many bytes: twice as
    many while it is opened. With more bytes it is full less often; 2^20 are plenty for 12 bits, and 2^24 for 16. Answers 0, or AUG_OPEN,
-   AUG_BAD_BITS, AUG_BAD_USERS, AUG_TOO_LARGE, AUG_NO_MEMORY. */
+   AUG_CLOSED, AUG_BAD_BITS, AUG_BAD_USERS, AUG_TOO_LARGE, AUG_NO_MEMORY. */
 AUG_NODISCARD int64_t aug_open(aug_trie *trie, uint32_t bits, uint32_t users, uint64_t bytes);
 
 /* Opens a user of the trie. Answers 0, or AUG_OPEN, AUG_CLOSED, AUG_NO_USER, AUG_NO_MEMORY. */

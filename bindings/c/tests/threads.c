@@ -66,7 +66,7 @@ static uint32_t threads_agree(void) {
 
 /* Each misuse has its code. */
 static void misuses(void) {
-    aug_trie other = AUG_ZEROED;
+    aug_trie other = AUG_ZEROED, third = AUG_ZEROED;
     aug_user one = AUG_ZEROED, two = AUG_ZEROED, more = AUG_ZEROED, wild = {.tag = 0x1234, .at = (void *)8, .of = (void *)8};
     uint32_t key = 9;
     WANT(aug_open(NULL, BITS, 1, 1 << 20), AUG_CLOSED);
@@ -96,6 +96,14 @@ static void misuses(void) {
     WANT(aug_user_open(&other, &one), AUG_OPEN);
     WANT(aug_user_open(&other, &two), 0);
     WANT(aug_user_open(&other, &more), AUG_NO_USER);
+    /* Nothing is opened over an open handle of the other kind, which stays open. */
+    WANT(aug_open(&third, BITS, 1, 1 << 20), 0);
+    WANT(aug_user_open(&third, (aug_user *)&other), AUG_CLOSED);
+    WANT(aug_user_open(&third, (aug_user *)&third), AUG_CLOSED);
+    WANT(aug_open((aug_trie *)&one, BITS, 1, 1 << 20), AUG_CLOSED);
+    WANT(aug_user_open((aug_trie *)&one, &more), AUG_CLOSED);
+    WANT(aug_close((aug_trie *)&one, NULL), AUG_CLOSED);
+    WANT(aug_close(&third, NULL), 0);
     WANT(aug_insert(&one, KEYS), AUG_BAD_KEY);
     WANT(aug_put(&one, 9, 4000000000u), 1);
     WANT(aug_put(&one, 9, 4000000001u), 2);

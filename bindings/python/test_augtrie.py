@@ -2,6 +2,7 @@
 'N passed, M failed'."""
 
 import _thread
+import array
 import ast
 import bisect
 import copy
@@ -236,6 +237,38 @@ def many_keys_go_in_one_call():
 class Seven:
     def __index__(self):
         return 7
+
+
+@test
+def names_and_iterables_are_as_in_sortedcontainers():
+    with Trie(6) as trie:
+        assert trie.update() == 0 and trie.difference_update() == 0
+        assert trie.update([3, 5], {5: 1, 9: 1}, iter(range(20, 24))) == 7 and list(trie) == [3, 5, 9, 20, 21, 22, 23]
+        assert trie.difference_update((3, 4), [20], {22}) == 3 and list(trie) == [5, 9, 21, 23]
+        assert raises(augtrie.BadKey, trie.update, [1], [64]) and raises(TypeError, trie.update, [1], 2) and raises(TypeError, trie.update, [1], b"2")
+        assert list(trie) == [5, 9, 21, 23]
+        assert trie.peekitem(index=1) == (9, 9) and trie.peekitem(index=-2) == (21, 21) and raises(IndexError, trie.peekitem, index=4)
+        assert trie.popitem(index=0) == (5, 5) and trie.popitem(index=-1) == (23, 23) and raises(IndexError, trie.popitem, index=1)
+        assert raises(TypeError, trie.popitem, place=0) and raises(TypeError, trie.peekitem, 0, index=0)
+        wide, signed = memoryview(array.array("I", [7, 8, 9])), memoryview(array.array("q", [9, -1, 70, 7]))
+        assert trie.update(wide) == 2 and trie.has_all(wide) == [True] * 3 and trie.has_all(signed) == [True, False, False, True]
+        assert raises(augtrie.BadKey, trie.update, signed) and raises(TypeError, trie.update, memoryview(array.array("d", [1.0])))
+        assert list(trie) == [7, 8, 9, 21]
+
+
+@test
+def refusals_speak_of_snapshots():
+    with Trie(4) as trie:
+        now = trie.snapshot()
+        for kind, text, call in [(augtrie.Looking, "this thread holds a snapshot, which has to be closed first", lambda: trie.add(1)),
+                                 (augtrie.NotLooking, "the snapshot has ended", lambda: len(now)), (augtrie.Closed, None, lambda: len(trie))]:
+            try:
+                call()
+            except kind as fault:
+                assert text in (None, str(fault)) and kind.__doc__ == str(fault) and "look" not in str(fault)
+            else:
+                raise AssertionError(kind)
+            (trie if kind is augtrie.NotLooking else now).close()
 
 
 @test

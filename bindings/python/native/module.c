@@ -13,27 +13,33 @@ static PyObject *errors[CODES];
 static const struct {
     int64_t code;
     const char *name;
-    PyObject **also; /* the exception of Python that it is as well */
+    PyObject **also;  /* the exception of Python that it is as well */
+    const char *text; /* what it says where that is not what the library has of the code */
 } kinds[] = {
-    {AUG_CLOSED, "augtrie.Closed", NULL},
-    {AUG_BAD_KEY, "augtrie.BadKey", &PyExc_ValueError},
-    {AUG_AGAIN, "augtrie.Again", NULL},
-    {AUG_NO_MEMORY, "augtrie.NoMemory", &PyExc_MemoryError},
-    {AUG_BAD_BITS, "augtrie.BadBits", &PyExc_ValueError},
-    {AUG_BAD_USERS, "augtrie.BadUsers", &PyExc_ValueError},
-    {AUG_TOO_LARGE, "augtrie.TooLarge", &PyExc_ValueError},
-    {AUG_NO_USER, "augtrie.NoUser", NULL},
-    {AUG_OPEN, "augtrie.Open", NULL},
-    {AUG_BAD_LENGTH, "augtrie.BadLength", &PyExc_ValueError},
-    {AUG_LOOKING, "augtrie.Looking", NULL},
-    {AUG_NOT_LOOKING, "augtrie.NotLooking", NULL},
-    {AUG_TOO_GREAT, "augtrie.TooGreat", &PyExc_OverflowError},
-    {AUG_TOO_LITTLE, "augtrie.TooLittle", &PyExc_ValueError},
+    {AUG_CLOSED, "augtrie.Closed", NULL, NULL},
+    {AUG_BAD_KEY, "augtrie.BadKey", &PyExc_ValueError, NULL},
+    {AUG_AGAIN, "augtrie.Again", NULL, NULL},
+    {AUG_NO_MEMORY, "augtrie.NoMemory", &PyExc_MemoryError, NULL},
+    {AUG_BAD_BITS, "augtrie.BadBits", &PyExc_ValueError, NULL},
+    {AUG_BAD_USERS, "augtrie.BadUsers", &PyExc_ValueError, NULL},
+    {AUG_TOO_LARGE, "augtrie.TooLarge", &PyExc_ValueError, NULL},
+    {AUG_NO_USER, "augtrie.NoUser", NULL, NULL},
+    {AUG_OPEN, "augtrie.Open", NULL, NULL},
+    {AUG_BAD_LENGTH, "augtrie.BadLength", &PyExc_ValueError, NULL},
+    {AUG_LOOKING, "augtrie.Looking", NULL, "this thread holds a snapshot, which has to be closed first"},
+    {AUG_NOT_LOOKING, "augtrie.NotLooking", NULL, "the snapshot has ended"},
+    {AUG_TOO_GREAT, "augtrie.TooGreat", &PyExc_OverflowError, NULL},
+    {AUG_TOO_LITTLE, "augtrie.TooLittle", &PyExc_ValueError, NULL},
 };
+
+static const char *text_of(int64_t code) {
+    for (size_t i = 0; i < sizeof kinds / sizeof *kinds; i++) if (kinds[i].code == code && kinds[i].text) return kinds[i].text;
+    return aug_error_text(code);
+}
 
 void *raise_code(int64_t code) {
     PyObject *kind = code < 0 && -code < CODES && errors[-code] ? errors[-code] : any_error;
-    PyErr_SetString(kind, aug_error_text(code));
+    PyErr_SetString(kind, text_of(code));
     return NULL;
 }
 
@@ -96,7 +102,7 @@ static int add_errors(PyObject *module) {
         PyObject *also = kinds[i].also ? *kinds[i].also : NULL;
         PyObject *bases = also ? PyTuple_Pack(2, any_error, also) : PyTuple_Pack(1, any_error);
         if (!bases) return -1;
-        PyObject *error = PyErr_NewExceptionWithDoc(kinds[i].name, aug_error_text(kinds[i].code), bases, NULL);
+        PyObject *error = PyErr_NewExceptionWithDoc(kinds[i].name, text_of(kinds[i].code), bases, NULL);
         Py_DECREF(bases);
         if (add(module, kinds[i].name, error)) return -1;
         errors[-kinds[i].code] = error;

@@ -46,7 +46,7 @@ extern PyType_Spec members_spec, trie_spec, snapshot_spec, iterator_spec, stay_s
 /* The exception that all others are of. */
 extern PyObject *any_error;
 
-/* Raises the exception of a code, with the text that the library has of it. NULL. */
+/* Raises the exception of a code. NULL. */
 void *raise_code(int64_t code);
 
 /* The number that a call answered, or NULL with the exception of its code. */
@@ -71,8 +71,13 @@ int read_weight(PyObject *from, uint32_t *weight);
 /* A number of a trie that is opened: one that is out of range is still out of range. */
 int read_wide(PyObject *from, uint64_t *number);
 
-/* Reads the numbers of an iterable into memory for PyMem_Free, or answers NULL with an exception. Bytes are no numbers. */
+/* Reads the numbers of an iterable, or those of each of a tuple of iterables, into memory for PyMem_Free, or answers NULL with an exception. Bytes
+   are no numbers. */
 uint32_t *read_all(PyObject *from, size_t *count, int (*read)(PyObject *, uint32_t *));
+uint32_t *read_each(PyObject *iterables, size_t *count, int (*read)(PyObject *, uint32_t *));
+
+/* The index that a call may be given by its place or by name, or -1 for the last member; or -1 with an exception. */
+Py_ssize_t read_index(PyObject *args, PyObject *named, const char *format);
 
 /* Notices forks from now on. 0, or another number for want of memory. */
 int watch_forks(void);

@@ -49,11 +49,40 @@ int read_wide(PyObject *from, uint64_t *number) {
     return over == -2 ? -1 : 0;
 }
 
-uint32_t *read_all(PyObject *from, size_t *count, int (*read)(PyObject *, uint32_t *)) {
-    if (PyBytes_Check(from) || PyByteArray_Check(from) || PyMemoryView_Check(from)) {
-        PyErr_SetString(PyExc_TypeError, "bytes are no numbers");
-        return NULL;
+Py_ssize_t read_index(PyObject *args, PyObject *named, const char *format) {
+    static char *words[] = {"index", NULL};
+    PyObject *index = NULL;
+    if (!PyArg_ParseTupleAndKeywords(args, named, format, words, &index)) return -1;
+    return index ? PyNumber_AsSsize_t(index, PyExc_IndexError) : -1;
+}
+
+/* Raises a TypeError for bytes, or for a view of them. 0, or -1 with an exception. */
+static int refuse_bytes(PyObject *from) {
+    int is_bytes = PyBytes_Check(from) || PyByteArray_Check(from);
+    if (PyMemoryView_Check(from)) {
+        PyObject *size = PyObject_GetAttrString(from, "itemsize");
+        if (!size) return -1;
+        is_bytes = PyLong_AsLong(size) == 1;
+        Py_DECREF(size);
     }
+    if (is_bytes) PyErr_SetString(PyExc_TypeError, "bytes are no numbers");
+    return PyErr_Occurred() ? -1 : 0;
+}
+
+uint32_t *read_each(PyObject *iterables, size_t *count, int (*read)(PyObject *, uint32_t *)) {
+    uint32_t *numbers = NULL;
+    PyObject *all = PyList_New(0);
+    for (Py_ssize_t i = 0; all && i < PyTuple_Size(iterables); i++) {
+        PyObject *from = PyTuple_GetItem(iterables, i);
+        if (refuse_bytes(from) || PyList_SetSlice(all, PY_SSIZE_T_MAX, PY_SSIZE_T_MAX, from)) Py_CLEAR(all);
+    }
+    if (all) numbers = read_all(all, count, read);
+    Py_XDECREF(all);
+    return numbers;
+}
+
+uint32_t *read_all(PyObject *from, size_t *count, int (*read)(PyObject *, uint32_t *)) {
+    if (refuse_bytes(from)) return NULL;
     /* A tuple, since the __index__ of one number could change a list that has the next. */
     PyObject *items = PySequence_Tuple(from);
     if (!items) return NULL;

@@ -231,10 +231,8 @@ static PyObject *subscript(PyObject *self, PyObject *index) {
     return answer == AUG_NONE ? no_item() : answer < 0 ? NULL : PyLong_FromLongLong(answer);
 }
 
-static PyObject *peekitem(PyObject *self, PyObject *args) {
-    PyObject *index = NULL;
-    if (!PyArg_UnpackTuple(args, "peekitem", 0, 1, &index)) return NULL;
-    Py_ssize_t place = index ? PyNumber_AsSsize_t(index, PyExc_IndexError) : -1;
+static PyObject *peekitem(PyObject *self, PyObject *args, PyObject *named) {
+    Py_ssize_t place = read_index(args, named, "|O:peekitem");
     if (place == -1 && PyErr_Occurred()) return NULL;
     Seat *seat = begin(self);
     if (!seat) return NULL;
@@ -354,7 +352,7 @@ static PyMethodDef members_methods[] = {
      "total($self, start, stop, /)\n--\n\nThe sum of the weights of the members from `start` on that are below `stop`."},
     {"span", get_span, METH_VARARGS,
      "span($self, start, stop, /)\n--\n\nWhat the members from `start` on that are below `stop` come to: sum, count, least and greatest."},
-    {"peekitem", peekitem, METH_VARARGS, "peekitem($self, index=-1, /)\n--\n\nThe member at an index, and its weight. IndexError if there is none."},
+    {"peekitem", WITH_WORDS(peekitem), "peekitem($self, /, index=-1)\n--\n\nThe member at an index, and its weight. IndexError if there is none."},
     {"irange", WITH_WORDS(irange),
      "irange($self, /, minimum=None, maximum=None, inclusive=(True, True), reverse=False)\n--\n\nAn iterator over the members between two keys."},
     {"items", WITH_WORDS(items),

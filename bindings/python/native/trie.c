@@ -179,10 +179,8 @@ static PyObject *trie_decrement(PyObject *self, PyObject *args, PyObject *named)
 }
 
 /* Takes out the first member or the last, by calls that are made again if another user changed that member meanwhile. */
-static PyObject *trie_popitem(PyObject *self, PyObject *args) {
-    PyObject *index = NULL;
-    if (!PyArg_UnpackTuple(args, "popitem", 0, 1, &index)) return NULL;
-    Py_ssize_t at = index ? PyNumber_AsSsize_t(index, PyExc_IndexError) : -1;
+static PyObject *trie_popitem(PyObject *self, PyObject *args, PyObject *named) {
+    Py_ssize_t at = read_index(args, named, "|O:popitem");
     if (at == -1 && PyErr_Occurred()) return NULL;
     if (at != 0 && at != -1) {
         PyErr_SetString(PyExc_IndexError, "only the first member, 0, and the last, -1, are taken out by their index");
@@ -212,15 +210,15 @@ static PyObject *change_all(PyObject *self, Update update, uint32_t *keys, uint3
     return changed < 0 ? NULL : PyLong_FromSsize_t(changed);
 }
 
-static PyObject *trie_update(PyObject *self, PyObject *keys) {
+static PyObject *trie_update(PyObject *self, PyObject *iterables) {
     size_t count;
-    uint32_t *read = read_all(keys, &count, read_key);
+    uint32_t *read = read_each(iterables, &count, read_key);
     return read ? change_all(self, insert, read, read, count) : NULL;
 }
 
-static PyObject *trie_difference_update(PyObject *self, PyObject *keys) {
+static PyObject *trie_difference_update(PyObject *self, PyObject *iterables) {
     size_t count;
-    uint32_t *read = read_all(keys, &count, read_key);
+    uint32_t *read = read_each(iterables, &count, read_key);
     return read ? change_all(self, take_out, read, read, count) : NULL;
 }
 
@@ -256,14 +254,14 @@ static PyMethodDef methods[] = {
     {"decrement", WITH_WORDS(trie_decrement),
      "decrement($self, /, key, amount=1)\n--\n\nTakes an amount from a key's weight. A key of whose weight nothing is left goes out: True then. "
      "TooLittle if the key is not there, or weighs less."},
-    {"popitem", trie_popitem, METH_VARARGS,
-     "popitem($self, index=-1, /)\n--\n\nTakes out the last member, or with 0 the first: its key and its weight. KeyError if there is none. Each member "
+    {"popitem", WITH_WORDS(trie_popitem),
+     "popitem($self, /, index=-1)\n--\n\nTakes out the last member, or with 0 the first: its key and its weight. KeyError if there is none. Each member "
      "comes to one caller."},
-    {"update", trie_update, METH_O,
-     "update($self, keys, /)\n--\n\nPuts keys in, each by an update of its own: how many were not there. If one is no key of the trie, none "
+    {"update", trie_update, METH_VARARGS,
+     "update($self, /, *keys)\n--\n\nPuts the keys of some iterables in, each by an update of its own: how many were not there. If one is no key of the trie, none "
      "goes in."},
-    {"difference_update", trie_difference_update, METH_O,
-     "difference_update($self, keys, /)\n--\n\nTakes keys out, each by an update of its own: how many were there."},
+    {"difference_update", trie_difference_update, METH_VARARGS,
+     "difference_update($self, /, *keys)\n--\n\nTakes the keys of some iterables out, each by an update of its own: how many were there."},
     {"put_all", trie_put_all, METH_VARARGS,
      "put_all($self, keys, weights, /)\n--\n\nPuts keys in, each with the weight that has its index, or gives members these weights: how many were "
      "not there. Refused as update is, and with BadLength if there are not as many weights as keys."},

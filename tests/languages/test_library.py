@@ -112,7 +112,7 @@ def compiler_for(sanitizer):
     return None
 
 
-MISSING = {tool for tool in ("ar", CC, CXX, "cargo", "cmake", "pkg-config", "valgrind") if not runs(tool)}
+MISSING = {tool for tool in ("ar", "objcopy", CC, CXX, "cargo", "cmake", "pkg-config", "valgrind") if not runs(tool)}
 if not os.path.exists(os.path.join(sysconfig.get_path("include"), "Python.h")) or not runs(*PIP[:3]):
     MISSING.add(PYTHON)
 MISSING |= {f"{name} sanitizer" for name in SANITIZERS if not compiler_for(name)}
@@ -227,12 +227,22 @@ class Installed:
         words = ["--archive", archives()[cls.backend], cls.folder] if os.environ.get("AFTER_CI") else [cls.folder, cls.backend]
         said_by(os.path.join(TOP, "tools", "install"), *words, timeout=3000)
 
-    def compiled(self, *source, words=(CC, "-std=c11")):
+    def parts(self):
+        """What is in the library beside augtrie.c, with all its names."""
+        proved = archives()[self.backend] if os.environ.get("AFTER_CI") else os.path.join(TOP, "crates", "aug_c", "out", "libaug_c.a")
+        return [proved, os.path.join(toolchain().KIT, "c", "liblibc_c.a")]
+
+    def compiled(self, *source, words=(CC, "-std=c11"), library=()):
         program = os.path.join(self.folder, os.path.basename(source[-1]).partition(".")[0])
-        include, library = os.path.join(self.folder, "include"), os.path.join(self.folder, "lib", "libaugtrie.a")
+        include, library = os.path.join(self.folder, "include"), library or [os.path.join(self.folder, "lib", "libaugtrie.a")]
         words = [words[0], "-O2", *WARNINGS, f"-I{include}", *words[1:]]
-        said_by(*words, os.path.join(BINDINGS, *source), "-x", "none", library, "-lpthread", "-o", program)
+        said_by(*words, os.path.join(BINDINGS, *source), "-x", "none", *library, "-lpthread", "-o", program)
         return program
+
+    def refused(self, *words):
+        """The test of refusals, which has calls in the place of others within the library."""
+        library = [os.path.join(BINDINGS, "c", "augtrie.c"), *self.parts()]
+        return self.compiled("c", "tests", "refused.c", words=[CC, "-std=c11", REFUSED, *words], library=library)
 
     def test_c_threads_and_misuses(self):
         assert re.search(r"^ok: \d+ answers, 1024 checks\n$", said_by(self.compiled("c", "tests", "threads.c")))
@@ -242,7 +252,7 @@ class Installed:
         assert int(re.fullmatch(r"ok: (\d+) answers\n", said)[1]) >= 10000
 
     def test_c_each_request_for_memory_refused(self):
-        said = said_by(self.compiled("c", "tests", "refused.c", words=[CC, "-std=c11", REFUSED]))
+        said = said_by(self.refused())
         assert int(re.fullmatch(r"ok: (\d+) refused\n", said)[1]) >= 60
 
     def test_c_crowd(self):
@@ -272,10 +282,23 @@ class Installed:
             said = said_by(CC, "-std=c11", "-O2", *WARNINGS, include, "-c", source, "-o", f"{source}.o", status=status)
             assert ("warn_unused_result" in said) == (status == 1), said
 
-    def test_c_shared_object_shows_the_calls_alone(self):
-        shared = os.path.join(self.folder, "lib", "libaugtrie.so")
-        assert set(re.findall(r"^\w+ [A-Z] (\w+)$", said_by("nm", "-D", "--defined-only", shared), re.M)) == calls()
+    def test_c_library_has_the_names_of_the_header_alone(self):
+        archive, shared = (os.path.join(self.folder, "lib", f"libaugtrie.{end}") for end in ("a", "so"))
+        assert len(shown()) >= 48
+        for words in ["-g", archive], ["-D", shared]:
+            assert set(re.findall(r"^\w+ [A-Z] (\w+)$", said_by("nm", "--defined-only", *words), re.M)) == shown()
         assert re.search(r"SONAME.*\[libaugtrie\.so\.\d+\.\d+\]", said_by("readelf", "-d", shared))
+
+    def test_c_two_libraries_in_one_program(self):
+        # The other one has calls of other names, and the same names within.
+        archive, other, source = (os.path.join(self.folder, name) for name in ("lib/libaugtrie.a", "other.a", "both.c"))
+        said_by("objcopy", *(f"--redefine-sym={name}=other_{name}" for name in shown()), archive, other)
+        with open(source, "w", encoding="utf-8") as file:
+            file.write('#include "augtrie.h"\n'
+                       "int64_t other_aug_open(aug_trie *, uint32_t, uint32_t, uint64_t), other_aug_close(aug_trie *, aug_report *);\n"
+                       "int main(void) {\n    aug_trie one = AUG_ZEROED, two = AUG_ZEROED;\n"
+                       "    return aug_open(&one, 4, 1, 1 << 20) || other_aug_open(&two, 4, 1, 1 << 20) || aug_close(&one, NULL) || other_aug_close(&two, NULL);\n}\n")
+        said_by(self.compiled(source, library=[archive, other]))
 
 
 class Module:
@@ -330,9 +353,8 @@ class Checked:
     """What valgrind says of the C programs."""
 
     def test_c_under_valgrind(self):
-        for name in ("threads", "refused", "many", "tries", "pops"):
-            words = ["-g", REFUSED] if name == "refused" else ["-g"]
-            program = self.compiled("c", "tests", f"{name}.c", words=[CC, "-std=c11", *words])
+        programs = [self.compiled("c", "tests", f"{name}.c", words=[CC, "-std=c11", "-g"]) for name in ("threads", "many", "tries", "pops")]
+        for program in self.refused("-g"), *programs:
             said_by("valgrind", "-q", "--error-exitcode=9", "--leak-check=full", program)
 
 
@@ -340,12 +362,14 @@ class Sanitized:
     """What sanitizers say of the C that has no proof, while threads work. Of what the proved object does, they see calls of the C library alone."""
 
     def sanitized(self, sanitizer, name, *words, faults=(), library_faults=(), status=0):
-        """What a program prints that is built for a sanitizer with augtrie.c, which hides the one in the shared object."""
+        """What a program prints that is built for a sanitizer with augtrie.c, over a shared object of the rest, which the reports leave out by its name."""
         program = os.path.join(self.folder, f"{name}_{sanitizer}")
         build = [compiler_for(sanitizer), "-std=c11", "-g", *WARNINGS, *SANITIZERS[sanitizer], f"-I{os.path.join(self.folder, 'include')}"]
         said_by(*build, *library_faults, "-c", os.path.join(BINDINGS, "c", "augtrie.c"), "-o", f"{program}.o")
-        library = os.path.join(self.folder, "lib")
-        libraries = [f"-L{library}", f"-Wl,-rpath,{library}", "-laugtrie", "-lpthread"]
+        rest = os.path.join(self.folder, "rest")
+        os.makedirs(rest, exist_ok=True)
+        said_by(CC, "-shared", "-Wl,--whole-archive", *self.parts(), "-Wl,--no-whole-archive", "-o", os.path.join(rest, "libaugtrie.so"))
+        libraries = [f"-L{rest}", f"-Wl,-rpath,{rest}", "-laugtrie", "-lpthread"]
         said_by(*build, *faults, os.path.join(BINDINGS, "c", "tests", f"{name}.c"), f"{program}.o", *libraries, "-o", program)
         return said_by(program, *words, status=status, env={**os.environ, **REPORTS})
 
@@ -575,7 +599,7 @@ class Counted:
 
 # The parts, each with the tools that it needs beside those of the first, and the builds that it is for: what needs one build alone has LLVM's.
 PARTS = [
-    (["ar", CC], Installed, BACKENDS),
+    (["ar", "objcopy", CC], Installed, BACKENDS),
     (["valgrind"], Checked, BACKENDS),
     ([], Sanitized, ["llvm"]),
     ([CXX], Plus, BACKENDS),

@@ -12,11 +12,13 @@ pub struct Calls {
     longest: u64,
     /// How many calls were left out, since their own thread was put aside meanwhile.
     pub left_out: u64,
+    /// How long those of them took that a signal suspended.
+    pub suspended: Duration,
 }
 
 impl Default for Calls {
     fn default() -> Calls {
-        Calls { counts: [0; 60 * PARTS], longest: 0, left_out: 0 }
+        Calls { counts: [0; 60 * PARTS], longest: 0, left_out: 0, suspended: Duration::ZERO }
     }
 }
 
@@ -46,6 +48,7 @@ impl Calls {
         self.counts.iter_mut().zip(&other.counts).for_each(|(own, more)| *own += more);
         self.longest = self.longest.max(other.longest);
         self.left_out += other.left_out;
+        self.suspended += other.suspended;
     }
 
     /// How many microseconds this part of the calls took at most.
@@ -89,10 +92,11 @@ mod tests {
 
     #[test]
     fn all_are_added_up() {
-        let (mut one, mut other) = (Calls { left_out: 2, ..Calls::default() }, Calls { left_out: 3, ..Calls::default() });
+        let of = |left_out, milliseconds| Calls { left_out, suspended: Duration::from_millis(milliseconds), ..Calls::default() };
+        let (mut one, mut other) = (of(1, 20), of(2, 7));
         one.add(Duration::from_nanos(10));
         other.add(Duration::from_micros(3));
         one.add_all(&other);
-        assert_eq!((one.left_out, one.times()), (5, vec![0.01, 3.0, 3.0, 3.0, 3.0, 3.0]));
+        assert_eq!((one.left_out, one.suspended.as_millis(), one.times()), (3, 27, vec![0.01, 3.0, 3.0, 3.0, 3.0, 3.0]));
     }
 }

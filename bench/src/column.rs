@@ -1,6 +1,7 @@
 use crate::engines::Entry;
 use crate::runner::Slice;
 use crate::spread::Spread;
+use std::time::Duration;
 
 /// What an engine came to in a case, pass by pass.
 pub struct Column {
@@ -13,11 +14,13 @@ pub struct Column {
     /// The quantiles of its calls, and the longest, in microseconds.
     times: Vec<Vec<f64>>,
     pub left_out: u64,
+    /// How long those of the calls left out took that a signal suspended.
+    pub suspended: Duration,
 }
 
 impl Column {
     pub fn of(entry: &Entry) -> Column {
-        Column { name: entry.name, locks: entry.locks, seat: "", rates: Vec::new(), times: Vec::new(), left_out: 0 }
+        Column { name: entry.name, locks: entry.locks, seat: "", rates: Vec::new(), times: Vec::new(), left_out: 0, suspended: Duration::ZERO }
     }
 
     /// Takes a slice down, if the engine of this name made it.
@@ -29,6 +32,7 @@ impl Column {
         self.rates.push(slice.rate());
         self.times.push(slice.calls.0.times());
         self.left_out += slice.calls.0.left_out;
+        self.suspended += slice.calls.0.suspended;
         Ok(())
     }
 

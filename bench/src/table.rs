@@ -55,11 +55,11 @@ fn ratios(measured: &[&(Case, Vec<Column>)]) -> String {
 /// How long calls took where threads were put aside, in microseconds.
 fn times(measured: &[&(Case, Vec<Column>)]) -> String {
     let parts = ["half", "99 of 100", "999 of 1,000", "9,999 of 10,000", "99,999 of 100,000", "the longest"];
-    let titles = ["million operations a second"].into_iter().chain(parts).chain(["calls left out"]);
+    let titles = ["million operations a second"].into_iter().chain(parts).chain(["calls left out", "suspended, s"]);
     let rows = measured.iter().flat_map(|(case, columns)| columns.iter().map(move |column| (case, column)));
     let rows = rows.map(|(case, column)| {
         let spreads = [column.rate()].into_iter().chain(column.times()).map(|spread| spread.to_string());
-        row(format!("{case}: {}", column.name), spreads.chain([column.left_out.to_string()]))
+        row(format!("{case}: {}", column.name), spreads.chain([column.left_out.to_string(), format!("{:.3}", column.suspended.as_secs_f64())]))
     });
     title(row("Microseconds of a call", titles)) + &rows.collect::<String>()
 }

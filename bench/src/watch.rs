@@ -51,7 +51,11 @@ impl Stopwatch {
         let switches = Switches::now();
         let has_waited = switches.given > self.switches.given || waits::count() > self.waits;
         let was_put_aside = switches.taken > self.switches.taken && !has_waited;
-        if was_put_aside || signals::suspensions() > self.suspensions {
+        let was_suspended = signals::suspensions() > self.suspensions;
+        if was_suspended {
+            self.calls.0.suspended += time;
+        }
+        if was_suspended || was_put_aside {
             self.calls.0.left_out += 1;
         } else {
             self.calls.0.add(time);

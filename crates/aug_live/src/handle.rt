@@ -179,10 +179,25 @@ impl<A: Monoid, B: Monoid> Handle<A, B> {
         ensures not_made { IfErr result (λ _. Follows self.old self.new) }
         ensures refused { IfErr result (IfRefused (λ cause. cause ≢ LiveError.NoLane)) }
     {
-        let obstacle = match self.attempt(k, request) {
-            Ok(done) => return Ok(done),
-            Err(obstacle) => obstacle,
-        };
+        match self.attempt(k, request) {
+            Ok(done) => Ok(done),
+            Err(obstacle) => self.try_past(k, request, obstacle),
+        }
+    }
+
+    // Sees to it that the lane can go on, and makes the update then, unless it would have to wait. That is seldom, so it stands out of line.
+    #[inline(never)]
+    fn try_past(
+        &mut self,
+        k: u32,
+        request: Request,
+        obstacle: Obstacle,
+    ) -> Result<Outcome, TryError<Busy>>
+        requires key { k < 2 ^ self.old.half.round.bits }
+        ensures made { IfOk result (λ done. Makes 1 (λ a b. ComesTo request k done a.knows b.knows) self.old self.new) }
+        ensures not_made { IfErr result (λ _. Follows self.old self.new) }
+        ensures refused { IfErr result (IfRefused (λ cause. cause ≢ LiveError.NoLane)) }
+    {
         if let Err(cause) = self.past(&Tries, obstacle) {
             return Err(busy(cause));
         }

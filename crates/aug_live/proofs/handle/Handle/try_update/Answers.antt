@@ -1,10 +1,12 @@
-use Rattle.std.proofs.Common.{sym, subst}
-use Rattle.aug_live.specs.LiveHandles.{Follows}
-use Rattle.aug_live.proofs.Carries.{follows_on, makes_on}
+use Rattle.aug_trie.specs.Updates.{ComesTo}
+use Rattle.aug_trie.specs.declared.updates.outcome.Outcome.{Outcome}
+use Rattle.aug_live.specs.LiveHandles.{Makes}
+use Rattle.aug_live.proofs.Carries.{err_map, follows_on, makes_on, ok_map}
 use Rattle.aug_live.proofs.handle.Handle.try_update.Goals as goal
 
-pub returns-in-Ok-attempt-clause-made : goal.returns-in-Ok-attempt-clause-made
-returns-in-Ok-attempt-clause-made g c = makes_on 1 _ c.args.self.now c.past.new.self _ (subst (Follows c.args.self.now) (sym c.past.ensures.same) c.in-Err.ensures.not_made) c.in-Ok-attempt.ensures.made
+pub returns-in-Err-clause-made : goal.returns-in-Err-clause-made
+returns-in-Err-clause-made g c = ok_map (λ (done : Outcome). Makes 1 (λ a b. ComesTo c.args.request c.args.k done a.knows b.knows) c.attempt.new.self c.try_past.new.self) (λ (done : Outcome). Makes 1 (λ a b. ComesTo c.args.request c.args.k done a.knows b.knows) c.args.self.now c.try_past.new.self)
+    c.try_past.result (λ done made. makes_on 1 _ c.args.self.now c.attempt.new.self c.try_past.new.self c.in-Err.ensures.not_made made) c.try_past.ensures.made
 
-pub returns-in-Err-attempt-clause-not_made : goal.returns-in-Err-attempt-clause-not_made
-returns-in-Err-attempt-clause-not_made g c = follows_on c.args.self.now c.past.new.self c.attempt-2.new.self (subst (Follows c.args.self.now) (sym c.past.ensures.same) c.in-Err.ensures.not_made) c.in-Err-attempt.ensures.not_made
+pub returns-in-Err-clause-not_made : goal.returns-in-Err-clause-not_made
+returns-in-Err-clause-not_made g c = err_map _ _ c.try_past.result (λ _ later. follows_on c.args.self.now c.attempt.new.self c.try_past.new.self c.in-Err.ensures.not_made later) c.try_past.ensures.not_made

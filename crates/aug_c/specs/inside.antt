@@ -4,3 +4,4 @@ pub mod Refusals
 pub mod KeyRequests
 pub mod UserContent
 pub mod TrieContent
+pub mod SlotLends

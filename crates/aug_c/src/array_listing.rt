@@ -11,7 +11,6 @@ use crate::codes::{BAD_LENGTH, CLOSED, NOT_LOOKING};
 use crate::seat::{LookOf, Seat};
 use crate::user_handle::UserHandle;
 use aug_query::descent::{MembersBelow, MembersFrom, Page};
-use std::alloc::Global;
 
 // In which order members are listed.
 trait Order {
@@ -139,22 +138,15 @@ fn keys_in(user: &mut Option<Seat>, from: u32, out: &mut [u32]) -> i64
 
 /// Writes the least members of the snapshot from `from` on, rising, as many as `out` has places for. Answers how many.
 #[unsafe(no_mangle)]
-pub extern "C" fn aug_try_keys(
-    alloc: Global,
-    user: &mut UserHandle,
-    from: u32,
-    out: &mut [u32],
-) -> i64
+pub extern "C" fn aug_try_keys(user: &mut UserHandle, from: u32, out: &mut [u32]) -> i64
     ensures lists { On (ListsAll (λ set. members_from set from) out.old out.new) (user_of user.old) (user_of user.new) result }
     ensures closed { IsNone (user_of user.old) → out.new ≡ out.old }
     ensures foreign { IsNone user.old.held.value → user.new ≡ user.old }
 {
-    let Some(mut slot) = user.take(alloc) else {
+    if !user.is_open() {
         return CLOSED;
-    };
-    let code = keys_in(&mut slot.seat, from, out);
-    user.put(slot);
-    code
+    }
+    keys_in(&mut user.held.as_slot().seat, from, out)
 }
 
 // Lists members with their weights, in two arrays of the same length.
@@ -184,30 +176,21 @@ fn both_in<O: Order>(
 }
 
 // The same of a handle's user.
-fn both_of<O: Order>(
-    alloc: Global,
-    user: &mut UserHandle,
-    key: u32,
-    keys: &mut [u32],
-    weights: &mut [u32],
-) -> i64
+fn both_of<O: Order>(user: &mut UserHandle, key: u32, keys: &mut [u32], weights: &mut [u32]) -> i64
     ensures lists { On (ListsAllBoth (λ set. O.members set key) keys.old keys.new weights.old weights.new) (user_of user.old) (user_of user.new) result }
     ensures closed { IsNone (user_of user.old) → (keys.new ≡ keys.old) × (weights.new ≡ weights.old) }
     ensures foreign { IsNone user.old.held.value → user.new ≡ user.old }
 {
-    let Some(mut slot) = user.take(alloc) else {
+    if !user.is_open() {
         return CLOSED;
-    };
-    let code = both_in::<O>(&mut slot.seat, key, keys, weights);
-    user.put(slot);
-    code
+    }
+    both_in::<O>(&mut user.held.as_slot().seat, key, keys, weights)
 }
 
 /// Writes the least members of the snapshot from `from` on, rising, as many as `keys` has places for, and the weight of each. Answers how
 /// many, or `BAD_LENGTH` if there are not as many places for weights.
 #[unsafe(no_mangle)]
 pub extern "C" fn aug_try_list(
-    alloc: Global,
     user: &mut UserHandle,
     from: u32,
     keys: &mut [u32],
@@ -217,13 +200,12 @@ pub extern "C" fn aug_try_list(
     ensures closed { IsNone (user_of user.old) → (keys.new ≡ keys.old) × (weights.new ≡ weights.old) }
     ensures foreign { IsNone user.old.held.value → user.new ≡ user.old }
 {
-    both_of::<Rising>(alloc, user, from, keys, weights)
+    both_of::<Rising>(user, from, keys, weights)
 }
 
 /// Writes the greatest members of the snapshot below `below`, falling, as `aug_try_list`.
 #[unsafe(no_mangle)]
 pub extern "C" fn aug_try_list_back(
-    alloc: Global,
     user: &mut UserHandle,
     below: u32,
     keys: &mut [u32],
@@ -233,5 +215,5 @@ pub extern "C" fn aug_try_list_back(
     ensures closed { IsNone (user_of user.old) → (keys.new ≡ keys.old) × (weights.new ≡ weights.old) }
     ensures foreign { IsNone user.old.held.value → user.new ≡ user.old }
 {
-    both_of::<Falling>(alloc, user, below, keys, weights)
+    both_of::<Falling>(user, below, keys, weights)
 }

@@ -11,7 +11,6 @@ use crate::codes::{BAD_LENGTH, CLOSED, NONE, NOT_LOOKING};
 use crate::seat::{LookOf, Seat};
 use crate::user_handle::UserHandle;
 use aug_query::descent::{Four, Has, Rank, Weight};
-use std::alloc::Global;
 
 // What is asked for each key of an array, and what is written of the answer.
 trait KeyQuery<T> {
@@ -129,70 +128,48 @@ fn ask_each<T: Copy, E: KeyQuery<T>>(look: &mut LookOf, keys: &[u32], out: &mut 
 }
 
 // Asks the look of a handle's user for each key.
-fn ask_all<T: Copy, E: KeyQuery<T>>(
-    alloc: Global,
-    user: &mut UserHandle,
-    keys: &[u32],
-    out: &mut [T],
-) -> i64
+fn ask_all<T: Copy, E: KeyQuery<T>>(user: &mut UserHandle, keys: &[u32], out: &mut [T]) -> i64
     ensures asks { On (AsksAll E.answer_of keys.now out.old out.new) (user_of user.old) (user_of user.new) result }
     ensures closed { IsNone (user_of user.old) → out.new ≡ out.old }
     ensures foreign { IsNone user.old.held.value → user.new ≡ user.old }
 {
-    let Some(mut slot) = user.take(alloc) else {
+    if !user.is_open() {
         return CLOSED;
-    };
-    let code = match &mut slot.seat {
+    }
+    match &mut user.held.as_slot().seat {
         None => CLOSED,
         Some(Seat::Free(_)) => NOT_LOOKING,
         Some(Seat::Looking(held)) => ask_each::<T, E>(&mut held.look, keys, out),
-    };
-    user.put(slot);
-    code
+    }
 }
 
 /// Writes how many members of the snapshot are below each key to the place with its index. The keys stand in any order. Answers 0, or
 /// `BAD_LENGTH` if there are fewer places than keys.
 #[unsafe(no_mangle)]
-pub extern "C" fn aug_try_rank_all(
-    alloc: Global,
-    user: &mut UserHandle,
-    keys: &[u32],
-    out: &mut [u32],
-) -> i64
+pub extern "C" fn aug_try_rank_all(user: &mut UserHandle, keys: &[u32], out: &mut [u32]) -> i64
     ensures asks { On (AsksAll (λ set k. rank_of (list_of set) k) keys.now out.old out.new) (user_of user.old) (user_of user.new) result }
     ensures closed { IsNone (user_of user.old) → out.new ≡ out.old }
     ensures foreign { IsNone user.old.held.value → user.new ≡ user.old }
 {
-    ask_all::<u32, Ranked>(alloc, user, keys, out)
+    ask_all::<u32, Ranked>(user, keys, out)
 }
 
 /// Writes whether the snapshot has each key, 1 or 0, as `aug_try_rank_all`.
 #[unsafe(no_mangle)]
-pub extern "C" fn aug_try_has_all(
-    alloc: Global,
-    user: &mut UserHandle,
-    keys: &[u32],
-    out: &mut [u8],
-) -> i64
+pub extern "C" fn aug_try_has_all(user: &mut UserHandle, keys: &[u32], out: &mut [u8]) -> i64
     ensures asks { On (AsksAll (λ set k. bit_of (is_member (list_of set) k)) keys.now out.old out.new) (user_of user.old) (user_of user.new) result }
     ensures closed { IsNone (user_of user.old) → out.new ≡ out.old }
     ensures foreign { IsNone user.old.held.value → user.new ≡ user.old }
 {
-    ask_all::<u8, Found>(alloc, user, keys, out)
+    ask_all::<u8, Found>(user, keys, out)
 }
 
 /// Writes the weight of each key that is a member of the snapshot, and `NONE` for each other, as `aug_try_rank_all`.
 #[unsafe(no_mangle)]
-pub extern "C" fn aug_try_weight_all(
-    alloc: Global,
-    user: &mut UserHandle,
-    keys: &[u32],
-    out: &mut [i64],
-) -> i64
+pub extern "C" fn aug_try_weight_all(user: &mut UserHandle, keys: &[u32], out: &mut [i64]) -> i64
     ensures asks { On (AsksAll (λ set k. found (weight_of set.pairs k)) keys.now out.old out.new) (user_of user.old) (user_of user.new) result }
     ensures closed { IsNone (user_of user.old) → out.new ≡ out.old }
     ensures foreign { IsNone user.old.held.value → user.new ≡ user.old }
 {
-    ask_all::<i64, Weighed>(alloc, user, keys, out)
+    ask_all::<i64, Weighed>(user, keys, out)
 }

@@ -11,7 +11,6 @@ use crate::refusal::Refusal;
 use crate::seat::{AccessOf, Seat};
 use crate::user_handle::UserHandle;
 use aug_trie::{Outcome, Request};
-use std::alloc::Global;
 
 /// What is done with each key.
 #[derive(Clone, Copy)]
@@ -177,7 +176,6 @@ fn update_all_in(
 
 // Makes updates by a handle's user.
 fn update_all(
-    alloc: Global,
     user: &mut UserHandle,
     each: Each,
     keys: &[u32],
@@ -188,19 +186,16 @@ fn update_all(
     ensures closed { IsNone (user_of user.old) → progress.new ≡ progress.old }
     ensures foreign { IsNone user.old.held.value → user.new ≡ user.old }
 {
-    let Some(mut slot) = user.take(alloc) else {
+    if !user.is_open() {
         return CLOSED;
-    };
-    let code = update_all_in(&mut slot.seat, each, keys, weights, progress);
-    user.put(slot);
-    code
+    }
+    update_all_in(&mut user.held.as_slot().seat, each, keys, weights, progress)
 }
 
 /// Puts each key in, with itself as its weight, from the index on that the progress has come to. Answers 0 once an update was made for
 /// each, and `BAD_LENGTH` or `BAD_KEY` if none is made. After `AGAIN` the same call goes on.
 #[unsafe(no_mangle)]
 pub extern "C" fn aug_try_insert_all(
-    alloc: Global,
     user: &mut UserHandle,
     keys: &[u32],
     progress: &mut Progress,
@@ -209,13 +204,12 @@ pub extern "C" fn aug_try_insert_all(
     ensures closed { IsNone (user_of user.old) → progress.new ≡ progress.old }
     ensures foreign { IsNone user.old.held.value → user.new ≡ user.old }
 {
-    update_all(alloc, user, Each::Inserted, keys, keys, progress)
+    update_all(user, Each::Inserted, keys, keys, progress)
 }
 
 /// Takes each key out, as `aug_try_insert_all` puts it in.
 #[unsafe(no_mangle)]
 pub extern "C" fn aug_try_remove_all(
-    alloc: Global,
     user: &mut UserHandle,
     keys: &[u32],
     progress: &mut Progress,
@@ -224,13 +218,12 @@ pub extern "C" fn aug_try_remove_all(
     ensures closed { IsNone (user_of user.old) → progress.new ≡ progress.old }
     ensures foreign { IsNone user.old.held.value → user.new ≡ user.old }
 {
-    update_all(alloc, user, Each::Removed, keys, keys, progress)
+    update_all(user, Each::Removed, keys, keys, progress)
 }
 
 /// Puts each key in with the weight that has its index, or gives a member this weight, as `aug_try_insert_all`.
 #[unsafe(no_mangle)]
 pub extern "C" fn aug_try_put_all(
-    alloc: Global,
     user: &mut UserHandle,
     keys: &[u32],
     weights: &[u32],
@@ -240,5 +233,5 @@ pub extern "C" fn aug_try_put_all(
     ensures closed { IsNone (user_of user.old) → progress.new ≡ progress.old }
     ensures foreign { IsNone user.old.held.value → user.new ≡ user.old }
 {
-    update_all(alloc, user, Each::Put, keys, weights, progress)
+    update_all(user, Each::Put, keys, weights, progress)
 }

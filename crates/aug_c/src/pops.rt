@@ -12,7 +12,6 @@ use crate::refusal::Refusal;
 use crate::seat::{AccessOf, Seat};
 use crate::user_handle::UserHandle;
 use aug_trie::{Pop, Side};
-use std::alloc::Global;
 
 /// A member: a key, and what it weighs.
 #[repr(C)]
@@ -78,36 +77,34 @@ fn pop_in(user: &mut Option<Seat>, side: Side, out: &mut Member) -> i64
 
 // Takes out the member at one end by a handle's user.
 #[inline(always)]
-fn pop(alloc: Global, user: &mut UserHandle, side: Side, out: &mut Member) -> i64
+fn pop(user: &mut UserHandle, side: Side, out: &mut Member) -> i64
     ensures pops { On (PopsMember side out.old out.new) (user_of user.old) (user_of user.new) result }
     ensures closed { IsNone (user_of user.old) → out.new ≡ out.old }
     ensures foreign { IsNone user.old.held.value → user.new ≡ user.old }
 {
-    let Some(mut slot) = user.take(alloc) else {
+    if !user.is_open() {
         return CLOSED;
-    };
-    let code = pop_in(&mut slot.seat, side, out);
-    user.put(slot);
-    code
+    }
+    pop_in(&mut user.held.as_slot().seat, side, out)
 }
 
 /// Takes out the member with the least key, and writes it: 1 if it did, `NONE` if there is no member, and 0 if another change of that member came in
 /// between and nothing was stored.
 #[unsafe(no_mangle)]
-pub extern "C" fn aug_try_pop_first(alloc: Global, user: &mut UserHandle, out: &mut Member) -> i64
+pub extern "C" fn aug_try_pop_first(user: &mut UserHandle, out: &mut Member) -> i64
     ensures pops { On (PopsMember side.First out.old out.new) (user_of user.old) (user_of user.new) result }
     ensures closed { IsNone (user_of user.old) → out.new ≡ out.old }
     ensures foreign { IsNone user.old.held.value → user.new ≡ user.old }
 {
-    pop(alloc, user, Side::First, out)
+    pop(user, Side::First, out)
 }
 
 /// Takes out the member with the greatest key, as `aug_try_pop_first`.
 #[unsafe(no_mangle)]
-pub extern "C" fn aug_try_pop_last(alloc: Global, user: &mut UserHandle, out: &mut Member) -> i64
+pub extern "C" fn aug_try_pop_last(user: &mut UserHandle, out: &mut Member) -> i64
     ensures pops { On (PopsMember side.Last out.old out.new) (user_of user.old) (user_of user.new) result }
     ensures closed { IsNone (user_of user.old) → out.new ≡ out.old }
     ensures foreign { IsNone user.old.held.value → user.new ≡ user.old }
 {
-    pop(alloc, user, Side::Last, out)
+    pop(user, Side::Last, out)
 }

@@ -18,7 +18,6 @@ use aug_model::Summary;
 use aug_monoid::{Extent, Sum};
 use aug_query::Query;
 use aug_query::descent::{After, Before, First, Has, Last, Range, Rank, Select, Size, Weight};
-use std::alloc::Global;
 
 // An answer that C has as one number.
 trait Number {
@@ -75,20 +74,14 @@ fn ask_in<X: Number, Q: Query<Sum, Extent, Answer = X> + Drop>(
 
 // Asks the snapshot of the look of a handle's user.
 #[inline(always)]
-fn ask<X: Number, Q: Query<Sum, Extent, Answer = X> + Drop>(
-    alloc: Global,
-    user: &mut UserHandle,
-    query: Q,
-) -> i64
+fn ask<X: Number, Q: Query<Sum, Extent, Answer = X> + Drop>(user: &mut UserHandle, query: Q) -> i64
     ensures asks { On (AnsweredBy (λ set answer. Q.Answers query set answer) X.number_of) (user_of user.old) (user_of user.new) result }
     ensures foreign { IsNone user.old.held.value → user.new ≡ user.old }
 {
-    let Some(mut slot) = user.take(alloc) else {
+    if !user.is_open() {
         return CLOSED;
-    };
-    let code = ask_in(&mut slot.seat, query);
-    user.put(slot);
-    code
+    }
+    ask_in(&mut user.held.as_slot().seat, query)
 }
 
 fn span(told: Summary<Sum, Extent>) -> Span
@@ -108,83 +101,83 @@ fn span(told: Summary<Sum, Extent>) -> Span
 
 /// Whether the snapshot has the key, 1 or 0.
 #[unsafe(no_mangle)]
-pub extern "C" fn aug_try_has(alloc: Global, user: &mut UserHandle, key: u32) -> i64
+pub extern "C" fn aug_try_has(user: &mut UserHandle, key: u32) -> i64
     ensures asks { On (Asks (λ set. truth (is_member (list_of set) key))) (user_of user.old) (user_of user.new) result }
     ensures foreign { IsNone user.old.held.value → user.new ≡ user.old }
 {
-    ask(alloc, user, Has(key))
+    ask(user, Has(key))
 }
 
 /// The weight of a member of the snapshot.
 #[unsafe(no_mangle)]
-pub extern "C" fn aug_try_weight(alloc: Global, user: &mut UserHandle, key: u32) -> i64
+pub extern "C" fn aug_try_weight(user: &mut UserHandle, key: u32) -> i64
     ensures asks { On (Asks (λ set. found (weight_of set.pairs key))) (user_of user.old) (user_of user.new) result }
     ensures foreign { IsNone user.old.held.value → user.new ≡ user.old }
 {
-    ask(alloc, user, Weight(key))
+    ask(user, Weight(key))
 }
 
 /// How many members the snapshot has.
 #[unsafe(no_mangle)]
-pub extern "C" fn aug_try_size(alloc: Global, user: &mut UserHandle) -> i64
+pub extern "C" fn aug_try_size(user: &mut UserHandle) -> i64
     ensures asks { On (Asks (λ set. pos (length (list_of set)))) (user_of user.old) (user_of user.new) result }
     ensures foreign { IsNone user.old.held.value → user.new ≡ user.old }
 {
-    ask(alloc, user, Size)
+    ask(user, Size)
 }
 
 /// How many members of the snapshot are below the key.
 #[unsafe(no_mangle)]
-pub extern "C" fn aug_try_rank(alloc: Global, user: &mut UserHandle, key: u32) -> i64
+pub extern "C" fn aug_try_rank(user: &mut UserHandle, key: u32) -> i64
     ensures asks { On (Asks (λ set. pos (rank_of (list_of set) key))) (user_of user.old) (user_of user.new) result }
     ensures foreign { IsNone user.old.held.value → user.new ≡ user.old }
 {
-    ask(alloc, user, Rank(key))
+    ask(user, Rank(key))
 }
 
 /// The member of the snapshot with exactly `index` members below it.
 #[unsafe(no_mangle)]
-pub extern "C" fn aug_try_select(alloc: Global, user: &mut UserHandle, index: u32) -> i64
+pub extern "C" fn aug_try_select(user: &mut UserHandle, index: u32) -> i64
     ensures asks { On (Asks (λ set. found (select_of (list_of set) index))) (user_of user.old) (user_of user.new) result }
     ensures foreign { IsNone user.old.held.value → user.new ≡ user.old }
 {
-    ask(alloc, user, Select(index))
+    ask(user, Select(index))
 }
 
 /// The greatest member of the snapshot below the key.
 #[unsafe(no_mangle)]
-pub extern "C" fn aug_try_before(alloc: Global, user: &mut UserHandle, key: u32) -> i64
+pub extern "C" fn aug_try_before(user: &mut UserHandle, key: u32) -> i64
     ensures asks { On (Asks (λ set. found (before_of (list_of set) key))) (user_of user.old) (user_of user.new) result }
     ensures foreign { IsNone user.old.held.value → user.new ≡ user.old }
 {
-    ask(alloc, user, Before(key))
+    ask(user, Before(key))
 }
 
 /// The least member of the snapshot above the key.
 #[unsafe(no_mangle)]
-pub extern "C" fn aug_try_after(alloc: Global, user: &mut UserHandle, key: u32) -> i64
+pub extern "C" fn aug_try_after(user: &mut UserHandle, key: u32) -> i64
     ensures asks { On (Asks (λ set. found (after_of (list_of set) key))) (user_of user.old) (user_of user.new) result }
     ensures foreign { IsNone user.old.held.value → user.new ≡ user.old }
 {
-    ask(alloc, user, After(key))
+    ask(user, After(key))
 }
 
 /// The least member of the snapshot.
 #[unsafe(no_mangle)]
-pub extern "C" fn aug_try_first(alloc: Global, user: &mut UserHandle) -> i64
+pub extern "C" fn aug_try_first(user: &mut UserHandle) -> i64
     ensures asks { On (Asks (λ set. found (first_of (list_of set)))) (user_of user.old) (user_of user.new) result }
     ensures foreign { IsNone user.old.held.value → user.new ≡ user.old }
 {
-    ask(alloc, user, First)
+    ask(user, First)
 }
 
 /// The greatest member of the snapshot.
 #[unsafe(no_mangle)]
-pub extern "C" fn aug_try_last(alloc: Global, user: &mut UserHandle) -> i64
+pub extern "C" fn aug_try_last(user: &mut UserHandle) -> i64
     ensures asks { On (Asks (λ set. found (last_of (list_of set)))) (user_of user.old) (user_of user.new) result }
     ensures foreign { IsNone user.old.held.value → user.new ≡ user.old }
 {
-    ask(alloc, user, Last)
+    ask(user, Last)
 }
 
 fn range_in(user: &mut Option<Seat>, from: u32, to: u32, out: &mut Span) -> i64
@@ -207,23 +200,15 @@ fn range_in(user: &mut Option<Seat>, from: u32, to: u32, out: &mut Span) -> i64
 
 /// The summary of the members of the snapshot from `from` on that are below `to`. Answers how many they are.
 #[unsafe(no_mangle)]
-pub extern "C" fn aug_try_range(
-    alloc: Global,
-    user: &mut UserHandle,
-    from: u32,
-    to: u32,
-    out: &mut Span,
-) -> i64
+pub extern "C" fn aug_try_range(user: &mut UserHandle, from: u32, to: u32, out: &mut Span) -> i64
     ensures asks { On (Asks (λ set. pos (length (weighted_range_of set.pairs from to)))) (user_of user.old) (user_of user.new) result }
     ensures closed { IsNone (user_of user.old) → out.new ≡ out.old }
     ensures free { (access : HandleFacts) → user_of user.old ≡ Some (variant.Free access) → out.new ≡ out.old }
     ensures span { (look : LookFacts) → user_of user.old ≡ Some (variant.Looking look) → IsSpan (span_of (weighted_range_of (set_of_look look).pairs from to)) out.new }
     ensures foreign { IsNone user.old.held.value → user.new ≡ user.old }
 {
-    let Some(mut slot) = user.take(alloc) else {
+    if !user.is_open() {
         return CLOSED;
-    };
-    let code = range_in(&mut slot.seat, from, to, out);
-    user.put(slot);
-    code
+    }
+    range_in(&mut user.held.as_slot().seat, from, to, out)
 }

@@ -12,7 +12,6 @@ use crate::refusal::Refusal;
 use crate::seat::{AccessOf, HeldLook, Seat};
 use crate::user_handle::UserHandle;
 use aug_trie::{Outcome, Request};
-use std::alloc::Global;
 
 #[inline(always)]
 fn code_of(answer: Result<Outcome, Refusal>) -> i64
@@ -59,64 +58,62 @@ fn update_in(user: &mut Option<Seat>, key: u32, request: Request) -> i64
 
 // Makes an update of a key by a handle's user.
 #[inline(always)]
-fn update(alloc: Global, user: &mut UserHandle, key: u32, request: Request) -> i64
+fn update(user: &mut UserHandle, key: u32, request: Request) -> i64
     ensures updates { On (UpdatesKey request key) (user_of user.old) (user_of user.new) result }
     ensures foreign { IsNone user.old.held.value → user.new ≡ user.old }
 {
-    let Some(mut slot) = user.take(alloc) else {
+    if !user.is_open() {
         return CLOSED;
-    };
-    let code = update_in(&mut slot.seat, key, request);
-    user.put(slot);
-    code
+    }
+    update_in(&mut user.held.as_slot().seat, key, request)
 }
 
 /// Puts a key in, with the key itself as its weight: 1 if it was not there, 0 if it was.
 #[unsafe(no_mangle)]
-pub extern "C" fn aug_try_insert(alloc: Global, user: &mut UserHandle, key: u32) -> i64
+pub extern "C" fn aug_try_insert(user: &mut UserHandle, key: u32) -> i64
     ensures updates { On (UpdatesKey request.Insert key) (user_of user.old) (user_of user.new) result }
     ensures foreign { IsNone user.old.held.value → user.new ≡ user.old }
 {
-    update(alloc, user, key, Request::Insert)
+    update(user, key, Request::Insert)
 }
 
 /// Takes a key out: 1 if it was there, 0 if it was not.
 #[unsafe(no_mangle)]
-pub extern "C" fn aug_try_remove(alloc: Global, user: &mut UserHandle, key: u32) -> i64
+pub extern "C" fn aug_try_remove(user: &mut UserHandle, key: u32) -> i64
     ensures updates { On (UpdatesKey request.Remove key) (user_of user.old) (user_of user.new) result }
     ensures foreign { IsNone user.old.held.value → user.new ≡ user.old }
 {
-    update(alloc, user, key, Request::Remove)
+    update(user, key, Request::Remove)
 }
 
 /// Puts a key in with a weight, or gives a member this weight: 1 if it was not there, 2 if it was, 0 if another change of the
 /// key came in between and nothing was stored.
 #[unsafe(no_mangle)]
-pub extern "C" fn aug_try_put(alloc: Global, user: &mut UserHandle, key: u32, weight: u32) -> i64
+pub extern "C" fn aug_try_put(user: &mut UserHandle, key: u32, weight: u32) -> i64
     ensures updates { On (UpdatesKey (request.Put weight) key) (user_of user.old) (user_of user.new) result }
     ensures foreign { IsNone user.old.held.value → user.new ≡ user.old }
 {
-    update(alloc, user, key, Request::Put(weight))
+    update(user, key, Request::Put(weight))
 }
 
 /// Adds an amount to the weight of a key, which goes in with it if it was not there: 1 if it was not there, 2 if it was, 3 if the amount
 /// is 0; 0 if another change of the key came in between, and `TOO_GREAT` if the sum is no weight. Then nothing was stored.
 #[unsafe(no_mangle)]
-pub extern "C" fn aug_try_add(alloc: Global, user: &mut UserHandle, key: u32, amount: u32) -> i64
+pub extern "C" fn aug_try_add(user: &mut UserHandle, key: u32, amount: u32) -> i64
     ensures updates { On (UpdatesKey (request.Add amount) key) (user_of user.old) (user_of user.new) result }
     ensures foreign { IsNone user.old.held.value → user.new ≡ user.old }
 {
-    update(alloc, user, key, Request::Add(amount))
+    update(user, key, Request::Add(amount))
 }
 
 /// Takes an amount from the weight of a key, which goes out if nothing is left: 1 if it went out, 2 if it is still there, 3 if the amount
 /// is 0; 0 if another change of the key came in between, and `TOO_LITTLE` if there is less. Then nothing was stored.
 #[unsafe(no_mangle)]
-pub extern "C" fn aug_try_sub(alloc: Global, user: &mut UserHandle, key: u32, amount: u32) -> i64
+pub extern "C" fn aug_try_sub(user: &mut UserHandle, key: u32, amount: u32) -> i64
     ensures updates { On (UpdatesKey (request.Sub amount) key) (user_of user.old) (user_of user.new) result }
     ensures foreign { IsNone user.old.held.value → user.new ≡ user.old }
 {
-    update(alloc, user, key, Request::Sub(amount))
+    update(user, key, Request::Sub(amount))
 }
 
 // Puts a user where none is, so that nothing is dropped there.
@@ -156,16 +153,14 @@ fn look_by(user: &mut Option<Seat>) -> i64
 
 /// Takes a snapshot, which the queries are answered from until the look is done.
 #[unsafe(no_mangle)]
-pub extern "C" fn aug_try_look(alloc: Global, user: &mut UserHandle) -> i64
+pub extern "C" fn aug_try_look(user: &mut UserHandle) -> i64
     ensures looks { On TakesLook (user_of user.old) (user_of user.new) result }
     ensures foreign { IsNone user.old.held.value → user.new ≡ user.old }
 {
-    let Some(mut slot) = user.take(alloc) else {
+    if !user.is_open() {
         return CLOSED;
-    };
-    let code = look_by(&mut slot.seat);
-    user.put(slot);
-    code
+    }
+    look_by(&mut user.held.as_slot().seat)
 }
 
 #[inline(always)]
@@ -184,16 +179,14 @@ fn look_anew(user: &mut Option<Seat>) -> i64
 
 /// Takes a newer snapshot in the same look.
 #[unsafe(no_mangle)]
-pub extern "C" fn aug_try_look_again(alloc: Global, user: &mut UserHandle) -> i64
+pub extern "C" fn aug_try_look_again(user: &mut UserHandle) -> i64
     ensures looks { On LooksAnew (user_of user.old) (user_of user.new) result }
     ensures foreign { IsNone user.old.held.value → user.new ≡ user.old }
 {
-    let Some(mut slot) = user.take(alloc) else {
+    if !user.is_open() {
         return CLOSED;
-    };
-    let code = look_anew(&mut slot.seat);
-    user.put(slot);
-    code
+    }
+    look_anew(&mut user.held.as_slot().seat)
 }
 
 #[inline(always)]
@@ -215,14 +208,12 @@ fn end_look(user: &mut Option<Seat>) -> i64
 
 /// Ends the look.
 #[unsafe(no_mangle)]
-pub extern "C" fn aug_try_look_done(alloc: Global, user: &mut UserHandle) -> i64
+pub extern "C" fn aug_try_look_done(user: &mut UserHandle) -> i64
     ensures ends { On EndsLook (user_of user.old) (user_of user.new) result }
     ensures foreign { IsNone user.old.held.value → user.new ≡ user.old }
 {
-    let Some(mut slot) = user.take(alloc) else {
+    if !user.is_open() {
         return CLOSED;
-    };
-    let code = end_look(&mut slot.seat);
-    user.put(slot);
-    code
+    }
+    end_look(&mut user.held.as_slot().seat)
 }

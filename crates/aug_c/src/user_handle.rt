@@ -47,7 +47,7 @@ impl Model for UserHeld {
     ghost also_owns = { λ h. held_owns h.value h.at };
 }
 
-/// A handle. C has it zeroed before it is opened, and gives it to one call at a time.
+/// A handle. C has it zeroed before it is opened, and gives it to one call at a time. Only opening and closing write it.
 #[repr(C)]
 #[derive(Drop)]
 pub struct UserHandle {
@@ -57,6 +57,9 @@ pub struct UserHandle {
 }
 
 impl UserHeld {
+    ghost use Rattle.std.specs.Borrow.{sem};
+    ghost use Rattle.aug_c.specs.inside.SlotLends.{LendsSlot};
+
     fn empty() -> UserHeld
         ensures { result.value ≡ None }
     {
@@ -79,6 +82,16 @@ impl UserHeld {
         let UserHeld { at } = self;
         let at = at as *mut UserSlot;
         RawBox { at, alloc }
+    }
+
+    // Lends what the box holds, where it lies.
+    #[inline(always)]
+    pub(crate) fn as_slot(&mut self) -> &mut UserSlot
+        requires { IsSome self.old.value }
+        ensures* writes_back { sem 𝓛 (LendsSlot self.entry result) }
+        ensures value { self.old.value ≡ Some result.now }
+    {
+        unsafe { &mut *(self.at as *mut UserSlot) }
     }
 }
 

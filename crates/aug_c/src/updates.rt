@@ -12,6 +12,7 @@ use crate::refusal::Refusal;
 use crate::seat::{AccessOf, HeldLook, Seat};
 use crate::user_handle::UserHandle;
 use aug_trie::{Outcome, Request};
+use core::mem::replace_with;
 
 #[inline(always)]
 fn code_of(answer: Result<Outcome, Refusal>) -> i64
@@ -116,15 +117,17 @@ pub extern "C" fn aug_try_sub(user: &mut UserHandle, key: u32, amount: u32) -> i
     update(user, key, Request::Sub(amount))
 }
 
-// Puts a user where none is, so that nothing is dropped there.
+// A user with a look, and what the call answers.
 #[inline(always)]
-fn seat(user: &mut Option<Seat>, new: Seat)
-    requires { user.old ≡ None }
-    ensures { user.new ≡ Some new }
+fn with_look(seat: Seat, _: ()) -> (Seat, i64)
+    ensures { TakesLook seat result.0 result.1 }
 {
-    match user.replace(new) {
-        Some(_) => unreachable!(),
-        None => {}
+    match seat {
+        Seat::Looking(look) => (Seat::Looking(look), LOOKING),
+        Seat::Free(access) => match access.try_look() {
+            Ok(look) => (Seat::Looking(HeldLook::of(look)), 0),
+            Err((access, cause)) => (Seat::Free(access), Refusal::of(cause).code()),
+        },
     }
 }
 
@@ -132,22 +135,9 @@ fn seat(user: &mut Option<Seat>, new: Seat)
 fn look_by(user: &mut Option<Seat>) -> i64
     ensures { On TakesLook user.old user.new result }
 {
-    match user.take() {
+    match user {
         None => CLOSED,
-        Some(Seat::Looking(look)) => {
-            seat(user, Seat::Looking(look));
-            LOOKING
-        }
-        Some(Seat::Free(access)) => match access.try_look() {
-            Ok(look) => {
-                seat(user, Seat::Looking(HeldLook::of(look)));
-                0
-            }
-            Err((access, cause)) => {
-                seat(user, Seat::Free(access));
-                Refusal::of(cause).code()
-            }
-        },
+        Some(seat) => replace_with(seat, (), with_look),
     }
 }
 
@@ -189,20 +179,24 @@ pub extern "C" fn aug_try_look_again(user: &mut UserHandle) -> i64
     look_anew(&mut user.held.as_slot().seat)
 }
 
+// A user without its look, and what the call answers.
+#[inline(always)]
+fn without_look(seat: Seat, _: ()) -> (Seat, i64)
+    ensures { EndsLook seat result.0 result.1 }
+{
+    match seat {
+        Seat::Free(access) => (Seat::Free(access), NOT_LOOKING),
+        Seat::Looking(held) => (Seat::Free(held.into_look().done()), 0),
+    }
+}
+
 #[inline(always)]
 fn end_look(user: &mut Option<Seat>) -> i64
     ensures { On EndsLook user.old user.new result }
 {
-    match user.take() {
+    match user {
         None => CLOSED,
-        Some(Seat::Free(access)) => {
-            seat(user, Seat::Free(access));
-            NOT_LOOKING
-        }
-        Some(Seat::Looking(held)) => {
-            seat(user, Seat::Free(held.into_look().done()));
-            0
-        }
+        Some(seat) => replace_with(seat, (), without_look),
     }
 }
 

@@ -14,7 +14,7 @@ use Rattle.aug_live.specs.inside.LaneKnowledge.{EndFacts, KnownFacts, LaneFacts,
 use Rattle.aug_live.specs.Ledgers.{Made, dated}
 use Rattle.aug_live.specs.LiveHandles.{Follows, added}
 use Rattle.aug_live.specs.declared.lane.Parts.{Parts}
-use Rattle.aug_live.specs.inside.Looks.{HoldsHandle, HoldsLook, rest_of}
+use Rattle.aug_live.specs.inside.Looks.{HoldsHandle, HoldsLook, without_pass}
 use Rattle.aug_live.proofs.Adding.{none_added}
 
 -- a pass of the same round in place of the one that was taken out, which accepted no more
@@ -39,10 +39,10 @@ holds_on {A} {B} out rest bits lane lanes work pass next h there same accepted =
     }
 
 -- the same of the parts of a lane
-pub holds_in : {A B : Type 0} (out : OutFacts) (bits lane : ℕ) (lanes : List TableId) (parts parts' : Parts A B) (pass next : OwnedPass A B) → HoldsLook out (rest_of parts) parts.work bits lane lanes → parts.work ≡ Some pass → parts' ≡ record parts { work = Some next }
-    → rounds_at next.half ≡ rounds_at pass.half → next.half.knows.accepted ≡ pass.half.knows.accepted → HoldsLook out (rest_of parts') parts'.work bits lane lanes
+pub holds_in : {A B : Type 0} (out : OutFacts) (bits lane : ℕ) (lanes : List TableId) (parts parts' : Parts A B) (pass next : OwnedPass A B) → HoldsLook out (without_pass parts) parts.work bits lane lanes → parts.work ≡ Some pass → parts' ≡ record parts { work = Some next }
+    → rounds_at next.half ≡ rounds_at pass.half → next.half.knows.accepted ≡ pass.half.knows.accepted → HoldsLook out (without_pass parts') parts'.work bits lane lanes
 holds_in {A} {B} out bits lane lanes parts parts' pass next h there is same accepted =
-    subst (λ (p : Parts A B). HoldsLook out (rest_of p) p.work bits lane lanes) (sym is) (holds_on out (rest_of parts) bits lane lanes parts.work pass next h there same accepted)
+    subst (λ (p : Parts A B). HoldsLook out (without_pass p) p.work bits lane lanes) (sym is) (holds_on out (without_pass parts) bits lane lanes parts.work pass next h there same accepted)
 
 -- the pass that lies in a lane is the one that its facts tell of
 pub half_there : {A B : Type 0} (parts : Parts A B) (lane : LaneFacts) (pass : OwnedPass A B) → IfSome parts.work (λ w. w.half ≡ half_in parts.last.value) → record { works = is_some parts.work; number = parts.number; is_out = parts.is_out; at = stands parts.era (half_in parts.last.value) } ≡ lane

@@ -28,14 +28,14 @@ pub struct Look<A: Monoid, B: Monoid> {
 impl<A: Monoid, B: Monoid> Model for Look<A, B> {
     ghost use Rattle.aug_live.specs.LiveHandles.{LookFacts};
     ghost use Rattle.aug_live.specs.inside.LaneKnowledge.{half_in};
-    ghost use Rattle.aug_live.specs.inside.Looks.{HoldsLook, held_in, rest_of};
+    ghost use Rattle.aug_live.specs.inside.Looks.{HoldsLook, held_in, without_pass};
     ghost use Rattle.aug_live.specs.LiveTries.{ids_of};
 
     ghost Value = { LookFacts };
 
     ghost view = { λ l. record { lanes = ids_of l.desk; era = l.parts.value.era; half = half_in l.parts.value.work; made = l.out.known.made; snapshot = held_in l.parts.value.work } };
 
-    ghost invariant = { λ l. HoldsLook l.out (rest_of l.parts.value) l.parts.value.work l.bits l.lane (ids_of l.desk) };
+    ghost invariant = { λ l. HoldsLook l.out (without_pass l.parts.value) l.parts.value.work l.bits l.lane (ids_of l.desk) };
 }
 
 impl<A: Monoid, B: Monoid> Look<A, B> {

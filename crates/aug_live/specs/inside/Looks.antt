@@ -18,8 +18,8 @@ held_in None = record { number = 0 }
 held_in (Some work) = work.held
 
 -- a lane without its pass, of which these are the parts
-abbrev pub rest_of : {A B : Type 0} → Parts A B → LaneFacts
-rest_of parts = record { works = false; number = parts.number; is_out = parts.is_out; at = stands parts.era (half_in parts.last.value) }
+abbrev pub without_pass : {A B : Type 0} → Parts A B → LaneFacts
+without_pass parts = record { works = false; number = parts.number; is_out = parts.is_out; at = stands parts.era (half_in parts.last.value) }
 
 -- the pass in a lane took a new snapshot, and nothing else changed there
 pub record LooksIn {A B : Type 0} (old new : Parts A B) : Type 0 where

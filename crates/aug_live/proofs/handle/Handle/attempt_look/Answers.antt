@@ -5,7 +5,7 @@ use Rattle.aug_trie.specs.Snapshot.{snapshot_cut}
 use Rattle.aug_trie.specs.Updates.{TakesSnapshot}
 use Rattle.aug_live.specs.LiveHandles.{Makes}
 use Rattle.aug_live.specs.declared.lane.Parts.{Parts}
-use Rattle.aug_live.specs.inside.Looks.{HoldsLook, held_in, rest_of}
+use Rattle.aug_live.specs.inside.Looks.{HoldsLook, held_in, without_pass}
 use Rattle.aug_live.specs.LiveTries.{ids_of}
 use Rattle.aug_live.specs.inside.LaneKnowledge.{KnownFacts, LaneFacts, half_in, rounds_at}
 use Rattle.aug_live.proofs.Carries.{unchanged, follow_end, follows_self, look_end}
@@ -25,9 +25,9 @@ returns-clause-looks g c = let there = sym c.take.ensures.value ∙ c.in-Some.is
     let was = c.deref_mut.ensures.value in
     let now : c.look.new.self ≡ record parts { work = Some l.next } = l.same ∙ ap (λ (p : Parts g.row.A.Denot g.row.B.Denot). record p { work = Some l.next }) was in
     let lies : parts.work ≡ Some l.pass = ap (λ (p : Parts g.row.A.Denot g.row.B.Denot). p.work) (sym was) ∙ l.there in
-    let rest : rest_of parts ≡ record c.in-Ok.taken.1 { works = false } = ap (λ (z : LaneFacts). record z { works = false }) c.lane.view_is in
+    let rest : without_pass parts ≡ record c.in-Ok.taken.1 { works = false } = ap (λ (z : LaneFacts). record z { works = false }) c.lane.view_is in
     subst (λ (p : Parts g.row.A.Denot g.row.B.Denot). Makes 0 (λ a b. TakesSnapshot a.knows b.knows (snapshot_cut b (held_in p.work).number)) c.args.self (record { lanes = ids; era = p.era; half = half_in p.work; made = c.in-Ok.taken.0.known.made })) (sym now)
-    (look_end ids c.args.self c.handle.inside.end c.in-Some.end c.in-Some.end c.handle.view_is there 1 (λ a b. TakesSnapshot a.knows b.knows (snapshot_cut b l.next.held.number)) c.in-Ok.taken.1 (rest_of parts) l.pass.half l.next.half c.in-Ok.taken.0.known.made (ap (λ (z : KnownFacts). z.made) c.in-Ok.ensures.known) c.in-Ok.ensures.follows
+    (look_end ids c.args.self c.handle.inside.end c.in-Some.end c.in-Some.end c.handle.view_is there 1 (λ a b. TakesSnapshot a.knows b.knows (snapshot_cut b l.next.held.number)) c.in-Ok.taken.1 (without_pass parts) l.pass.half l.next.half c.in-Ok.taken.0.known.made (ap (λ (z : KnownFacts). z.made) c.in-Ok.ensures.known) c.in-Ok.ensures.follows
     (half_there parts c.in-Ok.taken.1 l.pass c.lane.invariant c.lane.view_is lies) rest l.takes.same_changes l.takes l.goes_on)
 
 pub invariant_of-result : goal.invariant_of-result
@@ -35,7 +35,7 @@ invariant_of-result g c = let there = sym c.take.ensures.value ∙ c.in-Some.is 
     let was = c.deref_mut.ensures.value in
     let now : c.look.new.self ≡ record parts { work = Some l.next } = l.same ∙ ap (λ (p : Parts g.row.A.Denot g.row.B.Denot). record p { work = Some l.next }) was in
     let lies : parts.work ≡ Some l.pass = ap (λ (p : Parts g.row.A.Denot g.row.B.Denot). p.work) (sym was) ∙ l.there in
-    let rest : rest_of parts ≡ record c.in-Ok.taken.1 { works = false } = ap (λ (z : LaneFacts). record z { works = false }) c.lane.view_is in
-    subst (λ (p : Parts g.row.A.Denot g.row.B.Denot). HoldsLook c.in-Ok.taken.0 (rest_of p) p.work i.bits i.lane (ids_of i.desk)) (sym now)
-    (looks_from c.in-Some.end c.in-Ok.taken.0 c.in-Ok.taken.1 (rest_of parts) i.end i.bits i.number i.lane (ids_of i.desk) l.pass.half l.next c.handle.invariant there of.lock of.known of.taken of.number
+    let rest : without_pass parts ≡ record c.in-Ok.taken.1 { works = false } = ap (λ (z : LaneFacts). record z { works = false }) c.lane.view_is in
+    subst (λ (p : Parts g.row.A.Denot g.row.B.Denot). HoldsLook c.in-Ok.taken.0 (without_pass p) p.work i.bits i.lane (ids_of i.desk)) (sym now)
+    (looks_from c.in-Some.end c.in-Ok.taken.0 c.in-Ok.taken.1 (without_pass parts) i.end i.bits i.number i.lane (ids_of i.desk) l.pass.half l.next c.handle.invariant there of.lock of.known of.taken of.number
     (ap (λ (z : LaneFacts). z.works) (sym c.lane.view_is) ∙ ap is_some lies) of.follows (half_there parts c.in-Ok.taken.1 l.pass c.lane.invariant c.lane.view_is lies) rest (ap rounds_at l.goes_on.same) l.takes.same_changes)

@@ -270,6 +270,10 @@ class Installed:
         said = said_by(self.compiled("c", "tests", "readers.c"))
         assert re.fullmatch(r"ok: \d+ answers, \d{3,} updates\n", said), said
 
+    def test_c_calls_write_no_handle(self):
+        said = said_by(self.compiled("c", "tests", "untouched.c"))
+        assert int(re.fullmatch(r"ok: (\d+) answers\n", said)[1]) >= 40
+
     def test_c_timers(self):
         assert said_by(self.compiled("c", "examples", "timers.c")).splitlines() == PRINTED["timers"]
 

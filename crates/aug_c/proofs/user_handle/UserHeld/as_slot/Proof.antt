@@ -1,4 +1,4 @@
--- walk
+-- `as_slot` lends the slot where it lies, and the handle follows it.
 use Rattle.std.proofs.Common.{◌≡◌, ℕ, List, [], ◌∷◌, refl, sym, ap, ◌∙◌}
 use seplogic.Ra.Ura.{Ura}
 use mir.Syntax.{named}

@@ -1,7 +1,7 @@
 -- What follows on what: places of a lane, one after another.
-use Rattle.std.proofs.Common.{◌≡◌, ◌⊎◌, inl, inr, ℕ, ◌+◌, List, [], ◌∷◌, ◌++◌, length, min, take, true, false, sym, refl, ap, ◌∙◌, subst, arith}
+use Rattle.std.proofs.Common.{◌≡◌, ◌⊎◌, inl, inr, ℕ, ◌+◌, List, [], ◌∷◌, ◌++◌, length, true, false, sym, refl, ap, ◌∙◌, subst, arith}
 use Rattle.std.specs.Prelude.{Option, Some, Result, Ok, Err, IfOk, IfErr}
-use Rattle.std.proofs.lemmas.List.{append-nil, length-take}
+use Rattle.std.proofs.lemmas.List.{append-nil}
 use mathlib.Core.Logic.{dite}
 use native.Mathlib.Decide.{ℕ_discrete}
 use Rattle.aug_core.specs.Cuts.{Cut, pairs_of_cut}
@@ -11,15 +11,13 @@ use Rattle.aug_trie.specs.Chains.{Chapter, BeginsWith, IsPart}
 use Rattle.aug_trie.specs.History.{IsHistory, last_cut}
 use Rattle.aug_trie.specs.Knowledge.{Knowledge}
 use Rattle.aug_trie.specs.Updates.{ComesTo}
-use Rattle.aug_trie.specs.Owned.{SomeUpdates}
-use Rattle.aug_model.specs.declared.summary.Summary.{Summary}
 use Rattle.aug_trie.specs.declared.updates.request.Request.{Request}
 use Rattle.aug_trie.specs.declared.updates.request.Request.TheVariants as asked
 use Rattle.aug_trie.specs.declared.updates.outcome.Outcome.{Outcome}
 use Rattle.aug_trie.specs.declared.updates.outcome.Outcome.TheVariants as outcome
 use Rattle.atomic_table.specs.Seated.{TableId}
 use Rattle.aug_trie.specs.Pass.{PassFacts, GoesOn, chain_of}
-use Rattle.aug_trie.specs.Round.{RoundFacts}
+use Rattle.aug_trie.specs.Round.{RoundFacts, TableFacts, table_of}
 use Rattle.aug_trie.proofs.Chaining.{begins_alike, begins_longer, part_refl, part_trans}
 use Rattle.aug_live.specs.Carrying.{first_members, Leads}
 use Rattle.aug_live.specs.Ledgers.{Made, dated}
@@ -242,12 +240,6 @@ worked_here lane b works rounds accepts = record {
   accepts = accepts;
 }
 
--- so many updates of a batch were made
-pub some_made : {A B : Type 0} {summary_of : List (ℕ × ℕ) → Summary A B} {requests : List Request} {before after : List Outcome} {old new : PassFacts} (keys : List ℕ) (count left : ℕ) → count ≡ min (length keys) left
-    → SomeUpdates summary_of requests (take count keys) before after old new → (steps : ℕ) × GoesOn count steps old new
-some_made {old = old} {new = new} keys count left is made = let few = length-take count keys in let all : length (take count keys) ≡ count = omega (arith, is, few) in
-    (made.goes_on.0, subst (λ (z : ℕ). GoesOn z made.goes_on.0 old new) all made.goes_on.1)
-
 -- one whose pass learned something
 pub learnt_follows : (steps : ℕ) (a : HandleFacts) (b : PassFacts) → IsPrefix a.half.knows.history b.knows.history → GoesOn 0 steps a.half b → Follows a (record a { half = b })
 learnt_follows steps a b more on = follows_pass a b record {
@@ -255,6 +247,24 @@ learnt_follows steps a b more on = follows_pass a b record {
   past = ap (λ (z : PassFacts). z.past) on.same;
   goes_on = more;
 }
+
+-- a lane whose pass was made of the half that lay there, and then a half again
+module _ (lane rest new : LaneFacts) (work pass after half : PassFacts) (works : lane.works ≡ true) (is : work ≡ lane.at.half) (left : rest ≡ record lane { works = false }) (of : pass ≡ work) (ends : half ≡ after)
+    (put : new ≡ record rest { works = true; at = record rest.at { half = half } }) where
+  was : pass ≡ lane.at.half
+  was = of ∙ is
+
+  now : new ≡ record lane { works = true; at = record lane.at { half = after } }
+  now = put ∙ (λ i. record (left i) { works = true; at = record (left i).at { half = ends i } })
+
+  pub makes_by : (updates steps : ℕ) (does : PassFacts → PassFacts → Type 0) → does pass after → GoesOn updates steps pass after → WorksHere updates does lane.at new.at
+  makes_by updates steps does did on = subst (λ (z : PassFacts × LaneFacts). WorksHere updates does (record lane.at { half = z.0 }) z.1.at) (λ i. (was i, sym now i)) (works_here updates steps does (record lane.at { half = pass }) after did on)
+
+  pub worked_by : rounds_at after ≡ rounds_at pass → IsPrefix pass.knows.accepted after.knows.accepted → Worked lane new
+  worked_by rounds accepts = subst (Worked lane) (sym now) (worked_here lane after works (rounds ∙ ap rounds_at was) (subst (λ (z : PassFacts). IsPrefix z.knows.accepted after.knows.accepted) was accepts))
+
+  pub learns_by : (steps : ℕ) → IsPrefix pass.knows.history after.knows.history → GoesOn 0 steps pass after → Follows lane.at new.at
+  learns_by steps more on = subst (λ (z : PassFacts × LaneFacts). Follows (record lane.at { half = z.0 }) z.1.at) (λ i. (was i, sym now i)) (learnt_follows steps (record lane.at { half = pass }) after more on)
 
 -- one that got the next pass of its round in the place of one that went back to their crew
 pub replaced_follows : (a : HandleFacts) (b : PassFacts) (history : List Cut) → rounds_at b ≡ rounds_at a.half → IsPrefix a.half.knows.history history → IsPrefix history b.knows.history → Follows a (record a { half = b })
@@ -265,15 +275,15 @@ replaced_follows a b history rounds one two = follows_pass a b record {
 }
 
 -- one that got a pass of the next round
-pub begun_follows : (a : HandleFacts) (b : PassFacts) (round : RoundFacts) (past : List Chapter) → BeginsWith a.half.past (chain_of a.half).now past → Leads round.bits past round.members → a.half.round.table ≡ round.table → a.half.round.bits ≡ round.bits
+pub begun_follows : (a : HandleFacts) (b : PassFacts) (round : RoundFacts) (past : List Chapter) → BeginsWith a.half.past (chain_of a.half).now past → Leads round.bits past round.members → table_of a.half.round ≡ table_of round
     → rounds_at b ≡ (round, past) → Follows a (record a { era = a.era + 1; half = b })
-begun_follows a b round past part led table bits rounds =
+begun_follows a b round past part led table rounds =
     let now : b.round ≡ round = ap (λ (z : RoundFacts × List Chapter). z.0) rounds in
     follows_round a b
     (subst (BeginsWith a.half.past (chain_of a.half).now) (ap (λ (z : RoundFacts × List Chapter). z.1) (sym rounds)) part)
     (subst (λ (z : RoundFacts × List Chapter). Leads z.0.bits z.1 z.0.members) (sym rounds) led)
-    (ap (λ (z : RoundFacts). z.table) now ∙ sym table)
-    (ap (λ (z : RoundFacts). z.bits) now ∙ sym bits)
+    (ap (λ (z : RoundFacts). z.table) now ∙ ap (λ (z : TableFacts). z.table) (sym table))
+    (ap (λ (z : RoundFacts). z.bits) now ∙ ap (λ (z : TableFacts). z.bits) (sym table))
 
 -- what an update accepted stands behind what was accepted before
 pub accepts_on : (request : Request) (key : ℕ) (done : Outcome) (a b : Knowledge) → ComesTo request key done a b → IsPrefix a.accepted b.accepted

@@ -73,8 +73,7 @@ module _ (era : ℕ) (table : TableFacts) (crew first : CrewFacts) (list : List 
         whose = b.whose;
         works = b.works;
         era_is = b.era_is;
-        table_is = ap (λ (z : TableFacts). z.table) was;
-        bits_are = ap (λ (z : TableFacts). z.bits) was;
+        table_is = was;
         part = subst (BeginsWith p.past (chain_of p).now) (ap (λ (z : List Chapter). z ++ over ∷ []) before ∙ sym next_past)
             (begins_alike p.past (chain_of p).now over [] record { members = members; goes_on = prefix_trans p.knows.history crew.knows.history r.last.knows.history b.known r.goes_on });
       }

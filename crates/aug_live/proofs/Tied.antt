@@ -7,6 +7,7 @@ use mathlib.Core.Option.{some, some-injective, some-ne-none}
 use lib.ListN.{get_elem?}
 use Rattle.atomic_table.proofs.Lists.{at_set}
 use Rattle.ruled_lock.specs.Locks.{Learns, Forks, Meets}
+use Rattle.aug_trie.specs.Round.{table_of}
 use Rattle.aug_live.specs.Ledgers.{Made, dated}
 use Rattle.aug_live.specs.LiveHandles.{HandleFacts, Follows, added}
 use Rattle.aug_live.specs.LiveTries.{Done, made_through}
@@ -128,6 +129,7 @@ module _ (id : ℕ) (v : KnownFacts) (old new : LaneFacts) (views : List KnownFa
       as_roller = λ roller. absurd (two_ways v.whose handle roller);
       as_handle = λ _ _. record {
         follows = λ _. follows_self new.at;
+        table = λ _. refl;
         whole = λ _. more_made t.before old.at new.at did.era did.accepts ∙ ap (λ (z : List Made). z ++ more) (k.whole (sym number)) ∙ append_assoc (made_through v.done) v.made more;
       };
       not_newer = λ _. let is = did.number in omega arith;
@@ -140,7 +142,7 @@ module _ (id : ℕ) (v : KnownFacts) (old new : LaneFacts) (views : List KnownFa
       turns t.before (worked v old new) mine_on (λ x one two k. (
         record {
           as_roller = λ r s. roller_on x one r (k.as_roller r s);
-          as_handle = λ h s. record { follows = λ n. absurd (not_mine x one h n); whole = λ n. absurd (not_mine x one h n) };
+          as_handle = λ h s. record { follows = λ n. absurd (not_mine x one h n); table = λ n. absurd (not_mine x one h n); whole = λ n. absurd (not_mine x one h n) };
           not_newer = λ h. let is = did.number in let low = k.not_newer h in omega arith;
           unopened = λ a z. did.number ∙ k.unopened a z;
         },
@@ -152,10 +154,14 @@ module _ (id : ℕ) (v : KnownFacts) (old new : LaneFacts) (views : List KnownFa
 
   module _ (roller : rolls v.whose ≡ true) where
     -- what a handle goes on to know if the lane has the same number
-    handle_on : (before : List Made) → new.number ≡ old.number → Follows old.at new.at → made_at before new.at ≡ made_at t.before old.at → (x : KnownFacts) → Beside x v → KnowsLane x t.before old → KnowsLane x before new
-    handle_on before number follows whole x beside k = record {
+    handle_on : (before : List Made) → new.number ≡ old.number → Follows old.at new.at → table_of new.at.half.round ≡ table_of old.at.half.round → made_at before new.at ≡ made_at t.before old.at → (x : KnownFacts) → Beside x v → KnowsLane x t.before old → KnowsLane x before new
+    handle_on before number follows table whole x beside k = record {
       as_roller = λ r. absurd (beside.one_roller r roller);
-      as_handle = λ h s. let o = k.as_handle h s in record { follows = λ n. follows_on x.at old.at new.at (o.follows (n ∙ number)) follows; whole = λ n. whole ∙ o.whole (n ∙ number) };
+      as_handle = λ h s. let o = k.as_handle h s in record {
+        follows = λ n. follows_on x.at old.at new.at (o.follows (n ∙ number)) follows;
+        table = λ n. table ∙ o.table (n ∙ number);
+        whole = λ n. whole ∙ o.whole (n ∙ number);
+      };
       not_newer = λ h. let low = k.not_newer h in omega arith;
       unopened = λ a. absurd (beside.one_roller (ap rolls a) roller);
     }
@@ -189,7 +195,7 @@ module _ (id : ℕ) (v : KnownFacts) (old new : LaneFacts) (views : List KnownFa
                   unopened = λ _ none. let era : new.at.era ≡ v.at.era = ap (λ (z : HandleFacts). z.era) same ∙ was.era in absurd (omega arith);
                 }
                 (λ x one two k. (
-                  handle_on t.before number follows (ap (made_at t.before) same) x one k,
+                  handle_on t.before number follows (ap (λ (z : HandleFacts). table_of z.half.round) same) (ap (made_at t.before) same) x one k,
                   record { one_roller = one.one_roller; out = one.out; apart = one.apart },
                   record { one_roller = two.one_roller; out = two.out; apart = two.apart },
                 )),
@@ -197,8 +203,8 @@ module _ (id : ℕ) (v : KnownFacts) (old new : LaneFacts) (views : List KnownFa
           )
 
       -- the roller puts a lane back with a new pass
-      pub roller_deals : Follows old.at new.at → new.at.half.knows.accepted ≡ [] → Goal (λ w. w ≡ dealt v old new)
-      roller_deals follows none =
+      pub roller_deals : Follows old.at new.at → table_of new.at.half.round ≡ table_of old.at.half.round → new.at.half.knows.accepted ≡ [] → Goal (λ w. w ≡ dealt v old new)
+      roller_deals follows table none =
           let was = (t.known id v at).as_roller roller begun in let before : List Made = made_at t.before old.at in
           let whole : made_at before new.at ≡ made_at t.before old.at = none_made before new.at none in
           let mine : before ≡ made_at v.before old.at = ap (λ (z : List Made). made_at z old.at) was.before_is in (
@@ -221,7 +227,7 @@ module _ (id : ℕ) (v : KnownFacts) (old new : LaneFacts) (views : List KnownFa
                   unopened = λ _ zero_era. let later = follows.not_later in let era = was.era in absurd (omega arith);
                 }
                 (λ x one two k. (
-                  handle_on before number follows whole x one k,
+                  handle_on before number follows table whole x one k,
                   record { one_roller = one.one_roller; out = one.out; apart = one.apart },
                   record { one_roller = two.one_roller; out = two.out; apart = two.apart },
                 )),
@@ -253,7 +259,7 @@ module _ (id : ℕ) (v : KnownFacts) (old new : LaneFacts) (views : List KnownFa
               (λ x one two k. (
                 record {
                   as_roller = λ r. absurd (one.one_roller r roller);
-                  as_handle = λ h s. record { follows = λ n. absurd (newest x k h n); whole = λ n. absurd (newest x k h n) };
+                  as_handle = λ h s. record { follows = λ n. absurd (newest x k h n); table = λ n. absurd (newest x k h n); whole = λ n. absurd (newest x k h n) };
                   not_newer = λ h. let low = k.not_newer h in omega arith;
                   unopened = λ a. absurd (one.one_roller (ap rolls a) roller);
                 },
@@ -289,7 +295,7 @@ module _ (id : ℕ) (v : KnownFacts) (old new : LaneFacts) (views : List KnownFa
               unopened = λ e. let clash : Idle ≡ Alone = e in cc;
             }
             (λ x one two k. (
-              handle_on roller t.before number follows (ap (made_at t.before) same) x one k,
+              handle_on roller t.before number follows (ap (λ (z : HandleFacts). table_of z.half.round) same) (ap (made_at t.before) same) x one k,
               record { one_roller = λ r _. one.one_roller r roller; out = λ _ e. let clash : Idle ≡ Handle = e in cc; apart = λ _ e. let clash : Idle ≡ Handle = e in cc },
               record { one_roller = λ _ r. two.one_roller roller r; out = λ _ h n. let clash : Free ≡ Roller = sym free ∙ (two.out roller h n).0 in cc; apart = λ e. let clash : Idle ≡ Handle = e in cc },
             )),
@@ -322,6 +328,7 @@ forks id v first begun lane views t at =
       as_roller = λ e. let clash : false ≡ true = e in cc;
       as_handle = λ _ _. record {
         follows = λ _. subst (Follows v.at) (sym (was.alone first)) (follows_self v.at);
+        table = λ _. ap (λ (z : HandleFacts). table_of z.half.round) (was.alone first);
         whole = λ _. ap (λ (z : List Made). made_at z lane.at) was.before_is ∙ was.whole.whole ∙ ap (λ (z : List Made). made_through v.done ++ z) none;
       };
       not_newer = λ _. let is = was.number in omega arith;

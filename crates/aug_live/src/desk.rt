@@ -1,5 +1,6 @@
 //! The desk: the round that goes on, and the roller's ends of all lanes.
 ghost use Rattle.std.specs.Prelude.{◌≡◌, ◌+◌, ◌<◌, ◌≤◌, IfOk, IfErr, IsErr, length, vec_len, vec_capacity};
+ghost use Rattle.std.specs.Arc.{arc_value};
 ghost use Rattle.std.specs.List.{insert};
 ghost use mathlib.Core.Option.{some};
 ghost use lib.ListN.{get_elem?};
@@ -17,10 +18,12 @@ use crate::error::{LiveError, TryError};
 use crate::held::{Emptied, Held};
 use crate::plan::Plan;
 use crate::rolling::{deal_all, finish, give_all, take_all};
+use crate::work::SharedRound;
 use aug_monoid::Monoid;
-use aug_trie::{Crew, Members, Note, SharedRound};
+use aug_trie::{Crew, Members, Note};
 use ruled_lock::Patience;
 use std::marker::Model;
+use std::sync::Arc;
 
 // A round counts fewer than 2^32 keys put in or taken out. With no more than this before it, the next one can be counted too.
 const MOST_BEFORE: u64 = u64::MAX - 2 * u32::MAX as u64;
@@ -36,9 +39,8 @@ pub(crate) struct Working<A: Monoid, B: Monoid> {
     pub(crate) ports: Vec<End<A, B>>,
     // The last lanes, the last one first, if a roll-over took them and waits for the others.
     pub(crate) held: Vec<Held<A, B>>,
-    // Room for them once their passes are back, for owners of the round, and for the members.
+    // Room for them once their passes are back, and for the members.
     pub(crate) idle: Vec<Emptied<A, B>>,
-    pub(crate) shares: Vec<SharedRound<A, B>>,
     pub(crate) list: Vec<(u32, u32)>,
 }
 
@@ -55,8 +57,8 @@ impl<A: Monoid, B: Monoid> Model for Working<A, B> {
     ghost view = { λ w. record { table = (arc_value w.round).table; bits = (arc_value w.round).bits; lanes = map lane_by (w.ports.items ++ reverse w.held.items); held = vec_len w.held; rounds = crew_chain w.crew } };
 
     ghost invariant = { λ w. IsWorking w.plan.lanes w.plan.updates w.counts (arc_value w.round) w.crew (w.ports.items ++ reverse w.held.items) (vec_len w.ports + vec_len w.held)
-        × (w.idle.items ≡ []) × (w.shares.items ≡ []) × (vec_len w.ports + vec_len w.held ≤ vec_capacity w.ports) × (vec_len w.ports + vec_len w.held ≤ vec_capacity w.held)
-        × (vec_len w.ports + vec_len w.held ≤ vec_capacity w.idle) × (vec_len w.ports + vec_len w.held ≤ vec_capacity w.shares)
+        × (w.idle.items ≡ []) × (vec_len w.ports + vec_len w.held ≤ vec_capacity w.ports) × (vec_len w.ports + vec_len w.held ≤ vec_capacity w.held)
+        × (vec_len w.ports + vec_len w.held ≤ vec_capacity w.idle)
         × (w.list.items ≡ []) × (2 ^ (arc_value w.round).bits ≤ vec_capacity w.list) × ((arc_value w.round).bits ≡ w.bits) };
 }
 
@@ -80,11 +82,10 @@ impl<A: Monoid, B: Monoid> Working<A, B> {
             crew,
             held,
             idle,
-            shares,
             list,
             ..
         } = working;
-        let (set, inserts, removals) = finish(counts.rounds, round, crew, held, idle, shares, list);
+        let (set, inserts, removals) = finish(counts.rounds, &round, crew, held, idle, list);
         let inserts = counts.inserts + u64::from(inserts);
         let removals = counts.removals + u64::from(removals);
         let counts = LiveCounts {
@@ -125,14 +126,13 @@ impl<A: Monoid, B: Monoid> Working<A, B> {
             mut ports,
             mut held,
             mut idle,
-            mut shares,
             mut list,
             ..
         } = working;
-        give_all(counts.rounds, &mut crew, &mut held, &mut idle, &mut shares);
+        give_all(counts.rounds, &round, &mut crew, &mut held, &mut idle);
         let (mut crew, inserts, removals) = round.renew(crew, &mut list);
         list.clear();
-        deal_all(counts.rounds, &mut crew, &mut idle, &mut shares, &mut ports);
+        deal_all(counts.rounds, &round, &mut crew, &mut idle, &mut ports);
         let working = Working {
             plan,
             counts: LiveCounts {
@@ -147,7 +147,6 @@ impl<A: Monoid, B: Monoid> Working<A, B> {
             ports,
             held,
             idle,
-            shares,
             list,
         };
         (working, Ok(()))
@@ -202,7 +201,10 @@ impl<A: Monoid, B: Monoid> Working<A, B> {
         if self.crew.handed() == self.plan.lanes || lane >= self.ports.len() {
             return Ok(false);
         }
-        match self.ports.remove(lane).replace(how, &mut self.crew) {
+        match self
+            .ports
+            .remove(lane)
+            .replace(how, &self.round, &mut self.crew) {
             Ok(port) => {
                 put_in(&mut self.ports, lane, port);
                 Ok(true)
@@ -259,17 +261,18 @@ impl<A: Monoid, B: Monoid> Working<A, B> {
         }
     }
 
-    /// Gives a lane to a new handle, whose end it answers with the bits of its keys and its number. The handle knows all that the crew does.
+    /// Gives a lane to a new handle, whose end it answers with an owner of the round, the bits of its keys and its number. The handle knows all that the
+    /// crew does.
     ///
     /// Refused with `NoLane`, with `Exhausted` if the handles cannot be counted further, and with `TooMany`.
     pub(crate) fn renew<W: Patience>(
         &mut self,
         how: &W,
         lane: usize,
-    ) -> Result<(End<A, B>, u32, u64), TryError<W::GaveUp>>
+    ) -> Result<(End<A, B>, SharedRound<A, B>, u32, u64), TryError<W::GaveUp>>
         requires settled { self.old.held ≡ 0 }
         ensures more { KnowsMore self.old self.new }
-        ensures handle { IfOk result (λ h. GivesLane lane self.new h.0 h.1 h.2) }
+        ensures handle { IfOk result (λ h. GivesLane lane self.new h.0 (arc_value h.1) h.2 h.3) }
         ensures refused { IfErr result (IfRefused (RefusesLane lane self.new)) }
         ensures past { length self.old.lanes ≤ lane → IsErr result }
     {
@@ -282,14 +285,17 @@ impl<A: Monoid, B: Monoid> Working<A, B> {
         let Ok(theirs) = self.ports[lane].share() else {
             return Err(TryError::Refused(LiveError::TooMany));
         };
+        let Ok(round) = Arc::try_clone(&self.round) else {
+            return Err(TryError::Refused(LiveError::TooMany));
+        };
         let number = self.counts.handles + 1;
         let port = self.ports.remove(lane);
-        match port.renew(how, number, theirs, &self.round, &mut self.crew) {
+        match port.renew(how, number, theirs, &round, &mut self.crew) {
             Ok((port, end)) => {
                 put_in(&mut self.ports, lane, port);
                 self.counts.handles = number;
                 self.counts.missing += 1;
-                Ok((end, self.bits, number))
+                Ok((end, round, self.bits, number))
             }
             Err((port, missed)) => {
                 put_in(&mut self.ports, lane, port);

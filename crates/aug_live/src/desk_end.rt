@@ -16,6 +16,7 @@ use crate::counts::LiveCounts;
 use crate::desk::Working;
 use crate::end::End;
 use crate::error::{LiveError, TryError};
+use crate::work::SharedRound;
 use atomic_table::Split;
 use aug_monoid::Monoid;
 use aug_trie::{Members, Note, PassHalf};
@@ -323,14 +324,14 @@ impl<A: Monoid, B: Monoid> DeskEnd<A, B> {
         }
     }
 
-    /// Gives a lane to a new handle, whose end it answers with the bits of its keys and its number.
+    /// Gives a lane to a new handle, whose end it answers with an owner of the round, the bits of its keys and its number.
     pub(crate) fn renew<W: Patience>(
         &mut self,
         how: &W,
         lane: usize,
-    ) -> Result<(End<A, B>, u32, u64), TryError<W::GaveUp>>
+    ) -> Result<(End<A, B>, SharedRound<A, B>, u32, u64), TryError<W::GaveUp>>
         ensures more { KnowsMore self.old self.new }
-        ensures handle { IfOk result (λ h. GivesLane lane self.new h.0 h.1 h.2) }
+        ensures handle { IfOk result (λ h. GivesLane lane self.new h.0 (arc_value h.1) h.2 h.3) }
         ensures refused { IfErr result (IfRefused (λ cause. (cause ≡ LiveError.Closed) ⊎ (RefusesRoll self.new cause ⊎ RefusesLane lane self.new cause))) }
         ensures past { length self.old.lanes ≤ lane → IsErr result }
     {

@@ -1,6 +1,7 @@
 //! The ends of a lane: a pass of its lock each.
 ghost use Rattle.std.specs.Prelude.{◌≡◌, [], true, false, ◌<◌, IfOk, IfErr};
 ghost use Rattle.std.specs.Arc.{arc_value};
+ghost use Rattle.aug_trie.specs.Round.{table_of};
 ghost use Rattle.aug_live.specs.LiveHandles.{Follows};
 ghost use Rattle.aug_live.specs.inside.LaneKnowledge.{IsWhole, Learnt, Rolls, Worked, dealt, given_out, handed, knows_nothing, left, made_at, renumbered, rolls, settled, taken_in, worked};
 ghost use Rattle.aug_live.specs.declared.known.Whose.TheVariants.{Alone, Free, Roller, Handle};
@@ -143,6 +144,7 @@ impl<A: Monoid, B: Monoid> End<A, B> {
         ensures taken { IfOk result (λ t. t.0.taken ≡ t.1) }
         ensures number { IfOk result (λ t. t.1.number ≡ self.known.number) }
         ensures follows { IfOk result (λ t. Follows self.known.at t.1.at) }
+        ensures together { IfOk result (λ t. table_of t.1.at.half.round ≡ table_of self.known.at.half.round) }
         ensures same { IfErr result (λ e. e.0 ≡ self) }
     {
         match self.take(&Tries) {
@@ -248,6 +250,7 @@ impl<A: Monoid, B: Monoid> Out<A, B> {
         requires roller { rolls self.known.whose ≡ true }
         requires some { 0 < self.known.at.era }
         requires follows { Follows self.taken.at lane.at }
+        requires together { table_of lane.at.half.round ≡ table_of self.taken.at.half.round }
         requires number { (lane.number ≡ self.taken.number) × (lane.is_out ≡ self.taken.is_out) }
         requires none_accepted { lane.at.half.knows.accepted ≡ [] }
         ensures { result ≡ record { lock = self.lock; known = dealt self.known self.taken lane } }

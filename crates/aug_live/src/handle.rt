@@ -20,6 +20,7 @@ use crate::end::End;
 use crate::error::{Busy, LiveError, TryError};
 use crate::lane::{Lane, Obstacle};
 use crate::look::Look;
+use crate::work::SharedRound;
 use aug_monoid::{Extent, Monoid};
 use aug_trie::{Note, Outcome, Pop, Request, Side};
 use ruled_lock::{Patience, Tries, Waits, WasOut};
@@ -40,10 +41,12 @@ pub struct Handle<A: Monoid, B: Monoid> {
     // The number of its lane, counted from 0, and its own, counted from 1.
     pub(crate) lane: usize,
     pub(crate) number: u64,
+    pub(crate) round: SharedRound<A, B>,
     pub(crate) desk: DeskEnd<A, B>,
 }
 
 impl<A: Monoid, B: Monoid> Model for Handle<A, B> {
+    ghost use Rattle.std.specs.Arc.{arc_value};
     ghost use Rattle.aug_live.specs.LiveHandles.{HandleFacts};
     ghost use Rattle.aug_live.specs.inside.LaneKnowledge.{handle_by};
     ghost use Rattle.aug_live.specs.inside.Looks.{HoldsHandle};
@@ -53,7 +56,7 @@ impl<A: Monoid, B: Monoid> Model for Handle<A, B> {
 
     ghost view = { λ h. handle_by (ids_of h.desk) h.end };
 
-    ghost invariant = { λ h. HoldsHandle h.end h.bits h.lane h.number (ids_of h.desk) };
+    ghost invariant = { λ h. HoldsHandle h.end (arc_value h.round) h.bits h.lane h.number (ids_of h.desk) };
 }
 
 impl<A: Monoid, B: Monoid> Handle<A, B> {
@@ -143,7 +146,7 @@ impl<A: Monoid, B: Monoid> Handle<A, B> {
         unreachable!()
     }
 
-    /// Makes an update of a key, which comes to what `OwnedPass::update` says, and rolls the round over if it must.
+    /// Makes an update of a key, which comes to what `Pass::update` says, and rolls the round over if it must.
     #[inline(always)]
     pub fn update<R: Wait>(
         &mut self,
@@ -389,7 +392,7 @@ impl<A: Monoid, B: Monoid> Handle<A, B> {
                 return Err(obstacle);
             }
         };
-        let (lane, done) = lane.update(k, request);
+        let (lane, done) = lane.update(&self.round, k, request);
         self.end = Some(out.put(lane));
         done
     }
@@ -418,7 +421,7 @@ impl<A: Monoid, B: Monoid> Handle<A, B> {
                 return Err(obstacle);
             }
         };
-        let (lane, done) = lane.update_all(keys, requests, outcomes);
+        let (lane, done) = lane.update_all(&self.round, keys, requests, outcomes);
         self.end = Some(out.put(lane));
         done
     }
@@ -448,14 +451,17 @@ impl<A: Monoid, B: Monoid> Handle<A, B> {
         let Handle {
             bits,
             lane: index,
+            round,
             desk,
             ..
         } = handle;
         let Lane { mut parts } = lane;
-        parts.look();
+        let held = parts.look(&round);
         Ok(Look {
             out,
             parts,
+            held,
+            round,
             bits,
             lane: index,
             desk,
@@ -477,7 +483,7 @@ impl<A: Monoid, B: Monoid> Handle<A, B> {
                 return Err(obstacle);
             }
         };
-        let (lane, noted) = lane.note();
+        let (lane, noted) = lane.note(&self.round);
         self.end = Some(out.put(lane));
         noted
     }
@@ -499,7 +505,7 @@ impl<A: Monoid, B: Monoid> Handle<A, B> {
                 return Err((note, obstacle));
             }
         };
-        let (lane, learnt) = lane.learn(note);
+        let (lane, learnt) = lane.learn(&self.round, note);
         self.end = Some(out.put(lane));
         learnt
     }
@@ -627,7 +633,7 @@ impl<A: Monoid> Handle<A, Extent> {
                 return Err(obstacle);
             }
         };
-        let (lane, done) = lane.pop(side);
+        let (lane, done) = lane.pop(&self.round, side);
         self.end = Some(out.put(lane));
         done
     }

@@ -1,6 +1,5 @@
 //! The lanes that a roll-over took.
 ghost use Rattle.std.specs.Prelude.{◌≡◌, ◌+◌, ◌^◌, ◌<◌, ◌++◌, true};
-ghost use Rattle.std.specs.Arc.{arc_value};
 ghost use Rattle.aug_core.specs.Prefixes.{IsPrefix};
 ghost use Rattle.aug_trie.specs.Round.{table_of};
 ghost use Rattle.aug_live.specs.Carrying.{Leads};
@@ -10,7 +9,7 @@ use crate::end::{End, Out};
 use crate::lane::Lane;
 use crate::work::start;
 use aug_monoid::Monoid;
-use aug_trie::{Crew, SharedRound};
+use aug_trie::{Crew, Round};
 use std::marker::Model;
 
 /// A lane that the roller took, with what lies in it.
@@ -50,14 +49,14 @@ impl<A: Monoid, B: Monoid> Model for Emptied<A, B> {
 }
 
 impl<A: Monoid, B: Monoid> Held<A, B> {
-    /// Gives the pass back to its crew: the lane without it, and the pass's owner of the round.
-    pub(crate) fn give_back(self, crew: &mut Crew<A, B>) -> (Emptied<A, B>, SharedRound<A, B>)
+    /// Gives the pass back to its crew: the lane without it.
+    pub(crate) fn give_back(self, round: &Round<A, B>, crew: &mut Crew<A, B>) -> Emptied<A, B>
+        requires together { table_of crew.old.round ≡ round.now }
         requires of_round { IsOf (rounds_in crew.old) self.known.at.era self }
         requires some { 0 < self.known.at.era }
-        ensures back { IsBackIn (rounds_in crew.old) self.known.at.era crew.new.knows.history result.0 }
-        ensures kept { kept_of result.0 ≡ kept_of self }
-        ensures changes { crew.new.knows.accepted ≡ crew.old.knows.accepted ++ accepted_by result.0 }
-        ensures shared { arc_value result.1 ≡ table_of crew.old.round }
+        ensures back { IsBackIn (rounds_in crew.old) self.known.at.era crew.new.knows.history result }
+        ensures kept { kept_of result ≡ kept_of self }
+        ensures changes { crew.new.knows.accepted ≡ crew.old.knows.accepted ++ accepted_by result }
         ensures goes_on { IsPrefix crew.old.knows.history crew.new.knows.history }
         ensures round { rounds_in crew.new ≡ rounds_in crew.old }
         ensures handed { crew.new.handed ≡ crew.old.handed }
@@ -65,24 +64,24 @@ impl<A: Monoid, B: Monoid> Held<A, B> {
     {
         let Held { out, lane } = self;
         let (work, rest) = lane.into_work();
-        let round = work.give_back(crew);
-        (Emptied { out, rest }, round)
+        crew.back(round.pass(work));
+        Emptied { out, rest }
     }
 }
 
 impl<A: Monoid, B: Monoid> Emptied<A, B> {
-    /// Puts a pass of the next round in, with this owner of it, and lets the lane go.
+    /// Puts a pass of the next round in, and lets the lane go.
     pub(crate) fn begin(
         self,
         era: u64,
-        round: SharedRound<A, B>,
+        round: &Round<A, B>,
         crew: &mut Crew<A, B>,
     ) -> End<A, B>
         requires ready { HasEnded (table_of crew.old.round) crew.old.past era self }
         requires led { Leads crew.old.round.bits crew.old.past crew.old.round.members }
         requires some { 0 < era }
         requires small { era + 1 < 2 ^ 64 }
-        requires together { table_of crew.old.round ≡ arc_value round }
+        requires together { table_of crew.old.round ≡ round.now }
         requires lane_left { crew.old.handed < crew.old.round.workers }
         ensures of_round { IsOf (rounds_in crew.old) (era + 1) result }
         ensures kept { kept_of result ≡ given_all self }

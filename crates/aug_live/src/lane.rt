@@ -7,6 +7,7 @@ ghost use Rattle.aug_trie.specs.Chains.{IsPart};
 ghost use Rattle.aug_trie.specs.Note.{chain_of_note};
 ghost use Rattle.aug_trie.specs.Pass.{chain_of};
 ghost use Rattle.aug_trie.specs.Pops.{pop_updates, Pops};
+ghost use Rattle.aug_trie.specs.Round.{table_of};
 ghost use Rattle.aug_model.specs.Folds.{summary_of};
 ghost use Rattle.aug_monoid.specs.Extent.{extent_parts};
 ghost use Rattle.aug_live.specs.LiveHandles.{Follows, IsSomeOf, note_at};
@@ -15,21 +16,21 @@ ghost use Rattle.aug_live.specs.inside.Looks.{LooksIn};
 
 use crate::ghost_value::GhostValue;
 use aug_monoid::{Extent, Monoid};
-use aug_trie::{Note, Outcome, OwnedPass, Pop, Request, Side};
+use aug_trie::{Note, Outcome, PassHalf, Pop, Request, Round, Side, Snapshot};
 use ruled_lock::WasOut;
 use std::alloc::{AllocError, Global};
 use std::marker::Model;
 
 /// What lies in a lane: the number of its round, counted from 1, the number of its handle, whether that is out, what its last pass knew,
-/// and that pass, unless the round is rolling over or the trie was closed.
+/// and the half of that pass, unless the round is rolling over or the trie was closed. The round itself is with the handles and on the desk.
 #[derive(Drop)]
 pub(crate) struct Parts<A: Monoid, B: Monoid> {
     pub(crate) before: Unused,
     pub(crate) era: u64,
     pub(crate) number: u64,
     pub(crate) is_out: bool,
-    pub(crate) last: GhostValue<Option<OwnedPass<A, B>>>,
-    pub(crate) work: Option<OwnedPass<A, B>>,
+    pub(crate) last: GhostValue<Option<PassHalf<A, B>>>,
+    pub(crate) work: Option<PassHalf<A, B>>,
     pub(crate) after: Unused,
 }
 
@@ -62,13 +63,13 @@ impl<A: Monoid, B: Monoid> Model for Lane<A, B> {
 
     ghost view = { λ l. record { works = is_some l.parts.value.work; number = l.parts.value.number; is_out = l.parts.value.is_out; at = stands l.parts.value.era (half_in l.parts.value.last.value) } };
 
-    ghost invariant = { λ l. IfSome l.parts.value.work (λ w. w.half ≡ half_in l.parts.value.last.value) };
+    ghost invariant = { λ l. IfSome l.parts.value.work (λ w. w ≡ half_in l.parts.value.last.value) };
 }
 
 impl<A: Monoid, B: Monoid> Parts<A, B> {
     /// Puts a pass in, where none is.
     #[inline(always)]
-    pub(crate) fn put(&mut self, work: OwnedPass<A, B>)
+    pub(crate) fn put(&mut self, work: PassHalf<A, B>)
         requires { self.old.work ≡ None }
         ensures { self.new ≡ record self.old { work = Some work } }
     {
@@ -80,12 +81,13 @@ impl<A: Monoid, B: Monoid> Parts<A, B> {
 
     /// The pass that is there takes a new snapshot, without being moved.
     #[inline(always)]
-    pub(crate) fn look(&mut self)
-        requires { IsSome self.old.work }
-        ensures { LooksIn self.old self.new }
+    pub(crate) fn look(&mut self, round: &Round<A, B>) -> Snapshot
+        requires some { IsSome self.old.work }
+        requires together { table_of (half_in self.old.work).round ≡ round.now }
+        ensures { LooksIn self.old self.new result }
     {
         match &mut self.work {
-            Some(work) => work.look(),
+            Some(work) => work.snapshot(round),
             None => unreachable!(),
         }
     }
@@ -96,7 +98,7 @@ impl<A: Monoid, B: Monoid> Lane<A, B> {
     pub(crate) fn new(alloc: Global) -> Result<Lane<A, B>, AllocError>
         ensures { IfOk result (λ lane. lane.number ≡ 0) }
     {
-        let none: Option<OwnedPass<A, B>> = None;
+        let none: Option<PassHalf<A, B>> = None;
         let parts = Parts {
             before: Unused { words: [0; 16] },
             era: 0,
@@ -124,9 +126,9 @@ impl<A: Monoid, B: Monoid> Lane<A, B> {
 
     /// Takes the pass out, and leaves what it knew.
     #[inline(always)]
-    pub(crate) fn into_work(self) -> (OwnedPass<A, B>, Lane<A, B>)
+    pub(crate) fn into_work(self) -> (PassHalf<A, B>, Lane<A, B>)
         requires { self.works ≡ true }
-        ensures work { result.0.half ≡ self.at.half }
+        ensures work { result.0 ≡ self.at.half }
         ensures rest { result.1 ≡ record self { works = false } }
     {
         let Lane { mut parts } = self;
@@ -147,9 +149,9 @@ impl<A: Monoid, B: Monoid> Lane<A, B> {
 
     /// The same lane with this pass, where none is.
     #[inline(always)]
-    pub(crate) fn with(self, work: OwnedPass<A, B>) -> Lane<A, B>
+    pub(crate) fn with(self, work: PassHalf<A, B>) -> Lane<A, B>
         requires { self.works ≡ false }
-        ensures { result ≡ record self { works = true; at = record self.at { half = work.half } } }
+        ensures { result ≡ record self { works = true; at = record self.at { half = work } } }
     {
         let Lane { mut parts } = self;
         parts.put(work);
@@ -157,10 +159,10 @@ impl<A: Monoid, B: Monoid> Lane<A, B> {
     }
 
     /// The same lane in the next round, with this pass.
-    pub(crate) fn next(self, work: OwnedPass<A, B>) -> Lane<A, B>
+    pub(crate) fn next(self, work: PassHalf<A, B>) -> Lane<A, B>
         requires none { self.works ≡ false }
         requires small { self.at.era + 1 < 2 ^ 64 }
-        ensures { result ≡ record self { works = true; at = record self.at { era = self.at.era + 1; half = work.half } } }
+        ensures { result ≡ record self { works = true; at = record self.at { era = self.at.era + 1; half = work } } }
     {
         let Lane { mut parts } = self;
         parts.era += 1;
@@ -169,8 +171,8 @@ impl<A: Monoid, B: Monoid> Lane<A, B> {
     }
 
     /// The lane with this pass, for a handle of this number in a round of this era.
-    pub(crate) fn working(self, era: u64, number: u64, work: OwnedPass<A, B>) -> Lane<A, B>
-        ensures { result ≡ record { works = true; number = number; is_out = true; at = stands era work.half } }
+    pub(crate) fn working(self, era: u64, number: u64, work: PassHalf<A, B>) -> Lane<A, B>
+        ensures { result ≡ record { works = true; number = number; is_out = true; at = stands era work } }
     {
         let Lane { mut parts } = self;
         parts.era = era;
@@ -182,8 +184,14 @@ impl<A: Monoid, B: Monoid> Lane<A, B> {
 
     /// Makes an update of a key, unless the updates are spent or no pass lies in the lane.
     #[inline(always)]
-    pub(crate) fn update(self, k: u32, request: Request) -> (Lane<A, B>, Result<Outcome, Obstacle>)
-        requires { k < 2 ^ self.at.half.round.bits }
+    pub(crate) fn update(
+        self,
+        round: &Round<A, B>,
+        k: u32,
+        request: Request,
+    ) -> (Lane<A, B>, Result<Outcome, Obstacle>)
+        requires together { table_of self.at.half.round ≡ round.now }
+        requires key { k < 2 ^ self.at.half.round.bits }
         ensures made { IfOk result.1 (λ done. WorksHere 1 (λ a b. ComesTo request k done a.knows b.knows) self.at result.0.at) }
         ensures same { IfErr result.1 (λ _. result.0.at ≡ self.at) }
         ensures worked { Worked self result.0 }
@@ -193,22 +201,25 @@ impl<A: Monoid, B: Monoid> Lane<A, B> {
             return (self, Err(obstacle));
         }
         let (work, rest) = self.into_work();
-        let (work, made) = work.update(k, request);
-        let Ok(done) = made else {
+        if work.budget() == 0 {
             let era = rest.parts.era;
             return (rest.with(work), Err(Obstacle::Round(era)));
-        };
-        (rest.with(work), Ok(done))
+        }
+        let mut pass = round.pass(work);
+        let done = pass.update(k, request);
+        (rest.with(pass.into_half()), Ok(done))
     }
 
     /// Makes an update of each of the first keys, of as many as are left, unless none is left or no pass lies in the lane.
     #[inline(always)]
     pub(crate) fn update_all(
         self,
+        round: &Round<A, B>,
         keys: &[u32],
         requests: &[Request],
         outcomes: &mut [Outcome],
     ) -> (Lane<A, B>, Result<usize, Obstacle>)
+        requires together { table_of self.at.half.round ≡ round.now }
         requires keys { All (λ k. k < 2 ^ self.at.half.round.bits) keys.now }
         requires requests { length keys.now ≤ length requests.now }
         requires outcomes { length keys.now ≤ length outcomes.old }
@@ -226,12 +237,15 @@ impl<A: Monoid, B: Monoid> Lane<A, B> {
             let era = rest.parts.era;
             return (rest.with(work), Err(Obstacle::Round(era)));
         }
-        let (work, count) = work.update_all(keys, requests, outcomes);
-        (rest.with(work), Ok(count))
+        let count = keys.len().min(work.budget() as usize);
+        let mut pass = round.pass(work);
+        pass.update_all(&keys[..count], requests, outcomes);
+        (rest.with(pass.into_half()), Ok(count))
     }
 
     /// Makes a note of what the pass knows, unless no pass lies in the lane.
-    pub(crate) fn note(self) -> (Lane<A, B>, Result<Note<A, B>, Obstacle>)
+    pub(crate) fn note(self, round: &Round<A, B>) -> (Lane<A, B>, Result<Note<A, B>, Obstacle>)
+        requires together { table_of self.at.half.round ≡ round.now }
         ensures note { IfOk result.1 (λ note. note ≡ note_at self.at.half) }
         ensures same { result.0 ≡ self }
     {
@@ -240,12 +254,18 @@ impl<A: Monoid, B: Monoid> Lane<A, B> {
             return (self, Err(obstacle));
         }
         let (work, rest) = self.into_work();
-        let (work, note) = work.note();
-        (rest.with(work), Ok(note))
+        let mut pass = round.pass(work);
+        let note = pass.note();
+        (rest.with(pass.into_half()), Ok(note))
     }
 
     /// Learns a note of the lane's table, unless no pass lies in the lane; then the note comes back.
-    pub(crate) fn learn(self, note: Note<A, B>) -> (Lane<A, B>, Result<(), (Note<A, B>, Obstacle)>)
+    pub(crate) fn learn(
+        self,
+        round: &Round<A, B>,
+        note: Note<A, B>,
+    ) -> (Lane<A, B>, Result<(), (Note<A, B>, Obstacle)>)
+        requires together { table_of self.at.half.round ≡ round.now }
         requires table { note.round.table ≡ self.at.half.round.table }
         ensures learns { IfOk result.1 (λ _. IsPart (chain_of_note note) (chain_of result.0.at.half)) }
         ensures follows { Follows self.at result.0.at }
@@ -258,14 +278,21 @@ impl<A: Monoid, B: Monoid> Lane<A, B> {
             return (self, Err((note, obstacle)));
         }
         let (work, rest) = self.into_work();
-        (rest.with(work.learn(note)), Ok(()))
+        let mut pass = round.pass(work);
+        pass.learn(note);
+        (rest.with(pass.into_half()), Ok(()))
     }
 }
 
 impl<A: Monoid> Lane<A, Extent> {
     /// Takes out the member at one end, unless the updates are spent or no pass lies in the lane.
     #[inline(always)]
-    pub(crate) fn pop(self, side: Side) -> (Lane<A, Extent>, Result<Pop, Obstacle>)
+    pub(crate) fn pop(
+        self,
+        round: &Round<A, Extent>,
+        side: Side,
+    ) -> (Lane<A, Extent>, Result<Pop, Obstacle>)
+        requires together { table_of self.at.half.round ≡ round.now }
         ensures made { IfOk result.1 (λ done. WorksHere (pop_updates done) (Pops (summary_of A.parts extent_parts) side done) self.at result.0.at) }
         ensures same { IfErr result.1 (λ _. result.0.at ≡ self.at) }
         ensures worked { Worked self result.0 }
@@ -275,11 +302,12 @@ impl<A: Monoid> Lane<A, Extent> {
             return (self, Err(obstacle));
         }
         let (work, rest) = self.into_work();
-        let (work, made) = work.pop(side);
-        let Ok(done) = made else {
+        if work.budget() == 0 {
             let era = rest.parts.era;
             return (rest.with(work), Err(Obstacle::Round(era)));
-        };
-        (rest.with(work), Ok(done))
+        }
+        let mut pass = round.pass(work);
+        let done = pass.pop(side);
+        (rest.with(pass.into_half()), Ok(done))
     }
 }

@@ -22,9 +22,10 @@ use crate::handle::Handle;
 use crate::held::{Emptied, Held};
 use crate::plan::Plan;
 use crate::rolling::{Begun, next_round};
+use crate::work::SharedRound;
 use aug_core::LayoutError;
 use aug_monoid::Monoid;
-use aug_trie::{Crew, Members, SharedRound};
+use aug_trie::{Crew, Members, Round};
 use ruled_lock::{Patience, Tries, Waits, WasOut};
 use std::alloc::{AllocError, Global};
 use std::marker::Model;
@@ -110,9 +111,10 @@ impl<A: Monoid, B: Monoid> Live<A, B> {
             round,
             mut crew,
             list,
-            mut shares,
+            shares,
         } = begun;
-        let (ports, ends) = open_lanes(&mut shares, &mut crew, berths, ports, ends);
+        let (ports, ends) = open_lanes(&round, &mut crew, berths, ports, ends);
+        let of = Snapshot::of(&round);
         let working = Working {
             plan,
             counts: LiveCounts {
@@ -129,11 +131,10 @@ impl<A: Monoid, B: Monoid> Live<A, B> {
             ports,
             held,
             idle,
-            shares,
             list,
         };
         let (desk, desks) = desk.place(working);
-        let handles = hand_out(bits, Snapshot::of(&desk), desks, ends, handles);
+        let handles = hand_out(bits, of, Snapshot::of(&desk), shares, desks, ends, handles);
         Ok((Live { desk }, handles))
     }
 
@@ -249,12 +250,13 @@ impl<A: Monoid, B: Monoid> Live<A, B> {
             return Err(TryError::Refused(LiveError::TooMany));
         };
         match self.desk.renew(how, lane) {
-            Ok((end, bits, number)) => {
+            Ok((end, round, bits, number)) => {
                 Ok(Handle {
                     end: Some(end),
                     bits,
                     lane,
                     number,
+                    round,
                     desk,
                 })
             }
@@ -391,15 +393,14 @@ fn fill<A: Monoid, B: Monoid>(
 
 // Puts a pass into each lane, and makes its two ends.
 fn open_lanes<A: Monoid, B: Monoid>(
-    shares: &mut Vec<SharedRound<A, B>>,
+    round: &Round<A, B>,
     crew: &mut Crew<A, B>,
     berths: Vec<Berth<A, B>>,
     mut ports: Vec<End<A, B>>,
     mut ends: Vec<End<A, B>>,
 ) -> (Vec<End<A, B>>, Vec<End<A, B>>)
     requires berths { All IsNewBerth berths.items }
-    requires together { All (λ s. arc_value s ≡ table_of crew.old.round) shares.old.items }
-    requires as_many { vec_len shares.old ≡ vec_len berths }
+    requires together { table_of crew.old.round ≡ round.now }
     requires none_out { crew.old.handed ≡ 0 }
     requires lanes { vec_len berths ≤ crew.old.round.workers }
     requires ports { (ports.items ≡ []) × (vec_len berths ≤ vec_capacity ports) }
@@ -410,15 +411,12 @@ fn open_lanes<A: Monoid, B: Monoid>(
     ensures locks { map (λ e. e.lock) result.1.items ≡ map (λ e. e.lock) result.0.items }
     ensures same_changes { crew.new.knows.accepted ≡ crew.old.knows.accepted }
     ensures len { (vec_len result.0 ≡ vec_len berths) × (vec_len result.1 ≡ vec_len berths) }
-    ensures room { (vec_len berths ≤ vec_capacity result.0) × (shares.new.items ≡ []) × (vec_capacity shares.new ≡ vec_capacity shares.old) }
+    ensures room { vec_len berths ≤ vec_capacity result.0 }
     ensures round { rounds_in crew.new ≡ rounds_in crew.old }
     ensures handed { crew.new.handed ≡ vec_len berths }
     ensures back { crew.new.back ≡ crew.old.back }
 {
     for berth in berths {
-        let Some(round) = shares.pop() else {
-            unreachable!()
-        };
         let (port, mine) = berth.open(round, crew);
         ports.push_reserved(port);
         ends.push_reserved(mine);
@@ -429,18 +427,25 @@ fn open_lanes<A: Monoid, B: Monoid>(
 // Makes the handles of these ends of lanes.
 fn hand_out<A: Monoid, B: Monoid>(
     bits: u32,
+    round: Snapshot<SharedRound<A, B>>,
     trie: Snapshot<DeskEnd<A, B>>,
+    mut rounds: Vec<SharedRound<A, B>>,
     mut desks: Vec<DeskEnd<A, B>>,
     ends: Vec<End<A, B>>,
     mut handles: Vec<Handle<A, B>>,
 ) -> Vec<Handle<A, B>>
     requires desks { All (λ d. d ≡ trie.value) desks.items × (vec_len desks ≡ vec_len ends) }
-    requires ends { All (IsHandleEnd 1 bits) ends.items }
+    requires bits { bits ≡ (arc_value round.value).bits }
+    requires rounds { All (λ r. arc_value r ≡ arc_value round.value) rounds.items × (vec_len rounds ≡ vec_len ends) }
+    requires ends { All (IsHandleEnd 1 (arc_value round.value)) ends.items }
     requires locks { map (λ e. e.lock) ends.items ≡ ids_of trie.value }
     requires handles { (handles.items ≡ []) × (vec_len ends ≤ vec_capacity handles) }
     ensures at { result.items ≡ map (λ e. handle_by (ids_of trie.value) (Some e)) ends.items }
 {
     for end in ends {
+        let Some(round) = rounds.pop() else {
+            unreachable!()
+        };
         let Some(desk) = desks.pop() else {
             unreachable!()
         };
@@ -450,6 +455,7 @@ fn hand_out<A: Monoid, B: Monoid>(
             bits,
             lane,
             number: 1,
+            round,
             desk,
         });
     }

@@ -8,8 +8,10 @@ use crate::desk_end::DeskEnd;
 use crate::end::Out;
 use crate::handle::Handle;
 use crate::lane::{Lane, Parts};
+use crate::work::SharedRound;
 use aug_monoid::Monoid;
 use aug_query::Query;
+use aug_trie::Snapshot;
 use std::alloc::Global;
 use std::marker::Model;
 
@@ -18,8 +20,10 @@ use std::marker::Model;
 /// check refuses a program that does not end it by `done`, which gives the handle back.
 pub struct Look<A: Monoid, B: Monoid> {
     pub(crate) out: Out<A, B>,
-    // What lies in the lane. A call takes the pass out and puts it back. Its snapshot is the look's.
+    // What lies in the lane. A query takes the pass out and puts it back.
     pub(crate) parts: Box<Parts<A, B>, Global>,
+    pub(crate) held: Snapshot,
+    pub(crate) round: SharedRound<A, B>,
     pub(crate) bits: u32,
     pub(crate) lane: usize,
     pub(crate) desk: DeskEnd<A, B>,
@@ -28,14 +32,15 @@ pub struct Look<A: Monoid, B: Monoid> {
 impl<A: Monoid, B: Monoid> Model for Look<A, B> {
     ghost use Rattle.aug_live.specs.LiveHandles.{LookFacts};
     ghost use Rattle.aug_live.specs.inside.LaneKnowledge.{half_in};
-    ghost use Rattle.aug_live.specs.inside.Looks.{HoldsLook, held_in, without_pass};
+    ghost use Rattle.std.specs.Arc.{arc_value};
+    ghost use Rattle.aug_live.specs.inside.Looks.{HoldsLook, without_pass};
     ghost use Rattle.aug_live.specs.LiveTries.{ids_of};
 
     ghost Value = { LookFacts };
 
-    ghost view = { λ l. record { lanes = ids_of l.desk; era = l.parts.value.era; half = half_in l.parts.value.work; made = l.out.known.made; snapshot = held_in l.parts.value.work } };
+    ghost view = { λ l. record { lanes = ids_of l.desk; era = l.parts.value.era; half = half_in l.parts.value.work; made = l.out.known.made; snapshot = l.held } };
 
-    ghost invariant = { λ l. HoldsLook l.out (without_pass l.parts.value) l.parts.value.work l.bits l.lane (ids_of l.desk) };
+    ghost invariant = { λ l. HoldsLook l.out (without_pass l.parts.value) l.parts.value.work l.held (arc_value l.round) l.bits l.lane (ids_of l.desk) };
 }
 
 impl<A: Monoid, B: Monoid> Look<A, B> {
@@ -48,8 +53,9 @@ impl<A: Monoid, B: Monoid> Look<A, B> {
         let Some(work) = self.parts.work.take() else {
             unreachable!()
         };
-        let (work, answer) = work.ask(query);
-        self.parts.put(work);
+        let mut pass = self.round.pass(work);
+        let answer = pass.ask(self.held, query);
+        self.parts.put(pass.into_half());
         answer
     }
 
@@ -58,7 +64,7 @@ impl<A: Monoid, B: Monoid> Look<A, B> {
     pub fn again(&mut self)
         ensures { LooksAgain self.old self.new }
     {
-        self.parts.look();
+        self.held = self.parts.look(&self.round);
     }
 
     /// Ends the look, and gives its handle back.
@@ -69,6 +75,8 @@ impl<A: Monoid, B: Monoid> Look<A, B> {
         let Look {
             out,
             parts,
+            held: _,
+            round,
             bits,
             lane,
             desk,
@@ -80,6 +88,7 @@ impl<A: Monoid, B: Monoid> Look<A, B> {
             bits,
             lane,
             number,
+            round,
             desk,
         }
     }

@@ -20,15 +20,15 @@ use crate::end::{Berth, End, LaneLock};
 use crate::error::{LiveError, TryError};
 use crate::held::{Emptied, Held};
 use crate::plan::Plan;
-use crate::work::start;
+use crate::work::{SharedRound, start};
 use aug_monoid::Monoid;
-use aug_trie::{Crew, Members, Round, SharedRound};
+use aug_trie::{Crew, Members, Round};
 use ruled_lock::Patience;
 use std::alloc::{AllocFailed, Global};
 use std::snapshot::Snapshot;
 use std::sync::Arc;
 
-/// A round that was begun, with an owner of it for each lane.
+/// A round that was begun, with an owner of it for each handle.
 #[derive(Drop)]
 pub(crate) struct Begun<A: Monoid, B: Monoid> {
     pub(crate) round: SharedRound<A, B>,
@@ -37,7 +37,7 @@ pub(crate) struct Begun<A: Monoid, B: Monoid> {
     pub(crate) shares: Vec<SharedRound<A, B>>,
 }
 
-/// Begins a round over a set of a plan, as `Live` does, with `lanes` owners more. It is refused only for lack of memory, and then the same set
+/// Begins a round over a set of a plan, as `Live` does, with `handles` owners more. It is refused only for lack of memory, and then the same set
 /// comes back.
 pub(crate) fn next_round<A: Monoid, B: Monoid>(
     alloc: Global,
@@ -45,15 +45,15 @@ pub(crate) fn next_round<A: Monoid, B: Monoid>(
     plan: Plan,
     list: Vec<(u32, u32)>,
     shares: Vec<SharedRound<A, B>>,
-    lanes: u32,
+    handles: u32,
 ) -> Result<Begun<A, B>, Members>
     requires laid_out { IsLayout (shape_of set.bits plan.lanes plan.updates (2 ^ set.bits)) }
     requires few { length set.pairs ≤ 2 ^ set.bits }
     requires list { (list.items ≡ []) × (2 ^ set.bits ≤ vec_capacity list) }
-    requires shares { (shares.items ≡ []) × (lanes ≤ vec_capacity shares) }
+    requires shares { (shares.items ≡ []) × (handles ≤ vec_capacity shares) }
     ensures begun { IfOk result (λ t. BeginsIn (2 ^ set.bits) set.pairs set.bits plan.lanes plan.updates (arc_value t.round) t.crew) }
     ensures list { IfOk result (λ t. t.list ≡ list) }
-    ensures shares { IfOk result (λ t. All (λ s. arc_value s ≡ arc_value t.round) t.shares.items × (vec_len t.shares ≡ lanes) × (vec_capacity t.shares ≡ vec_capacity shares)) }
+    ensures shares { IfOk result (λ t. All (λ s. arc_value s ≡ arc_value t.round) t.shares.items × (vec_len t.shares ≡ handles)) }
     ensures same { IfErr result (λ e. e ≡ set) }
 {
     // For the proof alone: how many bits keys have at most.
@@ -68,7 +68,7 @@ pub(crate) fn next_round<A: Monoid, B: Monoid>(
         }
     };
     let mut shares = shares;
-    for _ in 0..lanes {
+    for _ in 0..handles {
         match Arc::try_clone(&round) {
             Ok(share) => shares.push_reserved(share),
             Err(_) => return Err(taken_back(old, &round, crew, list)),
@@ -103,8 +103,10 @@ impl<A: Monoid, B: Monoid> End<A, B> {
     pub(crate) fn replace<W: Patience>(
         self,
         how: &W,
+        round: &Round<A, B>,
         crew: &mut Crew<A, B>,
     ) -> Result<End<A, B>, (End<A, B>, W::GaveUp)>
+        requires together { table_of crew.old.round ≡ round.now }
         requires of_round { IsOf (rounds_in crew.old) self.known.at.era self }
         requires some { 0 < self.known.at.era }
         requires lane_left { crew.old.handed < crew.old.round.workers }
@@ -119,7 +121,7 @@ impl<A: Monoid, B: Monoid> End<A, B> {
         match self.take_to_roll(how) {
             Ok((out, lane)) => {
                 let (spent, rest) = lane.into_work();
-                let round = spent.give_back(crew);
+                crew.back(round.pass(spent));
                 let work = start(round, crew);
                 Ok(out.deal(rest.with(work)))
             }
@@ -168,17 +170,17 @@ impl<A: Monoid, B: Monoid> End<A, B> {
         how: &W,
         number: u64,
         theirs: Arc<LaneLock<A, B>, Global>,
-        round: &SharedRound<A, B>,
+        round: &Round<A, B>,
         crew: &mut Crew<A, B>,
     ) -> Result<(End<A, B>, End<A, B>), (End<A, B>, W::GaveUp)>
         requires of_round { IsOf (rounds_in crew.old) self.known.at.era self }
         requires some { 0 < self.known.at.era }
         requires newer { self.known.number < number }
         requires owner { (arc_value theirs).table.shared.table_id ≡ self.lock }
-        requires together { table_of crew.old.round ≡ arc_value round.now }
+        requires together { table_of crew.old.round ≡ round.now }
         ensures port { IfOk result (λ e. IsOf (rounds_in crew.old) self.known.at.era e.0) }
         ensures gets { IfOk result (λ e. GetsHandle number self e.0) }
-        ensures handle { IfOk result (λ e. IsHandleEnd number crew.old.round.bits e.1 × (e.1.lock ≡ self.lock) × (e.1.known.made ≡ [])) }
+        ensures handle { IfOk result (λ e. IsHandleEnd number (table_of crew.old.round) e.1 × (e.1.lock ≡ self.lock) × (e.1.known.made ≡ [])) }
         ensures at { IfOk result (λ e. e.1.known.at ≡ e.0.known.at) }
         ensures knows { IfOk result (λ e. IsPart (crew_chain crew.old) (chain_of e.0.known.at.half)) }
         ensures same { crew.new ≡ crew.old }
@@ -187,9 +189,11 @@ impl<A: Monoid, B: Monoid> End<A, B> {
         match self.take_to_roll(how) {
             Ok((out, lane)) => {
                 let (work, rest) = lane.into_work();
-                let work = work.learn(crew.note(round));
+                let mut pass = round.pass(work);
+                pass.learn(crew.note(round));
                 let era = rest.parts.era;
-                Ok(out.renumber(rest.working(era, number, work)).fork(theirs))
+                let lane = rest.working(era, number, pass.into_half());
+                Ok(out.renumber(lane).fork(theirs))
             }
             Err(missed) => Err(missed),
         }
@@ -197,15 +201,15 @@ impl<A: Monoid, B: Monoid> End<A, B> {
 }
 
 impl<A: Monoid, B: Monoid> Berth<A, B> {
-    /// Puts a pass of the first round in, with this owner of it, and makes the end of the lane's first handle.
+    /// Puts a pass of the first round in, and makes the end of the lane's first handle.
     pub(crate) fn open(
         self,
-        round: SharedRound<A, B>,
+        round: &Round<A, B>,
         crew: &mut Crew<A, B>,
     ) -> (End<A, B>, End<A, B>)
         requires first { self.out.known ≡ knows_nothing Alone }
         requires number { self.out.taken.number ≡ 0 }
-        requires together { table_of crew.old.round ≡ arc_value round }
+        requires together { table_of crew.old.round ≡ round.now }
         requires lane_left { crew.old.handed < crew.old.round.workers }
         ensures of_round { IsOf (rounds_in crew.old) 1 result.0 }
         ensures opened { IsOpenedLane result.0 }
@@ -248,25 +252,25 @@ pub(crate) fn take_all<W: Patience, A: Monoid, B: Monoid>(
     Ok(())
 }
 
-/// Gives the pass of each lane that was taken back to its crew, from the last lane on, and puts the owners of the round together.
+/// Gives the pass of each lane that was taken back to its crew, from the last lane on.
 pub(crate) fn give_all<A: Monoid, B: Monoid>(
     era: u64,
+    round: &Round<A, B>,
     crew: &mut Crew<A, B>,
     held: &mut Vec<Held<A, B>>,
     idle: &mut Vec<Emptied<A, B>>,
-    shares: &mut Vec<SharedRound<A, B>>,
 )
+    requires together { table_of crew.old.round ≡ round.now }
     requires of_round { All (IsOf (rounds_in crew.old) era) held.old.items }
     requires some { 0 < era }
-    requires empty { (idle.old.items ≡ []) × (shares.old.items ≡ []) }
-    requires room { (vec_len held.old ≤ vec_capacity idle.old) × (vec_len held.old ≤ vec_capacity shares.old) }
+    requires empty { idle.old.items ≡ [] }
+    requires room { vec_len held.old ≤ vec_capacity idle.old }
     ensures back { All (IsBackIn (rounds_in crew.old) era crew.new.knows.history) idle.new.items }
     ensures kept { map kept_of idle.new.items ≡ map kept_of held.old.items }
     ensures changes { crew.new.knows.accepted ≡ crew.old.knows.accepted ++ flat_map accepted_by idle.new.items }
-    ensures shared { All (λ s. arc_value s ≡ table_of crew.old.round) shares.new.items }
-    ensures len { (vec_len idle.new ≡ vec_len held.old) × (vec_len shares.new ≡ vec_len held.old) }
+    ensures len { vec_len idle.new ≡ vec_len held.old }
     ensures none_left { held.new.items ≡ [] }
-    ensures room { (vec_capacity held.new ≡ vec_capacity held.old) × (vec_capacity idle.new ≡ vec_capacity idle.old) × (vec_capacity shares.new ≡ vec_capacity shares.old) }
+    ensures room { (vec_capacity held.new ≡ vec_capacity held.old) × (vec_capacity idle.new ≡ vec_capacity idle.old) }
     ensures goes_on { IsPrefix crew.old.knows.history crew.new.knows.history }
     ensures round { rounds_in crew.new ≡ rounds_in crew.old }
     ensures handed { crew.new.handed ≡ crew.old.handed }
@@ -274,26 +278,23 @@ pub(crate) fn give_all<A: Monoid, B: Monoid>(
 {
     held.reverse();
     while let Some(one) = held.pop() {
-        let (one, round) = one.give_back(crew);
-        idle.push_reserved(one);
-        shares.push_reserved(round);
+        idle.push_reserved(one.give_back(round, crew));
     }
 }
 
 /// Puts a pass of the next round into each lane, the last lane of the list first, and lets the lanes go.
 pub(crate) fn deal_all<A: Monoid, B: Monoid>(
     era: u64,
+    round: &Round<A, B>,
     crew: &mut Crew<A, B>,
     idle: &mut Vec<Emptied<A, B>>,
-    shares: &mut Vec<SharedRound<A, B>>,
     ports: &mut Vec<End<A, B>>,
 )
     requires ready { All (HasEnded (table_of crew.old.round) crew.old.past era) idle.old.items }
     requires led { Leads crew.old.round.bits crew.old.past crew.old.round.members }
     requires some { 0 < era }
     requires small { era + 1 < 2 ^ 64 }
-    requires together { All (λ s. arc_value s ≡ table_of crew.old.round) shares.old.items }
-    requires as_many { vec_len shares.old ≡ vec_len idle.old }
+    requires together { table_of crew.old.round ≡ round.now }
     requires none_out { crew.old.handed ≡ 0 }
     requires lanes { vec_len idle.old ≤ crew.old.round.workers }
     requires empty { ports.old.items ≡ [] }
@@ -302,17 +303,14 @@ pub(crate) fn deal_all<A: Monoid, B: Monoid>(
     ensures kept { map kept_of ports.new.items ≡ map given_all (reverse idle.old.items) }
     ensures same_changes { crew.new.knows.accepted ≡ crew.old.knows.accepted }
     ensures len { vec_len ports.new ≡ vec_len idle.old }
-    ensures none_left { (idle.new.items ≡ []) × (shares.new.items ≡ []) }
-    ensures room { (vec_capacity ports.new ≡ vec_capacity ports.old) × (vec_capacity idle.new ≡ vec_capacity idle.old) × (vec_capacity shares.new ≡ vec_capacity shares.old) }
+    ensures none_left { idle.new.items ≡ [] }
+    ensures room { (vec_capacity ports.new ≡ vec_capacity ports.old) × (vec_capacity idle.new ≡ vec_capacity idle.old) }
     ensures goes_on { IsPrefix crew.old.knows.history crew.new.knows.history }
     ensures round { rounds_in crew.new ≡ rounds_in crew.old }
     ensures handed { crew.new.handed ≡ vec_len idle.old }
     ensures back { crew.new.back ≡ crew.old.back }
 {
     while let Some(one) = idle.pop() {
-        let Some(round) = shares.pop() else {
-            unreachable!()
-        };
         ports.push_reserved(one.begin(era, round, crew));
     }
 }
@@ -327,26 +325,25 @@ pub(crate) fn leave_all<A: Monoid, B: Monoid>(mut idle: Vec<Emptied<A, B>>) {
 /// Ends the round whose passes lie in lanes that were taken: its set, and how many keys it put in and took out. The lanes are done with it.
 pub(crate) fn finish<A: Monoid, B: Monoid>(
     era: u64,
-    round: SharedRound<A, B>,
+    round: &Round<A, B>,
     crew: Crew<A, B>,
     held: Vec<Held<A, B>>,
     idle: Vec<Emptied<A, B>>,
-    shares: Vec<SharedRound<A, B>>,
     list: Vec<(u32, u32)>,
 ) -> (Members, u32, u32)
     requires of_round { All (IsOf (rounds_in crew) era) held.items }
     requires some { 0 < era }
-    requires together { table_of crew.round ≡ arc_value round }
+    requires together { table_of crew.round ≡ round.now }
     requires all_out { crew.handed ≡ vec_len held + crew.back }
-    requires empty { (idle.items ≡ []) × (shares.items ≡ []) × (list.items ≡ []) }
-    requires room { (vec_len held ≤ vec_capacity idle) × (vec_len held ≤ vec_capacity shares) }
+    requires empty { (idle.items ≡ []) × (list.items ≡ []) }
+    requires room { vec_len held ≤ vec_capacity idle }
     requires all_keys { 2 ^ crew.round.bits ≤ crew.round.room }
     requires list_room { 2 ^ crew.round.bits ≤ vec_capacity list }
     ensures ends { (ended : EndedFacts) × FinishesRound era crew (reverse held.items) ended × (result.0 ≡ set_of_ended ended) × (result.1 ≡ ended.inserts) × (result.2 ≡ ended.removals) }
     ensures sizes { length result.0.pairs + result.2 ≡ length crew.round.members + result.1 }
 {
-    let (mut crew, mut held, mut idle, mut shares) = (crew, held, idle, shares);
-    give_all(era, &mut crew, &mut held, &mut idle, &mut shares);
+    let (mut crew, mut held, mut idle) = (crew, held, idle);
+    give_all(era, round, &mut crew, &mut held, &mut idle);
     leave_all(idle);
     round.finish(crew, list)
 }

@@ -47,4 +47,3 @@ pub mod Staging
 pub mod Turning
 pub mod Chaining
 pub mod Resting
-pub mod Owning

@@ -1,4 +1,4 @@
--- Why a round does not begin, why a crew hands no pass out, and why an update is not made. Each is printed by its name. A refusal of a round stands
+-- Why a round does not begin, and why a crew hands no pass out. Each is printed by its name. A refusal of a round stands
 -- for that of its layout with the same name.
 use Rattle.std.specs.Prelude.{ℕ, List, codes}
 use Rattle.aug_core.specs.declared.layout.LayoutError.{LayoutError}
@@ -7,8 +7,6 @@ use Rattle.aug_trie.specs.declared.error.BeginError.{BeginError}
 use Rattle.aug_trie.specs.declared.error.BeginError.TheVariants.{BadWorkers, BadUpdates, TooLarge, OutOfMemory, BadBits, Narrower}
 use Rattle.aug_trie.specs.declared.error.CrewError.{CrewError}
 use Rattle.aug_trie.specs.declared.error.CrewError.TheVariants.{NoLane}
-use Rattle.aug_trie.specs.declared.error.UpdateError.{UpdateError}
-use Rattle.aug_trie.specs.declared.error.UpdateError.TheVariants.{BadKey, Spent}
 
 -- how a refusal is printed: by its name
 abbrev pub begin_text : BeginError → List ℕ
@@ -21,10 +19,6 @@ begin_text Narrower = codes "Narrower"
 
 abbrev pub crew_text : CrewError → List ℕ
 crew_text NoLane = codes "NoLane"
-
-abbrev pub update_text : UpdateError → List ℕ
-update_text BadKey = codes "BadKey"
-update_text Spent = codes "Spent"
 
 -- the refusal for a table that cannot be laid out, which has the same name
 abbrev pub begin_cause : LayoutError → BeginError

@@ -17,7 +17,6 @@ pub mod Node
 pub mod View
 pub mod Ended
 pub mod Crew
-pub mod Owned
 pub mod Pops
 pub mod Climb
 pub mod Errors

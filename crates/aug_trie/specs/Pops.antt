@@ -6,17 +6,18 @@ use Rattle.aug_model.specs.Keys.{SetFacts, list_of}
 use Rattle.aug_model.specs.Queries.{first_of, last_of, weight_of}
 use Rattle.aug_model.specs.declared.summary.Summary.{Summary}
 use Rattle.aug_trie.specs.Node.{Keeps, Reads}
-use Rattle.aug_trie.specs.Owned.{OneUpdate}
-use Rattle.aug_trie.specs.Pass.{PassFacts, GoesOn}
+use Rattle.aug_trie.specs.Pass.{PassFacts, GoesOn, StepsOf}
 use Rattle.aug_trie.specs.Round.{root_of}
 use Rattle.aug_trie.specs.Snapshot.{HasSnapshot, set_at, snapshot_cut}
-use Rattle.aug_trie.specs.Updates.{TakesSnapshot}
+use Rattle.aug_trie.specs.Updates.{ComesTo, TakesSnapshot}
 use Rattle.aug_trie.specs.declared.queries.snapshot.Snapshot.{Snapshot}
 use Rattle.aug_trie.specs.declared.rounds.pop.Pop.{Pop}
 use Rattle.aug_trie.specs.declared.rounds.pop.Pop.TheVariants as pop
 use Rattle.aug_trie.specs.declared.rounds.pop.Side.{Side}
 use Rattle.aug_trie.specs.declared.rounds.pop.Side.TheVariants.{First, Last}
+use Rattle.aug_trie.specs.declared.updates.outcome.Outcome.{Outcome}
 use Rattle.aug_trie.specs.declared.updates.outcome.Outcome.TheVariants as outcome
+use Rattle.aug_trie.specs.declared.updates.request.Request.{Request}
 use Rattle.aug_trie.specs.declared.updates.request.Request.TheVariants as request
 
 -- the member at this end of a rising list
@@ -35,12 +36,19 @@ popped None = pop.Empty
 popped (Some p) = pop.Member p.0 p.1
 
 module _ {A B : Type 0} (summary_of : List (ℕ × ℕ) → Summary A B) where
+  -- one update of a key, all that the contract of a single one says
+  pub record OneUpdate (asked : Request) (key : ℕ) (done : Outcome) (old new : PassFacts) : Type 0 where
+    pub comes_to : ComesTo asked key done old.knows new.knows
+    pub goes_on : (steps : ℕ) × GoesOn 1 steps old new
+    pub keeps : Keeps summary_of old new
+    pub steps : StepsOf asked key done old new
+
   -- what it comes to, by the member that it found in the set of its snapshot. That is taken out, which succeeds if it still weighs what it weighs in the
   -- set. If there is none, no update is made
   abbrev pub PopsTo : SetFacts → Option ℕ → Pop → PassFacts → PassFacts → Type 0
   PopsTo set None pop.Empty asked new = new ≡ asked
-  PopsTo set (Some k) (pop.Member key weight) asked new = (key ≡ k) × (weight_of set.pairs k ≡ Some weight) × OneUpdate summary_of (request.Take weight) k outcome.Accepted asked new
-  PopsTo set (Some k) pop.Refused asked new = (weight : ℕ) × (weight_of set.pairs k ≡ Some weight) × OneUpdate summary_of (request.Take weight) k outcome.Refused asked new
+  PopsTo set (Some k) (pop.Member key weight) asked new = (key ≡ k) × (weight_of set.pairs k ≡ Some weight) × OneUpdate (request.Take weight) k outcome.Accepted asked new
+  PopsTo set (Some k) pop.Refused asked new = (weight : ℕ) × (weight_of set.pairs k ≡ Some weight) × OneUpdate (request.Take weight) k outcome.Refused asked new
   PopsTo set found done asked new = ⊥
 
   -- the pass takes a snapshot, asks it for its member at one end and what that weighs, and takes that member out

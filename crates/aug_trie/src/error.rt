@@ -84,29 +84,3 @@ impl fmt::Display for CrewError {
 }
 
 impl Error for CrewError {}
-
-/// Why an update is not made.
-#[derive(Clone, Copy, Debug, PartialEq, Eq)]
-pub enum UpdateError {
-    /// Refusal 1: the key is not below the number of keys.
-    BadKey,
-
-    /// Refusal 2: the pass made all of its updates.
-    Spent,
-}
-
-impl fmt::Display for UpdateError {
-    ghost use Rattle.std.specs.Prelude.{Some};
-    ghost use Rattle.aug_trie.specs.Errors.{update_text};
-
-    ghost output = { λ cause. Some (update_text cause) };
-
-    fn fmt<W: fmt::Write>(&self, f: &mut fmt::Formatter<W>) -> fmt::Result {
-        f.write_str(match self {
-            UpdateError::BadKey => "BadKey",
-            UpdateError::Spent => "Spent",
-        })
-    }
-}
-
-impl Error for UpdateError {}

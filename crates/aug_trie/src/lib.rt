@@ -7,7 +7,7 @@ mod rounds;
 mod turns;
 mod updates;
 
-pub use error::{BeginError, CrewError, UpdateError};
+pub use error::{BeginError, CrewError};
 pub use queries::cursor::SnapshotCursor;
 pub use queries::node::Node;
 pub use queries::snapshot::Snapshot;
@@ -18,7 +18,6 @@ pub use rounds::ended_tree::EndedNode;
 pub use rounds::half::PassHalf;
 pub use rounds::members::Members;
 pub use rounds::note::Note;
-pub use rounds::owned::{OwnedPass, SharedRound};
 pub use rounds::pass::Pass;
 pub use rounds::pop::{Pop, Side};
 pub use rounds::round::Round;

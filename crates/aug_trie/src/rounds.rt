@@ -8,7 +8,6 @@ pub(crate) mod ended_tree;
 pub(crate) mod half;
 pub(crate) mod members;
 pub(crate) mod note;
-pub(crate) mod owned;
 pub(crate) mod pass;
 pub(crate) mod pop;
 pub(crate) mod rest_walk;

@@ -82,11 +82,12 @@ pub record TakesEnd (number : ℕ) (made : List Made) (old new : TrieFacts) : Ty
   pub is : get_elem? new.lanes number ≡ some later
   pub done : later.done ≡ lane.done ++ (true, made) ∷ []
 
--- the end of a new handle of this lane, which knows all that is known of the trie
-pub record GivesLane (lane : ℕ) (trie : TrieFacts) (end : EndFacts) (bits number : ℕ) : Type 0 where
-  pub is_end : IsHandleEnd number bits end
+-- the end of a new handle of this lane, at this table, which knows all that is known of the trie
+pub record GivesLane (lane : ℕ) (trie : TrieFacts) (end : EndFacts) (table : TableFacts) (bits number : ℕ) : Type 0 where
+  pub is_end : IsHandleEnd number table end
   pub id : get_elem? (ids_of trie) lane ≡ some end.lock
   pub none_made : end.known.made ≡ []
-  pub table : end.known.at.half.round.table ≡ trie.table
+  pub of_trie : table.table ≡ trie.table
+  pub bits_are : bits ≡ table.bits
   pub of_bits : bits ≡ trie.bits
   pub knows : IsPart trie.rounds (chain_of end.known.at.half)

@@ -1,11 +1,10 @@
 -- What lies in a lane, what the passes of its lock know, and the rule between them.
 use Rattle.std.specs.Prelude.{◌≡◌, ◌≢◌, ℕ, ◌<◌, ◌≤◌, List, [], ◌∷◌, ◌++◌, length, drop, Option, Some, None, unwrap_or, Bool, true, false}
-use Rattle.aug_trie.specs.declared.rounds.owned.OwnedPass.{OwnedPass}
 use mathlib.Core.Option.{some}
 use lib.ListN.{get_elem?}
 use Rattle.aug_trie.specs.Chains.{Chapter}
 use Rattle.aug_trie.specs.Pass.{PassFacts, GoesOn}
-use Rattle.aug_trie.specs.Round.{RoundFacts}
+use Rattle.aug_trie.specs.Round.{RoundFacts, table_of}
 use Rattle.aug_core.specs.Prefixes.{IsPrefix}
 use Rattle.atomic_table.specs.Seated.{TableId}
 use Rattle.aug_live.specs.Ledgers.{Made, dated}
@@ -36,9 +35,9 @@ no_half = record {
 }
 
 -- what a lane's pass knows, if there is a lane
-abbrev pub half_in : {A B : Type 0} → Option (OwnedPass A B) → PassFacts
+abbrev pub half_in : Option PassFacts → PassFacts
 half_in None = no_half
-half_in (Some work) = work.half
+half_in (Some half) = half
 
 -- where a lane stands, that of which a handle knows what it left there: its handle's lanes and what was made through it are no part of that
 abbrev pub stands : ℕ → PassFacts → HandleFacts
@@ -105,9 +104,10 @@ pub record Rolls (v : KnownFacts) (before : List Made) (lane : LaneFacts) : Type
   pub whole : IsWhole v lane.at
   pub alone : v.whose ≡ Alone → lane.at ≡ v.at
 
--- a handle whose number the lane has knows that the lane follows on what it left there, and what was made through it
+-- a handle whose number the lane has knows that the lane follows on what it left there, at the same table, and what was made through it
 pub record HasLane (v : KnownFacts) (before : List Made) (lane : LaneFacts) : Type 0 where
   pub follows : v.number ≡ lane.number → Follows v.at lane.at
+  pub table : v.number ≡ lane.number → table_of lane.at.half.round ≡ table_of v.at.half.round
   pub whole : v.number ≡ lane.number → made_at before lane.at ≡ made_through v.done ++ v.made
 
 -- what a pass knows of the lane that it takes

@@ -8,7 +8,7 @@ use Rattle.aug_trie.specs.Chains.{Chapter, BeginsWith}
 use Rattle.aug_trie.specs.Crew.{CrewFacts, Ends}
 use Rattle.aug_trie.specs.Ended.{EndedFacts}
 use Rattle.aug_trie.specs.Pass.{PassFacts, chain_of}
-use Rattle.aug_trie.specs.Round.{TableFacts, RoundFacts}
+use Rattle.aug_trie.specs.Round.{TableFacts, RoundFacts, table_of}
 use Rattle.aug_live.specs.Ledgers.{Made, dated}
 use Rattle.aug_live.specs.LiveHandles.{HandleFacts}
 use Rattle.aug_live.specs.inside.LaneKnowledge.{EndFacts, IsWhole, handle_by, nothing_known, rounds_at}
@@ -59,8 +59,7 @@ pub record HasEnded (table : TableFacts) (past : List Chapter) (era : ℕ) (e : 
   pub whose : IsPort e.known.whose
   pub works : e.known.works ≡ false
   pub era_is : e.known.at.era ≡ era
-  pub table_is : e.known.at.half.round.table ≡ table.table
-  pub bits_are : e.known.at.half.round.bits ≡ table.bits
+  pub table_is : table_of e.known.at.half.round ≡ table
   pub part : BeginsWith e.known.at.half.past (chain_of e.known.at.half).now past
 
 -- a round ends whose passes lay in these lanes: they are back, and the lanes have what their last passes knew, the last lane first
@@ -106,13 +105,13 @@ pub record GetsHandle (number : ℕ) (old new : EndFacts) : Type 0 where
   pub done : old.known.whose ≢ Roller → new.known.done ≡ old.known.done
   pub lost : old.known.whose ≡ Roller → new.known.done ≡ old.known.done ++ (false, own) ∷ []
 
--- a handle's end of a lane, which has this number, in which a pass lies of a round with these bits
-pub record IsHandleEnd (number bits : ℕ) (e : EndFacts) : Type 0 where
+-- a handle's end of a lane, which has this number, in which a pass lies of a round with this table
+pub record IsHandleEnd (number : ℕ) (table : TableFacts) (e : EndFacts) : Type 0 where
   pub whose : e.known.whose ≡ Handle
   pub number_is : e.known.number ≡ number
   pub some_era : 0 < e.known.at.era
-  pub bits_are : e.known.at.half.round.bits ≡ bits
-  pub few_bits : bits ≤ 16
+  pub together : table_of e.known.at.half.round ≡ table
+  pub few_bits : table.bits ≤ 16
 
 -- and its handle is where that pass stands
 pub record IsFirst (rounds : RoundFacts × List Chapter) (lanes : List TableId) (handle : HandleFacts) : Type 0 where

@@ -5,7 +5,6 @@ ghost use Rattle.aug_trie.specs.Knowledge.{IsKnowledge, insertion, removal, inse
 ghost use Rattle.aug_trie.specs.Updates.{AcceptedUpdate, RefusedUpdate, UsedUp, ComesTo, TakesSnapshot};
 ghost use Rattle.aug_model.specs.Folds.{summary_of};
 ghost use Rattle.aug_trie.specs.Node.{Keeps};
-ghost use Rattle.aug_trie.specs.inside.Climbing.{FitsRequest};
 ghost use Rattle.aug_core.specs.Kinds.{load_node};
 ghost use Rattle.aug_trie.specs.Round.{root_of};
 ghost use Rattle.aug_trie.specs.Pass.{GoesOn, StepsOf};
@@ -13,6 +12,7 @@ ghost use Rattle.aug_trie.specs.Snapshot.{HasSnapshot, snapshot_cut};
 
 use crate::queries::snapshot::Snapshot;
 use crate::rounds::account::Account;
+use crate::updates::batch::amount_in;
 use crate::updates::outcome::Outcome;
 use crate::updates::request::Request;
 use crate::updates::update::update;
@@ -139,17 +139,18 @@ impl<'r, A: Monoid, B: Monoid> Pass<'r, A, B> {
         matches!(self.update(k, Request::Take(weight)), Outcome::Accepted)
     }
 
-    // Makes an update of a key.
+    /// Makes an update of a key as it is asked to, as the call of its name does: `Accepted` or `Refused` where `insert`, `remove` and `take` answer true or
+    /// false.
     #[inline(always)]
-    pub(crate) fn update(&mut self, k: u32, request: Request) -> Outcome
+    pub fn update(&mut self, k: u32, request: Request) -> Outcome
         requires key { k < 2 ^ self.old.round.bits }
         requires budget { self.old.spent < self.old.round.updates }
-        requires fits { FitsRequest request }
         ensures comes_to { ComesTo request k result self.old.knows self.new.knows }
         ensures goes_on { (steps : ℕ) × GoesOn 1 steps self.old self.new }
         ensures keeps { Keeps (summary_of A.parts B.parts) self.old self.new }
         ensures steps { StepsOf request k result self.old self.new }
     {
+        let _amount = amount_in(request);
         let Some(words) = self.words.take() else {
             unreachable!()
         };

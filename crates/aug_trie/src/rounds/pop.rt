@@ -57,8 +57,8 @@ impl<'r, A: Monoid> Pass<'r, A, Extent> {
         self.pop(Side::Last)
     }
 
-    // Takes out the member at one end.
-    pub(crate) fn pop(&mut self, side: Side) -> Pop
+    /// Takes out the member at one end, as `pop_first` and `pop_last`.
+    pub fn pop(&mut self, side: Side) -> Pop
         requires budget { self.old.spent < self.old.round.updates }
         ensures pops { Pops (summary_of A.parts extent_parts) side result self.old self.new }
         ensures goes_on { (steps : ℕ) × GoesOn (pop_updates result) steps self.old self.new }

@@ -1,6 +1,4 @@
 use Rattle.std.proofs.Common.{◌≡◌, ◌+◌, ◌<◌, ◌∙◌, ◌++◌, [], ◌∷◌, List, ap, map, sym, subst, vec_len, rules, arith}
-use Rattle.std.specs.Arc.{arc_value}
-use Rattle.std.specs.Prelude.{option_to_list}
 use Rattle.std.proofs.lemmas.List.{map-append}
 use Rattle.aug_trie.specs.Chains.{Chapter}
 use Rattle.aug_trie.specs.Round.{RoundFacts, table_of}
@@ -8,7 +6,7 @@ use Rattle.std.specs.Vec.Iter.{into_iter_len}
 use Rattle.aug_live.specs.inside.Desks.{IsNewBerth}
 use Rattle.aug_live.specs.inside.LaneKnowledge.{EndFacts}
 use Rattle.aug_live.specs.inside.Rolls.{IsOf, IsOpenedLane, Starts, rounds_in}
-use Rattle.aug_live.proofs.Moving.{all_but_last, head_of, last_one, tail_of, one_more}
+use Rattle.aug_live.proofs.Moving.{head_of, tail_of, one_more}
 use Rattle.aug_live.proofs.live.open_lanes.Goals as goal
 
 same_locks : (ports ports' ends ends' : List EndFacts) (port end : EndFacts) → ports' ≡ ports ++ port ∷ [] → ends' ≡ ends ++ end ∷ [] → end.lock ≡ port.lock → map (λ (e : EndFacts). e.lock) ends ≡ map (λ (e : EndFacts). e.lock) ports
@@ -20,20 +18,17 @@ pub open-port-requires : goal.open-port-requires
 open-port-requires g c =
     let was = c.loop-berth.invariant in let step = c.in-Some.ensures.steps in
     let some : 0 < into_iter_len c.loop-berth.berth-iterator = omega (arith, step.1) in
-    let shared : c.loop-berth.shares.items ≡ c.pop.new.self.items ++ c.in-Some-pop.round ∷ [] = c.pop.ensures.items ∙ ap (λ z. c.pop.new.self.items ++ option_to_list z) c.in-Some-pop.is in
     let mine = head_of IsNewBerth _ c.in-Some.berth _ _ step.0 some was.1 in let here = ap (λ (z : RoundFacts × List Chapter). z.0) was.3 in
     record {
       first = mine.0;
       number = mine.1;
-      together = ap table_of here ∙ sym (last_one (λ s. arc_value s ≡ table_of c.args.crew.now.round) c.pop.new.self.items c.loop-berth.shares.items c.in-Some-pop.round shared was.13);
+      together = ap table_of here ∙ c.requires.together;
       lane_left = let workers = ap (λ (z : RoundFacts). z.workers) here in omega (arith, was.0, was.5, some, c.requires.lanes, workers);
     }
 
 pub loop-berth-preserved : goal.loop-berth-preserved
 loop-berth-preserved g c =
     let was = c.loop-berth.invariant in let step = c.in-Some.ensures.steps in let opened = c.open-port.ensures in
-    let shared : c.loop-berth.shares.items ≡ c.pop.new.self.items ++ c.in-Some-pop.round ∷ [] = c.pop.ensures.items ∙ ap (λ z. c.pop.new.self.items ++ option_to_list z) c.in-Some-pop.is in
-    let fewer : vec_len c.pop.new.self + 1 ≡ vec_len c.loop-berth.shares = c.in-Some-pop.ensures.cases in
     let grown : vec_len c.push_reserved.new.self ≡ vec_len c.loop-berth.ports + 1 = c.push_reserved.ensures.len in
     let longer : vec_len c.push_reserved-in-loop-berth.new.self ≡ vec_len c.loop-berth.ends + 1 = c.push_reserved-in-loop-berth.ensures.len in (
       search rules,
@@ -49,7 +44,4 @@ loop-berth-preserved g c =
       one_more IsOpenedLane _ _ _ c.push_reserved.ensures.items was.10 opened.opened,
       same_locks c.loop-berth.ports.items c.push_reserved.new.self.items c.loop-berth.ends.items c.push_reserved-in-loop-berth.new.self.items c.open-port.result.0 c.open-port.result.1 c.push_reserved.ensures.items c.push_reserved-in-loop-berth.ensures.items opened.lock was.11,
       opened.same_changes ∙ was.12,
-      all_but_last (λ s. arc_value s ≡ table_of c.args.crew.now.round) c.pop.new.self.items c.loop-berth.shares.items c.in-Some-pop.round shared was.13,
-      omega (arith, was.14, fewer, step.1),
-      c.pop.ensures.capacity ∙ was.15,
     )

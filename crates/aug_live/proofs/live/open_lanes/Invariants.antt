@@ -1,7 +1,5 @@
 use Rattle.std.specs.Prelude.{◌≡◌, ℕ, ◌+◌, ◌<◌, ◌≤◌, get_or, map, All, vec_len, vec_capacity}
-use Rattle.std.specs.Arc.{arc_value}
 use Rattle.std.specs.Vec.Iter.{into_iter_items, into_iter_len}
-use Rattle.aug_trie.specs.Round.{table_of}
 use Rattle.aug_live.specs.inside.Desks.{IsNewBerth}
 use Rattle.aug_live.specs.inside.LaneKnowledge.{EndFacts}
 use Rattle.aug_live.specs.inside.Rolls.{IsOf, IsOpenedLane, Starts, rounds_in}
@@ -23,6 +21,3 @@ invariant-loop-berth g l =
     × All IsOpenedLane l.ports.items
     × (map (λ (e : EndFacts). e.lock) l.ends.items ≡ map (λ (e : EndFacts). e.lock) l.ports.items)
     × (l.crew.knows.accepted ≡ l.initial.crew.knows.accepted)
-    × All (λ s. arc_value s ≡ table_of l.initial.crew.round) l.shares.items
-    × (vec_len l.shares ≡ into_iter_len rest)
-    × (vec_capacity l.shares ≡ vec_capacity l.initial.shares)

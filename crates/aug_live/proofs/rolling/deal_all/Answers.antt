@@ -1,5 +1,4 @@
 use Rattle.std.proofs.Common.{◌≡◌, ◌+◌, ◌∙◌, List, [], ◌∷◌, ◌++◌, vec_len, ap, arith, subst, sym}
-use Rattle.std.specs.Arc.{arc_value}
 use Rattle.std.specs.Prelude.{Option, option_to_list}
 use Rattle.aug_trie.specs.Chains.{Chapter}
 use Rattle.aug_trie.specs.Round.{RoundFacts, table_of}
@@ -15,13 +14,12 @@ pub begin-requires : goal.begin-requires
 begin-requires g c =
     let was = c.loop-one.invariant in let past = c.args.crew.now.past in let P = HasEnded (table_of c.args.crew.now.round) past c.args.era in
     let cut : c.loop-one.idle.items ≡ c.pop.new.self.items ++ c.in-Some.one ∷ [] = c.pop.ensures.items ∙ ap (λ (z : Option EndFacts). c.pop.new.self.items ++ option_to_list z) c.in-Some.is in
-    let shared : c.loop-one.shares.items ≡ c.pop-in-Some.new.self.items ++ c.in-Some-pop.round ∷ [] = c.pop-in-Some.ensures.items ∙ ap (λ z. c.pop-in-Some.new.self.items ++ option_to_list z) c.in-Some-pop.is in
     let shrunk : vec_len c.pop.new.self + 1 ≡ vec_len c.loop-one.idle = c.in-Some.ensures.cases in let here = ap (λ (z : RoundFacts × List Chapter). z.0) was.3 in record {
       ready = subst (λ (z : RoundFacts × List Chapter). HasEnded (table_of z.0) z.1 c.args.era c.in-Some.one) (sym was.3) (last_one P c.pop.new.self.items c.loop-one.idle.items c.in-Some.one cut was.1);
       led = subst (λ (z : RoundFacts × List Chapter). Leads z.0.bits z.1 z.0.members) (sym was.3) c.requires.led;
       some = c.requires.some;
       small = c.requires.small;
-      together = ap table_of here ∙ sym (last_one (λ s. arc_value s ≡ table_of c.args.crew.now.round) c.pop-in-Some.new.self.items c.loop-one.shares.items c.in-Some-pop.round shared was.13);
+      together = ap table_of here ∙ c.requires.together;
       lane_left = let workers = ap (λ (z : RoundFacts). z.workers) here in omega (arith, was.0, was.6, shrunk, c.requires.lanes, workers);
     }
 
@@ -29,9 +27,7 @@ pub loop-one-preserved : goal.loop-one-preserved
 loop-one-preserved g c =
     let was = c.loop-one.invariant in let began = c.begin.ensures in let past = c.args.crew.now.past in let P = HasEnded (table_of c.args.crew.now.round) past c.args.era in
     let cut : c.loop-one.idle.items ≡ c.pop.new.self.items ++ c.in-Some.one ∷ [] = c.pop.ensures.items ∙ ap (λ (z : Option EndFacts). c.pop.new.self.items ++ option_to_list z) c.in-Some.is in
-    let shared : c.loop-one.shares.items ≡ c.pop-in-Some.new.self.items ++ c.in-Some-pop.round ∷ [] = c.pop-in-Some.ensures.items ∙ ap (λ z. c.pop-in-Some.new.self.items ++ option_to_list z) c.in-Some-pop.is in
-    let grown : vec_len c.push_reserved.new.self ≡ vec_len c.loop-one.ports + 1 = c.push_reserved.ensures.len in let shrunk : vec_len c.pop.new.self + 1 ≡ vec_len c.loop-one.idle = c.in-Some.ensures.cases in
-    let fewer : vec_len c.pop-in-Some.new.self + 1 ≡ vec_len c.loop-one.shares = c.in-Some-pop.ensures.cases in (
+    let grown : vec_len c.push_reserved.new.self ≡ vec_len c.loop-one.ports + 1 = c.push_reserved.ensures.len in let shrunk : vec_len c.pop.new.self + 1 ≡ vec_len c.loop-one.idle = c.in-Some.ensures.cases in (
       omega (arith, was.0, grown, shrunk),
       all_but_last P c.pop.new.self.items c.loop-one.idle.items c.in-Some.one cut was.1,
       one_more (IsOf (rounds_in c.args.crew.now) (c.args.era + 1)) c.loop-one.ports.items c.push_reserved.new.self.items c.begin.result c.push_reserved.ensures.items was.2
@@ -44,7 +40,4 @@ loop-one-preserved g c =
       prefix_trans c.args.crew.now.knows.history c.loop-one.crew.knows.history c.begin.new.crew.knows.history was.8 began.goes_on,
       dealt_one c.loop-one.ports.items c.push_reserved.new.self.items c.pop.new.self.items c.loop-one.idle.items c.in-Some.one c.begin.result _ cut c.push_reserved.ensures.items began.kept was.9,
       began.same_changes ∙ was.10,
-      omega (arith, was.11, fewer, shrunk),
-      c.pop-in-Some.ensures.capacity ∙ was.12,
-      all_but_last (λ s. arc_value s ≡ table_of c.args.crew.now.round) c.pop-in-Some.new.self.items c.loop-one.shares.items c.in-Some-pop.round shared was.13,
     )

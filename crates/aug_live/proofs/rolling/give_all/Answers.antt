@@ -1,5 +1,4 @@
 use Rattle.std.proofs.Common.{rules, ◌≡◌, ◌+◌, ◌<◌, ◌∙◌, ℕ, List, [], ◌∷◌, ◌++◌, map, vec_len, ap, arith, subst, sym}
-use Rattle.std.specs.Arc.{arc_value}
 use Rattle.std.specs.Prelude.{Option, option_to_list, reverse}
 use Rattle.aug_trie.specs.Chains.{Chapter}
 use Rattle.aug_trie.specs.Round.{RoundFacts, table_of}
@@ -10,35 +9,31 @@ use Rattle.aug_live.proofs.Dealing.{gave_one, kept_in_order, took_one}
 use Rattle.aug_live.proofs.Moving.{one_more, all_but_last, last_one, all_back_on, same_era}
 use Rattle.aug_live.proofs.rolling.give_all.Goals as goal
 
-pub give_back-one-requires : goal.give_back-one-requires
-give_back-one-requires g c =
+pub give_back-requires : goal.give_back-requires
+give_back-requires g c =
     let was = c.loop-one.invariant in let round = rounds_in c.args.crew.now in let era = c.args.era in
     let cut : c.loop-one.held.items ≡ c.pop.new.self.items ++ c.in-Some.one ∷ [] = c.pop.ensures.items ∙ ap (λ (z : Option EndFacts). c.pop.new.self.items ++ option_to_list z) c.in-Some.is in
     let mine = last_one (IsOf round era) c.pop.new.self.items c.loop-one.held.items c.in-Some.one cut was.1 in
-    record { of_round = subst (λ (z : (RoundFacts × List Chapter) × ℕ). IsOf z.0 z.1 c.in-Some.one) (λ i. (sym was.3 i, sym mine.era_is i)) mine; some = subst (λ z. 0 < z) (sym mine.era_is) c.requires.some }
+    record { together = ap (λ (z : RoundFacts × List Chapter). table_of z.0) was.3 ∙ c.requires.together; of_round = subst (λ (z : (RoundFacts × List Chapter) × ℕ). IsOf z.0 z.1 c.in-Some.one) (λ i. (sym was.3 i, sym mine.era_is i)) mine; some = subst (λ z. 0 < z) (sym mine.era_is) c.requires.some }
 
 pub loop-one-preserved : goal.loop-one-preserved
 loop-one-preserved g c =
-    let was = c.loop-one.invariant in let gave = c.give_back-one.ensures in let round = rounds_in c.args.crew.now in let era = c.args.era in
+    let was = c.loop-one.invariant in let gave = c.give_back.ensures in let round = rounds_in c.args.crew.now in let era = c.args.era in
     let cut : c.loop-one.held.items ≡ c.pop.new.self.items ++ c.in-Some.one ∷ [] = c.pop.ensures.items ∙ ap (λ (z : Option EndFacts). c.pop.new.self.items ++ option_to_list z) c.in-Some.is in
     let mine = last_one (IsOf round era) c.pop.new.self.items c.loop-one.held.items c.in-Some.one cut was.1 in
-    let grown : vec_len c.push_reserved.new.self ≡ vec_len c.loop-one.idle + 1 = c.push_reserved.ensures.len in let shrunk : vec_len c.pop.new.self + 1 ≡ vec_len c.loop-one.held = c.in-Some.ensures.cases in
-    let shared : vec_len c.push_reserved-in-Some.new.self ≡ vec_len c.loop-one.shares + 1 = c.push_reserved-in-Some.ensures.len in (
+    let grown : vec_len c.push_reserved.new.self ≡ vec_len c.loop-one.idle + 1 = c.push_reserved.ensures.len in let shrunk : vec_len c.pop.new.self + 1 ≡ vec_len c.loop-one.held = c.in-Some.ensures.cases in (
       omega (arith, was.0, grown, shrunk),
       all_but_last (IsOf round era) c.pop.new.self.items c.loop-one.held.items c.in-Some.one cut was.1,
-      one_more (IsBackIn round era c.give_back-one.new.crew.knows.history) c.loop-one.idle.items c.push_reserved.new.self.items c.give_back-one.result.0 c.push_reserved.ensures.items
-          (all_back_on _ _ _ _ _ gave.goes_on was.2) (same_era _ _ _ _ _ mine.era_is (subst (λ (z : RoundFacts × List Chapter). IsBackIn z c.in-Some.one.known.at.era c.give_back-one.new.crew.knows.history c.give_back-one.result.0) was.3 gave.back)),
+      one_more (IsBackIn round era c.give_back.new.crew.knows.history) c.loop-one.idle.items c.push_reserved.new.self.items c.give_back.result c.push_reserved.ensures.items
+          (all_back_on _ _ _ _ _ gave.goes_on was.2) (same_era _ _ _ _ _ mine.era_is (subst (λ (z : RoundFacts × List Chapter). IsBackIn z c.in-Some.one.known.at.era c.give_back.new.crew.knows.history c.give_back.result) was.3 gave.back)),
       gave.round ∙ was.3,
       c.push_reserved.ensures.capacity ∙ was.4,
       c.pop.ensures.capacity ∙ was.5,
       gave.handed ∙ was.6,
       omega (arith, gave.counted, was.7, grown),
-      prefix_trans c.args.crew.now.knows.history c.loop-one.crew.knows.history c.give_back-one.new.crew.knows.history was.8 gave.goes_on,
-      took_one c.pop.new.self.items c.loop-one.held.items c.loop-one.idle.items c.push_reserved.new.self.items c.in-Some.one c.give_back-one.result.0 _ cut c.push_reserved.ensures.items gave.kept was.9,
-      gave_one c.args.crew.now.knows.accepted c.loop-one.crew.knows.accepted c.give_back-one.new.crew.knows.accepted c.loop-one.idle.items c.push_reserved.new.self.items c.give_back-one.result.0 c.push_reserved.ensures.items gave.changes was.10,
-      omega (arith, was.11, grown, shared),
-      c.push_reserved-in-Some.ensures.capacity ∙ was.12,
-      one_more (λ s. arc_value s ≡ table_of c.args.crew.now.round) c.loop-one.shares.items c.push_reserved-in-Some.new.self.items c.give_back-one.result.1 c.push_reserved-in-Some.ensures.items was.13 (gave.shared ∙ ap (λ (z : RoundFacts × List Chapter). table_of z.0) was.3),
+      prefix_trans c.args.crew.now.knows.history c.loop-one.crew.knows.history c.give_back.new.crew.knows.history was.8 gave.goes_on,
+      took_one c.pop.new.self.items c.loop-one.held.items c.loop-one.idle.items c.push_reserved.new.self.items c.in-Some.one c.give_back.result _ cut c.push_reserved.ensures.items gave.kept was.9,
+      gave_one c.args.crew.now.knows.accepted c.loop-one.crew.knows.accepted c.give_back.new.crew.knows.accepted c.loop-one.idle.items c.push_reserved.new.self.items c.give_back.result c.push_reserved.ensures.items gave.changes was.10,
     )
 
 pub returns-clause-kept : goal.returns-clause-kept

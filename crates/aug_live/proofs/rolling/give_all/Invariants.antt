@@ -1,5 +1,3 @@
-use Rattle.std.specs.Arc.{arc_value}
-use Rattle.aug_trie.specs.Round.{table_of}
 use Rattle.std.specs.Prelude.{◌≡◌, ◌+◌, ◌++◌, All, flat_map, map, reverse, vec_len, vec_capacity}
 use Rattle.aug_core.specs.Prefixes.{IsPrefix}
 use Rattle.aug_live.specs.inside.Rolls.{IsOf, IsBackIn, accepted_by, kept_of, rounds_in}
@@ -18,9 +16,6 @@ invariant-loop-one g l =
     × IsPrefix l.fn.crew.knows.history l.crew.knows.history
     × (map kept_of l.held.items ++ map kept_of (reverse l.idle.items) ≡ map kept_of (reverse l.fn.held.items))
     × (l.crew.knows.accepted ≡ l.fn.crew.knows.accepted ++ flat_map accepted_by l.idle.items)
-    × (vec_len l.shares ≡ vec_len l.idle)
-    × (vec_capacity l.shares ≡ vec_capacity l.fn.shares)
-    × All (λ s. arc_value s ≡ table_of l.fn.crew.round) l.shares.items
 
 abbrev pub decreases-loop-one : goal.decreases-loop-one
 decreases-loop-one g l = vec_len l.held

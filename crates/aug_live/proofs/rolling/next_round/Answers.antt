@@ -8,5 +8,4 @@ loop-preserved g c = (
   one_more (λ s. arc_value s ≡ arc_value c.in-Ok.round) c.loop.shares.items c.push_reserved.new.self.items c.in-Ok-try_clone.share c.push_reserved.ensures.items c.loop.invariant.0 (search rules),
   search rules,
   search rules,
-  search rules,
 )

@@ -47,14 +47,12 @@ invariant_of-self g c =
       unsettled c.put_in.new.ports.items w.held.items (vec_len c.put_in.new.ports) (vec_len w.held) none few
           (kept_on _ _ w.counts w.counts _ w.crew _ w.ports.items _ _ _ 1 was all len accounts refl refl refl refl next.round next.handed next.back (omega (arith, next.handed, was.within, c.if-handed-self.false))),
       inv.1,
-      inv.2,
-      omega (arith, inv.3, len, c.put_in.ensures.room, c.remove.ensures.capacity),
+      omega (arith, inv.2, len, c.put_in.ensures.room, c.remove.ensures.capacity),
+      omega (arith, inv.3, len),
       omega (arith, inv.4, len),
-      omega (arith, inv.5, len),
-      omega (arith, inv.6, len),
+      inv.5,
+      inv.6,
       inv.7,
-      inv.8,
-      inv.9,
     )
 
 pub invariant_of-self-in-Err : goal.invariant_of-self-in-Err
@@ -71,14 +69,12 @@ invariant_of-self-in-Err g c =
       unsettled c.put_in-in-Err.new.ports.items w.held.items (vec_len c.put_in-in-Err.new.ports) (vec_len w.held) none few
           (kept_on _ _ w.counts w.counts _ w.crew c.replace.new.crew w.ports.items _ _ _ 0 was all len accounts refl refl refl refl (ap rounds_in crew) (omega (arith, handed)) (omega (arith, come)) (omega (arith, handed, was.within))),
       inv.1,
-      inv.2,
-      omega (arith, inv.3, len, c.put_in-in-Err.ensures.room, c.remove.ensures.capacity),
+      omega (arith, inv.2, len, c.put_in-in-Err.ensures.room, c.remove.ensures.capacity),
+      omega (arith, inv.3, len),
       omega (arith, inv.4, len),
-      omega (arith, inv.5, len),
-      omega (arith, inv.6, len),
+      inv.5,
+      inv.6,
       inv.7,
-      inv.8,
-      inv.9,
     )
 
 pub returns-in-Ok : goal.returns-in-Ok

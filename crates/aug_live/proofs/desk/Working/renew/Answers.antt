@@ -1,9 +1,9 @@
-use Rattle.std.proofs.Common.{◌≡◌, ◌+◌, ◌++◌, ◌<◌, ◌≤◌, ◌^◌, All, map, ◌∙◌, ℕ, List, ap, length, refl, sym, subst, vec_len, arith}
+use Rattle.std.proofs.Common.{◌≡◌, ◌+◌, ◌++◌, ◌<◌, ◌≤◌, ◌^◌, All, map, ◌∙◌, ℕ, List, ap, length, refl, sym, subst, vec_len, arith, rules}
 use Rattle.std.specs.List.{sum_by}
 use Rattle.std.specs.Arc.{arc_value}
-use Rattle.aug_trie.specs.Chains.{Chapter, IsPart}
+use Rattle.aug_trie.specs.Chains.{IsPart}
 use Rattle.aug_trie.specs.Crew.{CrewFacts, crew_chain}
-use Rattle.aug_trie.specs.Round.{TableFacts, RoundFacts}
+use Rattle.aug_trie.specs.Round.{TableFacts}
 use Rattle.aug_trie.specs.Pass.{chain_of}
 use Rattle.aug_trie.proofs.Chaining.{part_refl}
 use Rattle.atomic_table.proofs.Lists.{at_map}
@@ -13,7 +13,7 @@ use Rattle.std.specs.Prelude.{reverse}
 use Rattle.std.proofs.lemmas.List.{length-map}
 use Rattle.aug_live.specs.LiveHandles.{HandleFacts}
 use Rattle.aug_live.specs.LiveTries.{LaneKnown, TrieFacts}
-use Rattle.aug_live.specs.inside.LaneKnowledge.{EndFacts, lane_by, rounds_at}
+use Rattle.aug_live.specs.inside.LaneKnowledge.{EndFacts, lane_by}
 use Rattle.aug_live.specs.inside.Rolls.{IsHandleEnd, IsOf, kept_of, rounds_in}
 use Rattle.aug_live.proofs.Accounting.{accounts_kept, few_handles, few_missing}
 use Rattle.aug_live.proofs.Counted.{desk_on, more_self}
@@ -32,6 +32,9 @@ returns-then-self-clause-more g c = more_self c.args.self.now
 
 pub returns-in_default-clause-more : goal.returns-in_default-clause-more
 returns-in_default-clause-more g c = more_self c.args.self.now
+
+pub returns-in_default-try_clone-clause-more : goal.returns-in_default-try_clone-clause-more
+returns-in_default-try_clone-clause-more g c = more_self c.args.self.now
 
 pub returns-then-self-clause-refused : goal.returns-then-self-clause-refused
 returns-then-self-clause-refused g c = let w = c.self.inside in let all = w.ports.items ++ reverse w.held.items in let was = c.self.invariant.0.accounts in
@@ -75,18 +78,16 @@ invariant_of-self g c =
       unsettled c.put_in.new.ports.items w.held.items (vec_len c.put_in.new.ports) (vec_len w.held) none few
           (kept_on _ _ w.counts _ _ w.crew c.renew.new.crew w.ports.items _ _ _ 0 was all len accounts refl refl refl refl (ap rounds_in same) (omega (arith, handed)) (omega (arith, come)) (omega (arith, handed, was.within))),
       inv.1,
-      inv.2,
-      omega (arith, inv.3, len, c.put_in.ensures.room, c.remove-port.ensures.capacity),
+      omega (arith, inv.2, len, c.put_in.ensures.room, c.remove-port.ensures.capacity),
+      omega (arith, inv.3, len),
       omega (arith, inv.4, len),
-      omega (arith, inv.5, len),
-      omega (arith, inv.6, len),
+      inv.5,
+      inv.6,
       inv.7,
-      inv.8,
-      inv.9,
     )
 
-pub invariant_of-self-in-Err : goal.invariant_of-self-in-Err
-invariant_of-self-in-Err g c =
+pub invariant_of-self-in-Err-renew : goal.invariant_of-self-in-Err-renew
+invariant_of-self-in-Err-renew g c =
     let inv = c.self.invariant in let w = c.self.inside in let few : vec_len w.held ≡ 0 = ap (λ (z : TrieFacts). z.held) c.self.view_is ∙ c.requires.settled in let none : length w.held.items ≡ 0 = omega (arith, few) in
     let was = settled w.ports.items w.held.items (vec_len w.ports) (vec_len w.held) none few inv.0 in let low : c.args.lane < length w.ports.items = omega arith in
     let old = c.remove-port.result in let crew = c.renew.ensures.same in
@@ -98,14 +99,12 @@ invariant_of-self-in-Err g c =
       unsettled c.put_in-in-Err.new.ports.items w.held.items (vec_len c.put_in-in-Err.new.ports) (vec_len w.held) none few
           (kept_on _ _ w.counts w.counts _ w.crew c.renew.new.crew w.ports.items _ _ _ 0 was all len accounts refl refl refl refl (ap rounds_in crew) (omega (arith, handed)) (omega (arith, come)) (omega (arith, handed, was.within))),
       inv.1,
-      inv.2,
-      omega (arith, inv.3, len, c.put_in-in-Err.ensures.room, c.remove-port.ensures.capacity),
+      omega (arith, inv.2, len, c.put_in-in-Err.ensures.room, c.remove-port.ensures.capacity),
+      omega (arith, inv.3, len),
       omega (arith, inv.4, len),
-      omega (arith, inv.5, len),
-      omega (arith, inv.6, len),
+      inv.5,
+      inv.6,
       inv.7,
-      inv.8,
-      inv.9,
     )
 
 pub returns-in-Ok-renew-clause-more : goal.returns-in-Ok-renew-clause-more
@@ -123,14 +122,15 @@ returns-in-Ok-renew-clause-handle g c =
     let inv = c.self.invariant in let w = c.self.inside in let few : vec_len w.held ≡ 0 = ap (λ (z : TrieFacts). z.held) c.self.view_is ∙ c.requires.settled in let none : length w.held.items ≡ 0 = omega (arith, few) in
     let was = settled w.ports.items w.held.items (vec_len w.ports) (vec_len w.held) none few inv.0 in let low : c.args.lane < length w.ports.items = omega arith in
     let old = c.remove-port.result in let renewed = c.in-Ok-renew.ensures in let port = c.in-Ok-renew.port in let end = c.in-Ok-renew.end in
-    let rounds : rounds_at end.known.at.half ≡ rounds_in w.crew = ap (λ (z : HandleFacts). rounds_at z.half) renewed.at ∙ renewed.port.round_is in
+    let shared : arc_value c.in-Ok-try_clone.round ≡ arc_value w.round = search rules in
     let is = lane_is w.ports.items _ _ c.args.lane old port low c.remove-port.ensures.value c.remove-port.ensures.items c.put_in.ensures.items in
     let there = subst (λ (z : List EndFacts). get_elem? (map lane_by z) c.args.lane ≡ some (lane_by port)) (sym (no_lanes c.put_in.new.ports.items w.held.items none)) is in record {
-      is_end = subst (λ (n : ℕ). IsHandleEnd (w.counts.handles + 1) n end) (ap (λ (z : TableFacts). z.bits) was.together ∙ inv.9) renewed.handle.0;
+      is_end = subst (λ (z : TableFacts). IsHandleEnd (w.counts.handles + 1) z end) (was.together ∙ sym shared) renewed.handle.0;
       id = at_map (λ (l : LaneKnown). l.id) _ c.args.lane (lane_by port) there ∙ ap some (renewed.gets.lock ∙ sym renewed.handle.1);
       none_made = renewed.handle.2;
-      table = ap (λ (z : RoundFacts × List Chapter). z.0.table) rounds ∙ ap (λ (z : TableFacts). z.table) was.together;
-      of_bits = sym inv.9;
+      of_trie = ap (λ (z : TableFacts). z.table) shared;
+      bits_are = sym inv.7 ∙ ap (λ (z : TableFacts). z.bits) (sym shared);
+      of_bits = sym inv.7;
       knows = subst (λ (z : CrewFacts × HandleFacts). IsPart (crew_chain z.0) (chain_of z.1.half)) (λ i. (sym c.renew.ensures.same i, sym renewed.at i)) renewed.knows;
     }
 

@@ -55,9 +55,8 @@ deal_all-requires-clause-led g c =
 
 pub deal_all-requires-clause-together : goal.deal_all-requires-clause-together
 deal_all-requires-clause-together g c =
-    let w = c.working.inside in let gave = c.give_all.ensures in let now = c.give_all.new.crew in
-    let same : table_of w.crew.round ≡ table_of now.round = ap (λ (z : RoundFacts × List Chapter). table_of z.0) (sym gave.round) in
-    subst (λ (z : TableFacts). All (λ s. arc_value s ≡ z) c.give_all.new.shares.items) (same ∙ sym (ap table_of c.renew-crew.ensures.rolls.round_is)) gave.shared
+    let there : arc_value c.working.inside.round ≡ c.deref-3.result.now = search rules in
+    ap table_of c.renew-crew.ensures.rolls.round_is ∙ ap (λ (z : RoundFacts × List Chapter). table_of z.0) c.give_all.ensures.round ∙ c.working.invariant.0.together ∙ there
 
 pub invariant_of-working-2 : goal.invariant_of-working-2
 invariant_of-working-2 g c =
@@ -66,20 +65,18 @@ invariant_of-working-2 g c =
     let all : List EndFacts = w.ports.items ++ reverse w.held.items in let taken = all_taken w.ports.items w.held.items c.take_all.new.ports.items c.take_all.new.held.items none took.same in
     let kept = kept_taken c.give_all.new.idle.items c.take_all.new.held.items all gave.kept taken in
     let left : length c.give_all.new.held.items ≡ 0 = ap length gave.none_left in let few : vec_len c.give_all.new.held ≡ 0 = omega (arith, left) in
-    let as_many : vec_len c.deal_all.new.ports ≡ vec_len w.ports + vec_len w.held = omega (arith, dealt.len, gave.len.0, took.len, zero) in
-    let handed : c.deal_all.new.crew.handed ≡ vec_len w.ports + vec_len w.held = omega (arith, dealt.handed, gave.len.0, took.len, zero) in (
+    let as_many : vec_len c.deal_all.new.ports ≡ vec_len w.ports + vec_len w.held = omega (arith, dealt.len, gave.len, took.len, zero) in
+    let handed : c.deal_all.new.crew.handed ≡ vec_len w.ports + vec_len w.held = omega (arith, dealt.handed, gave.len, took.len, zero) in (
       unsettled c.deal_all.new.ports.items c.give_all.new.held.items (vec_len c.deal_all.new.ports) (vec_len c.give_all.new.held) left few
           (rolled_on w.plan.lanes w.plan.updates w.counts _ (arc_value w.round) w.crew c.give_all.new.crew c.renew-crew.result.0 c.deal_all.new.crew all c.give_all.new.idle.items c.deal_all.new.ports.items _ _ c.renew-crew.new.list.items c.renew-crew.result.1 c.renew-crew.result.2
           inv.0 c.renew-crew.ensures.rolls gave.round dealt.of_round as_many kept gave.back gave.changes dealt.kept dealt.same_changes dealt.round handed dealt.back (search rules) (search rules) (search rules) (search rules) (search rules) (search rules) (search rules) (search rules)),
-      dealt.none_left.0,
-      dealt.none_left.1,
-      omega (arith, as_many, few, dealt.room.0, took.room, inv.3),
-      omega (arith, as_many, few, gave.room.0, took.held_room, inv.4),
-      omega (arith, as_many, few, dealt.room.1, gave.room.1, inv.5),
-      omega (arith, as_many, few, dealt.room.2, gave.room.2, inv.6),
+      dealt.none_left,
+      omega (arith, as_many, few, dealt.room.0, took.room, inv.2),
+      omega (arith, as_many, few, gave.room.0, took.held_room, inv.3),
+      omega (arith, as_many, few, dealt.room.1, gave.room.1, inv.4),
       search rules,
       search rules,
-      inv.9,
+      inv.7,
     )
 
 pub returns-clause-more : goal.returns-clause-more

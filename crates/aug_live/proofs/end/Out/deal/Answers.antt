@@ -1,5 +1,6 @@
 use Rattle.std.proofs.Common.{◌≡◌, ◌∙◌, ◌<◌, ℕ, ap, sym, subst}
 use Rattle.aug_live.specs.inside.LaneKnowledge.{LaneFacts, OutFacts, rolls, taken_by}
+use Rattle.aug_trie.specs.Round.{table_of}
 use Rattle.aug_live.specs.LiveHandles.{Follows}
 use Rattle.aug_live.proofs.Tied.{roller_deals, what_is}
 use Rattle.aug_live.proofs.end.Out.deal.Goals as goal
@@ -12,5 +13,6 @@ put-requires-clause-holds g c = let o = c.self.inside.pass.me.0.taken in let is 
       (ap (λ (z : OutFacts). rolls z.known.whose) is ∙ c.requires.roller) (subst (λ (n : ℕ). 0 < n) (sym (ap (λ (z : OutFacts). z.known.at.era) is)) c.requires.some)
       (c.requires.number.0 ∙ ap (λ (z : LaneFacts). z.number) (sym taken))
       (c.requires.number.1 ∙ ap (λ (z : LaneFacts). z.is_out) (sym taken))
-      (subst (λ (z : LaneFacts). Follows z.at c.args.lane.at) (sym taken) c.requires.follows) c.requires.none_accepted,
+      (subst (λ (z : LaneFacts). Follows z.at c.args.lane.at) (sym taken) c.requires.follows)
+      (c.requires.together ∙ ap (λ (z : LaneFacts). table_of z.at.half.round) (sym taken)) c.requires.none_accepted,
 )

@@ -1,4 +1,5 @@
 use Rattle.std.proofs.Common.{◌≡◌, ◌≢◌, ◌⊎◌, ◌∙◌, List, ap, sym, subst}
+use Rattle.std.specs.Arc.{arc_value}
 use Rattle.atomic_table.specs.Seated.{TableId}
 use Rattle.aug_live.specs.inside.LaneKnowledge.{handle_by}
 use Rattle.aug_live.specs.inside.Looks.{HoldsHandle}
@@ -11,7 +12,7 @@ use Rattle.aug_live.proofs.handle.Handle.past.Goals as goal
 
 pub invariant_of-self : goal.invariant_of-self
 invariant_of-self g c = let i = c.self.inside in
-    subst (λ (z : List TableId). HoldsHandle i.end i.bits i.lane i.number z) (sym (ids_more i.desk c.settle.new.self c.settle.ensures.more)) c.self.invariant
+    subst (λ (z : List TableId). HoldsHandle i.end (arc_value i.round) i.bits i.lane i.number z) (sym (ids_more i.desk c.settle.new.self c.settle.ensures.more)) c.self.invariant
 
 pub returns-in-Held-clause-same : goal.returns-in-Held-clause-same
 returns-in-Held-clause-same g c = let i = c.self.inside in ap (λ (z : List TableId). handle_by z i.end) (ids_more i.desk c.settle.new.self c.settle.ensures.more) ∙ c.self.view_is
@@ -27,4 +28,4 @@ returns-in-Round-clause-refused g c = let now = c.past.new.self in refused_map (
 
 pub invariant_of-self-in-Round : goal.invariant_of-self-in-Round
 invariant_of-self-in-Round g c = let i = c.self.inside in
-    subst (λ (z : List TableId). HoldsHandle i.end i.bits i.lane i.number z) (sym (ids_more i.desk c.past.new.self c.past.ensures.more)) c.self.invariant
+    subst (λ (z : List TableId). HoldsHandle i.end (arc_value i.round) i.bits i.lane i.number z) (sym (ids_more i.desk c.past.new.self c.past.ensures.more)) c.self.invariant

@@ -1,4 +1,5 @@
 use Rattle.std.proofs.Common.{◌≡◌, ◌∙◌, List, ap, sym, subst}
+use Rattle.std.specs.Arc.{arc_value}
 use Rattle.std.specs.Prelude.{Some, Result, IfOk}
 use lib.ListN.{get_elem?}
 use Rattle.atomic_table.specs.Seated.{TableId}
@@ -25,7 +26,7 @@ pub back-requires-clause-lock : goal.back-requires-clause-lock
 back-requires-clause-lock g c = λ id at. let i = c.handle.inside in let there : i.end ≡ Some c.in-Some.end = sym c.take.ensures.value ∙ c.in-Some.is in
     let own : handle_by (ids_of i.desk) (Some c.in-Some.end) ≡ c.note.new.self = ap (handle_by (ids_of i.desk)) (sym there) ∙ c.handle.view_is in
     let lanes : ids_of i.desk ≡ ids_of c.self.inside.desk = ap (λ (z : HandleFacts). z.lanes) own ∙ c.in-Ok.ensures.follows.lanes ∙ c.requires.trie.1 ∙ ap ids_of (sym c.self.view_is) in
-    lock_of c.in-Some.end i.end i.bits i.number i.lane (ids_of i.desk) id c.handle.invariant there (ap (λ (z : List TableId). get_elem? z i.lane) lanes ∙ at)
+    lock_of c.in-Some.end i.end (arc_value i.round) i.bits i.number i.lane (ids_of i.desk) id c.handle.invariant there (ap (λ (z : List TableId). get_elem? z i.lane) lanes ∙ at)
 
 pub returns-clause-knows : goal.returns-clause-knows
 returns-clause-knows g c = let mine = chain_of c.args.handle.half in let note = chain_of_note c.in-Ok.note in let rounds = c.back.new.self.rounds in

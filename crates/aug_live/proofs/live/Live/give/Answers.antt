@@ -1,7 +1,8 @@
-use Rattle.std.proofs.Common.{◌≡◌, ◌∙◌, List, ap, refl, sym, subst}
+use Rattle.std.proofs.Common.{◌≡◌, ◌∙◌, List, ap, refl, sym, subst, arith}
 use Rattle.std.specs.Prelude.{Result, IfOk}
 use lib.ListN.{get_elem?}
 use Rattle.atomic_table.specs.Seated.{TableId}
+use Rattle.aug_trie.specs.Round.{TableFacts}
 use Rattle.aug_live.specs.LiveTries.{IsHandleOf, KnowsMore, ids_of}
 use Rattle.aug_live.proofs.Counted.{ids_more, more_self}
 use Rattle.aug_live.proofs.live.Live.give.Goals as goal
@@ -19,8 +20,9 @@ invariant_of-result g c = let h = c.in-Ok-renew.ensures.handle in let mine = h.i
       id = ap (λ (z : List TableId). get_elem? z c.args.lane) ids ∙ h.id;
       number_is = mine.number_is;
       some_era = mine.some_era;
-      bits_are = mine.bits_are;
-      few_bits = mine.few_bits;
+      together = mine.together;
+      bits_are = ap (λ (z : TableFacts). z.bits) mine.together ∙ sym h.bits_are;
+      few_bits = omega (arith, mine.few_bits, h.bits_are);
     }
 
 pub returns-clause-of_trie : goal.returns-clause-of_trie
@@ -28,10 +30,10 @@ returns-clause-of_trie g c =
     let new = c.renew.new.self in let ids : ids_of c.in-Ok.desk ≡ ids_of new = ap ids_of (c.in-Ok.ensures.knows ∙ sym c.another.ensures.same) ∙ sym (ids_more c.another.new.self new c.renew.ensures.more) in
     elim c.match-renew.branch [
       | in-Ok-renew w ↦ let h = w.in-Ok-renew.ensures.handle in subst (λ (r : Result _ _). IfOk r (IsHandleOf new)) (sym w.result-is) record {
-        table = h.table;
+        table = ap (λ (z : TableFacts). z.table) h.is_end.together ∙ h.of_trie;
         of_lanes = ids;
         none_made = h.none_made;
-        bits = h.is_end.bits_are ∙ h.of_bits;
+        bits = ap (λ (z : TableFacts). z.bits) h.is_end.together ∙ sym h.bits_are ∙ h.of_bits;
         knows = h.knows;
       }
       | in-Err w ↦ subst (λ (r : Result _ _). IfOk r (IsHandleOf new)) (sym w.result-is) tt

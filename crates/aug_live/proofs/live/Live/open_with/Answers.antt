@@ -10,7 +10,7 @@ use Rattle.aug_model.proofs.Boundaries.{IsKeySet-few}
 use Rattle.aug_model.proofs.Pairs.{length-keys_of}
 use Rattle.aug_trie.specs.Chains.{Chapter}
 use Rattle.aug_trie.specs.Crew.{CrewFacts}
-use Rattle.aug_trie.specs.Round.{RoundFacts, TableFacts}
+use Rattle.aug_trie.specs.Round.{RoundFacts, TableFacts, table_of}
 use Rattle.aug_live.specs.LiveHandles.{HandleFacts, IsNew}
 use Rattle.aug_live.specs.LiveTries.{IsOpenedTrie, LaneKnown, TrieFacts, ids_of}
 use Rattle.aug_live.specs.inside.LaneKnowledge.{EndFacts, handle_by, lane_by}
@@ -22,9 +22,6 @@ use Rattle.aug_live.proofs.live.Live.open_with.Goals as goal
 pub next_round-requires-clause-few : goal.next_round-requires-clause-few
 next_round-requires-clause-few g c = omega (arith, IsKeySet-few _ _ c.universe-universe.ensures.keys, length-keys_of c.args.set.pairs)
 
-pub open_lanes-ports-requires-clause-together : goal.open_lanes-ports-requires-clause-together
-open_lanes-ports-requires-clause-together g c = let begun = c.in-Ok-next_round.ensures.begun in let shares = c.in-Ok-next_round.ensures.shares.0 in λ k d low. shares k d low ∙ sym begun.together
-
 pub invariant_of-working : goal.invariant_of-working
 invariant_of-working g c =
     let begun = c.in-Ok-next_round.ensures.begun in let opened = c.open_lanes-ports.ensures in let ports = c.open_lanes-ports.result.0 in let held = c.in-Ok.room.held in
@@ -33,8 +30,6 @@ invariant_of-working g c =
           (opened_at c.args.plan.lanes c.args.plan.updates _ c.args.set _ c.in-Ok-next_round.begun.crew c.open_lanes-ports.new.crew ports.items (vec_len ports) (search rules) begun
           (subst (λ (z : RoundFacts × List Chapter). All (IsOf z 1) ports.items) (sym opened.round) opened.of_round) opened.opened (search rules) (search rules) opened.round
           (opened.handed ∙ sym opened.len.0) opened.back opened.same_changes refl (search rules) refl refl (search rules) (search rules)),
-      search rules,
-      search rules,
       search rules,
       search rules,
       search rules,
@@ -58,8 +53,8 @@ hand_out-handles-requires-clause-ends g c =
       whose = s.whose;
       number_is = s.number;
       some_era = omega (arith, s.era_is);
-      bits_are = ap (λ (z : RoundFacts × List Chapter). z.0.bits) s.fresh.round_is ∙ ap (λ (z : RoundFacts). z.bits) begun.round_is ∙ sym c.bits-bits.ensures;
-      few_bits = omega (arith, laid.bits.1, c.bits-bits.ensures);
+      together = ap (λ (z : RoundFacts × List Chapter). table_of z.0) s.fresh.round_is ∙ begun.together ∙ sym (ap arc_value c.of-of.ensures);
+      few_bits = let bits : (arc_value c.of-of.result.value).bits ≡ c.args.set.bits = ap (λ (z : TableFacts). z.bits) (ap arc_value c.of-of.ensures ∙ sym begun.together) ∙ ap (λ (z : RoundFacts). z.bits) begun.round_is in omega (arith, laid.bits.1, bits);
     }
 
 pub hand_out-handles-requires-clause-locks : goal.hand_out-handles-requires-clause-locks

@@ -68,6 +68,7 @@ first_outcomes {requests} {keys} {outcomes} {now} {new} count long m = record {
     rest = d.rest;
     steps = d.steps;
     no_other = d.no_other;
+    few_rises = d.few_rises;
     few_steps = d.few_steps;
   };
   steps = m.steps;

@@ -26,7 +26,7 @@ pub record IsOpenedFor (bits users bytes : ℕ) (trie : Opened) : Type 0 where
   pub accesses : vec_len trie.spare ≡ users
   pub plan : Plan
   pub fits : Fits bits bytes plan
-  pub new : All (IsNew trie.live.table (ids_of trie.live) (empty_of bits) plan.updates) trie.spare.items
+  pub new : All (IsNew trie.live.table (ids_of trie.live) (empty_of bits) plan) trie.spare.items
 
 -- a trie is opened, or the handle stays closed
 pub record OpensTrie (bits users bytes : ℕ) (new : Option Opened) (code : ℤ) : Type 0 where

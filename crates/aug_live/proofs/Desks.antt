@@ -111,7 +111,7 @@ kept_on lanes updates counts counts' table crew crew' ports new count count' mor
 }
 
 -- each handle of the first round is new
-pub all_new : (set : SetFacts) (lanes updates : ℕ) (table : TableFacts) (first : CrewFacts) (ids : List TableId) (ends : List HandleFacts) → BeginsIn (2 ^ set.bits) set.pairs set.bits lanes updates table first → All (IsFirst (rounds_in first) ids) ends → All (IsNew table.table ids set updates) ends
+pub all_new : (set : SetFacts) (lanes updates : ℕ) (table : TableFacts) (first : CrewFacts) (ids : List TableId) (ends : List HandleFacts) → BeginsIn (2 ^ set.bits) set.pairs set.bits lanes updates table first → All (IsFirst (rounds_in first) ids) ends → All (IsNew table.table ids set (record { lanes = lanes; updates = updates })) ends
 all_new set lanes updates table first ids ends b all k d low = let f = all k d low in
     let is : rounds_at (get_or ends k d).half ≡ rounds_in first = f.fresh.round_is in
     let of_round = ap (λ (z : RoundFacts × List Chapter). z.0) is ∙ b.round_is in record {
@@ -121,6 +121,7 @@ all_new set lanes updates table first ids ends b all k d low = let f = all k d l
       none_before = ap (λ (z : RoundFacts × List Chapter). z.1) is ∙ ap (λ (z : CrewFacts). z.past) b.crew_is;
       bits = ap (λ (z : RoundFacts). z.bits) of_round;
       members = ap (λ (z : RoundFacts). z.members) of_round;
+      workers_are = ap (λ (z : RoundFacts). z.workers) of_round;
       updates_are = ap (λ (z : RoundFacts). z.updates) of_round;
       none_spent = f.fresh.none_spent;
       none_accepted = f.fresh.none_accepted;

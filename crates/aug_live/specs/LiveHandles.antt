@@ -15,6 +15,7 @@ use Rattle.aug_model.specs.declared.summary.Summary.{Summary}
 use Rattle.aug_trie.specs.declared.queries.snapshot.Snapshot.{Snapshot}
 use Rattle.aug_live.specs.Carrying.{Leads}
 use Rattle.aug_live.specs.Ledgers.{Made, dated}
+use Rattle.aug_live.specs.declared.plan.Plan.{Plan}
 
 -- a handle: the lanes of its trie, by which it is known; the round that it last worked in, counted from 1; the pass of its lane as the handle left it; and all
 -- changes that were accepted through it, each with its round
@@ -65,15 +66,16 @@ pub record Makes (updates : ℕ) (does : PassFacts → PassFacts → Type 0) (ol
 abbrev pub IsSomeOf : ℕ → ℕ → Type 0
 IsSomeOf all count = (count ≤ all) × (0 < all → 0 < count)
 
--- a handle of a trie, by its table and its lanes, in the first round over this set; it knows no update
-pub record IsNew (table : TableId) (lanes : List TableId) (set : SetFacts) (updates : ℕ) (handle : HandleFacts) : Type 0 where
+-- a handle of a trie, by its table and its lanes, in the first round over this set, which has this plan; it knows no update
+pub record IsNew (table : TableId) (lanes : List TableId) (set : SetFacts) (plan : Plan) (handle : HandleFacts) : Type 0 where
   pub of_trie : handle.half.round.table ≡ table
   pub of_lanes : handle.lanes ≡ lanes
   pub era : handle.era ≡ 1
   pub none_before : handle.half.past ≡ []
   pub bits : handle.half.round.bits ≡ set.bits
   pub members : handle.half.round.members ≡ set.pairs
-  pub updates_are : handle.half.round.updates ≡ updates
+  pub workers_are : handle.half.round.workers ≡ plan.lanes
+  pub updates_are : handle.half.round.updates ≡ plan.updates
   pub none_spent : handle.half.spent ≡ 0
   pub none_accepted : handle.half.knows.accepted ≡ []
   pub none_made : handle.made ≡ []

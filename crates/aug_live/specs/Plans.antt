@@ -1,6 +1,6 @@
 -- Which plan of rounds a memory has room for. For 6 bits and 2 handles with 3 updates each (`least_plan` has one) a table has `127 + 2 + 5 * (69 +
 -- 36)` words, so 5,232 bytes are enough and 5,231 are not.
-use Rattle.std.specs.Prelude.{ℕ, ◌*◌, ◌^◌, ◌≤◌}
+use Rattle.std.specs.Prelude.{◌≡◌, ◌⊎◌, ℕ, ◌+◌, ◌*◌, ◌^◌, ◌≤◌}
 use Rattle.aug_core.specs.Layout.{IsLayout}
 use Rattle.aug_core.specs.Places.{shape_of, word_count}
 use Rattle.aug_live.specs.declared.plan.Plan.{Plan}
@@ -9,6 +9,15 @@ use Rattle.aug_live.specs.declared.plan.Plan.{Plan}
 pub record Fits (bits memory : ℕ) (plan : Plan) : Type 0 where
   pub laid_out : IsLayout (shape_of bits plan.lanes plan.updates (2 ^ bits))
   pub bytes : 8 * word_count (shape_of bits plan.lanes plan.updates (2 ^ bits)) ≤ memory
+
+-- the greatest plan for so many handles: one more lane does not fit with 256 updates of each, and then one more update of each lane does not. There are more
+-- lanes than handles only if each has 256 updates
+pub record IsGreatest (bits handles memory : ℕ) (plan : Plan) : Type 0 where
+  pub enough : handles ≤ plan.lanes
+  pub fits : Fits bits memory plan
+  pub no_lane : ¬ Fits bits memory (record { lanes = plan.lanes + 1; updates = 256 })
+  pub no_update : ¬ Fits bits memory (record { lanes = plan.lanes; updates = plan.updates + 1 })
+  pub spare : (plan.lanes ≡ handles) ⊎ (256 ≤ plan.updates)
 
 -- the plan with a lane for each handle, and one update of each
 abbrev pub least_plan : ℕ → Plan

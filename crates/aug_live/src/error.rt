@@ -39,7 +39,8 @@ pub enum LiveError {
     /// Refusal 4: there is no lane of this number.
     NoLane,
 
-    /// Refusal 5: a lock of the trie has as many owners as can be counted. No machine gets there.
+    /// Refusal 5: a lock of the trie has as many owners as can be counted. No machine gets there, and no clause sees the count: that of
+    /// `Arc::try_clone` does not say when it refuses.
     TooMany,
 }
 

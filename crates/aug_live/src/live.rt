@@ -8,7 +8,7 @@ ghost use Rattle.aug_trie.specs.Round.{table_of};
 ghost use Rattle.aug_live.specs.LiveErrors.{IfRefused, RefusesHandle, RefusesRoll};
 ghost use Rattle.aug_live.specs.LiveHandles.{Follows, IsNew};
 ghost use Rattle.aug_live.specs.LiveTries.{CameBack, Closes, IsHandleOf, IsOpenedTrie, KnowsMore, ids_of};
-ghost use Rattle.aug_live.specs.Plans.{Fits, least_plan};
+ghost use Rattle.aug_live.specs.Plans.{Fits, IsGreatest, least_plan};
 ghost use Rattle.aug_live.specs.inside.Desks.{IsNewBerth};
 ghost use Rattle.aug_live.specs.inside.LaneKnowledge.{handle_by};
 ghost use Rattle.aug_live.specs.inside.Rolls.{IsHandleEnd, IsOf, IsOpenedLane, Starts, rounds_in};
@@ -76,7 +76,7 @@ impl<A: Monoid, B: Monoid> Live<A, B> {
         requires lanes { handles ≤ plan.lanes }
         ensures handles { IfOk result (λ t. vec_len t.1 ≡ handles) }
         ensures opened { IfOk result (λ t. IsOpenedTrie set handles t.0) }
-        ensures new { IfOk result (λ t. All (IsNew t.0.table (ids_of t.0) set plan.updates) t.1.items) }
+        ensures new { IfOk result (λ t. All (IsNew t.0.table (ids_of t.0) set plan) t.1.items) }
         ensures same { IfErr result (λ e. e.0 ≡ set) }
         ensures bad_lanes { IsErrOf result (set, OpenError.BadLanes) ↔ IsRefused LayoutError.BadWorkers set.bits plan.lanes plan.updates (2 ^ set.bits) }
         ensures bad_updates { IsErrOf result (set, OpenError.BadUpdates) ↔ IsRefused LayoutError.BadUpdates set.bits plan.lanes plan.updates (2 ^ set.bits) }
@@ -151,7 +151,7 @@ impl<A: Monoid, B: Monoid> Live<A, B> {
     ) -> Result<(Live<A, B>, Vec<Handle<A, B>>), (Members, OpenError)>
         ensures handles { IfOk result (λ t. vec_len t.1 ≡ handles) }
         ensures opened { IfOk result (λ t. IsOpenedTrie set handles t.0) }
-        ensures new { IfOk result (λ t. (plan : Plan) × Fits set.bits memory plan × All (IsNew t.0.table (ids_of t.0) set plan.updates) t.1.items) }
+        ensures new { IfOk result (λ t. (plan : Plan) × IsGreatest set.bits handles memory plan × All (IsNew t.0.table (ids_of t.0) set plan) t.1.items) }
         ensures same { IfErr result (λ e. e.0 ≡ set) }
         ensures bad_handles { IsErrOf result (set, OpenError.BadHandles) ↔ IsOutside 1 64 handles }
         ensures too_large { IsErrOf result (set, OpenError.TooLarge) ↔ (IsWithin 1 64 handles × (Fits set.bits memory (least_plan handles) → ⊥)) }

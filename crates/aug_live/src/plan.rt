@@ -1,8 +1,8 @@
 //! How the rounds of a trie are laid out.
 ghost use Rattle.std.specs.Prelude.{◌≡◌, ◌≢◌, ◌↔◌, ◌*◌, ◌^◌, ◌≤◌, IfSome, IfNone, IfErr, IfOk, IsErrOf};
 ghost use Rattle.aug_core.specs.Layout.{IsLayout, IsRefused, IsWithin};
-ghost use Rattle.aug_core.specs.Places.{shape_of};
-ghost use Rattle.aug_live.specs.Plans.{Fits, least_plan};
+ghost use Rattle.aug_core.specs.Places.{shape_of, word_count};
+ghost use Rattle.aug_live.specs.Plans.{Fits, IsGreatest, least_plan};
 
 use crate::error::OpenError;
 use aug_core::{Layout, LayoutError, RECORD_WORDS};
@@ -10,7 +10,7 @@ use aug_core::{Layout, LayoutError, RECORD_WORDS};
 // If there are more lanes than handles, each lane has at least this many updates.
 const LEAST_UPDATES: u64 = 256;
 
-const MOST_LANES: u32 = 64;
+const MOST_LANES: u64 = 64;
 
 const MOST_UPDATES: u64 = 65_536;
 
@@ -28,11 +28,12 @@ pub struct Plan {
 }
 
 impl Plan {
-    /// The plan of a round for `handles` handles, whose table for the full set of `bits` bits takes at most `memory` bytes: up to 64
-    /// lanes, of 256 updates or more, and fewer lanes only if that many do not fit. None if not even one update of each
-    /// handle fits, or if no table has these numbers.
+    /// The greatest plan of a round for `handles` handles, whose table for the full set of `bits` bits takes at most `memory` bytes: up to
+    /// 64 lanes, of 256 updates or more, and fewer lanes only if that many do not fit; then as many updates as fit, up to 65,536. None if
+    /// not even one update of each handle fits, or if no table has these numbers.
     pub fn new(bits: u32, handles: u32, memory: u64) -> Option<Plan>
-        ensures fits { IfSome result (λ plan. (handles ≤ plan.lanes) × Fits bits memory plan × Fits bits memory (least_plan handles)) }
+        ensures greatest { IfSome result (IsGreatest bits handles memory) }
+        ensures fits { IfSome result (λ _. Fits bits memory (least_plan handles)) }
         ensures none { IfNone result (Fits bits memory (least_plan handles) → ⊥) }
     {
         let least = Plan {
@@ -40,16 +41,12 @@ impl Plan {
             updates: 1,
         };
         let words = least.words_within(bits, memory)?;
-        let room = (memory / 8).min(MOST_WORDS) - words;
-        let record_words = RECORD_WORDS as u64 * u64::from(bits);
-        let calls = room.saturating_sub(u64::from(MOST_LANES)) / record_words + u64::from(handles);
-        let lanes = ((calls / LEAST_UPDATES).min(u64::from(MOST_LANES)) as u32).max(handles);
-        let updates = (calls / u64::from(lanes)).min(MOST_UPDATES) as u32;
-        let plan = Plan { lanes, updates };
-        match plan.words_within(bits, memory) {
-            Some(_) => Some(plan),
-            None => Some(least),
-        }
+        // A lane takes a word, and so many for each of its updates.
+        let update = RECORD_WORDS as u64 * u64::from(bits);
+        let room = (memory / 8).min(MOST_WORDS) - words + u64::from(handles) * (1 + update);
+        let lanes = ((room / (1 + LEAST_UPDATES * update)).min(MOST_LANES) as u32).max(handles);
+        let updates = ((room / u64::from(lanes) - 1) / update).min(MOST_UPDATES) as u32;
+        Some(Plan { lanes, updates })
     }
 
     // Whether there is a table of this plan for the full set of `bits` bits.
@@ -72,7 +69,7 @@ impl Plan {
 
     // The words of a table for the full set, unless they take more bytes than that.
     fn words_within(&self, bits: u32, memory: u64) -> Option<u64>
-        ensures fits { IfSome result (λ words. Fits bits memory self.now × (8 * words ≤ memory) × (words ≤ 2 ^ 26)) }
+        ensures fits { IfSome result (λ words. Fits bits memory self.now × (words ≡ word_count (shape_of bits self.now.lanes self.now.updates (2 ^ bits)))) }
         ensures none { IfNone result (Fits bits memory self.now → ⊥) }
     {
         if bits > 16 {

@@ -1,8 +1,7 @@
-//! How rounds are planned by the memory of a table. Contracts say that a plan fits, and not how much of the memory it uses.
+//! How rounds are planned by the memory of a table.
 
-use crate::assertions::{equal, holds};
+use crate::assertions::equal;
 use aug_live::Plan;
-use std::process::Abort;
 
 // The words of a table for the full set of keys of `bits` bits.
 pub(super) fn words_of(bits: u32, plan: Plan) -> u64 {
@@ -16,66 +15,25 @@ pub(super) fn words_of(bits: u32, plan: Plan) -> u64 {
         .saturating_add(records.saturating_mul(5))
 }
 
-// The plan for some handles and bytes.
-fn planned(bits: u32, handles: u32, memory: u64) -> Option<Plan> {
-    Plan::new(bits, handles, memory)
-}
+// The bits of the keys, the handles, the bytes of a table, and the lanes and the updates of the greatest plan.
+type Row = (u32, u32, u64, u32, u32);
 
-// Whether a plan has a lane for each handle, at most 64, and more than that only of 256 updates or more.
-fn has_its_lanes(plan: Plan, handles: u32) -> bool {
-    plan.lanes >= handles && plan.lanes <= 64 && (plan.lanes == handles || plan.updates >= 256)
-}
-
-// Whether the table of a plan fits into some bytes, and no more updates do.
-fn uses_memory(bits: u32, plan: Plan, memory: u64) -> bool {
-    let words = words_of(bits, plan);
-    let more = words.saturating_add(
-        u64::from(plan.lanes)
-            .saturating_mul(5)
-            .saturating_mul(u64::from(bits))
-            .saturating_add(64),
-    );
-    let spent = more.saturating_mul(8) > memory || more > 1 << 26;
-    let full = plan.lanes == 64 && plan.updates == 65_536;
-    words.saturating_mul(8) <= memory && (spent || full)
-}
-
-// Compares the plans for some bits and handles with their tables, over the powers of two that the bytes of a table may be.
-fn uses_every_memory(rt: &impl Abort, bits: u32, handles: u32) {
-    let plan = Plan {
-        lanes: handles,
-        updates: 1,
-    };
-    let least = words_of(bits, plan).saturating_mul(8);
-    equal(rt, planned(bits, handles, least.saturating_sub(1)), None);
-    holds(rt, planned(bits, handles, least).is_some());
-    let mut memory = 1024u64;
-    for _ in 0..30 {
-        memory = memory.saturating_mul(2);
-        match planned(bits, handles, memory) {
-            None => holds(rt, memory < least),
-            Some(plan) => {
-                holds(rt, has_its_lanes(plan, handles));
-                holds(rt, uses_memory(bits, plan, memory));
-            }
-        }
-    }
-}
+// How the plans grow where there is room for one more update of each lane, or for one more lane.
+const ROWS: [Row; 7] = [
+    (6, 2, 4_272, 2, 1),
+    (6, 2, 5_231, 2, 2),
+    (6, 2, 5_232, 2, 3),
+    (6, 2, 188_119, 2, 384),
+    (6, 2, 188_120, 3, 256),
+    (16, 4, 64 << 20, 64, 1_548),
+    (1, 1, u64::MAX, 64, 65_536),
+];
 
 #[test]
-fn a_plan_uses_the_memory_that_there_is(rt: HostRuntime) {
-    for bits in 1..=16 {
-        for handles in [1, 2, 4, 33, 64] {
-            uses_every_memory(&rt, bits, handles);
-        }
+fn a_plan_is_the_greatest_that_fits(rt: HostRuntime) {
+    for (bits, handles, memory, lanes, updates) in ROWS {
+        let expected = Some(Plan { lanes, updates });
+        equal(&rt, Plan::new(bits, handles, memory), expected);
     }
-    let plan = planned(16, 4, 64 << 20);
-    equal(
-        &rt,
-        plan,
-        Some(Plan {
-            lanes: 64,
-            updates: 1548,
-        }),
-    );
+    equal(&rt, Plan::new(6, 2, 4_271), None);
 }

@@ -8,7 +8,8 @@ use Rattle.aug_core.specs.inside.Shows.{above, Lifts}
 use Rattle.aug_core.specs.declared.view.SeatView.{SeatView}
 use Rattle.aug_core.proofs.Refreshing.{covers_second}
 use Rattle.aug_core.proofs.Showing.{above_inner}
-use Rattle.aug_trie.specs.inside.Goes.{Goes, Took, TookBetween, HasRoom, part_steps, try_steps, level_steps, least_rise_steps, most_rise_steps}
+use Rattle.aug_trie.specs.Pass.{most_rise_steps}
+use Rattle.aug_trie.specs.inside.Goes.{Goes, Took, TookBetween, HasRoom, part_steps, try_steps, level_steps, least_rise_steps}
 use Rattle.aug_trie.specs.inside.Points.{TryAt, TryOver, point_turns}
 use Rattle.aug_trie.specs.inside.Stages.{LostTry, IsTry, IsCovered, HasRisen, MayRise, IsAtNode, IsOnWay, IsPastTry, part_above, ascent_turns}
 use Rattle.aug_trie.specs.declared.turns.points.Point.{Point}

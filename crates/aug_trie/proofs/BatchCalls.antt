@@ -21,11 +21,11 @@ use Rattle.aug_core.specs.declared.view.SeatView.{SeatView}
 use Rattle.aug_core.proofs.Fits.{knows_same}
 use Rattle.aug_core.proofs.PrefixLemmas.{book_trans}
 use Rattle.aug_words.specs.Seats.{Known}
-use Rattle.aug_trie.specs.UpdateBatches.{BatchPart, no_part, DoesPart, DoesBatch}
+use Rattle.aug_trie.specs.UpdateBatches.{BatchPart, no_part, DoesPart, DoesBatch, most_rises}
 use Rattle.aug_trie.specs.History.{last_cut}
 use Rattle.aug_trie.specs.Knowledge.{StandsIn}
 use Rattle.aug_trie.specs.Node.{Keeps}
-use Rattle.aug_trie.specs.Pass.{PassFacts, GoesOn, most_update_steps}
+use Rattle.aug_trie.specs.Pass.{PassFacts, GoesOn, most_update_steps, most_rise_steps}
 use Rattle.aug_trie.specs.Updates.{ComesTo}
 use Rattle.aug_trie.specs.declared.rounds.account.Account.{Account}
 use Rattle.aug_trie.specs.declared.updates.outcome.Outcome.{Outcome}
@@ -33,7 +33,7 @@ use Rattle.aug_trie.specs.declared.updates.request.Request.{Request}
 use Rattle.aug_trie.specs.inside.Batching.{LeftPart, LeftAll, RaisedAll, IsAccountAfter}
 use Rattle.aug_trie.specs.inside.Climbing.{CameTo, Settled}
 use Rattle.aug_trie.specs.inside.Counted.{HasCounts}
-use Rattle.aug_trie.specs.inside.Goes.{Goes, HasLeaves, HasRoom, most_rise_steps}
+use Rattle.aug_trie.specs.inside.Goes.{Goes, HasLeaves, HasRoom}
 use Rattle.aug_trie.specs.inside.Knows.{knows, KnowsRound}
 use Rattle.aug_trie.specs.inside.PassState.{pass_facts, known_in, IsPass}
 use Rattle.aug_trie.proofs.Accepting.{comes_to, knowledge_on, shown_number, stayed_by, updated_knowledge}
@@ -201,6 +201,9 @@ module _ {A B : Type 0} (parts_a : Parts A) (parts_b : Parts B) where
               let all : n * most_update_steps k.view.shape.bits ≡ n * most_rise_steps k.view.shape.bits + n * 2 = ap (λ (z : ℕ). n * z) (sym each) ∙ mul-add n (most_rise_steps k.view.shape.bits) 2 in
               let rise : n * most_rise_steps w.view.shape.bits ≡ n * most_rise_steps k.view.shape.bits = ap (λ (z : ℕ). n * most_rise_steps z) same in omega (arith, e, e', count, few, two, all, rise)
 
+          few_rises : length rest ≤ most_rises k.view.shape.bits keys
+          few_rises = subst (λ (z : Shape). length rest ≤ most_rises z.bits keys) left.goes.shaped (let count = raised.took.count in let few = raised.few_rises in omega (arith, count, few))
+
           does : DoesBatch requests keys outcomes (pass_facts k a.left) (pass_facts (record { table = k.table; view = z.view }) (a.left - n))
           does = record {
             parts = left.parts;
@@ -210,6 +213,7 @@ module _ {A B : Type 0} (parts_a : Parts A) (parts_b : Parts B) where
             rest = rest;
             steps = steps;
             no_other = raised.took.no_try;
+            few_rises = few_rises;
             few_steps = few_steps;
           }
 

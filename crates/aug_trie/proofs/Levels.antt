@@ -8,7 +8,8 @@ use Rattle.aug_core.specs.inside.Refreshes.{NewestCovers}
 use Rattle.aug_core.specs.declared.view.SeatView.{SeatView}
 use Rattle.aug_core.proofs.Showing.{first_children, later_children, shows_up}
 use Rattle.aug_core.proofs.Sizes.{twice}
-use Rattle.aug_trie.specs.inside.Goes.{HasLeaves, TookBetween, part_steps, try_steps, least_rise_steps, most_rise_steps}
+use Rattle.aug_trie.specs.Pass.{most_rise_steps}
+use Rattle.aug_trie.specs.inside.Goes.{HasLeaves, TookBetween, part_steps, try_steps, least_rise_steps}
 use Rattle.aug_trie.proofs.Going.{between_on}
 
 pub lifts_none : (s : Shape) (seen : Book) (key : ℕ) → Lifts s seen seen key 0

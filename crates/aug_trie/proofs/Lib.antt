@@ -42,6 +42,7 @@ pub mod EndedWalks
 pub mod Ranking
 pub mod Advancing
 pub mod Ascending
+pub mod Parting
 pub mod Raising
 pub mod Staging
 pub mod Turning

@@ -1,5 +1,5 @@
 -- Ways that join on the way to the root, and what going up one of them raises of the others.
-use Rattle.std.proofs.Common.{◌≡◌, ◌≢◌, ◌⊎◌, ℕ, zero, suc, ◌+◌, ◌-◌, ◌*◌, ◌/◌, ◌^◌, ◌<◌, ◌≤◌, List, [], All, length, get_or, suc-mul, sym, refl, ap, ◌∙◌, subst, inl, inr, ⊎_elim, arith}
+use Rattle.std.proofs.Common.{◌≡◌, ◌≢◌, ◌⊎◌, ℕ, suc, ◌+◌, ◌-◌, ◌*◌, ◌^◌, ◌<◌, ◌≤◌, List, [], All, length, get_or, suc-mul, sym, refl, ap, ◌∙◌, subst, inl, inr, ⊎_elim, arith}
 use Rattle.std.proofs.lemmas.Bool.{cases_eq, cases_lt}
 use Rattle.std.proofs.lemmas.Nat.{mul-le}
 use Rattle.std.proofs.lemmas.List.Elements.{All-get_or}
@@ -11,19 +11,14 @@ use Rattle.aug_core.specs.Effects.{KnowsTable}
 use Rattle.aug_core.specs.declared.view.SeatView.{SeatView}
 use Rattle.aug_core.proofs.Books.{there_is, no_shorter}
 use Rattle.aug_core.proofs.Showing.{shows_later, shows_rises}
-use Rattle.aug_trie.specs.inside.Batching.{IsRaised, Raises, AreOneAbove, RaisedAll}
-use Rattle.aug_trie.specs.inside.Goes.{Goes, Took, HasRoom, most_rise_steps}
+use Rattle.aug_trie.specs.inside.Batching.{IsRaised, Raises, RaisedAll}
+use Rattle.aug_trie.specs.Pass.{most_rise_steps}
+use Rattle.aug_trie.specs.inside.Goes.{Goes, Took, HasRoom}
 use Rattle.aug_trie.specs.inside.Stages.{IsCovered, HasRisen, MayRise}
 use Rattle.aug_trie.proofs.Going.{goes_self, goes_more, goes_on, took_none, took_on, room_left}
 use Rattle.aug_trie.proofs.Levels.{lifts_none, lifts_level}
-
--- two ways that are one at a level are so above it
-pub one_above : (s : Shape) (key next level : ℕ) → above s key (suc level) ≡ above s next (suc level) → AreOneAbove level s key next
-one_above s key next level same = λ l past up. subst (λ (z : ℕ). above s key z ≡ above s next z) (let e : suc level + (l - suc level) ≡ l = omega arith in e) (from (l - suc level))
-  where
-    from : (d : ℕ) → above s key (suc level + d) ≡ above s next (suc level + d)
-    from zero = let e : suc level ≡ suc level + 0 = omega arith in subst (λ (z : ℕ). above s key z ≡ above s next z) e same
-    from (suc d) = let e : suc (suc level + d) ≡ suc level + suc d = omega arith in subst (λ (z : ℕ). above s key z ≡ above s next z) e (ap (λ (z : ℕ). 2 ^ s.bits + z / 2) (from d))
+use Rattle.aug_trie.proofs.Parting.{AreOneAbove, all_rises, apart_few, first_rises, more_rises, one_above}
+use Rattle.aug_trie.specs.UpdateBatches.{apart}
 
 -- a way that was raised up to where it joins the next one
 pub raised_next : (s : Shape) (seen book : Book) (key here next level : ℕ) → AreOneAbove level s here next → IsRaised s seen book key here level → IsRaised s seen book key next 0
@@ -85,6 +80,7 @@ pub record RaisedSome (f : ℕ → ℕ → List (ℕ × ℕ) → List ℕ) (keys
   pub goes : Goes f (number + i * v.shape.bits) [] v u
   pub steps : ℕ
   pub few_steps : steps ≤ i * most_rise_steps v.shape.bits
+  pub few_rises : steps ≤ first_rises v.shape.bits keys i
   pub took : Took v u steps
   pub raised : (j : ℕ) → j < i → IsRaised v.shape v.seen u.seen (get_or keys j 0) (get_or keys i 0) 0
 
@@ -94,6 +90,7 @@ module _ (f : ℕ → ℕ → List (ℕ × ℕ) → List ℕ) (keys : List ℕ) 
     goes = goes_more f 0 (number + 0 * v.shape.bits) [] v v (omega arith) (goes_self f v kn);
     steps = 0;
     few_steps = omega arith;
+    few_rises = omega arith;
     took = took_none v v refl;
     raised = λ j none. absurd (omega (arith, none));
   }
@@ -145,13 +142,15 @@ module _ (f : ℕ → ℕ → List (ℕ × ℕ) → List ℕ) (keys : List ℕ) 
           subst (λ (z : Shape). IsRaised z v.seen w.seen (get_or keys j 0) key levels) same
           (raises v.seen (get_or keys j 0) (subst (λ (z : Shape). get_or keys j 0 < 2 ^ z.bits) (sym same) (key_low j there)) (subst (λ (z : Shape). IsRaised z v.seen u.seen (get_or keys j 0) key 0) (sym same) before))
 
-      pub raised_more : AreOneAbove levels v.shape key (get_or keys (i + 1) 0) → RaisedSome f keys number v (i + 1) w
-      raised_more one = record {
+      pub raised_more : i + 1 < length keys → levels ≡ apart v.shape.bits key (get_or keys (i + 1) 0) → RaisedSome f keys number v (i + 1) w
+      raised_more inside is = record {
         goes = goes_next;
         steps = r.steps + risen.took.steps;
         few_steps = steps_next;
+        few_rises = let had = r.few_rises in let more = risen.took.most_steps in let next = more_rises v.shape.bits keys i in let same = ap most_rise_steps is in omega (arith, had, more, next, same);
         took = took_on v u w r.steps risen.took.steps (r.steps + risen.took.steps) refl r.took risen.took.took;
-        raised = λ j below. raised_next v.shape v.seen w.seen (get_or keys j 0) key (get_or keys (i + 1) 0) levels one (raised_here j below);
+        raised = λ j below. raised_next v.shape v.seen w.seen (get_or keys j 0) key (get_or keys (i + 1) 0) levels
+            (subst (λ (z : ℕ). AreOneAbove z v.shape key (get_or keys (i + 1) 0)) (sym is) (one_above v.shape key (get_or keys (i + 1) 0) (key_low i within) (key_low (i + 1) inside))) (raised_here j below);
       }
 
       pub raised_last : i + 1 ≡ length keys → levels ≡ v.shape.bits → RaisedAll f keys number v w
@@ -159,6 +158,7 @@ module _ (f : ℕ → ℕ → List (ℕ × ℕ) → List ℕ) (keys : List ℕ) 
         goes = subst (λ (z : ℕ). Goes f (number + z * v.shape.bits) [] v w) all goes_next;
         steps = r.steps + risen.took.steps;
         few_steps = subst (λ (z : ℕ). r.steps + risen.took.steps ≤ z * most_rise_steps v.shape.bits) all steps_next;
+        few_rises = let had = r.few_rises in let more = risen.took.most_steps in let are = all_rises v.shape.bits keys i all in let same = ap most_rise_steps to_root in omega (arith, had, more, are, same);
         took = took_on v u w r.steps risen.took.steps (r.steps + risen.took.steps) refl r.took risen.took.took;
         lifts = λ j there. raised_here j (omega (arith, there, all)) v.shape.bits (omega arith) (inl (omega (arith, to_root)));
       }
@@ -167,7 +167,7 @@ module _ (f : ℕ → ℕ → List (ℕ × ℕ) → List ℕ) (keys : List ℕ) 
 pub record GoesUp (f : ℕ → ℕ → List (ℕ × ℕ) → List ℕ) (keys : List ℕ) (number : ℕ) (v : SeatView) (bits i from key : ℕ) (u : SeatView) : Type 0 where
   pub rises : MayRise f u.shape.bits from key u
   pub low : (levels : ℕ) → levels ≤ bits → (levels ≤ u.shape.bits) × (from + levels < 2 ^ 60)
-  pub more : (levels next : ℕ) (w : SeatView) → levels ≤ bits → next ≡ from + bits → i + 1 < length keys → AreOneAbove levels v.shape key (get_or keys (i + 1) 0) → HasRisen f u.shape.bits from key u levels w → Raises key u levels w
+  pub more : (levels next : ℕ) (w : SeatView) → levels ≡ apart bits key (get_or keys (i + 1) 0) → next ≡ from + bits → i + 1 < length keys → HasRisen f u.shape.bits from key u levels w → Raises key u levels w
       → (next ≡ number + (i + 1) * v.shape.bits) × RaisedSome f keys number v (i + 1) w
   pub last : (w : SeatView) → i + 1 ≡ length keys → HasRisen f u.shape.bits from key u bits w → Raises key u bits w → RaisedAll f keys number v w
 
@@ -178,7 +178,7 @@ goes_up {f} {keys} {number} {v} {bits} {i} {from} {u} same low room small within
       rises = may_go f keys number v low i u within r (subst (λ (z : ℕ). HasRoom v number (length keys * z)) same room);
       low = λ levels few. let shaped = ap (λ (z : Shape). z.bits) r.goes.shaped in let next = next_from f keys number v low i u within r in let le = room_next f keys number v low i u within r in
           let all = ap (λ (z : ℕ). number + length keys * z) same in (omega (arith, shaped, few), omega (arith, few, next, le, all, small));
-      more = λ levels next w few here inside one risen raises. (here ∙ next_from f keys number v low i u within r, raised_more f keys number v low i u within r levels w few risen raises one);
+      more = λ levels next w is here inside risen raises. (here ∙ next_from f keys number v low i u within r, raised_more f keys number v low i u within r levels w (let few = apart_few v.shape.bits (get_or keys i 0) (get_or keys (i + 1) 0) in omega (arith, is, few)) risen raises inside is);
       last = λ w all risen raises. raised_last f keys number v low i u within r v.shape.bits w (omega arith) risen raises all refl;
     }
 
@@ -188,6 +188,7 @@ raised_nothing f number v keys none kn = record {
   goes = goes_more f 0 (number + length keys * v.shape.bits) [] v v (omega arith) (goes_self f v kn);
   steps = 0;
   few_steps = omega arith;
+  few_rises = omega arith;
   took = took_none v v refl;
   lifts = λ i there. absurd (omega (arith, there, none));
 }

@@ -13,7 +13,8 @@ use Rattle.aug_trie.specs.declared.updates.outcome.Outcome.{Outcome}
 use Rattle.aug_trie.specs.declared.updates.outcome.Outcome.TheVariants.{Refused}
 use Rattle.aug_words.specs.Seats.{MayAdvance, TriedLeaf}
 use Rattle.aug_trie.specs.inside.RoundState.{eras_of}
-use Rattle.aug_trie.specs.inside.Goes.{HasLeaves, HasRoom, Goes, try_steps, level_steps, most_rise_steps}
+use Rattle.aug_trie.specs.Pass.{most_rise_steps}
+use Rattle.aug_trie.specs.inside.Goes.{HasLeaves, HasRoom, Goes, try_steps, level_steps}
 use Rattle.aug_trie.specs.inside.Climbing.{Updated, advance_from}
 use Rattle.aug_trie.specs.inside.PassState.{IsPass}
 use Rattle.aug_trie.specs.LeafWords.{serial_in_word}

@@ -13,10 +13,10 @@ use Rattle.aug_core.specs.Effects.{own_lane, KnowsTable}
 use Rattle.aug_core.specs.declared.view.SeatView.{SeatView}
 use Rattle.aug_trie.specs.declared.updates.outcome.Outcome.{Outcome}
 use Rattle.aug_trie.specs.inside.Climbing.{Updated}
-use Rattle.aug_trie.specs.inside.Goes.{part_steps, try_steps, level_steps, most_rise_steps}
+use Rattle.aug_trie.specs.inside.Goes.{part_steps, try_steps, level_steps}
 use Rattle.aug_trie.specs.inside.Knows.{root_history, knows, root_numbers}
 use Rattle.aug_trie.specs.Updates.{ComesTo}
-use Rattle.aug_trie.specs.Pass.{PassFacts, GoesOn, StepsOf}
+use Rattle.aug_trie.specs.Pass.{PassFacts, GoesOn, StepsOf, most_rise_steps}
 use Rattle.aug_trie.specs.inside.PassState.{pass_facts}
 use Rattle.aug_trie.specs.inside.RoundState.{round_of, eras_of, past_rounds}
 use Rattle.aug_trie.specs.Node.{Keeps}

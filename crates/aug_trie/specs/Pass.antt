@@ -78,6 +78,10 @@ least_update_steps bits = 15 * bits - 5
 abbrev pub most_update_steps : ℕ → ℕ
 most_update_steps bits = 30 * bits - 10
 
+-- the most of them that are made at the nodes above the leaf, up to a level: two tries at each
+abbrev pub most_rise_steps : ℕ → ℕ
+most_rise_steps level = 30 * level - 12
+
 -- an update's steps: their number has a lower and an upper bound; the first loads the key's leaf. If the word found refuses, no leaf is exchanged.
 -- Otherwise the second step is the only exchange of a leaf, of the word found for the one that the request makes of it, and the outcome says whether
 -- it succeeded. If nothing was stored, the last cut shows what prevented the update, so the steps brought that to the root. What was stored is reckoned

@@ -1,5 +1,5 @@
 -- Each step of a lock keeps its rule.
-use Rattle.std.proofs.Common.{◌≡◌, ◌≢◌, ℕ, zero, suc, ◌<◌, List, [], ◌∷◌, ◌++◌, map, get_or, set, sym, refl, ap, ◌∙◌, subst, eqb, ⊎_elim, arith, length-set, get_or-set_same}
+use Rattle.std.proofs.Common.{◌≡◌, ◌≢◌, ℕ, zero, suc, ◌+◌, ◌<◌, List, [], ◌∷◌, ◌++◌, map, get_or, set, sym, refl, ap, ◌∙◌, subst, eqb, ⊎_elim, arith, length-set, get_or-set_same}
 use Rattle.std.specs.Prelude.{Option, Some, None, unwrap_or, IfSome}
 use mathlib.Core.Logic.{dite}
 use mathlib.Core.Option.{some, none, some-injective, some-ne-none}
@@ -67,43 +67,53 @@ module _ {T V : Type 0} (holds : T → List V → Type 0) where
   still_out value holder j n n' p (Some t) k = (p, k.1, k.2)
 
   module _ (fact : V → T → Type 0) where
-    hits : (s : St) (r : Rule s) (n id : ℕ) (v : V) (d : D) → get_elem? s.views id ≡ some d → d.client ≡ v → word s ≡ 0 → 0 < n → Rule (stepped s 16 n id [] (doing (Some r.value) v) (takes 8 (Some r.value)))
+    hits : (s : St) (r : Rule s) (n id : ℕ) (v : V) (d : D) → get_elem? s.views id ≡ some d → d.client ≡ v → word s ≡ 0 → 0 < n → Rule (stepped s 16 n id [] (doing (Some r.value) d.missed v) (takes 8 (Some r.value)))
     hits s r n id v d at e z p = let wide = r.wide in let now : get_or (set s.words 16 n) 16 0 ≡ n = get_or-set_same s.words 16 n 0 (omega arith) in record {
       value = r.value;
       holder = id;
       wide = length-set s.words 16 n ∙ wide;
       at_home = λ free. absurd (omega arith);
-      held = λ _. (doing (Some r.value) v, replaced s.views id d (doing (Some r.value) v) at, refl);
-      each_seat = subst (λ (k : ℕ). (j : ℕ) (d : D) → get_elem? (set s.views id (doing (Some r.value) v)) j ≡ some d → KnowsValue k r.value id j d.taken) (sym now)
-          (seats_stay (λ j o. KnowsValue n r.value id j o) s.views id (doing (Some r.value) v) (p, refl, refl) (λ j d other there. none_taken r.value r.holder j (word s) z d.taken (r.each_seat j d there) n r.value id));
-      kept = same_clients r.value s.views id d (doing (Some r.value) v) at (sym e) r.kept;
+      held = λ _. (doing (Some r.value) d.missed v, replaced s.views id d (doing (Some r.value) d.missed v) at, refl);
+      each_seat = subst (λ (k : ℕ). (j : ℕ) (e : D) → get_elem? (set s.views id (doing (Some r.value) d.missed v)) j ≡ some e → KnowsValue k r.value id j e.taken) (sym now)
+          (seats_stay (λ j o. KnowsValue n r.value id j o) s.views id (doing (Some r.value) d.missed v) (p, refl, refl) (λ j e other there. none_taken r.value r.holder j (word s) z e.taken (r.each_seat j e there) n r.value id));
+      kept = same_clients r.value s.views id d (doing (Some r.value) d.missed v) at (sym e) r.kept;
     }
 
-    misses : (s : St) (r : Rule s) (n id : ℕ) (cs : List (ℕ × Option T)) (d : D) → get_elem? s.views id ≡ some d → word s ≢ 0 → 0 < n → Rule (stepped s 16 n id cs d keeps)
+    -- the seat's view after a try that missed
+    abbrev more : D → D
+    more d = doing d.taken (d.missed + 1) d.client
+
+    misses : (s : St) (r : Rule s) (n id : ℕ) (cs : List (ℕ × Option T)) (d : D) → get_elem? s.views id ≡ some d → word s ≢ 0 → 0 < n → Rule (stepped s 16 n id cs (more d) keeps)
     misses s r n id cs d at z p = let wide = r.wide in let now : get_or (set s.words 16 n) 16 0 ≡ n = get_or-set_same s.words 16 n 0 (omega arith) in record {
       value = r.value;
       holder = r.holder;
       wide = length-set s.words 16 n ∙ wide;
       at_home = λ free. absurd (omega arith);
-      held = λ _. let h = r.held (omega arith) in (h.0, subst (λ (vs : List D). get_elem? vs r.holder ≡ some h.0) (sym (set_again s.views id d at)) h.1, h.2);
-      each_seat = subst (λ (k : ℕ). (j : ℕ) (e : D) → get_elem? (set s.views id d) j ≡ some e → KnowsValue k r.value r.holder j e.taken) (sym now)
-          (seats_stay (λ j o. KnowsValue n r.value r.holder j o) s.views id d (still_out r.value r.holder id (word s) n p d.taken (r.each_seat id d at))
+      held = λ _. let h = r.held (omega arith) in dite (ℕ_discrete r.holder id)
+          (λ same. (
+            more d,
+            subst (λ (k : ℕ). get_elem? (set s.views id (more d)) k ≡ some (more d)) (sym same) (replaced s.views id d (more d) at),
+            ap (λ (z : D). z.taken) (some-injective d h.0 (sym at ∙ ap (λ (k : ℕ). get_elem? s.views k) (sym same) ∙ h.1)) ∙ h.2,
+          ))
+          (λ other. (h.0, set_else s.views id r.holder (more d) other ∙ h.1, h.2));
+      each_seat = subst (λ (k : ℕ). (j : ℕ) (e : D) → get_elem? (set s.views id (more d)) j ≡ some e → KnowsValue k r.value r.holder j e.taken) (sym now)
+          (seats_stay (λ j o. KnowsValue n r.value r.holder j o) s.views id (more d) (still_out r.value r.holder id (word s) n p d.taken (r.each_seat id d at))
           (λ j e other there. still_out r.value r.holder j (word s) n p e.taken (r.each_seat j e there)));
-      kept = same_clients r.value s.views id d d at refl r.kept;
+      kept = same_clients r.value s.views id d (more d) at refl r.kept;
     }
 
     -- a try: the word becomes some number but 0
     pub tries : (slots id : ℕ) (me : M) (f : ℕ → ℕ) (old new : ℕ) → ((n : ℕ) → 0 < f n) → me.0.taken ≡ None → me.1 ≡ [] → Learns holds id me.0.client fact
         → Allows Rule slots id me 16 f (tried fact (step slots 16 old new none) me)
     tries slots id me f old new up free empty learns s r _ at _ = dite (ℕ_discrete (word s) 0)
-        (λ hit. let w : D = doing (Some r.value) me.0.client in (
+        (λ hit. let w : D = doing (Some r.value) me.0.missed me.0.client in (
           w,
           takes 8 (Some r.value),
           r.at_home hit,
           hits s r (f (word s)) id me.0.client me.0 at refl hit (up (word s)),
           ((λ _. (r.value, ap (λ (c : List (ℕ × Option T)). (w, (8, Some r.value) ∷ c)) empty, learns r.value (map client s.views) r.kept (at_map client s.views id me.0 at))), λ not. absurd (not hit)),
         ))
-        (λ miss. (me.0, keeps, tt, misses s r (f (word s)) id me.1 me.0 at miss (up (word s)), ((λ hit. absurd (miss hit)), λ _. refl)))
+        (λ miss. (more me.0, keeps, tt, misses s r (f (word s)) id me.1 me.0 at miss (up (word s)), ((λ hit. absurd (miss hit)), λ _. refl)))
 
   module _ (then : V → T → T → V → Type 0) where
     -- the value is put back, and the word becomes 0
@@ -112,7 +122,7 @@ module _ {T V : Type 0} (holds : T → List V → Type 0) where
     unfolding in_slot
     puts slots id me t y room took has asked s r homes at _ = let known = subst (KnowsValue (word s) r.value r.holder id) took (r.each_seat id me.0 at) in
         let turn = asked (map client s.views) (subst (λ (x : T). holds x (map client s.views)) (sym known.2) r.kept) (at_map client s.views id me.0 at) in
-        let w : D = idle turn.0 in let wide = r.wide in let now : get_or (set s.words 16 0) 16 0 ≡ 0 = get_or-set_same s.words 16 0 0 (omega arith) in (
+        let w : D = doing None me.0.missed turn.0 in let wide = r.wide in let now : get_or (set s.words 16 0) 16 0 ≡ 0 = get_or-set_same s.words 16 0 0 (omega arith) in (
           w,
           gives,
           tt,
@@ -133,8 +143,8 @@ module _ {T V : Type 0} (holds : T → List V → Type 0) where
           ),
         )
 
-  pub cuts : (id : ℕ) (d : D) (left right : V) → Forks holds id d.client left right → Splits Rule id d (doing d.taken left) (idle right)
-  cuts id d left right asked s r at = let w : D = doing d.taken left in record {
+  pub cuts : (id : ℕ) (d : D) (left right : V) → Forks holds id d.client left right → Splits Rule id d (doing d.taken d.missed left) (idle right)
+  cuts id d left right asked s r at = let w : D = doing d.taken d.missed left in record {
     value = r.value;
     holder = r.holder;
     wide = r.wide;
@@ -160,8 +170,8 @@ module _ {T V : Type 0} (holds : T → List V → Type 0) where
 
   -- a seat takes in the view of another, which has taken nothing and is spent then
   pub joins : (id : ℕ) (d : D) (other : ℕ) (e : D) (both spent : V) → Meets holds id d.client other e.client both spent → e.taken ≡ None
-      → Joins Rule id d other e (doing d.taken both) (idle spent)
-  joins id d other e both spent asked free s r at apart there = let w : D = doing d.taken both in let joined : List D = set s.views id w in
+      → Joins Rule id d other e (doing d.taken d.missed both) (idle spent)
+  joins id d other e both spent asked free s r at apart there = let w : D = doing d.taken d.missed both in let joined : List D = set s.views id w in
       let before : get_elem? s.views other ≡ some e = sym (set_else s.views id other w apart) ∙ there in record {
         value = r.value;
         holder = r.holder;

@@ -11,6 +11,10 @@ module _ {T V : Type 0} where
   abbrev pub client_of : Seat (Option T) (Holding T V) → V
   client_of p = p.me.0.client
 
+  -- how often a pass tried to take the value and found it out
+  abbrev pub missed_of : Seat (Option T) (Holding T V) → ℕ
+  missed_of p = p.me.0.missed
+
   abbrev pub IsSamePass : Seat (Option T) (Holding T V) → Seat (Option T) (Holding T V) → Type 0
   IsSamePass p q = (q.table_id ≡ p.table_id) × (q.id ≡ p.id)
 

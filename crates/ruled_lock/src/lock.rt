@@ -1,6 +1,6 @@
 //! The lock.
 ghost use Rattle.std.specs.Prelude.{◌≡◌, ◌≢◌, ◌+◌, ◌<◌, ◌≤◌, ◌++◌, [], ◌∷◌, IfErr, IfOk, IfSome, IsSome, None, Some, vec_capacity, vec_len};
-ghost use Rattle.ruled_lock.specs.Locks.{client_of, IsSamePass, HoldsNothing, Holds, Learns, TurnsAt, Forks, Meets};
+ghost use Rattle.ruled_lock.specs.Locks.{client_of, missed_of, IsSamePass, HoldsNothing, Holds, Learns, TurnsAt, Forks, Meets};
 
 use crate::effects::{Both, Cut, Give, Try};
 use crate::holding::Holding;
@@ -116,7 +116,8 @@ impl<T, V, P: LockRule<T, V>> RuledLock<T, V, P> {
         self.table.shared.join_seat::<Both<M>>(pass, other);
     }
 
-    /// Takes the value out. If another pass has it, the call waits or gives up, as its patience says.
+    /// Takes the value out. If another pass has it, the call waits or gives up, as its patience says. It gives up only where it found the value
+    /// out.
     #[inline(always)]
     pub fn take<M: Lesson<T, V>, W: Patience>(
         &self,
@@ -131,6 +132,7 @@ impl<T, V, P: LockRule<T, V>> RuledLock<T, V, P> {
         ensures holds { IfOk result (λ t. Holds t None pass.new) }
         ensures fact { IfOk result (λ t. M.fact (client_of pass.old) t) }
         ensures free { IfErr result (λ _. HoldsNothing pass.new) }
+        ensures missed { IfErr result (λ _. missed_of pass.old < missed_of pass.new) }
     {
         match how.acquire::<T, V, P, M>(self, pass) {
             Ok(()) => match self.table.shared.exchange(pass, SLOT, None) {
@@ -151,6 +153,7 @@ impl<T, V, P: LockRule<T, V>> RuledLock<T, V, P> {
         ensures view { client_of pass.new ≡ client_of pass.old }
         ensures holds { result ≡ 0 → (t : T) × Holds t (Some t) pass.new × M.fact (client_of pass.old) t }
         ensures free { result ≢ 0 → HoldsNothing pass.new }
+        ensures missed { result ≢ 0 → missed_of pass.new ≡ missed_of pass.old + 1 }
     {
         self.table
             .shared

@@ -1,6 +1,6 @@
 //! How a call meets a lock whose value is out.
-ghost use Rattle.std.specs.Prelude.{◌≡◌, IfErr, IfOk, Some};
-ghost use Rattle.ruled_lock.specs.Locks.{client_of, IsSamePass, HoldsNothing, Holds, Learns};
+ghost use Rattle.std.specs.Prelude.{◌≡◌, ◌<◌, IfErr, IfOk, Some};
+ghost use Rattle.ruled_lock.specs.Locks.{client_of, missed_of, IsSamePass, HoldsNothing, Holds, Learns};
 
 use crate::lock::{Pass, RuledLock};
 use crate::rule::{Lesson, LockRule};
@@ -11,7 +11,7 @@ pub trait Patience {
     /// What shows that the call gave up.
     type GaveUp;
 
-    /// Takes the slot of a lock. If it gives up, nothing has changed.
+    /// Takes the slot of a lock. It gives up only where it found the value out, and then nothing else has changed.
     fn acquire<T, V, P: LockRule<T, V>, M: Lesson<T, V>>(
         &self,
         lock: &RuledLock<T, V, P>,
@@ -23,7 +23,8 @@ pub trait Patience {
         ensures same { IsSamePass pass.old pass.new }
         ensures view { client_of pass.new ≡ client_of pass.old }
         ensures holds { IfOk result (λ _. (t : T) × Holds t (Some t) pass.new × M.fact (client_of pass.old) t) }
-        ensures free { IfErr result (λ _. HoldsNothing pass.new) };
+        ensures free { IfErr result (λ _. HoldsNothing pass.new) }
+        ensures missed { IfErr result (λ _. missed_of pass.old < missed_of pass.new) };
 }
 
 /// It waits until the value is back, and gives up never.

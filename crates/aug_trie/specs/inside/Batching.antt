@@ -12,12 +12,12 @@ use Rattle.aug_trie.specs.declared.updates.outcome.Outcome.{Outcome}
 use Rattle.aug_trie.specs.declared.updates.outcome.Outcome.TheVariants.{Refused}
 use Rattle.aug_trie.specs.declared.updates.request.Request.{Request}
 use Rattle.aug_trie.specs.declared.updates.request.Request.TheVariants.{Insert}
-use Rattle.aug_trie.specs.UpdateBatches.{BatchPart, no_part}
-use Rattle.aug_trie.specs.Pass.{TryNoLeaf, ExchangesOnce}
+use Rattle.aug_trie.specs.UpdateBatches.{BatchPart, no_part, most_rises}
+use Rattle.aug_trie.specs.Pass.{TryNoLeaf, ExchangesOnce, most_rise_steps}
 use Rattle.aug_trie.specs.Requests.{goes_from, outcome_at_once}
 use Rattle.aug_trie.specs.inside.Climbing.{CameTo}
 use Rattle.aug_trie.specs.inside.Counted.{HasCounts, insertions_by, removals_by}
-use Rattle.aug_trie.specs.inside.Goes.{Goes, Took, most_rise_steps}
+use Rattle.aug_trie.specs.inside.Goes.{Goes, Took}
 
 -- the way of a key shows what its leaf had reached at each level, but for those above this one at which it has joined the way of the next key
 abbrev pub IsRaised : Shape → Book → Book → ℕ → ℕ → ℕ → Type 0
@@ -26,10 +26,6 @@ IsRaised s seen book key next level = (l : ℕ) → l ≤ s.bits → (l ≤ leve
 -- going up the way of a key to a level raises all ways that it has joined
 abbrev pub Raises : ℕ → SeatView → ℕ → SeatView → Type 0
 Raises next v level w = (seen : Book) (key : ℕ) → key < 2 ^ v.shape.bits → IsRaised v.shape seen v.seen key next 0 → IsRaised v.shape seen w.seen key next level
-
--- the ways of two keys are one at each level above this one
-abbrev pub AreOneAbove : ℕ → Shape → ℕ → ℕ → Type 0
-AreOneAbove level s key next = (l : ℕ) → level < l → l ≤ s.bits → above s key l ≡ above s next l
 
 -- the account once so many updates were made
 abbrev pub IsAccountAfter : ℕ → Account → Account → Type 0
@@ -76,5 +72,6 @@ module _ (face : ℕ → ℕ → List (ℕ × ℕ) → List ℕ) where
     pub goes : Goes face (number + length keys * v.shape.bits) [] v w
     pub steps : ℕ
     pub few_steps : steps ≤ length keys * most_rise_steps v.shape.bits
+    pub few_rises : steps ≤ most_rises v.shape.bits keys
     pub took : Took v w steps
     pub lifts : (i : ℕ) → i < length keys → Lifts v.shape v.seen w.seen (get_or keys i 0) v.shape.bits

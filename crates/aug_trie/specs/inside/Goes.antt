@@ -98,10 +98,6 @@ level_steps = 2 * try_steps part_words
 abbrev pub least_rise_steps : ℕ → ℕ
 least_rise_steps level = 15 * level - 6
 
--- and the most: two tries at each
-abbrev pub most_rise_steps : ℕ → ℕ
-most_rise_steps level = 30 * level - 12
-
 module _ {A B : Type 0} (parts_a : Parts A) (parts_b : Parts B) where
   -- a count and two folds of keys with their weights
   pub record IsPart (count : ℕ) (a : A) (b : B) (pairs : List (ℕ × ℕ)) : Type 0 where

@@ -1,12 +1,12 @@
 //! Updates of several keys: each at its leaf first, and then each node above them once.
 ghost use Rattle.std.specs.Prelude.{◌≡◌, ◌+◌, ◌*◌, ◌^◌, ◌<◌, ◌≤◌, All, length, drop};
 ghost use Rattle.aug_core.specs.Faces.{face};
-ghost use Rattle.aug_core.specs.Places.{Shape};
 ghost use Rattle.aug_core.specs.Counts.{changes_of};
 ghost use Rattle.aug_core.specs.Effects.{MayChange, KnowsTable};
+ghost use Rattle.aug_trie.specs.UpdateBatches.{apart};
 ghost use Rattle.aug_trie.specs.inside.Climbing.{FitsRequest};
 ghost use Rattle.aug_trie.specs.inside.Goes.{HasLeaves, HasRoom};
-ghost use Rattle.aug_trie.specs.inside.Batching.{AreOneAbove, IsAccountAfter, LeftAll, LeftLeaf, RaisedAll};
+ghost use Rattle.aug_trie.specs.inside.Batching.{IsAccountAfter, LeftAll, LeftLeaf, RaisedAll};
 ghost use Rattle.aug_trie.specs.inside.Counted.{HasCounts};
 ghost use Rattle.aug_trie.specs.inside.PassState.{IsPass};
 
@@ -83,18 +83,14 @@ pub(crate) fn at_leaves<A: Monoid, B: Monoid>(
 
 // The highest level at which the ways of two keys are apart, or 0.
 #[inline(always)]
-fn levels_apart(leaves: usize, bits: u32, key: usize, next: usize) -> u32
-    requires leaves { leaves ≤ 65536 }
-    requires key { key < 2 ^ 32 }
-    requires next { next < 2 ^ 32 }
-    ensures few { result ≤ bits }
-    ensures apart { (s : Shape) → leaves ≡ 2 ^ s.bits → bits ≡ s.bits → AreOneAbove result s key next }
+fn levels_apart(bits: u32, key: u32, next: u32) -> u32
+    ensures { result ≡ apart bits key next }
 {
     let mut node = key;
     let mut other = next;
     for level in 0..bits {
-        node = leaves + node / 2;
-        other = leaves + other / 2;
+        node /= 2;
+        other /= 2;
         if node == other {
             return level;
         }
@@ -128,9 +124,9 @@ pub(crate) fn propagate_all<'r, A: Monoid, B: Monoid>(
     }
     let last = keys.len() - 1;
     for place in 0..last {
-        let key = keys[place] as usize;
-        let levels = levels_apart(leaves, bits, key, keys[place + 1] as usize);
-        pass = propagate(pass, leaves, levels, key, number);
+        let key = keys[place];
+        let levels = levels_apart(bits, key, keys[place + 1]);
+        pass = propagate(pass, leaves, levels, key as usize, number);
         number += u64::from(bits);
     }
     propagate(pass, leaves, bits, keys[last] as usize, number)

@@ -1,6 +1,6 @@
 -- The rule of the table of a lock, and what each step shows. Word 16 is 0 if the value is in the lock, in slot 8. No other word or slot is used. While a
 -- seat holds the value, the caller's rule holds for the value that the seat took.
-use Rattle.std.specs.Prelude.{◌≡◌, ◌≢◌, ℕ, ◌<◌, List, [], ◌∷◌, map, length, slice_index, Option, Some, None, IfSome}
+use Rattle.std.specs.Prelude.{◌≡◌, ◌≢◌, ℕ, ◌+◌, ◌<◌, List, [], ◌∷◌, map, length, slice_index, Option, Some, None, IfSome}
 use mathlib.Core.Option.{some}
 use lib.ListN.{get_elem?}
 use Rattle.atomic_table.specs.Table.{State, Me, Step, rest}
@@ -28,15 +28,15 @@ abbrev pub LockSeat : Type 0 → Type 0 → Type 0
 LockSeat T V = Me (Option T) (Holding T V)
 
 module _ {T V : Type 0} where
-  abbrev pub doing : Option T → V → Holding T V
-  doing taken v = record { taken = taken; client = v }
+  abbrev pub doing : Option T → ℕ → V → Holding T V
+  doing taken missed v = record { taken = taken; missed = missed; client = v }
 
   abbrev pub idle : V → Holding T V
-  idle v = doing None v
+  idle v = doing None 0 v
 
-  -- the word was 0 and the slot was taken, or nothing changed
+  -- the word was 0 and the slot was taken, or it was not, and nothing changed but the count of that
   abbrev pub tried : (V → T → Type 0) → Step (Option T) → LockSeat T V → ℕ → LockSeat T V → Type 0
-  tried fact st m r m' = (r ≡ 0 → (t : T) × (m' ≡ (doing (Some t) m.0.client, (8, Some t) ∷ [])) × fact m.0.client t) × (r ≢ 0 → m' ≡ m)
+  tried fact st m r m' = (r ≡ 0 → (t : T) × (m' ≡ (doing (Some t) m.0.missed m.0.client, (8, Some t) ∷ [])) × fact m.0.client t) × (r ≢ 0 → m' ≡ (doing m.0.taken (m.0.missed + 1) m.0.client, m.1))
 
   -- the slot was given back
   abbrev pub gave : (V → T → T → V → Type 0) → Step (Option T) → LockSeat T V → ℕ → LockSeat T V → Type 0

@@ -66,7 +66,7 @@ returns-clause-new g c =
     let begun = c.in-Ok-next_round.ensures.begun in let lanes = c.open_lanes-ports.ensures in let first = c.in-Ok-next_round.begun.crew in let rounds = rounds_in first in let out = c.hand_out-handles.ensures in
     let is = c.place-desk.ensures.owner in let ends = c.open_lanes-ports.result.1.items in let ids = ids_of c.of.result.value in let at = λ (e : EndFacts). handle_by ids (Some e) in
     let firsts = All-map (IsFirst rounds ids) at ends (λ k d low. let s = lanes.starts k d low in record { of_lanes = refl; era_is = s.era_is; fresh = s.fresh; none_made = s.none_made }) in
-    subst (λ (z : TableId × List TableId × List HandleFacts). All (IsNew z.0 z.1 c.args.set c.args.plan.updates) z.2) (λ i. (sym (ap (λ (z : TrieFacts). z.table) is) i, ap ids_of c.of.ensures i, sym out.at i))
+    subst (λ (z : TableId × List TableId × List HandleFacts). All (IsNew z.0 z.1 c.args.set c.args.plan) z.2) (λ i. (sym (ap (λ (z : TrieFacts). z.table) is) i, ap ids_of c.of.ensures i, sym out.at i))
     (all_new c.args.set c.args.plan.lanes c.args.plan.updates (arc_value c.in-Ok-next_round.begun.round) first ids (map at ends) begun firsts)
 
 pub returns-clause-opened : goal.returns-clause-opened

@@ -4,6 +4,7 @@ use Rattle.aug_core.specs.Faces.{face}
 use Rattle.aug_core.specs.Places.{Shape}
 use Rattle.aug_trie.specs.inside.Goes.{HasLeaves}
 use Rattle.aug_trie.proofs.Raising.{GoesUp, goes_up, raised_start, raised_nothing}
+use Rattle.aug_trie.proofs.Parting.{few_levels}
 use Rattle.aug_trie.proofs.updates.batch.propagate_all.Goals as goal
 
 pub returns-then-is_empty-clause-raised : goal.returns-then-is_empty-clause-raised
@@ -19,18 +20,17 @@ pub propagate-pass-requires-clause-rises : goal.propagate-pass-requires-clause-r
 propagate-pass-requires-clause-rises g c = let within : c.loop-place.place < length c.args.keys.now = (let test = c.loop-place-test.true in omega arith) in let up = goes_up c.requires.bits c.requires.keys c.requires.room c.requires.small within c.loop-place.invariant.number c.loop-place.invariant.raised in up.rises
 
 pub propagate-pass-requires-clause-levels : goal.propagate-pass-requires-clause-levels
-propagate-pass-requires-clause-levels g c = let within : c.loop-place.place < length c.args.keys.now = (let test = c.loop-place-test.true in omega arith) in let up = goes_up c.requires.bits c.requires.keys c.requires.room c.requires.small within c.loop-place.invariant.number c.loop-place.invariant.raised in (up.low c.levels_apart-levels.result c.levels_apart-levels.ensures.few).0
+propagate-pass-requires-clause-levels g c = let within : c.loop-place.place < length c.args.keys.now = (let test = c.loop-place-test.true in omega arith) in let up = goes_up c.requires.bits c.requires.keys c.requires.room c.requires.small within c.loop-place.invariant.number c.loop-place.invariant.raised in (up.low c.levels_apart-levels.result (few_levels c.args.bits _ _ _ c.levels_apart-levels.ensures)).0
 
 pub propagate-pass-requires-clause-small : goal.propagate-pass-requires-clause-small
-propagate-pass-requires-clause-small g c = let within : c.loop-place.place < length c.args.keys.now = (let test = c.loop-place-test.true in omega arith) in let up = goes_up c.requires.bits c.requires.keys c.requires.room c.requires.small within c.loop-place.invariant.number c.loop-place.invariant.raised in (up.low c.levels_apart-levels.result c.levels_apart-levels.ensures.few).1
+propagate-pass-requires-clause-small g c = let within : c.loop-place.place < length c.args.keys.now = (let test = c.loop-place-test.true in omega arith) in let up = goes_up c.requires.bits c.requires.keys c.requires.room c.requires.small within c.loop-place.invariant.number c.loop-place.invariant.raised in (up.low c.levels_apart-levels.result (few_levels c.args.bits _ _ _ c.levels_apart-levels.ensures)).1
 
 pub overflow_add-number : goal.overflow_add-number
 overflow_add-number g c = let within : c.loop-place.place < length c.args.keys.now = (let test = c.loop-place-test.true in omega arith) in let up = goes_up c.requires.bits c.requires.keys c.requires.room c.requires.small within c.loop-place.invariant.number c.loop-place.invariant.raised in let is = c.from-number.ensures in let low = (up.low c.args.bits (omega arith)).1 in omega (arith, is, low)
 
 pub loop-place-preserved : goal.loop-place-preserved
 loop-place-preserved g c = let within : c.loop-place.place < length c.args.keys.now = (let test = c.loop-place-test.true in omega arith) in let up = goes_up c.requires.bits c.requires.keys c.requires.room c.requires.small within c.loop-place.invariant.number c.loop-place.invariant.raised in let step = c.propagate-pass.ensures in
-    let next = up.more c.levels_apart-levels.result (c.loop-place.number + c.from-number.result) c.propagate-pass.result.view c.levels_apart-levels.ensures.few (ap (λ (z : ℕ). c.loop-place.number + z) c.from-number.ensures) (let test = c.loop-place-test.true in omega arith)
-    (c.levels_apart-levels.ensures.apart c.args.pass.view.shape c.requires.leaves.are c.requires.bits) step.risen step.raises in
+    let next = up.more c.levels_apart-levels.result (c.loop-place.number + c.from-number.result) c.propagate-pass.result.view c.levels_apart-levels.ensures (ap (λ (z : ℕ). c.loop-place.number + z) c.from-number.ensures) (let test = c.loop-place-test.true in omega arith) step.risen step.raises in
     record { table = step.table ∙ c.loop-place.invariant.table; number = next.0; raised = next.1 }
 
 pub propagate-requires-clause-leaves : goal.propagate-requires-clause-leaves

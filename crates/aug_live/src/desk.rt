@@ -204,7 +204,8 @@ impl<A: Monoid, B: Monoid> Working<A, B> {
         match self
             .ports
             .remove(lane)
-            .replace(how, &self.round, &mut self.crew) {
+            .replace(how, &self.round, &mut self.crew)
+        {
             Ok(port) => {
                 put_in(&mut self.ports, lane, port);
                 Ok(true)

@@ -71,12 +71,7 @@ impl<A: Monoid, B: Monoid> Held<A, B> {
 
 impl<A: Monoid, B: Monoid> Emptied<A, B> {
     /// Puts a pass of the next round in, and lets the lane go.
-    pub(crate) fn begin(
-        self,
-        era: u64,
-        round: &Round<A, B>,
-        crew: &mut Crew<A, B>,
-    ) -> End<A, B>
+    pub(crate) fn begin(self, era: u64, round: &Round<A, B>, crew: &mut Crew<A, B>) -> End<A, B>
         requires ready { HasEnded (table_of crew.old.round) crew.old.past era self }
         requires led { Leads crew.old.round.bits crew.old.past crew.old.round.members }
         requires some { 0 < era }

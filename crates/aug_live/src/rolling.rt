@@ -202,11 +202,7 @@ impl<A: Monoid, B: Monoid> End<A, B> {
 
 impl<A: Monoid, B: Monoid> Berth<A, B> {
     /// Puts a pass of the first round in, and makes the end of the lane's first handle.
-    pub(crate) fn open(
-        self,
-        round: &Round<A, B>,
-        crew: &mut Crew<A, B>,
-    ) -> (End<A, B>, End<A, B>)
+    pub(crate) fn open(self, round: &Round<A, B>, crew: &mut Crew<A, B>) -> (End<A, B>, End<A, B>)
         requires first { self.out.known ≡ knows_nothing Alone }
         requires number { self.out.taken.number ≡ 0 }
         requires together { table_of crew.old.round ≡ round.now }

@@ -66,6 +66,10 @@ pub record Makes (updates : ℕ) (does : PassFacts → PassFacts → Type 0) (ol
 abbrev pub IsSomeOf : ℕ → ℕ → Type 0
 IsSomeOf all count = (count ≤ all) × (0 < all → 0 < count)
 
+-- all of them, or so many that the pass has no update left
+abbrev pub AllOrSpent : ℕ → ℕ → PassFacts → Type 0
+AllOrSpent all count pass = (count ≡ all) ⊎ (pass.spent ≡ pass.round.updates)
+
 -- a handle of a trie, by its table and its lanes, in the first round over this set, which has this plan; it knows no update
 pub record IsNew (table : TableId) (lanes : List TableId) (set : SetFacts) (plan : Plan) (handle : HandleFacts) : Type 0 where
   pub of_trie : handle.half.round.table ≡ table

@@ -13,7 +13,7 @@ ghost use Rattle.aug_trie.specs.Pops.{popped, pop_updates, Pops};
 ghost use Rattle.aug_model.specs.Folds.{summary_of};
 ghost use Rattle.aug_monoid.specs.Extent.{extent_parts};
 ghost use Rattle.aug_live.specs.LiveErrors.{IfRefused};
-ghost use Rattle.aug_live.specs.LiveHandles.{Follows, IsSomeOf, Makes, handle_of, note_at};
+ghost use Rattle.aug_live.specs.LiveHandles.{AllOrSpent, Follows, IsSomeOf, Makes, handle_of, note_at};
 
 use crate::desk_end::DeskEnd;
 use crate::end::End;
@@ -225,6 +225,7 @@ impl<A: Monoid, B: Monoid> Handle<A, B> {
         requires outcomes { length keys.now ≤ length outcomes.old }
         ensures made { IfOk result (λ count. Makes count (DoesBatch requests.now (take count keys.now) outcomes.new) self.old self.new) }
         ensures some { IfOk result (λ count. IsSomeOf (length keys.now) count) }
+        ensures all { IfOk result (λ count. AllOrSpent (length keys.now) count self.new.half) }
         ensures not_made { IfErr result (λ _. Follows self.old self.new) }
         ensures refused { IfErr result (λ cause. cause ≢ LiveError.NoLane) }
     {
@@ -254,6 +255,7 @@ impl<A: Monoid, B: Monoid> Handle<A, B> {
         requires outcomes { length keys.now ≤ length outcomes.old }
         ensures made { IfOk result (λ count. Makes count (DoesBatch requests.now (take count keys.now) outcomes.new) self.old self.new) }
         ensures some { IfOk result (λ count. IsSomeOf (length keys.now) count) }
+        ensures all { IfOk result (λ count. AllOrSpent (length keys.now) count self.new.half) }
         ensures not_made { IfErr result (λ _. Follows self.old self.new) }
         ensures refused { IfErr result (IfRefused (λ cause. cause ≢ LiveError.NoLane)) }
     {
@@ -409,6 +411,7 @@ impl<A: Monoid, B: Monoid> Handle<A, B> {
         requires outcomes { length keys.now ≤ length outcomes.old }
         ensures made { IfOk result (λ count. Makes count (DoesBatch requests.now (take count keys.now) outcomes.new) self.old self.new) }
         ensures some { IfOk result (λ count. IsSomeOf (length keys.now) count) }
+        ensures all { IfOk result (λ count. AllOrSpent (length keys.now) count self.new.half) }
         ensures not_made { IfErr result (λ _. Follows self.old self.new) }
     {
         let Some(end) = self.end.take() else {

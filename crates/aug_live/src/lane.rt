@@ -10,8 +10,8 @@ ghost use Rattle.aug_trie.specs.Pops.{pop_updates, Pops};
 ghost use Rattle.aug_trie.specs.Round.{table_of};
 ghost use Rattle.aug_model.specs.Folds.{summary_of};
 ghost use Rattle.aug_monoid.specs.Extent.{extent_parts};
-ghost use Rattle.aug_live.specs.LiveHandles.{Follows, IsSomeOf, note_at};
-ghost use Rattle.aug_live.specs.inside.LaneKnowledge.{Worked, WorksHere, half_in, stands};
+ghost use Rattle.aug_live.specs.LiveHandles.{AllOrSpent, Follows, IsSomeOf, note_at};
+ghost use Rattle.aug_live.specs.inside.LaneKnowledge.{IsSpent, Worked, WorksHere, half_in, stands};
 ghost use Rattle.aug_live.specs.inside.Looks.{LooksIn};
 
 use crate::ghost_value::GhostValue;
@@ -194,6 +194,7 @@ impl<A: Monoid, B: Monoid> Lane<A, B> {
         requires key { k < 2 ^ self.at.half.round.bits }
         ensures made { IfOk result.1 (λ done. WorksHere 1 (λ a b. ComesTo request k done a.knows b.knows) self.at result.0.at) }
         ensures same { IfErr result.1 (λ _. result.0.at ≡ self.at) }
+        ensures spent { IfErr result.1 (λ _. IsSpent self) }
         ensures worked { Worked self result.0 }
     {
         if self.parts.work.is_none() {
@@ -225,7 +226,9 @@ impl<A: Monoid, B: Monoid> Lane<A, B> {
         requires outcomes { length keys.now ≤ length outcomes.old }
         ensures made { IfOk result.1 (λ count. WorksHere count (DoesBatch requests.now (take count keys.now) outcomes.new) self.at result.0.at) }
         ensures some { IfOk result.1 (λ count. IsSomeOf (length keys.now) count) }
+        ensures all { IfOk result.1 (λ count. AllOrSpent (length keys.now) count result.0.at.half) }
         ensures same { IfErr result.1 (λ _. result.0.at ≡ self.at) }
+        ensures spent { IfErr result.1 (λ _. IsSpent self) }
         ensures worked { Worked self result.0 }
     {
         if self.parts.work.is_none() {
@@ -247,6 +250,7 @@ impl<A: Monoid, B: Monoid> Lane<A, B> {
     pub(crate) fn note(self, round: &Round<A, B>) -> (Lane<A, B>, Result<Note<A, B>, Obstacle>)
         requires together { table_of self.at.half.round ≡ round.now }
         ensures note { IfOk result.1 (λ note. note ≡ note_at self.at.half) }
+        ensures at_rest { IfErr result.1 (λ _. self.works ≡ false) }
         ensures same { result.0 ≡ self }
     {
         if self.parts.work.is_none() {
@@ -271,6 +275,7 @@ impl<A: Monoid, B: Monoid> Lane<A, B> {
         ensures follows { Follows self.at result.0.at }
         ensures same_changes { result.0.at.half.knows.accepted ≡ self.at.half.knows.accepted }
         ensures kept { IfErr result.1 (λ e. e.0 ≡ note) }
+        ensures at_rest { IfErr result.1 (λ _. self.works ≡ false) }
         ensures worked { Worked self result.0 }
     {
         if self.parts.work.is_none() {
@@ -295,6 +300,7 @@ impl<A: Monoid> Lane<A, Extent> {
         requires together { table_of self.at.half.round ≡ round.now }
         ensures made { IfOk result.1 (λ done. WorksHere (pop_updates done) (Pops (summary_of A.parts extent_parts) side done) self.at result.0.at) }
         ensures same { IfErr result.1 (λ _. result.0.at ≡ self.at) }
+        ensures spent { IfErr result.1 (λ _. IsSpent self) }
         ensures worked { Worked self result.0 }
     {
         if self.parts.work.is_none() {

@@ -1,5 +1,5 @@
 -- What lies in a lane, what the passes of its lock know, and the rule between them.
-use Rattle.std.specs.Prelude.{◌≡◌, ◌≢◌, ℕ, ◌<◌, ◌≤◌, List, [], ◌∷◌, ◌++◌, length, drop, Option, Some, None, unwrap_or, Bool, true, false}
+use Rattle.std.specs.Prelude.{◌≡◌, ◌≢◌, ◌⊎◌, ℕ, ◌<◌, ◌≤◌, List, [], ◌∷◌, ◌++◌, length, drop, Option, Some, None, unwrap_or, Bool, true, false}
 use mathlib.Core.Option.{some}
 use lib.ListN.{get_elem?}
 use Rattle.aug_trie.specs.Chains.{Chapter}
@@ -52,6 +52,10 @@ pub record LaneFacts : Type 0 where
   pub number : ℕ
   pub is_out : Bool
   pub at : HandleFacts
+
+-- no pass of its round lies in the lane, or one that has no update left
+abbrev pub IsSpent : LaneFacts → Type 0
+IsSpent lane = (lane.works ≡ false) ⊎ (lane.at.half.spent ≡ lane.at.half.round.updates)
 
 -- a pass of a lane's lock: whose it is; the number of the lane's handle; the lane as it put it back; the handles of the lane that are done. The roller's knows what
 -- was made with the passes that are back at their crew, and the handle's what was made through it

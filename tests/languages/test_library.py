@@ -270,6 +270,14 @@ class Installed:
         said = said_by(self.compiled("c", "tests", "readers.c"))
         assert re.fullmatch(r"ok: \d+ answers, \d{3,} updates\n", said), said
 
+    def test_c_each_number_of_bits_and_64_users(self):
+        said = said_by(self.compiled("c", "tests", "sizes.c"))
+        assert int(re.fullmatch(r"ok: (\d+) answers\n", said)[1]) >= 10000
+
+    def test_c_turns_of_others(self):
+        said = said_by(self.compiled("c", "tests", "waits.c"))
+        assert int(re.fullmatch(r"ok: (\d+) answers\n", said)[1]) >= 50
+
     def test_c_calls_write_no_handle(self):
         said = said_by(self.compiled("c", "tests", "untouched.c"))
         assert int(re.fullmatch(r"ok: (\d+) answers\n", said)[1]) >= 40
@@ -357,7 +365,7 @@ class Checked:
     """What valgrind says of the C programs."""
 
     def test_c_under_valgrind(self):
-        programs = [self.compiled("c", "tests", f"{name}.c", words=[CC, "-std=c11", "-g"]) for name in ("threads", "many", "tries", "pops")]
+        programs = [self.compiled("c", "tests", f"{name}.c", words=[CC, "-std=c11", "-g"]) for name in ("threads", "many", "tries", "pops", "waits")]
         for program in self.refused("-g"), *programs:
             said_by("valgrind", "-q", "--error-exitcode=9", "--leak-check=full", program)
 
@@ -388,6 +396,7 @@ class Sanitized:
     @with_tool("address sanitizer")
     def test_c_stays_in_its_memory_and_gives_it_back(self):
         self.check_sanitized("address")
+        assert re.fullmatch(r"ok: \d+ answers\n", self.sanitized("address", "waits"))
 
     @with_tool("thread sanitizer")
     def test_c_race_is_found(self):

@@ -7,6 +7,19 @@ import random
 
 from model import reports_of, script_of
 
+# Each fault: its name, the options, where {} is how many rows are in front of it, each of these rows, and the row that has it.
+FAULTS = [
+    ("BadCsv", "", b"0,look\n", b"0,look\t"),
+    ("BadLane", "", b"0,size\n", b"x,look"),
+    ("BadVerb", "", b"*,end\n", b"0,fly"),
+    ("BadArity", "", b"*,grow,5\n", b"0,look,1"),
+    ("BadNumber", "--updates {}", b"0,put,1,2\n", b"0,rank,x"),
+    ("OutOfRange", "", b"0,range,0,16\n", b"0,insert,16"),
+    ("TooManyUpdates", "--updates {}", b"0,insert,1\n", b"0,remove,1"),
+    ("BadPlace", "", b"0,look\n", b"*,grow,5"),
+    ("TooWide", "--workers 64 --updates 13108", b"*,end\n", b"*,grow,16"),
+]
+
 # Rows over an empty set, each with how many bytes its line has more than that of `size`.
 LONGER = [(11, "range", 0, 1), (4, "weight", 1), (2, "has", 1), (1, "look")]
 
@@ -96,6 +109,14 @@ class Sweeps:
             for wider in [[("*", "grow", more), (0, "insert", (1 << more) - 1), *queries(more)]]
         )
         assert ran == 136
+
+    def test_sweep_of_rows_with_a_fault(self):
+        ran = self.run_each(
+            (f"{name} in row {row}", options.format(row - 1), front * (row - 1) + faulty, (b"", b"augtrie: row %d: %b\n" % (row, name.encode()), 1))
+            for name, options, front, faulty in FAULTS
+            for row in range(2, 301)
+        )
+        assert ran == 2691
 
     def test_sweep_of_faulty_rows(self):
         fault = lambda name: (b"", b"augtrie: row 1: %b\n" % name, 1)

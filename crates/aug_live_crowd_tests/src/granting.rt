@@ -283,6 +283,16 @@ fn up_to_all<R: Wait + Abort>(
     Ok(set)
 }
 
+// Tries over sets of each size up to 300.
+#[test]
+fn no_trie_is_refused_for_few_members(rt: HostRuntime) -> Result<(), OpenError> {
+    let mut set = no_keys(rt.alloc(), 9)?;
+    for members in 0..=300 {
+        set = grown(&rt, rt.alloc(), set, members)?;
+    }
+    Ok(())
+}
+
 #[test]
 fn no_trie_is_refused_for_its_members(rt: HostRuntime) -> Result<(), OpenError> {
     let alloc = rt.alloc();

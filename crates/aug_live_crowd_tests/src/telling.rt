@@ -5,29 +5,33 @@ ghost use Rattle.aug_live.specs.LiveTries.{ids_of};
 use super::taking::looked;
 use crate::assertions::{equal, holds};
 use aug_live::{Live, LiveError, OpenError, Plan};
-use aug_live_testing::opening::{HandleOf, LiveOf, ended, has, no_keys, over, renewed, rolled};
+use aug_live_testing::opening::{
+    HandleOf, LiveOf, ended, has, no_keys, opened, over, renewed, rolled,
+};
 use std::alloc::Global;
 use std::process::Abort;
 use std::sync::Wait;
 
-// A trie over no keys of 6 bits, and two handles of it.
-fn two<R: Wait + Abort>(rt: &R, alloc: Global) -> Result<(LiveOf, HandleOf, HandleOf), OpenError>
+// A trie over no keys of so many bits with so many lanes, and the handles of the last two of these.
+fn two<R: Wait + Abort>(
+    rt: &R,
+    alloc: Global,
+    bits: u32,
+    lanes: u32,
+) -> Result<(LiveOf, HandleOf, HandleOf), OpenError>
     ensures tables { IfOk result (λ t. (t.1.half.round.table ≡ t.0.table) × (t.2.half.round.table ≡ t.0.table)) }
     ensures lanes { IfOk result (λ t. (t.1.lanes ≡ ids_of t.0) × (t.2.lanes ≡ ids_of t.0)) }
 {
-    let plan = Plan {
-        lanes: 2,
-        updates: 4,
-    };
-    let (live, mut hands) = match Live::open_with(alloc, no_keys(alloc, 6)?, 2, plan) {
+    let plan = Plan { lanes, updates: 4 };
+    let (live, mut hands) = match Live::open_with(alloc, no_keys(alloc, bits)?, lanes, plan) {
         Ok(opened) => opened,
         Err((_, cause)) => return Err(cause),
     };
     let Some(b) = hands.pop() else {
-        panic!(rt; "no second handle");
+        panic!(rt; "no last handle");
     };
     let Some(a) = hands.pop() else {
-        panic!(rt; "no first handle");
+        panic!(rt; "no handle before it");
     };
     Ok((live, a, b))
 }
@@ -78,10 +82,10 @@ fn assert_told<R: Wait + Abort>(rt: &R, live: &mut LiveOf, from: HandleOf, to: H
     requires { to.half.round.table ≡ from.half.round.table }
 {
     let (mut from, mut to) = (from, to);
-    insert(rt, &mut from, 3);
+    insert(rt, &mut from, 1);
     equal(rt, rolled(rt, live), Ok(()));
     equal(rt, learnt(rt, live, &mut from, &mut to, true), Ok(()));
-    holds(rt, sees(rt, to, 3));
+    holds(rt, sees(rt, to, 1));
 }
 
 // A handle that was replaced learns nothing.
@@ -122,14 +126,14 @@ fn waits(live: &mut LiveOf) -> bool
     live.try_roll().is_err()
 }
 
-// A handle that was replaced does not come back.
-fn assert_not_back<R: Wait + Abort>(rt: &R, live: &mut LiveOf, hand: HandleOf)
+// A handle of this lane that was replaced does not come back.
+fn assert_not_back<R: Wait + Abort>(rt: &R, live: &mut LiveOf, hand: HandleOf, lane: u32)
     requires table { hand.half.round.table ≡ live.old.table }
     requires lanes { hand.lanes ≡ ids_of live.old }
     ensures table { live.new.table ≡ live.old.table }
     ensures ids { ids_of live.new ≡ ids_of live.old }
 {
-    renews(rt, live, 1);
+    renews(rt, live, lane);
     equal(rt, back(rt, live, hand), Err(LiveError::Replaced));
 }
 
@@ -139,15 +143,16 @@ fn end<R: Wait>(rt: &R, live: LiveOf) -> (u32, u64, u64, u64) {
     (set.size(), counts.rounds, counts.handles, counts.missing)
 }
 
-// A handle puts a key in and comes back, as one of three, and the trie ends.
-fn assert_back<R: Wait + Abort>(rt: &R, live: LiveOf, hand: HandleOf)
+// A handle puts a key in and comes back, as one of one more than there are lanes, and the trie ends.
+fn assert_back<R: Wait + Abort>(rt: &R, live: LiveOf, hand: HandleOf, lanes: u32)
     requires table { hand.half.round.table ≡ live.table }
     requires lanes { hand.lanes ≡ ids_of live }
 {
     let (mut live, mut hand) = (live, hand);
     insert(rt, &mut hand, 3);
     equal(rt, back(rt, &mut live, hand), Ok(()));
-    equal(rt, end(rt, live), (1, 1, 3, 2));
+    let lanes = u64::from(lanes);
+    equal(rt, end(rt, live), (1, 1, lanes.saturating_add(1), lanes));
 }
 
 // A handle comes back whose lane a roll-over took, which waited for a look of another.
@@ -176,15 +181,21 @@ enum Telling {
     BackLater,
 }
 
-// What it comes to over a new trie.
-fn assert_telling<R: Wait + Abort>(rt: &R, alloc: Global, it: Telling) -> Result<(), OpenError> {
-    let (mut live, a, b) = two(rt, alloc)?;
+// What it comes to over a new trie of so many bits and lanes.
+fn assert_telling<R: Wait + Abort>(
+    rt: &R,
+    alloc: Global,
+    it: Telling,
+    bits: u32,
+    lanes: u32,
+) -> Result<(), OpenError> {
+    let (mut live, a, b) = two(rt, alloc, bits, lanes)?;
     match it {
         Telling::Told => assert_told(rt, &mut live, a, b),
         Telling::NotLearnt => assert_not_learnt(rt, &mut live, b, a),
         Telling::Back => {
-            assert_not_back(rt, &mut live, b);
-            assert_back(rt, live, a);
+            assert_not_back(rt, &mut live, b, lanes.saturating_sub(1));
+            assert_back(rt, live, a, lanes);
         }
         Telling::BackLater => assert_back_later(rt, live, b, a),
     }
@@ -193,20 +204,53 @@ fn assert_telling<R: Wait + Abort>(rt: &R, alloc: Global, it: Telling) -> Result
 
 #[test]
 fn a_note_tells_what_its_maker_did_over_roll_overs(rt: HostRuntime) -> Result<(), OpenError> {
-    assert_telling(&rt, rt.alloc(), Telling::Told)
+    for bits in 1..=16 {
+        assert_telling(&rt, rt.alloc(), Telling::Told, bits, 2)?;
+    }
+    Ok(())
 }
 
 #[test]
 fn a_handle_that_was_replaced_learns_nothing(rt: HostRuntime) -> Result<(), OpenError> {
-    assert_telling(&rt, rt.alloc(), Telling::NotLearnt)
+    assert_telling(&rt, rt.alloc(), Telling::NotLearnt, 6, 2)
 }
 
 #[test]
 fn a_trie_knows_what_a_handle_did_that_came_back(rt: HostRuntime) -> Result<(), OpenError> {
-    assert_telling(&rt, rt.alloc(), Telling::Back)
+    for lanes in [2, 3, 4, 5, 64] {
+        assert_telling(&rt, rt.alloc(), Telling::Back, 6, lanes)?;
+    }
+    Ok(())
 }
 
 #[test]
 fn a_handle_comes_back_whose_lane_a_roll_over_took(rt: HostRuntime) -> Result<(), OpenError> {
-    assert_telling(&rt, rt.alloc(), Telling::BackLater)
+    assert_telling(&rt, rt.alloc(), Telling::BackLater, 6, 2)
+}
+
+// A new handle for a lane puts a key in and comes back.
+fn new_one_is_back<R: Wait + Abort>(rt: &R, live: &mut LiveOf, lane: u32, key: u32) {
+    let Ok(mut hand) = live.handle(rt, lane) else {
+        panic!(rt; "no handle");
+    };
+    insert(rt, &mut hand, key);
+    equal(rt, back(rt, live, hand), Ok(()));
+}
+
+// Each of 64 lanes has new handles so often.
+const TIMES: u32 = 3;
+
+#[test]
+fn each_new_handle_of_each_lane_comes_back(rt: HostRuntime) -> Result<(), OpenError> {
+    let (mut live, hands) = opened(rt.alloc(), 8, 64, 0, TIMES)?;
+    drop(hands);
+    for key in 0..64 * TIMES {
+        new_one_is_back(&rt, &mut live, key % 64, key);
+    }
+    equal(
+        &rt,
+        end(&rt, live),
+        (64 * TIMES, 1, 64 + u64::from(64 * TIMES), 64),
+    );
+    Ok(())
 }

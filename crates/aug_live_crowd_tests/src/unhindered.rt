@@ -5,49 +5,67 @@ use super::taking::looked;
 use crate::assertions::{equal, holds};
 use aug_live::OpenError;
 use aug_live_testing::opening::{
-    HandleOf, LiveOf, opened, over, put, remove, renewed, rolled, size, try_closed, try_look,
-    try_renewed, try_rolled, try_update,
+    HandleOf, LiveOf, insert, opened, over, pop, put, remove, renewed, rolled, size, try_closed,
+    try_look, try_pop, try_renewed, try_rolled, try_update,
 };
-use aug_trie::{Outcome, Request};
+use aug_trie::Side::{First, Last};
+use aug_trie::{Outcome, Pop, Request, Side};
 use std::alloc::Global;
 use std::process::Abort;
 use std::sync::Wait;
 
 // Gives a key a weight, by a call that waits or by one that waits for nobody. Whether it came to this.
 fn puts<R: Wait>(rt: &R, hand: &mut HandleOf, k: u32, weight: u32, outcome: Outcome) -> bool {
-    if (k ^ weight) % 2 == 0 {
+    if (k / 8 ^ k ^ weight) % 2 == 0 {
         put(rt, hand, k, weight) == Ok(outcome)
     } else {
         try_update(hand, k, Request::Put(weight)) == Ok(outcome)
     }
 }
 
-// Gives each key below a number this weight. Whether each call came to this.
+// The keys of a test: how many, and how far each is from the one before.
+#[derive(Clone, Copy)]
+struct Keys {
+    count: u32,
+    step: u32,
+}
+
+// All keys of so many bits, or of more than 13 bits as many as of 13.
+fn keys_of(bits: u32) -> Keys {
+    Keys {
+        count: 1 << bits.min(13),
+        step: 1 << bits.saturating_sub(13).min(3),
+    }
+}
+
+// Gives each key this weight. Whether each call came to this.
 fn puts_all<R: Wait>(
     rt: &R,
     hand: &mut HandleOf,
-    keys: u32,
+    keys: Keys,
     weight: u32,
     outcome: Outcome,
 ) -> bool {
     let mut right = true;
-    for k in 0..keys {
+    for number in 0..keys.count {
+        let k = number.saturating_mul(keys.step);
         right &= puts(rt, hand, k, weight, outcome);
     }
     right
 }
 
-// Takes a key out, by a call that waits or by one that waits for nobody.
-fn takes_out<R: Wait>(rt: &R, hand: &mut HandleOf, k: u32, waits: bool) -> bool {
-    if waits {
-        remove(rt, hand, k) == Ok(true)
-    } else {
-        try_update(hand, k, Request::Remove) == Ok(Outcome::Accepted)
+// Takes the member out that is left at one end, in one of four ways.
+fn takes_out<R: Wait>(rt: &R, hand: &mut HandleOf, side: Side, it: (u32, u32), way: u32) -> bool {
+    match way % 4 {
+        0 => remove(rt, hand, it.0) == Ok(true),
+        1 => try_update(hand, it.0, Request::Remove) == Ok(Outcome::Accepted),
+        2 => pop(rt, hand, side) == Ok(Some(it)),
+        _ => try_pop(hand, side) == Ok(Pop::Member(it.0, it.1)),
     }
 }
 
-// How many members a look of the handle shows, which waits or waits for nobody.
-fn sees<R: Wait + Abort>(rt: &R, hand: HandleOf, waits: bool) -> u32 {
+// The handle, and how many members a look of it shows, which waits or waits for nobody.
+fn sees<R: Wait + Abort>(rt: &R, hand: HandleOf, waits: bool) -> (HandleOf, u32) {
     let mut look = if waits {
         looked(rt, hand)
     } else {
@@ -57,18 +75,18 @@ fn sees<R: Wait + Abort>(rt: &R, hand: HandleOf, waits: bool) -> u32 {
         look
     };
     let members = size(&mut look);
-    drop(over(look));
-    members
+    (over(look), members)
 }
 
 // Each handle gives each key a weight of its own, and sees them all.
-fn each_puts<R: Wait + Abort>(rt: &R, hands: Vec<HandleOf>, keys: u32) {
+fn each_puts<R: Wait + Abort>(rt: &R, hands: Vec<HandleOf>, keys: Keys) {
     let mut outcome = Outcome::Accepted;
     let mut weight = 0u32;
     for hand in hands {
         let mut hand = hand;
         holds(rt, puts_all(rt, &mut hand, keys, weight, outcome));
-        equal(rt, sees(rt, hand, weight % 2 == 0), keys);
+        let (_, members) = sees(rt, hand, weight % 2 == 0);
+        equal(rt, members, keys.count);
         outcome = Outcome::Replaced;
         weight = weight.saturating_add(1);
     }
@@ -82,13 +100,47 @@ fn given<R: Wait + Abort>(rt: &R, live: &mut LiveOf, lane: u32, waits: bool) -> 
     try_renewed(live, lane).expect(rt, "a handle")
 }
 
-// A new handle of each lane takes a key out, the least that is left.
-fn each_lane_takes_out<R: Wait + Abort>(rt: &R, live: &mut LiveOf, handles: u32, keys: u32) {
-    for lane in 0..handles {
-        let mut hand = given(rt, live, lane, lane % 2 == 0);
-        if lane < keys {
-            holds(rt, takes_out(rt, &mut hand, lane, lane % 4 < 2));
+// A handle takes so many of these members out, of which each has this weight, in turn from both ends, and leaves one at least. Whether each call came
+// to that, and the numbers of the keys that are left then.
+fn takes_some<R: Wait>(
+    rt: &R,
+    hand: HandleOf,
+    keys: Keys,
+    weight: u32,
+    left: (u32, u32),
+) -> (bool, (u32, u32)) {
+    let (mut hand, (mut from, mut below)) = (hand, left);
+    let mut right = true;
+    for number in 0..keys.count {
+        if below.saturating_sub(from) < 2 {
+            return (right, (from, below));
         }
+        let (side, k) = if number % 2 == 0 {
+            from = from.saturating_add(1);
+            (First, from.saturating_sub(1))
+        } else {
+            below = below.saturating_sub(1);
+            (Last, below)
+        };
+        let member = (k.saturating_mul(keys.step), weight);
+        right &= takes_out(rt, &mut hand, side, member, number / 2);
+    }
+    (right, (from, below))
+}
+
+// New handles of all lanes take all keys out but one.
+fn each_lane_takes_out<R: Wait + Abort>(rt: &R, live: &mut LiveOf, handles: u32, keys: Keys) {
+    let weight = handles.saturating_sub(1);
+    let mut left = (0, keys.count);
+    let each = Keys {
+        count: (keys.count / handles.max(1)).saturating_add(1),
+        step: keys.step,
+    };
+    for lane in 0..handles {
+        let hand = given(rt, live, lane, lane % 2 == 0);
+        let (right, next) = takes_some(rt, hand, each, weight, left);
+        holds(rt, right);
+        left = next;
     }
 }
 
@@ -100,7 +152,7 @@ fn assert_made<R: Wait + Abort>(
     handles: u32,
     updates: u32,
 ) -> Result<(), OpenError> {
-    let keys = 1u32 << (bits % 32);
+    let keys = keys_of(bits);
     let spare = (bits % 3).min(64u32.saturating_sub(handles));
     let (mut live, hands) = opened(alloc, bits, handles, spare, updates)?;
     each_puts(rt, hands, keys);
@@ -110,13 +162,8 @@ fn assert_made<R: Wait + Abort>(
     let Ok((set, counts)) = try_closed(live) else {
         panic!(rt; "not closed");
     };
-    let left = keys.saturating_sub(handles);
     let all = u64::from(handles).saturating_mul(2);
-    equal(
-        rt,
-        (set.bits(), set.size(), counts.handles),
-        (bits, left, all),
-    );
+    equal(rt, (set.bits(), set.size(), counts.handles), (bits, 1, all));
     Ok(())
 }
 
@@ -128,7 +175,7 @@ const SWEEPS: &[Sweep] = &[
     (4, &[1, 2, 3, 5, 8, 16, 33, 64], 1),
     (6, &[1, 2, 3, 4, 8, 31, 64], 40),
     (9, &[1, 2, 5], 300),
-    (12, &[2], 2_000),
+    (16, &[2], 2_000),
 ];
 
 // Goes through the numbers of handles of a sweep, with one number of bits.
@@ -159,5 +206,52 @@ fn no_call_is_refused_or_made_again_with_nobody_in_its_way(
     for it in SWEEPS {
         assert_sweep(&rt, rt.alloc(), it)?;
     }
+    Ok(())
+}
+
+// How many rounds a handle goes through.
+const ROUNDS: u32 = 3_000;
+
+// Makes a note, which is dropped.
+fn notes<R: Wait>(rt: &R, hand: &mut HandleOf) -> bool {
+    hand.note(rt).is_ok()
+}
+
+// Puts key 5 in or takes it out, each time in a new round, with a note before and a look behind. The calls wait, or wait for nobody. Whether each
+// came to that.
+fn goes_on<R: Wait + Abort>(rt: &R, hand: HandleOf) -> bool {
+    let mut hand = hand;
+    let mut right = true;
+    for number in 0..ROUNDS {
+        right &= notes(rt, &mut hand);
+        right &= match number % 4 {
+            0 => insert(rt, &mut hand, 5) == Ok(true),
+            1 => try_pop(&mut hand, Last) == Ok(Pop::Member(5, 5)),
+            2 => try_update(&mut hand, 5, Request::Insert) == Ok(Outcome::Accepted),
+            _ => pop(rt, &mut hand, First) == Ok(Some((5, 5))),
+        };
+        let (same, members) = sees(rt, hand, number % 3 == 0);
+        right &= members == 1 - number % 2;
+        hand = same;
+    }
+    right
+}
+
+// Each of three handles, of which a lane has one update in a round, goes through so many rounds, and then a new one does for a lane.
+#[test]
+fn each_handle_goes_on_over_thousands_of_rounds(rt: HostRuntime) -> Result<(), OpenError> {
+    let (mut live, hands) = opened(rt.alloc(), 3, 3, 0, 1)?;
+    for hand in hands {
+        holds(&rt, goes_on(&rt, hand));
+    }
+    equal(&rt, rolled(&rt, &mut live), Ok(()));
+    equal(&rt, try_rolled(&mut live), Ok(()));
+    for waits in [true, false] {
+        holds(&rt, goes_on(&rt, given(&rt, &mut live, 1, waits)));
+    }
+    let Ok((set, counts)) = try_closed(live) else {
+        panic!(rt; "not closed");
+    };
+    equal(&rt, (set.size(), counts.rounds), (0, 14_999));
     Ok(())
 }

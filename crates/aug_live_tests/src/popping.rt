@@ -1,4 +1,4 @@
-//! Pops through handles: over rounds, by calls that wait for nobody, and by four threads, each of which takes the first timer that is left.
+//! Pops through handles: over rounds, by calls that wait for nobody, and by four threads, each of which takes the first timer that is left, or the last.
 
 use super::steps::Act::{
     Close, Insert, Look, Over, Pop as PopAt, Put, Roll, Size, TryPop, TryTake,
@@ -9,8 +9,8 @@ use crate::assertions::equal;
 use aug_live::OpenError;
 use aug_live_testing::opening::{HandleOf, ended, opened, pop, put};
 use aug_trie::Outcome::{Accepted, Refused};
-use aug_trie::Pop;
 use aug_trie::Side::{First, Last};
+use aug_trie::{Pop, Side};
 use std::alloc::Global;
 use std::process::Abort;
 use std::sync::Wait;
@@ -70,41 +70,60 @@ fn weight_of(key: u32) -> u32 {
     key.wrapping_mul(2_654_435_761)
 }
 
-// What one thread popped: how many, the sum of the keys, and whether each came after the one before and had its own weight.
+// What one thread popped: how many, the sum of the keys, whether each came after the one before and had its own weight, the keys that may be left, and
+// whether none was in the end.
 #[derive(Clone, Copy)]
 struct Run {
     count: u32,
     sum: u64,
     in_order: bool,
+    left: (u32, u32),
+    to_the_end: bool,
 }
 
-// Pops until nothing is left. Nobody puts a key in meanwhile, so the keys rise.
-fn pops<R: Wait>(rt: &R, hand: HandleOf) -> Run {
+// One more timer was popped.
+fn longer(run: Run, side: Side, key: u32, weight: u32) -> Run {
+    let (from, below) = run.left;
+    Run {
+        count: run.count.saturating_add(1),
+        sum: run.sum.saturating_add(u64::from(key)),
+        in_order: run.in_order && from <= key && key < below && weight == weight_of(key),
+        left: match side {
+            First => (key.saturating_add(1), below),
+            Last => (from, key),
+        },
+        to_the_end: false,
+    }
+}
+
+// Pops at one end until nothing is left. Nobody puts a key in meanwhile, so the keys rise, or fall.
+fn pops<R: Wait>(rt: &R, hand: HandleOf, side: Side) -> Run {
     let mut hand = hand;
     let mut run = Run {
         count: 0,
         sum: 0,
         in_order: true,
+        left: (0, TIMERS),
+        to_the_end: false,
     };
-    let mut from = 0u32;
-    for _ in 0..TIMERS {
-        let Ok(Some((key, weight))) = pop(rt, &mut hand, First) else {
-            return run;
-        };
-        run = Run {
-            count: run.count.saturating_add(1),
-            sum: run.sum.saturating_add(u64::from(key)),
-            in_order: run.in_order && from <= key && weight == weight_of(key),
-        };
-        from = key.saturating_add(1);
+    for _ in 0..=TIMERS {
+        match pop(rt, &mut hand, side) {
+            Ok(Some((key, weight))) => run = longer(run, side, key, weight),
+            Ok(None) => {
+                run.to_the_end = true;
+                return run;
+            }
+            Err(_) => return run,
+        }
     }
     run
 }
 
-// Four threads that pop what one put in.
+// Four threads that pop at one end what each put in.
 fn popped_by_four<R: Threads + Wait + Abort + Sync>(
     rt: &R,
     alloc: Global,
+    side: Side,
 ) -> Result<(), OpenError> {
     let (live, hands) = opened(alloc, BITS, 4, 2, TIMERS)?;
     let mut hands = hands;
@@ -113,15 +132,15 @@ fn popped_by_four<R: Threads + Wait + Abort + Sync>(
             equal(rt, put(rt, hand, key, weight_of(key)).is_ok(), true);
         }
     }
-    let runs = thread::map_vec(rt, hands, &|hand| pops(rt, hand)).expect(rt, "memory");
-    let (mut count, mut sum, mut in_order) = (0u32, 0u64, true);
+    let runs = thread::map_vec(rt, hands, &|hand| pops(rt, hand, side)).expect(rt, "memory");
+    let (mut count, mut sum) = (0u32, 0u64);
     for run in runs.as_slice() {
         count = count.saturating_add(run.count);
         sum = sum.saturating_add(run.sum);
-        in_order = in_order && run.in_order;
+        equal(rt, (run.in_order, run.to_the_end), (true, true));
     }
     let all = u64::from(TIMERS) * u64::from(TIMERS - 1) / 2;
-    equal(rt, (count, sum, in_order), (TIMERS, all, true));
+    equal(rt, (count, sum), (TIMERS, all));
     let (set, _) = ended(rt, live);
     equal(rt, set.size(), 0);
     Ok(())
@@ -129,5 +148,8 @@ fn popped_by_four<R: Threads + Wait + Abort + Sync>(
 
 #[test]
 fn four_threads_pop_each_timer_once(rt: HostRuntime) -> Result<(), OpenError> {
-    popped_by_four(&rt, rt.alloc())
+    for side in [First, Last] {
+        popped_by_four(&rt, rt.alloc(), side)?;
+    }
+    Ok(())
 }

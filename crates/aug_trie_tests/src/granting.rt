@@ -206,6 +206,16 @@ fn filled(rt: &impl Abort, alloc: Global, ended: Trie, bits: u32) -> Result<Trie
     Ok(ended)
 }
 
+// Rounds over sets of each size up to 300.
+#[test]
+fn no_round_is_refused_for_few_members(rt: HostRuntime) -> Result<(), BeginError> {
+    let mut ended: Trie = Ended::empty(rt.alloc(), 9)?;
+    for members in 0..=300 {
+        ended = grown(&rt, rt.alloc(), ended, 9, members)?;
+    }
+    Ok(())
+}
+
 #[test]
 fn no_round_is_refused_for_its_members(rt: HostRuntime) -> Result<(), BeginError> {
     let mut ended: Trie = Ended::empty(rt.alloc(), 1)?;

@@ -294,7 +294,7 @@ class Installed:
             said = said_by(CC, "-std=c11", "-O2", *WARNINGS, include, "-c", source, "-o", f"{source}.o", status=status)
             assert ("warn_unused_result" in said) == (status == 1), said
 
-    def test_c_library_has_the_names_of_the_header_alone(self):
+    def test_c_library_defines_what_the_header_does_alone(self):
         archive, shared = (os.path.join(self.folder, "lib", f"libaugtrie.{end}") for end in ("a", "so"))
         assert len(shown()) >= 48
         for words in ["-g", archive], ["-D", shared]:

@@ -6,7 +6,7 @@ use Rattle.aug_core.specs.Layout.{IsOutside, IsWithin}
 use Rattle.aug_model.specs.Keys.{SetFacts}
 use Rattle.aug_live.specs.LiveHandles.{HandleFacts, IsNew}
 use Rattle.aug_live.specs.LiveTries.{Closes, IsOpenedTrie, KnowsMore, TrieFacts, ids_of}
-use Rattle.aug_live.specs.Plans.{Fits, least_plan}
+use Rattle.aug_live.specs.Plans.{Fits, IsGreatest, least_plan}
 use Rattle.aug_live.specs.declared.counts.LiveCounts.{LiveCounts}
 use Rattle.aug_live.specs.declared.plan.Plan.{Plan}
 use Rattle.aug_c.specs.declared.report.Report.{Report}
@@ -20,12 +20,12 @@ use Rattle.aug_c.specs.Handles.{user_of}
 abbrev pub empty_of : ℕ → SetFacts
 empty_of bits = record { bits = bits; pairs = [] }
 
--- a trie was just opened over the empty set, with an access for each user, in rounds that the memory has room for
+-- a trie was just opened over the empty set, with an access for each user, in the greatest rounds that the memory has room for
 pub record IsOpenedFor (bits users bytes : ℕ) (trie : Opened) : Type 0 where
   pub opened : IsOpenedTrie (empty_of bits) users trie.live
   pub accesses : vec_len trie.spare ≡ users
   pub plan : Plan
-  pub fits : Fits bits bytes plan
+  pub greatest : IsGreatest bits users bytes plan
   pub new : All (IsNew trie.live.table (ids_of trie.live) (empty_of bits) plan) trie.spare.items
 
 -- a trie is opened, or the handle stays closed

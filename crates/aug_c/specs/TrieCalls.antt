@@ -1,6 +1,6 @@
 -- What the calls on a trie do to it, and what they answer. For 6 bits and 2 users a table has at least `127 + 2 + 5 * (69 + 12)` words, so 4,272 bytes
--- are enough and fewer are answered -8. The third `aug_try_user_open` answers -9. If one user put 0, 1 and 3 in and the other took 1 out,
--- `aug_try_close` reports three insertions, one removal and the size 2.
+-- are enough and fewer are answered -8. The third `aug_try_user_open` answers -9, and one over the handle of an open trie -2. If one user put 0, 1 and 3
+-- in and the other took 1 out, `aug_try_close` reports three insertions, one removal and the size 2.
 use Rattle.std.specs.Prelude.{◌≡◌, ◌≢◌, ◌⊎◌, ℕ, ◌↔◌, ℤ, pos, Option, Some, None, [], ◌∷◌, ◌++◌, length, All, vec_len}
 use Rattle.aug_core.specs.Layout.{IsOutside, IsWithin}
 use Rattle.aug_model.specs.Keys.{SetFacts}

@@ -79,8 +79,9 @@ struct shared {
     atomic_uint waiting;           /* how many calls, and users by aug_wait_begin, wait until others have ended their calls and looks */
 };
 
-/* What an open handle of a trie begins with, and what that of a user does, by the proved calls. */
-static const uint64_t TRIE = 0x656972742d677561, USER = 0x726573755f677561;
+/* What an open handle of a trie begins with, and what that of a user does. The proved calls have the same marks, so they open nothing over
+   either. They are never given a caller's handle of a trie as one of theirs, since it leads to what its users share. */
+static const uint64_t TRIE = 0x656972745f677561, USER = 0x726573755f677561;
 
 static struct shared *shared_of(const aug_trie *trie) {
     return trie && trie->tag == TRIE ? trie->at : NULL;
@@ -129,37 +130,46 @@ int64_t aug_wait_end(aug_user *user) { return count_as_waiting(user, 0); }
     } \
 } while (0)
 
-int64_t aug_open(aug_trie *trie, uint32_t bits, uint32_t users, uint64_t bytes) {
-    if (!trie) return AUG_CLOSED;
-    if (trie->tag == TRIE) return AUG_OPEN;
-    if (trie->tag == USER) return AUG_CLOSED;
+/* The part of an open trie that its users share, or NULL for want of memory. */
+static struct shared *share(struct handle trie, uint32_t bits) {
     struct shared *s = malloc(sizeof *s);
-    if (!s) return AUG_NO_MEMORY;
+    if (!s) return NULL;
     memset(s, 0, sizeof *s);
     if (pthread_mutex_init(&s->lock, NULL)) {
         free(s);
-        return AUG_NO_MEMORY;
+        return NULL;
     }
-    int64_t code = aug_try_open(&s->trie, bits, users, bytes);
-    pthread_mutex_lock(&s->lock);
+    s->trie = trie;
     s->owners = 1;
     s->bits = bits;
-    if (code == AUG_OK) {
-        *trie = (aug_trie){TRIE, s};
-        pthread_mutex_unlock(&s->lock);
-    } else {
-        leave(s);
+    return s;
+}
+
+int64_t aug_open(aug_trie *trie, uint32_t bits, uint32_t users, uint64_t bytes) {
+    if (!trie) return AUG_CLOSED;
+    if (trie->tag == TRIE) return AUG_OPEN;
+    /* What lies there: over an open user the proved call answers AUG_CLOSED. */
+    struct handle opened = {trie->tag, trie->at};
+    int64_t code = aug_try_open(&opened, bits, users, bytes);
+    if (code != AUG_OK) return code;
+    struct shared *s = share(opened, bits);
+    if (!s) {
+        aug_report unwanted;
+        aug_try_close(&opened, &unwanted);
+        return AUG_NO_MEMORY;
     }
-    return code;
+    *trie = (aug_trie){TRIE, s};
+    return AUG_OK;
 }
 
 int64_t aug_user_open(aug_trie *trie, aug_user *user) {
     struct shared *s = shared_of(trie);
-    if (!s || !user || user->tag == TRIE) return AUG_CLOSED;
+    if (!s || !user) return AUG_CLOSED;
     if (user->tag == USER) return AUG_OPEN;
     int64_t code = AUG_OK;
     pthread_mutex_lock(&s->lock);
-    if (s->idle_count) {
+    /* The proved call answers AUG_CLOSED over an open trie. The handle of a user that was closed is given on without it. */
+    if (s->idle_count && user->tag != TRIE) {
         struct handle idle = s->idle[--s->idle_count];
         *user = (aug_user){.tag = idle.tag, .at = idle.at};
     } else {

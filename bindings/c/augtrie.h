@@ -31,8 +31,8 @@
  *
  * Answers. Each call answers a number that is 0 or more, or one of the codes below. A call that answers a code has changed nothing of the
  * set, except one for an array that answers AUG_CLOSED or AUG_AGAIN. A handle that is null, zeroed, closed, or of the other kind is
- * answered AUG_CLOSED. Only aug_open and aug_user_open take memory. The calls aug_try_.. are proved, with all that they answer; what calls
- * them again is in augtrie.c.
+ * answered AUG_CLOSED. aug_open and aug_user_open open a zeroed or closed one, and leave an open one of either kind as it was. Only these
+ * two take memory. The calls aug_try_.. are proved, with all that they answer; what calls them again is in augtrie.c.
  */
 #ifndef AUGTRIE_H
 #define AUGTRIE_H

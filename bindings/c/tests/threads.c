@@ -103,6 +103,10 @@ static void misuses(void) {
     WANT(aug_open((aug_trie *)&one, BITS, 1, 1 << 20), AUG_CLOSED);
     WANT(aug_user_open((aug_trie *)&one, &more), AUG_CLOSED);
     WANT(aug_close((aug_trie *)&one, NULL), AUG_CLOSED);
+    /* Nor is the place of a user that was closed given to one. */
+    WANT(aug_user_open(&third, &more), 0);
+    WANT(aug_user_close(&more), 0);
+    WANT(aug_user_open(&third, (aug_user *)&other), AUG_CLOSED);
     WANT(aug_close(&third, NULL), 0);
     WANT(aug_insert(&one, KEYS), AUG_BAD_KEY);
     WANT(aug_put(&one, 9, 4000000000u), 1);

@@ -25,7 +25,7 @@ module _ (bits users bytes : ℕ) (trie : Opened) where
     opened = subst (λ (s : SetFacts). IsOpenedTrie s users trie.live) empty opened;
     accesses = all;
     plan = new.0;
-    fits = subst (λ (s : SetFacts). Fits s.bits bytes new.0) empty new.1.fits;
+    greatest = subst (λ (s : SetFacts). IsGreatest s.bits users bytes new.0) empty new.1;
     new = subst (λ (s : SetFacts). All (IsNew trie.live.table (ids_of trie.live) s new.0) trie.spare.items) empty new.2;
   }
 

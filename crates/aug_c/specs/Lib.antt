@@ -1,3 +1,4 @@
+pub mod Marks
 pub mod UserHolding
 pub mod TrieHolding
 pub mod Codes

@@ -1,12 +1,12 @@
 -- What the calls on a trie do to it, and what they answer. For 6 bits and 2 users a table has at least `127 + 2 + 5 * (69 + 12)` words, so 4,272 bytes
--- are enough and fewer are answered -8. The third `aug_try_user_open` answers -9. If one user put 0, 1 and 3 in and the other took 1 out,
--- `aug_try_close` reports three insertions, one removal and the size 2.
+-- are enough and fewer are answered -8. The third `aug_try_user_open` answers -9, and one over the handle of an open trie -2. If one user put 0, 1 and 3
+-- in and the other took 1 out, `aug_try_close` reports three insertions, one removal and the size 2.
 use Rattle.std.specs.Prelude.{◌≡◌, ◌≢◌, ◌⊎◌, ℕ, ◌↔◌, ℤ, pos, Option, Some, None, [], ◌∷◌, ◌++◌, length, All, vec_len}
 use Rattle.aug_core.specs.Layout.{IsOutside, IsWithin}
 use Rattle.aug_model.specs.Keys.{SetFacts}
 use Rattle.aug_live.specs.LiveHandles.{HandleFacts, IsNew}
 use Rattle.aug_live.specs.LiveTries.{Closes, IsOpenedTrie, KnowsMore, TrieFacts, ids_of}
-use Rattle.aug_live.specs.Plans.{Fits, least_plan}
+use Rattle.aug_live.specs.Plans.{Fits, IsGreatest, least_plan}
 use Rattle.aug_live.specs.declared.counts.LiveCounts.{LiveCounts}
 use Rattle.aug_live.specs.declared.plan.Plan.{Plan}
 use Rattle.aug_c.specs.declared.report.Report.{Report}
@@ -20,12 +20,12 @@ use Rattle.aug_c.specs.Handles.{user_of}
 abbrev pub empty_of : ℕ → SetFacts
 empty_of bits = record { bits = bits; pairs = [] }
 
--- a trie was just opened over the empty set, with an access for each user, in rounds that the memory has room for
+-- a trie was just opened over the empty set, with an access for each user, in the greatest rounds that the memory has room for
 pub record IsOpenedFor (bits users bytes : ℕ) (trie : Opened) : Type 0 where
   pub opened : IsOpenedTrie (empty_of bits) users trie.live
   pub accesses : vec_len trie.spare ≡ users
   pub plan : Plan
-  pub fits : Fits bits bytes plan
+  pub greatest : IsGreatest bits users bytes plan
   pub new : All (IsNew trie.live.table (ids_of trie.live) (empty_of bits) plan) trie.spare.items
 
 -- a trie is opened, or the handle stays closed

@@ -1,8 +1,9 @@
 //! The calls on a trie.
-ghost use Rattle.std.specs.Prelude.{◌≡◌, IfOk, IsSome, IsNone, None, Some, pos};
+ghost use Rattle.std.specs.Prelude.{◌≡◌, ◌≢◌, IfOk, IsSome, IsNone, None, Some, pos};
 ghost use Rattle.aug_c.specs.declared.seat.Opened.{Opened};
 ghost use Rattle.aug_c.specs.Codes.{closed, is_open};
 ghost use Rattle.aug_c.specs.Handles.{trie_of, user_of, On};
+ghost use Rattle.aug_c.specs.Marks.{trie_mark, user_mark};
 ghost use Rattle.aug_c.specs.TrieCalls.{ClosesTrie, OpensTrie, OpensUser, empty_of};
 
 use crate::codes::{AGAIN, BAD_BITS, BAD_USERS, CLOSED, NO_MEMORY, NO_USER, OPEN, TOO_LARGE};
@@ -38,10 +39,14 @@ pub extern "C" fn aug_try_open(
     bytes: u64,
 ) -> i64
     ensures open { IsSome trie.old.held.value → (result ≡ is_open) × (trie.new ≡ trie.old) }
-    ensures opens { IsNone trie.old.held.value → OpensTrie bits users bytes (trie_of trie.new) result }
+    ensures other_kind { trie.old.tag ≡ user_mark → (result ≡ closed) × (trie.new ≡ trie.old) }
+    ensures opens { IsNone trie.old.held.value → trie.old.tag ≢ user_mark → OpensTrie bits users bytes (trie_of trie.new) result }
 {
     if trie.is_open() {
         return OPEN;
+    }
+    if trie.is_user() {
+        return CLOSED;
     }
     if !(1..=16).contains(&bits) {
         return BAD_BITS;
@@ -92,11 +97,15 @@ pub extern "C" fn aug_try_user_open(
     user: &mut UserHandle,
 ) -> i64
     ensures open { IsSome user.old.held.value → (result ≡ is_open) × (trie.new ≡ trie.old) × (user.new ≡ user.old) }
-    ensures opens { IsNone user.old.held.value → On (OpensUser user.old user.new) (trie_of trie.old) (trie_of trie.new) result }
+    ensures other_kind { user.old.tag ≡ trie_mark → (result ≡ closed) × (trie.new ≡ trie.old) × (user.new ≡ user.old) }
+    ensures opens { IsNone user.old.held.value → user.old.tag ≢ trie_mark → On (OpensUser user.old user.new) (trie_of trie.old) (trie_of trie.new) result }
     ensures foreign { IsNone trie.old.held.value → (trie.new ≡ trie.old) × (user.new ≡ user.old) }
 {
     if user.is_open() {
         return OPEN;
+    }
+    if user.is_trie() {
+        return CLOSED;
     }
     let Some((slot, old)) = trie.lend(alloc) else {
         return CLOSED;

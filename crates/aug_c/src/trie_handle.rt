@@ -1,15 +1,17 @@
 //! The handle of a trie as C holds it.
 ghost use Rattle.std.specs.Prelude.{◌≡◌, ◌≢◌, ◌↔◌, Some, None, IsSome, IfSome, IfNone, true};
+ghost use Rattle.aug_c.specs.Marks.{trie_mark, user_mark};
 ghost use Rattle.aug_c.specs.TrieHolding.{Content};
 ghost use Rattle.aug_c.specs.inside.TrieContent.{content_coded};
 
 use crate::raw_box::RawBox;
 use crate::seat::Opened;
+use crate::user_handle;
 use std::alloc::Global;
 use std::marker::Model;
 
 // What an open handle begins with, so that another piece of memory is hardly taken for one.
-const OPEN: u64 = 0x6569_7274_5f67_7561;
+pub(crate) const OPEN: u64 = 0x6569_7274_5f67_7561;
 
 /// What a trie's handle owns.
 #[derive(Drop)]
@@ -37,7 +39,7 @@ impl Model for TrieHeld {
 pub struct TrieHandle {
     pub(crate) tag: u64,
     pub(crate) held: TrieHeld,
-    pub(crate) ghost agrees: { (tag ≡ 7307497714527728993) ↔ IsSome held.value },
+    pub(crate) ghost agrees: { (tag ≡ trie_mark) ↔ IsSome held.value },
 }
 
 impl TrieHeld {
@@ -72,6 +74,13 @@ impl TrieHandle {
         ensures { (result ≡ true) ↔ IsSome self.now.held.value }
     {
         self.tag == OPEN
+    }
+
+    /// Whether an open user lies there.
+    pub(crate) fn is_user(&self) -> bool
+        ensures { (result ≡ true) ↔ (self.now.tag ≡ user_mark) }
+    {
+        self.tag == user_handle::OPEN
     }
 
     /// Takes out what it owns, and leaves it closed. Memory that is no open handle stays as it is.

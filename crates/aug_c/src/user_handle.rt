@@ -1,15 +1,17 @@
 //! The handle of a user as C holds it.
 ghost use Rattle.std.specs.Prelude.{◌≡◌, ◌≢◌, ◌↔◌, Some, None, IsSome, IfSome, IfNone, true};
+ghost use Rattle.aug_c.specs.Marks.{trie_mark, user_mark};
 ghost use Rattle.aug_c.specs.UserHolding.{Content};
 ghost use Rattle.aug_c.specs.inside.UserContent.{content_coded};
 
 use crate::raw_box::RawBox;
 use crate::seat::Seat;
+use crate::trie_handle;
 use std::alloc::Global;
 use std::marker::Model;
 
 // What an open handle begins with, so that another piece of memory is hardly taken for one.
-const OPEN: u64 = 0x7265_7375_5f67_7561;
+pub(crate) const OPEN: u64 = 0x7265_7375_5f67_7561;
 
 /// What a user's handle owns.
 #[derive(Drop)]
@@ -53,7 +55,7 @@ impl Model for UserHeld {
 pub struct UserHandle {
     pub(crate) tag: u64,
     pub(crate) held: UserHeld,
-    pub(crate) ghost agrees: { (tag ≡ 8243121640920544609) ↔ IsSome held.value },
+    pub(crate) ghost agrees: { (tag ≡ user_mark) ↔ IsSome held.value },
 }
 
 impl UserHeld {
@@ -102,6 +104,13 @@ impl UserHandle {
         ensures { (result ≡ true) ↔ IsSome self.now.held.value }
     {
         self.tag == OPEN
+    }
+
+    /// Whether an open trie lies there.
+    pub(crate) fn is_trie(&self) -> bool
+        ensures { (result ≡ true) ↔ (self.now.tag ≡ trie_mark) }
+    {
+        self.tag == trie_handle::OPEN
     }
 
     /// Takes out what it owns, and leaves it closed. Memory that is no open handle stays as it is.

@@ -282,6 +282,9 @@ class Installed:
         said = said_by(self.compiled("c", "tests", "untouched.c"))
         assert int(re.fullmatch(r"ok: (\d+) answers\n", said)[1]) >= 40
 
+    def test_c_first(self):
+        assert said_by(self.compiled("c", "examples", "first.c")) == "500 of 1000 are below 500\n"
+
     def test_c_timers(self):
         assert said_by(self.compiled("c", "examples", "timers.c")).splitlines() == PRINTED["timers"]
 
@@ -330,6 +333,9 @@ class Module:
         said = self.python(os.path.join(BINDINGS, "python", "test_augtrie.py"))
         passed = re.fullmatch(r"(\d+) passed, 0 failed", said.splitlines()[-1])
         assert int(passed[1]) >= LEAST_PYTHON
+
+    def test_python_first(self):
+        assert self.python(os.path.join(BINDINGS, "python", "first.py")) == "500 of 1000 are below 500\n7 to 9 weigh 49\n"
 
     def test_python_leaderboard(self):
         assert self.python(os.path.join(BINDINGS, "python", "leaderboard.py")).splitlines() == PRINTED["leaderboard"]
@@ -428,6 +434,9 @@ class Crate:
     def test_rust_crate(self):
         counts = [int(count) for count in re.findall(r"test result: ok\. (\d+) passed; 0 failed", self.cargo("test"))]
         assert sum(counts) >= LEAST_RUST
+
+    def test_rust_first(self):
+        assert re.fullmatch(r"\d+ of \d+ are below 500\n1000 at the end\n", self.cargo("run", "--example", "first"))
 
     def test_rust_order_book(self):
         assert self.cargo("run", "--example", "order_book").splitlines() == PRINTED["order_book"]

@@ -23,11 +23,6 @@ def test_excerpts_in_the_readme():
     check_excerpts(read("README.md"))
 
 
-def test_program_in_the_readme():
-    program = read("crates", "first_example", "src", "main.rt")
-    assert f"```rust\n{program}```\n" in read("README.md")
-
-
 def test_excerpts_in_the_guide():
     check_excerpts(read("docs", "using.md"))
 

@@ -39,6 +39,12 @@ invariant_of-working g c =
       search rules,
     )
 
+pub hand_out-handles-requires-clause-rounds : goal.hand_out-handles-requires-clause-rounds
+hand_out-handles-requires-clause-rounds g c = let shares = c.in-Ok-next_round.ensures.shares in (
+  λ k d low. shares.0 k d low ∙ sym (ap arc_value c.of-of.ensures),
+  shares.1 ∙ sym (c.open_lanes-ports.ensures.len.1 ∙ c.in-Ok.ensures.berths.1),
+)
+
 pub hand_out-handles-requires-clause-desks : goal.hand_out-handles-requires-clause-desks
 hand_out-handles-requires-clause-desks g c = let placed = c.place-desk.ensures in (
   λ k d low. placed.handles k d low ∙ sym (c.of.ensures ∙ placed.owner),

@@ -640,7 +640,7 @@ def updates_do_not_wait_long_for_those_that_look_again_and_again():
         for read, of, seconds in cases:
             # On a busy machine the best of three measurements counts.
             took = (longest_update(seconds, read, lambda: of.increment(3)) for _ in range(3))
-            assert any(it <= 0.1 for it in took)
+            assert any(it <= 0.1 * max(1, os.getloadavg()[0] / os.cpu_count()) for it in took)
 
 
 @test

@@ -436,7 +436,7 @@ class Crate:
         assert sum(counts) >= LEAST_RUST
 
     def test_rust_first(self):
-        assert re.fullmatch(r"\d+ of \d+ are below 500\n1000 at the end\n", self.cargo("run", "--example", "first"))
+        assert re.fullmatch(r"500 of \d+ are below 500\n1000 at the end\n", self.cargo("run", "--example", "first"))
 
     def test_rust_order_book(self):
         assert self.cargo("run", "--example", "order_book").splitlines() == PRINTED["order_book"]
@@ -584,7 +584,7 @@ class Bench:
         self.check_times(rows, [ASIDE["suspended"]])
         for row in rows.values():
             # One of the three may fall between two calls, and then its time is nobody's.
-            assert int(row["calls left out"]) >= 3 and 0.04 <= float(row["suspended, s"]) < 0.2, row
+            assert int(row["calls left out"]) >= 3 and 0.04 <= float(row["suspended, s"]) < 1, row
 
     def check_case(self, rates, ratios):
         """Holds the numbers of a case to one another. Of one pass, each median is the number itself."""

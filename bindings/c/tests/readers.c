@@ -1,13 +1,15 @@
 /* Three threads look again and again for a millisecond each, with no pause between two looks, and one updates a table that is soon full: no update
-   takes more than 100 milliseconds, by the calls that wait and by those that never do. On a busy machine the best of three measurements counts. Who
-   says that he waits and is closed, or no longer waits, holds up nobody. */
-#define _POSIX_C_SOURCE 200809L
+   takes more than 100 milliseconds, by the calls that wait and by those that never do. On a busy machine the best of three measurements counts, and
+   more is allowed where each processor has more than one thread to run. Who says that he waits and is closed, or no longer waits, holds up nobody. */
+#define _DEFAULT_SOURCE
 #include "augtrie.h"
 #include "want.h"
 
 #include <pthread.h>
 #include <stdatomic.h>
+#include <stdlib.h>
 #include <time.h>
+#include <unistd.h>
 
 enum { READERS = 3, MEASUREMENTS = 3, BYTES = 8000, SECOND = 1000000000, LONGEST = SECOND / 10 };
 
@@ -72,11 +74,17 @@ static int64_t longest_of(aug_user *user, int64_t (*update)(aug_user *), uint32_
     return longest;
 }
 
+/* How long it may take: longer where each processor has more than one thread to run. */
+static int64_t limit(void) {
+    double load = 0, processors = (double)sysconf(_SC_NPROCESSORS_ONLN);
+    return getloadavg(&load, 1) == 1 && load > processors ? (int64_t)(LONGEST * load / processors) : LONGEST;
+}
+
 static void check_longest(aug_user *user, int64_t (*update)(aug_user *), uint32_t *updates) {
-    int64_t longest = LONGEST + 1;
-    for (int i = 0; i < MEASUREMENTS && longest > LONGEST; i++) longest = longest_of(user, update, updates);
-    if (longest > LONGEST) printf("an update took %lld milliseconds\n", (long long)longest / 1000000);
-    WANT(longest > LONGEST, 0);
+    int64_t longest = INT64_MAX;
+    for (int i = 0; i < MEASUREMENTS && longest > limit(); i++) longest = longest_of(user, update, updates);
+    if (longest > limit()) printf("an update took %lld milliseconds\n", (long long)longest / 1000000);
+    WANT(longest > limit(), 0);
 }
 
 /* The end of a look sleeps if somebody waits, and at least 50 microseconds. */

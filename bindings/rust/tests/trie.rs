@@ -490,11 +490,14 @@ fn longest_update() -> Result<Duration, Error> {
 
 #[test]
 fn an_update_does_not_wait_long_for_those_that_look_again_and_again() -> Result<(), Error> {
-    // On a busy machine the best of three measurements counts.
+    // On a busy machine the best of three measurements counts, and more is allowed where each processor has more than one thread to run.
     let mut longest = Vec::new();
     for _ in 0..3 {
         longest.push(longest_update()?);
-        if longest.last() <= Some(&Duration::from_millis(100)) {
+        let load = std::fs::read_to_string("/proc/loadavg").unwrap_or_default();
+        let load = load.split(' ').next().and_then(|load| load.parse().ok()).unwrap_or(0.0);
+        let each = load / thread::available_parallelism().map_or(1, usize::from) as f64;
+        if longest.last() <= Some(&Duration::from_millis(100).mul_f64(each.max(1.0))) {
             return Ok(());
         }
     }

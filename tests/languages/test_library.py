@@ -248,8 +248,7 @@ class Installed:
         assert re.search(r"^ok: \d+ answers, 1024 checks\n$", said_by(self.compiled("c", "tests", "threads.c")))
 
     def test_c_a_thousand_tries(self):
-        said = said_by(self.compiled("c", "tests", "tries.c"))
-        assert int(re.fullmatch(r"ok: (\d+) answers\n", said)[1]) >= 10000
+        assert self.answers_in("tries.c") >= 10000
 
     def test_c_each_request_for_memory_refused(self):
         said = said_by(self.refused())
@@ -258,29 +257,28 @@ class Installed:
     def test_c_crowd(self):
         assert CROWD.fullmatch(said_by(self.compiled("c", "tests", "crowd.c"), CROWD_SECONDS))
 
+    def answers_in(self, name):
+        """How many answers a test in C compares, with what they have to be."""
+        return int(re.fullmatch(r"ok: (\d+) answers\n", said_by(self.compiled("c", "tests", name)))[1])
+
     def test_c_many_keys(self):
-        said = said_by(self.compiled("c", "tests", "many.c"))
-        assert int(re.fullmatch(r"ok: (\d+) answers\n", said)[1]) >= 300
+        assert self.answers_in("many.c") >= 300
 
     def test_c_pops(self):
-        said = said_by(self.compiled("c", "tests", "pops.c"))
-        assert int(re.fullmatch(r"ok: (\d+) answers\n", said)[1]) >= 8192
+        assert self.answers_in("pops.c") >= 8192
 
     def test_c_updates_beside_readers(self):
         said = said_by(self.compiled("c", "tests", "readers.c"))
         assert re.fullmatch(r"ok: \d+ answers, \d{3,} updates\n", said), said
 
     def test_c_each_number_of_bits_and_64_users(self):
-        said = said_by(self.compiled("c", "tests", "sizes.c"))
-        assert int(re.fullmatch(r"ok: (\d+) answers\n", said)[1]) >= 10000
+        assert self.answers_in("sizes.c") >= 10000
 
     def test_c_turns_of_others(self):
-        said = said_by(self.compiled("c", "tests", "waits.c"))
-        assert int(re.fullmatch(r"ok: (\d+) answers\n", said)[1]) >= 50
+        assert self.answers_in("waits.c") >= 50
 
     def test_c_calls_write_no_handle(self):
-        said = said_by(self.compiled("c", "tests", "untouched.c"))
-        assert int(re.fullmatch(r"ok: (\d+) answers\n", said)[1]) >= 40
+        assert self.answers_in("untouched.c") >= 40
 
     def test_c_first(self):
         assert said_by(self.compiled("c", "examples", "first.c")) == "500 of 1000 are below 500\n"

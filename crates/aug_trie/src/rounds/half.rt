@@ -2,7 +2,6 @@
 ghost use Rattle.std.specs.Prelude.{◌≡◌, ◌+◌, ◌^◌, [], ◌∷◌, ◌++◌};
 ghost use Rattle.aug_core.specs.Kinds.{load_node};
 ghost use Rattle.aug_model.specs.Folds.{summary_of};
-ghost use Rattle.aug_trie.specs.Knowledge.{inserts_of, removals_of};
 ghost use Rattle.aug_trie.specs.Node.{Keeps};
 ghost use Rattle.aug_trie.specs.Pass.{GoesOn};
 ghost use Rattle.aug_trie.specs.Round.{root_of, table_of};
@@ -69,20 +68,6 @@ impl<A: Monoid, B: Monoid> PassHalf<A, B> {
         ensures { result + self.now.spent ≡ self.now.round.updates }
     {
         self.account.left
-    }
-
-    /// How many keys the pass put in. A weight that `put` replaced counts here and as a removal.
-    pub fn inserts(&self) -> u32
-        ensures { result ≡ inserts_of self.now.knows.accepted }
-    {
-        self.account.inserts
-    }
-
-    /// How many keys it took out. A weight that `put` replaced counts here and as an insertion.
-    pub fn removals(&self) -> u32
-        ensures { result ≡ removals_of self.now.knows.accepted }
-    {
-        self.account.removals
     }
 }
 

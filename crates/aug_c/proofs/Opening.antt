@@ -4,7 +4,7 @@ use Rattle.std.specs.Prelude.{vec_len}
 use Rattle.aug_core.specs.Layout.{IsOutside, IsWithin}
 use Rattle.aug_model.specs.Keys.{SetFacts}
 use Rattle.aug_live.specs.LiveHandles.{IsNew}
-use Rattle.aug_live.specs.LiveTries.{IsOpenedTrie, KnowsMore, ids_of}
+use Rattle.aug_live.specs.LiveTries.{IsOpenedTrie, KnowsMore}
 use Rattle.aug_live.specs.Plans.{Fits, IsGreatest, least_plan}
 use Rattle.aug_live.specs.declared.plan.Plan.{Plan}
 use Rattle.aug_c.specs.Codes as codes
@@ -20,13 +20,13 @@ not_both first last n within (inr above) = let w = within.1 in omega (arith, w, 
 module _ (bits users bytes : ℕ) (trie : Opened) where
   -- what the call of the live trie gave, over the empty set
   pub is_opened : (set : SetFacts) → set ≡ empty_of bits → IsOpenedTrie set users trie.live → vec_len trie.spare ≡ users
-      → (plan : Plan) × IsGreatest set.bits users bytes plan × All (IsNew trie.live.table (ids_of trie.live) set plan) trie.spare.items → IsOpenedFor bits users bytes trie
+      → (plan : Plan) × IsGreatest set.bits users bytes plan × All (IsNew trie.live set plan) trie.spare.items → IsOpenedFor bits users bytes trie
   is_opened set empty opened all new = record {
     opened = subst (λ (s : SetFacts). IsOpenedTrie s users trie.live) empty opened;
     accesses = all;
     plan = new.0;
     greatest = subst (λ (s : SetFacts). IsGreatest s.bits users bytes new.0) empty new.1;
-    new = subst (λ (s : SetFacts). All (IsNew trie.live.table (ids_of trie.live) s new.0) trie.spare.items) empty new.2;
+    new = subst (λ (s : SetFacts). All (IsNew trie.live s new.0) trie.spare.items) empty new.2;
   }
 
   pub opens : (new : Option Opened) → IsWithin 1 16 bits → IsWithin 1 64 users → Fits bits bytes (least_plan users) → new ≡ Some trie → IsOpenedFor bits users bytes trie → OpensTrie bits users bytes new (pos 0)

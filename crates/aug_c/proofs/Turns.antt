@@ -9,13 +9,14 @@ use Rattle.aug_trie.specs.declared.updates.outcome.Outcome.{Outcome}
 use Rattle.aug_trie.specs.declared.updates.outcome.Outcome.TheVariants.{Refused}
 use Rattle.aug_trie.specs.declared.updates.request.Request.{Request}
 use Rattle.aug_trie.specs.declared.updates.request.Request.TheVariants.{Insert}
+use Rattle.aug_live.specs.LiveErrors.{IfRefused, RefusesCall}
 use Rattle.aug_live.specs.LiveHandles.{HandleFacts, Follows, IsSomeOf, Makes}
 use Rattle.aug_live.specs.declared.error.Busy.{Busy}
 use Rattle.aug_live.specs.declared.error.TryError.{TryError}
 use Rattle.aug_live.specs.declared.error.TryError.TheVariants as tried
 use Rattle.aug_c.specs.Codes as codes
 use Rattle.aug_c.specs.ArrayCalls.{AsksFrom, HasLengths, InTurn, MakesEach, MakesSome, UpdatesAllFree, change_by, changes}
-use Rattle.aug_c.specs.UserCalls.{refusal_code}
+use Rattle.aug_c.specs.UserCalls.{ShowsClosed, refusal_code}
 use Rattle.aug_c.specs.declared.progress.Progress.{Progress}
 use Rattle.aug_c.specs.inside.Refusals.{refusal_of}
 
@@ -50,9 +51,9 @@ in_turn-more does place keys (d ∷ ds) done p q r room went step =
     )
 
 -- why an update that a live trie did not make was not made
-pub again_or_closed : (cause : TryError Busy) → (refusal_code (refusal_of cause) ≡ codes.again) ⊎ (refusal_code (refusal_of cause) ≡ codes.closed)
-again_or_closed (tried.Again missed) = inl refl
-again_or_closed (tried.Refused cause) = inr refl
+pub again_or_closed : (access : HandleFacts) (cause : TryError Busy) → IfRefused (RefusesCall access) cause → (refusal_code (refusal_of cause) ≡ codes.again) ⊎ ((refusal_code (refusal_of cause) ≡ codes.closed) × ShowsClosed access)
+again_or_closed access (tried.Again missed) why = inl refl
+again_or_closed access (tried.Refused cause) why = inr (refl, (cause, why))
 
 -- what a batch came to stands in the first places
 first_outcomes : {requests : List Request} {keys : List ℕ} {outcomes : List Outcome} {now new : HandleFacts} (count : ℕ) → length keys ≡ count → Makes count (DoesBatch requests keys outcomes) now new → Makes count (DoesBatch requests keys (take count outcomes)) now new
@@ -73,7 +74,7 @@ first_outcomes {requests} {keys} {outcomes} {now} {new} count long m = record {
   };
   steps = m.steps;
   goes_on = m.goes_on;
-  lanes = m.lanes;
+  who = m.who;
   made = m.made;
 }
 
@@ -141,14 +142,14 @@ module _ (asked : ℕ → Request) (keys : List ℕ) (before : Progress) (old : 
   }
 
   -- the next ones were not made
-  pub came_so_far : (so_far : Progress) (now new : HandleFacts) (code : ℤ) (cause : TryError Busy) → so_far.made < length keys → code ≡ refusal_code (refusal_of cause) → Follows now new → Came so_far now → MakesEach asked keys before so_far old new code
-  came_so_far so_far now new code cause within says follows came = record {
+  pub came_so_far : (so_far : Progress) (now new : HandleFacts) (code : ℤ) (cause : TryError Busy) → so_far.made < length keys → code ≡ refusal_code (refusal_of cause) → Follows now new → IfRefused (RefusesCall new) cause → Came so_far now → MakesEach asked keys before so_far old new code
+  came_so_far so_far now new code cause within says follows why came = record {
     batches = came.batches;
     last = now;
     in_turn = came.in_turn;
     made = came.made;
     changed = came.changed;
-    ends = inr (subst (λ (z : ℤ). (z ≡ codes.again) ⊎ (z ≡ codes.closed)) (sym says) (again_or_closed cause), within, follows);
+    ends = inr (subst (λ (z : ℤ). (z ≡ codes.again) ⊎ ((z ≡ codes.closed) × ShowsClosed new)) (sym says) (again_or_closed new cause why), within, follows);
   }
 
 module _ (asked : ℕ → Request) (keys : List ℕ) (weights : ℕ) (before : Progress) (old : HandleFacts) where

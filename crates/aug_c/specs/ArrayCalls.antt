@@ -14,7 +14,7 @@ use Rattle.aug_live.specs.LiveHandles.{HandleFacts, LookFacts, Follows, Makes, I
 use Rattle.aug_c.specs.declared.progress.Progress.{Progress}
 use Rattle.aug_c.specs.declared.seat.Seat.{Seat}
 use Rattle.aug_c.specs.declared.seat.Seat.TheVariants.{Free, Looking}
-use Rattle.aug_c.specs.UserCalls.{span_of}
+use Rattle.aug_c.specs.UserCalls.{ShowsClosed, span_of}
 use Rattle.aug_c.specs.Codes as codes
 
 -- 1 if the set was changed
@@ -45,7 +45,7 @@ pub record MakesSome (asked : ℕ → Request) (place : ℕ) (keys : List ℕ) (
 
 -- why updates that were begun have ended: all are made, or the next one was not, and then the user follows on what it knew
 abbrev pub EndsAt : ℕ → ℕ → HandleFacts → HandleFacts → ℤ → Type 0
-EndsAt all made last new code = ((code ≡ pos 0) × (made ≡ all) × (new ≡ last)) ⊎ (((code ≡ codes.again) ⊎ (code ≡ codes.closed)) × (made < all) × Follows last new)
+EndsAt all made last new code = ((code ≡ pos 0) × (made ≡ all) × (new ≡ last)) ⊎ (((code ≡ codes.again) ⊎ ((code ≡ codes.closed) × ShowsClosed new)) × (made < all) × Follows last new)
 
 -- updates for the keys from the index on that the progress had come to, in batches: how far they came, what they came to, and why they ended
 pub record MakesEach (asked : ℕ → Request) (keys : List ℕ) (before after : Progress) (old new : HandleFacts) (code : ℤ) : Type 0 where

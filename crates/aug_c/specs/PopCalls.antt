@@ -1,14 +1,15 @@
 -- What it comes to that a user takes out the first or the last member. In the example the first pop of the first member answers 1 and writes the key 1 with
 -- the weight 1, the second one 3, and the third answers -1 and writes nothing.
-use Rattle.std.specs.Prelude.{◌≡◌, ℤ, pos, Result, Ok, Err, IfOk, IfErr}
+use Rattle.std.specs.Prelude.{◌≡◌, ℤ, pos, Result, Ok, Err, IfOk, IfErr, IsErrOf}
 use Rattle.aug_trie.specs.Pops.{pop_updates, Pops}
 use Rattle.aug_trie.specs.declared.rounds.pop.Pop.{Pop}
 use Rattle.aug_trie.specs.declared.rounds.pop.Pop.TheVariants as pop
 use Rattle.aug_trie.specs.declared.rounds.pop.Side.{Side}
 use Rattle.aug_live.specs.LiveHandles.{HandleFacts, Follows, Makes}
-use Rattle.aug_c.specs.UserCalls.{refusal_code, span_of}
+use Rattle.aug_c.specs.UserCalls.{ShowsClosed, refusal_code, span_of}
 use Rattle.aug_c.specs.declared.pops.Member.{Member}
 use Rattle.aug_c.specs.declared.refusal.Refusal.{Refusal}
+use Rattle.aug_c.specs.declared.refusal.Refusal.TheVariants.{Closed}
 use Rattle.aug_c.specs.declared.seat.Seat.{Seat}
 use Rattle.aug_c.specs.declared.seat.Seat.TheVariants.{Free, Looking}
 use Rattle.aug_c.specs.Codes as codes
@@ -34,6 +35,7 @@ pub record PopsFree (side : Side) (before after : Member) (old new : HandleFacts
   pub tells : written_by answer before after
   pub popped : IfOk answer (λ done. Makes (pop_updates done) (Pops span_of side done) old new)
   pub not_made : IfErr answer (λ _. Follows old new)
+  pub closed : IsErrOf answer Closed → ShowsClosed new
 
 -- a pop by a user, which is refused while it holds a look
 abbrev pub PopsMember : Side → Member → Member → Seat → Seat → ℤ → Type 0

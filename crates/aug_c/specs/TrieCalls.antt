@@ -5,7 +5,7 @@ use Rattle.std.specs.Prelude.{◌≡◌, ◌≢◌, ◌⊎◌, ℕ, ◌↔◌, �
 use Rattle.aug_core.specs.Layout.{IsOutside, IsWithin}
 use Rattle.aug_model.specs.Keys.{SetFacts}
 use Rattle.aug_live.specs.LiveHandles.{HandleFacts, IsNew}
-use Rattle.aug_live.specs.LiveTries.{Closes, IsOpenedTrie, KnowsMore, TrieFacts, ids_of}
+use Rattle.aug_live.specs.LiveTries.{Closes, IsOpenedTrie, KnowsMore, TrieFacts}
 use Rattle.aug_live.specs.Plans.{Fits, IsGreatest, least_plan}
 use Rattle.aug_live.specs.declared.counts.LiveCounts.{LiveCounts}
 use Rattle.aug_live.specs.declared.plan.Plan.{Plan}
@@ -26,7 +26,7 @@ pub record IsOpenedFor (bits users bytes : ℕ) (trie : Opened) : Type 0 where
   pub accesses : vec_len trie.spare ≡ users
   pub plan : Plan
   pub greatest : IsGreatest bits users bytes plan
-  pub new : All (IsNew trie.live.table (ids_of trie.live) (empty_of bits) plan) trie.spare.items
+  pub new : All (IsNew trie.live (empty_of bits) plan) trie.spare.items
 
 -- a trie is opened, or the handle stays closed
 pub record OpensTrie (bits users bytes : ℕ) (new : Option Opened) (code : ℤ) : Type 0 where

@@ -16,6 +16,8 @@ use Rattle.aug_trie.specs.declared.updates.outcome.Outcome.{Outcome}
 use Rattle.aug_trie.specs.declared.updates.outcome.Outcome.TheVariants.{Accepted, Replaced, Refused, Unchanged, TooGreat, TooLittle}
 use Rattle.aug_trie.specs.declared.updates.request.Request.{Request}
 use Rattle.aug_live.specs.LiveHandles.{HandleFacts, LookFacts, Follows, Makes, IsAsked, LooksAgain, handle_of, set_of_look}
+use Rattle.aug_live.specs.LiveErrors.{RefusesCall}
+use Rattle.aug_live.specs.declared.error.LiveError.{LiveError}
 use Rattle.aug_c.specs.declared.refusal.Refusal.{Refusal}
 use Rattle.aug_c.specs.declared.refusal.Refusal.TheVariants.{BadKey, Again, Closed}
 use Rattle.aug_c.specs.declared.seat.Seat.{Seat}
@@ -53,6 +55,10 @@ abbrev pub truth : Bool → ℤ
 truth true = pos 1
 truth false = pos 0
 
+-- a user's access shows why it is told that the trie is closed: nothing works there, or another access has its lane, or no round can follow
+abbrev pub ShowsClosed : HandleFacts → Type 0
+ShowsClosed access = (cause : LiveError) × RefusesCall access cause
+
 -- an update of a key by a user that holds no look: if the key is none of the trie, nothing changes; and else it is made, or the user follows on what it
 -- knew
 pub record UpdatesFree (asked : Request) (key : ℕ) (old new : HandleFacts) (code : ℤ) : Type 0 where
@@ -62,6 +68,7 @@ pub record UpdatesFree (asked : Request) (key : ℕ) (old new : HandleFacts) (co
   pub same : IsErrOf answer BadKey → new ≡ old
   pub made : IfOk answer (λ done. Makes 1 (λ a b. ComesTo asked key done a.knows b.knows) old new)
   pub not_made : IfErr answer (λ _. Follows old new)
+  pub closed : IsErrOf answer Closed → ShowsClosed new
 
 -- an update of a key by a user, which is refused while it holds a look
 abbrev pub UpdatesKey : Request → ℕ → Seat → Seat → ℤ → Type 0
@@ -71,7 +78,7 @@ UpdatesKey asked key (Looking look) new code = (new ≡ Looking look) × (code �
 -- a user that holds no look takes one, or follows on what it knew
 pub record TakesFree (old : HandleFacts) (new : Seat) (code : ℤ) : Type 0 where
   pub looks : code ≡ pos 0 → (look : LookFacts) × (new ≡ Looking look) × Makes 0 (λ a b. TakesSnapshot a.knows b.knows (snapshot_cut b look.snapshot.number)) old (handle_of look)
-  pub refused : code ≢ pos 0 → (access : HandleFacts) × (new ≡ Free access) × Follows old access
+  pub refused : code ≢ pos 0 → (access : HandleFacts) × (new ≡ Free access) × Follows old access × (code ≡ codes.closed → ShowsClosed access)
   pub others : (code ≡ pos 0) ⊎ (code ≡ codes.again) ⊎ (code ≡ codes.closed)
 
 abbrev pub TakesLook : Seat → Seat → ℤ → Type 0

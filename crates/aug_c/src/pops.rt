@@ -1,11 +1,12 @@
 //! How a user takes out the first or the last member.
-ghost use Rattle.std.specs.Prelude.{◌≡◌, IfOk, IfErr, IsNone};
+ghost use Rattle.std.specs.Prelude.{◌≡◌, IfOk, IfErr, IsErrOf, IsNone};
 ghost use Rattle.aug_trie.specs.Pops.{pop_updates, Pops};
 ghost use Rattle.aug_trie.specs.declared.rounds.pop.Side.TheVariants as side;
 ghost use Rattle.aug_live.specs.LiveHandles.{Follows, Makes};
 ghost use Rattle.aug_c.specs.Handles.{user_of, On};
 ghost use Rattle.aug_c.specs.PopCalls.{pop_code, written_by, PopsMember};
-ghost use Rattle.aug_c.specs.UserCalls.{span_of};
+ghost use Rattle.aug_c.specs.UserCalls.{ShowsClosed, span_of};
+ghost use Rattle.aug_c.specs.declared.refusal.Refusal.TheVariants as refusal;
 
 use crate::codes::{CLOSED, LOOKING, NONE};
 use crate::refusal::Refusal;
@@ -49,6 +50,7 @@ fn tell(answer: Result<Pop, Refusal>, out: &mut Member)
 fn pop_by(access: &mut AccessOf, side: Side) -> Result<Pop, Refusal>
     ensures popped { IfOk result (λ done. Makes (pop_updates done) (Pops span_of side done) access.old access.new) }
     ensures not_made { IfErr result (λ _. Follows access.old access.new) }
+    ensures closed { IsErrOf result refusal.Closed → ShowsClosed access.new }
 {
     let answer = match side {
         Side::First => access.try_pop_first(),

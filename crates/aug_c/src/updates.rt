@@ -5,7 +5,7 @@ ghost use Rattle.aug_trie.specs.declared.updates.request.Request.TheVariants as 
 ghost use Rattle.aug_live.specs.LiveHandles.{Follows, Makes};
 ghost use Rattle.aug_c.specs.declared.refusal.Refusal.TheVariants as refusal;
 ghost use Rattle.aug_c.specs.Handles.{user_of, On};
-ghost use Rattle.aug_c.specs.UserCalls.{update_code, EndsLook, LooksAnew, TakesLook, UpdatesKey};
+ghost use Rattle.aug_c.specs.UserCalls.{update_code, EndsLook, LooksAnew, ShowsClosed, TakesLook, UpdatesKey};
 
 use crate::codes::{CLOSED, LOOKING, NOT_LOOKING, TOO_GREAT, TOO_LITTLE};
 use crate::refusal::Refusal;
@@ -36,6 +36,7 @@ fn update_by(access: &mut AccessOf, key: u32, request: Request) -> Result<Outcom
     ensures same { IsErrOf result refusal.BadKey → access.new ≡ access.old }
     ensures made { IfOk result (λ done. Makes 1 (λ a b. ComesTo request key done a.knows b.knows) access.old access.new) }
     ensures not_made { IfErr result (λ _. Follows access.old access.new) }
+    ensures closed { IsErrOf result refusal.Closed → ShowsClosed access.new }
 {
     if key >= access.universe() {
         return Err(Refusal::BadKey);

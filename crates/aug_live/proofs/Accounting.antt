@@ -159,7 +159,7 @@ same_flat_reverse h (x ∷ xs) test =
 
 -- the end of a lane whose passes are back, once all of its handles are done
 abbrev pub closed_lane : EndFacts → LaneKnown
-closed_lane e = record { id = e.lock; done = done_with e.known e.known.at }
+closed_lane e = record { id = e.lock; number = e.known.number; is_out = false; done = done_with e.known e.known.at }
 
 done_more : (x : Whose) (done : List Done) (own : List Made) → IsPrefix done (done_if x done own)
 done_more Roller done own = ((false, own) ∷ [], refl)
@@ -187,7 +187,7 @@ lost_count Gone done own = omega arith
 
 lanes_done : (es : List EndFacts) → LanesGoOn (map lane_by es) (map closed_lane es)
 lanes_done [] = tt
-lanes_done (e ∷ es) = (record { id = refl; done = done_more e.known.whose e.known.done _ }, lanes_done es)
+lanes_done (e ∷ es) = (record { id = refl; number = omega arith; done = done_more e.known.whose e.known.done _ }, lanes_done es)
 
 pub lanes_close : (ports es : List EndFacts) → map kept_of es ≡ map kept_of ports → LanesGoOn (map lane_by ports) (map closed_lane es)
 lanes_close ports es same = subst (λ (z : List LaneKnown). LanesGoOn z (map closed_lane es)) (sym (lanes_of_kept es) ∙ ap (map lane_by) same ∙ lanes_of_kept ports) (lanes_done es)

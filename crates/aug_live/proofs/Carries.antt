@@ -1,6 +1,7 @@
 -- What follows on what: places of a lane, one after another.
-use Rattle.std.proofs.Common.{◌≡◌, ◌⊎◌, inl, inr, ℕ, ◌+◌, List, [], ◌∷◌, ◌++◌, length, true, false, sym, refl, ap, ◌∙◌, subst, arith}
-use Rattle.std.specs.Prelude.{Option, Some, Result, Ok, Err, IfOk, IfErr}
+use Rattle.std.proofs.Common.{◌≡◌, ◌⊎◌, inl, inr, ℕ, ◌+◌, List, [], ◌∷◌, ◌++◌, true, false, sym, refl, ap, ◌∙◌, subst, arith}
+use Rattle.std.specs.Prelude.{Bool, Option, None, Some, Result, Ok, Err, IfOk, IfErr}
+use Rattle.std.proofs.lemmas.Bool.{false≢true}
 use Rattle.std.proofs.lemmas.List.{append-nil}
 use mathlib.Core.Logic.{dite}
 use native.Mathlib.Decide.{ℕ_discrete}
@@ -21,13 +22,19 @@ use Rattle.aug_trie.specs.Round.{RoundFacts, TableFacts, table_of}
 use Rattle.aug_trie.proofs.Chaining.{begins_alike, begins_longer, part_refl, part_trans}
 use Rattle.aug_live.specs.Carrying.{first_members, Leads}
 use Rattle.aug_live.specs.Ledgers.{Made, dated}
-use Rattle.aug_live.specs.LiveErrors.{IfRefused}
+use Rattle.aug_live.specs.LiveErrors.{IfRefused, RefusesCall, RefusesRound}
 use Rattle.aug_live.specs.declared.error.LiveError.{LiveError}
+use Rattle.aug_live.specs.declared.error.LiveError.TheVariants.{Closed, Exhausted, NoLane, TooMany}
+use Rattle.aug_live.specs.declared.error.LiveError.TheVariants as live
+use Rattle.aug_live.specs.declared.lane.Obstacle.{Obstacle}
+use Rattle.aug_live.specs.declared.lane.Obstacle.TheVariants.{Held, Round, Replaced}
 use Rattle.aug_live.specs.declared.error.TryError.{TryError}
 use Rattle.aug_live.specs.declared.error.TryError.TheVariants.{Again, Refused}
-use Rattle.aug_live.specs.LiveHandles.{HandleFacts, IsSuccessor, Follows, Makes, added}
-use Rattle.aug_live.specs.inside.LaneKnowledge.{EndFacts, KnownFacts, LaneFacts, OutFacts, Worked, WorksHere, handle_by, rounds_at, worked}
+use Rattle.aug_live.specs.LiveHandles.{HandleFacts, IsSuccessor, Follows, Makes, SameHandle, WhoFacts, added}
+use Rattle.aug_live.specs.LiveTries.{KnowsMore, TrieFacts}
+use Rattle.aug_live.specs.inside.LaneKnowledge.{EndFacts, KnownFacts, LaneFacts, OutFacts, Seen, Stays, Worked, WorksHere, handle_by, rounds_at, who_by, worked}
 use Rattle.aug_live.proofs.Adding.{same_made}
+use Rattle.aug_live.proofs.Lanes.{ids_more, more_on, more_self}
 
 -- one more round leads on
 first_on : (xs : List Chapter) (now : Chapter) (next : List (ℕ × ℕ)) → first_members (xs ++ now ∷ []) next ≡ first_members xs now.members
@@ -63,8 +70,18 @@ pub successor_part : (a b : PassFacts) → IsSuccessor a b → IsPart (chain_of 
 successor_part a b c = subst (λ (z : List Chapter). BeginsWith a.past (chain_of a).now (z ++ (chain_of b).now ∷ [])) (sym c.past)
     (begins_alike a.past (chain_of a).now (chain_of b).now [] record { members = ap (λ (z : RoundFacts). z.members) c.round; goes_on = c.goes_on })
 
+-- a handle is the same as itself, and one after another
+same_who : (w : WhoFacts) → SameHandle w w
+same_who w = record { trie = more_self w.trie; lanes = refl; lane = refl; number = refl; replaced = λ r. r }
+
+who_kept : (a b : WhoFacts) → b ≡ a → SameHandle a b
+who_kept a b same = subst (SameHandle a) (sym same) (same_who a)
+
+who_on : (a b c : WhoFacts) → SameHandle a b → SameHandle b c → SameHandle a c
+who_on a b c x y = record { trie = more_on a.trie b.trie c.trie x.trie y.trie; lanes = y.lanes ∙ x.lanes; lane = y.lane ∙ x.lane; number = y.number ∙ x.number; replaced = λ r. y.replaced (x.replaced r) }
+
 pub follows_self : (h : HandleFacts) → Follows h h
-follows_self h = record { not_later = omega arith; same = λ _. inl refl; goes_on = part_refl (chain_of h.half); led = λ less. absurd (omega arith); table = refl; bits = refl; lanes = refl; made = refl }
+follows_self h = record { not_later = omega arith; same = λ _. inl refl; goes_on = part_refl (chain_of h.half); led = λ less. absurd (omega arith); table = refl; bits = refl; same_handle = same_who h.who; made = refl }
 
 -- the same place follows, and so does one where the lane has a later pass, or one of the next round
 pub follows_same : (a b : HandleFacts) → b ≡ a → Follows a b
@@ -78,7 +95,7 @@ follows_pass a b c = record {
   led = λ less. absurd (omega arith);
   table = ap (λ (z : RoundFacts). z.table) c.round;
   bits = ap (λ (z : RoundFacts). z.bits) c.round;
-  lanes = refl;
+  same_handle = same_who a.who;
   made = refl;
 }
 
@@ -90,7 +107,7 @@ follows_round a b part led table bits = record {
   led = λ _. led;
   table = table;
   bits = bits;
-  lanes = refl;
+  same_handle = same_who a.who;
   made = refl;
 }
 
@@ -104,17 +121,17 @@ follows_on a b c x y = let ab = x.not_later in let bc = y.not_later in record {
       (λ later. y.led (omega arith));
   table = y.table ∙ x.table;
   bits = y.bits ∙ x.bits;
-  lanes = y.lanes ∙ x.lanes;
+  same_handle = who_on a.who b.who c.who x.same_handle y.same_handle;
   made = y.made ∙ x.made;
 }
 
--- the same for a handle, which has lanes of its trie and made something
-follows_by : (lanes : List TableId) (made made' : List Made) (a b : HandleFacts) → made' ≡ made → Follows a b → Follows (record a { lanes = lanes; made = made }) (record b { lanes = lanes; made = made' })
-follows_by lanes made made' a b same f = record { not_later = f.not_later; same = f.same; goes_on = f.goes_on; led = f.led; table = f.table; bits = f.bits; lanes = refl; made = same }
+-- the same for a handle, which is one of a trie and made something
+follows_by : (who who' : WhoFacts) (made made' : List Made) (a b : HandleFacts) → SameHandle who who' → made' ≡ made → Follows a b → Follows (record a { who = who; made = made }) (record b { who = who'; made = made' })
+follows_by who who' made made' a b is same f = record { not_later = f.not_later; same = f.same; goes_on = f.goes_on; led = f.led; table = f.table; bits = f.bits; same_handle = is; made = same }
 
 -- an update from where the lane stands, and where that follows
 pub makes_on : (updates : ℕ) (does : PassFacts → PassFacts → Type 0) (a b c : HandleFacts) → Follows a b → Makes updates does b c → Makes updates does a c
-makes_on updates does a b c x m = record { start = m.start; follows = follows_on a b m.start x m.follows; same_era = m.same_era; done = m.done; steps = m.steps; goes_on = m.goes_on; lanes = m.lanes; made = m.made }
+makes_on updates does a b c x m = record { start = m.start; follows = follows_on a b m.start x m.follows; same_era = m.same_era; done = m.done; steps = m.steps; goes_on = m.goes_on; who = m.who; made = m.made }
 
 -- after updates that changed nothing it is where it may make another one
 pub none_follows : (updates : ℕ) (does : PassFacts → PassFacts → Type 0) (a b : HandleFacts) (m : Makes updates does a b) → IsPrefix m.start.half.knows.history b.half.knows.history × (b.half.knows.accepted ≡ m.start.half.knows.accepted) → Follows a b
@@ -127,7 +144,7 @@ none_follows updates does a b m none = let s : HandleFacts = m.start in let on =
       led = λ less. let e = m.same_era in absurd (omega arith);
       table = ap (λ (z : RoundFacts). z.table) succ.round;
       bits = ap (λ (z : RoundFacts). z.bits) succ.round;
-      lanes = m.lanes;
+      same_handle = who_kept s.who b.who m.who;
       made = m.made ∙ same_made s.made b.era s.half b.half none.1;
     }
 
@@ -140,67 +157,103 @@ pub makes_table : (updates : ℕ) (does : PassFacts → PassFacts → Type 0) (a
 makes_table updates does a b m = ap (λ (z : PassFacts). z.round.table) m.goes_on.same ∙ m.follows.table
 
 -- a handle's end of a lane, before a call and after it
-module _ (lanes : List TableId) (lock lock' : TableId) (v : KnownFacts) (old new : LaneFacts) (follows : Follows v.at old.at) where
+module _ (trie : TrieFacts) (place : ℕ) (lock lock' : TableId) (v : KnownFacts) (old new : LaneFacts) (follows : Follows v.at old.at) where
   abbrev before : HandleFacts
-  before = handle_by lanes (Some (record { lock = lock; known = v }))
+  before = handle_by trie place (Some (record { lock = lock; known = v }))
 
   abbrev after : HandleFacts
-  after = handle_by lanes (Some (record { lock = lock'; known = worked v old new }))
+  after = handle_by trie place (Some (record { lock = lock'; known = worked v old new }))
+
+  abbrev who : WhoFacts
+  who = who_by trie place v
 
   -- its pass made an update, or learned something
   pub works_make : (updates : ℕ) (does : PassFacts → PassFacts → Type 0) → WorksHere updates does old.at new.at → Makes updates does before after
   works_make updates does w = record {
-    start = record old.at { lanes = lanes; made = v.made };
-    follows = follows_by lanes v.made v.made v.at old.at refl follows;
+    start = record old.at { who = who; made = v.made };
+    follows = follows_by who who v.made v.made v.at old.at (same_who who) refl follows;
     same_era = w.same_era;
     done = w.done;
     steps = w.steps;
     goes_on = w.goes_on;
-    lanes = refl;
+    who = refl;
     made = refl;
   }
 
   pub works_follow : new.at.half.knows.accepted ≡ old.at.half.knows.accepted → Follows old.at new.at → Follows before after
-  works_follow same more = follows_by lanes v.made (v.made ++ dated new.at.era (added old.at.half new.at.half)) v.at new.at (same_made v.made new.at.era old.at.half new.at.half same) (follows_on v.at old.at new.at follows more)
+  works_follow same more = follows_by who who v.made (v.made ++ dated new.at.era (added old.at.half new.at.half)) v.at new.at (same_who who) (same_made v.made new.at.era old.at.half new.at.half same) (follows_on v.at old.at new.at follows more)
 
 -- an end that a handle took out and put back, or that a look keeps, of which it made nothing, an update, or something that it learned
-module _ (lanes : List TableId) (now : HandleFacts) (inside : Option EndFacts) (end result : EndFacts) (view : handle_by lanes inside ≡ now) (there : inside ≡ Some end) where
-  own : handle_by lanes (Some end) ≡ now
-  own = ap (handle_by lanes) (sym there) ∙ view
+module _ (trie : TrieFacts) (place : ℕ) (now : HandleFacts) (inside : Option EndFacts) (end result : EndFacts) (view : handle_by trie place inside ≡ now) (there : inside ≡ Some end) where
+  own : handle_by trie place (Some end) ≡ now
+  own = ap (handle_by trie place) (sym there) ∙ view
 
-  pub unchanged : result ≡ end → Follows now (handle_by lanes (Some result))
-  unchanged same = follows_same now (handle_by lanes (Some result)) (ap (λ (e : EndFacts). handle_by lanes (Some e)) same ∙ own)
+  pub unchanged : Stays end result → Follows now (handle_by trie place (Some result))
+  unchanged stays =
+      let who : SameHandle (who_by trie place end.known) (who_by trie place (record end.known { replaced = result.known.replaced })) = record { trie = more_self trie; lanes = refl; lane = refl; number = refl; replaced = stays.seen } in
+      let one = follows_by (who_by trie place end.known) (who_by trie place (record end.known { replaced = result.known.replaced })) end.known.made end.known.made end.known.at end.known.at who refl (follows_self end.known.at) in
+      subst (λ (z : HandleFacts × EndFacts). Follows z.0 (handle_by trie place (Some z.1))) (λ i. (own i, sym stays.same i)) one
 
-  pub look_end : (steps : ℕ) (does : PassFacts → PassFacts → Type 0) (lane rest : LaneFacts) (half looks : PassFacts) (made : List Made) → made ≡ end.known.made → Follows end.known.at lane.at → half ≡ lane.at.half → rest ≡ record lane { works = false } → looks.knows.accepted ≡ half.knows.accepted
-      → does half looks → GoesOn 0 steps half looks → Makes 0 does now (record { lanes = lanes; era = rest.at.era; half = looks; made = made })
-  look_end steps does lane rest half looks made same follows work is none did on =
-      let p : Makes 0 does (handle_by lanes (Some end)) (record { lanes = lanes; era = lane.at.era; half = looks; made = end.known.made }) = record {
-        start = record lane.at { lanes = lanes; made = end.known.made };
-        follows = follows_by lanes end.known.made end.known.made end.known.at lane.at refl follows;
+  pub look_end : (steps : ℕ) (does : PassFacts → PassFacts → Type 0) (lane rest : LaneFacts) (half looks : PassFacts) (known : KnownFacts) → known ≡ end.known → Follows end.known.at lane.at → half ≡ lane.at.half → rest ≡ record lane { works = false } → looks.knows.accepted ≡ half.knows.accepted
+      → does half looks → GoesOn 0 steps half looks → Makes 0 does now (record { who = who_by trie place known; era = rest.at.era; half = looks; made = known.made })
+  look_end steps does lane rest half looks known same follows work is none did on =
+      let who : WhoFacts = who_by trie place end.known in
+      let p : Makes 0 does (handle_by trie place (Some end)) (record { who = who; era = lane.at.era; half = looks; made = end.known.made }) = record {
+        start = record lane.at { who = who; made = end.known.made };
+        follows = follows_by who who end.known.made end.known.made end.known.at lane.at (same_who who) refl follows;
         same_era = refl;
         done = subst (λ (z : PassFacts). does z looks) work did;
         steps = steps;
         goes_on = subst (λ (z : PassFacts). GoesOn 0 steps z looks) work on;
-        lanes = refl;
+        who = refl;
         made = sym (same_made end.known.made lane.at.era lane.at.half looks (none ∙ ap (λ (z : PassFacts). z.knows.accepted) work));
       } in
-      subst (λ (z : HandleFacts × ℕ × List Made). Makes 0 does z.0 (record { lanes = lanes; era = z.1; half = looks; made = z.2 })) (λ i. (own i, (sym is i).at.era, sym same i)) p
+      subst (λ (z : HandleFacts × ℕ × KnownFacts). Makes 0 does z.0 (record { who = who_by trie place z.2; era = z.1; half = looks; made = z.2.made })) (λ i. (own i, (sym is i).at.era, sym same i)) p
 
   module _ (out : OutFacts) (lane new : LaneFacts) (known : out.known ≡ end.known) (taken : out.taken ≡ lane) (is : result ≡ record { lock = out.lock; known = worked out.known out.taken new }) (follows : Follows end.known.at lane.at) where
-    both : (P : HandleFacts → HandleFacts → Type 0) → P (handle_by lanes (Some end)) (handle_by lanes (Some (record { lock = out.lock; known = worked end.known lane new }))) → P now (handle_by lanes (Some result))
+    both : (P : HandleFacts → HandleFacts → Type 0) → P (handle_by trie place (Some end)) (handle_by trie place (Some (record { lock = out.lock; known = worked end.known lane new }))) → P now (handle_by trie place (Some result))
     both P p = let put : record { lock = out.lock; known = worked end.known lane new } ≡ result = λ i. sym (is ∙ (λ j. record { lock = out.lock; known = worked (known j) (taken j) new })) i in
-        subst (λ (z : HandleFacts × EndFacts). P z.0 (handle_by lanes (Some z.1))) (λ i. (own i, put i)) p
+        subst (λ (z : HandleFacts × EndFacts). P z.0 (handle_by trie place (Some z.1))) (λ i. (own i, put i)) p
 
-    pub made_end : {T E : Type 0} (r : Result T E) (updates : T → ℕ) (does : T → PassFacts → PassFacts → Type 0) → IfOk r (λ done. WorksHere (updates done) (does done) lane.at new.at) → IfOk r (λ done. Makes (updates done) (does done) now (handle_by lanes (Some result)))
-    made_end (Ok done) updates does w = both (Makes (updates done) (does done)) (works_make lanes end.lock out.lock end.known lane new follows (updates done) (does done) w)
+    pub made_end : {T E : Type 0} (r : Result T E) (updates : T → ℕ) (does : T → PassFacts → PassFacts → Type 0) → IfOk r (λ done. WorksHere (updates done) (does done) lane.at new.at) → IfOk r (λ done. Makes (updates done) (does done) now (handle_by trie place (Some result)))
+    made_end (Ok done) updates does w = both (Makes (updates done) (does done)) (works_make trie place end.lock out.lock end.known lane new follows (updates done) (does done) w)
     made_end (Err e) updates does w = w
 
-    pub follow_end : new.at.half.knows.accepted ≡ lane.at.half.knows.accepted → Follows lane.at new.at → Follows now (handle_by lanes (Some result))
-    follow_end same more = both Follows (works_follow lanes end.lock out.lock end.known lane new follows same more)
+    pub follow_end : new.at.half.knows.accepted ≡ lane.at.half.knows.accepted → Follows lane.at new.at → Follows now (handle_by trie place (Some result))
+    follow_end same more = both Follows (works_follow trie place end.lock out.lock end.known lane new follows same more)
 
-    pub unmade_end : {T E : Type 0} (r : Result T E) → IfErr r (λ _. new.at ≡ lane.at) → IfErr r (λ _. Follows now (handle_by lanes (Some result)))
+    pub unmade_end : {T E : Type 0} (r : Result T E) → IfErr r (λ _. new.at ≡ lane.at) → IfErr r (λ _. Follows now (handle_by trie place (Some result)))
     unmade_end (Ok done) same = same
     unmade_end (Err e) same = follow_end (ap (λ (z : HandleFacts). z.half.knows.accepted) same) (follows_same lane.at new.at same)
+
+-- a handle whose end of the desk's lock learned more of the trie
+pub desk_follows : (trie trie' : TrieFacts) (place : ℕ) (now : HandleFacts) (inside : Option EndFacts) (e : EndFacts) → inside ≡ Some e → handle_by trie place inside ≡ now → KnowsMore trie trie' → Follows now (handle_by trie' place inside)
+desk_follows trie trie' place now inside e there view more =
+    let who : SameHandle (who_by trie place e.known) (who_by trie' place e.known) = record { trie = more; lanes = ids_more trie trie' more; lane = refl; number = refl; replaced = λ r. r } in
+    subst (λ (z : HandleFacts). Follows z (handle_by trie' place inside)) view
+    (subst (λ (z : Option EndFacts). Follows (handle_by trie place z) (handle_by trie' place z)) (sym there) (follows_by (who_by trie place e.known) (who_by trie' place e.known) e.known.made e.known.made e.known.at e.known.at who refl (follows_self e.known.at)))
+
+pub trie_by : (trie : TrieFacts) (place : ℕ) (inside : Option EndFacts) → (handle_by trie place inside).who.trie ≡ trie
+trie_by trie place None = refl
+trie_by trie place (Some e) = refl
+
+-- what stands in the way of no round stands in the way of no call
+pub round_call : (h : HandleFacts) (trie : TrieFacts) → h.who.trie ≡ trie → (cause : LiveError) → RefusesRound trie cause → RefusesCall h cause
+round_call h trie is Closed r = subst (λ (t : TrieFacts). RefusesRound t Closed) (sym is) r
+round_call h trie is Exhausted r = subst (λ (t : TrieFacts). RefusesRound t Exhausted) (sym is) r
+round_call h trie is live.Replaced r = absurd r
+round_call h trie is NoLane r = absurd r
+round_call h trie is TooMany r = absurd r
+
+-- a lane that is spent is no lane of a newer handle
+pub seen_any : (o : Obstacle) (seen : Bool) → Seen o false → Seen o seen
+seen_any (Held missed) seen s = s
+seen_any (Round era) seen s = s
+seen_any Replaced seen s = absurd (false≢true s)
+
+pub seen_by : {T : Type 0} (r : Result T Obstacle) (seen : Bool) → IfErr r (λ o. Seen o false) → IfErr r (λ o. Seen o seen)
+seen_by (Ok t) seen s = tt
+seen_by (Err o) seen s = seen_any o seen s
 
 -- what holds of an outcome, in either case
 pub ok_any : {T E : Type 0} {P : Type 0} (r : Result T E) → P → IfOk r (λ _. P)
@@ -220,6 +273,10 @@ err_map P Q (Ok t) f p = p
 err_map P Q (Err e) f p = f e p
 
 -- of a call that waits for nobody, and is refused for such causes
+pub why_map : {M : Type 0} (P Q : LiveError → Type 0) (r : TryError M) → ((cause : LiveError) → P cause → Q cause) → IfRefused P r → IfRefused Q r
+why_map P Q (Again missed) f p = p
+why_map P Q (Refused cause) f p = f cause p
+
 pub refused_map : {T M : Type 0} (P Q : LiveError → Type 0) (r : Result T (TryError M)) → ((cause : LiveError) → P cause → Q cause) → IfErr r (IfRefused P) → IfErr r (IfRefused Q)
 refused_map P Q (Ok t) f p = p
 refused_map P Q (Err (Again missed)) f p = p

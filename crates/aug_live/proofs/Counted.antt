@@ -1,7 +1,7 @@
 -- The counts of rounds, one round after another; and what is known of a trie, as it goes on.
 use Rattle.std.specs.Prelude.{Result, Ok, Err, IfOk, flat_map}
 use Rattle.std.specs.List.{sum_by}
-use Rattle.std.proofs.Common.{◌≡◌, ◌⊎◌, ℕ, ◌+◌, ◌^◌, ◌<◌, ◌≤◌, List, [], ◌∷◌, ◌++◌, length, length-append, All, sym, refl, ap, ◌∙◌, subst, arith}
+use Rattle.std.proofs.Common.{◌≡◌, ◌⊎◌, ℕ, ◌+◌, ◌^◌, ◌<◌, ◌≤◌, List, [], ◌∷◌, ◌++◌, length, length-append, All, false, sym, refl, ap, ◌∙◌, subst, arith}
 use Rattle.std.proofs.lemmas.List.{append-nil}
 use Rattle.aug_core.specs.Cuts.{opening_cut}
 use Rattle.aug_core.specs.Prefixes.{IsPrefix}
@@ -14,32 +14,23 @@ use Rattle.aug_trie.specs.History.{IsHistory, last_cut}
 use Rattle.aug_trie.specs.Knowledge.{inserts_of, removals_of}
 use Rattle.aug_trie.specs.Round.{TableFacts, RoundFacts, table_of}
 use Rattle.aug_trie.specs.Tallies.{Tallies, Weighs}
-use Rattle.aug_trie.proofs.Chaining.{begins_alike, begins_longer, part_refl, part_trans}
+use Rattle.aug_trie.proofs.Chaining.{begins_alike, begins_longer, part_trans}
 use Rattle.aug_live.specs.Carrying.{Leads}
 use Rattle.aug_live.specs.Ledgers.{Made, made_in}
 use Rattle.aug_live.specs.LiveErrors.{IsExhausted}
-use Rattle.aug_live.specs.LiveTries.{TrieFacts, KnowsMore, AreChangesOf, AreCountsOf, AreMadeIn, CameBack, Closes, LaneKnown, LanesGoOn, ids_of, in_all, lost_of, made_through}
+use Rattle.aug_live.specs.LiveTries.{TrieFacts, KnowsMore, AreChangesOf, AreCountsOf, AreMadeIn, CameBack, Closes, LaneKnown, LanesGoOn, in_all, lost_of, made_through}
 use Rattle.aug_live.specs.inside.Desks.{TakesEnd}
 use Rattle.aug_live.specs.inside.SameChanges.{SameChanges}
 use Rattle.aug_live.proofs.Ledgers.{changes_by, inserts_by, removals_by}
-use Rattle.aug_live.proofs.Lanes.{ids_same, known_before, lanes_refl, lanes_trans}
+use Rattle.aug_live.proofs.Lanes.{known_before, lanes_trans}
 use Rattle.aug_live.specs.declared.counts.LiveCounts.{LiveCounts}
 use Rattle.aug_live.specs.inside.Rolls.{rounds_in}
 use Rattle.aug_live.proofs.Carries.{leads_on}
 use Rattle.aug_live.proofs.Moving.{next_past}
 
-pub more_self : (t : TrieFacts) → KnowsMore t t
-more_self t = record { table = refl; bits = refl; lanes = lanes_refl t.lanes; part = part_refl t.rounds }
-
-pub more_on : (a b c : TrieFacts) → KnowsMore a b → KnowsMore b c → KnowsMore a c
-more_on a b c x y = record { table = y.table ∙ x.table; bits = y.bits ∙ x.bits; lanes = lanes_trans a.lanes b.lanes c.lanes x.lanes y.lanes; part = part_trans a.rounds b.rounds c.rounds x.part y.part }
-
-pub ids_more : (a b : TrieFacts) → KnowsMore a b → ids_of b ≡ ids_of a
-ids_more a b more = ids_same a.lanes b.lanes more.lanes
-
 -- whoever knew less can say the same of how a trie was closed, and of a handle that came back
-pub closes_from : (a b : TrieFacts) (set : SetFacts) (counts : LiveCounts) → KnowsMore a b → Closes b set counts → Closes a set counts
-closes_from a b set counts m c = record {
+pub closes_from : (a b : TrieFacts) (set : SetFacts) (counts : LiveCounts) → KnowsMore a b → b.given ≡ a.given → Closes b set counts → Closes a set counts
+closes_from a b set counts m given c = record {
   rounds = c.rounds;
   part = part_trans a.rounds b.rounds c.rounds m.part c.part;
   bits = c.bits ∙ m.bits;
@@ -48,6 +39,7 @@ closes_from a b set counts m c = record {
   lanes = c.lanes;
   lanes_go_on = lanes_trans a.lanes b.lanes c.lanes m.lanes c.lanes_go_on;
   counted = subst (λ (n : ℕ). AreCountsOf n (chapters c.rounds) (flat_map (λ (lane : LaneKnown). made_through lane.done) c.lanes) counts.inserts counts.removals) m.bits c.counted;
+  given_are = c.given_are ∙ given;
   handles_are = c.handles_are;
   missing_are = c.missing_are;
 }
@@ -109,10 +101,10 @@ all_of_round crew ended ends none = let t = ends.tallies in
     }
 
 -- a trie on the desk goes on
-pub desk_on : (t : TrieFacts) {h h' : ℕ} (table : TableFacts) (crew crew' : CrewFacts) (xs ys : List LaneKnown) → record { table = table.table; bits = table.bits; lanes = xs; held = h; rounds = crew_chain crew } ≡ t
-    → LanesGoOn xs ys → IsPart (crew_chain crew) (crew_chain crew') → KnowsMore t (record { table = table.table; bits = table.bits; lanes = ys; held = h'; rounds = crew_chain crew' })
-desk_on t {h} {h'} table crew crew' xs ys is lanes part = subst (λ (z : TrieFacts). KnowsMore z (record { table = table.table; bits = table.bits; lanes = ys; held = h'; rounds = crew_chain crew' })) is
-    (record { table = refl; bits = refl; lanes = lanes; part = part })
+pub desk_on : (t : TrieFacts) {h h' n n' : ℕ} (table : TableFacts) (crew crew' : CrewFacts) (xs ys : List LaneKnown) → record { closed = false; table = table.table; bits = table.bits; lanes = xs; held = h; given = n; rounds = crew_chain crew } ≡ t
+    → LanesGoOn xs ys → IsPart (crew_chain crew) (crew_chain crew') → KnowsMore t (record { closed = false; table = table.table; bits = table.bits; lanes = ys; held = h'; given = n'; rounds = crew_chain crew' })
+desk_on t {h} {h'} {n} {n'} table crew crew' xs ys is lanes part = subst (λ (z : TrieFacts). KnowsMore z (record { closed = false; table = table.table; bits = table.bits; lanes = ys; held = h'; given = n'; rounds = crew_chain crew' })) is
+    (record { closed = λ c. c; table = refl; bits = refl; lanes = lanes; part = part })
 
 -- all that a crew knew of its rounds is known to that of the next round
 pub rolled_part : (crew first : CrewFacts) (list : List (ℕ × ℕ)) (inserts removals : ℕ) → RollsOver crew first list inserts removals → IsPart (crew_chain crew) (crew_chain first)
@@ -122,13 +114,13 @@ rolled_part crew first list inserts removals r = let over : Chapter = (crew_chai
     (begins_alike crew.past (crew_chain crew).now over [] record { members = ap (λ (z : CrewFacts). z.round.members) r.last_is; goes_on = r.goes_on }))
 
 -- how the desk is closed, whose round ended with all passes back
-pub closed_so : (t : TrieFacts) {h : ℕ} (set : SetFacts) (counts new : LiveCounts) (table : TableFacts) (crew last : CrewFacts) (ended : EndedFacts) (xs ys : List LaneKnown) → record { table = table.table; bits = table.bits; lanes = xs; held = h; rounds = crew_chain crew } ≡ t
+pub closed_so : (t : TrieFacts) {h n : ℕ} (set : SetFacts) (counts new : LiveCounts) (table : TableFacts) (crew last : CrewFacts) (ended : EndedFacts) (xs ys : List LaneKnown) → record { closed = false; table = table.table; bits = table.bits; lanes = xs; held = h; given = n; rounds = crew_chain crew } ≡ t
     → table_of crew.round ≡ table → counts.rounds ≡ length crew.past + 1 → AreCountsOf table.bits crew.past (flat_map (λ (lane : LaneKnown). made_through lane.done) ys) counts.inserts counts.removals → Leads table.bits crew.past crew.round.members
     → SameChanges last.knows.accepted (made_in (length crew.past + 1) (flat_map (λ (lane : LaneKnown). made_through lane.done) ys)) → LanesGoOn xs ys
     → rounds_in last ≡ rounds_in crew → IsPrefix crew.knows.history last.knows.history → Ends last ended → ended.missing ≡ 0 → set ≡ record { bits = ended.bits; pairs = ended.members }
     → new.rounds ≡ counts.rounds → new.inserts ≡ counts.inserts + ended.inserts → new.removals ≡ counts.removals + ended.removals
-    → new.handles ≡ sum_by (λ (lane : LaneKnown). length lane.done) ys → new.missing ≡ sum_by (λ (lane : LaneKnown). length (lost_of lane.done)) ys → Closes t set new
-closed_so t {h} set counts new table crew last ended xs ys is here rounds_are counted led now lanes same more ends none set_is rounds inserts removals handles missing =
+    → new.handles ≡ n → new.handles ≡ sum_by (λ (lane : LaneKnown). length lane.done) ys → new.missing ≡ sum_by (λ (lane : LaneKnown). length (lost_of lane.done)) ys → Closes t set new
+closed_so t {h} {n} set counts new table crew last ended xs ys is here rounds_are counted led now lanes same more ends none set_is rounds inserts removals given handles missing =
     let made : List Made = flat_map (λ (lane : LaneKnown). made_through lane.done) ys in
     let past : last.past ≡ crew.past = ap (λ (z : RoundFacts × List Chapter). z.1) same in
     let there : last.round ≡ crew.round = ap (λ (z : RoundFacts × List Chapter). z.0) same in
@@ -141,7 +133,7 @@ closed_so t {h} set counts new table crew last ended xs ys is here rounds_are co
     let members : over.members ≡ crew.round.members = ap (λ (z : RoundFacts). z.members) there in
     let on : Leads table.bits (crew.past ++ over ∷ []) ended.members = leads_on table.bits crew.past over ended.members (subst (Leads table.bits crew.past) (sym members) led) history ends.members in
     let chapters_are : crew.past ++ over ∷ [] ≡ chapters (crew_chain last) = ap (λ (z : List Chapter). z ++ over ∷ []) (sym past) in
-    let known : Closes (record { table = table.table; bits = table.bits; lanes = xs; held = h; rounds = crew_chain crew }) set new = record {
+    let known : Closes (record { closed = false; table = table.table; bits = table.bits; lanes = xs; held = h; given = n; rounds = crew_chain crew }) set new = record {
       rounds = crew_chain last;
       part = crew_part crew last same more;
       bits = ap (λ (z : SetFacts). z.bits) set_is ∙ ends.bits ∙ bits;
@@ -150,6 +142,7 @@ closed_so t {h} set counts new table crew last ended xs ys is here rounds_are co
       lanes = ys;
       lanes_go_on = lanes;
       counted = subst (λ (z : List Chapter). AreCountsOf table.bits z made new.inserts new.removals) chapters_are sum;
+      given_are = given;
       handles_are = handles;
       missing_are = missing;
     } in subst (λ (z : TrieFacts). Closes z set new) is known
@@ -169,6 +162,6 @@ rolls_on (Ok x) own t t' new more is rolls = let e = no_longer own.rounds t.roun
 rolls_on (Err x) own t t' new more is rolls = rolls
 
 -- the counts of a trie on the desk might not go further
-pub exhausted_so : (t : TrieFacts) {h : ℕ} (table : TableFacts) (crew : CrewFacts) (xs : List LaneKnown) (made : List Made) (inserts removals : ℕ) → record { table = table.table; bits = table.bits; lanes = xs; held = h; rounds = crew_chain crew } ≡ t
+pub exhausted_so : (t : TrieFacts) {h n : ℕ} (table : TableFacts) (crew : CrewFacts) (xs : List LaneKnown) (made : List Made) (inserts removals : ℕ) → record { closed = false; table = table.table; bits = table.bits; lanes = xs; held = h; given = n; rounds = crew_chain crew } ≡ t
     → AreCountsOf table.bits crew.past made inserts removals → (2 ^ 64 ≤ length crew.past + 2) ⊎ ((2 ^ 64 ≤ inserts + 2 ^ 33) ⊎ (2 ^ 64 ≤ removals + 2 ^ 33)) → IsExhausted t
-exhausted_so t {h} table crew xs made inserts removals is counted many = subst IsExhausted is record { made = made; inserts = inserts; removals = removals; counted = counted; many = many }
+exhausted_so t {h} {n} table crew xs made inserts removals is counted many = subst IsExhausted is record { made = made; inserts = inserts; removals = removals; counted = counted; many = many }

@@ -1,5 +1,5 @@
 -- The roller's end of a lane as passes come and go.
-use Rattle.std.proofs.Common.{◌≡◌, ◌≢◌, ◌+◌, ℕ, List, [], ◌∷◌, ◌++◌, true, false, refl, sym, ap, ◌∙◌, subst, ⊎_elim, length, length-append, append_assoc, arith}
+use Rattle.std.proofs.Common.{◌≡◌, ◌≢◌, ◌+◌, ◌<◌, ℕ, List, [], ◌∷◌, ◌++◌, true, false, refl, sym, ap, ◌∙◌, subst, ⊎_elim, length, length-append, append_assoc, arith}
 use Rattle.std.specs.Prelude.{drop, not, map, flat_map, reverse}
 use Rattle.std.proofs.lemmas.List.{append-nil, map-append, reverse-append, reverse-reverse}
 use Rattle.std.proofs.lemmas.List.Concat.{flat_map-append}
@@ -109,9 +109,10 @@ gets_counts number old new port g = let out : out_of new.known.whose ≡ 1 = ap 
     let both : (handles_of new ≡ handles_of old + 1) × (missing_of new ≡ missing_of old + 1) = (omega arith, omega arith) in both)
     port
 
-pub gets_lane : (number : ℕ) (old new : EndFacts) → IsPort old.known.whose → GetsHandle number old new → LaneGoesOn (lane_by old) (lane_by new)
-gets_lane number old new port g = record {
+pub gets_lane : (number : ℕ) (old new : EndFacts) → old.known.number < number → IsPort old.known.whose → GetsHandle number old new → LaneGoesOn (lane_by old) (lane_by new)
+gets_lane number old new newer port g = record {
   id = g.lock;
+  number = let is = g.number_is in omega arith;
   done = ⊎_elim (λ here. ((false, g.own) ∷ [], g.lost here)) (λ idle. ([], g.done (λ e. let clash : Idle ≡ Roller = sym idle ∙ e in cc) ∙ sym (append-nil old.known.done))) port;
 }
 

@@ -1,23 +1,72 @@
 -- Each step on the lock of the desk keeps its rule.
-use Rattle.std.proofs.Common.{◌≡◌, ◌≢◌, ◌⊎◌, ℕ, zero, suc, ◌<◌, List, [], ◌∷◌, set, true, false, sym, refl, ap, ◌∙◌, subst, ⊎_elim, arith}
-use Rattle.std.specs.Prelude.{Option, Some, None, IfSome}
+use Rattle.std.proofs.Common.{◌≡◌, ◌≢◌, ◌⊎◌, inl, inr, ℕ, zero, suc, ◌<◌, List, [], ◌∷◌, set, true, false, sym, refl, ap, ◌∙◌, subst, ⊎_elim, arith}
+use Rattle.std.specs.Prelude.{Option, Some, None, IfSome, IsSome}
+use Rattle.std.specs.Option.{is_some}
 use Rattle.std.proofs.lemmas.Bool.{false≢true, cases_Bool}
 use mathlib.Core.Option.{some, some-injective, some-ne-none}
 use lib.ListN.{get_elem?}
 use Rattle.atomic_table.proofs.Lists.{at_set}
-use Rattle.ruled_lock.specs.Locks.{Learns, Forks}
+use Rattle.atomic_table.specs.declared.shared.Seat.{Seat}
+use Rattle.ruled_lock.specs.Locks.{Forks, Holds, IsSamePass, Learns, client_of}
+use Rattle.ruled_lock.specs.declared.holding.Holding.{Holding}
 use Rattle.aug_live.specs.LiveTries.{TrieFacts, KnowsMore}
-use Rattle.aug_live.specs.LiveErrors.{RefusesRoll}
-use Rattle.aug_live.specs.declared.error.LiveError.{LiveError}
-use Rattle.aug_live.specs.declared.error.LiveError.TheVariants.{Closed, NoLane}
 use Rattle.aug_live.specs.declared.desk_end.Desk.{Desk}
-use Rattle.aug_live.specs.inside.DeskKnowledge.{EndKnows, KnowsDesk, OnDesk, is_known, no_trie, known_after}
-use Rattle.aug_live.proofs.Counted.{more_self, more_on}
+use Rattle.aug_live.specs.inside.DeskKnowledge.{EndKnows, GoesOnFrom, IsOwner, KnowsDesk, KnowsOwn, Moves, OnDesk, is_known, known_after}
+use Rattle.aug_live.specs.inside.LaneKnowledge.{no_trie}
+use Rattle.aug_live.proofs.Lanes.{more_on, more_self}
 use Rattle.aug_live.proofs.Tied.{snoc_at}
 
 only : (j : ℕ) (v : TrieFacts) → get_elem? (no_trie ∷ []) j ≡ some v → (j ≡ 0) × (no_trie ≡ v)
 only zero v at = (refl, some-injective no_trie v at)
 only (suc j) v at = absurd (some-ne-none v (sym at))
+
+-- what an end knows of what lies there, and what is there, after it was changed
+module _ (id : ℕ) where
+  knows_on : (o p : Option TrieFacts) (x : TrieFacts) → Moves id o p → IfSome o (KnowsMore x) → IfSome p (KnowsMore x)
+  knows_on None None x m k = tt
+  knows_on None (Some u) x m k = absurd m
+  knows_on (Some t) None x m k = tt
+  knows_on (Some t) (Some u) x m k = more_on x t u k m.0
+
+  was_there : (o p : Option TrieFacts) → Moves id o p → IsSome p → IsSome o
+  was_there None None m s = s
+  was_there None (Some u) m s = absurd m
+  was_there (Some t) None m s = refl
+  was_there (Some t) (Some u) m s = refl
+
+  -- nobody but the owner closes the trie or makes a handle
+  module _ (j : ℕ) (other : j ≢ id) (first : j ≡ 0) where
+    not_own : id ≡ 0 → ⊥
+    not_own own = other (first ∙ sym own)
+
+    stays_there : (o p : Option TrieFacts) → Moves id o p → IsSome o → IsSome p
+    stays_there None p m s = absurd (false≢true s)
+    stays_there (Some t) None m s = absurd (not_own m)
+    stays_there (Some t) (Some u) m s = refl
+
+    as_given : (o p : Option TrieFacts) (n : ℕ) → Moves id o p → IfSome o (λ t. t.given ≡ n) → IfSome p (λ t. t.given ≡ n)
+    as_given None None n m g = tt
+    as_given None (Some u) n m g = absurd m
+    as_given (Some t) None n m g = tt
+    as_given (Some t) (Some u) n m g = ⊎_elim (λ own. absurd (not_own own)) (λ same. same ∙ g) m.1
+
+-- what is known of what was put there
+bits_after : (o p : Option TrieFacts) (id : ℕ) (v : TrieFacts) → Moves id o p → IfSome o (KnowsMore v) → (known_after p v).bits ≡ v.bits
+bits_after o None id v m k = refl
+bits_after None (Some u) id v m k = absurd m
+bits_after (Some t) (Some u) id v m k = m.0.bits ∙ k.bits
+
+knows_after : (p : Option TrieFacts) (v : TrieFacts) → IfSome p (KnowsMore (known_after p v))
+knows_after None v = tt
+knows_after (Some u) v = more_self u
+
+works_after : (p : Option TrieFacts) (v : TrieFacts) → (known_after p v).closed ≡ false → IsSome p
+works_after None v so = absurd (false≢true (sym so))
+works_after (Some u) v so = refl
+
+given_after : (p : Option TrieFacts) (v : TrieFacts) → IfSome p (λ t. t.given ≡ (known_after p v).given)
+given_after None v = tt
+given_after (Some u) v = refl
 
 module _ {A B : Type 0} where
   -- a desk on which nothing lies yet, with its first end
@@ -26,22 +75,32 @@ module _ {A B : Type 0} where
     alone = λ _. o.0;
     none = λ _. ap (λ (z : TrieFacts). z.bits) (sym o.1);
     some = λ opened. absurd (false≢true (sym bare ∙ opened));
+    there = λ there. absurd (false≢true (subst (λ (z : Option TrieFacts). IsSome z) empty there));
     knows = subst (λ (z : Option TrieFacts). IfSome z (KnowsMore v)) (sym empty) tt;
+    owner = λ _. record {
+      works = λ opened. absurd (false≢true (sym bare ∙ opened));
+      given = subst (λ (z : Option TrieFacts). IfSome z (λ t. t.given ≡ v.given)) (sym empty) tt;
+    };
   }
 
   pub learns : (id : ℕ) (v : TrieFacts) → Learns {T = Desk A B} OnDesk id v KnowsDesk
   learns id v desk views on at = let k = on id v at in record {
     unopened = λ bare. ⊎_elim (λ (t : desk.opened ≡ true). absurd (let less = k.some t in omega (arith, less, bare))) (λ (f : desk.opened ≡ false). f) (cases_Bool desk.opened);
     opened = λ any. ⊎_elim (λ (t : desk.opened ≡ true). t) (λ (f : desk.opened ≡ false). absurd (let none = k.none f in omega (arith, any, none))) (cases_Bool desk.opened);
+    there = k.there;
     knows = k.knows;
   }
 
-  -- one more end, of an open desk
-  pub forks : (id : ℕ) (v : TrieFacts) → 0 < v.bits → Forks {T = Desk A B} OnDesk id v v v
-  forks id v any desk views on at j w there =
+  -- the owner's end
+  pub learns_own : (id : ℕ) (v : TrieFacts) → id ≡ 0 → Learns {T = Desk A B} OnDesk id v KnowsOwn
+  learns_own id v first desk views on at = record { knows = learns id v desk views on at; owner = (on id v at).owner first }
+
+  -- one more end, of an open desk, by the owner's
+  pub forks : (id : ℕ) (v : TrieFacts) → id ≡ 0 → 0 < v.bits → Forks {T = Desk A B} OnDesk id v v v
+  forks id v first any desk views on at j w there =
       let mine = on id v at in
       let opened : desk.opened ≡ true = ⊎_elim (λ (t : desk.opened ≡ true). t) (λ (f : desk.opened ≡ false). absurd (let none = mine.none f in omega (arith, any, none))) (cases_Bool desk.opened) in
-      let like : (i : ℕ) → EndKnows desk i v = λ i. record { alone = λ f. absurd (false≢true (sym f ∙ opened)); none = mine.none; some = mine.some; knows = mine.knows } in
+      let like : (i : ℕ) → EndKnows desk i v = λ i. record { alone = λ f. absurd (false≢true (sym f ∙ opened)); none = mine.none; some = mine.some; there = mine.there; knows = mine.knows; owner = λ _. mine.owner first } in
       ⊎_elim
       (λ h. ⊎_elim (λ k. subst (EndKnows desk j) k.1 (like j)) (λ k. on j w k.1) (at_set views id j v w h))
       (λ h. subst (EndKnows desk j) h.1 (like j))
@@ -51,25 +110,34 @@ module _ {A B : Type 0} where
     abbrev Goal : Type 0
     Goal = (w : TrieFacts) × OnDesk new (set views id w) × is_known v old new w
 
-    own : (o : Option TrieFacts) → IfSome o (KnowsMore v) → ((known_after o v).bits ≡ v.bits) × IfSome o (KnowsMore (known_after o v))
-    own None k = (refl, tt)
-    own (Some t) k = (k.bits, more_self t)
-
-    -- what lies there goes on
-    pub turns : new.opened ≡ old.opened → ((x : TrieFacts) → IfSome old.working (KnowsMore x) → IfSome new.working (KnowsMore x)) → Goal
-    turns same keeps = let w : TrieFacts = known_after new.working v in let mine = on id v at in let o = own new.working (keeps v mine.knows) in (
-      w,
-      λ j x there. ⊎_elim
-          (λ h. subst (EndKnows new j) h.1 record {
-            alone = λ f. h.0 ∙ mine.alone (sym same ∙ f);
-            none = λ f. o.0 ∙ mine.none (sym same ∙ f);
-            some = λ t. subst (λ (n : ℕ). 0 < n) (sym o.0) (mine.some (sym same ∙ t));
-            knows = o.1;
-          })
-          (λ h. let k = on j x h.1 in record { alone = λ f. k.alone (sym same ∙ f); none = λ f. k.none (sym same ∙ f); some = λ t. k.some (sym same ∙ t); knows = keeps x k.knows })
-          (at_set views id j w x there),
-      refl,
-    )
+    -- what lies there goes on, or the owner takes it away
+    pub turns : new.opened ≡ old.opened → Moves id old.working new.working → Goal
+    turns same moves = let w : TrieFacts = known_after new.working v in let mine = on id v at in let bits = bits_after old.working new.working id v moves mine.knows in
+        let there = λ (k : IsSome old.working → old.opened ≡ true) (some : IsSome new.working). same ∙ k (was_there id old.working new.working moves some) in (
+          w,
+          λ j x here. ⊎_elim
+              (λ h. subst (EndKnows new j) h.1 record {
+                alone = λ f. h.0 ∙ mine.alone (sym same ∙ f);
+                none = λ f. bits ∙ mine.none (sym same ∙ f);
+                some = λ t. subst (λ (n : ℕ). 0 < n) (sym bits) (mine.some (sym same ∙ t));
+                there = there mine.there;
+                knows = knows_after new.working v;
+                owner = λ _. record { works = λ _. works_after new.working v; given = given_after new.working v };
+              })
+              (λ h. let k = on j x h.1 in record {
+                alone = λ f. k.alone (sym same ∙ f);
+                none = λ f. k.none (sym same ∙ f);
+                some = λ t. k.some (sym same ∙ t);
+                there = there k.there;
+                knows = knows_on id old.working new.working x moves k.knows;
+                owner = λ first. let own = k.owner first in record {
+                  works = λ t so. stays_there id j h.0 first old.working new.working moves (own.works (sym same ∙ t) so);
+                  given = as_given id j h.0 first old.working new.working x.given moves own.given;
+                };
+              })
+              (at_set views id j w x here),
+          refl,
+        )
 
     -- the first round is laid there
     pub places : (t : TrieFacts) → v.bits ≡ 0 → 0 < t.bits → new.working ≡ Some t → new.opened ≡ true → Goal
@@ -81,32 +149,41 @@ module _ {A B : Type 0} where
                 alone = λ f. absurd (false≢true (sym f ∙ opened));
                 none = λ f. absurd (false≢true (sym f ∙ opened));
                 some = λ _. any;
+                there = λ _. opened;
                 knows = subst (λ (z : Option TrieFacts). IfSome z (KnowsMore t)) (sym is) (more_self t);
+                owner = λ _. record {
+                  works = λ _ _. ap is_some is;
+                  given = subst (λ (z : Option TrieFacts). IfSome z (λ u. u.given ≡ t.given)) (sym is) refl;
+                };
               })
               (λ h. absurd (h.0 ((on j x h.1).alone bare ∙ sym (mine.alone bare))))
               (at_set views id j w x there),
           refl,
         )
 
--- what an end took
-
--- what whoever takes a trie off the desk and lays a later state of it there leaves to others
-pub keeps_on : (o : Option TrieFacts) (t t' x : TrieFacts) → o ≡ Some t → KnowsMore t t' → IfSome o (KnowsMore x) → KnowsMore x t'
-keeps_on o t t' x is more k = more_on x t t' (subst (λ (z : Option TrieFacts). IfSome z (KnowsMore x)) is k) more
-
 -- what an end knows that put something there
 pub put_known : {A B : Type 0} (taken : Option (Desk A B)) (old new : Desk A B) (v w : TrieFacts) → taken ≡ Some old → IfSome taken (λ t. is_known v t new w) → w ≡ known_after new.working v
 put_known taken old new v w is then = subst (λ (z : Option (Desk _ _)). IfSome z (λ t. is_known v t new w)) is then
 
--- it knows no less than before: where nothing lay there, and where a later state does
-pub none_more : (own mine v w : TrieFacts) → mine ≡ own → v ≡ mine → w ≡ v → KnowsMore own w
-none_more own mine v w is same so = subst (KnowsMore own) (sym (so ∙ same ∙ is)) (more_self own)
+-- what is known of a trie that was found closed
+pub closed_more : (v : TrieFacts) → KnowsMore v (record v { closed = true })
+closed_more v = record { closed = λ _. refl; table = refl; bits = refl; lanes = (more_self v).lanes; part = (more_self v).part }
 
-pub some_more : (own mine w t t' : TrieFacts) (o : Option TrieFacts) → mine ≡ own → o ≡ Some t → IfSome o (KnowsMore mine) → KnowsMore t t' → w ≡ t' → KnowsMore own w
-some_more own mine w t t' o is there knows more so =
-    let before : KnowsMore own t = subst (λ (z : TrieFacts). KnowsMore z t) is (subst (λ (z : Option TrieFacts). IfSome z (KnowsMore mine)) there knows) in
-    subst (KnowsMore own) (sym so) (more_on own t t' before more)
+-- an end that took a round off the desk, and lays there what became of it
+module _ {A B : Type 0} (before pass : Seat (Option (Desk A B)) (Holding (Desk A B) TrieFacts)) where
+  pub owner_still : IsSamePass before pass → client_of pass ≡ client_of before → IsOwner before.id (client_of before) → IsOwner pass.id (client_of pass)
+  owner_still same view owner = subst (λ (z : ℕ × TrieFacts). IsOwner z.0 z.1) (λ i. (sym same.1 i, sym view i)) owner
 
--- a handle is never told that there is no lane, since no round is refused for that
-pub some_lane : (t : TrieFacts) (e : LiveError) → (e ≡ Closed) ⊎ RefusesRoll t e → e ≢ NoLane
-some_lane t e why is = ⊎_elim (λ closed. let clash : Closed ≡ NoLane = sym closed ∙ is in cc) (λ r. subst (RefusesRoll t) is r) why
+  module _ (was now : TrieFacts) (view : client_of pass ≡ client_of before) (holds : Holds (record { working = Some was; opened = true }) None pass) (knows : KnowsMore (client_of before) was) (more : KnowsMore was now) where
+    goes_on : (pass.id ≡ 0) ⊎ (now.given ≡ was.given) → GoesOnFrom pass now
+    goes_on given = record { was = was; holds = holds; knows = subst (λ (z : TrieFacts). KnowsMore z was) (sym view) knows; more = more; given = given }
+
+    pub owner_lays : IsSamePass before pass → IsOwner before.id (client_of before) → GoesOnFrom pass now
+    owner_lays same owner = goes_on (inl (same.1 ∙ owner.first))
+
+    pub handle_lays : now.given ≡ was.given → GoesOnFrom pass now
+    handle_lays same = goes_on (inr same)
+
+-- what is known then, by what was known
+pub knows_on_from : (own mine new : TrieFacts) → mine ≡ own → KnowsMore mine new → KnowsMore own new
+knows_on_from own mine new same more = subst (λ (z : TrieFacts). KnowsMore z new) same more

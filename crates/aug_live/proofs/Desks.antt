@@ -1,7 +1,6 @@
 -- The desk as a round ends, as the next begins, and as the first does.
 use Rattle.std.proofs.Common.{◌≡◌, true, ◌<◌, ℕ, ◌+◌, ◌^◌, ◌≤◌, List, [], ◌∷◌, ◌++◌, get_or, length, length-append, All, sym, ap, ◌∙◌, subst, arith}
 use Rattle.std.specs.Prelude.{map, flat_map, reverse}
-use Rattle.atomic_table.specs.Seated.{TableId}
 use Rattle.aug_core.specs.Cuts.{Cut}
 use Rattle.aug_model.specs.Keys.{SetFacts}
 use Rattle.aug_core.specs.Layout.{IsLayout}
@@ -12,7 +11,7 @@ use Rattle.aug_trie.specs.Crew.{CrewFacts, BeginsIn, RollsOver, crew_chain}
 use Rattle.aug_live.specs.declared.counts.LiveCounts.{LiveCounts}
 use Rattle.aug_live.specs.LiveHandles.{HandleFacts, IsNew}
 use Rattle.aug_live.specs.Carrying.{Leads}
-use Rattle.aug_live.specs.LiveTries.{AreChangesOf}
+use Rattle.aug_live.specs.LiveTries.{AreChangesOf, TrieFacts}
 use Rattle.aug_live.specs.inside.LaneKnowledge.{EndFacts, IsWhole, rolls, rounds_at}
 use Rattle.aug_live.specs.inside.Rolls.{IsBackIn, IsFirst, IsOf, IsOpenedLane, accepted_by, given_all, kept_of, rounds_in}
 use Rattle.aug_live.specs.inside.Desks.{Accounts, IsWorking}
@@ -20,7 +19,7 @@ use Rattle.aug_live.proofs.Accounting.{accounts_opened, accounts_rolled, all_rev
 use Rattle.aug_live.proofs.Moving.{next_led, next_past}
 use Rattle.aug_live.specs.LiveTries.{LanesGoOn}
 use Rattle.aug_live.specs.inside.LaneKnowledge.{lane_by}
-use Rattle.std.proofs.lemmas.List.{append-nil, reverse-reverse}
+use Rattle.std.proofs.lemmas.List.{append-nil, length-map, reverse-reverse}
 use Rattle.std.proofs.Math.ListN.{get_or-append}
 use Rattle.aug_live.proofs.Dealing.{map_reverse, port_rolls}
 use Rattle.aug_live.proofs.Counted.{all_of_round, none_left}
@@ -111,12 +110,13 @@ kept_on lanes updates counts counts' table crew crew' ports new count count' mor
 }
 
 -- each handle of the first round is new
-pub all_new : (set : SetFacts) (lanes updates : ℕ) (table : TableFacts) (first : CrewFacts) (ids : List TableId) (ends : List HandleFacts) → BeginsIn (2 ^ set.bits) set.pairs set.bits lanes updates table first → All (IsFirst (rounds_in first) ids) ends → All (IsNew table.table ids set (record { lanes = lanes; updates = updates })) ends
-all_new set lanes updates table first ids ends b all k d low = let f = all k d low in
+pub all_new : (set : SetFacts) (lanes updates : ℕ) (table : TableFacts) (first : CrewFacts) (trie : TrieFacts) (ends : List HandleFacts) → trie.table ≡ table.table → BeginsIn (2 ^ set.bits) set.pairs set.bits lanes updates table first → All (IsFirst (rounds_in first) trie) ends → All (IsNew trie set (record { lanes = lanes; updates = updates })) ends
+all_new set lanes updates table first trie ends at b all k d low = let f = all k d low in
     let is : rounds_at (get_or ends k d).half ≡ rounds_in first = f.fresh.round_is in
     let of_round = ap (λ (z : RoundFacts × List Chapter). z.0) is ∙ b.round_is in record {
-      of_trie = ap (λ (z : RoundFacts). z.table) of_round;
-      of_lanes = f.of_lanes;
+      of_trie = ap (λ (z : RoundFacts). z.table) of_round ∙ sym at;
+      knows_trie = f.of_trie;
+      first = f.first;
       era = f.era_is;
       none_before = ap (λ (z : RoundFacts × List Chapter). z.1) is ∙ ap (λ (z : CrewFacts). z.past) b.crew_is;
       bits = ap (λ (z : RoundFacts). z.bits) of_round;
@@ -150,6 +150,10 @@ pub may_take : {lanes updates : ℕ} {counts : LiveCounts} {table : TableFacts} 
     → All (λ (e : EndFacts). (rolls e.known.whose ≡ true) × (0 < e.known.at.era)) ports
 may_take ports held w k d low = let long = length-append ports (reverse held) in
     let mine = subst (IsOf _ _) (get_or-append ports (reverse held) d k low) (w.of_round k d (omega (arith, long, low))) in (port_rolls (get_or ports k d).known.whose mine.whose, subst (λ (z : ℕ). 0 < z) (sym mine.era_is) w.counted.some)
+
+-- no lane is taken: there are as many as ends
+pub ports_many : (t : TrieFacts) (ports held : List EndFacts) → length held ≡ 0 → map lane_by (ports ++ reverse held) ≡ t.lanes → length t.lanes ≡ length ports
+ports_many t ports held none are = ap length (sym are) ∙ length-map (ports ++ reverse held) lane_by ∙ ap length (no_lanes ports held none)
 
 -- once all lanes are taken, they are those that there were
 pub all_taken : (ports held ports' held' : List EndFacts) → ports' ≡ [] → ports' ++ reverse held' ≡ ports ++ reverse held → reverse held' ≡ ports ++ reverse held

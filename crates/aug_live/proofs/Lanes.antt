@@ -1,15 +1,16 @@
 -- The lanes of a trie, as more of their handles are done.
-use Rattle.std.proofs.Common.{◌≡◌, ℕ, zero, suc, List, [], ◌∷◌, ◌++◌, length, refl, sym, ap, ◌∙◌, subst}
+use Rattle.std.proofs.Common.{◌≡◌, ℕ, zero, suc, List, [], ◌∷◌, ◌++◌, length, refl, sym, ap, ◌∙◌, subst, arith}
 use Rattle.std.specs.Prelude.{map, reverse}
 use mathlib.Core.Option.{some, some-injective, some-ne-none}
 use lib.ListN.{get_elem?}
 use Rattle.aug_core.proofs.PrefixLemmas.{prefix_refl, prefix_trans}
-use Rattle.aug_live.specs.LiveTries.{LaneGoesOn, LaneKnown, LanesGoOn}
+use Rattle.aug_trie.proofs.Chaining.{part_refl, part_trans}
+use Rattle.aug_live.specs.LiveTries.{KnowsMore, LaneGoesOn, LaneKnown, LanesGoOn, TrieFacts, ids_of}
 use Rattle.aug_live.specs.inside.LaneKnowledge.{EndFacts, lane_by}
 use Rattle.aug_live.specs.inside.Rolls.{given_all, kept_of}
 
 goes_on : (x : LaneKnown) → LaneGoesOn x x
-goes_on x = record { id = refl; done = prefix_refl x.done }
+goes_on x = record { id = refl; number = omega arith; done = prefix_refl x.done }
 
 pub lanes_refl : (xs : List LaneKnown) → LanesGoOn xs xs
 lanes_refl [] = tt
@@ -20,7 +21,7 @@ lanes_trans [] [] zs a b = b
 lanes_trans [] (y ∷ ys) zs a b = absurd a
 lanes_trans (x ∷ xs) [] zs a b = absurd a
 lanes_trans (x ∷ xs) (y ∷ ys) [] a b = absurd b
-lanes_trans (x ∷ xs) (y ∷ ys) (z ∷ zs) a b = (record { id = b.0.id ∙ a.0.id; done = prefix_trans x.done y.done z.done a.0.done b.0.done }, lanes_trans xs ys zs a.1 b.1)
+lanes_trans (x ∷ xs) (y ∷ ys) (z ∷ zs) a b = (record { id = b.0.id ∙ a.0.id; number = (let l = a.0.number in let m = b.0.number in omega arith); done = prefix_trans x.done y.done z.done a.0.done b.0.done }, lanes_trans xs ys zs a.1 b.1)
 
 pub lanes_same : (xs ys : List LaneKnown) → ys ≡ xs → LanesGoOn xs ys
 lanes_same xs ys same = subst (LanesGoOn xs) (sym same) (lanes_refl xs)
@@ -73,3 +74,13 @@ lanes_given (e ∷ es) = λ i. lane_by e ∷ lanes_given es i
 pub rolled_lanes : (ports ports' back : List EndFacts) → map kept_of (reverse back) ≡ map kept_of ports → map kept_of ports' ≡ map given_all (reverse back) → LanesGoOn (map lane_by ports) (map lane_by ports')
 rolled_lanes ports ports' back took dealt = lanes_same (map lane_by ports) (map lane_by ports')
     (sym (lanes_of_kept ports') ∙ ap (map lane_by) dealt ∙ lanes_given (reverse back) ∙ ap (map lane_by) took ∙ lanes_of_kept ports)
+
+-- what is known of a trie, as it goes on
+pub more_self : (t : TrieFacts) → KnowsMore t t
+more_self t = record { closed = λ c. c; table = refl; bits = refl; lanes = lanes_refl t.lanes; part = part_refl t.rounds }
+
+pub more_on : (a b c : TrieFacts) → KnowsMore a b → KnowsMore b c → KnowsMore a c
+more_on a b c x y = record { closed = λ d. y.closed (x.closed d); table = y.table ∙ x.table; bits = y.bits ∙ x.bits; lanes = lanes_trans a.lanes b.lanes c.lanes x.lanes y.lanes; part = part_trans a.rounds b.rounds c.rounds x.part y.part }
+
+pub ids_more : (a b : TrieFacts) → KnowsMore a b → ids_of b ≡ ids_of a
+ids_more a b more = ids_same a.lanes b.lanes more.lanes

@@ -13,4 +13,5 @@ pub mod DeskSteps
 pub mod Looked
 pub mod Beginning
 pub mod Desks
+pub mod Handing
 pub mod Planning

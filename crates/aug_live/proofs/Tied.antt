@@ -11,7 +11,7 @@ use Rattle.aug_trie.specs.Round.{table_of}
 use Rattle.aug_live.specs.Ledgers.{Made, dated}
 use Rattle.aug_live.specs.LiveHandles.{HandleFacts, Follows, added}
 use Rattle.aug_live.specs.LiveTries.{Done, made_through}
-use Rattle.aug_live.specs.inside.LaneKnowledge.{LaneFacts, KnownFacts, Beside, IsWhole, KnowsLane, Learnt, Rolls, Ties, Worked, dealt, done_if, done_with, given_out, handed, knows_nothing, left, made_at, renumbered, rolls, settled, taken_in, worked}
+use Rattle.aug_live.specs.inside.LaneKnowledge.{LaneFacts, KnownFacts, Beside, IsWhole, KnowsLane, Learnt, Rolls, Ties, Worked, dealt, done_if, done_with, given_out, handed, knows_nothing, left, made_at, passed_by, renumbered, rolls, settled, taken_in, worked}
 use Rattle.aug_live.specs.declared.known.Whose.{Whose}
 use Rattle.aug_live.specs.declared.known.Whose.TheVariants.{Alone, Roller, Free, Idle, Handle, Gone}
 use Rattle.aug_live.proofs.Carries.{follows_self, follows_on}
@@ -102,6 +102,25 @@ module _ (id : ℕ) (v : KnownFacts) (old new : LaneFacts) (views : List KnownFa
   pub keeps : new ≡ old → Goal (λ w. w ≡ v)
   keeps same = (v, turns t.before v (subst (KnowsLane v t.before) (sym same) (t.known id v at)) (λ x one two k. (subst (KnowsLane x t.before) (sym same) k, one, two)), refl)
 
+  -- a handle puts it back so that found a newer one there
+  pub passes_by : v.whose ≡ Handle → v.number ≢ old.number → new ≡ old → Goal (λ w. w ≡ passed_by v)
+  passes_by handle other same = (
+    passed_by v,
+    turns t.before (passed_by v)
+        (subst (KnowsLane (passed_by v) t.before) (sym same) (let k = t.known id v at in record {
+          as_roller = λ roller. absurd (two_ways v.whose handle roller);
+          as_handle = λ h s. let o = k.as_handle h s in record { follows = o.follows; table = o.table; whole = o.whole; replaced = λ _. other };
+          not_newer = k.not_newer;
+          unopened = λ a. let clash : Handle ≡ Alone = sym handle ∙ a in cc;
+        }))
+        (λ x one two k. (
+          subst (KnowsLane x t.before) (sym same) k,
+          record { one_roller = one.one_roller; out = one.out; apart = one.apart },
+          record { one_roller = two.one_roller; out = two.out; apart = two.apart },
+        )),
+    refl,
+  )
+
   module _ (handle : v.whose ≡ Handle) (begun : 0 < v.at.era) (number : old.number ≡ v.number) (did : Worked old new) where
     -- a handle puts back what it worked on: what the roller goes on to know, and a handle that is no more
     roller_on : (x : KnownFacts) → Beside x v → rolls x.whose ≡ true → Rolls x t.before old → Rolls x t.before new
@@ -112,6 +131,7 @@ module _ (id : ℕ) (v : KnownFacts) (old new : LaneFacts) (views : List KnownFa
       works = did.works ∙ o.works;
       half = λ rests. did.at_rest (sym did.works ∙ rests) ∙ o.half (sym did.works ∙ rests);
       idle = λ i. did.is_out ∙ o.idle i;
+      out = λ i. did.is_out ∙ o.out i;
       before_is = o.before_is;
       whole = record {
         own = o.whole.own ++ more;
@@ -131,6 +151,7 @@ module _ (id : ℕ) (v : KnownFacts) (old new : LaneFacts) (views : List KnownFa
         follows = λ _. follows_self new.at;
         table = λ _. refl;
         whole = λ _. more_made t.before old.at new.at did.era did.accepts ∙ ap (λ (z : List Made). z ++ more) (k.whole (sym number)) ∙ append_assoc (made_through v.done) v.made more;
+        replaced = λ seen. absurd (k.replaced seen (sym number));
       };
       not_newer = λ _. let is = did.number in omega arith;
       unopened = λ a. let clash : Handle ≡ Alone = sym handle ∙ a in cc;
@@ -142,7 +163,7 @@ module _ (id : ℕ) (v : KnownFacts) (old new : LaneFacts) (views : List KnownFa
       turns t.before (worked v old new) mine_on (λ x one two k. (
         record {
           as_roller = λ r s. roller_on x one r (k.as_roller r s);
-          as_handle = λ h s. record { follows = λ n. absurd (not_mine x one h n); table = λ n. absurd (not_mine x one h n); whole = λ n. absurd (not_mine x one h n) };
+          as_handle = λ h s. record { follows = λ n. absurd (not_mine x one h n); table = λ n. absurd (not_mine x one h n); whole = λ n. absurd (not_mine x one h n); replaced = λ _. not_mine x one h };
           not_newer = λ h. let is = did.number in let low = k.not_newer h in omega arith;
           unopened = λ a z. did.number ∙ k.unopened a z;
         },
@@ -161,6 +182,7 @@ module _ (id : ℕ) (v : KnownFacts) (old new : LaneFacts) (views : List KnownFa
         follows = λ n. follows_on x.at old.at new.at (o.follows (n ∙ number)) follows;
         table = λ n. table ∙ o.table (n ∙ number);
         whole = λ n. whole ∙ o.whole (n ∙ number);
+        replaced = λ seen n. o.replaced seen (n ∙ number);
       };
       not_newer = λ h. let low = k.not_newer h in omega arith;
       unopened = λ a. absurd (beside.one_roller (ap rolls a) roller);
@@ -186,6 +208,7 @@ module _ (id : ℕ) (v : KnownFacts) (old new : LaneFacts) (views : List KnownFa
                     works = refl;
                     half = λ _. refl;
                     idle = λ i. out ∙ was.idle i;
+                    out = λ i. out ∙ was.out i;
                     before_is = was.before_is;
                     whole = record { own = was.whole.own; whole = ap (made_at v.before) same ∙ was.whole.whole; none_out = was.whole.none_out };
                     alone = λ _. refl;
@@ -218,6 +241,7 @@ module _ (id : ℕ) (v : KnownFacts) (old new : LaneFacts) (views : List KnownFa
                     works = refl;
                     half = λ _. refl;
                     idle = λ i. out ∙ was.idle i;
+                    out = λ i. out ∙ was.out i;
                     before_is = mine;
                     whole = record { own = was.whole.own; whole = none_made (made_at v.before old.at) new.at none ∙ was.whole.whole; none_out = was.whole.none_out };
                     alone = λ _. refl;
@@ -235,8 +259,8 @@ module _ (id : ℕ) (v : KnownFacts) (old new : LaneFacts) (views : List KnownFa
           )
 
     -- the roller gives the lane a number that no handle has
-    pub roller_renumbers : old.number < new.number → 0 < new.at.era → IsWhole v new.at → Goal (λ w. w ≡ renumbered v new)
-    roller_renumbers newer begun whole =
+    pub roller_renumbers : old.number < new.number → new.is_out ≡ true → 0 < new.at.era → IsWhole v new.at → Goal (λ w. w ≡ renumbered v new)
+    roller_renumbers newer out begun whole =
         let newest = λ (x : KnownFacts) (k : KnowsLane x t.before old) (h : x.whose ≡ Handle) (n : x.number ≡ new.number). let low = k.not_newer h in let never : ⊥ = omega arith in never in (
           renumbered v new,
           turns v.before (renumbered v new)
@@ -248,6 +272,7 @@ module _ (id : ℕ) (v : KnownFacts) (old new : LaneFacts) (views : List KnownFa
                   works = refl;
                   half = λ _. refl;
                   idle = λ e. let clash : Alone ≡ Idle = e in cc;
+                  out = λ _. out;
                   before_is = refl;
                   whole = record { own = []; whole = done_whole v new.at whole ∙ sym (append-nil (made_through (done_with v new.at))); none_out = λ _. refl };
                   alone = λ _. refl;
@@ -259,7 +284,7 @@ module _ (id : ℕ) (v : KnownFacts) (old new : LaneFacts) (views : List KnownFa
               (λ x one two k. (
                 record {
                   as_roller = λ r. absurd (one.one_roller r roller);
-                  as_handle = λ h s. record { follows = λ n. absurd (newest x k h n); table = λ n. absurd (newest x k h n); whole = λ n. absurd (newest x k h n) };
+                  as_handle = λ h s. record { follows = λ n. absurd (newest x k h n); table = λ n. absurd (newest x k h n); whole = λ n. absurd (newest x k h n); replaced = λ _. newest x k h };
                   not_newer = λ h. let low = k.not_newer h in omega arith;
                   unopened = λ a. absurd (one.one_roller (ap rolls a) roller);
                 },
@@ -286,6 +311,7 @@ module _ (id : ℕ) (v : KnownFacts) (old new : LaneFacts) (views : List KnownFa
                 works = refl;
                 half = λ _. refl;
                 idle = λ _. ap (λ (z : LaneFacts). z.is_out) is;
+                out = λ other. absurd (other refl);
                 before_is = was.before_is;
                 whole = record { own = was.whole.own; whole = ap (made_at v.before) same ∙ was.whole.whole; none_out = λ _. none };
                 alone = λ e. let clash : Idle ≡ Alone = e in cc;
@@ -316,6 +342,7 @@ forks id v first begun lane views t at =
         works = was.works;
         half = was.half;
         idle = λ e. let clash : Roller ≡ Idle = e in cc;
+        out = λ _. was.out (λ e. let clash : Alone ≡ Idle = sym first ∙ e in cc);
         before_is = was.before_is;
         whole = record { own = was.whole.own; whole = was.whole.whole; none_out = λ other. absurd (other refl) };
         alone = λ e. let clash : Roller ≡ Alone = e in cc;
@@ -330,6 +357,7 @@ forks id v first begun lane views t at =
         follows = λ _. subst (Follows v.at) (sym (was.alone first)) (follows_self v.at);
         table = λ _. ap (λ (z : HandleFacts). table_of z.half.round) (was.alone first);
         whole = λ _. ap (λ (z : List Made). made_at z lane.at) was.before_is ∙ was.whole.whole ∙ ap (λ (z : List Made). made_through v.done ++ z) none;
+        replaced = λ e. absurd (false≢true e);
       };
       not_newer = λ _. let is = was.number in omega arith;
       unopened = λ e. let clash : Handle ≡ Alone = e in cc;
@@ -389,6 +417,7 @@ meets id v other w out begun handle begun' number lane views t at ne at' =
         works = was.works;
         half = was.half;
         idle = λ e. let clash : Free ≡ Idle = e in cc;
+        out = λ _. was.out (λ e. let clash : Roller ≡ Idle = sym out ∙ e in cc);
         before_is = was.before_is;
         whole = record { own = []; whole = whole; none_out = λ _. refl };
         alone = λ e. let clash : Free ≡ Alone = e in cc;

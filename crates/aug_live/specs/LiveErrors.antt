@@ -1,8 +1,11 @@
--- Why a trie is not opened, and why a call of it is refused. Each is printed by its name. No clause says when a handle is told that the trie was closed, that its lane was
--- given on, or that the rounds are exhausted: what lies behind the lock shows in no contract of a handle.
-use Rattle.std.specs.Prelude.{◌⊎◌, ℕ, ◌+◌, ◌^◌, ◌≤◌, List, length, codes}
+-- Why a trie is not opened, and why a call of it is refused. Each is printed by its name. A refusal is told with what shows it: a handle that is told `Closed` found no
+-- round on the desk, which only the owner leaves so, and one that is told `Replaced` found a newer number in its lane.
+use Rattle.std.specs.Prelude.{◌≡◌, ◌≢◌, ◌⊎◌, ℕ, ◌+◌, ◌^◌, ◌≤◌, List, length, true, false, codes}
+use mathlib.Core.Option.{some}
+use lib.ListN.{get_elem?}
 use Rattle.std.specs.List.{sum_by}
 use Rattle.aug_live.specs.Ledgers.{Made}
+use Rattle.aug_live.specs.LiveHandles.{HandleFacts}
 use Rattle.aug_live.specs.LiveTries.{AreCountsOf, LaneKnown, TrieFacts}
 use Rattle.aug_live.specs.declared.error.LiveError.{LiveError}
 use Rattle.aug_live.specs.declared.error.OpenError.{OpenError}
@@ -46,6 +49,36 @@ RefusesRoll trie Exhausted = IsExhausted trie
 RefusesRoll trie Replaced = ⊥
 RefusesRoll trie NoLane = ⊥
 RefusesRoll trie TooMany = ⊥
+
+-- why no round goes on for a handle, by what it knows of the trie then
+abbrev pub RefusesRound : TrieFacts → LiveError → Type 0
+RefusesRound trie Closed = trie.closed ≡ true
+RefusesRound trie Exhausted = IsExhausted trie
+RefusesRound trie Replaced = ⊥
+RefusesRound trie NoLane = ⊥
+RefusesRound trie TooMany = ⊥
+
+-- why a call of a handle is refused, by what the handle knows then
+abbrev pub RefusesCall : HandleFacts → LiveError → Type 0
+RefusesCall handle Closed = RefusesRound handle.who.trie Closed
+RefusesCall handle Exhausted = RefusesRound handle.who.trie Exhausted
+RefusesCall handle Replaced = handle.who.replaced ≡ true
+RefusesCall handle NoLane = ⊥
+RefusesCall handle TooMany = ⊥
+
+-- a lane's last handle is another one than that with this number, or came back already
+pub record HasOther (lane number : ℕ) (trie : TrieFacts) : Type 0 where
+  pub known : LaneKnown
+  pub there : get_elem? trie.lanes lane ≡ some known
+  pub other : (known.number ≢ number) ⊎ (known.is_out ≡ false)
+
+-- why a trie does not take back the handle of this lane and number
+abbrev pub RefusesBack : ℕ → ℕ → TrieFacts → LiveError → Type 0
+RefusesBack lane number trie Closed = ⊥
+RefusesBack lane number trie Exhausted = IsExhausted trie
+RefusesBack lane number trie Replaced = HasOther lane number trie
+RefusesBack lane number trie NoLane = ⊥
+RefusesBack lane number trie TooMany = ⊥
 
 -- why a trie gives no lane of this number to a new handle
 abbrev pub RefusesLane : ℕ → TrieFacts → LiveError → Type 0

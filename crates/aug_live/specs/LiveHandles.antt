@@ -1,10 +1,11 @@
 -- What contracts see of a handle and of a look, and what their calls do. An update or a look is one of a pass, made from a state that follows on what
 -- the handle knew (`Follows`).
-use Rattle.std.specs.Prelude.{◌≡◌, ◌⊎◌, ℕ, ◌<◌, ◌≤◌, List, [], ◌++◌, length, drop}
+use Rattle.std.specs.Prelude.{◌≡◌, ◌⊎◌, ℕ, ◌<◌, ◌≤◌, List, [], ◌++◌, length, drop, Bool, true}
+use mathlib.Core.Option.{some}
+use lib.ListN.{get_elem?}
 use Rattle.aug_model.specs.Keys.{SetFacts}
 use Rattle.aug_core.specs.Prefixes.{IsPrefix}
 use Rattle.aug_core.specs.declared.view.Change.{Change}
-use Rattle.atomic_table.specs.Seated.{TableId}
 use Rattle.aug_trie.specs.Chains.{IsPart}
 use Rattle.aug_trie.specs.Note.{NoteFacts}
 use Rattle.aug_trie.specs.Pass.{PassFacts, GoesOn, chain_of}
@@ -15,12 +16,28 @@ use Rattle.aug_model.specs.declared.summary.Summary.{Summary}
 use Rattle.aug_trie.specs.declared.queries.snapshot.Snapshot.{Snapshot}
 use Rattle.aug_live.specs.Carrying.{Leads}
 use Rattle.aug_live.specs.Ledgers.{Made, dated}
+use Rattle.aug_live.specs.LiveTries.{KnowsMore, LaneKnown, TrieFacts, ids_of}
 use Rattle.aug_live.specs.declared.plan.Plan.{Plan}
 
--- a handle: the lanes of its trie, by which it is known; the round that it last worked in, counted from 1; the pass of its lane as the handle left it; and all
--- changes that were accepted through it, each with its round
+-- which handle it is: what it knows of its trie; the number of its lane, counted from 0, and its own; and whether it saw that the lane has a newer handle
+pub record WhoFacts : Type 0 where
+  pub trie : TrieFacts
+  pub lane : ℕ
+  pub number : ℕ
+  pub replaced : Bool
+
+-- it is the same handle, and all that it knew of its trie and of its lane is known still
+pub record SameHandle (old new : WhoFacts) : Type 0 where
+  pub trie : KnowsMore old.trie new.trie
+  pub lanes : ids_of new.trie ≡ ids_of old.trie
+  pub lane : new.lane ≡ old.lane
+  pub number : new.number ≡ old.number
+  pub replaced : old.replaced ≡ true → new.replaced ≡ true
+
+-- a handle: which one it is; the round that it last worked in, counted from 1; the pass of its lane as the handle left it; and all changes that were accepted
+-- through it, each with its round
 pub record HandleFacts : Type 0 where
-  pub lanes : List TableId
+  pub who : WhoFacts
   pub era : ℕ
   pub half : PassFacts
   pub made : List Made
@@ -48,7 +65,7 @@ pub record Follows (old new : HandleFacts) : Type 0 where
   pub led : old.era < new.era → Leads new.half.round.bits new.half.past new.half.round.members
   pub table : new.half.round.table ≡ old.half.round.table
   pub bits : new.half.round.bits ≡ old.half.round.bits
-  pub lanes : new.lanes ≡ old.lanes
+  pub same_handle : SameHandle old.who new.who
   pub made : new.made ≡ old.made
 
 -- a handle makes `updates` updates: rounds may roll over first, and then its pass does what `does` says. What its pass accepted with that is made through it
@@ -59,7 +76,7 @@ pub record Makes (updates : ℕ) (does : PassFacts → PassFacts → Type 0) (ol
   pub done : does start.half new.half
   pub steps : ℕ
   pub goes_on : GoesOn updates steps start.half new.half
-  pub lanes : new.lanes ≡ start.lanes
+  pub who : new.who ≡ start.who
   pub made : new.made ≡ start.made ++ dated new.era (added start.half new.half)
 
 -- so many of some, and not none if there are some
@@ -70,10 +87,11 @@ IsSomeOf all count = (count ≤ all) × (0 < all → 0 < count)
 abbrev pub AllOrSpent : ℕ → ℕ → PassFacts → Type 0
 AllOrSpent all count pass = (count ≡ all) ⊎ (pass.spent ≡ pass.round.updates)
 
--- a handle of a trie, by its table and its lanes, in the first round over this set, which has this plan; it knows no update
-pub record IsNew (table : TableId) (lanes : List TableId) (set : SetFacts) (plan : Plan) (handle : HandleFacts) : Type 0 where
-  pub of_trie : handle.half.round.table ≡ table
-  pub of_lanes : handle.lanes ≡ lanes
+-- the first handle of a trie's lane, in the first round over this set, which has this plan; it knows no update
+pub record IsNew (trie : TrieFacts) (set : SetFacts) (plan : Plan) (handle : HandleFacts) : Type 0 where
+  pub of_trie : handle.half.round.table ≡ trie.table
+  pub knows_trie : handle.who.trie ≡ trie
+  pub first : handle.who.number ≡ 1
   pub era : handle.era ≡ 1
   pub none_before : handle.half.past ≡ []
   pub bits : handle.half.round.bits ≡ set.bits
@@ -84,9 +102,21 @@ pub record IsNew (table : TableId) (lanes : List TableId) (set : SetFacts) (plan
   pub none_accepted : handle.half.knows.accepted ≡ []
   pub none_made : handle.made ≡ []
 
+-- a new handle of a trie's lane, through which nothing was made yet: it knows at least what the trie's owner did
+pub record IsHandleOf (lane : ℕ) (trie : TrieFacts) (handle : HandleFacts) : Type 0 where
+  pub table : handle.half.round.table ≡ trie.table
+  pub of_lanes : ids_of handle.who.trie ≡ ids_of trie
+  pub of_lane : handle.who.lane ≡ lane
+  pub known : LaneKnown
+  pub last : get_elem? trie.lanes lane ≡ some known
+  pub is_last : (known.number ≡ handle.who.number) × (known.is_out ≡ true)
+  pub none_made : handle.made ≡ []
+  pub bits : handle.half.round.bits ≡ trie.bits
+  pub knows : IsPart trie.rounds (chain_of handle.half)
+
 -- a look: what its handle was, with the pass as it is now, and the snapshot that it shows
 pub record LookFacts : Type 0 where
-  pub lanes : List TableId
+  pub who : WhoFacts
   pub era : ℕ
   pub half : PassFacts
   pub made : List Made
@@ -94,7 +124,7 @@ pub record LookFacts : Type 0 where
 
 -- what its handle knows once the look is over
 abbrev pub handle_of : LookFacts → HandleFacts
-handle_of look = record { lanes = look.lanes; era = look.era; half = look.half; made = look.made }
+handle_of look = record { who = look.who; era = look.era; half = look.half; made = look.made }
 
 -- the set that it shows
 abbrev pub set_of_look : LookFacts → SetFacts

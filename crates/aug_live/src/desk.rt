@@ -7,7 +7,7 @@ ghost use lib.ListN.{get_elem?};
 ghost use Rattle.atomic_table.specs.Seated.{TableId};
 ghost use Rattle.aug_trie.specs.Note.{chain_of_note};
 ghost use Rattle.aug_trie.specs.Chains.{IsPart};
-ghost use Rattle.aug_live.specs.LiveErrors.{IfRefused, RefusesLane, RefusesRoll};
+ghost use Rattle.aug_live.specs.LiveErrors.{IfRefused, RefusesBack, RefusesLane, RefusesRoll};
 ghost use Rattle.aug_live.specs.LiveTries.{Closes, KnowsMore, ids_of};
 ghost use Rattle.aug_live.specs.inside.Desks.{GivesLane, TakesEnd};
 ghost use Rattle.aug_live.specs.declared.known.Whose.TheVariants.{Handle};
@@ -45,7 +45,7 @@ pub(crate) struct Working<A: Monoid, B: Monoid> {
 }
 
 impl<A: Monoid, B: Monoid> Model for Working<A, B> {
-    ghost use Rattle.std.specs.Prelude.{◌≡◌, ◌+◌, ◌++◌, ◌≤◌, ◌^◌, [], map, reverse, vec_len, vec_capacity};
+    ghost use Rattle.std.specs.Prelude.{◌≡◌, ◌+◌, ◌++◌, ◌≤◌, ◌^◌, [], map, reverse, vec_len, vec_capacity, false};
     ghost use Rattle.std.specs.Arc.{arc_value};
     ghost use Rattle.aug_trie.specs.Crew.{crew_chain};
     ghost use Rattle.aug_live.specs.LiveTries.{TrieFacts};
@@ -54,7 +54,7 @@ impl<A: Monoid, B: Monoid> Model for Working<A, B> {
 
     ghost Value = { TrieFacts };
 
-    ghost view = { λ w. record { table = (arc_value w.round).table; bits = (arc_value w.round).bits; lanes = map lane_by (w.ports.items ++ reverse w.held.items); held = vec_len w.held; rounds = crew_chain w.crew } };
+    ghost view = { λ w. record { closed = false; table = (arc_value w.round).table; bits = (arc_value w.round).bits; lanes = map lane_by (w.ports.items ++ reverse w.held.items); held = vec_len w.held; given = w.counts.handles; rounds = crew_chain w.crew } };
 
     ghost invariant = { λ w. IsWorking w.plan.lanes w.plan.updates w.counts (arc_value w.round) w.crew (w.ports.items ++ reverse w.held.items) (vec_len w.ports + vec_len w.held)
         × (w.idle.items ≡ []) × (vec_len w.ports + vec_len w.held ≤ vec_capacity w.ports) × (vec_len w.ports + vec_len w.held ≤ vec_capacity w.held)
@@ -71,6 +71,7 @@ impl<A: Monoid, B: Monoid> Working<A, B> {
         ensures closes { IfOk result (λ t. Closes self t.0 t.1) }
         ensures sizes { IfOk result (λ t. length t.0.pairs + t.1.removals ≡ t.1.opened + t.1.inserts) }
         ensures more { IfErr result (λ e. KnowsMore self e.0) }
+        ensures given { IfErr result (λ e. e.0.given ≡ self.given) }
     {
         let mut working = self;
         if let Err(missed) = take_all(how, &mut working.ports, &mut working.held) {
@@ -103,6 +104,7 @@ impl<A: Monoid, B: Monoid> Working<A, B> {
         how: &W,
     ) -> (Working<A, B>, Result<(), TryError<W::GaveUp>>)
         ensures more { KnowsMore self result.0 }
+        ensures given { result.0.given ≡ self.given }
         ensures rolls { IfOk result.1 (λ _. length self.rounds.past < length result.0.rounds.past) }
         ensures settled { IfOk result.1 (λ _. result.0.held ≡ 0) }
         ensures refused { IfErr result.1 (IfRefused (RefusesRoll result.0)) }
@@ -158,6 +160,7 @@ impl<A: Monoid, B: Monoid> Working<A, B> {
         how: &W,
     ) -> (Working<A, B>, Result<(), TryError<W::GaveUp>>)
         ensures more { KnowsMore self result.0 }
+        ensures given { result.0.given ≡ self.given }
         ensures settled { IfOk result.1 (λ _. result.0.held ≡ 0) }
         ensures refused { IfErr result.1 (IfRefused (RefusesRoll result.0)) }
     {
@@ -177,6 +180,7 @@ impl<A: Monoid, B: Monoid> Working<A, B> {
         lane: usize,
     ) -> (Working<A, B>, Result<(), TryError<W::GaveUp>>)
         ensures more { KnowsMore self result.0 }
+        ensures given { result.0.given ≡ self.given }
         ensures refused { IfErr result.1 (IfRefused (RefusesRoll result.0)) }
     {
         let (mut working, settled) = self.settle(how);
@@ -193,7 +197,8 @@ impl<A: Monoid, B: Monoid> Working<A, B> {
     /// Whether the round of this era is over, or goes on with a spare lane in the place of the one with this number.
     fn goes_on<W: Patience>(&mut self, how: &W, era: u64, lane: usize) -> Result<bool, W::GaveUp>
         requires settled { self.old.held ≡ 0 }
-        ensures { KnowsMore self.old self.new }
+        ensures more { KnowsMore self.old self.new }
+        ensures given { self.new.given ≡ self.old.given }
     {
         if self.counts.rounds != era {
             return Ok(true);
@@ -222,6 +227,7 @@ impl<A: Monoid, B: Monoid> Working<A, B> {
         requires { note.round.table ≡ self.table }
         ensures more { KnowsMore self result }
         ensures held { result.held ≡ self.held }
+        ensures given { result.given ≡ self.given }
         ensures learns { IsPart (chain_of_note note) result.rounds }
     {
         let mut working = self;
@@ -229,7 +235,7 @@ impl<A: Monoid, B: Monoid> Working<A, B> {
         working
     }
 
-    /// Takes back the handle of a lane, by its end. Refused with `Replaced` if the lane has a newer one, and with `NoLane`; then the same end comes back.
+    /// Takes back the handle of a lane, by its end. Refused with `Replaced` if the lane has a newer one, or took it back before; then the same end comes back.
     pub(crate) fn back<W: Patience>(
         &mut self,
         how: &W,
@@ -241,14 +247,14 @@ impl<A: Monoid, B: Monoid> Working<A, B> {
         requires handle { end.known.whose ≡ Handle }
         requires some { 0 < end.known.at.era }
         requires number { end.known.number ≡ number }
+        requires lane { lane < length self.old.lanes }
         requires lock { (id : TableId) → get_elem? (ids_of self.old) lane ≡ some id → end.lock ≡ id }
         ensures more { KnowsMore self.old self.new }
+        ensures given { self.new.given ≡ self.old.given }
         ensures takes { IfOk result (λ _. TakesEnd lane end.known.made self.old self.new) }
         ensures same { IfErr result (λ e. e.0 ≡ end) }
+        ensures refused { IfErr result (λ e. IfRefused (RefusesBack lane number self.new) e.1) }
     {
-        if lane >= self.ports.len() {
-            return Err((end, TryError::Refused(LiveError::NoLane)));
-        }
         match self.ports.remove(lane).take_in(how, number, end) {
             Ok(port) => {
                 put_in(&mut self.ports, lane, port);
@@ -273,6 +279,8 @@ impl<A: Monoid, B: Monoid> Working<A, B> {
     ) -> Result<(End<A, B>, SharedRound<A, B>, u32, u64), TryError<W::GaveUp>>
         requires settled { self.old.held ≡ 0 }
         ensures more { KnowsMore self.old self.new }
+        ensures given { IfOk result (λ _. self.new.given ≡ self.old.given + 1) }
+        ensures none_given { IfErr result (λ _. self.new.given ≡ self.old.given) }
         ensures handle { IfOk result (λ h. GivesLane lane self.new h.0 (arc_value h.1) h.2 h.3) }
         ensures refused { IfErr result (IfRefused (RefusesLane lane self.new)) }
         ensures past { length self.old.lanes ≤ lane → IsErr result }

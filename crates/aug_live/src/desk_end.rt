@@ -1,5 +1,5 @@
 //! The desk, and the ends of its lock.
-ghost use Rattle.std.specs.Prelude.{◌≡◌, ◌⊎◌, [], ◌∷◌, All, ◌+◌, ◌<◌, ◌≤◌, IfOk, IfErr, IsErr, IsSome, None, Some, length, vec_len, vec_capacity};
+ghost use Rattle.std.specs.Prelude.{◌≡◌, [], ◌∷◌, All, ◌+◌, ◌<◌, ◌≤◌, IfOk, IfErr, IsErr, IsSome, None, Some, length, vec_len, vec_capacity, true};
 ghost use Rattle.std.specs.Arc.{arc_value};
 ghost use Rattle.ruled_lock.specs.Locks.{Holds, HoldsNothing, IsSamePass, client_of};
 ghost use mathlib.Core.Option.{some};
@@ -7,8 +7,9 @@ ghost use lib.ListN.{get_elem?};
 ghost use Rattle.atomic_table.specs.Seated.{TableId};
 ghost use Rattle.aug_trie.specs.Note.{chain_of_note};
 ghost use Rattle.aug_trie.specs.Chains.{IsPart};
-ghost use Rattle.aug_live.specs.LiveErrors.{IfRefused, RefusesLane, RefusesRoll};
+ghost use Rattle.aug_live.specs.LiveErrors.{IfRefused, RefusesBack, RefusesHandle, RefusesRoll, RefusesRound};
 ghost use Rattle.aug_live.specs.LiveTries.{CameBack, Closes, KnowsMore, ids_of};
+ghost use Rattle.aug_live.specs.inside.DeskKnowledge.{GoesOnFrom, IsOwner};
 ghost use Rattle.aug_live.specs.inside.Desks.{GivesLane};
 ghost use Rattle.aug_live.specs.declared.known.Whose.TheVariants.{Handle};
 
@@ -34,9 +35,11 @@ pub(crate) struct Desk<A: Monoid, B: Monoid> {
 
 /// What an end of the desk knows of its trie. No value of it is made.
 pub(crate) struct DeskView<A: Monoid, B: Monoid> {
+    closed: bool,
     half: PassHalf<A, B>,
     lanes: Vec<End<A, B>>,
     held: u64,
+    given: u64,
 }
 
 impl<A: Monoid, B: Monoid> Model for DeskView<A, B> {
@@ -47,14 +50,15 @@ impl<A: Monoid, B: Monoid> Model for DeskView<A, B> {
 
     ghost Value = { TrieFacts };
 
-    ghost view = { λ t. record { table = t.half.round.table; bits = t.half.round.bits; lanes = map lane_by t.lanes.items; held = t.held; rounds = chain_of t.half } };
+    ghost view = { λ t. record { closed = t.closed; table = t.half.round.table; bits = t.half.round.bits; lanes = map lane_by t.lanes.items; held = t.held; given = t.given; rounds = chain_of t.half } };
 }
 
-/// The rule of the desk's lock: each end knows a part of the rounds of the trie that lies there.
+/// The rule of the desk's lock: each end knows a part of the rounds of the trie that lies there, and the owner's whether one does.
 pub(crate) struct DeskRule;
 
 impl<A: Monoid, B: Monoid> LockRule<Desk<A, B>, DeskView<A, B>> for DeskRule {
-    ghost use Rattle.aug_live.specs.inside.DeskKnowledge.{OnDesk, no_trie};
+    ghost use Rattle.aug_live.specs.inside.DeskKnowledge.{OnDesk};
+    ghost use Rattle.aug_live.specs.inside.LaneKnowledge.{no_trie};
 
     ghost holds = { OnDesk };
 
@@ -68,6 +72,15 @@ impl<A: Monoid, B: Monoid> Lesson<Desk<A, B>, DeskView<A, B>> for Read {
     ghost use Rattle.aug_live.specs.inside.DeskKnowledge.{KnowsDesk};
 
     ghost fact = { KnowsDesk };
+}
+
+/// What the owner's end learns.
+pub(crate) struct ReadOwn;
+
+impl<A: Monoid, B: Monoid> Lesson<Desk<A, B>, DeskView<A, B>> for ReadOwn {
+    ghost use Rattle.aug_live.specs.inside.DeskKnowledge.{KnowsOwn};
+
+    ghost fact = { KnowsOwn };
 }
 
 /// What an end knows that puts something there.
@@ -91,7 +104,28 @@ impl<A: Monoid, B: Monoid> Split<DeskView<A, B>> for Same {
 /// The lock of the desk.
 pub(crate) type DeskLock<A, B> = RuledLock<Desk<A, B>, DeskView<A, B>, DeskRule>;
 
-/// An end of the desk's lock: the owner's, or a handle's.
+/// The owner's end of the desk's lock, which is the first one: it alone makes handles and closes the trie.
+#[derive(Drop)]
+pub(crate) struct OwnerEnd<A: Monoid, B: Monoid> {
+    lock: Arc<DeskLock<A, B>, Global>,
+    pass: Pass<Desk<A, B>, DeskView<A, B>>,
+}
+
+impl<A: Monoid, B: Monoid> Model for OwnerEnd<A, B> {
+    ghost use Rattle.std.specs.Prelude.{◌≡◌};
+    ghost use Rattle.std.specs.Arc.{arc_value};
+    ghost use Rattle.ruled_lock.specs.Locks.{client_of, HoldsNothing};
+    ghost use Rattle.aug_live.specs.LiveTries.{TrieFacts};
+    ghost use Rattle.aug_live.specs.inside.DeskKnowledge.{IsOwner};
+
+    ghost Value = { TrieFacts };
+
+    ghost view = { λ e. client_of e.pass };
+
+    ghost invariant = { λ e. (e.pass.table_id ≡ (arc_value e.lock).table.shared.table_id) × HoldsNothing e.pass × IsOwner e.pass.id (client_of e.pass) };
+}
+
+/// A handle's end of the desk's lock.
 #[derive(Drop)]
 pub(crate) struct DeskEnd<A: Monoid, B: Monoid> {
     lock: Arc<DeskLock<A, B>, Global>,
@@ -134,6 +168,7 @@ pub(crate) struct NewDesk<A: Monoid, B: Monoid> {
     theirs: Vec<DeskShare<A, B>>,
     pub(crate) ends: Vec<DeskEnd<A, B>>,
     ghost of: { pass.table_id ≡ (arc_value lock).table.shared.table_id },
+    ghost first: { pass.id ≡ 0 },
     ghost same_lock: { All (λ s. s ≡ pass.table_id) theirs.items },
     ghost out: { IsSome pass.me.0.taken × (pass.me.1 ≡ (8, None) ∷ []) },
     ghost no_trie: { (client_of pass).bits ≡ 0 },
@@ -185,7 +220,7 @@ impl<A: Monoid, B: Monoid> NewDesk<A, B> {
     }
 
     /// Lays the first round there: the owner's end, and those of the handles.
-    pub(crate) fn place(self, working: Working<A, B>) -> (DeskEnd<A, B>, Vec<DeskEnd<A, B>>)
+    pub(crate) fn place(self, working: Working<A, B>) -> (OwnerEnd<A, B>, Vec<DeskEnd<A, B>>)
         requires some { 0 < working.bits }
         ensures owner { result.0 ≡ working }
         ensures handles { All (λ e. e ≡ working) result.1.items }
@@ -197,12 +232,13 @@ impl<A: Monoid, B: Monoid> NewDesk<A, B> {
             theirs,
             mut ends,
         } = self;
+        let _bits = working.bits;
         let desk = Desk {
             working: Some(working),
             opened: true,
         };
         lock.put::<Lay>(&mut pass, desk);
-        let mut mine = DeskEnd { lock, pass };
+        let mut mine = OwnerEnd { lock, pass };
         for share in theirs {
             let DeskShare { lock } = share;
             let pass = mine.lock.another::<Same>(&mut mine.pass);
@@ -212,10 +248,9 @@ impl<A: Monoid, B: Monoid> NewDesk<A, B> {
     }
 }
 
-impl<A: Monoid, B: Monoid> DeskEnd<A, B> {
-    /// One more end of an open desk.
+impl<A: Monoid, B: Monoid> OwnerEnd<A, B> {
+    /// The end of one more handle.
     pub(crate) fn another(&mut self) -> Result<DeskEnd<A, B>, AllocError>
-        requires some { 0 < self.old.bits }
         ensures same { self.new ≡ self.old }
         ensures knows { IfOk result (λ e. e ≡ self.old) }
     {
@@ -224,60 +259,20 @@ impl<A: Monoid, B: Monoid> DeskEnd<A, B> {
         Ok(DeskEnd { lock, pass })
     }
 
-    /// Rolls the round over if that was begun.
-    pub(crate) fn settle<W: Patience>(&mut self, how: &W) -> Result<(), TryError<W::GaveUp>>
-        ensures more { KnowsMore self.old self.new }
-        ensures refused { IfErr result (IfRefused (λ cause. (cause ≡ LiveError.Closed) ⊎ RefusesRoll self.new cause)) }
-    {
-        match take_round(how, &self.lock, &mut self.pass) {
-            Ok((working, opened)) => {
-                let (working, done) = working.settle(how);
-                let working = Some(working);
-                self.lock
-                    .put::<Lay>(&mut self.pass, Desk { working, opened });
-                done
-            }
-            Err(cause) => Err(cause),
-        }
-    }
-
-    /// Sees to it that a lane which was spent in this era has a pass, as `Working::past` does.
-    pub(crate) fn past<W: Patience>(
-        &mut self,
-        how: &W,
-        era: u64,
-        lane: usize,
-    ) -> Result<(), TryError<W::GaveUp>>
-        ensures more { KnowsMore self.old self.new }
-        ensures refused { IfErr result (IfRefused (λ cause. (cause ≡ LiveError.Closed) ⊎ RefusesRoll self.new cause)) }
-    {
-        match take_round(how, &self.lock, &mut self.pass) {
-            Ok((working, opened)) => {
-                let (working, done) = working.past(how, era, lane);
-                let working = Some(working);
-                self.lock
-                    .put::<Lay>(&mut self.pass, Desk { working, opened });
-                done
-            }
-            Err(cause) => Err(cause),
-        }
-    }
-
     /// Rolls the round over.
     pub(crate) fn roll<W: Patience>(&mut self, how: &W) -> Result<(), TryError<W::GaveUp>>
         ensures more { KnowsMore self.old self.new }
+        ensures given { self.new.given ≡ self.old.given }
         ensures rolls { IfOk result (λ _. length self.old.rounds.past < length self.new.rounds.past) }
-        ensures refused { IfErr result (IfRefused (λ cause. (cause ≡ LiveError.Closed) ⊎ RefusesRoll self.new cause)) }
+        ensures refused { IfErr result (IfRefused (RefusesRoll self.new)) }
     {
-        match take_round(how, &self.lock, &mut self.pass) {
-            Ok((working, opened)) => {
+        match take_own(how, &self.lock, &mut self.pass) {
+            Ok(working) => {
                 let (working, done) = working.roll(how);
-                let working = Some(working);
-                self.lock
-                    .put::<Lay>(&mut self.pass, Desk { working, opened });
+                lay_on(&self.lock, &mut self.pass, working);
                 done
             }
-            Err(cause) => Err(cause),
+            Err(missed) => Err(TryError::Again(missed)),
         }
     }
 
@@ -294,33 +289,32 @@ impl<A: Monoid, B: Monoid> DeskEnd<A, B> {
         requires handle { end.known.whose ≡ Handle }
         requires some { 0 < end.known.at.era }
         requires number { end.known.number ≡ number }
+        requires lane { lane < length self.old.lanes }
         requires lock { (id : TableId) → get_elem? (ids_of self.old) lane ≡ some id → end.lock ≡ id }
         ensures more { KnowsMore self.old self.new }
+        ensures given { self.new.given ≡ self.old.given }
         ensures learns { IfOk result (λ _. IsPart (chain_of_note note) self.new.rounds) }
         ensures takes { IfOk result (λ _. CameBack end.known.made self.old self.new) }
         ensures same { IfErr result (λ e. e.0 ≡ end) }
+        ensures refused { IfErr result (λ e. IfRefused (RefusesBack lane number self.new) e.1) }
     {
-        match take_round(how, &self.lock, &mut self.pass) {
-            Ok((working, opened)) => {
+        match take_own(how, &self.lock, &mut self.pass) {
+            Ok(working) => {
                 let (working, settled) = working.settle(how);
                 match settled {
                     Ok(()) => {
                         let mut working = working.learn(note);
                         let done = working.back(how, lane, number, end);
-                        let working = Some(working);
-                        self.lock
-                            .put::<Lay>(&mut self.pass, Desk { working, opened });
+                        lay_on(&self.lock, &mut self.pass, working);
                         done
                     }
                     Err(cause) => {
-                        let working = Some(working);
-                        self.lock
-                            .put::<Lay>(&mut self.pass, Desk { working, opened });
+                        lay_on(&self.lock, &mut self.pass, working);
                         Err((end, cause))
                     }
                 }
             }
-            Err(cause) => Err((end, cause)),
+            Err(missed) => Err((end, TryError::Again(missed))),
         }
     }
 
@@ -331,30 +325,28 @@ impl<A: Monoid, B: Monoid> DeskEnd<A, B> {
         lane: usize,
     ) -> Result<(End<A, B>, SharedRound<A, B>, u32, u64), TryError<W::GaveUp>>
         ensures more { KnowsMore self.old self.new }
+        ensures given { IfOk result (λ _. self.new.given ≡ self.old.given + 1) }
+        ensures none_given { IfErr result (λ _. self.new.given ≡ self.old.given) }
         ensures handle { IfOk result (λ h. GivesLane lane self.new h.0 (arc_value h.1) h.2 h.3) }
-        ensures refused { IfErr result (IfRefused (λ cause. (cause ≡ LiveError.Closed) ⊎ (RefusesRoll self.new cause ⊎ RefusesLane lane self.new cause))) }
+        ensures refused { IfErr result (IfRefused (RefusesHandle lane self.new)) }
         ensures past { length self.old.lanes ≤ lane → IsErr result }
     {
-        match take_round(how, &self.lock, &mut self.pass) {
-            Ok((working, opened)) => {
+        match take_own(how, &self.lock, &mut self.pass) {
+            Ok(working) => {
                 let (mut working, settled) = working.settle(how);
                 match settled {
                     Ok(()) => {
                         let renewed = working.renew(how, lane);
-                        let working = Some(working);
-                        self.lock
-                            .put::<Lay>(&mut self.pass, Desk { working, opened });
+                        lay_on(&self.lock, &mut self.pass, working);
                         renewed
                     }
                     Err(cause) => {
-                        let working = Some(working);
-                        self.lock
-                            .put::<Lay>(&mut self.pass, Desk { working, opened });
+                        lay_on(&self.lock, &mut self.pass, working);
                         Err(cause)
                     }
                 }
             }
-            Err(cause) => Err(cause),
+            Err(missed) => Err(TryError::Again(missed)),
         }
     }
 
@@ -362,52 +354,114 @@ impl<A: Monoid, B: Monoid> DeskEnd<A, B> {
     pub(crate) fn stop<W: Patience>(
         self,
         how: &W,
-    ) -> Result<(Members, LiveCounts), (DeskEnd<A, B>, TryError<W::GaveUp>)>
+    ) -> Result<(Members, LiveCounts), (OwnerEnd<A, B>, W::GaveUp)>
         ensures closes { IfOk result (λ t. Closes self t.0 t.1) }
         ensures sizes { IfOk result (λ t. length t.0.pairs + t.1.removals ≡ t.1.opened + t.1.inserts) }
         ensures more { IfErr result (λ e. KnowsMore self e.0) }
-        ensures refused { IfErr result (λ e. IfRefused (λ cause. cause ≡ LiveError.Closed) e.1) }
+        ensures given { IfErr result (λ e. e.0.given ≡ self.given) }
     {
-        let DeskEnd { lock, mut pass } = self;
-        match take_round(how, &lock, &mut pass) {
-            Ok((working, opened)) => match working.stop(how) {
+        let OwnerEnd { lock, mut pass } = self;
+        match take_own(how, &lock, &mut pass) {
+            Ok(working) => match working.stop(how) {
                 Ok(closed) => {
                     let none = Desk {
                         working: None,
-                        opened,
+                        opened: true,
                     };
                     lock.put::<Lay>(&mut pass, none);
                     Ok(closed)
                 }
                 Err((working, missed)) => {
-                    let working = Some(working);
-                    lock.put::<Lay>(&mut pass, Desk { working, opened });
-                    Err((DeskEnd { lock, pass }, TryError::Again(missed)))
+                    lay_on(&lock, &mut pass, working);
+                    Err((OwnerEnd { lock, pass }, missed))
                 }
             },
-            Err(cause) => Err((DeskEnd { lock, pass }, cause)),
+            Err(missed) => Err((OwnerEnd { lock, pass }, missed)),
         }
     }
 }
 
-// Takes the round off the desk. Refused with `Closed`, if there is none.
+impl<A: Monoid, B: Monoid> DeskEnd<A, B> {
+    /// Rolls the round over if that was begun.
+    pub(crate) fn settle<W: Patience>(&mut self, how: &W) -> Result<(), TryError<W::GaveUp>>
+        ensures more { KnowsMore self.old self.new }
+        ensures refused { IfErr result (IfRefused (RefusesRound self.new)) }
+    {
+        match take_round(how, &self.lock, &mut self.pass) {
+            Ok(working) => {
+                let (working, done) = working.settle(how);
+                lay_on(&self.lock, &mut self.pass, working);
+                done
+            }
+            Err(cause) => Err(cause),
+        }
+    }
+
+    /// Sees to it that a lane which was spent in this era has a pass, as `Working::past` does.
+    pub(crate) fn past<W: Patience>(
+        &mut self,
+        how: &W,
+        era: u64,
+        lane: usize,
+    ) -> Result<(), TryError<W::GaveUp>>
+        ensures more { KnowsMore self.old self.new }
+        ensures refused { IfErr result (IfRefused (RefusesRound self.new)) }
+    {
+        match take_round(how, &self.lock, &mut self.pass) {
+            Ok(working) => {
+                let (working, done) = working.past(how, era, lane);
+                lay_on(&self.lock, &mut self.pass, working);
+                done
+            }
+            Err(cause) => Err(cause),
+        }
+    }
+}
+
+// Takes the round off the desk for the trie's owner, whose trie is open.
+fn take_own<W: Patience, A: Monoid, B: Monoid>(
+    how: &W,
+    lock: &DeskLock<A, B>,
+    pass: &mut Pass<Desk<A, B>, DeskView<A, B>>,
+) -> Result<Working<A, B>, W::GaveUp>
+    requires lock { pass.old.table_id ≡ lock.now.table.shared.table_id }
+    requires free { HoldsNothing pass.old }
+    requires owner { IsOwner pass.old.id (client_of pass.old) }
+    ensures same { IsSamePass pass.old pass.new }
+    ensures view { client_of pass.new ≡ client_of pass.old }
+    ensures holds { IfOk result (λ t. Holds (record { working = Some t; opened = true }) None pass.new) }
+    ensures knows { IfOk result (λ t. KnowsMore (client_of pass.old) t) }
+    ensures given { IfOk result (λ t. t.given ≡ (client_of pass.old).given) }
+    ensures free { IfErr result (λ _. HoldsNothing pass.new) }
+{
+    match lock.take::<ReadOwn, W>(how, pass) {
+        Ok(Desk { working, .. }) => match working {
+            Some(working) => Ok(working),
+            None => unreachable!(),
+        },
+        Err(missed) => Err(missed),
+    }
+}
+
+// Takes the round off the desk for a handle. Refused with `Closed`, if there is none.
 fn take_round<W: Patience, A: Monoid, B: Monoid>(
     how: &W,
     lock: &DeskLock<A, B>,
     pass: &mut Pass<Desk<A, B>, DeskView<A, B>>,
-) -> Result<(Working<A, B>, bool), TryError<W::GaveUp>>
+) -> Result<Working<A, B>, TryError<W::GaveUp>>
     requires lock { pass.old.table_id ≡ lock.now.table.shared.table_id }
     requires free { HoldsNothing pass.old }
     ensures same { IsSamePass pass.old pass.new }
-    ensures view { client_of pass.new ≡ client_of pass.old }
-    ensures holds { IfOk result (λ t. Holds (record { working = Some t.0; opened = t.1 }) None pass.new) }
-    ensures knows { IfOk result (λ t. KnowsMore (client_of pass.old) t.0) }
+    ensures view { IfOk result (λ _. client_of pass.new ≡ client_of pass.old) }
+    ensures more { KnowsMore (client_of pass.old) (client_of pass.new) }
+    ensures holds { IfOk result (λ t. Holds (record { working = Some t; opened = true }) None pass.new) }
+    ensures knows { IfOk result (λ t. KnowsMore (client_of pass.old) t) }
     ensures free { IfErr result (λ _. HoldsNothing pass.new) }
-    ensures refused { IfErr result (IfRefused (λ cause. cause ≡ LiveError.Closed)) }
+    ensures refused { IfErr result (IfRefused (λ cause. (cause ≡ LiveError.Closed) × ((client_of pass.new).closed ≡ true))) }
 {
     match lock.take::<Read, W>(how, pass) {
         Ok(Desk { working, opened }) => match working {
-            Some(working) => Ok((working, opened)),
+            Some(working) => Ok(working),
             None => {
                 let none = Desk {
                     working: None,
@@ -419,4 +473,26 @@ fn take_round<W: Patience, A: Monoid, B: Monoid>(
         },
         Err(missed) => Err(TryError::Again(missed)),
     }
+}
+
+// Lays the round there again, or the next one. Only the owner may have made a handle meanwhile.
+fn lay_on<A: Monoid, B: Monoid>(
+    lock: &DeskLock<A, B>,
+    pass: &mut Pass<Desk<A, B>, DeskView<A, B>>,
+    working: Working<A, B>,
+)
+    requires lock { pass.old.table_id ≡ lock.now.table.shared.table_id }
+    requires goes_on { GoesOnFrom pass.old working }
+    ensures same { IsSamePass pass.old pass.new }
+    ensures free { HoldsNothing pass.new }
+    ensures view { client_of pass.new ≡ working }
+    ensures owner { IsOwner pass.old.id (client_of pass.old) → IsOwner pass.new.id (client_of pass.new) }
+    ensures more { KnowsMore (client_of pass.old) (client_of pass.new) }
+{
+    let _bits = working.bits;
+    let desk = Desk {
+        working: Some(working),
+        opened: true,
+    };
+    lock.put::<Lay>(pass, desk);
 }

@@ -1,14 +1,14 @@
 //! The ends of a lane: a pass of its lock each.
-ghost use Rattle.std.specs.Prelude.{◌≡◌, [], true, false, ◌<◌, IfOk, IfErr};
+ghost use Rattle.std.specs.Prelude.{◌≡◌, ◌≢◌, [], true, false, ◌<◌, IfOk, IfErr};
 ghost use Rattle.std.specs.Arc.{arc_value};
 ghost use Rattle.aug_trie.specs.Round.{table_of};
 ghost use Rattle.aug_live.specs.LiveHandles.{Follows};
-ghost use Rattle.aug_live.specs.inside.LaneKnowledge.{IsWhole, Learnt, Rolls, Worked, dealt, given_out, handed, knows_nothing, left, made_at, renumbered, rolls, settled, taken_in, worked};
+ghost use Rattle.aug_live.specs.inside.LaneKnowledge.{IsWhole, Learnt, Rolls, Seen, Stays, Worked, dealt, given_out, handed, knows_nothing, left, made_at, passed_by, renumbered, rolls, settled, taken_in, worked};
 ghost use Rattle.aug_live.specs.declared.known.Whose.TheVariants.{Alone, Free, Roller, Handle};
 
 use crate::known::Known;
 use crate::lane::{Lane, Obstacle};
-use crate::tie::{Deal, Keep, Learn, Leave, Meet, Parts, Renumber, Settle, Tie, Work};
+use crate::tie::{Deal, Keep, Learn, Leave, Meet, Parts, PassBy, Renumber, Settle, Tie, Work};
 use aug_monoid::Monoid;
 use ruled_lock::{Pass, Patience, RuledLock, Tries};
 use std::alloc::{AllocError, Global};
@@ -130,7 +130,7 @@ impl<A: Monoid, B: Monoid> End<A, B> {
         self.take(how)
     }
 
-    /// Takes it for the handle with this number. If the lane has a newer handle, it stays there, and the end comes back.
+    /// Takes it for the handle with this number. If the lane has a newer handle, it stays there, and the end comes back, which has seen that.
     #[inline(always)]
     pub(crate) fn take_to_work(
         self,
@@ -145,14 +145,15 @@ impl<A: Monoid, B: Monoid> End<A, B> {
         ensures number { IfOk result (λ t. t.1.number ≡ self.known.number) }
         ensures follows { IfOk result (λ t. Follows self.known.at t.1.at) }
         ensures together { IfOk result (λ t. table_of t.1.at.half.round ≡ table_of self.known.at.half.round) }
-        ensures same { IfErr result (λ e. e.0 ≡ self) }
+        ensures stays { IfErr result (λ e. Stays self e.0) }
+        ensures seen { IfErr result (λ e. Seen e.1 e.0.known.replaced) }
     {
         match self.take(&Tries) {
             Ok((out, lane)) => {
                 if lane.parts.number == number {
                     Ok((out, lane))
                 } else {
-                    Err((out.keep(lane), Obstacle::Replaced))
+                    Err((out.pass_by(lane), Obstacle::Replaced))
                 }
             }
             Err((end, shown)) => Err((end, Obstacle::Held(shown))),
@@ -220,6 +221,18 @@ impl<A: Monoid, B: Monoid> Out<A, B> {
         End { lock, pass }
     }
 
+    /// Puts the lane back as it was, which has a newer handle than the one whose end this is.
+    pub(crate) fn pass_by(self, lane: Lane<A, B>) -> End<A, B>
+        requires handle { self.known.whose ≡ Handle }
+        requires other { self.known.number ≢ self.taken.number }
+        requires same { lane ≡ self.taken }
+        ensures { result ≡ record { lock = self.lock; known = passed_by self.known } }
+    {
+        let Out { lock, mut pass } = self;
+        lock.put::<PassBy>(&mut pass, lane);
+        End { lock, pass }
+    }
+
     /// Puts the lane back with the pass that the roller took, or with none.
     pub(crate) fn leave(self, lane: Lane<A, B>) -> End<A, B>
         requires roller { rolls self.known.whose ≡ true }
@@ -264,6 +277,7 @@ impl<A: Monoid, B: Monoid> Out<A, B> {
     pub(crate) fn renumber(self, lane: Lane<A, B>) -> End<A, B>
         requires roller { rolls self.known.whose ≡ true }
         requires newer { self.taken.number < lane.number }
+        requires out { lane.is_out ≡ true }
         requires some { 0 < lane.at.era }
         requires whole { IsWhole self.known lane.at }
         ensures { result ≡ record { lock = self.lock; known = renumbered self.known lane } }

@@ -12,7 +12,8 @@ ghost use Rattle.aug_trie.specs.Pass.{chain_of};
 ghost use Rattle.aug_trie.specs.Pops.{popped, pop_updates, Pops};
 ghost use Rattle.aug_model.specs.Folds.{summary_of};
 ghost use Rattle.aug_monoid.specs.Extent.{extent_parts};
-ghost use Rattle.aug_live.specs.LiveErrors.{IfRefused};
+ghost use Rattle.aug_live.specs.LiveErrors.{IfRefused, RefusesCall};
+ghost use Rattle.aug_live.specs.inside.LaneKnowledge.{Seen};
 ghost use Rattle.aug_live.specs.LiveHandles.{AllOrSpent, Follows, IsSomeOf, Makes, handle_of, note_at};
 
 use crate::desk_end::DeskEnd;
@@ -23,7 +24,7 @@ use crate::look::Look;
 use crate::work::SharedRound;
 use aug_monoid::{Extent, Monoid};
 use aug_trie::{Note, Outcome, Pop, Request, Side};
-use ruled_lock::{Patience, Tries, Waits, WasOut};
+use ruled_lock::{Patience, Tries, Waits};
 use std::marker::Model;
 use std::sync::Wait;
 
@@ -54,7 +55,7 @@ impl<A: Monoid, B: Monoid> Model for Handle<A, B> {
 
     ghost Value = { HandleFacts };
 
-    ghost view = { λ h. handle_by (ids_of h.desk) h.end };
+    ghost view = { λ h. handle_by h.desk h.lane h.end };
 
     ghost invariant = { λ h. HoldsHandle h.end (arc_value h.round) h.bits h.lane h.number (ids_of h.desk) };
 }
@@ -67,7 +68,7 @@ impl<A: Monoid, B: Monoid> Handle<A, B> {
         requires key { k < 2 ^ self.old.half.round.bits }
         ensures made { IfOk result (λ done. Makes 1 (λ a b. OnTrue done (AcceptedUpdate insertion k k a.knows b.knows) × OnFalse done (RefusedUpdate insertion k a.knows b.knows)) self.old self.new) }
         ensures not_made { IfErr result (λ _. Follows self.old self.new) }
-        ensures refused { IfErr result (λ cause. cause ≢ LiveError.NoLane) }
+        ensures refused { IfErr result (RefusesCall self.new) }
     {
         match self.update(rt, k, Request::Insert)? {
             Outcome::Accepted => Ok(true),
@@ -81,7 +82,7 @@ impl<A: Monoid, B: Monoid> Handle<A, B> {
         requires key { k < 2 ^ self.old.half.round.bits }
         ensures made { IfOk result (λ done. Makes 1 (λ a b. OnTrue done (AcceptedUpdate removal k 0 a.knows b.knows) × OnFalse done (RefusedUpdate removal k a.knows b.knows)) self.old self.new) }
         ensures not_made { IfErr result (λ _. Follows self.old self.new) }
-        ensures refused { IfErr result (λ cause. cause ≢ LiveError.NoLane) }
+        ensures refused { IfErr result (RefusesCall self.new) }
     {
         match self.update(rt, k, Request::Remove)? {
             Outcome::Accepted => Ok(true),
@@ -95,7 +96,7 @@ impl<A: Monoid, B: Monoid> Handle<A, B> {
         requires key { k < 2 ^ self.old.half.round.bits }
         ensures made { IfOk result (λ done. Makes 1 (λ a b. ComesTo (asked.Put weight) k done a.knows b.knows) self.old self.new) }
         ensures not_made { IfErr result (λ _. Follows self.old self.new) }
-        ensures refused { IfErr result (λ cause. cause ≢ LiveError.NoLane) }
+        ensures refused { IfErr result (RefusesCall self.new) }
     {
         self.update(rt, k, Request::Put(weight))
     }
@@ -107,7 +108,7 @@ impl<A: Monoid, B: Monoid> Handle<A, B> {
         ensures made { IfOk result (λ done. Makes 1 (λ a b. ComesTo (asked.Add amount) k done a.knows b.knows) self.old self.new) }
         ensures made_at_last { IfOk result (λ done. done ≢ Outcome.Refused) }
         ensures not_made { IfErr result (λ _. Follows self.old self.new) }
-        ensures refused { IfErr result (λ cause. cause ≢ LiveError.NoLane) }
+        ensures refused { IfErr result (RefusesCall self.new) }
     {
         self.until_made(rt, k, Request::Add(amount))
     }
@@ -118,7 +119,7 @@ impl<A: Monoid, B: Monoid> Handle<A, B> {
         ensures made { IfOk result (λ done. Makes 1 (λ a b. ComesTo (asked.Sub amount) k done a.knows b.knows) self.old self.new) }
         ensures made_at_last { IfOk result (λ done. done ≢ Outcome.Refused) }
         ensures not_made { IfErr result (λ _. Follows self.old self.new) }
-        ensures refused { IfErr result (λ cause. cause ≢ LiveError.NoLane) }
+        ensures refused { IfErr result (RefusesCall self.new) }
     {
         self.until_made(rt, k, Request::Sub(amount))
     }
@@ -134,7 +135,7 @@ impl<A: Monoid, B: Monoid> Handle<A, B> {
         ensures made { IfOk result (λ done. Makes 1 (λ a b. ComesTo request k done a.knows b.knows) self.old self.new) }
         ensures made_at_last { IfOk result (λ done. done ≢ Outcome.Refused) }
         ensures not_made { IfErr result (λ _. Follows self.old self.new) }
-        ensures refused { IfErr result (λ cause. cause ≢ LiveError.NoLane) }
+        ensures refused { IfErr result (RefusesCall self.new) }
     {
         for _ in rt.forever() {
             let done = self.update(rt, k, request)?;
@@ -157,17 +158,15 @@ impl<A: Monoid, B: Monoid> Handle<A, B> {
         requires key { k < 2 ^ self.old.half.round.bits }
         ensures made { IfOk result (λ done. Makes 1 (λ a b. ComesTo request k done a.knows b.knows) self.old self.new) }
         ensures not_made { IfErr result (λ _. Follows self.old self.new) }
-        ensures refused { IfErr result (λ cause. cause ≢ LiveError.NoLane) }
+        ensures refused { IfErr result (RefusesCall self.new) }
     {
         for _ in rt.forever() {
             let obstacle = match self.attempt(k, request) {
                 Ok(done) => return Ok(done),
                 Err(obstacle) => obstacle,
             };
-            match self.past(&Waits(rt), obstacle) {
-                Ok(()) => {}
-                Err(TryError::Refused(cause)) => return Err(cause),
-                Err(TryError::Again(never)) => match never {},
+            if let Err(cause) = self.wait_past(rt, obstacle) {
+                return Err(cause);
             }
         }
         unreachable!()
@@ -180,33 +179,34 @@ impl<A: Monoid, B: Monoid> Handle<A, B> {
         requires key { k < 2 ^ self.old.half.round.bits }
         ensures made { IfOk result (λ done. Makes 1 (λ a b. ComesTo request k done a.knows b.knows) self.old self.new) }
         ensures not_made { IfErr result (λ _. Follows self.old self.new) }
-        ensures refused { IfErr result (IfRefused (λ cause. cause ≢ LiveError.NoLane)) }
+        ensures refused { IfErr result (IfRefused (RefusesCall self.new)) }
     {
         match self.attempt(k, request) {
             Ok(done) => Ok(done),
-            Err(obstacle) => self.try_past(k, request, obstacle),
+            Err(obstacle) => self.try_again(k, request, obstacle),
         }
     }
 
     // Sees to it that the lane can go on, and makes the update then, unless it would have to wait. That is seldom, so it stands out of line.
     #[inline(never)]
-    fn try_past(
+    fn try_again(
         &mut self,
         k: u32,
         request: Request,
         obstacle: Obstacle,
     ) -> Result<Outcome, TryError<Busy>>
         requires key { k < 2 ^ self.old.half.round.bits }
+        requires seen { Seen obstacle self.old.who.replaced }
         ensures made { IfOk result (λ done. Makes 1 (λ a b. ComesTo request k done a.knows b.knows) self.old self.new) }
         ensures not_made { IfErr result (λ _. Follows self.old self.new) }
-        ensures refused { IfErr result (IfRefused (λ cause. cause ≢ LiveError.NoLane)) }
+        ensures refused { IfErr result (IfRefused (RefusesCall self.new)) }
     {
-        if let Err(cause) = self.past(&Tries, obstacle) {
-            return Err(busy(cause));
+        if let Err(cause) = self.try_past(obstacle) {
+            return Err(cause);
         }
         match self.attempt(k, request) {
             Ok(done) => Ok(done),
-            Err(obstacle) => Err(still_in_the_way(obstacle)),
+            Err(obstacle) => Err(self.still(obstacle)),
         }
     }
 
@@ -227,17 +227,15 @@ impl<A: Monoid, B: Monoid> Handle<A, B> {
         ensures some { IfOk result (λ count. IsSomeOf (length keys.now) count) }
         ensures all { IfOk result (λ count. AllOrSpent (length keys.now) count self.new.half) }
         ensures not_made { IfErr result (λ _. Follows self.old self.new) }
-        ensures refused { IfErr result (λ cause. cause ≢ LiveError.NoLane) }
+        ensures refused { IfErr result (RefusesCall self.new) }
     {
         for _ in rt.forever() {
             let obstacle = match self.attempt_all(keys, requests, outcomes) {
                 Ok(count) => return Ok(count),
                 Err(obstacle) => obstacle,
             };
-            match self.past(&Waits(rt), obstacle) {
-                Ok(()) => {}
-                Err(TryError::Refused(cause)) => return Err(cause),
-                Err(TryError::Again(never)) => match never {},
+            if let Err(cause) = self.wait_past(rt, obstacle) {
+                return Err(cause);
             }
         }
         unreachable!()
@@ -257,18 +255,18 @@ impl<A: Monoid, B: Monoid> Handle<A, B> {
         ensures some { IfOk result (λ count. IsSomeOf (length keys.now) count) }
         ensures all { IfOk result (λ count. AllOrSpent (length keys.now) count self.new.half) }
         ensures not_made { IfErr result (λ _. Follows self.old self.new) }
-        ensures refused { IfErr result (IfRefused (λ cause. cause ≢ LiveError.NoLane)) }
+        ensures refused { IfErr result (IfRefused (RefusesCall self.new)) }
     {
         let obstacle = match self.attempt_all(keys, requests, outcomes) {
             Ok(count) => return Ok(count),
             Err(obstacle) => obstacle,
         };
-        if let Err(cause) = self.past(&Tries, obstacle) {
-            return Err(busy(cause));
+        if let Err(cause) = self.try_past(obstacle) {
+            return Err(cause);
         }
         match self.attempt_all(keys, requests, outcomes) {
             Ok(count) => Ok(count),
-            Err(obstacle) => Err(still_in_the_way(obstacle)),
+            Err(obstacle) => Err(self.still(obstacle)),
         }
     }
 
@@ -277,7 +275,7 @@ impl<A: Monoid, B: Monoid> Handle<A, B> {
     pub fn look<R: Wait>(self, rt: &R) -> Result<Look<A, B>, (Handle<A, B>, LiveError)>
         ensures looks { IfOk result (λ look. Makes 0 (λ a b. TakesSnapshot a.knows b.knows (snapshot_cut b look.snapshot.number)) self (handle_of look)) }
         ensures not_made { IfErr result (λ e. Follows self e.0) }
-        ensures refused { IfErr result (λ e. e.1 ≢ LiveError.NoLane) }
+        ensures refused { IfErr result (λ e. RefusesCall e.0 e.1) }
     {
         let mut handle = self;
         for _ in rt.forever() {
@@ -288,10 +286,8 @@ impl<A: Monoid, B: Monoid> Handle<A, B> {
                     obstacle
                 }
             };
-            match handle.past(&Waits(rt), obstacle) {
-                Ok(()) => {}
-                Err(TryError::Refused(cause)) => return Err((handle, cause)),
-                Err(TryError::Again(never)) => match never {},
+            if let Err(cause) = handle.wait_past(rt, obstacle) {
+                return Err((handle, cause));
             }
         }
         unreachable!()
@@ -302,18 +298,21 @@ impl<A: Monoid, B: Monoid> Handle<A, B> {
     pub fn try_look(self) -> Result<Look<A, B>, (Handle<A, B>, TryError<Busy>)>
         ensures looks { IfOk result (λ look. Makes 0 (λ a b. TakesSnapshot a.knows b.knows (snapshot_cut b look.snapshot.number)) self (handle_of look)) }
         ensures not_made { IfErr result (λ e. Follows self e.0) }
-        ensures refused { IfErr result (λ e. IfRefused (λ cause. cause ≢ LiveError.NoLane) e.1) }
+        ensures refused { IfErr result (λ e. IfRefused (RefusesCall e.0) e.1) }
     {
         let (mut handle, obstacle) = match self.attempt_look() {
             Ok(look) => return Ok(look),
             Err(obstacle) => obstacle,
         };
-        if let Err(cause) = handle.past(&Tries, obstacle) {
-            return Err((handle, busy(cause)));
+        if let Err(cause) = handle.try_past(obstacle) {
+            return Err((handle, cause));
         }
         match handle.attempt_look() {
             Ok(look) => Ok(look),
-            Err((handle, obstacle)) => Err((handle, still_in_the_way(obstacle))),
+            Err((handle, obstacle)) => {
+                let cause = handle.still(obstacle);
+                Err((handle, cause))
+            }
         }
     }
 
@@ -322,17 +321,15 @@ impl<A: Monoid, B: Monoid> Handle<A, B> {
     pub fn note<R: Wait>(&mut self, rt: &R) -> Result<Note<A, B>, LiveError>
         ensures note { IfOk result (λ note. note ≡ note_at self.new.half) }
         ensures follows { Follows self.old self.new }
-        ensures refused { IfErr result (λ cause. cause ≢ LiveError.NoLane) }
+        ensures refused { IfErr result (RefusesCall self.new) }
     {
         for _ in rt.forever() {
             let obstacle = match self.attempt_note() {
                 Ok(note) => return Ok(note),
                 Err(obstacle) => obstacle,
             };
-            match self.past(&Waits(rt), obstacle) {
-                Ok(()) => {}
-                Err(TryError::Refused(cause)) => return Err(cause),
-                Err(TryError::Again(never)) => match never {},
+            if let Err(cause) = self.wait_past(rt, obstacle) {
+                return Err(cause);
             }
         }
         unreachable!()
@@ -349,7 +346,7 @@ impl<A: Monoid, B: Monoid> Handle<A, B> {
         ensures learns { IfOk result (λ _. IsPart (chain_of_note note) (chain_of self.new.half)) }
         ensures follows { Follows self.old self.new }
         ensures kept { IfErr result (λ e. e.0 ≡ note) }
-        ensures refused { IfErr result (λ e. e.1 ≢ LiveError.NoLane) }
+        ensures refused { IfErr result (λ e. RefusesCall self.new e.1) }
     {
         let mut note = note;
         for _ in rt.forever() {
@@ -360,10 +357,8 @@ impl<A: Monoid, B: Monoid> Handle<A, B> {
                     obstacle
                 }
             };
-            match self.past(&Waits(rt), obstacle) {
-                Ok(()) => {}
-                Err(TryError::Refused(cause)) => return Err((note, cause)),
-                Err(TryError::Again(never)) => match never {},
+            if let Err(cause) = self.wait_past(rt, obstacle) {
+                return Err((note, cause));
             }
         }
         unreachable!()
@@ -383,6 +378,7 @@ impl<A: Monoid, B: Monoid> Handle<A, B> {
         requires key { k < 2 ^ self.old.half.round.bits }
         ensures made { IfOk result (λ done. Makes 1 (λ a b. ComesTo request k done a.knows b.knows) self.old self.new) }
         ensures not_made { IfErr result (λ _. Follows self.old self.new) }
+        ensures seen { IfErr result (λ obstacle. Seen obstacle self.new.who.replaced) }
     {
         let Some(end) = self.end.take() else {
             unreachable!()
@@ -413,6 +409,7 @@ impl<A: Monoid, B: Monoid> Handle<A, B> {
         ensures some { IfOk result (λ count. IsSomeOf (length keys.now) count) }
         ensures all { IfOk result (λ count. AllOrSpent (length keys.now) count self.new.half) }
         ensures not_made { IfErr result (λ _. Follows self.old self.new) }
+        ensures seen { IfErr result (λ obstacle. Seen obstacle self.new.who.replaced) }
     {
         let Some(end) = self.end.take() else {
             unreachable!()
@@ -434,6 +431,7 @@ impl<A: Monoid, B: Monoid> Handle<A, B> {
     fn attempt_look(self) -> Result<Look<A, B>, (Handle<A, B>, Obstacle)>
         ensures looks { IfOk result (λ look. Makes 0 (λ a b. TakesSnapshot a.knows b.knows (snapshot_cut b look.snapshot.number)) self (handle_of look)) }
         ensures at_rest { IfErr result (λ e. Follows self e.0) }
+        ensures seen { IfErr result (λ e. Seen e.1 e.0.who.replaced) }
     {
         let mut handle = self;
         let Some(end) = handle.end.take() else {
@@ -475,6 +473,7 @@ impl<A: Monoid, B: Monoid> Handle<A, B> {
     fn attempt_note(&mut self) -> Result<Note<A, B>, Obstacle>
         ensures note { IfOk result (λ note. note ≡ note_at self.new.half) }
         ensures follows { Follows self.old self.new }
+        ensures seen { IfErr result (λ obstacle. Seen obstacle self.new.who.replaced) }
     {
         let Some(end) = self.end.take() else {
             unreachable!()
@@ -497,6 +496,7 @@ impl<A: Monoid, B: Monoid> Handle<A, B> {
         ensures learns { IfOk result (λ _. IsPart (chain_of_note note) (chain_of self.new.half)) }
         ensures follows { Follows self.old self.new }
         ensures kept { IfErr result (λ e. e.0 ≡ note) }
+        ensures seen { IfErr result (λ e. Seen e.1 self.new.who.replaced) }
     {
         let Some(end) = self.end.take() else {
             unreachable!()
@@ -515,13 +515,52 @@ impl<A: Monoid, B: Monoid> Handle<A, B> {
 
     // Goes past what is in the way: to the next round, or to a spare lane of this one.
     fn past<W: Patience>(&mut self, how: &W, obstacle: Obstacle) -> Result<(), TryError<W::GaveUp>>
-        ensures same { self.new ≡ self.old }
-        ensures refused { IfErr result (IfRefused (λ cause. cause ≢ LiveError.NoLane)) }
+        requires seen { Seen obstacle self.old.who.replaced }
+        ensures follows { Follows self.old self.new }
+        ensures refused { IfErr result (IfRefused (RefusesCall self.new)) }
     {
         match obstacle {
             Obstacle::Held(_) => self.desk.settle(how),
             Obstacle::Round(era) => self.desk.past(how, era, self.lane),
             Obstacle::Replaced => Err(TryError::Refused(LiveError::Replaced)),
+        }
+    }
+
+    // The same, and waits for whoever has what it takes.
+    fn wait_past<R: Wait>(&mut self, rt: &R, obstacle: Obstacle) -> Result<(), LiveError>
+        requires seen { Seen obstacle self.old.who.replaced }
+        ensures follows { Follows self.old self.new }
+        ensures refused { IfErr result (RefusesCall self.new) }
+    {
+        match self.past(&Waits(rt), obstacle) {
+            Ok(()) => Ok(()),
+            Err(TryError::Refused(cause)) => Err(cause),
+            Err(TryError::Again(never)) => match never {},
+        }
+    }
+
+    // The same, and waits for nobody.
+    fn try_past(&mut self, obstacle: Obstacle) -> Result<(), TryError<Busy>>
+        requires seen { Seen obstacle self.old.who.replaced }
+        ensures follows { Follows self.old self.new }
+        ensures refused { IfErr result (IfRefused (RefusesCall self.new)) }
+    {
+        match self.past(&Tries, obstacle) {
+            Ok(()) => Ok(()),
+            Err(TryError::Refused(cause)) => Err(TryError::Refused(cause)),
+            Err(TryError::Again(lock)) => Err(TryError::Again(Busy::Lock(lock))),
+        }
+    }
+
+    // What a call that waits for nobody answers, if something is in its way again.
+    fn still(&self, obstacle: Obstacle) -> TryError<Busy>
+        requires seen { Seen obstacle self.now.who.replaced }
+        ensures { IfRefused (RefusesCall self.now) result }
+    {
+        match obstacle {
+            Obstacle::Held(lock) => TryError::Again(Busy::Lock(lock)),
+            Obstacle::Round(_) => TryError::Again(Busy::Round),
+            Obstacle::Replaced => TryError::Refused(LiveError::Replaced),
         }
     }
 }
@@ -533,7 +572,7 @@ impl<A: Monoid> Handle<A, Extent> {
     pub fn pop_first<R: Wait>(&mut self, rt: &R) -> Result<Option<(u32, u32)>, LiveError>
         ensures popped { IfOk result (λ taken. Makes (pop_updates (popped taken)) (Pops (summary_of A.parts extent_parts) Side.First (popped taken)) self.old self.new) }
         ensures not_made { IfErr result (λ _. Follows self.old self.new) }
-        ensures refused { IfErr result (λ cause. cause ≢ LiveError.NoLane) }
+        ensures refused { IfErr result (RefusesCall self.new) }
     {
         self.pop(rt, Side::First)
     }
@@ -542,7 +581,7 @@ impl<A: Monoid> Handle<A, Extent> {
     pub fn pop_last<R: Wait>(&mut self, rt: &R) -> Result<Option<(u32, u32)>, LiveError>
         ensures popped { IfOk result (λ taken. Makes (pop_updates (popped taken)) (Pops (summary_of A.parts extent_parts) Side.Last (popped taken)) self.old self.new) }
         ensures not_made { IfErr result (λ _. Follows self.old self.new) }
-        ensures refused { IfErr result (λ cause. cause ≢ LiveError.NoLane) }
+        ensures refused { IfErr result (RefusesCall self.new) }
     {
         self.pop(rt, Side::Last)
     }
@@ -551,7 +590,7 @@ impl<A: Monoid> Handle<A, Extent> {
     pub fn try_pop_first(&mut self) -> Result<Pop, TryError<Busy>>
         ensures popped { IfOk result (λ done. Makes (pop_updates done) (Pops (summary_of A.parts extent_parts) Side.First done) self.old self.new) }
         ensures not_made { IfErr result (λ _. Follows self.old self.new) }
-        ensures refused { IfErr result (IfRefused (λ cause. cause ≢ LiveError.NoLane)) }
+        ensures refused { IfErr result (IfRefused (RefusesCall self.new)) }
     {
         self.try_pop(Side::First)
     }
@@ -560,7 +599,7 @@ impl<A: Monoid> Handle<A, Extent> {
     pub fn try_pop_last(&mut self) -> Result<Pop, TryError<Busy>>
         ensures popped { IfOk result (λ done. Makes (pop_updates done) (Pops (summary_of A.parts extent_parts) Side.Last done) self.old self.new) }
         ensures not_made { IfErr result (λ _. Follows self.old self.new) }
-        ensures refused { IfErr result (IfRefused (λ cause. cause ≢ LiveError.NoLane)) }
+        ensures refused { IfErr result (IfRefused (RefusesCall self.new)) }
     {
         self.try_pop(Side::Last)
     }
@@ -569,7 +608,7 @@ impl<A: Monoid> Handle<A, Extent> {
     fn pop<R: Wait>(&mut self, rt: &R, side: Side) -> Result<Option<(u32, u32)>, LiveError>
         ensures popped { IfOk result (λ taken. Makes (pop_updates (popped taken)) (Pops (summary_of A.parts extent_parts) side (popped taken)) self.old self.new) }
         ensures not_made { IfErr result (λ _. Follows self.old self.new) }
-        ensures refused { IfErr result (λ cause. cause ≢ LiveError.NoLane) }
+        ensures refused { IfErr result (RefusesCall self.new) }
     {
         for _ in rt.forever() {
             let done = self.pop_once(rt, side)?;
@@ -586,17 +625,15 @@ impl<A: Monoid> Handle<A, Extent> {
     fn pop_once<R: Wait>(&mut self, rt: &R, side: Side) -> Result<Pop, LiveError>
         ensures popped { IfOk result (λ done. Makes (pop_updates done) (Pops (summary_of A.parts extent_parts) side done) self.old self.new) }
         ensures not_made { IfErr result (λ _. Follows self.old self.new) }
-        ensures refused { IfErr result (λ cause. cause ≢ LiveError.NoLane) }
+        ensures refused { IfErr result (RefusesCall self.new) }
     {
         for _ in rt.forever() {
             let obstacle = match self.attempt_pop(side) {
                 Ok(done) => return Ok(done),
                 Err(obstacle) => obstacle,
             };
-            match self.past(&Waits(rt), obstacle) {
-                Ok(()) => {}
-                Err(TryError::Refused(cause)) => return Err(cause),
-                Err(TryError::Again(never)) => match never {},
+            if let Err(cause) = self.wait_past(rt, obstacle) {
+                return Err(cause);
             }
         }
         unreachable!()
@@ -606,18 +643,18 @@ impl<A: Monoid> Handle<A, Extent> {
     fn try_pop(&mut self, side: Side) -> Result<Pop, TryError<Busy>>
         ensures popped { IfOk result (λ done. Makes (pop_updates done) (Pops (summary_of A.parts extent_parts) side done) self.old self.new) }
         ensures not_made { IfErr result (λ _. Follows self.old self.new) }
-        ensures refused { IfErr result (IfRefused (λ cause. cause ≢ LiveError.NoLane)) }
+        ensures refused { IfErr result (IfRefused (RefusesCall self.new)) }
     {
         let obstacle = match self.attempt_pop(side) {
             Ok(done) => return Ok(done),
             Err(obstacle) => obstacle,
         };
-        if let Err(cause) = self.past(&Tries, obstacle) {
-            return Err(busy(cause));
+        if let Err(cause) = self.try_past(obstacle) {
+            return Err(cause);
         }
         match self.attempt_pop(side) {
             Ok(done) => Ok(done),
-            Err(obstacle) => Err(still_in_the_way(obstacle)),
+            Err(obstacle) => Err(self.still(obstacle)),
         }
     }
 
@@ -625,6 +662,7 @@ impl<A: Monoid> Handle<A, Extent> {
     fn attempt_pop(&mut self, side: Side) -> Result<Pop, Obstacle>
         ensures popped { IfOk result (λ done. Makes (pop_updates done) (Pops (summary_of A.parts extent_parts) side done) self.old self.new) }
         ensures not_made { IfErr result (λ _. Follows self.old self.new) }
+        ensures seen { IfErr result (λ obstacle. Seen obstacle self.new.who.replaced) }
     {
         let Some(end) = self.end.take() else {
             unreachable!()
@@ -639,27 +677,5 @@ impl<A: Monoid> Handle<A, Extent> {
         let (lane, done) = lane.pop(&self.round, side);
         self.end = Some(out.put(lane));
         done
-    }
-}
-
-// What a call that waits for nobody answers, if it cannot go past what is in its way.
-fn busy(cause: TryError<WasOut>) -> TryError<Busy>
-    requires { IfRefused (λ cause. cause ≢ LiveError.NoLane) cause }
-    ensures { IfRefused (λ cause. cause ≢ LiveError.NoLane) result }
-{
-    match cause {
-        TryError::Again(lock) => TryError::Again(Busy::Lock(lock)),
-        TryError::Refused(cause) => TryError::Refused(cause),
-    }
-}
-
-// And if something was in its way again.
-fn still_in_the_way(obstacle: Obstacle) -> TryError<Busy>
-    ensures { IfRefused (λ cause. cause ≢ LiveError.NoLane) result }
-{
-    match obstacle {
-        Obstacle::Held(lock) => TryError::Again(Busy::Lock(lock)),
-        Obstacle::Round(_) => TryError::Again(Busy::Round),
-        Obstacle::Replaced => TryError::Refused(LiveError::Replaced),
     }
 }

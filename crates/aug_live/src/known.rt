@@ -21,11 +21,13 @@ pub(crate) enum Whose {
     Gone,
 }
 
-/// What a pass of a lane's lock knows: whose it is, the number of the lane's handle, how the lane was when it put it back, the handles of the lane that are done
-/// with what was made through each, what was made with the passes that are back, and what was made through its own handle. No value of it is made.
+/// What a pass of a lane's lock knows: whose it is, the number of the lane's handle, whether it saw a newer one there, how the lane was when it put it back,
+/// the handles of the lane that are done with what was made through each, what was made with the passes that are back, and what was made through its own
+/// handle. No value of it is made.
 pub(crate) struct Known<A: Monoid, B: Monoid> {
     pub(crate) whose: Whose,
     pub(crate) number: u64,
+    pub(crate) replaced: bool,
     pub(crate) works: bool,
     pub(crate) era: u64,
     pub(crate) half: PassHalf<A, B>,
@@ -40,5 +42,5 @@ impl<A: Monoid, B: Monoid> Model for Known<A, B> {
 
     ghost Value = { KnownFacts };
 
-    ghost view = { λ k. record { whose = k.whose; number = k.number; works = k.works; at = stands k.era k.half; done = map (λ d. (d.0, d.1.items)) k.done.items; before = k.before.items; made = k.made.items } };
+    ghost view = { λ k. record { whose = k.whose; number = k.number; replaced = k.replaced; works = k.works; at = stands k.era k.half; done = map (λ d. (d.0, d.1.items)) k.done.items; before = k.before.items; made = k.made.items } };
 }

@@ -11,7 +11,7 @@ ghost use Rattle.aug_trie.specs.Round.{table_of};
 ghost use Rattle.aug_model.specs.Folds.{summary_of};
 ghost use Rattle.aug_monoid.specs.Extent.{extent_parts};
 ghost use Rattle.aug_live.specs.LiveHandles.{AllOrSpent, Follows, IsSomeOf, note_at};
-ghost use Rattle.aug_live.specs.inside.LaneKnowledge.{IsSpent, Worked, WorksHere, half_in, stands};
+ghost use Rattle.aug_live.specs.inside.LaneKnowledge.{IsSpent, Seen, Worked, WorksHere, half_in, stands};
 ghost use Rattle.aug_live.specs.inside.Looks.{LooksIn};
 
 use crate::ghost_value::GhostValue;
@@ -195,6 +195,7 @@ impl<A: Monoid, B: Monoid> Lane<A, B> {
         ensures made { IfOk result.1 (λ done. WorksHere 1 (λ a b. ComesTo request k done a.knows b.knows) self.at result.0.at) }
         ensures same { IfErr result.1 (λ _. result.0.at ≡ self.at) }
         ensures spent { IfErr result.1 (λ _. IsSpent self) }
+        ensures seen { IfErr result.1 (λ obstacle. Seen obstacle false) }
         ensures worked { Worked self result.0 }
     {
         if self.parts.work.is_none() {
@@ -229,6 +230,7 @@ impl<A: Monoid, B: Monoid> Lane<A, B> {
         ensures all { IfOk result.1 (λ count. AllOrSpent (length keys.now) count result.0.at.half) }
         ensures same { IfErr result.1 (λ _. result.0.at ≡ self.at) }
         ensures spent { IfErr result.1 (λ _. IsSpent self) }
+        ensures seen { IfErr result.1 (λ obstacle. Seen obstacle false) }
         ensures worked { Worked self result.0 }
     {
         if self.parts.work.is_none() {
@@ -251,6 +253,7 @@ impl<A: Monoid, B: Monoid> Lane<A, B> {
         requires together { table_of self.at.half.round ≡ round.now }
         ensures note { IfOk result.1 (λ note. note ≡ note_at self.at.half) }
         ensures at_rest { IfErr result.1 (λ _. self.works ≡ false) }
+        ensures seen { IfErr result.1 (λ obstacle. Seen obstacle false) }
         ensures same { result.0 ≡ self }
     {
         if self.parts.work.is_none() {
@@ -276,6 +279,7 @@ impl<A: Monoid, B: Monoid> Lane<A, B> {
         ensures same_changes { result.0.at.half.knows.accepted ≡ self.at.half.knows.accepted }
         ensures kept { IfErr result.1 (λ e. e.0 ≡ note) }
         ensures at_rest { IfErr result.1 (λ _. self.works ≡ false) }
+        ensures seen { IfErr result.1 (λ e. Seen e.1 false) }
         ensures worked { Worked self result.0 }
     {
         if self.parts.work.is_none() {
@@ -301,6 +305,7 @@ impl<A: Monoid> Lane<A, Extent> {
         ensures made { IfOk result.1 (λ done. WorksHere (pop_updates done) (Pops (summary_of A.parts extent_parts) side done) self.at result.0.at) }
         ensures same { IfErr result.1 (λ _. result.0.at ≡ self.at) }
         ensures spent { IfErr result.1 (λ _. IsSpent self) }
+        ensures seen { IfErr result.1 (λ obstacle. Seen obstacle false) }
         ensures worked { Worked self result.0 }
     {
         if self.parts.work.is_none() {

@@ -1,21 +1,22 @@
 //! A shared trie whose rounds roll over.
-ghost use Rattle.std.specs.Prelude.{◌≡◌, ◌≢◌, ◌↔◌, ◌⊎◌, ◌+◌, ◌<◌, ◌≤◌, ◌^◌, [], map, All, IsErr, IsErrOf, IfOk, IfErr, length, vec_len, vec_capacity};
+ghost use Rattle.std.specs.Prelude.{◌≡◌, ◌≢◌, ◌↔◌, ◌⊎◌, ℕ, ◌+◌, ◌<◌, ◌≤◌, ◌^◌, [], map, All, IsErr, IsErrOf, IfOk, IfErr, length, vec_len, vec_capacity};
 ghost use Rattle.std.specs.Arc.{arc_value};
 ghost use Rattle.aug_core.specs.Layout.{IsRefused, IsLayout, IsWithin, IsOutside};
 ghost use Rattle.aug_trie.specs.Chains.{IsPart};
 ghost use Rattle.aug_trie.specs.Pass.{chain_of};
 ghost use Rattle.aug_trie.specs.Round.{table_of};
-ghost use Rattle.aug_live.specs.LiveErrors.{IfRefused, RefusesHandle, RefusesRoll};
-ghost use Rattle.aug_live.specs.LiveHandles.{Follows, IsNew};
-ghost use Rattle.aug_live.specs.LiveTries.{CameBack, Closes, IsHandleOf, IsOpenedTrie, KnowsMore, ids_of};
+ghost use mathlib.Core.Option.{some};
+ghost use lib.ListN.{get_elem?};
+ghost use Rattle.aug_live.specs.LiveErrors.{IfRefused, RefusesBack, RefusesCall, RefusesHandle, RefusesRoll};
+ghost use Rattle.aug_live.specs.LiveHandles.{Follows, HandleFacts, IsHandleOf, IsNew};
+ghost use Rattle.aug_live.specs.LiveTries.{CameBack, Closes, IsOpenedTrie, KnowsMore, ids_of};
 ghost use Rattle.aug_live.specs.Plans.{Fits, IsGreatest, least_plan};
 ghost use Rattle.aug_live.specs.inside.Desks.{IsNewBerth};
-ghost use Rattle.aug_live.specs.inside.LaneKnowledge.{handle_by};
-ghost use Rattle.aug_live.specs.inside.Rolls.{IsHandleEnd, IsOf, IsOpenedLane, Starts, rounds_in};
+ghost use Rattle.aug_live.specs.inside.Rolls.{IsHandleEnd, IsOf, IsOpenedLane, Starts, handles_from, rounds_in};
 
 use crate::counts::LiveCounts;
 use crate::desk::Working;
-use crate::desk_end::{DeskEnd, NewDesk};
+use crate::desk_end::{DeskEnd, NewDesk, OwnerEnd};
 use crate::end::{Berth, End};
 use crate::error::{LiveError, OpenError, TryError};
 use crate::handle::Handle;
@@ -31,13 +32,11 @@ use std::alloc::{AllocError, Global};
 use std::marker::Model;
 use std::snapshot::Snapshot;
 use std::sync::Wait;
-use std::thread::yield_now;
 
 /// A shared trie whose rounds roll over by themselves. Threads work with its handles.
 #[derive(Drop)]
 pub struct Live<A: Monoid, B: Monoid> {
-    desk: DeskEnd<A, B>,
-    ghost opened: { 0 < desk.bits },
+    desk: OwnerEnd<A, B>,
 }
 
 impl<A: Monoid, B: Monoid> Model for Live<A, B> {
@@ -76,7 +75,8 @@ impl<A: Monoid, B: Monoid> Live<A, B> {
         requires lanes { handles ≤ plan.lanes }
         ensures handles { IfOk result (λ t. vec_len t.1 ≡ handles) }
         ensures opened { IfOk result (λ t. IsOpenedTrie set handles t.0) }
-        ensures new { IfOk result (λ t. All (IsNew t.0.table (ids_of t.0) set plan) t.1.items) }
+        ensures new { IfOk result (λ t. All (IsNew t.0 set plan) t.1.items) }
+        ensures lanes { IfOk result (λ t. (lane : ℕ) (h : HandleFacts) → get_elem? t.1.items lane ≡ some h → h.who.lane ≡ lane) }
         ensures same { IfErr result (λ e. e.0 ≡ set) }
         ensures bad_lanes { IsErrOf result (set, OpenError.BadLanes) ↔ IsRefused LayoutError.BadWorkers set.bits plan.lanes plan.updates (2 ^ set.bits) }
         ensures bad_updates { IsErrOf result (set, OpenError.BadUpdates) ↔ IsRefused LayoutError.BadUpdates set.bits plan.lanes plan.updates (2 ^ set.bits) }
@@ -151,7 +151,8 @@ impl<A: Monoid, B: Monoid> Live<A, B> {
     ) -> Result<(Live<A, B>, Vec<Handle<A, B>>), (Members, OpenError)>
         ensures handles { IfOk result (λ t. vec_len t.1 ≡ handles) }
         ensures opened { IfOk result (λ t. IsOpenedTrie set handles t.0) }
-        ensures new { IfOk result (λ t. (plan : Plan) × IsGreatest set.bits handles memory plan × All (IsNew t.0.table (ids_of t.0) set plan) t.1.items) }
+        ensures new { IfOk result (λ t. (plan : Plan) × IsGreatest set.bits handles memory plan × All (IsNew t.0 set plan) t.1.items) }
+        ensures lanes { IfOk result (λ t. (lane : ℕ) (h : HandleFacts) → get_elem? t.1.items lane ≡ some h → h.who.lane ≡ lane) }
         ensures same { IfErr result (λ e. e.0 ≡ set) }
         ensures bad_handles { IsErrOf result (set, OpenError.BadHandles) ↔ IsOutside 1 64 handles }
         ensures too_large { IsErrOf result (set, OpenError.TooLarge) ↔ (IsWithin 1 64 handles × (Fits set.bits memory (least_plan handles) → ⊥)) }
@@ -169,30 +170,24 @@ impl<A: Monoid, B: Monoid> Live<A, B> {
     /// Rolls the round over now, as in a quiet hour. It waits for the update or look that each handle is in. Refused with `Exhausted`.
     pub fn roll<R: Wait>(&mut self, rt: &R) -> Result<(), LiveError>
         ensures more { KnowsMore self.old self.new }
+        ensures given { self.new.given ≡ self.old.given }
         ensures rolls { IfOk result (λ _. length self.old.rounds.past < length self.new.rounds.past) }
         ensures refused { IfErr result (RefusesRoll self.new) }
     {
-        for _ in rt.forever() {
-            match self.desk.roll(&Waits(rt)) {
-                Ok(()) => return Ok(()),
-                Err(TryError::Refused(cause)) => {
-                    if cause != LiveError::Closed {
-                        return Err(cause);
-                    }
-                    yield_now();
-                }
-                Err(TryError::Again(never)) => match never {},
-            }
+        match self.desk.roll(&Waits(rt)) {
+            Ok(()) => Ok(()),
+            Err(TryError::Refused(cause)) => Err(cause),
+            Err(TryError::Again(never)) => match never {},
         }
-        unreachable!()
     }
 
     /// The same, and waits for nobody: `Again` if somebody has the desk, or another handle is in a call or holds a look. The lanes that it took then
     /// stay taken until the round has rolled over, which whoever comes to one of them tries.
     pub fn try_roll(&mut self) -> Result<(), TryError<WasOut>>
         ensures more { KnowsMore self.old self.new }
+        ensures given { self.new.given ≡ self.old.given }
         ensures rolls { IfOk result (λ _. length self.old.rounds.past < length self.new.rounds.past) }
-        ensures refused { IfErr result (IfRefused (λ cause. (cause ≡ LiveError.Closed) ⊎ RefusesRoll self.new cause)) }
+        ensures refused { IfErr result (IfRefused (RefusesRoll self.new)) }
     {
         self.desk.roll(&Tries)
     }
@@ -206,23 +201,17 @@ impl<A: Monoid, B: Monoid> Live<A, B> {
     pub fn handle<R: Wait>(&mut self, rt: &R, lane: u32) -> Result<Handle<A, B>, LiveError>
         ensures more { KnowsMore self.old self.new }
         ensures bits { IfOk result (λ h. h.half.round.bits ≤ 16) }
-        ensures of_trie { IfOk result (IsHandleOf self.new) }
+        ensures given { IfOk result (λ _. self.new.given ≡ self.old.given + 1) }
+        ensures none_given { IfErr result (λ _. self.new.given ≡ self.old.given) }
+        ensures of_trie { IfOk result (IsHandleOf lane self.new) }
         ensures refused { IfErr result (RefusesHandle lane self.new) }
         ensures past { length self.old.lanes ≤ lane → IsErr result }
     {
-        for _ in rt.forever() {
-            match self.give(&Waits(rt), lane) {
-                Ok(handle) => return Ok(handle),
-                Err(TryError::Refused(cause)) => {
-                    if cause != LiveError::Closed {
-                        return Err(cause);
-                    }
-                    yield_now();
-                }
-                Err(TryError::Again(never)) => match never {},
-            }
+        match self.give(&Waits(rt), lane) {
+            Ok(handle) => Ok(handle),
+            Err(TryError::Refused(cause)) => Err(cause),
+            Err(TryError::Again(never)) => match never {},
         }
-        unreachable!()
     }
 
     /// The same, and waits for nobody: `Again` if somebody has the desk, or the lane's old handle is in a call or holds a look,
@@ -230,8 +219,10 @@ impl<A: Monoid, B: Monoid> Live<A, B> {
     pub fn try_handle(&mut self, lane: u32) -> Result<Handle<A, B>, TryError<WasOut>>
         ensures more { KnowsMore self.old self.new }
         ensures bits { IfOk result (λ h. h.half.round.bits ≤ 16) }
-        ensures of_trie { IfOk result (IsHandleOf self.new) }
-        ensures refused { IfErr result (IfRefused (λ cause. (cause ≡ LiveError.Closed) ⊎ RefusesHandle lane self.new cause)) }
+        ensures given { IfOk result (λ _. self.new.given ≡ self.old.given + 1) }
+        ensures none_given { IfErr result (λ _. self.new.given ≡ self.old.given) }
+        ensures of_trie { IfOk result (IsHandleOf lane self.new) }
+        ensures refused { IfErr result (IfRefused (RefusesHandle lane self.new)) }
         ensures past { length self.old.lanes ≤ lane → IsErr result }
     {
         self.give(&Tries, lane)
@@ -241,8 +232,10 @@ impl<A: Monoid, B: Monoid> Live<A, B> {
     fn give<W: Patience>(&mut self, how: &W, lane: u32) -> Result<Handle<A, B>, TryError<W::GaveUp>>
         ensures more { KnowsMore self.old self.new }
         ensures bits { IfOk result (λ h. h.half.round.bits ≤ 16) }
-        ensures of_trie { IfOk result (IsHandleOf self.new) }
-        ensures refused { IfErr result (IfRefused (λ cause. (cause ≡ LiveError.Closed) ⊎ RefusesHandle lane self.new cause)) }
+        ensures given { IfOk result (λ _. self.new.given ≡ self.old.given + 1) }
+        ensures none_given { IfErr result (λ _. self.new.given ≡ self.old.given) }
+        ensures of_trie { IfOk result (IsHandleOf lane self.new) }
+        ensures refused { IfErr result (IfRefused (RefusesHandle lane self.new)) }
         ensures past { length self.old.lanes ≤ lane → IsErr result }
     {
         let lane = lane as usize;
@@ -267,17 +260,19 @@ impl<A: Monoid, B: Monoid> Live<A, B> {
     /// Takes a handle of this trie back. The trie knows then what the handle knew, and what was made through it, and so does each handle that is made after
     /// that. The lane is free for `Live::handle`.
     ///
-    /// Refused with `Replaced`, if a newer handle has the lane. Then the same handle comes back.
+    /// Refused with `Replaced` if a newer handle has the lane, and with `Exhausted`. Then the same handle comes back.
     pub fn back<R: Wait>(
         &mut self,
         rt: &R,
         handle: Handle<A, B>,
     ) -> Result<(), (Handle<A, B>, LiveError)>
-        requires trie { (handle.half.round.table ≡ self.old.table) × (handle.lanes ≡ ids_of self.old) }
+        requires trie { (handle.half.round.table ≡ self.old.table) × (ids_of handle.who.trie ≡ ids_of self.old) }
         ensures more { KnowsMore self.old self.new }
+        ensures given { self.new.given ≡ self.old.given }
         ensures knows { IfOk result (λ _. IsPart (chain_of handle.half) self.new.rounds) }
         ensures done { IfOk result (λ _. CameBack handle.made self.old self.new) }
         ensures same { IfErr result (λ e. Follows handle e.0) }
+        ensures refused { IfErr result (λ e. RefusesCall e.0 e.1 ⊎ RefusesBack handle.who.lane handle.who.number self.new e.1) }
     {
         let mut handle = handle;
         let note = match handle.note(rt) {
@@ -308,29 +303,24 @@ impl<A: Monoid, B: Monoid> Live<A, B> {
         ensures closes { Closes self result.0 result.1 }
         ensures sizes { length result.0.pairs + result.1.removals ≡ result.1.opened + result.1.inserts }
     {
-        let mut live = self;
-        for _ in rt.forever() {
-            let Live { desk } = live;
-            match desk.stop(&Waits(rt)) {
-                Ok(closed) => return closed,
-                Err((desk, _)) => live = Live { desk },
-            }
-            yield_now();
+        let Live { desk } = self;
+        match desk.stop(&Waits(rt)) {
+            Ok(closed) => closed,
+            Err((_, never)) => match never {},
         }
-        unreachable!()
     }
 
-    /// The same, and waits for nobody: `Again` as `try_roll`, with what that says of lanes. Then the same trie comes back.
-    pub fn try_close(self) -> Result<(Members, LiveCounts), (Live<A, B>, TryError<WasOut>)>
+    /// The same, and waits for nobody: where `try_roll` is to be called again, the same trie comes back, with what that says of lanes.
+    pub fn try_close(self) -> Result<(Members, LiveCounts), (Live<A, B>, WasOut)>
         ensures closes { IfOk result (λ t. Closes self t.0 t.1) }
         ensures sizes { IfOk result (λ t. length t.0.pairs + t.1.removals ≡ t.1.opened + t.1.inserts) }
         ensures more { IfErr result (λ e. KnowsMore self e.0) }
-        ensures refused { IfErr result (λ e. IfRefused (λ cause. cause ≡ LiveError.Closed) e.1) }
+        ensures given { IfErr result (λ e. e.0.given ≡ self.given) }
     {
         let Live { desk } = self;
         match desk.stop(&Tries) {
             Ok(closed) => Ok(closed),
-            Err((desk, cause)) => Err((Live { desk }, cause)),
+            Err((desk, missed)) => Err((Live { desk }, missed)),
         }
     }
 }
@@ -428,7 +418,7 @@ fn open_lanes<A: Monoid, B: Monoid>(
 fn hand_out<A: Monoid, B: Monoid>(
     bits: u32,
     round: Snapshot<SharedRound<A, B>>,
-    trie: Snapshot<DeskEnd<A, B>>,
+    trie: Snapshot<OwnerEnd<A, B>>,
     mut rounds: Vec<SharedRound<A, B>>,
     mut desks: Vec<DeskEnd<A, B>>,
     ends: Vec<End<A, B>>,
@@ -440,7 +430,7 @@ fn hand_out<A: Monoid, B: Monoid>(
     requires ends { All (IsHandleEnd 1 (arc_value round.value)) ends.items }
     requires locks { map (λ e. e.lock) ends.items ≡ ids_of trie.value }
     requires handles { (handles.items ≡ []) × (vec_len ends ≤ vec_capacity handles) }
-    ensures at { result.items ≡ map (λ e. handle_by (ids_of trie.value) (Some e)) ends.items }
+    ensures at { result.items ≡ handles_from trie.value 0 ends.items }
 {
     for end in ends {
         let Some(round) = rounds.pop() else {

@@ -31,14 +31,14 @@ pub struct Look<A: Monoid, B: Monoid> {
 
 impl<A: Monoid, B: Monoid> Model for Look<A, B> {
     ghost use Rattle.aug_live.specs.LiveHandles.{LookFacts};
-    ghost use Rattle.aug_live.specs.inside.LaneKnowledge.{half_in};
+    ghost use Rattle.aug_live.specs.inside.LaneKnowledge.{half_in, who_by};
     ghost use Rattle.std.specs.Arc.{arc_value};
     ghost use Rattle.aug_live.specs.inside.Looks.{HoldsLook, without_pass};
     ghost use Rattle.aug_live.specs.LiveTries.{ids_of};
 
     ghost Value = { LookFacts };
 
-    ghost view = { λ l. record { lanes = ids_of l.desk; era = l.parts.value.era; half = half_in l.parts.value.work; made = l.out.known.made; snapshot = l.held } };
+    ghost view = { λ l. record { who = who_by l.desk l.lane l.out.known; era = l.parts.value.era; half = half_in l.parts.value.work; made = l.out.known.made; snapshot = l.held } };
 
     ghost invariant = { λ l. HoldsLook l.out (without_pass l.parts.value) l.parts.value.work l.held (arc_value l.round) l.bits l.lane (ids_of l.desk) };
 }

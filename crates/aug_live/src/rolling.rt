@@ -1,5 +1,5 @@
 //! The end of a round whose passes lie in the lanes, and the beginning of the next.
-ghost use Rattle.std.specs.Prelude.{◌≡◌, ◌≢◌, ℕ, true, ◌+◌, ◌<◌, ◌≤◌, ◌^◌, List, [], ◌++◌, All, IfOk, IfErr, vec_len, vec_capacity, length, map, flat_map, reverse};
+ghost use Rattle.std.specs.Prelude.{◌≡◌, ◌≢◌, ◌⊎◌, ℕ, true, false, ◌+◌, ◌<◌, ◌≤◌, ◌^◌, List, [], ◌++◌, All, IfOk, IfErr, vec_len, vec_capacity, length, map, flat_map, reverse};
 ghost use Rattle.std.specs.Arc.{arc_value};
 ghost use Rattle.aug_model.specs.Keys.{IsKeySet, keys_of};
 ghost use Rattle.aug_core.specs.Layout.{IsLayout};
@@ -12,7 +12,8 @@ ghost use Rattle.aug_trie.specs.Pass.{chain_of};
 ghost use Rattle.aug_core.specs.Prefixes.{IsPrefix};
 ghost use Rattle.aug_core.specs.declared.view.Change.{Change};
 ghost use Rattle.aug_live.specs.Carrying.{Leads};
-ghost use Rattle.aug_live.specs.inside.LaneKnowledge.{knows_nothing, rolls, rounds_at, taken_in};
+ghost use Rattle.aug_live.specs.LiveErrors.{IfRefused};
+ghost use Rattle.aug_live.specs.inside.LaneKnowledge.{is_out_by, knows_nothing, rolls, rounds_at, taken_in};
 ghost use Rattle.aug_live.specs.inside.Rolls.{FinishesRound, GetsHandle, HasEnded, IsBackIn, IsHandleEnd, IsOf, IsOpenedLane, IsPort, Starts, accepted_by, given, given_all, kept_of, rounds_in};
 ghost use Rattle.aug_live.specs.declared.known.Whose.TheVariants.{Alone, Handle, Idle, Roller};
 
@@ -149,7 +150,8 @@ impl<A: Monoid, B: Monoid> End<A, B> {
         ensures era { IfOk result (λ e. e.known.at.era ≡ self.known.at.era) }
         ensures works { IfOk result (λ e. e.known.works ≡ self.known.works) }
         ensures done { IfOk result (λ e. kept_of e ≡ kept_of (record self { known = record (taken_in self.known other.known) { whose = Idle } })) }
-        ensures refused { IfErr result (λ e. (e.0 ≡ self) × (e.1 ≡ other)) }
+        ensures kept { IfErr result (λ e. (e.0 ≡ self) × (e.1 ≡ other)) }
+        ensures refused { IfErr result (λ e. IfRefused (λ cause. (cause ≡ LiveError.Replaced) × ((self.known.number ≢ number) ⊎ (is_out_by self.known.whose ≡ false))) e.2) }
     {
         match self.take_to_roll(how) {
             Ok((out, lane)) => {

@@ -1,6 +1,6 @@
 //! The rule of a lane's lock.
 ghost use Rattle.std.specs.Prelude.{◌≡◌};
-ghost use Rattle.aug_live.specs.inside.LaneKnowledge.{Learnt, dealt, given_out, handed, knows_nothing, left, renumbered, settled, taken_in, worked};
+ghost use Rattle.aug_live.specs.inside.LaneKnowledge.{Learnt, dealt, given_out, handed, knows_nothing, left, passed_by, renumbered, settled, taken_in, worked};
 ghost use Rattle.aug_live.specs.declared.known.Whose.TheVariants.{Gone};
 
 use crate::known::Known;
@@ -40,6 +40,13 @@ pub(crate) struct Keep;
 
 impl<A: Monoid, B: Monoid> Outcome<Lane<A, B>, Known<A, B>> for Keep {
     ghost then = { λ v old new w. w ≡ v };
+}
+
+/// What a handle's pass knows that puts a lane back in which it found a newer handle.
+pub(crate) struct PassBy;
+
+impl<A: Monoid, B: Monoid> Outcome<Lane<A, B>, Known<A, B>> for PassBy {
+    ghost then = { λ v old new w. w ≡ passed_by v };
 }
 
 /// What the roller's knows that puts a lane back with the pass that it had, or with none.

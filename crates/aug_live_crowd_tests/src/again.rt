@@ -65,14 +65,13 @@ pub(super) fn roll<R: Wait>(rt: &R, live: &mut LiveOf) -> Result<(), LiveError> 
     unreachable!()
 }
 
-/// The end of a trie, or the same trie if it is refused.
-pub(super) fn close<R: Wait>(rt: &R, live: LiveOf) -> Result<(Members, LiveCounts), LiveOf> {
+/// The end of a trie.
+pub(super) fn close<R: Wait>(rt: &R, live: LiveOf) -> (Members, LiveCounts) {
     let mut live = live;
     for _ in rt.forever() {
         match try_closed(live) {
-            Ok(end) => return Ok(end),
-            Err((same, TryError::Refused(_))) => return Err(same),
-            Err((same, TryError::Again(_))) => live = same,
+            Ok(end) => return end,
+            Err((same, _)) => live = same,
         }
         yield_now();
     }

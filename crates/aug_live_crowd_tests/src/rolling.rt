@@ -250,7 +250,7 @@ fn is_done<R: Wait>(rt: &R, live: LiveOf, beside: Beside) -> (End, bool) {
         Beside::Roll(times) => roll_often(rt, &mut live, times),
         Beside::Renew(times, waits) => renew_often(rt, &mut live, times, waits),
         Beside::Close(true) => return (Ok(ended(rt, live)), true),
-        Beside::Close(false) => return (again::close(rt, live), true),
+        Beside::Close(false) => return (Ok(again::close(rt, live)), true),
     };
     (Err(live), right)
 }

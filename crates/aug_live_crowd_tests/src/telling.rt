@@ -20,7 +20,7 @@ fn two<R: Wait + Abort>(
     lanes: u32,
 ) -> Result<(LiveOf, HandleOf, HandleOf), OpenError>
     ensures tables { IfOk result (λ t. (t.1.half.round.table ≡ t.0.table) × (t.2.half.round.table ≡ t.0.table)) }
-    ensures lanes { IfOk result (λ t. (t.1.lanes ≡ ids_of t.0) × (t.2.lanes ≡ ids_of t.0)) }
+    ensures lanes { IfOk result (λ t. (ids_of t.1.who.trie ≡ ids_of t.0) × (ids_of t.2.who.trie ≡ ids_of t.0)) }
 {
     let plan = Plan { lanes, updates: 4 };
     let (live, mut hands) = match Live::open_with(alloc, no_keys(alloc, bits)?, lanes, plan) {
@@ -39,7 +39,7 @@ fn two<R: Wait + Abort>(
 // Puts a key in.
 fn insert<R: Wait + Abort>(rt: &R, hand: &mut HandleOf, key: u32)
     ensures table { hand.new.half.round.table ≡ hand.old.half.round.table }
-    ensures lanes { hand.new.lanes ≡ hand.old.lanes }
+    ensures lanes { ids_of hand.new.who.trie ≡ ids_of hand.old.who.trie }
 {
     holds(rt, key < hand.universe());
     equal(rt, hand.insert(rt, key), Ok(true));
@@ -100,7 +100,7 @@ fn assert_not_learnt<R: Wait + Abort>(rt: &R, live: &mut LiveOf, from: HandleOf,
 // Takes a handle back.
 fn back<R: Wait>(rt: &R, live: &mut LiveOf, hand: HandleOf) -> Result<(), LiveError>
     requires table { hand.half.round.table ≡ live.old.table }
-    requires lanes { hand.lanes ≡ ids_of live.old }
+    requires lanes { ids_of hand.who.trie ≡ ids_of live.old }
     ensures table { live.new.table ≡ live.old.table }
     ensures ids { ids_of live.new ≡ ids_of live.old }
 {
@@ -129,7 +129,7 @@ fn waits(live: &mut LiveOf) -> bool
 // A handle of this lane that was replaced does not come back.
 fn assert_not_back<R: Wait + Abort>(rt: &R, live: &mut LiveOf, hand: HandleOf, lane: u32)
     requires table { hand.half.round.table ≡ live.old.table }
-    requires lanes { hand.lanes ≡ ids_of live.old }
+    requires lanes { ids_of hand.who.trie ≡ ids_of live.old }
     ensures table { live.new.table ≡ live.old.table }
     ensures ids { ids_of live.new ≡ ids_of live.old }
 {
@@ -146,7 +146,7 @@ fn end<R: Wait>(rt: &R, live: LiveOf) -> (u32, u64, u64, u64) {
 // A handle puts a key in and comes back, as one of one more than there are lanes, and the trie ends.
 fn assert_back<R: Wait + Abort>(rt: &R, live: LiveOf, hand: HandleOf, lanes: u32)
     requires table { hand.half.round.table ≡ live.table }
-    requires lanes { hand.lanes ≡ ids_of live }
+    requires lanes { ids_of hand.who.trie ≡ ids_of live }
 {
     let (mut live, mut hand) = (live, hand);
     insert(rt, &mut hand, 3);
@@ -158,7 +158,7 @@ fn assert_back<R: Wait + Abort>(rt: &R, live: LiveOf, hand: HandleOf, lanes: u32
 // A handle comes back whose lane a roll-over took, which waited for a look of another.
 fn assert_back_later<R: Wait + Abort>(rt: &R, live: LiveOf, hand: HandleOf, other: HandleOf)
     requires table { hand.half.round.table ≡ live.table }
-    requires lanes { hand.lanes ≡ ids_of live }
+    requires lanes { ids_of hand.who.trie ≡ ids_of live }
 {
     let mut live = live;
     let look = looked(rt, other);

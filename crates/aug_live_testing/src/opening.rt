@@ -168,7 +168,7 @@ pub fn ended<R: Wait>(rt: &R, live: LiveOf) -> (Members, LiveCounts) {
 }
 
 /// The end of a trie, or the same trie if that would have to wait.
-pub fn try_closed(live: LiveOf) -> Result<(Members, LiveCounts), (LiveOf, TryError<WasOut>)> {
+pub fn try_closed(live: LiveOf) -> Result<(Members, LiveCounts), (LiveOf, WasOut)> {
     live.try_close()
 }
 

@@ -326,7 +326,7 @@ fn closed<R: Wait>(rt: &R, live: LiveOf, waits: bool) -> Result<Reply, (LiveOf, 
     }
     match try_closed(live) {
         Ok(end) => Ok(came_to(end)),
-        Err((live, cause)) => Err((live, held_up(cause))),
+        Err((live, _)) => Err((live, Reply::Later)),
     }
 }
 

@@ -86,6 +86,9 @@ pub record TakesEnd (number : ℕ) (made : List Made) (old new : TrieFacts) : Ty
 pub record GivesLane (lane : ℕ) (trie : TrieFacts) (end : EndFacts) (table : TableFacts) (bits number : ℕ) : Type 0 where
   pub is_end : IsHandleEnd number table end
   pub id : get_elem? (ids_of trie) lane ≡ some end.lock
+  pub known : LaneKnown
+  pub last : get_elem? trie.lanes lane ≡ some known
+  pub is_last : (known.number ≡ number) × (known.is_out ≡ true)
   pub none_made : end.known.made ≡ []
   pub of_trie : table.table ≡ trie.table
   pub bits_are : bits ≡ table.bits

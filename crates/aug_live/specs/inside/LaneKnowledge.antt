@@ -8,8 +8,10 @@ use Rattle.aug_trie.specs.Round.{RoundFacts, table_of}
 use Rattle.aug_core.specs.Prefixes.{IsPrefix}
 use Rattle.atomic_table.specs.Seated.{TableId}
 use Rattle.aug_live.specs.Ledgers.{Made, dated}
-use Rattle.aug_live.specs.LiveHandles.{HandleFacts, Follows, added}
-use Rattle.aug_live.specs.LiveTries.{Done, LaneKnown, made_through}
+use Rattle.aug_live.specs.LiveHandles.{HandleFacts, WhoFacts, Follows, added}
+use Rattle.aug_live.specs.LiveTries.{Done, LaneKnown, TrieFacts, made_through}
+use Rattle.aug_live.specs.declared.lane.Obstacle.{Obstacle}
+use Rattle.aug_live.specs.declared.lane.Obstacle.TheVariants.{Held, Round, Replaced}
 use Rattle.aug_live.specs.declared.known.Whose.{Whose}
 use Rattle.aug_live.specs.declared.known.Whose.TheVariants.{Alone, Roller, Free, Idle, Handle, Gone}
 
@@ -39,9 +41,16 @@ abbrev pub half_in : Option PassFacts → PassFacts
 half_in None = no_half
 half_in (Some half) = half
 
--- where a lane stands, that of which a handle knows what it left there: its handle's lanes and what was made through it are no part of that
+-- a trie of which nothing is known, and a handle of it
+abbrev pub no_trie : TrieFacts
+no_trie = record { closed = false; table = no_half.round.table; bits = 0; lanes = []; held = 0; given = 0; rounds = record { past = []; now = record { members = []; history = [] } } }
+
+abbrev pub nobody : WhoFacts
+nobody = record { trie = no_trie; lane = 0; number = 0; replaced = false }
+
+-- where a lane stands, that of which a handle knows what it left there: which handle it is and what was made through it are no part of that
 abbrev pub stands : ℕ → PassFacts → HandleFacts
-stands era half = record { lanes = []; era = era; half = half; made = [] }
+stands era half = record { who = nobody; era = era; half = half; made = [] }
 
 abbrev pub nothing_known : HandleFacts
 nothing_known = stands 0 no_half
@@ -57,11 +66,12 @@ pub record LaneFacts : Type 0 where
 abbrev pub IsSpent : LaneFacts → Type 0
 IsSpent lane = (lane.works ≡ false) ⊎ (lane.at.half.spent ≡ lane.at.half.round.updates)
 
--- a pass of a lane's lock: whose it is; the number of the lane's handle; the lane as it put it back; the handles of the lane that are done. The roller's knows what
--- was made with the passes that are back at their crew, and the handle's what was made through it
+-- a pass of a lane's lock: whose it is; the number of the lane's handle; whether it saw that the lane has a newer one; the lane as it put it back; the handles of the
+-- lane that are done. The roller's knows what was made with the passes that are back at their crew, and the handle's what was made through it
 pub record KnownFacts : Type 0 where
   pub whose : Whose
   pub number : ℕ
+  pub replaced : Bool
   pub works : Bool
   pub at : HandleFacts
   pub done : List Done
@@ -70,7 +80,7 @@ pub record KnownFacts : Type 0 where
 
 -- a pass that knows nothing: the first one, and one that another took in
 abbrev pub knows_nothing : Whose → KnownFacts
-knows_nothing whose = record { whose = whose; number = 0; works = false; at = nothing_known; done = []; before = []; made = [] }
+knows_nothing whose = record { whose = whose; number = 0; replaced = false; works = false; at = nothing_known; done = []; before = []; made = [] }
 
 -- whether a pass is the roller's
 abbrev pub rolls : Whose → Bool
@@ -95,8 +105,8 @@ pub record IsWhole (v : KnownFacts) (at : HandleFacts) : Type 0 where
   pub whole : made_at v.before at ≡ made_through v.done ++ own
   pub none_out : v.whose ≢ Roller → own ≡ []
 
--- the roller knows the lane's round, its handle's number, and whether it has a pass; where it has none, it knows what the last one knew. It knows what was made with
--- the passes that are back, and that this begins with what was made through the handles that are done; where the last one is, that is all
+-- the roller knows the lane's round, its handle's number and whether that is out, and whether it has a pass; where it has none, it knows what the last one knew. It
+-- knows what was made with the passes that are back, and that this begins with what was made through the handles that are done; where the last one is, that is all
 pub record Rolls (v : KnownFacts) (before : List Made) (lane : LaneFacts) : Type 0 where
   pub era : lane.at.era ≡ v.at.era
   pub number : lane.number ≡ v.number
@@ -104,15 +114,18 @@ pub record Rolls (v : KnownFacts) (before : List Made) (lane : LaneFacts) : Type
   pub works : lane.works ≡ v.works
   pub half : lane.works ≡ false → lane.at.half ≡ v.at.half
   pub idle : v.whose ≡ Idle → lane.is_out ≡ false
+  pub out : v.whose ≢ Idle → lane.is_out ≡ true
   pub before_is : before ≡ v.before
   pub whole : IsWhole v lane.at
   pub alone : v.whose ≡ Alone → lane.at ≡ v.at
 
--- a handle whose number the lane has knows that the lane follows on what it left there, at the same table, and what was made through it
+-- a handle whose number the lane has knows that the lane follows on what it left there, at the same table, and what was made through it; where it saw that the
+-- lane has a newer one, the lane does
 pub record HasLane (v : KnownFacts) (before : List Made) (lane : LaneFacts) : Type 0 where
   pub follows : v.number ≡ lane.number → Follows v.at lane.at
   pub table : v.number ≡ lane.number → table_of lane.at.half.round ≡ table_of v.at.half.round
   pub whole : v.number ≡ lane.number → made_at before lane.at ≡ made_through v.done ++ v.made
+  pub replaced : v.replaced ≡ true → v.number ≢ lane.number
 
 -- what a pass knows of the lane that it takes
 pub record KnowsLane (v : KnownFacts) (before : List Made) (lane : LaneFacts) : Type 0 where
@@ -152,6 +165,10 @@ pub record Worked (old new : LaneFacts) : Type 0 where
 abbrev pub worked : KnownFacts → LaneFacts → LaneFacts → KnownFacts
 worked v old new = record v { works = new.works; at = new.at; made = v.made ++ dated new.at.era (added old.at.half new.at.half) }
 
+-- what a handle's knows that found a newer one in its lane
+abbrev pub passed_by : KnownFacts → KnownFacts
+passed_by v = record v { replaced = true }
+
 -- what the roller's knows: if the same pass lies in the lane, or none now; and if a new one does, which accepted nothing yet
 abbrev pub left : KnownFacts → LaneFacts → KnownFacts
 left v new = record v { works = new.works; at = new.at }
@@ -173,14 +190,14 @@ done_with v at = done_if v.whose v.done (drop (length (made_through v.done)) (ma
 
 -- what the roller's knows if the lane gets a number that no handle has
 abbrev pub renumbered : KnownFacts → LaneFacts → KnownFacts
-renumbered v new = record { whose = Alone; number = new.number; works = new.works; at = new.at; done = done_with v new.at; before = v.before; made = [] }
+renumbered v new = record { whose = Alone; number = new.number; replaced = false; works = new.works; at = new.at; done = done_with v new.at; before = v.before; made = [] }
 
 -- the pass that is alone makes a handle's, and becomes the roller's beside that
 abbrev pub given_out : KnownFacts → KnownFacts
 given_out v = record v { whose = Roller }
 
 abbrev pub handed : KnownFacts → KnownFacts
-handed v = record v { whose = Handle; before = []; made = [] }
+handed v = record v { whose = Handle; replaced = false; before = []; made = [] }
 
 -- what the roller's knows that marks a lane whose handle came back
 abbrev pub settled : KnownFacts → LaneFacts → KnownFacts
@@ -195,6 +212,17 @@ pub record EndFacts : Type 0 where
   pub lock : TableId
   pub known : KnownFacts
 
+-- an end that could not have its lane is as it was, but that it may have seen a newer handle there
+pub record Stays (old new : EndFacts) : Type 0 where
+  pub same : new ≡ record old { known = record old.known { replaced = new.known.replaced } }
+  pub seen : old.known.replaced ≡ true → new.known.replaced ≡ true
+
+-- a newer handle is in the way only where one was seen
+abbrev pub Seen : Obstacle → Bool → Type 0
+Seen (Held missed) seen = Unit {0}
+Seen (Round era) seen = Unit {0}
+Seen Replaced seen = seen ≡ true
+
 -- the same while it has the lane, as it took it
 pub record OutFacts : Type 0 where
   pub lock : TableId
@@ -204,14 +232,27 @@ pub record OutFacts : Type 0 where
 abbrev pub taken_by : Option LaneFacts → LaneFacts
 taken_by taken = unwrap_or taken record { works = false; number = 0; is_out = false; at = nothing_known }
 
--- what a handle's end of its lane tells of it, in a trie with these lanes
-abbrev pub handle_by : List TableId → Option EndFacts → HandleFacts
-handle_by lanes None = record nothing_known { lanes = lanes }
-handle_by lanes (Some e) = record e.known.at { lanes = lanes; made = e.known.made }
+-- which handle has this end of a lane, by what it knows of its trie and the lane's number
+abbrev pub who_by : TrieFacts → ℕ → KnownFacts → WhoFacts
+who_by trie lane known = record { trie = trie; lane = lane; number = known.number; replaced = known.replaced }
+
+-- what a handle's end of its lane tells of it
+abbrev pub handle_by : TrieFacts → ℕ → Option EndFacts → HandleFacts
+handle_by trie lane None = record nothing_known { who = record nobody { trie = trie; lane = lane } }
+handle_by trie lane (Some e) = record e.known.at { who = who_by trie lane e.known; made = e.known.made }
+
+-- whether a handle is out, by whose the roller's pass is
+abbrev pub is_out_by : Whose → Bool
+is_out_by Alone = false
+is_out_by Roller = true
+is_out_by Free = false
+is_out_by Idle = false
+is_out_by Handle = false
+is_out_by Gone = false
 
 -- what the roller's end tells of its lane
 abbrev pub lane_by : EndFacts → LaneKnown
-lane_by e = record { id = e.lock; done = e.known.done }
+lane_by e = record { id = e.lock; number = e.known.number; is_out = is_out_by e.known.whose; done = e.known.done }
 
 -- a pass that does `does` in its round, with so many updates
 pub record WorksHere (updates : ℕ) (does : PassFacts → PassFacts → Type 0) (old new : HandleFacts) : Type 0 where

@@ -1,9 +1,8 @@
 -- How a round ends whose passes lie in the lanes, and how the next begins.
-use Rattle.std.specs.Prelude.{◌≡◌, ◌≢◌, ◌⊎◌, ℕ, ◌<◌, ◌≤◌, List, [], ◌∷◌, ◌++◌, true, false, Some, All, map, flat_map, reverse}
+use Rattle.std.specs.Prelude.{◌≡◌, ◌≢◌, ◌⊎◌, ℕ, ◌+◌, ◌<◌, ◌≤◌, List, [], ◌∷◌, ◌++◌, true, false, Some, All, map, flat_map, reverse}
 use Rattle.aug_core.specs.Cuts.{Cut}
 use Rattle.aug_core.specs.Prefixes.{IsPrefix}
 use Rattle.aug_core.specs.declared.view.Change.{Change}
-use Rattle.atomic_table.specs.Seated.{TableId}
 use Rattle.aug_trie.specs.Chains.{Chapter, BeginsWith}
 use Rattle.aug_trie.specs.Crew.{CrewFacts, Ends}
 use Rattle.aug_trie.specs.Ended.{EndedFacts}
@@ -11,6 +10,7 @@ use Rattle.aug_trie.specs.Pass.{PassFacts, chain_of}
 use Rattle.aug_trie.specs.Round.{TableFacts, RoundFacts, table_of}
 use Rattle.aug_live.specs.Ledgers.{Made, dated}
 use Rattle.aug_live.specs.LiveHandles.{HandleFacts}
+use Rattle.aug_live.specs.LiveTries.{TrieFacts}
 use Rattle.aug_live.specs.inside.LaneKnowledge.{EndFacts, IsWhole, handle_by, nothing_known, rounds_at}
 use Rattle.aug_live.specs.declared.known.Whose.{Whose}
 use Rattle.aug_live.specs.declared.known.Whose.TheVariants.{Roller, Idle, Handle}
@@ -114,14 +114,20 @@ pub record IsHandleEnd (number : ℕ) (table : TableFacts) (e : EndFacts) : Type
   pub few_bits : table.bits ≤ 16
 
 -- and its handle is where that pass stands
-pub record IsFirst (rounds : RoundFacts × List Chapter) (lanes : List TableId) (handle : HandleFacts) : Type 0 where
-  pub of_lanes : handle.lanes ≡ lanes
+pub record IsFirst (rounds : RoundFacts × List Chapter) (trie : TrieFacts) (handle : HandleFacts) : Type 0 where
+  pub of_trie : handle.who.trie ≡ trie
+  pub first : handle.who.number ≡ 1
   pub era_is : handle.era ≡ 1
   pub fresh : IsNewPass rounds handle.half
   pub none_made : handle.made ≡ []
 
+-- the handles of these ends, of which the first has the lane of this number
+abbrev pub handles_from : TrieFacts → ℕ → List EndFacts → List HandleFacts
+handles_from trie lane [] = []
+handles_from trie lane (e ∷ es) = handle_by trie lane (Some e) ∷ handles_from trie (lane + 1) es
+
 -- handles were made of the ends before the rest of a list
-pub record AreHandles (lanes : List TableId) (ends rest : List EndFacts) (handles : List HandleFacts) : Type 0 where
+pub record AreHandles (trie : TrieFacts) (ends rest : List EndFacts) (handles : List HandleFacts) : Type 0 where
   pub front : List EndFacts
   pub ends_are : ends ≡ front ++ rest
-  pub handles_are : handles ≡ map (λ (e : EndFacts). handle_by lanes (Some e)) front
+  pub handles_are : handles ≡ handles_from trie 0 front

@@ -15,7 +15,7 @@ loop-place-preserved c = let inv = c.loop-place.invariant in let made = c.in-Ok.
 pub returns-in-Err : goal.returns-in-Err
 returns-in-Err c = let inv = c.loop-place.invariant in let code : to_z w64 (of_z w64 c.code.result) ≡ c.code.result = search rules in
     came_so_far (requests_of c.args.each c.args.weights.now) c.args.keys.now c.args.before c.args.access.now c.loop-place.so_far c.loop-place.access c.try_update_all.new.self (to_z w64 (of_z w64 c.code.result)) c.in-Err.cause
-    (let test = c.loop-place-test.true in let other = c.if-place-so_far.false in omega (arith, test, other)) (code ∙ c.code.ensures ∙ ap refusal_code c.of.ensures) c.in-Err.ensures.not_made inv.came
+    (let test = c.loop-place-test.true in let other = c.if-place-so_far.false in omega (arith, test, other)) (code ∙ c.code.ensures ∙ ap refusal_code c.of.ensures) c.in-Err.ensures.not_made c.in-Err.ensures.refused inv.came
 
 pub returns : goal.returns
 returns c = let inv = c.loop-place.invariant in let past = inv.past in let test = c.loop-place-test.false in

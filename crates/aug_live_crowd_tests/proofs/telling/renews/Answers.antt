@@ -1,4 +1,4 @@
-use Rattle.aug_live.proofs.Counted.{ids_more}
+use Rattle.aug_live.proofs.Lanes.{ids_more}
 use Rattle.aug_live_crowd_tests.proofs.telling.renews.Goals as goal
 
 pub returns-clause-ids : goal.returns-clause-ids

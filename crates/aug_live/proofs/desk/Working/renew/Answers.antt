@@ -10,16 +10,15 @@ use Rattle.atomic_table.proofs.Lists.{at_map}
 use mathlib.Core.Option.{some}
 use lib.ListN.{get_elem?}
 use Rattle.std.specs.Prelude.{reverse}
-use Rattle.std.proofs.lemmas.List.{length-map}
 use Rattle.aug_live.specs.LiveHandles.{HandleFacts}
 use Rattle.aug_live.specs.LiveTries.{LaneKnown, TrieFacts}
-use Rattle.aug_live.specs.inside.LaneKnowledge.{EndFacts, lane_by}
+use Rattle.aug_live.specs.inside.LaneKnowledge.{EndFacts, is_out_by, lane_by}
 use Rattle.aug_live.specs.inside.Rolls.{IsHandleEnd, IsOf, kept_of, rounds_in}
 use Rattle.aug_live.proofs.Accounting.{accounts_kept, few_handles, few_missing}
-use Rattle.aug_live.proofs.Counted.{desk_on, more_self}
-use Rattle.aug_live.proofs.Desks.{kept_on, lanes_settled, no_lanes, settled, unsettled}
+use Rattle.aug_live.proofs.Counted.{desk_on}
+use Rattle.aug_live.proofs.Desks.{kept_on, lanes_settled, no_lanes, ports_many, settled, unsettled}
 use Rattle.aug_live.proofs.Dealing.{gets_counts, gets_lane}
-use Rattle.aug_live.proofs.Lanes.{lanes_same}
+use Rattle.aug_live.proofs.Lanes.{lanes_same, more_self}
 use Rattle.aug_live.proofs.OneLane.{all_ports, as_before, handles_on, lane_is, lanes_on, number_low}
 use Rattle.aug_live.proofs.desk.Working.renew.Goals as goal
 use Rattle.aug_live.proofs.desk.Working.renew.Goals.{then-self-via-then-self, then-self-via-else-self+then-self-2}
@@ -113,8 +112,9 @@ returns-in-Ok-renew-clause-more g c =
     let was = settled w.ports.items w.held.items (vec_len w.ports) (vec_len w.held) none few inv.0 in let low : c.args.lane < length w.ports.items = omega arith in
     let old = c.remove-port.result in let r = c.in-Ok-renew.port in
     let mine = subst (IsOf (rounds_in w.crew) w.counts.rounds) (sym c.remove-port.ensures.value) (was.of_round c.args.lane old low) in
+    let number = number_low w.ports.items c.args.lane old low c.remove-port.ensures.value (arc_value w.round).bits w.counts w.crew was.accounts in let newer : old.known.number < w.counts.handles + 1 = omega (arith, number) in
     desk_on _ (arc_value w.round) w.crew c.renew.new.crew _ _ c.self.view_is
-    (lanes_settled w.ports.items c.put_in.new.ports.items w.held.items none (lanes_on w.ports.items _ _ c.args.lane old r low c.remove-port.ensures.value c.remove-port.ensures.items c.put_in.ensures.items (gets_lane _ old r mine.whose c.in-Ok-renew.ensures.gets)))
+    (lanes_settled w.ports.items c.put_in.new.ports.items w.held.items none (lanes_on w.ports.items _ _ c.args.lane old r low c.remove-port.ensures.value c.remove-port.ensures.items c.put_in.ensures.items (gets_lane _ old r newer mine.whose c.in-Ok-renew.ensures.gets)))
     (subst (λ (z : CrewFacts). IsPart (crew_chain w.crew) (crew_chain z)) (sym c.renew.ensures.same) (part_refl (crew_chain w.crew)))
 
 pub returns-in-Ok-renew-clause-handle : goal.returns-in-Ok-renew-clause-handle
@@ -127,6 +127,9 @@ returns-in-Ok-renew-clause-handle g c =
     let there = subst (λ (z : List EndFacts). get_elem? (map lane_by z) c.args.lane ≡ some (lane_by port)) (sym (no_lanes c.put_in.new.ports.items w.held.items none)) is in record {
       is_end = subst (λ (z : TableFacts). IsHandleEnd (w.counts.handles + 1) z end) (was.together ∙ sym shared) renewed.handle.0;
       id = at_map (λ (l : LaneKnown). l.id) _ c.args.lane (lane_by port) there ∙ ap some (renewed.gets.lock ∙ sym renewed.handle.1);
+      known = lane_by port;
+      last = there;
+      is_last = (renewed.gets.number_is, ap is_out_by renewed.gets.whose);
       none_made = renewed.handle.2;
       of_trie = ap (λ (z : TableFacts). z.table) shared;
       bits_are = sym inv.7 ∙ ap (λ (z : TableFacts). z.bits) (sym shared);
@@ -138,7 +141,7 @@ pub returns-in-Ok-renew-clause-past : goal.returns-in-Ok-renew-clause-past
 returns-in-Ok-renew-clause-past g c = λ high. absurd (
     let inv = c.self.invariant in let w = c.self.inside in let few : vec_len w.held ≡ 0 = ap (λ (z : TrieFacts). z.held) c.self.view_is ∙ c.requires.settled in let none : length w.held.items ≡ 0 = omega (arith, few) in
     let was = settled w.ports.items w.held.items (vec_len w.ports) (vec_len w.held) none few inv.0 in let low : c.args.lane < length w.ports.items = omega arith in
-    let many : length c.args.self.now.lanes ≡ length w.ports.items = ap (λ (z : TrieFacts). length z.lanes) (sym c.self.view_is) ∙ length-map (w.ports.items ++ reverse w.held.items) lane_by ∙ ap length (no_lanes w.ports.items w.held.items none) in omega (arith, many, high, low))
+    let many = ports_many c.args.self.now w.ports.items w.held.items none (ap (λ (z : TrieFacts). z.lanes) c.self.view_is) in omega (arith, many, high, low))
 
 pub returns-in-Err-clause-more : goal.returns-in-Err-clause-more
 returns-in-Err-clause-more g c =

@@ -9,9 +9,9 @@ use Rattle.aug_live.specs.inside.Rolls.{HasEnded, IsBackIn, IsOf, rounds_in}
 use Rattle.aug_live.specs.LiveTries.{LanesGoOn}
 use Rattle.aug_trie.specs.Crew.{crew_chain}
 use Rattle.aug_trie.proofs.Chaining.{part_refl, part_trans}
-use Rattle.aug_live.proofs.Counted.{crew_part, desk_on, exhausted_so, more_self, rolled_part}
+use Rattle.aug_live.proofs.Counted.{crew_part, desk_on, exhausted_so, rolled_part}
 use Rattle.aug_live.proofs.Desks.{all_taken, kept_taken, may_take, no_lanes, rolled_on, taken_of, unsettled}
-use Rattle.aug_live.proofs.Lanes.{lanes_same, rolled_lanes}
+use Rattle.aug_live.proofs.Lanes.{lanes_same, more_self, rolled_lanes}
 use Rattle.aug_live.proofs.Moving.{all_ended, next_led}
 use Rattle.aug_live.proofs.desk.Working.roll.Goals as goal
 use Rattle.aug_live.proofs.desk.Working.roll.Goals.{then-counts-via-then-counts, then-counts-via-else-counts+then-counts-gt-MOST_BEFORE, then-counts-via-else-counts+else-counts-gt-MOST_BEFORE+then-counts-gt-MOST_BEFORE-2}

@@ -41,4 +41,5 @@ returns-clause-closes g c =
     (lanes_close all (reverse fin.lanes) kept)
     fin.same_rounds fin.goes_on fin.ends fin.none_missing ends.2 refl
     (ap (λ n. w.counts.inserts + n) (c.from.ensures ∙ ends.3)) (ap (λ n. w.counts.removals + n) (c.from-2.ensures ∙ ends.4))
+    refl
     (handles_closed bits w.counts w.crew fin.last all fin.lanes was.0.accounts kept eras was.0.rounds_are fin.changes) (missing_closed bits w.counts w.crew fin.last all fin.lanes was.0.accounts kept eras was.0.rounds_are fin.changes)

@@ -29,10 +29,11 @@ loop-share-init g c =
       c.put.ensures.free,
       put_known pass.me.0.taken was (record { working = Some c.args.working; opened = true }) (client_of pass) (client_of c.put.new.pass) (what_is pass.me.0.taken (record { working = None; opened = false }) c.args.self.out.0) c.put.ensures.then,
       subst (All (λ (e : TrieFacts). e ≡ c.args.working)) (sym c.args.self.none) (All-nil (λ (e : TrieFacts). e ≡ c.args.working)),
+      c.put.ensures.same.1 ∙ c.args.self.first,
     )
 
 pub another-pass-requires-clause-rule : goal.another-pass-requires-clause-rule
-another-pass-requires-clause-rule g c = forks _ _ (subst (λ (n : ℕ). 0 < n) (ap (λ (z : TrieFacts). z.bits) (sym c.loop-share.invariant.5)) c.requires.some)
+another-pass-requires-clause-rule g c = forks _ _ c.loop-share.invariant.7 (subst (λ (n : ℕ). 0 < n) (ap (λ (z : TrieFacts). z.bits) (sym c.loop-share.invariant.5)) c.requires.some)
 
 pub invariant_of-push_reserved : goal.invariant_of-push_reserved
 invariant_of-push_reserved g c = let step = c.in-Some.ensures.steps in let some : 0 < into_iter_len c.loop-share.share-iterator = omega (arith, step.1) in let new = c.another-pass.ensures.new in (
@@ -52,4 +53,5 @@ loop-share-preserved g c =
       made.free was.4,
       made.left ∙ was.5,
       one_more (λ (e : TrieFacts). e ≡ c.args.working) _ _ _ c.push_reserved.ensures.items was.6 (made.new.2 ∙ was.5),
+      made.same.1 ∙ was.7,
     )

@@ -16,3 +16,4 @@ invariant-loop-share g l =
     × HoldsNothing mine.pass
     × (client_of mine.pass ≡ l.fn.working)
     × All (λ (e : TrieFacts). e ≡ l.fn.working) l.ends.items
+    × (mine.pass.id ≡ 0)

@@ -9,6 +9,6 @@ put-requires-clause-holds g c = let o = c.self.inside.pass.me.0.taken in let is 
   (what_is o _ c.self.invariant.1, c.self.invariant.2),
   λ views ties at. roller_renumbers _ _ (taken_by o) c.args.lane views ties at
       (ap (λ (z : OutFacts). rolls z.known.whose) is ∙ c.requires.roller)
-      (subst (λ (z : LaneFacts). z.number < c.args.lane.number) (sym taken) c.requires.newer) c.requires.some
+      (subst (λ (z : LaneFacts). z.number < c.args.lane.number) (sym taken) c.requires.newer) c.requires.out c.requires.some
       (subst (λ (z : OutFacts). IsWhole z.known c.args.lane.at) (sym is) c.requires.whole),
 )

@@ -1,5 +1,4 @@
-use Rattle.std.proofs.Common.{◌∙◌, refl, ap, sym, subst}
-use Rattle.aug_live.specs.LiveHandles.{Follows}
+use Rattle.std.proofs.Common.{◌∙◌, refl, ap, sym}
 use Rattle.aug_trie.specs.Note.{NoteFacts}
 use Rattle.aug_live.proofs.Carries.{follows_self, follows_on}
 use Rattle.aug_live.proofs.handle.Handle.learn.Goals as goal
@@ -14,7 +13,7 @@ pub returns-in-Ok-clause-follows : goal.returns-in-Ok-clause-follows
 returns-in-Ok-clause-follows g c = follows_on c.args.self.now c.loop.self c.attempt_learn.new.self c.loop.invariant.0 c.attempt_learn.ensures.follows
 
 pub loop-preserved : goal.loop-preserved
-loop-preserved g c = (subst (Follows c.args.self.now) (sym c.past.ensures.same) (follows_on c.args.self.now c.loop.self c.attempt_learn.new.self c.loop.invariant.0 c.attempt_learn.ensures.follows), c.in-Err.ensures.kept ∙ c.loop.invariant.1)
+loop-preserved g c = (follows_on c.args.self.now c.attempt_learn.new.self c.wait_past.new.self (follows_on c.args.self.now c.loop.self c.attempt_learn.new.self c.loop.invariant.0 c.attempt_learn.ensures.follows) c.wait_past.ensures.follows, c.in-Err.ensures.kept ∙ c.loop.invariant.1)
 
-pub returns-in-Err-Refused-clause-follows : goal.returns-in-Err-Refused-clause-follows
-returns-in-Err-Refused-clause-follows g c = subst (Follows c.args.self.now) (sym c.past.ensures.same) (follows_on c.args.self.now c.loop.self c.attempt_learn.new.self c.loop.invariant.0 c.attempt_learn.ensures.follows)
+pub returns-in-Err-wait_past-clause-follows : goal.returns-in-Err-wait_past-clause-follows
+returns-in-Err-wait_past-clause-follows g c = follows_on c.args.self.now c.attempt_learn.new.self c.wait_past.new.self (follows_on c.args.self.now c.loop.self c.attempt_learn.new.self c.loop.invariant.0 c.attempt_learn.ensures.follows) c.wait_past.ensures.follows

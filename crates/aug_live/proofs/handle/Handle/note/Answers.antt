@@ -1,5 +1,3 @@
-use Rattle.std.proofs.Common.{sym, subst}
-use Rattle.aug_live.specs.LiveHandles.{Follows}
 use Rattle.aug_live.proofs.Carries.{follows_self, follows_on}
 use Rattle.aug_live.proofs.handle.Handle.note.Goals as goal
 
@@ -10,7 +8,7 @@ pub returns-in-Ok-clause-follows : goal.returns-in-Ok-clause-follows
 returns-in-Ok-clause-follows g c = follows_on c.args.self.now c.loop.self c.attempt_note.new.self c.loop.invariant c.attempt_note.ensures.follows
 
 pub loop-preserved : goal.loop-preserved
-loop-preserved g c = subst (Follows c.args.self.now) (sym c.past.ensures.same) (follows_on c.args.self.now c.loop.self c.attempt_note.new.self c.loop.invariant c.attempt_note.ensures.follows)
+loop-preserved g c = follows_on c.args.self.now c.attempt_note.new.self c.wait_past.new.self (follows_on c.args.self.now c.loop.self c.attempt_note.new.self c.loop.invariant c.attempt_note.ensures.follows) c.wait_past.ensures.follows
 
-pub returns-in-Err-Refused-clause-follows : goal.returns-in-Err-Refused-clause-follows
-returns-in-Err-Refused-clause-follows g c = subst (Follows c.args.self.now) (sym c.past.ensures.same) (follows_on c.args.self.now c.loop.self c.attempt_note.new.self c.loop.invariant c.attempt_note.ensures.follows)
+pub returns-in-Err-wait_past-clause-follows : goal.returns-in-Err-wait_past-clause-follows
+returns-in-Err-wait_past-clause-follows g c = follows_on c.args.self.now c.attempt_note.new.self c.wait_past.new.self (follows_on c.args.self.now c.loop.self c.attempt_note.new.self c.loop.invariant c.attempt_note.ensures.follows) c.wait_past.ensures.follows

@@ -1,5 +1,3 @@
-use Rattle.std.proofs.Common.{sym, subst}
-use Rattle.aug_live.specs.LiveHandles.{Follows}
 use Rattle.aug_live.proofs.Carries.{follows_self, follows_on, makes_on}
 use Rattle.aug_live.proofs.handle.Handle.update.Goals as goal
 
@@ -7,10 +5,10 @@ pub returns-in-Ok-clause-made : goal.returns-in-Ok-clause-made
 returns-in-Ok-clause-made g c = makes_on 1 _ c.args.self.now c.loop.self _ c.loop.invariant c.in-Ok.ensures.made
 
 pub loop-preserved : goal.loop-preserved
-loop-preserved g c = subst (Follows c.args.self.now) (sym c.past.ensures.same) (follows_on c.args.self.now c.loop.self c.attempt.new.self c.loop.invariant c.in-Err.ensures.not_made)
+loop-preserved g c = follows_on c.args.self.now c.attempt.new.self c.wait_past.new.self (follows_on c.args.self.now c.loop.self c.attempt.new.self c.loop.invariant c.in-Err.ensures.not_made) c.wait_past.ensures.follows
 
-pub returns-in-Err-Refused-clause-not_made : goal.returns-in-Err-Refused-clause-not_made
-returns-in-Err-Refused-clause-not_made g c = subst (Follows c.args.self.now) (sym c.past.ensures.same) (follows_on c.args.self.now c.loop.self c.attempt.new.self c.loop.invariant c.in-Err.ensures.not_made)
+pub returns-in-Err-wait_past-clause-not_made : goal.returns-in-Err-wait_past-clause-not_made
+returns-in-Err-wait_past-clause-not_made g c = follows_on c.args.self.now c.attempt.new.self c.wait_past.new.self (follows_on c.args.self.now c.loop.self c.attempt.new.self c.loop.invariant c.in-Err.ensures.not_made) c.wait_past.ensures.follows
 
 pub loop-init : goal.loop-init
 loop-init g c = follows_self c.args.self.now

@@ -2,7 +2,6 @@ use Rattle.std.proofs.Common.{ap, rules}
 use Rattle.aug_model.specs.Folds.{summary_of}
 use Rattle.aug_monoid.specs.Extent.{extent_parts}
 use Rattle.aug_trie.specs.Pops.{pop_updates, Pops}
-use Rattle.aug_trie.proofs.Popping.{pops_go_on}
 use Rattle.aug_live.specs.inside.LaneKnowledge.{rounds_at}
 use Rattle.aug_live.proofs.Carries.{makes_by, worked_by}
 use Rattle.aug_live.proofs.Popped.{pop_accepts}

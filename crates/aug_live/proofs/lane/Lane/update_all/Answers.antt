@@ -1,7 +1,6 @@
-use Rattle.std.proofs.Common.{ℕ, ◌≡◌, take, length, ap, subst, rules, arith}
-use Rattle.std.proofs.lemmas.List.{length-take}
+use Rattle.std.proofs.Common.{ℕ, take, ap, rules}
 use Rattle.aug_trie.specs.UpdateBatches.{DoesBatch}
-use Rattle.aug_trie.specs.Pass.{PassFacts, GoesOn}
+use Rattle.aug_trie.specs.Pass.{PassFacts}
 use Rattle.aug_live.specs.inside.LaneKnowledge.{rounds_at}
 use Rattle.aug_live.proofs.Carries.{makes_by, worked_by}
 use Rattle.aug_live.proofs.lane.Lane.update_all.Goals as goal

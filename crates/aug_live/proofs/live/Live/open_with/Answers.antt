@@ -1,11 +1,9 @@
 use Rattle.std.proofs.Common.{◌≡◌, ◌∙◌, ◌^◌, [], length, vec_len, All, List, map, ap, refl, sym, subst, rules, arith}
 use Rattle.std.specs.Arc.{arc_value}
-use Rattle.std.specs.Prelude.{Some}
 use Rattle.std.proofs.lemmas.List.{length-map}
 use Rattle.std.proofs.lemmas.List.Elements.{All-map}
 use Rattle.aug_core.specs.Layout.{IsLayout}
 use Rattle.aug_core.specs.Places.{shape_of}
-use Rattle.atomic_table.specs.Seated.{TableId}
 use Rattle.aug_model.proofs.Boundaries.{IsKeySet-few}
 use Rattle.aug_model.proofs.Pairs.{length-keys_of}
 use Rattle.aug_trie.specs.Chains.{Chapter}
@@ -13,9 +11,11 @@ use Rattle.aug_trie.specs.Crew.{CrewFacts}
 use Rattle.aug_trie.specs.Round.{RoundFacts, TableFacts, table_of}
 use Rattle.aug_live.specs.LiveHandles.{HandleFacts, IsNew}
 use Rattle.aug_live.specs.LiveTries.{IsOpenedTrie, LaneKnown, TrieFacts, ids_of}
-use Rattle.aug_live.specs.inside.LaneKnowledge.{EndFacts, handle_by, lane_by}
-use Rattle.aug_live.specs.inside.Rolls.{IsFirst, IsOf, rounds_in}
+use Rattle.aug_live.specs.inside.LaneKnowledge.{EndFacts, lane_by}
+use lib.ListN.{get_elem?}
+use Rattle.aug_live.specs.inside.Rolls.{IsFirst, IsOf, Starts, handles_from, rounds_in}
 use Rattle.aug_live.proofs.Desks.{all_new, no_lanes, opened_at, unsettled}
+use Rattle.aug_live.proofs.Handing.{handles_all, handles_long, lanes_are}
 use Rattle.aug_live.proofs.Lanes.{ids_are}
 use Rattle.aug_live.proofs.live.Live.open_with.Goals as goal
 
@@ -69,11 +69,14 @@ hand_out-handles-requires-clause-locks g c = let ports = c.open_lanes-ports.resu
 
 pub returns-clause-new : goal.returns-clause-new
 returns-clause-new g c =
-    let begun = c.in-Ok-next_round.ensures.begun in let lanes = c.open_lanes-ports.ensures in let first = c.in-Ok-next_round.begun.crew in let rounds = rounds_in first in let out = c.hand_out-handles.ensures in
-    let is = c.place-desk.ensures.owner in let ends = c.open_lanes-ports.result.1.items in let ids = ids_of c.of.result.value in let at = λ (e : EndFacts). handle_by ids (Some e) in
-    let firsts = All-map (IsFirst rounds ids) at ends (λ k d low. let s = lanes.starts k d low in record { of_lanes = refl; era_is = s.era_is; fresh = s.fresh; none_made = s.none_made }) in
-    subst (λ (z : TableId × List TableId × List HandleFacts). All (IsNew z.0 z.1 c.args.set c.args.plan) z.2) (λ i. (sym (ap (λ (z : TrieFacts). z.table) is) i, ap ids_of c.of.ensures i, sym out.at i))
-    (all_new c.args.set c.args.plan.lanes c.args.plan.updates (arc_value c.in-Ok-next_round.begun.round) first ids (map at ends) begun firsts)
+    let begun = c.in-Ok-next_round.ensures.begun in let first = c.in-Ok-next_round.begun.crew in let rounds = rounds_in first in let out = c.hand_out-handles.ensures in
+    let is = c.of.ensures ∙ c.place-desk.ensures.owner in let ends = c.open_lanes-ports.result.1.items in let trie = c.of.result.value in
+    let firsts = handles_all (Starts rounds) (IsFirst rounds trie) trie 0 ends (λ e lane s. record { of_trie = refl; first = s.number; era_is = s.era_is; fresh = s.fresh; none_made = s.none_made }) c.open_lanes-ports.ensures.starts in
+    subst (λ (z : TrieFacts × List HandleFacts). All (IsNew z.0 c.args.set c.args.plan) z.1) (λ i. (c.of.ensures i, sym out.at i))
+    (all_new c.args.set c.args.plan.lanes c.args.plan.updates (arc_value c.in-Ok-next_round.begun.round) first trie (handles_from trie 0 ends) (ap (λ (z : TrieFacts). z.table) is) begun firsts)
+
+pub returns-clause-lanes : goal.returns-clause-lanes
+returns-clause-lanes g c = λ lane h at. let place = lanes_are c.of.result.value 0 c.open_lanes-ports.result.1.items lane h (ap (λ (z : List HandleFacts). get_elem? z lane) (sym c.hand_out-handles.ensures.at) ∙ at) in omega (arith, place)
 
 pub returns-clause-opened : goal.returns-clause-opened
 returns-clause-opened g c =
@@ -82,6 +85,7 @@ returns-clause-opened g c =
     let count : length (map lane_by ports) ≡ c.args.handles = length-map ports lane_by ∙ long ∙ lanes.len.0 ∙ c.in-Ok.ensures.berths.1 in
     let bare : All (λ (lane : LaneKnown). lane.done ≡ []) (map lane_by ports) = All-map (λ (lane : LaneKnown). lane.done ≡ []) lane_by ports (λ k d low. (lanes.opened k d low).none_done) in
     subst (IsOpenedTrie c.args.set c.args.handles) (sym is) (record {
+      given = search rules;
       bits = ap (λ (z : TableFacts). z.bits) (sym begun.together) ∙ ap (λ (z : RoundFacts). z.bits) begun.round_is;
       lane_count = subst (λ (z : List EndFacts). length (map lane_by z) ≡ c.args.handles) alone count;
       none_done = subst (λ (z : List EndFacts). All (λ (lane : LaneKnown). lane.done ≡ []) (map lane_by z)) alone bare;
@@ -92,5 +96,4 @@ returns-clause-opened g c =
 pub returns-clause-handles : goal.returns-clause-handles
 returns-clause-handles g c =
     let lanes = c.open_lanes-ports.ensures in let out = c.hand_out-handles.ensures in let handles = c.hand_out-handles.result in let ends = c.open_lanes-ports.result.1 in
-    let at = λ (e : EndFacts). handle_by (ids_of c.of.result.value) (Some e) in
-    omega (arith, handles.ok.0, ends.ok.0, ap (λ (z : List HandleFacts). length z) out.at, length-map ends.items at, lanes.len.1, c.in-Ok.ensures.berths.1)
+    omega (arith, handles.ok.0, ends.ok.0, ap (λ (z : List HandleFacts). length z) out.at, handles_long c.of.result.value 0 ends.items, lanes.len.1, c.in-Ok.ensures.berths.1)

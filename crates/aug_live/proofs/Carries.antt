@@ -32,7 +32,7 @@ use Rattle.aug_live.specs.declared.error.TryError.{TryError}
 use Rattle.aug_live.specs.declared.error.TryError.TheVariants.{Again, Refused}
 use Rattle.aug_live.specs.LiveHandles.{HandleFacts, IsSuccessor, Follows, Makes, SameHandle, WhoFacts, added}
 use Rattle.aug_live.specs.LiveTries.{KnowsMore, TrieFacts}
-use Rattle.aug_live.specs.inside.LaneKnowledge.{EndFacts, KnownFacts, LaneFacts, OutFacts, Seen, Stays, Worked, WorksHere, handle_by, rounds_at, who_by, worked}
+use Rattle.aug_live.specs.inside.LaneKnowledge.{EndFacts, KnownFacts, LaneFacts, EndStays, OutFacts, Seen, Worked, WorksHere, handle_by, rounds_at, who_by, worked}
 use Rattle.aug_live.proofs.Adding.{same_made}
 use Rattle.aug_live.proofs.Lanes.{ids_more, more_on, more_self}
 
@@ -188,7 +188,7 @@ module _ (trie : TrieFacts) (place : ℕ) (now : HandleFacts) (inside : Option E
   own : handle_by trie place (Some end) ≡ now
   own = ap (handle_by trie place) (sym there) ∙ view
 
-  pub unchanged : Stays end result → Follows now (handle_by trie place (Some result))
+  pub unchanged : EndStays end result → Follows now (handle_by trie place (Some result))
   unchanged stays =
       let who : SameHandle (who_by trie place end.known) (who_by trie place (record end.known { replaced = result.known.replaced })) = record { trie = more_self trie; lanes = refl; lane = refl; number = refl; replaced = stays.seen } in
       let one = follows_by (who_by trie place end.known) (who_by trie place (record end.known { replaced = result.known.replaced })) end.known.made end.known.made end.known.at end.known.at who refl (follows_self end.known.at) in

@@ -3,7 +3,7 @@ ghost use Rattle.std.specs.Prelude.{◌≡◌, ◌≢◌, [], true, false, ◌<�
 ghost use Rattle.std.specs.Arc.{arc_value};
 ghost use Rattle.aug_trie.specs.Round.{table_of};
 ghost use Rattle.aug_live.specs.LiveHandles.{Follows};
-ghost use Rattle.aug_live.specs.inside.LaneKnowledge.{IsWhole, Learnt, Rolls, Seen, Stays, Worked, dealt, given_out, handed, knows_nothing, left, made_at, passed_by, renumbered, rolls, settled, taken_in, worked};
+ghost use Rattle.aug_live.specs.inside.LaneKnowledge.{IsWhole, Learnt, EndStays, Rolls, Seen, Worked, dealt, given_out, handed, knows_nothing, left, made_at, passed_by, renumbered, rolls, settled, taken_in, worked};
 ghost use Rattle.aug_live.specs.declared.known.Whose.TheVariants.{Alone, Free, Roller, Handle};
 
 use crate::known::Known;
@@ -145,7 +145,7 @@ impl<A: Monoid, B: Monoid> End<A, B> {
         ensures number { IfOk result (λ t. t.1.number ≡ self.known.number) }
         ensures follows { IfOk result (λ t. Follows self.known.at t.1.at) }
         ensures together { IfOk result (λ t. table_of t.1.at.half.round ≡ table_of self.known.at.half.round) }
-        ensures stays { IfErr result (λ e. Stays self e.0) }
+        ensures stays { IfErr result (λ e. EndStays self e.0) }
         ensures seen { IfErr result (λ e. Seen e.1 e.0.known.replaced) }
     {
         match self.take(&Tries) {

@@ -213,7 +213,7 @@ pub record EndFacts : Type 0 where
   pub known : KnownFacts
 
 -- an end that could not have its lane is as it was, but that it may have seen a newer handle there
-pub record Stays (old new : EndFacts) : Type 0 where
+pub record EndStays (old new : EndFacts) : Type 0 where
   pub same : new ≡ record old { known = record old.known { replaced = new.known.replaced } }
   pub seen : old.known.replaced ≡ true → new.known.replaced ≡ true
 

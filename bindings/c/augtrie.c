@@ -39,6 +39,7 @@ int64_t aug_try_weight_all(aug_user *user, const uint32_t *keys, size_t n, int64
 int64_t aug_try_keys(aug_user *user, uint32_t from, uint32_t *out, size_t room);
 int64_t aug_try_list(aug_user *user, uint32_t from, uint32_t *keys, size_t room, uint32_t *weights, size_t weight_room);
 int64_t aug_try_list_back(aug_user *user, uint32_t below, uint32_t *keys, size_t room, uint32_t *weights, size_t weight_room);
+int64_t aug_try_changes(aug_user *user, uint32_t from, aug_change *out, size_t room);
 
 /* ---- Version and texts ---- */
 
@@ -378,4 +379,22 @@ int64_t aug_list(aug_user *user, uint32_t from, uint32_t *keys, uint32_t *weight
 
 int64_t aug_list_back(aug_user *user, uint32_t below, uint32_t *keys, uint32_t *weights, size_t room) {
     OF_BOTH(aug_try_list_back(user, below, ARRAY(keys), room, ARRAY(weights), room));
+}
+
+/* How many changes a proved call writes at most: it writes fewer only if no more come. */
+enum { PAGE = 32 };
+
+int64_t aug_changes(aug_user *user, uint32_t from, aug_change *out, size_t room) {
+    aug_change *next = ARRAY(out);
+    size_t left = room;
+    int64_t code = refuses(user, NULL, 0, out, room);
+    if (code != AUG_OK) return code;
+    for (;;) {
+        code = aug_try_changes(user, from, next, left < PAGE ? left : PAGE);
+        if (code < 0) return code;
+        next += code;
+        left -= (size_t)code;
+        if (code < PAGE || !left) return (int64_t)(room - left);
+        from = next[-1].key + 1;
+    }
 }

@@ -94,6 +94,13 @@ typedef struct aug_member {
     uint32_t weight;
 } aug_member;
 
+/* A key whose weight differs between two snapshots, and its weight in each: AUG_NONE where it is no member. */
+typedef struct aug_change {
+    uint32_t key;
+    int64_t before; /* in the earlier one */
+    int64_t now;    /* in the later one */
+} aug_change;
+
 /* What the members of an interval come to. Of no members, the least and the greatest are 0. */
 typedef struct aug_span {
     uint64_t sum;      /* the sum of their weights, modulo 2^64 */
@@ -199,7 +206,8 @@ AUG_NODISCARD int64_t aug_put_all(aug_user *user, const uint32_t *keys, size_t n
 /* Takes a snapshot, which the queries below are answered from. Answers 0, or AUG_CLOSED, AUG_LOOKING. */
 AUG_NODISCARD int64_t aug_look(aug_user *user);
 
-/* Takes a newer snapshot in the same look, and waits for nobody. Answers 0, or AUG_CLOSED, AUG_NOT_LOOKING. */
+/* Takes a newer snapshot in the same look, and waits for nobody. aug_changes tells what is new in it. Answers 0, or AUG_CLOSED,
+   AUG_NOT_LOOKING. */
 int64_t aug_look_again(aug_user *user);
 
 /* Ends the look, and sleeps for some 50 microseconds if a user waits. Answers 0, or AUG_CLOSED, AUG_NOT_LOOKING. */
@@ -254,6 +262,12 @@ AUG_NODISCARD int64_t aug_list(aug_user *user, uint32_t from, uint32_t *keys, ui
 
 /* The same of the greatest members below `below`, falling. To list all, begin with AUG_MOST_KEYS, and go on from the last one. */
 AUG_NODISCARD int64_t aug_list_back(aug_user *user, uint32_t below, uint32_t *keys, uint32_t *weights, size_t room);
+
+/* Writes the first changes from `from` on, with rising keys, as many as there are, and at most `room`: the keys whose weights differ between
+   the snapshot that the last aug_look_again took and the one that the look showed before. A look that was not taken again has none, and a key
+   that went out and came back with the same weight is none. Answers how many. To list all, begin with 0, and go on from the last key plus 1 as
+   long as the answer is `room`. What no update has touched in between is passed over, and nobody is waited for. */
+AUG_NODISCARD int64_t aug_changes(aug_user *user, uint32_t from, aug_change *out, size_t room);
 
 /* ---- The calls that never wait: what they may answer beside that is AUG_AGAIN. No handle, array or result may be null. ---- */
 

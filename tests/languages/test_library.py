@@ -264,6 +264,9 @@ class Installed:
     def test_c_many_keys(self):
         assert self.answers_in("many.c") >= 300
 
+    def test_c_changes(self):
+        assert self.answers_in("changes.c") >= 500000
+
     def test_c_pops(self):
         assert self.answers_in("pops.c") >= 8192
 
@@ -297,7 +300,7 @@ class Installed:
 
     def test_c_library_defines_what_the_header_does_alone(self):
         archive, shared = (os.path.join(self.folder, "lib", f"libaugtrie.{end}") for end in ("a", "so"))
-        assert len(shown()) >= 48
+        assert len(shown()) >= 49
         for words in ["-g", archive], ["-D", shared]:
             assert set(re.findall(r"^\w+ [A-Z] (\w+)$", said_by("nm", "--defined-only", *words), re.M)) == shown()
         assert re.search(r"SONAME.*\[libaugtrie\.so\.\d+\.\d+\]", said_by("readelf", "-d", shared))
@@ -369,7 +372,7 @@ class Checked:
     """What valgrind says of the C programs."""
 
     def test_c_under_valgrind(self):
-        programs = [self.compiled("c", "tests", f"{name}.c", words=[CC, "-std=c11", "-g"]) for name in ("threads", "many", "tries", "pops", "waits")]
+        programs = [self.compiled("c", "tests", f"{name}.c", words=[CC, "-std=c11", "-g"]) for name in ("threads", "many", "tries", "pops", "waits", "changes")]
         for program in self.refused("-g"), *programs:
             said_by("valgrind", "-q", "--error-exitcode=9", "--leak-check=full", program)
 

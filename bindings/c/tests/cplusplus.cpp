@@ -43,6 +43,14 @@ int main() {
     WANT(span.sum, 0 + 1 + 2 + 3);
     WANT(aug_keys(&users[0], 0, keys.data(), keys.size()), 128);
     WANT(keys[127], 127);
+    WANT(aug_look_done(&users[0]), AUG_OK);
+
+    aug_change change = {};
+    WANT(aug_look(&users[1]), AUG_OK);
+    WANT(aug_put(&users[0], 7, 9), 2);
+    WANT(aug_look_again(&users[1]), AUG_OK);
+    WANT(aug_changes(&users[1], 0, &change, 1), 1);
+    WANT(change.key == 7 && change.before == 7 && change.now == 9, 1);
     for (aug_user &user : users) WANT(aug_user_close(&user), AUG_OK);
 
     aug_report report = {};

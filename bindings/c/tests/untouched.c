@@ -33,6 +33,7 @@ static void look(aug_user *user) {
     uint8_t found[KEYS];
     int64_t each[KEYS];
     aug_span span;
+    aug_change change;
     WANT(aug_look(user), AUG_OK);
     WANT(aug_look(user), AUG_LOOKING);
     WANT(aug_insert(user, 2), AUG_LOOKING);
@@ -53,6 +54,7 @@ static void look(aug_user *user) {
     WANT(aug_keys(user, 0, ranks, KEYS), 1);
     WANT(aug_list(user, 0, ranks, weights, KEYS), 1);
     WANT(aug_list_back(user, 64, ranks, weights, KEYS), 1);
+    WANT(aug_changes(user, 0, &change, 1), 0);
     WANT(aug_look_done(user), AUG_OK);
 }
 

@@ -50,7 +50,7 @@ REPORTS = {
 }
 
 # The fewest tests that each part must have run in one folder, and the fewest answers that the benchmark compares of an engine and a workload.
-LEAST_PYTHON, LEAST_RUST, LEAST_ANSWERS = 37, 26, 2001
+LEAST_PYTHON, LEAST_RUST, LEAST_ANSWERS = 37, 30, 2001
 
 # The engines of the benchmark, and the types that their threads work with. The last one needs a crate that may not be there.
 ENGINES = {
@@ -77,7 +77,7 @@ CROWD = re.compile(r"ok: \d{4,} operations, \d{3,} looks\n")
 # What the examples print.
 PRINTED = {
     "timers": ["due before 200: 180", "fired 90, next at 102", "left 3596, set 4096"],
-    "order_book": ["each of 500 snapshots agreed with itself", "160 prices, 6400 in all, 1600 from 1950 up to the middle",
+    "order_book": ["each of 500 snapshots agreed with itself and with all changes up to it", "160 prices, 6400 in all, 1600 from 1950 up to the middle",
                    "best bid 1999, best offer 2001"],
     "leaderboard": ["top ten: 0 has 387, 1 has 148, 2 has 126, 11 has 88, 3 has 80, 6 has 77, 7 has 74, 5 has 72, 4 has 71, 10 has 62",
                     "player 500 is at rank 393 of 984, the next player is 501",

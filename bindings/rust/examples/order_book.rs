@@ -1,6 +1,7 @@
 //! An order book: the weight of a price is its volume, of bids below the middle and of offers above it. Four threads add volume and take it
-//! away, two at the same prices each, and another one looks meanwhile.
-use augtrie::{Error, Look, Trie, User};
+//! away, two at the same prices each, and another one follows the book meanwhile.
+use augtrie::{Change, Error, Look, Trie, User};
+use std::collections::BTreeMap;
 use std::thread;
 
 const MIDDLE: u32 = 2_000;
@@ -26,24 +27,33 @@ fn agrees(book: &Look) -> bool {
         && book.iter().all(|(_, volume)| [20, 30, 40, 50, 60].contains(&volume))
 }
 
-fn watch(user: &mut User) -> Result<(), Error> {
+// Follows the book from the empty one on, by what changed from one snapshot to the next: all changes together are the book.
+fn follow(mut book: Look) {
+    let mut copy = BTreeMap::new();
     for _ in 0..LOOKS {
-        assert!(agrees(&user.look()?));
+        book.again();
+        for Change { key: price, before, now } in book.changes() {
+            *copy.entry(price).or_insert(0) += i64::from(now.unwrap_or(0)) - i64::from(before.unwrap_or(0));
+        }
+        copy.retain(|_, volume| *volume != 0);
+        assert!(agrees(&book) && book.iter().eq(copy.iter().map(|(price, volume)| (*price, *volume as u32))));
     }
-    Ok(())
 }
 
 fn main() -> Result<(), Error> {
     let book = Trie::new(12, 5, 1 << 20)?;
+    let mut user = book.user()?;
     thread::scope(|scope| {
+        let empty = user.look()?;
         for lowest in [MIDDLE - 100, MIDDLE - 100, MIDDLE + 1, MIDDLE + 1] {
             let mut user = book.user()?;
             scope.spawn(move || trade(&mut user, lowest).expect("the book is open"));
         }
-        watch(&mut book.user()?)
+        // If the traders fill the table, they wait until this look ends.
+        follow(empty);
+        Ok::<(), Error>(())
     })?;
-    println!("each of {LOOKS} snapshots agreed with itself");
-    let mut user = book.user()?;
+    println!("each of {LOOKS} snapshots agreed with itself and with all changes up to it");
     let now = user.look()?;
     let (all, depth) = (now.range(..), now.range(1_950..MIDDLE));
     assert_eq!((all.count, all.sum), (160, 160 * 40));

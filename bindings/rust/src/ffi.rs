@@ -58,6 +58,15 @@ pub struct Member {
     pub weight: u32,
 }
 
+/// A key that changed, and its weight in both snapshots, or a number below 0.
+#[repr(C)]
+#[derive(Debug, Default, Clone, Copy)]
+pub struct Change {
+    pub key: u32,
+    pub before: i64,
+    pub now: i64,
+}
+
 /// What the life of a trie came to. A weight that was replaced counts as an insertion and a removal.
 #[repr(C)]
 #[derive(Debug, Default, Clone, Copy, PartialEq, Eq)]
@@ -111,4 +120,5 @@ unsafe extern "C" {
     pub fn aug_keys(user: &mut User, from: u32, out: *mut u32, room: usize) -> i64;
     pub fn aug_list(user: &mut User, from: u32, keys: *mut u32, weights: *mut u32, room: usize) -> i64;
     pub fn aug_list_back(user: &mut User, below: u32, keys: *mut u32, weights: *mut u32, room: usize) -> i64;
+    pub fn aug_changes(user: &mut User, from: u32, out: *mut Change, room: usize) -> i64;
 }

@@ -48,6 +48,7 @@
 //! ```
 #![warn(missing_docs, clippy::undocumented_unsafe_blocks)]
 
+mod changes;
 mod error;
 mod ffi;
 mod look;
@@ -57,6 +58,7 @@ mod user;
 
 use std::ffi::CStr;
 
+pub use changes::{Change, Changes};
 pub use error::Error;
 pub use ffi::{Report, Span};
 pub use look::{Iter, Look};

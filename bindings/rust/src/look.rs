@@ -1,4 +1,5 @@
 use crate::Error;
+use crate::changes::Changes;
 use crate::ffi::{self, Span};
 use crate::user::User;
 use std::cell::RefCell;
@@ -35,11 +36,11 @@ impl<'user> Look<'user> {
     }
 
     // No query is refused while the look is held.
-    fn ask(&self, query: impl FnOnce(&mut ffi::User) -> i64) -> Option<u32> {
+    pub(crate) fn ask(&self, query: impl FnOnce(&mut ffi::User) -> i64) -> Option<u32> {
         u32::try_from(query(&mut self.user.borrow_mut().handle)).ok()
     }
 
-    /// Takes a newer snapshot in the same look, and waits for nobody.
+    /// Takes a newer snapshot in the same look, and waits for nobody. [`changes`](Look::changes) tells what is new in it.
     pub fn again(&mut self) {
         ffi::aug_look_again(&mut self.user.get_mut().handle);
     }
@@ -163,6 +164,28 @@ impl<'user> Look<'user> {
         let (from, to) = ends(keys);
         let left = self.rank(to).saturating_sub(self.rank(from));
         Iter { look: self, left, front: End::at(from), back: End::at(to) }
+    }
+
+    /// The keys whose weights differ between the snapshot that the last [`again`](Look::again) took and the one that the look showed before,
+    /// rising. There are none before the first `again`, and a key that went out and came back with the same weight is none. What no update
+    /// has touched in between is passed over.
+    ///
+    /// ```
+    /// use augtrie::{Change, Error, Trie};
+    ///
+    /// let trie = Trie::new(12, 2, 1 << 20)?;
+    /// let (mut reader, mut writer) = (trie.user()?, trie.user()?);
+    /// writer.insert_all(&[7, 8])?;
+    /// let mut look = reader.look()?;
+    /// writer.add(8, 2)?;
+    /// writer.insert(9)?;
+    /// look.again();
+    /// let want = [Change { key: 8, before: Some(8), now: Some(10) }, Change { key: 9, before: None, now: Some(9) }];
+    /// assert!(look.changes().eq(want));
+    /// # Ok::<(), Error>(())
+    /// ```
+    pub fn changes(&self) -> Changes<'_, 'user> {
+        Changes::of(self)
     }
 }
 

@@ -1,6 +1,6 @@
 //! The crate's calls beside a map, threads, and misuses that its types let through.
-use augtrie::{Error, Look, Put, Sum, Trie, User};
-use std::collections::BTreeMap;
+use augtrie::{Change, Error, Look, Put, Sum, Trie, User};
+use std::collections::{BTreeMap, BTreeSet};
 use std::mem::forget;
 use std::ops::Bound;
 use std::sync::Mutex;
@@ -171,6 +171,98 @@ fn a_look_stays_until_it_is_taken_again() -> Result<(), Error> {
         }
     }
     Ok(())
+}
+
+/// What differs between two maps, by rising keys.
+fn differences(before: &BTreeMap<u32, u32>, now: &BTreeMap<u32, u32>) -> Vec<Change> {
+    let keys: BTreeSet<u32> = before.keys().chain(now.keys()).copied().collect();
+    let change = |key| Change { key, before: before.get(&key).copied(), now: now.get(&key).copied() };
+    keys.into_iter().map(change).filter(|change| change.before != change.now).collect()
+}
+
+#[test]
+fn changes_are_what_differs_between_two_snapshots() -> Result<(), Error> {
+    let mut drawn = Drawn(11);
+    for bits in 1..=16 {
+        let trie = Trie::new(bits, 2, PLENTY)?;
+        let (mut one, mut other, mut map) = (trie.user()?, trie.user()?, BTreeMap::new());
+        (0..30).for_each(|_| update(&mut one, &mut map, &mut drawn, bits));
+        let mut look = other.look()?;
+        assert_eq!(look.changes().next(), None);
+        for updates in [0, 1, 5, 40, 120, 240, 2, 0] {
+            let before = map.clone();
+            (0..updates).for_each(|_| update(&mut one, &mut map, &mut drawn, bits));
+            look.again();
+            let want = differences(&before, &map);
+            assert!(look.changes().eq(want.iter().copied()));
+            // A clone goes on from where it was made, and at its end an iterator stays there.
+            let mut iter = look.changes();
+            let at = drawn.below(want.len() as u32 + 1) as usize;
+            assert!(iter.by_ref().take(at).eq(want[..at].iter().copied()) && iter.clone().eq(want[at..].iter().copied()));
+            assert_eq!((iter.by_ref().count(), iter.next()), (want.len() - at, None));
+        }
+        drop(look);
+        assert_eq!(other.look()?.changes().next(), None);
+    }
+    Ok(())
+}
+
+#[test]
+fn so_many_changes_are_listed_as_there_are() -> Result<(), Error> {
+    for count in [1, 31, 32, 33, 64, 65, 96, 1000] {
+        let trie = Trie::new(16, 2, PLENTY)?;
+        let (mut one, mut other) = (trie.user()?, trie.user()?);
+        let mut look = other.look()?;
+        let keys: Vec<u32> = (0..count).map(|i| 65_535 - 65 * i).rev().collect();
+        assert_eq!(one.put_all(&keys, &vec![7; keys.len()]), Ok(count));
+        look.again();
+        assert!(look.changes().eq(keys.iter().map(|&key| Change { key, before: None, now: Some(7) })));
+        assert_eq!(one.remove_all(&keys), Ok(count));
+        look.again();
+        assert!(look.changes().eq(keys.iter().map(|&key| Change { key, before: Some(7), now: None })));
+        // These go in and out again between two snapshots.
+        assert_eq!((one.insert_all(&keys), one.remove_all(&keys)), (Ok(count), Ok(count)));
+        look.again();
+        assert_eq!(look.changes().next(), None);
+    }
+    Ok(())
+}
+
+#[test]
+fn a_copy_follows_the_changes_that_three_threads_make() -> Result<(), Error> {
+    let trie = small(6, 4);
+    let mut looker = trie.user()?;
+    thread::scope(|scope| {
+        let work = |i: u32, mut user: User| {
+            for unit in 0..3_000 {
+                assert!(user.add((i + 7 * unit) % 64, 1 + unit % 3).is_ok());
+                assert!(unit % 4 > 0 || user.remove((i + 11 * unit) % 64).is_ok());
+            }
+        };
+        let mut threads = Vec::new();
+        for i in 0..3 {
+            let user = trie.user()?;
+            threads.push(scope.spawn(move || work(i, user)));
+        }
+        while threads.iter().any(|thread| !thread.is_finished()) {
+            // The others wait for each look when the table is full.
+            let mut look = looker.look()?;
+            let mut copy: BTreeMap<u32, u32> = look.iter().collect();
+            for _ in 0..4 {
+                look.again();
+                for change in look.changes() {
+                    assert_eq!(copy.get(&change.key).copied(), change.before);
+                    assert_ne!(change.before, change.now);
+                    let _ = match change.now {
+                        Some(weight) => copy.insert(change.key, weight),
+                        None => copy.remove(&change.key),
+                    };
+                }
+                assert!(look.iter().eq(copy.iter().map(|(key, weight)| (*key, *weight))));
+            }
+        }
+        Ok(())
+    })
 }
 
 #[test]

@@ -335,6 +335,100 @@ def a_snapshot_stays_as_it_is():
         assert len(trie) == 256
 
 
+def differences(before, now):
+    keys = sorted({*before, *now})
+    return [(key, before.get(key), now.get(key)) for key in keys if before.get(key) != now.get(key)]
+
+
+@test
+def a_renewal_tells_what_it_changed():
+    rng = random.Random(4)
+    with Trie(10, users=2, bytes=1 << 24) as trie:
+        trie.update(range(0, 1024, 3))
+        model = {key: key for key in range(0, 1024, 3)}
+
+        def work(updates):
+            for _ in range(updates):
+                key, weight = rng.randrange(1024), rng.randrange(3)
+                if rng.random() < 0.5:
+                    trie.put(key, weight)
+                    model[key] = weight
+                else:
+                    assert trie.discard(key) is (model.pop(key, None) is not None)
+
+        with trie.snapshot() as now:
+            assert list(now.changes()) == []
+            for updates in (1, 0, 5, 40, 200, 1000, 3):
+                before, told = dict(model), list(now.changes())
+                assert elsewhere(lambda: work(updates)) is None and list(now.changes()) == told
+                now.renew()
+                assert list(now.changes()) == differences(before, model) == elsewhere(lambda: list(now.changes()))
+            # As many as a page has, or some more or less; and none, if all are as they were.
+            for count in (31, 32, 33, 64, 65, 1024):
+                for call, old, new in ((lambda: trie.put_all(range(1024), [5] * 1024), None, None), (lambda: trie.put_all(range(count), [6] * count), 5, 6),
+                                       (lambda: trie.difference_update(range(count)), 6, None)):
+                    assert isinstance(elsewhere(call), int)
+                    now.renew()
+                    assert old is None or list(now.changes()) == [(key, old, new) for key in range(count)]
+            assert elsewhere(lambda: (trie.put(9, 1), trie.discard(9))) == (True, True)
+            now.renew()
+            assert list(now.changes()) == []
+        with trie.snapshot() as now:
+            assert list(now.changes()) == []
+
+
+@test
+def a_copy_follows_what_other_threads_change():
+    with Trie(7, users=3, bytes=1 << 16) as trie:
+        over = []
+
+        def work(seed):
+            rng = random.Random(seed)
+            try:
+                for _ in range(4000):
+                    key = rng.randrange(128)
+                    trie.increment(key) if rng.random() < 0.6 else trie.discard(key)
+            finally:
+                over.append(seed)
+
+        ended = at_once(lambda: work(1), lambda: work(2))
+        while len(over) < 2:
+            with trie.snapshot() as now:
+                copy_of = dict(now.items())
+                for _ in range(5):
+                    now.renew()
+                    for key, before, weight in now.changes():
+                        assert copy_of.pop(key, None) == before != weight
+                        if weight is not None:
+                            copy_of[key] = weight
+                    assert copy_of == dict(now.items())
+        assert ended() == [None, None]
+
+
+@test
+def changes_are_those_of_one_renewal():
+    with Trie(8, users=2, bytes=1 << 22) as trie:
+        now = trie.snapshot()
+        elsewhere(lambda: trie.update(range(100)))
+        now.renew()
+        one, other, last = now.changes(), now.changes(), now.changes()
+        assert next(one) == (0, None, 0) and len(list(other)) == 100 and list(other) == [] and [next(last)[0] for _ in range(40)] == list(range(40))
+        now.renew()
+        for walk in (one, last):
+            assert raises(RuntimeError, next, walk) and raises(RuntimeError, next, walk)
+        assert list(other) == [] and list(now.changes()) == []
+        elsewhere(lambda: trie.difference_update(range(50)))
+        now.renew()
+        walk = now.changes()
+        assert next(walk) == (0, 0, None)
+        now.close()
+        # What was listed is told.
+        assert [next(walk)[0] for _ in range(31)] == list(range(1, 32)) and raises(augtrie.NotLooking, next, walk)
+        assert raises(augtrie.NotLooking, now.changes) and not hasattr(trie, "changes")
+        later = trie.snapshot()
+    assert raises(augtrie.Closed, later.changes)
+
+
 @test
 def who_holds_a_snapshot_asks_it_alone():
     with Trie(4) as trie:
@@ -834,7 +928,7 @@ def nothing_is_leaked():
     def forgotten():
         trie = Trie(14)
         held = trie.snapshot()
-        ring = [held]
+        ring = [held, held.changes()]
         ring.append(ring)
         elsewhere(lambda: trie.add(1))
 
@@ -906,7 +1000,7 @@ print(list(trie))
 def nothing_is_copied_or_pickled_or_made_by_hand():
     with Trie(4) as trie:
         now = trie.snapshot()
-        for shared in (trie, now, iter(now)):
+        for shared in (trie, now, iter(now), now.changes()):
             assert raises(TypeError, copy.copy, shared) and raises(TypeError, copy.deepcopy, shared), shared
             assert all(raises(TypeError, pickle.dumps, shared, protocol) for protocol in range(pickle.HIGHEST_PROTOCOL + 1)), shared
             assert raises(TypeError, type, "Below", (type(shared),), {}), shared

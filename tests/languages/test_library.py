@@ -50,7 +50,7 @@ REPORTS = {
 }
 
 # The fewest tests that each part must have run in one folder, and the fewest answers that the benchmark compares of an engine and a workload.
-LEAST_PYTHON, LEAST_RUST, LEAST_ANSWERS = 37, 30, 2001
+LEAST_PYTHON, LEAST_RUST, LEAST_ANSWERS = 40, 30, 2001
 
 # The engines of the benchmark, and the types that their threads work with. The last one needs a crate that may not be there.
 ENGINES = {

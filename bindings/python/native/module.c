@@ -3,7 +3,7 @@
 
 #include <string.h>
 
-PyTypeObject *members_type, *trie_type, *snapshot_type, *iterator_type, *stay_type, *report_type, *span_type;
+PyTypeObject *members_type, *trie_type, *snapshot_type, *iterator_type, *changes_type, *stay_type, *report_type, *span_type;
 PyObject *any_error;
 
 /* The exceptions by the codes that they stand for, with the sign turned. */
@@ -119,6 +119,7 @@ static int add_types(PyObject *module) {
                 {&trie_type, &trie_spec, &members_type},
                 {&snapshot_type, &snapshot_spec, &members_type},
                 {&iterator_type, &iterator_spec, NULL},
+                {&changes_type, &changes_spec, NULL},
                 {&stay_type, &stay_spec, NULL}};
     for (size_t i = 0; i < sizeof made / sizeof *made; i++) {
         PyObject *bases = made[i].base ? PyTuple_Pack(1, *made[i].base) : NULL;

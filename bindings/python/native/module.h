@@ -36,12 +36,13 @@ typedef struct Trie {
 struct Snapshot {
     PyObject_HEAD
     Trie *trie;
-    Seat *seat; /* NULL once it has ended */
+    Seat *seat;        /* NULL once it has ended */
+    unsigned renewals; /* how often it has been renewed */
 };
 
 /* The types, which the module makes when it is loaded. */
-extern PyTypeObject *members_type, *trie_type, *snapshot_type, *iterator_type, *stay_type, *report_type, *span_type;
-extern PyType_Spec members_spec, trie_spec, snapshot_spec, iterator_spec, stay_spec;
+extern PyTypeObject *members_type, *trie_type, *snapshot_type, *iterator_type, *changes_type, *stay_type, *report_type, *span_type;
+extern PyType_Spec members_spec, trie_spec, snapshot_spec, iterator_spec, changes_spec, stay_spec;
 
 /* The exception that all others are of. */
 extern PyObject *any_error;

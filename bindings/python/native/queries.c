@@ -393,6 +393,88 @@ static PyType_Slot iterator_slots[] = {
 
 PyType_Spec iterator_spec = {"augtrie.MemberIterator", sizeof(Iterator), 0, Py_TPFLAGS_DEFAULT, iterator_slots};
 
+/* ---- What changed ---- */
+
+/* How many changes are listed at a time. */
+enum { CHANGES = 32 };
+
+typedef struct {
+    PyObject_HEAD
+    Snapshot *source;
+    unsigned renewals;  /* of the source, when it began */
+    uint32_t from;      /* from here on changes are not listed yet */
+    size_t next, count; /* a page that is not full is the last */
+    aug_change page[CHANGES];
+} Changes;
+
+static PyObject *changes_of(Snapshot *source) {
+    Changes *changes = PyObject_New(Changes, changes_type);
+    if (!changes) return NULL;
+    Py_INCREF(source);
+    changes->source = source;
+    changes->renewals = source->renewals;
+    changes->from = 0;
+    changes->next = changes->count = CHANGES;
+    return (PyObject *)changes;
+}
+
+static void changes_free(PyObject *self) {
+    Py_DECREF(((Changes *)self)->source);
+    free_object(self);
+}
+
+/* What was listed before a renewal, and what is after it, belong to different snapshots. 0, or -1 with an exception. */
+static int refuse_renewed(const Changes *changes) {
+    if (changes->source->renewals == changes->renewals) return 0;
+    PyErr_SetString(PyExc_RuntimeError, "the snapshot was renewed during iteration");
+    return -1;
+}
+
+/* Lists the next changes. 0, or -1 with an exception. */
+static int list_changes(Changes *changes) {
+    Seat *seat = begin((PyObject *)changes->source);
+    if (!seat || refuse_renewed(changes)) return -1;
+    /* Another thread may have come first, if this one had to wait. */
+    if (changes->next < changes->count || changes->count < CHANGES) return 0;
+    int64_t count = aug_changes(&seat->handle, changes->from, changes->page, CHANGES);
+    if (count < 0) {
+        raise_code(count);
+        return -1;
+    }
+    changes->next = 0;
+    changes->count = (size_t)count;
+    if (count == CHANGES) changes->from = changes->page[CHANGES - 1].key + 1;
+    return 0;
+}
+
+static PyObject *changes_next(PyObject *self) {
+    Changes *changes = (Changes *)self;
+    if (changes->next == changes->count && changes->count == CHANGES && list_changes(changes)) return NULL;
+    if (changes->next == changes->count || refuse_renewed(changes)) return NULL;
+    const aug_change change = changes->page[changes->next++];
+    PyObject *before = number_or_none(change.before);
+    PyObject *now = before ? number_or_none(change.now) : NULL;
+    if (now) return Py_BuildValue("(kNN)", (unsigned long)change.key, before, now);
+    Py_XDECREF(before);
+    return NULL;
+}
+
+static PyMethodDef changes_methods[] = {
+    {"__reduce__", refuse_copy, METH_NOARGS, "Refused."},
+    {NULL, NULL, 0, NULL},
+};
+
+static PyType_Slot changes_slots[] = {
+    {Py_tp_new, refuse_new},
+    {Py_tp_dealloc, changes_free},
+    {Py_tp_methods, changes_methods},
+    {Py_tp_iter, PyObject_SelfIter},
+    {Py_tp_iternext, changes_next},
+    {0, NULL},
+};
+
+PyType_Spec changes_spec = {"augtrie.ChangeIterator", sizeof(Changes), 0, Py_TPFLAGS_DEFAULT, changes_slots};
+
 /* ---- Snapshots ---- */
 
 /* Ends a snapshot whose seat is not busy, unless it has ended. */
@@ -415,7 +497,13 @@ static PyObject *snapshot_renew(PyObject *self, PyObject *unused) {
     if (!seat) return NULL;
     int64_t code = aug_look_again(&seat->handle);
     if (code < 0) return raise_code(code);
+    ((Snapshot *)self)->renewals++;
     Py_RETURN_NONE;
+}
+
+static PyObject *snapshot_changes(PyObject *self, PyObject *unused) {
+    (void)unused;
+    return begin(self) ? changes_of((Snapshot *)self) : NULL;
 }
 
 static PyObject *snapshot_close(PyObject *self, PyObject *unused) {
@@ -435,6 +523,9 @@ static PyObject *snapshot_enter(PyObject *self, PyObject *unused) {
 
 static PyMethodDef snapshot_methods[] = {
     {"renew", snapshot_renew, METH_NOARGS, "renew($self, /)\n--\n\nShows the trie as it is now."},
+    {"changes", snapshot_changes, METH_NOARGS,
+     "changes($self, /)\n--\n\nAn iterator over what the last `renew` changed: keys, rising, each with its weight before and now, or None where it "
+     "is no member. There is nothing before the first one. RuntimeError if the snapshot is renewed meanwhile."},
     {"close", snapshot_close, METH_NOARGS, "close($self, /)\n--\n\nEnds it, so that its thread may update again. Nothing if it has ended."},
     {"__enter__", snapshot_enter, METH_NOARGS, "The snapshot."},
     {"__exit__", snapshot_close, METH_VARARGS, "Ends it."},

@@ -83,6 +83,7 @@ static PyObject *trie_snapshot(PyObject *self, PyObject *unused) {
     if (!snapshot) return NULL;
     Py_INCREF(self);
     snapshot->trie = (Trie *)self;
+    snapshot->renewals = 0;
     snapshot->seat = look(snapshot->trie);
     if (snapshot->seat) snapshot->seat->held = snapshot;
     else Py_CLEAR(snapshot);

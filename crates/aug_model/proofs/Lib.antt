@@ -1,4 +1,5 @@
 pub mod Boundaries
+pub mod Changes
 pub mod Filters
 pub mod Membership
 pub mod Pairs

@@ -1,3 +1,4 @@
+pub mod Differences
 pub mod Folds
 pub mod Keys
 pub mod Queries

@@ -2,6 +2,7 @@
 #![tactic(auto)]
 
 mod calls;
+mod difference;
 mod key_set;
 mod model_error;
 mod outcome;
@@ -9,6 +10,7 @@ mod places;
 mod summary;
 
 pub use calls::Calls;
+pub use difference::Difference;
 pub use key_set::KeySet;
 pub use model_error::ModelError;
 pub use outcome::Outcome;

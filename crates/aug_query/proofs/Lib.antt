@@ -8,6 +8,7 @@ pub mod Choosing
 pub mod Ends
 pub mod Passing
 pub mod Beside
+pub mod Changing
 pub mod Inside
 pub mod Together
 pub mod Batches

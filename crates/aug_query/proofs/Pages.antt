@@ -117,16 +117,16 @@ below_cut set k a m b is low high =
 
 -- what the first key and the end of a node's parts are
 module _ (level l place : ℕ) (e : l + 1 ≡ level) where
-  begins : first_key l (2 * place) ≡ first_key level place
+  pub begins : first_key l (2 * place) ≡ first_key level place
   begins = left_low level place l (2 * place) e refl
 
-  ends : end_key l (2 * place + 1) ≡ end_key level place
+  pub ends : end_key l (2 * place + 1) ≡ end_key level place
   ends = right_high level place l (2 * place + 1) e refl
 
-  low_half : first_key level place ≤ end_key l (2 * place)
+  pub low_half : first_key level place ≤ end_key l (2 * place)
   low_half = omega (arith, begins, mul-le-mul_left 1 (pow_pos l))
 
-  high_half : end_key l (2 * place) ≤ end_key level place
+  pub high_half : end_key l (2 * place) ≤ end_key level place
   high_half = omega (arith, ends)
 
   -- a node gives what its two children give

@@ -1,5 +1,6 @@
 pub mod FakeTree
 pub mod Descend
+pub mod DescendBoth
 pub mod NodeWalk
 pub mod RunningSums
 pub mod Tree

@@ -6,10 +6,12 @@
 //! `After` `3 * bits` nodes, `bits` of them beside a counted one, and `bits + 1` counts; `Range`, `Least` and `Greatest` `4 * bits - 1`
 //! nodes and `2 * bits` summaries; `MembersFrom` and `MembersBelow` `66 * bits + 1` nodes and `33 * bits + 1` counts; `Keys` and `Pairs`,
 //! for `n` members, `2 * bits * n + 1` nodes and `bits * n + 1` counts. `Four` queries of a kind load what each of them does, and so do
-//! `Ranks`, `Memberships` and `Weights` of `n` keys.
+//! `Ranks`, `Memberships` and `Weights` of `n` keys. `next_changes` descends two trees at once, and loads at most
+//! both children, of both trees, for each node that differs.
 
 mod batches;
 mod by_weight;
+mod changes;
 mod counts;
 mod cursor;
 mod ends;
@@ -23,6 +25,7 @@ mod together;
 
 pub use batches::{Memberships, Ranks, Weights};
 pub use by_weight::SelectByWeight;
+pub use changes::{Changes, next_changes};
 pub use counts::{Rank, Size};
 pub use cursor::Cursor;
 pub use ends::{First, Greatest, Last, Least};

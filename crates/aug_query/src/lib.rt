@@ -8,6 +8,7 @@
 #![tactic(auto)]
 
 mod descend;
+mod descend_both;
 pub mod descent;
 mod fake_tree;
 mod loaded;
@@ -22,6 +23,7 @@ mod tree;
 
 pub use aug_model::Calls;
 pub use descend::Descend;
+pub use descend_both::DescendBoth;
 pub use fake_tree::{FakeNode, FakeTree};
 pub use loaded::Loaded;
 pub use node_walk::NodeWalk;

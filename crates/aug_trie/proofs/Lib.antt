@@ -34,6 +34,7 @@ pub mod RoundLemmas
 pub mod Refusals
 pub mod Crews
 pub mod CutLemmas
+pub mod Comparing
 pub mod TallyLemmas
 pub mod Versions
 pub mod Endings

@@ -1,12 +1,12 @@
 -- From the root of a cut's tree down.
-use Rattle.std.proofs.Common.{◌≡◌, ℕ, zero, suc, ◌+◌, ◌*◌, ◌%◌, ◌^◌, ◌<◌, ◌≤◌, ◌&&◌, Bool, true, false, eqb, eq-eqb, ne_eqb, leb, ltb, le-leb, lt-ltb, if◌then◌else◌, Option, Some, None, unwrap_or, List, [], ◌∷◌, length, get_or, sym, refl, ap, ◌∙◌, subst, ⊎_elim, arith}
-use Rattle.std.proofs.lemmas.Bool.{cases_eq}
+use Rattle.std.proofs.Common.{◌≡◌, ℕ, zero, suc, ◌+◌, ◌*◌, ◌%◌, ◌^◌, ◌<◌, ◌≤◌, Bool, eqb, eq-eqb, if◌then◌else◌, Option, Some, None, unwrap_or, List, [], ◌∷◌, length, get_or, sym, refl, ap, ◌∙◌, subst, arith}
 use Rattle.aug_monoid.specs.Parts.{Parts}
 use Rattle.aug_monoid.specs.inside.Laws.{IsMonoid}
 use Rattle.aug_monoid.proofs.FoldLemmas.{of_word-fold_of}
 use Rattle.aug_model.specs.Folds.{summary_of}
-use Rattle.aug_model.specs.Queries.{range_of, weighted_range_of, weight_of, weight_in}
+use Rattle.aug_model.specs.Queries.{range_of, weighted_range_of, weight_in}
 use Rattle.aug_model.proofs.Pairs.{range-pairs_of, length-pairs_of}
+use Rattle.aug_model.proofs.Changes.{weight_of-range}
 use Rattle.aug_model.specs.declared.summary.Summary.{Summary}
 use Rattle.aug_core.specs.Addresses.{root_place, left_of, right_of, IsInner}
 use Rattle.aug_core.specs.Faces.{face}
@@ -32,20 +32,6 @@ use Rattle.aug_trie.proofs.LeafWords.{serial_of_entry, weight_of_entry, pairs_of
 range_long : (cut : Cut) (a b : ℕ) → length (weighted_range_of (pairs_of_cut cut) a b) ≡ length (range_of (set_of_cut cut) a b)
 range_long cut a b = ap length (range-pairs_of (weight_at cut) (set_of_cut cut) a b) ∙ length-pairs_of (weight_at cut) (range_of (set_of_cut cut) a b)
 
--- a key weighs in an interval that it is in what it weighs
-weight_of-range : (ps : List (ℕ × ℕ)) (k a b : ℕ) → a ≤ k → k < b → weight_of (weighted_range_of ps a b) k ≡ weight_of ps k
-weight_of-range [] k a b from to = refl
-weight_of-range (p ∷ ps) k a b from to = ⊎_elim
-    (λ (same : p.0 ≡ k). let inside : (leb a p.0 && ltb p.0 b) ≡ true = ap (λ (z : Bool). z && ltb p.0 b) (le-leb a p.0 (omega arith)) ∙ lt-ltb p.0 b (omega arith) in
-    ap (λ (z : Bool). weight_of (if z then p ∷ weighted_range_of ps a b else weighted_range_of ps a b) k) inside
-    ∙ ap (λ (z : Bool). if z then Some p.1 else weight_of (weighted_range_of ps a b) k) (eq-eqb p.0 k same) ∙ sym (ap (λ (z : Bool). if z then Some p.1 else weight_of ps k) (eq-eqb p.0 k same)))
-    (λ ne. either (leb a p.0 && ltb p.0 b) (ne_eqb p.0 k ne) (weight_of-range ps k a b from to) ∙ sym (ap (λ (z : Bool). if z then Some p.1 else weight_of ps k) (ne_eqb p.0 k ne)))
-    (cases_eq p.0 k)
-  where
-    either : (c : Bool) → eqb p.0 k ≡ false → weight_of (weighted_range_of ps a b) k ≡ weight_of ps k → weight_of (if c then p ∷ weighted_range_of ps a b else weighted_range_of ps a b) k ≡ weight_of ps k
-    either true other rest = ap (λ (z : Bool). if z then Some p.1 else weight_of (weighted_range_of ps a b) k) other ∙ rest
-    either false other rest = rest
-
 -- a serial says how many pairs its leaf has
 pub pairs_counted : (key word : ℕ) → length (leaf_pairs key word) ≡ serial_in_word word % 2
 pairs_counted key word = counted (serial_in_word word % 2) (omega arith)
@@ -70,7 +56,7 @@ module _ {A B : Type 0} (parts_a : Parts A) (parts_b : Parts B) where
 
   module _ (v : SeatView) (b : IsBook both v.shape v.seen) (cut : Cut) where
     -- the top of a snapshot's tree
-    pub top_node : (number : ℕ) → IsInner v.shape (root_place v.shape) → IsSnapshotOf v.shape v.seen number cut → IsNodeAt v.shape v.seen cut v.shape.bits 0 number
+    abbrev pub top_node : (number : ℕ) → IsInner v.shape (root_place v.shape) → IsSnapshotOf v.shape v.seen number cut → IsNodeAt v.shape v.seen cut v.shape.bits 0 number
     top_node number inner t = record {
       q = root_place v.shape;
       index = t.index;
@@ -102,17 +88,17 @@ module _ {A B : Type 0} (parts_a : Parts A) (parts_b : Parts B) where
       pub node_seen : HasSeen v word
       node_seen = record { place = t.q; index = t.index; entry = entry; inner = inner; at = at; numbered = numbered }
 
-      read : (field r : ℕ) → Says v word field r → r ≡ get_or entry.words field 0
+      pub read : (field r : ℕ) → Says v word field r → r ≡ get_or entry.words field 0
       read field r says = says t.q t.index entry inner at numbered
 
       words : entry.words ≡ both (entry_of v.seen (left_of v.shape t.q) entry.left).word (entry_of v.seen (right_of v.shape t.q) entry.right).word (weighted_range_of (pairs_of_cut cut) (place * 2 ^ suc level) ((place + 1) * 2 ^ suc level))
       words = part_words both v.shape v.seen b cut level place t.q t.index t.part
 
-      over : (field : ℕ) → get_or entry.words field 0 ≡ get_or (both (entry_of v.seen (left_of v.shape t.q) entry.left).word (entry_of v.seen (right_of v.shape t.q) entry.right).word entry.pairs) field 0
+      pub over : (field : ℕ) → get_or entry.words field 0 ≡ get_or (both (entry_of v.seen (left_of v.shape t.q) entry.left).word (entry_of v.seen (right_of v.shape t.q) entry.right).word entry.pairs) field 0
       over field = ap (λ (z : List ℕ). get_or z field 0) (words ∙ ap (both (entry_of v.seen (left_of v.shape t.q) entry.left).word (entry_of v.seen (right_of v.shape t.q) entry.right).word) (sym (part_pairs both v.shape v.seen b cut (suc level) place t.q t.index t.part)))
 
       -- its first word names its left child
-      pub left_node : (r : ℕ) → Says v word 0 r → IsNodeAt v.shape v.seen cut level (2 * place) r
+      abbrev pub left_node : (r : ℕ) → Says v word 0 r → IsNodeAt v.shape v.seen cut level (2 * place) r
       left_node r says = record {
         q = left_of v.shape t.q;
         index = entry.left;
@@ -121,7 +107,7 @@ module _ {A B : Type 0} (parts_a : Parts A) (parts_b : Parts B) where
       }
 
       -- its second its right child
-      pub right_node : (r : ℕ) → Says v word 1 r → IsNodeAt v.shape v.seen cut level (2 * place + 1) r
+      abbrev pub right_node : (r : ℕ) → Says v word 1 r → IsNodeAt v.shape v.seen cut level (2 * place + 1) r
       right_node r says = record {
         q = right_of v.shape t.q;
         index = entry.right;

@@ -13,6 +13,7 @@ pub mod Pass
 pub mod UpdateBatches
 pub mod Ledger
 pub mod Snapshot
+pub mod Comparing
 pub mod Node
 pub mod View
 pub mod Ended

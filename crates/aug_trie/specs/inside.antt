@@ -1,5 +1,7 @@
 -- What no promise rests on: what private fields keep, what private calls leave, how views come of fields, and lemmas.
 pub mod Batching
+pub mod BothWalk
+pub mod BothWalkLaws
 pub mod ClimbState
 pub mod Climbing
 pub mod Counted
@@ -13,6 +15,7 @@ pub mod Knows
 pub mod LeafPairs
 pub mod NamedCuts
 pub mod NodeWords
+pub mod NodesUnder
 pub mod NoteState
 pub mod PassState
 pub mod Points

@@ -1,6 +1,8 @@
 //! Snapshots, and the queries on them.
 
+pub(crate) mod both_walk;
 pub(crate) mod calls;
+pub(crate) mod comparing;
 pub(crate) mod cursor;
 pub(crate) mod node;
 pub(crate) mod nodes;

@@ -1,10 +1,10 @@
 //! The calls on a trie.
-ghost use Rattle.std.specs.Prelude.{◌≡◌, ◌≢◌, IfOk, IsSome, IsNone, None, Some, pos};
+ghost use Rattle.std.specs.Prelude.{◌≡◌, ◌≢◌, IsSome, IsNone, None, Some, pos};
 ghost use Rattle.aug_c.specs.declared.seat.Opened.{Opened};
 ghost use Rattle.aug_c.specs.Codes.{closed, is_open};
 ghost use Rattle.aug_c.specs.Handles.{trie_of, user_of, On};
 ghost use Rattle.aug_c.specs.Marks.{trie_mark, user_mark};
-ghost use Rattle.aug_c.specs.TrieCalls.{ClosesTrie, OpensTrie, OpensUser, empty_of};
+ghost use Rattle.aug_c.specs.TrieCalls.{ClosesTrie, OpensTrie, OpensUser};
 
 use crate::codes::{AGAIN, BAD_BITS, BAD_USERS, CLOSED, NO_MEMORY, NO_USER, OPEN, TOO_LARGE};
 use crate::report::Report;
@@ -12,22 +12,8 @@ use crate::seat::{Opened, Seat, TrieOf};
 use crate::trie_handle::{TrieHandle, TrieSlot};
 use crate::user_handle::{UserHandle, UserSlot};
 use aug_live::Plan;
-use aug_monoid::{Extent, Sum};
-use aug_trie::{Ended, Members};
-use std::alloc::{AllocError, Global};
-
-// The empty set of keys of so many bits.
-fn empty_set(alloc: Global, bits: u32) -> Result<Members, AllocError>
-    ensures { IfOk result (λ set. set ≡ empty_of bits) }
-{
-    let Ok(ended) = Ended::<Sum, Extent>::empty(alloc, bits) else {
-        return Err(AllocError);
-    };
-    match ended.into_members(alloc) {
-        Ok(set) => Ok(set),
-        Err(_) => Err(AllocError),
-    }
-}
+use aug_trie::Members;
+use std::alloc::Global;
 
 /// Opens the empty trie for keys below `2^bits`, with so many users, whose table takes at most so many bytes.
 #[unsafe(no_mangle)]
@@ -48,9 +34,9 @@ pub extern "C" fn aug_try_open(
     if trie.is_user() {
         return CLOSED;
     }
-    if !(1..=16).contains(&bits) {
+    let Ok(set) = Members::empty(alloc, bits) else {
         return BAD_BITS;
-    }
+    };
     if !(1..=64).contains(&users) {
         return BAD_USERS;
     }
@@ -58,9 +44,6 @@ pub extern "C" fn aug_try_open(
         return TOO_LARGE;
     };
     let Ok(slot) = Box::new(alloc, TrieSlot { trie: None }) else {
-        return NO_MEMORY;
-    };
-    let Ok(set) = empty_set(alloc, bits) else {
         return NO_MEMORY;
     };
     let Ok((live, spare)) = TrieOf::open(alloc, set, users, bytes) else {

@@ -3,7 +3,7 @@
 use aug_live::{Busy, Handle, Live, LiveCounts, LiveError, Look, OpenError, Plan, TryError};
 use aug_monoid::{Extent, Sum};
 use aug_query::descent::{Has, Size};
-use aug_trie::{Ended, Members, Outcome, Pop, Request, Side};
+use aug_trie::{Members, Outcome, Pop, Request, Side};
 use ruled_lock::WasOut;
 use std::alloc::Global;
 use std::sync::Wait;
@@ -16,13 +16,7 @@ pub type LookOf = Look<Sum, Extent>;
 
 /// The empty set of keys of `bits` bits.
 pub fn no_keys(alloc: Global, bits: u32) -> Result<Members, OpenError> {
-    let Ok(ended) = Ended::<Sum, Extent>::empty(alloc, bits) else {
-        return Err(OpenError::OutOfMemory);
-    };
-    match ended.into_members(alloc) {
-        Ok(set) => Ok(set),
-        Err(_) => Err(OpenError::OutOfMemory),
-    }
+    Members::empty(alloc, bits).map_err(|_| OpenError::TooLarge)
 }
 
 /// A trie over the empty set of keys of `bits` bits, with `spare` spare lanes.

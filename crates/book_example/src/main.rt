@@ -7,10 +7,10 @@ ghost use Rattle.aug_model.specs.Keys.{list_of};
 ghost use Rattle.aug_model.specs.Queries.{first_of, last_of, range_of};
 ghost use Rattle.aug_live.specs.LiveHandles.{set_of_look};
 
-use aug_live::{Handle, Live, LiveError, Look, OpenError};
+use aug_live::{Handle, Live, LiveError, Look};
 use aug_monoid::{Extent, Sum};
 use aug_query::descent::{Greatest, Least, Range, SelectByWeight};
-use aug_trie::Ended;
+use aug_trie::Members;
 use std::alloc::Global;
 use std::sync::Wait;
 use std::thread;
@@ -72,8 +72,7 @@ fn watch<R: Wait>(rt: &R, mut user: User) -> Result<bool, LiveError> {
 fn opened(alloc: Global) -> anyhow::Result<(Live<Sum, Extent>, Vec<User>)>
     ensures { IfOk result (λ t. vec_len t.1 ≡ 5) }
 {
-    let empty: Ended<Sum, Extent> = Ended::empty(alloc, 12)?;
-    let set = empty.into_members(alloc).or(Err(OpenError::OutOfMemory))?;
+    let set = Members::empty(alloc, 12)?;
     Ok(Live::open(alloc, set, 5, 1 << 20).map_err(|(_, cause)| cause)?)
 }
 

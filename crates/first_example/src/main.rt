@@ -1,10 +1,10 @@
 //! An order book: a price is a key, and what is offered at it its weight. One thread offers, and another asks meanwhile.
 #![tactic(auto)]
 
-use aug_live::{Handle, Live, LiveError, OpenError};
+use aug_live::{Handle, Live, LiveError};
 use aug_monoid::{Nothing, Sum};
 use aug_query::descent::{Range, Rank};
-use aug_trie::Ended;
+use aug_trie::Members;
 use std::sync::Wait;
 use std::thread;
 
@@ -32,8 +32,7 @@ fn watch<R: Wait>(rt: &R, mut user: Handle<Sum, Nothing>) -> Result<bool, LiveEr
 
 fn main(rt: HostRuntime) -> anyhow::Result<()> {
     let (r, alloc) = (&rt, rt.alloc());
-    let empty: Ended<Sum, Nothing> = Ended::empty(alloc, 12)?;
-    let set = empty.into_members(alloc).or(Err(OpenError::OutOfMemory))?;
+    let set = Members::empty(alloc, 12)?;
     let (book, mut users) = Live::open(alloc, set, 2, 1 << 20).map_err(|(_, cause)| cause)?;
     let two = users.remove(1);
     let one = users.remove(0);

@@ -5,10 +5,10 @@
 ghost use Rattle.std.specs.Prelude.{◌≡◌, IfOk, vec_len};
 
 use anyhow::bail;
-use aug_live::{Handle, Live, LiveError, OpenError};
+use aug_live::{Handle, Live, LiveError};
 use aug_monoid::{Extent, Nothing};
 use aug_trie::Outcome::{Accepted, Replaced};
-use aug_trie::{Ended, Members, Outcome};
+use aug_trie::{Members, Outcome};
 use std::alloc::Global;
 use std::sync::Wait;
 use std::thread::Threads;
@@ -61,8 +61,7 @@ fn fire<R: Wait + Clock>(rt: &R, mut user: User, end: Instant) -> Result<u64, Li
 fn opened(alloc: Global) -> anyhow::Result<(Live<Nothing, Extent>, Vec<User>)>
     ensures { IfOk result (λ t. vec_len t.1 ≡ 4) }
 {
-    let empty: Ended<Nothing, Extent> = Ended::empty(alloc, 10)?;
-    let set = empty.into_members(alloc).or(Err(OpenError::OutOfMemory))?;
+    let set = Members::empty(alloc, 10)?;
     Ok(Live::open(alloc, set, 4, 1 << 20).map_err(|(_, cause)| cause)?)
 }
 

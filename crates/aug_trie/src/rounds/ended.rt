@@ -14,7 +14,7 @@ use crate::error::BeginError;
 use crate::rounds::members::Members;
 use aug_core::{Layout, RecordField};
 use aug_monoid::Monoid;
-use aug_query::{Calls, pairs, pairs_into};
+use aug_query::{Calls, pairs};
 use aug_words::{Lead, Rest, Words};
 use std::alloc::{AllocError, Global};
 use std::marker::{Model, PhantomData};
@@ -101,20 +101,6 @@ impl<A: Monoid, B: Monoid> Ended<A, B> {
         };
         let bits = ended.bits;
         Ok(Members { bits, pairs })
-    }
-
-    /// Lists the set in `room`, which is empty and has room for all members, and gives the memory of the trie back. So nothing
-    /// can be refused.
-    pub fn into_members_in(self, room: Vec<(u32, u32)>) -> Members
-        requires empty { room.items ≡ [] }
-        requires room { length self.members ≤ vec_capacity room }
-        ensures { result ≡ set_of_ended self }
-    {
-        let mut ended = self;
-        let mut pairs = room;
-        pairs_into(&mut ended, &mut pairs);
-        let bits = ended.bits;
-        Members { bits, pairs }
     }
 
     /// How many bits a key has.

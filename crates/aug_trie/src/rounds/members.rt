@@ -1,11 +1,13 @@
 //! The set of a trie at rest as a list.
-ghost use Rattle.std.specs.Prelude.{◌≡◌, ◌^◌, length};
+ghost use Rattle.std.specs.Prelude.{◌≡◌, ◌↔◌, ◌^◌, [], IfErr, IfOk, IsErrOf, length};
 ghost use Rattle.aug_model.specs.Keys.{IsKeySet, keys_of};
-ghost use Rattle.aug_core.specs.Layout.{IsWithin};
+ghost use Rattle.aug_core.specs.Layout.{IsOutside, IsWithin};
 
+use crate::error::BeginError;
+use std::alloc::Global;
 use std::marker::Model;
 
-/// The set of a trie at rest as a list, which `Ended::into_members` gives. It needs 8 bytes a member, and none of the
+/// The set of a trie at rest as a list, which `Ended::into_members` gives, or the empty set. It needs 8 bytes a member, and none of the
 /// trie's table. `Round::begin_over` begins a round over it.
 #[derive(Drop)]
 pub struct Members {
@@ -28,6 +30,19 @@ impl Model for Members {
 }
 
 impl Members {
+    /// The empty set of keys of `bits` bits. It asks for no memory. Refused with `BadBits` if `bits` is outside 1 to 16.
+    pub fn empty(alloc: Global, bits: u32) -> Result<Members, BeginError>
+        ensures bad_bits { IsErrOf result BeginError.BadBits ↔ IsOutside 1 16 bits }
+        ensures others { IfErr result (λ e. e ≡ BeginError.BadBits) }
+        ensures empty { IfOk result (λ set. set ≡ record { bits = bits; pairs = [] }) }
+    {
+        if !(1..=16).contains(&bits) {
+            return Err(BeginError::BadBits);
+        }
+        let pairs = Vec::new(alloc);
+        Ok(Members { bits, pairs })
+    }
+
     /// How many bits a key has.
     pub fn bits(&self) -> u32
         ensures { result ≡ self.now.bits }

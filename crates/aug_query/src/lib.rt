@@ -27,6 +27,6 @@ pub use descend_both::DescendBoth;
 pub use fake_tree::{FakeNode, FakeTree};
 pub use loaded::Loaded;
 pub use node_walk::NodeWalk;
-pub use queries::{after, before, has, keys, pairs, pairs_into, range, rank, select, size, weight};
+pub use queries::{after, before, has, keys, pairs, range, rank, select, size, weight};
 pub use query::{Query, ask};
 pub use tree::Tree;

@@ -1,18 +1,15 @@
 //! The queries on a tree, by name.
-ghost use Rattle.std.specs.Prelude.{◌≡◌, ◌+◌, ◌-◌, ◌*◌, ◌≤◌, ◌++◌, length, IfOk, vec_len, vec_capacity};
+ghost use Rattle.std.specs.Prelude.{◌≡◌, ◌+◌, ◌-◌, ◌*◌, length, IfOk, vec_capacity};
 ghost use Rattle.aug_model.specs.Folds.{summary_of};
 ghost use Rattle.aug_model.specs.Keys.{is_member, list_of};
 ghost use Rattle.aug_model.specs.Queries.{rank_of, select_of, before_of, after_of, weight_of, weighted_range_of};
 ghost use Rattle.aug_query.specs.Tree.{WalksAtMost};
 
-use crate::descent::{
-    After, Before, Has, Keys, Pairs, Range, Rank, Select, Size, Weight, put_pairs,
-};
-use crate::{Loaded, NodeWalk, Tree, ask};
+use crate::descent::{After, Before, Has, Keys, Pairs, Range, Rank, Select, Size, Weight};
+use crate::{Tree, ask};
 use aug_model::Summary;
 use aug_monoid::Monoid;
 use std::alloc::{AllocError, Global};
-use std::marker::PhantomData;
 
 /// Whether `k` is a member of the set of `tree`.
 pub fn has<A: Monoid, B: Monoid, T: Tree<A, B>>(tree: &mut T, k: u32) -> bool
@@ -103,19 +100,4 @@ pub fn pairs<A: Monoid, B: Monoid, T: Tree<A, B>>(
     ensures walks { WalksAtMost T.set_of T.calls_of T.HasNode T.KeepsRest (2 * (T.set_of tree.old).bits * length (T.set_of tree.old).pairs + 1) tree.old tree.new }
 {
     ask(tree, Pairs(alloc))
-}
-
-/// Puts the members of the set of `tree`, rising, each with its weight, at the end of `list`, which has room for them.
-pub fn pairs_into<A: Monoid, B: Monoid, T: Tree<A, B>>(tree: &mut T, list: &mut Vec<(u32, u32)>)
-    requires room { vec_len list.old + length (T.set_of tree.old).pairs ≤ vec_capacity list.old }
-    ensures answer { list.new.items ≡ list.old.items ++ (T.set_of tree.old).pairs }
-    ensures room { vec_capacity list.new ≡ vec_capacity list.old }
-    ensures walks { WalksAtMost T.set_of T.calls_of T.HasNode T.KeepsRest (2 * (T.set_of tree.old).bits * length (T.set_of tree.old).pairs + 1) tree.old tree.new }
-{
-    let mut walk = NodeWalk {
-        tree,
-        loaded: Loaded::nothing(),
-        monoids: PhantomData,
-    };
-    put_pairs(&mut walk, list);
 }

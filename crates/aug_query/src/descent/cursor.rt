@@ -50,13 +50,6 @@ impl<N: Drop> Cursor<N> {
         }
     }
 
-    /// The members below this key are before the gap, and the others behind it.
-    pub fn gap(&self) -> u32
-        ensures { result ≡ self.now.gap }
-    {
-        self.gap
-    }
-
     /// Passes the member behind the gap, and gives it with its weight. If there is none, the gap stays where it is.
     pub fn next<A: Monoid, B: Monoid, D: Descend<A, B, Name = N>>(
         &mut self,

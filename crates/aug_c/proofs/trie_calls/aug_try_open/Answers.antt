@@ -8,4 +8,4 @@ use Rattle.aug_c.proofs.trie_calls.aug_try_open.Goals as goal
 pub returns-clause-opens : goal.returns-clause-opens
 returns-clause-opens c _ _ = let e = c.in-Ok-open.ensures in let a = c.args in
     let trie : Opened = record { live = c.in-Ok-open.live; spare = c.in-Ok-open.spare } in let within : IsWithin 1 16 a.bits = search rules in let few : IsWithin 1 64 a.users = search rules in
-    opens a.bits a.users a.bytes trie (trie_of c.give.new.self) within few c.in-Some.ensures.fits c.give.ensures (is_opened a.bits a.users a.bytes trie c.in-Ok-empty_set.set c.in-Ok-empty_set.ensures e.opened e.handles e.new)
+    opens a.bits a.users a.bytes trie (trie_of c.give.new.self) within few c.in-Some.ensures.fits c.give.ensures (is_opened a.bits a.users a.bytes trie c.in-Ok.set c.in-Ok.ensures.empty e.opened e.handles e.new)

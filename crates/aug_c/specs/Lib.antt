@@ -7,4 +7,5 @@ pub mod UserCalls
 pub mod PopCalls
 pub mod TrieCalls
 pub mod ArrayCalls
+pub mod ChangeCalls
 pub mod inside

@@ -4,6 +4,7 @@
 mod array_listing;
 mod array_queries;
 mod array_updates;
+mod changes;
 mod codes;
 mod lending;
 mod pops;

@@ -20,7 +20,7 @@ use aug_query::Query;
 use aug_query::descent::{After, Before, First, Has, Last, Range, Rank, Select, Size, Weight};
 
 // An answer that C has as one number.
-trait Number {
+pub(crate) trait Number {
     ghost number_of: { Self → ℤ };
 
     fn number(self) -> i64

@@ -114,31 +114,37 @@ pub record IsHandleOf (lane : ℕ) (trie : TrieFacts) (handle : HandleFacts) : T
   pub bits : handle.half.round.bits ≡ trie.bits
   pub knows : IsPart trie.rounds (chain_of handle.half)
 
--- a look: what its handle was, with the pass as it is now, and the snapshot that it shows
+-- a look: what its handle was, with the pass as it is now, the snapshot that it shows, and the one that it showed before it took that
 pub record LookFacts : Type 0 where
   pub who : WhoFacts
   pub era : ℕ
   pub half : PassFacts
   pub made : List Made
   pub snapshot : Snapshot
+  pub before : Snapshot
 
 -- what its handle knows once the look is over
 abbrev pub handle_of : LookFacts → HandleFacts
 handle_of look = record { who = look.who; era = look.era; half = look.half; made = look.made }
 
--- the set that it shows
+-- the set that it shows, and the one that it showed before
 abbrev pub set_of_look : LookFacts → SetFacts
 set_of_look look = set_at look.half look.snapshot
 
--- a look takes a newer snapshot of the same round
+abbrev pub set_before : LookFacts → SetFacts
+set_before look = set_at look.half look.before
+
+-- a look takes a newer snapshot of the same round, and has the one that it showed as the one before
 pub record LooksAgain (old new : LookFacts) : Type 0 where
-  pub same : new ≡ record old { half = new.half; snapshot = new.snapshot }
+  pub same : new ≡ record old { half = new.half; snapshot = new.snapshot; before = old.snapshot }
+  pub same_before : set_before new ≡ set_of_look old
   pub takes : TakesSnapshot old.half.knows new.half.knows (snapshot_cut new.half new.snapshot.number)
   pub goes_on : GoesOn 0 1 old.half new.half
 
 module _ {A B : Type 0} (summary_of : List (ℕ × ℕ) → Summary A B) where
-  -- a query of a look keeps what the look shows, and makes at most `most` steps
+  -- a query of a look keeps what the look shows and showed, and makes at most `most` steps
   pub record IsAsked (most : ℕ) (old new : LookFacts) : Type 0 where
     pub same : new ≡ record old { half = new.half }
     pub same_set : set_of_look new ≡ set_of_look old
+    pub same_before : set_before new ≡ set_before old
     pub reads : Reads summary_of most old.half new.half

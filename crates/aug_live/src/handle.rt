@@ -462,6 +462,7 @@ impl<A: Monoid, B: Monoid> Handle<A, B> {
             out,
             parts,
             held,
+            before: held,
             round,
             bits,
             lane: index,

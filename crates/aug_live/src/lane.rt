@@ -4,6 +4,7 @@ ghost use Rattle.std.specs.Option.{is_some};
 ghost use Rattle.aug_trie.specs.Updates.{ComesTo};
 ghost use Rattle.aug_trie.specs.UpdateBatches.{DoesBatch};
 ghost use Rattle.aug_trie.specs.Chains.{IsPart};
+ghost use Rattle.aug_trie.specs.Node.{Keeps};
 ghost use Rattle.aug_trie.specs.Note.{chain_of_note};
 ghost use Rattle.aug_trie.specs.Pass.{chain_of};
 ghost use Rattle.aug_trie.specs.Pops.{pop_updates, Pops};
@@ -84,7 +85,8 @@ impl<A: Monoid, B: Monoid> Parts<A, B> {
     pub(crate) fn look(&mut self, round: &Round<A, B>) -> Snapshot
         requires some { IsSome self.old.work }
         requires together { table_of (half_in self.old.work).round ≡ round.now }
-        ensures { LooksIn self.old self.new result }
+        ensures looks { LooksIn self.old self.new result }
+        ensures keeps { Keeps (summary_of A.parts B.parts) (half_in self.old.work) (half_in self.new.work) }
     {
         match &mut self.work {
             Some(work) => work.snapshot(round),

@@ -1,8 +1,10 @@
 //! A look of a handle: a snapshot to query.
-ghost use Rattle.std.specs.Prelude.{◌≡◌};
+ghost use Rattle.std.specs.Prelude.{◌≡◌, take};
+ghost use Rattle.aug_model.specs.Differences.{changes_from};
 ghost use Rattle.aug_model.specs.Folds.{summary_of};
+ghost use Rattle.aug_trie.specs.Comparing.{compare_steps};
 ghost use Rattle.aug_trie.specs.Node.{steps_for};
-ghost use Rattle.aug_live.specs.LiveHandles.{handle_of, set_of_look, IsAsked, LooksAgain};
+ghost use Rattle.aug_live.specs.LiveHandles.{handle_of, set_before, set_of_look, IsAsked, LooksAgain};
 
 use crate::desk_end::DeskEnd;
 use crate::end::Out;
@@ -11,6 +13,7 @@ use crate::lane::{Lane, Parts};
 use crate::work::SharedRound;
 use aug_monoid::Monoid;
 use aug_query::Query;
+use aug_query::descent::Changes;
 use aug_trie::Snapshot;
 use std::alloc::Global;
 use std::marker::Model;
@@ -23,6 +26,8 @@ pub struct Look<A: Monoid, B: Monoid> {
     // What lies in the lane. A query takes the pass out and puts it back.
     pub(crate) parts: Box<Parts<A, B>, Global>,
     pub(crate) held: Snapshot,
+    // The one that it showed before that, or the same.
+    pub(crate) before: Snapshot,
     pub(crate) round: SharedRound<A, B>,
     pub(crate) bits: u32,
     pub(crate) lane: usize,
@@ -38,9 +43,9 @@ impl<A: Monoid, B: Monoid> Model for Look<A, B> {
 
     ghost Value = { LookFacts };
 
-    ghost view = { λ l. record { who = who_by l.desk l.lane l.out.known; era = l.parts.value.era; half = half_in l.parts.value.work; made = l.out.known.made; snapshot = l.held } };
+    ghost view = { λ l. record { who = who_by l.desk l.lane l.out.known; era = l.parts.value.era; half = half_in l.parts.value.work; made = l.out.known.made; snapshot = l.held; before = l.before } };
 
-    ghost invariant = { λ l. HoldsLook l.out (without_pass l.parts.value) l.parts.value.work l.held (arc_value l.round) l.bits l.lane (ids_of l.desk) };
+    ghost invariant = { λ l. HoldsLook l.out (without_pass l.parts.value) l.parts.value.work l.held l.before (arc_value l.round) l.bits l.lane (ids_of l.desk) };
 }
 
 impl<A: Monoid, B: Monoid> Look<A, B> {
@@ -59,11 +64,28 @@ impl<A: Monoid, B: Monoid> Look<A, B> {
         answer
     }
 
-    /// Takes a newer snapshot, in the same round, without letting the lane go.
+    /// What changed between the snapshot that the look showed before the last `again` and the one that it shows, among the keys from `from` on: a page of
+    /// at most 32 changes, as `Pass::changes` of `aug_trie` gives, in as many steps. The next page begins at the last of these keys plus one. Before
+    /// the first `again` nothing has changed.
+    pub fn changes(&mut self, from: u32) -> Changes
+        ensures answer { result.items ≡ take 32 (changes_from (set_before self.old) (set_of_look self.old) from) }
+        ensures asked { IsAsked (summary_of A.parts B.parts) (compare_steps self.old.half self.old.before self.old.snapshot from) self.old self.new }
+    {
+        let Some(work) = self.parts.work.take() else {
+            unreachable!()
+        };
+        let mut pass = self.round.pass(work);
+        let page = pass.changes(self.before, self.held, from);
+        self.parts.put(pass.into_half());
+        page
+    }
+
+    /// Takes a newer snapshot, in the same round, without letting the lane go. `changes` compares it with the one before.
     #[inline(always)]
     pub fn again(&mut self)
         ensures { LooksAgain self.old self.new }
     {
+        self.before = self.held;
         self.held = self.parts.look(&self.round);
     }
 
@@ -76,6 +98,7 @@ impl<A: Monoid, B: Monoid> Look<A, B> {
             out,
             parts,
             held: _,
+            before: _,
             round,
             bits,
             lane,

@@ -186,6 +186,14 @@ pub fn take_newer_snapshot(look: &mut LookOf) {
     look.again();
 }
 
+/// Takes a newer snapshot. The first key whose weight differs between the one before and this one, with its weights in both.
+pub fn first_change(look: &mut LookOf) -> Option<(u32, Option<u32>, Option<u32>)> {
+    look.again();
+    let page = look.changes(0);
+    let change = page.first().copied()?;
+    Some((change.key, change.before, change.after))
+}
+
 /// Whether a key is a member.
 pub fn has(look: &mut LookOf, k: u32) -> bool {
     look.ask(Has(k))

@@ -8,6 +8,8 @@ mod assertions;
 #[cfg(test)]
 mod batching;
 #[cfg(test)]
+mod comparing;
+#[cfg(test)]
 mod own;
 #[cfg(test)]
 mod popping;

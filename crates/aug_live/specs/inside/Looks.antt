@@ -26,8 +26,8 @@ pub record LooksIn {A B : Type 0} (old new : Parts A B) (held : Snapshot) : Type
   pub known : HasSnapshot next held.number
   pub goes_on : GoesOn 0 1 pass next
 
--- the handle with the number of this lane took it and has its pass, of the round with this table, which accepted nothing since, and knows the snapshot
-pub record HoldsLook (out : OutFacts) (rest : LaneFacts) (work : Option PassFacts) (held : Snapshot) (table : TableFacts) (bits lane : ℕ) (lanes : List TableId) : Type 0 where
+-- the handle with the number of this lane took it and has its pass, of the round with this table, which accepted nothing since, and knows both snapshots
+pub record HoldsLook (out : OutFacts) (rest : LaneFacts) (work : Option PassFacts) (held before : Snapshot) (table : TableFacts) (bits lane : ℕ) (lanes : List TableId) : Type 0 where
   pub whose : out.known.whose ≡ Handle
   pub some_era : 0 < out.known.at.era
   pub id : get_elem? lanes lane ≡ some out.lock
@@ -38,6 +38,7 @@ pub record HoldsLook (out : OutFacts) (rest : LaneFacts) (work : Option PassFact
   pub pass : PassFacts
   pub there : work ≡ Some pass
   pub shows : HasSnapshot pass held.number
+  pub showed : HasSnapshot pass before.number
   pub together : table_of pass.round ≡ table
   pub round_is : rounds_at pass ≡ rounds_at out.taken.at.half
   pub same_changes : pass.knows.accepted ≡ out.taken.at.half.knows.accepted

@@ -21,6 +21,16 @@ pub struct Change {
     pub now: i64,
 }
 
+fn as_change(one: Difference) -> Change
+    ensures { result ≡ change_of one }
+{
+    Change {
+        key: one.key,
+        before: one.before.number(),
+        now: one.after.number(),
+    }
+}
+
 // Writes the first changes of a page, as many as there are places for, and tells how many these are.
 fn put(page: &[Difference], out: &mut [Change]) -> usize
     ensures written { out.new ≡ take result (map change_of page.now) ++ drop result out.old }
@@ -28,12 +38,7 @@ fn put(page: &[Difference], out: &mut [Change]) -> usize
 {
     let count = out.len().min(page.len());
     for i in 0..count {
-        let one = page[i];
-        out[i] = Change {
-            key: one.key,
-            before: one.before.number(),
-            now: one.after.number(),
-        };
+        out[i] = as_change(page[i]);
     }
     count
 }

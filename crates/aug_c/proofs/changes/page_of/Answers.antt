@@ -1,0 +1,18 @@
+use Rattle.std.proofs.Common.{◌≡◌, ◌∙◌, ◌++◌, List, length, map, take, drop, min, ap, refl, sym, rules}
+use Rattle.std.proofs.lemmas.List.{length-map}
+use Rattle.aug_model.specs.declared.difference.Difference.{Difference}
+use Rattle.aug_c.specs.ChangeCalls.{change_of, page_from}
+use Rattle.aug_c.specs.declared.changes.Change.{Change}
+use Rattle.aug_c.proofs.changes.page_of.Goals as goal
+
+pub returns : goal.returns
+returns c =
+    let put = c.put.ensures in let items = c.as_slice.result.now in let out = c.args.out.now in
+    let page : map change_of items ≡ page_from c.args.look.now c.args.from = ap (map change_of) (c.as_slice.ensures.value ∙ c.changes-page.ensures.answer) in record {
+      count = c.put.result;
+      says = search rules;
+      counts = put.counts ∙ ap (min (length out)) (sym (length-map items change_of) ∙ ap (λ (xs : List Change). length xs) page);
+      written = put.written ∙ ap (λ (xs : List Change). take c.put.result xs ++ drop c.put.result out) page;
+      most = _;
+      asked = c.changes-page.ensures.asked;
+    }

@@ -14,6 +14,8 @@ mod beginning;
 #[cfg(test)]
 mod carrying;
 #[cfg(test)]
+mod comparing;
+#[cfg(test)]
 mod copying;
 #[cfg(test)]
 mod crowds;

@@ -3,8 +3,8 @@
 
 usage: tests/sources/promises.py --list | --write
 
---list prints the definitions behind each public call; --write writes how many there are to believe, and the order of reading, into
-docs/definitions.md, which test_promises.py compares with that. It needs Python 3.9 or later.
+--list prints the definitions behind each public call; --write writes how many there are to believe, and the order of reading, into definitions.txt
+beside this file, which test_promises.py compares with that. It needs Python 3.9 or later.
 """
 
 import collections
@@ -17,7 +17,7 @@ from chain import Crates
 from sources import TOP, read
 from specs import Rust, Spec
 
-# Whose definitions the page counts: what it calls them, the crate, or none for all crates, and its calls, or none for all of them. Of those
+# Whose definitions the list counts: what it calls them, the crate, or none for all crates, and its calls, or none for all of them. Of those
 # that are marked it has the order of reading.
 Read = collections.namedtuple("Read", "title crate calls is_listed")
 FIRST = "insert of Pass", "snapshot of Pass", "end of Round"
@@ -39,7 +39,12 @@ EXCEPTIONS = {}
 LOOSE = {}
 
 INSIDE = re.compile(r"Rattle\.\w+\.specs\.inside(\.|$)")
-MARK = "<!-- tests/sources/promises.py --write has written what follows -->\n"
+LIST = "tests/sources/definitions.txt"
+HEAD = """# Definitions behind the public calls
+
+Written by `tests/sources/promises.py --write`; the gate compares it with the sources. `docs/definitions.md` says how to read them. Behind a module
+stand the definitions that are meant, or those that are not, if these are not all.
+"""
 
 
 def by_module(names):
@@ -88,10 +93,13 @@ class Promises:
         alone, without = (", ".join(f"`{name}`" for name in sorted(names)) for names in (inside, every - inside))
         return f"`{key[1]}`" + ("" if inside == every else f" ({alone} alone)" if 2 * len(inside) < len(every) else f" (without {without})")
 
+    def reading(self, names):
+        """The modules behind some names in an order of reading."""
+        return sorted(ordered(set(by_module(names)), self.below), key=lambda it: self.order.index(it[0]))
+
     def order_text(self, names):
         """The modules behind some names in an order of reading, by crates."""
-        found = by_module(names)
-        modules = ordered(set(found), self.below)
+        found, modules = by_module(names), self.reading(names)
         said = {crate: ", ".join(self.module_text(key, found[key]) for key in modules if key[0] == crate) for crate in self.order}
         return "".join(filled(f"- `{crate}`: {of}", "  ") for crate, of in said.items() if of)
 
@@ -106,7 +114,7 @@ class Promises:
         lists = "".join(f"\nIn order, for {read.title}:\n\n{self.order_text(self.chain_of(read))}" for read in self.reads if read.is_listed)
         opaque = self.crates.opaque({name for _, it in self.all for name in it.names})
         lists += f"\nOpaque, and not counted:\n\n{self.order_text(opaque)}" * bool(opaque)
-        return f"\n| To be believed for | Definitions | Lines | Lines of comments |\n|---|---|---|---|\n{rows}{lists}"
+        return f"{HEAD}\n| To be believed for | Definitions | Lines | Lines of comments |\n|---|---|---|---|\n{rows}{lists}"
 
     # What is wrong
 
@@ -163,8 +171,8 @@ class Promises:
         return [f"{' and '.join(sorted(crates))} have a {kind} {name} each" for (kind, name), crates in sorted(where.items()) if len(crates) > 1]
 
     def wrong(self, text, exceptions=EXCEPTIONS, loose=LOOSE):
-        """What is wrong with the crates, and with the page."""
-        wrong = ["docs/definitions.md is not as tests/sources/promises.py --write writes it"] * (text != written_page(text, self))
+        """What is wrong with the crates, and with the list."""
+        wrong = [f"{LIST} is not as tests/sources/promises.py --write writes it"] * (text != self.written())
         wrong += self.wrong_reads() + self.wrong_heads() + self.wrong_imports(exceptions) + self.wrong_clauses()
         return wrong + self.wrong_places(loose) + self.wrong_opaque() + self.wrong_names()
 
@@ -206,11 +214,6 @@ def filled(text, indent):
     return textwrap.fill(text, 140, subsequent_indent=indent, break_on_hyphens=False, break_long_words=False) + "\n"
 
 
-def written_page(text, promises):
-    """The page docs/definitions.md as it should be, with what stands there before the written part."""
-    return text.partition(MARK)[0] + MARK + promises.written()
-
-
 def main(words):
     if words not in (["--list"], ["--write"]):
         print("usage: tests/sources/promises.py --list | --write", file=sys.stderr)
@@ -219,9 +222,8 @@ def main(words):
     if words == ["--list"]:
         promises.list_all()
         return 0
-    text = written_page(read("docs", "definitions.md"), promises)
-    with open(os.path.join(TOP, "docs", "definitions.md"), "w", encoding="utf-8") as file:
-        file.write(text)
+    with open(os.path.join(TOP, LIST), "w", encoding="utf-8") as file:
+        file.write(promises.written())
     return 0
 
 

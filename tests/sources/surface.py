@@ -1,9 +1,9 @@
 #!/usr/bin/env python3
-"""Writes docs/surface.md from the crates: their public calls, each with the names of its conditions and clauses, and the must-fail edits of its body.
+"""Writes surface.txt beside this file from the crates: their public calls, each with the names of its conditions and clauses, and the must-fail edits of its body.
 
 usage: tests/sources/surface.py --write
 
-test_surface.py compares the page with that. It needs Python 3.9 or later.
+test_surface.py compares the list with that. It needs Python 3.9 or later.
 """
 
 import collections
@@ -17,6 +17,7 @@ from sources import TOP, calls, files, ghosts, read
 # The calls without a clause, each with its reason.
 UNTOLD = {"before of Gate": "no clause sees when a row runs; tests do", "after of Gate": "as before"}
 
+LIST = "tests/sources/surface.txt"
 HEAD = """# Public calls
 
 Written by `tests/sources/surface.py --write`; the gate compares it with the sources. Each line has the calls of a type, a trait or a crate: in brackets the
@@ -46,14 +47,14 @@ def edits_of(top, crate):
 
 
 def said_of(call, edits):
-    """What the page says of a call behind its name."""
+    """What the list says of a call behind its name."""
     asked, told = (", ".join(it.name or "_" for it in call.function.clauses if it.kind == kind) for kind in ("requires", "ensures"))
     parts = ["" if told == "_" else told or "*untold*", edits[call.name] and f"*not* {', '.join(sorted(edits[call.name]))}"]
     return f"{asked and f'({asked})'} {', '.join(filter(None, parts))}".rstrip()
 
 
 def section(top, crate, found):
-    """What the page says of a crate with some calls."""
+    """What the list says of a crate with some calls."""
     edits, owners = edits_of(top, crate), collections.defaultdict(dict)
     for call in found:
         owner, laws = call.part.owner, ", ".join(ghosts(call.part.body)) * (call.part.owner not in call.part.head)
@@ -74,7 +75,7 @@ def calls_of(top):
     return {crate: calls(crate) for crate in crates}
 
 
-def page(top, found):
+def listed(top, found):
     return HEAD + "".join(section(top, crate, of) for crate, of in found.items() if of)
 
 
@@ -87,8 +88,8 @@ def main(words):
     if words != ["--write"]:
         print("usage: tests/sources/surface.py --write", file=sys.stderr)
         return 2
-    text = page(TOP, calls_of(TOP))
-    with open(os.path.join(TOP, "docs", "surface.md"), "w", encoding="utf-8") as file:
+    text = listed(TOP, calls_of(TOP))
+    with open(os.path.join(TOP, LIST), "w", encoding="utf-8") as file:
         file.write(text)
     return 0
 

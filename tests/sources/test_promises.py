@@ -1,24 +1,34 @@
-"""What the promises of the crates rest on, as promises.py works it out, is held to docs/definitions.md and to the folders specs/inside/. A module
-behind a clause must say at its head what it is. What is in a folder specs/inside/ must be behind no clause, and no module outside of it may import
-it, but for what is opaque. What is not in such a folder must be behind a clause, or opaque, in a crate that promises anything. What is opaque must be
-given by a call. No name of a module or a definition may stand in two crates.
+"""What the promises of the crates rest on, as promises.py works it out, is held to definitions.txt, to docs/definitions.md, which names the modules to be
+read first in the order of reading, and to the folders specs/inside/. A module behind a clause must say at its head what it is. What is in a folder
+specs/inside/ must be behind no clause, and no module outside of it may import it, but for what is opaque. What is not in such a folder must be behind
+a clause, or opaque, in a crate that promises anything. What is opaque must be given by a call. No name of a module or a definition may stand in two
+crates.
 """
 
 import os
+import re
 
 from common import TOP, InFolder, quietly, read
-from promises import MARK, READS, Promises, Read, written_page
+from promises import HEAD, LIST, READS, Promises, Read
 
 
-def test_the_crates_and_the_page_agree():
+def test_the_crates_and_the_list_agree():
     promises = Promises(TOP, READS)
-    assert promises.wrong(read("docs", "definitions.md")) == []
+    assert promises.wrong(read(LIST)) == []
     calls, modules, definitions = promises.counts()
     assert calls >= 200 and modules >= 80 and definitions >= 600
 
 
+def test_the_page_names_what_is_to_be_read_first():
+    promises, read_first = Promises(TOP, READS), next(it for it in READS if it.is_listed)
+    items = re.findall(r"^- `(\w+)`: (.*(?:\n  .*)*)", read("docs", "definitions.md"), re.M)
+    named = [(crate, module) for crate, text in items for module in re.findall(r"`(\w+)`", text)]
+    assert named == promises.reading(promises.chain_of(read_first))
+    assert len(named) >= 20
+
+
 class TestSample(InFolder):
-    """Mistakes in a crate and its page are told."""
+    """Mistakes in a crate and its list are told."""
 
     TEXTS = {
         "crates/one/src/lib.rt": "mod shelf;\npub use shelf::Shelf;\n",
@@ -96,9 +106,7 @@ abbrev pub deep : ℕ
 deep = 0
 """,
         "crates.txt": "one:\ntwo:\n",
-        "docs/definitions.md": f"""# What has to be believed
-
-{MARK}
+        LIST: f"""{HEAD}
 | To be believed for | Definitions | Lines | Lines of comments |
 |---|---|---|---|
 | `Shelf::size` | 3 | 6 | 3 |
@@ -121,7 +129,7 @@ In order, for `Shelf::size`:
                 text = text.replace(old, new)
             self.write(name, text)
         promises = Promises(self.folder, reads)
-        return promises, promises.wrong(self.read("docs/definitions.md"), dict(exceptions), loose)
+        return promises, promises.wrong(self.read(LIST), dict(exceptions), loose)
 
     def wrong(self, *changed, **given):
         return self.found(*changed, **given)[1]
@@ -129,20 +137,20 @@ In order, for `Shelf::size`:
     def listed(self, *changed):
         return quietly(self.found(*changed)[0].list_all)[1]
 
-    DEFINITIONS, BOOKS, SHELF = "docs/definitions.md", "crates/one/specs/Books.antt", "crates/one/src/shelf.rt"
+    BOOKS, SHELF = "crates/one/specs/Books.antt", "crates/one/src/shelf.rt"
     IMPORT = "use Rattle.one.specs.inside.Deep.{deep}\n"
-    PAGE = "docs/definitions.md is not as tests/sources/promises.py --write writes it"
+    NOT_AS_WRITTEN = "tests/sources/definitions.txt is not as tests/sources/promises.py --write writes it"
 
     def test_folder_that_agrees(self):
         promises, wrong = self.found()
         assert wrong == []
         assert promises.counts() == (1, 4, 7)
 
-    def test_page_that_is_not_as_it_is_written(self):
-        for old, new in ("| 3 | 6 |", "| 3 | 5 |"), (" (without `AreSteps`)", ""), ("has written", "wrote"):
-            promises, wrong = self.found(self.DEFINITIONS, old, new)
-            assert wrong == [self.PAGE]
-            assert new == "wrote" or written_page(self.read(self.DEFINITIONS), promises) == self.TEXTS[self.DEFINITIONS]
+    def test_list_that_is_not_as_it_is_written(self):
+        for old, new in ("| 3 | 6 |", "| 3 | 5 |"), (" (without `AreSteps`)", ""), ("Written by", "Wrote"):
+            promises, wrong = self.found(LIST, old, new)
+            assert wrong == [self.NOT_AS_WRITTEN]
+            assert promises.written() == self.TEXTS[LIST]
 
     def test_call_to_be_counted_that_is_not_there(self):
         assert "there is no take of Shelf in one" in self.wrong(reads=[Read("`Shelf::take`", "one", ["take of Shelf"], True)])
@@ -180,7 +188,7 @@ In order, for `Shelf::size`:
     def test_what_is_opaque_ends_the_chain(self):
         marked = self.BOOKS, "-- those of some", "-- opaque: those of some"
         promises, wrong = self.found(*marked)
-        assert wrong == [self.PAGE]
+        assert wrong == [self.NOT_AS_WRITTEN]
         assert "- `one`: `Books` (without `AreSteps`, `kept`)\n\nOpaque, and not counted:\n\n- `one`: `Books` (`kept` alone)\n" in promises.written()
         assert "one: size of Shelf\n    one: Books.ShelfFacts, Books.size_of\n" in self.listed(*marked)
 

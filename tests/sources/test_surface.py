@@ -1,18 +1,18 @@
-"""docs/surface.md is as surface.py writes it from the crates, and each public call has a clause."""
+"""surface.txt is as surface.py writes it from the crates, and each public call has a clause."""
 
 from common import TOP, InFolder, read
-from surface import HEAD, calls_of, page, untold
+from surface import HEAD, LIST, calls_of, listed, untold
 
 
-def test_the_page_is_as_it_is_written():
+def test_the_list_is_as_it_is_written():
     found = calls_of(TOP)
-    assert page(TOP, found) == read("docs", "surface.md")
+    assert listed(TOP, found) == read(LIST)
     assert untold(found) == []
     assert sum(map(len, found.values())) >= 250
 
 
 class TestSample(InFolder):
-    """The page of a crate."""
+    """The list of a crate."""
 
     TEXTS = {
         "crates.txt": "one:\n",
@@ -80,25 +80,25 @@ pub fn hidden() -> u32 {
 - **`Shelf`**: `put`, `turn`; `take`(room) gone, _, *not* take_gives_none.
 """
 
-    def page(self, file="crates.txt", old="one:", new="one:"):
-        """The page of the sources, in one of which a text was put in the place of another, and the calls that are untold."""
+    def listed(self, file="crates.txt", old="one:", new="one:"):
+        """The list of the sources, in one of which a text was put in the place of another, and the calls that are untold."""
         for name, text in self.TEXTS.items():
             if name == file:
                 assert text.count(old) == 1
                 text = text.replace(old, new)
             self.write(name, text)
         found = calls_of(self.folder)
-        return page(self.folder, found), untold(found)
+        return listed(self.folder, found), untold(found)
 
-    def test_page_that_is_written(self):
-        assert self.page() == (HEAD + self.SECTION, [])
+    def test_list_that_is_written(self):
+        assert self.listed() == (HEAD + self.SECTION, [])
 
     def test_change_of_the_sources(self):
         shelf = "crates/one/src/shelf.rt"
         for old, new in ("requires room", "requires"), ("pub fn count", "fn count"), ("ghost fair", "ghost even"):
-            assert self.page(shelf, old, new)[0] != HEAD + self.SECTION
+            assert self.listed(shelf, old, new)[0] != HEAD + self.SECTION
 
     def test_call_without_a_clause(self):
-        text, untold = self.page("crates/one/src/lib.rt", "pub use shelf::count;", "pub use shelf::{count, hidden};")
+        text, untold = self.listed("crates/one/src/lib.rt", "pub use shelf::count;", "pub use shelf::{count, hidden};")
         assert "; `hidden` *untold*.\n" in text
         assert untold == ["hidden"]

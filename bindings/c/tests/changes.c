@@ -198,7 +198,7 @@ static void refusals(void) {
     WANT(aug_look_done(&looks), AUG_OK);
     WANT(aug_changes(&looks, 0, &change, 1), AUG_NOT_LOOKING);
     WANT(aug_close(&trie, NULL), AUG_OK);
-    WANT(aug_changes(&looks, 0, &change, 1), AUG_CLOSED);
+    WANT(aug_changes(&looks, 0, &change, 1), AUG_NOT_LOOKING);
     WANT(aug_user_close(&works), AUG_OK);
     WANT(aug_user_close(&looks), AUG_OK);
     WANT(aug_changes(&looks, 0, &change, 1), AUG_CLOSED);

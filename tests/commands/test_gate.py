@@ -45,7 +45,7 @@ class TestGate(CopiedScripts):
         self.write("bin/git", GIT, 0o755)
         self.write("bin/rattle", RATTLE, 0o755)
         self.write("fresh/.ci/run", GATE, 0o755)
-        self.write("docs/writing-proofs.md", PAGE)
+        self.write("docs/PROOFS.md", PAGE)
         said, _, status = self.run_script("tools/gate")
         return said.splitlines()[0], said.splitlines()[-1], status
 
@@ -54,7 +54,7 @@ class TestGate(CopiedScripts):
 
     def test_what_is_written(self):
         assert self.said("ci") == ("said ", "5 passed, 1 failed", 3)
-        text = re.sub(r"(?<=on )\d+(?= cores)", "..", self.read("docs/writing-proofs.md"))
+        text = re.sub(r"(?<=on )\d+(?= cores)", "..", self.read("docs/PROOFS.md"))
         text = re.sub(r"\| \d+ \| 0:\d\d \| 0 (.*)\| \d+ \w+ \d{4} \|", r"| .. | 0:.. | 0 \1| .. |", text)
         head, _, end = PAGE.partition("| 999")
         assert re.sub(r"(?<=all else )\d+", "..", text) == f"""{head}| .. | 0:.. | 0 | 5 passed, 1 failed | .. |

@@ -1,11 +1,12 @@
 -- The members below a node, and the number of its opening record.
-use Rattle.std.proofs.Common.{◌≡◌, ℕ, zero, suc, ◌+◌, ◌-◌, ◌*◌, ◌^◌, ◌<◌, ◌≤◌, ◌⊎◌, inl, inr, min, Bool, true, false, ltb, lt-ltb, if◌then◌else◌, [], ◌∷◌, ◌++◌, length, refl, sym, ap, ◌∙◌, subst, ⊎_elim, arith, suc-mul}
+use Rattle.std.proofs.Common.{◌≡◌, ℕ, zero, suc, ◌+◌, ◌-◌, ◌*◌, ◌^◌, ◌<◌, ◌≤◌, ◌⊎◌, inl, inr, min, Bool, true, false, ◌||◌, ltb, lt-ltb, if◌then◌else◌, [], ◌∷◌, ◌++◌, length, refl, sym, ap, ◌∙◌, subst, ⊎_elim, arith, suc-mul}
 use Rattle.std.proofs.Math.Nat.{two-pow-succ, add-mul, mul-add, min-eq_left, min-eq_right}
-use Rattle.std.proofs.lemmas.Bool.{cases_lt}
+use Rattle.std.proofs.Math.Pow.{pow_mono}
+use Rattle.std.proofs.lemmas.Bool.{cases_lt, lt-leb, false≢true}
 use Rattle.aug_core.specs.Places.{own_records, opening_count}
 use Rattle.aug_core.specs.Addresses.{IsInner, left_of, right_of}
 use Rattle.aug_core.specs.inside.WordPlaces.{IsWord}
-use Rattle.aug_core.specs.Opening.{opening_leaf_word, Opening, has_members, own_before, number_at, opening_pairs, opening_number}
+use Rattle.aug_core.specs.Opening.{opening_leaf_word, Opening, has_members, has_room, owns, own_before, number_at, opening_pairs, opening_number}
 use Rattle.aug_model.specs.NodeKeys.{keys_below, pairs_below}
 use Rattle.aug_model.specs.Keys.{is_member, keys_of, pairs_of}
 use Rattle.aug_model.specs.Queries.{range_of, weight_in}
@@ -13,6 +14,27 @@ use Rattle.aug_model.proofs.Pairs.{range-again, pairs_of-append}
 use Rattle.aug_model.proofs.Ranges.{Rises, range_cut, range_of_key, range_le, count_cut}
 use Rattle.aug_core.proofs.Sizes.{own_more}
 use Rattle.aug_core.proofs.Levels.{level_is, leaf_level, above}
+
+-- ---- who has a record of its own
+
+pub true_or_false : (b : Bool) → (b ≡ true) ⊎ (b ≡ false)
+true_or_false true = inl refl
+true_or_false false = inr refl
+
+-- each node in a table with room for all keys
+pub owns_all : (o : Opening) (l p : ℕ) → has_room o ≡ true → owns o l p ≡ true
+owns_all o l p room = ap (λ (z : Bool). z || has_members o l p) room
+
+-- and otherwise those with members below
+pub owns_some : (o : Opening) (l p : ℕ) → has_room o ≡ false → owns o l p ≡ has_members o l p
+owns_some o l p none = ap (λ (z : Bool). z || has_members o l p) none
+
+-- where a node has none, no node has one without members below, and it has none
+pub owns_none : (o : Opening) (l p : ℕ) → owns o l p ≡ false → (has_room o ≡ false) × (has_members o l p ≡ false)
+owns_none o l p none = ⊎_elim (λ room. absurd (false≢true (sym none ∙ owns_all o l p room))) (λ few. (few, sym (owns_some o l p few) ∙ none)) (true_or_false (has_room o))
+
+pub room_is : (o : Opening) → has_room o ≡ true → 2 ^ o.shape.bits ≤ o.shape.members
+room_is o room = ⊎_elim (λ (lt : o.shape.members < 2 ^ o.shape.bits). absurd (false≢true (sym (lt-leb (2 ^ o.shape.bits) o.shape.members lt) ∙ room))) (λ (le : 2 ^ o.shape.bits ≤ o.shape.members). le) (cases_lt o.shape.members (2 ^ o.shape.bits))
 
 -- ---- the own records of a level
 
@@ -22,27 +44,36 @@ one_if (suc n) = let lt : 0 < suc n = omega arith in subst (λ (z : Bool). (if z
 
 pub own_within : (o : Opening) (l p : ℕ) → own_before o l p ≤ p
 own_within o l zero = omega arith
-own_within o l (suc p) = let h = own_within o l p in let one = at_most (has_members o l p) in omega arith
+own_within o l (suc p) = let h = own_within o l p in let one = at_most (owns o l p) in omega arith
   where
     at_most : (b : Bool) → (if b then 1 else 0) ≤ 1
     at_most true = omega arith
     at_most false = omega arith
 
-own_few : (o : Opening) → Rises (keys_of o.members) → (l p : ℕ) → own_before o l p ≤ length (range_of (keys_of o.members) 0 (p * 2 ^ l))
-own_few o rises l zero = omega arith
-own_few o rises l (suc p) = let h = own_few o rises l p in let w : ℕ = 2 ^ l in let one : p + 1 ≡ suc p = omega arith in
+-- in a table with room for all keys the nodes before a place are as many as it says
+pub own_is_place : (o : Opening) (l p : ℕ) → has_room o ≡ true → own_before o l p ≡ p
+own_is_place o l zero room = refl
+own_is_place o l (suc p) room = let h = own_is_place o l p room in let one : own_before o l (suc p) ≡ own_before o l p + 1 = ap (λ (z : Bool). own_before o l p + (if z then 1 else 0)) (owns_all o l p room) in omega arith
+
+own_few : (o : Opening) → has_room o ≡ false → Rises (keys_of o.members) → (l p : ℕ) → own_before o l p ≤ length (range_of (keys_of o.members) 0 (p * 2 ^ l))
+own_few o none rises l zero = omega arith
+own_few o none rises l (suc p) = let h = own_few o none rises l p in let w : ℕ = 2 ^ l in let one : p + 1 ≡ suc p = omega arith in
     let e : suc p * w ≡ p * w + w = suc-mul p w in let next : (p + 1) * w ≡ suc p * w = ap (λ (z : ℕ). z * w) one in
     let cut = count_cut (keys_of o.members) 0 (p * w) ((p + 1) * w) rises (omega arith) (omega arith) in
-    let is = ap (λ (z : ℕ). length (range_of (keys_of o.members) 0 z)) next in let one = one_if (length (keys_below (keys_of o.members) l p)) in omega arith
+    let is = ap (λ (z : ℕ). length (range_of (keys_of o.members) 0 z)) next in let has : own_before o l (suc p) ≡ own_before o l p + (if has_members o l p then 1 else 0) = ap (λ (z : Bool). own_before o l p + (if z then 1 else 0)) (owns_some o l p none) in
+    let one = one_if (length (keys_below (keys_of o.members) l p)) in omega arith
 
 lt_min : (x a b : ℕ) → x < a → x < b → x < min a b
 lt_min x a b h k = ⊎_elim (λ (lt : a < b). subst (λ (z : ℕ). x < z) (sym (min-eq_left {n = a} {m = b} (omega arith))) h) (λ (ge : b ≤ a). subst (λ (z : ℕ). x < z) (sym (min-eq_right {n = b} {m = a} ge)) k) (cases_lt a b)
 
--- a node above a member has a record of its level's own ones
-pub own_room : (o : Opening) → Rises (keys_of o.members) → length (keys_of o.members) ≤ o.shape.members → (l p : ℕ) → p < 2 ^ (o.shape.bits - l) → has_members o l p ≡ true → own_before o l p < min (2 ^ (o.shape.bits - l)) o.shape.members
-own_room o rises few l p room some = let a = own_within o l p in let b = own_few o rises l (suc p) in let c = range_le (keys_of o.members) 0 (suc p * 2 ^ l) in
+-- a node's own record is one of its level's own ones
+pub own_room : (o : Opening) → Rises (keys_of o.members) → length (keys_of o.members) ≤ o.shape.members → (l p : ℕ) → p < 2 ^ (o.shape.bits - l) → owns o l p ≡ true → own_before o l p < min (2 ^ (o.shape.bits - l)) o.shape.members
+own_room o rises few l p room some = let a = own_within o l p in ⊎_elim
+    (λ all. let most = room_is o all in let up : 2 ^ (o.shape.bits - l) ≤ 2 ^ o.shape.bits = pow_mono {i = o.shape.bits - l} {j = o.shape.bits} (omega arith) in
+    lt_min (own_before o l p) (2 ^ (o.shape.bits - l)) o.shape.members (omega arith) (omega arith))
+    (λ none. let b = own_few o none rises l (suc p) in let c = range_le (keys_of o.members) 0 (suc p * 2 ^ l) in
     let e : own_before o l (suc p) ≡ own_before o l p + 1 = ap (λ (z : Bool). own_before o l p + (if z then 1 else 0)) some in
-    lt_min (own_before o l p) (2 ^ (o.shape.bits - l)) o.shape.members (omega arith) (omega arith)
+    lt_min (own_before o l p) (2 ^ (o.shape.bits - l)) o.shape.members (omega arith) (omega arith)) (true_or_false (has_room o))
 
 pub own_rises : (b m l k : ℕ) → l ≤ k → own_records b m l ≤ own_records b m k
 own_rises b m l zero le = let e : l ≡ 0 = omega arith in subst (λ (z : ℕ). own_records b m z ≤ own_records b m 0) (sym e) (omega arith)
@@ -51,21 +82,17 @@ own_rises b m l (suc k) le = ⊎_elim (λ (lt : l < suc k). let h = own_rises b 
 
 -- ---- a node's number
 
-pub number_own : (o : Opening) (l p : ℕ) → has_members o (suc l) p ≡ true → number_at o (suc l) p ≡ o.shape.bits + own_records o.shape.bits o.shape.members l + own_before o (suc l) p
+pub number_own : (o : Opening) (l p : ℕ) → owns o (suc l) p ≡ true → number_at o (suc l) p ≡ o.shape.bits + own_records o.shape.bits o.shape.members l + own_before o (suc l) p
 number_own o l p some = ap (λ (z : Bool). if z then o.shape.bits + own_records o.shape.bits o.shape.members l + own_before o (suc l) p else l) some
 
-pub number_shared : (o : Opening) (l p : ℕ) → has_members o (suc l) p ≡ false → number_at o (suc l) p ≡ l
+pub number_shared : (o : Opening) (l p : ℕ) → owns o (suc l) p ≡ false → number_at o (suc l) p ≡ l
 number_shared o l p none = ap (λ (z : Bool). if z then o.shape.bits + own_records o.shape.bits o.shape.members l + own_before o (suc l) p else l) none
-
-pub true_or_false : (b : Bool) → (b ≡ true) ⊎ (b ≡ false)
-true_or_false true = inl refl
-true_or_false false = inr refl
 
 -- it is one of the opening records
 pub number_low : (o : Opening) → Rises (keys_of o.members) → length (keys_of o.members) ≤ o.shape.members → (l p : ℕ) → suc l ≤ o.shape.bits → p < 2 ^ (o.shape.bits - suc l) → number_at o (suc l) p < opening_count o.shape
 number_low o rises few l p up room = ⊎_elim
     (λ some. let e = number_own o l p some in let r = own_room o rises few (suc l) p room some in let u = own_rises o.shape.bits o.shape.members (suc l) o.shape.bits up in let m = own_more o.shape.bits o.shape.members l in omega arith)
-    (λ none. let e = number_shared o l p none in omega arith) (true_or_false (has_members o (suc l) p))
+    (λ none. let e = number_shared o l p none in omega arith) (true_or_false (owns o (suc l) p))
 
 module _ (o : Opening) where
   pub pairs_are : (q l p : ℕ) → IsWord o.shape l p q → opening_pairs o q ≡ pairs_below o.members l p

@@ -19,13 +19,13 @@ use Rattle.aug_core.specs.Places.{Shape, own_records, lane_place, record_start, 
 use Rattle.aug_core.specs.Addresses.{place_count, IsInner, left_of, right_of, level_of, place_on}
 use Rattle.aug_core.specs.inside.WordPlaces.{IsWord}
 use Rattle.aug_core.specs.Lanes.{block_start}
-use Rattle.aug_core.specs.Opening.{Opening, opening_leaf_word, has_members, own_before, number_at, opening_pairs, opening_number, opening_words, shared_words}
+use Rattle.aug_core.specs.Opening.{Opening, opening_leaf_word, has_members, has_room, owns, own_before, number_at, opening_pairs, opening_number, opening_words, shared_words}
 use Rattle.aug_model.specs.NodeKeys.{keys_below, pairs_below}
 use Rattle.aug_core.specs.Faces.{face}
 use Rattle.aug_core.proofs.FaceLemmas.{face_is}
 use Rattle.aug_core.proofs.Sizes.{twice, own_more}
 use Rattle.aug_core.proofs.Levels.{level_rises, room_above, above, inner_word, left_word, right_word}
-use Rattle.aug_core.proofs.Below.{own_room, own_rises, number_own, number_shared, number_low, number_below, number_is, pairs_are, below_both, true_or_false, pairs_over, pairs_of_leaf, number_of_leaf}
+use Rattle.aug_core.proofs.Below.{owns_some, owns_none, own_room, own_rises, number_own, number_shared, number_low, number_below, number_is, pairs_are, below_both, true_or_false, pairs_over, pairs_of_leaf, number_of_leaf}
 use Rattle.aug_core.specs.Rule.{newcomer}
 use Rattle.aug_core.specs.Eras.{Ruled}
 use Rattle.aug_core.specs.Renewals.{IsOpened}
@@ -92,14 +92,14 @@ own_later : (o : Opening) (l p n : ℕ) → p ≤ n → own_before o l p ≤ own
 own_later o l p zero le = let e : p ≡ 0 = omega arith in let f = ap (own_before o l) e in omega arith
 own_later o l p (suc n) le = ⊎_elim (λ (lt : p < suc n). let h = own_later o l p n (omega arith) in omega arith) (λ (ge : suc n ≤ p). let e : p ≡ suc n = omega arith in let f = ap (own_before o l) e in omega arith) (cases_lt p (suc n))
 
-own_after : (o : Opening) (l p : ℕ) → has_members o l p ≡ true → own_before o l (suc p) ≡ own_before o l p + 1
+own_after : (o : Opening) (l p : ℕ) → owns o l p ≡ true → own_before o l (suc p) ≡ own_before o l p + 1
 own_after o l p has = ap (λ (z : Bool). own_before o l p + (if z then 1 else 0)) has
 
-pub own_same : (o : Opening) (l p : ℕ) → has_members o l p ≡ false → own_before o l (suc p) ≡ own_before o l p
+pub own_same : (o : Opening) (l p : ℕ) → owns o l p ≡ false → own_before o l (suc p) ≡ own_before o l p
 own_same o l p none = ap (λ (z : Bool). own_before o l p + (if z then 1 else 0)) none ∙ (let e : own_before o l p + 0 ≡ own_before o l p = omega arith in e)
 
 -- a node's own record has a greater number than those of all nodes before it
-pub number_rises : (o : Opening) → Rises (keys_of o.members) → length (keys_of o.members) ≤ o.shape.members → (q r l p k n : ℕ) → IsWord o.shape (suc l) p q → IsWord o.shape (suc k) n r → q < r → has_members o (suc k) n ≡ true → number_at o (suc l) p < number_at o (suc k) n
+pub number_rises : (o : Opening) → Rises (keys_of o.members) → length (keys_of o.members) ≤ o.shape.members → (q r l p k n : ℕ) → IsWord o.shape (suc l) p q → IsWord o.shape (suc k) n r → q < r → owns o (suc k) n ≡ true → number_at o (suc l) p < number_at o (suc k) n
 number_rises o up fit q r l p k n a b lt has = let e = number_own o k n has in let low_a = a.level_fits in let low_b = b.level_fits in ⊎_elim
     (λ own. let f = number_own o l p own in let room = own_room o up fit (suc l) p a.place_fits own in ⊎_elim
     (λ (below : l < k). let u = own_rises o.shape.bits o.shape.members (suc l) k (omega arith) in let m = own_more o.shape.bits o.shape.members l in omega arith)
@@ -108,7 +108,7 @@ number_rises o up fit q r l p k n a b lt has = let e = number_own o k n has in l
     (λ (lower : l ≤ k). let same : l ≡ k = omega arith in let x = a.is in let y = b.is in let g : level_start o.shape (suc l) ≡ level_start o.shape (suc k) = ap (λ (z : ℕ). level_start o.shape (suc z)) same in
     let before = own_later o (suc l) (suc p) n (omega arith) in let step = own_after o (suc l) p own in let h : own_before o (suc l) n ≡ own_before o (suc k) n = ap (λ (z : ℕ). own_before o (suc z) n) same in
     let i : own_records o.shape.bits o.shape.members l ≡ own_records o.shape.bits o.shape.members k = ap (own_records o.shape.bits o.shape.members) same in omega arith) (cases_lt k l)) (cases_lt l k))
-    (λ none. let f = number_shared o l p none in omega arith) (true_or_false (has_members o (suc l) p))
+    (λ none. let f = number_shared o l p none in omega arith) (true_or_false (owns o (suc l) p))
 
 -- where no member is below a node, none is below its children
 no_keys : (o : Opening) (l p : ℕ) → has_members o l p ≡ false → length (keys_below (keys_of o.members) l p) ≡ 0
@@ -141,46 +141,46 @@ leaf_word members key = either (is_member (keys_of members) key) (weight-none me
     either true weighs = refl
     either false weighs = let zero_weight = weighs refl in omega arith
 
--- the word of a place with no members below
-number_none : (o : Opening) → Rises (keys_of o.members) → (l p : ℕ) → length (keys_below (keys_of o.members) l p) ≡ 0 → number_at o l p ≡ l - 1
-number_none o up zero p none = leaf_none (is_member (keys_of o.members) p) (let e = ap length (below_leaf o up p) in omega arith) (weight-none o.members p)
+-- the word of a place with no members below, in a table without room for all keys
+number_none : (o : Opening) → has_room o ≡ false → Rises (keys_of o.members) → (l p : ℕ) → length (keys_below (keys_of o.members) l p) ≡ 0 → number_at o l p ≡ l - 1
+number_none o no_room up zero p none = leaf_none (is_member (keys_of o.members) p) (let e = ap length (below_leaf o up p) in omega arith) (weight-none o.members p)
   where
     leaf_none : (b : Bool) → length (if b then p ∷ [] else []) ≡ 0 → (b ≡ false → weight_in o.members p ≡ 0) → (if b then 1 else 0) * 2 ^ 32 + weight_in o.members p ≡ 0 - 1
     leaf_none true e weighs = absurd (omega arith)
     leaf_none false e weighs = let zero_weight = weighs refl in omega arith
-number_none o up (suc l) p none = number_shared o l p (none_there o (suc l) p none) ∙ (let e : l ≡ suc l - 1 = omega arith in e)
+number_none o no_room up (suc l) p none = number_shared o l p (owns_some o (suc l) p no_room ∙ none_there o (suc l) p none) ∙ (let e : l ≡ suc l - 1 = omega arith in e)
 
 -- a word tells whether there are members below: a leaf's by having a serial, and a node's by being no number of a shared record
-pub number_tells : (o : Opening) → Rises (keys_of o.members) → (l p least : ℕ) → l ≤ o.shape.bits → (l ≡ 0 → least ≡ 2 ^ 32) → (l ≢ 0 → least ≡ o.shape.bits)
+pub number_tells : (o : Opening) → has_room o ≡ false → Rises (keys_of o.members) → (l p least : ℕ) → l ≤ o.shape.bits → (l ≡ 0 → least ≡ 2 ^ 32) → (l ≢ 0 → least ≡ o.shape.bits)
     → ((0 < length (keys_below (keys_of o.members) l p)) × (least ≤ number_at o l p)) ⊎ ((length (keys_below (keys_of o.members) l p) ≡ 0) × (number_at o l p < least))
-number_tells o up zero p least few leaf node = of_leaf (is_member (keys_of o.members) p) (below_leaf o up p) refl (weight-none o.members p)
+number_tells o no_room up zero p least few leaf node = of_leaf (is_member (keys_of o.members) p) (below_leaf o up p) refl (weight-none o.members p)
   where
     of_leaf : (b : Bool) → keys_below (keys_of o.members) 0 p ≡ (if b then p ∷ [] else []) → number_at o 0 p ≡ (if b then 1 else 0) * 2 ^ 32 + weight_in o.members p → (b ≡ false → weight_in o.members p ≡ 0)
         → ((0 < length (keys_below (keys_of o.members) 0 p)) × (least ≤ number_at o 0 p)) ⊎ ((length (keys_below (keys_of o.members) 0 p) ≡ 0) × (number_at o 0 p < least))
     of_leaf true is e weighs = let serial = leaf refl in let n = ap length is in inl (omega arith, omega arith)
     of_leaf false is e weighs = let serial = leaf refl in let n = ap length is in let zero_weight = weighs refl in inr (omega arith, omega arith)
-number_tells o up (suc l) p least few leaf node = let is : least ≡ o.shape.bits = node (λ e. omega arith) in ⊎_elim
-    (λ some. let e = number_own o l p some in inl (some_keys o (suc l) p some, omega arith))
-    (λ none. let e = number_shared o l p none in inr (no_keys o (suc l) p none, omega arith)) (true_or_false (has_members o (suc l) p))
+number_tells o no_room up (suc l) p least few leaf node = let is : least ≡ o.shape.bits = node (λ e. omega arith) in ⊎_elim
+    (λ some. let e = number_own o l p some in inl (some_keys o (suc l) p (sym (owns_some o (suc l) p no_room) ∙ some), omega arith))
+    (λ none. let e = number_shared o l p none in inr (no_keys o (suc l) p (sym (owns_some o (suc l) p no_room) ∙ none), omega arith)) (true_or_false (owns o (suc l) p))
 
--- a node has members below where the greater of its children's words tells so
-pub has_by_children : (o : Opening) → Rises (keys_of o.members) → (l p least x y : ℕ) → suc l ≤ o.shape.bits → (l ≡ 0 → least ≡ 2 ^ 32) → (l ≢ 0 → least ≡ o.shape.bits)
+-- a node has members below where the greater of its children's words tells so, in a table without room for all keys
+pub has_by_children : (o : Opening) → has_room o ≡ false → Rises (keys_of o.members) → (l p least x y : ℕ) → suc l ≤ o.shape.bits → (l ≡ 0 → least ≡ 2 ^ 32) → (l ≢ 0 → least ≡ o.shape.bits)
     → x ≡ number_at o l (2 * p) → y ≡ number_at o l (2 * p + 1) → leb least (max x y) ≡ has_members o (suc l) p
-has_by_children o up l p least x y few leaf node ex ey =
+has_by_children o no_room up l p least x y few leaf node ex ey =
     let both = ap length (below_both o up l p) in let sum = length-append (keys_below (keys_of o.members) l (2 * p)) (keys_below (keys_of o.members) l (2 * p + 1)) in ⊎_elim
     (λ left. le-leb least (max x y) (omega (arith, left.1, ex)) ∙ sym (has_there o (suc l) p (omega (arith, left.0, both, sum))))
     (λ left. ⊎_elim
     (λ right. le-leb least (max x y) (omega (arith, right.1, ey)) ∙ sym (has_there o (suc l) p (omega (arith, right.0, both, sum))))
     (λ right. lt-leb least (max x y) (omega (arith, left.1, right.1, ex, ey)) ∙ sym (none_there o (suc l) p (omega (arith, left.0, right.0, both, sum))))
-    (number_tells o up l (2 * p + 1) least (omega arith) leaf node)) (number_tells o up l (2 * p) least (omega arith) leaf node)
+    (number_tells o no_room up l (2 * p + 1) least (omega arith) leaf node)) (number_tells o no_room up l (2 * p) least (omega arith) leaf node)
 
 module _ (face : ℕ → ℕ → List (ℕ × ℕ) → List ℕ) (o : Opening) (up : Rises (keys_of o.members)) where
-  -- the record that a level's nodes share is that of each with no members below
-  pub shared_is : (q l p : ℕ) → IsWord o.shape (suc l) p q → has_members o (suc l) p ≡ false → shared_words face l ≡ opening_words face o q
-  shared_is q l p a none = let zero_all = no_keys o (suc l) p none in
+  -- the record that a level's nodes share is that of each without one of its own
+  pub shared_is : (q l p : ℕ) → IsWord o.shape (suc l) p q → owns o (suc l) p ≡ false → shared_words face l ≡ opening_words face o q
+  shared_is q l p a none = let neither = owns_none o (suc l) p none in let zero_all = no_keys o (suc l) p neither.1 in
       let split = ap length (below_both o up l p) in let sum = length-append (keys_below (keys_of o.members) l (2 * p)) (keys_below (keys_of o.members) l (2 * p + 1)) in
-      let left = number_is o (left_of o.shape q) l (2 * p) (left_word o.shape l p q a) ∙ number_none o up l (2 * p) (omega arith) in
-      let right = number_is o (right_of o.shape q) l (2 * p + 1) (right_word o.shape l p q a) ∙ number_none o up l (2 * p + 1) (omega arith) in
+      let left = number_is o (left_of o.shape q) l (2 * p) (left_word o.shape l p q a) ∙ number_none o neither.0 up l (2 * p) (omega arith) in
+      let right = number_is o (right_of o.shape q) l (2 * p + 1) (right_word o.shape l p q a) ∙ number_none o neither.0 up l (2 * p + 1) (omega arith) in
       let pairs = pairs_are o q (suc l) p a ∙ no_pairs (pairs_below o.members (suc l) p) (count_same o (suc l) p ∙ zero_all) in
       λ i. face (sym left i) (sym right i) (sym pairs i)
 
@@ -202,13 +202,13 @@ module _ (face : ℕ → ℕ → List (ℕ × ℕ) → List ℕ) (o : Opening) (
         blocks = λ lane k low small. stays (block_start o.shape lane + k) (λ e. omega arith) ∙ built.blocks lane k low small;
       }
 
-  -- a node with no members below has the record that its level shares
-  pub node_shared : (q l p : ℕ) (words : List ℕ) → IsWord o.shape (suc l) p q → has_members o (suc l) p ≡ false → IsBuilt face o o.shape.bits q words → IsBuilt face o o.shape.bits (q + 1) (set words q l)
+  -- a node without one of its own has the record that its level shares
+  pub node_shared : (q l p : ℕ) (words : List ℕ) → IsWord o.shape (suc l) p q → owns o (suc l) p ≡ false → IsBuilt face o o.shape.bits q words → IsBuilt face o o.shape.bits (q + 1) (set words q l)
   node_shared q l p words a none built = let e : opening_number o q ≡ l = number_is o q (suc l) p a ∙ number_shared o l p none in node_more q l words (inner_word o.shape l p q a) (sym e) built
       (λ k small. ap (λ (z : ℕ). get_or words (record_start o.shape z + k) 0) e ∙ built.shared l (let up = a.level_fits in omega arith) k small ∙ ap (λ (z : List ℕ). get_or z k 0) (shared_is q l p a none))
 
-  -- a node with members below has one of its own
-  pub node_own : length (keys_of o.members) ≤ o.shape.members → (q l p n : ℕ) (old mid five : List ℕ) → IsWord o.shape (suc l) p q → has_members o (suc l) p ≡ true → IsBuilt face o o.shape.bits q old → n ≡ number_at o (suc l) p
+  -- and any other has one of its own
+  pub node_own : length (keys_of o.members) ≤ o.shape.members → (q l p n : ℕ) (old mid five : List ℕ) → IsWord o.shape (suc l) p q → owns o (suc l) p ≡ true → IsBuilt face o o.shape.bits q old → n ≡ number_at o (suc l) p
       → WritesFive old mid (record_start o.shape n) five → five ≡ opening_words face o q → IsBuilt face o o.shape.bits (q + 1) (set mid q n)
   node_own fit q l p n old mid five a has built is writes words = let inner = inner_word o.shape l p q a in let inside = inner.inside in let t = twice o.shape.bits in let past = inner.past_leaves in
       let e : opening_number o q ≡ n = number_is o q (suc l) p a ∙ sym is in let low = number_low o up fit l p a.level_fits a.place_fits in let own = number_own o l p has in
@@ -410,11 +410,11 @@ first_nodes s = let g : suc s.bits - suc 0 ≡ s.bits = omega arith in let k : 2
 pub last_nodes : (s : Shape) → level_start s (suc s.bits) ≡ place_count s
 last_nodes s = let g : suc s.bits - suc s.bits ≡ 0 = omega arith in let k : 2 ^ (suc s.bits - suc s.bits) ≡ 1 = ap (λ (z : ℕ). 2 ^ z) g in let t = twice s.bits in omega arith
 
--- the next own record, behind a node without members below and behind one with some
-pub next_same : (o : Opening) (l p : ℕ) → has_members o (suc l) p ≡ false → next_own o l p ≡ next_own o l (p + 1)
+-- the next own record, behind a node without one and behind one that has one
+pub next_same : (o : Opening) (l p : ℕ) → owns o (suc l) p ≡ false → next_own o l p ≡ next_own o l (p + 1)
 next_same o l p none = let e : p + 1 ≡ suc p = omega arith in let f = ap (own_before o (suc l)) e in let g = own_same o (suc l) p none in omega arith
 
-pub next_more : (o : Opening) (l p : ℕ) → has_members o (suc l) p ≡ true → next_own o l p + 1 ≡ next_own o l (p + 1)
+pub next_more : (o : Opening) (l p : ℕ) → owns o (suc l) p ≡ true → next_own o l p + 1 ≡ next_own o l (p + 1)
 next_more o l p has = let e : p + 1 ≡ suc p = omega arith in let f = ap (own_before o (suc l)) e in let g = own_after o (suc l) p has in omega arith
 
 -- the words open a table when all nodes are built

@@ -5,7 +5,7 @@ ghost use Rattle.aug_core.specs.Eras.{opening_with};
 ghost use Rattle.aug_core.specs.Fields.{field_offset};
 ghost use Rattle.aug_core.specs.Places.{record_start, record_count};
 ghost use Rattle.aug_core.specs.Addresses.{IsInner};
-ghost use Rattle.aug_core.specs.Renewals.{HoldsAll, BeginsRenewal, IsOpened, reopening};
+ghost use Rattle.aug_core.specs.Renewals.{HoldsAll, BeginsRenewal, IsOpened, reopening, rewriting};
 ghost use Rattle.aug_core.specs.declared.view.SeatView.{SeatView as View};
 ghost use Rattle.aug_model.specs.Keys.{IsKeySet, keys_of};
 ghost use Rattle.aug_monoid.specs.Weighted.{FitsPair};
@@ -43,7 +43,27 @@ fn begin_renewal<A: Monoid, B: Monoid>(
     words.load::<BeginRenewal<A, B>>(seat, root)
 }
 
-// Stores the first words of a table that the seat renews.
+// Gives a word of a table that the seat renews this value. It is stored only if the word has another.
+fn put_word<A: Monoid, B: Monoid>(
+    words: &SharedWords<A, B>,
+    seat: &mut Seat<(), SeatView>,
+    place: usize,
+    value: u64,
+)
+    requires table { seat.old.table_id ≡ words.now.table_id }
+    requires inside { place < words.now.table_id.words }
+    requires renews { seat.old.me.0.renews ≡ true }
+    requires no_slot { seat.old.me.1 ≡ [] }
+    ensures table { seat.new.table_id ≡ seat.old.table_id }
+    ensures no_slot { seat.new.me.1 ≡ [] }
+    ensures view { seat.new.me.0 ≡ rewriting seat.old.me.0 place value }
+{
+    if words.load::<LoadAnyWord>(seat, place) != value {
+        words.store::<StoreAnyWord>(seat, place, value);
+    }
+}
+
+// Gives the first words of a table that the seat renews these values.
 fn rewrite<A: Monoid, B: Monoid>(
     words: &SharedWords<A, B>,
     seat: &mut Seat<(), SeatView>,
@@ -59,7 +79,7 @@ fn rewrite<A: Monoid, B: Monoid>(
     ensures view { Rewrites seat.old.me.0 seat.new.me.0 first.now (length first.now) }
 {
     for place in 0..first.len() {
-        words.store::<StoreAnyWord>(seat, place, first[place]);
+        put_word(words, seat, place, first[place]);
     }
 }
 
@@ -138,8 +158,8 @@ impl<A: Monoid, B: Monoid> Words<A, B> {
         (IdleLead { seat, draft, sums }, root)
     }
 
-    /// Opens the table again, over these members. The lead hands out all lanes anew. The call stores the words of the leaves, of the nodes, of
-    /// the lanes and of the opening records, and no others. It takes no memory.
+    /// Opens the table again, over these members. The lead hands out all lanes anew. The call loads the words of the leaves, of the nodes, of
+    /// the lanes and of the opening records, and stores those that differ, and no others. It takes no memory.
     pub fn open_again(&self, idle: IdleLead<A, B>, members: &[(u32, u32)]) -> Lead<A, B>
         requires table { idle.table ≡ self.now.table }
         requires shape { idle.view.shape ≡ self.now.shape }

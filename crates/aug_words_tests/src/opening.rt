@@ -116,6 +116,30 @@ const SIXTEEN_BITS_NO_KEYS: Held<'static> = Held {
     ],
 };
 
+// In a table with room for all keys each node has a record of its own.
+const ONE_BIT_ROOM_FOR_ALL: Held<'static> = Held {
+    leaves: &[(0, 0), (1, 0)],
+    nodes: &[(1, 0, 1)],
+    records: &[(0, [0, 0, 0, 0, NO_KEYS]), (1, [0, 0, 0, 0, NO_KEYS])],
+};
+
+const SIXTEEN_BITS_ROOM_FOR_ALL: Held<'static> = Held {
+    leaves: &[(0, 0), (65_535, 0)],
+    nodes: &[
+        (1, 0, 16),
+        (1, 32_767, 32_783),
+        (2, 0, 32_784),
+        (15, 1, 65_549),
+        (16, 0, 65_550),
+    ],
+    records: &[
+        (0, [0, 0, 0, 0, NO_KEYS]),
+        (15, [14, 14, 0, 0, NO_KEYS]),
+        (16, [0, 0, 0, 0, NO_KEYS]),
+        (65_550, [65_548, 65_549, 0, 0, NO_KEYS]),
+    ],
+};
+
 const SIXTEEN_BITS_LAST_KEY: Held<'static> = Held {
     leaves: &[(65_534, 0), (65_535, 4_295_032_831)],
     nodes: &[
@@ -160,11 +184,11 @@ const SIXTEEN_BITS_ALL_KEYS: Held<'static> = Held {
 // The bits, the first key, and how many members the layout is for.
 const OPENED: &[(u32, u32, u32, Held<'static>)] = &[
     (1, 2, 0, ONE_BIT_NO_KEYS),
-    (1, 2, 2, ONE_BIT_NO_KEYS),
+    (1, 2, 2, ONE_BIT_ROOM_FOR_ALL),
     (1, 1, 1, ONE_BIT_ONE_KEY),
     (1, 0, 2, ONE_BIT_ALL_KEYS),
     (16, 65_536, 0, SIXTEEN_BITS_NO_KEYS),
-    (16, 65_536, 65_536, SIXTEEN_BITS_NO_KEYS),
+    (16, 65_536, 65_536, SIXTEEN_BITS_ROOM_FOR_ALL),
     (16, 65_535, 1, SIXTEEN_BITS_LAST_KEY),
     (16, 0, 65_536, SIXTEEN_BITS_ALL_KEYS),
 ];

@@ -17,7 +17,7 @@ pub returns : goal.returns
 returns g c =
     let b = c.args.self.now.plan in let o = b.key in let level = c.args.level in let place = c.args.place in let words = c.args.self.now.words.items in let least = c.if-level-eq0.least in
     let f = face g.A.Monoid.parts g.B.Monoid.parts in let n = next_node f b level c.args.first place words c.requires.node in
-    ap (leb least) c.max.ensures ∙ has_by_children o (rises o b.key_set) level place least c.index.result.now c.index-2.result.now c.requires.node.up
+    ap (leb least) c.max.ensures ∙ has_by_children o c.requires.no_room (rises o b.key_set) level place least c.index.result.now c.index-2.result.now c.requires.node.up
     (λ z. elim c.if-level-eq0.branch [ then-level-eq0 w ↦ w.least-is | else-level-eq0 w ↦ absurd (w.if-level-eq0.false z) ])
     (λ z. elim c.if-level-eq0.branch [ then-level-eq0 w ↦ absurd (z w.if-level-eq0.true) | else-level-eq0 w ↦ w.least-is ∙ w.from-least.ensures ∙ b.bits_are ])
     (ready_number f o words _ c.index.result.now n.left_ready c.index.ensures ∙ n.left_number)
